@@ -1,0 +1,21 @@
+//! The syntax of POOSL: tokens and their marks, and the trees of models.
+#![tactic(auto)]
+
+mod classes;
+mod clusters;
+mod exprs;
+mod names;
+mod stmts;
+mod tokens;
+
+pub use classes::{DataClass, DataMethod, Message, ProcessClass, ProcessMethod, Start, VarGroup};
+pub use clusters::{
+    Arg, Channel, ChannelEnd, ClusterClass, Decl, Given, Instance, Model, SystemDecl,
+};
+pub use exprs::{Expr, ExprForm, Link, Literal, Sending};
+pub use names::{Id, Name, Text};
+pub use stmts::{Stmt, StmtForm};
+pub use tokens::{Keyword, Mark, Pos, Symbol, Token, TokenKind};
+
+#[cfg(test)]
+mod tests;
