@@ -32,5 +32,5 @@ abbrev pub failing_calls : FailingFiles → List ℕ
 failing_calls files = files.calls.items
 
 -- whether the number of the next call is listed
-abbrev pub open_or_read_fails : FailingFiles → Bool
-open_or_read_fails files = list_any (λ call. call == raised (failing_made files)) (failing_calls files)
+abbrev pub next_call_fails : FailingFiles → Bool
+next_call_fails files = list_any (λ call. call == raised (failing_made files)) (failing_calls files)

@@ -23,5 +23,5 @@ abbrev pub roomy_calls : RoomySink → List ℕ
 roomy_calls sink = sink.calls.items
 
 -- whether no room is left, or the number of the next write is listed
-abbrev pub write_fails : RoomySink → Bool
-write_fails sink = (roomy_room sink == 0) || list_any (λ call. call == raised (roomy_made sink)) (roomy_calls sink)
+abbrev pub next_write_fails : RoomySink → Bool
+next_write_fails sink = (roomy_room sink == 0) || list_any (λ call. call == raised (roomy_made sink)) (roomy_calls sink)

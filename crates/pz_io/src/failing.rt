@@ -1,5 +1,5 @@
 // Files in memory that fail at given calls.
-ghost use Rattle.std.specs.Prelude.{◌≡◌, ◌⊎◌, ◌≤◌, ◌<◌, ◌+◌, ◌++◌, [], true, false, None, Some, length, take, if◌then◌else◌};
+ghost use Rattle.std.specs.Prelude.{◌≡◌, ◌⊎◌, ◌≤◌, ◌<◌, ◌+◌, ◌++◌, [], true, false, None, Some, length, take, min, if◌then◌else◌};
 ghost use Rattle.pz_io.specs.Outside.{lookup, raised, Rose};
 ghost use Rattle.pz_io.specs.Outcomes.{OnReady, OnOpenFailed, IfBytes, OnEnd, OnReadFailed, is_end, is_read_failed, bytes_got};
 
@@ -19,7 +19,7 @@ pub struct FailingFiles {
 
 impl FailingFiles {
     ghost use Rattle.pz_io.specs.Mem.{mem_held, mem_rest, mem_opens, mem_handed, mem_ended};
-    ghost use Rattle.pz_io.specs.Failing.{failing_held, failing_rest, failing_opens, failing_handed, failing_ended, failing_faults, failing_made, failing_calls, open_or_read_fails};
+    ghost use Rattle.pz_io.specs.Failing.{failing_held, failing_rest, failing_opens, failing_handed, failing_ended, failing_faults, failing_made, failing_calls, next_call_fails};
 
     /// The files of `inner`, failing at the listed calls.
     pub fn new(inner: MemFiles, calls: Vec<u64>) -> FailingFiles
@@ -42,7 +42,7 @@ impl FailingFiles {
 
     // Counts a call, and whether it is to fail a fault.
     fn count_call(&mut self) -> bool
-        ensures fails { result ≡ open_or_read_fails self.old }
+        ensures fails { result ≡ next_call_fails self.old }
         ensures inner { self.new.inner ≡ self.old.inner }
         ensures calls { self.new.calls ≡ self.old.calls }
         ensures made { self.new.made ≡ raised self.old.made }
@@ -59,7 +59,7 @@ impl FailingFiles {
 }
 
 impl Files for FailingFiles {
-    ghost use Rattle.pz_io.specs.Failing.{failing_held, failing_rest, failing_opens, failing_handed, failing_ended, failing_faults, failing_made, failing_calls, open_or_read_fails};
+    ghost use Rattle.pz_io.specs.Failing.{failing_held, failing_rest, failing_opens, failing_handed, failing_ended, failing_faults, failing_made, failing_calls, next_call_fails};
 
     ghost told = { λ files. true };
 
@@ -92,9 +92,9 @@ impl Files for FailingFiles {
         ensures made { failing_made self.new ≡ raised (failing_made self.old) }
         ensures calls { failing_calls self.new ≡ failing_calls self.old }
         ensures counted { failing_faults self.new ≡
-            (if open_or_read_fails self.old then raised (failing_faults self.old) else failing_faults self.old) }
-        ensures listed { open_or_read_fails self.old ≡ true → result ≡ Opened.Failed }
-        ensures unlisted { open_or_read_fails self.old ≡ false →
+            (if next_call_fails self.old then raised (failing_faults self.old) else failing_faults self.old) }
+        ensures listed { next_call_fails self.old ≡ true → result ≡ Opened.Failed }
+        ensures unlisted { next_call_fails self.old ≡ false →
             OnOpenFailed result (lookup (failing_held self.old) name.now ≡ None) }
     {
         if self.count_call() {
@@ -104,7 +104,7 @@ impl Files for FailingFiles {
         self.inner.open(name)
     }
 
-    /// Exactly the listed calls fail.
+    /// Exactly the listed calls fail. Another hands out as many bytes as are left and fit.
     fn read(&mut self, buf: &mut [u8]) -> Got
         requires { 0 < length buf.old }
         ensures held { failing_held self.new ≡ failing_held self.old }
@@ -112,7 +112,8 @@ impl Files for FailingFiles {
         ensures handed { failing_handed self.new ≡ failing_handed self.old + bytes_got result }
         ensures ended { failing_ended self.new ≡ is_end result }
         ensures faults { failing_faults self.old ≤ failing_faults self.new }
-        ensures count { IfBytes result (λ n. (1 ≤ n) × (n ≤ length buf.new)) }
+        ensures count { IfBytes result
+            (λ n. (1 ≤ n) × (n ≡ min (length (failing_rest self.old)) (length buf.new))) }
         ensures bytes { IfBytes result (λ n. failing_rest self.old ≡ take n buf.new ++ failing_rest self.new) }
         ensures end { OnEnd result ((failing_rest self.old ≡ []) × (failing_rest self.new ≡ [])) }
         ensures failed { OnReadFailed result (Rose (failing_faults self.old) (failing_faults self.new)) }
@@ -122,8 +123,8 @@ impl Files for FailingFiles {
         ensures made { failing_made self.new ≡ raised (failing_made self.old) }
         ensures calls { failing_calls self.new ≡ failing_calls self.old }
         ensures counted { failing_faults self.new ≡
-            (if open_or_read_fails self.old then raised (failing_faults self.old) else failing_faults self.old) }
-        ensures fails { is_read_failed result ≡ open_or_read_fails self.old }
+            (if next_call_fails self.old then raised (failing_faults self.old) else failing_faults self.old) }
+        ensures fails { is_read_failed result ≡ next_call_fails self.old }
     {
         if self.count_call() {
             self.inner.refuse_read();

@@ -1,6 +1,7 @@
 // Files in memory.
-ghost use Rattle.std.specs.Prelude.{◌≡◌, [], true, false};
+ghost use Rattle.std.specs.Prelude.{◌≡◌, ◌≤◌, ◌<◌, ◌+◌, ◌++◌, [], true, false, length, take, min};
 ghost use Rattle.pz_io.specs.Outside.{raised};
+ghost use Rattle.pz_io.specs.Outcomes.{IfBytes, OnEnd, is_end, is_read_failed, bytes_got};
 ghost use Rattle.pz_io.specs.Entries.{entries_of, rest_of, IsPlaceOf};
 
 use crate::{Files, Got, Opened};
@@ -116,7 +117,19 @@ impl Files for MemFiles {
         }
     }
 
-    fn read(&mut self, buf: &mut [u8]) -> Got {
+    /// Hands out as many bytes as are left and fit.
+    fn read(&mut self, buf: &mut [u8]) -> Got
+        requires { 0 < length buf.old }
+        ensures held { mem_held self.new ≡ mem_held self.old }
+        ensures opens { mem_opens self.new ≡ mem_opens self.old }
+        ensures handed { mem_handed self.new ≡ mem_handed self.old + bytes_got result }
+        ensures ended { mem_ended self.new ≡ is_end result }
+        ensures count { IfBytes result
+            (λ n. (1 ≤ n) × (n ≡ min (length (mem_rest self.old)) (length buf.new))) }
+        ensures bytes { IfBytes result (λ n. mem_rest self.old ≡ take n buf.new ++ mem_rest self.new) }
+        ensures end { OnEnd result ((mem_rest self.old ≡ []) × (mem_rest self.new ≡ [])) }
+        ensures never_fails { is_read_failed result ≡ false }
+    {
         let left = rest(&self.entries, self.current, self.handed);
         if left.is_empty() {
             self.ended = true;

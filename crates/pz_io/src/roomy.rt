@@ -21,7 +21,7 @@ pub struct RoomySink {
 }
 
 impl RoomySink {
-    ghost use Rattle.pz_io.specs.Roomy.{roomy_bytes, roomy_room, roomy_faults, roomy_made, roomy_calls, write_fails};
+    ghost use Rattle.pz_io.specs.Roomy.{roomy_bytes, roomy_room, roomy_faults, roomy_made, roomy_calls, next_write_fails};
 
     /// A sink for `room` bytes, failing at the listed writes. Only want of memory fails.
     pub fn new(alloc: Global, room: usize, calls: Vec<u64>) -> Result<RoomySink, AllocError>
@@ -51,7 +51,7 @@ impl RoomySink {
 
 impl Sink for RoomySink {
     ghost use Rattle.std.specs.Prelude.{true};
-    ghost use Rattle.pz_io.specs.Roomy.{roomy_bytes, roomy_room, roomy_faults, roomy_made, roomy_calls, write_fails};
+    ghost use Rattle.pz_io.specs.Roomy.{roomy_bytes, roomy_room, roomy_faults, roomy_made, roomy_calls, next_write_fails};
 
     ghost told = { λ sink. true };
 
@@ -74,8 +74,8 @@ impl Sink for RoomySink {
         ensures made { roomy_made self.new ≡ raised (roomy_made self.old) }
         ensures calls { roomy_calls self.new ≡ roomy_calls self.old }
         ensures counted { roomy_faults self.new ≡
-            (if write_fails self.old then raised (roomy_faults self.old) else roomy_faults self.old) }
-        ensures fails { is_write_failed result ≡ write_fails self.old }
+            (if next_write_fails self.old then raised (roomy_faults self.old) else roomy_faults self.old) }
+        ensures fails { is_write_failed result ≡ next_write_fails self.old }
     {
         self.made = self.made.saturating_add(1);
         if self.room == 0 || self.calls.contains(&self.made) {

@@ -9,4 +9,4 @@ pub returns-clause-bytes : goal.returns-clause-bytes
 returns-clause-bytes c =
     let here : c.rest-left.result.now ≡ mem_rest c.args.self.now = cc in
     let after : rest_of c.args.self.now.entries.items c.args.self.now.current (c.args.self.now.handed + c.min-n.result) ≡ drop c.min-n.result c.rest-left.result.now = rest_of-add c.args.self.now.entries.items c.args.self.now.current c.args.self.now.handed c.min-n.result ∙ ap (drop c.min-n.result) (sym here) in
-    λ told. rw after (grind (arith, common_steps))
+    rw after (grind (arith, common_steps))
