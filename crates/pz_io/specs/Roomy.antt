@@ -24,4 +24,5 @@ roomy_calls sink = sink.calls.items
 
 -- whether no room is left, or the number of the next write is listed
 abbrev pub next_write_fails : RoomySink → Bool
-next_write_fails sink = (roomy_room sink == 0) || list_any (λ call. call == raised (roomy_made sink)) (roomy_calls sink)
+next_write_fails sink =
+    (roomy_room sink == 0) || list_any (λ call. call == raised (roomy_made sink)) (roomy_calls sink)

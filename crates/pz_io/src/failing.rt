@@ -1,6 +1,6 @@
 // Files in memory that fail at given calls.
-ghost use Rattle.std.specs.Prelude.{◌≡◌, ◌⊎◌, ◌≤◌, ◌<◌, ◌+◌, ◌++◌, [], true, false, None, Some, length, take, min, if◌then◌else◌};
-ghost use Rattle.pz_io.specs.Outside.{lookup, raised, Rose};
+ghost use Rattle.std.specs.Prelude.{◌≡◌, ◌⊎◌, ◌≤◌, ◌<◌, ◌+◌, ◌++◌, [], true, false, None, Some, length, take, min};
+ghost use Rattle.pz_io.specs.Outside.{lookup, raised, raised_if, Rose};
 ghost use Rattle.pz_io.specs.Outcomes.{OnReady, OnOpenFailed, IfBytes, OnEnd, OnReadFailed, is_end, is_read_failed, bytes_got};
 
 use crate::{Files, Got, MemFiles, Opened};
@@ -40,14 +40,14 @@ impl FailingFiles {
         }
     }
 
-    // Counts a call, and whether it is to fail a fault.
+    // Counts a call and says whether it is to fail, which is counted as a fault.
     fn count_call(&mut self) -> bool
         ensures fails { result ≡ next_call_fails self.old }
         ensures inner { self.new.inner ≡ self.old.inner }
         ensures calls { self.new.calls ≡ self.old.calls }
         ensures made { self.new.made ≡ raised self.old.made }
         ensures faults { self.old.faults ≤ self.new.faults }
-        ensures counted { self.new.faults ≡ (if result then raised self.old.faults else self.old.faults) }
+        ensures counted { self.new.faults ≡ raised_if result self.old.faults }
     {
         self.made = self.made.saturating_add(1);
         let fails = self.calls.contains(&self.made);
@@ -84,7 +84,8 @@ impl Files for FailingFiles {
         ensures faults { failing_faults self.old ≤ failing_faults self.new }
         ensures ready { OnReady result
             (lookup (failing_held self.old) name.now ≡ Some (failing_rest self.new)) }
-        ensures failed { OnOpenFailed result (Rose (failing_faults self.old) (failing_faults self.new)
+        ensures failed { OnOpenFailed result
+            (Rose (failing_faults self.old) (failing_faults self.new)
             ⊎ (lookup (failing_held self.old) name.now ≡ None)) }
         ensures closed { OnOpenFailed result (failing_rest self.new ≡ []) }
 
@@ -92,7 +93,7 @@ impl Files for FailingFiles {
         ensures made { failing_made self.new ≡ raised (failing_made self.old) }
         ensures calls { failing_calls self.new ≡ failing_calls self.old }
         ensures counted { failing_faults self.new ≡
-            (if next_call_fails self.old then raised (failing_faults self.old) else failing_faults self.old) }
+            raised_if (next_call_fails self.old) (failing_faults self.old) }
         ensures listed { next_call_fails self.old ≡ true → result ≡ Opened.Failed }
         ensures unlisted { next_call_fails self.old ≡ false →
             OnOpenFailed result (lookup (failing_held self.old) name.now ≡ None) }
@@ -114,16 +115,18 @@ impl Files for FailingFiles {
         ensures faults { failing_faults self.old ≤ failing_faults self.new }
         ensures count { IfBytes result
             (λ n. (1 ≤ n) × (n ≡ min (length (failing_rest self.old)) (length buf.new))) }
-        ensures bytes { IfBytes result (λ n. failing_rest self.old ≡ take n buf.new ++ failing_rest self.new) }
+        ensures bytes { IfBytes result
+            (λ n. failing_rest self.old ≡ take n buf.new ++ failing_rest self.new) }
         ensures end { OnEnd result ((failing_rest self.old ≡ []) × (failing_rest self.new ≡ [])) }
-        ensures failed { OnReadFailed result (Rose (failing_faults self.old) (failing_faults self.new)) }
+        ensures failed { OnReadFailed result
+            (Rose (failing_faults self.old) (failing_faults self.new)) }
         ensures failed_rest { OnReadFailed result (failing_rest self.new ≡ failing_rest self.old) }
 
         // which calls fail
         ensures made { failing_made self.new ≡ raised (failing_made self.old) }
         ensures calls { failing_calls self.new ≡ failing_calls self.old }
         ensures counted { failing_faults self.new ≡
-            (if next_call_fails self.old then raised (failing_faults self.old) else failing_faults self.old) }
+            raised_if (next_call_fails self.old) (failing_faults self.old) }
         ensures fails { is_read_failed result ≡ next_call_fails self.old }
     {
         if self.count_call() {

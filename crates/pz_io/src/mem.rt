@@ -52,7 +52,7 @@ impl MemFiles {
         self.ended = false;
     }
 
-    // A `read` that fails: it only is no read that answered `End`.
+    // A `read` that fails: all stays, but the last call no longer is one that answered `End`.
     pub(crate) fn refuse_read(&mut self)
         ensures { self.new ≡ record self.old { ended = false } }
     {
@@ -126,7 +126,8 @@ impl Files for MemFiles {
         ensures ended { mem_ended self.new ≡ is_end result }
         ensures count { IfBytes result
             (λ n. (1 ≤ n) × (n ≡ min (length (mem_rest self.old)) (length buf.new))) }
-        ensures bytes { IfBytes result (λ n. mem_rest self.old ≡ take n buf.new ++ mem_rest self.new) }
+        ensures bytes { IfBytes result
+            (λ n. mem_rest self.old ≡ take n buf.new ++ mem_rest self.new) }
         ensures end { OnEnd result ((mem_rest self.old ≡ []) × (mem_rest self.new ≡ [])) }
         ensures never_fails { is_read_failed result ≡ false }
     {

@@ -1,7 +1,7 @@
 // The files and the standard output of the system: the edge to what is trusted. They tell nothing
 // of what they hold.
-ghost use Rattle.std.specs.Prelude.{◌≡◌, ◌≤◌, ◌<◌, ◌+◌, [], false, length, if◌then◌else◌};
-ghost use Rattle.pz_io.specs.Outside.{raised, Rose};
+ghost use Rattle.std.specs.Prelude.{◌≡◌, ◌≤◌, ◌<◌, ◌+◌, [], false, length};
+ghost use Rattle.pz_io.specs.Outside.{raised, raised_if, Rose};
 ghost use Rattle.pz_io.specs.Outcomes.{OnOpenFailed, is_open_failed, IfBytes, OnReadFailed, is_end, is_read_failed, bytes_got, IfTook, OnWriteFailed, is_write_failed};
 
 use crate::{Files, Got, Opened, Put, Sink};
@@ -67,7 +67,7 @@ impl Files for OsFiles {
         ensures faults { os_faults self.old ≤ os_faults self.new }
         ensures failed { OnOpenFailed result (Rose (os_faults self.old) (os_faults self.new)) }
         ensures counted { os_faults self.new ≡
-            (if is_open_failed result then raised (os_faults self.old) else os_faults self.old) }
+            raised_if (is_open_failed result) (os_faults self.old) }
     {
         self.file = None;
         self.opens = self.opens.saturating_add(1);
@@ -94,7 +94,7 @@ impl Files for OsFiles {
         ensures faults { os_faults self.old ≤ os_faults self.new }
         ensures failed { OnReadFailed result (Rose (os_faults self.old) (os_faults self.new)) }
         ensures counted { os_faults self.new ≡
-            (if is_read_failed result then raised (os_faults self.old) else os_faults self.old) }
+            raised_if (is_read_failed result) (os_faults self.old) }
     {
         self.ended = false;
         let Some(file) = &mut self.file else {
@@ -150,9 +150,10 @@ impl Sink for OsSink {
         requires { 0 < length piece.now }
         ensures count { IfTook result (λ n. (1 ≤ n) × (n ≤ length piece.now)) }
         ensures faults { os_sink_faults self.old ≤ os_sink_faults self.new }
-        ensures failed { OnWriteFailed result (Rose (os_sink_faults self.old) (os_sink_faults self.new)) }
+        ensures failed { OnWriteFailed result
+            (Rose (os_sink_faults self.old) (os_sink_faults self.new)) }
         ensures counted { os_sink_faults self.new ≡
-            (if is_write_failed result then raised (os_sink_faults self.old) else os_sink_faults self.old) }
+            raised_if (is_write_failed result) (os_sink_faults self.old) }
     {
         match io::writer(&self.rt).write(piece) {
             Ok(0) | Err(_) => {

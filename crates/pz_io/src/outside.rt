@@ -89,9 +89,11 @@ pub trait Files {
         ensures count { IfBytes result (λ n. (1 ≤ n) × (n ≤ length buf.new)) }
         ensures bytes { IfBytes result
             (λ n. told self.old ≡ true → rest self.old ≡ take n buf.new ++ rest self.new) }
-        ensures end { OnEnd result (told self.old ≡ true → (rest self.old ≡ []) × (rest self.new ≡ [])) }
+        ensures end { OnEnd result
+            (told self.old ≡ true → (rest self.old ≡ []) × (rest self.new ≡ [])) }
         ensures failed { OnReadFailed result (Rose (faults self.old) (faults self.new)) }
-        ensures failed_rest { OnReadFailed result (told self.old ≡ true → rest self.new ≡ rest self.old) };
+        ensures failed_rest { OnReadFailed result
+            (told self.old ≡ true → rest self.new ≡ rest self.old) };
 }
 
 /// What takes bytes, one after the other.
@@ -116,5 +118,6 @@ pub trait Sink {
         ensures bytes { IfTook result
             (λ n. told self.old ≡ true → taken self.new ≡ taken self.old ++ take n piece.now) }
         ensures failed { OnWriteFailed result (Rose (faults self.old) (faults self.new)) }
-        ensures nothing { OnWriteFailed result (told self.old ≡ true → taken self.new ≡ taken self.old) };
+        ensures nothing { OnWriteFailed result
+            (told self.old ≡ true → taken self.new ≡ taken self.old) };
 }

@@ -1,6 +1,6 @@
 // A sink in memory, with room that is taken when it is made.
-ghost use Rattle.std.specs.Prelude.{◌≡◌, ◌≤◌, ◌<◌, ◌+◌, ◌++◌, [], IfOk, vec_len, vec_capacity, min, length, take, if◌then◌else◌};
-ghost use Rattle.pz_io.specs.Outside.{raised, Rose};
+ghost use Rattle.std.specs.Prelude.{◌≡◌, ◌≤◌, ◌<◌, ◌+◌, ◌++◌, [], IfOk, vec_len, vec_capacity, min, length, take};
+ghost use Rattle.pz_io.specs.Outside.{raised, raised_if, Rose};
 ghost use Rattle.pz_io.specs.Outcomes.{IfTook, OnWriteFailed, is_write_failed};
 
 use crate::{Put, Sink};
@@ -63,10 +63,13 @@ impl Sink for RoomySink {
     fn write(&mut self, piece: &[u8]) -> Put
         requires { 0 < length piece.now }
         ensures faults { roomy_faults self.old ≤ roomy_faults self.new }
-        ensures count { IfTook result (λ n. (1 ≤ n) × (n ≡ min (length piece.now) (roomy_room self.old))) }
-        ensures bytes { IfTook result (λ n. roomy_bytes self.new ≡ roomy_bytes self.old ++ take n piece.now) }
+        ensures count { IfTook result
+            (λ n. (1 ≤ n) × (n ≡ min (length piece.now) (roomy_room self.old))) }
+        ensures bytes { IfTook result
+            (λ n. roomy_bytes self.new ≡ roomy_bytes self.old ++ take n piece.now) }
         ensures room { IfTook result (λ n. roomy_room self.new + n ≡ roomy_room self.old) }
-        ensures failed { OnWriteFailed result (Rose (roomy_faults self.old) (roomy_faults self.new)) }
+        ensures failed { OnWriteFailed result
+            (Rose (roomy_faults self.old) (roomy_faults self.new)) }
         ensures nothing { OnWriteFailed result (roomy_bytes self.new ≡ roomy_bytes self.old) }
         ensures same_room { OnWriteFailed result (roomy_room self.new ≡ roomy_room self.old) }
 
@@ -74,7 +77,7 @@ impl Sink for RoomySink {
         ensures made { roomy_made self.new ≡ raised (roomy_made self.old) }
         ensures calls { roomy_calls self.new ≡ roomy_calls self.old }
         ensures counted { roomy_faults self.new ≡
-            (if next_write_fails self.old then raised (roomy_faults self.old) else roomy_faults self.old) }
+            raised_if (next_write_fails self.old) (roomy_faults self.old) }
         ensures fails { is_write_failed result ≡ next_write_fails self.old }
     {
         self.made = self.made.saturating_add(1);

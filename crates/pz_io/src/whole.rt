@@ -66,7 +66,8 @@ pub fn read_all<F: Files>(
     ensures rest { OnOk result (F.told files.old ≡ true → F.rest files.new ≡ []) }
 
     // when each other answer comes
-    ensures fault { IsErrOf result ReadAllError.Fault → Rose (F.faults files.old) (F.faults files.new)
+    ensures fault { IsErrOf result ReadAllError.Fault →
+        Rose (F.faults files.old) (F.faults files.new)
         ⊎ ((F.told files.old ≡ true) × (lookup (F.held files.old) name.now ≡ None)) }
     ensures too_long { IsErrOf result ReadAllError.TooLong → limit < F.handed files.new }
     ensures longer { IsErrOf result ReadAllError.TooLong → F.told files.old ≡ true →
@@ -86,12 +87,14 @@ fn read_rest<F: Files>(alloc: Global, files: &mut F, limit: usize) -> Result<Vec
     ensures held { F.held files.new ≡ F.held files.old }
     ensures opens { F.opens files.new ≡ F.opens files.old }
     ensures faults { F.faults files.old ≤ F.faults files.new }
-    ensures content { IfOk result (λ bytes. F.told files.old ≡ true → F.rest files.old ≡ bytes.items) }
+    ensures content { IfOk result
+        (λ bytes. F.told files.old ≡ true → F.rest files.old ≡ bytes.items) }
     ensures handed { IfOk result (λ bytes. length bytes.items ≡ F.handed files.new) }
     ensures limit { IfOk result (λ bytes. length bytes.items ≤ limit) }
     ensures ended { F.ended files.new ≡ is_ok result }
     ensures rest { OnOk result (F.told files.old ≡ true → F.rest files.new ≡ []) }
-    ensures fault { IsErrOf result ReadAllError.Fault → Rose (F.faults files.old) (F.faults files.new) }
+    ensures fault { IsErrOf result ReadAllError.Fault →
+        Rose (F.faults files.old) (F.faults files.new) }
     ensures too_long { IsErrOf result ReadAllError.TooLong → limit < F.handed files.new }
     ensures longer { IsErrOf result ReadAllError.TooLong → F.told files.old ≡ true →
         limit < length (F.rest files.old) }
@@ -121,7 +124,8 @@ fn read_rest<F: Files>(alloc: Global, files: &mut F, limit: usize) -> Result<Vec
 pub fn write_all<W: Sink>(sink: &mut W, bytes: &[u8]) -> Result<(), WriteFault>
     ensures told { W.told sink.new ≡ W.told sink.old }
     ensures faults { W.faults sink.old ≤ W.faults sink.new }
-    ensures all { OnOk result (W.told sink.old ≡ true → W.taken sink.new ≡ W.taken sink.old ++ bytes.now) }
+    ensures all { OnOk result
+        (W.told sink.old ≡ true → W.taken sink.new ≡ W.taken sink.old ++ bytes.now) }
     ensures front { IfErr result (λ fault. W.told sink.old ≡ true →
         W.taken sink.new ≡ W.taken sink.old ++ take fault.sent bytes.now) }
     ensures sent { IfErr result (λ fault. fault.sent < length bytes.now) }
