@@ -1,0 +1,7 @@
+pub mod Outside
+pub mod Outcomes
+pub mod Entries
+pub mod Mem
+pub mod Failing
+pub mod Roomy
+pub mod Os

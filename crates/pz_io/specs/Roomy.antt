@@ -1,0 +1,28 @@
+-- What a sink in memory shows, and which writes fail.
+use Rattle.std.specs.Prelude.{ℕ, List, Bool, ◌==◌, ◌||◌}
+use Rattle.std.specs.List.{list_any}
+use Rattle.pz_io.specs.Outside.{raised}
+use Rattle.pz_io.specs.declared.roomy.RoomySink.{RoomySink}
+
+abbrev pub roomy_bytes : RoomySink → List ℕ
+roomy_bytes sink = sink.bytes.items
+
+-- how many more bytes the sink takes
+abbrev pub roomy_room : RoomySink → ℕ
+roomy_room sink = sink.room
+
+abbrev pub roomy_faults : RoomySink → ℕ
+roomy_faults sink = sink.faults
+
+-- how many writes there were
+abbrev pub roomy_made : RoomySink → ℕ
+roomy_made sink = sink.made
+
+-- the numbers of the writes that fail
+abbrev pub roomy_calls : RoomySink → List ℕ
+roomy_calls sink = sink.calls.items
+
+-- whether no room is left, or the number of the next write is listed
+abbrev pub next_write_fails : RoomySink → Bool
+next_write_fails sink =
+    (roomy_room sink == 0) || list_any (λ call. call == raised (roomy_made sink)) (roomy_calls sink)

@@ -1,0 +1,23 @@
+//! Where a program's bytes come from and where they go.
+//!
+//! [`Files`] and [`Sink`] are what a program sees of the outside. Their contracts say what an
+//! answer means and when it may come, whether or not the outside tells what it holds. [`MemFiles`],
+//! [`FailingFiles`] and [`RoomySink`] stand for it in proofs and tests. [`OsFiles`] and [`OsSink`]
+//! are the real thing, in a few lines over std that tell nothing of what the system holds.
+#![tactic(auto)]
+
+mod failing;
+mod mem;
+mod os;
+mod outside;
+mod roomy;
+#[cfg(test)]
+mod tests;
+mod whole;
+
+pub use failing::FailingFiles;
+pub use mem::MemFiles;
+pub use os::{OsFiles, OsSink};
+pub use outside::{Files, Got, Opened, Put, Sink};
+pub use roomy::RoomySink;
+pub use whole::{ReadAllError, WriteFault, read_all, write_all};

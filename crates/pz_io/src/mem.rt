@@ -1,0 +1,145 @@
+// Files in memory.
+ghost use Rattle.std.specs.Prelude.{◌≡◌, ◌≤◌, ◌<◌, ◌+◌, ◌++◌, [], true, false, length, take, min};
+ghost use Rattle.pz_io.specs.Outside.{raised};
+ghost use Rattle.pz_io.specs.Outcomes.{IfBytes, OnEnd, is_end, is_read_failed, bytes_got};
+ghost use Rattle.pz_io.specs.Entries.{entries_of, rest_of, IsPlaceOf};
+
+use crate::{Files, Got, Opened};
+
+/// Files in memory. Their count of faults is always 0, so no `read` of theirs fails, and an `open`
+/// fails exactly where they lack the name. No call takes memory.
+#[derive(Drop)]
+pub struct MemFiles {
+    entries: Vec<(String, Vec<u8>)>,
+    current: Option<usize>,
+    handed: usize,
+    opens: u64,
+    ended: bool,
+}
+
+impl MemFiles {
+    ghost use Rattle.pz_io.specs.Mem.{mem_held, mem_rest, mem_opens, mem_handed, mem_ended};
+
+    /// Files with these names and bytes, none of them open. Where two entries have one name, the
+    /// first counts.
+    pub fn new(entries: Vec<(String, Vec<u8>)>) -> MemFiles
+        ensures held { mem_held result ≡ entries_of entries.items }
+        ensures rest { mem_rest result ≡ [] }
+        ensures opens { mem_opens result ≡ 0 }
+        ensures handed { mem_handed result ≡ 0 }
+        ensures ended { mem_ended result ≡ false }
+    {
+        MemFiles {
+            entries,
+            current: None,
+            handed: 0,
+            opens: 0,
+            ended: false,
+        }
+    }
+
+    // An `open` that fails: it is counted, and no file is open after it.
+    pub(crate) fn refuse_open(&mut self)
+        ensures held { mem_held self.new ≡ mem_held self.old }
+        ensures rest { mem_rest self.new ≡ [] }
+        ensures opens { mem_opens self.new ≡ raised (mem_opens self.old) }
+        ensures handed { mem_handed self.new ≡ 0 }
+        ensures ended { mem_ended self.new ≡ false }
+    {
+        self.current = None;
+        self.opens = self.opens.saturating_add(1);
+        self.handed = 0;
+        self.ended = false;
+    }
+
+    // A `read` that fails: all stays, but the last call no longer is one that answered `End`.
+    pub(crate) fn refuse_read(&mut self)
+        ensures { self.new ≡ record self.old { ended = false } }
+    {
+        self.ended = false;
+    }
+}
+
+// The place of the first entry that has this name.
+fn find_entry(entries: &[(String, Vec<u8>)], name: &str) -> Option<usize>
+    ensures { IsPlaceOf entries.now name.now result }
+{
+    for (i, entry) in entries.iter().enumerate() {
+        if entry.0.as_str() == name {
+            return Some(i);
+        }
+    }
+    None
+}
+
+// What is left of the entry at `current` after its first `handed` bytes.
+fn rest(entries: &[(String, Vec<u8>)], current: Option<usize>, handed: usize) -> &[u8]
+    ensures { result.now ≡ rest_of entries.now current handed }
+{
+    let Some(i) = current else {
+        return &[];
+    };
+    let Some(entry) = entries.get(i) else {
+        return &[];
+    };
+    if handed <= entry.1.len() {
+        &entry.1[handed..]
+    } else {
+        &[]
+    }
+}
+
+impl Files for MemFiles {
+    ghost use Rattle.pz_io.specs.Mem.{mem_held, mem_rest, mem_opens, mem_handed, mem_ended};
+
+    ghost told = { λ files. true };
+
+    ghost held = { mem_held };
+
+    ghost rest = { mem_rest };
+
+    ghost faults = { λ files. 0 };
+
+    ghost opens = { mem_opens };
+
+    ghost handed = { mem_handed };
+
+    ghost ended = { mem_ended };
+
+    fn open(&mut self, name: &str) -> Opened {
+        self.current = find_entry(&self.entries, name);
+        self.opens = self.opens.saturating_add(1);
+        self.handed = 0;
+        self.ended = false;
+        match self.current {
+            Some(_) => Opened::Ready,
+            None => Opened::Failed,
+        }
+    }
+
+    /// Hands out as many bytes as are left and fit.
+    fn read(&mut self, buf: &mut [u8]) -> Got
+        requires { 0 < length buf.old }
+        ensures held { mem_held self.new ≡ mem_held self.old }
+        ensures opens { mem_opens self.new ≡ mem_opens self.old }
+        ensures handed { mem_handed self.new ≡ mem_handed self.old + bytes_got result }
+        ensures ended { mem_ended self.new ≡ is_end result }
+        ensures count { IfBytes result
+            (λ n. (1 ≤ n) × (n ≡ min (length (mem_rest self.old)) (length buf.new))) }
+        ensures bytes { IfBytes result
+            (λ n. mem_rest self.old ≡ take n buf.new ++ mem_rest self.new) }
+        ensures end { OnEnd result ((mem_rest self.old ≡ []) × (mem_rest self.new ≡ [])) }
+        ensures never_fails { is_read_failed result ≡ false }
+    {
+        let left = rest(&self.entries, self.current, self.handed);
+        if left.is_empty() {
+            self.ended = true;
+            return Got::End;
+        }
+        let n = left.len().min(buf.len());
+        buf[..n].copy_from_slice(&left[..n]);
+        self.handed += n;
+        self.ended = false;
+        Got::Bytes(n)
+    }
+}

@@ -1,0 +1,166 @@
+// The files and the standard output of the system: the edge to what is trusted. They tell nothing
+// of what they hold.
+ghost use Rattle.std.specs.Prelude.{◌≡◌, ◌≤◌, ◌<◌, ◌+◌, [], false, length};
+ghost use Rattle.pz_io.specs.Outside.{raised, raised_if, Rose};
+ghost use Rattle.pz_io.specs.Outcomes.{OnOpenFailed, is_open_failed, IfBytes, OnReadFailed, is_end, is_read_failed, bytes_got, IfTook, OnWriteFailed, is_write_failed};
+
+use crate::{Files, Got, Opened, Put, Sink};
+use std::fs::File;
+use std::io;
+use std::io::{Read, Write};
+
+/// The files of the system. The count of faults rises by one at each call that answers `Failed`,
+/// and at no other: at a refused `open`, at each error of a read, and at a read that would pass
+/// 2^64 - 1 bytes since the last `open`.
+#[derive(Drop)]
+pub struct OsFiles {
+    rt: HostRuntime,
+    file: Option<File>,
+    faults: u64,
+    opens: u64,
+    handed: u64,
+    ended: bool,
+}
+
+impl OsFiles {
+    ghost use Rattle.pz_io.specs.Os.{os_faults, os_opens, os_handed, os_ended};
+
+    /// The files of the system, none of them open.
+    pub fn new(rt: HostRuntime) -> OsFiles
+        ensures faults { os_faults result ≡ 0 }
+        ensures opens { os_opens result ≡ 0 }
+        ensures handed { os_handed result ≡ 0 }
+        ensures ended { os_ended result ≡ false }
+    {
+        OsFiles {
+            rt,
+            file: None,
+            faults: 0,
+            opens: 0,
+            handed: 0,
+            ended: false,
+        }
+    }
+}
+
+impl Files for OsFiles {
+    ghost use Rattle.pz_io.specs.Os.{os_faults, os_opens, os_handed, os_ended};
+
+    ghost told = { λ files. false };
+
+    ghost held = { λ files. [] };
+
+    ghost rest = { λ files. [] };
+
+    ghost faults = { os_faults };
+
+    ghost opens = { os_opens };
+
+    ghost handed = { os_handed };
+
+    ghost ended = { os_ended };
+
+    fn open(&mut self, name: &str) -> Opened
+        ensures opens { os_opens self.new ≡ raised (os_opens self.old) }
+        ensures handed { os_handed self.new ≡ 0 }
+        ensures ended { os_ended self.new ≡ false }
+        ensures faults { os_faults self.old ≤ os_faults self.new }
+        ensures failed { OnOpenFailed result (Rose (os_faults self.old) (os_faults self.new)) }
+        ensures counted { os_faults self.new ≡
+            raised_if (is_open_failed result) (os_faults self.old) }
+    {
+        self.file = None;
+        self.opens = self.opens.saturating_add(1);
+        self.handed = 0;
+        self.ended = false;
+        match File::open(&self.rt, name) {
+            Ok(file) => {
+                self.file = Some(file);
+                Opened::Ready
+            }
+            Err(_) => {
+                self.faults = self.faults.saturating_add(1);
+                Opened::Failed
+            }
+        }
+    }
+
+    fn read(&mut self, buf: &mut [u8]) -> Got
+        requires { 0 < length buf.old }
+        ensures opens { os_opens self.new ≡ os_opens self.old }
+        ensures handed { os_handed self.new ≡ os_handed self.old + bytes_got result }
+        ensures ended { os_ended self.new ≡ is_end result }
+        ensures count { IfBytes result (λ n. (1 ≤ n) × (n ≤ length buf.new)) }
+        ensures faults { os_faults self.old ≤ os_faults self.new }
+        ensures failed { OnReadFailed result (Rose (os_faults self.old) (os_faults self.new)) }
+        ensures counted { os_faults self.new ≡
+            raised_if (is_read_failed result) (os_faults self.old) }
+    {
+        self.ended = false;
+        let Some(file) = &mut self.file else {
+            self.ended = true;
+            return Got::End;
+        };
+        match file.read(buf) {
+            Ok(0) => {
+                self.ended = true;
+                Got::End
+            }
+            Ok(n) if n as u64 <= u64::MAX - self.handed => {
+                self.handed += n as u64;
+                Got::Bytes(n)
+            }
+            Ok(_) | Err(_) => {
+                self.faults = self.faults.saturating_add(1);
+                Got::Failed
+            }
+        }
+    }
+}
+
+/// The standard output. The count of faults rises by one at each `write` that answers `Failed`, and
+/// at no other: at each error, an interruption among them, and at a write that takes nothing.
+#[derive(Drop)]
+pub struct OsSink {
+    rt: HostRuntime,
+    faults: u64,
+}
+
+impl OsSink {
+    ghost use Rattle.pz_io.specs.Os.{os_sink_faults};
+
+    /// The standard output.
+    pub fn new(rt: HostRuntime) -> OsSink
+        ensures { os_sink_faults result ≡ 0 }
+    {
+        OsSink { rt, faults: 0 }
+    }
+}
+
+impl Sink for OsSink {
+    ghost use Rattle.pz_io.specs.Os.{os_sink_faults};
+
+    ghost told = { λ sink. false };
+
+    ghost taken = { λ sink. [] };
+
+    ghost faults = { os_sink_faults };
+
+    fn write(&mut self, piece: &[u8]) -> Put
+        requires { 0 < length piece.now }
+        ensures count { IfTook result (λ n. (1 ≤ n) × (n ≤ length piece.now)) }
+        ensures faults { os_sink_faults self.old ≤ os_sink_faults self.new }
+        ensures failed { OnWriteFailed result
+            (Rose (os_sink_faults self.old) (os_sink_faults self.new)) }
+        ensures counted { os_sink_faults self.new ≡
+            raised_if (is_write_failed result) (os_sink_faults self.old) }
+    {
+        match io::writer(&self.rt).write(piece) {
+            Ok(0) | Err(_) => {
+                self.faults = self.faults.saturating_add(1);
+                Put::Failed
+            }
+            Ok(n) => Put::Took(n),
+        }
+    }
+}
