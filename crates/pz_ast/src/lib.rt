@@ -3,6 +3,7 @@
 
 mod classes;
 mod clusters;
+mod copying;
 mod exprs;
 mod names;
 mod stmts;

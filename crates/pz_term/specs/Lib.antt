@@ -1,1 +1,15 @@
 pub mod FirstPath
+pub mod Terms
+pub mod Opening
+pub mod Values
+pub mod LocalActions
+pub mod Residual
+pub mod Delays
+pub mod Configurations
+pub mod Offers
+pub mod Moments
+pub mod Runs
+pub mod Start
+pub mod Laws
+pub mod Twins
+pub mod View

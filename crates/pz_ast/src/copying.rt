@@ -1,0 +1,3 @@
+// Copies of trees, each equal to its source. The only error is want of memory.
+mod expressions;
+mod statements;
