@@ -13,3 +13,5 @@ pub mod Start
 pub mod Laws
 pub mod Twins
 pub mod View
+pub mod Simulations
+pub mod Plains

@@ -1,11 +1,16 @@
 //! Terms, moments and runs of processes, and a plain simulator that follows them.
 #![tactic(auto)]
 
+mod acting;
 mod action;
+mod bodies;
 mod moment;
+mod passing;
 mod place;
+mod plain;
 mod term;
 
 pub use action::{Action, End, Kind};
 pub use moment::Moment;
 pub use place::Place;
+pub use plain::Plain;

@@ -7,5 +7,5 @@ invariant-copying::statements::copy_branches-loop-branch l = l.copy ≡ take l.b
 abbrev pub invariant-copying::statements::copy_branches-loop-stmt : goal.invariant-copying::statements::copy_branches-loop-stmt
 invariant-copying::statements::copy_branches-loop-stmt l = l.part ≡ take l.stmt-index l.stmt-items
 
-abbrev pub invariant-copying::statements::copy_list-loop-stmt : goal.invariant-copying::statements::copy_list-loop-stmt
-invariant-copying::statements::copy_list-loop-stmt l = l.copy ≡ take l.stmt-index l.list
+abbrev pub invariant-copying::statements::copy_statements-loop-stmt : goal.invariant-copying::statements::copy_statements-loop-stmt
+invariant-copying::statements::copy_statements-loop-stmt l = l.copy ≡ take l.stmt-index l.list

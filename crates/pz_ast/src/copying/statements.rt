@@ -25,7 +25,7 @@ fn copy_form(alloc: Global, form: &StmtForm) -> Result<StmtForm, AllocError>
     match form {
         StmtForm::Skip => Ok(StmtForm::Skip),
         StmtForm::Delay(time) => Ok(StmtForm::Delay(time.copy(alloc)?)),
-        StmtForm::Group(list) => Ok(StmtForm::Group(copy_list(alloc, list.as_slice())?)),
+        StmtForm::Group(list) => Ok(StmtForm::Group(copy_statements(alloc, list.as_slice())?)),
         StmtForm::Block(list) => Ok(StmtForm::Block(copy_exprs(alloc, list.as_slice())?)),
         StmtForm::Guard(test, guarded) => {
             let guarded = Boxed::new(alloc, guarded.get().copy(alloc)?)?;
@@ -34,26 +34,26 @@ fn copy_form(alloc: Global, form: &StmtForm) -> Result<StmtForm, AllocError>
         StmtForm::Par(branches) => Ok(StmtForm::Par(copy_branches(alloc, branches.as_slice())?)),
         StmtForm::Sel(branches) => Ok(StmtForm::Sel(copy_branches(alloc, branches.as_slice())?)),
         StmtForm::If(test, part, rest) => {
-            let part = copy_list(alloc, part.as_slice())?;
+            let part = copy_statements(alloc, part.as_slice())?;
             match rest {
                 None => Ok(StmtForm::If(test.copy(alloc)?, part, None)),
                 Some(rest) => {
-                    let rest = copy_list(alloc, rest.as_slice())?;
+                    let rest = copy_statements(alloc, rest.as_slice())?;
                     Ok(StmtForm::If(test.copy(alloc)?, part, Some(rest)))
                 }
             }
         }
         StmtForm::While(test, body) => {
-            let body = copy_list(alloc, body.as_slice())?;
+            let body = copy_statements(alloc, body.as_slice())?;
             Ok(StmtForm::While(test.copy(alloc)?, body))
         }
         StmtForm::Abort(first, second) => {
             let second = Boxed::new(alloc, second.get().copy(alloc)?)?;
-            Ok(StmtForm::Abort(copy_list(alloc, first.as_slice())?, second))
+            Ok(StmtForm::Abort(copy_statements(alloc, first.as_slice())?, second))
         }
         StmtForm::Interrupt(first, second) => {
             let second = Boxed::new(alloc, second.get().copy(alloc)?)?;
-            Ok(StmtForm::Interrupt(copy_list(alloc, first.as_slice())?, second))
+            Ok(StmtForm::Interrupt(copy_statements(alloc, first.as_slice())?, second))
         }
         StmtForm::Send {
             port,
@@ -128,8 +128,9 @@ fn copy_receive(
     })
 }
 
+/// Equal statements in the same order. The only error is want of memory.
 #[cycle(copy_stmt)]
-fn copy_list(alloc: Global, list: &[Stmt]) -> Result<Items<Stmt>, AllocError>
+pub fn copy_statements(alloc: Global, list: &[Stmt]) -> Result<Items<Stmt>, AllocError>
     ensures { IfOk result (λ copy. copy ≡ list.now) }
 {
     let mut copy = Items::new(alloc);

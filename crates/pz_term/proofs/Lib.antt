@@ -1,0 +1,5 @@
+pub mod Lists
+pub mod Views
+pub mod Openings
+pub mod Collected
+pub mod Acted
