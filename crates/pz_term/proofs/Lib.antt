@@ -3,3 +3,5 @@ pub mod Views
 pub mod Openings
 pub mod Collected
 pub mod Acted
+pub mod LocalOffers
+pub mod AllOffers
