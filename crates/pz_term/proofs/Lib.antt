@@ -5,3 +5,6 @@ pub mod Collected
 pub mod Acted
 pub mod LocalOffers
 pub mod AllOffers
+pub mod LeastDelays
+pub mod MomentsAre
+pub mod FirstRuns
