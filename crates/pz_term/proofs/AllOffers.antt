@@ -39,7 +39,7 @@ ordered i (p ∷ ps) =
     (AllPairs-map Before (of_process i) (local_actions p.term) (λ k j d before within. inr (refl, locals.ordered p.term k j d before within)))
     (ordered (suc i) ps)
     (All-map (λ a. All (Before a) (offers_from (suc i) ps)) (of_process i) (local_actions p.term)
-        (λ k d within j e later. before_later i (get_or (local_actions p.term) k d) (get_or (offers_from (suc i) ps) j e) (from_on (suc i) ps j e later)))
+    (λ k d within j e later. before_later i (get_or (local_actions p.term) k d) (get_or (offers_from (suc i) ps) j e) (from_on (suc i) ps j e later)))
 
 -- these processes stand from number i on
 abbrev StandFrom : List Process → ℕ → List Process → Type 0

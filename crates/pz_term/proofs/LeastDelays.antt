@@ -129,7 +129,6 @@ both_true false b e = absurd (differ e)
     differ : false ≡ true → ⊥
     differ e = cc
 
-
 pub all_done_sound : (ps : List Process) → all_done ps ≡ true → All (λ p. p.term ≡ done) ps
 all_done_sound [] e = All-nil (λ p. p.term ≡ done)
 all_done_sound (p ∷ ps) e =

@@ -8,3 +8,6 @@ pub mod AllOffers
 pub mod LeastDelays
 pub mod MomentsAre
 pub mod FirstRuns
+pub mod OneProcess
+pub mod Entered
+pub mod Steps

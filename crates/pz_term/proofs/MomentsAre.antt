@@ -15,13 +15,10 @@ use Rattle.pz_term.specs.Delays.{Delays, not_begun, begun, in_sequence, in_frame
 use Rattle.pz_term.specs.Configurations.{Process, Config, pass, pass_process}
 use Rattle.pz_term.specs.Offers.{Offers, internal, IsOffers}
 use Rattle.pz_term.specs.Moments.{IsLeft, IsLeast, AllDone, IsMoment, acting, passing, finished, deadlock}
-use Rattle.pz_term.specs.Laws.{TimeWaits, LeastPasses, OneListOfOffers, EveryMoment, OneMoment}
+use Rattle.pz_term.specs.Laws.{TimeWaits, LeastPasses, EveryMoment, OneMoment}
 use Rattle.pz_term.specs.Twins.{offers_of, least_delay, all_done, ending_moment, waiting_moment, moment_by, moment_of}
 use Rattle.pz_term.proofs.AllOffers.{offers_are, one_list}
 use Rattle.pz_term.proofs.LeastDelays.{least_is, none_left, all_done_sound, all_done_complete}
-
-pub one_list_of_offers : OneListOfOffers
-one_list_of_offers = one_list
 
 module _ (c : Config) where
   empty : (xs : List Action) → IsOffers c xs → length xs ≡ 0 → IsOffers c []
@@ -74,7 +71,7 @@ one_moment c _ _ (deadlock none no_delay not_all) (deadlock none' no_delay' not_
 no_action : (c : Config) (a : Action) → IsOffers c [] → ¬ Offers c a
 no_action c a none offer = omega (arith, (none.every a offer).1)
 
-time_parts : (c : Config) (m : Moment) (d : ℕ) → m ≡ Time d → IsMoment c m → IsOffers c [] × IsLeast c d
+pub time_parts : (c : Config) (m : Moment) (d : ℕ) → m ≡ Time d → IsMoment c m → IsOffers c [] × IsLeast c d
 time_parts c _ d e (acting xs is some) = absurd (differ e)
   where
     differ : Actions (length xs) ≡ Time d → ⊥

@@ -15,3 +15,4 @@ pub mod Twins
 pub mod View
 pub mod Simulations
 pub mod Plains
+pub mod Refusals

@@ -1,8 +1,8 @@
-ghost use Rattle.std.specs.Prelude.{◌≡◌, [], ◌∷◌, ◌++◌, map, IfOk, OnOk, ℕ, List, false};
+ghost use Rattle.std.specs.Prelude.{◌≡◌, [], ◌∷◌, ◌++◌, map, IfOk, OnOk, ℕ, List, false, Some, slice_get};
 ghost use Rattle.pz_ast.specs.StatementView.{sequence_view, view};
 ghost use Rattle.pz_term.specs.Terms as terms;
 ghost use Rattle.pz_term.specs.Residual.{left_of as the_left, around, framed as the_framed, left_of_statement, after_action};
-ghost use Rattle.pz_term.specs.Twins.{local_actions, statement_actions, expiry, below, of_process, is_done as done_of, is_replaced as replaced};
+ghost use Rattle.pz_term.specs.Twins.{Local, local_actions, statement_actions, expiry, below, of_process, is_done as done_of, is_replaced as replaced};
 ghost use Rattle.pz_term.specs.View.{term_view, bodies_view};
 
 use crate::bodies::{Body, find_body};
@@ -220,4 +220,36 @@ fn copy_names(alloc: Global, names: &[Id]) -> Result<Items<Id>, AllocError>
         copy.push(name.copy()?)?;
     }
     Ok(copy)
+}
+
+/// What an offer of the term leaves of it.
+pub fn chosen(alloc: Global, term: Term, bodies: &[Body]) -> Result<Term, AllocError>
+    ensures { IfOk result (λ left. (k : ℕ) (l : Local) → slice_get (local_actions (term_view term)) k ≡ Some l → term_view left ≡ after_action (bodies_view bodies.now) (term_view term) l.place) }
+{
+    let mut place = Place::root(alloc);
+    match enter_open(&term, &mut place) {
+        Ok(()) => act(alloc, term, place.as_slice(), bodies),
+        Err(error) => {
+            drop(term);
+            Err(error)
+        }
+    }
+}
+
+// Goes on to the open part of the term. Every action of the term stands there, since no term has
+// parts side by side yet.
+fn enter_open(term: &Term, place: &mut Place) -> Result<(), AllocError>
+    ensures { OnOk result ((k : ℕ) (l : Local) → slice_get (local_actions (term_view term.now)) k ≡ Some l → place.new ≡ place.old ++ l.place) }
+{
+    match term {
+        Term::Seq(first, _) => {
+            place.enter(0)?;
+            enter_open(first.get(), place)
+        }
+        Term::Frame { body, .. } => {
+            place.enter(0)?;
+            enter_open(body.get(), place)
+        }
+        Term::Done | Term::Leaf(_) | Term::Wait { .. } => Ok(()),
+    }
 }

@@ -4,6 +4,7 @@
 mod acting;
 mod action;
 mod bodies;
+pub mod laws;
 mod moment;
 mod passing;
 mod place;
@@ -13,4 +14,4 @@ mod term;
 pub use action::{Action, End, Kind};
 pub use moment::Moment;
 pub use place::Place;
-pub use plain::Plain;
+pub use plain::{ChooseError, PassError, Plain};
