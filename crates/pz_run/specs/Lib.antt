@@ -5,3 +5,4 @@ pub mod Pieces
 pub mod Tokens
 pub mod FirstTexts
 pub mod Words
+pub mod Twins

@@ -1,5 +1,5 @@
 -- The pieces that a text is cut into: blanks, and the tokens of models of the first path.
-use Rattle.std.specs.Prelude.{◌≡◌, ℕ, ◌+◌, ◌*◌, ◌-◌, ◌<◌, ◌^◌, List, [], ◌∷◌, ◌++◌, Bool, true, false, ◌==◌, fold, pos, codes}
+use Rattle.std.specs.Prelude.{◌≡◌, ℕ, ◌+◌, ◌*◌, ◌-◌, ◌<◌, ◌^◌, List, [], ◌∷◌, ◌++◌, Bool, true, false, ◌&&◌, ◌==◌, fold, pos, codes}
 use Rattle.std.specs.List.{AllPass}
 use Rattle.pz_ast.specs.declared.tokens.Symbol.TheVariants.{LeftParen, RightParen, Semicolon, Colon}
 use Rattle.pz_ast.specs.declared.tokens.TokenKind.{TokenKind}
@@ -17,12 +17,18 @@ pub record IsWord (text rest : List ℕ) : Type 0 where
 abbrev pub value_of : List ℕ → ℕ
 value_of digits = fold (λ n d. 10 * n + (d - 48)) 0 digits
 
--- At least one digit, and nothing else, with a value of a signed number of 64 bits. No letter or
--- digit stands behind it.
+-- a `.` and a digit: behind digits, they make another token
+abbrev pub begins_fraction : List ℕ → Bool
+begins_fraction [] = false
+begins_fraction (b ∷ bs) = b == 46 && begins is_digit bs
+
+-- At least one digit, and nothing else, with a value of a signed number of 64 bits. No letter, digit
+-- or fraction stands behind it.
 pub record IsInteger (text : List ℕ) (value : ℕ) (rest : List ℕ) : Type 0 where
   pub first : begins is_digit text ≡ true
   pub all : AllPass is_digit text
   pub whole : begins is_word rest ≡ false
+  pub no_fraction : begins_fraction rest ≡ false
   pub stands_for : value_of text ≡ value
   pub fits : value < 2 ^ 63
 

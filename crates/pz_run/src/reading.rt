@@ -1,0 +1,4 @@
+//! Reading the text of a model of the first path.
+mod keywords;
+mod pieces;
+mod tokens;
