@@ -1,2 +1,5 @@
 pub mod Runs
 pub mod Digits
+pub mod WordKinds
+pub mod Cutting
+pub mod Turns

@@ -16,6 +16,7 @@ use Rattle.pz_run.specs.Places.{origin, place_after}
 use Rattle.pz_run.specs.Tokens.{token_at}
 use Rattle.pz_run.specs.declared.reading.keywords.TheConstants.{KEYWORDS}
 use Rattle.pz_run.specs.declared.reading.pieces.Piece.{Piece}
+use Rattle.pz_run.specs.declared.reading.tokens.Tokens.{Tokens}
 
 -- a piece at the front: how many bytes it has, and what it is
 pub record Front : Type 0 where
@@ -97,3 +98,7 @@ tokens_from (suc n) at (b ∷ bs) = tokens_by (tokens_from n) at (b ∷ bs) (fro
 
 abbrev pub tokens_of : List ℕ → Option (List Token)
 tokens_of text = tokens_from (length text) origin text
+
+-- the tokens of all of the text, or those of a front of a text that has none
+abbrev pub AreTokens : List ℕ → Tokens → Type 0
+AreTokens text tokens = tokens_of text ≡ (if tokens.whole then Some tokens.items else None)
