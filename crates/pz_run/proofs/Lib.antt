@@ -5,3 +5,7 @@ pub mod Cutting
 pub mod Turns
 pub mod Consuming
 pub mod Sound
+pub mod Repeating
+pub mod Refusing
+pub mod Seen
+pub mod Complete

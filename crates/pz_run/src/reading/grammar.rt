@@ -72,6 +72,7 @@ fn body(alloc: Global, cursor: &mut Cursor<'_>) -> Result<Items<Stmt>, ReadModel
     }
 }
 
+#[tactic(auto, unfolding(crate::specs::Twins::Grammar::routine))]
 fn method(alloc: Global, cursor: &mut Cursor<'_>) -> Result<ProcessMethod, ReadModelError>
     ensures { Reads IsMethod (grammar.routine cursor.old) result cursor.new }
 {
