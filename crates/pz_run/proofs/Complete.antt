@@ -10,7 +10,8 @@ use Rattle.pz_ast.specs.declared.tokens.Token.{Token}
 use Rattle.pz_term.specs.FirstPath.{Simple, skips, delays, calls, IsBody, Routine, FirstModel, HasBodies}
 use Rattle.pz_run.specs.FirstTexts.{word, word_at, empty_groups, simple_text, body_text, routine_text, routines_text, class_text, system_text, first_text}
 use Rattle.pz_run.specs.FirstTexts as text
-use Rattle.pz_run.specs.Twins.Grammar.{Outcome, key, symbol, name, integer, at_name, at_symbol, is_key, is_symbol, groups, call, delay, simple, with_front, body, routine, routines, class_name, start, System, system, model}
+use Rattle.pz_run.specs.declared.reading.first_model.System.{System}
+use Rattle.pz_run.specs.Twins.Grammar.{Outcome, key, symbol, name, integer, at_name, at_symbol, is_key, is_symbol, groups, call, delay, simple, with_front, body, routine, routines, class_name, start, system, model}
 use Rattle.pz_run.proofs.Consuming.{Consumes, parted, consumed_length, key_complete, word_complete, symbol_complete, at_symbol_complete, name_complete, at_name_complete, integer_complete}
 use Rattle.pz_run.proofs.Sound.{IsPlain, system_wanted}
 
@@ -141,14 +142,14 @@ start_complete id ts rest a =
 system_complete : (s : System) (ts rest : List Token) → Consumes ts (system_wanted s) rest → system ts ≡ Some (s, rest)
 unfolding system
 system_complete s ts rest a =
-    let p = parted ts (word_at Keyword.System s.at ∷ []) (word Keyword.Instances ∷ text.name s.instance ∷ text.symbol Symbol.Colon ∷ text.name s.of_class ∷ []) rest a in
-    let q = parted p.0 (word Keyword.Instances ∷ []) (text.name s.instance ∷ text.symbol Symbol.Colon ∷ text.name s.of_class ∷ []) rest p.2 in
-    let r = parted q.0 (text.name s.instance ∷ []) (text.symbol Symbol.Colon ∷ text.name s.of_class ∷ []) rest q.2 in
-    let u = parted r.0 (text.symbol Symbol.Colon ∷ []) (text.name s.of_class ∷ []) rest r.2 in
-    rw (key_complete Keyword.System s.at ts p.0 p.1, (word_complete Keyword.Instances p.0 q.0 q.1).1, name_complete s.instance q.0 r.0 r.1, symbol_complete Symbol.Colon r.0 u.0 u.1, name_complete s.of_class u.0 rest u.2) refl
+    let p = parted ts (word_at Keyword.System s.pos ∷ []) (word Keyword.Instances ∷ text.name s.instance ∷ text.symbol Symbol.Colon ∷ text.name s.class ∷ []) rest a in
+    let q = parted p.0 (word Keyword.Instances ∷ []) (text.name s.instance ∷ text.symbol Symbol.Colon ∷ text.name s.class ∷ []) rest p.2 in
+    let r = parted q.0 (text.name s.instance ∷ []) (text.symbol Symbol.Colon ∷ text.name s.class ∷ []) rest q.2 in
+    let u = parted r.0 (text.symbol Symbol.Colon ∷ []) (text.name s.class ∷ []) rest r.2 in
+    rw (key_complete Keyword.System s.pos ts p.0 p.1, (word_complete Keyword.Instances p.0 q.0 q.1).1, name_complete s.instance q.0 r.0 r.1, symbol_complete Symbol.Colon r.0 u.0 u.1, name_complete s.class u.0 rest u.2) refl
 
 abbrev system_of_model : FirstModel → System
-system_of_model m = record { at = m.system_pos; instance = m.instance; of_class = m.of_class }
+system_of_model m = record { pos = m.system_pos; instance = m.instance; class = m.of_class }
 
 pub model_complete : (m : FirstModel) (ts rest : List Token) → HasBodies m → Consumes ts (first_text m) rest → model ts ≡ Some (m, rest)
 unfolding model

@@ -11,7 +11,8 @@ use Rattle.pz_ast.specs.declared.tokens.Token.{Token}
 use Rattle.pz_term.specs.FirstPath.{Simple, skips, delays, calls, IsBody, Routine, FirstModel, HasBodies}
 use Rattle.pz_run.specs.FirstTexts.{word, word_at, empty_groups, simple_text, body_text, routine_text, routines_text, class_text, system_text, first_text}
 use Rattle.pz_run.specs.FirstTexts as text
-use Rattle.pz_run.specs.Twins.Grammar.{Outcome, Reader, and_then, pure, key, symbol, name, integer, at_name, at_symbol, groups, call, delay, simple_by, simple, with_front, body, routine, routines, class_name, start, System, system, model}
+use Rattle.pz_run.specs.declared.reading.first_model.System.{System}
+use Rattle.pz_run.specs.Twins.Grammar.{Outcome, Reader, and_then, pure, key, symbol, name, integer, at_name, at_symbol, groups, call, delay, simple_by, simple, with_front, body, routine, routines, class_name, start, system, model}
 use Rattle.pz_run.proofs.Consuming.{Consumes, joined, placeless, then_some, same_some, key_sound, symbol_sound, at_symbol_sound, name_sound, integer_sound}
 
 pub groups_sound : (ts : List Token) (r : Unit {0} × List Token) → groups ts ≡ Some r → Consumes ts empty_groups r.1
@@ -180,7 +181,7 @@ start_sound ts r e =
         (joined b.0.1 empty_groups (word Keyword.Methods ∷ []) c.0.1 d.0.1 (groups_sound b.0.1 c.0 c.1) (word_sound Keyword.Methods c.0.1 d.0 d.1))))
 
 abbrev pub system_wanted : System → List text.Wanted
-system_wanted s = word_at Keyword.System s.at ∷ word Keyword.Instances ∷ text.name s.instance ∷ text.symbol Symbol.Colon ∷ text.name s.of_class ∷ []
+system_wanted s = word_at Keyword.System s.pos ∷ word Keyword.Instances ∷ text.name s.instance ∷ text.symbol Symbol.Colon ∷ text.name s.class ∷ []
 
 system_sound : (ts : List Token) (r : System × List Token) → system ts ≡ Some r → Consumes ts (system_wanted r.0) r.1
 unfolding system
@@ -190,7 +191,7 @@ system_sound ts r e =
     let c = then_some (name b.0.1) _ r b.2 in
     let d = then_some (symbol Symbol.Colon c.0.1) _ r c.2 in
     let f = then_some (name d.0.1) _ r d.2 in
-    subst (λ (x : System × List Token). Consumes ts (system_wanted x.0) x.1) (same_some (record { at = a.0.0; instance = c.0.0; of_class = f.0.0 }, f.0.1) r f.2)
+    subst (λ (x : System × List Token). Consumes ts (system_wanted x.0) x.1) (same_some (record { pos = a.0.0; instance = c.0.0; class = f.0.0 }, f.0.1) r f.2)
         (joined ts (word_at Keyword.System a.0.0 ∷ []) (word Keyword.Instances ∷ text.name c.0.0 ∷ text.symbol Symbol.Colon ∷ text.name f.0.0 ∷ []) a.0.1 f.0.1 (key_sound Keyword.System ts a.0 a.1)
         (joined a.0.1 (word Keyword.Instances ∷ []) (text.name c.0.0 ∷ text.symbol Symbol.Colon ∷ text.name f.0.0 ∷ []) b.0.1 f.0.1 (word_sound Keyword.Instances a.0.1 b.0 b.1)
         (joined b.0.1 (text.name c.0.0 ∷ []) (text.symbol Symbol.Colon ∷ text.name f.0.0 ∷ []) c.0.1 f.0.1 (name_sound b.0.1 c.0 c.1)
@@ -208,7 +209,7 @@ model_sound ts r e =
     let c = then_some (routines (length b.0.1) b.0.1) _ r b.2 in
     let d = then_some (system c.0.1) _ r c.2 in
     let rs = routines_sound (length b.0.1) b.0.1 c.0 c.1 in
-    let m : FirstModel = record { class = a.0.0; init = b.0.0; routines = c.0.0; system_pos = d.0.0.at; instance = d.0.0.instance; of_class = d.0.0.of_class } in
+    let m : FirstModel = record { class = a.0.0; init = b.0.0; routines = c.0.0; system_pos = d.0.0.pos; instance = d.0.0.instance; of_class = d.0.0.class } in
     subst (TookModel ts) (same_some (m, d.0.1) r d.2) (record {
       text = joined ts (class_text m) (system_text m) c.0.1 d.0.1
           (joined ts (word Keyword.Process ∷ word Keyword.Class ∷ text.name a.0.0 ∷ word Keyword.Init ∷ text.name b.0.0 ∷ empty_groups ++ word Keyword.Methods ∷ []) (routines_text c.0.0) b.0.1 c.0.1

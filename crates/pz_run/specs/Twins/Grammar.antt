@@ -13,12 +13,16 @@ use Rattle.pz_ast.specs.declared.names.Id.{Id}
 use Rattle.pz_ast.specs.declared.exprs.Expr.{Expr}
 use Rattle.pz_ast.specs.declared.exprs.Literal.{Literal}
 use Rattle.pz_ast.specs.declared.stmts.Stmt.{Stmt}
+use Rattle.pz_ast.specs.declared.classes.ProcessClass.{ProcessClass}
 use Rattle.pz_ast.specs.declared.classes.ProcessMethod.{ProcessMethod}
+use Rattle.pz_ast.specs.declared.clusters.SystemDecl.{SystemDecl}
 use Rattle.pz_ast.specs.Expressions.{literal}
 use Rattle.pz_ast.specs.ExpressionView as expression
 use Rattle.pz_ast.specs.StatementView as statement
 use Rattle.pz_ast.specs.ClassView.{process_method_view}
 use Rattle.pz_term.specs.FirstPath.{Simple, skips, delays, calls, Routine, FirstModel, statement_of, method_of}
+use Rattle.pz_run.specs.declared.reading.first_model.FirstModel as parts
+use Rattle.pz_run.specs.declared.reading.first_model.System.{System}
 use Rattle.pz_run.specs.declared.reading.refusal.ReadModelError.{ReadModelError}
 use Rattle.pz_run.specs.declared.reading.refusal.ReadModelError.TheVariants.{NoMemory}
 
@@ -145,19 +149,14 @@ start = do
   key Keyword.Methods
   pure id
 
-pub record System : Type 0 where
-  pub at : Pos
-  pub instance : Id
-  pub of_class : Id
-
 unfoldable pub system : Reader System
 system = do
   at ← key Keyword.System
   key Keyword.Instances
   instance ← name
   symbol Symbol.Colon
-  of_class ← name
-  pure (record { at = at; instance = instance; of_class = of_class })
+  class ← name
+  pure (record { pos = at; instance = instance; class = class })
 
 unfoldable pub model : Reader FirstModel
 model = do
@@ -165,7 +164,7 @@ model = do
   init ← start
   rs ← (λ ts. routines (length ts) ts)
   s ← system
-  pure (record { class = class; init = init; routines = rs; system_pos = s.at; instance = s.instance; of_class = s.of_class })
+  pure (record { class = class; init = init; routines = rs; system_pos = s.pos; instance = s.instance; of_class = s.class })
 
 -- what the code reads is what stands at the front
 abbrev pub Takes : {A : Type 0} → Outcome A → Result A ReadModelError → List Token → Type 0
@@ -196,3 +195,28 @@ IsMethod m r = process_method_view m ≡ method_of r
 
 abbrev pub AreMethods : List ProcessMethod → List Routine → Type 0
 AreMethods ms rs = map process_method_view ms ≡ map method_of rs
+
+pub record IsModel (parts : parts.FirstModel) (m : FirstModel) : Type 0 where
+  pub class : parts.class ≡ m.class
+  pub init : parts.init ≡ m.init
+  pub methods : AreMethods parts.methods m.routines
+  pub system : parts.system ≡ record { pos = m.system_pos; instance = m.instance; class = m.of_class }
+
+abbrev pub class_decl : Id → Id → List ProcessMethod → ProcessClass
+class_decl name init methods = record {
+  name = name;
+  parameters = None;
+  parent = None;
+  ports = None;
+  messages = None;
+  variables = None;
+  start = Some (record { method = init; args = [] });
+  methods = Some methods;
+}
+
+abbrev pub system_decl : System → SystemDecl
+system_decl s = record {
+  pos = s.pos;
+  instances = Some (record { name = s.instance; class = s.class; given = None } ∷ []);
+  channels = None;
+}

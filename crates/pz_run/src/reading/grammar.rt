@@ -1,8 +1,9 @@
 ghost use Rattle.std.specs.Prelude.{◌≡◌, length};
 ghost use Rattle.pz_run.specs.Twins.Grammar as grammar;
-ghost use Rattle.pz_run.specs.Twins.Grammar.{Takes, Reads, IsStatement, AreStatements, IsMethod, AreMethods};
+ghost use Rattle.pz_run.specs.Twins.Grammar.{Takes, Reads, IsStatement, AreStatements, IsMethod, AreMethods, IsModel};
 
 use super::cursor::Cursor;
+use super::first_model::{FirstModel, System};
 use super::refusal::ReadModelError;
 use pz_ast::{Id, Keyword, ProcessMethod, Stmt, StmtForm, Symbol};
 use pz_items::Items;
@@ -121,4 +122,38 @@ fn start(alloc: Global, cursor: &mut Cursor<'_>) -> Result<Id, ReadModelError>
     groups(cursor)?;
     cursor.keyword(Keyword::Methods)?;
     Ok(method)
+}
+
+/// `system instances`, and an instance and its class.
+#[tactic(auto, unfolding(crate::specs::Twins::Grammar::system))]
+fn system(alloc: Global, cursor: &mut Cursor<'_>) -> Result<System, ReadModelError>
+    ensures { Takes (grammar.system cursor.old) result cursor.new }
+{
+    let pos = cursor.keyword(Keyword::System)?;
+    cursor.keyword(Keyword::Instances)?;
+    let instance = cursor.name(alloc)?;
+    cursor.symbol(Symbol::Colon)?;
+    let class = cursor.name(alloc)?;
+    Ok(System {
+        pos,
+        instance,
+        class,
+    })
+}
+
+/// Reads a model of the first path. Whether its names fit is not looked at, nor what stands behind.
+#[tactic(auto, unfolding(crate::specs::Twins::Grammar::model))]
+pub fn model(alloc: Global, cursor: &mut Cursor<'_>) -> Result<FirstModel, ReadModelError>
+    ensures { Reads IsModel (grammar.model cursor.old) result cursor.new }
+{
+    let class = class_name(alloc, cursor)?;
+    let init = start(alloc, cursor)?;
+    let methods = methods(alloc, cursor)?;
+    let system = system(alloc, cursor)?;
+    Ok(FirstModel {
+        class,
+        init,
+        methods,
+        system,
+    })
 }
