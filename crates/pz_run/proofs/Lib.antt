@@ -9,3 +9,5 @@ pub mod Repeating
 pub mod Refusing
 pub mod Seen
 pub mod Complete
+pub mod NameSets
+pub mod LastCalls

@@ -3,6 +3,7 @@ mod cursor;
 mod first_model;
 mod grammar;
 mod keywords;
+mod names;
 mod pieces;
 mod refusal;
 mod tokens;
