@@ -11,3 +11,5 @@ pub mod Seen
 pub mod Complete
 pub mod NameSets
 pub mod LastCalls
+pub mod NamesFitting
+pub mod Texts
