@@ -13,3 +13,4 @@ pub mod NameSets
 pub mod LastCalls
 pub mod NamesFitting
 pub mod Texts
+mod Rows

@@ -26,7 +26,7 @@ bytes_same x y e = (bytes_eq-Decides x y).1 e
 
 -- ---- reserved names
 
-free_sound : (name : List ℕ) → is_reserved name ≡ false → ¬ Contains reserved name
+pub free_sound : (name : List ℕ) → is_reserved name ≡ false → ¬ Contains reserved name
 free_sound name free c = let has : is_reserved name ≡ true = list_any_at (λ (r : List ℕ). bytes_eq r name) reserved c.0 name c.1 (bytes_same _ name c.2) in cc
 
 free_complete : (name : List ℕ) → ¬ Contains reserved name → is_reserved name ≡ false
