@@ -60,3 +60,6 @@ fn read_all(alloc: Global, tokens: &Tokens) -> Result<FirstModel, ReadModelError
         Err(cursor.refusal())
     }
 }
+
+#[cfg(test)]
+mod tests;
