@@ -1,5 +1,5 @@
 -- The text of a model is read as that model.
-use Rattle.std.proofs.Common.{◌≡◌, ◌≢◌, ℕ, zero, suc, ◌+◌, ◌<◌, ◌≤◌, List, [], ◌∷◌, ◌++◌, length, drop, Bool, true, false, Option, Some, None, refl, sym, ap, ◌∙◌, subst, arith, length-append}
+use Rattle.std.proofs.Common.{◌≡◌, ◌≢◌, ℕ, zero, suc, ◌<◌, ◌≤◌, List, [], ◌∷◌, ◌++◌, length, true, false, Some, None, refl, subst, arith, length-append}
 use Rattle.std.specs.Prelude.{All}
 use Rattle.std.proofs.lemmas.List.Elements.{All-head, All-tail}
 use Rattle.pz_ast.specs.declared.names.Id.{Id}
@@ -11,7 +11,7 @@ use Rattle.pz_term.specs.FirstPath.{Simple, skips, delays, calls, IsBody, Routin
 use Rattle.pz_run.specs.FirstTexts.{word, word_at, empty_groups, simple_text, body_text, routine_text, routines_text, class_text, system_text, first_text}
 use Rattle.pz_run.specs.FirstTexts as text
 use Rattle.pz_run.specs.declared.reading.first_model.System.{System}
-use Rattle.pz_run.specs.Twins.Grammar.{Outcome, key, symbol, name, integer, at_name, at_symbol, is_key, is_symbol, groups, call, delay, simple, with_front, body, routine, routines, class_name, start, system, model}
+use Rattle.pz_run.specs.Twins.Grammar.{key, at_name, at_symbol, is_key, is_symbol, groups, call, delay, simple, body, routine, routines, class_name, start, system, model}
 use Rattle.pz_run.proofs.Consuming.{Consumes, parted, consumed_length, key_complete, word_complete, symbol_complete, at_symbol_complete, name_complete, at_name_complete, integer_complete}
 use Rattle.pz_run.proofs.Sound.{IsPlain, system_wanted}
 

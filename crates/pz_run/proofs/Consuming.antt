@@ -1,5 +1,5 @@
 -- What stands at the front of tokens.
-use Rattle.std.proofs.Common.{◌≡◌, ℕ, zero, suc, ◌+◌, ◌<◌, ◌≤◌, List, [], ◌∷◌, ◌++◌, length, drop, Bool, true, false, Option, Some, None, pos, refl, sym, ap, ◌∙◌, subst, arith, length-append}
+use Rattle.std.proofs.Common.{◌≡◌, ℕ, ◌+◌, List, [], ◌∷◌, ◌++◌, length, drop, Bool, true, false, Some, None, pos, refl, sym, ap, ◌∙◌, subst, arith}
 use Rattle.std.specs.Prelude.{negsuc, if◌then◌else◌}
 use Rattle.std.proofs.Common.{rules}
 use denote.Enum.Bare.{same_true, true_same}
@@ -13,7 +13,7 @@ use Rattle.pz_ast.specs.declared.tokens.Token.{Token}
 use Rattle.pz_ast.specs.declared.tokens.TokenKind.{TokenKind}
 use Rattle.pz_run.specs.FirstTexts.{Wanted, word, word_at, integer_at, Fits, Reads}
 use Rattle.pz_run.specs.FirstTexts as text
-use Rattle.pz_run.specs.Twins.Grammar.{Outcome, Reader, and_then, is_key, is_symbol, key, symbol, name_by, name, integer_by, integer, at_name_by, at_name, at_symbol}
+use Rattle.pz_run.specs.Twins.Grammar.{Outcome, Reader, and_then, is_key, is_symbol, key, symbol, name_by, name, integer_by, integer, at_name, at_symbol}
 
 -- what is wanted stands at the front, and then the rest
 abbrev pub Consumes : List Token → List Wanted → List Token → Type 0

@@ -1,22 +1,22 @@
 -- The computed cut is the cut of the definition.
-use Rattle.std.proofs.Common.{◌≡◌, ℕ, zero, suc, ◌+◌, ◌-◌, ◌<◌, ◌≤◌, List, [], ◌∷◌, ◌++◌, length, Bool, true, false, Option, Some, None, take, drop, inl, inr, refl, sym, ap, ◌∙◌, subst, arith, codes, length-append, length-drop, append_assoc}
+use Rattle.std.proofs.Common.{◌≡◌, ℕ, zero, suc, ◌<◌, ◌≤◌, List, [], ◌∷◌, ◌++◌, length, Bool, true, false, Option, Some, None, take, drop, inl, inr, refl, sym, ap, ◌∙◌, subst, arith, length-append}
 use Rattle.std.specs.Prelude.{◌==◌, ◌&&◌, not, pos, option_map, if◌then◌else◌}
 use Rattle.std.specs.List.{AllPass, prefix_len}
 use Rattle.std.proofs.Math.Seq.{take-append_seam, drop-append_seam}
 use Rattle.std.proofs.lemmas.Bool.{cases_Bool}
 use Rattle.std.proofs.lemmas.Bool.Decides.{nat_tests}
 use Rattle.std.proofs.lemmas.List.{take-append-drop}
-use Rattle.std.proofs.lemmas.List.Elements.{All-head, All-weaker}
+use Rattle.std.proofs.lemmas.List.Elements.{All-weaker}
 use Rattle.std.proofs.lemmas.List.Sums.{prefix_len-le-length}
 use Rattle.pz_ast.specs.declared.tokens.Pos.{Pos}
 use Rattle.pz_ast.specs.declared.tokens.Symbol.{Symbol}
 use Rattle.pz_ast.specs.declared.tokens.Token.{Token}
 use Rattle.pz_ast.specs.declared.tokens.TokenKind.{TokenKind}
 use Rattle.pz_run.specs.Bytes.{is_blank, is_letter, is_digit, is_word, begins}
-use Rattle.pz_run.specs.Pieces.{Sort, blank, token, IsWord, IsInteger, begins_fraction, value_of, IsPiece, a_blank, a_word, an_integer, an_opening, a_closing, a_semicolon, a_colon, Piece, joined, ArePieces}
+use Rattle.pz_run.specs.Pieces.{Sort, blank, token, IsWord, IsInteger, begins_fraction, IsPiece, a_blank, a_word, an_integer, an_opening, a_closing, a_semicolon, a_colon, Piece, joined, ArePieces}
 use Rattle.pz_run.specs.Places.{origin, place_after}
 use Rattle.pz_run.specs.Tokens.{token_at, tokens_at, HasTokens}
-use Rattle.pz_run.specs.Twins.Cuts.{Front, word_kind, word_front, integer_of, integer_by, integer_front, symbol_of, symbol_front, front, with_front, tokens_by, tokens_from, tokens_of}
+use Rattle.pz_run.specs.Twins.Cuts.{Front, word_kind, word_front, integer_of, integer_by, integer_front, symbol_front, front, with_front, tokens_by, tokens_from, tokens_of}
 use Rattle.pz_run.proofs.Runs.{run_passes, run_stops, run_is}
 use Rattle.pz_run.proofs.Digits.{digits_sound, digits_complete}
 use Rattle.pz_run.proofs.WordKinds.{word_kind_sound, word_kind_complete}

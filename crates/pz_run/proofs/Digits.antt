@@ -1,5 +1,5 @@
 -- The values of digits.
-use Rattle.std.proofs.Common.{◌≡◌, ℕ, suc, ◌+◌, ◌*◌, ◌-◌, ◌<◌, ◌≤◌, ◌^◌, List, [], ◌∷◌, length, Bool, true, false, Option, Some, None, drop, drop-cons, get_or, nat_lt, inl, inr, refl, sym, ap, ◌∙◌, add-one, arith}
+use Rattle.std.proofs.Common.{◌≡◌, ℕ, ◌+◌, ◌*◌, ◌-◌, ◌<◌, ◌≤◌, ◌^◌, List, [], ◌∷◌, length, Bool, true, false, Some, None, drop, drop-cons, get_or, nat_lt, inl, inr, refl, ap, ◌∙◌, add-one, arith}
 use Rattle.std.specs.List.{AllPass, fold}
 use Rattle.std.proofs.lemmas.List.Elements.{All-nil, All-cons, All-head, All-tail}
 use Rattle.std.proofs.lemmas.Bool.{cases_Bool}
@@ -27,7 +27,6 @@ too_large_at n i xs lt large = by_digit (is_digit (get_or xs i 0)) refl
     by_digit : (d : Bool) → is_digit (get_or xs i 0) ≡ d → integer_from n (drop i xs) ≡ None
     by_digit true e = digit_at n i xs lt e ∙ too_large _ (drop (i + 1) xs) large
     by_digit false e = no_digit_at n i xs lt e
-
 
 pub digits_sound : (n v : ℕ) (bs : List ℕ) → integer_from n bs ≡ Some v → AllPass is_digit bs × (fold (λ n d. 10 * n + (d - 48)) n bs ≡ v) × (v < 2 ^ 63)
 digits_sound n v [] is = elim (cases_Bool (nat_lt n (2 ^ 63))) [

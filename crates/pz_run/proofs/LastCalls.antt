@@ -1,5 +1,5 @@
 -- Calls at the end of bodies.
-use Rattle.std.proofs.Common.{◌≡◌, ℕ, zero, suc, ◌+◌, ◌-◌, ◌<◌, List, [], ◌∷◌, length, get_or, map, Option, Some, None, refl, sym, ap, ◌∙◌, subst, arith}
+use Rattle.std.proofs.Common.{◌≡◌, ℕ, suc, ◌-◌, ◌<◌, List, [], ◌∷◌, length, get_or, ap, ◌∙◌, arith}
 use Rattle.pz_ast.specs.declared.stmts.Stmt.{Stmt}
 use Rattle.pz_ast.specs.StatementView.{view, sequence_view}
 use Rattle.pz_run.specs.Twins.Names.{called_in, last_call}

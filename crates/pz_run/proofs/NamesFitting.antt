@@ -1,6 +1,6 @@
 -- The rules on names, over what the code makes, are those of the definition.
-use Rattle.std.proofs.Common.{◌≡◌, ◌≢◌, ℕ, zero, suc, ◌+◌, ◌<◌, ◌≤◌, List, [], ◌∷◌, ◌++◌, length, map, get_or, Bool, true, false, Option, Some, None, inl, inr, refl, sym, ap, ◌∙◌, subst, arith}
-use Rattle.std.specs.Prelude.{◌||◌, All, AllPairs, Any, Contains, IfSome}
+use Rattle.std.proofs.Common.{◌≡◌, ◌≢◌, ℕ, ◌<◌, List, [], ◌∷◌, length, map, get_or, Bool, true, false, Option, inl, inr, refl, sym, ap, ◌∙◌, subst, arith}
+use Rattle.std.specs.Prelude.{◌||◌, All, AllPairs, Contains, IfSome}
 use Rattle.std.specs.List.{list_any}
 use Rattle.std.specs.Str.{bytes_eq}
 use Rattle.std.proofs.lemmas.Bool.{cases_Bool}
@@ -11,12 +11,11 @@ use Rattle.std.proofs.lemmas.Slice.Eq.{bytes_eq-Decides}
 use Rattle.pz_ast.specs.declared.names.Id.{Id}
 use Rattle.pz_ast.specs.declared.classes.ProcessMethod.{ProcessMethod}
 use Rattle.pz_ast.specs.Classes.{ProcessMethodTree}
-use Rattle.pz_ast.specs.ClassView.{process_method_view}
 use Rattle.pz_ast.specs.StatementView.{sequence_view}
-use Rattle.pz_term.specs.FirstPath.{Simple, skips, delays, calls, statements_of, IsBody, Routine, method_of, FirstModel, HasBodies, reserved, HasRoutine, IsKnown, NamesFit}
+use Rattle.pz_term.specs.FirstPath.{Simple, skips, delays, calls, statements_of, IsBody, Routine, FirstModel, HasBodies, reserved, HasRoutine, IsKnown, NamesFit}
 use Rattle.pz_run.specs.declared.reading.first_model.FirstModel as parts
 use Rattle.pz_run.specs.Twins.Grammar.{IsMethod, AreMethods, IsModel}
-use Rattle.pz_run.specs.Twins.Names.{last_call, is_declared, is_reserved, CallIsKnown, MethodsFit, PartsFit}
+use Rattle.pz_run.specs.Twins.Names.{last_call, is_declared, is_reserved, CallIsKnown, PartsFit}
 
 same_bytes : (x y : List ℕ) → bytes_eq x y ≡ true → x ≡ y
 same_bytes x y e = (bytes_eq-Decides x y).0 e
@@ -32,9 +31,9 @@ free_sound name free c = let has : is_reserved name ≡ true = list_any_at (λ (
 free_complete : (name : List ℕ) → ¬ Contains reserved name → is_reserved name ≡ false
 free_complete name free = elim (cases_Bool (is_reserved name)) [
   | inl e ↦
-    let a = Any-from_list_any (λ (r : List ℕ). bytes_eq r name) reserved e in
-    let is : a.1 ≡ name = same_bytes a.1 name a.4 in
-    absurd (free (a.0, a.2, subst (λ (x : List ℕ). get_or reserved a.0 x ≡ x) is a.3))
+      let a = Any-from_list_any (λ (r : List ℕ). bytes_eq r name) reserved e in
+      let is : a.1 ≡ name = same_bytes a.1 name a.4 in
+      absurd (free (a.0, a.2, subst (λ (x : List ℕ). get_or reserved a.0 x ≡ x) is a.3))
   | inr e ↦ e
 ]
 
@@ -123,7 +122,7 @@ module _ (p : parts.FirstModel) (m : FirstModel) (s : IsModel p m) (h : HasBodie
       let f = first_method c r ms rs are in
       let last : LastIsKnown r.body = subst Known (body_of c r f.0) (All-head (CallIsKnown (is_declared p.methods)) c ms k) in
       All-cons (λ r. All (IsKnown m) r.body) r rs (body_sound r.body (All-head (λ r. IsBody r.body) r rs is) last)
-          (calls_sound ms rs f.1 (All-tail (λ r. IsBody r.body) r rs is) (All-tail (CallIsKnown (is_declared p.methods)) c ms k))
+      (calls_sound ms rs f.1 (All-tail (λ r. IsBody r.body) r rs is) (All-tail (CallIsKnown (is_declared p.methods)) c ms k))
 
   calls_complete : (ms : List ProcessMethod) (rs : List Routine) → AreMethods ms rs → All (λ r. IsBody r.body) rs → All (λ r. All (IsKnown m) r.body) rs → All (CallIsKnown (is_declared p.methods)) ms
   calls_complete [] rs are is k = All-nil (CallIsKnown (is_declared p.methods))
@@ -132,7 +131,7 @@ module _ (p : parts.FirstModel) (m : FirstModel) (s : IsModel p m) (h : HasBodie
       let f = first_method c r ms rs are in
       let last : LastIsKnown r.body = body_complete r.body (All-head (λ r. IsBody r.body) r rs is) (All-head (λ r. All (IsKnown m) r.body) r rs k) in
       All-cons (CallIsKnown (is_declared p.methods)) c ms (subst Known (sym (body_of c r f.0)) last)
-          (calls_complete ms rs f.1 (All-tail (λ r. IsBody r.body) r rs is) (All-tail (λ r. All (IsKnown m) r.body) r rs k))
+      (calls_complete ms rs f.1 (All-tail (λ r. IsBody r.body) r rs is) (All-tail (λ r. All (IsKnown m) r.body) r rs k))
 
   class_is : p.class.name ≡ m.class.name
   class_is = ap (λ (id : Id). id.name) s.class

@@ -1,12 +1,12 @@
 -- The loops that read statements and methods.
-use Rattle.std.proofs.Common.{◌≡◌, ℕ, zero, suc, ◌+◌, ◌-◌, ◌<◌, ◌≤◌, List, [], ◌∷◌, ◌++◌, length, drop, map, Bool, true, false, Option, Some, None, refl, sym, ap, ◌∙◌, subst, arith, append_assoc, length-drop}
+use Rattle.std.proofs.Common.{◌≡◌, ℕ, zero, suc, ◌<◌, ◌≤◌, List, [], ◌∷◌, ◌++◌, length, drop, map, true, false, Some, None, refl, sym, ap, ◌∙◌, arith, append_assoc, length-drop}
 use Rattle.std.proofs.lemmas.List.{map-append}
 use Rattle.pz_ast.specs.declared.classes.ProcessMethod.{ProcessMethod}
 use Rattle.pz_ast.specs.declared.stmts.Stmt.{Stmt}
 use Rattle.pz_ast.specs.declared.tokens.Symbol.{Symbol}
 use Rattle.pz_ast.specs.declared.tokens.Token.{Token}
 use Rattle.pz_term.specs.FirstPath.{Simple, skips, delays, calls, Routine}
-use Rattle.pz_run.specs.FirstTexts.{Wanted, simple_text, routine_text}
+use Rattle.pz_run.specs.FirstTexts.{simple_text, routine_text}
 use Rattle.pz_run.specs.Twins.Grammar.{Outcome, at_name, at_symbol, call, simple, with_front, body, routine, routines, Stands, IsStatement, AreStatements, IsMethod, AreMethods}
 use Rattle.pz_run.proofs.Consuming.{consumed_length}
 use Rattle.pz_run.proofs.Sound.{simple_sound, routine_sound}

@@ -1,11 +1,11 @@
 -- The text of the first worked row is that of its model.
-use Rattle.std.proofs.Common.{◌≡◌, ◌<◌, ◌≤◌, ℕ, List, [], ◌∷◌, Some, refl, codes, arith, lit<}
+use Rattle.std.proofs.Common.{◌≡◌, ℕ, List, [], ◌∷◌, Some, refl, codes, arith, lit<}
 use Rattle.std.specs.Prelude.{All, unwrap_or}
 use Rattle.std.proofs.lemmas.List.Elements.{All-nil, All-cons}
 use Rattle.pz_ast.specs.declared.names.Id.{Id}
 use Rattle.pz_ast.specs.declared.tokens.Pos.{Pos}
 use Rattle.pz_ast.specs.declared.tokens.Token.{Token}
-use Rattle.pz_term.specs.FirstPath.{skips, delays, IsBody, Routine, FirstModel, IsKnown}
+use Rattle.pz_term.specs.FirstPath.{skips, delays, Routine, FirstModel, IsKnown}
 use Rattle.pz_run.specs.FirstTexts.{first_text, IsModelOf}
 use Rattle.pz_run.specs.Twins.Cuts.{tokens_from, tokens_of}
 use Rattle.pz_run.specs.Twins.Grammar.{is_key, is_symbol, groups, call, delay, simple, body, routine, routines, class_name, start, system, model}

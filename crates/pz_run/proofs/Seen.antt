@@ -1,15 +1,13 @@
 -- What the code makes stands for what is read.
-use Rattle.std.proofs.Common.{◌≡◌, List, [], ◌∷◌, map, None, refl, sym, ap, ◌∙◌}
+use Rattle.std.proofs.Common.{◌≡◌, List, [], ◌∷◌, map, None, refl, ap, ◌∙◌}
 use Rattle.pz_ast.specs.declared.names.Id.{Id}
-use Rattle.pz_ast.specs.declared.classes.ProcessMethod.{ProcessMethod}
 use Rattle.pz_ast.specs.declared.classes.VarGroup.{VarGroup}
 use Rattle.pz_ast.specs.declared.stmts.Stmt.{Stmt}
 use Rattle.pz_ast.specs.Statements.{Statements, then}
 use Rattle.pz_ast.specs.StatementView as statement
 use Rattle.pz_ast.specs.StatementView.{sequence_of}
 use Rattle.pz_ast.specs.Classes.{ProcessMethodTree}
-use Rattle.pz_ast.specs.ClassView.{process_method_view}
-use Rattle.pz_term.specs.FirstPath.{Simple, statement_of, statements_of, Routine}
+use Rattle.pz_term.specs.FirstPath.{Simple, statement_of, statements_of}
 use Rattle.pz_run.specs.Twins.Grammar.{AreStatements, IsMethod}
 
 sequence_is : (xs : List Simple) → sequence_of (map statement_of xs) ≡ statements_of xs

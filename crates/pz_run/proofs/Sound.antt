@@ -1,7 +1,6 @@
 -- What is read is the text of what it is read as.
-use Rattle.std.proofs.Common.{◌≡◌, ◌≢◌, ℕ, zero, suc, ◌+◌, ◌<◌, ◌≤◌, List, [], ◌∷◌, ◌++◌, length, drop, Bool, true, false, Option, Some, None, inl, inr, refl, sym, ap, ◌∙◌, subst, arith}
+use Rattle.std.proofs.Common.{◌≡◌, ◌≢◌, ℕ, zero, suc, List, [], ◌∷◌, ◌++◌, length, drop, Bool, true, false, Some, None, refl, subst}
 use Rattle.std.specs.Prelude.{All, if◌then◌else◌}
-use Rattle.std.proofs.lemmas.Bool.{cases_Bool}
 use Rattle.std.proofs.lemmas.List.Elements.{All-nil, All-cons}
 use Rattle.pz_ast.specs.declared.names.Id.{Id}
 use Rattle.pz_ast.specs.declared.tokens.Keyword.{Keyword}
@@ -35,7 +34,7 @@ call_sound ts r e =
     let a = then_some (name ts) _ r e in
     let b = then_some (groups a.0.1) _ r a.2 in
     subst (λ (x : Simple × List Token). Consumes ts (simple_text x.0) x.1) (same_some (calls a.0.0, b.0.1) r b.2)
-        (joined ts (text.name a.0.0 ∷ []) empty_groups a.0.1 b.0.1 (name_sound ts a.0 a.1) (groups_sound a.0.1 b.0 b.1))
+    (joined ts (text.name a.0.0 ∷ []) empty_groups a.0.1 b.0.1 (name_sound ts a.0 a.1) (groups_sound a.0.1 b.0 b.1))
 
 -- a skip or a delay
 abbrev pub IsPlain : Simple → Type 0
@@ -53,7 +52,7 @@ delay_sound ts r e =
     let a = then_some (key Keyword.Delay ts) _ r e in
     let b = then_some (integer a.0.1) _ r a.2 in
     subst (TookPlain ts) (same_some (delays a.0.0 b.0.0.1 b.0.0.0, b.0.1) r b.2)
-        (record { text = joined ts (word_at Keyword.Delay a.0.0 ∷ []) (text.integer_at b.0.0.0 b.0.0.1 ∷ []) a.0.1 b.0.1 (key_sound Keyword.Delay ts a.0 a.1) (integer_sound a.0.1 b.0 b.1); plain = tt })
+    (record { text = joined ts (word_at Keyword.Delay a.0.0 ∷ []) (text.integer_at b.0.0.0 b.0.0.1 ∷ []) a.0.1 b.0.1 (key_sound Keyword.Delay ts a.0 a.1) (integer_sound a.0.1 b.0 b.1); plain = tt })
 
 pub simple_sound : (ts : List Token) (r : Simple × List Token) → simple ts ≡ Some r → TookPlain ts r
 unfolding simple
@@ -166,7 +165,7 @@ class_name_sound ts r e =
     let b = then_some _ (λ _. name) r e in
     let a = then_some (key Keyword.Process ts) (λ _. key Keyword.Class) b.0 b.1 in
     joined ts (word Keyword.Process ∷ []) (word Keyword.Class ∷ text.name r.0 ∷ []) a.0.1 r.1 (word_sound Keyword.Process ts a.0 a.1)
-        (joined a.0.1 (word Keyword.Class ∷ []) (text.name r.0 ∷ []) b.0.1 r.1 (word_sound Keyword.Class a.0.1 b.0 a.2) (name_sound b.0.1 r b.2))
+    (joined a.0.1 (word Keyword.Class ∷ []) (text.name r.0 ∷ []) b.0.1 r.1 (word_sound Keyword.Class a.0.1 b.0 a.2) (name_sound b.0.1 r b.2))
 
 start_sound : (ts : List Token) (r : Id × List Token) → start ts ≡ Some r → Consumes ts (word Keyword.Init ∷ text.name r.0 ∷ empty_groups ++ word Keyword.Methods ∷ []) r.1
 unfolding start
@@ -176,9 +175,9 @@ start_sound ts r e =
     let c = then_some (groups b.0.1) _ r b.2 in
     let d = then_some (key Keyword.Methods c.0.1) _ r c.2 in
     subst (λ (x : Id × List Token). Consumes ts (word Keyword.Init ∷ text.name x.0 ∷ empty_groups ++ word Keyword.Methods ∷ []) x.1) (same_some (b.0.0, d.0.1) r d.2)
-        (joined ts (word Keyword.Init ∷ []) (text.name b.0.0 ∷ empty_groups ++ word Keyword.Methods ∷ []) a.0.1 d.0.1 (word_sound Keyword.Init ts a.0 a.1)
-        (joined a.0.1 (text.name b.0.0 ∷ []) (empty_groups ++ word Keyword.Methods ∷ []) b.0.1 d.0.1 (name_sound a.0.1 b.0 b.1)
-        (joined b.0.1 empty_groups (word Keyword.Methods ∷ []) c.0.1 d.0.1 (groups_sound b.0.1 c.0 c.1) (word_sound Keyword.Methods c.0.1 d.0 d.1))))
+    (joined ts (word Keyword.Init ∷ []) (text.name b.0.0 ∷ empty_groups ++ word Keyword.Methods ∷ []) a.0.1 d.0.1 (word_sound Keyword.Init ts a.0 a.1)
+    (joined a.0.1 (text.name b.0.0 ∷ []) (empty_groups ++ word Keyword.Methods ∷ []) b.0.1 d.0.1 (name_sound a.0.1 b.0 b.1)
+    (joined b.0.1 empty_groups (word Keyword.Methods ∷ []) c.0.1 d.0.1 (groups_sound b.0.1 c.0 c.1) (word_sound Keyword.Methods c.0.1 d.0 d.1))))
 
 abbrev pub system_wanted : System → List text.Wanted
 system_wanted s = word_at Keyword.System s.pos ∷ word Keyword.Instances ∷ text.name s.instance ∷ text.symbol Symbol.Colon ∷ text.name s.class ∷ []
@@ -192,10 +191,10 @@ system_sound ts r e =
     let d = then_some (symbol Symbol.Colon c.0.1) _ r c.2 in
     let f = then_some (name d.0.1) _ r d.2 in
     subst (λ (x : System × List Token). Consumes ts (system_wanted x.0) x.1) (same_some (record { pos = a.0.0; instance = c.0.0; class = f.0.0 }, f.0.1) r f.2)
-        (joined ts (word_at Keyword.System a.0.0 ∷ []) (word Keyword.Instances ∷ text.name c.0.0 ∷ text.symbol Symbol.Colon ∷ text.name f.0.0 ∷ []) a.0.1 f.0.1 (key_sound Keyword.System ts a.0 a.1)
-        (joined a.0.1 (word Keyword.Instances ∷ []) (text.name c.0.0 ∷ text.symbol Symbol.Colon ∷ text.name f.0.0 ∷ []) b.0.1 f.0.1 (word_sound Keyword.Instances a.0.1 b.0 b.1)
-        (joined b.0.1 (text.name c.0.0 ∷ []) (text.symbol Symbol.Colon ∷ text.name f.0.0 ∷ []) c.0.1 f.0.1 (name_sound b.0.1 c.0 c.1)
-        (joined c.0.1 (text.symbol Symbol.Colon ∷ []) (text.name f.0.0 ∷ []) d.0.1 f.0.1 (symbol_sound Symbol.Colon c.0.1 d.0 d.1) (name_sound d.0.1 f.0 f.1)))))
+    (joined ts (word_at Keyword.System a.0.0 ∷ []) (word Keyword.Instances ∷ text.name c.0.0 ∷ text.symbol Symbol.Colon ∷ text.name f.0.0 ∷ []) a.0.1 f.0.1 (key_sound Keyword.System ts a.0 a.1)
+    (joined a.0.1 (word Keyword.Instances ∷ []) (text.name c.0.0 ∷ text.symbol Symbol.Colon ∷ text.name f.0.0 ∷ []) b.0.1 f.0.1 (word_sound Keyword.Instances a.0.1 b.0 b.1)
+    (joined b.0.1 (text.name c.0.0 ∷ []) (text.symbol Symbol.Colon ∷ text.name f.0.0 ∷ []) c.0.1 f.0.1 (name_sound b.0.1 c.0 c.1)
+    (joined c.0.1 (text.symbol Symbol.Colon ∷ []) (text.name f.0.0 ∷ []) d.0.1 f.0.1 (symbol_sound Symbol.Colon c.0.1 d.0 d.1) (name_sound d.0.1 f.0 f.1)))))
 
 pub record TookModel (ts : List Token) (r : FirstModel × List Token) : Type 0 where
   pub text : Consumes ts (first_text r.0) r.1

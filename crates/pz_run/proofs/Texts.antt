@@ -1,5 +1,5 @@
 -- Texts and models: a text is that of one model at most, and what is read of it is that model.
-use Rattle.std.proofs.Common.{◌≡◌, ◌≢◌, ℕ, List, [], ◌∷◌, Bool, true, false, Option, Some, None, refl, sym, ap, ◌∙◌, subst}
+use Rattle.std.proofs.Common.{◌≡◌, ◌≢◌, ℕ, List, [], Bool, true, false, Some, None, refl, sym, ap, ◌∙◌, subst}
 use Rattle.pz_ast.specs.declared.tokens.Token.{Token}
 use Rattle.pz_term.specs.FirstPath.{FirstModel, HasBodies, NamesFit}
 use Rattle.pz_run.specs.FirstTexts.{Reads, first_text, IsTextOf, IsModelOf}

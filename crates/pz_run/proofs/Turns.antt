@@ -1,5 +1,5 @@
 -- The turns of the loop that cuts a text.
-use Rattle.std.proofs.Common.{◌≡◌, ℕ, zero, suc, ◌+◌, ◌-◌, ◌<◌, ◌≤◌, List, [], ◌∷◌, ◌++◌, length, Option, Some, None, take, drop, refl, sym, ap, ◌∙◌, subst, arith, length-drop, append_assoc}
+use Rattle.std.proofs.Common.{◌≡◌, ℕ, zero, suc, ◌<◌, ◌≤◌, List, [], ◌∷◌, ◌++◌, length, Option, Some, None, take, drop, refl, sym, ap, ◌∙◌, arith, length-drop, append_assoc}
 use Rattle.std.proofs.lemmas.List.{append-nil}
 use Rattle.pz_ast.specs.declared.tokens.Pos.{Pos}
 use Rattle.pz_ast.specs.declared.tokens.Token.{Token}
@@ -65,5 +65,5 @@ more_ahead whole items items_now at at_now rest spelling behind f a is spelled s
       turns = turns;
       enough = omega (arith, shorter);
       ahead = e ∙ ap (with_front items) (turn turns rest refl le) ∙ with_front_twice items (token_at at f.sort) (tokens_from turns at_now behind)
-        ∙ ap (λ (ts : List Token). with_front ts (tokens_from turns at_now behind)) (sym kept);
+          ∙ ap (λ (ts : List Token). with_front ts (tokens_from turns at_now behind)) (sym kept);
     }

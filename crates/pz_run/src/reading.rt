@@ -1,4 +1,5 @@
-//! Reading the text of a model of the first path.
+//! Reading the text of a model of the first path: bytes to tokens, tokens to what they say by the
+//! grammar, the names of that, and its syntax tree.
 ghost use Rattle.std.specs.Prelude.{◌≡◌, ◌≢◌, ◌-◌, ◌<◌, ◌^◌, IfOk, IfErr, length, true};
 ghost use Rattle.pz_ast.specs.ClassView.{model_view};
 ghost use Rattle.pz_term.specs.FirstPath.{FirstModel as Plain, tree_of, HasBodies};
@@ -17,13 +18,13 @@ mod tokens;
 use self::cursor::Cursor;
 use self::first_model::FirstModel;
 use self::names::check_names;
+pub use self::refusal::ReadModelError;
 use self::tokens::{Tokens, read_tokens};
 use pz_ast::Model;
 use std::alloc::Global;
 
-pub use self::refusal::ReadModelError;
-
-/// The syntax tree of a text.
+/// The syntax tree of the text of a model of the first path. `Unbuilt` says where a text is none;
+/// of that place nothing is promised here.
 pub fn read_model(alloc: Global, text: &[u8]) -> Result<Model, ReadModelError>
     requires { length text.now < 2 ^ 32 - 1 }
     // The tree is that of the model whose text this is.

@@ -9,10 +9,9 @@ pub fn read_words(words: &[String]) -> Option<&str>
 {
     match words {
         [command, model, choice]
-            if command.as_str() == "run" && choice.as_str() == "--first" && is_name(model.as_str()) =>
-        {
-            Some(model.as_str())
-        }
+            if command.as_str() == "run"
+                && choice.as_str() == "--first"
+                && is_name(model.as_str()) => { Some(model.as_str()) }
         _ => None,
     }
 }

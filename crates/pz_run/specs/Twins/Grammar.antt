@@ -1,6 +1,6 @@
 -- The grammar of the first path, read from the front of tokens. The code is held against it; that it
 -- reads the texts of the definition, and all of them, is proved.
-use Rattle.std.specs.Prelude.{◌≡◌, ◌≢◌, ℕ, zero, suc, List, [], ◌∷◌, ◌++◌, length, drop, map, Bool, true, false, if◌then◌else◌, Option, Some, None, Result, MatchResult, pos, negsuc}
+use Rattle.std.specs.Prelude.{◌≡◌, ◌≢◌, ℕ, zero, suc, List, [], ◌∷◌, ◌++◌, length, drop, map, Bool, true, false, if◌then◌else◌, Option, Some, None, Result, MatchResult, pos}
 use denote.Enum.Bare.{sameb}
 use Rattle.pz_ast.specs.contracts.tokens.Keyword as keyword
 use Rattle.pz_ast.specs.contracts.tokens.Symbol as symbol_type

@@ -123,6 +123,7 @@ impl<'a> Cursor<'a> {
     {
         if let [token, rest @ ..] = self.rest {
             if let TokenKind::Int(value) = &token.mark.kind {
+                // No token is negative: a minus is a symbol of its own.
                 if *value >= 0 {
                     self.rest = rest;
                     return Ok(constant(token.pos, *value));

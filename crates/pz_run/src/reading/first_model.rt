@@ -3,9 +3,7 @@ ghost use Rattle.pz_ast.specs.ClassView.{model_view};
 ghost use Rattle.pz_term.specs.FirstPath.{FirstModel as Plain, tree_of};
 ghost use Rattle.pz_run.specs.Twins.Grammar.{IsModel, class_decl, system_decl};
 
-use pz_ast::{
-    Decl, Id, Instance, Model, Pos, ProcessClass, ProcessMethod, Start, SystemDecl,
-};
+use pz_ast::{Decl, Id, Instance, Model, Pos, ProcessClass, ProcessMethod, Start, SystemDecl};
 use pz_items::Items;
 use std::alloc::{AllocError, Global};
 
@@ -68,12 +66,7 @@ impl System {
     }
 }
 
-fn process_class(
-    alloc: Global,
-    name: Id,
-    init: Id,
-    methods: Items<ProcessMethod>,
-) -> ProcessClass
+fn process_class(alloc: Global, name: Id, init: Id, methods: Items<ProcessMethod>) -> ProcessClass
     ensures { result ≡ class_decl name init methods }
 {
     ProcessClass {

@@ -113,9 +113,7 @@ fn integer(digits: &[u8]) -> Option<i64>
         if !is_digit(*byte) {
             return None;
         }
-        value = value
-            .checked_mul(10)?
-            .checked_add(u64::from(*byte - b'0'))?;
+        value = value.checked_mul(10)?.checked_add(u64::from(*byte - b'0'))?;
     }
     i64::try_from(value).ok()
 }

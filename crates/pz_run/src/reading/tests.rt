@@ -49,7 +49,8 @@ fn an_empty_text_is_refused_at_its_end(rt: HostRuntime) -> Result<(), Fail> {
 
 #[test]
 fn a_statement_of_another_form_is_refused_at_its_first_word(rt: HostRuntime) -> Result<(), Fail> {
-    let text = "process class P\ninit a()()\nmethods a()()\npar skip rap;\ndelay 3;\nskip\nsystem instances p : P\n";
+    let text =
+        "process class P\ninit a()()\nmethods a()()\npar skip rap;\ndelay 3;\nskip\nsystem instances p : P\n";
     assert_eq!(rt; place_of_refusal(rt.alloc(), text)?, at(4, 1));
     Ok(())
 }
@@ -73,10 +74,15 @@ fn a_byte_or_number_that_is_no_token_is_refused_where_it_stands(
     rt: HostRuntime,
 ) -> Result<(), Fail> {
     let alloc = rt.alloc();
-    assert_eq!(rt; place_of_refusal(alloc, "process class P # init a()()")?, at(1, 17));
-    let number = "process class P init a()() methods a()()\ndelay 9223372036854775808\nsystem instances p : P";
+    assert_eq!(rt;
+        place_of_refusal(alloc, "process class P # init a()()")?,
+        at(1, 17)
+    );
+    let number =
+        "process class P init a()() methods a()()\ndelay 9223372036854775808\nsystem instances p : P";
     assert_eq!(rt; place_of_refusal(alloc, number)?, at(2, 7));
-    let largest = "process class P init a()() methods a()()\ndelay 9223372036854775807\nsystem instances p : P";
+    let largest =
+        "process class P init a()() methods a()()\ndelay 9223372036854775807\nsystem instances p : P";
     assert_eq!(rt; class_of(alloc, largest)?.as_str(), "P");
     let float = "process class P init a()() methods a()()\ndelay 3.5\nsystem instances p : P";
     assert_eq!(rt; place_of_refusal(alloc, float)?, at(2, 7));
@@ -94,9 +100,11 @@ fn the_first_name_that_does_not_fit_is_refused(rt: HostRuntime) -> Result<(), Fa
     assert_eq!(rt; place_of_refusal(alloc, reserved)?, at(1, 15));
     let init = "process class P\ninit b()()\nmethods a()() c()()\nsystem instances p : P";
     assert_eq!(rt; place_of_refusal(alloc, init)?, at(2, 6));
-    let called = "process class P\ninit a()()\nmethods a()() c()() a()() skip\nsystem instances p : Q";
+    let called =
+        "process class P\ninit a()()\nmethods a()() c()() a()() skip\nsystem instances p : Q";
     assert_eq!(rt; place_of_refusal(alloc, called)?, at(3, 15));
-    let twice = "process class P\ninit a()()\nmethods a()() skip a()() c()()\nsystem instances p : Q";
+    let twice =
+        "process class P\ninit a()()\nmethods a()() skip a()() c()()\nsystem instances p : Q";
     assert_eq!(rt; place_of_refusal(alloc, twice)?, at(3, 20));
     let class = "process class P\ninit a()()\nmethods a()() skip\nsystem instances p : Q";
     assert_eq!(rt; place_of_refusal(alloc, class)?, at(4, 22));

@@ -1,4 +1,4 @@
-use Rattle.std.proofs.Common.{◌≡◌, ◌≢◌, ◌∙◌, List, [], true, false}
+use Rattle.std.proofs.Common.{◌∙◌}
 use Rattle.pz_run.proofs.Refusing.{handed_on, clash}
 use Rattle.pz_run.proofs.Texts.{model_refused, model_read, model_left}
 use Rattle.pz_run.proofs.reading.read_all.Goals as goal
@@ -18,8 +18,8 @@ returns-then-is_at_end-clause-found c =
 pub returns-else-tokens-clause-refused : goal.returns-else-tokens-clause-refused
 returns-else-tokens-clause-refused c = λ _ m h r whole.
     elim c.else-tokens.branch [
-    | else-tokens-via-then-tokens+else-is_at_end w ↦
-      let s = c.in_ok-model.ensures in
-      model_left c.args.tokens.now.items c.new-cursor.result c.model.new.cursor s.value (c.new-cursor.ensures ∙ c.as_slice.ensures) s.is (λ none. clash w.is_at_end.result (w.is_at_end.ensures.1 none) w.if-is_at_end.false) m h r
-    | else-tokens-via-else-tokens w ↦ clash c.args.tokens.now.whole whole w.if-tokens.false
+      | else-tokens-via-then-tokens+else-is_at_end w ↦
+          let s = c.in_ok-model.ensures in
+          model_left c.args.tokens.now.items c.new-cursor.result c.model.new.cursor s.value (c.new-cursor.ensures ∙ c.as_slice.ensures) s.is (λ none. clash w.is_at_end.result (w.is_at_end.ensures.1 none) w.if-is_at_end.false) m h r
+      | else-tokens-via-else-tokens w ↦ clash c.args.tokens.now.whole whole w.if-tokens.false
     ]

@@ -1,4 +1,3 @@
-use Rattle.std.proofs.Common.{◌≡◌, ◌≢◌, ◌∙◌, List, [], true, false, ap, sym}
 use Rattle.pz_run.proofs.Refusing.{ok_so, err_so}
 use Rattle.pz_run.proofs.Texts.{text_found, text_refused}
 use Rattle.pz_run.proofs.reading.read_grammar.Goals as goal

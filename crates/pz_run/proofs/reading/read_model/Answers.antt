@@ -1,5 +1,4 @@
-use Rattle.std.proofs.Common.{◌≡◌, ◌≢◌, ◌∙◌, List, [], true, false, ap, sym}
-use Rattle.pz_run.proofs.Refusing.{handed_on, ok_so}
+use Rattle.pz_run.proofs.Refusing.{handed_on}
 use Rattle.pz_run.proofs.Texts.{names_found, names_refused}
 use Rattle.pz_run.proofs.reading.read_model.Goals as goal
 

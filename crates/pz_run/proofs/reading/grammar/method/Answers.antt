@@ -1,4 +1,4 @@
-use Rattle.std.proofs.Common.{◌≡◌, sym, ◌∙◌, refl}
+use Rattle.std.proofs.Common.{refl}
 use Rattle.pz_run.specs.Twins.Grammar.{routine}
 use Rattle.pz_run.proofs.Seen.{method_seen}
 use Rattle.pz_run.proofs.reading.grammar.method.Goals as goal

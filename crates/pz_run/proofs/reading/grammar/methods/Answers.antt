@@ -1,4 +1,4 @@
-use Rattle.std.proofs.Common.{◌≡◌, sym, ◌∙◌, true, false}
+use Rattle.std.proofs.Common.{sym, ◌∙◌}
 use Rattle.pz_run.proofs.Refusing.{handed_on}
 use Rattle.pz_run.proofs.Repeating.{methods_first, method_refused, method_ends, method_more, routine_shorter}
 use Rattle.pz_run.proofs.reading.grammar.methods.Goals as goal

@@ -1,5 +1,4 @@
 use Rattle.std.proofs.Common.{◌≡◌, ◌∙◌, sym, ap, true, false, take}
-use Rattle.std.specs.Prelude.{not}
 use Rattle.pz_run.specs.Twins.Names.{has_name, is_declared}
 use Rattle.pz_run.proofs.NameSets.{declared_more, declared_twice, fit_more, not_true, not_false}
 use Rattle.pz_run.proofs.reading.names.check_methods.Goals as goal
@@ -18,6 +17,6 @@ loop-method-preserved c =
     let new : is_declared (take c.loop-method.method-index c.args.methods.now) m.name.name ≡ false = sym (c.loop-method.invariant.seen m.name.name) ∙ ap (has_name c.loop-method.seen) (sym c.as_str.ensures) ∙ absent in
     record {
       seen = declared_more c.loop-method.seen c.insert.new.self c.as_str.result c.in_ok-insert.field-0 c.args.methods.now c.loop-method.method-index m
-        c.in_ok-insert.ensures.added c.in_ok-insert.ensures.keys c.as_str.ensures c.loop-method-test.true c.method-item.is c.loop-method.invariant.seen;
+          c.in_ok-insert.ensures.added c.in_ok-insert.ensures.keys c.as_str.ensures c.loop-method-test.true c.method-item.is c.loop-method.invariant.seen;
       fit = fit_more (has_name c.args.declared.now) c.args.methods.now c.loop-method.method-index m c.loop-method-test.true c.method-item.is new c.in_ok-check_call.ensures c.loop-method.invariant.fit;
     }

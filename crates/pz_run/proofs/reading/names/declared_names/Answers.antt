@@ -1,4 +1,3 @@
-use Rattle.std.proofs.Common.{◌≡◌}
 use Rattle.pz_run.proofs.NameSets.{declared_more}
 use Rattle.pz_run.proofs.reading.names.declared_names.Goals as goal
 

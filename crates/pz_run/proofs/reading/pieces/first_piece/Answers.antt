@@ -1,4 +1,4 @@
-use Rattle.std.proofs.Common.{◌≡◌, ◌∙◌, List, ℕ, ap, sym, subst, take}
+use Rattle.std.proofs.Common.{◌∙◌, List, ℕ, ap, sym, subst, take}
 use Rattle.std.specs.List.{AllPass}
 use Rattle.pz_run.specs.Bytes.{is_word}
 use Rattle.pz_run.proofs.Runs.{run_passes}

@@ -1,4 +1,4 @@
-use Rattle.std.proofs.Common.{◌≡◌, ◌+◌, ◌<◌, ◌≤◌, ◌∙◌, sym, ap, Some, None, refl, arith, length}
+use Rattle.std.proofs.Common.{◌≡◌, ◌∙◌, sym, ap, Some, None, arith}
 use Rattle.std.specs.Prelude.{option_map}
 use Rattle.pz_run.specs.Twins.Cuts.{front, front_of, tokens_of}
 use Rattle.pz_run.proofs.Cutting.{front_cut}
@@ -36,7 +36,7 @@ pieces-preserved c =
       line = omega arith;
       column = omega arith;
       ahead = more_ahead (tokens_of c.args.text.now) c.pieces.items c.push_token.new.tokens c.pieces.end c.place_after-end.result c.pieces.rest.now c.split_at.result.0.now c.split_at.result.1.now
-        (front_of c.in-Some.piece) c.pieces.invariant.ahead some c.split_at.ensures.front c.split_at.ensures.back c.in_ok-push_token.ensures c.place_after-end.ensures.place;
+          (front_of c.in-Some.piece) c.pieces.invariant.ahead some c.split_at.ensures.front c.split_at.ensures.back c.in_ok-push_token.ensures c.place_after-end.ensures.place;
     }
 
 pub returns : goal.returns

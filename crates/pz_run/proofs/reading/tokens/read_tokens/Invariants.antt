@@ -1,4 +1,4 @@
-use Rattle.std.proofs.Common.{◌≡◌, ℕ, ◌+◌, ◌≤◌, length}
+use Rattle.std.proofs.Common.{◌+◌, ◌≤◌, length}
 use Rattle.pz_run.specs.Twins.Cuts.{tokens_of}
 use Rattle.pz_run.proofs.Turns.{IsAhead}
 use Rattle.pz_run.proofs.reading.tokens.read_tokens.Given as goal
