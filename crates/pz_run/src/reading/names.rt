@@ -63,7 +63,7 @@ fn declared_names<'a>(
     Ok(declared)
 }
 
-/// Whether a name is among those that are declared.
+/// Refuses a name that is not among those that are declared.
 fn check_known(declared: &HashSet<&str>, id: &Id) -> Result<(), ReadModelError>
     ensures { MatchResult result
         (λ _. has_name declared.now id.now.name ≡ true)
@@ -76,7 +76,7 @@ fn check_known(declared: &HashSet<&str>, id: &Id) -> Result<(), ReadModelError>
     }
 }
 
-/// Whether no method is declared twice, and each that is called is declared.
+/// Refuses a method that is declared a second time, and a call of one that is not declared.
 fn check_methods(
     alloc: Global,
     declared: &HashSet<&str>,
@@ -96,7 +96,7 @@ fn check_methods(
     Ok(())
 }
 
-/// Whether the method that is called last, if there is one, is declared.
+/// Refuses a call at the end of a method, if it is of one that is not declared.
 fn check_call(declared: &HashSet<&str>, method: &ProcessMethod) -> Result<(), ReadModelError>
     ensures { MatchResult result
         (λ _. CallIsKnown (has_name declared.now) method.now)
@@ -128,7 +128,7 @@ fn called(statement: &Stmt) -> Option<&Id>
     }
 }
 
-/// Whether the instance is of the class.
+/// Refuses an instance of another class than this.
 fn check_same(class: &Id, of_class: &Id) -> Result<(), ReadModelError>
     ensures { MatchResult result
         (λ _. of_class.now.name ≡ class.now.name)

@@ -46,19 +46,19 @@ pub fn first_piece(alloc: Global, text: &[u8]) -> Result<Option<Piece>, AllocErr
 fn is_blank(byte: u8) -> bool
     ensures { result ≡ bytes.is_blank byte }
 {
-    byte == b'\t' || byte == b'\n' || byte == b'\r' || byte == b' '
+    matches!(byte, b'\t' | b'\n' | b'\r' | b' ')
 }
 
 fn is_digit(byte: u8) -> bool
     ensures { result ≡ bytes.is_digit byte }
 {
-    b'0' <= byte && byte <= b'9'
+    byte.is_ascii_digit()
 }
 
 fn is_letter(byte: u8) -> bool
     ensures { result ≡ bytes.is_letter byte }
 {
-    (b'A' <= byte && byte <= b'Z') || (b'a' <= byte && byte <= b'z') || byte == b'_'
+    byte.is_ascii_alphabetic() || byte == b'_'
 }
 
 fn is_word(byte: u8) -> bool
