@@ -10,7 +10,7 @@ use Rattle.pz_ast.specs.declared.tokens.Token.{Token}
 use Rattle.pz_term.specs.FirstPath.{Simple, skips, delays, calls, IsBody, Routine, FirstModel, HasBodies}
 use Rattle.pz_run.specs.FirstTexts.{word, word_at, empty_groups, simple_text, body_text, routine_text, routines_text, class_text, system_text, first_text}
 use Rattle.pz_run.specs.FirstTexts as text
-use Rattle.pz_run.specs.declared.reading.first_model.System.{System}
+use Rattle.pz_run.specs.declared.reading.parsed_model.System.{System}
 use Rattle.pz_run.specs.Twins.Grammar.{key, at_name, at_symbol, is_key, is_symbol, groups, call, delay, simple, body, routine, routines, class_name, start, system, model}
 use Rattle.pz_run.proofs.Consuming.{Consumes, parted, consumed_length, key_complete, word_complete, symbol_complete, at_symbol_complete, name_complete, at_name_complete, integer_complete}
 use Rattle.pz_run.proofs.Sound.{IsPlain, system_wanted}

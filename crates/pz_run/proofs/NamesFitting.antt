@@ -13,7 +13,7 @@ use Rattle.pz_ast.specs.declared.classes.ProcessMethod.{ProcessMethod}
 use Rattle.pz_ast.specs.Classes.{ProcessMethodTree}
 use Rattle.pz_ast.specs.StatementView.{sequence_view}
 use Rattle.pz_term.specs.FirstPath.{Simple, skips, delays, calls, statements_of, IsBody, Routine, FirstModel, HasBodies, reserved, HasRoutine, IsKnown, NamesFit}
-use Rattle.pz_run.specs.declared.reading.first_model.FirstModel as parts
+use Rattle.pz_run.specs.declared.reading.parsed_model.ParsedModel.{ParsedModel}
 use Rattle.pz_run.specs.Twins.Grammar.{IsMethod, AreMethods, IsModel}
 use Rattle.pz_run.specs.Twins.Names.{last_call, is_declared, is_reserved, CallIsKnown, PartsFit}
 
@@ -78,7 +78,7 @@ apart_back f xs apart i j d lt low same =
 
 -- ---- what stands for a model
 
-module _ (p : parts.FirstModel) (m : FirstModel) (s : IsModel p m) (h : HasBodies m) where
+module _ (p : ParsedModel) (m : FirstModel) (s : IsModel p m) (h : HasBodies m) where
   known_sound : (id : Id) → is_declared p.methods id.name ≡ true → HasRoutine m id
   known_sound id e =
       let a = Any-from_list_any (λ (r : Routine). bytes_eq id.name (routine_name r)) m.routines (sym (declared_is p.methods m.routines s.methods id.name) ∙ e) in

@@ -10,7 +10,7 @@ use Rattle.pz_ast.specs.declared.tokens.Token.{Token}
 use Rattle.pz_term.specs.FirstPath.{Simple, skips, delays, calls, IsBody, Routine, FirstModel, HasBodies}
 use Rattle.pz_run.specs.FirstTexts.{word, word_at, empty_groups, simple_text, body_text, routine_text, routines_text, class_text, system_text, first_text}
 use Rattle.pz_run.specs.FirstTexts as text
-use Rattle.pz_run.specs.declared.reading.first_model.System.{System}
+use Rattle.pz_run.specs.declared.reading.parsed_model.System.{System}
 use Rattle.pz_run.specs.Twins.Grammar.{Outcome, Reader, and_then, pure, key, symbol, name, integer, at_name, at_symbol, groups, call, delay, simple_by, simple, with_front, body, routine, routines, class_name, start, system, model}
 use Rattle.pz_run.proofs.Consuming.{Consumes, joined, placeless, then_some, same_some, key_sound, symbol_sound, at_symbol_sound, name_sound, integer_sound}
 

@@ -7,7 +7,7 @@ use Rattle.pz_run.specs.Tokens.{HasTokens}
 use Rattle.pz_run.specs.Twins.Cuts.{tokens_of, AreTokens}
 use Rattle.pz_run.specs.Twins.Grammar.{model, IsModel}
 use Rattle.pz_run.specs.Twins.Names.{PartsFit}
-use Rattle.pz_run.specs.declared.reading.first_model.FirstModel as parts
+use Rattle.pz_run.specs.declared.reading.parsed_model.ParsedModel.{ParsedModel}
 use Rattle.pz_run.specs.declared.reading.tokens.Tokens.{Tokens}
 use Rattle.pz_run.proofs.Consuming.{Consumes, all_read, reads_all, same_some}
 use Rattle.pz_run.proofs.Complete.{model_complete}
@@ -72,10 +72,10 @@ text_refused text tokens are refused m h is = by_whole tokens.whole refl
         refused m h (subst (λ (ts : List Token). Reads ts (first_text m)) same is.read) whole
 
 -- where the names of what is read do not fit, the text is that of no model
-pub names_refused : (text : List ℕ) (p : parts.FirstModel) (k : FirstModel) → IsModel p k → HasBodies k → IsTextOf text k → ¬ PartsFit p → (m : FirstModel) → ¬ IsModelOf text m
+pub names_refused : (text : List ℕ) (p : ParsedModel) (k : FirstModel) → IsModel p k → HasBodies k → IsTextOf text k → ¬ PartsFit p → (m : FirstModel) → ¬ IsModelOf text m
 names_refused text p k stands h is unfit m of =
     let same : m ≡ k = text_unique text m k of.has_bodies h of.is_text is in
     unfit (names_complete p k stands h (subst NamesFit same of.names_fit))
 
-pub names_found : (text : List ℕ) (p : parts.FirstModel) (m : FirstModel) → IsModel p m → HasBodies m → IsTextOf text m → PartsFit p → IsModelOf text m
+pub names_found : (text : List ℕ) (p : ParsedModel) (m : FirstModel) → IsModel p m → HasBodies m → IsTextOf text m → PartsFit p → IsModelOf text m
 names_found text p m stands h is fit = record { has_bodies = h; names_fit = names_sound p m stands h fit; is_text = is }

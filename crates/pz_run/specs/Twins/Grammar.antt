@@ -21,8 +21,8 @@ use Rattle.pz_ast.specs.ExpressionView as expression
 use Rattle.pz_ast.specs.StatementView as statement
 use Rattle.pz_ast.specs.ClassView.{process_method_view}
 use Rattle.pz_term.specs.FirstPath.{Simple, skips, delays, calls, Routine, FirstModel, statement_of, method_of}
-use Rattle.pz_run.specs.declared.reading.first_model.FirstModel as parts
-use Rattle.pz_run.specs.declared.reading.first_model.System.{System}
+use Rattle.pz_run.specs.declared.reading.parsed_model.ParsedModel.{ParsedModel}
+use Rattle.pz_run.specs.declared.reading.parsed_model.System.{System}
 use Rattle.pz_run.specs.declared.reading.refusal.ReadModelError.{ReadModelError}
 use Rattle.pz_run.specs.declared.reading.refusal.ReadModelError.TheVariants.{NoMemory}
 
@@ -196,7 +196,7 @@ IsMethod m r = process_method_view m ≡ method_of r
 abbrev pub AreMethods : List ProcessMethod → List Routine → Type 0
 AreMethods ms rs = map process_method_view ms ≡ map method_of rs
 
-pub record IsModel (parts : parts.FirstModel) (m : FirstModel) : Type 0 where
+pub record IsModel (parts : ParsedModel) (m : FirstModel) : Type 0 where
   pub class : parts.class ≡ m.class
   pub init : parts.init ≡ m.init
   pub methods : AreMethods parts.methods m.routines

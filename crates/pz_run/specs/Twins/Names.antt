@@ -9,7 +9,7 @@ use Rattle.pz_ast.specs.declared.classes.ProcessMethod.{ProcessMethod}
 use Rattle.pz_ast.specs.Statements.{Statement, call, Statements, no_statements, then}
 use Rattle.pz_ast.specs.StatementView.{sequence_view}
 use Rattle.pz_term.specs.FirstPath.{reserved}
-use Rattle.pz_run.specs.declared.reading.first_model.FirstModel as parts
+use Rattle.pz_run.specs.declared.reading.parsed_model.ParsedModel.{ParsedModel}
 
 -- the method that a statement calls
 abbrev pub called_in : Statement Id Id Id → Option Id
@@ -38,7 +38,7 @@ pub record MethodsFit (declared : List ℕ → Bool) (methods : List ProcessMeth
   pub none_twice : AllPairs (λ m n. m.name.name ≢ n.name.name) methods
   pub known : All (CallIsKnown declared) methods
 
-pub record PartsFit (p : parts.FirstModel) : Type 0 where
+pub record PartsFit (p : ParsedModel) : Type 0 where
   pub free : is_reserved p.class.name ≡ false
   pub init : is_declared p.methods p.init.name ≡ true
   pub methods : MethodsFit (is_declared p.methods) p.methods

@@ -3,7 +3,7 @@ ghost use Rattle.pz_run.specs.Twins.Grammar as grammar;
 ghost use Rattle.pz_run.specs.Twins.Grammar.{Takes, Reads, IsStatement, AreStatements, IsMethod, AreMethods, IsModel};
 
 use super::cursor::Cursor;
-use super::first_model::{FirstModel, System};
+use super::parsed_model::{ParsedModel, System};
 use super::refusal::ReadModelError;
 use pz_ast::{Id, Keyword, ProcessMethod, Stmt, StmtForm, Symbol};
 use pz_items::Items;
@@ -143,14 +143,14 @@ fn system(alloc: Global, cursor: &mut Cursor<'_>) -> Result<System, ReadModelErr
 
 /// Reads a model of the first path. Whether its names fit is not looked at, nor what stands behind.
 #[tactic(auto, unfolding(crate::specs::Twins::Grammar::model))]
-pub fn model(alloc: Global, cursor: &mut Cursor<'_>) -> Result<FirstModel, ReadModelError>
+pub fn model(alloc: Global, cursor: &mut Cursor<'_>) -> Result<ParsedModel, ReadModelError>
     ensures { Reads IsModel (grammar.model cursor.old) result cursor.new }
 {
     let class = class_name(alloc, cursor)?;
     let init = start(alloc, cursor)?;
     let methods = methods(alloc, cursor)?;
     let system = system(alloc, cursor)?;
-    Ok(FirstModel {
+    Ok(ParsedModel {
         class,
         init,
         methods,

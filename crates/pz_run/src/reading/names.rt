@@ -4,7 +4,7 @@ ghost use Rattle.pz_ast.specs.StatementView.{view, sequence_view};
 ghost use Rattle.pz_run.specs.Twins.Names as names;
 ghost use Rattle.pz_run.specs.Twins.Names.{has_name, called_in, last_call, CallIsKnown, MethodsFit, PartsFit};
 
-use super::first_model::FirstModel;
+use super::parsed_model::ParsedModel;
 use super::refusal::ReadModelError;
 use pz_ast::{Id, ProcessMethod, Stmt, StmtForm};
 use std::alloc::{AllocError, Global};
@@ -28,7 +28,7 @@ const RESERVED: [&str; 10] = [
 /// Whether the names of a model fit. If not, the refusal is at the first that does not: a reserved
 /// name of the class, a method that is declared a second time, a call of a method that is not
 /// declared, another class than this of the instance.
-pub fn check_names(alloc: Global, model: &FirstModel) -> Result<(), ReadModelError>
+pub fn check_names(alloc: Global, model: &ParsedModel) -> Result<(), ReadModelError>
     ensures { MatchResult result
         (λ _. PartsFit model.now)
         (λ e. e ≢ ReadModelError.NoMemory → ¬ PartsFit model.now) }

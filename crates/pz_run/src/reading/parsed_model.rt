@@ -1,6 +1,6 @@
 ghost use Rattle.std.specs.Prelude.{◌≡◌, IfOk};
 ghost use Rattle.pz_ast.specs.ClassView.{model_view};
-ghost use Rattle.pz_term.specs.FirstPath.{FirstModel as Plain, tree_of};
+ghost use Rattle.pz_term.specs.FirstPath.{FirstModel, tree_of};
 ghost use Rattle.pz_run.specs.Twins.Grammar.{IsModel, class_decl, system_decl};
 
 use pz_ast::{Decl, Id, Instance, Model, Pos, ProcessClass, ProcessMethod, Start, SystemDecl};
@@ -9,7 +9,7 @@ use std::alloc::{AllocError, Global};
 
 /// What the text of a model of the first path says: one process class, and one process of a class.
 #[derive(Debug, Drop)]
-pub struct FirstModel {
+pub struct ParsedModel {
     pub class: Id,
     /// The method with which a process starts.
     pub init: Id,
@@ -25,12 +25,12 @@ pub struct System {
     pub class: Id,
 }
 
-impl FirstModel {
+impl ParsedModel {
     /// The syntax tree. The only error is want of memory.
     pub fn into_tree(self, alloc: Global) -> Result<Model, AllocError>
-        ensures { IfOk result (λ model. (m : Plain) → IsModel self m → model_view model ≡ tree_of m) }
+        ensures { IfOk result (λ model. (m : FirstModel) → IsModel self m → model_view model ≡ tree_of m) }
     {
-        let FirstModel {
+        let ParsedModel {
             class,
             init,
             methods,
