@@ -14,3 +14,8 @@ pub mod LastCalls
 pub mod NamesFitting
 pub mod Texts
 mod Rows
+pub mod Writes
+pub mod Now
+pub mod Lined
+pub mod Rests
+pub mod Weights

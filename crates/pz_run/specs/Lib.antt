@@ -6,3 +6,9 @@ pub mod Tokens
 pub mod FirstTexts
 pub mod Words
 pub mod Twins
+pub mod Lines
+pub mod TraceText
+pub mod Status
+pub mod Output
+pub mod Writing
+pub mod Promises

@@ -1,0 +1,54 @@
+-- The lines that the program prints. Words are separated by one blank, numbers are decimal, and
+-- every line ends with LF.
+use Rattle.std.specs.Prelude.{ℕ, List, [], ◌∷◌, ◌++◌, codes}
+use Rattle.std.specs.Fmt.{decimal}
+use Rattle.pz_ast.specs.declared.tokens.Pos.{Pos}
+use Rattle.pz_term.specs.declared.action.Kind.{Kind}
+use Rattle.pz_term.specs.declared.action.Kind.TheVariants.{Skip, Eval, Test, Expire, Call}
+use Rattle.pz_term.specs.declared.action.Action.{Action}
+use Rattle.pz_term.specs.declared.action.Action.TheVariants.{Internal}
+use Rattle.pz_term.specs.Runs.{Ending, ended, deadlocked, stopped}
+
+abbrev pub newline : List ℕ
+newline = 10 ∷ []
+
+abbrev pub header : List ℕ
+header = codes "poosl-trace 1\n"
+
+abbrev pub kind_word : Kind → List ℕ
+kind_word Skip = codes "skip"
+kind_word Eval = codes "eval"
+kind_word Test = codes "test"
+kind_word Expire = codes "expire"
+kind_word Call = codes "call"
+
+-- what an action is: the path of its process, its kind, and the place of its statement
+abbrev pub label : List ℕ → Action → List ℕ
+label path (Internal at kind pos) = path ++ (codes " " ++ (kind_word kind ++ (codes " " ++ (decimal pos.line ++ (codes ":" ++ decimal pos.column)))))
+
+-- at a clock, of so many offers the one of this number
+abbrev pub action_line : List ℕ → ℕ → ℕ → ℕ → Action → List ℕ
+action_line path clock n k a = decimal clock ++ (codes " " ++ (decimal n ++ (codes " " ++ (decimal k ++ (codes " " ++ (label path a ++ newline))))))
+
+abbrev pub time_line : ℕ → ℕ → List ℕ
+time_line clock d = decimal clock ++ (codes " time " ++ (decimal d ++ newline))
+
+abbrev pub ending_word : Ending → List ℕ
+ending_word ended = codes "end"
+ending_word deadlocked = codes "deadlock"
+ending_word stopped = codes "stop"
+
+abbrev pub ending_line : ℕ → Ending → List ℕ
+ending_line clock ending = decimal clock ++ (codes " " ++ (ending_word ending ++ newline))
+
+abbrev pub usage_line : List ℕ
+usage_line = codes "usage: poosl_run run MODEL | menu MODEL | replay MODEL TRACE | check MODEL | make N | ring N\n"
+
+abbrev pub read_fault_line : List ℕ → List ℕ
+read_fault_line name = codes "read fault: " ++ (name ++ newline)
+
+abbrev pub too_long_line : List ℕ → List ℕ
+too_long_line name = codes "too long: " ++ (name ++ newline)
+
+abbrev pub unbuilt_line : Pos → List ℕ
+unbuilt_line at = codes "model refused: Unbuilt " ++ (decimal at.line ++ (codes ":" ++ (decimal at.column ++ newline)))

@@ -1,0 +1,90 @@
+// The lines that the program prints. The only error is want of memory.
+ghost use Rattle.std.specs.Prelude.{◌≡◌, ◌++◌, IfOk, string_bytes, codes};
+ghost use Rattle.pz_run.specs.Lines as lines;
+ghost use Rattle.pz_term.specs.Runs.{Ending};
+
+use pz_ast::Pos;
+use pz_term::{Action, Kind};
+use std::alloc::{AllocError, Global};
+
+/// The first line of a trace.
+pub const HEADER: &str = "poosl-trace 1\n";
+
+pub const USAGE: &str =
+    "usage: poosl_run run MODEL | menu MODEL | replay MODEL TRACE | check MODEL | make N | ring N\n";
+
+fn kind_word(kind: Kind) -> &'static str
+    ensures { result.now ≡ lines.kind_word kind }
+{
+    match kind {
+        Kind::Skip => "skip",
+        Kind::Eval => "eval",
+        Kind::Test => "test",
+        Kind::Expire => "expire",
+        Kind::Call => "call",
+    }
+}
+
+/// What an action is: the path of its process, its kind, and the place of its statement.
+fn label(alloc: Global, path: &str, action: &Action) -> Result<String, AllocError>
+    ensures { IfOk result (λ text. string_bytes text ≡ lines.label path.now action.now) }
+{
+    match action {
+        Action::Internal { kind, pos, .. } => {
+            let kind = kind_word(*kind);
+            let (line, column) = (pos.line, pos.column);
+            format!(in alloc; "{path} {kind} {line}:{column}")
+        }
+    }
+}
+
+/// The line of an action: of so many offers the one of this number, from 0, at a clock. The path is
+/// that of its process.
+pub fn action_line(
+    alloc: Global,
+    path: &str,
+    clock: u128,
+    offers: u64,
+    number: u64,
+    action: &Action,
+) -> Result<String, AllocError>
+    ensures { IfOk result (λ line. string_bytes line ≡ lines.action_line path.now clock offers number action.now) }
+{
+    let label = label(alloc, path, action)?;
+    let label = label.as_str();
+    format!(in alloc; "{clock} {offers} {number} {label}\n")
+}
+
+/// The line of a passing of time, in clock units.
+pub fn time_line(alloc: Global, clock: u128, time: u128) -> Result<String, AllocError>
+    ensures { IfOk result (λ line. string_bytes line ≡ lines.time_line clock time) }
+{
+    format!(in alloc; "{clock} time {time}\n")
+}
+
+/// The last line of a trace. The word is `end`, `deadlock` or `stop`.
+pub fn ending_line(alloc: Global, clock: u128, word: &str) -> Result<String, AllocError>
+    ensures { IfOk result (λ line. (ending : Ending) → word.now ≡ lines.ending_word ending → string_bytes line ≡ lines.ending_line clock ending) }
+{
+    format!(in alloc; "{clock} {word}\n")
+}
+
+pub fn read_fault_line(alloc: Global, name: &str) -> Result<String, AllocError>
+    ensures { IfOk result (λ line. string_bytes line ≡ lines.read_fault_line name.now) }
+{
+    format!(in alloc; "read fault: {name}\n")
+}
+
+pub fn too_long_line(alloc: Global, name: &str) -> Result<String, AllocError>
+    ensures { IfOk result (λ line. string_bytes line ≡ lines.too_long_line name.now) }
+{
+    format!(in alloc; "too long: {name}\n")
+}
+
+/// The line of a model that is not built yet, at the place where it leaves what is built.
+pub fn unbuilt_line(alloc: Global, at: Pos) -> Result<String, AllocError>
+    ensures { IfOk result (λ line. string_bytes line ≡ lines.unbuilt_line at) }
+{
+    let (line, column) = (at.line, at.column);
+    format!(in alloc; "model refused: Unbuilt {line}:{column}\n")
+}

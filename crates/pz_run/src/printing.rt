@@ -1,0 +1,35 @@
+// Pieces of the output, and last lines.
+ghost use Rattle.std.specs.Prelude.{◌≡◌, ◌≢◌, List, ℕ};
+ghost use Rattle.pz_run.specs.Writing.{Sinks, Wrote, Said};
+
+use crate::Status;
+use pz_io::{Sink, write_all};
+use std::alloc::AllocError;
+
+/// Why nothing more is written.
+#[derive(Clone, Copy, Debug, PartialEq, Eq)]
+pub enum Halt {
+    NoMemory,
+    WriteFault,
+}
+
+impl From<AllocError> for Halt {
+    ghost use Rattle.pz_run.specs.declared.printing.Halt.TheVariants.{NoMemory};
+
+    ghost from_gives = { λ _ halt. halt ≡ NoMemory };
+
+    fn from(_: AllocError) -> Self {
+        Halt::NoMemory
+    }
+}
+
+/// Writes the text, in one `write_all`.
+pub fn put<W: Sink>(out: &mut W, text: &str) -> Result<(), Halt>
+    ensures { Wrote (record { told = W.told out.old; faults = W.faults out.old; taken = W.taken out.old })
+        (record { told = W.told out.new; faults = W.faults out.new; taken = W.taken out.new }) text.now result }
+{
+    match write_all(out, text.as_bytes()) {
+        Ok(()) => Ok(()),
+        Err(_) => Err(Halt::WriteFault),
+    }
+}

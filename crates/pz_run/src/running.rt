@@ -1,0 +1,162 @@
+// A run, line by line.
+ghost use Rattle.std.specs.Prelude.{◌≡◌, ◌≤◌, ◌<◌, ◌+◌, ◌*◌, ◌^◌, ℕ, List, IfOk, OnOk, false, string_bytes};
+ghost use Rattle.pz_ast.specs.ClassView.{model_view};
+ghost use Rattle.pz_term.specs.FirstPath.{FirstModel, IsFirstPath, tree_of};
+ghost use Rattle.pz_term.specs.Start.{bodies_of, start};
+ghost use Rattle.pz_term.specs.Runs.{Event, acted, passed, Ending, ended, deadlocked, stopped, IsChoice, IsFirstRun};
+ghost use Rattle.pz_term.specs.declared.action.Action.{Action};
+ghost use Rattle.pz_term.specs.Simulations.{IsMomentOf, Chooses, Passes};
+ghost use Rattle.pz_term.specs.Plains.{simulation_of};
+ghost use Rattle.pz_run.specs.Lines.{ending_line as the_ending_line, ending_word, header};
+ghost use Rattle.pz_run.specs.Output.{action_limit};
+ghost use Rattle.pz_run.specs.Status.{status_of};
+ghost use Rattle.pz_run.specs.TraceText.{event_line, rest_text, trace_text};
+ghost use Rattle.pz_run.specs.Writing.{Sinks, Wrote};
+
+use crate::Status;
+use crate::lines::{HEADER, action_line, ending_line, time_line};
+use crate::printing::{Halt, put};
+use pz_ast::Model;
+use pz_io::Sink;
+use pz_term::{ChooseError, Moment, PassError, Plain, laws};
+use std::alloc::{AllocError, Global};
+
+// A run stops before one action more.
+const ACTION_LIMIT: u64 = 1000;
+
+// Writes the line of the passing of time that comes now, and lets it pass.
+fn print_passing<W: Sink>(
+    alloc: Global,
+    plain: &mut Plain,
+    time: u128,
+    out: &mut W,
+) -> Result<(), Halt>
+    requires moment { IsMomentOf (simulation_of plain.old) (Moment.Time time) }
+    requires whole { (simulation_of plain.old).broken ≡ false }
+    requires soon { (simulation_of plain.old).config.clock < 2 ^ 127 }
+    ensures passed { OnOk result (Passes (simulation_of plain.old) (simulation_of plain.new)) }
+    ensures wrote { (path : List ℕ) → Wrote (record { told = W.told out.old; faults = W.faults out.old; taken = W.taken out.old })
+        (record { told = W.told out.new; faults = W.faults out.new; taken = W.taken out.new })
+        (event_line path (passed (simulation_of plain.old).config.clock time)) result }
+{
+    laws::one_moment();
+    let line = time_line(alloc, plain.clock(), time)?;
+    put(out, line.as_str())?;
+    match plain.pass() {
+        Ok(()) => Ok(()),
+        Err(PassError::NoMemory) => Err(Halt::NoMemory),
+        Err(PassError::NotNow(_)) => unreachable!(),
+    }
+}
+
+// The line of the first of the offers.
+fn first_line(
+    alloc: Global,
+    path: &str,
+    plain: &mut Plain,
+    offers: u64,
+) -> Result<String, AllocError>
+    requires moment { IsMomentOf (simulation_of plain.old) (Moment.Actions offers) }
+    requires whole { (simulation_of plain.old).broken ≡ false }
+    ensures line { IfOk result (λ line. (a : Action) → IsChoice (simulation_of plain.old).config offers 0 a →
+        string_bytes line ≡ event_line path.now (acted (simulation_of plain.old).config.clock offers 0 a)) }
+    ensures unchanged { plain.new ≡ plain.old }
+{
+    laws::one_moment();
+    laws::one_list_of_offers();
+    let clock = plain.clock();
+    let actions = plain.actions()?;
+    match actions.first() {
+        Some(action) => action_line(alloc, path, clock, offers, 0, action),
+        None => unreachable!(),
+    }
+}
+
+// Writes the line of the first of the offers, and chooses it.
+fn print_action<W: Sink>(
+    alloc: Global,
+    path: &str,
+    plain: &mut Plain,
+    offers: u64,
+    out: &mut W,
+) -> Result<(), Halt>
+    requires moment { IsMomentOf (simulation_of plain.old) (Moment.Actions offers) }
+    requires whole { (simulation_of plain.old).broken ≡ false }
+    ensures chosen { OnOk result (Chooses (simulation_of plain.old) (simulation_of plain.new) 0) }
+    ensures wrote { (a : Action) → IsChoice (simulation_of plain.old).config offers 0 a →
+        Wrote (record { told = W.told out.old; faults = W.faults out.old; taken = W.taken out.old })
+        (record { told = W.told out.new; faults = W.faults out.new; taken = W.taken out.new })
+        (event_line path.now (acted (simulation_of plain.old).config.clock offers 0 a)) result }
+{
+    laws::one_moment();
+    let line = first_line(alloc, path, plain, offers)?;
+    put(out, line.as_str())?;
+    match plain.choose(0) {
+        Ok(()) => Ok(()),
+        Err(ChooseError::NoMemory) => Err(Halt::NoMemory),
+        Err(ChooseError::NoSuchOffer { .. }) => unreachable!(),
+        Err(ChooseError::NotNow(_)) => unreachable!(),
+    }
+}
+
+// Writes the last line, and gives the status.
+fn print_ending<W: Sink>(
+    alloc: Global,
+    clock: u128,
+    word: &str,
+    status: Status,
+    out: &mut W,
+) -> Result<Status, Halt>
+    ensures status { IfOk result (λ given. given ≡ status) }
+    ensures wrote { (ending : Ending) → word.now ≡ ending_word ending →
+        Wrote (record { told = W.told out.old; faults = W.faults out.old; taken = W.taken out.old })
+        (record { told = W.told out.new; faults = W.faults out.new; taken = W.taken out.new })
+        (the_ending_line clock ending) result }
+{
+    let line = ending_line(alloc, clock, word)?;
+    put(out, line.as_str())?;
+    Ok(status)
+}
+
+// Writes the rest of the trace, from where the simulator stands.
+fn print_rest<W: Sink>(
+    alloc: Global,
+    path: &str,
+    plain: &mut Plain,
+    out: &mut W,
+) -> Result<Status, Halt>
+    requires whole { (simulation_of plain.old).broken ≡ false }
+    requires early { (simulation_of plain.old).config.clock ≡ 0 }
+    ensures { (events : List Event) (clock : ℕ) (ending : Ending) →
+        IsFirstRun (simulation_of plain.old).bodies action_limit (simulation_of plain.old).config events clock ending →
+        Wrote (record { told = W.told out.old; faults = W.faults out.old; taken = W.taken out.old })
+        (record { told = W.told out.new; faults = W.faults out.new; taken = W.taken out.new })
+        (rest_text path.now events clock ending) result
+        × IfOk result (λ status. status ≡ status_of ending) }
+{
+    laws::one_moment();
+    laws::one_first_run();
+    laws::acts_after_time();
+    let mut left = ACTION_LIMIT;
+    let mut moment = plain.moment();
+    'moments: loop {
+        match moment {
+            Moment::Time(time) => print_passing(alloc, plain, time, out)?,
+            Moment::Actions(offers) => {
+                if left == 0 {
+                    return print_ending(alloc, plain.clock(), "stop", Status::Done, out);
+                }
+                print_action(alloc, path, plain, offers, out)?;
+                left -= 1;
+            }
+            Moment::Finished => {
+                return print_ending(alloc, plain.clock(), "end", Status::Done, out);
+            }
+            Moment::Deadlock => {
+                return print_ending(alloc, plain.clock(), "deadlock", Status::Deadlock, out);
+            }
+            Moment::Broken => unreachable!(),
+        }
+        moment = plain.moment();
+    }
+}
