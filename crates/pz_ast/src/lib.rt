@@ -3,6 +3,7 @@
 
 mod classes;
 mod clusters;
+mod copying;
 mod exprs;
 mod names;
 mod stmts;
@@ -12,6 +13,7 @@ pub use classes::{DataClass, DataMethod, Message, ProcessClass, ProcessMethod, S
 pub use clusters::{
     Arg, Channel, ChannelEnd, ClusterClass, Decl, Given, Instance, Model, SystemDecl,
 };
+pub use copying::copy_statements;
 pub use exprs::{Expr, ExprForm, Link, Literal, Sending};
 pub use names::{Id, Name, Text};
 pub use stmts::{Stmt, StmtForm};

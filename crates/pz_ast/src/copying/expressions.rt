@@ -1,0 +1,150 @@
+ghost use Rattle.std.specs.Prelude.{◌≡◌, IfOk};
+
+use crate::{Expr, ExprForm, Id, Link, Literal, Sending};
+use pz_items::{Boxed, Items};
+use std::alloc::{AllocError, Global};
+
+impl Literal {
+    /// An equal literal. The only error is want of memory.
+    pub fn copy(&self) -> Result<Literal, AllocError>
+        ensures { IfOk result (λ copy. copy ≡ self.now) }
+    {
+        Ok(match self {
+            Literal::Int(n) => Literal::Int(*n),
+            Literal::Float => Literal::Float,
+            Literal::Char(b) => Literal::Char(*b),
+            Literal::Str(text) => Literal::Str(text.copy()?),
+            Literal::True => Literal::True,
+            Literal::False => Literal::False,
+            Literal::Nil => Literal::Nil,
+        })
+    }
+}
+
+/// An equal list of names. The only error is want of memory.
+pub(crate) fn copy_ids(alloc: Global, ids: &[Id]) -> Result<Items<Id>, AllocError>
+    ensures { IfOk result (λ copy. copy ≡ ids.now) }
+{
+    let mut copy = Items::new(alloc);
+    for id in ids {
+        copy.push(id.copy()?)?;
+    }
+    Ok(copy)
+}
+
+impl Expr {
+    /// An equal expression. The only error is want of memory.
+    #[cycle(copy_expr)]
+    pub fn copy(&self, alloc: Global) -> Result<Expr, AllocError>
+        ensures { IfOk result (λ copy. copy ≡ self.now) }
+    {
+        Ok(Expr {
+            pos: self.pos,
+            form: copy_form(alloc, &self.form)?,
+        })
+    }
+}
+
+#[cycle(copy_expr)]
+fn copy_form(alloc: Global, form: &ExprForm) -> Result<ExprForm, AllocError>
+    ensures { IfOk result (λ copy. copy ≡ form.now) }
+{
+    match form {
+        ExprForm::Lit(literal) => Ok(ExprForm::Lit(literal.copy()?)),
+        ExprForm::Var(name) => Ok(ExprForm::Var(name.copy()?)),
+        ExprForm::Me => Ok(ExprForm::Me),
+        ExprForm::Clock => Ok(ExprForm::Clock),
+        ExprForm::New(class) => Ok(ExprForm::New(class.copy()?)),
+        ExprForm::Group(list) => Ok(ExprForm::Group(copy_list(alloc, list.as_slice())?)),
+        ExprForm::Chain(first, links) => {
+            let first = Boxed::new(alloc, first.get().copy(alloc)?)?;
+            Ok(ExprForm::Chain(first, copy_links(alloc, links.as_slice())?))
+        }
+        ExprForm::Sends(first, sendings) => {
+            let first = Boxed::new(alloc, first.get().copy(alloc)?)?;
+            Ok(ExprForm::Sends(first, copy_sendings(alloc, sendings.as_slice())?))
+        }
+        ExprForm::Unary(op, operand) => {
+            let operand = Boxed::new(alloc, operand.get().copy(alloc)?)?;
+            Ok(ExprForm::Unary(*op, operand))
+        }
+        ExprForm::Assign(target, value) => {
+            let value = Boxed::new(alloc, value.get().copy(alloc)?)?;
+            Ok(ExprForm::Assign(target.copy()?, value))
+        }
+        ExprForm::Return(value) => {
+            let value = Boxed::new(alloc, value.get().copy(alloc)?)?;
+            Ok(ExprForm::Return(value))
+        }
+        ExprForm::If(test, part, rest) => {
+            let test = Boxed::new(alloc, test.get().copy(alloc)?)?;
+            let part = copy_list(alloc, part.as_slice())?;
+            match rest {
+                None => Ok(ExprForm::If(test, part, None)),
+                Some(rest) => {
+                    let rest = copy_list(alloc, rest.as_slice())?;
+                    Ok(ExprForm::If(test, part, Some(rest)))
+                }
+            }
+        }
+        ExprForm::While(test, body) => {
+            let test = Boxed::new(alloc, test.get().copy(alloc)?)?;
+            Ok(ExprForm::While(test, copy_list(alloc, body.as_slice())?))
+        }
+    }
+}
+
+#[cycle(copy_expr)]
+pub(crate) fn copy_list(alloc: Global, list: &[Expr]) -> Result<Items<Expr>, AllocError>
+    ensures { IfOk result (λ copy. copy ≡ list.now) }
+{
+    let mut copy = Items::new(alloc);
+    for expr in list {
+        copy.push(expr.copy(alloc)?)?;
+    }
+    Ok(copy)
+}
+
+#[cycle(copy_expr)]
+fn copy_links(alloc: Global, links: &[Link]) -> Result<Items<Link>, AllocError>
+    ensures { IfOk result (λ copy. copy ≡ links.now) }
+{
+    let mut copy = Items::new(alloc);
+    for link in links {
+        copy.push(Link {
+            op: link.op,
+            pos: link.pos,
+            operand: link.operand.copy(alloc)?,
+        })?;
+    }
+    Ok(copy)
+}
+
+#[cycle(copy_expr)]
+fn copy_sendings(alloc: Global, sendings: &[Sending]) -> Result<Items<Sending>, AllocError>
+    ensures { IfOk result (λ copy. copy ≡ sendings.now) }
+{
+    let mut copy = Items::new(alloc);
+    for sending in sendings {
+        let selector = sending.selector.copy()?;
+        let args = match &sending.args {
+            None => None,
+            Some(args) => Some(copy_list(alloc, args.as_slice())?),
+        };
+        copy.push(Sending { selector, args })?;
+    }
+    Ok(copy)
+}
+
+/// An equal list, or none where there is none. The only error is want of memory.
+pub(crate) fn copy_part(
+    alloc: Global,
+    part: &Option<Items<Expr>>,
+) -> Result<Option<Items<Expr>>, AllocError>
+    ensures { IfOk result (λ copy. copy ≡ part.now) }
+{
+    match part {
+        None => Ok(None),
+        Some(list) => Ok(Some(copy_list(alloc, list.as_slice())?)),
+    }
+}

@@ -1,0 +1,14 @@
+pub mod Lists
+pub mod Views
+pub mod Openings
+pub mod Collected
+pub mod Acted
+pub mod LocalOffers
+pub mod AllOffers
+pub mod LeastDelays
+pub mod MomentsAre
+pub mod FirstRuns
+pub mod OneProcess
+pub mod Entered
+pub mod Steps
+pub mod Starts

@@ -1,0 +1,27 @@
+use crate::Place;
+use pz_ast::Pos;
+
+/// A part of a process: the number of the process, from 0 in the order of the text, and the place
+/// in its term.
+#[derive(Debug, Drop)]
+pub struct End {
+    pub process: u32,
+    pub place: Place,
+}
+
+/// The kinds of internal actions.
+#[derive(Clone, Copy, Debug, PartialEq, Eq)]
+pub enum Kind {
+    Skip,
+    Eval,
+    Test,
+    Expire,
+    Call,
+}
+
+/// One event of a model: so far one internal step of one process, at the place of the first token
+/// of its statement.
+#[derive(Debug, Drop)]
+pub enum Action {
+    Internal { at: End, kind: Kind, pos: Pos },
+}
