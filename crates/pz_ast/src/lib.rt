@@ -5,6 +5,7 @@ mod classes;
 mod clusters;
 mod exprs;
 mod names;
+mod printing;
 mod stmts;
 mod tokens;
 
@@ -14,6 +15,7 @@ pub use clusters::{
 };
 pub use exprs::{Expr, ExprForm, Link, Literal, Sending};
 pub use names::{Id, Name, Text};
+pub use printing::tokens_of;
 pub use stmts::{Stmt, StmtForm};
 pub use tokens::{Keyword, Mark, Pos, Symbol, Token, TokenKind};
 
