@@ -1,2 +1,6 @@
 mod Rests
 mod Texts
+mod Nestings
+mod ExpressionBounds
+mod StatementBounds
+mod ModelBounds

@@ -1,5 +1,5 @@
 -- The text of clusters, of the system and of whole models.
-use Rattle.std.specs.Prelude.{List, [], ◌∷◌, ◌++◌}
+use Rattle.std.specs.Prelude.{◌-◌, ◌^◌, ◌<◌, List, [], ◌∷◌, ◌++◌, length}
 use Rattle.pz_ast.specs.declared.tokens.Symbol.TheVariants as s
 use Rattle.pz_ast.specs.declared.tokens.Keyword.TheVariants as k
 use Rattle.pz_ast.specs.declared.tokens.TokenKind.TheVariants as kind
@@ -53,3 +53,7 @@ decl_text (system d) = system_text d
 
 abbrev pub text : ModelTree → List Mark
 text m = each_text decl_text m.decls
+
+-- what a call that takes a model asks of it, so that numbers of its parts fit 32 bits
+abbrev pub HasFewMarks : ModelTree → Type 0
+HasFewMarks m = length (text m) < 2 ^ 32 - 1

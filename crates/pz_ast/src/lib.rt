@@ -3,6 +3,7 @@
 
 mod classes;
 mod clusters;
+mod depth;
 mod exprs;
 mod names;
 mod printing;
@@ -13,6 +14,7 @@ pub use classes::{DataClass, DataMethod, Message, ProcessClass, ProcessMethod, S
 pub use clusters::{
     Arg, Channel, ChannelEnd, ClusterClass, Decl, Given, Instance, Model, SystemDecl,
 };
+pub use depth::nesting;
 pub use exprs::{Expr, ExprForm, Link, Literal, Sending};
 pub use names::{Id, Name, Text};
 pub use printing::tokens_of;

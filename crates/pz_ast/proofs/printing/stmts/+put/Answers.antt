@@ -1,4 +1,4 @@
-use Rattle.std.proofs.Common.{rules, arith, ◌≤◌, List, sym, subst}
+use Rattle.std.proofs.Common.{arith, ◌≤◌}
 use denote.Param.Weighed.{most, at_most}
 use Rattle.pz_ast.proofs.stmts.Stmt.TheLaws.{the_size}
 use Rattle.pz_ast.proofs.printing.stmts.+put.Goals as goal
