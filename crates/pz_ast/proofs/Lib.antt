@@ -4,3 +4,8 @@ mod Nestings
 mod ExpressionBounds
 mod StatementBounds
 mod ModelBounds
+mod RowWords
+mod ExpressionRows
+mod StatementRows
+mod ClassRows
+mod ModelRows
