@@ -9,3 +9,7 @@ mod ExpressionRows
 mod StatementRows
 mod ClassRows
 mod ModelRows
+mod Marked
+mod ExpressionHeads
+mod StatementHeads
+mod ModelHeads

@@ -19,3 +19,4 @@ pub mod ModelNesting
 pub mod ExpressionErasure
 pub mod StatementErasure
 pub mod ModelErasure
+pub mod HeadsLaw

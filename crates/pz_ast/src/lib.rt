@@ -5,6 +5,7 @@ mod classes;
 mod clusters;
 mod depth;
 mod exprs;
+mod laws;
 mod names;
 mod printing;
 mod stmts;
@@ -16,6 +17,7 @@ pub use clusters::{
 };
 pub use depth::nesting;
 pub use exprs::{Expr, ExprForm, Link, Literal, Sending};
+pub use laws::text_has_its_heads;
 pub use names::{Id, Name, Text};
 pub use printing::tokens_of;
 pub use stmts::{Stmt, StmtForm};
