@@ -13,3 +13,4 @@ mod Marked
 mod ExpressionHeads
 mod StatementHeads
 mod ModelHeads
+mod FormRows

@@ -74,14 +74,12 @@ impl Print for Message {
 
     fn print(&self, out: &mut Items<Mark>) -> Result<(), AllocError> {
         put_word(out, &self.port)?;
-        put_symbol(
-            out,
-            if self.out {
-                Symbol::Bang
-            } else {
-                Symbol::Query
-            },
-        )?;
+        let direction = if self.out {
+            Symbol::Bang
+        } else {
+            Symbol::Query
+        };
+        put_symbol(out, direction)?;
         put_word(out, &self.name)?;
         if let Some(types) = &self.types {
             put_symbol(out, Symbol::LeftParen)?;

@@ -23,26 +23,14 @@ fn put_stmt(out: &mut Items<Mark>, statement: &Stmt) -> Result<(), AllocError>
             put_keyword(out, Keyword::Delay)?;
             put_expr(out, length)
         }
-        StmtForm::Group(body) => {
-            put_symbol(out, Symbol::LeftParen)?;
-            put_stmts(out, body.as_slice())?;
-            put_symbol(out, Symbol::RightParen)
-        }
+        StmtForm::Group(body) => put_group(out, body.as_slice()),
         StmtForm::Block(es) => put_block(out, es.as_slice()),
         StmtForm::Guard(test, body) => {
             put_guard(out, test)?;
             put_stmt(out, body.get())
         }
-        StmtForm::Par(branches) => {
-            put_keyword(out, Keyword::Par)?;
-            put_branches(out, Keyword::And, branches.as_slice())?;
-            put_keyword(out, Keyword::Rap)
-        }
-        StmtForm::Sel(branches) => {
-            put_keyword(out, Keyword::Sel)?;
-            put_branches(out, Keyword::Or, branches.as_slice())?;
-            put_keyword(out, Keyword::Les)
-        }
+        StmtForm::Par(branches) => put_par(out, branches.as_slice()),
+        StmtForm::Sel(branches) => put_sel(out, branches.as_slice()),
         StmtForm::If(test, body, other) => {
             put_test(out, Keyword::If, test, Keyword::Then)?;
             put_stmts(out, body.as_slice())?;
@@ -101,11 +89,38 @@ pub(crate) fn put_stmts(out: &mut Items<Mark>, statements: &[Stmt]) -> Result<()
 }
 
 #[cycle(put)]
+fn put_group(out: &mut Items<Mark>, body: &[Stmt]) -> Result<(), AllocError>
+    ensures { OnOk result (out.new ≡ out.old ++ in_parentheses (texts (sequence_view body.now))) }
+{
+    put_symbol(out, Symbol::LeftParen)?;
+    put_stmts(out, body)?;
+    put_symbol(out, Symbol::RightParen)
+}
+
+#[cycle(put)]
 fn put_otherwise(out: &mut Items<Mark>, body: &[Stmt]) -> Result<(), AllocError>
     ensures { OnOk result (out.new ≡ out.old ++ keyword Keyword.Else ∷ texts (sequence_view body.now)) }
 {
     put_keyword(out, Keyword::Else)?;
     put_stmts(out, body)
+}
+
+#[cycle(put)]
+fn put_par(out: &mut Items<Mark>, branches: &[Items<Stmt>]) -> Result<(), AllocError>
+    ensures { OnOk result (out.new ≡ out.old ++ keyword Keyword.Par ∷ (branches_text Keyword.And (branches_of (map (map view) branches.now)) ++ keyword Keyword.Rap ∷ [])) }
+{
+    put_keyword(out, Keyword::Par)?;
+    put_branches(out, Keyword::And, branches)?;
+    put_keyword(out, Keyword::Rap)
+}
+
+#[cycle(put)]
+fn put_sel(out: &mut Items<Mark>, branches: &[Items<Stmt>]) -> Result<(), AllocError>
+    ensures { OnOk result (out.new ≡ out.old ++ keyword Keyword.Sel ∷ (branches_text Keyword.Or (branches_of (map (map view) branches.now)) ++ keyword Keyword.Les ∷ [])) }
+{
+    put_keyword(out, Keyword::Sel)?;
+    put_branches(out, Keyword::Or, branches)?;
+    put_keyword(out, Keyword::Les)
 }
 
 /// What `par` and `sel` have between their keywords.

@@ -12,16 +12,25 @@ invariant-put_branches-loop-i l = l.out ++ rest_branches l.i l.separator (branch
 
 -- the depth comes first; at the same depth, lists of lists come before lists and these before one statement
 abbrev pub decreases-put_stmt : goal.decreases-put_stmt
-decreases-put_stmt l = 3 * goal.size-put_stmt l
+decreases-put_stmt l = 4 * goal.size-put_stmt l
 
 abbrev pub decreases-put_stmts : goal.decreases-put_stmts
-decreases-put_stmts l = 3 * goal.size-put_stmts l + 1
+decreases-put_stmts l = 4 * goal.size-put_stmts l + 1
 
 abbrev pub decreases-put_otherwise : goal.decreases-put_otherwise
-decreases-put_otherwise l = 3 * goal.size-put_otherwise l + 2
+decreases-put_otherwise l = 4 * goal.size-put_otherwise l + 2
 
 abbrev pub decreases-put_first : goal.decreases-put_first
-decreases-put_first l = 3 * goal.size-put_first l + 2
+decreases-put_first l = 4 * goal.size-put_first l + 2
 
 abbrev pub decreases-put_branches : goal.decreases-put_branches
-decreases-put_branches l = 3 * goal.size-put_branches l + 2
+decreases-put_branches l = 4 * goal.size-put_branches l + 2
+
+abbrev pub decreases-put_group : goal.decreases-put_group
+decreases-put_group l = 4 * goal.size-put_group l + 2
+
+abbrev pub decreases-put_par : goal.decreases-put_par
+decreases-put_par l = 4 * goal.size-put_par l + 3
+
+abbrev pub decreases-put_sel : goal.decreases-put_sel
+decreases-put_sel l = 4 * goal.size-put_sel l + 3
