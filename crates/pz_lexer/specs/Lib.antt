@@ -1,0 +1,12 @@
+pub mod Bytes
+pub mod Spellings
+pub mod Words
+pub mod Numbers
+pub mod Symbols
+pub mod Comments
+pub mod Quoted
+pub mod Pieces
+pub mod Refusals
+pub mod Places
+pub mod Tokens
+pub mod Twin
