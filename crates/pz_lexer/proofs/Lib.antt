@@ -1,1 +1,8 @@
+pub mod Runs
+pub mod Classes
+pub mod Steps
+pub mod WordSteps
+pub mod NumberSteps
+pub mod CommentSteps
+pub mod QuotedSteps
 mod Rows

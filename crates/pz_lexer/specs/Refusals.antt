@@ -25,7 +25,7 @@ NoItem quote text = (item rest : List ℕ) (value : ℕ) → IsItem quote item v
 pub data IsBadNumber : List ℕ → Type 0 where
   too_large : (digits rest : List ℕ) → AreDigits digits → begins is_digit rest ≡ false → begins_fraction rest ≡ false → 2 ^ 63 ≤ value_of digits → IsBadNumber (digits ++ rest)
   lettered : (digits rest : List ℕ) → AreDigits digits → begins is_letter rest ≡ true → IsBadNumber (digits ++ rest)
-  lettered_float : (digits fraction rest : List ℕ) → AreDigits digits → AreDigits fraction → begins is_letter rest ≡ true → IsBadNumber (digits ++ 46 ∷ fraction ++ rest)
+  lettered_float : (digits fraction rest : List ℕ) → AreDigits digits → AreDigits fraction → begins is_letter rest ≡ true → IsBadNumber ((digits ++ 46 ∷ fraction) ++ rest)
 
 -- the opening quote of a string or a character that an LF or the end cuts off, or of a character
 -- that has no item or more than one

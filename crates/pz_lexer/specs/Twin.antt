@@ -65,8 +65,13 @@ integer_step digits rest = number_by (begins is_letter rest || nat_le (2 ^ 63) (
 abbrev pub float_step : List ℕ → List ℕ → Step
 float_step digits fraction = number_by (begins is_letter (back is_digit fraction)) (digits ++ 46 ∷ front is_digit fraction) TokenKind.Float (back is_digit fraction)
 
+-- digits, and what follows them: whether that is a fraction
+abbrev pub digits_by : Bool → List ℕ → List ℕ → Step
+digits_by true digits rest = float_step digits (drop 1 rest)
+digits_by false digits rest = integer_step digits rest
+
 abbrev pub digits_step : List ℕ → List ℕ → Step
-digits_step digits rest = elim (begins_fraction rest) [ true ↦ float_step digits (drop 1 rest) | false ↦ integer_step digits rest ]
+digits_step digits rest = digits_by (begins_fraction rest) digits rest
 
 abbrev pub number_step : List ℕ → Step
 number_step text = digits_step (front is_digit text) (back is_digit text)
@@ -144,17 +149,16 @@ character_by _ bs = stop [] (39 ∷ bs) open_string
 abbrev pub character_step : List ℕ → Step
 character_step bs = character_by (inside_at 39 bs) bs
 
+-- so many bytes where they spell a symbol
+abbrev pub symbol_by : Option Symbol → ℕ → List ℕ → Step → Step
+symbol_by (Some symbol) n text shorter = piece (take n text) (token (TokenKind.Sym symbol)) (drop n text)
+symbol_by None n text shorter = shorter
+
+abbrev pub symbol_at : ℕ → List ℕ → Step → Step
+symbol_at n text shorter = symbol_by (spelled symbols (take n text)) n text shorter
+
 abbrev pub symbol_step : List ℕ → Step
-symbol_step text = elim (spelled symbols (take 3 text)) [
-  | Some symbol ↦ piece (take 3 text) (token (TokenKind.Sym symbol)) (drop 3 text)
-  | None ↦ elim (spelled symbols (take 2 text)) [
-    | Some symbol ↦ piece (take 2 text) (token (TokenKind.Sym symbol)) (drop 2 text)
-    | None ↦ elim (spelled symbols (take 1 text)) [
-      | Some symbol ↦ piece (take 1 text) (token (TokenKind.Sym symbol)) (drop 1 text)
-      | None ↦ stop [] text bad_byte
-    ]
-  ]
-]
+symbol_step text = symbol_at 3 text (symbol_at 2 text (symbol_at 1 text (stop [] text bad_byte)))
 
 -- what stands before the next `*/`, and what follows it
 pub data Closed : Type 0 where
@@ -176,15 +180,17 @@ block_by open_end bs = stop [] (47 ∷ 42 ∷ bs) open_comment
 abbrev pub line_step : List ℕ → Step
 line_step bs = piece (47 ∷ 47 ∷ front is_in_line bs) line_comment (back is_in_line bs)
 
+abbrev pub block_step : List ℕ → Step
+block_step bs = block_by (close_of bs) bs
+
+abbrev pub slash_by : Bool → Bool → List ℕ → Step
+slash_by true _ bs = line_step (drop 1 bs)
+slash_by false true bs = block_step (drop 1 bs)
+slash_by false false bs = symbol_step (47 ∷ bs)
+
 -- what a `/` begins, given what follows it
 abbrev pub slash_step : List ℕ → Step
-slash_step bs = elim (begins (λ b. b == 47) bs) [
-  | true ↦ line_step (drop 1 bs)
-  | false ↦ elim (begins (λ b. b == 42) bs) [
-    | true ↦ block_by (close_of (drop 1 bs)) (drop 1 bs)
-    | false ↦ symbol_step (47 ∷ bs)
-  ]
-]
+slash_step bs = slash_by (begins (λ b. b == 47) bs) (begins (λ b. b == 42) bs) bs
 
 abbrev pub step_by : Class → ℕ → List ℕ → Step
 step_by blanks b bs = piece (b ∷ []) blank bs

@@ -1,0 +1,21 @@
+-- What it is to find what stands first in a text.
+use Rattle.std.proofs.Common.{◌≡◌, ℕ, List, [], ◌∷◌, ◌++◌, Bool, true, false, refl, sym, ◌∙◌, ap, subst}
+use Rattle.pz_lexer.specs.Bytes.{begins}
+use Rattle.pz_lexer.specs.Pieces.{Sort, IsPiece}
+use Rattle.pz_lexer.specs.Refusals.{Reason, Stops}
+use Rattle.pz_lexer.specs.Twin.{Step, piece, stop, first_step}
+
+-- there is a first byte
+abbrev pub IsSome : List ℕ → Type 0
+IsSome [] = ⊥
+IsSome (b ∷ bs) = Unit {0}
+
+-- the step is right about the text
+abbrev pub IsRight : List ℕ → Step → Type 0
+IsRight all (piece text sort rest) = (text ++ rest ≡ all) × IsSome text × IsPiece text sort rest
+IsRight all (stop before rest reason) = (before ++ rest ≡ all) × Stops before rest reason
+
+-- a text that begins with a byte of some sort has a first byte
+pub some_begins : (sort : ℕ → Bool) (text : List ℕ) → begins sort text ≡ true → IsSome text
+some_begins sort [] e = absurd (cc)
+some_begins sort (b ∷ bs) e = tt
