@@ -5,4 +5,7 @@ pub mod WordSteps
 pub mod NumberSteps
 pub mod CommentSteps
 pub mod QuotedSteps
+pub mod SymbolSteps
+pub mod FirstStep
+pub mod Cuts
 mod Rows

@@ -138,3 +138,92 @@ items_are (b ∷ bound) quote all = by (inside_at quote all) refl (inside_is quo
     by no_escape e is others = (refl, none, λ fits. subst NotItem (sym e) tt)
     by closing e is others = (refl, none, λ fits. subst NotItem (sym e) tt)
     by cut_off e is others = (refl, none, λ fits. subst NotItem (sym e) tt)
+
+-- What stands behind the items.
+
+cut_found : (quote : ℕ) (rest : List ℕ) → begins is_in_line rest ≡ false → inside_at quote rest ≡ cut_off
+cut_found quote [] e = refl
+cut_found quote (b ∷ bs) e = let lf : (b == 10) ≡ true = lf_from (b == 10) e in rw lf refl
+  where
+    lf_from : (t : Bool) → not t ≡ false → t ≡ true
+    lf_from true e = refl
+    lf_from false e = sym e
+
+no_escape_found : (quote : ℕ) (rest : List ℕ) → NoItem quote (92 ∷ rest) → escape_at rest ≡ no_escape
+no_escape_found quote rest none_there = by (escape_at rest) (escape_is quote rest)
+  where
+    by : (k : Inside) → EscapeIs quote rest k → k ≡ no_escape
+    by (item text value after) is = absurd (none_there text after value is.1 (sym is.0))
+    by no_escape is = refl
+    by closing is = absurd is
+    by cut_off is = absurd is
+
+-- a string's items and what follows them
+string_items : (inside values rest : List ℕ) → AreItems 34 inside values → NotItem (inside_at 34 rest) → string_step (inside ++ rest) ≡ string_end (inside_at 34 rest) inside values rest
+string_items inside values rest are stops = ap string_by (items_found 34 inside values rest (inside ++ rest) are stops (omega (arith, length-append inside rest)))
+
+pub string_found : (text values rest : List ℕ) → IsString text values → first_step (text ++ rest) ≡ piece text (token (TokenKind.Str values)) rest
+string_found text values rest s =
+    ap (λ t. first_step (t ++ rest)) s.spelling
+    ∙ ap string_step (append_assoc s.inside (34 ∷ []) rest)
+    ∙ string_items s.inside values (34 ∷ rest) s.items tt
+    ∙ ap (λ t. piece t (token (TokenKind.Str values)) rest) (sym s.spelling)
+
+pub character_found : (text : List ℕ) (value : ℕ) (rest : List ℕ) → IsCharacter text value → first_step (text ++ rest) ≡ piece text (token (TokenKind.Char value)) rest
+character_found text value rest c =
+    ap (λ t. first_step (t ++ rest)) c.spelling
+    ∙ ap character_step (append_assoc c.inside (39 ∷ []) rest)
+    ∙ ap (λ k. character_by k (c.inside ++ 39 ∷ rest)) (item_found 39 c.inside value (39 ∷ rest) c.item)
+    ∙ ap (λ t. piece t (token (TokenKind.Char value)) rest) (sym c.spelling)
+
+pub open_string_found : (text : List ℕ) → IsOpenString text → first_step text ≡ stop [] text open_string
+open_string_found text (cut_string inside values rest are ends) =
+    let found = cut_found 34 rest ends in
+    string_items inside values rest are (subst NotItem (sym found) tt)
+    ∙ ap (λ k. string_end k inside values rest) found
+open_string_found text (cut_character {rest = rest} ends) = ap (λ k. character_by k rest) (cut_found 39 rest ends)
+open_string_found text (no_item {rest = rest}) = refl
+open_string_found text (not_closed one rest value is ends) =
+    ap (λ k. character_by k (one ++ rest)) (item_found 39 one value rest is)
+    ∙ ap (λ t. character_end t one value rest) ends
+
+pub string_escape_found : (inside values rest : List ℕ) → AreItems 34 inside values → NoItem 34 (92 ∷ rest) → first_step (34 ∷ inside ++ 92 ∷ rest) ≡ stop (34 ∷ inside) (92 ∷ rest) bad_byte
+string_escape_found inside values rest are none_there =
+    let found : inside_at 34 (92 ∷ rest) ≡ no_escape = no_escape_found 34 rest none_there in
+    string_items inside values (92 ∷ rest) are (subst NotItem (sym found) tt)
+    ∙ ap (λ k. string_end k inside values (92 ∷ rest)) found
+
+pub character_escape_found : (rest : List ℕ) → NoItem 39 (92 ∷ rest) → first_step (39 ∷ 92 ∷ rest) ≡ stop (39 ∷ []) (92 ∷ rest) bad_byte
+character_escape_found rest none_there = ap (λ k. character_by k (92 ∷ rest)) (no_escape_found 39 rest none_there)
+
+-- What is found is so.
+
+pub string_right : (bs : List ℕ) → IsRight (34 ∷ bs) (string_step bs)
+string_right bs = by (items_at bs 34 bs) (items_are bs 34 bs)
+  where
+    end : (text values rest : List ℕ) (k : Inside) → text ++ rest ≡ bs → AreItems 34 text values → NotItem k → InsideIs 34 rest k → IsRight (34 ∷ bs) (string_end k text values rest)
+    end text values rest (item one value after) same are stops is = absurd stops
+    end text values rest no_escape same are stops is =
+        (ap (λ t. 34 ∷ t) same, rw is.1 (no_escape_in_string are (rw is.1 at is.2)))
+    end text values rest closing same are stops is =
+        (ap (λ t. 34 ∷ t) (append_assoc text (34 ∷ []) (drop 1 rest) ∙ ap (λ t. text ++ 34 ∷ drop 1 t) is.1 ∙ ap (λ t. text ++ t) (sym is.1) ∙ same), tt,
+         a_string (record { inside = text; spelling = refl; items = are }))
+    end text values rest cut_off same are stops is =
+        (ap (λ t. 34 ∷ t) same, string (cut_string text values rest are is))
+    by : (k : Items) → ItemsAre bs 34 bs k → IsRight (34 ∷ bs) (string_by k)
+    by (items text values rest) are = end text values rest (inside_at 34 rest) are.0 are.1 (are.2 (omega arith)) (inside_is 34 rest)
+
+pub character_right : (bs : List ℕ) → IsRight (39 ∷ bs) (character_step bs)
+character_right bs = by (inside_at 39 bs) (inside_is 39 bs)
+  where
+    end : (text : List ℕ) (value : ℕ) (rest : List ℕ) (t : Bool) → text ++ rest ≡ bs → IsItem 39 text value → begins (λ b. b == 39) rest ≡ t → IsRight (39 ∷ bs) (character_end t text value rest)
+    end text value [] true same is e = absurd (false≢true e)
+    end text value (b ∷ rest) true same is e =
+        (ap (λ t. 39 ∷ t) (append_assoc text (39 ∷ []) rest ∙ ap (λ x. text ++ x ∷ rest) (sym (eqb-true b 39 e)) ∙ same), tt,
+         a_character (record { inside = text; spelling = refl; item = is }))
+    end text value rest false same is e = (ap (λ t. 39 ∷ t) same, string (not_closed text rest value is e))
+    by : (k : Inside) → InsideIs 39 bs k → IsRight (39 ∷ bs) (character_by k bs)
+    by (item text value rest) is = end text value rest (begins (λ b. b == 39) rest) is.0 is.1 refl
+    by no_escape is = (refl, rw is.1 (no_escape_in_character (rw is.1 at is.2)))
+    by closing is = (refl, rw is.1 (string no_item))
+    by cut_off is = (refl, string (cut_character is))
