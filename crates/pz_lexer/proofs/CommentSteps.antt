@@ -4,17 +4,19 @@ use Rattle.std.specs.Prelude.{◌||◌, ◌&&◌, ◌==◌, drop}
 use Rattle.std.proofs.lemmas.Bool.{false≢true, or_parts, or_from, and_parts, eqb-true}
 use Rattle.pz_lexer.specs.Bytes.{begins}
 use Rattle.pz_lexer.specs.Comments.{begins_pair, has_pair, is_in_line, IsLineComment, IsBlockComment}
-use Rattle.pz_lexer.specs.Pieces.{line_comment, block_comment, a_line_comment, a_block_comment}
-use Rattle.pz_lexer.specs.Refusals.{open_comment, comment}
+use Rattle.pz_lexer.specs.declared.pieces.Sort.{Sort}
+use Rattle.pz_lexer.specs.Pieces.{a_line_comment, a_block_comment}
+use Rattle.pz_lexer.specs.declared.pieces.Reason.{Reason}
+use Rattle.pz_lexer.specs.Refusals.{comment}
 use Rattle.pz_lexer.specs.Twin.{Step, piece, stop, front, back, first_step, Closed, closed, open_end, longer, close_of, block_by, block_step, line_step}
 use Rattle.pz_lexer.proofs.Runs.{front_run, back_run, front_all, back_begins, front-back}
 use Rattle.pz_lexer.proofs.Steps.{IsRight}
 
-pub line_comment_found : (text rest : List ℕ) → IsLineComment text rest → first_step (text ++ rest) ≡ piece text line_comment rest
+pub line_comment_found : (text rest : List ℕ) → IsLineComment text rest → first_step (text ++ rest) ≡ piece text Sort.LineComment rest
 line_comment_found text rest c =
     ap (λ t. first_step (t ++ rest)) c.spelling
-    ∙ ap₂ (λ x y. piece (47 ∷ 47 ∷ x) line_comment y) (front_run is_in_line c.body rest c.inside c.whole) (back_run is_in_line c.body rest c.inside c.whole)
-    ∙ ap (λ t. piece t line_comment rest) (sym c.spelling)
+    ∙ ap₂ (λ x y. piece (47 ∷ 47 ∷ x) Sort.LineComment y) (front_run is_in_line c.body rest c.inside c.whole) (back_run is_in_line c.body rest c.inside c.whole)
+    ∙ ap (λ t. piece t Sort.LineComment rest) (sym c.spelling)
 
 close-here : (b : ℕ) (bs : List ℕ) → begins_pair 42 47 (b ∷ bs) ≡ true → close_of (b ∷ bs) ≡ closed [] (drop 1 bs)
 close-here b bs e = rw (e, close_of) refl
@@ -35,14 +37,14 @@ open_found (b ∷ bs) e =
     let parts = or_parts _ _ e in
     close-later b bs parts.0 ∙ ap (longer b) (open_found bs parts.1)
 
-pub block_comment_found : (text rest : List ℕ) → IsBlockComment text → first_step (text ++ rest) ≡ piece text block_comment rest
+pub block_comment_found : (text rest : List ℕ) → IsBlockComment text → first_step (text ++ rest) ≡ piece text Sort.BlockComment rest
 block_comment_found text rest c =
     ap (λ t. first_step (t ++ rest)) c.spelling
     ∙ ap block_step (append_assoc c.body (42 ∷ 47 ∷ []) rest)
     ∙ ap (λ k. block_by k (c.body ++ 42 ∷ 47 ∷ rest)) (close_found c.body rest c.first)
-    ∙ ap (λ t. piece t block_comment rest) (sym c.spelling)
+    ∙ ap (λ t. piece t Sort.BlockComment rest) (sym c.spelling)
 
-pub open_comment_found : (rest : List ℕ) → has_pair 42 47 rest ≡ false → first_step (47 ∷ 42 ∷ rest) ≡ stop [] (47 ∷ 42 ∷ rest) open_comment
+pub open_comment_found : (rest : List ℕ) → has_pair 42 47 rest ≡ false → first_step (47 ∷ 42 ∷ rest) ≡ stop [] (47 ∷ 42 ∷ rest) Reason.OpenComment
 open_comment_found rest e = ap (λ k. block_by k rest) (open_found rest e)
 
 pub line_right : (bs : List ℕ) → IsRight (47 ∷ 47 ∷ bs) (line_step bs)

@@ -2,9 +2,11 @@
 use Rattle.std.proofs.Common.{◌≡◌, ◌⊎◌, inl, inr, ℕ, ◌≤◌, ◌<◌, List, [], ◌∷◌, ◌++◌, length, Result, Ok, Err, refl, sym, ◌∙◌, ap, ap₂, subst, append_assoc, arith, length-append}
 use Rattle.pz_ast.specs.declared.tokens.Token.{Token}
 use Rattle.pz_lexer.specs.declared.LexError.{LexError}
-use Rattle.pz_lexer.specs.Pieces.{Sort, IsPiece, Piece, joined, ArePieces}
+use Rattle.pz_lexer.specs.declared.pieces.Sort.{Sort}
+use Rattle.pz_lexer.specs.Pieces.{IsPiece, Piece, joined, ArePieces}
 use Rattle.std.proofs.lemmas.List.{append-nil}
-use Rattle.pz_lexer.specs.Refusals.{Reason, bad_byte, open_string, bad_number, Stops, no_token, no_escape_in_string, no_escape_in_character, comment, string, number}
+use Rattle.pz_lexer.specs.declared.pieces.Reason.{Reason}
+use Rattle.pz_lexer.specs.Refusals.{Stops, no_token, no_escape_in_string, no_escape_in_character, comment, string, number}
 use Rattle.pz_lexer.specs.Places.{origin, place_after}
 use Rattle.pz_lexer.specs.Tokens.{tokens_of, AreTokens, error_at, IsRefused}
 use Rattle.pz_lexer.specs.Twin.{Step, piece, stop, first_step, Cut, whole, broken, more_cut, cut_by, cut_of, answer_of, lexed}
@@ -18,7 +20,7 @@ some_length (b ∷ bs) some = omega arith
 -- a piece has at least one byte
 piece_some : (text : List ℕ) (sort : Sort) (rest : List ℕ) → IsPiece text sort rest → IsSome text
 piece_some (b ∷ bs) sort rest is = tt
-piece_some [] sort [] is = let found : stop [] [] bad_byte ≡ piece [] sort [] = piece_found [] sort [] is in cc
+piece_some [] sort [] is = let found : stop [] [] Reason.BadByte ≡ piece [] sort [] = piece_found [] sort [] is in cc
 piece_some [] sort (b ∷ bs) is = (subst (IsRight (b ∷ bs)) (piece_found [] sort (b ∷ bs) is) (step_right b bs)).1
 
 -- so has what the cut stops at
@@ -27,9 +29,9 @@ stop_some before rest reason (no_token is) = tt
 stop_some before rest reason (no_escape_in_string are is) = tt
 stop_some before rest reason (no_escape_in_character is) = tt
 stop_some before rest reason (comment is) = tt
-stop_some before [] reason (string is) = let found : stop [] [] bad_byte ≡ stop [] [] open_string = stop_found [] [] open_string (string is) in cc
+stop_some before [] reason (string is) = let found : stop [] [] Reason.BadByte ≡ stop [] [] Reason.OpenString = stop_found [] [] Reason.OpenString (string is) in cc
 stop_some before (b ∷ bs) reason (string is) = tt
-stop_some before [] reason (number is) = let found : stop [] [] bad_byte ≡ stop [] [] bad_number = stop_found [] [] bad_number (number is) in cc
+stop_some before [] reason (number is) = let found : stop [] [] Reason.BadByte ≡ stop [] [] Reason.BadNumber = stop_found [] [] Reason.BadNumber (number is) in cc
 stop_some before (b ∷ bs) reason (number is) = tt
 
 -- The cut that the definition allows is found.

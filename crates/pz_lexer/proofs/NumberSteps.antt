@@ -7,8 +7,10 @@ use Rattle.std.proofs.lemmas.Bool.Decides.{nat_tests}
 use Rattle.pz_ast.specs.declared.tokens.TokenKind.{TokenKind}
 use Rattle.pz_lexer.specs.Bytes.{is_digit, is_letter, is_word, begins}
 use Rattle.pz_lexer.specs.Numbers.{AreDigits, value_of, begins_fraction, IsInteger, IsFloat}
-use Rattle.pz_lexer.specs.Pieces.{token, an_integer, a_float}
-use Rattle.pz_lexer.specs.Refusals.{bad_number, IsBadNumber, too_large, lettered, lettered_float, number}
+use Rattle.pz_lexer.specs.declared.pieces.Sort.{Sort}
+use Rattle.pz_lexer.specs.Pieces.{an_integer, a_float}
+use Rattle.pz_lexer.specs.declared.pieces.Reason.{Reason}
+use Rattle.pz_lexer.specs.Refusals.{IsBadNumber, too_large, lettered, lettered_float, number}
 use Rattle.pz_lexer.specs.Twin.{Step, piece, stop, front, back, first_step, number_by, integer_step, float_step, digits_by, digits_step, number_step, step_by}
 use Rattle.pz_lexer.proofs.Runs.{front_run, back_run, front_all, back_begins, front-back, front_begins, begins-append}
 use Rattle.pz_lexer.proofs.Classes.{class_digit}
@@ -51,23 +53,23 @@ float_first digits fraction rest d f ends =
     ∙ ap (λ t. digits_by t digits (46 ∷ fraction ++ rest)) (begins-append is_digit fraction rest f.some)
     ∙ ap₂ (λ x y. number_by (begins is_letter y) (digits ++ 46 ∷ x) TokenKind.Float y) (front_run is_digit fraction rest f.all ends) (back_run is_digit fraction rest f.all ends)
 
-pub integer_found : (text rest : List ℕ) (value : ℕ) → IsInteger text value rest → first_step (text ++ rest) ≡ piece text (token (TokenKind.Int (pos value))) rest
+pub integer_found : (text rest : List ℕ) (value : ℕ) → IsInteger text value rest → first_step (text ++ rest) ≡ piece text (Sort.Token (TokenKind.Int (pos value))) rest
 integer_found text rest value i =
     let plain = no_word rest i.whole in
     let fits : nat_le (2 ^ 63) (value_of text) ≡ false = lt-leb _ _ (omega (arith, i.stands_for, i.fits)) in
     integer_first text rest i.digits plain.1 i.no_fraction
     ∙ ap (λ t. number_by t text (TokenKind.Int (pos (value_of text))) rest) (or_from _ _ plain.0 fits)
-    ∙ ap (λ n. piece text (token (TokenKind.Int (pos n))) rest) i.stands_for
+    ∙ ap (λ n. piece text (Sort.Token (TokenKind.Int (pos n))) rest) i.stands_for
 
-pub float_found : (text rest : List ℕ) → IsFloat text rest → first_step (text ++ rest) ≡ piece text (token TokenKind.Float) rest
+pub float_found : (text rest : List ℕ) → IsFloat text rest → first_step (text ++ rest) ≡ piece text (Sort.Token TokenKind.Float) rest
 float_found text rest f =
     let plain = no_word rest f.whole in
     ap (λ t. first_step (t ++ rest)) f.spelling
     ∙ float_first f.front f.fraction rest f.digits f.decimals plain.1
     ∙ ap (λ t. number_by t (f.front ++ 46 ∷ f.fraction) TokenKind.Float rest) plain.0
-    ∙ ap (λ t. piece t (token TokenKind.Float) rest) (sym f.spelling)
+    ∙ ap (λ t. piece t (Sort.Token TokenKind.Float) rest) (sym f.spelling)
 
-pub bad_number_found : (text : List ℕ) → IsBadNumber text → first_step text ≡ stop [] text bad_number
+pub bad_number_found : (text : List ℕ) → IsBadNumber text → first_step text ≡ stop [] text Reason.BadNumber
 bad_number_found text (too_large digits rest d ends plain large) =
     integer_first digits rest d ends plain
     ∙ ap (λ t. number_by t digits (TokenKind.Int (pos (value_of digits))) rest) (or_right _ _ (le-leb _ _ large))

@@ -6,8 +6,10 @@ use Rattle.pz_ast.specs.declared.tokens.TokenKind.{TokenKind}
 use Rattle.pz_lexer.specs.Bytes.{begins}
 use Rattle.pz_lexer.specs.Comments.{is_in_line}
 use Rattle.pz_lexer.specs.Quoted.{is_plain, escaped, hex_value, IsItem, plain, escape, hex, AreItems, none, more, IsString, IsCharacter}
-use Rattle.pz_lexer.specs.Pieces.{token, a_string, a_character}
-use Rattle.pz_lexer.specs.Refusals.{bad_byte, open_string, NoItem, IsOpenString, cut_string, cut_character, no_item, not_closed, no_escape_in_string, no_escape_in_character, string}
+use Rattle.pz_lexer.specs.declared.pieces.Sort.{Sort}
+use Rattle.pz_lexer.specs.Pieces.{a_string, a_character}
+use Rattle.pz_lexer.specs.declared.pieces.Reason.{Reason}
+use Rattle.pz_lexer.specs.Refusals.{NoItem, IsOpenString, cut_string, cut_character, no_item, not_closed, no_escape_in_string, no_escape_in_character, string}
 use Rattle.pz_lexer.specs.Twin.{Step, piece, stop, first_step, Inside, item, no_escape, closing, cut_off, hex_by, hex_at, escape_by, escape_at, inside_at, Items, items, more_items, items_by, items_at, string_end, string_by, string_step, character_end, character_by, character_step}
 use Rattle.pz_lexer.proofs.Steps.{IsRight}
 
@@ -162,21 +164,21 @@ no_escape_found quote rest none_there = by (escape_at rest) (escape_is quote res
 string_items : (inside values rest : List ℕ) → AreItems 34 inside values → NotItem (inside_at 34 rest) → string_step (inside ++ rest) ≡ string_end (inside_at 34 rest) inside values rest
 string_items inside values rest are stops = ap string_by (items_found 34 inside values rest (inside ++ rest) are stops (omega (arith, length-append inside rest)))
 
-pub string_found : (text values rest : List ℕ) → IsString text values → first_step (text ++ rest) ≡ piece text (token (TokenKind.Str values)) rest
+pub string_found : (text values rest : List ℕ) → IsString text values → first_step (text ++ rest) ≡ piece text (Sort.Token (TokenKind.Str values)) rest
 string_found text values rest s =
     ap (λ t. first_step (t ++ rest)) s.spelling
     ∙ ap string_step (append_assoc s.inside (34 ∷ []) rest)
     ∙ string_items s.inside values (34 ∷ rest) s.items tt
-    ∙ ap (λ t. piece t (token (TokenKind.Str values)) rest) (sym s.spelling)
+    ∙ ap (λ t. piece t (Sort.Token (TokenKind.Str values)) rest) (sym s.spelling)
 
-pub character_found : (text : List ℕ) (value : ℕ) (rest : List ℕ) → IsCharacter text value → first_step (text ++ rest) ≡ piece text (token (TokenKind.Char value)) rest
+pub character_found : (text : List ℕ) (value : ℕ) (rest : List ℕ) → IsCharacter text value → first_step (text ++ rest) ≡ piece text (Sort.Token (TokenKind.Char value)) rest
 character_found text value rest c =
     ap (λ t. first_step (t ++ rest)) c.spelling
     ∙ ap character_step (append_assoc c.inside (39 ∷ []) rest)
     ∙ ap (λ k. character_by k (c.inside ++ 39 ∷ rest)) (item_found 39 c.inside value (39 ∷ rest) c.item)
-    ∙ ap (λ t. piece t (token (TokenKind.Char value)) rest) (sym c.spelling)
+    ∙ ap (λ t. piece t (Sort.Token (TokenKind.Char value)) rest) (sym c.spelling)
 
-pub open_string_found : (text : List ℕ) → IsOpenString text → first_step text ≡ stop [] text open_string
+pub open_string_found : (text : List ℕ) → IsOpenString text → first_step text ≡ stop [] text Reason.OpenString
 open_string_found text (cut_string inside values rest are ends) =
     let found = cut_found 34 rest ends in
     string_items inside values rest are (subst NotItem (sym found) tt)
@@ -187,13 +189,13 @@ open_string_found text (not_closed one rest value is ends) =
     ap (λ k. character_by k (one ++ rest)) (item_found 39 one value rest is)
     ∙ ap (λ t. character_end t one value rest) ends
 
-pub string_escape_found : (inside values rest : List ℕ) → AreItems 34 inside values → NoItem 34 (92 ∷ rest) → first_step (34 ∷ inside ++ 92 ∷ rest) ≡ stop (34 ∷ inside) (92 ∷ rest) bad_byte
+pub string_escape_found : (inside values rest : List ℕ) → AreItems 34 inside values → NoItem 34 (92 ∷ rest) → first_step (34 ∷ inside ++ 92 ∷ rest) ≡ stop (34 ∷ inside) (92 ∷ rest) Reason.BadByte
 string_escape_found inside values rest are none_there =
     let found : inside_at 34 (92 ∷ rest) ≡ no_escape = no_escape_found 34 rest none_there in
     string_items inside values (92 ∷ rest) are (subst NotItem (sym found) tt)
     ∙ ap (λ k. string_end k inside values (92 ∷ rest)) found
 
-pub character_escape_found : (rest : List ℕ) → NoItem 39 (92 ∷ rest) → first_step (39 ∷ 92 ∷ rest) ≡ stop (39 ∷ []) (92 ∷ rest) bad_byte
+pub character_escape_found : (rest : List ℕ) → NoItem 39 (92 ∷ rest) → first_step (39 ∷ 92 ∷ rest) ≡ stop (39 ∷ []) (92 ∷ rest) Reason.BadByte
 character_escape_found rest none_there = ap (λ k. character_by k (92 ∷ rest)) (no_escape_found 39 rest none_there)
 
 -- What is found is so.

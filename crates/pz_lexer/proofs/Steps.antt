@@ -1,8 +1,10 @@
 -- What it is to find what stands first in a text.
 use Rattle.std.proofs.Common.{◌≡◌, ℕ, List, [], ◌∷◌, ◌++◌, Bool, true, false, refl, sym, ◌∙◌, ap, subst}
 use Rattle.pz_lexer.specs.Bytes.{begins}
-use Rattle.pz_lexer.specs.Pieces.{Sort, IsPiece}
-use Rattle.pz_lexer.specs.Refusals.{Reason, Stops}
+use Rattle.pz_lexer.specs.declared.pieces.Sort.{Sort}
+use Rattle.pz_lexer.specs.Pieces.{IsPiece}
+use Rattle.pz_lexer.specs.declared.pieces.Reason.{Reason}
+use Rattle.pz_lexer.specs.Refusals.{Stops}
 use Rattle.pz_lexer.specs.Twin.{Step, piece, stop, first_step}
 
 -- there is a first byte

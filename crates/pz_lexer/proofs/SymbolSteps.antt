@@ -11,8 +11,10 @@ use Rattle.pz_lexer.specs.Bytes.{begins, is_blank, is_word, is_letter, is_digit}
 use Rattle.pz_lexer.specs.Spellings.{spelled}
 use Rattle.pz_lexer.specs.Comments.{begins_comment, begins_pair}
 use Rattle.pz_lexer.specs.Symbols.{symbols, IsSymbol}
-use Rattle.pz_lexer.specs.Pieces.{token, a_symbol}
-use Rattle.pz_lexer.specs.Refusals.{bad_byte, begins_piece, no_token}
+use Rattle.pz_lexer.specs.declared.pieces.Sort.{Sort}
+use Rattle.pz_lexer.specs.Pieces.{a_symbol}
+use Rattle.pz_lexer.specs.declared.pieces.Reason.{Reason}
+use Rattle.pz_lexer.specs.Refusals.{begins_piece, no_token}
 use Rattle.pz_lexer.specs.Twin.{Step, piece, stop, first_step, Class, blanks, letter, digit, double_quote, single_quote, slash, other, class_of, step_by, slash_step, slash_by, symbol_by, symbol_at, symbol_step}
 use Rattle.pz_lexer.proofs.Classes.{ClassIs, IsOther, class_is, class_other}
 use Rattle.pz_lexer.proofs.Steps as steps
@@ -61,13 +63,13 @@ front_whole text rest n fits short = by (cases_lt (length text) n)
         (ap (take n) all ∙ take_all n text fits, ap (drop n) all ∙ drop_all n text fits ∙ sym empty)
 
 -- a symbol is found among its first so many bytes, or among fewer
-at_found : (n : ℕ) (text rest : List ℕ) (symbol : Symbol) (shorter : Step) → IsSymbol text symbol rest → length text ≤ n → (length text ≡ n) ⊎ (shorter ≡ piece text (token (TokenKind.Sym symbol)) rest) → symbol_at n (text ++ rest) shorter ≡ piece text (token (TokenKind.Sym symbol)) rest
+at_found : (n : ℕ) (text rest : List ℕ) (symbol : Symbol) (shorter : Step) → IsSymbol text symbol rest → length text ≤ n → (length text ≡ n) ⊎ (shorter ≡ piece text (Sort.Token (TokenKind.Sym symbol)) rest) → symbol_at n (text ++ rest) shorter ≡ piece text (Sort.Token (TokenKind.Sym symbol)) rest
 at_found n text rest symbol shorter is fits at = by (cases_lt (length text) (length (take n (text ++ rest))))
   where
     all : List ℕ
     all = text ++ rest
     target : Step
-    target = piece text (token (TokenKind.Sym symbol)) rest
+    target = piece text (Sort.Token (TokenKind.Sym symbol)) rest
     less : length text < length (take n all) → (length text ≡ n) ⊎ (shorter ≡ target) → shorter ≡ target
     less longer (inl same) = absurd (omega (arith, longer, length-take n all))
     less longer (inr found) = found
@@ -81,7 +83,7 @@ at_found n text rest symbol shorter is fits at = by (cases_lt (length text) (len
     by (inr short) =
         let same = front_whole text rest n fits short in
         ap (λ o. symbol_by o n all shorter) (ap (spelled symbols) same.0 ∙ is.spells)
-        ∙ ap₂ (λ x y. piece x (token (TokenKind.Sym symbol)) y) same.0 same.1
+        ∙ ap₂ (λ x y. piece x (Sort.Token (TokenKind.Sym symbol)) y) same.0 same.1
 
 -- where a symbol may stand and no comment begins, a symbol is sought
 symbol_first : (b : ℕ) (bs : List ℕ) → begins_symbol (class_of b) ≡ true → begins_comment (b ∷ bs) ≡ false → first_step (b ∷ bs) ≡ symbol_step (b ∷ bs)
@@ -100,7 +102,7 @@ symbol_first b bs begun apart = by (class_of b) (class_is b) begun
     by slash is begun = slashed b is apart
     by other is begun = refl
 
-pub symbol_found : (text : List ℕ) (symbol : Symbol) (rest : List ℕ) → IsSymbol text symbol rest → first_step (text ++ rest) ≡ piece text (token (TokenKind.Sym symbol)) rest
+pub symbol_found : (text : List ℕ) (symbol : Symbol) (rest : List ℕ) → IsSymbol text symbol rest → first_step (text ++ rest) ≡ piece text (Sort.Token (TokenKind.Sym symbol)) rest
 symbol_found [] symbol rest is = absurd (false≢true (ap is_some is.spells))
 symbol_found (b ∷ bs) symbol rest is = symbol_first b (bs ++ rest) begun is.apart ∙ three
   where
@@ -109,19 +111,19 @@ symbol_found (b ∷ bs) symbol rest is = symbol_first b (bs ++ rest) begun is.ap
     all : List ℕ
     all = text ++ rest
     target : Step
-    target = piece text (token (TokenKind.Sym symbol)) rest
+    target = piece text (Sort.Token (TokenKind.Sym symbol)) rest
     parts : (nat_le (length text) 3 ≡ true) × ((begins_symbol (class_of b) && is_some (spelled symbols (b ∷ []))) ≡ true)
     parts = and_parts _ _ (spelling text (ap is_some is.spells))
     begun : begins_symbol (class_of b) ≡ true
     begun = (and_parts _ _ parts.1).0
     fits : length text ≤ 3
     fits = leb-true _ _ parts.0
-    one : length text ≤ 1 → symbol_at 1 all (stop [] all bad_byte) ≡ target
-    one most = at_found 1 text rest symbol (stop [] all bad_byte) is most (inl (omega arith))
-    two : length text ≤ 2 → symbol_at 2 all (symbol_at 1 all (stop [] all bad_byte)) ≡ target
-    two most = at_found 2 text rest symbol (symbol_at 1 all (stop [] all bad_byte)) is most (⊎_elim (λ less. inr (one (omega arith))) (λ same. inl (omega arith)) (cases_lt (length text) 2))
+    one : length text ≤ 1 → symbol_at 1 all (stop [] all Reason.BadByte) ≡ target
+    one most = at_found 1 text rest symbol (stop [] all Reason.BadByte) is most (inl (omega arith))
+    two : length text ≤ 2 → symbol_at 2 all (symbol_at 1 all (stop [] all Reason.BadByte)) ≡ target
+    two most = at_found 2 text rest symbol (symbol_at 1 all (stop [] all Reason.BadByte)) is most (⊎_elim (λ less. inr (one (omega arith))) (λ same. inl (omega arith)) (cases_lt (length text) 2))
     three : symbol_step all ≡ target
-    three = at_found 3 text rest symbol (symbol_at 2 all (symbol_at 1 all (stop [] all bad_byte))) is fits (⊎_elim (λ less. inr (two (omega arith))) (λ same. inl (omega (arith, fits))) (cases_lt (length text) 3))
+    three = at_found 3 text rest symbol (symbol_at 2 all (symbol_at 1 all (stop [] all Reason.BadByte))) is fits (⊎_elim (λ less. inr (two (omega arith))) (λ same. inl (omega (arith, fits))) (cases_lt (length text) 3))
 
 -- no front that spells a symbol is longer
 abbrev AtMost : ℕ → List ℕ → Type 0
@@ -175,11 +177,11 @@ nothing_begins b bs begun none_there = by (class_of b) (class_is b) begun
 
 pub symbol_right : (b : ℕ) (bs : List ℕ) → begins_symbol (class_of b) ≡ true → begins_comment (b ∷ bs) ≡ false → IsRight (b ∷ bs) (symbol_step (b ∷ bs))
 symbol_right b bs begun apart =
-    at_right 3 b bs (symbol_at 2 all (symbol_at 1 all (stop [] all bad_byte))) (omega arith) apart (at_most_three all) (λ three.
+    at_right 3 b bs (symbol_at 2 all (symbol_at 1 all (stop [] all Reason.BadByte))) (omega arith) apart (at_most_three all) (λ three.
     let most2 = one_less 3 2 all refl (at_most_three all) three in
-    at_right 2 b bs (symbol_at 1 all (stop [] all bad_byte)) (omega arith) apart most2 (λ two.
+    at_right 2 b bs (symbol_at 1 all (stop [] all Reason.BadByte)) (omega arith) apart most2 (λ two.
     let most1 = one_less 2 1 all refl most2 two in
-    at_right 1 b bs (stop [] all bad_byte) (omega arith) apart most1 (λ one.
+    at_right 1 b bs (stop [] all Reason.BadByte) (omega arith) apart most1 (λ one.
     (refl, no_token (nothing_begins b bs begun one)))))
   where
     all : List ℕ
@@ -195,7 +197,7 @@ none_spelled (suc n) b bs shorter e some = by (spelled symbols (b ∷ take n bs)
         let first = (and_parts _ _ ((and_parts _ _ (spelling (b ∷ take n bs) (ap is_some is))).1)).1 in
         absurd (false≢true (sym e ∙ first))
 
-pub no_token_found : (b : ℕ) (bs : List ℕ) → begins_piece b ≡ false → first_step (b ∷ bs) ≡ stop [] (b ∷ bs) bad_byte
+pub no_token_found : (b : ℕ) (bs : List ℕ) → begins_piece b ≡ false → first_step (b ∷ bs) ≡ stop [] (b ∷ bs) Reason.BadByte
 no_token_found b bs e =
     ap (λ c. step_by c b bs) (class_other b is)
     ∙ none_spelled 3 b bs _ none_there (omega arith) ∙ none_spelled 2 b bs _ none_there (omega arith) ∙ none_spelled 1 b bs _ none_there (omega arith)

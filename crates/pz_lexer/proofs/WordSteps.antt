@@ -5,17 +5,18 @@ use Rattle.std.specs.List.{list_all}
 use Rattle.std.proofs.lemmas.Bool.{false≢true, or_left}
 use Rattle.pz_lexer.specs.Bytes.{is_letter, is_word, begins}
 use Rattle.pz_lexer.specs.Words.{IsWord, word_kind}
-use Rattle.pz_lexer.specs.Pieces.{token, a_word}
+use Rattle.pz_lexer.specs.declared.pieces.Sort.{Sort}
+use Rattle.pz_lexer.specs.Pieces.{a_word}
 use Rattle.pz_lexer.specs.Twin.{piece, front, back, first_step, word_step, step_by}
 use Rattle.pz_lexer.proofs.Runs.{front_run, back_run, front_all, back_begins, front-back, front_begins}
 use Rattle.pz_lexer.proofs.Classes.{class_letter}
 use Rattle.pz_lexer.proofs.Steps.{IsRight, some_begins}
 
-pub word_found : (text rest : List ℕ) → IsWord text rest → first_step (text ++ rest) ≡ piece text (token (word_kind text)) rest
+pub word_found : (text rest : List ℕ) → IsWord text rest → first_step (text ++ rest) ≡ piece text (Sort.Token (word_kind text)) rest
 word_found [] rest w = absurd (false≢true w.first)
 word_found (b ∷ bs) rest w =
     ap (λ c. step_by c b (bs ++ rest)) (class_letter b w.first)
-    ∙ ap₂ (λ x y. piece x (token (word_kind x)) y) (front_run is_word (b ∷ bs) rest w.inside w.whole) (back_run is_word (b ∷ bs) rest w.inside w.whole)
+    ∙ ap₂ (λ x y. piece x (Sort.Token (word_kind x)) y) (front_run is_word (b ∷ bs) rest w.inside w.whole) (back_run is_word (b ∷ bs) rest w.inside w.whole)
 
 pub word_right : (text : List ℕ) → begins is_letter text ≡ true → IsRight text (word_step text)
 word_right [] first = absurd (false≢true first)

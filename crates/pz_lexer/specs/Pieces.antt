@@ -2,6 +2,7 @@
 use Rattle.std.specs.Prelude.{◌≡◌, ℕ, List, [], ◌∷◌, ◌++◌, true, pos}
 use Rattle.pz_ast.specs.declared.tokens.Symbol.{Symbol}
 use Rattle.pz_ast.specs.declared.tokens.TokenKind.{TokenKind}
+use Rattle.pz_lexer.specs.declared.pieces.Sort.{Sort}
 use Rattle.pz_lexer.specs.Bytes.{is_blank}
 use Rattle.pz_lexer.specs.Words.{IsWord, word_kind}
 use Rattle.pz_lexer.specs.Numbers.{IsInteger, IsFloat}
@@ -9,24 +10,17 @@ use Rattle.pz_lexer.specs.Symbols.{IsSymbol}
 use Rattle.pz_lexer.specs.Comments.{IsLineComment, IsBlockComment}
 use Rattle.pz_lexer.specs.Quoted.{IsString, IsCharacter}
 
--- what a piece is
-pub data Sort : Type 0 where
-  blank : Sort
-  line_comment : Sort
-  block_comment : Sort
-  token : TokenKind → Sort
-
 -- This text, where that rest follows it, is a piece of this sort.
 pub data IsPiece : List ℕ → Sort → List ℕ → Type 0 where
-  a_blank : {b : ℕ} {rest : List ℕ} → is_blank b ≡ true → IsPiece (b ∷ []) blank rest
-  a_line_comment : {text rest : List ℕ} → IsLineComment text rest → IsPiece text line_comment rest
-  a_block_comment : {text rest : List ℕ} → IsBlockComment text → IsPiece text block_comment rest
-  a_word : {text rest : List ℕ} → IsWord text rest → IsPiece text (token (word_kind text)) rest
-  an_integer : {text rest : List ℕ} {value : ℕ} → IsInteger text value rest → IsPiece text (token (TokenKind.Int (pos value))) rest
-  a_float : {text rest : List ℕ} → IsFloat text rest → IsPiece text (token TokenKind.Float) rest
-  a_character : {text rest : List ℕ} {value : ℕ} → IsCharacter text value → IsPiece text (token (TokenKind.Char value)) rest
-  a_string : {text rest values : List ℕ} → IsString text values → IsPiece text (token (TokenKind.Str values)) rest
-  a_symbol : {text rest : List ℕ} {symbol : Symbol} → IsSymbol text symbol rest → IsPiece text (token (TokenKind.Sym symbol)) rest
+  a_blank : {b : ℕ} {rest : List ℕ} → is_blank b ≡ true → IsPiece (b ∷ []) Sort.Blank rest
+  a_line_comment : {text rest : List ℕ} → IsLineComment text rest → IsPiece text Sort.LineComment rest
+  a_block_comment : {text rest : List ℕ} → IsBlockComment text → IsPiece text Sort.BlockComment rest
+  a_word : {text rest : List ℕ} → IsWord text rest → IsPiece text (Sort.Token (word_kind text)) rest
+  an_integer : {text rest : List ℕ} {value : ℕ} → IsInteger text value rest → IsPiece text (Sort.Token (TokenKind.Int (pos value))) rest
+  a_float : {text rest : List ℕ} → IsFloat text rest → IsPiece text (Sort.Token TokenKind.Float) rest
+  a_character : {text rest : List ℕ} {value : ℕ} → IsCharacter text value → IsPiece text (Sort.Token (TokenKind.Char value)) rest
+  a_string : {text rest values : List ℕ} → IsString text values → IsPiece text (Sort.Token (TokenKind.Str values)) rest
+  a_symbol : {text rest : List ℕ} {symbol : Symbol} → IsSymbol text symbol rest → IsPiece text (Sort.Token (TokenKind.Sym symbol)) rest
 
 pub record Piece : Type 0 where
   pub text : List ℕ

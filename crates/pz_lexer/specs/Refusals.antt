@@ -1,17 +1,12 @@
 -- Where a text cannot be cut into pieces.
 use Rattle.std.specs.Prelude.{◌≡◌, ℕ, ◌≤◌, ◌^◌, List, [], ◌∷◌, ◌++◌, Bool, true, false, ◌||◌, ◌==◌, is_some, not}
+use Rattle.pz_lexer.specs.declared.pieces.Reason.{Reason}
 use Rattle.pz_lexer.specs.Bytes.{is_blank, is_word, is_digit, is_letter, begins}
 use Rattle.pz_lexer.specs.Spellings.{spelled}
 use Rattle.pz_lexer.specs.Symbols.{symbols}
 use Rattle.pz_lexer.specs.Comments.{has_pair, is_in_line}
 use Rattle.pz_lexer.specs.Numbers.{AreDigits, value_of, begins_fraction}
 use Rattle.pz_lexer.specs.Quoted.{IsItem, AreItems}
-
-pub data Reason : Type 0 where
-  bad_byte : Reason
-  open_comment : Reason
-  open_string : Reason
-  bad_number : Reason
 
 -- a blank, a letter, a digit, a quote or the first byte of a symbol or a comment
 abbrev pub begins_piece : ℕ → Bool
@@ -38,9 +33,9 @@ pub data IsOpenString : List ℕ → Type 0 where
 -- The cut stops where the second text begins: what stands before it, from the last piece on, is the
 -- first text.
 pub data Stops : List ℕ → List ℕ → Reason → Type 0 where
-  no_token : {b : ℕ} {rest : List ℕ} → begins_piece b ≡ false → Stops [] (b ∷ rest) bad_byte
-  no_escape_in_string : {inside values rest : List ℕ} → AreItems 34 inside values → NoItem 34 (92 ∷ rest) → Stops (34 ∷ inside) (92 ∷ rest) bad_byte
-  no_escape_in_character : {rest : List ℕ} → NoItem 39 (92 ∷ rest) → Stops (39 ∷ []) (92 ∷ rest) bad_byte
-  comment : {rest : List ℕ} → has_pair 42 47 rest ≡ false → Stops [] (47 ∷ 42 ∷ rest) open_comment
-  string : {rest : List ℕ} → IsOpenString rest → Stops [] rest open_string
-  number : {rest : List ℕ} → IsBadNumber rest → Stops [] rest bad_number
+  no_token : {b : ℕ} {rest : List ℕ} → begins_piece b ≡ false → Stops [] (b ∷ rest) Reason.BadByte
+  no_escape_in_string : {inside values rest : List ℕ} → AreItems 34 inside values → NoItem 34 (92 ∷ rest) → Stops (34 ∷ inside) (92 ∷ rest) Reason.BadByte
+  no_escape_in_character : {rest : List ℕ} → NoItem 39 (92 ∷ rest) → Stops (39 ∷ []) (92 ∷ rest) Reason.BadByte
+  comment : {rest : List ℕ} → has_pair 42 47 rest ≡ false → Stops [] (47 ∷ 42 ∷ rest) Reason.OpenComment
+  string : {rest : List ℕ} → IsOpenString rest → Stops [] rest Reason.OpenString
+  number : {rest : List ℕ} → IsBadNumber rest → Stops [] rest Reason.BadNumber

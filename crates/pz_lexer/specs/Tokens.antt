@@ -4,8 +4,10 @@ use Rattle.pz_ast.specs.declared.tokens.Pos.{Pos}
 use Rattle.pz_ast.specs.declared.tokens.Token.{Token}
 use Rattle.pz_ast.specs.declared.tokens.TokenKind.{TokenKind}
 use Rattle.pz_ast.specs.Heads.{heads}
-use Rattle.pz_lexer.specs.Pieces.{Sort, blank, line_comment, block_comment, token, Piece, joined, ArePieces}
-use Rattle.pz_lexer.specs.Refusals.{Reason, bad_byte, open_comment, open_string, bad_number, Stops}
+use Rattle.pz_lexer.specs.declared.pieces.Sort.{Sort}
+use Rattle.pz_lexer.specs.Pieces.{Piece, joined, ArePieces}
+use Rattle.pz_lexer.specs.declared.pieces.Reason.{Reason}
+use Rattle.pz_lexer.specs.Refusals.{Stops}
 use Rattle.pz_lexer.specs.Places.{origin, place_after}
 use Rattle.pz_lexer.specs.declared.LexError.{LexError}
 
@@ -16,10 +18,10 @@ pub record Placed : Type 0 where
 
 -- a piece that is kept is a token
 abbrev pub kept : Sort → Pos → List Placed
-kept (token kind) pos = record { kind = kind; pos = pos } ∷ []
-kept blank pos = []
-kept line_comment pos = []
-kept block_comment pos = []
+kept (Sort.Token kind) pos = record { kind = kind; pos = pos } ∷ []
+kept Sort.Blank pos = []
+kept Sort.LineComment pos = []
+kept Sort.BlockComment pos = []
 
 -- the tokens among pieces of which the first stands at this place
 abbrev pub placed : Pos → List Piece → List Placed
@@ -42,10 +44,10 @@ pub record AreTokens (text : List ℕ) (tokens : List Token) : Type 0 where
   pub kept : tokens_of pieces ≡ tokens
 
 abbrev pub error_at : Reason → Pos → LexError
-error_at bad_byte pos = LexError.BadByte pos
-error_at open_comment pos = LexError.OpenComment pos
-error_at open_string pos = LexError.OpenString pos
-error_at bad_number pos = LexError.BadNumber pos
+error_at Reason.BadByte pos = LexError.BadByte pos
+error_at Reason.OpenComment pos = LexError.OpenComment pos
+error_at Reason.OpenString pos = LexError.OpenString pos
+error_at Reason.BadNumber pos = LexError.BadNumber pos
 
 -- A front of the text is cut into pieces, and behind it the cut stops: this is the refusal.
 pub record IsRefused (text : List ℕ) (refusal : LexError) : Type 0 where

@@ -10,8 +10,9 @@ use Rattle.pz_lexer.specs.Symbols.{symbols}
 use Rattle.pz_lexer.specs.Comments.{begins_pair, is_in_line}
 use Rattle.pz_lexer.specs.Numbers.{value_of, begins_fraction}
 use Rattle.pz_lexer.specs.Quoted.{is_plain, escaped, hex_value}
-use Rattle.pz_lexer.specs.Pieces.{Sort, blank, line_comment, block_comment, token, Piece, joined}
-use Rattle.pz_lexer.specs.Refusals.{Reason, bad_byte, open_comment, open_string, bad_number}
+use Rattle.pz_lexer.specs.declared.pieces.Sort.{Sort}
+use Rattle.pz_lexer.specs.Pieces.{Piece, joined}
+use Rattle.pz_lexer.specs.declared.pieces.Reason.{Reason}
 use Rattle.pz_lexer.specs.Places.{origin, place_after}
 use Rattle.pz_lexer.specs.Tokens.{tokens_of, error_at}
 use Rattle.pz_lexer.specs.declared.LexError.{LexError}
@@ -52,12 +53,12 @@ back sort [] = []
 back sort (b ∷ bs) = elim (sort b) [ true ↦ back sort bs | false ↦ b ∷ bs ]
 
 abbrev pub word_step : List ℕ → Step
-word_step text = piece (front is_word text) (token (word_kind (front is_word text))) (back is_word text)
+word_step text = piece (front is_word text) (Sort.Token (word_kind (front is_word text))) (back is_word text)
 
 -- a number, unless it is bad
 abbrev pub number_by : Bool → List ℕ → TokenKind → List ℕ → Step
-number_by true text kind rest = stop [] (text ++ rest) bad_number
-number_by false text kind rest = piece text (token kind) rest
+number_by true text kind rest = stop [] (text ++ rest) Reason.BadNumber
+number_by false text kind rest = piece text (Sort.Token kind) rest
 
 abbrev pub integer_step : List ℕ → List ℕ → Step
 integer_step digits rest = number_by (begins is_letter rest || nat_le (2 ^ 63) (value_of digits)) digits (TokenKind.Int (pos (value_of digits))) rest
@@ -125,9 +126,9 @@ items_at [] quote bs = items [] [] bs
 items_at (_ ∷ bound) quote bs = items_by (inside_at quote bs) bs (items_at bound quote)
 
 abbrev pub string_end : Inside → List ℕ → List ℕ → List ℕ → Step
-string_end closing text vs rest = piece (34 ∷ text ++ 34 ∷ []) (token (TokenKind.Str vs)) (drop 1 rest)
-string_end no_escape text vs rest = stop (34 ∷ text) rest bad_byte
-string_end _ text vs rest = stop [] (34 ∷ text ++ rest) open_string
+string_end closing text vs rest = piece (34 ∷ text ++ 34 ∷ []) (Sort.Token (TokenKind.Str vs)) (drop 1 rest)
+string_end no_escape text vs rest = stop (34 ∷ text) rest Reason.BadByte
+string_end _ text vs rest = stop [] (34 ∷ text ++ rest) Reason.OpenString
 
 abbrev pub string_by : Items → Step
 string_by (items text vs rest) = string_end (inside_at 34 rest) text vs rest
@@ -137,13 +138,13 @@ abbrev pub string_step : List ℕ → Step
 string_step bs = string_by (items_at bs 34 bs)
 
 abbrev pub character_end : Bool → List ℕ → ℕ → List ℕ → Step
-character_end true text v rest = piece (39 ∷ text ++ 39 ∷ []) (token (TokenKind.Char v)) (drop 1 rest)
-character_end false text v rest = stop [] (39 ∷ text ++ rest) open_string
+character_end true text v rest = piece (39 ∷ text ++ 39 ∷ []) (Sort.Token (TokenKind.Char v)) (drop 1 rest)
+character_end false text v rest = stop [] (39 ∷ text ++ rest) Reason.OpenString
 
 abbrev pub character_by : Inside → List ℕ → Step
 character_by (item text v rest) bs = character_end (begins (λ b. b == 39) rest) text v rest
-character_by no_escape bs = stop (39 ∷ []) bs bad_byte
-character_by _ bs = stop [] (39 ∷ bs) open_string
+character_by no_escape bs = stop (39 ∷ []) bs Reason.BadByte
+character_by _ bs = stop [] (39 ∷ bs) Reason.OpenString
 
 -- what a `'` begins, given what follows it
 abbrev pub character_step : List ℕ → Step
@@ -151,14 +152,14 @@ character_step bs = character_by (inside_at 39 bs) bs
 
 -- so many bytes where they spell a symbol
 abbrev pub symbol_by : Option Symbol → ℕ → List ℕ → Step → Step
-symbol_by (Some symbol) n text shorter = piece (take n text) (token (TokenKind.Sym symbol)) (drop n text)
+symbol_by (Some symbol) n text shorter = piece (take n text) (Sort.Token (TokenKind.Sym symbol)) (drop n text)
 symbol_by None n text shorter = shorter
 
 abbrev pub symbol_at : ℕ → List ℕ → Step → Step
 symbol_at n text shorter = symbol_by (spelled symbols (take n text)) n text shorter
 
 abbrev pub symbol_step : List ℕ → Step
-symbol_step text = symbol_at 3 text (symbol_at 2 text (symbol_at 1 text (stop [] text bad_byte)))
+symbol_step text = symbol_at 3 text (symbol_at 2 text (symbol_at 1 text (stop [] text Reason.BadByte)))
 
 -- what stands before the next `*/`, and what follows it
 pub data Closed : Type 0 where
@@ -174,11 +175,11 @@ close_of [] = open_end
 close_of (b ∷ bs) = elim (begins_pair 42 47 (b ∷ bs)) [ true ↦ closed [] (drop 1 bs) | false ↦ longer b (close_of bs) ]
 
 abbrev pub block_by : Closed → List ℕ → Step
-block_by (closed body rest) bs = piece (47 ∷ 42 ∷ body ++ 42 ∷ 47 ∷ []) block_comment rest
-block_by open_end bs = stop [] (47 ∷ 42 ∷ bs) open_comment
+block_by (closed body rest) bs = piece (47 ∷ 42 ∷ body ++ 42 ∷ 47 ∷ []) Sort.BlockComment rest
+block_by open_end bs = stop [] (47 ∷ 42 ∷ bs) Reason.OpenComment
 
 abbrev pub line_step : List ℕ → Step
-line_step bs = piece (47 ∷ 47 ∷ front is_in_line bs) line_comment (back is_in_line bs)
+line_step bs = piece (47 ∷ 47 ∷ front is_in_line bs) Sort.LineComment (back is_in_line bs)
 
 abbrev pub block_step : List ℕ → Step
 block_step bs = block_by (close_of bs) bs
@@ -193,7 +194,7 @@ abbrev pub slash_step : List ℕ → Step
 slash_step bs = slash_by (begins (λ b. b == 47) bs) (begins (λ b. b == 42) bs) bs
 
 abbrev pub step_by : Class → ℕ → List ℕ → Step
-step_by blanks b bs = piece (b ∷ []) blank bs
+step_by blanks b bs = piece (b ∷ []) Sort.Blank bs
 step_by letter b bs = word_step (b ∷ bs)
 step_by digit b bs = number_step (b ∷ bs)
 step_by double_quote b bs = string_step bs
@@ -203,7 +204,7 @@ step_by other b bs = symbol_step (b ∷ bs)
 
 -- what stands first in a text that is not empty
 abbrev pub first_step : List ℕ → Step
-first_step [] = stop [] [] bad_byte
+first_step [] = stop [] [] Reason.BadByte
 first_step (b ∷ bs) = step_by (class_of b) b bs
 
 -- all pieces; or those before the place where the cut stops

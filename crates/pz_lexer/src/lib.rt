@@ -1,6 +1,9 @@
 //! The tokens of a text.
 #![tactic(auto)]
 
+mod bytes;
+mod pieces;
+
 use pz_ast::Pos;
 
 /// Why a text has no tokens, and where.
