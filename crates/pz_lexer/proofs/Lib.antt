@@ -8,4 +8,6 @@ pub mod QuotedSteps
 pub mod SymbolSteps
 pub mod FirstStep
 pub mod Cuts
+pub mod RunCounts
+pub mod Spelled
 mod Rows

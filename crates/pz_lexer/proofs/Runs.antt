@@ -7,16 +7,16 @@ use Rattle.pz_lexer.specs.Bytes.{begins}
 use Rattle.pz_lexer.specs.Twin.{front, back}
 
 module _ (sort : ℕ → Bool) where
-  front-in : (b : ℕ) (bs : List ℕ) → sort b ≡ true → front sort (b ∷ bs) ≡ b ∷ front sort bs
+  pub front-in : (b : ℕ) (bs : List ℕ) → sort b ≡ true → front sort (b ∷ bs) ≡ b ∷ front sort bs
   front-in b bs e = rw (e, front) refl
 
-  front-out : (b : ℕ) (bs : List ℕ) → sort b ≡ false → front sort (b ∷ bs) ≡ []
+  pub front-out : (b : ℕ) (bs : List ℕ) → sort b ≡ false → front sort (b ∷ bs) ≡ []
   front-out b bs e = rw (e, front) refl
 
-  back-in : (b : ℕ) (bs : List ℕ) → sort b ≡ true → back sort (b ∷ bs) ≡ back sort bs
+  pub back-in : (b : ℕ) (bs : List ℕ) → sort b ≡ true → back sort (b ∷ bs) ≡ back sort bs
   back-in b bs e = rw (e, back) refl
 
-  back-out : (b : ℕ) (bs : List ℕ) → sort b ≡ false → back sort (b ∷ bs) ≡ b ∷ bs
+  pub back-out : (b : ℕ) (bs : List ℕ) → sort b ≡ false → back sort (b ∷ bs) ≡ b ∷ bs
   back-out b bs e = rw (e, back) refl
 
   pub front_run : (a x : List ℕ) → list_all sort a ≡ true → begins sort x ≡ false → front sort (a ++ x) ≡ a

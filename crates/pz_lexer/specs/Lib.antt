@@ -8,5 +8,6 @@ pub mod Quoted
 pub mod Pieces
 pub mod Refusals
 pub mod Places
+pub mod Reading
 pub mod Tokens
 pub mod Twin

@@ -3,6 +3,8 @@
 
 mod bytes;
 mod pieces;
+mod spellings;
+mod words;
 
 use pz_ast::Pos;
 
