@@ -10,4 +10,6 @@ pub mod FirstStep
 pub mod Cuts
 pub mod RunCounts
 pub mod Spelled
+pub mod ReadSteps
+pub mod NumberReads
 mod Rows

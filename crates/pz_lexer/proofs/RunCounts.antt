@@ -34,6 +34,15 @@ module _ (sort : ℕ → Bool) where
           (ap (λ n. take n (b ∷ bs)) (len-out e) ∙ sym (front-out sort b bs e),
            ap (λ n. drop n (b ∷ bs)) (len-out e) ∙ sym (back-out sort b bs e))
 
+  -- what is counted is the front, and the rest is the back
+  pub run_cut : (text : List ℕ) (n : ℕ) → n ≡ length (take_while sort text) → (n ≤ length text) × (take n text ≡ front sort text) × (drop n text ≡ back sort text) × (n ≡ length (front sort text))
+  run_cut text n is =
+      let same : n ≡ prefix_len sort text = is ∙ count text in
+      let parts = front-take text in
+      let short : n ≤ length text = omega (arith, prefix_len-le-length sort text) in
+      (short, ap (λ m. take m text) same ∙ parts.0, ap (λ m. drop m text) same ∙ parts.1,
+       sym (length-take-le n text short) ∙ ap length (ap (λ m. take m text) same ∙ parts.0))
+
 word_ascii : (b : ℕ) → is_word b ≡ true → b < 128
 word_ascii b e = grind (arith, nat_tests)
 

@@ -11,3 +11,4 @@ pub mod Places
 pub mod Reading
 pub mod Tokens
 pub mod Twin
+pub mod Gives

@@ -1,5 +1,5 @@
 ghost use Rattle.std.specs.Prelude.{◌≡◌, length, take_while};
-ghost use Rattle.pz_lexer.specs.Bytes.{is_blank, is_digit, is_letter, is_word};
+ghost use Rattle.pz_lexer.specs.Bytes.{is_blank, is_digit, is_letter, is_word, begins};
 ghost use Rattle.pz_lexer.specs.Comments.{is_in_line};
 
 /// A tab, an LF, a CR or a blank.
@@ -47,4 +47,24 @@ pub fn line_len(text: &[u8]) -> usize
     ensures { result ≡ length (take_while is_in_line text.now) }
 {
     text.iter().take_while(|b| **b != b'\n').count()
+}
+
+/// Whether the first byte is a letter.
+pub fn begins_letter(text: &[u8]) -> bool
+    ensures { result ≡ begins is_letter text.now }
+{
+    match text {
+        [first, ..] => is_letter(*first),
+        [] => false,
+    }
+}
+
+/// Whether the first byte is a digit.
+pub fn begins_digit(text: &[u8]) -> bool
+    ensures { result ≡ begins is_digit text.now }
+{
+    match text {
+        [first, ..] => is_digit(*first),
+        [] => false,
+    }
 }

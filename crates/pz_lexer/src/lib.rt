@@ -2,6 +2,7 @@
 #![tactic(auto)]
 
 mod bytes;
+mod numbers;
 mod pieces;
 mod spellings;
 mod words;
