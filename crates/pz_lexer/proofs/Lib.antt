@@ -12,4 +12,5 @@ pub mod RunCounts
 pub mod Spelled
 pub mod ReadSteps
 pub mod NumberReads
+pub mod SymbolReads
 mod Rows

@@ -1,5 +1,8 @@
 -- What a function of the code gives, against the computed step.
-use Rattle.std.specs.Prelude.{◌≡◌, length, Result, Ok, Err}
+use Rattle.std.specs.Prelude.{◌≡◌, ℕ, length, Result, Ok, Err}
+use Rattle.pz_ast.specs.declared.tokens.TokenKind.{TokenKind}
+use Rattle.pz_ast.specs.declared.tokens.Symbol.{Symbol}
+use Rattle.pz_lexer.specs.declared.pieces.Sort.{Sort}
 use Rattle.pz_lexer.specs.declared.pieces.Found.{Found}
 use Rattle.pz_lexer.specs.declared.pieces.Stop.{Stop}
 use Rattle.pz_lexer.specs.Twin.{Step, piece, stop}
@@ -12,3 +15,7 @@ Gives (piece text sort rest) (Err (Stop.Refused reason at)) = ⊥
 Gives (stop before rest reason) (Ok found) = ⊥
 Gives (stop before rest reason) (Err Stop.NoMemory) = Unit {0}
 Gives (stop before rest reason) (Err (Stop.Refused why at)) = (why ≡ reason) × (at ≡ length before)
+
+-- a symbol of so many bytes
+abbrev pub found_symbol : ℕ → Symbol → Found
+found_symbol len symbol = record { sort = Sort.Token (TokenKind.Sym symbol); len = len }

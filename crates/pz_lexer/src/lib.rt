@@ -2,9 +2,11 @@
 #![tactic(auto)]
 
 mod bytes;
+mod comments;
 mod numbers;
 mod pieces;
 mod spellings;
+mod symbols;
 mod words;
 
 use pz_ast::Pos;
