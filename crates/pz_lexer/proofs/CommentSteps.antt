@@ -18,10 +18,10 @@ line_comment_found text rest c =
     ∙ ap₂ (λ x y. piece (47 ∷ 47 ∷ x) Sort.LineComment y) (front_run is_in_line c.body rest c.inside c.whole) (back_run is_in_line c.body rest c.inside c.whole)
     ∙ ap (λ t. piece t Sort.LineComment rest) (sym c.spelling)
 
-close-here : (b : ℕ) (bs : List ℕ) → begins_pair 42 47 (b ∷ bs) ≡ true → close_of (b ∷ bs) ≡ closed [] (drop 1 bs)
+pub close-here : (b : ℕ) (bs : List ℕ) → begins_pair 42 47 (b ∷ bs) ≡ true → close_of (b ∷ bs) ≡ closed [] (drop 1 bs)
 close-here b bs e = rw (e, close_of) refl
 
-close-later : (b : ℕ) (bs : List ℕ) → begins_pair 42 47 (b ∷ bs) ≡ false → close_of (b ∷ bs) ≡ longer b (close_of bs)
+pub close-later : (b : ℕ) (bs : List ℕ) → begins_pair 42 47 (b ∷ bs) ≡ false → close_of (b ∷ bs) ≡ longer b (close_of bs)
 close-later b bs e = rw (e, close_of) refl
 
 close_found : (body rest : List ℕ) → has_pair 42 47 (body ++ 42 ∷ []) ≡ false → close_of (body ++ 42 ∷ 47 ∷ rest) ≡ closed body rest

@@ -36,7 +36,7 @@ stop_found before rest reason (comment {rest = bs} is) = open_comment_found bs i
 stop_found before rest reason (string is) = open_string_found rest is
 stop_found before rest reason (number is) = bad_number_found rest is
 
-second_is : (c : ℕ) (bs : List ℕ) → begins (λ b. b == c) bs ≡ true → bs ≡ c ∷ drop 1 bs
+pub second_is : (c : ℕ) (bs : List ℕ) → begins (λ b. b == c) bs ≡ true → bs ≡ c ∷ drop 1 bs
 second_is c [] e = absurd (false≢true e)
 second_is c (b ∷ bs) e = ap (λ x. x ∷ bs) (eqb-true b c e)
 

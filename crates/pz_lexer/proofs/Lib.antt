@@ -13,4 +13,5 @@ pub mod Spelled
 pub mod ReadSteps
 pub mod NumberReads
 pub mod SymbolReads
+pub mod CommentReads
 mod Rows

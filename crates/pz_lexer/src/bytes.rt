@@ -1,4 +1,4 @@
-ghost use Rattle.std.specs.Prelude.{◌≡◌, length, take_while};
+ghost use Rattle.std.specs.Prelude.{◌≡◌, ◌==◌, length, take_while};
 ghost use Rattle.pz_lexer.specs.Bytes.{is_blank, is_digit, is_letter, is_word, begins};
 ghost use Rattle.pz_lexer.specs.Comments.{is_in_line};
 
@@ -65,6 +65,16 @@ pub fn begins_digit(text: &[u8]) -> bool
 {
     match text {
         [first, ..] => is_digit(*first),
+        [] => false,
+    }
+}
+
+/// Whether the first byte is this one.
+pub fn begins_byte(text: &[u8], byte: u8) -> bool
+    ensures { result ≡ begins (λ b. b == byte) text.now }
+{
+    match text {
+        [first, ..] => *first == byte,
         [] => false,
     }
 }

@@ -1,8 +1,9 @@
-ghost use Rattle.std.specs.Prelude.{◌≡◌, ◌==◌, true, ℕ, List, ◌∷◌};
+ghost use Rattle.std.specs.Prelude.{◌≡◌, ◌==◌, ◌<◌, ◌+◌, true, ℕ, List, ◌∷◌, length, drop};
 ghost use Rattle.pz_lexer.specs.Bytes.{begins};
+ghost use Rattle.pz_lexer.specs.Comments.{begins_pair};
 ghost use Rattle.pz_lexer.specs.Reading.{Reads};
 
-use crate::bytes::line_len;
+use crate::bytes::{begins_byte, line_len};
 use crate::pieces::{Found, Reason, Sort, Stop};
 use crate::symbols::symbol;
 
@@ -11,14 +12,17 @@ pub fn comment_or_slash(text: &[u8]) -> Result<Found, Stop>
     requires { begins (λ b. b == 47) text.now ≡ true }
     ensures { Reads text.now result }
 {
-    match text.get(1) {
-        Some(b'/') => Ok(Found {
+    let (_, rest) = text.split_at(1);
+    if begins_byte(rest, b'/') {
+        return Ok(Found {
             sort: Sort::LineComment,
             len: line_len(text),
-        }),
-        Some(b'*') => block_comment(text),
-        _ => symbol(text),
+        });
     }
+    if begins_byte(rest, b'*') {
+        return block_comment(text);
+    }
+    symbol(text)
 }
 
 /// The comment that `/*` begins. It ends with the next `*/`.
@@ -28,7 +32,7 @@ fn block_comment(text: &[u8]) -> Result<Found, Stop>
 {
     let mut at = 2;
     'body: while at + 1 < text.len() {
-        if text[at] == b'*' && text[at + 1] == b'/' {
+        if ends_at(text, at) {
             return Ok(Found {
                 sort: Sort::BlockComment,
                 len: at + 2,
@@ -37,4 +41,12 @@ fn block_comment(text: &[u8]) -> Result<Found, Stop>
         at += 1;
     }
     Err(Stop::Refused(Reason::OpenComment, 0))
+}
+
+/// Whether a `*/` stands at this place.
+fn ends_at(text: &[u8], at: usize) -> bool
+    requires { at + 1 < length text.now }
+    ensures { result ≡ begins_pair 42 47 (drop at text.now) }
+{
+    text[at] == b'*' && text[at + 1] == b'/'
 }
