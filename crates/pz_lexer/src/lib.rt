@@ -3,6 +3,7 @@
 
 mod bytes;
 mod comments;
+mod items;
 mod numbers;
 mod pieces;
 mod spellings;
