@@ -14,4 +14,5 @@ pub mod ReadSteps
 pub mod NumberReads
 pub mod SymbolReads
 pub mod CommentReads
+pub mod QuotedReads
 mod Rows

@@ -37,7 +37,7 @@ item_found quote text value rest (hex {h = h} {l = l} {m = m} {n = n} e f) = hex
 
 -- What is found is so.
 
-abbrev InsideIs : ℕ → List ℕ → Inside → Type 0
+abbrev pub InsideIs : ℕ → List ℕ → Inside → Type 0
 InsideIs quote all (item text value rest) = (text ++ rest ≡ all) × IsItem quote text value
 InsideIs quote all no_escape = (rest : List ℕ) × (all ≡ 92 ∷ rest) × NoItem quote all
 InsideIs quote all closing = (rest : List ℕ) × (all ≡ quote ∷ rest)
@@ -84,7 +84,7 @@ backslash_is quote bs no_escape e is = (bs, refl, no_item_from quote (92 ∷ bs)
 backslash_is quote bs closing e is = absurd is
 backslash_is quote bs cut_off e is = absurd is
 
-inside_is : (quote : ℕ) (all : List ℕ) → InsideIs quote all (inside_at quote all)
+pub inside_is : (quote : ℕ) (all : List ℕ) → InsideIs quote all (inside_at quote all)
 inside_is quote [] = refl
 inside_is quote (b ∷ bs) =
     cond_both (b == 10) _ _ (InsideIs quote (b ∷ bs)) (λ e. not_from_true _ e) (λ lf.
@@ -110,7 +110,7 @@ items_stop (_ ∷ bound) quote all stops = by (inside_at quote all) stops
     by closing stops = refl
     by cut_off stops = refl
 
-item_some : {quote : ℕ} {text : List ℕ} {value : ℕ} → IsItem quote text value → 0 < length text
+pub item_some : {quote : ℕ} {text : List ℕ} {value : ℕ} → IsItem quote text value → 0 < length text
 item_some (plain e) = omega arith
 item_some (escape e) = omega arith
 item_some (hex e f) = omega arith

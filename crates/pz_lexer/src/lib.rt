@@ -6,6 +6,7 @@ mod comments;
 mod items;
 mod numbers;
 mod pieces;
+mod quoted;
 mod spellings;
 mod symbols;
 mod words;
