@@ -48,7 +48,7 @@ slash_right bs = by (begins (λ b. b == 47) bs) (begins (λ b. b == 42) bs) refl
     by false true e f = subst (λ t. IsRight (47 ∷ t) (slash_by false true bs)) (sym (second_is 42 bs f)) (block_right (drop 1 bs))
     by false false e f = symbol_right 47 bs refl (or_from _ _ e f)
 
-no_slash_apart : (b : ℕ) (bs : List ℕ) → (b == 47) ≡ false → begins_comment (b ∷ bs) ≡ false
+pub no_slash_apart : (b : ℕ) (bs : List ℕ) → (b == 47) ≡ false → begins_comment (b ∷ bs) ≡ false
 no_slash_apart b bs e = rw e refl
 
 pub step_right : (b : ℕ) (bs : List ℕ) → IsRight (b ∷ bs) (first_step (b ∷ bs))

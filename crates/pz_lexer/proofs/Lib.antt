@@ -15,4 +15,6 @@ pub mod NumberReads
 pub mod SymbolReads
 pub mod CommentReads
 pub mod QuotedReads
+pub mod PlaceReads
+pub mod FirstReads
 mod Rows
