@@ -1,7 +1,7 @@
 -- A text has one cut: into pieces to its end, or up to the place of its refusal.
 use Rattle.std.proofs.Common.{◌≡◌, ◌⊎◌, inl, inr, ℕ, ◌≤◌, ◌<◌, List, [], ◌∷◌, ◌++◌, length, Result, Ok, Err, refl, sym, ◌∙◌, ap, ap₂, subst, append_assoc, arith, length-append}
 use Rattle.pz_ast.specs.declared.tokens.Token.{Token}
-use Rattle.pz_lexer.specs.declared.LexError.{LexError}
+use Rattle.pz_lexer.specs.declared.error.LexError.{LexError}
 use Rattle.pz_lexer.specs.declared.pieces.Sort.{Sort}
 use Rattle.pz_lexer.specs.Pieces.{IsPiece, Piece, joined, ArePieces}
 use Rattle.std.proofs.lemmas.List.{append-nil}

@@ -17,4 +17,7 @@ pub mod CommentReads
 pub mod QuotedReads
 pub mod PlaceReads
 pub mod FirstReads
+pub mod HeadSteps
+pub mod HeadMarks
+pub mod CutReads
 mod Rows

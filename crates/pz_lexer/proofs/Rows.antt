@@ -5,7 +5,7 @@ use Rattle.pz_ast.specs.declared.tokens.TokenKind.{TokenKind}
 use Rattle.pz_ast.specs.declared.tokens.Token.{Token}
 use Rattle.pz_ast.specs.declared.tokens.Symbol.{Symbol}
 use Rattle.pz_lexer.specs.Twin.{lexed}
-use Rattle.pz_lexer.specs.declared.LexError.{LexError}
+use Rattle.pz_lexer.specs.declared.error.LexError.{LexError}
 
 -- a token that is no head, at a line and a column
 abbrev at : ℕ → ℕ → TokenKind → Token

@@ -10,5 +10,6 @@ pub mod Refusals
 pub mod Places
 pub mod Reading
 pub mod Tokens
+pub mod Marking
 pub mod Twin
 pub mod Gives

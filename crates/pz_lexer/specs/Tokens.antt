@@ -9,7 +9,7 @@ use Rattle.pz_lexer.specs.Pieces.{Piece, joined, ArePieces}
 use Rattle.pz_lexer.specs.declared.pieces.Reason.{Reason}
 use Rattle.pz_lexer.specs.Refusals.{Stops}
 use Rattle.pz_lexer.specs.Places.{origin, place_after}
-use Rattle.pz_lexer.specs.declared.LexError.{LexError}
+use Rattle.pz_lexer.specs.declared.error.LexError.{LexError}
 
 -- what a token is, and where
 pub record Placed : Type 0 where

@@ -15,7 +15,7 @@ use Rattle.pz_lexer.specs.Pieces.{Piece, joined}
 use Rattle.pz_lexer.specs.declared.pieces.Reason.{Reason}
 use Rattle.pz_lexer.specs.Places.{origin, place_after}
 use Rattle.pz_lexer.specs.Tokens.{tokens_of, error_at}
-use Rattle.pz_lexer.specs.declared.LexError.{LexError}
+use Rattle.pz_lexer.specs.declared.error.LexError.{LexError}
 use Rattle.pz_ast.specs.declared.tokens.Token.{Token}
 
 -- what the first byte of a piece begins

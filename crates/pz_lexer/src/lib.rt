@@ -3,7 +3,10 @@
 
 mod bytes;
 mod comments;
+mod error;
+mod heads;
 mod items;
+mod lexer;
 mod numbers;
 mod pieces;
 mod places;
@@ -13,19 +16,5 @@ mod spellings;
 mod symbols;
 mod words;
 
-use pz_ast::Pos;
-
-/// Why a text has no tokens, and where.
-#[derive(Clone, Copy, Debug, PartialEq, Eq)]
-pub enum LexError {
-    /// Memory ran out.
-    NoMemory,
-    /// A byte that begins no token, or the `\` of an unknown escape.
-    BadByte(Pos),
-    /// The `/*` of a comment without end.
-    OpenComment(Pos),
-    /// The opening quote of a string or character that is not closed.
-    OpenString(Pos),
-    /// The first digit of a number that is too large, or directly followed by a letter.
-    BadNumber(Pos),
-}
+pub use error::LexError;
+pub use lexer::lex;

@@ -1,0 +1,79 @@
+-- Tokens that are marked as heads after they are made, from the last to the first.
+use Rattle.std.specs.Prelude.{◌≡◌, ℕ, take, List, [], ◌∷◌, ◌++◌, Bool, false, map}
+use Rattle.pz_ast.specs.declared.tokens.Token.{Token}
+use Rattle.pz_ast.specs.Heads.{Role, name, colon, opening, closing, other, role, goes_on, makes_head, is_head, heads}
+use Rattle.pz_lexer.specs.declared.heads.Role.{Role as Seen}
+use Rattle.pz_lexer.specs.declared.heads.Following.{Following}
+use Rattle.pz_ast.specs.declared.tokens.Pos.{Pos}
+use Rattle.pz_lexer.specs.declared.pieces.Stop.{Stop}
+use Rattle.pz_lexer.specs.declared.error.LexError.{LexError}
+use Rattle.pz_lexer.specs.Pieces.{Piece, joined, ArePieces}
+use Rattle.pz_lexer.specs.Places.{origin, place_after}
+use Rattle.pz_lexer.specs.Tokens.{Placed, placed, error_at}
+
+abbrev pub role_of : Seen → Role
+role_of Seen.Name = name
+role_of Seen.Colon = colon
+role_of Seen.Opening = opening
+role_of Seen.Closing = closing
+role_of Seen.Other = other
+
+-- a token that is a head or not
+abbrev pub with_head : Token → Bool → Token
+with_head t head = record t { mark = record (t.mark) { head = head } }
+
+abbrev pub with_heads : List Token → List Bool → List Token
+with_heads (t ∷ ts) (head ∷ heads) = with_head t head ∷ with_heads ts heads
+with_heads _ _ = []
+
+-- for each token, whether it is a head
+abbrev pub heads_of : List Token → List Bool
+heads_of tokens = heads (map (λ t. t.mark.kind) tokens)
+
+-- all but the first
+abbrev pub rest_of : List Bool → List Bool
+rest_of [] = []
+rest_of (x ∷ xs) = xs
+
+-- for each `)` that has no match before it, whether `:` or `(` follows it
+abbrev pub closings : List Role → List Bool
+closings [] = []
+closings (opening ∷ xs) = rest_of (closings xs)
+closings (closing ∷ xs) = goes_on xs ∷ closings xs
+closings (name ∷ xs) = closings xs
+closings (colon ∷ xs) = closings xs
+closings (other ∷ xs) = closings xs
+
+abbrev pub backwards : List Bool → List Bool
+backwards [] = []
+backwards (x ∷ xs) = backwards xs ++ x ∷ []
+
+-- what is known is so of the tokens with these roles
+pub record Follows (following : Following) (roles : List Role) : Type 0 where
+  pub next : following.goes_on ≡ goes_on roles
+  pub head : following.makes_head ≡ makes_head roles
+  pub stack : following.closings.items ≡ backwards (closings roles)
+
+-- a token with this role is taken in before the others
+abbrev pub TakesIn : Following → Following → Seen → Type 0
+TakesIn old new seen = (roles : List Role) → Follows old roles → Follows new (role_of seen ∷ roles)
+
+-- it is said whether a token with this role is a head before the others
+abbrev pub Judges : Following → Seen → Bool → Type 0
+Judges following seen head = (roles : List Role) → Follows following roles → head ≡ is_head (role_of seen) roles
+
+-- a token that is not marked
+abbrev pub unmarked : Placed → Token
+unmarked t = record { mark = record { kind = t.kind; head = false }; pos = t.pos }
+
+-- The text is cut into pieces, and these are their tokens, none of them marked.
+pub record AreCutInto (text : List ℕ) (tokens : List Token) : Type 0 where
+  pub pieces : List Piece
+  pub spelling : joined pieces ≡ text
+  pub cut : ArePieces pieces []
+  pub kept_are : tokens ≡ map unmarked (placed origin pieces)
+
+-- the refusal of a stop in a text that stands at this place
+abbrev pub Refuses : Stop → Pos → List ℕ → LexError → Type 0
+Refuses Stop.NoMemory pos rest error = error ≡ LexError.NoMemory
+Refuses (Stop.Refused reason at) pos rest error = error ≡ error_at reason (place_after pos (take at rest))
