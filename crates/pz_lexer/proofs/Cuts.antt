@@ -8,7 +8,7 @@ use Rattle.std.proofs.lemmas.List.{append-nil}
 use Rattle.pz_lexer.specs.declared.pieces.Reason.{Reason}
 use Rattle.pz_lexer.specs.Refusals.{Stops, no_token, no_escape_in_string, no_escape_in_character, comment, string, number}
 use Rattle.pz_lexer.specs.Places.{origin, place_after}
-use Rattle.pz_lexer.specs.Tokens.{tokens_of, AreTokens, error_at, IsRefused}
+use Rattle.pz_lexer.specs.Tokens.{tokens_of, AreTokens, error_at, IsRefused, Answers}
 use Rattle.pz_lexer.specs.Twin.{Step, piece, stop, first_step, Cut, whole, broken, more_cut, cut_by, cut_of, answer_of, lexed}
 use Rattle.pz_lexer.proofs.Steps.{IsSome, IsRight}
 use Rattle.pz_lexer.proofs.FirstStep.{piece_found, stop_found, step_right}
@@ -154,3 +154,24 @@ either text = by (lexed text) (lexed_is text)
     by : (answer : Result (List Token) LexError) → AnswerIs text answer → ((tokens : List Token) × AreTokens text tokens) ⊎ ((refusal : LexError) × IsRefused text refusal)
     by (Ok tokens) is = inl (tokens, is)
     by (Err refusal) is = inr (refusal, is)
+
+pub tokens_from_lexed : (text : List ℕ) (tokens : List Token) → lexed text ≡ Ok tokens → AreTokens text tokens
+tokens_from_lexed text tokens is = subst (AnswerIs text) is (lexed_is text)
+
+pub refusal_from_lexed : (text : List ℕ) (refusal : LexError) → lexed text ≡ Err refusal → IsRefused text refusal
+refusal_from_lexed text refusal is = subst (AnswerIs text) is (lexed_is text)
+
+-- what is right is the answer that is computed
+pub answers_tokens : (text : List ℕ) (tokens : List Token) → AreTokens text tokens → Answers (Ok tokens) (lexed text)
+answers_tokens text tokens are = tokens_lexed text tokens are
+
+pub answers_refusal : (text : List ℕ) (error : LexError) → (error ≡ LexError.NoMemory) ⊎ IsRefused text error → Answers (Err error) (lexed text)
+answers_refusal text error (inl none) = rw none tt
+answers_refusal text error (inr is) = by error (refusal_lexed text error is)
+  where
+    by : (error : LexError) → lexed text ≡ Err error → Answers (Err error) (lexed text)
+    by LexError.NoMemory e = tt
+    by (LexError.BadByte pos) e = e
+    by (LexError.OpenComment pos) e = e
+    by (LexError.OpenString pos) e = e
+    by (LexError.BadNumber pos) e = e

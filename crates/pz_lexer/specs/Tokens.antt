@@ -1,5 +1,5 @@
 -- The tokens of a text, and its refusal.
-use Rattle.std.specs.Prelude.{◌≡◌, ℕ, List, [], ◌∷◌, ◌++◌, map, Bool}
+use Rattle.std.specs.Prelude.{◌≡◌, ℕ, List, [], ◌∷◌, ◌++◌, map, Bool, Result, Ok, Err}
 use Rattle.pz_ast.specs.declared.tokens.Pos.{Pos}
 use Rattle.pz_ast.specs.declared.tokens.Token.{Token}
 use Rattle.pz_ast.specs.declared.tokens.TokenKind.{TokenKind}
@@ -59,3 +59,9 @@ pub record IsRefused (text : List ℕ) (refusal : LexError) : Type 0 where
   pub cut : ArePieces pieces (before ++ rest)
   pub stops : Stops before rest reason
   pub error : error_at reason (place_after origin (joined pieces ++ before)) ≡ refusal
+
+-- an answer of the code that is this one, unless memory ran out
+abbrev pub Answers : Result (List Token) LexError → Result (List Token) LexError → Type 0
+Answers (Ok tokens) answer = answer ≡ Ok tokens
+Answers (Err LexError.NoMemory) answer = Unit {0}
+Answers (Err error) answer = answer ≡ Err error

@@ -1,8 +1,8 @@
-ghost use Rattle.std.specs.Prelude.{◌≡◌, ◌⊎◌, ◌<◌, ◌-◌, ◌+◌, ◌^◌, ◌++◌, length, map, IfOk, OnOk, IfErr};
+ghost use Rattle.std.specs.Prelude.{◌≡◌, ◌⊎◌, ◌<◌, ◌-◌, ◌+◌, ◌^◌, ◌++◌, ◌↔◌, ℕ, List, length, map, IfOk, OnOk, IfErr, Ok, Err};
 ghost use Rattle.pz_ast.specs.declared.tokens.Token.{Token};
 ghost use Rattle.pz_lexer.specs.declared.error.LexError.{LexError};
 ghost use Rattle.pz_lexer.specs.Reading.{StopsAt};
-ghost use Rattle.pz_lexer.specs.Tokens.{kept, error_at, AreTokens, IsRefused};
+ghost use Rattle.pz_lexer.specs.Tokens.{kept, error_at, AreTokens, IsRefused, Answers};
 ghost use Rattle.pz_lexer.specs.Twin.{lexed};
 ghost use Rattle.pz_lexer.specs.Marking.{unmarked, AreCutInto, Refuses};
 
@@ -21,10 +21,25 @@ pub fn lex(alloc: Global, text: &[u8]) -> Result<Items<Token>, LexError>
     requires { length text.now < 2 ^ 32 - 1 }
     ensures tokens { IfOk result (λ tokens. AreTokens text.now tokens) }
     ensures refusal { IfErr result (λ error. (error ≡ LexError.NoMemory) ⊎ IsRefused text.now error) }
+    // The definition computes: this is the answer that it gives.
+    ensures computed { Answers result (lexed text.now) }
 {
     let mut tokens = cut(alloc, text)?;
     mark_heads(alloc, tokens.as_mut_slice())?;
     Ok(Items::from_vec(tokens))
+}
+
+/// Each text has one list of tokens or one refusal, and no text has both.
+pub fn one_answer()
+    ensures one_list { (text : List ℕ) (a b : List Token) → AreTokens text a → AreTokens text b → a ≡ b }
+    ensures one_refusal { (text : List ℕ) (a b : LexError) → IsRefused text a → IsRefused text b → a ≡ b }
+    ensures not_both { (text : List ℕ) (tokens : List Token) (error : LexError) → AreTokens text tokens → IsRefused text error → ⊥ }
+    ensures either { (text : List ℕ) → ((tokens : List Token) × AreTokens text tokens) ⊎ ((error : LexError) × IsRefused text error) }
+
+    // The definition computes.
+    ensures tokens_computed { (text : List ℕ) (tokens : List Token) → AreTokens text tokens ↔ (lexed text ≡ Ok tokens) }
+    ensures refusal_computed { (text : List ℕ) (error : LexError) → IsRefused text error ↔ (lexed text ≡ Err error) }
+{
 }
 
 /// The tokens of a text, none of them marked as a head.
