@@ -17,4 +17,7 @@ mod symbols;
 mod words;
 
 pub use error::LexError;
-pub use lexer::lex;
+pub use lexer::{lex, one_answer};
+
+#[cfg(test)]
+mod tests;
