@@ -1,9 +1,9 @@
 -- What the class of a byte says, and which class a byte has.
-use Rattle.std.proofs.Common.{◌≡◌, ℕ, Bool, true, false, refl, arith}
-use Rattle.std.specs.Prelude.{◌==◌, ◌&&◌, ◌||◌, if◌then◌else◌}
+use Rattle.std.proofs.Common.{◌≡◌, ℕ, true, false, refl, arith}
+use Rattle.std.specs.Prelude.{◌==◌}
 use Rattle.std.proofs.lemmas.Bool.{cond_both}
 use Rattle.std.proofs.lemmas.Bool.Decides.{nat_tests}
-use Rattle.pz_lexer.specs.Bytes.{is_blank, is_letter, is_digit, is_word}
+use Rattle.pz_lexer.specs.Bytes.{is_blank, is_letter, is_digit}
 use Rattle.pz_lexer.specs.Twin.{Class, blanks, letter, digit, double_quote, single_quote, slash, other, class_of}
 
 -- no class above it

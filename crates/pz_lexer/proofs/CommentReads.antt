@@ -1,7 +1,7 @@
 -- Comments as the code reads them.
-use Rattle.std.proofs.Common.{◌≡◌, ℕ, zero, suc, ◌+◌, ◌≤◌, ◌<◌, List, [], ◌∷◌, ◌++◌, length, take, drop, get_or, Bool, true, false, Result, Ok, Err, refl, sym, ◌∙◌, ap, ap₂, subst, append_assoc, arith, length-append, length-drop}
-use Rattle.std.specs.Prelude.{◌&&◌, ◌==◌}
-use Rattle.std.proofs.lemmas.List.{drop_more, drop-drop}
+use Rattle.std.proofs.Common.{◌≡◌, ℕ, ◌+◌, ◌≤◌, ◌<◌, List, [], ◌∷◌, ◌++◌, length, drop, get_or, true, false, Result, Ok, Err, refl, sym, ◌∙◌, ap, subst, arith, length-append, length-drop}
+use Rattle.std.specs.Prelude.{◌==◌}
+use Rattle.std.proofs.lemmas.List.{drop_more}
 use Rattle.std.proofs.lemmas.Bool.{and_right, or_from}
 use Rattle.pz_lexer.specs.declared.pieces.Sort.{Sort}
 use Rattle.pz_lexer.specs.declared.pieces.Reason.{Reason}
@@ -54,20 +54,21 @@ module _ (text : List ℕ) (at : ℕ) (is : Sought text at) where
   sought_on within apart =
       let here = drop_more text at 0 within in
       let later : close_of (drop at text) ≡ longer (get_or text at 0) (close_of (drop (at + 1) text)) =
-        ap close_of here ∙ close-later (get_or text at 0) (drop (at + 1) text) (ap (begins_pair 42 47) (sym here) ∙ apart) in
+      ap close_of here ∙ close-later (get_or text at 0) (drop (at + 1) text) (ap (begins_pair 42 47) (sym here) ∙ apart) in
       record {
         body = is.body ++ get_or text at 0 ∷ [];
         place = omega (arith, is.place, length-append is.body (get_or text at 0 ∷ []));
-        closes = is.closes ∙ ap (lengthen is.body) later ∙ lengthen_push is.body (get_or text at 0) (close_of (drop (at + 1) text))
+        closes = is.closes ∙ ap (lengthen is.body) later ∙ lengthen_push is.body (get_or text at 0) (close_of (drop (at + 1) text));
       }
 
   found_closed : at < length text → begins_pair 42 47 (drop at text) ≡ true → (rest : List ℕ) × (close_of (drop 2 text) ≡ closed is.body rest)
   found_closed within pair =
-      let here = drop_more text at 0 within in
-      (drop 1 (drop (at + 1) text),
-       is.closes
-       ∙ ap (lengthen is.body) (ap close_of here ∙ close-here (get_or text at 0) (drop (at + 1) text) (ap (begins_pair 42 47) (sym here) ∙ pair))
-       ∙ lengthen_closed is.body (drop 1 (drop (at + 1) text)))
+      let here = drop_more text at 0 within in (
+        drop 1 (drop (at + 1) text),
+        is.closes
+            ∙ ap (lengthen is.body) (ap close_of here ∙ close-here (get_or text at 0) (drop (at + 1) text) (ap (begins_pair 42 47) (sym here) ∙ pair))
+            ∙ lengthen_closed is.body (drop 1 (drop (at + 1) text)),
+      )
 
   pub closed_gives : at < length text → begins_pair 42 47 (drop at text) ≡ true → Gives (block_step (drop 2 text)) (Ok (record { sort = Sort.BlockComment; len = at + 2 }))
   closed_gives within pair =

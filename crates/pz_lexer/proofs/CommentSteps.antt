@@ -1,14 +1,13 @@
 -- `//` and `/*` begin comments.
-use Rattle.std.proofs.Common.{◌≡◌, ℕ, List, [], ◌∷◌, ◌++◌, Bool, true, false, refl, sym, ◌∙◌, ap, ap₂, subst, append_assoc, arith}
-use Rattle.std.specs.Prelude.{◌||◌, ◌&&◌, ◌==◌, drop}
+use Rattle.std.proofs.Common.{◌≡◌, ℕ, List, [], ◌∷◌, ◌++◌, Bool, true, false, refl, sym, ◌∙◌, ap, ap₂, subst, append_assoc}
+use Rattle.std.specs.Prelude.{drop}
 use Rattle.std.proofs.lemmas.Bool.{false≢true, or_parts, or_from, and_parts, eqb-true}
-use Rattle.pz_lexer.specs.Bytes.{begins}
 use Rattle.pz_lexer.specs.Comments.{begins_pair, has_pair, is_in_line, IsLineComment, IsBlockComment}
 use Rattle.pz_lexer.specs.declared.pieces.Sort.{Sort}
 use Rattle.pz_lexer.specs.Pieces.{a_line_comment, a_block_comment}
 use Rattle.pz_lexer.specs.declared.pieces.Reason.{Reason}
 use Rattle.pz_lexer.specs.Refusals.{comment}
-use Rattle.pz_lexer.specs.Twin.{Step, piece, stop, front, back, first_step, Closed, closed, open_end, longer, close_of, block_by, block_step, line_step}
+use Rattle.pz_lexer.specs.Twin.{piece, stop, front, first_step, Closed, closed, open_end, longer, close_of, block_by, block_step, line_step}
 use Rattle.pz_lexer.proofs.Runs.{front_run, back_run, front_all, back_begins, front-back}
 use Rattle.pz_lexer.proofs.Steps.{IsRight}
 
@@ -48,9 +47,11 @@ pub open_comment_found : (rest : List ℕ) → has_pair 42 47 rest ≡ false →
 open_comment_found rest e = ap (λ k. block_by k rest) (open_found rest e)
 
 pub line_right : (bs : List ℕ) → IsRight (47 ∷ 47 ∷ bs) (line_step bs)
-line_right bs =
-    (ap (λ t. 47 ∷ 47 ∷ t) (front-back is_in_line bs), tt,
-     a_line_comment (record { body = front is_in_line bs; spelling = refl; inside = front_all is_in_line bs; whole = back_begins is_in_line bs }))
+line_right bs = (
+  ap (λ t. 47 ∷ 47 ∷ t) (front-back is_in_line bs),
+  tt,
+  a_line_comment (record { body = front is_in_line bs; spelling = refl; inside = front_all is_in_line bs; whole = back_begins is_in_line bs }),
+)
 
 -- it is right where the next `*/` ends
 abbrev CloseIs : List ℕ → Closed → Type 0

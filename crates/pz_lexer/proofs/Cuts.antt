@@ -1,5 +1,5 @@
 -- A text has one cut: into pieces to its end, or up to the place of its refusal.
-use Rattle.std.proofs.Common.{◌≡◌, ◌⊎◌, inl, inr, ℕ, ◌≤◌, ◌<◌, List, [], ◌∷◌, ◌++◌, length, Result, Ok, Err, refl, sym, ◌∙◌, ap, ap₂, subst, append_assoc, arith, length-append}
+use Rattle.std.proofs.Common.{◌≡◌, ◌⊎◌, inl, inr, ℕ, ◌≤◌, List, [], ◌∷◌, ◌++◌, length, Result, Ok, Err, refl, sym, ◌∙◌, ap, subst, append_assoc, arith, length-append}
 use Rattle.pz_ast.specs.declared.tokens.Token.{Token}
 use Rattle.pz_lexer.specs.declared.error.LexError.{LexError}
 use Rattle.pz_lexer.specs.declared.pieces.Sort.{Sort}
@@ -7,24 +7,19 @@ use Rattle.pz_lexer.specs.Pieces.{IsPiece, Piece, joined, ArePieces}
 use Rattle.std.proofs.lemmas.List.{append-nil}
 use Rattle.pz_lexer.specs.declared.pieces.Reason.{Reason}
 use Rattle.pz_lexer.specs.Refusals.{Stops, no_token, no_escape_in_string, no_escape_in_character, comment, string, number}
-use Rattle.pz_lexer.specs.Places.{origin, place_after}
-use Rattle.pz_lexer.specs.Tokens.{tokens_of, AreTokens, error_at, IsRefused, Answers}
+use Rattle.pz_lexer.specs.Tokens.{AreTokens, IsRefused, Answers}
 use Rattle.pz_lexer.specs.Twin.{Step, piece, stop, first_step, Cut, whole, broken, more_cut, cut_by, cut_of, answer_of, lexed}
-use Rattle.pz_lexer.proofs.Steps.{IsSome, IsRight}
+use Rattle.pz_lexer.proofs.Steps.{HasByte, some_length, IsRight}
 use Rattle.pz_lexer.proofs.FirstStep.{piece_found, stop_found, step_right}
 
-some_length : (text : List ℕ) → IsSome text → 0 < length text
-some_length [] some = absurd some
-some_length (b ∷ bs) some = omega arith
-
 -- a piece has at least one byte
-piece_some : (text : List ℕ) (sort : Sort) (rest : List ℕ) → IsPiece text sort rest → IsSome text
+piece_some : (text : List ℕ) (sort : Sort) (rest : List ℕ) → IsPiece text sort rest → HasByte text
 piece_some (b ∷ bs) sort rest is = tt
 piece_some [] sort [] is = let found : stop [] [] Reason.BadByte ≡ piece [] sort [] = piece_found [] sort [] is in cc
 piece_some [] sort (b ∷ bs) is = (subst (IsRight (b ∷ bs)) (piece_found [] sort (b ∷ bs) is) (step_right b bs)).1
 
 -- so has what the cut stops at
-stop_some : (before rest : List ℕ) (reason : Reason) → Stops before rest reason → IsSome (before ++ rest)
+stop_some : (before rest : List ℕ) (reason : Reason) → Stops before rest reason → HasByte (before ++ rest)
 stop_some before rest reason (no_token is) = tt
 stop_some before rest reason (no_escape_in_string are is) = tt
 stop_some before rest reason (no_escape_in_character is) = tt
@@ -60,11 +55,13 @@ cut_pieces [] rest bound are fits = (bound, fits, refl)
 cut_pieces (p ∷ ps) rest [] are fits = absurd (omega (arith, some_length p.text (piece_some p.text p.sort (joined ps ++ rest) are.0), length-append (joined (p ∷ ps)) rest, length-append p.text (joined ps)))
 cut_pieces (p ∷ ps) rest (a ∷ bound) are fits =
     let shorter : length (joined ps ++ rest) ≤ length bound = omega (arith, some_length p.text (piece_some p.text p.sort (joined ps ++ rest) are.0), length-append (joined (p ∷ ps)) rest, length-append p.text (joined ps), length-append (joined ps) rest) in
-    let others = cut_pieces ps rest bound are.1 shorter in
-    (others.0, others.1,
-     ap (cut_of (a ∷ bound)) (append_assoc p.text (joined ps) rest)
-     ∙ cut_piece a bound p.text p.sort (joined ps ++ rest) are.0
-     ∙ ap (more_cut p) others.2)
+    let others = cut_pieces ps rest bound are.1 shorter in (
+      others.0,
+      others.1,
+      ap (cut_of (a ∷ bound)) (append_assoc p.text (joined ps) rest)
+          ∙ cut_piece a bound p.text p.sort (joined ps ++ rest) are.0
+          ∙ ap (more_cut p) others.2,
+    )
 
 whole_found : (text : List ℕ) (ps : List Piece) → joined ps ≡ text → ArePieces ps [] → cut_of text text ≡ whole ps
 whole_found text ps same are =
@@ -75,7 +72,7 @@ whole_found text ps same are =
 stop_cut : (bound before rest : List ℕ) (reason : Reason) → Stops before rest reason → length (before ++ rest) ≤ length bound → cut_of bound (before ++ rest) ≡ broken [] before rest reason
 stop_cut bound before rest reason is fits = by bound (before ++ rest) refl (stop_some before rest reason is) fits (stop_found before rest reason is)
   where
-    by : (bound all : List ℕ) → before ++ rest ≡ all → IsSome all → length all ≤ length bound → first_step all ≡ stop before rest reason → cut_of bound all ≡ broken [] before rest reason
+    by : (bound all : List ℕ) → before ++ rest ≡ all → HasByte all → length all ≤ length bound → first_step all ≡ stop before rest reason → cut_of bound all ≡ broken [] before rest reason
     by bound [] same some fits found = absurd some
     by [] (b ∷ bs) same some fits found = absurd (omega arith)
     by (a ∷ bound) (b ∷ bs) same some fits found = ap (λ s. cut_by s (cut_of bound)) found

@@ -1,11 +1,10 @@
 -- The first byte of a text decides what is read.
-use Rattle.std.proofs.Common.{◌≡◌, ℕ, ◌<◌, List, [], ◌∷◌, length, get_or, Bool, true, false, Result, Ok, refl, sym, ◌∙◌, ap, arith}
-use Rattle.std.specs.Prelude.{◌==◌}
+use Rattle.std.proofs.Common.{◌≡◌, ℕ, ◌<◌, List, [], ◌∷◌, length, get_or, true, false, Result, refl, ap, arith}
 use Rattle.std.proofs.lemmas.Bool.{ne_eqb}
 use Rattle.pz_lexer.specs.declared.pieces.Sort.{Sort}
 use Rattle.pz_lexer.specs.declared.pieces.Found.{Found}
 use Rattle.pz_lexer.specs.declared.pieces.Stop.{Stop}
-use Rattle.pz_lexer.specs.Bytes.{is_blank, is_letter, is_digit, begins}
+use Rattle.pz_lexer.specs.Bytes.{is_blank, is_letter, is_digit}
 use Rattle.pz_lexer.specs.Pieces.{a_blank}
 use Rattle.pz_lexer.specs.Reading.{Reads, IsFound}
 use Rattle.pz_lexer.specs.Twin.{symbol_step}
@@ -14,10 +13,6 @@ use Rattle.pz_lexer.proofs.Classes.{IsOther, class_other}
 use Rattle.pz_lexer.proofs.SymbolSteps.{begins_symbol, symbol_right}
 use Rattle.pz_lexer.proofs.FirstStep.{no_slash_apart}
 use Rattle.pz_lexer.proofs.ReadSteps.{reads_from, found_from}
-
-pub begins_at : (sort : ℕ → Bool) (text : List ℕ) → 0 < length text → begins sort text ≡ sort (get_or text 0 0)
-begins_at sort [] some = absurd (omega arith)
-begins_at sort (b ∷ bs) some = refl
 
 pub blank_reads : (text : List ℕ) → 0 < length text → is_blank (get_or text 0 0) ≡ true → IsFound text (record { sort = Sort.Blank; len = 1 })
 blank_reads [] some is = absurd (omega arith)

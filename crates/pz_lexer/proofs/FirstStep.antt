@@ -1,6 +1,6 @@
 -- What stands first in a text is found, and what is found stands there.
-use Rattle.std.proofs.Common.{◌≡◌, ℕ, List, [], ◌∷◌, ◌++◌, Bool, true, false, refl, sym, ◌∙◌, ap, ap₂, subst}
-use Rattle.std.specs.Prelude.{◌||◌, ◌&&◌, ◌==◌, drop}
+use Rattle.std.proofs.Common.{◌≡◌, ℕ, List, [], ◌∷◌, ◌++◌, Bool, true, false, refl, sym, ap, subst}
+use Rattle.std.specs.Prelude.{◌==◌, drop}
 use Rattle.std.proofs.lemmas.Bool.{false≢true, eqb-true, or_from}
 use Rattle.pz_lexer.specs.Bytes.{begins}
 use Rattle.pz_lexer.specs.Comments.{begins_comment}
@@ -8,7 +8,7 @@ use Rattle.pz_lexer.specs.declared.pieces.Sort.{Sort}
 use Rattle.pz_lexer.specs.Pieces.{IsPiece, a_blank, a_line_comment, a_block_comment, a_word, an_integer, a_float, a_character, a_string, a_symbol}
 use Rattle.pz_lexer.specs.declared.pieces.Reason.{Reason}
 use Rattle.pz_lexer.specs.Refusals.{Stops, no_token, no_escape_in_string, no_escape_in_character, comment, string, number}
-use Rattle.pz_lexer.specs.Twin.{Step, piece, stop, first_step, Class, blanks, letter, digit, double_quote, single_quote, slash, other, class_of, step_by, slash_step, slash_by}
+use Rattle.pz_lexer.specs.Twin.{piece, stop, first_step, Class, blanks, letter, digit, double_quote, single_quote, slash, other, class_of, step_by, slash_step, slash_by}
 use Rattle.pz_lexer.proofs.Classes.{ClassIs, class_is, class_blank}
 use Rattle.pz_lexer.proofs.Steps.{IsRight}
 use Rattle.pz_lexer.proofs.WordSteps.{word_found, word_right}

@@ -1,12 +1,12 @@
 -- What is known of the tokens that follow, one token further to the front.
-use Rattle.std.proofs.Common.{◌≡◌, ◌⊎◌, ⊎_elim, ℕ, zero, suc, ◌≤◌, List, [], ◌∷◌, ◌++◌, length, Bool, true, false, Option, Some, None, refl, sym, ◌∙◌, ap, subst, arith, length-append}
+use Rattle.std.proofs.Common.{◌≡◌, ℕ, zero, suc, List, [], ◌∷◌, ◌++◌, length, Bool, true, false, Option, Some, None, refl, sym, ◌∙◌, ap, arith, length-append}
 use Rattle.std.specs.Prelude.{unwrap_or}
 use Rattle.std.specs.Option.{option_to_list}
 use Rattle.std.proofs.lemmas.List.{same_from_push, append-nil}
-use Rattle.pz_ast.specs.Heads.{Role, name, colon, opening, closing, other, behind_match, goes_on, makes_head}
+use Rattle.pz_ast.specs.Heads.{Role, name, colon, opening, closing, other, behind_match, goes_on}
 use Rattle.pz_lexer.specs.declared.heads.Role.{Role as Seen}
 use Rattle.pz_lexer.specs.declared.heads.Following.{Following}
-use Rattle.pz_lexer.specs.Marking.{role_of, rest_of, closings, backwards, Follows, TakesIn}
+use Rattle.pz_lexer.specs.Marking.{rest_of, closings, backwards, TakesIn}
 
 -- the answer at a place, and no past the end
 at : List Bool → ℕ → Bool

@@ -1,11 +1,9 @@
 -- Numbers as the code reads them.
-use Rattle.std.proofs.Common.{◌≡◌, ℕ, zero, suc, ◌+◌, ◌*◌, ◌-◌, ◌≤◌, ◌<◌, ◌^◌, List, [], ◌∷◌, ◌++◌, length, take, drop, get_or, Bool, true, false, Result, Ok, Err, refl, sym, ◌∙◌, ap, ap₂, subst, arith}
+use Rattle.std.proofs.Common.{◌≡◌, ℕ, zero, suc, ◌+◌, ◌*◌, ◌-◌, ◌≤◌, ◌<◌, List, [], ◌∷◌, length, take, drop, get_or, Bool, true, false, Result, Ok, Err, refl, sym, ◌∙◌, ap, ap₂, subst, arith}
 use Rattle.std.specs.List.{list_all, fold}
-use Rattle.std.specs.Prelude.{◌&&◌}
 use Rattle.std.proofs.lemmas.List.{take-append-drop}
 use Rattle.std.proofs.lemmas.List.Sums.{fold_more, fold-append}
 use Rattle.std.proofs.lemmas.Bool.{and_parts}
-use Rattle.std.proofs.lemmas.Bool.Decides.{nat_tests}
 use Rattle.pz_ast.specs.declared.tokens.TokenKind.{TokenKind}
 use Rattle.pz_lexer.specs.declared.pieces.Sort.{Sort}
 use Rattle.pz_lexer.specs.declared.pieces.Reason.{Reason}
@@ -31,9 +29,6 @@ passes_at sort [] i all within = absurd (omega arith)
 passes_at sort (b ∷ bs) zero all within = (and_parts _ _ all).0
 passes_at sort (b ∷ bs) (suc i) all within = passes_at sort bs i (and_parts _ _ all).1 (omega arith)
 
-pub digit_range : (b : ℕ) → is_digit b ≡ true → (48 ≤ b) × (b ≤ 57)
-digit_range b e = grind (arith, nat_tests)
-
 -- one more digit
 pub value_more : (text : List ℕ) (i : ℕ) → i < length text → value_of (take (i + 1) text) ≡ 10 * value_of (take i text) + (get_or text i 0 - 48)
 value_more text i within = fold_more (λ n d. 10 * n + (d - 48)) 0 text i 0 within
@@ -51,11 +46,11 @@ value_front text i =
 pub float_reads : (text digits rest decimals : List ℕ) (result : Result Found Stop) → begins is_digit text ≡ true → digits ≡ front is_digit text → rest ≡ back is_digit text → begins_fraction rest ≡ true → decimals ≡ drop 1 rest → Gives (float_step digits decimals) result → Reads text result
 float_reads text digits rest decimals result first front_is back_is dot decimals_are gives =
     let step : number_step text ≡ float_step digits decimals =
-      ap₂ digits_step (sym front_is) (sym back_is) ∙ ap (λ t. digits_by t digits rest) dot ∙ ap (float_step digits) (sym decimals_are) in
+    ap₂ digits_step (sym front_is) (sym back_is) ∙ ap (λ t. digits_by t digits rest) dot ∙ ap (float_step digits) (sym decimals_are) in
     reads_from text (number_step text) result (number_right text first) (subst (λ s. Gives s result) (sym step) gives)
 
 pub integer_reads : (text digits rest : List ℕ) (result : Result Found Stop) → begins is_digit text ≡ true → digits ≡ front is_digit text → rest ≡ back is_digit text → begins_fraction rest ≡ false → Gives (integer_step digits rest) result → Reads text result
 integer_reads text digits rest result first front_is back_is dot gives =
     let step : number_step text ≡ integer_step digits rest =
-      ap₂ digits_step (sym front_is) (sym back_is) ∙ ap (λ t. digits_by t digits rest) dot in
+    ap₂ digits_step (sym front_is) (sym back_is) ∙ ap (λ t. digits_by t digits rest) dot in
     reads_from text (number_step text) result (number_right text first) (subst (λ s. Gives s result) (sym step) gives)

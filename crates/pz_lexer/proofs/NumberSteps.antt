@@ -1,8 +1,7 @@
 -- A digit begins a number.
-use Rattle.std.proofs.Common.{◌≡◌, ◌⊎◌, inl, inr, ⊎_elim, ℕ, ◌≤◌, ◌<◌, ◌^◌, List, [], ◌∷◌, ◌++◌, Bool, true, false, refl, sym, ◌∙◌, ap, ap₂, subst, append_assoc, arith}
-use Rattle.std.specs.Prelude.{◌||◌, ◌&&◌, ◌==◌, nat_le, pos, take, drop}
-use Rattle.std.specs.List.{list_all}
-use Rattle.std.proofs.lemmas.Bool.{false≢true, or_left, or_right, or_from, or_parts, or_cases, and_parts, and_from, cases_Bool, leb-true, leb-false, lt-leb, le-leb, eqb-true}
+use Rattle.std.proofs.Common.{◌≡◌, ◌⊎◌, inl, inr, ℕ, ◌^◌, List, [], ◌∷◌, ◌++◌, Bool, true, false, refl, sym, ◌∙◌, ap, ap₂, subst, append_assoc, arith}
+use Rattle.std.specs.Prelude.{◌||◌, ◌==◌, nat_le, pos}
+use Rattle.std.proofs.lemmas.Bool.{false≢true, or_left, or_right, or_from, or_parts, or_cases, and_parts, leb-true, leb-false, lt-leb, le-leb, eqb-true}
 use Rattle.std.proofs.lemmas.Bool.Decides.{nat_tests}
 use Rattle.pz_ast.specs.declared.tokens.TokenKind.{TokenKind}
 use Rattle.pz_lexer.specs.Bytes.{is_digit, is_letter, is_word, begins}
@@ -11,10 +10,10 @@ use Rattle.pz_lexer.specs.declared.pieces.Sort.{Sort}
 use Rattle.pz_lexer.specs.Pieces.{an_integer, a_float}
 use Rattle.pz_lexer.specs.declared.pieces.Reason.{Reason}
 use Rattle.pz_lexer.specs.Refusals.{IsBadNumber, too_large, lettered, lettered_float, number}
-use Rattle.pz_lexer.specs.Twin.{Step, piece, stop, front, back, first_step, number_by, integer_step, float_step, digits_by, digits_step, number_step, step_by}
+use Rattle.pz_lexer.specs.Twin.{piece, stop, front, back, first_step, number_by, integer_step, float_step, digits_by, digits_step, number_step, step_by}
 use Rattle.pz_lexer.proofs.Runs.{front_run, back_run, front_all, back_begins, front-back, front_begins, begins-append}
 use Rattle.pz_lexer.proofs.Classes.{class_digit}
-use Rattle.pz_lexer.proofs.Steps.{IsSome, IsRight, some_begins}
+use Rattle.pz_lexer.proofs.Steps.{IsRight, some_begins}
 
 -- what follows is no word: neither a digit nor a letter
 no_word : (text : List ℕ) → begins is_word text ≡ false → (begins is_letter text ≡ false) × (begins is_digit text ≡ false)
@@ -31,6 +30,7 @@ letter_no_digit (b ∷ bs) e = (grind (arith, nat_tests), apart b bs e)
   where
     no_dot : (b : ℕ) → is_letter b ≡ true → (b == 46) ≡ false
     no_dot b e = grind (arith, nat_tests)
+
     apart : (b : ℕ) (bs : List ℕ) → is_letter b ≡ true → begins_fraction (b ∷ bs) ≡ false
     apart b bs e = rw (no_dot b e) refl
 
@@ -87,6 +87,7 @@ integer_right digits rest d ends plain = by (begins is_letter rest || nat_le (2 
     bad : (begins is_letter rest ≡ true) ⊎ (nat_le (2 ^ 63) (value_of digits) ≡ true) → IsBadNumber (digits ++ rest)
     bad (inl letter) = lettered digits rest d letter
     bad (inr large) = too_large digits rest d ends plain (leb-true _ _ large)
+
     by : (t : Bool) → (begins is_letter rest || nat_le (2 ^ 63) (value_of digits)) ≡ t → IsRight (digits ++ rest) (number_by t digits (TokenKind.Int (pos (value_of digits))) rest)
     by true e = (refl, number (bad (or_cases _ _ e)))
     by false e =
@@ -98,17 +99,23 @@ float_right digits fraction d first = by (begins is_letter (back is_digit fracti
   where
     decimals : List ℕ
     decimals = front is_digit fraction
+
     rest : List ℕ
     rest = back is_digit fraction
+
     f : AreDigits decimals
     f = record { some = front_begins is_digit is_digit fraction first first; all = front_all is_digit fraction }
+
     spelled_so : (digits ++ 46 ∷ decimals) ++ rest ≡ digits ++ 46 ∷ fraction
     spelled_so = append_assoc digits (46 ∷ decimals) rest ∙ ap (λ t. digits ++ 46 ∷ t) (front-back is_digit fraction)
+
     by : (t : Bool) → begins is_letter rest ≡ t → IsRight (digits ++ 46 ∷ fraction) (number_by t (digits ++ 46 ∷ decimals) TokenKind.Float rest)
     by true e = (spelled_so, number (lettered_float digits decimals rest d f e))
-    by false e =
-        (spelled_so, some_begins is_digit _ (begins-append is_digit digits (46 ∷ decimals) d.some),
-         a_float (record { front = digits; fraction = decimals; spelling = refl; digits = d; decimals = f; whole = no_word_from rest e (back_begins is_digit fraction) }))
+    by false e = (
+      spelled_so,
+      some_begins is_digit _ (begins-append is_digit digits (46 ∷ decimals) d.some),
+      a_float (record { front = digits; fraction = decimals; spelling = refl; digits = d; decimals = f; whole = no_word_from rest e (back_begins is_digit fraction) }),
+    )
 
 digits_right : (digits rest : List ℕ) → AreDigits digits → begins is_digit rest ≡ false → IsRight (digits ++ rest) (digits_step digits rest)
 digits_right digits [] d ends = integer_right digits [] d refl refl

@@ -1,5 +1,5 @@
 -- Strings and characters as the code reads them.
-use Rattle.std.proofs.Common.{◌≡◌, ◌⊎◌, ⊎_elim, ℕ, ◌+◌, ◌≤◌, ◌<◌, List, [], ◌∷◌, ◌++◌, length, take, drop, Bool, true, false, Result, Ok, Err, refl, sym, ◌∙◌, ap, subst, append_assoc, arith, length-append, length-drop}
+use Rattle.std.proofs.Common.{◌≡◌, ◌⊎◌, ⊎_elim, ℕ, ◌+◌, ◌≤◌, ◌<◌, List, [], ◌∷◌, ◌++◌, length, take, drop, true, false, Result, Ok, Err, refl, sym, ◌∙◌, ap, subst, append_assoc, arith, length-append, length-drop}
 use Rattle.std.specs.Prelude.{◌==◌}
 use Rattle.std.proofs.lemmas.List.{take_at, drop_at, length-take-le, drop-drop, append-nil, take-append-drop}
 use Rattle.pz_ast.specs.declared.tokens.TokenKind.{TokenKind}
@@ -9,7 +9,6 @@ use Rattle.pz_lexer.specs.declared.pieces.Reason.{Reason}
 use Rattle.pz_lexer.specs.declared.pieces.Found.{Found}
 use Rattle.pz_lexer.specs.declared.pieces.Stop.{Stop}
 use Rattle.pz_lexer.specs.Bytes.{begins}
-use Rattle.pz_lexer.specs.Comments.{is_in_line}
 use Rattle.pz_lexer.specs.Quoted.{IsItem, AreItems, none, more}
 use Rattle.pz_lexer.specs.Pieces.{a_string}
 use Rattle.pz_lexer.specs.Refusals.{NoItem, IsOpenString, cut_string, no_escape_in_string, string}
@@ -28,9 +27,11 @@ SeenIs quote all Seen.Closing = InsideIs quote all closing
 SeenIs quote all Seen.CutOff = InsideIs quote all cut_off
 
 seen_from : (quote : ℕ) (all : List ℕ) (k : Inside) (seen : Seen) → InsideIs quote all k → Sees k seen → SeenIs quote all seen
-seen_from quote all (item text value rest) (Seen.Item v len) is sees =
-    (omega (arith, sees.1, item_some is.1), omega (arith, sees.1, ap length is.0, length-append text rest),
-     subst (λ t. IsItem quote t v) (sym (ap (take len) (sym is.0) ∙ take_at text rest len (sym sees.1))) (subst (λ x. IsItem quote text x) (sym sees.0) is.1))
+seen_from quote all (item text value rest) (Seen.Item v len) is sees = (
+  omega (arith, sees.1, item_some is.1),
+  omega (arith, sees.1, ap length is.0, length-append text rest),
+  subst (λ t. IsItem quote t v) (sym (ap (take len) (sym is.0) ∙ take_at text rest len (sym sees.1))) (subst (λ x. IsItem quote text x) (sym sees.0) is.1),
+)
 seen_from quote all (item text value rest) Seen.NoEscape is sees = absurd sees
 seen_from quote all (item text value rest) Seen.Closing is sees = absurd sees
 seen_from quote all (item text value rest) Seen.CutOff is sees = absurd sees
@@ -69,20 +70,21 @@ module _ (text : List ℕ) (at : ℕ) (values : List ℕ) (is : ItemsTo text at 
   pub items_on : (value len : ℕ) → SeenIs 34 (drop at text) (Seen.Item value len) → (at + len ≤ length text) × ItemsTo text (at + len) (values ++ value ∷ [])
   items_on value len seen =
       let one = take len (drop at text) in
-      let cut : drop at text ≡ one ++ drop (at + len) text = sym (take-append-drop len (drop at text)) ∙ ap (λ t. one ++ t) (drop-drop len at text) in
-      (omega (arith, seen.1, length-drop at text),
-       record {
-         inside = is.inside ++ one;
-         place = omega (arith, is.place, length-append is.inside one, length-take-le len (drop at text) seen.1);
-         spelling = is.spelling ∙ ap (λ t. 34 ∷ is.inside ++ t) cut ∙ ap (λ t. 34 ∷ t) (sym (append_assoc is.inside one (drop (at + len) text)));
-         items = items_push 34 is.inside values one value is.items seen.2
-       })
+      let cut : drop at text ≡ one ++ drop (at + len) text = sym (take-append-drop len (drop at text)) ∙ ap (λ t. one ++ t) (drop-drop len at text) in (
+        omega (arith, seen.1, length-drop at text),
+        record {
+          inside = is.inside ++ one;
+          place = omega (arith, is.place, length-append is.inside one, length-take-le len (drop at text) seen.1);
+          spelling = is.spelling ∙ ap (λ t. 34 ∷ is.inside ++ t) cut ∙ ap (λ t. 34 ∷ t) (sym (append_assoc is.inside one (drop (at + len) text)));
+          items = items_push 34 is.inside values one value is.items seen.2;
+        },
+      )
 
   pub string_closed : SeenIs 34 (drop at text) Seen.Closing → IsFound text (record { sort = Sort.Token (TokenKind.Str values); len = at + 1 })
   string_closed seen =
       let rest = seen.0 in
       let whole : (34 ∷ is.inside ++ 34 ∷ []) ++ rest ≡ text =
-        ap (λ t. 34 ∷ t) (append_assoc is.inside (34 ∷ []) rest ∙ ap (λ t. is.inside ++ t) (sym seen.1)) ∙ sym is.spelling in
+      ap (λ t. 34 ∷ t) (append_assoc is.inside (34 ∷ []) rest ∙ ap (λ t. is.inside ++ t) (sym seen.1)) ∙ sym is.spelling in
       found_from text (34 ∷ is.inside ++ 34 ∷ []) rest (Sort.Token (TokenKind.Str values)) _
       (whole, tt, a_string (record { inside = is.inside; spelling = refl; items = is.items }))
       (omega (arith, is.place, length-append is.inside (34 ∷ [])))

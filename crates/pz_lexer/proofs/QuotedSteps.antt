@@ -1,6 +1,6 @@
 -- Quotes begin strings and characters.
-use Rattle.std.proofs.Common.{◌≡◌, ◌⊎◌, inl, inr, ℕ, zero, suc, ◌+◌, ◌*◌, ◌≤◌, ◌<◌, List, [], ◌∷◌, ◌++◌, length, Bool, true, false, Option, Some, None, refl, sym, ◌∙◌, ap, ap₂, subst, append_assoc, arith, length-append}
-use Rattle.std.specs.Prelude.{◌||◌, ◌&&◌, ◌==◌, not, drop, if◌then◌else◌}
+use Rattle.std.proofs.Common.{◌≡◌, ℕ, ◌+◌, ◌*◌, ◌≤◌, ◌<◌, List, [], ◌∷◌, ◌++◌, length, Bool, true, false, Option, Some, None, refl, sym, ◌∙◌, ap, ap₂, subst, append_assoc, arith, length-append}
+use Rattle.std.specs.Prelude.{◌==◌, not, drop}
 use Rattle.std.proofs.lemmas.Bool.{false≢true, and_parts, and_from, not-true, not_from_false, eqb-true, cond_both, not_from_true}
 use Rattle.pz_ast.specs.declared.tokens.TokenKind.{TokenKind}
 use Rattle.pz_lexer.specs.Bytes.{begins}
@@ -10,7 +10,7 @@ use Rattle.pz_lexer.specs.declared.pieces.Sort.{Sort}
 use Rattle.pz_lexer.specs.Pieces.{a_string, a_character}
 use Rattle.pz_lexer.specs.declared.pieces.Reason.{Reason}
 use Rattle.pz_lexer.specs.Refusals.{NoItem, IsOpenString, cut_string, cut_character, no_item, not_closed, no_escape_in_string, no_escape_in_character, string}
-use Rattle.pz_lexer.specs.Twin.{Step, piece, stop, first_step, Inside, item, no_escape, closing, cut_off, hex_by, hex_at, escape_by, escape_at, inside_at, Items, items, more_items, items_by, items_at, string_end, string_by, string_step, character_end, character_by, character_step}
+use Rattle.pz_lexer.specs.Twin.{piece, stop, first_step, Inside, item, no_escape, closing, cut_off, hex_by, hex_at, escape_by, escape_at, inside_at, Items, items, more_items, items_by, items_at, string_end, string_by, string_step, character_end, character_by, character_step}
 use Rattle.pz_lexer.proofs.Steps.{IsRight}
 
 -- The relation gives the item that is found.
@@ -67,6 +67,7 @@ escape_is quote (b ∷ rest) = by (escaped b) refl
     by_x : (t : Bool) → (b == 120) ≡ t → EscapeIs quote (b ∷ rest) (elim t [ true ↦ hex_at rest | false ↦ no_escape ])
     by_x true e = rw (eqb-true b 120 e) (hex_is quote rest)
     by_x false e = tt
+
     by : (o : Option ℕ) → escaped b ≡ o → EscapeIs quote (b ∷ rest) (escape_by o b rest)
     by (Some v) e = (refl, escape e)
     by None e = by_x (b == 120) refl
@@ -207,11 +208,14 @@ string_right bs = by (items_at bs 34 bs) (items_are bs 34 bs)
     end text values rest (item one value after) same are stops is = absurd stops
     end text values rest no_escape same are stops is =
         (ap (λ t. 34 ∷ t) same, rw is.1 (no_escape_in_string are (rw is.1 at is.2)))
-    end text values rest closing same are stops is =
-        (ap (λ t. 34 ∷ t) (append_assoc text (34 ∷ []) (drop 1 rest) ∙ ap (λ t. text ++ 34 ∷ drop 1 t) is.1 ∙ ap (λ t. text ++ t) (sym is.1) ∙ same), tt,
-         a_string (record { inside = text; spelling = refl; items = are }))
+    end text values rest closing same are stops is = (
+      ap (λ t. 34 ∷ t) (append_assoc text (34 ∷ []) (drop 1 rest) ∙ ap (λ t. text ++ 34 ∷ drop 1 t) is.1 ∙ ap (λ t. text ++ t) (sym is.1) ∙ same),
+      tt,
+      a_string (record { inside = text; spelling = refl; items = are }),
+    )
     end text values rest cut_off same are stops is =
         (ap (λ t. 34 ∷ t) same, string (cut_string text values rest are is))
+
     by : (k : Items) → ItemsAre bs 34 bs k → IsRight (34 ∷ bs) (string_by k)
     by (items text values rest) are = end text values rest (inside_at 34 rest) are.0 are.1 (are.2 (omega arith)) (inside_is 34 rest)
 
@@ -220,10 +224,13 @@ character_right bs = by (inside_at 39 bs) (inside_is 39 bs)
   where
     end : (text : List ℕ) (value : ℕ) (rest : List ℕ) (t : Bool) → text ++ rest ≡ bs → IsItem 39 text value → begins (λ b. b == 39) rest ≡ t → IsRight (39 ∷ bs) (character_end t text value rest)
     end text value [] true same is e = absurd (false≢true e)
-    end text value (b ∷ rest) true same is e =
-        (ap (λ t. 39 ∷ t) (append_assoc text (39 ∷ []) rest ∙ ap (λ x. text ++ x ∷ rest) (sym (eqb-true b 39 e)) ∙ same), tt,
-         a_character (record { inside = text; spelling = refl; item = is }))
+    end text value (b ∷ rest) true same is e = (
+      ap (λ t. 39 ∷ t) (append_assoc text (39 ∷ []) rest ∙ ap (λ x. text ++ x ∷ rest) (sym (eqb-true b 39 e)) ∙ same),
+      tt,
+      a_character (record { inside = text; spelling = refl; item = is }),
+    )
     end text value rest false same is e = (ap (λ t. 39 ∷ t) same, string (not_closed text rest value is e))
+
     by : (k : Inside) → InsideIs 39 bs k → IsRight (39 ∷ bs) (character_by k bs)
     by (item text value rest) is = end text value rest (begins (λ b. b == 39) rest) is.0 is.1 refl
     by no_escape is = (refl, rw is.1 (no_escape_in_character (rw is.1 at is.2)))

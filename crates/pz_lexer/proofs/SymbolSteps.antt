@@ -1,15 +1,15 @@
 -- Symbols, and bytes that begin no piece.
-use Rattle.std.proofs.Common.{◌≡◌, ◌⊎◌, inl, inr, ⊎_elim, ℕ, zero, suc, ◌+◌, ◌-◌, ◌≤◌, ◌<◌, List, [], ◌∷◌, ◌++◌, length, Bool, true, false, Option, Some, None, refl, sym, ◌∙◌, ap, ap₂, subst, append_assoc, arith, length-append, length-take}
-use Rattle.std.specs.Prelude.{◌||◌, ◌&&◌, ◌==◌, not, take, drop, if◌then◌else◌, is_some, IsSome, nat_le, bytes_eq, min}
+use Rattle.std.proofs.Common.{◌≡◌, ◌⊎◌, inl, inr, ⊎_elim, ℕ, zero, suc, ◌≤◌, ◌<◌, List, [], ◌∷◌, ◌++◌, length, Bool, true, false, Option, Some, None, refl, sym, ◌∙◌, ap, ap₂, subst, arith, length-append, length-take}
+use Rattle.std.specs.Prelude.{◌||◌, ◌&&◌, ◌==◌, take, drop, is_some, IsSome, nat_le, bytes_eq}
 use Rattle.std.specs.List.{list_all}
-use Rattle.std.proofs.lemmas.Bool.{false≢true, and_parts, and_from, or_parts, or_from, or_left, or_right, not-true, eqb-true, cases_lt, leb-true, cases_Bool}
+use Rattle.std.proofs.lemmas.Bool.{false≢true, and_parts, or_parts, or_from, eqb-true, cases_lt, leb-true}
 use Rattle.std.proofs.lemmas.Slice.Eq.{bytes_eq-Decides}
 use Rattle.std.proofs.lemmas.List.{take_at, drop_at, take_all, drop_all, append-nil, nil_from_length, take-append-drop}
 use Rattle.pz_ast.specs.declared.tokens.TokenKind.{TokenKind}
 use Rattle.pz_ast.specs.declared.tokens.Symbol.{Symbol}
 use Rattle.pz_lexer.specs.Bytes.{begins, is_blank, is_word, is_letter, is_digit}
 use Rattle.pz_lexer.specs.Spellings.{spelled}
-use Rattle.pz_lexer.specs.Comments.{begins_comment, begins_pair}
+use Rattle.pz_lexer.specs.Comments.{begins_comment}
 use Rattle.pz_lexer.specs.Symbols.{symbols, IsSymbol}
 use Rattle.pz_lexer.specs.declared.pieces.Sort.{Sort}
 use Rattle.pz_lexer.specs.Pieces.{a_symbol}
@@ -17,8 +17,7 @@ use Rattle.pz_lexer.specs.declared.pieces.Reason.{Reason}
 use Rattle.pz_lexer.specs.Refusals.{begins_piece, no_token}
 use Rattle.pz_lexer.specs.Twin.{Step, piece, stop, first_step, Class, blanks, letter, digit, double_quote, single_quote, slash, other, class_of, step_by, slash_step, slash_by, symbol_by, symbol_at, symbol_step}
 use Rattle.pz_lexer.proofs.Classes.{ClassIs, IsOther, class_is, class_other}
-use Rattle.pz_lexer.proofs.Steps as steps
-use Rattle.pz_lexer.proofs.Steps.{IsRight}
+use Rattle.pz_lexer.proofs.Steps.{HasByte, IsRight}
 
 spelled-here : {X : Type 0} (entry : List ℕ × X) (table : List (List ℕ × X)) (text : List ℕ) → bytes_eq entry.0 text ≡ false → spelled (entry ∷ table) text ≡ spelled table text
 spelled-here entry table text e = rw e refl
@@ -30,6 +29,7 @@ spelled_passes test (entry ∷ table) text all some = by (bytes_eq entry.0 text)
   where
     parts : (test entry.0 ≡ true) × (list_all (λ e. test e.0) table ≡ true)
     parts = and_parts _ _ all
+
     by : (t : Bool) → bytes_eq entry.0 text ≡ t → (is_some (spelled table text) ≡ true → test text ≡ true) → test text ≡ true
     by true e later = subst (λ s. test s ≡ true) ((bytes_eq-Decides entry.0 text).0 e) parts.0
     by false e later = later (subst (λ o. is_some o ≡ true) (spelled-here entry table text e) some)
@@ -68,16 +68,20 @@ at_found n text rest symbol shorter is fits at = by (cases_lt (length text) (len
   where
     all : List ℕ
     all = text ++ rest
+
     target : Step
     target = piece text (Sort.Token (TokenKind.Sym symbol)) rest
+
     less : length text < length (take n all) → (length text ≡ n) ⊎ (shorter ≡ target) → shorter ≡ target
     less longer (inl same) = absurd (omega (arith, longer, length-take n all))
     less longer (inr found) = found
+
     beyond : length text < length (take n all) → (o : Option Symbol) → spelled symbols (take n all) ≡ o → symbol_by o n all shorter ≡ target
     beyond longer None e = less longer at
     beyond longer (Some another) e =
         let most : length (take n all) ≤ length text = is.longest (take n all) (drop n all) (sym (take-append-drop n all)) (ap is_some e) in
         absurd (omega (arith, longer, most))
+
     by : (length text < length (take n all)) ⊎ (length (take n all) ≤ length text) → symbol_at n all shorter ≡ target
     by (inl longer) = beyond longer (spelled symbols (take n all)) refl
     by (inr short) =
@@ -93,6 +97,7 @@ symbol_first b bs begun apart = by (class_of b) (class_is b) begun
     slashed b e apart =
         let parts = or_parts _ _ (rw e at apart) in
         ap₂ (λ x y. slash_by x y bs) parts.0 parts.1 ∙ ap (λ x. symbol_step (x ∷ bs)) (sym e)
+
     by : (c : Class) → ClassIs b c → begins_symbol c ≡ true → step_by c b bs ≡ symbol_step (b ∷ bs)
     by blanks is begun = absurd (false≢true begun)
     by letter is begun = absurd (false≢true begun)
@@ -108,20 +113,28 @@ symbol_found (b ∷ bs) symbol rest is = symbol_first b (bs ++ rest) begun is.ap
   where
     text : List ℕ
     text = b ∷ bs
+
     all : List ℕ
     all = text ++ rest
+
     target : Step
     target = piece text (Sort.Token (TokenKind.Sym symbol)) rest
+
     parts : (nat_le (length text) 3 ≡ true) × ((begins_symbol (class_of b) && is_some (spelled symbols (b ∷ []))) ≡ true)
     parts = and_parts _ _ (spelling text (ap is_some is.spells))
+
     begun : begins_symbol (class_of b) ≡ true
     begun = (and_parts _ _ parts.1).0
+
     fits : length text ≤ 3
     fits = leb-true _ _ parts.0
+
     one : length text ≤ 1 → symbol_at 1 all (stop [] all Reason.BadByte) ≡ target
     one most = at_found 1 text rest symbol (stop [] all Reason.BadByte) is most (inl (omega arith))
+
     two : length text ≤ 2 → symbol_at 2 all (symbol_at 1 all (stop [] all Reason.BadByte)) ≡ target
     two most = at_found 2 text rest symbol (symbol_at 1 all (stop [] all Reason.BadByte)) is most (⊎_elim (λ less. inr (one (omega arith))) (λ same. inl (omega arith)) (cases_lt (length text) 2))
+
     three : symbol_step all ≡ target
     three = at_found 3 text rest symbol (symbol_at 2 all (symbol_at 1 all (stop [] all Reason.BadByte))) is fits (⊎_elim (λ less. inr (two (omega arith))) (λ same. inl (omega (arith, fits))) (cases_lt (length text) 3))
 
@@ -146,20 +159,25 @@ at_right n b bs shorter some apart most otherwise = by (spelled symbols (take n 
   where
     all : List ℕ
     all = b ∷ bs
+
     whole : take n all ++ drop n all ≡ all
     whole = take-append-drop n all
-    not_empty : (n : ℕ) → 0 < n → steps.IsSome (take n (b ∷ bs))
+
+    not_empty : (n : ℕ) → 0 < n → HasByte (take n (b ∷ bs))
     not_empty zero some = absurd (omega arith)
     not_empty (suc n) some = tt
+
     by : (o : Option Symbol) → spelled symbols (take n all) ≡ o → IsRight all (symbol_by o n all shorter)
     by None e = otherwise e
-    by (Some symbol) e =
-        (whole, not_empty n some,
-         a_symbol (record {
-           spells = e;
-           longest = λ more after same is. omega (arith, most more after (sym whole ∙ same) is, length-take n all, ap length (sym whole ∙ same), length-append more after);
-           apart = ap begins_comment whole ∙ apart
-         }))
+    by (Some symbol) e = (
+      whole,
+      not_empty n some,
+      a_symbol (record {
+        spells = e;
+        longest = λ more after same is. omega (arith, most more after (sym whole ∙ same) is, length-take n all, ap length (sym whole ∙ same), length-append more after);
+        apart = ap begins_comment whole ∙ apart;
+      }),
+    )
 
 -- a byte that begins none of the others, and no symbol, begins nothing
 nothing_begins : (b : ℕ) (bs : List ℕ) → begins_symbol (class_of b) ≡ true → spelled symbols (b ∷ []) ≡ None → begins_piece b ≡ false
@@ -204,18 +222,25 @@ no_token_found b bs e =
   where
     outer : ((is_blank b || is_word b || b == 34 || b == 39) ≡ false) × (is_some (spelled symbols (b ∷ [])) ≡ false)
     outer = or_parts _ _ e
+
     none_there : is_some (spelled symbols (b ∷ [])) ≡ false
     none_there = outer.1
+
     three : ((is_blank b || is_word b || b == 34) ≡ false) × ((b == 39) ≡ false)
     three = or_parts _ _ outer.0
+
     two : ((is_blank b || is_word b) ≡ false) × ((b == 34) ≡ false)
     two = or_parts _ _ three.0
+
     one : (is_blank b ≡ false) × (is_word b ≡ false)
     one = or_parts _ _ two.0
+
     words : (is_letter b ≡ false) × (is_digit b ≡ false)
     words = or_parts _ _ one.1
+
     no_slash : (t : Bool) → (b == 47) ≡ t → t ≡ false
     no_slash false is = refl
     no_slash true is = absurd (false≢true (sym (rw (eqb-true b 47 is) at none_there)))
+
     is : IsOther b
     is = record { no_blank = one.0; no_letter = words.0; no_digit = words.1; no_double_quote = two.1; no_single_quote = three.1; no_slash = no_slash (b == 47) refl }

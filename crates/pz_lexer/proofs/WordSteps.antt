@@ -1,13 +1,11 @@
 -- A letter begins a word.
-use Rattle.std.proofs.Common.{◌≡◌, ℕ, List, [], ◌∷◌, ◌++◌, Bool, true, false, refl, sym, ◌∙◌, ap, ap₂, subst}
-use Rattle.std.specs.Prelude.{◌||◌}
-use Rattle.std.specs.List.{list_all}
+use Rattle.std.proofs.Common.{◌≡◌, ℕ, List, [], ◌∷◌, ◌++◌, true, ◌∙◌, ap, ap₂}
 use Rattle.std.proofs.lemmas.Bool.{false≢true, or_left}
 use Rattle.pz_lexer.specs.Bytes.{is_letter, is_word, begins}
 use Rattle.pz_lexer.specs.Words.{IsWord, word_kind}
 use Rattle.pz_lexer.specs.declared.pieces.Sort.{Sort}
 use Rattle.pz_lexer.specs.Pieces.{a_word}
-use Rattle.pz_lexer.specs.Twin.{piece, front, back, first_step, word_step, step_by}
+use Rattle.pz_lexer.specs.Twin.{piece, first_step, word_step, step_by}
 use Rattle.pz_lexer.proofs.Runs.{front_run, back_run, front_all, back_begins, front-back, front_begins}
 use Rattle.pz_lexer.proofs.Classes.{class_letter}
 use Rattle.pz_lexer.proofs.Steps.{IsRight, some_begins}

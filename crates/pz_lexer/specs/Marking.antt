@@ -1,7 +1,7 @@
 -- Tokens that are marked as heads after they are made, from the last to the first.
 use Rattle.std.specs.Prelude.{◌≡◌, ℕ, take, List, [], ◌∷◌, ◌++◌, Bool, false, map}
 use Rattle.pz_ast.specs.declared.tokens.Token.{Token}
-use Rattle.pz_ast.specs.Heads.{Role, name, colon, opening, closing, other, role, goes_on, makes_head, is_head, heads}
+use Rattle.pz_ast.specs.Heads.{Role, name, colon, opening, closing, other, goes_on, makes_head, is_head, heads}
 use Rattle.pz_lexer.specs.declared.heads.Role.{Role as Seen}
 use Rattle.pz_lexer.specs.declared.heads.Following.{Following}
 use Rattle.pz_ast.specs.declared.tokens.Pos.{Pos}

@@ -1,8 +1,7 @@
 -- Integers and floats.
-use Rattle.std.specs.Prelude.{◌≡◌, ℕ, ◌+◌, ◌*◌, ◌-◌, ◌^◌, ◌<◌, List, [], ◌∷◌, ◌++◌, Bool, true, false, ◌&&◌, ◌==◌, fold, pos}
+use Rattle.std.specs.Prelude.{◌≡◌, ℕ, ◌+◌, ◌*◌, ◌-◌, ◌^◌, ◌<◌, List, [], ◌∷◌, ◌++◌, Bool, true, false, ◌&&◌, ◌==◌, fold}
 use Rattle.std.specs.List.{list_all}
-use Rattle.pz_ast.specs.declared.tokens.TokenKind.{TokenKind}
-use Rattle.pz_lexer.specs.Bytes.{is_digit, is_letter, is_word, begins}
+use Rattle.pz_lexer.specs.Bytes.{is_digit, is_word, begins}
 
 -- at least one digit, and nothing else
 pub record AreDigits (text : List ℕ) : Type 0 where

@@ -1,7 +1,6 @@
 -- Symbols, by longest match.
-use Rattle.std.specs.Prelude.{◌≡◌, ℕ, ◌≤◌, List, [], ◌∷◌, ◌++◌, length, Bool, false, ◌||◌, ◌==◌, Option, Some, IsSome, codes}
+use Rattle.std.specs.Prelude.{◌≡◌, ℕ, ◌≤◌, List, [], ◌∷◌, ◌++◌, length, false, Some, IsSome, codes}
 use Rattle.pz_ast.specs.declared.tokens.Symbol.{Symbol}
-use Rattle.pz_lexer.specs.Bytes.{begins}
 use Rattle.pz_lexer.specs.Spellings.{spelled}
 use Rattle.pz_lexer.specs.Comments.{begins_comment}
 

@@ -1,6 +1,6 @@
 -- The cut of a text, computed: the piece that stands first, and then the rest. That this is the cut of
 -- the definition is proved.
-use Rattle.std.specs.Prelude.{◌≡◌, ℕ, ◌+◌, ◌*◌, ◌-◌, ◌^◌, List, [], ◌∷◌, ◌++◌, Bool, true, false, ◌||◌, ◌&&◌, ◌==◌, not, nat_le, nat_lt, Option, None, Some, if◌then◌else◌, take, drop, pos, Result, Ok, Err}
+use Rattle.std.specs.Prelude.{ℕ, ◌+◌, ◌*◌, ◌^◌, List, [], ◌∷◌, ◌++◌, Bool, true, false, ◌||◌, ◌==◌, nat_le, Option, None, Some, if◌then◌else◌, take, drop, pos, Result, Ok, Err}
 use Rattle.pz_ast.specs.declared.tokens.Symbol.{Symbol}
 use Rattle.pz_ast.specs.declared.tokens.TokenKind.{TokenKind}
 use Rattle.pz_lexer.specs.Bytes.{is_blank, is_letter, is_digit, is_word, begins}
@@ -9,7 +9,7 @@ use Rattle.pz_lexer.specs.Words.{word_kind}
 use Rattle.pz_lexer.specs.Symbols.{symbols}
 use Rattle.pz_lexer.specs.Comments.{begins_pair, is_in_line}
 use Rattle.pz_lexer.specs.Numbers.{value_of, begins_fraction}
-use Rattle.pz_lexer.specs.Quoted.{is_plain, escaped, hex_value}
+use Rattle.pz_lexer.specs.Quoted.{escaped, hex_value}
 use Rattle.pz_lexer.specs.declared.pieces.Sort.{Sort}
 use Rattle.pz_lexer.specs.Pieces.{Piece, joined}
 use Rattle.pz_lexer.specs.declared.pieces.Reason.{Reason}

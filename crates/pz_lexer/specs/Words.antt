@@ -1,5 +1,5 @@
 -- Identifiers and reserved words.
-use Rattle.std.specs.Prelude.{◌≡◌, ℕ, List, [], ◌∷◌, ◌++◌, true, false, Option, None, Some, codes, unwrap_or, option_map}
+use Rattle.std.specs.Prelude.{◌≡◌, ℕ, List, [], ◌∷◌, true, false, codes, unwrap_or, option_map}
 use Rattle.std.specs.List.{list_all}
 use Rattle.pz_ast.specs.declared.tokens.Keyword.{Keyword}
 use Rattle.pz_ast.specs.declared.tokens.TokenKind.{TokenKind}

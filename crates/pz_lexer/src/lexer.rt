@@ -39,8 +39,7 @@ pub fn one_answer()
     // The definition computes.
     ensures tokens_computed { (text : List ℕ) (tokens : List Token) → AreTokens text tokens ↔ (lexed text ≡ Ok tokens) }
     ensures refusal_computed { (text : List ℕ) (error : LexError) → IsRefused text error ↔ (lexed text ≡ Err error) }
-{
-}
+{}
 
 /// The tokens of a text, none of them marked as a head.
 fn cut(alloc: Global, text: &[u8]) -> Result<Vec<Token>, LexError>

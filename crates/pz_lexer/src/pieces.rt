@@ -1,4 +1,3 @@
-
 use pz_ast::TokenKind;
 use std::alloc::{AllocError, AllocFailed};
 

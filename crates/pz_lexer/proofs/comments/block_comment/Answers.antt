@@ -1,4 +1,4 @@
-use Rattle.std.proofs.Common.{◌≤◌, length, arith, ap, sym, ◌∙◌}
+use Rattle.std.proofs.Common.{length, arith, ap, sym, ◌∙◌}
 use Rattle.pz_lexer.proofs.CommentReads.{sought_first, sought_on, closed_gives, open_gives, block_reads}
 use Rattle.pz_lexer.proofs.comments.block_comment.Goals as goal
 

@@ -1,5 +1,3 @@
-use Rattle.std.proofs.Common.{◌≡◌, ◌≤◌, length, take, drop}
-use Rattle.pz_lexer.specs.Marking.{Follows}
 use Rattle.pz_lexer.proofs.HeadMarks.{MarkedFrom}
 use Rattle.pz_lexer.proofs.heads.mark_heads.Given as goal
 

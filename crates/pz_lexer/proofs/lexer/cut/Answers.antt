@@ -1,5 +1,5 @@
-use Rattle.std.proofs.Common.{◌≡◌, arith, length, drop, sym, ◌∙◌, length-append}
-use Rattle.pz_lexer.proofs.CutReads.{cut_start, cut_bounds, cut_more, cut_stop, cut_end}
+use Rattle.std.proofs.Common.{arith}
+use Rattle.pz_lexer.proofs.CutReads.{cut_start, cut_bounds, cut_more, cut_stop}
 use Rattle.pz_lexer.proofs.lexer.cut.Goals as goal
 
 pub pieces-init : goal.pieces-init

@@ -1,4 +1,3 @@
-use Rattle.std.proofs.Common.{◌≡◌}
 use Rattle.pz_lexer.proofs.Cuts.{one_list, one_refusal, not_both, either, tokens_lexed, refusal_lexed, tokens_from_lexed, refusal_from_lexed}
 use Rattle.pz_lexer.proofs.lexer.one_answer.Goals as goal
 

@@ -1,4 +1,4 @@
-use Rattle.std.proofs.Common.{◌≡◌, sym, ◌∙◌, ap, subst, drop, true, false}
+use Rattle.std.proofs.Common.{◌≡◌, sym, ◌∙◌, ap, drop, true, false}
 use Rattle.std.specs.Prelude.{◌==◌}
 use Rattle.pz_lexer.specs.Bytes.{begins}
 use Rattle.pz_lexer.specs.Twin.{inside_at}

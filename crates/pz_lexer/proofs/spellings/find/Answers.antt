@@ -1,6 +1,5 @@
-use Rattle.std.proofs.Common.{◌≡◌, ◌+◌, ◌∙◌, sym, ap, map, drop, arith, Bool, true, false}
+use Rattle.std.proofs.Common.{◌≡◌, ◌∙◌, sym, arith, true, false}
 use Rattle.std.specs.Prelude.{bytes_eq}
-use Rattle.pz_lexer.specs.Spellings.{spelled, entry_of}
 use Rattle.pz_lexer.proofs.Spelled.{spelled_at, spelled_later, spelled_nowhere}
 use Rattle.pz_lexer.proofs.spellings.find.Goals as goal
 

@@ -1,4 +1,3 @@
-use Rattle.std.proofs.Common.{◌∙◌}
 use Rattle.pz_lexer.specs.Symbols.{symbols}
 use Rattle.pz_lexer.proofs.SymbolReads.{front_some, front_none}
 use Rattle.pz_lexer.proofs.symbols.front_symbol.Goals as goal

@@ -1,7 +1,6 @@
 use Rattle.std.proofs.Common.{take, sym, ◌∙◌}
 use Rattle.pz_lexer.specs.Spellings.{spelled}
 use Rattle.pz_lexer.specs.Symbols.{symbols}
-use Rattle.pz_lexer.specs.Twin.{symbol_at}
 use Rattle.pz_lexer.proofs.SymbolReads.{some_gives, none_gives, last_gives}
 use Rattle.pz_lexer.proofs.symbols.symbol.Goals as goal
 

@@ -1,9 +1,8 @@
-use Rattle.std.proofs.Common.{◌≡◌, ◌∙◌, sym, ap, true}
+use Rattle.std.proofs.Common.{◌∙◌, ap}
 use Rattle.std.specs.List.{list_all}
 use Rattle.pz_lexer.specs.declared.pieces.Sort.{Sort}
 use Rattle.pz_lexer.specs.Bytes.{is_word}
 use Rattle.pz_lexer.specs.Words.{word_kind}
-use Rattle.pz_lexer.specs.Twin.{word_step, front}
 use Rattle.pz_lexer.proofs.Runs.{front_all}
 use Rattle.pz_lexer.proofs.RunCounts.{run_cut}
 use Rattle.pz_lexer.proofs.WordSteps.{word_right}
