@@ -11,7 +11,8 @@ use Rattle.pz_lexer.specs.Pieces.{IsPiece, Piece, joined, ArePieces}
 use Rattle.pz_lexer.specs.Places.{origin, place_after}
 use Rattle.pz_lexer.specs.Tokens.{Placed, kept, placed, marked, AreTokens, error_at, IsRefused}
 use Rattle.pz_lexer.specs.Reading.{StopsAt, IsFound}
-use Rattle.pz_lexer.specs.Marking.{with_head, with_heads, heads_of, unmarked, AreCutInto, Refuses}
+use Rattle.pz_lexer.specs.Marking.{with_head, with_heads, heads_of}
+use Rattle.pz_lexer.specs.Cutting.{unmarked, AreCutInto, Refuses}
 use Rattle.pz_lexer.proofs.PlaceReads.{place_after-append, place_bound}
 
 joined-append : (ps qs : List Piece) → joined (ps ++ qs) ≡ joined ps ++ joined qs

@@ -8,7 +8,8 @@ use Rattle.std.proofs.lemmas.List.{append-nil}
 use Rattle.pz_lexer.specs.declared.pieces.Reason.{Reason}
 use Rattle.pz_lexer.specs.Refusals.{Stops, no_token, no_escape_in_string, no_escape_in_character, comment, string, number}
 use Rattle.pz_lexer.specs.Tokens.{AreTokens, IsRefused, Answers}
-use Rattle.pz_lexer.specs.Twin.{Step, piece, stop, first_step, Cut, whole, broken, more_cut, cut_by, cut_of, answer_of, lexed}
+use Rattle.pz_lexer.specs.Step.{Step, piece, stop}
+use Rattle.pz_lexer.specs.Twin.{first_step, Cut, whole, broken, more_cut, cut_by, cut_of, answer_of, lexed}
 use Rattle.pz_lexer.proofs.Steps.{HasByte, some_length, IsRight}
 use Rattle.pz_lexer.proofs.FirstStep.{piece_found, stop_found, step_right}
 

@@ -11,7 +11,8 @@ use Rattle.pz_lexer.specs.declared.pieces.Found.{Found}
 use Rattle.pz_lexer.specs.declared.pieces.Stop.{Stop}
 use Rattle.pz_lexer.specs.Bytes.{is_digit, begins}
 use Rattle.pz_lexer.specs.Numbers.{value_of, begins_fraction}
-use Rattle.pz_lexer.specs.Twin.{number_by, front, back, float_step, integer_step, digits_by, digits_step, number_step}
+use Rattle.pz_lexer.specs.Step.{front, back}
+use Rattle.pz_lexer.specs.NumberStep.{number_by, float_step, integer_step, digits_by, digits_step, number_step}
 use Rattle.pz_lexer.specs.Gives.{Gives}
 use Rattle.pz_lexer.specs.Reading.{Reads}
 use Rattle.pz_lexer.proofs.NumberSteps.{number_right}

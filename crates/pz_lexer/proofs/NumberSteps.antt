@@ -10,7 +10,9 @@ use Rattle.pz_lexer.specs.declared.pieces.Sort.{Sort}
 use Rattle.pz_lexer.specs.Pieces.{an_integer, a_float}
 use Rattle.pz_lexer.specs.declared.pieces.Reason.{Reason}
 use Rattle.pz_lexer.specs.Refusals.{IsBadNumber, too_large, lettered, lettered_float, number}
-use Rattle.pz_lexer.specs.Twin.{piece, stop, front, back, first_step, number_by, integer_step, float_step, digits_by, digits_step, number_step, step_by}
+use Rattle.pz_lexer.specs.Step.{piece, stop, front, back}
+use Rattle.pz_lexer.specs.NumberStep.{number_by, integer_step, float_step, digits_by, digits_step, number_step}
+use Rattle.pz_lexer.specs.Twin.{first_step, step_by}
 use Rattle.pz_lexer.proofs.Runs.{front_run, back_run, front_all, back_begins, front-back, front_begins, begins-append}
 use Rattle.pz_lexer.proofs.Classes.{class_digit}
 use Rattle.pz_lexer.proofs.Steps.{IsRight, some_begins}

@@ -13,7 +13,7 @@ use Rattle.pz_lexer.specs.Quoted.{IsItem, AreItems, none, more}
 use Rattle.pz_lexer.specs.Pieces.{a_string}
 use Rattle.pz_lexer.specs.Refusals.{NoItem, IsOpenString, cut_string, no_escape_in_string, string}
 use Rattle.pz_lexer.specs.Reading.{Reads, IsFound, StopsAt}
-use Rattle.pz_lexer.specs.Twin.{Inside, item, no_escape, closing, cut_off, inside_at, character_by, character_end, character_step}
+use Rattle.pz_lexer.specs.QuotedStep.{Inside, item, no_escape, closing, cut_off, inside_at, character_by, character_end, character_step}
 use Rattle.pz_lexer.specs.Gives.{Gives, Sees}
 use Rattle.pz_lexer.proofs.FirstStep.{second_is}
 use Rattle.pz_lexer.proofs.QuotedSteps.{InsideIs, inside_is, item_some, character_right}

@@ -10,7 +10,9 @@ use Rattle.pz_lexer.specs.declared.pieces.Sort.{Sort}
 use Rattle.pz_lexer.specs.Pieces.{a_string, a_character}
 use Rattle.pz_lexer.specs.declared.pieces.Reason.{Reason}
 use Rattle.pz_lexer.specs.Refusals.{NoItem, IsOpenString, cut_string, cut_character, no_item, not_closed, no_escape_in_string, no_escape_in_character, string}
-use Rattle.pz_lexer.specs.Twin.{piece, stop, first_step, Inside, item, no_escape, closing, cut_off, hex_by, hex_at, escape_by, escape_at, inside_at, Items, items, more_items, items_by, items_at, string_end, string_by, string_step, character_end, character_by, character_step}
+use Rattle.pz_lexer.specs.Step.{piece, stop}
+use Rattle.pz_lexer.specs.QuotedStep.{Inside, item, no_escape, closing, cut_off, hex_by, hex_at, escape_by, escape_at, inside_at, Items, items, more_items, items_by, items_at, string_end, string_by, string_step, character_end, character_by, character_step}
+use Rattle.pz_lexer.specs.Twin.{first_step}
 use Rattle.pz_lexer.proofs.Steps.{IsRight}
 
 -- The relation gives the item that is found.

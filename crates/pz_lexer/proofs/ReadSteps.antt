@@ -8,7 +8,7 @@ use Rattle.pz_lexer.specs.declared.pieces.Stop.{Stop}
 use Rattle.pz_lexer.specs.Pieces.{IsPiece}
 use Rattle.pz_lexer.specs.Refusals.{Stops}
 use Rattle.pz_lexer.specs.Reading.{StopsAt, IsFound, Reads}
-use Rattle.pz_lexer.specs.Twin.{Step, piece, stop}
+use Rattle.pz_lexer.specs.Step.{Step, piece, stop}
 use Rattle.pz_lexer.specs.Gives.{Gives}
 use Rattle.pz_lexer.proofs.Steps.{some_length, IsRight}
 

@@ -8,7 +8,8 @@ use Rattle.pz_ast.specs.declared.tokens.Symbol.{Symbol}
 use Rattle.pz_lexer.specs.declared.pieces.Found.{Found}
 use Rattle.pz_lexer.specs.declared.pieces.Stop.{Stop}
 use Rattle.pz_lexer.specs.Spellings.{spelled}
-use Rattle.pz_lexer.specs.Twin.{Step, stop, symbol_by}
+use Rattle.pz_lexer.specs.Step.{Step, stop}
+use Rattle.pz_lexer.specs.SymbolStep.{symbol_by}
 use Rattle.pz_lexer.specs.Gives.{Gives, found_symbol}
 
 -- what a table says of the first so many bytes, or of fewer where the text is shorter

@@ -15,7 +15,10 @@ use Rattle.pz_lexer.specs.declared.pieces.Sort.{Sort}
 use Rattle.pz_lexer.specs.Pieces.{a_symbol}
 use Rattle.pz_lexer.specs.declared.pieces.Reason.{Reason}
 use Rattle.pz_lexer.specs.Refusals.{begins_piece, no_token}
-use Rattle.pz_lexer.specs.Twin.{Step, piece, stop, first_step, Class, blanks, letter, digit, double_quote, single_quote, slash, other, class_of, step_by, slash_step, slash_by, symbol_by, symbol_at, symbol_step}
+use Rattle.pz_lexer.specs.Step.{Step, piece, stop}
+use Rattle.pz_lexer.specs.SymbolStep.{symbol_by, symbol_at, symbol_step}
+use Rattle.pz_lexer.specs.CommentStep.{slash_step, slash_by}
+use Rattle.pz_lexer.specs.Twin.{first_step, Class, blanks, letter, digit, double_quote, single_quote, slash, other, class_of, step_by}
 use Rattle.pz_lexer.proofs.Classes.{ClassIs, IsOther, class_is, class_other}
 use Rattle.pz_lexer.proofs.Steps.{HasByte, IsRight}
 

@@ -1,4 +1,4 @@
--- What a function of the code gives, against the computed step.
+-- For private functions: what they give, against the computed step.
 use Rattle.std.specs.Prelude.{◌≡◌, ℕ, length, Result, Ok, Err}
 use Rattle.pz_ast.specs.declared.tokens.TokenKind.{TokenKind}
 use Rattle.pz_ast.specs.declared.tokens.Symbol.{Symbol}
@@ -6,7 +6,8 @@ use Rattle.pz_lexer.specs.declared.pieces.Sort.{Sort}
 use Rattle.pz_lexer.specs.declared.pieces.Found.{Found}
 use Rattle.pz_lexer.specs.declared.pieces.Stop.{Stop}
 use Rattle.pz_lexer.specs.declared.items.Inside.{Inside as Seen}
-use Rattle.pz_lexer.specs.Twin.{Step, piece, stop, Inside, item, no_escape, closing, cut_off}
+use Rattle.pz_lexer.specs.Step.{Step, piece, stop}
+use Rattle.pz_lexer.specs.QuotedStep.{Inside, item, no_escape, closing, cut_off}
 
 -- it finds the piece, or stops where the step does, unless memory runs out
 abbrev pub Gives : Step → Result Found Stop → Type 0

@@ -10,6 +10,12 @@ pub mod Refusals
 pub mod Places
 pub mod Reading
 pub mod Tokens
+pub mod Cutting
 pub mod Marking
+pub mod Step
+pub mod NumberStep
+pub mod QuotedStep
+pub mod SymbolStep
+pub mod CommentStep
 pub mod Twin
 pub mod Gives

@@ -1,16 +1,11 @@
--- Tokens that are marked as heads after they are made, from the last to the first.
-use Rattle.std.specs.Prelude.{◌≡◌, ℕ, take, List, [], ◌∷◌, ◌++◌, Bool, false, map}
+-- For private functions: tokens are marked as heads after they are made, from the last to the first.
+use Rattle.std.specs.Prelude.{◌≡◌, List, [], ◌∷◌, ◌++◌, Bool, map}
 use Rattle.pz_ast.specs.declared.tokens.Token.{Token}
 use Rattle.pz_ast.specs.Heads.{Role, name, colon, opening, closing, other, goes_on, makes_head, is_head, heads}
 use Rattle.pz_lexer.specs.declared.heads.Role.{Role as Seen}
 use Rattle.pz_lexer.specs.declared.heads.Following.{Following}
-use Rattle.pz_ast.specs.declared.tokens.Pos.{Pos}
-use Rattle.pz_lexer.specs.declared.pieces.Stop.{Stop}
-use Rattle.pz_lexer.specs.declared.error.LexError.{LexError}
-use Rattle.pz_lexer.specs.Pieces.{Piece, joined, ArePieces}
-use Rattle.pz_lexer.specs.Places.{origin, place_after}
-use Rattle.pz_lexer.specs.Tokens.{Placed, placed, error_at}
 
+-- the role that a function of the code gives
 abbrev pub role_of : Seen → Role
 role_of Seen.Name = name
 role_of Seen.Colon = colon
@@ -22,6 +17,7 @@ role_of Seen.Other = other
 abbrev pub with_head : Token → Bool → Token
 with_head t head = record t { mark = record (t.mark) { head = head } }
 
+-- tokens that are heads or not
 abbrev pub with_heads : List Token → List Bool → List Token
 with_heads (t ∷ ts) (head ∷ heads) = with_head t head ∷ with_heads ts heads
 with_heads _ _ = []
@@ -44,6 +40,7 @@ closings (name ∷ xs) = closings xs
 closings (colon ∷ xs) = closings xs
 closings (other ∷ xs) = closings xs
 
+-- the last first
 abbrev pub backwards : List Bool → List Bool
 backwards [] = []
 backwards (x ∷ xs) = backwards xs ++ x ∷ []
@@ -61,19 +58,3 @@ TakesIn old new seen = (roles : List Role) → Follows old roles → Follows new
 -- it is said whether a token with this role is a head before the others
 abbrev pub Judges : Following → Seen → Bool → Type 0
 Judges following seen head = (roles : List Role) → Follows following roles → head ≡ is_head (role_of seen) roles
-
--- a token that is not marked
-abbrev pub unmarked : Placed → Token
-unmarked t = record { mark = record { kind = t.kind; head = false }; pos = t.pos }
-
--- The text is cut into pieces, and these are their tokens, none of them marked.
-pub record AreCutInto (text : List ℕ) (tokens : List Token) : Type 0 where
-  pub pieces : List Piece
-  pub spelling : joined pieces ≡ text
-  pub cut : ArePieces pieces []
-  pub kept_are : tokens ≡ map unmarked (placed origin pieces)
-
--- the refusal of a stop in a text that stands at this place
-abbrev pub Refuses : Stop → Pos → List ℕ → LexError → Type 0
-Refuses Stop.NoMemory pos rest error = error ≡ LexError.NoMemory
-Refuses (Stop.Refused reason at) pos rest error = error ≡ error_at reason (place_after pos (take at rest))

@@ -10,7 +10,8 @@ use Rattle.pz_lexer.specs.Symbols.{IsSymbol}
 use Rattle.pz_lexer.specs.Comments.{IsLineComment, IsBlockComment}
 use Rattle.pz_lexer.specs.Quoted.{IsString, IsCharacter}
 
--- This text, where that rest follows it, is a piece of this sort.
+-- This text, where that rest follows it, is a piece of this sort. Each blank is a piece by itself; the
+-- others are as long as their place allows.
 pub data IsPiece : List ℕ → Sort → List ℕ → Type 0 where
   a_blank : {b : ℕ} {rest : List ℕ} → is_blank b ≡ true → IsPiece (b ∷ []) Sort.Blank rest
   a_line_comment : {text rest : List ℕ} → IsLineComment text rest → IsPiece text Sort.LineComment rest

@@ -1,4 +1,4 @@
--- What it is to read the front of a text.
+-- For private functions: what it is to read the front of a text.
 use Rattle.std.specs.Prelude.{ℕ, ◌≤◌, ◌<◌, List, length, take, drop, Result, Ok, Err}
 use Rattle.pz_lexer.specs.declared.pieces.Found.{Found}
 use Rattle.pz_lexer.specs.declared.pieces.Stop.{Stop}
@@ -16,6 +16,7 @@ pub record IsFound (text : List ℕ) (found : Found) : Type 0 where
   pub within : found.len ≤ length text
   pub piece : IsPiece (take found.len text) found.sort (drop found.len text)
 
+-- a piece, or where the cut stops
 abbrev pub Reads : List ℕ → Result Found Stop → Type 0
 Reads text (Ok found) = IsFound text found
 Reads text (Err stop) = StopsAt text stop

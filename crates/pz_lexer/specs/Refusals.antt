@@ -8,7 +8,8 @@ use Rattle.pz_lexer.specs.Comments.{has_pair, is_in_line}
 use Rattle.pz_lexer.specs.Numbers.{AreDigits, value_of, begins_fraction}
 use Rattle.pz_lexer.specs.Quoted.{IsItem, AreItems}
 
--- a blank, a letter, a digit, a quote or the first byte of a symbol or a comment
+-- a blank, a letter, a digit, a quote, or the first byte of a symbol, which is one by itself, or of a
+-- comment, which is a `/`
 abbrev pub begins_piece : ℕ → Bool
 begins_piece b = is_blank b || is_word b || b == 34 || b == 39 || is_some (spelled symbols (b ∷ []))
 
@@ -16,7 +17,7 @@ begins_piece b = is_blank b || is_word b || b == 34 || b == 39 || is_some (spell
 abbrev pub NoItem : ℕ → List ℕ → Type 0
 NoItem quote text = (item rest : List ℕ) (value : ℕ) → IsItem quote item value → text ≡ item ++ rest → ⊥
 
--- Digits that no digit follows, but a letter does; or an integer that is too large.
+-- An integer past 2^63 - 1, or a number that a letter or `_` follows directly.
 pub data IsBadNumber : List ℕ → Type 0 where
   too_large : (digits rest : List ℕ) → AreDigits digits → begins is_digit rest ≡ false → begins_fraction rest ≡ false → 2 ^ 63 ≤ value_of digits → IsBadNumber (digits ++ rest)
   lettered : (digits rest : List ℕ) → AreDigits digits → begins is_letter rest ≡ true → IsBadNumber (digits ++ rest)
@@ -30,8 +31,9 @@ pub data IsOpenString : List ℕ → Type 0 where
   no_item : {rest : List ℕ} → IsOpenString (39 ∷ 39 ∷ rest)
   not_closed : (item rest : List ℕ) (value : ℕ) → IsItem 39 item value → begins (λ b. b == 39) rest ≡ false → IsOpenString (39 ∷ item ++ rest)
 
--- The cut stops where the second text begins: what stands before it, from the last piece on, is the
--- first text.
+-- Behind the last piece that can be cut stand these two texts, and the refusal is at the second: a byte
+-- that begins nothing, the `\` of an unknown escape behind the quote and whole items, the `/*` of a
+-- comment without end, an opening quote, or the first digit of a number.
 pub data Stops : List ℕ → List ℕ → Reason → Type 0 where
   no_token : {b : ℕ} {rest : List ℕ} → begins_piece b ≡ false → Stops [] (b ∷ rest) Reason.BadByte
   no_escape_in_string : {inside values rest : List ℕ} → AreItems 34 inside values → NoItem 34 (92 ∷ rest) → Stops (34 ∷ inside) (92 ∷ rest) Reason.BadByte

@@ -4,6 +4,7 @@ use Rattle.pz_ast.specs.declared.tokens.Symbol.{Symbol}
 use Rattle.pz_lexer.specs.Spellings.{spelled}
 use Rattle.pz_lexer.specs.Comments.{begins_comment}
 
+-- how symbols are spelled
 abbrev pub symbols : List (List ℕ × Symbol)
 symbols =
     (codes "(", Symbol.LeftParen) ∷

@@ -33,6 +33,7 @@ abbrev pub marked : List Placed → List Bool → List Token
 marked (t ∷ ts) (head ∷ heads) = record { mark = record { kind = t.kind; head = head }; pos = t.pos } ∷ marked ts heads
 marked _ _ = []
 
+-- the tokens among the pieces of a whole text
 abbrev pub tokens_of : List Piece → List Token
 tokens_of ps = marked (placed origin ps) (heads (map (λ t. t.kind) (placed origin ps)))
 
@@ -43,6 +44,7 @@ pub record AreTokens (text : List ℕ) (tokens : List Token) : Type 0 where
   pub cut : ArePieces pieces []
   pub kept : tokens_of pieces ≡ tokens
 
+-- a refusal of the code
 abbrev pub error_at : Reason → Pos → LexError
 error_at Reason.BadByte pos = LexError.BadByte pos
 error_at Reason.OpenComment pos = LexError.OpenComment pos

@@ -12,6 +12,7 @@ pub record IsWord (text rest : List ℕ) : Type 0 where
   pub inside : list_all is_word text ≡ true
   pub whole : begins is_word rest ≡ false
 
+-- the reserved words
 abbrev pub keywords : List (List ℕ × Keyword)
 keywords =
     (codes "data", Keyword.Data) ∷

@@ -4,7 +4,7 @@ ghost use Rattle.pz_lexer.specs.declared.error.LexError.{LexError};
 ghost use Rattle.pz_lexer.specs.Reading.{StopsAt};
 ghost use Rattle.pz_lexer.specs.Tokens.{kept, error_at, AreTokens, IsRefused, Answers};
 ghost use Rattle.pz_lexer.specs.Twin.{lexed};
-ghost use Rattle.pz_lexer.specs.Marking.{unmarked, AreCutInto, Refuses};
+ghost use Rattle.pz_lexer.specs.Cutting.{unmarked, AreCutInto, Refuses};
 
 use crate::LexError;
 use crate::heads::mark_heads;

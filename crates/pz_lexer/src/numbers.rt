@@ -3,7 +3,7 @@ ghost use Rattle.std.specs.List.{list_all};
 ghost use Rattle.pz_lexer.specs.Bytes.{is_digit, begins};
 ghost use Rattle.pz_lexer.specs.Numbers.{value_of, begins_fraction};
 ghost use Rattle.pz_lexer.specs.Reading.{Reads};
-ghost use Rattle.pz_lexer.specs.Twin.{integer_step, float_step};
+ghost use Rattle.pz_lexer.specs.NumberStep.{integer_step, float_step};
 ghost use Rattle.pz_lexer.specs.Gives.{Gives};
 
 use crate::bytes::{begins_digit, begins_letter, digits_len};

@@ -1,7 +1,7 @@
 ghost use Rattle.std.specs.Prelude.{◌≡◌, length, take, option_map};
 ghost use Rattle.pz_lexer.specs.Spellings.{spelled};
 ghost use Rattle.pz_lexer.specs.Symbols.{symbols};
-ghost use Rattle.pz_lexer.specs.Twin.{symbol_step};
+ghost use Rattle.pz_lexer.specs.SymbolStep.{symbol_step};
 ghost use Rattle.pz_lexer.specs.Gives.{Gives, found_symbol};
 
 use crate::pieces::{Found, Reason, Sort, Stop};
