@@ -1,0 +1,16 @@
+mod Rests
+mod Texts
+mod Nestings
+mod ExpressionBounds
+mod StatementBounds
+mod ModelBounds
+mod RowWords
+mod ExpressionRows
+mod StatementRows
+mod ClassRows
+mod ModelRows
+mod Marked
+mod ExpressionHeads
+mod StatementHeads
+mod ModelHeads
+mod FormRows

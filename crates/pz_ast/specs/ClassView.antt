@@ -1,5 +1,5 @@
 -- The plain data that a model of the code stands for.
-use Rattle.std.specs.Prelude.{List, map, option_map}
+use Rattle.std.specs.Prelude.{map, option_map}
 use Rattle.pz_ast.specs.declared.classes.DataMethod.{DataMethod}
 use Rattle.pz_ast.specs.declared.classes.DataClass.{DataClass}
 use Rattle.pz_ast.specs.declared.classes.Start.{Start}

@@ -45,5 +45,5 @@ acted_at bodies t slice place root slice_is root_is stand r =
     IfOk-weaker r (λ left. term_view left ≡ after_action bodies (term_view t) slice)
     (λ left. (k : ℕ) (l : Local) → slice_get (local_actions (term_view t)) k ≡ Some l → term_view left ≡ after_action bodies (term_view t) l.place)
     (λ left acted k l is.
-        acted
-        ∙ ap (λ (p : Place). after_action bodies (term_view t) p) (slice_is ∙ stand k l is ∙ ap (λ (p : Place). p ++ l.place) root_is))
+    acted
+    ∙ ap (λ (p : Place). after_action bodies (term_view t) p) (slice_is ∙ stand k l is ∙ ap (λ (p : Place). p ++ l.place) root_is))

@@ -11,3 +11,4 @@ pub mod FirstRuns
 pub mod OneProcess
 pub mod Entered
 pub mod Steps
+pub mod Starts

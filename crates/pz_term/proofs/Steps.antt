@@ -116,7 +116,7 @@ passes_by p q left got d time step is whole delay got_is step_is q_is passed =
       time = d;
       moment = rw whole is;
       reached =
-        ap simulation_of q_is
-        ∙ ap (λ (n : ℕ). record (simulation_of p) { config = alone (p.clock + n) (term_view left) }) step_is
-        ∙ ap (λ (c : Config). record (simulation_of p) { config = c }) (elapsed_alone p.clock (term_view p.term) d is time delay (term_view left) here);
+          ap simulation_of q_is
+          ∙ ap (λ (n : ℕ). record (simulation_of p) { config = alone (p.clock + n) (term_view left) }) step_is
+          ∙ ap (λ (c : Config). record (simulation_of p) { config = c }) (elapsed_alone p.clock (term_view p.term) d is time delay (term_view left) here);
     }

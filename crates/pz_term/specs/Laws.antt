@@ -2,9 +2,9 @@
 use Rattle.std.specs.Prelude.{◌≡◌, ◌≤◌, ℕ, List}
 use Rattle.pz_term.specs.declared.action.Action.{Action}
 use Rattle.pz_term.specs.declared.moment.Moment.{Moment}
-use Rattle.pz_term.specs.declared.moment.Moment.TheVariants.{Time}
+use Rattle.pz_term.specs.declared.moment.Moment.TheVariants.{Actions, Time}
 use Rattle.pz_term.specs.Residual.{Bodies}
-use Rattle.pz_term.specs.Configurations.{Config}
+use Rattle.pz_term.specs.Configurations.{Config, pass}
 use Rattle.pz_term.specs.Offers.{Offers, IsOffers}
 use Rattle.pz_term.specs.Moments.{IsMoment, IsLeast}
 use Rattle.pz_term.specs.Runs.{Event, Ending, IsRun, IsFirstRun}
@@ -16,6 +16,10 @@ TimeWaits = (c : Config) (d : ℕ) (a : Action) → IsMoment c (Time d) → ¬ O
 -- a passing is by the least that is left of an active delay, and by one unit or more
 abbrev pub LeastPasses : Type 0
 LeastPasses = (c : Config) (d : ℕ) → IsMoment c (Time d) → IsLeast c d × (1 ≤ d)
+
+-- once time has passed, an action is possible
+abbrev pub ActsAfterTime : Type 0
+ActsAfterTime = (c : Config) (d : ℕ) → IsMoment c (Time d) → (n : ℕ) × IsMoment (pass d c) (Actions n)
 
 -- a configuration has one list of offers
 abbrev pub OneListOfOffers : Type 0

@@ -1,6 +1,6 @@
 -- What the code's terms and methods stand for.
 use Rattle.std.specs.Prelude.{ℕ, List, map}
-use Rattle.pz_ast.specs.StatementView.{sequence_of}
+use Rattle.pz_ast.specs.declared.classes.ProcessMethod.{ProcessMethod}
 use Rattle.pz_ast.specs.StatementView as statement
 use Rattle.pz_term.specs.declared.term.Term.{Term, fold-Term}
 use Rattle.pz_term.specs.declared.term.Term.TheOpen.{Term-F}
@@ -20,3 +20,7 @@ term_view = fold-Term terms.Term term_step
 
 abbrev pub bodies_view : List Body → Bodies
 bodies_view bodies = map (λ b. (b.name, statement.sequence_view b.statements)) bodies
+
+-- the methods of a class of the syntax
+abbrev pub bodies_of_methods : List ProcessMethod → Bodies
+bodies_of_methods methods = map (λ m. (m.name.name, statement.sequence_view m.body)) methods

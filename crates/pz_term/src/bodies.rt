@@ -1,10 +1,11 @@
-ghost use Rattle.std.specs.Prelude.{◌≡◌, ◌++◌, [], List};
+ghost use Rattle.std.specs.Prelude.{◌≡◌, ◌++◌, [], List, IfOk};
 ghost use Rattle.pz_ast.specs.StatementView.{sequence_view};
 ghost use Rattle.pz_term.specs.Residual.{body_of};
-ghost use Rattle.pz_term.specs.View.{bodies_view};
+ghost use Rattle.pz_term.specs.View.{bodies_view, bodies_of_methods};
 
-use pz_ast::{Name, Stmt};
+use pz_ast::{Name, ProcessMethod, Stmt, copy_statements};
 use pz_items::Items;
+use std::alloc::{AllocError, Global};
 
 /// A method: its name and its body.
 #[derive(Debug, Drop)]
@@ -23,4 +24,21 @@ pub(crate) fn find_body<'a>(bodies: &'a [Body], name: &Name) -> &'a [Stmt]
         }
     }
     &[]
+}
+
+/// The methods of a class, each with a copy of its body. The only error is want of memory.
+pub(crate) fn copy_bodies(
+    alloc: Global,
+    methods: &[ProcessMethod],
+) -> Result<Items<Body>, AllocError>
+    ensures { IfOk result (λ bodies. bodies_view bodies ≡ bodies_of_methods methods.now) }
+{
+    let mut bodies = Items::new(alloc);
+    for method in methods {
+        bodies.push(Body {
+            name: method.name.name.copy()?,
+            statements: copy_statements(alloc, method.body.as_slice())?,
+        })?;
+    }
+    Ok(bodies)
 }

@@ -1,5 +1,5 @@
 // Laws of the rules, each as the contract of a function that does nothing.
-ghost use Rattle.pz_term.specs.Laws.{TimeWaits, LeastPasses, OneListOfOffers, EveryMoment, OneMoment, EveryFirstRun, OneFirstRun, FirstRunsAreRuns};
+ghost use Rattle.pz_term.specs.Laws.{TimeWaits, LeastPasses, ActsAfterTime, OneListOfOffers, EveryMoment, OneMoment, EveryFirstRun, OneFirstRun, FirstRunsAreRuns};
 
 /// Time never passes while an action is possible.
 pub fn time_waits()
@@ -9,6 +9,11 @@ pub fn time_waits()
 /// A passing is by the least that is left of an active delay, and by one clock unit or more.
 pub fn least_passes()
     ensures { LeastPasses }
+{}
+
+/// Once time has passed, an action is possible.
+pub fn acts_after_time()
+    ensures { ActsAfterTime }
 {}
 
 /// A configuration has one list of offers.

@@ -1,8 +1,9 @@
 use crate::acting::{chosen, collect};
-use crate::bodies::Body;
+use crate::bodies::{Body, copy_bodies};
 use crate::passing::pass;
-use crate::term::{Term, count_actions, is_done, least_delay};
+use crate::term::{Term, count_actions, first_call, is_done, least_delay};
 use crate::{Action, Moment, Place};
+use pz_ast::{Decl, Model, ProcessClass};
 use pz_items::Items;
 use std::alloc::{AllocError, Global};
 use std::mem::{self, drop};
@@ -41,16 +42,54 @@ impl Plain {
     ghost use Rattle.std.specs.Prelude.{◌≡◌, ◌<◌, ◌≤◌, ◌^◌, ℕ, [], true, false, IfOk, OnOk, IfErr, OnErr, IsErrOf};
     ghost use Rattle.pz_term.specs.Moments.{IsMoment};
     ghost use Rattle.pz_term.specs.Refusals.{OnNoSuchOffer, OnChooseNotNow, OnChooseRefused, NoActions, OnPassNotNow, OnPassRefused, NoTime};
-    ghost use Rattle.pz_ast.specs.ClassView.{model_view};
-    ghost use Rattle.pz_term.specs.FirstPath.{IsFirstPath, FirstModel, tree_of};
+    ghost use Rattle.pz_ast.specs.ClassView.{model_view, process_class_view};
+    ghost use Rattle.pz_term.specs.FirstPath.{IsFirstPath, FirstModel, class_of, tree_of};
     ghost use Rattle.pz_term.specs.Start.{bodies_of, start as start_of};
     ghost use Rattle.pz_term.specs.Offers.{IsOffers};
     ghost use Rattle.pz_term.specs.Simulations.{Simulation, IsMomentOf, Chooses, Passes};
     ghost use Rattle.pz_term.specs.Plains.{simulation_of};
 
+    /// The simulator of a model of the first path, before its first step. It copies what it needs
+    /// of the model. The only error is want of memory.
+    pub fn start(alloc: Global, model: &Model) -> Result<Plain, AllocError>
+        requires { IsFirstPath (model_view model.now) }
+        ensures { IfOk result (λ plain. (m : FirstModel) → model_view model.now ≡ tree_of m →
+            simulation_of plain ≡ record { bodies = bodies_of m; config = start_of m; broken = false }) }
+    {
+        match model.decls.as_slice() {
+            [Decl::Process(class), ..] => Plain::of_class(alloc, class),
+            _ => unreachable!(),
+        }
+    }
+
+    // The simulator of the one process of this class.
+    fn of_class(alloc: Global, class: &ProcessClass) -> Result<Plain, AllocError>
+        requires { (m : FirstModel) × (process_class_view class.now ≡ class_of m) }
+        ensures { IfOk result (λ plain. (m : FirstModel) → process_class_view class.now ≡ class_of m →
+            simulation_of plain ≡ record { bodies = bodies_of m; config = start_of m; broken = false }) }
+    {
+        let Some(start) = &class.start else {
+            unreachable!()
+        };
+        let Some(methods) = &class.methods else {
+            unreachable!()
+        };
+        let bodies = copy_bodies(alloc, methods.as_slice())?;
+        let term = first_call(alloc, &start.method)?;
+        Ok(Plain {
+            alloc,
+            clock: 0,
+            term,
+            bodies,
+            broken: false,
+        })
+    }
+
     /// What can happen next. Takes no memory.
     pub fn moment(&mut self) -> Moment
         ensures moment { IsMomentOf (simulation_of self.old) result }
+        // No constant of a delay is longer.
+        ensures short { (time : ℕ) → result ≡ Moment.Time time → time < 2 ^ 64 }
         ensures unchanged { self.new ≡ self.old }
     {
         if self.broken {

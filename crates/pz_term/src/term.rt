@@ -1,5 +1,7 @@
 ghost use Rattle.std.specs.Prelude.{◌≡◌, [], ◌∷◌, ◌++◌, ◌<◌, ◌≤◌, ◌+◌, ◌-◌, ◌^◌, length, IfOk, OnOk, Some, None, MatchOption, map, ◌==◌};
 ghost use Rattle.pz_ast.specs.StatementView.{sequence_view, view};
+ghost use Rattle.pz_ast.specs.Expressions.{none};
+ghost use Rattle.pz_ast.specs.Statements.{call};
 ghost use Rattle.pz_term.specs.Terms as terms;
 ghost use Rattle.pz_term.specs.Opening.{open_statements};
 ghost use Rattle.pz_term.specs.Delays.{pass_term};
@@ -77,6 +79,22 @@ pub enum Term {
         results: Items<Id>,
         body: Boxed<Term>,
     },
+}
+
+/// The term of a process that has not begun: the call that its `init` names, at the place of the
+/// method's name. The only error is want of memory.
+pub fn first_call(alloc: Global, method: &Id) -> Result<Term, AllocError>
+    ensures { IfOk result (λ term. term_view term ≡ terms.leaf (call method.now.pos method.now none [])) }
+{
+    let form = StmtForm::Call {
+        method: method.copy()?,
+        args: Items::new(alloc),
+        results: Items::new(alloc),
+    };
+    Ok(Term::Leaf(Stmt {
+        pos: method.pos,
+        form,
+    }))
 }
 
 /// The time of a delay, in clock units, if it is a constant.
