@@ -19,3 +19,4 @@ pub mod Now
 pub mod Lined
 pub mod Rests
 pub mod Weights
+pub mod Goings

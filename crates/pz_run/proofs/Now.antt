@@ -73,3 +73,11 @@ module _ (one : OneMoment) (s : Simulation) (whole : s.broken ≡ false) (n : �
       where
         same : Some a ≡ Some b → a ≡ b
         same e = cc
+
+-- there is a first of the offers
+pub some_choice : (c : Config) (n : ℕ) → IsMoment c (Actions n) → (a : Action) × IsChoice c n 0 a
+some_choice c n is = let o = counted c (Actions n) n refl is in first_of o.0 o.1 o.2 o.3
+  where
+    first_of : (xs : List Action) → IsOffers c xs → n ≡ length xs → 0 < n → (a : Action) × IsChoice c n 0 a
+    first_of [] are count some = absurd (omega (arith, count, some))
+    first_of (x ∷ xs) are count some = (x, record { offers = x ∷ xs; all = are; count = count; chosen = refl })

@@ -1,10 +1,5 @@
-use Rattle.pz_term.specs.Plains.{simulation_of}
-use Rattle.pz_run.proofs.Now.{passes_now}
 use Rattle.pz_run.proofs.Writes.{nothing_written}
 use Rattle.pz_run.proofs.running.print_passing.Goals as goal
 
 pub returns-in_err-line-clause-wrote : goal.returns-in_err-line-clause-wrote
 returns-in_err-line-clause-wrote g c path = nothing_written _ _ c.from_residual.result c.from_residual.ensures.1
-
-pub unreachable-requires : goal.unreachable-requires
-unreachable-requires g c = ?
