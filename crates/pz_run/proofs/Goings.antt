@@ -106,7 +106,7 @@ module _ (path : List ℕ) (first : Simulation) (before : Sinks) where
             early = omega (arith, clock, weight_small m, going.early);
             short = short;
             leaves = subst (λ (c : Config). Leaves path first.bodies first.config c left before after) (sym config)
-              (rests.acted_on path first.bodies first.config before s.config left now after n chooses.action v going.leaves acts choice (wrote chooses.action choice));
+                (rests.acted_on path first.bodies first.config before s.config left now after n chooses.action v going.leaves acts choice (wrote chooses.action choice));
           }
         where
           same_count : {k : ℕ} → Actions k ≡ Actions n → k ≡ n

@@ -20,3 +20,6 @@ pub mod Lined
 pub mod Rests
 pub mod Weights
 pub mod Goings
+pub mod Keeps
+pub mod Begun
+pub mod SaidRuns

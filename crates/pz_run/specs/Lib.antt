@@ -12,3 +12,4 @@ pub mod Status
 pub mod Output
 pub mod Writing
 pub mod Promises
+pub mod Keeping

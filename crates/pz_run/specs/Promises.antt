@@ -25,11 +25,13 @@ pub record PrintsSome (words : List (List ℕ)) (files : Entries) (before now : 
   pub prints : Prints words files bytes status
   pub front : IsFront before now bytes
 
--- the same, or a front of the line of a read fault, where the count of the files rose
+-- nothing was taken yet, or a front of what is to be printed, or a front of the line of a read
+-- fault where the count of the files rose
 abbrev pub PrintsFront : List (List ℕ) → Entries → ℕ → ℕ → List ℕ → List ℕ → Type 0
 PrintsFront words files faults_before faults_now before now =
-    PrintsSome words files before now
-    ⊎ (Rose faults_before faults_now × (name : List ℕ) × (first_job words ≡ Some name) × IsFront before now (read_fault_line name))
+    (now ≡ before)
+    ⊎ (PrintsSome words files before now
+    ⊎ (Rose faults_before faults_now × (name : List ℕ) × (first_job words ≡ Some name) × IsFront before now (read_fault_line name)))
 
 -- the bytes taken since are the line of a read fault of the model
 abbrev pub TakesFaultLine : List (List ℕ) → List ℕ → List ℕ → Type 0

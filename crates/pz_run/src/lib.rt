@@ -3,9 +3,11 @@
 
 mod lines;
 mod printing;
+mod program;
 mod reading;
 mod running;
 mod status;
 mod words;
 
+pub use program::run_program;
 pub use status::Status;

@@ -1,5 +1,5 @@
 // Pieces of the output, and last lines.
-ghost use Rattle.std.specs.Prelude.{◌≡◌, ◌≢◌, List, ℕ};
+ghost use Rattle.std.specs.Prelude.{◌≡◌, ◌≢◌, List, ℕ, IfOk, string_bytes};
 ghost use Rattle.pz_run.specs.Writing.{Sinks, Wrote, Said};
 
 use crate::Status;
@@ -31,5 +31,33 @@ pub fn put<W: Sink>(out: &mut W, text: &str) -> Result<(), Halt>
     match write_all(out, text.as_bytes()) {
         Ok(()) => Ok(()),
         Err(_) => Err(Halt::WriteFault),
+    }
+}
+
+/// Writes the last text of a job, and gives its status.
+pub fn say<W: Sink>(out: &mut W, text: &str, status: Status) -> Status
+    requires ordinary { status ≢ Status.WriteFault }
+    requires ample { status ≢ Status.NoMemory }
+    ensures { Said (record { told = W.told out.old; faults = W.faults out.old; taken = W.taken out.old })
+        (record { told = W.told out.new; faults = W.faults out.new; taken = W.taken out.new }) text.now status result }
+{
+    match put(out, text) {
+        Ok(()) => status,
+        Err(Halt::WriteFault) => Status::WriteFault,
+        Err(Halt::NoMemory) => Status::NoMemory,
+    }
+}
+
+/// The same, for a line that was made, if memory was there.
+pub fn say_line<W: Sink>(out: &mut W, line: Result<String, AllocError>, status: Status) -> Status
+    requires ordinary { status ≢ Status.WriteFault }
+    requires ample { status ≢ Status.NoMemory }
+    ensures { (text : List ℕ) → IfOk line (λ made. string_bytes made ≡ text) →
+        Said (record { told = W.told out.old; faults = W.faults out.old; taken = W.taken out.old })
+        (record { told = W.told out.new; faults = W.faults out.new; taken = W.taken out.new }) text status result }
+{
+    match line {
+        Ok(line) => say(out, line.as_str(), status),
+        Err(_) => Status::NoMemory,
     }
 }

@@ -16,10 +16,11 @@ ghost use Rattle.pz_run.specs.Writing.{Sinks, Wrote};
 use crate::Status;
 use crate::lines::{HEADER, action_line, ending_line, time_line};
 use crate::printing::{Halt, put};
-use pz_ast::Model;
+use pz_ast::{Decl, Model};
 use pz_io::Sink;
 use pz_term::{ChooseError, Moment, PassError, Plain, laws};
 use std::alloc::{AllocError, Global};
+use std::mem::drop;
 
 // A run stops before one action more.
 const ACTION_LIMIT: u64 = 1000;
@@ -159,4 +160,58 @@ fn print_rest<W: Sink>(
         }
         moment = plain.moment();
     }
+}
+
+// The name of the one instance.
+fn instance_name(model: &Model) -> &str
+    requires { IsFirstPath (model_view model.now) }
+    ensures { (m : FirstModel) → model_view model.now ≡ tree_of m → result.now ≡ m.instance.name }
+{
+    let [_, Decl::System(system)] = model.decls.as_slice() else {
+        unreachable!()
+    };
+    let Some(instances) = &system.instances else {
+        unreachable!()
+    };
+    let [instance] = instances.as_slice() else {
+        unreachable!()
+    };
+    instance.name.name.as_str()
+}
+
+// Writes the whole trace, from the start of the simulator on.
+fn print_trace<W: Sink>(
+    alloc: Global,
+    path: &str,
+    plain: &mut Plain,
+    out: &mut W,
+) -> Result<Status, Halt>
+    requires whole { (simulation_of plain.old).broken ≡ false }
+    requires early { (simulation_of plain.old).config.clock ≡ 0 }
+    ensures { (events : List Event) (clock : ℕ) (ending : Ending) →
+        IsFirstRun (simulation_of plain.old).bodies action_limit (simulation_of plain.old).config events clock ending →
+        Wrote (record { told = W.told out.old; faults = W.faults out.old; taken = W.taken out.old })
+        (record { told = W.told out.new; faults = W.faults out.new; taken = W.taken out.new })
+        (trace_text path.now events clock ending) result
+        × IfOk result (λ status. status ≡ status_of ending) }
+{
+    put(out, HEADER)?;
+    print_rest(alloc, path, plain, out)
+}
+
+/// Runs a model of the first path, always taking the first offer, and writes its trace. It stops
+/// before one action more than the limit. The status is that of the end of the run.
+pub fn run<W: Sink>(alloc: Global, model: &Model, out: &mut W) -> Result<Status, Halt>
+    requires { IsFirstPath (model_view model.now) }
+    ensures { (m : FirstModel) → model_view model.now ≡ tree_of m → (events : List Event) (clock : ℕ) (ending : Ending) →
+        IsFirstRun (bodies_of m) action_limit (start m) events clock ending →
+        Wrote (record { told = W.told out.old; faults = W.faults out.old; taken = W.taken out.old })
+        (record { told = W.told out.new; faults = W.faults out.new; taken = W.taken out.new })
+        (trace_text m.instance.name events clock ending) result
+        × IfOk result (λ status. status ≡ status_of ending) }
+{
+    let mut plain = Plain::start(alloc, model)?;
+    let status = print_trace(alloc, instance_name(model), &mut plain, out);
+    drop(plain);
+    status
 }

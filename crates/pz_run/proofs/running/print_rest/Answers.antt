@@ -47,14 +47,14 @@ moments-preserved g c =
       | in-Time+in_ok-print_passing-in-Time w ↦
           rw (c.moment-moment-in-moments.ensures.unchanged, w.plain-is, w.out-is, w.left-is)
           (passes_on c.args.path.now _ _ c.one_moment.ensures.one _ c.moments.left _ w.in-Time.time (rw w.in-Time.is at c.moments.invariant)
-              c.acts_after_time.ensures _ c.moment-moment-in-moments.result _ w.in_ok-print_passing-in-Time.field-0
-              w.in_ok-print_passing-in-Time.ensures.passed (w.in_ok-print_passing-in-Time.ensures.wrote c.args.path.now)
-              (rw w.plain-is at c.moment-moment-in-moments.ensures.moment) c.moment-moment-in-moments.ensures.short)
+          c.acts_after_time.ensures _ c.moment-moment-in-moments.result _ w.in_ok-print_passing-in-Time.field-0
+          w.in_ok-print_passing-in-Time.ensures.passed (w.in_ok-print_passing-in-Time.ensures.wrote c.args.path.now)
+          (rw w.plain-is at c.moment-moment-in-moments.ensures.moment) c.moment-moment-in-moments.ensures.short)
       | in-Actions+else-left-eq0+in_ok-print_action-in-Actions w ↦
           let one_left : c.moments.left ≡ suc (c.moments.left - 1) = omega (arith, w.if-left-eq0.false) in
           rw (c.moment-moment-in-moments.ensures.unchanged, w.plain-is, w.out-is, w.left-is)
           (acts_on c.args.path.now _ _ c.one_moment.ensures.one _ (c.moments.left - 1) _ w.in-Actions.offers (rw (w.in-Actions.is, one_left) at c.moments.invariant)
-              _ c.moment-moment-in-moments.result _ w.in_ok-print_action-in-Actions.field-0
-              w.in_ok-print_action-in-Actions.ensures.chosen w.in_ok-print_action-in-Actions.ensures.wrote
-              (rw w.plain-is at c.moment-moment-in-moments.ensures.moment) c.moment-moment-in-moments.ensures.short)
+          _ c.moment-moment-in-moments.result _ w.in_ok-print_action-in-Actions.field-0
+          w.in_ok-print_action-in-Actions.ensures.chosen w.in_ok-print_action-in-Actions.ensures.wrote
+          (rw w.plain-is at c.moment-moment-in-moments.ensures.moment) c.moment-moment-in-moments.ensures.short)
     ]

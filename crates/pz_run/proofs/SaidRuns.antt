@@ -1,0 +1,62 @@
+-- What is said of a run, and of the text of a model.
+use Rattle.std.proofs.Common.{◌≡◌, ◌≢◌, ◌⊎◌, inl, inr, ◌∙◌, ℕ, List, Result, Ok, Err, IfOk, refl, sym, subst, ap, String}
+use Rattle.std.specs.String.{string_bytes}
+use Rattle.std.specs.declared.alloc.Global.{Global}
+use Rattle.pz_ast.specs.declared.tokens.Pos.{Pos}
+use Rattle.pz_term.specs.FirstPath.{FirstModel}
+use Rattle.pz_term.specs.Laws.{HasFirstRun}
+use Rattle.pz_term.specs.Runs.{Ending, ended, deadlocked, stopped}
+use Rattle.pz_term.specs.Start.{bodies_of, start}
+use Rattle.pz_run.specs.FirstTexts.{IsModelOf}
+use Rattle.pz_run.specs.Keeping.{SaysRun, SaysModel, Unsaid}
+use Rattle.pz_run.specs.Lines.{unbuilt_line}
+use Rattle.pz_run.specs.Output.{action_limit, run, refuses, runs}
+use Rattle.pz_run.specs.Status.{status_of}
+use Rattle.pz_run.specs.TraceText.{trace_text}
+use Rattle.pz_run.specs.Writing.{Sinks, Wrote, Said}
+use Rattle.pz_run.specs.declared.printing.Halt.{Halt}
+use Rattle.pz_run.specs.declared.printing.Halt.TheVariants as halt
+use Rattle.pz_run.specs.declared.status.Status.{Status}
+use Rattle.pz_run.specs.declared.status.Status.TheVariants.{Done, Deadlock, ModelRefused, WriteFault, NoMemory}
+use Rattle.pz_run.proofs.Writes.{wrote_said, halt_said_memory, halt_said_fault}
+
+no_fault : (x : Ending) → status_of x ≡ WriteFault → ⊥
+no_fault ended e = cc
+no_fault deadlocked e = cc
+no_fault stopped e = cc
+
+module _ (m : FirstModel) (before now : Sinks) (r : HasFirstRun (bodies_of m) action_limit (start m)) where
+  pub says_end : (s : Status) → Wrote {T = Status} before now (trace_text m.instance.name r.events r.clock r.ending) (Ok s) → s ≡ status_of r.ending → SaysRun m before now s
+  says_end s wrote is = record {
+    bytes = trace_text m.instance.name r.events r.clock r.ending;
+    wanted = status_of r.ending;
+    prints = run r.events r.clock r.ending r.run;
+    said = subst (λ (w : Status). Said before now (trace_text m.instance.name r.events r.clock r.ending) w s) is
+      (wrote_said before now (trace_text m.instance.name r.events r.clock r.ending) s wrote (λ e. no_fault r.ending (sym is ∙ e)));
+  }
+
+  pub says_memory : Wrote {T = Status} before now (trace_text m.instance.name r.events r.clock r.ending) (Err halt.NoMemory) → SaysRun m before now NoMemory
+  says_memory wrote = record {
+    bytes = trace_text m.instance.name r.events r.clock r.ending;
+    wanted = status_of r.ending;
+    prints = run r.events r.clock r.ending r.run;
+    said = halt_said_memory {T = Status} before now (trace_text m.instance.name r.events r.clock r.ending) (status_of r.ending) wrote;
+  }
+
+  pub says_fault : Wrote {T = Status} before now (trace_text m.instance.name r.events r.clock r.ending) (Err halt.WriteFault) → SaysRun m before now WriteFault
+  says_fault wrote = record {
+    bytes = trace_text m.instance.name r.events r.clock r.ending;
+    wanted = status_of r.ending;
+    prints = run r.events r.clock r.ending r.run;
+    said = halt_said_fault {T = Status} before now (trace_text m.instance.name r.events r.clock r.ending) (status_of r.ending) wrote;
+  }
+
+module _ (text : List ℕ) (before now : Sinks) (given : Status) where
+  pub says_model : (m : FirstModel) → IsModelOf text m → SaysRun m before now given → Unsaid before now given ⊎ SaysModel text before now given
+  says_model m is says = inr (record { bytes = says.bytes; wanted = says.wanted; prints = runs m says.bytes says.wanted is says.prints; said = says.said })
+
+  pub says_unbuilt : (at : Pos) → ((m : FirstModel) → ¬ IsModelOf text m) → Said before now (unbuilt_line at) ModelRefused given → Unsaid before now given ⊎ SaysModel text before now given
+  says_unbuilt at none said = inr (record { bytes = unbuilt_line at; wanted = ModelRefused; prints = refuses at none; said = said })
+
+pub says_nothing : (text : List ℕ) (s : Sinks) → Unsaid s s NoMemory ⊎ SaysModel text s s NoMemory
+says_nothing text s = inl (record { nothing = refl; wanting = refl })

@@ -1,0 +1,133 @@
+// The top call.
+ghost use Rattle.std.specs.Prelude.{◌≡◌, ◌≢◌, ◌⊎◌, ◌<◌, ◌≤◌, ◌++◌, ℕ, List, true, None, Some, length, map, string_bytes};
+ghost use Rattle.pz_ast.specs.ClassView.{model_view};
+ghost use Rattle.pz_io.specs.Outside.{raised, Rose};
+ghost use Rattle.pz_term.specs.FirstPath.{FirstModel, IsFirstPath, tree_of};
+ghost use Rattle.pz_run.specs.Keeping.{Shelf, Keeps, Unsaid, SaysModel, SaysRun};
+ghost use Rattle.pz_run.specs.Output.{model_limit};
+ghost use Rattle.pz_run.specs.Promises.{PrintsAll, PrintsFront, TakesFaultLine, Lacks, IsLonger, IsNoModel};
+ghost use Rattle.pz_run.specs.Words.{first_job};
+ghost use Rattle.pz_run.specs.Writing.{Sinks};
+
+use crate::Status;
+use crate::lines::{USAGE, read_fault_line, too_long_line, unbuilt_line};
+use crate::printing::{Halt, say, say_line};
+use crate::reading::{ReadModelError, read_model};
+use crate::running::run;
+use crate::words::read_words;
+use pz_ast::Model;
+use pz_io::{Files, ReadAllError, Sink, read_all};
+use pz_term::laws;
+use std::alloc::Global;
+use std::mem::drop;
+
+// The most bytes that a model may have.
+const MODEL_LIMIT: usize = 1_048_576;
+
+/// Does the job that the words ask for, over the files, and prints to the sink.
+///
+/// The words are those of the command line after the program's name. The only job today is
+/// `run MODEL --first`: it reads the named model, runs it from offer 0 to offer 0, and prints the
+/// trace. Each line goes out in one `write_all`. If a write fails, nothing more is written.
+///
+/// What is promised of contents holds over files and a sink that tell what they hold; what is
+/// promised of causes holds always. Want of memory, `NoMemory`, is the one answer without a cause.
+pub fn run_program<F: Files, W: Sink>(
+    alloc: Global,
+    words: &[String],
+    files: &mut F,
+    out: &mut W,
+) -> Status
+    // What is printed, and the status, are those of the definitions: the text of a run of the rules,
+    // for a model of the first path.
+    ensures output { F.told files.old ≡ true → W.told out.old ≡ true → result ≢ Status.WriteFault → result ≢ Status.NoMemory →
+        ¬ ((result ≡ Status.ReadFault) × Rose (F.faults files.old) (F.faults files.new)) →
+        PrintsAll (map string_bytes words.now) (F.held files.old) (W.taken out.old) (W.taken out.new) result }
+    // Where the files failed, the line that says so names the model, which was opened once.
+    ensures read_fault { W.told out.old ≡ true → result ≡ Status.ReadFault → Rose (F.faults files.old) (F.faults files.new) →
+        TakesFaultLine (map string_bytes words.now) (W.taken out.old) (W.taken out.new) }
+    ensures opens { (name : List ℕ) → first_job (map string_bytes words.now) ≡ Some name → F.opens files.new ≡ raised (F.opens files.old) }
+    // What is printed before a write fails, or memory is wanting, is a front of what is to be printed.
+    ensures write_fault { F.told files.old ≡ true → W.told out.old ≡ true → result ≡ Status.WriteFault →
+        PrintsFront (map string_bytes words.now) (F.held files.old) (F.faults files.old) (F.faults files.new) (W.taken out.old) (W.taken out.new) }
+    ensures no_memory { F.told files.old ≡ true → W.told out.old ≡ true → result ≡ Status.NoMemory →
+        PrintsFront (map string_bytes words.now) (F.held files.old) (F.faults files.old) (F.faults files.new) (W.taken out.old) (W.taken out.new) }
+
+    // When each answer comes.
+    ensures usage { result ≡ Status.Usage → first_job (map string_bytes words.now) ≡ None }
+    ensures no_job { first_job (map string_bytes words.now) ≡ None → result ≢ Status.WriteFault → result ≢ Status.NoMemory → result ≡ Status.Usage }
+    ensures model_refused { F.told files.old ≡ true → result ≡ Status.ModelRefused → IsNoModel (map string_bytes words.now) (F.held files.old) }
+    ensures too_long { result ≡ Status.TooLong → model_limit < F.handed files.new }
+    ensures longer { F.told files.old ≡ true → result ≡ Status.TooLong → IsLonger (map string_bytes words.now) (F.held files.old) }
+    ensures read_cause { result ≡ Status.ReadFault → Rose (F.faults files.old) (F.faults files.new)
+        ⊎ ((F.told files.old ≡ true) × Lacks (map string_bytes words.now) (F.held files.old)) }
+    ensures write_cause { result ≡ Status.WriteFault → Rose (W.faults out.old) (W.faults out.new) }
+    // Where neither count rose, the output is whole and the status is its own, or memory was wanting.
+    ensures complete { F.told files.old ≡ true → W.told out.old ≡ true →
+        ¬ Rose (F.faults files.old) (F.faults files.new) → ¬ Rose (W.faults out.old) (W.faults out.new) → result ≢ Status.NoMemory →
+        PrintsAll (map string_bytes words.now) (F.held files.old) (W.taken out.old) (W.taken out.new) result }
+{
+    run_words(alloc, words, files, out)
+}
+
+// The same, with all that is promised in one record.
+fn run_words<F: Files, W: Sink>(
+    alloc: Global,
+    words: &[String],
+    files: &mut F,
+    out: &mut W,
+) -> Status
+    ensures { Keeps (map string_bytes words.now)
+        (record { told = F.told files.old; held = F.held files.old; faults = F.faults files.old; opens = F.opens files.old; handed = F.handed files.old })
+        (record { told = F.told files.new; held = F.held files.new; faults = F.faults files.new; opens = F.opens files.new; handed = F.handed files.new })
+        (record { told = W.told out.old; faults = W.faults out.old; taken = W.taken out.old })
+        (record { told = W.told out.new; faults = W.faults out.new; taken = W.taken out.new }) result }
+{
+    let Some(name) = read_words(words) else {
+        return say(out, USAGE, Status::Usage);
+    };
+    match read_all(alloc, files, name, MODEL_LIMIT) {
+        Ok(text) => run_text(alloc, &text, out),
+        Err(ReadAllError::NoMemory) => Status::NoMemory,
+        Err(ReadAllError::TooLong) => { say_line(out, too_long_line(alloc, name), Status::TooLong) }
+        Err(ReadAllError::Fault) => {
+            say_line(out, read_fault_line(alloc, name), Status::ReadFault)
+        }
+    }
+}
+
+// Runs the model of this text, or refuses it.
+fn run_text<W: Sink>(alloc: Global, text: &[u8], out: &mut W) -> Status
+    requires { length text.now ≤ 1048576 }
+    ensures { Unsaid (record { told = W.told out.old; faults = W.faults out.old; taken = W.taken out.old })
+        (record { told = W.told out.new; faults = W.faults out.new; taken = W.taken out.new }) result
+        ⊎ SaysModel text.now (record { told = W.told out.old; faults = W.faults out.old; taken = W.taken out.old })
+        (record { told = W.told out.new; faults = W.faults out.new; taken = W.taken out.new }) result }
+{
+    match read_model(alloc, text) {
+        Ok(model) => {
+            let status = run_model(alloc, &model, out);
+            drop(model);
+            status
+        }
+        Err(ReadModelError::NoMemory) => Status::NoMemory,
+        Err(ReadModelError::Unbuilt(at)) => {
+            say_line(out, unbuilt_line(alloc, at), Status::ModelRefused)
+        }
+    }
+}
+
+// Runs the model.
+fn run_model<W: Sink>(alloc: Global, model: &Model, out: &mut W) -> Status
+    requires { IsFirstPath (model_view model.now) }
+    ensures { (m : FirstModel) → model_view model.now ≡ tree_of m → SaysRun m
+        (record { told = W.told out.old; faults = W.faults out.old; taken = W.taken out.old })
+        (record { told = W.told out.new; faults = W.faults out.new; taken = W.taken out.new }) result }
+{
+    laws::one_first_run();
+    match run(alloc, model, out) {
+        Ok(status) => status,
+        Err(Halt::NoMemory) => Status::NoMemory,
+        Err(Halt::WriteFault) => Status::WriteFault,
+    }
+}
