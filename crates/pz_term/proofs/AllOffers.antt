@@ -11,7 +11,8 @@ use Rattle.pz_term.specs.Terms.{Place}
 use Rattle.pz_term.specs.LocalActions.{Can}
 use Rattle.pz_term.specs.Configurations.{Process, Config}
 use Rattle.pz_term.specs.Offers.{Offers, internal, PlaceBefore, EndBefore, Before, IsOffers}
-use Rattle.pz_term.specs.Twins.{Local, local_actions, of_process, offers_from, offers_of}
+use Rattle.pz_term.specs.Twins.{Local, local_actions, of_process}
+use Rattle.pz_term.proofs.Computed.{offers_from, offers_of}
 use Rattle.pz_term.proofs.Lists.{Contains-map, All-Contains, AllPairs-nil, AllPairs-map, AllPairs-append, one_increasing}
 use Rattle.pz_term.proofs.LocalOffers as locals
 

@@ -10,7 +10,7 @@ use Rattle.pz_term.specs.Offers.{IsOffers}
 use Rattle.pz_term.specs.Moments.{IsMoment, acting, passing, finished, deadlock}
 use Rattle.pz_term.specs.Runs.{Event, acted, passed, Ending, ended, deadlocked, stopped, IsChoice, IsRun, IsFirstRun, ends, deadlocks, acts, passes, stops, stops_acting}
 use Rattle.pz_term.specs.Laws.{HasFirstRun, EveryFirstRun, OneFirstRun, FirstRunsAreRuns}
-use Rattle.pz_term.specs.Twins.{moment_of}
+use Rattle.pz_term.proofs.Computed.{moment_of}
 use Rattle.pz_term.proofs.AllOffers.{one_list, offers_are}
 use Rattle.pz_term.proofs.MomentsAre.{moment_is, one_moment, acts_after}
 

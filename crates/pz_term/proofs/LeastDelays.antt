@@ -11,7 +11,8 @@ use Rattle.pz_term.specs.Terms.{Term, done, leaf, wait, sequence, frame, Place}
 use Rattle.pz_term.specs.Delays.{Delays, not_begun, begun, in_sequence, in_frame}
 use Rattle.pz_term.specs.Configurations.{Process, Config}
 use Rattle.pz_term.specs.Moments.{IsLeft, IsLeast, AllDone}
-use Rattle.pz_term.specs.Twins.{statement_delay, term_delay, sooner, least_delay, is_done, all_done}
+use Rattle.pz_term.specs.Twins.{statement_delay, term_delay, is_done}
+use Rattle.pz_term.proofs.Computed.{sooner, least_delay, all_done}
 
 no_delay : {P : Type 0} {d : ℕ} → None ≡ Some d → P
 no_delay {P} {d} e = absurd (differ e)

@@ -16,7 +16,7 @@ use Rattle.pz_term.specs.Configurations.{Process, Config, pass, pass_process}
 use Rattle.pz_term.specs.Offers.{Offers, internal, IsOffers}
 use Rattle.pz_term.specs.Moments.{IsLeft, IsLeast, AllDone, IsMoment, acting, passing, finished, deadlock}
 use Rattle.pz_term.specs.Laws.{TimeWaits, LeastPasses, EveryMoment, OneMoment}
-use Rattle.pz_term.specs.Twins.{offers_of, least_delay, all_done, ending_moment, waiting_moment, moment_by, moment_of}
+use Rattle.pz_term.proofs.Computed.{offers_of, least_delay, all_done, ending_moment, waiting_moment, moment_by, moment_of}
 use Rattle.pz_term.proofs.AllOffers.{offers_are, one_list}
 use Rattle.pz_term.proofs.LeastDelays.{least_is, none_left, all_done_sound, all_done_complete}
 

@@ -12,13 +12,14 @@ use Rattle.pz_term.specs.Configurations.{Config, next, pass}
 use Rattle.pz_term.specs.Offers.{IsOffers}
 use Rattle.pz_term.specs.Moments.{IsMoment, IsLeast, acting, passing, finished, deadlock}
 use Rattle.pz_term.specs.Runs.{IsChoice}
-use Rattle.pz_term.specs.Twins.{Local, local_actions, of_process, offers_of, term_delay}
+use Rattle.pz_term.specs.Twins.{Local, local_actions, of_process, term_delay}
 use Rattle.pz_term.specs.Simulations.{Simulation, Chooses, Passes}
 use Rattle.pz_term.specs.Plains.{simulation_of}
 use Rattle.pz_term.specs.View.{term_view, bodies_view}
 use Rattle.pz_term.specs.declared.plain.Plain.{Plain}
 use Rattle.pz_term.specs.declared.bodies.Body.{Body}
 use Rattle.pz_term.specs.declared.term.Term as code
+use Rattle.pz_term.proofs.Computed.{offers_of}
 use Rattle.pz_term.proofs.AllOffers.{offers_are, one_list}
 use Rattle.pz_term.proofs.LeastDelays.{left_from, least_is}
 use Rattle.pz_term.proofs.MomentsAre.{time_parts}

@@ -10,14 +10,8 @@ use Rattle.pz_term.specs.declared.term.Term.TheVariants.{Done, Leaf, Wait, Seq, 
 use Rattle.pz_term.specs.Terms as terms
 use Rattle.pz_term.specs.View.{term_view, term_step}
 
-pub view-Done : term_view Done ≡ terms.done
-view-Done = ap term_view (sym rolls-Done) ∙ fold-roll-Term terms.Term term_step Term-F.Done
-
 pub view-Leaf : (s : Stmt) → term_view (Leaf s) ≡ terms.leaf (view s)
 view-Leaf s = ap term_view (sym (rolls-Leaf s)) ∙ fold-roll-Term terms.Term term_step (Term-F.Leaf s)
-
-pub view-Wait : (left : ℕ) (at : Pos) → term_view (Wait left at) ≡ terms.wait left at
-view-Wait left at = ap term_view (sym (rolls-Wait left at)) ∙ fold-roll-Term terms.Term term_step (Term-F.Wait left at)
 
 pub view-Seq : (t : Term) (rest : List Stmt) → term_view (Seq t rest) ≡ terms.sequence (term_view t) (sequence_view rest)
 view-Seq t rest = ap term_view (sym (rolls-Seq t rest)) ∙ fold-roll-Term terms.Term term_step (Term-F.Seq t rest)
