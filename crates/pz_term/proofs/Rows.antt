@@ -1,5 +1,5 @@
 -- Two worked models, computed: one with a delay, and one whose method calls itself at its end.
-use Rattle.std.proofs.Common.{◌≡◌, ◌∙◌, ℕ, List, [], ◌∷◌, Some, Bool, true, false, refl, sym, ap, subst, codes, arith, lit<}
+use Rattle.std.proofs.Common.{◌≡◌, ◌∙◌, ℕ, List, [], ◌∷◌, ◌++◌, Some, Bool, true, false, refl, sym, ap, subst, codes, arith, lit<}
 use Rattle.std.specs.Prelude.{All, Contains}
 use Rattle.std.specs.List.{list_any}
 use Rattle.std.specs.Str.{bytes_eq}
@@ -8,13 +8,20 @@ use Rattle.std.proofs.lemmas.List.Folds.{list_any_at}
 use Rattle.pz_ast.specs.declared.tokens.Pos.{Pos}
 use Rattle.pz_ast.specs.declared.names.Id.{Id}
 use Rattle.pz_ast.specs.Statements.{Statements, skip, no_statements, then}
-use Rattle.pz_ast.specs.Classes.{ModelTree}
+use Rattle.pz_ast.specs.Classes.{ProcessClassTree, process_class, system, ModelTree}
+use Rattle.pz_ast.specs.ClassView.{process_class_view, model_view}
+use Rattle.pz_ast.specs.StatementView.{sequence_view, view}
+use Rattle.pz_ast.specs.declared.stmts.Stmt.{Stmt}
+use Rattle.pz_ast.specs.declared.classes.ProcessClass.{ProcessClass}
+use Rattle.pz_ast.specs.declared.clusters.SystemDecl.{SystemDecl}
+use Rattle.pz_ast.specs.declared.clusters.Decl.{Decl}
+use Rattle.pz_ast.specs.declared.clusters.Decl.TheVariants.{Process, System}
 use Rattle.pz_term.specs.declared.action.Kind.{Kind}
 use Rattle.pz_term.specs.declared.action.Kind.TheVariants.{Skip, Expire, Call}
 use Rattle.pz_term.specs.declared.action.Action.{Action}
 use Rattle.pz_term.specs.declared.action.Action.TheVariants.{Internal}
 use Rattle.pz_term.specs.declared.moment.Moment.TheVariants.{Actions, Time, Finished}
-use Rattle.pz_term.specs.FirstPath.{Simple, skips, delays, calls, Routine, FirstModel, statement_of, statements_of, tree_of, IsBody, reserved, IsKnown, IsFirstPath}
+use Rattle.pz_term.specs.FirstPath.{Simple, skips, delays, calls, Routine, FirstModel, statement_of, statements_of, class_of, system_of, tree_of, IsBody, reserved, IsKnown, IsFirstPath}
 use Rattle.pz_term.specs.Terms.{Term, done, leaf, wait, sequence, frame, Place}
 use Rattle.pz_term.specs.Residual.{Bodies, after_action}
 use Rattle.pz_term.specs.Configurations.{Config, next, pass}
@@ -213,3 +220,30 @@ skip_leaves = refl
 
 tail_call_leaves : after_action (bodies_of repeating) before_call (0 ∷ []) ≡ begun
 tail_call_leaves = refl
+
+-- ---- lists and trees made push by push
+pub pushed_two : {X : Type 0} (none one two : List X) (x y : X) → none ≡ [] → one ≡ none ++ x ∷ [] → two ≡ one ++ y ∷ [] → two ≡ x ∷ y ∷ []
+pushed_two {X} none one two x y none_is one_is two_is =
+    two_is ∙ ap (λ (l : List X). l ++ y ∷ []) (one_is ∙ ap (λ (l : List X). l ++ x ∷ []) none_is)
+
+pub pushed_three : {X : Type 0} (none one two three : List X) (x y z : X) → none ≡ [] → one ≡ none ++ x ∷ [] → two ≡ one ++ y ∷ [] → three ≡ two ++ z ∷ [] → three ≡ x ∷ y ∷ z ∷ []
+pushed_three {X} none one two three x y z none_is one_is two_is three_is =
+    three_is ∙ ap (λ (l : List X). l ++ z ∷ []) (pushed_two none one two x y none_is one_is two_is)
+
+pub delaying_statements : (body : List Stmt) (x y z : Stmt) → body ≡ x ∷ y ∷ z ∷ []
+    → view x ≡ statement_of (skips (at 4 1)) → view y ≡ statement_of delay_statement → view z ≡ statement_of (skips (at 6 1))
+    → sequence_view body ≡ statements_of delaying_body
+delaying_statements body x y z body_is x_is y_is z_is = ap (λ (l : List Stmt). sequence_view l) body_is ∙ rw (x_is, y_is, z_is) refl
+
+pub repeating_statements : (body : List Stmt) (x y : Stmt) → body ≡ x ∷ y ∷ []
+    → view x ≡ statement_of (skips (at 3 15)) → view y ≡ statement_of (calls (named (codes "a") (at 3 21)))
+    → sequence_view body ≡ statements_of repeating_body
+repeating_statements body x y body_is x_is y_is = ap (λ (l : List Stmt). sequence_view l) body_is ∙ rw (x_is, y_is) refl
+
+pub tree_is : (m : FirstModel) (decls : List Decl) (class : ProcessClass) (the_system : SystemDecl)
+    → decls ≡ Process class ∷ System the_system ∷ [] → process_class_view class ≡ class_of m → the_system ≡ system_of m
+    → model_view (record { decls = decls }) ≡ tree_of m
+tree_is m decls class the_system decls_are class_is system_is =
+    ap (λ (ds : List Decl). model_view (record { decls = ds })) decls_are
+    ∙ ap (λ (c : ProcessClassTree). record { decls = process_class c ∷ system the_system ∷ [] }) class_is
+    ∙ ap (λ (s : SystemDecl). record { decls = process_class (class_of m) ∷ system s ∷ [] }) system_is

@@ -176,7 +176,10 @@ fn a_process_goes_through_its_moments(rt: HostRuntime) -> Result<(), Fail> {
 fn a_refusal_changes_nothing(rt: HostRuntime) -> Result<(), Fail> {
     let model = delaying_model(rt.alloc())?;
     let mut plain = Plain::start(rt.alloc(), &model)?;
-    assert_eq!(rt; plain.choose(1), Err(ChooseError::NoSuchOffer { offers: 1 }));
+    assert_eq!(rt;
+        plain.choose(1),
+        Err(ChooseError::NoSuchOffer { offers: 1 })
+    );
     assert_eq!(rt; plain.clock(), 0);
     assert_eq!(rt; plain.pass(), Err(PassError::NotNow(Moment::Actions(1))));
     assert_eq!(rt; only_offer(&mut plain)?, Some((Kind::Call, at(2, 6), 0)));
