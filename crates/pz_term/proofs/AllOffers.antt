@@ -1,5 +1,5 @@
 -- The computed offers of a configuration are the one list of the rules.
-use Rattle.std.proofs.Common.{◌≡◌, ◌≤◌, ◌<◌, ◌+◌, ◌⊎◌, inl, inr, ℕ, zero, suc, List, [], ◌∷◌, ◌++◌, map, length, get_or, Option, Some, None, refl, sym, subst, ap, ◌∙◌, arith}
+use Rattle.std.proofs.Common.{◌≡◌, ◌≤◌, ◌+◌, inl, inr, ℕ, zero, suc, List, [], ◌∷◌, map, get_or, Some, None, refl, subst, ◌∙◌, arith}
 use Rattle.std.specs.List.{All, AllPairs, Contains, slice_get}
 use Rattle.std.proofs.lemmas.List.Elements.{All-map, All-nil, All-append, All-contains, Contains-append_left, Contains-append_right}
 use Rattle.pz_ast.specs.declared.tokens.Pos.{Pos}

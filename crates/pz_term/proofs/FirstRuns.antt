@@ -1,17 +1,17 @@
 -- The run that always takes the first offer: it is there, there is one, and it is a run.
-use Rattle.std.proofs.Common.{◌≡◌, ◌≤◌, ◌<◌, ℕ, zero, suc, List, [], ◌∷◌, length, Option, Some, None, refl, sym, subst, ap, ◌∙◌, arith}
+use Rattle.std.proofs.Common.{◌≡◌, ◌<◌, ℕ, zero, suc, List, [], ◌∷◌, length, Some, refl, sym, subst, ap, ◌∙◌, arith}
 use Rattle.std.specs.List.{slice_get}
 use Rattle.pz_term.specs.declared.action.Action.{Action}
 use Rattle.pz_term.specs.declared.moment.Moment.{Moment}
-use Rattle.pz_term.specs.declared.moment.Moment.TheVariants.{Actions, Time, Finished, Deadlock}
+use Rattle.pz_term.specs.declared.moment.Moment.TheVariants.{Actions, Time}
 use Rattle.pz_term.specs.Residual.{Bodies}
 use Rattle.pz_term.specs.Configurations.{Config, next, pass}
 use Rattle.pz_term.specs.Offers.{IsOffers}
 use Rattle.pz_term.specs.Moments.{IsMoment, acting, passing, finished, deadlock}
-use Rattle.pz_term.specs.Runs.{Event, acted, passed, Ending, ended, deadlocked, stopped, IsChoice, IsRun, IsFirstRun, ends, deadlocks, acts, passes, stops, stops_acting}
+use Rattle.pz_term.specs.Runs.{Event, acted, passed, Ending, ended, deadlocked, stopped, IsChoice, IsFirstRun, ends, deadlocks, acts, passes, stops, stops_acting}
 use Rattle.pz_term.specs.Laws.{HasFirstRun, EveryFirstRun, OneFirstRun, FirstRunsAreRuns}
 use Rattle.pz_term.proofs.Computed.{moment_of}
-use Rattle.pz_term.proofs.AllOffers.{one_list, offers_are}
+use Rattle.pz_term.proofs.AllOffers.{one_list}
 use Rattle.pz_term.proofs.MomentsAre.{moment_is, one_moment, action_parts, acts_after}
 
 -- the first of some offers

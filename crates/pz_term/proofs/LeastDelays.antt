@@ -10,7 +10,7 @@ use Rattle.pz_ast.specs.Statements.{Statement, delay}
 use Rattle.pz_term.specs.Terms.{Term, done, leaf, wait, sequence, frame, Place}
 use Rattle.pz_term.specs.Delays.{Delays, not_begun, begun, in_sequence, in_frame}
 use Rattle.pz_term.specs.Configurations.{Process, Config}
-use Rattle.pz_term.specs.Moments.{IsLeft, IsLeast, AllDone}
+use Rattle.pz_term.specs.Moments.{IsLeft, IsLeast}
 use Rattle.pz_term.specs.Twins.{statement_delay, term_delay, is_done}
 use Rattle.pz_term.proofs.Computed.{sooner, least_delay, all_done}
 

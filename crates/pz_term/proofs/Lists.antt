@@ -1,7 +1,7 @@
 -- Lists in order, and what they contain.
-use Rattle.std.proofs.Common.{◌≡◌, ◌<◌, ◌≤◌, ◌⊎◌, inl, inr, ℕ, zero, suc, List, [], ◌∷◌, ◌++◌, map, length, get_or, refl, sym, subst, ap, arith}
+use Rattle.std.proofs.Common.{◌≡◌, ◌≤◌, ◌⊎◌, inl, inr, zero, suc, List, [], ◌∷◌, ◌++◌, map, length, refl, sym, subst, ap, arith}
 use Rattle.std.specs.List.{All, AllPairs, Contains}
-use Rattle.std.proofs.lemmas.List.Elements.{All-map, All-append, All-cons, All-contains}
+use Rattle.std.proofs.lemmas.List.Elements.{All-map, All-append, All-contains}
 use Rattle.std.proofs.lemmas.List.Kept.{AllPairs-cons}
 
 pub Contains-map : {X Y : Type 0} (f : X → Y) (xs : List X) (x : X) → Contains xs x → Contains (map f xs) (f x)

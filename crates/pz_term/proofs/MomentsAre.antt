@@ -1,6 +1,6 @@
 -- The computed moment is the one moment of the rules.
 use Rattle.std.proofs.Common.{◌≡◌, ◌≤◌, ◌<◌, ◌-◌, ℕ, zero, suc, List, [], ◌∷◌, map, length, Option, Some, None, Bool, true, false, refl, sym, subst, ap, ◌∙◌, arith}
-use Rattle.std.specs.List.{slice_get, Contains}
+use Rattle.std.specs.List.{slice_get}
 use Rattle.std.specs.Prelude.{option_map}
 use Rattle.std.proofs.lemmas.Option.{slice_get-map}
 use Rattle.pz_ast.specs.declared.tokens.Pos.{Pos}
@@ -8,15 +8,14 @@ use Rattle.pz_term.specs.declared.action.Kind.TheVariants.{Expire}
 use Rattle.pz_term.specs.declared.action.Action.{Action}
 use Rattle.pz_term.specs.declared.action.Action.TheVariants.{Internal}
 use Rattle.pz_term.specs.declared.moment.Moment.{Moment}
-use Rattle.pz_term.specs.declared.moment.Moment.TheVariants.{Actions, Time, Finished, Deadlock, Broken}
+use Rattle.pz_term.specs.declared.moment.Moment.TheVariants.{Actions, Time, Finished, Deadlock}
 use Rattle.pz_term.specs.Terms.{Term, wait, Place}
-use Rattle.pz_term.specs.Values.{duration_of}
 use Rattle.pz_term.specs.LocalActions as actions
 use Rattle.pz_term.specs.LocalActions.{Can}
-use Rattle.pz_term.specs.Delays.{Delays, not_begun, begun, in_sequence, in_frame, begin, pass_term}
+use Rattle.pz_term.specs.Delays.{Delays, not_begun, begun, in_sequence, in_frame, pass_term}
 use Rattle.pz_term.specs.Configurations.{Process, Config, pass, pass_process}
 use Rattle.pz_term.specs.Offers.{Offers, internal, IsOffers}
-use Rattle.pz_term.specs.Moments.{IsLeft, IsLeast, AllDone, IsMoment, acting, passing, finished, deadlock}
+use Rattle.pz_term.specs.Moments.{IsLeft, IsLeast, IsMoment, acting, passing, finished, deadlock}
 use Rattle.pz_term.specs.Laws.{TimeWaits, LeastPasses, EveryMoment, OneMoment}
 use Rattle.pz_term.proofs.Computed.{offers_of, least_delay, all_done, ending_moment, waiting_moment, moment_by, moment_of}
 use Rattle.pz_term.proofs.AllOffers.{offers_are, one_list}

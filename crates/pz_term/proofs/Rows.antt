@@ -1,5 +1,5 @@
 -- Two worked models, computed: one with a delay, and one whose method calls itself at its end.
-use Rattle.std.proofs.Common.{◌≡◌, ◌∙◌, ℕ, List, [], ◌∷◌, ◌++◌, Some, Bool, true, false, refl, sym, ap, subst, codes, arith, lit<}
+use Rattle.std.proofs.Common.{◌≡◌, ◌∙◌, ℕ, List, [], ◌∷◌, ◌++◌, Bool, true, false, refl, sym, ap, subst, codes, arith, lit<}
 use Rattle.std.specs.Prelude.{All, Contains}
 use Rattle.std.specs.List.{list_any}
 use Rattle.std.specs.Str.{bytes_eq}
@@ -23,10 +23,10 @@ use Rattle.pz_term.specs.declared.action.Action.TheVariants.{Internal}
 use Rattle.pz_term.specs.declared.moment.Moment.TheVariants.{Actions, Time, Finished}
 use Rattle.pz_term.specs.FirstPath.{Simple, skips, delays, calls, Routine, FirstModel, statement_of, statements_of, class_of, system_of, tree_of, IsBody, reserved, IsKnown, IsFirstPath}
 use Rattle.pz_term.specs.Terms.{Term, done, leaf, wait, sequence, frame, Place}
-use Rattle.pz_term.specs.Residual.{Bodies, after_action}
+use Rattle.pz_term.specs.Residual.{after_action}
 use Rattle.pz_term.specs.Configurations.{Config, next, pass}
 use Rattle.pz_term.specs.Offers.{IsOffers}
-use Rattle.pz_term.specs.Runs.{Event, acted, passed, ended, IsChoice, IsFirstRun, acts, passes, ends}
+use Rattle.pz_term.specs.Runs.{acted, passed, ended, IsChoice, IsFirstRun, acts, passes, ends}
 use Rattle.pz_term.specs.Start.{bodies_of, start}
 use Rattle.pz_term.proofs.AllOffers.{offers_are}
 use Rattle.pz_term.proofs.Computed.{offers_of, moment_of}

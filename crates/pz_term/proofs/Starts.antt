@@ -1,17 +1,14 @@
 -- The simulator at its start.
-use Rattle.std.proofs.Common.{◌≡◌, ℕ, List, [], ◌∷◌, map, Option, Some, None, option_map, Bool, false, refl, sym, ap, ◌∙◌}
+use Rattle.std.proofs.Common.{◌≡◌, ℕ, List, [], ◌∷◌, map, Option, Some, option_map, Bool, false, refl, sym, ap, ◌∙◌}
 use Rattle.pz_ast.specs.declared.classes.ProcessMethod.{ProcessMethod}
 use Rattle.pz_ast.specs.declared.classes.ProcessClass.{ProcessClass}
 use Rattle.pz_ast.specs.declared.classes.Start.{Start}
 use Rattle.pz_ast.specs.declared.names.Id.{Id}
 use Rattle.pz_ast.specs.Expressions.{none}
 use Rattle.pz_ast.specs.Statements.{Statements, call}
-use Rattle.pz_ast.specs.Classes.{ProcessMethodTree, StartTree, ProcessClassTree, ModelTree, DeclTree, process_class}
-use Rattle.pz_ast.specs.ClassView.{process_method_view, process_class_view, start_view, model_view, decl_view}
-use Rattle.pz_ast.specs.declared.clusters.Model.{Model}
-use Rattle.pz_ast.specs.declared.clusters.Decl.{Decl}
-use Rattle.pz_ast.specs.declared.clusters.Decl.TheVariants.{Process}
-use Rattle.pz_term.specs.FirstPath.{FirstModel, method_of, class_of, tree_of}
+use Rattle.pz_ast.specs.Classes.{ProcessMethodTree, StartTree, ProcessClassTree}
+use Rattle.pz_ast.specs.ClassView.{process_method_view, process_class_view, start_view}
+use Rattle.pz_term.specs.FirstPath.{FirstModel, method_of, class_of}
 use Rattle.pz_term.specs.Terms as terms
 use Rattle.pz_term.specs.Residual.{Bodies}
 use Rattle.pz_term.specs.Start.{bodies_of, start}

@@ -1,19 +1,16 @@
 -- What the one process does at a choice and at a passing.
-use Rattle.std.proofs.Common.{◌≡◌, ◌≤◌, ◌<◌, ◌+◌, ℕ, zero, suc, List, [], ◌∷◌, ◌++◌, map, length, Option, Some, None, Bool, true, false, refl, sym, subst, ap, ◌∙◌, arith}
+use Rattle.std.proofs.Common.{◌≡◌, ◌<◌, ◌+◌, ℕ, zero, suc, List, [], ◌∷◌, ◌++◌, map, length, Some, None, false, refl, sym, subst, ap, ◌∙◌, arith}
 use Rattle.std.specs.List.{slice_get}
-use Rattle.std.proofs.lemmas.List.{append-nil}
 use Rattle.pz_term.specs.declared.action.Action.{Action}
-use Rattle.pz_term.specs.declared.moment.Moment.{Moment}
-use Rattle.pz_term.specs.declared.moment.Moment.TheVariants.{Actions, Time, Finished, Deadlock}
+use Rattle.pz_term.specs.declared.moment.Moment.TheVariants.{Actions, Time}
 use Rattle.pz_term.specs.Terms.{Term}
 use Rattle.pz_term.specs.Residual.{Bodies, after_action}
 use Rattle.pz_term.specs.Delays.{pass_term}
 use Rattle.pz_term.specs.Configurations.{Config, next, pass}
-use Rattle.pz_term.specs.Offers.{IsOffers}
-use Rattle.pz_term.specs.Moments.{IsMoment, IsLeast, acting, passing, finished, deadlock}
+use Rattle.pz_term.specs.Moments.{IsMoment, IsLeast}
 use Rattle.pz_term.specs.Runs.{IsChoice}
 use Rattle.pz_term.specs.Twins.{Local, local_actions, of_process, term_delay}
-use Rattle.pz_term.specs.Simulations.{Simulation, Chooses, Passes}
+use Rattle.pz_term.specs.Simulations.{Chooses, Passes}
 use Rattle.pz_term.specs.Plains.{simulation_of}
 use Rattle.pz_term.specs.View.{term_view, bodies_view}
 use Rattle.pz_term.specs.declared.plain.Plain.{Plain}

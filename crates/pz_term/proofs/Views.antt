@@ -1,12 +1,11 @@
 -- What each form of the code's terms stands for.
-use Rattle.std.proofs.Common.{◌≡◌, ℕ, List, ap, sym, ◌∙◌}
-use Rattle.pz_ast.specs.declared.tokens.Pos.{Pos}
+use Rattle.std.proofs.Common.{◌≡◌, List, ap, sym, ◌∙◌}
 use Rattle.pz_ast.specs.declared.names.Id.{Id}
 use Rattle.pz_ast.specs.declared.stmts.Stmt.{Stmt}
 use Rattle.pz_ast.specs.StatementView.{sequence_view, view}
 use Rattle.pz_term.specs.declared.term.Term.{Term, fold-roll-Term}
 use Rattle.pz_term.specs.declared.term.Term.TheOpen.{Term-F}
-use Rattle.pz_term.specs.declared.term.Term.TheVariants.{Done, Leaf, Wait, Seq, Frame, rolls-Done, rolls-Leaf, rolls-Wait, rolls-Seq, rolls-Frame}
+use Rattle.pz_term.specs.declared.term.Term.TheVariants.{Leaf, Seq, Frame, rolls-Leaf, rolls-Seq, rolls-Frame}
 use Rattle.pz_term.specs.Terms as terms
 use Rattle.pz_term.specs.View.{term_view, term_step}
 

@@ -1,5 +1,5 @@
 -- The runs of a model from a configuration on: one rule for each moment.
-use Rattle.std.specs.Prelude.{◌≡◌, ◌<◌, ℕ, zero, suc, List, [], ◌∷◌, Option, Some, length, slice_get}
+use Rattle.std.specs.Prelude.{◌≡◌, ℕ, zero, suc, List, [], ◌∷◌, Some, length, slice_get}
 use Rattle.pz_term.specs.declared.action.Action.{Action}
 use Rattle.pz_term.specs.declared.moment.Moment.TheVariants.{Actions, Time, Finished, Deadlock}
 use Rattle.pz_term.specs.Residual.{Bodies}

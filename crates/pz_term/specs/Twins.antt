@@ -1,5 +1,5 @@
 -- What the relations say of one term, computed. Each is proved to agree with its relation.
-use Rattle.std.specs.Prelude.{ℕ, zero, suc, ◌+◌, List, [], ◌∷◌, ◌++◌, map, min, Option, Some, None, Bool, true, false, ◌&&◌, length, slice_get}
+use Rattle.std.specs.Prelude.{ℕ, zero, suc, List, [], ◌∷◌, ◌++◌, map, Option, Some, None, Bool, true, false}
 use Rattle.pz_ast.specs.declared.tokens.Pos.{Pos}
 use Rattle.pz_ast.specs.declared.names.Id.{Id}
 use Rattle.pz_ast.specs.Statements.{Statement, skip, delay, call}
@@ -7,13 +7,8 @@ use Rattle.pz_term.specs.declared.action.Kind.{Kind}
 use Rattle.pz_term.specs.declared.action.Kind.TheVariants.{Skip, Expire, Call}
 use Rattle.pz_term.specs.declared.action.Action.{Action}
 use Rattle.pz_term.specs.declared.action.Action.TheVariants.{Internal}
-use Rattle.pz_term.specs.declared.moment.Moment.{Moment}
-use Rattle.pz_term.specs.declared.moment.Moment.TheVariants.{Actions, Time, Finished, Deadlock}
 use Rattle.pz_term.specs.Terms.{Term, done, leaf, wait, sequence, frame, Place}
 use Rattle.pz_term.specs.Values.{duration_of}
-use Rattle.pz_term.specs.Residual.{Bodies}
-use Rattle.pz_term.specs.Configurations.{Process, Config, next, pass}
-use Rattle.pz_term.specs.Runs.{Event, acted, passed, Ending, ended, deadlocked, stopped}
 
 -- an action of a term by itself
 pub record Local : Type 0 where
