@@ -1,7 +1,7 @@
 -- The computed offers of a configuration are the one list of the rules.
-use Rattle.std.proofs.Common.{◌≡◌, ◌≤◌, ◌<◌, ◌+◌, ◌⊎◌, inl, inr, ℕ, zero, suc, List, [], ◌∷◌, ◌++◌, map, length, get_or, Option, Some, None, refl, sym, subst, ap, ◌∙◌, arith}
+use Rattle.std.proofs.Common.{◌≡◌, ◌≤◌, ◌+◌, inl, inr, ℕ, zero, suc, List, [], ◌∷◌, map, get_or, Some, None, refl, subst, ◌∙◌, arith}
 use Rattle.std.specs.List.{All, AllPairs, Contains, slice_get}
-use Rattle.std.proofs.lemmas.List.Elements.{All-map, All-nil, All-append, Contains-append_left, Contains-append_right}
+use Rattle.std.proofs.lemmas.List.Elements.{All-map, All-nil, All-append, All-contains, Contains-append_left, Contains-append_right}
 use Rattle.pz_ast.specs.declared.tokens.Pos.{Pos}
 use Rattle.pz_term.specs.declared.action.End.{End}
 use Rattle.pz_term.specs.declared.action.Kind.{Kind}
@@ -11,8 +11,9 @@ use Rattle.pz_term.specs.Terms.{Place}
 use Rattle.pz_term.specs.LocalActions.{Can}
 use Rattle.pz_term.specs.Configurations.{Process, Config}
 use Rattle.pz_term.specs.Offers.{Offers, internal, PlaceBefore, EndBefore, Before, IsOffers}
-use Rattle.pz_term.specs.Twins.{Local, local_actions, of_process, offers_from, offers_of}
-use Rattle.pz_term.proofs.Lists.{Contains-map, All-Contains, AllPairs-nil, AllPairs-map, AllPairs-append, one_increasing}
+use Rattle.pz_term.specs.Twins.{Local, local_actions, of_process}
+use Rattle.pz_term.proofs.Computed.{offers_from, offers_of}
+use Rattle.pz_term.proofs.Lists.{Contains-map, AllPairs-nil, AllPairs-map, AllPairs-append, one_increasing}
 use Rattle.pz_term.proofs.LocalOffers as locals
 
 -- the process's number is not below this
@@ -118,5 +119,5 @@ transitive (Internal x k p) (Internal y l q) (Internal z m r) a b = end_transiti
 pub one_list : (c : Config) (xs ys : List Action) → IsOffers c xs → IsOffers c ys → xs ≡ ys
 one_list c xs ys first second =
     one_increasing Before irreflexive transitive xs ys first.ordered second.ordered
-    (λ a within. second.every a (All-Contains (Offers c) xs a first.derivable within))
-    (λ a within. first.every a (All-Contains (Offers c) ys a second.derivable within))
+    (λ a within. second.every a (All-contains (Offers c) xs a first.derivable within))
+    (λ a within. first.every a (All-contains (Offers c) ys a second.derivable within))

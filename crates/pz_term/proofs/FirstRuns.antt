@@ -1,41 +1,28 @@
 -- The run that always takes the first offer: it is there, there is one, and it is a run.
-use Rattle.std.proofs.Common.{◌≡◌, ◌≤◌, ◌<◌, ℕ, zero, suc, List, [], ◌∷◌, length, Option, Some, None, refl, sym, subst, ap, ◌∙◌, arith}
+use Rattle.std.proofs.Common.{◌≡◌, ◌<◌, ℕ, zero, suc, List, [], ◌∷◌, length, Some, refl, sym, subst, ap, ◌∙◌, arith}
 use Rattle.std.specs.List.{slice_get}
 use Rattle.pz_term.specs.declared.action.Action.{Action}
 use Rattle.pz_term.specs.declared.moment.Moment.{Moment}
-use Rattle.pz_term.specs.declared.moment.Moment.TheVariants.{Actions, Time, Finished, Deadlock}
+use Rattle.pz_term.specs.declared.moment.Moment.TheVariants.{Actions, Time}
 use Rattle.pz_term.specs.Residual.{Bodies}
 use Rattle.pz_term.specs.Configurations.{Config, next, pass}
 use Rattle.pz_term.specs.Offers.{IsOffers}
 use Rattle.pz_term.specs.Moments.{IsMoment, acting, passing, finished, deadlock}
-use Rattle.pz_term.specs.Runs.{Event, acted, passed, Ending, ended, deadlocked, stopped, IsChoice, IsRun, IsFirstRun, ends, deadlocks, acts, passes, stops, stops_acting}
+use Rattle.pz_term.specs.Runs.{Event, acted, passed, Ending, ended, deadlocked, stopped, IsChoice, IsFirstRun, ends, deadlocks, acts, passes, stops, stops_acting}
 use Rattle.pz_term.specs.Laws.{HasFirstRun, EveryFirstRun, OneFirstRun, FirstRunsAreRuns}
-use Rattle.pz_term.specs.Twins.{moment_of}
-use Rattle.pz_term.proofs.AllOffers.{one_list, offers_are}
-use Rattle.pz_term.proofs.MomentsAre.{moment_is, one_moment, acts_after}
+use Rattle.pz_term.proofs.Computed.{moment_of}
+use Rattle.pz_term.proofs.AllOffers.{one_list}
+use Rattle.pz_term.proofs.MomentsAre.{moment_is, one_moment, action_parts, acts_after}
 
 -- the first of some offers
 first_choice : (c : Config) (xs : List Action) → IsOffers c xs → 0 < length xs → (a : Action) × IsChoice c (length xs) 0 a
 first_choice c [] is some = absurd (omega (arith, some))
 first_choice c (x ∷ xs) is some = (x, record { offers = x ∷ xs; all = is; count = refl; chosen = refl })
 
-choice_at : (c : Config) (m : Moment) (n : ℕ) → m ≡ Actions n → IsMoment c m → (a : Action) × IsChoice c n 0 a
-choice_at c _ n e (acting xs is some) = subst (λ (k : ℕ). (a : Action) × IsChoice c k 0 a) (same e) (first_choice c xs is some)
-  where
-    same : Actions (length xs) ≡ Actions n → length xs ≡ n
-    same e = cc
-choice_at c _ n e (passing d none least) = absurd (differ e)
-  where
-    differ : Time d ≡ Actions n → ⊥
-    differ e = cc
-choice_at c _ n e (finished none no_delay all) = absurd (differ e)
-  where
-    differ : Finished ≡ Actions n → ⊥
-    differ e = cc
-choice_at c _ n e (deadlock none no_delay not_all) = absurd (differ e)
-  where
-    differ : Deadlock ≡ Actions n → ⊥
-    differ e = cc
+choice_at : (c : Config) (n : ℕ) → IsMoment c (Actions n) → (a : Action) × IsChoice c n 0 a
+choice_at c n is =
+    let parts = action_parts c (Actions n) n refl is in
+    subst (λ (k : ℕ). (a : Action) × IsChoice c k 0 a) (sym parts.3) (first_choice c parts.0 parts.1 parts.2)
 
 module _ (bodies : Bodies) where
   at_moment : (limit : ℕ) → ((c : Config) (n : ℕ) → IsMoment c (Actions n) → HasFirstRun bodies limit c) → (c : Config) (m : Moment) → IsMoment c m → HasFirstRun bodies limit c
@@ -52,7 +39,7 @@ module _ (bodies : Bodies) where
 
   act_now : (limit : ℕ) → ((c : Config) → HasFirstRun bodies limit c) → (c : Config) (n : ℕ) → IsMoment c (Actions n) → HasFirstRun bodies (suc limit) c
   act_now limit go c n is =
-      let choice = choice_at c (Actions n) n refl is in
+      let choice = choice_at c n is in
       let r = go (next bodies c choice.0) in
       record { events = acted c.clock n 0 choice.0 ∷ r.events; clock = r.clock; ending = r.ending; run = acts limit c n choice.0 r.events r.clock r.ending is choice.1 r.run }
 

@@ -10,8 +10,9 @@ use Rattle.pz_ast.specs.Statements.{Statement, delay}
 use Rattle.pz_term.specs.Terms.{Term, done, leaf, wait, sequence, frame, Place}
 use Rattle.pz_term.specs.Delays.{Delays, not_begun, begun, in_sequence, in_frame}
 use Rattle.pz_term.specs.Configurations.{Process, Config}
-use Rattle.pz_term.specs.Moments.{IsLeft, IsLeast, AllDone}
-use Rattle.pz_term.specs.Twins.{statement_delay, term_delay, sooner, least_delay, is_done, all_done}
+use Rattle.pz_term.specs.Moments.{IsLeft, IsLeast}
+use Rattle.pz_term.specs.Twins.{statement_delay, term_delay, is_done}
+use Rattle.pz_term.proofs.Computed.{sooner, least_delay, all_done}
 
 no_delay : {P : Type 0} {d : ℕ} → None ≡ Some d → P
 no_delay {P} {d} e = absurd (differ e)
@@ -103,31 +104,22 @@ pub none_left : (c : Config) → least_delay c.processes ≡ None → (left : �
 none_left c is left h = let r = left_from c left h in no_delay (sym is ∙ r.1)
 
 -- the processes that are done
-done_is : (t : Term) → is_done t ≡ true → t ≡ done
-done_is done e = refl
-done_is (leaf s) e = absurd (differ e)
-  where
-    differ : false ≡ true → ⊥
-    differ e = cc
-done_is (wait left at) e = absurd (differ e)
-  where
-    differ : false ≡ true → ⊥
-    differ e = cc
-done_is (sequence t rest) e = absurd (differ e)
-  where
-    differ : false ≡ true → ⊥
-    differ e = cc
-done_is (frame outputs t) e = absurd (differ e)
+not_true : {P : Type 0} → false ≡ true → P
+not_true {P} e = absurd (differ e)
   where
     differ : false ≡ true → ⊥
     differ e = cc
 
+done_is : (t : Term) → is_done t ≡ true → t ≡ done
+done_is done e = refl
+done_is (leaf s) e = not_true e
+done_is (wait left at) e = not_true e
+done_is (sequence t rest) e = not_true e
+done_is (frame outputs t) e = not_true e
+
 both_true : (a b : Bool) → (a && b) ≡ true → (a ≡ true) × (b ≡ true)
 both_true true b e = (refl, e)
-both_true false b e = absurd (differ e)
-  where
-    differ : false ≡ true → ⊥
-    differ e = cc
+both_true false b e = not_true e
 
 pub all_done_sound : (ps : List Process) → all_done ps ≡ true → All (λ p. p.term ≡ done) ps
 all_done_sound [] e = All-nil (λ p. p.term ≡ done)

@@ -1,4 +1,5 @@
 pub mod Lists
+pub mod Computed
 pub mod Views
 pub mod Openings
 pub mod Collected
@@ -12,3 +13,4 @@ pub mod OneProcess
 pub mod Entered
 pub mod Steps
 pub mod Starts
+pub mod Rows

@@ -1,7 +1,7 @@
 -- Lists in order, and what they contain.
-use Rattle.std.proofs.Common.{◌≡◌, ◌<◌, ◌≤◌, ◌⊎◌, inl, inr, ℕ, zero, suc, List, [], ◌∷◌, ◌++◌, map, length, get_or, refl, sym, subst, ap, arith}
+use Rattle.std.proofs.Common.{◌≡◌, ◌≤◌, ◌⊎◌, inl, inr, zero, suc, List, [], ◌∷◌, ◌++◌, map, length, refl, sym, subst, ap, arith}
 use Rattle.std.specs.List.{All, AllPairs, Contains}
-use Rattle.std.proofs.lemmas.List.Elements.{All-map, All-append, All-cons}
+use Rattle.std.proofs.lemmas.List.Elements.{All-map, All-append, All-contains}
 use Rattle.std.proofs.lemmas.List.Kept.{AllPairs-cons}
 
 pub Contains-map : {X Y : Type 0} (f : X → Y) (xs : List X) (x : X) → Contains xs x → Contains (map f xs) (f x)
@@ -19,9 +19,6 @@ Contains-first x xs = (0, omega arith, refl)
 
 pub Contains-later : {X : Type 0} (y : X) (xs : List X) (x : X) → Contains xs x → Contains (y ∷ xs) x
 Contains-later y xs x (k, within, is) = (suc k, omega arith, is)
-
-pub All-Contains : {X : Type 0} (P : X → Type 0) (xs : List X) (x : X) → All P xs → Contains xs x → P x
-All-Contains P xs x all (k, within, is) = subst P is (all k x within)
 
 pub AllPairs-nil : {X : Type 0} (R : X → X → Type 0) → AllPairs R []
 AllPairs-nil R i j d before within = absurd (omega arith)
@@ -56,7 +53,7 @@ module _ {X : Type 0} (R : X → X → Type 0) (irreflexive : (a : X) → R a a 
       by_cases : (x ≡ y) ⊎ Contains ys x → (y ≡ x) ⊎ Contains xs y → x ≡ y
       by_cases (inl is) other = is
       by_cases (inr later) (inl is) = sym is
-      by_cases (inr later) (inr after) = absurd (irreflexive x (transitive x y x (All-Contains (R x) xs y (AllPairs-head R x xs first) after) (All-Contains (R y) ys x (AllPairs-head R y ys second) later)))
+      by_cases (inr later) (inr after) = absurd (irreflexive x (transitive x y x (All-contains (R x) xs y (AllPairs-head R x xs first) after) (All-contains (R y) ys x (AllPairs-head R y ys second) later)))
 
   tails : (x : X) (xs : List X) (y : X) (ys : List X) → x ≡ y → AllPairs R (x ∷ xs) → ((a : X) → Contains (x ∷ xs) a → Contains (y ∷ ys) a) → (a : X) → Contains xs a → Contains ys a
   tails x xs y ys same first within a here = by_cases (Contains-cases y ys a (within a (Contains-later x xs a here)))
@@ -64,7 +61,7 @@ module _ {X : Type 0} (R : X → X → Type 0) (irreflexive : (a : X) → R a a 
       by_cases : (a ≡ y) ⊎ Contains ys a → Contains ys a
       by_cases (inr later) = later
       by_cases (inl is) =
-          let before : R x a = All-Contains (R x) xs a (AllPairs-head R x xs first) here in
+          let before : R x a = All-contains (R x) xs a (AllPairs-head R x xs first) here in
           let again : R x x = subst (λ (b : X). R x b) (a_is is) before in
           absurd (irreflexive x again)
         where

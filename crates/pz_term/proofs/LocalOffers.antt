@@ -1,5 +1,5 @@
 -- The computed actions of a term are those that the rules derive, by place.
-use Rattle.std.proofs.Common.{◌≡◌, ◌≤◌, ◌<◌, ℕ, zero, suc, List, [], ◌∷◌, map, length, Option, Some, None, refl, sym, subst, ap, inr, arith}
+use Rattle.std.proofs.Common.{◌≡◌, ◌≤◌, ℕ, zero, suc, [], ◌∷◌, length, Option, Some, None, refl, ap, inr, arith}
 use Rattle.std.specs.List.{All, AllPairs, Contains}
 use Rattle.std.proofs.lemmas.List.Elements.{All-map, All-nil, All-cons}
 use Rattle.pz_ast.specs.declared.tokens.Pos.{Pos}
@@ -11,7 +11,7 @@ use Rattle.pz_term.specs.Terms.{Term, done, leaf, wait, sequence, frame, Place}
 use Rattle.pz_term.specs.Values.{duration_of}
 use Rattle.pz_term.specs.LocalActions.{Can, skips, elapses, expires, calls, in_sequence, in_frame}
 use Rattle.pz_term.specs.Offers.{PlaceBefore}
-use Rattle.pz_term.specs.Twins.{Local, here, expiry, expiry_of, statement_actions, under, local_actions}
+use Rattle.pz_term.specs.Twins.{Local, expiry, expiry_of, statement_actions, under, local_actions}
 use Rattle.pz_term.proofs.Lists.{Contains-map, Contains-first, AllPairs-nil, AllPairs-short, AllPairs-map}
 
 abbrev pub local : Place → Kind → Pos → Local

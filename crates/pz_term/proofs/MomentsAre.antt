@@ -1,22 +1,23 @@
 -- The computed moment is the one moment of the rules.
 use Rattle.std.proofs.Common.{◌≡◌, ◌≤◌, ◌<◌, ◌-◌, ℕ, zero, suc, List, [], ◌∷◌, map, length, Option, Some, None, Bool, true, false, refl, sym, subst, ap, ◌∙◌, arith}
-use Rattle.std.specs.List.{slice_get, Contains}
+use Rattle.std.specs.List.{slice_get}
+use Rattle.std.specs.Prelude.{option_map}
+use Rattle.std.proofs.lemmas.Option.{slice_get-map}
 use Rattle.pz_ast.specs.declared.tokens.Pos.{Pos}
 use Rattle.pz_term.specs.declared.action.Kind.TheVariants.{Expire}
 use Rattle.pz_term.specs.declared.action.Action.{Action}
 use Rattle.pz_term.specs.declared.action.Action.TheVariants.{Internal}
 use Rattle.pz_term.specs.declared.moment.Moment.{Moment}
-use Rattle.pz_term.specs.declared.moment.Moment.TheVariants.{Actions, Time, Finished, Deadlock, Broken}
+use Rattle.pz_term.specs.declared.moment.Moment.TheVariants.{Actions, Time, Finished, Deadlock}
 use Rattle.pz_term.specs.Terms.{Term, wait, Place}
-use Rattle.pz_term.specs.Values.{duration_of}
 use Rattle.pz_term.specs.LocalActions as actions
 use Rattle.pz_term.specs.LocalActions.{Can}
-use Rattle.pz_term.specs.Delays.{Delays, not_begun, begun, in_sequence, in_frame, begin, pass_term}
+use Rattle.pz_term.specs.Delays.{Delays, not_begun, begun, in_sequence, in_frame, pass_term}
 use Rattle.pz_term.specs.Configurations.{Process, Config, pass, pass_process}
 use Rattle.pz_term.specs.Offers.{Offers, internal, IsOffers}
-use Rattle.pz_term.specs.Moments.{IsLeft, IsLeast, AllDone, IsMoment, acting, passing, finished, deadlock}
+use Rattle.pz_term.specs.Moments.{IsLeft, IsLeast, IsMoment, acting, passing, finished, deadlock}
 use Rattle.pz_term.specs.Laws.{TimeWaits, LeastPasses, EveryMoment, OneMoment}
-use Rattle.pz_term.specs.Twins.{offers_of, least_delay, all_done, ending_moment, waiting_moment, moment_by, moment_of}
+use Rattle.pz_term.proofs.Computed.{offers_of, least_delay, all_done, ending_moment, waiting_moment, moment_by, moment_of}
 use Rattle.pz_term.proofs.AllOffers.{offers_are, one_list}
 use Rattle.pz_term.proofs.LeastDelays.{least_is, none_left, all_done_sound, all_done_complete}
 
@@ -67,9 +68,27 @@ one_moment c _ _ (deadlock none no_delay not_all) (passing e none' least) = absu
 one_moment c _ _ (deadlock none no_delay not_all) (finished none' no_delay' all) = absurd (not_all all)
 one_moment c _ _ (deadlock none no_delay not_all) (deadlock none' no_delay' not_all') = refl
 
--- what a moment of time says
+-- what a moment of actions and a moment of time say
 no_action : (c : Config) (a : Action) → IsOffers c [] → ¬ Offers c a
 no_action c a none offer = omega (arith, (none.every a offer).1)
+
+pub action_parts : (c : Config) (m : Moment) (n : ℕ) → m ≡ Actions n → IsMoment c m → (xs : List Action) × IsOffers c xs × (0 < length xs) × (n ≡ length xs)
+action_parts c _ n e (acting xs is some) = (xs, is, some, same e)
+  where
+    same : Actions (length xs) ≡ Actions n → n ≡ length xs
+    same e = cc
+action_parts c _ n e (passing d none least) = absurd (differ e)
+  where
+    differ : Time d ≡ Actions n → ⊥
+    differ e = cc
+action_parts c _ n e (finished none no_delay all) = absurd (differ e)
+  where
+    differ : Finished ≡ Actions n → ⊥
+    differ e = cc
+action_parts c _ n e (deadlock none no_delay not_all) = absurd (differ e)
+  where
+    differ : Deadlock ≡ Actions n → ⊥
+    differ e = cc
 
 pub time_parts : (c : Config) (m : Moment) (d : ℕ) → m ≡ Time d → IsMoment c m → IsOffers c [] × IsLeast c d
 time_parts c _ d e (acting xs is some) = absurd (differ e)
@@ -126,12 +145,7 @@ elapsed _ _ _ (in_sequence t place d rest h) = let r = elapsed t place d h in (r
 elapsed _ _ _ (in_frame t place d outputs h) = let r = elapsed t place d h in (r.0, actions.in_frame (pass_term d t) place Expire r.0 outputs r.1)
 
 passed_get : (d : ℕ) (ps : List Process) (i : ℕ) (p : Process) → slice_get ps i ≡ Some p → slice_get (map (pass_process d) ps) i ≡ Some (pass_process d p)
-passed_get d [] i p is = absurd (differ is)
-  where
-    differ : None ≡ Some p → ⊥
-    differ e = cc
-passed_get d (q ∷ ps) zero p is = let same : q ≡ p = cc in rw same refl
-passed_get d (q ∷ ps) (suc i) p is = passed_get d ps i p is
+passed_get d ps i p is = slice_get-map (pass_process d) ps i ∙ ap (option_map (pass_process d)) is
 
 pub acts_after : (c : Config) (d : ℕ) → IsMoment c (Time d) → (n : ℕ) × IsMoment (pass d c) (Actions n)
 acts_after c d is = by_moment (moment_of (pass d c)) (moment_is (pass d c))

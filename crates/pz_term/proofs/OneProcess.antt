@@ -1,5 +1,5 @@
 -- The moment and the offers of a model with one process.
-use Rattle.std.proofs.Common.{◌≡◌, ◌≤◌, ◌<◌, ℕ, zero, suc, List, [], ◌∷◌, ◌++◌, map, length, Option, Some, None, Bool, true, false, refl, sym, subst, ap, ◌∙◌, arith}
+use Rattle.std.proofs.Common.{◌≡◌, ◌<◌, ℕ, zero, suc, List, [], ◌∷◌, ◌++◌, map, length, Option, Some, None, Bool, true, false, refl, sym, subst, ap, ◌∙◌, arith}
 use Rattle.std.specs.Prelude.{◌&&◌}
 use Rattle.std.proofs.lemmas.List.{append-nil}
 use Rattle.pz_term.specs.declared.action.Action.{Action}
@@ -10,7 +10,8 @@ use Rattle.pz_term.specs.Configurations.{Config}
 use Rattle.pz_term.specs.Offers.{IsOffers}
 use Rattle.pz_term.specs.Moments.{IsMoment}
 use Rattle.pz_term.specs.Simulations.{IsMomentBy}
-use Rattle.pz_term.specs.Twins.{Local, local_actions, of_process, below, term_delay, sooner, is_done, moment_by, moment_of, offers_of}
+use Rattle.pz_term.specs.Twins.{Local, local_actions, of_process, below, term_delay, is_done}
+use Rattle.pz_term.proofs.Computed.{sooner, moment_by, moment_of}
 use Rattle.pz_term.proofs.AllOffers.{offers_are}
 use Rattle.pz_term.proofs.Collected.{below-root}
 use Rattle.pz_term.proofs.MomentsAre.{moment_is}

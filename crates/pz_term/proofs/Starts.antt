@@ -1,17 +1,14 @@
 -- The simulator at its start.
-use Rattle.std.proofs.Common.{◌≡◌, ℕ, List, [], ◌∷◌, map, Option, Some, None, option_map, Bool, false, refl, sym, ap, ◌∙◌}
+use Rattle.std.proofs.Common.{◌≡◌, ℕ, List, [], ◌∷◌, map, Option, Some, option_map, Bool, false, refl, sym, ap, ◌∙◌}
 use Rattle.pz_ast.specs.declared.classes.ProcessMethod.{ProcessMethod}
 use Rattle.pz_ast.specs.declared.classes.ProcessClass.{ProcessClass}
 use Rattle.pz_ast.specs.declared.classes.Start.{Start}
 use Rattle.pz_ast.specs.declared.names.Id.{Id}
 use Rattle.pz_ast.specs.Expressions.{none}
 use Rattle.pz_ast.specs.Statements.{Statements, call}
-use Rattle.pz_ast.specs.Classes.{ProcessMethodTree, StartTree, ProcessClassTree, ModelTree, DeclTree, process_class}
-use Rattle.pz_ast.specs.ClassView.{process_method_view, process_class_view, start_view, model_view, decl_view}
-use Rattle.pz_ast.specs.declared.clusters.Model.{Model}
-use Rattle.pz_ast.specs.declared.clusters.Decl.{Decl}
-use Rattle.pz_ast.specs.declared.clusters.Decl.TheVariants.{Process}
-use Rattle.pz_term.specs.FirstPath.{FirstModel, method_of, class_of, tree_of}
+use Rattle.pz_ast.specs.Classes.{ProcessMethodTree, StartTree, ProcessClassTree}
+use Rattle.pz_ast.specs.ClassView.{process_method_view, process_class_view, start_view}
+use Rattle.pz_term.specs.FirstPath.{FirstModel, method_of, class_of}
 use Rattle.pz_term.specs.Terms as terms
 use Rattle.pz_term.specs.Residual.{Bodies}
 use Rattle.pz_term.specs.Start.{bodies_of, start}
@@ -40,18 +37,6 @@ module _ (class : ProcessClass) (m : FirstModel) (is : process_class_view class 
   has_all : (process_class_view class).methods ≡ Some (map method_of m.routines)
   has_all = ap (λ (c : ProcessClassTree). c.methods) is
 
-  pub has_start : class.start ≡ None → ⊥
-  has_start none_is = differ (ap (λ (o : Option Start). option_map start_view o) (sym none_is) ∙ starts)
-    where
-      differ : {x : StartTree} → None ≡ Some x → ⊥
-      differ e = cc
-
-  pub has_methods : class.methods ≡ None → ⊥
-  has_methods none_is = differ (ap (λ (o : Option (List ProcessMethod)). option_map (map process_method_view) o) (sym none_is) ∙ has_all)
-    where
-      differ : {x : List ProcessMethodTree} → None ≡ Some x → ⊥
-      differ e = cc
-
   module _ (first : Start) (methods : List ProcessMethod) (start_is : class.start ≡ Some first) (methods_is : class.methods ≡ Some methods) where
     begins : start_view first ≡ record { method = m.init; args = none }
     begins = some_is (ap (λ (o : Option Start). option_map start_view o) (sym start_is) ∙ starts)
@@ -72,10 +57,3 @@ module _ (class : ProcessClass) (m : FirstModel) (is : process_class_view class 
         ∙ ap (λ (t : terms.Term). record { bodies = bodies_of m; config = alone 0 t; broken = p.broken })
         (term ∙ ap (λ (id : Id). terms.leaf (call id.pos id none [])) method_is)
         ∙ ap (λ (b : Bool). record { bodies = bodies_of m; config = start m; broken = b }) whole
-
--- the first declaration of a model of the first path is its class
-pub class_is : (decls : List DeclTree) (c : ProcessClassTree) (more : List DeclTree) (m : FirstModel) → decls ≡ process_class c ∷ more → decls ≡ (tree_of m).decls → c ≡ class_of m
-class_is decls c more m here is = same (sym here ∙ is)
-  where
-    same : process_class c ∷ more ≡ (tree_of m).decls → c ≡ class_of m
-    same e = cc

@@ -1,46 +1,31 @@
 -- What the one process does at a choice and at a passing.
-use Rattle.std.proofs.Common.{◌≡◌, ◌≤◌, ◌<◌, ◌+◌, ℕ, zero, suc, List, [], ◌∷◌, ◌++◌, map, length, Option, Some, None, Bool, true, false, refl, sym, subst, ap, ◌∙◌, arith}
+use Rattle.std.proofs.Common.{◌≡◌, ◌<◌, ◌+◌, ℕ, zero, suc, List, [], ◌∷◌, ◌++◌, map, length, Some, None, false, refl, sym, subst, ap, ◌∙◌, arith}
 use Rattle.std.specs.List.{slice_get}
-use Rattle.std.proofs.lemmas.List.{append-nil}
 use Rattle.pz_term.specs.declared.action.Action.{Action}
-use Rattle.pz_term.specs.declared.moment.Moment.{Moment}
-use Rattle.pz_term.specs.declared.moment.Moment.TheVariants.{Actions, Time, Finished, Deadlock}
+use Rattle.pz_term.specs.declared.moment.Moment.TheVariants.{Actions, Time}
 use Rattle.pz_term.specs.Terms.{Term}
 use Rattle.pz_term.specs.Residual.{Bodies, after_action}
 use Rattle.pz_term.specs.Delays.{pass_term}
 use Rattle.pz_term.specs.Configurations.{Config, next, pass}
-use Rattle.pz_term.specs.Offers.{IsOffers}
-use Rattle.pz_term.specs.Moments.{IsMoment, IsLeast, acting, passing, finished, deadlock}
+use Rattle.pz_term.specs.Moments.{IsMoment, IsLeast}
 use Rattle.pz_term.specs.Runs.{IsChoice}
-use Rattle.pz_term.specs.Twins.{Local, local_actions, of_process, offers_of, term_delay}
-use Rattle.pz_term.specs.Simulations.{Simulation, Chooses, Passes}
+use Rattle.pz_term.specs.Twins.{Local, local_actions, of_process, term_delay}
+use Rattle.pz_term.specs.Simulations.{Chooses, Passes}
 use Rattle.pz_term.specs.Plains.{simulation_of}
 use Rattle.pz_term.specs.View.{term_view, bodies_view}
 use Rattle.pz_term.specs.declared.plain.Plain.{Plain}
 use Rattle.pz_term.specs.declared.bodies.Body.{Body}
 use Rattle.pz_term.specs.declared.term.Term as code
+use Rattle.pz_term.proofs.Computed.{offers_of}
 use Rattle.pz_term.proofs.AllOffers.{offers_are, one_list}
 use Rattle.pz_term.proofs.LeastDelays.{left_from, least_is}
-use Rattle.pz_term.proofs.MomentsAre.{time_parts}
+use Rattle.pz_term.proofs.MomentsAre.{action_parts, time_parts}
 use Rattle.pz_term.proofs.OneProcess.{alone, sooner-alone}
 
-counted : (c : Config) (m : Moment) (n : ℕ) → m ≡ Actions n → IsMoment c m → n ≡ length (offers_of c)
-counted c _ n e (acting xs is some) = same e ∙ ap (λ (l : List Action). length l) (one_list c xs (offers_of c) is (offers_are c))
-  where
-    same : Actions (length xs) ≡ Actions n → n ≡ length xs
-    same e = cc
-counted c _ n e (passing d none least) = absurd (differ e)
-  where
-    differ : Time d ≡ Actions n → ⊥
-    differ e = cc
-counted c _ n e (finished none no_delay all) = absurd (differ e)
-  where
-    differ : Finished ≡ Actions n → ⊥
-    differ e = cc
-counted c _ n e (deadlock none no_delay not_all) = absurd (differ e)
-  where
-    differ : Deadlock ≡ Actions n → ⊥
-    differ e = cc
+counted : (c : Config) (n : ℕ) → IsMoment c (Actions n) → n ≡ length (offers_of c)
+counted c n is =
+    let parts = action_parts c (Actions n) n refl is in
+    parts.3 ∙ ap (λ (l : List Action). length l) (one_list c parts.0 (offers_of c) parts.1 (offers_are c))
 
 -- the action of this number of the one process
 numbered : (ls : List Local) (k : ℕ) → k < length (map (of_process 0) ls ++ []) → (l : Local) × (slice_get ls k ≡ Some l) × (slice_get (map (of_process 0) ls ++ []) k ≡ Some (of_process 0 l))
@@ -58,7 +43,7 @@ pub taken : (bodies : Bodies) (clock : ℕ) (t left : Term) (n k : ℕ) → IsMo
     → Taken bodies clock t left n k
 taken bodies clock t left n k is within acted =
     let c = alone clock t in
-    let count : n ≡ length (offers_of c) = counted c (Actions n) n refl is in
+    let count : n ≡ length (offers_of c) = counted c n is in
     let here = numbered (local_actions t) k (omega (arith, count)) in
     record {
       action = of_process 0 here.0;

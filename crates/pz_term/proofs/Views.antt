@@ -1,23 +1,16 @@
 -- What each form of the code's terms stands for.
-use Rattle.std.proofs.Common.{◌≡◌, ℕ, List, ap, sym, ◌∙◌}
-use Rattle.pz_ast.specs.declared.tokens.Pos.{Pos}
+use Rattle.std.proofs.Common.{◌≡◌, List, ap, sym, ◌∙◌}
 use Rattle.pz_ast.specs.declared.names.Id.{Id}
 use Rattle.pz_ast.specs.declared.stmts.Stmt.{Stmt}
 use Rattle.pz_ast.specs.StatementView.{sequence_view, view}
 use Rattle.pz_term.specs.declared.term.Term.{Term, fold-roll-Term}
 use Rattle.pz_term.specs.declared.term.Term.TheOpen.{Term-F}
-use Rattle.pz_term.specs.declared.term.Term.TheVariants.{Done, Leaf, Wait, Seq, Frame, rolls-Done, rolls-Leaf, rolls-Wait, rolls-Seq, rolls-Frame}
+use Rattle.pz_term.specs.declared.term.Term.TheVariants.{Leaf, Seq, Frame, rolls-Leaf, rolls-Seq, rolls-Frame}
 use Rattle.pz_term.specs.Terms as terms
 use Rattle.pz_term.specs.View.{term_view, term_step}
 
-pub view-Done : term_view Done ≡ terms.done
-view-Done = ap term_view (sym rolls-Done) ∙ fold-roll-Term terms.Term term_step Term-F.Done
-
 pub view-Leaf : (s : Stmt) → term_view (Leaf s) ≡ terms.leaf (view s)
 view-Leaf s = ap term_view (sym (rolls-Leaf s)) ∙ fold-roll-Term terms.Term term_step (Term-F.Leaf s)
-
-pub view-Wait : (left : ℕ) (at : Pos) → term_view (Wait left at) ≡ terms.wait left at
-view-Wait left at = ap term_view (sym (rolls-Wait left at)) ∙ fold-roll-Term terms.Term term_step (Term-F.Wait left at)
 
 pub view-Seq : (t : Term) (rest : List Stmt) → term_view (Seq t rest) ≡ terms.sequence (term_view t) (sequence_view rest)
 view-Seq t rest = ap term_view (sym (rolls-Seq t rest)) ∙ fold-roll-Term terms.Term term_step (Term-F.Seq t rest)

@@ -1,8 +1,8 @@
 -- Where a model stands: the clock, and each process in the order of the text.
-use Rattle.std.specs.Prelude.{◌≡◌, ℕ, ◌+◌, List, map, Option, Some, None, slice_get, slice_set, option_map}
+use Rattle.std.specs.Prelude.{ℕ, ◌+◌, List, map, Option, Some, None, slice_get, slice_set, option_map}
 use Rattle.pz_term.specs.declared.action.Action.{Action}
 use Rattle.pz_term.specs.declared.action.Action.TheVariants.{Internal}
-use Rattle.pz_term.specs.Terms.{Term, done, Place}
+use Rattle.pz_term.specs.Terms.{Term, Place}
 use Rattle.pz_term.specs.Residual.{Bodies, after_action}
 use Rattle.pz_term.specs.Delays.{pass_term}
 

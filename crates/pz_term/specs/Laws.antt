@@ -33,7 +33,7 @@ EveryMoment = (c : Config) → (m : Moment) × IsMoment c m
 abbrev pub OneMoment : Type 0
 OneMoment = (c : Config) (m n : Moment) → IsMoment c m → IsMoment c n → m ≡ n
 
--- some events, a clock and an ending
+-- a run that always takes the first offer, and stops before one action more than the limit
 pub record HasFirstRun (bodies : Bodies) (limit : ℕ) (c : Config) : Type 0 where
   pub events : List Event
   pub clock : ℕ

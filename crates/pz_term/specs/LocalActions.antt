@@ -1,6 +1,6 @@
 -- What a term can do by itself: an action of a kind, at a place of the term, with the place of its
 -- statement in the text. One rule for each statement that acts, and one for each term around it.
-use Rattle.std.specs.Prelude.{◌≡◌, ℕ, List, [], ◌∷◌, Option, Some}
+use Rattle.std.specs.Prelude.{◌≡◌, List, [], ◌∷◌, Some}
 use Rattle.pz_ast.specs.declared.tokens.Pos.{Pos}
 use Rattle.pz_ast.specs.declared.names.Id.{Id}
 use Rattle.pz_ast.specs.Expressions.{Expression, Expressions}

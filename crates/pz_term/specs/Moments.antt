@@ -1,5 +1,5 @@
 -- What may happen next in a configuration: the first of these that applies.
-use Rattle.std.specs.Prelude.{◌≡◌, ◌≤◌, ◌<◌, ℕ, List, [], Option, Some, All, length, slice_get}
+use Rattle.std.specs.Prelude.{◌≡◌, ◌≤◌, ◌<◌, ℕ, List, [], Some, All, length, slice_get}
 use Rattle.pz_term.specs.declared.action.Action.{Action}
 use Rattle.pz_term.specs.declared.moment.Moment.{Moment}
 use Rattle.pz_term.specs.declared.moment.Moment.TheVariants.{Actions, Time, Finished, Deadlock}

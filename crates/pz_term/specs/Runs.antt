@@ -1,5 +1,5 @@
 -- The runs of a model from a configuration on: one rule for each moment.
-use Rattle.std.specs.Prelude.{◌≡◌, ◌<◌, ℕ, zero, suc, List, [], ◌∷◌, Option, Some, length, slice_get}
+use Rattle.std.specs.Prelude.{◌≡◌, ℕ, zero, suc, List, [], ◌∷◌, Some, length, slice_get}
 use Rattle.pz_term.specs.declared.action.Action.{Action}
 use Rattle.pz_term.specs.declared.moment.Moment.TheVariants.{Actions, Time, Finished, Deadlock}
 use Rattle.pz_term.specs.Residual.{Bodies}
@@ -7,10 +7,11 @@ use Rattle.pz_term.specs.Configurations.{Config, next, pass}
 use Rattle.pz_term.specs.Offers.{IsOffers}
 use Rattle.pz_term.specs.Moments.{IsMoment}
 
--- what happens in a run: at a clock, the action of this number among so many offers, or a passing
+-- what happens in a run, and at which clock: an action, with the number of offers and its own
+-- number among them, from 0, or a passing of so much time
 pub data Event : Type 0 where
-  acted : ℕ → ℕ → ℕ → Action → Event
-  passed : ℕ → ℕ → Event
+  acted : (clock count number : ℕ) (action : Action) → Event
+  passed : (clock time : ℕ) → Event
 
 -- how a run ends
 pub data Ending : Type 0 where
@@ -18,14 +19,14 @@ pub data Ending : Type 0 where
   deadlocked : Ending
   stopped : Ending
 
--- the action of this number among the offers of a configuration
+-- the action of number k among the n offers of a configuration
 pub record IsChoice (c : Config) (n k : ℕ) (a : Action) : Type 0 where
   pub offers : List Action
   pub all : IsOffers c offers
   pub count : n ≡ length offers
   pub chosen : slice_get offers k ≡ Some a
 
--- events, the clock at the end, and the ending; any offer may be chosen, and a run may be stopped
+-- its events, the clock at its end, and its ending; any offer may be chosen, and a run may be stopped
 -- while an action or a passing is possible
 pub data IsRun (bodies : Bodies) : Config → List Event → ℕ → Ending → Type 0 where
   ends : (c : Config) → IsMoment c Finished → IsRun bodies c [] c.clock ended

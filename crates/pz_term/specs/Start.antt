@@ -1,5 +1,5 @@
 -- Where a model starts, and the methods of its class.
-use Rattle.std.specs.Prelude.{List, [], ◌∷◌, map}
+use Rattle.std.specs.Prelude.{[], ◌∷◌, map}
 use Rattle.pz_ast.specs.Expressions.{none}
 use Rattle.pz_ast.specs.Statements.{call}
 use Rattle.pz_term.specs.FirstPath.{FirstModel, statements_of}

@@ -1,5 +1,5 @@
--- What the relations say, computed. Each is proved to agree with its relation.
-use Rattle.std.specs.Prelude.{ℕ, zero, suc, ◌+◌, List, [], ◌∷◌, ◌++◌, map, min, Option, Some, None, Bool, true, false, ◌&&◌, length, slice_get}
+-- What the relations say of one term, computed. Each is proved to agree with its relation.
+use Rattle.std.specs.Prelude.{ℕ, zero, suc, List, [], ◌∷◌, ◌++◌, map, Option, Some, None, Bool, true, false}
 use Rattle.pz_ast.specs.declared.tokens.Pos.{Pos}
 use Rattle.pz_ast.specs.declared.names.Id.{Id}
 use Rattle.pz_ast.specs.Statements.{Statement, skip, delay, call}
@@ -7,13 +7,8 @@ use Rattle.pz_term.specs.declared.action.Kind.{Kind}
 use Rattle.pz_term.specs.declared.action.Kind.TheVariants.{Skip, Expire, Call}
 use Rattle.pz_term.specs.declared.action.Action.{Action}
 use Rattle.pz_term.specs.declared.action.Action.TheVariants.{Internal}
-use Rattle.pz_term.specs.declared.moment.Moment.{Moment}
-use Rattle.pz_term.specs.declared.moment.Moment.TheVariants.{Actions, Time, Finished, Deadlock}
 use Rattle.pz_term.specs.Terms.{Term, done, leaf, wait, sequence, frame, Place}
 use Rattle.pz_term.specs.Values.{duration_of}
-use Rattle.pz_term.specs.Residual.{Bodies}
-use Rattle.pz_term.specs.Configurations.{Process, Config, next, pass}
-use Rattle.pz_term.specs.Runs.{Event, acted, passed, Ending, ended, deadlocked, stopped}
 
 -- an action of a term by itself
 pub record Local : Type 0 where
@@ -52,14 +47,6 @@ local_actions (frame outputs t) = map (under 0) (local_actions t)
 abbrev pub of_process : ℕ → Local → Action
 of_process i l = Internal (record { process = i; place = l.place }) l.kind l.pos
 
--- the offers of processes numbered from i on
-abbrev pub offers_from : ℕ → List Process → List Action
-offers_from i [] = []
-offers_from i (p ∷ ps) = map (of_process i) (local_actions p.term) ++ offers_from (suc i) ps
-
-abbrev pub offers_of : Config → List Action
-offers_of c = offers_from 0 c.processes
-
 abbrev pub statement_delay : Statement Id Id Id → Option ℕ
 statement_delay (delay at e) = duration_of e
 statement_delay s = None
@@ -72,40 +59,12 @@ term_delay (wait left at) = Some left
 term_delay (sequence t rest) = term_delay t
 term_delay (frame outputs t) = term_delay t
 
-abbrev pub sooner : Option ℕ → Option ℕ → Option ℕ
-sooner None y = y
-sooner (Some a) None = Some a
-sooner (Some a) (Some b) = Some (min a b)
-
-abbrev pub least_delay : List Process → Option ℕ
-least_delay [] = None
-least_delay (p ∷ ps) = sooner (term_delay p.term) (least_delay ps)
-
 abbrev pub is_done : Term → Bool
 is_done done = true
 is_done (leaf s) = false
 is_done (wait left at) = false
 is_done (sequence t rest) = false
 is_done (frame outputs t) = false
-
-abbrev pub all_done : List Process → Bool
-all_done [] = true
-all_done (p ∷ ps) = is_done p.term && all_done ps
-
-abbrev pub ending_moment : Bool → Moment
-ending_moment true = Finished
-ending_moment false = Deadlock
-
-abbrev pub waiting_moment : Option ℕ → Bool → Moment
-waiting_moment (Some d) finished = Time d
-waiting_moment None finished = ending_moment finished
-
-abbrev pub moment_by : ℕ → Option ℕ → Bool → Moment
-moment_by zero soonest finished = waiting_moment soonest finished
-moment_by (suc n) soonest finished = Actions (suc n)
-
-abbrev pub moment_of : Config → Moment
-moment_of c = moment_by (length (offers_of c)) (least_delay c.processes) (all_done c.processes)
 
 -- whether a frame with these outputs round this term is replaced by the inner frame
 abbrev pub is_replaced : List Id → Term → Bool

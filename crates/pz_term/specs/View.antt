@@ -1,5 +1,5 @@
 -- What the code's terms and methods stand for.
-use Rattle.std.specs.Prelude.{ℕ, List, map}
+use Rattle.std.specs.Prelude.{List, map}
 use Rattle.pz_ast.specs.declared.classes.ProcessMethod.{ProcessMethod}
 use Rattle.pz_ast.specs.StatementView as statement
 use Rattle.pz_term.specs.declared.term.Term.{Term, fold-Term}

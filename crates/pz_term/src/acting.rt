@@ -1,4 +1,4 @@
-ghost use Rattle.std.specs.Prelude.{◌≡◌, [], ◌∷◌, ◌++◌, map, IfOk, OnOk, ℕ, List, false, Some, slice_get};
+ghost use Rattle.std.specs.Prelude.{◌≡◌, [], ◌∷◌, ◌++◌, map, IfOk, OnOk, ℕ, false, Some, slice_get};
 ghost use Rattle.pz_ast.specs.StatementView.{sequence_view, view};
 ghost use Rattle.pz_term.specs.Terms as terms;
 ghost use Rattle.pz_term.specs.Residual.{left_of as the_left, around, framed as the_framed, left_of_statement, after_action};

@@ -12,10 +12,15 @@ pub struct End {
 /// The kinds of internal actions.
 #[derive(Clone, Copy, Debug, PartialEq, Eq)]
 pub enum Kind {
+    /// A `skip`.
     Skip,
+    /// An expression, an assignment or a block is evaluated.
     Eval,
+    /// The test of an `if` or a `while` is evaluated.
     Test,
+    /// A delay ends, of which nothing is left.
     Expire,
+    /// A method is called.
     Call,
 }
 

@@ -1,4 +1,4 @@
-ghost use Rattle.std.specs.Prelude.{◌≡◌, ◌++◌, [], List, IfOk};
+ghost use Rattle.std.specs.Prelude.{◌≡◌, IfOk};
 ghost use Rattle.pz_ast.specs.StatementView.{sequence_view};
 ghost use Rattle.pz_term.specs.Residual.{body_of};
 ghost use Rattle.pz_term.specs.View.{bodies_view, bodies_of_methods};

@@ -15,3 +15,6 @@ pub use action::{Action, End, Kind};
 pub use moment::Moment;
 pub use place::Place;
 pub use plain::{ChooseError, PassError, Plain};
+
+#[cfg(test)]
+mod tests;

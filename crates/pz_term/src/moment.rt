@@ -1,11 +1,14 @@
-/// What may happen next. `Actions` has the number of offers, at least one; `Time` has the time
-/// that passes, in clock units, at least one. `Broken` is no moment of a configuration: a
-/// simulator says it after want of memory.
+/// What may happen next: the first of these that applies.
 #[derive(Clone, Copy, Debug, PartialEq, Eq)]
 pub enum Moment {
+    /// There are so many offers, at least one.
     Actions(u64),
+    /// There is no offer, and so much time passes, in clock units, at least one.
     Time(u128),
+    /// There is no offer and no active delay, and every process is done.
     Finished,
+    /// There is no offer and no active delay, and some process is not done.
     Deadlock,
+    /// No moment of a configuration: a simulator says it after want of memory.
     Broken,
 }

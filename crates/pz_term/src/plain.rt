@@ -13,9 +13,9 @@ use std::mem::{self, drop};
 pub enum ChooseError {
     /// Memory was wanting, and the simulator is broken from now on.
     NoMemory,
-    /// There are only so many offers.
+    /// There are only so many offers, numbered from 0.
     NoSuchOffer { offers: u64 },
-    /// The moment is this one.
+    /// The moment is this one, and not `Actions`.
     NotNow(Moment),
 }
 
@@ -24,7 +24,7 @@ pub enum ChooseError {
 pub enum PassError {
     /// Memory was wanting, and the simulator is broken from now on.
     NoMemory,
-    /// The moment is this one.
+    /// The moment is this one, and not `Time`.
     NotNow(Moment),
 }
 
@@ -46,7 +46,7 @@ impl Plain {
     ghost use Rattle.pz_term.specs.FirstPath.{IsFirstPath, FirstModel, class_of, tree_of};
     ghost use Rattle.pz_term.specs.Start.{bodies_of, start as start_of};
     ghost use Rattle.pz_term.specs.Offers.{IsOffers};
-    ghost use Rattle.pz_term.specs.Simulations.{Simulation, IsMomentOf, Chooses, Passes};
+    ghost use Rattle.pz_term.specs.Simulations.{IsMomentOf, Chooses, Passes};
     ghost use Rattle.pz_term.specs.Plains.{simulation_of};
 
     /// The simulator of a model of the first path, before its first step. It copies what it needs
@@ -85,7 +85,7 @@ impl Plain {
         })
     }
 
-    /// What can happen next. Takes no memory.
+    /// What may happen next. Takes no memory.
     pub fn moment(&mut self) -> Moment
         ensures moment { IsMomentOf (simulation_of self.old) result }
         // No constant of a delay is longer.
@@ -113,8 +113,8 @@ impl Plain {
         self.clock
     }
 
-    /// The offers in their order; none where the simulator is broken. The only error is want of
-    /// memory.
+    /// The offers in their order: none unless the moment is `Actions`. The only error is want of
+    /// memory, and it breaks nothing.
     pub fn actions(&mut self) -> Result<Vec<Action>, AllocError>
         ensures offers { (simulation_of self.old).broken ≡ false → IfOk result (λ actions. IsOffers (simulation_of self.old).config actions.items) }
         ensures broken { (simulation_of self.old).broken ≡ true → IfOk result (λ actions. actions.items ≡ []) }
@@ -178,7 +178,8 @@ impl Plain {
         Ok(())
     }
 
-    /// Lets time pass, by the least that is left of an active delay.
+    /// Lets time pass, by the least that is left of an active delay. The clock is below 2^127
+    /// before that.
     ///
     /// # Errors
     ///

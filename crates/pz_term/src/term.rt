@@ -1,10 +1,9 @@
-ghost use Rattle.std.specs.Prelude.{◌≡◌, [], ◌∷◌, ◌++◌, ◌<◌, ◌≤◌, ◌+◌, ◌-◌, ◌^◌, length, IfOk, OnOk, Some, None, MatchOption, map, ◌==◌};
+ghost use Rattle.std.specs.Prelude.{◌≡◌, [], ◌∷◌, length, IfOk, MatchOption, ◌==◌};
 ghost use Rattle.pz_ast.specs.StatementView.{sequence_view, view};
 ghost use Rattle.pz_ast.specs.Expressions.{none};
 ghost use Rattle.pz_ast.specs.Statements.{call};
 ghost use Rattle.pz_term.specs.Terms as terms;
 ghost use Rattle.pz_term.specs.Opening.{open_statements};
-ghost use Rattle.pz_term.specs.Delays.{pass_term};
 ghost use Rattle.pz_term.specs.Values.{duration_of as the_duration};
 ghost use Rattle.pz_term.specs.Twins.{local_actions, term_delay, is_done as done_of, statement_actions};
 ghost use Rattle.pz_ast.specs.ExpressionView as expression;
