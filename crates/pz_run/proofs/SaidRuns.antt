@@ -32,7 +32,7 @@ module _ (m : FirstModel) (before now : Sinks) (r : HasFirstRun (bodies_of m) ac
     wanted = status_of r.ending;
     prints = run r.events r.clock r.ending r.run;
     said = subst (λ (w : Status). Said before now (trace_text m.instance.name r.events r.clock r.ending) w s) is
-      (wrote_said before now (trace_text m.instance.name r.events r.clock r.ending) s wrote (λ e. no_fault r.ending (sym is ∙ e)));
+        (wrote_said before now (trace_text m.instance.name r.events r.clock r.ending) s wrote (λ e. no_fault r.ending (sym is ∙ e)));
   }
 
   pub says_memory : Wrote {T = Status} before now (trace_text m.instance.name r.events r.clock r.ending) (Err halt.NoMemory) → SaysRun m before now NoMemory

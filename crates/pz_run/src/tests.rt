@@ -1,0 +1,133 @@
+use super::*;
+use pz_io::{FailingFiles, MemFiles, RoomySink};
+use std::alloc::Global;
+use std::test::Fail;
+
+const MODEL: &str =
+    "process class P\ninit a()()\nmethods a()()\nskip;\ndelay 3;\nskip\nsystem instances p : P\n";
+
+const TRACE: &str =
+    "poosl-trace 1\n0 1 0 p call 2:6\n0 1 0 p skip 4:1\n0 time 3\n3 1 0 p expire 5:1\n3 1 0 p skip 6:1\n3 end\n";
+
+// The files with one model, named `m`, blanks behind its text up to a length.
+fn one_file(alloc: Global, text: &str, length: usize) -> Result<MemFiles, Fail> {
+    let mut bytes = text.as_bytes().to_vec(alloc)?;
+    let first = bytes.len();
+    for _ in first..length {
+        bytes.push(b' ')?;
+    }
+    let name = String::from_str(alloc, "m")?;
+    Ok(MemFiles::new(vec![in alloc; (name, bytes)]?))
+}
+
+fn words(alloc: Global, name: &str) -> Result<Vec<String>, Fail> {
+    let command = String::from_str(alloc, "run")?;
+    let model = String::from_str(alloc, name)?;
+    let choice = String::from_str(alloc, "--first")?;
+    Ok(vec![in alloc; command, model, choice]?)
+}
+
+fn sink(alloc: Global) -> Result<RoomySink, Fail> {
+    Ok(RoomySink::new(alloc, 100_000, Vec::new(alloc))?)
+}
+
+#[test]
+fn a_run_with_ample_memory_is_done_and_prints_its_trace(rt: HostRuntime) -> Result<(), Fail> {
+    let alloc = rt.alloc();
+    let mut files = one_file(alloc, MODEL, 0)?;
+    let mut out = sink(alloc)?;
+    let status = run_program(alloc, &words(alloc, "m")?, &mut files, &mut out);
+    assert_eq!(rt; status, Status::Done);
+    assert_eq!(rt; out.bytes(), TRACE.as_bytes());
+    Ok(())
+}
+
+#[test]
+fn the_command_alone_is_no_job(rt: HostRuntime) -> Result<(), Fail> {
+    let alloc = rt.alloc();
+    let mut files = one_file(alloc, MODEL, 0)?;
+    let mut out = sink(alloc)?;
+    let alone = vec![in alloc; String::from_str(alloc, "run")?]?;
+    let status = run_program(alloc, &alone, &mut files, &mut out);
+    assert_eq!(rt; status.number(), 2);
+    let usage =
+        "usage: poosl_run run MODEL | menu MODEL | replay MODEL TRACE | check MODEL | make N | ring N\n";
+    assert_eq!(rt; out.bytes(), usage.as_bytes());
+    Ok(())
+}
+
+#[test]
+fn a_sink_that_fails_at_its_third_write_has_two_lines(rt: HostRuntime) -> Result<(), Fail> {
+    let alloc = rt.alloc();
+    let mut files = one_file(alloc, MODEL, 0)?;
+    let mut out = RoomySink::new(alloc, 100_000, vec![in alloc; 3]?)?;
+    let status = run_program(alloc, &words(alloc, "m")?, &mut files, &mut out);
+    assert_eq!(rt; status.number(), 9);
+    assert_eq!(rt; out.bytes(), "poosl-trace 1\n0 1 0 p call 2:6\n".as_bytes());
+    Ok(())
+}
+
+#[test]
+fn a_missing_model_and_one_that_cannot_be_read_are_read_faults(
+    rt: HostRuntime,
+) -> Result<(), Fail> {
+    let alloc = rt.alloc();
+    let mut files = one_file(alloc, MODEL, 0)?;
+    let mut out = sink(alloc)?;
+    let status = run_program(alloc, &words(alloc, "n")?, &mut files, &mut out);
+    assert_eq!(rt; status.number(), 8);
+    assert_eq!(rt; out.bytes(), "read fault: n\n".as_bytes());
+    let mut files = FailingFiles::new(one_file(alloc, MODEL, 0)?, vec![in alloc; 2]?);
+    let mut out = sink(alloc)?;
+    let status = run_program(alloc, &words(alloc, "m")?, &mut files, &mut out);
+    assert_eq!(rt; status.number(), 8);
+    assert_eq!(rt; out.bytes(), "read fault: m\n".as_bytes());
+    Ok(())
+}
+
+#[test]
+fn a_model_may_have_a_mebibyte_and_no_byte_more(rt: HostRuntime) -> Result<(), Fail> {
+    let alloc = rt.alloc();
+    let mut files = one_file(alloc, MODEL, 1_048_576)?;
+    let mut out = sink(alloc)?;
+    let status = run_program(alloc, &words(alloc, "m")?, &mut files, &mut out);
+    assert_eq!(rt; status.number(), 0);
+    assert_eq!(rt; out.bytes(), TRACE.as_bytes());
+    let mut files = one_file(alloc, MODEL, 1_048_577)?;
+    let mut out = sink(alloc)?;
+    let status = run_program(alloc, &words(alloc, "m")?, &mut files, &mut out);
+    assert_eq!(rt; status.number(), 7);
+    assert_eq!(rt; out.bytes(), "too long: m\n".as_bytes());
+    Ok(())
+}
+
+#[test]
+fn what_is_not_built_is_refused_at_its_place(rt: HostRuntime) -> Result<(), Fail> {
+    let alloc = rt.alloc();
+    let mut files = one_file(alloc, "", 0)?;
+    let mut out = sink(alloc)?;
+    let status = run_program(alloc, &words(alloc, "m")?, &mut files, &mut out);
+    assert_eq!(rt; status.number(), 3);
+    assert_eq!(rt; out.bytes(), "model refused: Unbuilt 1:1\n".as_bytes());
+    let text =
+        "process class P\ninit a()()\nmethods a()()\npar skip rap;\ndelay 3;\nskip\nsystem instances p : P\n";
+    let mut files = one_file(alloc, text, 0)?;
+    let mut out = sink(alloc)?;
+    let status = run_program(alloc, &words(alloc, "m")?, &mut files, &mut out);
+    assert_eq!(rt; status.number(), 3);
+    assert_eq!(rt; out.bytes(), "model refused: Unbuilt 4:1\n".as_bytes());
+    Ok(())
+}
+
+#[test]
+fn a_model_that_calls_itself_stops_after_a_thousand_actions(rt: HostRuntime) -> Result<(), Fail> {
+    let alloc = rt.alloc();
+    let text = "process class P init a()() methods a()() a()() system instances p : P";
+    let mut files = one_file(alloc, text, 0)?;
+    let mut out = sink(alloc)?;
+    let status = run_program(alloc, &words(alloc, "m")?, &mut files, &mut out);
+    assert_eq!(rt; status.number(), 0);
+    assert!(rt; out.bytes().ends_with("0 stop\n".as_bytes()));
+    assert_eq!(rt; out.bytes().iter().filter(|b| **b == b'\n').count(), 1002);
+    Ok(())
+}
