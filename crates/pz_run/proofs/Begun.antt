@@ -1,5 +1,5 @@
 -- The run of a model, from the start of its simulator.
-use Rattle.std.proofs.Common.{◌≡◌, ◌∙◌, ℕ, List, Bool, false, Result, IfOk, sym, subst, ap}
+use Rattle.std.proofs.Common.{◌≡◌, ℕ, List, false, Result, IfOk, sym, subst, ap}
 use Rattle.pz_term.specs.FirstPath.{FirstModel}
 use Rattle.pz_term.specs.Runs.{Event, Ending, IsFirstRun}
 use Rattle.pz_term.specs.Simulations.{Simulation}

@@ -1,5 +1,5 @@
 -- A run that goes on: where the simulator stands between two lines, and what each line leaves.
-use Rattle.std.proofs.Common.{◌≡◌, ◌≤◌, ◌<◌, ◌+◌, ◌*◌, ◌^◌, ℕ, zero, suc, List, Bool, false, Result, Ok, Err, IfOk, refl, sym, subst, ap, ◌∙◌, arith}
+use Rattle.std.proofs.Common.{◌≡◌, ◌≤◌, ◌<◌, ◌+◌, ◌*◌, ◌^◌, ℕ, suc, List, false, Result, Ok, Err, IfOk, refl, sym, subst, ap, ◌∙◌, arith}
 use Rattle.std.specs.Result.{IsErrAnd}
 use Rattle.pz_term.specs.declared.action.Action.{Action}
 use Rattle.pz_term.specs.declared.action.Action.TheVariants.{Internal}
@@ -10,7 +10,7 @@ use Rattle.pz_term.specs.Configurations.{Config, next, pass}
 use Rattle.pz_term.specs.Moments.{IsMoment}
 use Rattle.pz_term.specs.Laws.{OneMoment, OneFirstRun, EveryFirstRun, ActsAfterTime}
 use Rattle.pz_term.specs.Runs.{Event, acted, passed, Ending, ended, deadlocked, stopped, IsChoice, IsFirstRun}
-use Rattle.pz_term.specs.Simulations.{Simulation, IsMomentOf, IsMomentBy, Chooses, Passes}
+use Rattle.pz_term.specs.Simulations.{Simulation, IsMomentOf, Chooses, Passes}
 use Rattle.pz_run.specs.Lines.{ending_line}
 use Rattle.pz_run.specs.Output.{action_limit}
 use Rattle.pz_run.specs.Status.{status_of}

@@ -1,14 +1,13 @@
 -- The promises of the top call, by how its job went.
-use Rattle.std.proofs.Common.{◌≡◌, ◌≢◌, ◌⊎◌, inl, inr, ⊎_elim, ◌<◌, ◌≤◌, ℕ, List, ◌++◌, Bool, true, Option, Some, None, length, refl, sym, subst, ap, ◌∙◌, arith}
+use Rattle.std.proofs.Common.{◌≡◌, ◌≢◌, ◌⊎◌, inl, inr, ⊎_elim, ◌<◌, ◌≤◌, ℕ, List, true, Option, Some, None, length, sym, subst, ap, ◌∙◌}
 use Rattle.pz_io.specs.Outside.{Entries, lookup, raised, Rose, Exceeds}
 use Rattle.pz_term.specs.FirstPath.{FirstModel}
-use Rattle.pz_term.specs.Runs.{Ending, ended, deadlocked, stopped}
+use Rattle.pz_term.specs.Runs.{ended, deadlocked, stopped}
 use Rattle.pz_run.specs.FirstTexts.{IsModelOf}
 use Rattle.pz_run.specs.Keeping.{Shelf, Keeps, Unsaid, SaysModel}
 use Rattle.pz_run.specs.Lines.{usage_line, read_fault_line, too_long_line}
 use Rattle.pz_run.specs.Output.{Prints, usage, job, PrintsFile, lacks, too_long, reads, PrintsModel, refuses, runs, PrintsRun, run, model_limit}
-use Rattle.pz_run.specs.Promises.{PrintsAll, PrintsSome, PrintsFront, IsNoModel}
-use Rattle.pz_run.specs.Status.{status_of}
+use Rattle.pz_run.specs.Promises.{PrintsAll, PrintsSome}
 use Rattle.pz_run.specs.Words.{first_job}
 use Rattle.pz_run.specs.Writing.{Sinks, Said}
 use Rattle.pz_run.specs.declared.status.Status.{Status}

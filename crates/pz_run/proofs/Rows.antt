@@ -6,7 +6,13 @@ use Rattle.pz_ast.specs.declared.names.Id.{Id}
 use Rattle.pz_ast.specs.declared.tokens.Pos.{Pos}
 use Rattle.pz_ast.specs.declared.tokens.Token.{Token}
 use Rattle.pz_term.specs.FirstPath.{skips, delays, Routine, FirstModel, IsKnown}
+use Rattle.std.specs.Fmt.{digits}
+use Rattle.pz_term.specs.declared.action.Action.TheVariants.{Internal}
+use Rattle.pz_term.specs.declared.action.Kind.{Kind}
+use Rattle.pz_term.specs.declared.action.Kind.TheVariants.{Skip, Expire, Call}
+use Rattle.pz_term.specs.Runs.{Event, acted, passed, ended}
 use Rattle.pz_run.specs.FirstTexts.{first_text, IsModelOf}
+use Rattle.pz_run.specs.TraceText.{trace_text}
 use Rattle.pz_run.specs.Twins.Cuts.{tokens_from, tokens_of}
 use Rattle.pz_run.specs.Twins.Grammar.{is_key, is_symbol, groups, call, delay, simple, body, routine, routines, class_name, start, system, model}
 use Rattle.pz_run.proofs.Consuming.{reads_all}
@@ -67,3 +73,13 @@ row =
       };
       is_text = record { tokens = row_tokens; has_tokens = tokens_found row_text row_tokens cut; read = reads_all row_tokens (first_text row_model) took.text };
     }
+
+-- the text of its run, of which the crate of the rules works out the events
+abbrev acts : ℕ → Kind → Pos → Event
+acts clock kind pos = acted clock 1 0 (Internal (record { process = 0; place = [] }) kind pos)
+
+row_trace :
+    trace_text (codes "p") (acts 0 Call (at 2 6) ∷ acts 0 Skip (at 4 1) ∷ passed 0 3 ∷ acts 3 Expire (at 5 1) ∷ acts 3 Skip (at 6 1) ∷ []) 3 ended
+    ≡ codes "poosl-trace 1\n0 1 0 p call 2:6\n0 1 0 p skip 4:1\n0 time 3\n3 1 0 p expire 5:1\n3 1 0 p skip 6:1\n3 end\n"
+unfolding digits
+row_trace = refl

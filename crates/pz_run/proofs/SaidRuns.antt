@@ -1,7 +1,5 @@
 -- What is said of a run, and of the text of a model.
-use Rattle.std.proofs.Common.{◌≡◌, ◌≢◌, ◌⊎◌, inl, inr, ◌∙◌, ℕ, List, Result, Ok, Err, IfOk, refl, sym, subst, ap, String}
-use Rattle.std.specs.String.{string_bytes}
-use Rattle.std.specs.declared.alloc.Global.{Global}
+use Rattle.std.proofs.Common.{◌≡◌, ◌⊎◌, inl, inr, ◌∙◌, ℕ, List, Ok, Err, refl, sym, subst}
 use Rattle.pz_ast.specs.declared.tokens.Pos.{Pos}
 use Rattle.pz_term.specs.FirstPath.{FirstModel}
 use Rattle.pz_term.specs.Laws.{HasFirstRun}
@@ -14,10 +12,9 @@ use Rattle.pz_run.specs.Output.{action_limit, run, refuses, runs}
 use Rattle.pz_run.specs.Status.{status_of}
 use Rattle.pz_run.specs.TraceText.{trace_text}
 use Rattle.pz_run.specs.Writing.{Sinks, Wrote, Said}
-use Rattle.pz_run.specs.declared.printing.Halt.{Halt}
 use Rattle.pz_run.specs.declared.printing.Halt.TheVariants as halt
 use Rattle.pz_run.specs.declared.status.Status.{Status}
-use Rattle.pz_run.specs.declared.status.Status.TheVariants.{Done, Deadlock, ModelRefused, WriteFault, NoMemory}
+use Rattle.pz_run.specs.declared.status.Status.TheVariants.{ModelRefused, WriteFault, NoMemory}
 use Rattle.pz_run.proofs.Writes.{wrote_said, halt_said_memory, halt_said_fault}
 
 no_fault : (x : Ending) → status_of x ≡ WriteFault → ⊥

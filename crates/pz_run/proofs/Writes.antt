@@ -1,10 +1,9 @@
 -- Texts that are written piece by piece.
-use Rattle.std.proofs.Common.{◌≡◌, ◌≢◌, ◌≤◌, ◌<◌, ◌⊎◌, inl, inr, ℕ, List, [], ◌++◌, Bool, true, length, take, drop, Result, Ok, Err, refl, sym, ◌∙◌, ap, subst, arith, append_assoc, take-append-drop, OnOk, IfOk}
+use Rattle.std.proofs.Common.{◌≡◌, ◌≢◌, ◌≤◌, inl, inr, ℕ, List, ◌++◌, take, drop, Result, Ok, Err, refl, sym, ◌∙◌, ap, subst, arith, append_assoc, take-append-drop, IfOk}
 use Rattle.std.specs.Result.{IsErrAnd}
 use Rattle.std.proofs.lemmas.Result.{err_from_is_err_and}
-use Rattle.std.proofs.lemmas.List.{append-nil}
 use Rattle.pz_io.specs.Outside.{Rose}
-use Rattle.pz_run.specs.Writing.{Sinks, TookFront, TookAll, Wrote, Said, SoFar}
+use Rattle.pz_run.specs.Writing.{Sinks, TookFront, Wrote, Said, SoFar}
 use Rattle.pz_term.specs.Runs.{Ending}
 use Rattle.pz_run.specs.Status.{status_of}
 use Rattle.pz_run.specs.declared.printing.Halt.{Halt}

@@ -1,6 +1,6 @@
 -- The promises of the top call as one, for the calls below it.
-use Rattle.std.specs.Prelude.{◌≡◌, ◌≢◌, ◌⊎◌, ◌<◌, ℕ, List, Bool, true, Option, Some, None}
-use Rattle.pz_io.specs.Outside.{Entries, lookup, raised, Rose}
+use Rattle.std.specs.Prelude.{◌≡◌, ◌≢◌, ◌⊎◌, ◌<◌, ℕ, List, Bool, true, Some, None}
+use Rattle.pz_io.specs.Outside.{Entries, raised, Rose}
 use Rattle.pz_term.specs.FirstPath.{FirstModel}
 use Rattle.pz_run.specs.Output.{PrintsModel, PrintsRun, model_limit}
 use Rattle.pz_run.specs.Promises.{PrintsAll, PrintsFront, TakesFaultLine, Lacks, IsLonger, IsNoModel}

@@ -1,5 +1,5 @@
 -- What the top call promises, by parts. Bytes before and now are those that the sink has taken.
-use Rattle.std.specs.Prelude.{◌≡◌, ◌⊎◌, ◌<◌, ◌≤◌, ℕ, List, ◌++◌, length, Option, Some, None}
+use Rattle.std.specs.Prelude.{◌≡◌, ◌⊎◌, ◌<◌, ◌≤◌, ℕ, List, ◌++◌, length, Some, None}
 use Rattle.pz_io.specs.Outside.{Entries, lookup, Rose}
 use Rattle.pz_term.specs.FirstPath.{FirstModel}
 use Rattle.pz_run.specs.FirstTexts.{IsModelOf}

@@ -1,10 +1,4 @@
-use Rattle.std.proofs.Common.{◌≡◌, ◌∙◌, ap, sym, subst, ◌≤◌, ℕ}
-use Rattle.pz_term.specs.declared.moment.Moment.{Moment}
-use Rattle.pz_term.specs.declared.moment.Moment.TheVariants.{Actions}
-use Rattle.pz_term.specs.declared.plain.Plain.{Plain}
-use Rattle.pz_term.specs.Plains.{simulation_of}
-use Rattle.pz_term.specs.Simulations.{IsMomentOf}
-use Rattle.pz_run.proofs.Now.{acts_now, offered}
+use Rattle.std.proofs.Common.{◌∙◌}
 use Rattle.pz_run.proofs.Writes.{nothing_written, stopped_by, wrote_as, then_memory}
 use Rattle.pz_run.proofs.running.print_action.Goals as goal
 

@@ -1,11 +1,9 @@
-use Rattle.std.proofs.Common.{◌≡◌, ◌∙◌, ◌-◌, ℕ, suc, List, sym, subst, refl, arith}
+use Rattle.std.proofs.Common.{◌≡◌, ◌-◌, ℕ, suc, List, sym, subst, refl, arith}
 use Rattle.pz_term.specs.declared.plain.Plain.{Plain}
 use Rattle.pz_term.specs.Plains.{simulation_of}
 use Rattle.pz_term.specs.Runs.{Event, Ending, ended, deadlocked, stopped, IsFirstRun}
-use Rattle.pz_term.specs.Simulations.{IsMomentOf}
 use Rattle.pz_run.specs.Output.{action_limit}
-use Rattle.pz_run.specs.Writing.{Sinks}
-use Rattle.pz_run.proofs.Goings.{Going, passes_on, passing_fails, acts_on, acting_fails, finishes, deadlocks_now, stops_now}
+use Rattle.pz_run.proofs.Goings.{passes_on, passing_fails, acts_on, acting_fails, finishes, deadlocks_now, stops_now}
 use Rattle.pz_run.proofs.running.print_rest.Goals as goal
 use Rattle.pz_run.proofs.running.print_rest.Goals.{in-Time+in_ok-print_passing-in-Time, in-Actions+else-left-eq0+in_ok-print_action-in-Actions}
 

@@ -1,4 +1,3 @@
-use Rattle.std.proofs.Common.{refl, ◌∙◌}
 use Rattle.pz_run.specs.Lines.{header}
 use Rattle.pz_run.specs.TraceText.{rest_text, trace_text}
 use Rattle.pz_run.proofs.Writes.{started, goes_on, stops, ends, no_status}
