@@ -1,0 +1,6 @@
+pub mod LookAhead
+pub mod Input
+pub mod Device
+pub mod Lists
+pub mod Names
+pub mod Places
