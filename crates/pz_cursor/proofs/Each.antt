@@ -20,17 +20,17 @@ module _ {A : Type 0} (text : A → List Mark) (begins : Tokens → Bool) (item 
   repeat_sound s zero i y e = ok_took ([], i) y e (record { parts = refl; meets = tt })
   repeat_sound s (suc turn) i y e = split (λ j z f. repeat_sound s turn j z f) (begins i) refl
     where
-    split : ((j : Tokens) (z : List A × Tokens) → repeat begins item turn j ≡ Ok z → Took (each_text text) (Each P) j z) → (b : Bool) → begins i ≡ b → Took (each_text text) (Each P) i y
-    split again false h = ok_took ([], i) y (rw h at e) (record { parts = refl; meets = tt })
-    split again true h =
-        let a = bind_ok (item i) (λ x. repeat begins item turn >>= (λ xs. pure (x ∷ xs))) y (rw h at e) in
-        let first = s i a.0 h a.1 in
-        let b = bind_ok (repeat begins item turn a.0.1) (λ xs. pure (a.0.0 ∷ xs)) y a.2 in
-        let rest = again a.0.1 b.0 b.1 in
-        ok_took (a.0.0 ∷ b.0.0, b.0.1) y b.2 (record {
-          parts = first.parts ∙ ap (λ r. text a.0.0 ++ r) rest.parts ∙ sym (append_assoc (text a.0.0) (each_text text b.0.0) (marks b.0.1));
-          meets = (first.meets, rest.meets);
-        })
+      split : ((j : Tokens) (z : List A × Tokens) → repeat begins item turn j ≡ Ok z → Took (each_text text) (Each P) j z) → (b : Bool) → begins i ≡ b → Took (each_text text) (Each P) i y
+      split again false h = ok_took ([], i) y (rw h at e) (record { parts = refl; meets = tt })
+      split again true h =
+          let a = bind_ok (item i) (λ x. repeat begins item turn >>= (λ xs. pure (x ∷ xs))) y (rw h at e) in
+          let first = s i a.0 h a.1 in
+          let b = bind_ok (repeat begins item turn a.0.1) (λ xs. pure (a.0.0 ∷ xs)) y a.2 in
+          let rest = again a.0.1 b.0 b.1 in
+          ok_took (a.0.0 ∷ b.0.0, b.0.1) y b.2 (record {
+            parts = first.parts ∙ ap (λ r. text a.0.0 ++ r) rest.parts ∙ sym (append_assoc (text a.0.0) (each_text text b.0.0) (marks b.0.1));
+            meets = (first.meets, rest.meets);
+          })
 
   -- what is read only where one begins
   pub each_sound : ((i : Tokens) (y : A × Tokens) → begins i ≡ true → item i ≡ Ok y → Took text P i y) → Sound (each_text text) (each_of begins item) (Each P)

@@ -56,27 +56,29 @@ module _ {A : Type 0} (text : A → List Mark) (item : Parser A) (P : A → Type
   tails_sound s zero i y e = ok_took ([], i) y e (record { parts = refl; meets = tt })
   tails_sound s (suc turn) i y e = split (λ j z f. tails_sound s turn j z f) (sees sep i) refl
     where
-    split : ((j : Tokens) (z : List A × Tokens) → tail_of item sep turn j ≡ Ok z → Took (tails text x) (Each P) j z) → (b : Bool) → sees sep i ≡ b → Took (tails text x) (Each P) i y
-    split again false h = ok_took ([], past sep i) y (rw h at e) (record { parts = ap marks (sym (past_not sep i h)); meets = tt })
-    split again true h =
-        let a = bind_ok (item (past sep i)) (λ x. tail_of item sep turn >>= (λ xs. pure (x ∷ xs))) y (rw h at e) in
-        let first = s.reads (past sep i) a.0 a.1 in
-        let b = bind_ok (tail_of item sep turn a.0.1) (λ xs. pure (a.0.0 ∷ xs)) y a.2 in
-        let rest = again a.0.1 b.0 b.1 in
-        let token = takes x i (ap token_of (sees_is sep i h) ∙ shows) in
-        ok_took (a.0.0 ∷ b.0.0, b.0.1) y b.2 (record {
-          parts = token ∙ ap (λ r. mark x ∷ r) (ap marks (sym (past_is sep i h)) ∙ first.parts ∙ ap (λ r. text a.0.0 ++ r) rest.parts ∙ sym (append_assoc (text a.0.0) (tails text x b.0.0) (marks b.0.1)));
-          meets = (first.meets, rest.meets);
-        })
+      split : ((j : Tokens) (z : List A × Tokens) → tail_of item sep turn j ≡ Ok z → Took (tails text x) (Each P) j z) → (b : Bool) → sees sep i ≡ b → Took (tails text x) (Each P) i y
+      split again false h = ok_took ([], past sep i) y (rw h at e) (record { parts = ap marks (sym (past_not sep i h)); meets = tt })
+      split again true h =
+          let a = bind_ok (item (past sep i)) (λ x. tail_of item sep turn >>= (λ xs. pure (x ∷ xs))) y (rw h at e) in
+          let first = s.reads (past sep i) a.0 a.1 in
+          let b = bind_ok (tail_of item sep turn a.0.1) (λ xs. pure (a.0.0 ∷ xs)) y a.2 in
+          let rest = again a.0.1 b.0 b.1 in
+          let token = takes x i (ap token_of (sees_is sep i h) ∙ shows) in
+          ok_took (a.0.0 ∷ b.0.0, b.0.1) y b.2 (record {
+            parts = token ∙ ap (λ r. mark x ∷ r) (ap marks (sym (past_is sep i h)) ∙ first.parts ∙ ap (λ r. text a.0.0 ++ r) rest.parts ∙ sym (append_assoc (text a.0.0) (tails text x b.0.0) (marks b.0.1)));
+            meets = (first.meets, rest.meets);
+          })
 
   pub joined_sound : Sound text item P → Sound (joined text x) (list_of item sep) (Filled P)
   unfolding list_of more_of
-  joined_sound s = record { reads = λ i y e.
-    let a = bind_ok (item i) _ y e in
-    let first = s.reads i a.0 a.1 in
-    let b = with_front_ok (a.0.0 ∷ []) _ y a.2 in
-    let rest = tails_sound s (turns a.0.1) a.0.1 b.0 b.1 in
-    ok_took (a.0.0 ∷ b.0.0, b.0.1) y b.2 (record { parts = first.parts ∙ ap (λ r. text a.0.0 ++ r) rest.parts ∙ sym (append_assoc (text a.0.0) (tails text x b.0.0) (marks b.0.1)); meets = (first.meets, rest.meets) }) }
+  joined_sound s = record {
+    reads = λ i y e.
+        let a = bind_ok (item i) _ y e in
+        let first = s.reads i a.0 a.1 in
+        let b = with_front_ok (a.0.0 ∷ []) _ y a.2 in
+        let rest = tails_sound s (turns a.0.1) a.0.1 b.0 b.1 in
+        ok_took (a.0.0 ∷ b.0.0, b.0.1) y b.2 (record { parts = first.parts ∙ ap (λ r. text a.0.0 ++ r) rest.parts ∙ sym (append_assoc (text a.0.0) (tails text x b.0.0) (marks b.0.1)); meets = (first.meets, rest.meets) });
+  }
 
 abbrev pub token : TokenKind → Pos → Token
 token x p = record { mark = mark x; pos = p }
@@ -99,9 +101,9 @@ module _ {A : Type 0} (text : A → List Mark) (place : Placing A) (item : Parse
   unfolding list_of more_of
   joined_complete c = record { gives = give }
     where
-    give : (at : ℕ → Pos) (n : ℕ) (ts : List A) (j : Tokens) → Filled P ts → Stop (next j) × (next j ≡ sep → ⊥) → list_of item sep (located at n (joined text x ts) ++ j) ≡ Ok (place_separated text place at n ts, j)
-    give at n [] j some h = absurd some
-    give at n (t ∷ ts) j some h =
-        let k = n + length (text t) in
-        let le : length ts ≤ length (located at k (tails text x ts) ++ j) = omega (arith, count-le text x ts, length-append (located at k (tails text x ts)) j, located_length at k (tails text x ts)) in
-        rw (split_located at n (text t) (tails text x ts) j, c.gives at n t (located at k (tails text x ts) ++ j) some.0 (next_behind at k ts j h.0), tails_complete c (length (located at k (tails text x ts) ++ j)) at k ts j le some.1 h.0 (not_seen sep j h.1)) refl
+      give : (at : ℕ → Pos) (n : ℕ) (ts : List A) (j : Tokens) → Filled P ts → Stop (next j) × (next j ≡ sep → ⊥) → list_of item sep (located at n (joined text x ts) ++ j) ≡ Ok (place_separated text place at n ts, j)
+      give at n [] j some h = absurd some
+      give at n (t ∷ ts) j some h =
+          let k = n + length (text t) in
+          let le : length ts ≤ length (located at k (tails text x ts) ++ j) = omega (arith, count-le text x ts, length-append (located at k (tails text x ts)) j, located_length at k (tails text x ts)) in
+          rw (split_located at n (text t) (tails text x ts) j, c.gives at n t (located at k (tails text x ts) ++ j) some.0 (next_behind at k ts j h.0), tails_complete c (length (located at k (tails text x ts) ++ j)) at k ts j le some.1 h.0 (not_seen sep j h.1)) refl

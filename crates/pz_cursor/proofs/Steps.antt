@@ -22,7 +22,7 @@ pub bind_ok : {A B : Type 0} (o : Outcome A) (f : A → Parser B) (y : B × Toke
 bind_ok (Ok p) f y e = (p, refl, e)
 bind_ok (Err d) f y e = absurd cc
 
-mark_is : (m : Mark) (h : Bool) (x : TokenKind) → m.head ≡ h → m.kind ≡ x → m ≡ record { kind = x; head = h }
+pub mark_is : (m : Mark) (h : Bool) (x : TokenKind) → m.head ≡ h → m.kind ≡ x → m ≡ record { kind = x; head = h }
 mark_is m h x p q = ap (λ (b : Bool). record { kind = m.kind; head = b }) p ∙ ap (λ (y : TokenKind). record { kind = y; head = h }) q
 
 -- a token that shows what it is

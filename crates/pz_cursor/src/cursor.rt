@@ -6,8 +6,8 @@ ghost use Rattle.pz_cursor.specs.Input as input;
 ghost use Rattle.pz_cursor.specs.Device as device;
 ghost use Rattle.pz_cursor.specs.Device.{Reads, MakesOr};
 
-use crate::ahead::{next_of, same, Next};
 use crate::Refusal;
+use crate::ahead::{Next, next_of, same};
 use pz_ast::{Id, Keyword, Literal, Name, Pos, Token, TokenKind};
 use std::alloc::Global;
 use std::marker::Model;

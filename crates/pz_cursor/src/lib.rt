@@ -9,5 +9,7 @@ mod refusal;
 
 pub use ahead::Next;
 pub use cursor::Cursor;
-pub use naming::{formal, names, optional_formal, optional_locals, optional_names, optional_variables, variables};
+pub use naming::{
+    formal, names, optional_formal, optional_locals, optional_names, optional_variables, variables,
+};
 pub use refusal::Refusal;

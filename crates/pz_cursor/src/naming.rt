@@ -23,7 +23,11 @@ pub fn names(alloc: Global, cursor: &mut Cursor<'_>) -> Result<Items<Id>, Refusa
 }
 
 #[tactic(auto, unfolding(crate::specs::Lists::more_of, crate::specs::Lists::tail_of))]
-fn more_names(alloc: Global, cursor: &mut Cursor<'_>, mut found: Items<Id>) -> Result<Items<Id>, Refusal>
+fn more_names(
+    alloc: Global,
+    cursor: &mut Cursor<'_>,
+    mut found: Items<Id>,
+) -> Result<Items<Id>, Refusal>
     ensures { Reads (λ x. x) (lists.more_of spec.word n.Comma found cursor.old) result cursor.new }
 {
     for _turn in 0..cursor.left() {
@@ -90,7 +94,11 @@ pub fn variables(alloc: Global, cursor: &mut Cursor<'_>) -> Result<Items<VarGrou
 }
 
 #[tactic(auto, unfolding(crate::specs::Lists::more_of, crate::specs::Lists::tail_of))]
-fn more_groups(alloc: Global, cursor: &mut Cursor<'_>, mut found: Items<VarGroup>) -> Result<Items<VarGroup>, Refusal>
+fn more_groups(
+    alloc: Global,
+    cursor: &mut Cursor<'_>,
+    mut found: Items<VarGroup>,
+) -> Result<Items<VarGroup>, Refusal>
     ensures { Reads (λ x. x) (lists.more_of spec.group n.Comma found cursor.old) result cursor.new }
 {
     for _turn in 0..cursor.left() {
@@ -104,7 +112,10 @@ fn more_groups(alloc: Global, cursor: &mut Cursor<'_>, mut found: Items<VarGroup
 
 /// The variables, or none where no group of them stands next.
 #[tactic(auto, unfolding(crate::specs::Names::optional_variables))]
-pub fn optional_variables(alloc: Global, cursor: &mut Cursor<'_>) -> Result<Items<VarGroup>, Refusal>
+pub fn optional_variables(
+    alloc: Global,
+    cursor: &mut Cursor<'_>,
+) -> Result<Items<VarGroup>, Refusal>
     ensures reads { Reads (λ x. x) (spec.optional_variables cursor.old) result cursor.new }
 {
     if begins_group(cursor) {
@@ -134,7 +145,10 @@ pub fn formal(alloc: Global, cursor: &mut Cursor<'_>) -> Result<Items<VarGroup>,
 
 /// Formal parameters, if a `(` stands next.
 #[tactic(auto, unfolding(crate::specs::Names::optional_formal))]
-pub fn optional_formal(alloc: Global, cursor: &mut Cursor<'_>) -> Result<Option<Items<VarGroup>>, Refusal>
+pub fn optional_formal(
+    alloc: Global,
+    cursor: &mut Cursor<'_>,
+) -> Result<Option<Items<VarGroup>>, Refusal>
     ensures reads { Reads (λ x. x) (spec.optional_formal cursor.old) result cursor.new }
 {
     if cursor.sees(Next::LeftParen) {
@@ -156,7 +170,10 @@ fn locals(alloc: Global, cursor: &mut Cursor<'_>) -> Result<Items<VarGroup>, Ref
 
 /// Local variables between bars, if a `|` stands next.
 #[tactic(auto, unfolding(crate::specs::Names::optional_locals))]
-pub fn optional_locals(alloc: Global, cursor: &mut Cursor<'_>) -> Result<Option<Items<VarGroup>>, Refusal>
+pub fn optional_locals(
+    alloc: Global,
+    cursor: &mut Cursor<'_>,
+) -> Result<Option<Items<VarGroup>>, Refusal>
     ensures reads { Reads (λ x. x) (spec.optional_locals cursor.old) result cursor.new }
 {
     if cursor.sees(Next::Bar) {
