@@ -1,7 +1,8 @@
 //! What selectors are sent to.
 
 ghost use Rattle.std.specs.Prelude.{◌≡◌, map, Ok};
-ghost use Rattle.pz_ast.specs.ExpressionView.{view, part_view};
+ghost use Rattle.pz_ast.specs.ExpressionView.{view, list_view, part_view};
+ghost use Rattle.pz_ast.specs.Expressions as tree;
 ghost use Rattle.pz_cursor.specs.Device.{Reads};
 ghost use Rattle.pz_values.specs.Values as spec;
 ghost use Rattle.pz_values.specs.Values.{below};
@@ -9,7 +10,7 @@ ghost use Rattle.pz_values.specs.Nests.{Nests};
 
 use crate::grammar::Grammar;
 use crate::Rule;
-use pz_ast::{Expr, ExprForm, Id};
+use pz_ast::{Expr, ExprForm, Id, Pos};
 use pz_cursor::{Cursor, Next, Refusal};
 use pz_items::{Boxed, Items};
 use std::alloc::Global;
@@ -60,8 +61,7 @@ impl<F: Fn(Global, &mut Cursor<'_>, usize, Rule) -> Result<Expr, Refusal>> Gramm
         let body = self.exprs(cursor, Next::Semicolon)?;
         let other = self.otherwise(cursor)?;
         cursor.expect(Next::Fi)?;
-        let form = ExprForm::If(test, body, other);
-        Ok(Expr { pos, form })
+        Ok(choice(pos, test, body, other))
     }
 
     /// A value and this word behind it.
@@ -99,8 +99,7 @@ impl<F: Fn(Global, &mut Cursor<'_>, usize, Rule) -> Result<Expr, Refusal>> Gramm
         let test = self.test(cursor, Next::Do)?;
         let body = self.exprs(cursor, Next::Semicolon)?;
         cursor.expect(Next::Od)?;
-        let form = ExprForm::While(test, body);
-        Ok(Expr { pos, form })
+        Ok(repeated(pos, test, body))
     }
 }
 
@@ -150,4 +149,18 @@ fn creation(alloc: Global, cursor: &mut Cursor<'_>) -> Result<Expr, Refusal>
     cursor.expect(Next::RightParen)?;
     let form = ExprForm::New(class);
     Ok(Expr { pos, form })
+}
+
+fn choice(pos: Pos, test: Boxed<Expr>, body: Items<Expr>, other: Option<Items<Expr>>) -> Expr
+    ensures { view result ≡ tree.choice pos (view test) (list_view body) (part_view other) }
+{
+    let form = ExprForm::If(test, body, other);
+    Expr { pos, form }
+}
+
+fn repeated(pos: Pos, test: Boxed<Expr>, body: Items<Expr>) -> Expr
+    ensures { view result ≡ tree.loop pos (view test) (list_view body) }
+{
+    let form = ExprForm::While(test, body);
+    Expr { pos, form }
 }

@@ -1,0 +1,5 @@
+pub mod Loops
+pub mod Texts
+pub mod Operators
+pub mod Linked
+pub mod Readings
