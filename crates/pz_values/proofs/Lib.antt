@@ -3,3 +3,4 @@ pub mod Texts
 pub mod Operators
 pub mod Linked
 pub mod Readings
+pub mod Firsts

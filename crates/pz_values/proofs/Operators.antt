@@ -18,7 +18,7 @@ use Rattle.pz_values.specs.declared.rule.Rule.TheVariants as rule
 use Rattle.pz_values.specs.Rules.{rank, disjunction, conjunction, comparison, sum, product, operator}
 
 -- How tightly what comes next goes on with what was read before it: an operator by its level, a
--- selector and brackets more tightly, the rest not at all.
+-- selector, brackets and `:=` more tightly, the rest not at all.
 abbrev pub binding : Next → ℕ
 binding n.Bar = 1
 binding n.Ampersand = 2
@@ -37,6 +37,7 @@ binding n.Slash = 5
 binding n.Word = 7
 binding n.Init = 7
 binding n.LeftParen = 7
+binding n.Assign = 7
 binding _ = 0
 
 abbrev pub strength : Rule → ℕ
