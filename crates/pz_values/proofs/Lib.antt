@@ -4,3 +4,4 @@ pub mod Operators
 pub mod Linked
 pub mod Readings
 pub mod Firsts
+pub mod Completeness
