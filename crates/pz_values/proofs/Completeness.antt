@@ -33,7 +33,7 @@ use Rattle.pz_cursor.proofs.Each.{each_complete}
 use Rattle.pz_values.specs.declared.rule.Rule.{Rule}
 use Rattle.pz_values.specs.declared.rule.Rule.TheVariants as rule
 use Rattle.pz_values.specs.Rules.{rank, operator}
-use Rattle.pz_values.specs.Values.{expr, by_rule, assignment, returned, named, expression, expression_by, constant, created, test, otherwise, otherwise_by, exprs_before, enclosed, grouped, conditional, repetition, primary, primary_by, arguments, arguments_by, one_sending, all_sendings, sent, sent_to, signed, operand, operand_by, products, sums, comparisons, conjunctions, values}
+use Rattle.pz_values.specs.Values.{expr, below, by_rule, assignment, returned, named, expression, expression_by, constant, created, test, otherwise, otherwise_by, exprs_before, enclosed, grouped, conditional, repetition, primary, primary_by, arguments, arguments_by, one_sending, all_sendings, sent, sent_to, signed, operand, operand_by, products, sums, comparisons, conjunctions, values}
 use Rattle.pz_values.specs.ExpressionPlaces.{place, place_all, place_tail, place_part, place_sendings}
 use Rattle.pz_values.proofs.Loops.{operand_default}
 use Rattle.pz_values.proofs.Texts.{Fits, starts, begins, stands, literal_seen, to_list, list_back, texts_of, places_are, filled_of_body}
@@ -103,7 +103,7 @@ sendings_fit depth (sending x a ss) h lt = ((h.0, omega (arith, lt)), sendings_f
 module _ (depth : ℕ) (inner : Rule → Parser Tree) (inner_complete : (r : Rule) → Complete text place (inner r) (Fits depth (rank r)) (Stops r)) where
   -- lists with this separator
   module _ (sep : Next) (x : Symbol) (loose : binding sep < 1) (is_sep : (p : Pos) (i : Tokens) → next (token (kind.Sym x) p ∷ i) ≡ sep) (sees_sep : (p : Pos) (i : Tokens) → sees sep (token (kind.Sym x) p ∷ i) ≡ true) where
-    list_given : (at : ℕ → Pos) (k : ℕ) (ts : Expressions Id Id) (j : Tokens) → IsBody ts → nestings ts < depth → binding (next j) < 1 → next j ≢ sep → list_of (inner rule.Expression) sep (located at k (texts x ts) ++ j) ≡ Ok (to_list (place_all at k ts), j)
+    pub list_given : (at : ℕ → Pos) (k : ℕ) (ts : Expressions Id Id) (j : Tokens) → IsBody ts → nestings ts < depth → binding (next j) < 1 → next j ≢ sep → list_of (inner rule.Expression) sep (located at k (texts x ts) ++ j) ≡ Ok (to_list (place_all at k ts), j)
     list_given at k ts j body lt h ne =
         ap (λ r. list_of (inner rule.Expression) sep (located at k r ++ j)) (texts_of x ts)
         ∙ (joined_complete text place (inner rule.Expression) (Fits depth 0) sep (kind.Sym x) (Stops rule.Expression) loose is_sep sees_sep (inner_complete rule.Expression)).gives at k (to_list ts) j (filled_of_body depth ts body lt) (h, ne)
@@ -132,7 +132,7 @@ module _ (depth : ℕ) (inner : Rule → Parser Tree) (inner_complete : (r : Rul
         let other : next r ≢ sep = λ e. ne (sym (is_close (at m) j) ∙ e) in
         rw (deepen_is depth (located at k (symbol left ∷ (texts x ts ++ symbol right ∷ [])) ++ j) (omega (arith, lt)), split_located at (suc k) (texts x ts) (symbol right ∷ []) j, before_given close at (suc k) ts r st each lt seen shown other, expect_is close r seen) refl
 
-  body_given : (at : ℕ → Pos) (k : ℕ) (ts : Expressions Id Id) (j : Tokens) → IsBody ts → nestings ts < depth → binding (next j) < 1 → next j ≢ n.Semicolon → list_of (inner rule.Expression) n.Semicolon (located at k (texts s.Semicolon ts) ++ j) ≡ Ok (to_list (place_all at k ts), j)
+  pub body_given : (at : ℕ → Pos) (k : ℕ) (ts : Expressions Id Id) (j : Tokens) → IsBody ts → nestings ts < depth → binding (next j) < 1 → next j ≢ n.Semicolon → list_of (inner rule.Expression) n.Semicolon (located at k (texts s.Semicolon ts) ++ j) ≡ Ok (to_list (place_all at k ts), j)
   body_given = list_given n.Semicolon s.Semicolon (omega arith) semicolon_is semicolon_seen
 
   pub arguments_given : (at : ℕ → Pos) (k : ℕ) (ts : Expressions Id Id) (j : Tokens) → AreExpressions ts → nestings ts < depth → enclosed depth inner n.Comma n.RightParen (located at k (symbol s.LeftParen ∷ (texts s.Comma ts ++ symbol s.RightParen ∷ [])) ++ j) ≡ Ok (to_list (place_all at (suc k) ts), j)
@@ -370,3 +370,8 @@ pub expr_complete : (d : ℕ) (r : Rule) → Complete text place (expr d r) (Fit
 unfolding expr
 expr_complete zero r = by_rule_complete zero (λ _. refuse) (λ r. record { gives = λ at m t j f stop. absurd (omega (arith, f.2)) }) r
 expr_complete (suc d) r = by_rule_complete (suc d) (expr d) (expr_complete d) r
+
+-- the same one construct further in
+pub below_complete : (d : ℕ) (r : Rule) → Complete text place (below d r) (Fits d (rank r)) (Stops r)
+below_complete zero r = record { gives = λ at m t j f stop. absurd (omega (arith, f.2)) }
+below_complete (suc d) r = expr_complete d r

@@ -5,3 +5,4 @@ pub mod Linked
 pub mod Readings
 pub mod Firsts
 pub mod Completeness
+pub mod Erasing

@@ -34,7 +34,7 @@ use Rattle.pz_cursor.proofs.Named.{word_sound}
 use Rattle.pz_values.specs.declared.rule.Rule.{Rule}
 use Rattle.pz_values.specs.declared.rule.Rule.TheVariants as rule
 use Rattle.pz_values.specs.Rules.{rank, operator}
-use Rattle.pz_values.specs.Values.{expr, by_rule, assignment, returned, named, expression, expression_by, constant, named_variable, self_word, time_word, created, test, otherwise, otherwise_by, exprs_before, enclosed, grouped, conditional, repetition, primary, primary_by, arguments, arguments_by, one_sending, all_sendings, sent, sent_to, signed, operand, operand_by, chain_of, products, sums, comparisons, conjunctions, values}
+use Rattle.pz_values.specs.Values.{expr, below, by_rule, assignment, returned, named, expression, expression_by, constant, named_variable, self_word, time_word, created, test, otherwise, otherwise_by, exprs_before, enclosed, grouped, conditional, repetition, primary, primary_by, arguments, arguments_by, one_sending, all_sendings, sent, sent_to, signed, operand, operand_by, chain_of, products, sums, comparisons, conjunctions, values}
 use Rattle.pz_values.proofs.Texts.{Fits, texts_are, are, nested, body, body_nested}
 use Rattle.pz_values.proofs.Linked.{chain_sound}
 
@@ -317,3 +317,8 @@ pub expr_sound : (d : ℕ) (r : Rule) → Sound text (expr d r) (Fits (suc d) (r
 unfolding expr
 expr_sound zero r = by_rule_sound zero (λ _. refuse) (λ r. record { reads = λ i y e. absurd cc }) r
 expr_sound (suc d) r = by_rule_sound (suc d) (expr d) (expr_sound d) r
+
+-- the same one construct further in
+pub below_sound : (d : ℕ) (r : Rule) → Sound text (below d r) (Fits d (rank r))
+below_sound zero r = record { reads = λ i y e. absurd cc }
+below_sound (suc d) r = expr_sound d r
