@@ -8,3 +8,4 @@ pub mod Each
 pub mod GroupLoop
 pub mod Optional
 pub mod Named
+pub mod Budget

@@ -4,3 +4,4 @@ pub mod Device
 pub mod Lists
 pub mod Names
 pub mod Places
+pub mod Openers
