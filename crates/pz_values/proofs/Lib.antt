@@ -6,3 +6,4 @@ pub mod Readings
 pub mod Firsts
 pub mod Completeness
 pub mod Erasing
+pub mod Budgets
