@@ -9,3 +9,4 @@ pub mod GroupLoop
 pub mod Optional
 pub mod Named
 pub mod Budget
+pub mod NameBudgets
