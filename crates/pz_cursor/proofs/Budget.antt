@@ -149,8 +149,8 @@ unfolding repeat
 repeat_budget bound begins item p zero i = pure_budget bound [] i
 repeat_budget bound begins item p (suc turn) i =
     if_at bound begins (item >>= (λ x. repeat begins item turn >>= (λ xs. pure (x ∷ xs)))) (pure []) i
-      (λ h. bind_at bound item (λ x. repeat begins item turn >>= (λ xs. pure (x ∷ xs))) i (p i h) (λ x. bind_budget bound (repeat begins item turn) (λ xs. pure (x ∷ xs)) (repeat_budget bound begins item p turn) (λ xs. pure_budget bound (x ∷ xs))))
-      (pure_budget bound [] i)
+    (λ h. bind_at bound item (λ x. repeat begins item turn >>= (λ xs. pure (x ∷ xs))) i (p i h) (λ x. bind_budget bound (repeat begins item turn) (λ xs. pure (x ∷ xs)) (repeat_budget bound begins item p turn) (λ xs. pure_budget bound (x ∷ xs))))
+    (pure_budget bound [] i)
 
 pub each_budget : {A : Type 0} (bound : ℕ) (begins : Tokens → Bool) (item : Parser A) → ((i : Tokens) → begins i ≡ true → BudgetAt bound item i) → Budget bound (each_of begins item)
 unfolding each_of

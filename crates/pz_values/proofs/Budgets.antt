@@ -68,10 +68,10 @@ module _ (bound : ℕ) (value : Parser Tree) (b : Budget bound value) where
   unfolding expression
   expression_budget i = let c = at (next i) in record { fails = c.fails; shrinks = c.shrinks }
     where
-    at : (x : Next) → BudgetAt bound (expression_by value x) i
-    at n.Return = returned_budget i
-    at n.Word = named_budget i
-    at _ = b i
+      at : (x : Next) → BudgetAt bound (expression_by value x) i
+      at n.Return = returned_budget i
+      at n.Word = named_budget i
+      at _ = b i
 
 -- ---- over the rules one construct further in
 
@@ -87,9 +87,9 @@ module _ (depth : ℕ) (inner : Rule → Parser Tree) (b : (r : Rule) → Budget
   unfolding otherwise
   otherwise_budget i = let c = at (next i) in record { fails = c.fails; shrinks = c.shrinks }
     where
-    at : (x : Next) → BudgetAt depth (otherwise_by inner x) i
-    at n.Else = bind_budget depth (skip >> list_of (inner rule.Expression) n.Semicolon) _ (bind_budget depth skip _ (take_budget depth (λ i. tt)) (λ u. body_budget n.Semicolon)) (λ ts. pure_budget depth (written (expressions ts))) i
-    at _ = pure_budget depth left_out i
+      at : (x : Next) → BudgetAt depth (otherwise_by inner x) i
+      at n.Else = bind_budget depth (skip >> list_of (inner rule.Expression) n.Semicolon) _ (bind_budget depth skip _ (take_budget depth (λ i. tt)) (λ u. body_budget n.Semicolon)) (λ ts. pure_budget depth (written (expressions ts))) i
+      at _ = pure_budget depth left_out i
 
   before_budget : (sep close : Next) → Budget depth (exprs_before inner sep close)
   unfolding exprs_before
@@ -106,7 +106,7 @@ module _ (depth : ℕ) (inner : Rule → Parser Tree) (b : (r : Rule) → Budget
   unfolding grouped
   grouped_at i h =
       let c = opened_at depth (λ u. grouped_rest (position i)) i (kind.Sym s.LeftParen) (ap token_of h) (omega arith)
-        (bind_budget depth (list_of (inner rule.Expression) n.Semicolon) _ (body_budget n.Semicolon) (λ ts. bind_budget depth (expect n.RightParen) _ (expect_budget depth n.RightParen) (λ u. pure_budget depth (group (position i) (expressions ts))))) in
+      (bind_budget depth (list_of (inner rule.Expression) n.Semicolon) _ (body_budget n.Semicolon) (λ ts. bind_budget depth (expect n.RightParen) _ (expect_budget depth n.RightParen) (λ u. pure_budget depth (group (position i) (expressions ts))))) in
       record { fails = c.fails; shrinks = c.shrinks }
 
   abbrev conditional_rest : Pos → Parser Tree
@@ -116,7 +116,7 @@ module _ (depth : ℕ) (inner : Rule → Parser Tree) (b : (r : Rule) → Budget
   unfolding conditional
   conditional_at i h =
       let c = opened_at depth (λ u. conditional_rest (position i)) i (kind.Key k.If) (ap token_of h) (omega arith)
-        (bind_budget depth (test inner n.Then) _ (test_budget n.Then) (λ t. bind_budget depth (list_of (inner rule.Expression) n.Semicolon) _ (body_budget n.Semicolon) (λ ts. bind_budget depth (otherwise inner) _ otherwise_budget (λ o. bind_budget depth (expect n.Fi) _ (expect_budget depth n.Fi) (λ u. pure_budget depth (choice (position i) t (expressions ts) o)))))) in
+      (bind_budget depth (test inner n.Then) _ (test_budget n.Then) (λ t. bind_budget depth (list_of (inner rule.Expression) n.Semicolon) _ (body_budget n.Semicolon) (λ ts. bind_budget depth (otherwise inner) _ otherwise_budget (λ o. bind_budget depth (expect n.Fi) _ (expect_budget depth n.Fi) (λ u. pure_budget depth (choice (position i) t (expressions ts) o)))))) in
       record { fails = c.fails; shrinks = c.shrinks }
 
   abbrev repetition_rest : Pos → Parser Tree
@@ -126,7 +126,7 @@ module _ (depth : ℕ) (inner : Rule → Parser Tree) (b : (r : Rule) → Budget
   unfolding repetition
   repetition_at i h =
       let c = opened_at depth (λ u. repetition_rest (position i)) i (kind.Key k.While) (ap token_of h) (omega arith)
-        (bind_budget depth (test inner n.Do) _ (test_budget n.Do) (λ t. bind_budget depth (list_of (inner rule.Expression) n.Semicolon) _ (body_budget n.Semicolon) (λ ts. bind_budget depth (expect n.Od) _ (expect_budget depth n.Od) (λ u. pure_budget depth (loop (position i) t (expressions ts)))))) in
+      (bind_budget depth (test inner n.Do) _ (test_budget n.Do) (λ t. bind_budget depth (list_of (inner rule.Expression) n.Semicolon) _ (body_budget n.Semicolon) (λ ts. bind_budget depth (expect n.Od) _ (expect_budget depth n.Od) (λ u. pure_budget depth (loop (position i) t (expressions ts)))))) in
       record { fails = c.fails; shrinks = c.shrinks }
 
   abbrev m : ℕ

@@ -118,8 +118,8 @@ module _ (depth : ℕ) (inner : Rule → Parser Tree) (inner_complete : (r : Rul
         let other : sees close i ≡ false = not_seen close i (λ e. clash (ap starts e) first st) in
         rw other (list_given at k (more t ts) j each lt h ne)
       where
-      clash : {b c : Bool} → b ≡ c → b ≡ true → c ≡ false → ⊥
-      clash e f g = absurd cc
+        clash : {b c : Bool} → b ≡ c → b ≡ true → c ≡ false → ⊥
+        clash e f g = absurd cc
 
     enclosed_given : (close : Next) (left right : Symbol) (at : ℕ → Pos) (k : ℕ) (ts : Expressions Id Id) (j : Tokens) → starts close ≡ false → binding close < 1 → close ≢ sep → ((p : Pos) (i : Tokens) → next (token (kind.Sym right) p ∷ i) ≡ close) → ((p : Pos) (i : Tokens) → sees close (token (kind.Sym right) p ∷ i) ≡ true)
         → AreExpressions ts → nestings ts < depth → enclosed depth inner sep close (located at k (symbol left ∷ (texts x ts ++ symbol right ∷ [])) ++ j) ≡ Ok (to_list (place_all at (suc k) ts), j)
@@ -182,12 +182,18 @@ module _ (depth : ℕ) (inner : Rule → Parser Tree) (inner_complete : (r : Rul
       let other = located at b (otherwise_text o) ++ fi in
       let then = token (kind.Key k.Then) (at a) ∷ (located at (suc a) (texts s.Semicolon ts) ++ other) in
       let stop = other_stops at b o (at c) j in
-      rw (deepen_is depth (located at m (text (choice pos t ts o)) ++ j) (omega (arith, lt)),
-          split_located at (suc m) (text t) (keyword k.Then ∷ (texts s.Semicolon ts ++ (otherwise_text o ++ keyword k.Fi ∷ []))) j,
-          split_located at (suc a) (texts s.Semicolon ts) (otherwise_text o ++ keyword k.Fi ∷ []) j,
-          split_located at b (otherwise_text o) (keyword k.Fi ∷ []) j,
-          (inner_complete rule.Value).gives at (suc m) t then f (omega arith), expect_is n.Then then refl,
-          body_given at (suc a) ts other body lt stop.0 stop.1, otherwise_given at b o (at c) j h ne, expect_is n.Fi fi refl, list_back (place_all at (suc a) ts)) refl
+      rw (
+        deepen_is depth (located at m (text (choice pos t ts o)) ++ j) (omega (arith, lt)),
+        split_located at (suc m) (text t) (keyword k.Then ∷ (texts s.Semicolon ts ++ (otherwise_text o ++ keyword k.Fi ∷ []))) j,
+        split_located at (suc a) (texts s.Semicolon ts) (otherwise_text o ++ keyword k.Fi ∷ []) j,
+        split_located at b (otherwise_text o) (keyword k.Fi ∷ []) j,
+        (inner_complete rule.Value).gives at (suc m) t then f (omega arith),
+        expect_is n.Then then refl,
+        body_given at (suc a) ts other body lt stop.0 stop.1,
+        otherwise_given at b o (at c) j h ne,
+        expect_is n.Fi fi refl,
+        list_back (place_all at (suc a) ts),
+      ) refl
 
   repetition_given : (at : ℕ → Pos) (m : ℕ) (pos : Pos) (t : Tree) (ts : Expressions Id Id) (j : Tokens) → Fits depth 1 t → IsBody ts → nestings ts < depth → repetition depth inner (located at m (text (loop pos t ts)) ++ j) ≡ Ok (place at m (loop pos t ts), j)
   unfolding repetition test next after position sees same
@@ -196,11 +202,16 @@ module _ (depth : ℕ) (inner : Rule → Parser Tree) (inner_complete : (r : Rul
       let b = suc a + length (texts s.Semicolon ts) in
       let od = token (kind.Key k.Od) (at b) ∷ j in
       let do_ = token (kind.Key k.Do) (at a) ∷ (located at (suc a) (texts s.Semicolon ts) ++ od) in
-      rw (deepen_is depth (located at m (text (loop pos t ts)) ++ j) (omega (arith, lt)),
-          split_located at (suc m) (text t) (keyword k.Do ∷ (texts s.Semicolon ts ++ keyword k.Od ∷ [])) j,
-          split_located at (suc a) (texts s.Semicolon ts) (keyword k.Od ∷ []) j,
-          (inner_complete rule.Value).gives at (suc m) t do_ f (omega arith), expect_is n.Do do_ refl,
-          body_given at (suc a) ts od body lt (omega arith) (λ e. absurd cc), expect_is n.Od od refl, list_back (place_all at (suc a) ts)) refl
+      rw (
+        deepen_is depth (located at m (text (loop pos t ts)) ++ j) (omega (arith, lt)),
+        split_located at (suc m) (text t) (keyword k.Do ∷ (texts s.Semicolon ts ++ keyword k.Od ∷ [])) j,
+        split_located at (suc a) (texts s.Semicolon ts) (keyword k.Od ∷ []) j,
+        (inner_complete rule.Value).gives at (suc m) t do_ f (omega arith),
+        expect_is n.Do do_ refl,
+        body_given at (suc a) ts od body lt (omega arith) (λ e. absurd cc),
+        expect_is n.Od od refl,
+        list_back (place_all at (suc a) ts),
+      ) refl
 
   -- a primary is read whatever stands behind it
   primary_given : (at : ℕ → Pos) (m : ℕ) (t : Tree) (j : Tokens) → Fits (suc depth) 8 t → primary depth inner (located at m (text t) ++ j) ≡ Ok (place at m t, j)
@@ -236,9 +247,9 @@ module _ (depth : ℕ) (inner : Rule → Parser Tree) (inner_complete : (r : Rul
   sendings_given at m ss j h lt stop =
       ap (λ r. each_of selects (one_sending depth inner) (located at m r ++ j)) (sendings_texts ss)
       ∙ each_complete sending_text selects (one_sending depth inner) (SendingFits depth) place_sending (λ x. x ≢ n.LeftParen)
-          (λ at m x j f. ((selector_seen (at m) x.0 (located at (suc m) (arguments_text x.1) ++ j)).0, selector_no_bracket (at m) x.0 (located at (suc m) (arguments_text x.1) ++ j)))
-          (λ x f. omega arith) sending_complete at m (to_sendings ss) j (sendings_fit depth ss h lt) (unbound (next j) n.LeftParen 6 stop (omega arith))
-          (not_selected j (unbound (next j) n.Word 6 stop (omega arith)) (unbound (next j) n.Init 6 stop (omega arith)))
+      (λ at m x j f. ((selector_seen (at m) x.0 (located at (suc m) (arguments_text x.1) ++ j)).0, selector_no_bracket (at m) x.0 (located at (suc m) (arguments_text x.1) ++ j)))
+      (λ x f. omega arith) sending_complete at m (to_sendings ss) j (sendings_fit depth ss h lt) (unbound (next j) n.LeftParen 6 stop (omega arith))
+      (not_selected j (unbound (next j) n.Word 6 stop (omega arith)) (unbound (next j) n.Init 6 stop (omega arith)))
       ∙ ap (λ l. Ok (l, j)) (sendings_places at m ss)
 
   sent_given : (at : ℕ → Pos) (m : ℕ) (pos : Pos) (t : Tree) (x : Id) (a : Part Id Id) (ss : Sendings Id Id) (j : Tokens) → Fits (suc depth) 8 t → AreSendings (sending x a ss) → sendings_nesting (sending x a ss) < suc depth → binding (next j) < 6

@@ -49,10 +49,10 @@ pub not_selected : (i : Tokens) → next i ≢ n.Word → next i ≢ n.Init → 
 unfolding selects
 not_selected i h g = by (next i) (spelled_init i) h g
   where
-  by : (x : Next) (b : Bool) → x ≢ n.Word → x ≢ n.Init → selects_by x b ≡ false
-  by n.Word b h g = absurd (h refl)
-  by n.Init b h g = absurd (g refl)
-  by _ b h g = refl
+    by : (x : Next) (b : Bool) → x ≢ n.Word → x ≢ n.Init → selects_by x b ≡ false
+    by n.Word b h g = absurd (h refl)
+    by n.Init b h g = absurd (g refl)
+    by _ b h g = refl
 
 pub selector_no_bracket : (p : Pos) (x : Id) (i : Tokens) → next (sent_token p x ∷ i) ≢ n.LeftParen
 selector_no_bracket p x i e = let f = selected (sent_token p x ∷ i) n.LeftParen (selector_seen p x i).0 e in absurd cc

@@ -75,37 +75,39 @@ module _ (bound : ℕ) (positive : 0 < bound) (r : Rule) (item : Parser Tree) wh
     links_sound zero i y e = ok_took ([], i) y e (record { parts = refl; meets = (tt, positive) })
     links_sound (suc turn) i y e = split (λ j z f. links_sound turn j z f) (operator r (next i)) refl e
       where
-      split : ((j : Tokens) (z : List LinkTree × Tokens) → links_by (operator r) item turn j ≡ Ok z → Took text_of (λ ls. LinksFit (links_of ls)) j z) → (o : Option Symbol) → operator r (next i) ≡ o → link_at o item (links_by (operator r) item turn) i ≡ Ok y → Took text_of (λ ls. LinksFit (links_of ls)) i y
-      split again None h e = ok_took ([], i) y e (record { parts = refl; meets = (tt, positive) })
-      split again (Some op) h e =
-          let l = bind_ok (one_link op item i) _ y e in
-          let a = bind_ok (item (after i)) (λ t. pure (op, position i, t)) l.0 l.1 in
-          let first = s.reads (after i) a.0 a.1 in
-          let b = bind_ok (links_by (operator r) item turn l.0.1) _ y l.2 in
-          let rest = again l.0.1 b.0 b.1 in
-          let o = operator_sound r (next i) op h in
-          let same : ((op, position i, a.0.0), a.0.1) ≡ l.0 = cc in
-          let behind : marks a.0.1 ≡ text_of b.0.0 ++ marks b.0.1 = ap (λ z. marks z.1) same ∙ rest.parts in
-          ok_took (l.0.0 ∷ b.0.0, b.0.1) y b.2 (subst (λ (z : LinkTree × Tokens). Took text_of (λ ls. LinksFit (links_of ls)) i (z.0 ∷ b.0.0, b.0.1)) same (record {
-            parts = takes (kind.Sym op) i o.0 ∙ ap (λ x. symbol op ∷ x) (first.parts ∙ ap (λ x. text a.0.0 ++ x) behind ∙ sym (append_assoc (text a.0.0) (text_of b.0.0) (marks b.0.1)));
-            meets = ((o.1, first.meets.0, omega (arith, first.meets.1), rest.meets.0), omega (arith, first.meets.2, rest.meets.1));
-          }))
+        split : ((j : Tokens) (z : List LinkTree × Tokens) → links_by (operator r) item turn j ≡ Ok z → Took text_of (λ ls. LinksFit (links_of ls)) j z) → (o : Option Symbol) → operator r (next i) ≡ o → link_at o item (links_by (operator r) item turn) i ≡ Ok y → Took text_of (λ ls. LinksFit (links_of ls)) i y
+        split again None h e = ok_took ([], i) y e (record { parts = refl; meets = (tt, positive) })
+        split again (Some op) h e =
+            let l = bind_ok (one_link op item i) _ y e in
+            let a = bind_ok (item (after i)) (λ t. pure (op, position i, t)) l.0 l.1 in
+            let first = s.reads (after i) a.0 a.1 in
+            let b = bind_ok (links_by (operator r) item turn l.0.1) _ y l.2 in
+            let rest = again l.0.1 b.0 b.1 in
+            let o = operator_sound r (next i) op h in
+            let same : ((op, position i, a.0.0), a.0.1) ≡ l.0 = cc in
+            let behind : marks a.0.1 ≡ text_of b.0.0 ++ marks b.0.1 = ap (λ z. marks z.1) same ∙ rest.parts in
+            ok_took (l.0.0 ∷ b.0.0, b.0.1) y b.2 (subst (λ (z : LinkTree × Tokens). Took text_of (λ ls. LinksFit (links_of ls)) i (z.0 ∷ b.0.0, b.0.1)) same (record {
+              parts = takes (kind.Sym op) i o.0 ∙ ap (λ x. symbol op ∷ x) (first.parts ∙ ap (λ x. text a.0.0 ++ x) behind ∙ sym (append_assoc (text a.0.0) (text_of b.0.0) (marks b.0.1)));
+              meets = ((o.1, first.meets.0, omega (arith, first.meets.1), rest.meets.0), omega (arith, first.meets.2, rest.meets.1));
+            }))
 
     pub chain_sound : 1 ≤ rank r → Sound text (chain_of (operator r) item) (Fits bound (rank r))
     unfolding chain_of all_links
-    chain_sound le = record { reads = λ i y e.
-      let a = bind_ok (item i) _ y e in
-      let first = s.reads i a.0 a.1 in
-      let b = bind_ok (links_by (operator r) item (turns a.0.1) a.0.1) _ y a.2 in
-      let rest = links_sound (turns a.0.1) a.0.1 b.0 b.1 in
-      ok_took (chained (position i) a.0.0 b.0.0, b.0.1) y b.2 (whole (position i) a.0.0 b.0.0 b.0.1 i a.0.1 first.parts first.meets rest.parts rest.meets) }
+    chain_sound le = record {
+      reads = λ i y e.
+          let a = bind_ok (item i) _ y e in
+          let first = s.reads i a.0 a.1 in
+          let b = bind_ok (links_by (operator r) item (turns a.0.1) a.0.1) _ y a.2 in
+          let rest = links_sound (turns a.0.1) a.0.1 b.0 b.1 in
+          ok_took (chained (position i) a.0.0 b.0.0, b.0.1) y b.2 (whole (position i) a.0.0 b.0.0 b.0.1 i a.0.1 first.parts first.meets rest.parts rest.meets);
+    }
       where
-      whole : (pos : Pos) (t : Tree) (ls : List LinkTree) (j i k : Tokens) → marks i ≡ text t ++ marks k → Fits bound (suc (rank r)) t → marks k ≡ text_of ls ++ marks j → LinksFit (links_of ls) → Took text (Fits bound (rank r)) i (chained pos t ls, j)
-      whole pos t [] j i k p m q f = record { parts = p ∙ ap (λ x. text t ++ x) q; meets = (m.0, omega (arith, m.1), m.2) }
-      whole pos t (l ∷ ls) j i k p m q f = record {
-        parts = p ∙ ap (λ x. text t ++ x) q ∙ sym (append_assoc (text t) (text_of (l ∷ ls)) (marks j));
-        meets = (subst (λ n. (1 ≤ n) × IsExpression t × (n < level t) × AreLinks n (link l.0 l.1 l.2 (links_of ls))) (sym f.0.0) (le, m.0, omega (arith, m.1), f.0), omega (arith, f.0.0), omega (arith, m.2, f.1));
-      }
+        whole : (pos : Pos) (t : Tree) (ls : List LinkTree) (j i k : Tokens) → marks i ≡ text t ++ marks k → Fits bound (suc (rank r)) t → marks k ≡ text_of ls ++ marks j → LinksFit (links_of ls) → Took text (Fits bound (rank r)) i (chained pos t ls, j)
+        whole pos t [] j i k p m q f = record { parts = p ∙ ap (λ x. text t ++ x) q; meets = (m.0, omega (arith, m.1), m.2) }
+        whole pos t (l ∷ ls) j i k p m q f = record {
+          parts = p ∙ ap (λ x. text t ++ x) q ∙ sym (append_assoc (text t) (text_of (l ∷ ls)) (marks j));
+          meets = (subst (λ n. (1 ≤ n) × IsExpression t × (n < level t) × AreLinks n (link l.0 l.1 l.2 (links_of ls))) (sym f.0.0) (le, m.0, omega (arith, m.1), f.0), omega (arith, f.0.0), omega (arith, m.2, f.1));
+        }
 
   module _ (chained_rule : IsChain r) (le : 1 ≤ rank r) (same : strength r ≡ rank r) (Stop : Next → Type 0) (stops : (x : Next) → binding x < suc (rank r) → Stop x) (c : Complete text place item (Fits bound (suc (rank r))) Stop) where
     next_behind : (at : ℕ → Pos) (k : ℕ) (ls : Links Id Id) (j : Tokens) → AreLinks (rank r) ls → binding (next j) < rank r → Stop (next (located at k (links_text ls) ++ j))

@@ -67,9 +67,11 @@ module _ (depth : ℕ) where
 
   module _ (inner : Rule → Parser Tree) (inner_sound : (r : Rule) → Sound text (inner r) (Fits depth (rank r))) where
     pub exprs_sound : (sep : Next) (x : Symbol) → token_of sep ≡ Some (kind.Sym x) → Sound (λ ts. texts x (expressions ts)) (list_of (inner rule.Expression) sep) (Filled (Fits depth 0))
-    exprs_sound sep x shows = record { reads = λ i y e.
-      let t = (joined_sound text (inner rule.Expression) (Fits depth 0) sep (kind.Sym x) shows (inner_sound rule.Expression)).reads i y e in
-      record { parts = t.parts ∙ ap (λ r. r ++ marks y.1) (texts_are x y.0); meets = t.meets } }
+    exprs_sound sep x shows = record {
+      reads = λ i y e.
+          let t = (joined_sound text (inner rule.Expression) (Fits depth 0) sep (kind.Sym x) shows (inner_sound rule.Expression)).reads i y e in
+          record { parts = t.parts ∙ ap (λ r. r ++ marks y.1) (texts_are x y.0); meets = t.meets };
+    }
 
     pub enclosed_sound : (sep close : Next) (left separator right : Symbol) → token_of sep ≡ Some (kind.Sym separator) → token_of close ≡ Some (kind.Sym right)
         → (i : Tokens) (y : List Tree × Tokens) → token_of (next i) ≡ Some (kind.Sym left) → enclosed depth inner sep close i ≡ Ok y → (0 < depth) × Took (bracketed left separator right) (Each (Fits depth 0)) i y
@@ -80,11 +82,13 @@ module _ (depth : ℕ) where
         let b = bind_ok (exprs_before inner sep close a.0.1) _ y a.2 in
         let ts = (or_none_sound (λ ts. texts separator (expressions ts)) (λ i. not (sees close i)) (list_of (inner rule.Expression) sep) (Fits depth 0) refl (exprs_sound sep separator shows)).reads a.0.1 b.0 b.1 in
         let c = bind_ok (expect close b.0.1) _ y b.2 in
-        let last = expected close (kind.Sym right) b.0.1 c.0 closes c.1 in
-        (d.0, ok_took (b.0.0, c.0.1) y c.2 (record {
-          parts = d.1 ∙ ap (λ r. symbol left ∷ r) (ts.parts ∙ ap (λ r. texts separator (expressions b.0.0) ++ r) last ∙ sym (append_assoc (texts separator (expressions b.0.0)) (symbol right ∷ []) (marks c.0.1)));
-          meets = ts.meets;
-        }))
+        let last = expected close (kind.Sym right) b.0.1 c.0 closes c.1 in (
+          d.0,
+          ok_took (b.0.0, c.0.1) y c.2 (record {
+            parts = d.1 ∙ ap (λ r. symbol left ∷ r) (ts.parts ∙ ap (λ r. texts separator (expressions b.0.0) ++ r) last ∙ sym (append_assoc (texts separator (expressions b.0.0)) (symbol right ∷ []) (marks c.0.1)));
+            meets = ts.meets;
+          }),
+        )
 
     grouped_sound : (i : Tokens) (y : Tree × Tokens) → next i ≡ n.LeftParen → grouped depth inner i ≡ Ok y → Took text (Fits (suc depth) 8) i y
     unfolding grouped
@@ -102,12 +106,14 @@ module _ (depth : ℕ) where
 
     test_sound : (x : Next) (w : Keyword) → token_of x ≡ Some (kind.Key w) → Sound (λ t. text t ++ keyword w ∷ []) (test inner x) (Fits depth 1)
     unfolding test
-    test_sound x w shows = record { reads = λ i y e.
-      let a = bind_ok (inner rule.Value i) _ y e in
-      let t = (inner_sound rule.Value).reads i a.0 a.1 in
-      let b = bind_ok (expect x a.0.1) _ y a.2 in
-      let last = expected x (kind.Key w) a.0.1 b.0 shows b.1 in
-      ok_took (a.0.0, b.0.1) y b.2 (record { parts = t.parts ∙ ap (λ r. text a.0.0 ++ r) last ∙ sym (append_assoc (text a.0.0) (keyword w ∷ []) (marks b.0.1)); meets = t.meets }) }
+    test_sound x w shows = record {
+      reads = λ i y e.
+          let a = bind_ok (inner rule.Value i) _ y e in
+          let t = (inner_sound rule.Value).reads i a.0 a.1 in
+          let b = bind_ok (expect x a.0.1) _ y a.2 in
+          let last = expected x (kind.Key w) a.0.1 b.0 shows b.1 in
+          ok_took (a.0.0, b.0.1) y b.2 (record { parts = t.parts ∙ ap (λ r. text a.0.0 ++ r) last ∙ sym (append_assoc (text a.0.0) (keyword w ∷ []) (marks b.0.1)); meets = t.meets });
+    }
 
     abbrev OtherFits : Part Id Id → Type 0
     OtherFits p = IsOtherwise p × (0 < depth → otherwise_nesting p < depth)
@@ -116,15 +122,15 @@ module _ (depth : ℕ) where
     unfolding otherwise
     otherwise_sound = record { reads = λ i y e. at i y (next i) refl e }
       where
-      at : (i : Tokens) (y : Part Id Id × Tokens) (x : Next) → next i ≡ x → otherwise_by inner x i ≡ Ok y → Took otherwise_text OtherFits i y
-      at i y n.Else h e =
-          let b = bind_ok (list_of (inner rule.Expression) n.Semicolon (after i)) _ y e in
-          let ts = (exprs_sound n.Semicolon s.Semicolon refl).reads (after i) b.0 b.1 in
-          ok_took (written (expressions b.0.0), b.0.1) y b.2 (record {
-            parts = takes (kind.Key k.Else) i (ap token_of h) ∙ ap (λ r. keyword k.Else ∷ r) ts.parts;
-            meets = (body depth b.0.0 ts.meets, λ lt. body_nested depth b.0.0 ts.meets);
-          })
-      at i y _ h e = ok_took (left_out, i) y e (record { parts = refl; meets = (tt, λ lt. lt) })
+        at : (i : Tokens) (y : Part Id Id × Tokens) (x : Next) → next i ≡ x → otherwise_by inner x i ≡ Ok y → Took otherwise_text OtherFits i y
+        at i y n.Else h e =
+            let b = bind_ok (list_of (inner rule.Expression) n.Semicolon (after i)) _ y e in
+            let ts = (exprs_sound n.Semicolon s.Semicolon refl).reads (after i) b.0 b.1 in
+            ok_took (written (expressions b.0.0), b.0.1) y b.2 (record {
+              parts = takes (kind.Key k.Else) i (ap token_of h) ∙ ap (λ r. keyword k.Else ∷ r) ts.parts;
+              meets = (body depth b.0.0 ts.meets, λ lt. body_nested depth b.0.0 ts.meets);
+            })
+        at i y _ h e = ok_took (left_out, i) y e (record { parts = refl; meets = (tt, λ lt. lt) })
 
     conditional_sound : (i : Tokens) (y : Tree × Tokens) → next i ≡ n.If → conditional depth inner i ≡ Ok y → Took text (Fits (suc depth) 8) i y
     unfolding conditional
@@ -142,12 +148,12 @@ module _ (depth : ℕ) where
         let lt = d.0 in
         ok_took (choice (position i) b.0.0 (expressions f.0.0) o.0.0, l.0.1) y l.2 (record {
           parts = d.1 ∙ ap (λ r. keyword k.If ∷ r) (t.parts ∙ append_assoc (text b.0.0) (keyword k.Then ∷ []) (marks b.0.1) ∙ ap (λ r. text b.0.0 ++ keyword k.Then ∷ r) (ts.parts ∙ ap (λ r. texts s.Semicolon (expressions f.0.0) ++ r) (rest.parts ∙ ap (λ r. otherwise_text o.0.0 ++ r) last)))
-            ∙ fold_choice (position i) b.0.0 (expressions f.0.0) o.0.0 (marks l.0.1);
+              ∙ fold_choice (position i) b.0.0 (expressions f.0.0) o.0.0 (marks l.0.1);
           meets = ((t.meets.0, t.meets.1, body depth f.0.0 ts.meets, rest.meets.0), omega arith, omega (arith, t.meets.2, body_nested depth f.0.0 ts.meets, rest.meets.1 lt));
         })
       where
-      fold_choice : (pos : Pos) (t : Tree) (ts : Expressions Id Id) (o : Part Id Id) (j : List Mark) → keyword k.If ∷ (text t ++ keyword k.Then ∷ (texts s.Semicolon ts ++ (otherwise_text o ++ keyword k.Fi ∷ j))) ≡ text (choice pos t ts o) ++ j
-      fold_choice pos t ts o j = sym (ap (λ r. keyword k.If ∷ r) (append_assoc (text t) _ j ∙ ap (λ r. text t ++ keyword k.Then ∷ r) (append_assoc (texts s.Semicolon ts) _ j ∙ ap (λ r. texts s.Semicolon ts ++ r) (append_assoc (otherwise_text o) (keyword k.Fi ∷ []) j))))
+        fold_choice : (pos : Pos) (t : Tree) (ts : Expressions Id Id) (o : Part Id Id) (j : List Mark) → keyword k.If ∷ (text t ++ keyword k.Then ∷ (texts s.Semicolon ts ++ (otherwise_text o ++ keyword k.Fi ∷ j))) ≡ text (choice pos t ts o) ++ j
+        fold_choice pos t ts o j = sym (ap (λ r. keyword k.If ∷ r) (append_assoc (text t) _ j ∙ ap (λ r. text t ++ keyword k.Then ∷ r) (append_assoc (texts s.Semicolon ts) _ j ∙ ap (λ r. texts s.Semicolon ts ++ r) (append_assoc (otherwise_text o) (keyword k.Fi ∷ []) j))))
 
     repetition_sound : (i : Tokens) (y : Tree × Tokens) → next i ≡ n.While → repetition depth inner i ≡ Ok y → Took text (Fits (suc depth) 8) i y
     unfolding repetition
@@ -162,12 +168,12 @@ module _ (depth : ℕ) where
         let last = expected n.Od (kind.Key k.Od) f.0.1 l.0 refl l.1 in
         ok_took (loop (position i) b.0.0 (expressions f.0.0), l.0.1) y l.2 (record {
           parts = d.1 ∙ ap (λ r. keyword k.While ∷ r) (t.parts ∙ append_assoc (text b.0.0) (keyword k.Do ∷ []) (marks b.0.1) ∙ ap (λ r. text b.0.0 ++ keyword k.Do ∷ r) (ts.parts ∙ ap (λ r. texts s.Semicolon (expressions f.0.0) ++ r) last))
-            ∙ fold_loop (position i) b.0.0 (expressions f.0.0) (marks l.0.1);
+              ∙ fold_loop (position i) b.0.0 (expressions f.0.0) (marks l.0.1);
           meets = ((t.meets.0, t.meets.1, body depth f.0.0 ts.meets), omega arith, omega (arith, t.meets.2, body_nested depth f.0.0 ts.meets));
         })
       where
-      fold_loop : (pos : Pos) (t : Tree) (ts : Expressions Id Id) (j : List Mark) → keyword k.While ∷ (text t ++ keyword k.Do ∷ (texts s.Semicolon ts ++ keyword k.Od ∷ j)) ≡ text (loop pos t ts) ++ j
-      fold_loop pos t ts j = sym (ap (λ r. keyword k.While ∷ r) (append_assoc (text t) _ j ∙ ap (λ r. text t ++ keyword k.Do ∷ r) (append_assoc (texts s.Semicolon ts) (keyword k.Od ∷ []) j)))
+        fold_loop : (pos : Pos) (t : Tree) (ts : Expressions Id Id) (j : List Mark) → keyword k.While ∷ (text t ++ keyword k.Do ∷ (texts s.Semicolon ts ++ keyword k.Od ∷ j)) ≡ text (loop pos t ts) ++ j
+        fold_loop pos t ts j = sym (ap (λ r. keyword k.While ∷ r) (append_assoc (text t) _ j ∙ ap (λ r. text t ++ keyword k.Do ∷ r) (append_assoc (texts s.Semicolon ts) (keyword k.Od ∷ []) j)))
 
     created_sound : (i : Tokens) (y : Tree × Tokens) → next i ≡ n.New → created i ≡ Ok y → Took text (Fits (suc depth) 8) i y
     unfolding created
@@ -203,15 +209,15 @@ module _ (depth : ℕ) where
     unfolding arguments
     arguments_sound = record { reads = λ i y e. at i y (next i) refl e }
       where
-      at : (i : Tokens) (y : Part Id Id × Tokens) (x : Next) → next i ≡ x → arguments_by depth inner x i ≡ Ok y → Took arguments_text (λ p. AreArguments p × (bracketed_nesting p < suc depth)) i y
-      at i y n.LeftParen h e =
-          let b = bind_ok (enclosed depth inner n.Comma n.RightParen i) _ y e in
-          let ts = enclosed_sound n.Comma n.RightParen s.LeftParen s.Comma s.RightParen refl refl i b.0 (ap token_of h) b.1 in
-          ok_took (written (expressions b.0.0), b.0.1) y b.2 (record {
-            parts = ts.1.parts;
-            meets = (are depth b.0.0 ts.1.meets, omega (arith, nested depth b.0.0 ts.0 ts.1.meets));
-          })
-      at i y _ h e = ok_took (left_out, i) y e (record { parts = refl; meets = (tt, omega arith) })
+        at : (i : Tokens) (y : Part Id Id × Tokens) (x : Next) → next i ≡ x → arguments_by depth inner x i ≡ Ok y → Took arguments_text (λ p. AreArguments p × (bracketed_nesting p < suc depth)) i y
+        at i y n.LeftParen h e =
+            let b = bind_ok (enclosed depth inner n.Comma n.RightParen i) _ y e in
+            let ts = enclosed_sound n.Comma n.RightParen s.LeftParen s.Comma s.RightParen refl refl i b.0 (ap token_of h) b.1 in
+            ok_took (written (expressions b.0.0), b.0.1) y b.2 (record {
+              parts = ts.1.parts;
+              meets = (are depth b.0.0 ts.1.meets, omega (arith, nested depth b.0.0 ts.0 ts.1.meets));
+            })
+        at i y _ h e = ok_took (left_out, i) y e (record { parts = refl; meets = (tt, omega arith) })
 
     sending_sound : (i : Tokens) (y : SendingTree × Tokens) → selects i ≡ true → one_sending depth inner i ≡ Ok y → Took sending_text SendingFits i y
     unfolding one_sending
@@ -222,19 +228,21 @@ module _ (depth : ℕ) where
 
     sent_to_sound : Sound text (sent_to depth inner) (Fits (suc depth) 7)
     unfolding sent_to all_sendings
-    sent_to_sound = record { reads = λ i y e.
-      let a = bind_ok (primary depth inner i) _ y e in
-      let first = primary_sound.reads i a.0 a.1 in
-      let b = bind_ok (all_sendings depth inner a.0.1) _ y a.2 in
-      let rest = (each_sound sending_text selects (one_sending depth inner) SendingFits sending_sound).reads a.0.1 b.0 b.1 in
-      ok_took (sent (position i) a.0.0 b.0.0, b.0.1) y b.2 (whole (position i) a.0.0 b.0.0 b.0.1 i a.0.1 first.parts first.meets (rest.parts ∙ ap (λ r. r ++ marks b.0.1) (sendings_are b.0.0)) (sendings_fit b.0.0 rest.meets)) }
+    sent_to_sound = record {
+      reads = λ i y e.
+          let a = bind_ok (primary depth inner i) _ y e in
+          let first = primary_sound.reads i a.0 a.1 in
+          let b = bind_ok (all_sendings depth inner a.0.1) _ y a.2 in
+          let rest = (each_sound sending_text selects (one_sending depth inner) SendingFits sending_sound).reads a.0.1 b.0 b.1 in
+          ok_took (sent (position i) a.0.0 b.0.0, b.0.1) y b.2 (whole (position i) a.0.0 b.0.0 b.0.1 i a.0.1 first.parts first.meets (rest.parts ∙ ap (λ r. r ++ marks b.0.1) (sendings_are b.0.0)) (sendings_fit b.0.0 rest.meets));
+    }
       where
-      whole : (pos : Pos) (t : Tree) (xs : List SendingTree) (j i k : Tokens) → marks i ≡ text t ++ marks k → Fits (suc depth) 8 t → marks k ≡ sendings_text (sendings_of xs) ++ marks j → AreSendings (sendings_of xs) × (sendings_nesting (sendings_of xs) < suc depth) → Took text (Fits (suc depth) 7) i (sent pos t xs, j)
-      whole pos t [] j i k p m q f = record { parts = p ∙ ap (λ x. text t ++ x) q; meets = (m.0, omega (arith, m.1), m.2) }
-      whole pos t (x ∷ xs) j i k p m q f = record {
-        parts = p ∙ ap (λ x. text t ++ x) q ∙ sym (append_assoc (text t) (sendings_text (sendings_of (x ∷ xs))) (marks j));
-        meets = ((m.0, m.1, f.0), omega arith, omega (arith, m.2, f.1));
-      }
+        whole : (pos : Pos) (t : Tree) (xs : List SendingTree) (j i k : Tokens) → marks i ≡ text t ++ marks k → Fits (suc depth) 8 t → marks k ≡ sendings_text (sendings_of xs) ++ marks j → AreSendings (sendings_of xs) × (sendings_nesting (sendings_of xs) < suc depth) → Took text (Fits (suc depth) 7) i (sent pos t xs, j)
+        whole pos t [] j i k p m q f = record { parts = p ∙ ap (λ x. text t ++ x) q; meets = (m.0, omega (arith, m.1), m.2) }
+        whole pos t (x ∷ xs) j i k p m q f = record {
+          parts = p ∙ ap (λ x. text t ++ x) q ∙ sym (append_assoc (text t) (sendings_text (sendings_of (x ∷ xs))) (marks j));
+          meets = ((m.0, m.1, f.0), omega arith, omega (arith, m.2, f.1));
+        }
 
     signed_sound : (x : Next) (op : Symbol) → token_of x ≡ Some (kind.Sym op) → IsSign op → (i : Tokens) (y : Tree × Tokens) → next i ≡ x → signed depth inner op i ≡ Ok y → Took text (Fits (suc depth) 6) i y
     unfolding signed
@@ -249,10 +257,10 @@ module _ (depth : ℕ) where
     unfolding operand
     operand_sound = record { reads = λ i y e. at i y (next i) refl e }
       where
-      at : (i : Tokens) (y : Tree × Tokens) (x : Next) → next i ≡ x → operand_by depth inner x i ≡ Ok y → Took text (Fits (suc depth) 6) i y
-      at i y n.Minus h e = signed_sound n.Minus s.Minus refl tt i y h e
-      at i y n.Bang h e = signed_sound n.Bang s.Bang refl tt i y h e
-      at i y _ h e = let t = sent_to_sound.reads i y e in record { parts = t.parts; meets = (t.meets.0, omega (arith, t.meets.1), t.meets.2) }
+        at : (i : Tokens) (y : Tree × Tokens) (x : Next) → next i ≡ x → operand_by depth inner x i ≡ Ok y → Took text (Fits (suc depth) 6) i y
+        at i y n.Minus h e = signed_sound n.Minus s.Minus refl tt i y h e
+        at i y n.Bang h e = signed_sound n.Bang s.Bang refl tt i y h e
+        at i y _ h e = let t = sent_to_sound.reads i y e in record { parts = t.parts; meets = (t.meets.0, omega (arith, t.meets.1), t.meets.2) }
 
     products_sound : Sound text (products depth inner) (Fits (suc depth) 5)
     products_sound = chain_sound (suc depth) (omega arith) rule.Product (operand depth inner) operand_sound (omega arith)
@@ -290,18 +298,18 @@ module _ (depth : ℕ) where
     unfolding named
     named_sound i y h e = by (sees n.Assign (after i)) refl e
       where
-      by : (b : Bool) → sees n.Assign (after i) ≡ b → cond b (assignment (values depth inner) i) (values depth inner i) ≡ Ok y → Took text (Fits (suc depth) 0) i y
-      by true g e = assignment_sound i y h (sees_is n.Assign (after i) g) e
-      by false g e = value_expression i y e
+        by : (b : Bool) → sees n.Assign (after i) ≡ b → cond b (assignment (values depth inner) i) (values depth inner i) ≡ Ok y → Took text (Fits (suc depth) 0) i y
+        by true g e = assignment_sound i y h (sees_is n.Assign (after i) g) e
+        by false g e = value_expression i y e
 
     expression_sound : Sound text (expression (values depth inner)) (Fits (suc depth) 0)
     unfolding expression
     expression_sound = record { reads = λ i y e. at i y (next i) refl e }
       where
-      at : (i : Tokens) (y : Tree × Tokens) (x : Next) → next i ≡ x → expression_by (values depth inner) x i ≡ Ok y → Took text (Fits (suc depth) 0) i y
-      at i y n.Return h e = returned_sound i y h e
-      at i y n.Word h e = named_sound i y h e
-      at i y _ h e = value_expression i y e
+        at : (i : Tokens) (y : Tree × Tokens) (x : Next) → next i ≡ x → expression_by (values depth inner) x i ≡ Ok y → Took text (Fits (suc depth) 0) i y
+        at i y n.Return h e = returned_sound i y h e
+        at i y n.Word h e = named_sound i y h e
+        at i y _ h e = value_expression i y e
 
     pub by_rule_sound : (r : Rule) → Sound text (by_rule depth inner r) (Fits (suc depth) (rank r))
     by_rule_sound rule.Expression = expression_sound

@@ -8,8 +8,8 @@ ghost use Rattle.pz_values.specs.Rules.{rank};
 ghost use Rattle.pz_values.specs.Values as spec;
 ghost use Rattle.pz_values.specs.Nests.{Nests};
 
-use crate::grammar::Grammar;
 use crate::Rule;
+use crate::grammar::Grammar;
 use pz_ast::{Expr, ExprForm, Link, Pos, Symbol};
 use pz_cursor::{Cursor, Next, Refusal};
 use pz_items::{Boxed, Items};

@@ -30,10 +30,20 @@ pub struct Grammar<F> {
 }
 
 /// What this rule reads, with at most `depth` constructs one in another.
-pub fn expr(alloc: Global, cursor: &mut Cursor<'_>, depth: usize, rule: Rule) -> Result<Expr, Refusal>
+pub fn expr(
+    alloc: Global,
+    cursor: &mut Cursor<'_>,
+    depth: usize,
+    rule: Rule,
+) -> Result<Expr, Refusal>
     ensures reads { Reads view (spec.expr depth rule cursor.old) result cursor.new }
 {
-    let grammar = Grammar { alloc, depth, rule, expr };
+    let grammar = Grammar {
+        alloc,
+        depth,
+        rule,
+        expr,
+    };
     grammar.whole(cursor)
 }
 
@@ -45,27 +55,55 @@ pub fn value(alloc: Global, cursor: &mut Cursor<'_>, depth: usize) -> Result<Exp
 }
 
 /// One expression or more with this separator, with at most `depth` constructs one in another.
-pub fn exprs(alloc: Global, cursor: &mut Cursor<'_>, depth: usize, separator: Next) -> Result<Items<Expr>, Refusal>
+pub fn exprs(
+    alloc: Global,
+    cursor: &mut Cursor<'_>,
+    depth: usize,
+    separator: Next,
+) -> Result<Items<Expr>, Refusal>
     requires room { depth < 2 ^ 64 - 1 }
     ensures reads { Reads (map view) (lists.list_of (spec.expr depth rule.Expression) separator cursor.old) result cursor.new }
 {
-    let grammar = Grammar { alloc, depth: depth + 1, rule: Rule::Operand, expr };
+    let grammar = Grammar {
+        alloc,
+        depth: depth + 1,
+        rule: Rule::Operand,
+        expr,
+    };
     grammar.exprs(cursor, separator)
 }
 
 /// Arguments in round brackets, none or more. A `(` stands next. The brackets count for `depth`.
-pub fn arguments(alloc: Global, cursor: &mut Cursor<'_>, depth: usize) -> Result<Items<Expr>, Refusal>
+pub fn arguments(
+    alloc: Global,
+    cursor: &mut Cursor<'_>,
+    depth: usize,
+) -> Result<Items<Expr>, Refusal>
     ensures reads { Reads (map view) (spec.enclosed depth (below depth) n.Comma n.RightParen cursor.old) result cursor.new }
 {
-    let grammar = Grammar { alloc, depth, rule: Rule::Operand, expr };
+    let grammar = Grammar {
+        alloc,
+        depth,
+        rule: Rule::Operand,
+        expr,
+    };
     grammar.enclosed(cursor, Next::Comma, Next::RightParen)
 }
 
 /// Arguments, if a `(` stands next. The brackets count for `depth`.
-pub fn optional_arguments(alloc: Global, cursor: &mut Cursor<'_>, depth: usize) -> Result<Option<Items<Expr>>, Refusal>
+pub fn optional_arguments(
+    alloc: Global,
+    cursor: &mut Cursor<'_>,
+    depth: usize,
+) -> Result<Option<Items<Expr>>, Refusal>
     ensures reads { Reads part_view (spec.arguments depth (below depth) cursor.old) result cursor.new }
 {
-    let grammar = Grammar { alloc, depth, rule: Rule::Operand, expr };
+    let grammar = Grammar {
+        alloc,
+        depth,
+        rule: Rule::Operand,
+        expr,
+    };
     grammar.arguments(cursor)
 }
 
@@ -73,7 +111,12 @@ pub fn optional_arguments(alloc: Global, cursor: &mut Cursor<'_>, depth: usize) 
 pub fn block(alloc: Global, cursor: &mut Cursor<'_>, depth: usize) -> Result<Items<Expr>, Refusal>
     ensures reads { Reads (map view) (spec.enclosed depth (below depth) n.Semicolon n.RightBrace cursor.old) result cursor.new }
 {
-    let grammar = Grammar { alloc, depth, rule: Rule::Operand, expr };
+    let grammar = Grammar {
+        alloc,
+        depth,
+        rule: Rule::Operand,
+        expr,
+    };
     grammar.enclosed(cursor, Next::Semicolon, Next::RightBrace)
 }
 
@@ -126,7 +169,12 @@ impl<F: Fn(Global, &mut Cursor<'_>, usize, Rule) -> Result<Expr, Refusal>> Gramm
     }
 
     #[tactic(auto, unfolding(pz_cursor::specs::Lists::more_of, pz_cursor::specs::Lists::tail_of))]
-    fn more(&self, cursor: &mut Cursor<'_>, separator: Next, mut found: Items<Expr>) -> Result<Items<Expr>, Refusal>
+    fn more(
+        &self,
+        cursor: &mut Cursor<'_>,
+        separator: Next,
+        mut found: Items<Expr>,
+    ) -> Result<Items<Expr>, Refusal>
         requires parts { Nests self.now.depth self.now.rule (F.pre self.now.expr) (F.post self.now.expr) }
         ensures reads { Reads (map view) (lists.more_of (below self.now.depth rule.Expression) separator (map view found) cursor.old) result cursor.new }
     {
@@ -142,7 +190,12 @@ impl<F: Fn(Global, &mut Cursor<'_>, usize, Rule) -> Result<Expr, Refusal>> Gramm
     /// None or more expressions before this closing token, which is taken too, and so is the opening
     /// one that stands next.
     #[tactic(auto, unfolding(crate::specs::Values::enclosed))]
-    pub fn enclosed(&self, cursor: &mut Cursor<'_>, separator: Next, close: Next) -> Result<Items<Expr>, Refusal>
+    pub fn enclosed(
+        &self,
+        cursor: &mut Cursor<'_>,
+        separator: Next,
+        close: Next,
+    ) -> Result<Items<Expr>, Refusal>
         requires parts { Nests self.now.depth self.now.rule (F.pre self.now.expr) (F.post self.now.expr) }
         ensures reads { Reads (map view) (spec.enclosed self.now.depth (below self.now.depth) separator close cursor.old) result cursor.new }
     {
@@ -153,7 +206,12 @@ impl<F: Fn(Global, &mut Cursor<'_>, usize, Rule) -> Result<Expr, Refusal>> Gramm
     }
 
     #[tactic(auto, unfolding(crate::specs::Values::exprs_before))]
-    fn exprs_before(&self, cursor: &mut Cursor<'_>, separator: Next, close: Next) -> Result<Items<Expr>, Refusal>
+    fn exprs_before(
+        &self,
+        cursor: &mut Cursor<'_>,
+        separator: Next,
+        close: Next,
+    ) -> Result<Items<Expr>, Refusal>
         requires parts { Nests self.now.depth self.now.rule (F.pre self.now.expr) (F.post self.now.expr) }
         ensures reads { Reads (map view) (spec.exprs_before (below self.now.depth) separator close cursor.old) result cursor.new }
     {

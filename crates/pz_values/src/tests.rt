@@ -31,10 +31,12 @@ fn a_product_stands_in_a_sum(rt: HostRuntime) -> Result<(), Fail> {
     tokens.push(token(TokenKind::Ident(name), 9))?;
     let mut cursor = Cursor::new(tokens.as_slice());
     let found = value(rt.alloc(), &mut cursor, 100);
-    assert!(rt; match &found {
-        Ok(expr) => sum_of(&expr.form),
-        Err(_) => false,
-    });
+    assert!(rt;
+        match &found {
+            Ok(expr) => sum_of(&expr.form),
+            Err(_) => false,
+        }
+    );
     assert_eq!(rt; cursor.left(), 0);
     Ok(())
 }
@@ -47,9 +49,11 @@ fn a_sign_past_the_nesting_is_refused_where_it_stands(rt: HostRuntime) -> Result
     tokens.push(token(TokenKind::Int(1), 3))?;
     let mut cursor = Cursor::new(tokens.as_slice());
     let found = value(rt.alloc(), &mut cursor, 1);
-    assert!(rt; match found {
-        Ok(_) => false,
-        Err(refusal) => refusal == Refusal::TooNested(2),
-    });
+    assert!(rt;
+        match found {
+            Ok(_) => false,
+            Err(refusal) => refusal == Refusal::TooNested(2),
+        }
+    );
     Ok(())
 }

@@ -35,6 +35,8 @@ returns-in_default g c =
     let ops = operator c.args.self.now.rule in
     let item = expr c.args.self.now.depth c.args.operand in
     let seen : ops (next c.loop-turn.cursor) ≡ None = ap ops (sym c.peek.ensures.is) ∙ sym c.in_default.ensures in
-    record { reads = c.loop-turn.invariant
-      ∙ ap (λ n. with_front (map link_view c.loop-turn.found) (links_by ops item n c.loop-turn.cursor)) k
-      ∙ links_stop ops item _ _ _ seen }
+    record {
+      reads = c.loop-turn.invariant
+          ∙ ap (λ n. with_front (map link_view c.loop-turn.found) (links_by ops item n c.loop-turn.cursor)) k
+          ∙ links_stop ops item _ _ _ seen;
+    }
