@@ -1,0 +1,12 @@
+pub mod Shown
+pub mod Steps
+pub mod Words
+pub mod Reading
+pub mod Loops
+pub mod Joined
+pub mod Each
+pub mod GroupLoop
+pub mod Optional
+pub mod Named
+pub mod Budget
+pub mod NameBudgets

@@ -1,0 +1,7 @@
+pub mod LookAhead
+pub mod Input
+pub mod Device
+pub mod Lists
+pub mod Names
+pub mod Places
+pub mod Openers

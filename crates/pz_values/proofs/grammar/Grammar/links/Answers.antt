@@ -1,0 +1,42 @@
+use Rattle.std.proofs.Common.{◌≡◌, ◌≢◌, ℕ, suc, ◌+◌, ◌-◌, ◌<◌, true, List, ◌∷◌, [], ◌++◌, map, Ok, Err, Some, None, refl, sym, ap, ◌∙◌, subst, arith, rules}
+use Rattle.std.proofs.lemmas.Grind.{common_steps}
+use Rattle.pz_ast.specs.ExpressionView.{view, link_view, sending_view}
+use Rattle.pz_cursor.specs.LookAhead.{next}
+use Rattle.pz_cursor.specs.Input.{sees, after, selects, position}
+use Rattle.pz_cursor.specs.Device.{Reads}
+use Rattle.pz_cursor.specs.Lists.{tail_of, with_front, repeat}
+use Rattle.pz_values.specs.declared.rule.Rule.TheVariants as rule
+use Rattle.pz_values.specs.Rules.{operator}
+use Rattle.pz_values.specs.Values.{expr, below, by_rule, links_by, one_link, chained, chain_of, arguments, conditional, repetition, primary, operand, expression, all_links, sent_to, operand_by, enclosed, all_sendings, one_sending}
+use Rattle.pz_values.proofs.Loops.{links_more, links_stop, made, expr_is, operand_default}
+use Rattle.pz_cursor.proofs.Loops.{tail_more, repeat_more, map_more, past_is}
+use Rattle.pz_values.proofs.grammar.Grammar.links.Goals as goal
+
+pub loop-turn-preserved : goal.loop-turn-preserved
+loop-turn-preserved g c =
+    let k : c.left-turn-end.result - c.loop-turn._turn ≡ suc (c.left-turn-end.result - (c.loop-turn._turn + 1)) = omega arith in
+    let ops = operator c.args.self.now.rule in
+    let item = expr c.args.self.now.depth c.args.operand in
+    let seen : ops (next c.loop-turn.cursor) ≡ Some c.in-Some.op = ap ops (sym c.peek.ensures.is) ∙ sym c.in-Some.ensures in
+    c.loop-turn.invariant
+    ∙ ap (λ n. with_front (map link_view c.loop-turn.found) (links_by ops item n c.loop-turn.cursor)) k
+    ∙ links_more ops item _ _ _ _ _ _ seen c.in_ok-link.ensures.reads
+    ∙ ap (λ l. with_front l (links_by ops item (c.left-turn-end.result - (c.loop-turn._turn + 1)) c.link.new.cursor)) (map_more link_view _ _ _ c.in_ok-push.ensures.ok)
+
+pub returns-in_err-link : goal.returns-in_err-link
+unfolding links_by
+returns-in_err-link g c =
+    let k : c.left-turn-end.result - c.loop-turn._turn ≡ suc (c.left-turn-end.result - (c.loop-turn._turn + 1)) = omega arith in
+    rw (c.loop-turn.invariant, k, ← c.peek.ensures.is, ← c.in-Some.ensures) (search rules)
+
+pub returns-in_default : goal.returns-in_default
+returns-in_default g c =
+    let k : c.left-turn-end.result - c.loop-turn._turn ≡ suc (c.left-turn-end.result - (c.loop-turn._turn + 1)) = omega arith in
+    let ops = operator c.args.self.now.rule in
+    let item = expr c.args.self.now.depth c.args.operand in
+    let seen : ops (next c.loop-turn.cursor) ≡ None = ap ops (sym c.peek.ensures.is) ∙ sym c.in_default.ensures in
+    record {
+      reads = c.loop-turn.invariant
+          ∙ ap (λ n. with_front (map link_view c.loop-turn.found) (links_by ops item n c.loop-turn.cursor)) k
+          ∙ links_stop ops item _ _ _ seen;
+    }
