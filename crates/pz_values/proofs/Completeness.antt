@@ -109,7 +109,7 @@ module _ (depth : ℕ) (inner : Rule → Parser Tree) (inner_complete : (r : Rul
         ∙ (joined_complete text place (inner rule.Expression) (Fits depth 0) sep (kind.Sym x) (Stops rule.Expression) loose is_sep sees_sep (inner_complete rule.Expression)).gives at k (to_list ts) j (filled_of_body depth ts body lt) (h, ne)
         ∙ ap (λ l. Ok (l, j)) (places_are at k ts)
 
-    before_given : (close : Next) (at : ℕ → Pos) (k : ℕ) (ts : Expressions Id Id) (j : Tokens) → starts close ≡ false → AreExpressions ts → nestings ts < depth → sees close j ≡ true → binding (next j) < 1 → next j ≢ sep → exprs_before inner sep close (located at k (texts x ts) ++ j) ≡ Ok (to_list (place_all at k ts), j)
+    pub before_given : (close : Next) (at : ℕ → Pos) (k : ℕ) (ts : Expressions Id Id) (j : Tokens) → starts close ≡ false → AreExpressions ts → nestings ts < depth → sees close j ≡ true → binding (next j) < 1 → next j ≢ sep → exprs_before inner sep close (located at k (texts x ts) ++ j) ≡ Ok (to_list (place_all at k ts), j)
     unfolding exprs_before
     before_given close at k none j st each lt seen h ne = rw seen refl
     before_given close at k (more t ts) j st each lt seen h ne =

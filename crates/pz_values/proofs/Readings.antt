@@ -24,7 +24,7 @@ use Rattle.pz_cursor.specs.Input.{Tokens, marks, after, position, identifier, li
 use Rattle.pz_cursor.specs.Device.{Outcome, Parser, ◌>>=◌, ◌>>◌, ◌<$>◌, pure, refuse, and_then, expect, expect_id, deepen, or_none}
 use Rattle.pz_cursor.specs.Lists.{list_of}
 use Rattle.pz_cursor.proofs.Shown.{token_of}
-use Rattle.pz_cursor.proofs.Steps.{bind_ok, takes, sees_is, deepen_ok, expect_ok}
+use Rattle.pz_cursor.proofs.Steps.{bind_ok, takes, sees_is, expected, opened}
 use Rattle.pz_cursor.proofs.Words.{word_is, selector_is, literal_is, int_literal_is}
 use Rattle.pz_cursor.proofs.Reading.{Took, Sound, ok_took, done}
 use Rattle.pz_cursor.proofs.Joined.{joined, joined_sound, Filled}
@@ -37,14 +37,6 @@ use Rattle.pz_values.specs.Rules.{rank, operator}
 use Rattle.pz_values.specs.Values.{expr, below, by_rule, assignment, returned, named, expression, expression_by, constant, named_variable, self_word, time_word, created, test, otherwise, otherwise_by, exprs_before, enclosed, grouped, conditional, repetition, primary, primary_by, arguments, arguments_by, one_sending, all_sendings, sent, sent_to, signed, operand, operand_by, chain_of, products, sums, comparisons, conjunctions, values}
 use Rattle.pz_values.proofs.Texts.{Fits, texts_are, are, nested, body, body_nested}
 use Rattle.pz_values.proofs.Linked.{chain_sound}
-
--- a keyword or a symbol that is expected
-pub expected : (x : Next) (y : TokenKind) (i : Tokens) (z : Unit {0} × Tokens) → token_of x ≡ Some y → expect x i ≡ Ok z → marks i ≡ mark y ∷ marks z.1
-expected x y i z shows e = let r = expect_ok x i z e in takes y i (ap token_of r.0 ∙ shows) ∙ ap (λ j. mark y ∷ marks j) r.1
-
--- a token that opens a construct
-pub opened : (depth : ℕ) (y : TokenKind) (i : Tokens) (z : Unit {0} × Tokens) → token_of (next i) ≡ Some y → deepen depth i ≡ Ok z → (0 < depth) × (marks i ≡ mark y ∷ marks z.1)
-opened depth y i z shows e = let r = deepen_ok depth i z e in (r.0, takes y i shows ∙ ap (λ j. mark y ∷ marks j) r.1)
 
 -- brackets with expressions in them
 abbrev pub bracketed : Symbol → Symbol → Symbol → List Tree → List Mark
