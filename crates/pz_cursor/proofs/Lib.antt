@@ -12,3 +12,4 @@ pub mod Budget
 pub mod NameBudgets
 pub mod Sections
 pub mod Erasing
+pub mod Orders

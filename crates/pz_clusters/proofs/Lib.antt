@@ -1,0 +1,4 @@
+pub mod Readings
+pub mod Completeness
+pub mod Budgets
+pub mod Erasing

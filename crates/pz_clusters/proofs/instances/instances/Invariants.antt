@@ -1,0 +1,9 @@
+use Rattle.std.proofs.Common.{◌≡◌, ◌-◌}
+use Rattle.pz_cursor.specs.declared.ahead.Next.TheVariants as n
+use Rattle.pz_cursor.specs.Input.{sees}
+use Rattle.pz_cursor.specs.Lists.{repeat, with_front}
+use Rattle.pz_clusters.specs.Clusters.{instances, one_instance}
+use Rattle.pz_clusters.proofs.instances.instances.Given as goal
+
+abbrev pub invariant-loop-turn : goal.invariant-loop-turn
+invariant-loop-turn l = instances l.fn.cursor ≡ with_front l.found (repeat (sees n.Head) one_instance (l._turn-end - l._turn) l.cursor)
