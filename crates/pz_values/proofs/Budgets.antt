@@ -79,7 +79,7 @@ module _ (depth : ℕ) (inner : Rule → Parser Tree) (b : (r : Rule) → Budget
   body_budget : (sep : Next) → Budget depth (list_of (inner rule.Expression) sep)
   body_budget sep = list_budget depth (inner rule.Expression) sep (b rule.Expression)
 
-  test_budget : (word : Next) → Budget depth (test inner word)
+  pub test_budget : (word : Next) → Budget depth (test inner word)
   unfolding test
   test_budget word = bind_budget depth (inner rule.Value) _ (b rule.Value) (λ t. bind_budget depth (expect word) _ (expect_budget depth word) (λ u. pure_budget depth t))
 

@@ -43,14 +43,14 @@ use Rattle.pz_values.proofs.Readings.{bracketed, sending_text, SendingFits}
 use Rattle.pz_values.proofs.Linked.{chain_complete}
 
 -- what is bound less tightly than this is not that
-unbound : (x y : Next) (m : ℕ) → binding x < m → m ≤ binding y → x ≢ y
+pub unbound : (x y : Next) (m : ℕ) → binding x < m → m ≤ binding y → x ≢ y
 unbound x y m lt le e = let f : binding x ≡ binding y = ap binding e in absurd (omega (arith, lt, le, f))
 
-semicolon_is : (p : Pos) (i : Tokens) → next (token (kind.Sym s.Semicolon) p ∷ i) ≡ n.Semicolon
+pub semicolon_is : (p : Pos) (i : Tokens) → next (token (kind.Sym s.Semicolon) p ∷ i) ≡ n.Semicolon
 unfolding next
 semicolon_is p i = refl
 
-semicolon_seen : (p : Pos) (i : Tokens) → sees n.Semicolon (token (kind.Sym s.Semicolon) p ∷ i) ≡ true
+pub semicolon_seen : (p : Pos) (i : Tokens) → sees n.Semicolon (token (kind.Sym s.Semicolon) p ∷ i) ≡ true
 unfolding sees same next
 semicolon_seen p i = refl
 

@@ -104,15 +104,15 @@ module _ (depth : ℕ) where
           meets = (body depth b.0.0 ts.meets, omega arith, omega (arith, body_nested depth b.0.0 ts.meets));
         })
 
-    test_sound : (x : Next) (w : Keyword) → token_of x ≡ Some (kind.Key w) → Sound (λ t. text t ++ keyword w ∷ []) (test inner x) (Fits depth 1)
+    pub test_sound : (x : Next) (w : TokenKind) → token_of x ≡ Some w → Sound (λ t. text t ++ mark w ∷ []) (test inner x) (Fits depth 1)
     unfolding test
     test_sound x w shows = record {
       reads = λ i y e.
           let a = bind_ok (inner rule.Value i) _ y e in
           let t = (inner_sound rule.Value).reads i a.0 a.1 in
           let b = bind_ok (expect x a.0.1) _ y a.2 in
-          let last = expected x (kind.Key w) a.0.1 b.0 shows b.1 in
-          ok_took (a.0.0, b.0.1) y b.2 (record { parts = t.parts ∙ ap (λ r. text a.0.0 ++ r) last ∙ sym (append_assoc (text a.0.0) (keyword w ∷ []) (marks b.0.1)); meets = t.meets });
+          let last = expected x w a.0.1 b.0 shows b.1 in
+          ok_took (a.0.0, b.0.1) y b.2 (record { parts = t.parts ∙ ap (λ r. text a.0.0 ++ r) last ∙ sym (append_assoc (text a.0.0) (mark w ∷ []) (marks b.0.1)); meets = t.meets });
     }
 
     abbrev OtherFits : Part Id Id → Type 0
@@ -138,7 +138,7 @@ module _ (depth : ℕ) where
         let a = bind_ok (deepen depth i) _ y e in
         let d = opened depth (kind.Key k.If) i a.0 (ap token_of h) a.1 in
         let b = bind_ok (test inner n.Then a.0.1) _ y a.2 in
-        let t = (test_sound n.Then k.Then refl).reads a.0.1 b.0 b.1 in
+        let t = (test_sound n.Then (kind.Key k.Then) refl).reads a.0.1 b.0 b.1 in
         let f = bind_ok (list_of (inner rule.Expression) n.Semicolon b.0.1) _ y b.2 in
         let ts = (exprs_sound n.Semicolon s.Semicolon refl).reads b.0.1 f.0 f.1 in
         let o = bind_ok (otherwise inner f.0.1) _ y f.2 in
@@ -161,7 +161,7 @@ module _ (depth : ℕ) where
         let a = bind_ok (deepen depth i) _ y e in
         let d = opened depth (kind.Key k.While) i a.0 (ap token_of h) a.1 in
         let b = bind_ok (test inner n.Do a.0.1) _ y a.2 in
-        let t = (test_sound n.Do k.Do refl).reads a.0.1 b.0 b.1 in
+        let t = (test_sound n.Do (kind.Key k.Do) refl).reads a.0.1 b.0 b.1 in
         let f = bind_ok (list_of (inner rule.Expression) n.Semicolon b.0.1) _ y b.2 in
         let ts = (exprs_sound n.Semicolon s.Semicolon refl).reads b.0.1 f.0 f.1 in
         let l = bind_ok (expect n.Od f.0.1) _ y f.2 in
