@@ -1,18 +1,15 @@
 -- A rule refuses as too nested only where as many tokens as its budget begin a construct.
-use Rattle.std.proofs.Common.{◌≡◌, ◌≢◌, ℕ, zero, suc, ◌+◌, ◌≤◌, ◌<◌, Bool, true, false, cond, List, [], ◌∷◌, ◌++◌, length, Option, Some, None, Ok, Err, refl, ap, sym, ◌∙◌, subst, arith, inl, inr, ◌⊎◌}
+use Rattle.std.proofs.Common.{◌≡◌, ℕ, zero, suc, ◌≤◌, Bool, true, false, cond, List, [], ◌∷◌, ◌++◌, length, Some, None, Ok, Err, refl, ap, arith, inl, inr, ◌⊎◌}
 use Rattle.pz_ast.specs.declared.tokens.TokenKind.{TokenKind}
-use Rattle.pz_ast.specs.declared.tokens.Mark.{Mark}
-use Rattle.pz_ast.specs.declared.names.Id.{Id}
 use Rattle.pz_cursor.specs.declared.ahead.Next.{Next}
-use Rattle.pz_cursor.specs.declared.refusal.Refusal.{Refusal}
-use Rattle.pz_cursor.specs.declared.refusal.Refusal.TheVariants.{NoMemory, Syntax, TooNested}
+use Rattle.pz_cursor.specs.declared.refusal.Refusal.TheVariants.{Syntax, TooNested}
 use Rattle.pz_cursor.specs.LookAhead.{next}
 use Rattle.pz_cursor.specs.Input.{Tokens, marks, after, identifier, sees}
 use Rattle.pz_cursor.specs.Device.{Outcome, Parser, ◌>>=◌, ◌<$>◌, pure, refuse, ask, and_then, expect, expect_id, deepen, past, optional, or_none}
 use Rattle.pz_cursor.specs.Lists.{tail_of, more_of, list_of, with_front, turns, repeat, each_of}
 use Rattle.pz_cursor.specs.Openers.{opens, openers}
 use Rattle.pz_cursor.proofs.Shown.{token_of}
-use Rattle.pz_cursor.proofs.Steps.{takes, expect_ok, expect_id_ok}
+use Rattle.pz_cursor.proofs.Steps.{takes}
 use Rattle.pz_cursor.proofs.Reading.{done}
 
 abbrev pub nested : {A : Type 0} → ℕ → Outcome A
@@ -120,7 +117,7 @@ past_le : (b : Bool) (i : Tokens) → openers (marks (cond b (after i) i)) ≤ o
 past_le true i = after_le i
 past_le false i = omega arith
 
-eaten : (bound : ℕ) (x : Next) → Budget bound (λ i. Ok (sees x i, past x i))
+pub eaten : (bound : ℕ) (x : Next) → Budget bound (λ i. Ok (sees x i, past x i))
 unfolding past
 eaten bound x i = let b = gives_at bound (sees x i, cond (sees x i) (after i) i) i (past_le (sees x i) i) in record { fails = b.fails; shrinks = b.shrinks }
 
@@ -137,7 +134,7 @@ front_by : {A : Type 0} (bound : ℕ) (front : List A) (i : Tokens) (o : Outcome
 front_by bound front i (Ok x) f s = gives_at bound (front ++ x.0, x.1) i (s x refl)
 front_by bound front i (Err d) f s = record { fails = λ e h. f e (let q : d ≡ TooNested e = cc in ap (λ x. Err x) q); shrinks = λ y h. absurd cc }
 
-front_at : {A : Type 0} (bound : ℕ) (front : List A) (p : Parser (List A)) (i : Tokens) → BudgetAt bound p i → BudgetAt bound (λ j. with_front front (p j)) i
+pub front_at : {A : Type 0} (bound : ℕ) (front : List A) (p : Parser (List A)) (i : Tokens) → BudgetAt bound p i → BudgetAt bound (λ j. with_front front (p j)) i
 front_at bound front p i b = let c = front_by bound front i (p i) (λ e h. b.fails e h) (λ y h. b.shrinks y h) in record { fails = c.fails; shrinks = c.shrinks }
 
 pub list_budget : {A : Type 0} (bound : ℕ) (item : Parser A) (sep : Next) → Budget bound item → Budget bound (list_of item sep)

@@ -1,6 +1,5 @@
 -- Lists without separators, of anything that has a text.
-use Rattle.std.proofs.Common.{◌≡◌, ℕ, zero, suc, ◌+◌, ◌≤◌, ◌<◌, Bool, true, false, List, [], ◌∷◌, ◌++◌, length, Ok, Err, refl, ap, sym, ◌∙◌, subst, arith, append_assoc, length-append}
-use Rattle.std.specs.Prelude.{⊤}
+use Rattle.std.proofs.Common.{◌≡◌, ℕ, zero, suc, ◌+◌, ◌≤◌, ◌<◌, Bool, true, false, List, [], ◌∷◌, ◌++◌, length, Ok, refl, ap, sym, ◌∙◌, subst, arith, append_assoc, length-append}
 use Rattle.pz_ast.specs.declared.tokens.Pos.{Pos}
 use Rattle.pz_ast.specs.declared.tokens.Mark.{Mark}
 use Rattle.pz_ast.specs.Marks.{each_text}
@@ -8,7 +7,7 @@ use Rattle.pz_ast.specs.ModelForm.{Each}
 use Rattle.pz_cursor.specs.declared.ahead.Next.{Next}
 use Rattle.pz_cursor.specs.LookAhead.{next}
 use Rattle.pz_cursor.specs.Input.{Tokens, marks}
-use Rattle.pz_cursor.specs.Device.{Outcome, Parser, ◌>>=◌, pure, and_then}
+use Rattle.pz_cursor.specs.Device.{Parser, ◌>>=◌, pure}
 use Rattle.pz_cursor.specs.Lists.{repeat, each_of, turns}
 use Rattle.pz_cursor.specs.Places.{located, Placing, place_each}
 use Rattle.pz_cursor.proofs.Steps.{bind_ok}

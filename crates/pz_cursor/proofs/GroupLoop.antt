@@ -1,5 +1,5 @@
 -- The names of a group, beside the loop that reads them.
-use Rattle.std.proofs.Common.{◌≡◌, ℕ, zero, suc, ◌+◌, ◌-◌, Bool, true, false, List, [], ◌∷◌, ◌++◌, length, Ok, Err, refl, ap, sym, ◌∙◌, arith}
+use Rattle.std.proofs.Common.{◌≡◌, ℕ, suc, List, [], ◌∷◌, ◌++◌, length, Ok, Err, refl, ap}
 use Rattle.pz_ast.specs.declared.names.Id.{Id}
 use Rattle.pz_cursor.specs.declared.ahead.Next.{Next}
 use Rattle.pz_cursor.specs.declared.ahead.Next.TheVariants as n
@@ -7,7 +7,7 @@ use Rattle.pz_cursor.specs.declared.refusal.Refusal.{Refusal}
 use Rattle.pz_cursor.specs.declared.refusal.Refusal.TheVariants.{Syntax}
 use Rattle.pz_cursor.specs.LookAhead.{next}
 use Rattle.pz_cursor.specs.Input.{Tokens, after, identifier}
-use Rattle.pz_cursor.specs.Device.{Outcome, Parser, and_then, expect}
+use Rattle.pz_cursor.specs.Device.{Outcome, Parser, expect}
 use Rattle.pz_cursor.specs.Lists.{with_front}
 use Rattle.pz_cursor.specs.Names.{names_of_group, names_by}
 use Rattle.pz_cursor.proofs.Loops.{with_front_more}

@@ -10,3 +10,5 @@ pub mod Optional
 pub mod Named
 pub mod Budget
 pub mod NameBudgets
+pub mod Sections
+pub mod Erasing

@@ -1,5 +1,5 @@
 -- A list that is read item by item, beside a loop that counts its turns.
-use Rattle.std.proofs.Common.{◌≡◌, ℕ, zero, suc, ◌+◌, ◌-◌, ◌<◌, Bool, true, false, List, [], ◌∷◌, ◌++◌, Ok, Err, refl, ap, sym, ◌∙◌, arith, append_assoc, map}
+use Rattle.std.proofs.Common.{◌≡◌, ℕ, suc, Bool, true, false, List, [], ◌∷◌, ◌++◌, Ok, Err, refl, ap, sym, ◌∙◌, append_assoc, map}
 use Rattle.std.proofs.lemmas.List.{map-append}
 use Rattle.pz_cursor.specs.declared.ahead.Next.{Next}
 use Rattle.pz_cursor.specs.Input.{Tokens, after, sees}

@@ -1,28 +1,28 @@
 -- The rules for names, variables and formal parameters.
-use Rattle.std.proofs.Common.{◌≡◌, ◌≢◌, ℕ, zero, suc, ◌+◌, ◌≤◌, ◌<◌, Bool, true, false, List, [], ◌∷◌, ◌++◌, length, Option, Some, None, Ok, Err, refl, ap, sym, ◌∙◌, subst, arith, append_assoc, length-append}
-use Rattle.std.specs.Prelude.{⊤, ◌||◌}
+use Rattle.std.proofs.Common.{◌≡◌, ◌≢◌, ℕ, zero, suc, ◌+◌, ◌<◌, true, false, List, [], ◌∷◌, ◌++◌, length, Ok, refl, ap, sym, ◌∙◌, arith, append_assoc, length-append}
+use Rattle.std.specs.Prelude.{⊤}
 use Rattle.pz_ast.specs.declared.tokens.Pos.{Pos}
 use Rattle.pz_ast.specs.declared.tokens.Symbol.TheVariants as s
 use Rattle.pz_ast.specs.declared.tokens.TokenKind.TheVariants as kind
 use Rattle.pz_ast.specs.declared.tokens.Mark.{Mark}
 use Rattle.pz_ast.specs.declared.names.Id.{Id}
 use Rattle.pz_ast.specs.declared.classes.VarGroup.{VarGroup}
-use Rattle.pz_ast.specs.Marks.{mark, symbol, word, head, word_text, names_text, in_parentheses, separated, optional as optional_text}
+use Rattle.pz_ast.specs.Marks.{symbol, word, word_text, names_text, optional as optional_text}
 use Rattle.pz_ast.specs.ClassText.{group_names_from, group_names, group_text, variables_text, formal_text, locals_text}
 use Rattle.pz_ast.specs.ModelForm.{Each, IfWritten, IsGroup, IsNonempty, AreVariables, AreLocals}
 use Rattle.pz_cursor.specs.declared.ahead.Next.{Next}
 use Rattle.pz_cursor.specs.declared.ahead.Next.TheVariants as n
 use Rattle.pz_cursor.specs.LookAhead.{next, same}
 use Rattle.pz_cursor.specs.Input.{Tokens, marks, after, identifier, name, position, sees}
-use Rattle.pz_cursor.specs.Device.{Outcome, Parser, ◌>>=◌, pure, and_then, expect, expect_id, optional, or_none}
+use Rattle.pz_cursor.specs.Device.{expect, expect_id}
 use Rattle.pz_cursor.specs.Lists.{turns, list_of}
 use Rattle.pz_cursor.specs.Names as spec
-use Rattle.pz_cursor.specs.Places.{located, Placing, place_id, place_names, place_group, place_variables, place_enclosed, place_separated, place_tail, place_optional}
+use Rattle.pz_cursor.specs.Places.{located, place_id, place_names, place_group, place_variables, place_enclosed, place_tail, place_optional}
 use Rattle.pz_cursor.proofs.Shown.{token_of}
-use Rattle.pz_cursor.proofs.Steps.{bind_ok, takes, sees_is, not_seen, expect_ok, expect_is, expect_id_ok, expect_id_is}
+use Rattle.pz_cursor.proofs.Steps.{bind_ok, takes, not_seen, expect_ok, expect_id_ok}
 use Rattle.pz_cursor.proofs.Words.{word_is, head_is}
-use Rattle.pz_cursor.proofs.Reading.{Took, Sound, Complete, ok_took, done, split_located, located_length}
-use Rattle.pz_cursor.proofs.Joined.{joined, tails, joined_is, joined_sound, joined_complete, Filled, token}
+use Rattle.pz_cursor.proofs.Reading.{Took, Sound, Complete, ok_took, split_located, located_length}
+use Rattle.pz_cursor.proofs.Joined.{joined, joined_is, joined_sound, joined_complete, Filled, token}
 use Rattle.pz_cursor.proofs.Optional.{optional_sound, optional_complete, or_none_sound, or_none_complete}
 
 abbrev pub Any : {A : Type 0} → A → Type 0
@@ -44,23 +44,23 @@ unfolding expect_id sees same next after identifier name position
 word_complete = record { gives = λ at k t j p h. refl }
 
 -- a list without conditions on its items
-every : {A : Type 0} (xs : List A) → Each Any xs
+pub every : {A : Type 0} (xs : List A) → Each Any xs
 every [] = tt
 every (x ∷ xs) = (tt, every xs)
 
-filled : {A : Type 0} (xs : List A) → Filled Any xs → IsNonempty xs
+pub filled : {A : Type 0} (xs : List A) → Filled Any xs → IsNonempty xs
 filled [] p = p
 filled (x ∷ xs) p = tt
 
-nonempty : {A : Type 0} (xs : List A) → IsNonempty xs → Filled Any xs
+pub nonempty : {A : Type 0} (xs : List A) → IsNonempty xs → Filled Any xs
 nonempty [] p = p
 nonempty (x ∷ xs) p = (tt, every xs)
 
-comma_is : (p : Pos) (i : Tokens) → next (token (kind.Sym s.Comma) p ∷ i) ≡ n.Comma
+pub comma_is : (p : Pos) (i : Tokens) → next (token (kind.Sym s.Comma) p ∷ i) ≡ n.Comma
 unfolding next
 comma_is p i = refl
 
-comma_seen : (p : Pos) (i : Tokens) → sees n.Comma (token (kind.Sym s.Comma) p ∷ i) ≡ true
+pub comma_seen : (p : Pos) (i : Tokens) → sees n.Comma (token (kind.Sym s.Comma) p ∷ i) ≡ true
 unfolding sees same next
 comma_seen p i = refl
 

@@ -1,6 +1,5 @@
 -- What may be left out, and lists that may be empty.
-use Rattle.std.proofs.Common.{◌≡◌, ℕ, suc, ◌+◌, Bool, true, false, cond, List, [], ◌∷◌, ◌++◌, length, Option, Some, None, Ok, Err, refl, ap, sym, ◌∙◌, subst}
-use Rattle.std.specs.Prelude.{⊤}
+use Rattle.std.proofs.Common.{◌≡◌, ℕ, Bool, true, false, cond, List, [], ◌∷◌, ◌++◌, Option, Some, None, Ok, refl, ap, sym}
 use Rattle.pz_ast.specs.declared.tokens.Pos.{Pos}
 use Rattle.pz_ast.specs.declared.tokens.Mark.{Mark}
 use Rattle.pz_ast.specs.Marks.{optional as optional_text}
@@ -8,7 +7,7 @@ use Rattle.pz_ast.specs.ModelForm.{Each, IfWritten}
 use Rattle.pz_cursor.specs.declared.ahead.Next.{Next}
 use Rattle.pz_cursor.specs.LookAhead.{next}
 use Rattle.pz_cursor.specs.Input.{Tokens, marks}
-use Rattle.pz_cursor.specs.Device.{Outcome, Parser, ◌<$>◌, and_then, pure, optional, or_none}
+use Rattle.pz_cursor.specs.Device.{Parser, ◌<$>◌, pure, optional, or_none}
 use Rattle.pz_cursor.specs.Places.{located, Placing, place_optional}
 use Rattle.pz_cursor.proofs.Steps.{bind_ok}
 use Rattle.pz_cursor.proofs.Joined.{Filled}

@@ -1,20 +1,15 @@
 -- What each step takes, and when it takes it.
-use Rattle.std.proofs.Common.{◌≡◌, ℕ, zero, suc, ◌<◌, Bool, true, false, not, cond, List, [], ◌∷◌, ◌++◌, length, Option, Some, None, Ok, Err, refl, ap, sym, ◌∙◌, subst, arith, rules}
-use Rattle.std.specs.Prelude.{bytes_eq, codes, if◌then◌else◌}
+use Rattle.std.proofs.Common.{◌≡◌, ℕ, zero, suc, ◌<◌, Bool, true, false, cond, [], ◌∷◌, length, Some, Ok, Err, refl, ap, ◌∙◌, arith, rules}
 use denote.Enum.Bare.{same_true}
-use Rattle.pz_ast.specs.declared.tokens.Keyword.TheVariants as k
 use Rattle.pz_ast.specs.declared.tokens.TokenKind.{TokenKind}
-use Rattle.pz_ast.specs.declared.tokens.TokenKind.TheVariants as kind
 use Rattle.pz_ast.specs.declared.tokens.Mark.{Mark}
 use Rattle.pz_ast.specs.declared.names.Id.{Id}
-use Rattle.pz_ast.specs.Marks.{mark, word, head, selector, selector_head}
-use Rattle.pz_ast.specs.ExpressionText.{literal_kind}
+use Rattle.pz_ast.specs.Marks.{mark}
 use Rattle.pz_cursor.specs.declared.ahead.Next.{Next}
-use Rattle.pz_cursor.specs.declared.ahead.Next.TheVariants as n
 use Rattle.pz_cursor.specs.declared.refusal.Refusal.TheVariants.{Syntax}
 use Rattle.pz_cursor.specs.contracts.ahead.Next.{the_type}
-use Rattle.pz_cursor.specs.LookAhead.{next, next_by, next_head, next_head_key, next_key, next_symbol, same}
-use Rattle.pz_cursor.specs.Input.{Tokens, marks, after, identifier, name, name_by, number, number_by, literal, literal_by, sees}
+use Rattle.pz_cursor.specs.LookAhead.{next, same}
+use Rattle.pz_cursor.specs.Input.{Tokens, marks, after, identifier, sees}
 use Rattle.pz_cursor.specs.Device.{Outcome, Parser, and_then, expect, expect_id, deepen}
 use Rattle.pz_cursor.proofs.Shown.{token_of, takes_kind}
 
@@ -78,3 +73,11 @@ expect_id_by false i y e = absurd cc
 pub expect_id_ok : (x : Next) (i : Tokens) (y : Id × Tokens) → expect_id x i ≡ Ok y → (next i ≡ x) × (identifier i ≡ y.0) × (after i ≡ y.1)
 unfolding expect_id
 expect_id_ok x i y e = let r = expect_id_by (sees x i) i y e in (sees_is x i r.0, r.1, r.2)
+
+-- a keyword or a symbol that is expected
+pub expected : (x : Next) (y : TokenKind) (i : Tokens) (z : Unit {0} × Tokens) → token_of x ≡ Some y → expect x i ≡ Ok z → marks i ≡ mark y ∷ marks z.1
+expected x y i z shows e = let r = expect_ok x i z e in takes y i (ap token_of r.0 ∙ shows) ∙ ap (λ j. mark y ∷ marks j) r.1
+
+-- a token that opens a construct
+pub opened : (depth : ℕ) (y : TokenKind) (i : Tokens) (z : Unit {0} × Tokens) → token_of (next i) ≡ Some y → deepen depth i ≡ Ok z → (0 < depth) × (marks i ≡ mark y ∷ marks z.1)
+opened depth y i z shows e = let r = deepen_ok depth i z e in (r.0, takes y i shows ∙ ap (λ j. mark y ∷ marks j) r.1)

@@ -1,15 +1,14 @@
 -- The steps that every rule of the grammar is made of, as functions on the tokens that are left.
 -- A device of the proofs: the code is held against these functions, and the functions against the
 -- text of well-formed trees.
-use Rattle.std.specs.Prelude.{◌≡◌, ◌≢◌, ℕ, ℤ, zero, suc, Bool, if◌then◌else◌, List, [], ◌∷◌, ◌++◌, length, Option, Some, None, Result, Ok, Err}
+use Rattle.std.specs.Prelude.{◌≡◌, ◌≢◌, ℕ, ℤ, zero, suc, Bool, if◌then◌else◌, List, [], length, Option, Some, None, Result, Ok, Err}
 use Rattle.pz_ast.specs.declared.names.Id.{Id}
 use Rattle.pz_ast.specs.declared.exprs.Literal.{Literal}
 use Rattle.pz_cursor.specs.declared.ahead.Next.{Next}
-use Rattle.pz_cursor.specs.declared.ahead.Next.TheVariants as n
 use Rattle.pz_cursor.specs.declared.refusal.Refusal.{Refusal}
 use Rattle.pz_cursor.specs.declared.refusal.Refusal.TheVariants.{NoMemory, Syntax, TooNested}
 use Rattle.pz_cursor.specs.LookAhead.{next}
-use Rattle.pz_cursor.specs.Input.{Tokens, after, identifier, literal, number, sees, selects}
+use Rattle.pz_cursor.specs.Input.{Tokens, after, identifier, literal, number, sees}
 
 abbrev pub Outcome : Type 0 → Type 0
 Outcome A = Result (A × Tokens) Refusal
@@ -81,6 +80,14 @@ deepen (suc d) = λ i. Ok (tt, after i)
 -- what is there only where it begins so
 abbrev pub optional : {A : Type 0} → (Tokens → Bool) → Parser A → Parser (Option A)
 optional begins p = λ i. if begins i then (Some <$> p) i else Ok (None, i)
+
+-- what stands behind this token
+abbrev pub behind : {A : Type 0} → Next → Parser A → Parser A
+behind word p = expect word >> p
+
+-- what stands behind a keyword, where that comes next
+abbrev pub section : {A : Type 0} → Next → Parser A → Parser (Option A)
+section word p = optional (sees word) (behind word p)
 
 -- a list that is empty where it does not begin so
 abbrev pub or_none : {A : Type 0} → (Tokens → Bool) → Parser (List A) → Parser (List A)

@@ -1,5 +1,5 @@
 -- The first token of a list, and what it says.
-use Rattle.std.specs.Prelude.{ℕ, ℤ, pos, Bool, true, false, not, List, [], ◌∷◌, length, map, bytes_eq, codes}
+use Rattle.std.specs.Prelude.{ℕ, ℤ, pos, Bool, true, false, not, List, [], ◌∷◌, map, bytes_eq, codes}
 use Rattle.pz_ast.specs.declared.tokens.Keyword.{Keyword}
 use Rattle.pz_ast.specs.declared.tokens.Keyword.TheVariants as k
 use Rattle.pz_ast.specs.declared.tokens.TokenKind.{TokenKind}

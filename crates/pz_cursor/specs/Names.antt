@@ -1,13 +1,12 @@
 -- Names, variables and formal parameters, as devices of the proofs.
-use Rattle.std.specs.Prelude.{ℕ, zero, suc, Bool, true, false, if◌then◌else◌, ◌||◌, List, [], ◌∷◌, Option, Some, None, Ok, Err}
+use Rattle.std.specs.Prelude.{ℕ, zero, suc, Bool, ◌||◌, List, [], ◌∷◌, Option}
 use Rattle.pz_ast.specs.declared.names.Id.{Id}
 use Rattle.pz_ast.specs.declared.classes.VarGroup.{VarGroup}
 use Rattle.pz_cursor.specs.declared.ahead.Next.{Next}
 use Rattle.pz_cursor.specs.declared.ahead.Next.TheVariants as n
-use Rattle.pz_cursor.specs.LookAhead.{next}
 use Rattle.pz_cursor.specs.Input.{Tokens, sees}
-use Rattle.pz_cursor.specs.Device.{Parser, ◌>>=◌, ◌>>◌, pure, refuse, peek, skip, take_id, expect, expect_id, optional, or_none}
-use Rattle.pz_cursor.specs.Lists.{turns, list_of, with_front}
+use Rattle.pz_cursor.specs.Device.{Parser, ◌>>=◌, ◌>>◌, pure, refuse, peek, take_id, expect, expect_id, optional, section, or_none}
+use Rattle.pz_cursor.specs.Lists.{turns, list_of}
 
 abbrev pub word : Parser Id
 word = expect_id n.Word
@@ -73,3 +72,6 @@ locals = do
 
 unfoldable pub optional_locals : Parser (Option (List VarGroup))
 optional_locals = optional (sees n.Bar) locals
+
+unfoldable pub ports : Parser (Option (List Id))
+ports = section n.Ports optional_names

@@ -48,6 +48,10 @@ abbrev pub place_optional : {A : Type 0} → Placing A → Placing (Option A)
 place_optional place at n None = None
 place_optional place at n (Some x) = Some (place at n x)
 
+-- behind a keyword
+abbrev pub place_section : {A : Type 0} → Placing A → Placing (Option A)
+place_section place = place_optional (λ at n x. place at (suc n) x)
+
 abbrev pub place_names : Placing (List Id)
 place_names = place_separated word_text place_id
 

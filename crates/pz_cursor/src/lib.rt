@@ -10,6 +10,7 @@ mod refusal;
 pub use ahead::Next;
 pub use cursor::Cursor;
 pub use naming::{
-    formal, names, optional_formal, optional_locals, optional_names, optional_variables, variables,
+    formal, names, optional_formal, optional_locals, optional_names, optional_variables,
+    ports_section, variables,
 };
 pub use refusal::Refusal;

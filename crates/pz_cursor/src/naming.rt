@@ -3,7 +3,7 @@
 ghost use Rattle.std.specs.Prelude.{◌≡◌};
 ghost use Rattle.pz_cursor.specs.Names as spec;
 ghost use Rattle.pz_cursor.specs.Lists as lists;
-ghost use Rattle.pz_cursor.specs.Device.{Reads};
+ghost use Rattle.pz_cursor.specs.Device.{Reads, behind};
 ghost use Rattle.pz_cursor.specs.declared.ahead.Next.TheVariants as n;
 
 use crate::ahead::Next;
@@ -178,6 +178,25 @@ pub fn optional_locals(
 {
     if cursor.sees(Next::Bar) {
         Ok(Some(locals(alloc, cursor)?))
+    } else {
+        Ok(None)
+    }
+}
+
+fn ports_behind(alloc: Global, cursor: &mut Cursor<'_>) -> Result<Items<Id>, Refusal>
+    ensures { Reads (λ x. x) (behind n.Ports spec.optional_names cursor.old) result cursor.new }
+{
+    cursor.expect(Next::Ports)?;
+    optional_names(alloc, cursor)
+}
+
+/// The names of ports, if `ports` stands next.
+#[tactic(auto, unfolding(crate::specs::Names::ports))]
+pub fn ports_section(alloc: Global, cursor: &mut Cursor<'_>) -> Result<Option<Items<Id>>, Refusal>
+    ensures reads { Reads (λ x. x) (spec.ports cursor.old) result cursor.new }
+{
+    if cursor.sees(Next::Ports) {
+        Ok(Some(ports_behind(alloc, cursor)?))
     } else {
         Ok(None)
     }

@@ -1,6 +1,5 @@
 -- The first two tokens of values and of operands.
-use Rattle.std.proofs.Common.{◌≡◌, ◌≢◌, ℕ, zero, suc, ◌+◌, ◌≤◌, ◌<◌, Bool, true, false, not, List, [], ◌∷◌, ◌++◌, length, refl, ap, sym, ◌∙◌, subst, arith}
-use Rattle.std.specs.Prelude.{⊤}
+use Rattle.std.proofs.Common.{◌≡◌, ◌≢◌, ℕ, suc, ◌+◌, ◌≤◌, Bool, true, false, ◌∷◌, ◌++◌, length, refl, ap, sym, ◌∙◌, subst, arith}
 use Rattle.pz_ast.specs.declared.tokens.Pos.{Pos}
 use Rattle.pz_ast.specs.declared.tokens.Symbol.{Symbol}
 use Rattle.pz_ast.specs.declared.tokens.Symbol.TheVariants as s
@@ -8,8 +7,7 @@ use Rattle.pz_ast.specs.declared.tokens.TokenKind.TheVariants as kind
 use Rattle.pz_ast.specs.declared.names.Id.{Id}
 use Rattle.pz_ast.specs.declared.exprs.Literal.{Literal}
 use Rattle.pz_ast.specs.declared.exprs.Literal.TheVariants as lit
-use Rattle.pz_ast.specs.Marks.{mark, symbol}
-use Rattle.pz_ast.specs.Expressions.{Expression, literal, variable, me, clock, creation, group, chain, sends, unary, assign, returned, choice, loop, Links, no_links, link, Sendings, no_sendings, sending}
+use Rattle.pz_ast.specs.Expressions.{literal, variable, me, clock, creation, group, chain, sends, unary, assign, returned, choice, loop, no_links, link, no_sendings, sending}
 use Rattle.pz_ast.specs.ExpressionView.{Tree}
 use Rattle.pz_ast.specs.ExpressionText.{text, links_text, sendings_text, arguments_text, literal_kind}
 use Rattle.pz_ast.specs.ExpressionForm.{IsExpression, IsSign, level, operator_level}

@@ -1,50 +1,40 @@
 -- What each rule reads is the text of an expression that the grammar has, within the nesting.
-use Rattle.std.proofs.Common.{◌≡◌, ◌≢◌, ℕ, zero, suc, ◌+◌, ◌≤◌, ◌<◌, Bool, true, false, not, cond, List, [], ◌∷◌, ◌++◌, length, Option, Some, None, Ok, Err, refl, ap, sym, ◌∙◌, subst, arith, append_assoc}
-use Rattle.std.specs.Prelude.{⊤, max}
+use Rattle.std.proofs.Common.{◌≡◌, ℕ, zero, suc, ◌<◌, Bool, true, false, not, cond, List, [], ◌∷◌, ◌++◌, Some, Ok, refl, ap, sym, ◌∙◌, arith, append_assoc}
 use Rattle.pz_ast.specs.declared.tokens.Pos.{Pos}
 use Rattle.pz_ast.specs.declared.tokens.Symbol.{Symbol}
 use Rattle.pz_ast.specs.declared.tokens.Symbol.TheVariants as s
 use Rattle.pz_ast.specs.declared.tokens.Keyword.{Keyword}
 use Rattle.pz_ast.specs.declared.tokens.Keyword.TheVariants as k
-use Rattle.pz_ast.specs.declared.tokens.TokenKind.{TokenKind}
 use Rattle.pz_ast.specs.declared.tokens.TokenKind.TheVariants as kind
 use Rattle.pz_ast.specs.declared.tokens.Mark.{Mark}
 use Rattle.pz_ast.specs.declared.names.Id.{Id}
-use Rattle.pz_ast.specs.Marks.{mark, symbol, keyword, word, selector, each_text}
-use Rattle.pz_ast.specs.Expressions.{Expression, literal, variable, me, clock, creation, group, chain, sends, unary, assign, returned as return_of, choice, loop, Expressions, none, more, Part, left_out, written, Links, no_links, link, Sendings, no_sendings, sending}
+use Rattle.pz_ast.specs.Marks.{symbol, keyword, word, selector, each_text}
+use Rattle.pz_ast.specs.Expressions.{literal, variable, me, clock, creation, group, unary, assign, returned as return_of, choice, loop, Expressions, Part, left_out, written}
 use Rattle.pz_ast.specs.ExpressionView.{Tree, list_of as expressions, SendingTree, sendings_of}
-use Rattle.pz_ast.specs.ExpressionText.{text, texts, otherwise_text, sendings_text, arguments_text, literal_kind}
-use Rattle.pz_ast.specs.ExpressionForm.{IsExpression, IsBody, AreExpressions, IsOtherwise, AreArguments, AreSendings, IsSign, level}
-use Rattle.pz_ast.specs.ExpressionNesting.{nesting, nestings, otherwise_nesting, sendings_nesting, bracketed_nesting}
+use Rattle.pz_ast.specs.ExpressionText.{text, texts, otherwise_text, sendings_text, arguments_text}
+use Rattle.pz_ast.specs.ExpressionForm.{IsOtherwise, AreArguments, AreSendings, IsSign}
+use Rattle.pz_ast.specs.ExpressionNesting.{otherwise_nesting, sendings_nesting, bracketed_nesting}
 use Rattle.pz_ast.specs.ModelForm.{Each}
 use Rattle.pz_cursor.specs.declared.ahead.Next.{Next}
 use Rattle.pz_cursor.specs.declared.ahead.Next.TheVariants as n
 use Rattle.pz_cursor.specs.LookAhead.{next}
 use Rattle.pz_cursor.specs.Input.{Tokens, marks, after, position, identifier, literal as literal_at, sees, selects}
-use Rattle.pz_cursor.specs.Device.{Outcome, Parser, ◌>>=◌, ◌>>◌, ◌<$>◌, pure, refuse, and_then, expect, expect_id, deepen, or_none}
+use Rattle.pz_cursor.specs.Device.{Parser, refuse, expect, expect_id, deepen}
 use Rattle.pz_cursor.specs.Lists.{list_of}
 use Rattle.pz_cursor.proofs.Shown.{token_of}
-use Rattle.pz_cursor.proofs.Steps.{bind_ok, takes, sees_is, deepen_ok, expect_ok}
+use Rattle.pz_cursor.proofs.Steps.{bind_ok, takes, sees_is, expected, opened}
 use Rattle.pz_cursor.proofs.Words.{word_is, selector_is, literal_is, int_literal_is}
-use Rattle.pz_cursor.proofs.Reading.{Took, Sound, ok_took, done}
-use Rattle.pz_cursor.proofs.Joined.{joined, joined_sound, Filled}
+use Rattle.pz_cursor.proofs.Reading.{Took, Sound, ok_took}
+use Rattle.pz_cursor.proofs.Joined.{joined_sound, Filled}
 use Rattle.pz_cursor.proofs.Each.{each_sound}
 use Rattle.pz_cursor.proofs.Optional.{or_none_sound}
 use Rattle.pz_cursor.proofs.Named.{word_sound}
 use Rattle.pz_values.specs.declared.rule.Rule.{Rule}
 use Rattle.pz_values.specs.declared.rule.Rule.TheVariants as rule
-use Rattle.pz_values.specs.Rules.{rank, operator}
-use Rattle.pz_values.specs.Values.{expr, below, by_rule, assignment, returned, named, expression, expression_by, constant, named_variable, self_word, time_word, created, test, otherwise, otherwise_by, exprs_before, enclosed, grouped, conditional, repetition, primary, primary_by, arguments, arguments_by, one_sending, all_sendings, sent, sent_to, signed, operand, operand_by, chain_of, products, sums, comparisons, conjunctions, values}
+use Rattle.pz_values.specs.Rules.{rank}
+use Rattle.pz_values.specs.Values.{expr, below, by_rule, assignment, returned, named, expression, expression_by, created, test, otherwise, otherwise_by, exprs_before, enclosed, grouped, conditional, repetition, primary, primary_by, arguments, arguments_by, one_sending, all_sendings, sent, sent_to, signed, operand, operand_by, products, sums, comparisons, conjunctions, values}
 use Rattle.pz_values.proofs.Texts.{Fits, texts_are, are, nested, body, body_nested}
 use Rattle.pz_values.proofs.Linked.{chain_sound}
-
--- a keyword or a symbol that is expected
-pub expected : (x : Next) (y : TokenKind) (i : Tokens) (z : Unit {0} × Tokens) → token_of x ≡ Some y → expect x i ≡ Ok z → marks i ≡ mark y ∷ marks z.1
-expected x y i z shows e = let r = expect_ok x i z e in takes y i (ap token_of r.0 ∙ shows) ∙ ap (λ j. mark y ∷ marks j) r.1
-
--- a token that opens a construct
-pub opened : (depth : ℕ) (y : TokenKind) (i : Tokens) (z : Unit {0} × Tokens) → token_of (next i) ≡ Some y → deepen depth i ≡ Ok z → (0 < depth) × (marks i ≡ mark y ∷ marks z.1)
-opened depth y i z shows e = let r = deepen_ok depth i z e in (r.0, takes y i shows ∙ ap (λ j. mark y ∷ marks j) r.1)
 
 -- brackets with expressions in them
 abbrev pub bracketed : Symbol → Symbol → Symbol → List Tree → List Mark

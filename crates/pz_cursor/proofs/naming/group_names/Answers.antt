@@ -1,12 +1,11 @@
-use Rattle.std.proofs.Common.{◌≡◌, ℕ, suc, ◌+◌, ◌-◌, true, false, List, ◌∷◌, [], ◌++◌, length, Ok, Err, refl, sym, ap, ◌∙◌, arith, rules}
+use Rattle.std.proofs.Common.{◌≡◌, suc, ◌+◌, ◌-◌, ◌∷◌, [], ◌++◌, Ok, Err, sym, ap, ◌∙◌, arith}
 use Rattle.pz_cursor.specs.declared.ahead.Next.TheVariants as n
-use Rattle.pz_cursor.specs.declared.refusal.Refusal.TheVariants.{Syntax}
 use Rattle.pz_cursor.specs.LookAhead.{next}
 use Rattle.pz_cursor.specs.Input.{after, identifier}
 use Rattle.pz_cursor.specs.Device.{expect}
 use Rattle.pz_cursor.specs.Names.{names_of_group}
 use Rattle.pz_cursor.specs.Lists.{with_front}
-use Rattle.pz_cursor.proofs.GroupLoop.{ok_is, names_more, names_stopped, names_end, names_refused}
+use Rattle.pz_cursor.proofs.GroupLoop.{ok_is, names_more, names_refused}
 use Rattle.pz_cursor.proofs.naming.group_names.Goals as goal
 
 pub returns-in_default : goal.returns-in_default

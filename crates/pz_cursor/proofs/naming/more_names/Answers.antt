@@ -1,4 +1,4 @@
-use Rattle.std.proofs.Common.{◌≡◌, ℕ, suc, ◌+◌, ◌-◌, true, false, List, ◌∷◌, [], ◌++◌, map, Ok, refl, sym, ap, ◌∙◌, arith, rules}
+use Rattle.std.proofs.Common.{◌≡◌, suc, ◌+◌, ◌-◌, true, Ok, sym, ap, ◌∙◌, arith}
 use Rattle.pz_cursor.specs.declared.ahead.Next.TheVariants as n
 use Rattle.pz_cursor.specs.Input.{sees, after}
 use Rattle.pz_cursor.specs.Names.{word}
