@@ -1,29 +1,28 @@
 -- The rules of expressions refuse as too nested only where as many tokens as their budget begin a
 -- construct.
-use Rattle.std.proofs.Common.{◌≡◌, ◌≢◌, ℕ, zero, suc, ◌+◌, ◌≤◌, ◌<◌, Bool, true, false, not, cond, List, [], ◌∷◌, Option, Some, None, Ok, Err, refl, ap, sym, ◌∙◌, arith}
+use Rattle.std.proofs.Common.{◌≡◌, ℕ, zero, suc, ◌≤◌, not, List, [], ◌∷◌, Option, Some, None, refl, ap, ◌∙◌, arith}
 use Rattle.pz_ast.specs.declared.tokens.Pos.{Pos}
 use Rattle.pz_ast.specs.declared.tokens.Symbol.{Symbol}
 use Rattle.pz_ast.specs.declared.tokens.Symbol.TheVariants as s
 use Rattle.pz_ast.specs.declared.tokens.Keyword.TheVariants as k
 use Rattle.pz_ast.specs.declared.tokens.TokenKind.{TokenKind}
 use Rattle.pz_ast.specs.declared.tokens.TokenKind.TheVariants as kind
-use Rattle.pz_ast.specs.declared.names.Id.{Id}
 use Rattle.pz_ast.specs.Expressions.{group, choice, loop, assign, returned as return_of, creation, unary, Part, left_out, written}
 use Rattle.pz_ast.specs.Expressions as tree
-use Rattle.pz_ast.specs.ExpressionView.{Tree, list_of as expressions, LinkTree, SendingTree}
+use Rattle.pz_ast.specs.ExpressionView.{Tree, list_of as expressions, LinkTree}
 use Rattle.pz_cursor.specs.declared.ahead.Next.{Next}
 use Rattle.pz_cursor.specs.declared.ahead.Next.TheVariants as n
 use Rattle.pz_cursor.specs.LookAhead.{next}
-use Rattle.pz_cursor.specs.Input.{Tokens, marks, after, position, identifier, literal as literal_at, sees, selects}
-use Rattle.pz_cursor.specs.Device.{Outcome, Parser, ◌>>=◌, ◌>>◌, ◌<$>◌, pure, refuse, ask, skip, take_id, and_then, expect, expect_id, deepen, or_none}
+use Rattle.pz_cursor.specs.Input.{Tokens, after, position, identifier, literal as literal_at, sees, selects}
+use Rattle.pz_cursor.specs.Device.{Parser, ◌>>=◌, ◌>>◌, pure, refuse, ask, skip, take_id, expect, expect_id}
 use Rattle.pz_cursor.specs.Lists.{list_of, each_of, turns}
 use Rattle.pz_cursor.specs.Openers.{opens}
 use Rattle.pz_cursor.proofs.Shown.{token_of}
-use Rattle.pz_cursor.proofs.Budget.{BudgetAt, Budget, gives_at, pure_budget, ask_budget, take_budget, refuse_budget, bind_at, bind_budget, expect_budget, expect_id_budget, opened_at, if_at, or_none_budget, list_budget, each_budget}
+use Rattle.pz_cursor.proofs.Budget.{BudgetAt, Budget, pure_budget, ask_budget, take_budget, refuse_budget, bind_at, bind_budget, expect_budget, expect_id_budget, opened_at, if_at, or_none_budget, list_budget, each_budget}
 use Rattle.pz_values.specs.declared.rule.Rule.{Rule}
 use Rattle.pz_values.specs.declared.rule.Rule.TheVariants as rule
 use Rattle.pz_values.specs.Rules.{operator}
-use Rattle.pz_values.specs.Values.{expr, below, by_rule, chained, one_link, link_at, links_by, all_links, chain_of, assignment, returned, named, expression, expression_by, constant, named_variable, self_word, time_word, created, test, otherwise, otherwise_by, exprs_before, enclosed, grouped, conditional, repetition, primary, primary_by, arguments, arguments_by, one_sending, all_sendings, sent, sent_to, signed, operand, operand_by, products, sums, comparisons, conjunctions, values}
+use Rattle.pz_values.specs.Values.{expr, below, by_rule, chained, one_link, link_at, links_by, all_links, chain_of, assignment, returned, named, expression, expression_by, created, test, otherwise, otherwise_by, exprs_before, enclosed, grouped, conditional, repetition, primary, primary_by, arguments, arguments_by, one_sending, all_sendings, sent, sent_to, signed, operand, operand_by, products, sums, comparisons, conjunctions, values}
 
 -- ---- chains
 
@@ -79,7 +78,7 @@ module _ (depth : ℕ) (inner : Rule → Parser Tree) (b : (r : Rule) → Budget
   body_budget : (sep : Next) → Budget depth (list_of (inner rule.Expression) sep)
   body_budget sep = list_budget depth (inner rule.Expression) sep (b rule.Expression)
 
-  test_budget : (word : Next) → Budget depth (test inner word)
+  pub test_budget : (word : Next) → Budget depth (test inner word)
   unfolding test
   test_budget word = bind_budget depth (inner rule.Value) _ (b rule.Value) (λ t. bind_budget depth (expect word) _ (expect_budget depth word) (λ u. pure_budget depth t))
 

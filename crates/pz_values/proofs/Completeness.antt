@@ -1,56 +1,54 @@
 -- Each expression that the grammar has, within the nesting, is read from its text, with the places
 -- of the tokens, before what does not go on with it.
-use Rattle.std.proofs.Common.{◌≡◌, ◌≢◌, ℕ, zero, suc, ◌+◌, ◌≤◌, ◌<◌, Bool, true, false, not, cond, List, [], ◌∷◌, ◌++◌, length, Option, Some, None, Ok, Err, refl, ap, sym, ◌∙◌, subst, arith, length-append}
-use Rattle.std.specs.Prelude.{⊤, max}
+use Rattle.std.proofs.Common.{◌≡◌, ◌≢◌, ℕ, zero, suc, ◌+◌, ◌≤◌, ◌<◌, Bool, true, false, List, [], ◌∷◌, ◌++◌, length, Ok, refl, ap, sym, ◌∙◌, subst, arith}
 use Rattle.pz_ast.specs.declared.tokens.Pos.{Pos}
 use Rattle.pz_ast.specs.declared.tokens.Symbol.{Symbol}
 use Rattle.pz_ast.specs.declared.tokens.Symbol.TheVariants as s
 use Rattle.pz_ast.specs.declared.tokens.Keyword.TheVariants as k
 use Rattle.pz_ast.specs.declared.tokens.TokenKind.TheVariants as kind
-use Rattle.pz_ast.specs.declared.tokens.Mark.{Mark}
 use Rattle.pz_ast.specs.declared.names.Id.{Id}
 use Rattle.pz_ast.specs.declared.exprs.Literal.{Literal}
 use Rattle.pz_ast.specs.declared.exprs.Literal.TheVariants as lit
-use Rattle.pz_ast.specs.Marks.{mark, symbol, keyword, word, selector, each_text}
-use Rattle.pz_ast.specs.Expressions.{Expression, literal, variable, me, clock, creation, group, chain, sends, unary, assign, returned as return_of, choice, loop, Expressions, none, more, Part, left_out, written, Links, no_links, link, Sendings, no_sendings, sending}
-use Rattle.pz_ast.specs.ExpressionView.{Tree, list_of as expressions, SendingTree, sendings_of}
+use Rattle.pz_ast.specs.Marks.{symbol, keyword, selector, each_text}
+use Rattle.pz_ast.specs.Expressions.{literal, variable, me, clock, creation, group, chain, sends, unary, assign, returned as return_of, choice, loop, Expressions, none, more, Part, left_out, written, no_links, link, Sendings, no_sendings, sending}
+use Rattle.pz_ast.specs.ExpressionView.{Tree, SendingTree, sendings_of}
 use Rattle.pz_ast.specs.ExpressionText.{text, texts, tail_texts, otherwise_text, sendings_text, arguments_text, literal_kind}
-use Rattle.pz_ast.specs.ExpressionForm.{IsExpression, IsBody, AreExpressions, IsOtherwise, AreArguments, AreSendings, IsSign, level}
-use Rattle.pz_ast.specs.ExpressionNesting.{nesting, nestings, otherwise_nesting, sendings_nesting, bracketed_nesting}
+use Rattle.pz_ast.specs.ExpressionForm.{IsBody, AreExpressions, IsOtherwise, AreArguments, AreSendings}
+use Rattle.pz_ast.specs.ExpressionNesting.{nestings, otherwise_nesting, sendings_nesting, bracketed_nesting}
 use Rattle.pz_ast.specs.ModelForm.{Each}
 use Rattle.pz_cursor.specs.declared.ahead.Next.{Next}
 use Rattle.pz_cursor.specs.declared.ahead.Next.TheVariants as n
 use Rattle.pz_cursor.specs.LookAhead.{next, same}
-use Rattle.pz_cursor.specs.Input.{Tokens, marks, after, position, identifier, name, literal as literal_at, sees, selects}
-use Rattle.pz_cursor.specs.Device.{Outcome, Parser, and_then, refuse, expect, expect_id, deepen, or_none}
+use Rattle.pz_cursor.specs.Input.{Tokens, after, position, identifier, name, literal as literal_at, sees, selects}
+use Rattle.pz_cursor.specs.Device.{Parser, refuse, expect, expect_id}
 use Rattle.pz_cursor.specs.Lists.{list_of, each_of}
 use Rattle.pz_cursor.specs.Places.{located, Placing, place_id, place_each}
 use Rattle.pz_cursor.proofs.Steps.{deepen_is, expect_is, not_seen}
-use Rattle.pz_cursor.proofs.Words.{sent_token, selector_seen}
+use Rattle.pz_cursor.proofs.Words.{selector_seen}
 use Rattle.pz_cursor.proofs.Reading.{Complete, split_located}
-use Rattle.pz_cursor.proofs.Joined.{joined, joined_complete, Filled, token}
+use Rattle.pz_cursor.proofs.Joined.{joined_complete, token}
 use Rattle.pz_cursor.proofs.Each.{each_complete}
 use Rattle.pz_values.specs.declared.rule.Rule.{Rule}
 use Rattle.pz_values.specs.declared.rule.Rule.TheVariants as rule
-use Rattle.pz_values.specs.Rules.{rank, operator}
-use Rattle.pz_values.specs.Values.{expr, below, by_rule, assignment, returned, named, expression, expression_by, constant, created, test, otherwise, otherwise_by, exprs_before, enclosed, grouped, conditional, repetition, primary, primary_by, arguments, arguments_by, one_sending, all_sendings, sent, sent_to, signed, operand, operand_by, products, sums, comparisons, conjunctions, values}
-use Rattle.pz_values.specs.ExpressionPlaces.{place, place_all, place_tail, place_part, place_sendings}
+use Rattle.pz_values.specs.Rules.{rank}
+use Rattle.pz_values.specs.Values.{expr, below, by_rule, assignment, returned, named, expression, expression_by, created, test, otherwise, otherwise_by, exprs_before, enclosed, grouped, conditional, repetition, primary, arguments, arguments_by, one_sending, all_sendings, sent_to, signed, operand, products, sums, comparisons, conjunctions, values}
+use Rattle.pz_values.specs.ExpressionPlaces.{place, place_all, place_part, place_sendings}
 use Rattle.pz_values.proofs.Loops.{operand_default}
-use Rattle.pz_values.proofs.Texts.{Fits, starts, begins, stands, literal_seen, to_list, list_back, texts_of, places_are, filled_of_body}
-use Rattle.pz_values.proofs.Operators.{binding, strength, Stops}
+use Rattle.pz_values.proofs.Texts.{Fits, starts, begins, stands, to_list, list_back, texts_of, places_are, filled_of_body}
+use Rattle.pz_values.proofs.Operators.{binding, Stops}
 use Rattle.pz_values.proofs.Firsts.{level_le, not_selected, selector_no_bracket, no_return, no_assign, unsigned}
-use Rattle.pz_values.proofs.Readings.{bracketed, sending_text, SendingFits}
+use Rattle.pz_values.proofs.Readings.{sending_text, SendingFits}
 use Rattle.pz_values.proofs.Linked.{chain_complete}
 
 -- what is bound less tightly than this is not that
-unbound : (x y : Next) (m : ℕ) → binding x < m → m ≤ binding y → x ≢ y
+pub unbound : (x y : Next) (m : ℕ) → binding x < m → m ≤ binding y → x ≢ y
 unbound x y m lt le e = let f : binding x ≡ binding y = ap binding e in absurd (omega (arith, lt, le, f))
 
-semicolon_is : (p : Pos) (i : Tokens) → next (token (kind.Sym s.Semicolon) p ∷ i) ≡ n.Semicolon
+pub semicolon_is : (p : Pos) (i : Tokens) → next (token (kind.Sym s.Semicolon) p ∷ i) ≡ n.Semicolon
 unfolding next
 semicolon_is p i = refl
 
-semicolon_seen : (p : Pos) (i : Tokens) → sees n.Semicolon (token (kind.Sym s.Semicolon) p ∷ i) ≡ true
+pub semicolon_seen : (p : Pos) (i : Tokens) → sees n.Semicolon (token (kind.Sym s.Semicolon) p ∷ i) ≡ true
 unfolding sees same next
 semicolon_seen p i = refl
 

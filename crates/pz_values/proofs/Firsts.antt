@@ -1,6 +1,5 @@
 -- The first two tokens of values and of operands.
-use Rattle.std.proofs.Common.{◌≡◌, ◌≢◌, ℕ, zero, suc, ◌+◌, ◌≤◌, ◌<◌, Bool, true, false, not, List, [], ◌∷◌, ◌++◌, length, refl, ap, sym, ◌∙◌, subst, arith}
-use Rattle.std.specs.Prelude.{⊤}
+use Rattle.std.proofs.Common.{◌≡◌, ◌≢◌, ℕ, suc, ◌+◌, ◌≤◌, Bool, true, false, ◌∷◌, ◌++◌, length, refl, ap, sym, ◌∙◌, subst, arith}
 use Rattle.pz_ast.specs.declared.tokens.Pos.{Pos}
 use Rattle.pz_ast.specs.declared.tokens.Symbol.{Symbol}
 use Rattle.pz_ast.specs.declared.tokens.Symbol.TheVariants as s
@@ -8,19 +7,19 @@ use Rattle.pz_ast.specs.declared.tokens.TokenKind.TheVariants as kind
 use Rattle.pz_ast.specs.declared.names.Id.{Id}
 use Rattle.pz_ast.specs.declared.exprs.Literal.{Literal}
 use Rattle.pz_ast.specs.declared.exprs.Literal.TheVariants as lit
-use Rattle.pz_ast.specs.Marks.{mark, symbol}
-use Rattle.pz_ast.specs.Expressions.{Expression, literal, variable, me, clock, creation, group, chain, sends, unary, assign, returned, choice, loop, Links, no_links, link, Sendings, no_sendings, sending}
+use Rattle.pz_ast.specs.Expressions.{literal, variable, me, clock, creation, group, chain, sends, unary, assign, returned, choice, loop, no_links, link, no_sendings, sending}
 use Rattle.pz_ast.specs.ExpressionView.{Tree}
 use Rattle.pz_ast.specs.ExpressionText.{text, links_text, sendings_text, arguments_text, literal_kind}
 use Rattle.pz_ast.specs.ExpressionForm.{IsExpression, IsSign, level, operator_level}
 use Rattle.pz_cursor.specs.declared.ahead.Next.{Next}
 use Rattle.pz_cursor.specs.declared.ahead.Next.TheVariants as n
-use Rattle.pz_cursor.specs.LookAhead.{next}
+use Rattle.pz_cursor.specs.LookAhead.{next, next_symbol}
 use Rattle.pz_cursor.specs.Input.{Tokens, after, selects, selects_by, spelled_init}
 use Rattle.pz_cursor.specs.Places.{located}
 use Rattle.pz_cursor.proofs.Reading.{split_located}
 use Rattle.pz_cursor.proofs.Joined.{token}
 use Rattle.pz_cursor.proofs.Words.{sent_token, selector_seen}
+use Rattle.pz_values.proofs.Operators.{binding}
 
 pub level_le : (op : Symbol) → operator_level op ≤ 5
 level_le s.Bar = omega arith
@@ -57,42 +56,27 @@ not_selected i h g = by (next i) (spelled_init i) h g
 pub selector_no_bracket : (p : Pos) (x : Id) (i : Tokens) → next (sent_token p x ∷ i) ≢ n.LeftParen
 selector_no_bracket p x i e = let f = selected (sent_token p x ∷ i) n.LeftParen (selector_seen p x i).0 e in absurd cc
 
-selector_no_assign : (p : Pos) (x : Id) (i : Tokens) → next (sent_token p x ∷ i) ≢ n.Assign
-selector_no_assign p x i e = let f = selected (sent_token p x ∷ i) n.Assign (selector_seen p x i).0 e in absurd cc
-
-operator_no_assign : (op : Symbol) (p : Pos) (i : Tokens) → 1 ≤ operator_level op → next (token (kind.Sym op) p ∷ i) ≢ n.Assign
-unfolding next
-operator_no_assign s.Assign p i le e = absurd (omega (arith, le))
-operator_no_assign s.LeftParen p i le e = absurd cc
-operator_no_assign s.RightParen p i le e = absurd cc
-operator_no_assign s.LeftBrace p i le e = absurd cc
-operator_no_assign s.RightBrace p i le e = absurd cc
-operator_no_assign s.LeftBracket p i le e = absurd cc
-operator_no_assign s.RightBracket p i le e = absurd cc
-operator_no_assign s.Comma p i le e = absurd cc
-operator_no_assign s.Semicolon p i le e = absurd cc
-operator_no_assign s.Colon p i le e = absurd cc
-operator_no_assign s.Bang p i le e = absurd cc
-operator_no_assign s.Query p i le e = absurd cc
-operator_no_assign s.Bar p i le e = absurd cc
-operator_no_assign s.Dot p i le e = absurd cc
-operator_no_assign s.Plus p i le e = absurd cc
-operator_no_assign s.Minus p i le e = absurd cc
-operator_no_assign s.Star p i le e = absurd cc
-operator_no_assign s.Slash p i le e = absurd cc
-operator_no_assign s.Equal p i le e = absurd cc
-operator_no_assign s.Same p i le e = absurd cc
-operator_no_assign s.Unequal p i le e = absurd cc
-operator_no_assign s.Distinct p i le e = absurd cc
-operator_no_assign s.Less p i le e = absurd cc
-operator_no_assign s.LessEqual p i le e = absurd cc
-operator_no_assign s.Greater p i le e = absurd cc
-operator_no_assign s.GreaterEqual p i le e = absurd cc
-operator_no_assign s.Ampersand p i le e = absurd cc
+-- an operator shows as what binds as tightly
+operator_binding : (op : Symbol) → 1 ≤ operator_level op → binding (next_symbol op) ≡ operator_level op
+operator_binding s.Bar le = refl
+operator_binding s.Ampersand le = refl
+operator_binding s.Equal le = refl
+operator_binding s.Same le = refl
+operator_binding s.Unequal le = refl
+operator_binding s.Distinct le = refl
+operator_binding s.Less le = refl
+operator_binding s.LessEqual le = refl
+operator_binding s.Greater le = refl
+operator_binding s.GreaterEqual le = refl
+operator_binding s.Plus le = refl
+operator_binding s.Minus le = refl
+operator_binding s.Star le = refl
+operator_binding s.Slash le = refl
+operator_binding _ le = absurd (omega (arith, le))
 
 -- ---- values
 
-literal_shows : (x : Literal) (p : Pos) (j : Tokens) (P : Next → Type 0) → P n.Int → P n.Literal → P (next (token (literal_kind x) p ∷ j))
+pub literal_shows : (x : Literal) (p : Pos) (j : Tokens) (P : Next → Type 0) → P n.Int → P n.Literal → P (next (token (literal_kind x) p ∷ j))
 unfolding next
 literal_shows (lit.Int v) p j P a b = a
 literal_shows lit.Float p j P a b = b
@@ -102,7 +86,7 @@ literal_shows lit.True p j P a b = b
 literal_shows lit.False p j P a b = b
 literal_shows lit.Nil p j P a b = b
 
-sign_shows : (op : Symbol) (p : Pos) (j : Tokens) (P : Next → Type 0) → IsSign op → P n.Minus → P n.Bang → P (next (token (kind.Sym op) p ∷ j))
+pub sign_shows : (op : Symbol) (p : Pos) (j : Tokens) (P : Next → Type 0) → IsSign op → P n.Minus → P n.Bang → P (next (token (kind.Sym op) p ∷ j))
 unfolding next
 sign_shows s.Minus p j P h a b = a
 sign_shows s.Bang p j P h a b = b
@@ -126,32 +110,46 @@ no_return at k (returned pos t) j h le = absurd (omega (arith, le))
 no_return at k (choice pos test body other) j h le = λ e. absurd cc
 no_return at k (loop pos test body) j h le = λ e. absurd cc
 
--- behind the identifier that a value begins with no `:=` stands
+-- behind the identifier that a value begins with stands an operator, a selector or what follows
+module _ (y : Next) (unselected : (b : Bool) → selects_by y b ≡ false) (loose : (m : ℕ) → 1 ≤ m → m ≤ 5 → binding y ≢ m) where
+  no_selector : (p : Pos) (x : Id) (i : Tokens) → next (sent_token p x ∷ i) ≢ y
+  no_selector p x i e =
+      let f = selected (sent_token p x ∷ i) y (selector_seen p x i).0 e in
+      let g = unselected (spelled_init (sent_token p x ∷ i)) in
+      absurd cc
+
+  no_operator : (op : Symbol) (p : Pos) (i : Tokens) → 1 ≤ operator_level op → next (token (kind.Sym op) p ∷ i) ≢ y
+  unfolding next
+  no_operator op p i le e = loose (operator_level op) le (level_le op) (sym (ap binding e) ∙ operator_binding op le)
+
+  pub no_second : (at : ℕ → Pos) (k : ℕ) (t : Tree) (j : Tokens) → IsExpression t → 1 ≤ level t → next j ≢ y → next (located at k (text t) ++ j) ≡ n.Word → next (after (located at k (text t) ++ j)) ≢ y
+  unfolding next after
+  no_second at k (literal pos x) j h le stop w = absurd (literal_shows x (at k) j (λ z. z ≢ n.Word) (λ e. absurd cc) (λ e. absurd cc) w)
+  no_second at k (variable pos x) j h le stop w = stop
+  no_second at k (me pos) j h le stop w = absurd cc
+  no_second at k (clock pos) j h le stop w = absurd cc
+  no_second at k (creation pos class) j h le stop w = absurd cc
+  no_second at k (group pos ts) j h le stop w = absurd cc
+  no_second at k (chain pos t no_links) j h le stop w = absurd h
+  no_second at k (chain pos t (link op p u ls)) j h le stop w =
+      let m = k + length (text t) in
+      let r = located at m (links_text (link op p u ls)) ++ j in
+      let same = split_located at k (text t) (links_text (link op p u ls)) j in
+      λ e. no_second at k t r h.1 (omega (arith, h.2)) (no_operator op (at m) (located at (suc m) (text u ++ links_text ls) ++ j) h.0) (ap next (sym same) ∙ w) (ap (λ i. next (after i)) (sym same) ∙ e)
+  no_second at k (sends pos t no_sendings) j h le stop w = absurd h
+  no_second at k (sends pos t (sending x a ss)) j h le stop w =
+      let m = k + length (text t) in
+      let r = located at m (sendings_text (sending x a ss)) ++ j in
+      let same = split_located at k (text t) (sendings_text (sending x a ss)) j in
+      λ e. no_second at k t r h.0 (omega (arith, h.1)) (no_selector (at m) x (located at (suc m) (arguments_text a ++ sendings_text ss) ++ j)) (ap next (sym same) ∙ w) (ap (λ i. next (after i)) (sym same) ∙ e)
+  no_second at k (unary pos op t) j h le stop w = absurd (sign_shows op (at k) (located at (suc k) (text t) ++ j) (λ z. z ≢ n.Word) h.0 (λ e. absurd cc) (λ e. absurd cc) w)
+  no_second at k (assign pos x t) j h le stop w = absurd (omega (arith, le))
+  no_second at k (returned pos t) j h le stop w = absurd (omega (arith, le))
+  no_second at k (choice pos test body other) j h le stop w = absurd cc
+  no_second at k (loop pos test body) j h le stop w = absurd cc
+
 pub no_assign : (at : ℕ → Pos) (k : ℕ) (t : Tree) (j : Tokens) → IsExpression t → 1 ≤ level t → next j ≢ n.Assign → next (located at k (text t) ++ j) ≡ n.Word → next (after (located at k (text t) ++ j)) ≢ n.Assign
-unfolding next after
-no_assign at k (literal pos x) j h le stop w = absurd (literal_shows x (at k) j (λ y. y ≢ n.Word) (λ e. absurd cc) (λ e. absurd cc) w)
-no_assign at k (variable pos x) j h le stop w = stop
-no_assign at k (me pos) j h le stop w = absurd cc
-no_assign at k (clock pos) j h le stop w = absurd cc
-no_assign at k (creation pos class) j h le stop w = absurd cc
-no_assign at k (group pos ts) j h le stop w = absurd cc
-no_assign at k (chain pos t no_links) j h le stop w = absurd h
-no_assign at k (chain pos t (link op p u ls)) j h le stop w =
-    let m = k + length (text t) in
-    let r = located at m (links_text (link op p u ls)) ++ j in
-    let same = split_located at k (text t) (links_text (link op p u ls)) j in
-    λ e. no_assign at k t r h.1 (omega (arith, h.2)) (operator_no_assign op (at m) (located at (suc m) (text u ++ links_text ls) ++ j) h.0) (ap next (sym same) ∙ w) (ap (λ i. next (after i)) (sym same) ∙ e)
-no_assign at k (sends pos t no_sendings) j h le stop w = absurd h
-no_assign at k (sends pos t (sending x a ss)) j h le stop w =
-    let m = k + length (text t) in
-    let r = located at m (sendings_text (sending x a ss)) ++ j in
-    let same = split_located at k (text t) (sendings_text (sending x a ss)) j in
-    λ e. no_assign at k t r h.0 (omega (arith, h.1)) (selector_no_assign (at m) x (located at (suc m) (arguments_text a ++ sendings_text ss) ++ j)) (ap next (sym same) ∙ w) (ap (λ i. next (after i)) (sym same) ∙ e)
-no_assign at k (unary pos op t) j h le stop w = absurd (sign_shows op (at k) (located at (suc k) (text t) ++ j) (λ y. y ≢ n.Word) h.0 (λ e. absurd cc) (λ e. absurd cc) w)
-no_assign at k (assign pos x t) j h le stop w = absurd (omega (arith, le))
-no_assign at k (returned pos t) j h le stop w = absurd (omega (arith, le))
-no_assign at k (choice pos test body other) j h le stop w = absurd cc
-no_assign at k (loop pos test body) j h le stop w = absurd cc
+no_assign = no_second n.Assign (λ b. refl) (λ m a b e. absurd (omega (arith, e)))
 
 -- ---- operands without a sign
 

@@ -1,10 +1,9 @@
 -- The operators of each rule, and what goes on with what a rule has read.
-use Rattle.std.proofs.Common.{◌≡◌, ◌≢◌, ℕ, zero, suc, ◌+◌, ◌≤◌, ◌<◌, Bool, true, false, List, [], ◌∷◌, Option, Some, None, refl, ap, sym, ◌∙◌, subst, arith}
+use Rattle.std.proofs.Common.{◌≡◌, ◌≢◌, ℕ, ◌<◌, ◌∷◌, Option, Some, None, refl, subst, arith}
 use Rattle.std.specs.Prelude.{⊤}
 use Rattle.pz_ast.specs.declared.tokens.Pos.{Pos}
 use Rattle.pz_ast.specs.declared.tokens.Symbol.{Symbol}
 use Rattle.pz_ast.specs.declared.tokens.Symbol.TheVariants as s
-use Rattle.pz_ast.specs.declared.tokens.TokenKind.{TokenKind}
 use Rattle.pz_ast.specs.declared.tokens.TokenKind.TheVariants as kind
 use Rattle.pz_ast.specs.ExpressionForm.{operator_level}
 use Rattle.pz_cursor.specs.declared.ahead.Next.{Next}

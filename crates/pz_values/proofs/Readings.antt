@@ -1,40 +1,38 @@
 -- What each rule reads is the text of an expression that the grammar has, within the nesting.
-use Rattle.std.proofs.Common.{◌≡◌, ◌≢◌, ℕ, zero, suc, ◌+◌, ◌≤◌, ◌<◌, Bool, true, false, not, cond, List, [], ◌∷◌, ◌++◌, length, Option, Some, None, Ok, Err, refl, ap, sym, ◌∙◌, subst, arith, append_assoc}
-use Rattle.std.specs.Prelude.{⊤, max}
+use Rattle.std.proofs.Common.{◌≡◌, ℕ, zero, suc, ◌<◌, Bool, true, false, not, cond, List, [], ◌∷◌, ◌++◌, Some, Ok, refl, ap, sym, ◌∙◌, arith, append_assoc}
 use Rattle.pz_ast.specs.declared.tokens.Pos.{Pos}
 use Rattle.pz_ast.specs.declared.tokens.Symbol.{Symbol}
 use Rattle.pz_ast.specs.declared.tokens.Symbol.TheVariants as s
 use Rattle.pz_ast.specs.declared.tokens.Keyword.{Keyword}
 use Rattle.pz_ast.specs.declared.tokens.Keyword.TheVariants as k
-use Rattle.pz_ast.specs.declared.tokens.TokenKind.{TokenKind}
 use Rattle.pz_ast.specs.declared.tokens.TokenKind.TheVariants as kind
 use Rattle.pz_ast.specs.declared.tokens.Mark.{Mark}
 use Rattle.pz_ast.specs.declared.names.Id.{Id}
-use Rattle.pz_ast.specs.Marks.{mark, symbol, keyword, word, selector, each_text}
-use Rattle.pz_ast.specs.Expressions.{Expression, literal, variable, me, clock, creation, group, chain, sends, unary, assign, returned as return_of, choice, loop, Expressions, none, more, Part, left_out, written, Links, no_links, link, Sendings, no_sendings, sending}
+use Rattle.pz_ast.specs.Marks.{symbol, keyword, word, selector, each_text}
+use Rattle.pz_ast.specs.Expressions.{literal, variable, me, clock, creation, group, unary, assign, returned as return_of, choice, loop, Expressions, Part, left_out, written}
 use Rattle.pz_ast.specs.ExpressionView.{Tree, list_of as expressions, SendingTree, sendings_of}
-use Rattle.pz_ast.specs.ExpressionText.{text, texts, otherwise_text, sendings_text, arguments_text, literal_kind}
-use Rattle.pz_ast.specs.ExpressionForm.{IsExpression, IsBody, AreExpressions, IsOtherwise, AreArguments, AreSendings, IsSign, level}
-use Rattle.pz_ast.specs.ExpressionNesting.{nesting, nestings, otherwise_nesting, sendings_nesting, bracketed_nesting}
+use Rattle.pz_ast.specs.ExpressionText.{text, texts, otherwise_text, sendings_text, arguments_text}
+use Rattle.pz_ast.specs.ExpressionForm.{IsOtherwise, AreArguments, AreSendings, IsSign}
+use Rattle.pz_ast.specs.ExpressionNesting.{otherwise_nesting, sendings_nesting, bracketed_nesting}
 use Rattle.pz_ast.specs.ModelForm.{Each}
 use Rattle.pz_cursor.specs.declared.ahead.Next.{Next}
 use Rattle.pz_cursor.specs.declared.ahead.Next.TheVariants as n
 use Rattle.pz_cursor.specs.LookAhead.{next}
 use Rattle.pz_cursor.specs.Input.{Tokens, marks, after, position, identifier, literal as literal_at, sees, selects}
-use Rattle.pz_cursor.specs.Device.{Outcome, Parser, ◌>>=◌, ◌>>◌, ◌<$>◌, pure, refuse, and_then, expect, expect_id, deepen, or_none}
+use Rattle.pz_cursor.specs.Device.{Parser, refuse, expect, expect_id, deepen}
 use Rattle.pz_cursor.specs.Lists.{list_of}
 use Rattle.pz_cursor.proofs.Shown.{token_of}
 use Rattle.pz_cursor.proofs.Steps.{bind_ok, takes, sees_is, expected, opened}
 use Rattle.pz_cursor.proofs.Words.{word_is, selector_is, literal_is, int_literal_is}
-use Rattle.pz_cursor.proofs.Reading.{Took, Sound, ok_took, done}
-use Rattle.pz_cursor.proofs.Joined.{joined, joined_sound, Filled}
+use Rattle.pz_cursor.proofs.Reading.{Took, Sound, ok_took}
+use Rattle.pz_cursor.proofs.Joined.{joined_sound, Filled}
 use Rattle.pz_cursor.proofs.Each.{each_sound}
 use Rattle.pz_cursor.proofs.Optional.{or_none_sound}
 use Rattle.pz_cursor.proofs.Named.{word_sound}
 use Rattle.pz_values.specs.declared.rule.Rule.{Rule}
 use Rattle.pz_values.specs.declared.rule.Rule.TheVariants as rule
-use Rattle.pz_values.specs.Rules.{rank, operator}
-use Rattle.pz_values.specs.Values.{expr, below, by_rule, assignment, returned, named, expression, expression_by, constant, named_variable, self_word, time_word, created, test, otherwise, otherwise_by, exprs_before, enclosed, grouped, conditional, repetition, primary, primary_by, arguments, arguments_by, one_sending, all_sendings, sent, sent_to, signed, operand, operand_by, chain_of, products, sums, comparisons, conjunctions, values}
+use Rattle.pz_values.specs.Rules.{rank}
+use Rattle.pz_values.specs.Values.{expr, below, by_rule, assignment, returned, named, expression, expression_by, created, test, otherwise, otherwise_by, exprs_before, enclosed, grouped, conditional, repetition, primary, primary_by, arguments, arguments_by, one_sending, all_sendings, sent, sent_to, signed, operand, operand_by, products, sums, comparisons, conjunctions, values}
 use Rattle.pz_values.proofs.Texts.{Fits, texts_are, are, nested, body, body_nested}
 use Rattle.pz_values.proofs.Linked.{chain_sound}
 
@@ -96,15 +94,15 @@ module _ (depth : ℕ) where
           meets = (body depth b.0.0 ts.meets, omega arith, omega (arith, body_nested depth b.0.0 ts.meets));
         })
 
-    test_sound : (x : Next) (w : Keyword) → token_of x ≡ Some (kind.Key w) → Sound (λ t. text t ++ keyword w ∷ []) (test inner x) (Fits depth 1)
+    pub test_sound : (x : Next) (w : TokenKind) → token_of x ≡ Some w → Sound (λ t. text t ++ mark w ∷ []) (test inner x) (Fits depth 1)
     unfolding test
     test_sound x w shows = record {
       reads = λ i y e.
           let a = bind_ok (inner rule.Value i) _ y e in
           let t = (inner_sound rule.Value).reads i a.0 a.1 in
           let b = bind_ok (expect x a.0.1) _ y a.2 in
-          let last = expected x (kind.Key w) a.0.1 b.0 shows b.1 in
-          ok_took (a.0.0, b.0.1) y b.2 (record { parts = t.parts ∙ ap (λ r. text a.0.0 ++ r) last ∙ sym (append_assoc (text a.0.0) (keyword w ∷ []) (marks b.0.1)); meets = t.meets });
+          let last = expected x w a.0.1 b.0 shows b.1 in
+          ok_took (a.0.0, b.0.1) y b.2 (record { parts = t.parts ∙ ap (λ r. text a.0.0 ++ r) last ∙ sym (append_assoc (text a.0.0) (mark w ∷ []) (marks b.0.1)); meets = t.meets });
     }
 
     abbrev OtherFits : Part Id Id → Type 0
@@ -130,7 +128,7 @@ module _ (depth : ℕ) where
         let a = bind_ok (deepen depth i) _ y e in
         let d = opened depth (kind.Key k.If) i a.0 (ap token_of h) a.1 in
         let b = bind_ok (test inner n.Then a.0.1) _ y a.2 in
-        let t = (test_sound n.Then k.Then refl).reads a.0.1 b.0 b.1 in
+        let t = (test_sound n.Then (kind.Key k.Then) refl).reads a.0.1 b.0 b.1 in
         let f = bind_ok (list_of (inner rule.Expression) n.Semicolon b.0.1) _ y b.2 in
         let ts = (exprs_sound n.Semicolon s.Semicolon refl).reads b.0.1 f.0 f.1 in
         let o = bind_ok (otherwise inner f.0.1) _ y f.2 in
@@ -153,7 +151,7 @@ module _ (depth : ℕ) where
         let a = bind_ok (deepen depth i) _ y e in
         let d = opened depth (kind.Key k.While) i a.0 (ap token_of h) a.1 in
         let b = bind_ok (test inner n.Do a.0.1) _ y a.2 in
-        let t = (test_sound n.Do k.Do refl).reads a.0.1 b.0 b.1 in
+        let t = (test_sound n.Do (kind.Key k.Do) refl).reads a.0.1 b.0 b.1 in
         let f = bind_ok (list_of (inner rule.Expression) n.Semicolon b.0.1) _ y b.2 in
         let ts = (exprs_sound n.Semicolon s.Semicolon refl).reads b.0.1 f.0 f.1 in
         let l = bind_ok (expect n.Od f.0.1) _ y f.2 in

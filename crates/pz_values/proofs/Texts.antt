@@ -1,17 +1,14 @@
 -- How the text of an expression begins, and lists of expressions as lists.
-use Rattle.std.proofs.Common.{◌≡◌, ◌≢◌, ℕ, zero, suc, ◌+◌, ◌≤◌, ◌<◌, Bool, true, false, not, List, [], ◌∷◌, ◌++◌, length, refl, ap, sym, ◌∙◌, subst, arith}
-use Rattle.std.specs.Prelude.{⊤, max}
+use Rattle.std.proofs.Common.{◌≡◌, ℕ, suc, ◌+◌, ◌≤◌, ◌<◌, Bool, true, false, List, [], ◌∷◌, ◌++◌, length, refl, ap, sym, ◌∙◌, arith}
 use Rattle.pz_ast.specs.declared.tokens.Pos.{Pos}
 use Rattle.pz_ast.specs.declared.tokens.Symbol.{Symbol}
 use Rattle.pz_ast.specs.declared.tokens.Symbol.TheVariants as s
 use Rattle.pz_ast.specs.declared.tokens.TokenKind.TheVariants as kind
-use Rattle.pz_ast.specs.declared.tokens.Mark.{Mark}
-use Rattle.pz_ast.specs.declared.tokens.Token.{Token}
 use Rattle.pz_ast.specs.declared.names.Id.{Id}
 use Rattle.pz_ast.specs.declared.exprs.Literal.{Literal}
 use Rattle.pz_ast.specs.declared.exprs.Literal.TheVariants as lit
 use Rattle.pz_ast.specs.Marks.{mark, symbol}
-use Rattle.pz_ast.specs.Expressions.{Expression, literal, variable, me, clock, creation, group, chain, sends, unary, assign, returned, choice, loop, Expressions, none, more, Part, left_out, written, Links, no_links, link, Sendings, no_sendings, sending}
+use Rattle.pz_ast.specs.Expressions.{literal, variable, me, clock, creation, group, chain, sends, unary, assign, returned, choice, loop, Expressions, none, more, no_links, link, no_sendings, sending}
 use Rattle.pz_ast.specs.ExpressionView.{Tree, list_of}
 use Rattle.pz_ast.specs.ExpressionText.{text, texts, tail_texts, links_text, sendings_text, literal_kind}
 use Rattle.pz_ast.specs.ExpressionForm.{IsExpression, AreExpressions, IsBody, IsSign, level}
@@ -21,7 +18,7 @@ use Rattle.pz_cursor.specs.declared.ahead.Next.{Next}
 use Rattle.pz_cursor.specs.declared.ahead.Next.TheVariants as n
 use Rattle.pz_cursor.specs.LookAhead.{next}
 use Rattle.pz_cursor.specs.Input.{Tokens, position, literal as literal_at}
-use Rattle.pz_cursor.specs.Places.{located, Placing, place_tail as place_behind, place_separated}
+use Rattle.pz_cursor.specs.Places.{located, place_tail as place_behind, place_separated}
 use Rattle.pz_cursor.proofs.Reading.{split_located}
 use Rattle.pz_cursor.proofs.Joined.{joined, tails, Filled}
 use Rattle.pz_values.specs.ExpressionPlaces.{place, place_all, place_tail}

@@ -1,6 +1,5 @@
 -- Expressions with the positions of the tokens of their texts.
-use Rattle.std.specs.Prelude.{ℕ, suc, ◌+◌, length}
-use Rattle.pz_ast.specs.declared.tokens.Pos.{Pos}
+use Rattle.std.specs.Prelude.{suc, ◌+◌, length}
 use Rattle.pz_ast.specs.declared.tokens.Symbol.TheVariants as s
 use Rattle.pz_ast.specs.declared.names.Id.{Id}
 use Rattle.pz_ast.specs.Expressions.{Expression, literal, variable, me, clock, creation, group, chain, sends, unary, assign, returned, choice, loop, Expressions, none, more, Part, left_out, written, Links, no_links, link, Sendings, no_sendings, sending}

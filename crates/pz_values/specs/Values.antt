@@ -1,5 +1,5 @@
 -- The rules of expressions, as devices of the proofs, over the rules one construct further in.
-use Rattle.std.specs.Prelude.{ℕ, zero, suc, Bool, true, false, not, if◌then◌else◌, List, [], ◌∷◌, Option, Some, None, Ok, Err}
+use Rattle.std.specs.Prelude.{ℕ, zero, suc, not, if◌then◌else◌, List, [], ◌∷◌, Option, Some, None}
 use Rattle.pz_ast.specs.declared.tokens.Pos.{Pos}
 use Rattle.pz_ast.specs.declared.tokens.Symbol.{Symbol}
 use Rattle.pz_ast.specs.declared.tokens.Symbol.TheVariants as s
@@ -8,9 +8,8 @@ use Rattle.pz_ast.specs.Expressions.{literal, variable, me, clock, creation, gro
 use Rattle.pz_ast.specs.ExpressionView.{Tree, list_of as expressions, LinkTree, links_of, SendingTree, sendings_of}
 use Rattle.pz_cursor.specs.declared.ahead.Next.{Next}
 use Rattle.pz_cursor.specs.declared.ahead.Next.TheVariants as n
-use Rattle.pz_cursor.specs.LookAhead.{next}
-use Rattle.pz_cursor.specs.Input.{Tokens, position, identifier, after, sees, selects}
-use Rattle.pz_cursor.specs.Device.{Parser, Outcome, ◌>>=◌, ◌>>◌, ◌<$>◌, pure, refuse, peek, ask, skip, take_id, take_literal, expect, expect_id, deepen, or_none}
+use Rattle.pz_cursor.specs.Input.{position, after, sees, selects}
+use Rattle.pz_cursor.specs.Device.{Parser, ◌>>=◌, ◌>>◌, ◌<$>◌, pure, refuse, peek, ask, skip, take_id, take_literal, expect, expect_id, deepen, or_none}
 use Rattle.pz_cursor.specs.Lists.{turns, list_of, each_of}
 use Rattle.pz_values.specs.declared.rule.Rule.{Rule}
 use Rattle.pz_values.specs.declared.rule.Rule.TheVariants as rule

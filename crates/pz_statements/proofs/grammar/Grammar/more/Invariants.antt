@@ -1,0 +1,9 @@
+use Rattle.std.proofs.Common.{◌≡◌, ◌-◌, map}
+use Rattle.pz_ast.specs.StatementView.{view}
+use Rattle.pz_cursor.specs.declared.ahead.Next.TheVariants as n
+use Rattle.pz_cursor.specs.Lists.{more_of, tail_of, with_front}
+use Rattle.pz_statements.specs.Statements.{below_stmt}
+use Rattle.pz_statements.proofs.grammar.Grammar.more.Given as goal
+
+abbrev pub invariant-loop-turn : goal.invariant-loop-turn
+invariant-loop-turn g l = more_of (below_stmt l.self.depth) n.Semicolon (map view l.fn.found) l.fn.cursor ≡ with_front (map view l.found) (tail_of (below_stmt l.self.depth) n.Semicolon (l._turn-end - l._turn) l.cursor)

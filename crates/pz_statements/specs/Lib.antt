@@ -1,0 +1,5 @@
+pub mod Messages
+pub mod Statements
+pub mod Views
+pub mod Nests
+pub mod StatementPlaces

@@ -1,0 +1,135 @@
+//! Brackets, guards, `if`, `while`, `abort` and `interrupt`.
+
+ghost use Rattle.std.specs.Prelude.{◌≡◌, map};
+ghost use Rattle.pz_ast.specs.ExpressionView as expression;
+ghost use Rattle.pz_ast.specs.StatementView.{view, sequence_view};
+ghost use Rattle.pz_cursor.specs.Device.{Reads};
+ghost use Rattle.pz_statements.specs.Views.{otherwise_view, handled_view};
+ghost use Rattle.pz_values.specs.Values as values;
+ghost use Rattle.pz_values.specs.Values.{below};
+ghost use Rattle.pz_statements.specs.Statements as spec;
+ghost use Rattle.pz_statements.specs.Statements.{below_stmt};
+ghost use Rattle.pz_statements.specs.Nests.{Nests};
+
+use crate::grammar::Grammar;
+use crate::single::inner_value;
+use pz_ast::{Expr, Stmt, StmtForm};
+use pz_cursor::{Cursor, Next, Refusal};
+use pz_items::{Boxed, Items};
+use std::alloc::Global;
+
+impl<F: Fn(Global, &mut Cursor<'_>, usize) -> Result<Stmt, Refusal>> Grammar<F> {
+    #[tactic(auto, unfolding(crate::specs::Statements::bracketed))]
+    pub fn bracketed(&self, cursor: &mut Cursor<'_>) -> Result<Stmt, Refusal>
+        requires parts { Nests self.now.depth (F.pre self.now.stmt) (F.post self.now.stmt) }
+        ensures reads { Reads view (spec.bracketed self.now.depth (below_stmt self.now.depth) cursor.old) result cursor.new }
+    {
+        let pos = cursor.pos();
+        cursor.deepen(self.depth)?;
+        let body = self.sequence(cursor)?;
+        cursor.expect(Next::RightParen)?;
+        let form = StmtForm::Group(body);
+        Ok(Stmt { pos, form })
+    }
+
+    #[tactic(auto, unfolding(crate::specs::Statements::guarded))]
+    pub fn guarded(&self, cursor: &mut Cursor<'_>) -> Result<Stmt, Refusal>
+        requires parts { Nests self.now.depth (F.pre self.now.stmt) (F.post self.now.stmt) }
+        ensures reads { Reads view (spec.guarded self.now.depth (below_stmt self.now.depth) cursor.old) result cursor.new }
+    {
+        let pos = cursor.pos();
+        cursor.deepen(self.depth)?;
+        let guard = self.test(cursor, Next::RightBracket)?;
+        let stmt = Boxed::new(self.alloc, self.inner(cursor)?)?;
+        let form = StmtForm::Guard(guard, stmt);
+        Ok(Stmt { pos, form })
+    }
+
+    #[tactic(auto, unfolding(crate::specs::Statements::conditional))]
+    pub fn conditional(&self, cursor: &mut Cursor<'_>) -> Result<Stmt, Refusal>
+        requires parts { Nests self.now.depth (F.pre self.now.stmt) (F.post self.now.stmt) }
+        ensures reads { Reads view (spec.conditional self.now.depth (below_stmt self.now.depth) cursor.old) result cursor.new }
+    {
+        let pos = cursor.pos();
+        cursor.deepen(self.depth)?;
+        let test = self.test(cursor, Next::Then)?;
+        let body = self.sequence(cursor)?;
+        let other = self.otherwise(cursor)?;
+        cursor.expect(Next::Fi)?;
+        let form = StmtForm::If(test, body, other);
+        Ok(Stmt { pos, form })
+    }
+
+    #[tactic(auto, unfolding(crate::specs::Statements::otherwise))]
+    fn otherwise(&self, cursor: &mut Cursor<'_>) -> Result<Option<Items<Stmt>>, Refusal>
+        requires parts { Nests self.now.depth (F.pre self.now.stmt) (F.post self.now.stmt) }
+        ensures reads { Reads otherwise_view (spec.otherwise self.now.depth (below_stmt self.now.depth) cursor.old) result cursor.new }
+    {
+        match cursor.peek() {
+            Next::Else => {
+                cursor.skip();
+                Ok(Some(self.sequence(cursor)?))
+            }
+            _ => Ok(None),
+        }
+    }
+
+    #[tactic(auto, unfolding(crate::specs::Statements::repeated))]
+    pub fn repeated(&self, cursor: &mut Cursor<'_>) -> Result<Stmt, Refusal>
+        requires parts { Nests self.now.depth (F.pre self.now.stmt) (F.post self.now.stmt) }
+        ensures reads { Reads view (spec.repeated self.now.depth (below_stmt self.now.depth) cursor.old) result cursor.new }
+    {
+        let pos = cursor.pos();
+        cursor.deepen(self.depth)?;
+        let test = self.test(cursor, Next::Do)?;
+        let body = self.sequence(cursor)?;
+        cursor.expect(Next::Od)?;
+        let form = StmtForm::While(test, body);
+        Ok(Stmt { pos, form })
+    }
+
+    #[tactic(auto, unfolding(crate::specs::Statements::aborted))]
+    pub fn aborted(&self, cursor: &mut Cursor<'_>) -> Result<Stmt, Refusal>
+        requires parts { Nests self.now.depth (F.pre self.now.stmt) (F.post self.now.stmt) }
+        ensures reads { Reads view (spec.aborted self.now.depth (below_stmt self.now.depth) cursor.old) result cursor.new }
+    {
+        let pos = cursor.pos();
+        let (body, handler) = self.handled(cursor)?;
+        let form = StmtForm::Abort(body, handler);
+        Ok(Stmt { pos, form })
+    }
+
+    #[tactic(auto, unfolding(crate::specs::Statements::interrupted))]
+    pub fn interrupted(&self, cursor: &mut Cursor<'_>) -> Result<Stmt, Refusal>
+        requires parts { Nests self.now.depth (F.pre self.now.stmt) (F.post self.now.stmt) }
+        ensures reads { Reads view (spec.interrupted self.now.depth (below_stmt self.now.depth) cursor.old) result cursor.new }
+    {
+        let pos = cursor.pos();
+        let (body, handler) = self.handled(cursor)?;
+        let form = StmtForm::Interrupt(body, handler);
+        Ok(Stmt { pos, form })
+    }
+
+    /// A body, and the statement behind `with`.
+    #[tactic(auto, unfolding(crate::specs::Statements::handled))]
+    fn handled(&self, cursor: &mut Cursor<'_>) -> Result<(Items<Stmt>, Boxed<Stmt>), Refusal>
+        requires parts { Nests self.now.depth (F.pre self.now.stmt) (F.post self.now.stmt) }
+        ensures reads { Reads handled_view (spec.handled self.now.depth (below_stmt self.now.depth) cursor.old) result cursor.new }
+    {
+        cursor.deepen(self.depth)?;
+        let body = self.sequence(cursor)?;
+        cursor.expect(Next::With)?;
+        let handler = Boxed::new(self.alloc, self.inner(cursor)?)?;
+        Ok((body, handler))
+    }
+
+    /// A value one construct further in, and this token behind it.
+    #[tactic(auto, unfolding(pz_values::specs::Values::test))]
+    fn test(&self, cursor: &mut Cursor<'_>, close: Next) -> Result<Expr, Refusal>
+        ensures reads { Reads expression.view (values.test (below self.now.depth) close cursor.old) result cursor.new }
+    {
+        let test = inner_value(self.alloc, cursor, self.depth)?;
+        cursor.expect(close)?;
+        Ok(test)
+    }
+}

@@ -1,0 +1,91 @@
+//! Statements in which no other statement stands.
+
+ghost use Rattle.std.specs.Prelude.{◌≡◌, Ok};
+ghost use Rattle.pz_ast.specs.ExpressionView as expression;
+ghost use Rattle.pz_ast.specs.StatementView.{view};
+ghost use Rattle.pz_cursor.specs.Device.{Reads};
+ghost use Rattle.pz_values.specs.declared.rule.Rule.TheVariants as rule;
+ghost use Rattle.pz_values.specs.Values.{below};
+ghost use Rattle.pz_statements.specs.Statements as spec;
+
+use crate::messages::{receive, send};
+use pz_ast::{Expr, Stmt, StmtForm};
+use pz_cursor::{Cursor, Next, Refusal};
+use pz_values::value;
+use std::alloc::Global;
+
+pub fn skip(cursor: &mut Cursor<'_>) -> Stmt
+    ensures { spec.skipped cursor.old ≡ Ok (view result, cursor.new) }
+{
+    let pos = cursor.pos();
+    cursor.skip();
+    let form = StmtForm::Skip;
+    Stmt { pos, form }
+}
+
+#[tactic(auto, unfolding(crate::specs::Statements::delayed))]
+pub fn delay(alloc: Global, cursor: &mut Cursor<'_>, depth: usize) -> Result<Stmt, Refusal>
+    ensures reads { Reads view (spec.delayed depth cursor.old) result cursor.new }
+{
+    let pos = cursor.pos();
+    cursor.skip();
+    let form = StmtForm::Delay(value(alloc, cursor, depth)?);
+    Ok(Stmt { pos, form })
+}
+
+/// A `{` stands next.
+#[tactic(auto, unfolding(crate::specs::Statements::block))]
+pub fn block(alloc: Global, cursor: &mut Cursor<'_>, depth: usize) -> Result<Stmt, Refusal>
+    ensures reads { Reads view (spec.block depth cursor.old) result cursor.new }
+{
+    let pos = cursor.pos();
+    let form = StmtForm::Block(pz_values::block(alloc, cursor, depth)?);
+    Ok(Stmt { pos, form })
+}
+
+/// What begins with an identifier: the token behind it tells what it is.
+#[tactic(auto, unfolding(crate::specs::Statements::worded))]
+pub fn worded(alloc: Global, cursor: &mut Cursor<'_>, depth: usize) -> Result<Stmt, Refusal>
+    ensures reads { Reads view (spec.worded depth cursor.old) result cursor.new }
+{
+    if cursor.sees_second(Next::Bang) {
+        send(alloc, cursor, depth)
+    } else if cursor.sees_second(Next::Query) {
+        receive(alloc, cursor, depth)
+    } else if cursor.sees_second(Next::Assign) {
+        assign(alloc, cursor, depth)
+    } else {
+        valued(alloc, cursor, depth)
+    }
+}
+
+#[tactic(auto, unfolding(crate::specs::Statements::assigned))]
+fn assign(alloc: Global, cursor: &mut Cursor<'_>, depth: usize) -> Result<Stmt, Refusal>
+    ensures reads { Reads view (spec.assigned depth cursor.old) result cursor.new }
+{
+    let pos = cursor.pos();
+    let name = cursor.take_id(alloc)?;
+    cursor.skip();
+    let form = StmtForm::Assign(name, value(alloc, cursor, depth)?);
+    Ok(Stmt { pos, form })
+}
+
+/// A value that is a statement.
+#[tactic(auto, unfolding(crate::specs::Statements::valued))]
+pub fn valued(alloc: Global, cursor: &mut Cursor<'_>, depth: usize) -> Result<Stmt, Refusal>
+    ensures reads { Reads view (spec.valued depth cursor.old) result cursor.new }
+{
+    let pos = cursor.pos();
+    let form = StmtForm::Value(value(alloc, cursor, depth)?);
+    Ok(Stmt { pos, form })
+}
+
+/// A value one construct further in.
+pub fn inner_value(alloc: Global, cursor: &mut Cursor<'_>, depth: usize) -> Result<Expr, Refusal>
+    ensures reads { Reads expression.view (below depth rule.Value cursor.old) result cursor.new }
+{
+    if depth == 0 {
+        return Err(cursor.refuse());
+    }
+    value(alloc, cursor, depth - 1)
+}
