@@ -33,7 +33,7 @@ use Rattle.pz_cursor.proofs.Reading.{Complete, split_located}
 use Rattle.pz_cursor.proofs.Joined.{joined_is, joined_complete, Filled, token}
 use Rattle.pz_cursor.proofs.Each.{each_complete}
 use Rattle.pz_cursor.proofs.Optional.{optional_complete, or_none_complete}
-use Rattle.pz_cursor.proofs.Named.{Any, Whatever, every, nonempty, comma_is, comma_seen, word_complete, optional_formal_complete}
+use Rattle.pz_cursor.proofs.Named.{Any, Whatever, every, if_written, nonempty, comma_is, comma_seen, word_complete, optional_formal_complete}
 use Rattle.pz_cursor.proofs.Sections.{section_complete, ports_complete}
 use Rattle.pz_cursor.proofs.Orders.{Behind, Ends, behind_not, section_behind}
 use Rattle.pz_clusters.specs.Clusters as spec
@@ -93,10 +93,6 @@ bracketed_complete = record {
 bracketed_begin : (at : ℕ → Pos) (m : ℕ) (ts : List Given) (j : Tokens) → Any ts → sees n.LeftParen (located at m (givens_text ts) ++ j) ≡ true
 unfolding sees same next
 bracketed_begin at m ts j p = refl
-
-if_written : {A : Type 0} (o : Option A) → IfWritten Any o
-if_written None = tt
-if_written (Some x) = tt
 
 optional_givens_complete : Complete (optional_text givens_text) (place_optional place_givens) spec.optional_givens Any (λ x. x ≢ n.LeftParen)
 unfolding spec.optional_givens

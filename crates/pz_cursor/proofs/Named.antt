@@ -1,5 +1,5 @@
 -- The rules for names, variables and formal parameters.
-use Rattle.std.proofs.Common.{◌≡◌, ◌≢◌, ℕ, zero, suc, ◌+◌, ◌<◌, true, false, List, [], ◌∷◌, ◌++◌, length, Ok, refl, ap, sym, ◌∙◌, arith, append_assoc, length-append}
+use Rattle.std.proofs.Common.{◌≡◌, ◌≢◌, ℕ, zero, suc, ◌+◌, ◌<◌, true, false, List, [], ◌∷◌, ◌++◌, length, Option, Some, None, Ok, refl, ap, sym, ◌∙◌, arith, append_assoc, length-append}
 use Rattle.std.specs.Prelude.{⊤}
 use Rattle.pz_ast.specs.declared.tokens.Pos.{Pos}
 use Rattle.pz_ast.specs.declared.tokens.Symbol.TheVariants as s
@@ -47,6 +47,11 @@ word_complete = record { gives = λ at k t j p h. refl }
 pub every : {A : Type 0} (xs : List A) → Each Any xs
 every [] = tt
 every (x ∷ xs) = (tt, every xs)
+
+-- what may be left out, without a condition
+pub if_written : {A : Type 0} (o : Option A) → IfWritten Any o
+if_written None = tt
+if_written (Some x) = tt
 
 pub filled : {A : Type 0} (xs : List A) → Filled Any xs → IsNonempty xs
 filled [] p = p

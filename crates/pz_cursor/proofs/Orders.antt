@@ -1,5 +1,5 @@
 -- In what order the parts of a declaration stand.
-use Rattle.std.proofs.Common.{◌≡◌, ◌≢◌, ℕ, suc, ◌≤◌, ◌<◌, List, ◌∷◌, ◌++◌, Option, Some, None, sym, ap, arith}
+use Rattle.std.proofs.Common.{◌≡◌, ◌≢◌, ℕ, suc, ◌+◌, ◌≤◌, ◌<◌, List, ◌∷◌, ◌++◌, length, Option, Some, None, sym, ap, subst, arith}
 use Rattle.pz_ast.specs.declared.tokens.Pos.{Pos}
 use Rattle.pz_ast.specs.declared.tokens.Keyword.{Keyword}
 use Rattle.pz_ast.specs.declared.tokens.TokenKind.TheVariants as kind
@@ -10,6 +10,7 @@ use Rattle.pz_cursor.specs.declared.ahead.Next.TheVariants as n
 use Rattle.pz_cursor.specs.LookAhead.{next}
 use Rattle.pz_cursor.specs.Input.{Tokens}
 use Rattle.pz_cursor.specs.Places.{located}
+use Rattle.pz_cursor.proofs.Reading.{split_located}
 use Rattle.pz_cursor.proofs.Joined.{token}
 
 -- The place of the part that begins so. The end and the next declaration come last, and what begins
@@ -47,3 +48,8 @@ pub section_behind : {A : Type 0} (m : ℕ) (word : Next) (key : Keyword) (text 
     → (at : ℕ → Pos) (k : ℕ) (o : Option A) (j : Tokens) → Behind m (next j) → Behind m (next (located at k (section_text key text o) ++ j))
 section_behind m word key text shown lt at k None j h = h
 section_behind m word key text shown lt at k (Some x) j h = let e : order (next (located at k (section_text key text (Some x)) ++ j)) ≡ order word = ap order (shown (at k) (located at (suc k) (text x) ++ j)) in omega (arith, lt, e)
+
+-- the same where more parts follow
+pub sections_behind : {A : Type 0} (m : ℕ) (word : Next) (key : Keyword) (text : A → List Mark) → ((p : Pos) (i : Tokens) → next (token (kind.Key key) p ∷ i) ≡ word) → m < order word
+    → (at : ℕ → Pos) (k : ℕ) (o : Option A) (rest : List Mark) (j : Tokens) → Behind m (next (located at (k + length (section_text key text o)) rest ++ j)) → Behind m (next (located at k (section_text key text o ++ rest) ++ j))
+sections_behind m word key text shown lt at k o rest j h = subst (λ i. Behind m (next i)) (sym (split_located at k (section_text key text o) rest j)) (section_behind m word key text shown lt at k o (located at (k + length (section_text key text o)) rest ++ j) h)
