@@ -1,1 +1,10 @@
 pub mod Loops
+pub mod Lists
+pub mod Beginnings
+pub mod Ends
+pub mod MessageReadings
+pub mod Readings
+pub mod MessagesGiven
+pub mod Completeness
+pub mod Budgets
+pub mod Erasing

@@ -3,12 +3,12 @@ use Rattle.std.proofs.Common.{◌≡◌, ℕ, zero, suc, ◌<◌, Bool, true, fa
 use Rattle.pz_ast.specs.declared.tokens.Pos.{Pos}
 use Rattle.pz_ast.specs.declared.tokens.Symbol.{Symbol}
 use Rattle.pz_ast.specs.declared.tokens.Symbol.TheVariants as s
-use Rattle.pz_ast.specs.declared.tokens.Keyword.{Keyword}
+use Rattle.pz_ast.specs.declared.tokens.TokenKind.{TokenKind}
 use Rattle.pz_ast.specs.declared.tokens.Keyword.TheVariants as k
 use Rattle.pz_ast.specs.declared.tokens.TokenKind.TheVariants as kind
 use Rattle.pz_ast.specs.declared.tokens.Mark.{Mark}
 use Rattle.pz_ast.specs.declared.names.Id.{Id}
-use Rattle.pz_ast.specs.Marks.{symbol, keyword, word, selector, each_text}
+use Rattle.pz_ast.specs.Marks.{mark, symbol, keyword, word, selector, each_text}
 use Rattle.pz_ast.specs.Expressions.{literal, variable, me, clock, creation, group, unary, assign, returned as return_of, choice, loop, Expressions, Part, left_out, written}
 use Rattle.pz_ast.specs.ExpressionView.{Tree, list_of as expressions, SendingTree, sendings_of}
 use Rattle.pz_ast.specs.ExpressionText.{text, texts, otherwise_text, sendings_text, arguments_text}
