@@ -1,5 +1,5 @@
 -- The sections of classes that hold no statements, as devices of the proofs.
-use Rattle.std.specs.Prelude.{ℕ, Bool, true, false, if◌then◌else◌, List, Option, Some, None, Ok}
+use Rattle.std.specs.Prelude.{ℕ, Bool, true, false, List, Option}
 use Rattle.pz_ast.specs.declared.names.Id.{Id}
 use Rattle.pz_ast.specs.declared.classes.VarGroup.{VarGroup}
 use Rattle.pz_ast.specs.declared.classes.Message.{Message}

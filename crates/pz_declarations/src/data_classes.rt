@@ -2,8 +2,7 @@
 
 ghost use Rattle.std.specs.Prelude.{◌≡◌, ◌<◌, ◌-◌, ◌^◌, map, option_map};
 ghost use Rattle.pz_ast.specs.ClassView.{data_class_view, data_method_view};
-ghost use Rattle.pz_cursor.specs.Device.{Reads, behind};
-ghost use Rattle.pz_cursor.specs.declared.ahead.Next.TheVariants as n;
+ghost use Rattle.pz_cursor.specs.Device.{Reads};
 ghost use Rattle.pz_declarations.specs.DataClasses as spec;
 
 use crate::sections::{parent_section, variables_section};
@@ -37,7 +36,7 @@ pub fn data_class(
     })
 }
 
-#[tactic(auto, unfolding(crate::specs::DataClasses::data_methods_section))]
+#[tactic(auto, unfolding(crate::specs::DataClasses::data_methods_section, pz_cursor::specs::Device::expect, pz_cursor::specs::Device::past))]
 fn methods_section(
     alloc: Global,
     cursor: &mut Cursor<'_>,
@@ -46,23 +45,10 @@ fn methods_section(
     requires room { depth < 2 ^ 64 - 1 }
     ensures { Reads (option_map (map data_method_view)) (spec.data_methods_section depth cursor.old) result cursor.new }
 {
-    if cursor.sees(Next::Methods) {
-        Ok(Some(methods_behind(alloc, cursor, depth)?))
-    } else {
-        Ok(None)
+    if !cursor.eat(Next::Methods) {
+        return Ok(None);
     }
-}
-
-fn methods_behind(
-    alloc: Global,
-    cursor: &mut Cursor<'_>,
-    depth: usize,
-) -> Result<Items<DataMethod>, Refusal>
-    requires room { depth < 2 ^ 64 - 1 }
-    ensures { Reads (map data_method_view) (behind n.Methods (spec.data_methods depth) cursor.old) result cursor.new }
-{
-    cursor.expect(Next::Methods)?;
-    data_methods(alloc, cursor, depth)
+    Ok(Some(data_methods(alloc, cursor, depth)?))
 }
 
 /// Methods, as long as a name of one stands next.
@@ -87,11 +73,7 @@ fn data_methods(
 
 /// A method from its name on, which stands next.
 #[tactic(auto, unfolding(crate::specs::DataClasses::data_method))]
-fn data_method(
-    alloc: Global,
-    cursor: &mut Cursor<'_>,
-    depth: usize,
-) -> Result<DataMethod, Refusal>
+fn data_method(alloc: Global, cursor: &mut Cursor<'_>, depth: usize) -> Result<DataMethod, Refusal>
     requires room { depth < 2 ^ 64 - 1 }
     ensures { Reads data_method_view (spec.data_method depth cursor.old) result cursor.new }
 {

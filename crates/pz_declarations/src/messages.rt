@@ -1,7 +1,7 @@
 //! The messages that a process class declares.
 
 ghost use Rattle.std.specs.Prelude.{◌≡◌};
-ghost use Rattle.pz_cursor.specs.Device.{Reads, behind};
+ghost use Rattle.pz_cursor.specs.Device.{Reads};
 ghost use Rattle.pz_cursor.specs.Lists as lists;
 ghost use Rattle.pz_cursor.specs.declared.ahead.Next.TheVariants as n;
 ghost use Rattle.pz_declarations.specs.Sections as spec;
@@ -12,25 +12,17 @@ use pz_items::Items;
 use std::alloc::Global;
 
 /// The messages of a process class, none or more, if `messages` stands next.
-#[tactic(auto, unfolding(crate::specs::Sections::messages_section))]
+#[tactic(auto, unfolding(crate::specs::Sections::messages_section, pz_cursor::specs::Device::expect, pz_cursor::specs::Device::past))]
 pub fn messages_section(
     alloc: Global,
     cursor: &mut Cursor<'_>,
 ) -> Result<Option<Items<Message>>, Refusal>
     ensures reads { Reads (λ x. x) (spec.messages_section cursor.old) result cursor.new }
 {
-    if cursor.sees(Next::Messages) {
-        Ok(Some(messages_behind(alloc, cursor)?))
-    } else {
-        Ok(None)
+    if !cursor.eat(Next::Messages) {
+        return Ok(None);
     }
-}
-
-fn messages_behind(alloc: Global, cursor: &mut Cursor<'_>) -> Result<Items<Message>, Refusal>
-    ensures { Reads (λ x. x) (behind n.Messages spec.optional_messages cursor.old) result cursor.new }
-{
-    cursor.expect(Next::Messages)?;
-    optional_messages(alloc, cursor)
+    Ok(Some(optional_messages(alloc, cursor)?))
 }
 
 #[tactic(auto, unfolding(crate::specs::Sections::optional_messages))]
@@ -107,10 +99,7 @@ fn direction(cursor: &mut Cursor<'_>) -> Result<bool, Refusal>
 }
 
 #[tactic(auto, unfolding(crate::specs::Sections::optional_types))]
-fn optional_types(
-    alloc: Global,
-    cursor: &mut Cursor<'_>,
-) -> Result<Option<Items<Id>>, Refusal>
+fn optional_types(alloc: Global, cursor: &mut Cursor<'_>) -> Result<Option<Items<Id>>, Refusal>
     ensures { Reads (λ x. x) (spec.optional_types cursor.old) result cursor.new }
 {
     if cursor.sees(Next::LeftParen) {

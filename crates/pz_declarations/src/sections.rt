@@ -3,9 +3,7 @@
 ghost use Rattle.std.specs.Prelude.{◌≡◌, ◌<◌, ◌-◌, ◌^◌, map, option_map};
 ghost use Rattle.pz_ast.specs.ExpressionView.{view};
 ghost use Rattle.pz_ast.specs.ClassView.{start_view};
-ghost use Rattle.pz_cursor.specs.Device.{Reads, behind};
-ghost use Rattle.pz_cursor.specs.Names as names;
-ghost use Rattle.pz_cursor.specs.declared.ahead.Next.TheVariants as n;
+ghost use Rattle.pz_cursor.specs.Device.{Reads};
 ghost use Rattle.pz_declarations.specs.Sections as spec;
 
 use pz_ast::{Expr, Id, Start, VarGroup};
@@ -26,30 +24,22 @@ pub fn parent_section(alloc: Global, cursor: &mut Cursor<'_>) -> Result<Option<I
 }
 
 /// The variables, none or more, if `variables` stands next.
-#[tactic(auto, unfolding(crate::specs::Sections::variables_section))]
+#[tactic(auto, unfolding(crate::specs::Sections::variables_section, pz_cursor::specs::Device::expect, pz_cursor::specs::Device::past))]
 pub fn variables_section(
     alloc: Global,
     cursor: &mut Cursor<'_>,
 ) -> Result<Option<Items<VarGroup>>, Refusal>
     ensures reads { Reads (λ x. x) (spec.variables_section cursor.old) result cursor.new }
 {
-    if cursor.sees(Next::Variables) {
-        Ok(Some(variables_behind(alloc, cursor)?))
-    } else {
-        Ok(None)
+    if !cursor.eat(Next::Variables) {
+        return Ok(None);
     }
-}
-
-fn variables_behind(alloc: Global, cursor: &mut Cursor<'_>) -> Result<Items<VarGroup>, Refusal>
-    ensures { Reads (λ x. x) (behind n.Variables names.optional_variables cursor.old) result cursor.new }
-{
-    cursor.expect(Next::Variables)?;
-    optional_variables(alloc, cursor)
+    Ok(Some(optional_variables(alloc, cursor)?))
 }
 
 /// The call with which a process starts, if `init` stands next. In its arguments at most `depth`
 /// constructs stand one in another; its brackets do not count.
-#[tactic(auto, unfolding(crate::specs::Sections::start_section))]
+#[tactic(auto, unfolding(crate::specs::Sections::start_section, pz_cursor::specs::Device::expect, pz_cursor::specs::Device::past))]
 pub fn start_section(
     alloc: Global,
     cursor: &mut Cursor<'_>,
@@ -58,23 +48,10 @@ pub fn start_section(
     requires room { depth < 2 ^ 64 - 1 }
     ensures reads { Reads (option_map start_view) (spec.start_section depth cursor.old) result cursor.new }
 {
-    if cursor.sees(Next::Init) {
-        Ok(Some(start_behind(alloc, cursor, depth)?))
-    } else {
-        Ok(None)
+    if !cursor.eat(Next::Init) {
+        return Ok(None);
     }
-}
-
-fn start_behind(
-    alloc: Global,
-    cursor: &mut Cursor<'_>,
-    depth: usize,
-) -> Result<Start, Refusal>
-    requires room { depth < 2 ^ 64 - 1 }
-    ensures { Reads start_view (behind n.Init (spec.start depth) cursor.old) result cursor.new }
-{
-    cursor.expect(Next::Init)?;
-    start(alloc, cursor, depth)
+    Ok(Some(start(alloc, cursor, depth)?))
 }
 
 #[tactic(auto, unfolding(crate::specs::Sections::start))]
@@ -93,11 +70,7 @@ fn start(alloc: Global, cursor: &mut Cursor<'_>, depth: usize) -> Result<Start, 
 
 /// Expressions with commas between them, or none where a `)` stands next.
 #[tactic(auto, unfolding(crate::specs::Sections::start_arguments, pz_values::specs::Values::exprs_before))]
-fn arguments(
-    alloc: Global,
-    cursor: &mut Cursor<'_>,
-    depth: usize,
-) -> Result<Items<Expr>, Refusal>
+fn arguments(alloc: Global, cursor: &mut Cursor<'_>, depth: usize) -> Result<Items<Expr>, Refusal>
     requires room { depth < 2 ^ 64 - 1 }
     ensures { Reads (map view) (spec.start_arguments depth cursor.old) result cursor.new }
 {

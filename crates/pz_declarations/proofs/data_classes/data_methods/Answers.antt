@@ -1,4 +1,4 @@
-use Rattle.std.proofs.Common.{◌≡◌, ℕ, suc, ◌+◌, ◌-◌, true, List, ◌∷◌, [], ◌++◌, map, Ok, refl, sym, ap, ◌∙◌, arith}
+use Rattle.std.proofs.Common.{◌≡◌, suc, ◌+◌, ◌-◌, true, map, ap, ◌∙◌, arith}
 use Rattle.pz_ast.specs.ClassView.{data_method_view}
 use Rattle.pz_cursor.specs.Input.{selects_head}
 use Rattle.pz_cursor.specs.Lists.{with_front, repeat}

@@ -1,4 +1,4 @@
-use Rattle.std.proofs.Common.{◌≡◌, ℕ, suc, ◌+◌, ◌-◌, true, List, ◌∷◌, [], ◌++◌, Ok, refl, sym, ap, ◌∙◌, arith}
+use Rattle.std.proofs.Common.{◌≡◌, suc, ◌+◌, ◌-◌, true, Ok, sym, ap, ◌∙◌, arith}
 use Rattle.pz_cursor.specs.declared.ahead.Next.TheVariants as n
 use Rattle.pz_cursor.specs.Input.{sees, after}
 use Rattle.pz_cursor.specs.Lists.{tail_of, with_front}
