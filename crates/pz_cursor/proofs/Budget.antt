@@ -1,5 +1,6 @@
--- A rule refuses as too nested only where as many tokens as its budget begin a construct.
-use Rattle.std.proofs.Common.{◌≡◌, ℕ, zero, suc, ◌≤◌, Bool, true, false, cond, List, [], ◌∷◌, ◌++◌, length, Some, None, Ok, Err, refl, ap, arith, inl, inr, ◌⊎◌}
+-- A rule refuses as too nested only at a token, and only where as many tokens as its budget begin a
+-- construct.
+use Rattle.std.proofs.Common.{◌≡◌, ℕ, zero, suc, ◌≤◌, ◌<◌, Bool, true, false, cond, List, [], ◌∷◌, ◌++◌, length, Some, None, Ok, Err, refl, ap, arith, inl, inr, ◌⊎◌}
 use Rattle.pz_ast.specs.declared.tokens.TokenKind.{TokenKind}
 use Rattle.pz_cursor.specs.declared.ahead.Next.{Next}
 use Rattle.pz_cursor.specs.declared.refusal.Refusal.TheVariants.{Syntax, TooNested}
@@ -17,7 +18,7 @@ nested e = Err (TooNested e)
 
 -- at these tokens
 pub record BudgetAt {A : Type 0} (bound : ℕ) (item : Parser A) (i : Tokens) : Type 0 where
-  pub fails : (e : ℕ) → item i ≡ nested e → bound ≤ openers (marks i)
+  pub fails : (e : ℕ) → item i ≡ nested e → (bound ≤ openers (marks i)) × (0 < e)
   pub shrinks : (y : A × Tokens) → item i ≡ Ok y → openers (marks y.1) ≤ openers (marks i)
 
 abbrev pub Budget : {A : Type 0} → ℕ → Parser A → Type 0
@@ -62,7 +63,7 @@ pub bind_at : {A B : Type 0} (bound : ℕ) (p : Parser A) (f : A → Parser B) (
 bind_at bound p f i b c = record {
   fails = λ e h. elim (bind_cases (p i) f e h) [
     | inl q ↦ b.fails e q
-    | inr q ↦ omega (arith, b.shrinks q.0 q.1, (c q.0.0 q.0.1).fails e q.2)
+    | inr q ↦ let r = (c q.0.0 q.0.1).fails e q.2 in (omega (arith, b.shrinks q.0 q.1, r.0), r.1)
   ];
   shrinks = λ y h. let q = bind_gives (p i) f y h in omega (arith, b.shrinks q.0 q.1, (c q.0.0 q.0.1).shrinks y q.2);
 }
@@ -82,18 +83,24 @@ pub expect_id_budget : (bound : ℕ) (x : Next) → Budget bound (expect_id x)
 unfolding expect_id
 expect_id_budget bound x i = let b = expect_by bound (sees x i) (identifier i, after i) i (after_le i) in record { fails = b.fails; shrinks = b.shrinks }
 
+-- a token stands next
+shown_some : (i : Tokens) (y : TokenKind) → token_of (next i) ≡ Some y → 0 < length i
+unfolding next
+shown_some [] y e = absurd cc
+shown_some (t ∷ ts) y e = omega arith
+
 -- where an opener stands next, one construct more may stand in the rest
 pub opened_at : {B : Type 0} (depth : ℕ) (f : Unit {0} → Parser B) (i : Tokens) (y : TokenKind) → token_of (next i) ≡ Some y → 1 ≤ opens y → Budget depth (f tt) → BudgetAt (suc depth) (deepen depth >>= f) i
 unfolding deepen
-opened_at zero f i y shows le b = record { fails = λ e h. let m = ap openers (takes y i shows) in omega (arith, le, m); shrinks = λ z h. absurd cc }
+opened_at zero f i y shows le b = record { fails = λ e h. let m = ap openers (takes y i shows) in let here : length i ≡ e = cc in (omega (arith, le, m), omega (arith, shown_some i y shows, here)); shrinks = λ z h. absurd cc }
 opened_at (suc d) f i y shows le b = record {
-  fails = λ e h. let m = ap openers (takes y i shows) in omega (arith, le, m, (b (after i)).fails e h);
+  fails = λ e h. let m = ap openers (takes y i shows) in let r = (b (after i)).fails e h in (omega (arith, le, m, r.0), r.1);
   shrinks = λ z h. omega (arith, after_le i, (b (after i)).shrinks z h);
 }
 
 -- what is less deep
 pub lower : {A : Type 0} (a b : ℕ) (p : Parser A) (i : Tokens) → a ≤ b → BudgetAt b p i → BudgetAt a p i
-lower a b p i le h = record { fails = λ e x. omega (arith, le, h.fails e x); shrinks = h.shrinks }
+lower a b p i le h = record { fails = λ e x. let r = h.fails e x in (omega (arith, le, r.0), r.1); shrinks = h.shrinks }
 
 choose : {A : Type 0} (bound : ℕ) (b : Bool) (x y : Outcome A) (i : Tokens) → (b ≡ true → BudgetAt bound (λ j. x) i) → BudgetAt bound (λ j. y) i → BudgetAt bound (λ j. cond b x y) i
 choose bound true x y i p q = p refl
@@ -130,7 +137,7 @@ unfolding tail_of
 tail_budget bound item sep p zero = pure_budget bound []
 tail_budget bound item sep p (suc turn) = bind_budget bound (λ i. Ok (sees sep i, past sep i)) (λ b. cond b (item >>= (λ x. tail_of item sep turn >>= (λ xs. pure (x ∷ xs)))) (pure [])) (eaten bound sep) (tail_step bound item (tail_of item sep turn) p (tail_budget bound item sep p turn))
 
-front_by : {A : Type 0} (bound : ℕ) (front : List A) (i : Tokens) (o : Outcome (List A)) → ((e : ℕ) → o ≡ nested e → bound ≤ openers (marks i)) → ((y : List A × Tokens) → o ≡ Ok y → openers (marks y.1) ≤ openers (marks i)) → BudgetAt bound (λ j. with_front front o) i
+front_by : {A : Type 0} (bound : ℕ) (front : List A) (i : Tokens) (o : Outcome (List A)) → ((e : ℕ) → o ≡ nested e → (bound ≤ openers (marks i)) × (0 < e)) → ((y : List A × Tokens) → o ≡ Ok y → openers (marks y.1) ≤ openers (marks i)) → BudgetAt bound (λ j. with_front front o) i
 front_by bound front i (Ok x) f s = gives_at bound (front ++ x.0, x.1) i (s x refl)
 front_by bound front i (Err d) f s = record { fails = λ e h. f e (let q : d ≡ TooNested e = cc in ap (λ x. Err x) q); shrinks = λ y h. absurd cc }
 

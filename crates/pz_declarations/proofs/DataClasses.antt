@@ -24,7 +24,7 @@ use Rattle.pz_cursor.proofs.Sections.{section_sound, section_complete}
 use Rattle.pz_declarations.specs.Sections.{parent_section, variables_section}
 use Rattle.pz_declarations.specs.DataClasses as spec
 use Rattle.pz_declarations.specs.DeclarationPlaces.{behind_parent, place_data_methods, place_data_class}
-use Rattle.pz_declarations.proofs.Orders.{Behind, behind_not, section_behind, sections_behind}
+use Rattle.pz_cursor.proofs.Orders.{Behind, Ends, behind_not, section_behind, sections_behind}
 use Rattle.pz_declarations.proofs.SectionRules.{parent_section_sound, parent_section_complete, variables_section_sound, variables_section_complete}
 use Rattle.pz_declarations.proofs.DataMethods.{DataMethodFits, data_methods_sound, data_methods_complete}
 
@@ -69,11 +69,11 @@ module _ (depth : ℕ) where
   unfolding spec.data_methods_section
   methods_section_sound = section_sound n.Methods k.Methods methods_text (spec.data_methods depth) (Each (DataMethodFits (suc depth))) refl (data_methods_sound depth)
 
-  methods_section_complete : Complete (section_text k.Methods methods_text) (place_section place_data_methods) (spec.data_methods_section depth) (IfWritten (Each (DataMethodFits (suc depth)))) (Behind 6)
+  methods_section_complete : Complete (section_text k.Methods methods_text) (place_section place_data_methods) (spec.data_methods_section depth) (IfWritten (Each (DataMethodFits (suc depth)))) (Ends)
   unfolding spec.data_methods_section
   methods_section_complete = record {
     gives = λ at m t j p h.
-        (section_complete n.Methods k.Methods methods_text (spec.data_methods depth) (Each (DataMethodFits (suc depth))) methods_seen place_data_methods (Behind 6) (data_methods_complete depth)).gives at m t j p (h, behind_not 6 (next j) n.Methods h (omega arith));
+        (section_complete n.Methods k.Methods methods_text (spec.data_methods depth) (Each (DataMethodFits (suc depth))) methods_seen place_data_methods (Ends) (data_methods_complete depth)).gives at m t j p (h, behind_not 8 (next j) n.Methods h (omega arith));
   }
 
   -- What is read is the text of a data class that the grammar has, of at most this nesting.
@@ -104,7 +104,7 @@ module _ (depth : ℕ) where
       whole : (a b c j : List Mark) → a ++ (b ++ (c ++ j)) ≡ (a ++ (b ++ c)) ++ j
       whole a b c j = ap (λ r. a ++ r) (sym (append_assoc b c j)) ∙ sym (append_assoc a (b ++ c) j)
 
-  data_class_given : (at : ℕ → Pos) (m : ℕ) (c : DataClassTree) (j : Tokens) → DataClassFits (suc depth) c → Behind 6 (next j) → spec.data_class depth (located at m (data_class_text c) ++ j) ≡ Ok (place_data_class at m c, j)
+  data_class_given : (at : ℕ → Pos) (m : ℕ) (c : DataClassTree) (j : Tokens) → DataClassFits (suc depth) c → Ends (next j) → spec.data_class depth (located at m (data_class_text c) ++ j) ≡ Ok (place_data_class at m c, j)
   unfolding spec.data_class next after identifier name position expect expect_id sees same
   data_class_given at m c j f h =
       let first = suc (suc (suc m)) in
@@ -130,5 +130,5 @@ module _ (depth : ℕ) where
       any (Some y) = tt
 
   -- Each data class that the grammar has, of at most this nesting, is read from its text.
-  pub data_class_complete : Complete data_class_text place_data_class (spec.data_class depth) (DataClassFits (suc depth)) (Behind 6)
+  pub data_class_complete : Complete data_class_text place_data_class (spec.data_class depth) (DataClassFits (suc depth)) (Ends)
   data_class_complete = record { gives = data_class_given }

@@ -36,7 +36,7 @@ use Rattle.pz_values.proofs.Readings.{exprs_sound, expr_sound}
 use Rattle.pz_values.proofs.Completeness.{body_given, expr_complete}
 use Rattle.pz_declarations.specs.DataClasses as spec
 use Rattle.pz_declarations.specs.DeclarationPlaces.{colon_at, place_data_method, place_data_methods}
-use Rattle.pz_declarations.proofs.Orders.{Behind}
+use Rattle.pz_cursor.proofs.Orders.{Ends}
 
 -- a method whose constructs nest less deep than the bound
 abbrev pub DataMethodFits : ℕ → DataMethodTree → Type 0
@@ -57,7 +57,7 @@ unfolding selects_head
 named_stops i e = head_stops (next i) (spelled_init i) e
 
 -- what stands behind a declaration ends the methods
-behind_stops : (x : Next) → Behind 6 x → StopsBody x
+behind_stops : (x : Next) → Ends x → StopsBody x
 behind_stops n.Other h = (omega arith, λ e. absurd cc)
 behind_stops n.Data h = (omega arith, λ e. absurd cc)
 behind_stops n.Process h = (omega arith, λ e. absurd cc)
@@ -65,12 +65,12 @@ behind_stops n.Cluster h = (omega arith, λ e. absurd cc)
 behind_stops n.System h = (omega arith, λ e. absurd cc)
 behind_stops _ h = absurd (omega (arith, h))
 
-behind_ends : (x : Next) (spelled : Bool) → Behind 6 x → selects_head_by x spelled ≡ false
+behind_ends : (x : Next) (spelled : Bool) → Ends x → selects_head_by x spelled ≡ false
 behind_ends n.Head spelled h = absurd (omega (arith, h))
 behind_ends n.InitHead spelled h = absurd (omega (arith, h))
 behind_ends _ spelled h = refl
 
-methods_end : (j : Tokens) → Behind 6 (next j) → selects_head j ≡ false
+methods_end : (j : Tokens) → Ends (next j) → selects_head j ≡ false
 unfolding selects_head
 methods_end j h = behind_ends (next j) (spelled_init j) h
 
@@ -142,7 +142,7 @@ module _ (depth : ℕ) where
       let seen = (selector_head_seen (at k) m.name (located at (suc k) (optional_text formal_text m.inputs ++ rest_text m) ++ j)).0 in
       (seen, named_stops (located at k (data_method_text m) ++ j) seen)
 
-  pub data_methods_complete : Complete (each_text data_method_text) place_data_methods (spec.data_methods depth) (Each (DataMethodFits (suc depth))) (Behind 6)
+  pub data_methods_complete : Complete (each_text data_method_text) place_data_methods (spec.data_methods depth) (Each (DataMethodFits (suc depth))) (Ends)
   unfolding spec.data_methods
   data_methods_complete = record {
     gives = λ at k ms j f h.

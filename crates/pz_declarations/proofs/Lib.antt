@@ -1,4 +1,3 @@
-pub mod Orders
 pub mod MessageRules
 pub mod SectionRules
 pub mod DataMethods

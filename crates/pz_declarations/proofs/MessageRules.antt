@@ -27,7 +27,7 @@ use Rattle.pz_cursor.proofs.Named.{Any, Whatever, every, comma_is, comma_seen, w
 use Rattle.pz_cursor.proofs.Sections.{section_sound, section_complete}
 use Rattle.pz_declarations.specs.Sections as spec
 use Rattle.pz_declarations.specs.DeclarationPlaces.{place_types, place_message, place_messages}
-use Rattle.pz_declarations.proofs.Orders.{Behind, behind_not}
+use Rattle.pz_cursor.proofs.Orders.{Behind, behind_not}
 
 -- ---- what is read
 

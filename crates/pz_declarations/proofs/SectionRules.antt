@@ -35,7 +35,7 @@ use Rattle.pz_values.proofs.Readings.{exprs_sound, expr_sound}
 use Rattle.pz_values.proofs.Completeness.{before_given, expr_complete}
 use Rattle.pz_declarations.specs.Sections as spec
 use Rattle.pz_declarations.specs.DeclarationPlaces.{place_start}
-use Rattle.pz_declarations.proofs.Orders.{Behind, behind_not}
+use Rattle.pz_cursor.proofs.Orders.{Behind, behind_not}
 
 -- ---- the parent, the ports and the variables
 
