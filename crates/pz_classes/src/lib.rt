@@ -1,0 +1,11 @@
+//! The classes of a model: what each inherits, and the bodies of its methods with slots in place of
+//! names.
+#![tactic(auto)]
+
+mod method_id;
+mod slot;
+mod violation;
+
+pub use method_id::{Counts, MethodId};
+pub use slot::Slot;
+pub use violation::Violation;
