@@ -25,12 +25,12 @@ parent_of m d = option_and_then (λ x. parent_named m x.name) (extended d)
 abbrev pub parent : ModelTree → ℕ → Option ℕ
 parent m c = option_and_then (parent_of m) (declaration m c)
 
--- the class, its parent, and so on, at most n of them
-abbrev pub ancestors_within : ModelTree → ℕ → ℕ → List ℕ
-ancestors_within m zero c = []
-ancestors_within m (suc n) c = c ∷ option_map_or (ancestors_within m n) (parent m c) []
+-- a class, its parent by this function, and so on, at most n of them
+abbrev pub followed : (ℕ → Option ℕ) → ℕ → ℕ → List ℕ
+followed up zero c = []
+followed up (suc n) c = c ∷ option_map_or (followed up n) (up c) []
 
 -- The ancestors of a class from itself on. As many steps as there are declarations reach them all;
 -- where parents go round, classes come again.
 abbrev pub ancestors : ModelTree → ℕ → List ℕ
-ancestors m c = ancestors_within m (length m.decls) c
+ancestors m c = followed (parent m) (length m.decls) c

@@ -5,3 +5,5 @@ pub mod Members
 pub mod Methods
 pub mod Violations
 pub mod ViolationList
+pub mod NumberIn
+pub mod Parents

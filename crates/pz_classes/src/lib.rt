@@ -2,7 +2,12 @@
 //! names.
 #![tactic(auto)]
 
+mod ancestry;
+mod checking;
+mod declarations;
 mod method_id;
+mod numbering;
+mod reserved;
 mod slot;
 mod violation;
 
