@@ -1,3 +1,5 @@
+mod Leasts
 mod Lines
 mod Numberings
+mod Gets
 mod Rows

@@ -1,5 +1,6 @@
 -- Following parents, step by step.
-use Rattle.std.proofs.Common.{◌≡◌, refl, ap, ℕ, zero, suc, ◌-◌, ◌<◌, List, [], ◌∷◌, ◌++◌, map, Option, Some, None, slice_get, arith, subst, sym, append_assoc, ◌∙◌}
+use Rattle.std.proofs.Common.{◌≡◌, refl, ap, ℕ, zero, suc, ◌-◌, ◌<◌, List, [], ◌∷◌, ◌++◌, map, Option, Some, None, slice_get, arith, subst, sym, append_assoc, ◌∙◌, false, nat_eq}
+use Rattle.std.specs.List.{list_any}
 use Rattle.std.specs.Option.{option_map_or, option_and_then}
 use Rattle.pz_ast.specs.declared.clusters.Decl.{Decl}
 use Rattle.pz_ast.specs.Classes.{DeclTree, ModelTree}
@@ -33,3 +34,21 @@ line_step up line next whole at above c left some here pushed up_is before =
     let more : line ++ followed up left c ≡ whole = rw here at before in
     let split : line ++ c ∷ option_map_or (followed up (left - 1)) (up c) [] ≡ whole = rw (followed_more up left c some) at more in
     rw (pushed, up_is, append_assoc) split
+
+-- two ways up that agree lead along the same line
+pub followed_same : (up over : ℕ → Option ℕ) → ((c : ℕ) → up c ≡ over c) → (n c : ℕ) → followed up n c ≡ followed over n c
+followed_same up over agree zero c = refl
+followed_same up over agree (suc n) c = rw (agree c) (ap (λ (line : List ℕ). c ∷ line) (above (over c) (followed_same up over agree n)))
+  where
+    above : (p : Option ℕ) → ((k : ℕ) → followed up n k ≡ followed over n k) → option_map_or (followed up n) p [] ≡ option_map_or (followed over n) p []
+    above None rest = refl
+    above (Some p) rest = rest p
+
+-- and to the same answer whether a class is above itself
+pub round_same : (up over : ℕ → Option ℕ) → ((c : ℕ) → up c ≡ over c) → (most n c : ℕ) → most ≡ n
+    → option_map_or (λ p. list_any (nat_eq c) (followed up most p)) (up c) false ≡ option_map_or (λ p. list_any (nat_eq c) (followed over n p)) (over c) false
+round_same up over agree most n c same = rw (agree c, same) (above (over c))
+  where
+    above : (p : Option ℕ) → option_map_or (λ q. list_any (nat_eq c) (followed up n q)) p false ≡ option_map_or (λ q. list_any (nat_eq c) (followed over n q)) p false
+    above None = refl
+    above (Some p) = ap (λ (line : List ℕ). list_any (nat_eq c) line) (followed_same up over agree n p)

@@ -2,7 +2,9 @@
 
 ghost use Rattle.std.specs.Prelude.{◌≡◌, ◌<◌, ◌+◌, ◌^◌, List, ℕ, None, length};
 ghost use Rattle.pz_ast.specs.ClassView.{decl_view, model_view};
+ghost use Rattle.std.specs.Option.{option_copied, option_map};
 ghost use Rattle.pz_classes.specs.Numbers.{class};
+ghost use Rattle.pz_classes.specs.Numbers as numbers;
 ghost use Rattle.pz_classes.specs.Ancestors.{parent};
 ghost use Rattle.pz_classes.specs.NumberIn.{number_in};
 ghost use Rattle.pz_classes.specs.Parents.{parent_in};
@@ -27,6 +29,16 @@ fn breaks_c1(model: &Model, numbering: &Numbering, number: u32, name: &Name) -> 
     is_primitive(name) || numbering.get(name.as_str().as_bytes()) != Some(number)
 }
 
+/// The declaration of the class of this number.
+fn declaration(model: &Model, number: u32) -> Option<&Decl>
+    ensures { option_map decl_view (option_copied result) ≡ numbers.declaration (model_view model.now) number }
+{
+    if number == 0 {
+        return None;
+    }
+    model.decls.as_slice().get(number as usize - 1)
+}
+
 /// Whether a class of the sort of the declaration has this name.
 fn is_of_sort(model: &Model, numbering: &Numbering, decl: &Decl, name: &Name) -> bool
     requires { (q : List ℕ) → number_in numbering.now q ≡ class (model_view model.now) q }
@@ -35,10 +47,7 @@ fn is_of_sort(model: &Model, numbering: &Numbering, decl: &Decl, name: &Name) ->
     let Some(number) = numbering.get(name.as_str().as_bytes()) else {
         return false;
     };
-    if number == 0 {
-        return false;
-    }
-    match model.decls.as_slice().get(number as usize - 1) {
+    match declaration(model, number) {
         Some(other) => same_sort(decl, other),
         None => false,
     }
@@ -86,7 +95,16 @@ fn lesser(least: Option<Violation>, found: Violation) -> Option<Violation>
     }
 }
 
+/// Whether a class is among the ancestors of its parent.
+fn breaks_c3(model: &Model, parents: &[Option<u32>], number: u32) -> bool
+    requires { (c : ℕ) → parent_in parents.now c ≡ parent (model_view model.now) c }
+    ensures { result ≡ list.breaks_c3 (model_view model.now) number }
+{
+    goes_round(parents, number, model.decls.len())
+}
+
 /// The least of what was found before and the violations at the name of this class.
+#[tactic(auto, using(crate::proofs::Leasts::least_from_append))]
 fn least_at_name(
     model: &Model,
     numbering: &Numbering,
@@ -103,13 +121,14 @@ fn least_at_name(
     if breaks_c1(model, numbering, number, &id.name) {
         least = lesser(least, Violation { rule: 1, pos: id.pos });
     }
-    if goes_round(parents, number, model.decls.len()) {
+    if breaks_c3(model, parents, number) {
         least = lesser(least, Violation { rule: 3, pos: id.pos });
     }
     least
 }
 
 /// The least of what was found before and the violations of this class.
+#[tactic(auto, using(crate::proofs::Leasts::least_from_append))]
 fn least_of_class(
     model: &Model,
     numbering: &Numbering,
@@ -135,6 +154,7 @@ fn least_of_class(
 }
 
 /// The least violation of the rules C1 to C3, if there is one.
+#[tactic(auto, using(crate::proofs::Leasts::least_from_append))]
 pub(crate) fn least_violation(
     model: &Model,
     numbering: &Numbering,
