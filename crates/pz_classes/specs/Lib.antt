@@ -7,3 +7,4 @@ pub mod Violations
 pub mod ViolationList
 pub mod NumberIn
 pub mod Parents
+pub mod Inherited

@@ -2,9 +2,7 @@
 
 ghost use Rattle.std.specs.Prelude.{◌≡◌, ◌<◌, ◌+◌, ◌^◌, List, ℕ, None, length};
 ghost use Rattle.pz_ast.specs.ClassView.{decl_view, model_view};
-ghost use Rattle.std.specs.Option.{option_copied, option_map};
 ghost use Rattle.pz_classes.specs.Numbers.{class};
-ghost use Rattle.pz_classes.specs.Numbers as numbers;
 ghost use Rattle.pz_classes.specs.Ancestors.{parent};
 ghost use Rattle.pz_classes.specs.NumberIn.{number_in};
 ghost use Rattle.pz_classes.specs.Parents.{parent_in};
@@ -13,7 +11,7 @@ ghost use Rattle.pz_classes.specs.ViolationList as list;
 
 use crate::Violation;
 use crate::ancestry::goes_round;
-use crate::declarations::{declared_name, extended, is_data, same_sort};
+use crate::declarations::{declaration, declared_name, extended, is_data, same_sort};
 use crate::numbering::Numbering;
 use crate::reserved::{is_object, is_primitive, is_unsupported};
 use pz_ast::{Decl, Id, Model, Name, Pos};
@@ -27,16 +25,6 @@ fn breaks_c1(model: &Model, numbering: &Numbering, number: u32, name: &Name) -> 
         return false;
     }
     is_primitive(name) || numbering.get(name.as_str().as_bytes()) != Some(number)
-}
-
-/// The declaration of the class of this number.
-fn declaration(model: &Model, number: u32) -> Option<&Decl>
-    ensures { option_map decl_view (option_copied result) ≡ numbers.declaration (model_view model.now) number }
-{
-    if number == 0 {
-        return None;
-    }
-    model.decls.as_slice().get(number as usize - 1)
 }
 
 /// Whether a class of the sort of the declaration has this name.

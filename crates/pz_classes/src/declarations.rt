@@ -1,13 +1,13 @@
 // What a declaration says of the class that it declares.
 
 ghost use Rattle.std.specs.Prelude.{◌≡◌};
-ghost use Rattle.std.specs.Option.{option_copied};
-ghost use Rattle.pz_ast.specs.ClassView.{decl_view};
+ghost use Rattle.std.specs.Option.{option_copied, option_map};
+ghost use Rattle.pz_ast.specs.ClassView.{decl_view, model_view};
 ghost use Rattle.pz_classes.specs.Numbers as numbers;
 ghost use Rattle.pz_classes.specs.Ancestors as ancestors;
 ghost use Rattle.pz_classes.specs.Violations as rules;
 
-use pz_ast::{Decl, Id};
+use pz_ast::{Decl, Id, Model};
 
 /// The name of the class; a system declares none.
 pub(crate) fn declared_name(decl: &Decl) -> Option<&Id>
@@ -48,4 +48,14 @@ pub(crate) fn same_sort(decl: &Decl, other: &Decl) -> bool
         (Decl::Process(_), Decl::Process(_)) => true,
         _ => false,
     }
+}
+
+/// The declaration of the class of this number.
+pub(crate) fn declaration(model: &Model, number: u32) -> Option<&Decl>
+    ensures { option_map decl_view (option_copied result) ≡ numbers.declaration (model_view model.now) number }
+{
+    if number == 0 {
+        return None;
+    }
+    model.decls.as_slice().get(number as usize - 1)
 }

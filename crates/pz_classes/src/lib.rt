@@ -5,6 +5,7 @@
 mod ancestry;
 mod checking;
 mod declarations;
+mod members;
 mod method_id;
 mod numbering;
 mod reserved;
