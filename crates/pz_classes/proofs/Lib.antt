@@ -1,6 +1,7 @@
 mod Leasts
 mod Lines
 mod Numberings
+mod Entries
 mod Found
 mod Gets
 mod Order

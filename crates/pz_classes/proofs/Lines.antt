@@ -52,3 +52,6 @@ round_same up over agree most n c same = rw (agree c, same) (above (over c))
     above : (p : Option ℕ) → option_map_or (λ q. list_any (nat_eq c) (followed up n q)) p false ≡ option_map_or (λ q. list_any (nat_eq c) (followed over n q)) p false
     above None = refl
     above (Some p) = ap (λ (line : List ℕ). list_any (nat_eq c) line) (followed_same up over agree n p)
+
+pub line_same : (up over : ℕ → Option ℕ) → ((c : ℕ) → up c ≡ over c) → (most n c : ℕ) → most ≡ n → followed up most c ≡ followed over n c
+line_same up over agree most n c same = rw same (followed_same up over agree n c)

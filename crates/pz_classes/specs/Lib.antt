@@ -8,3 +8,4 @@ pub mod ViolationList
 pub mod NumberIn
 pub mod Parents
 pub mod Inherited
+pub mod Tables

@@ -62,7 +62,7 @@ pub(crate) fn parents_of(
     Ok(parents)
 }
 
-fn parent_at(parents: &[Option<u32>], class: u32) -> Option<u32>
+pub(crate) fn parent_at(parents: &[Option<u32>], class: u32) -> Option<u32>
     ensures { result ≡ parent_in parents.now class }
 {
     parents.get(class as usize).copied().flatten()

@@ -5,13 +5,17 @@
 mod ancestry;
 mod checking;
 mod declarations;
+mod classes;
+mod entry;
 mod members;
 mod method_id;
+mod methods;
 mod numbering;
 mod reserved;
 mod slot;
 mod violation;
 
+pub use classes::Classes;
 pub use method_id::{Counts, MethodId};
 pub use slot::Slot;
 pub use violation::Violation;
