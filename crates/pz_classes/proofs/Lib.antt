@@ -5,4 +5,5 @@ mod Entries
 mod Found
 mod Gets
 mod Order
+mod RowLookups
 mod Rows

@@ -9,3 +9,5 @@ pub mod NumberIn
 pub mod Parents
 pub mod Inherited
 pub mod Tables
+pub mod Refusals
+pub mod Found

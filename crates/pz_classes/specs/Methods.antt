@@ -22,7 +22,7 @@ same_counts (Process inputs outputs) (Process ours results) = nat_eq inputs ours
 same_counts _ _ = false
 
 abbrev pub same_signature : Signature → Signature → Bool
-same_signature a b = bytes_eq a.name b.name && same_counts a.counts b.counts
+same_signature a b = same_counts a.counts b.counts && bytes_eq a.name b.name
 
 abbrev pub data_signature : DataMethodTree → Signature
 data_signature r = record { name = r.name.name; counts = Data (length (section r.inputs)) }

@@ -1,7 +1,7 @@
 -- The numbers of classes. The class of the first declaration is number 1, and number 0 is Array,
 -- which no declaration has. A system has a number too, and no name.
-use Rattle.std.specs.Prelude.{ℕ, zero, suc, Bool, false, List, [], ◌∷◌, Option, Some, None, if◌then◌else◌, slice_get, codes}
-use Rattle.std.specs.Option.{option_map, option_map_or, option_and_then}
+use Rattle.std.specs.Prelude.{ℕ, zero, suc, Bool, false, List, [], ◌∷◌, Option, Some, None, if◌then◌else◌, slice_get}
+use Rattle.std.specs.Option.{option_map_or}
 use Rattle.std.specs.Str.{bytes_eq}
 use Rattle.pz_ast.specs.declared.names.Id.{Id}
 use Rattle.pz_ast.specs.Classes.{DeclTree, data_class, process_class, cluster_class, system, ModelTree}
@@ -30,10 +30,6 @@ first_named (d ∷ ds) n name = if is_named name d then Some n else first_named 
 abbrev pub class : ModelTree → List ℕ → Option ℕ
 class m name = first_named m.decls 1 name
 
--- the name of the class of this number, empty for a system
+-- the name of the class that is declared, empty for a system
 abbrev pub spelling : DeclTree → List ℕ
 spelling d = option_map_or (λ x. x.name) (declared_name d) []
-
-abbrev pub class_name : ModelTree → ℕ → List ℕ
-class_name m zero = codes "Array"
-class_name m (suc i) = option_map_or spelling (slice_get m.decls i) []

@@ -1,9 +1,9 @@
 -- What the table of a model's classes holds.
-use Rattle.std.specs.Prelude.{◌≡◌, ◌<◌, ℕ, suc, List, [], ◌∷◌, length, map, Option, slice_get}
+use Rattle.std.specs.Prelude.{◌≡◌, ◌<◌, ℕ, suc, List, [], ◌∷◌, length, map, Option, codes}
 use Rattle.std.specs.Option.{option_map_or}
 use Rattle.pz_ast.specs.Classes.{DeclTree, ModelTree}
 use Rattle.pz_value.specs.declared.value.ClassId.{ClassId}
-use Rattle.pz_classes.specs.Numbers.{class, class_name, declaration}
+use Rattle.pz_classes.specs.Numbers.{class, spelling, declaration}
 use Rattle.pz_classes.specs.Ancestors.{parent}
 use Rattle.pz_classes.specs.Members.{fields, variables, ports, spelled}
 use Rattle.pz_classes.specs.Methods.{Signature, signatures, method_at}
@@ -53,14 +53,9 @@ rows_from m n (d ∷ ds) = row m n ∷ rows_from m (suc n) ds
 abbrev pub rows : ModelTree → List Row
 rows m = row m 0 ∷ rows_from m 1 m.decls
 
--- the names of these classes, of which the first has number n
-abbrev pub names_from : ModelTree → ℕ → List DeclTree → List (List ℕ)
-names_from m n [] = []
-names_from m n (d ∷ ds) = class_name m n ∷ names_from m (suc n) ds
-
--- the name of each class at its number
+-- the name of each class at its number, empty for a system
 abbrev pub class_names : ModelTree → List (List ℕ)
-class_names m = class_name m 0 ∷ names_from m 1 m.decls
+class_names m = codes "Array" ∷ map spelling m.decls
 
 abbrev pub routine_view : Method → Routine
 routine_view r = record { id = r.id; signature = record { name = r.name; counts = r.counts } }
@@ -79,6 +74,9 @@ pub record AreClasses (m : ModelTree) (classes : Classes) : Type 0 where
   pub names : classes.names ≡ class_names m
   pub numbers : (name : List ℕ) → number_in classes.numbering name ≡ class m name
   pub rows : map row_view classes.entries ≡ rows m
+
+abbrev pub class_id : ℕ → ClassId
+class_id c = record { 0 = c }
 
 -- the class is one of these
 abbrev pub HasClass : Classes → ClassId → Type 0

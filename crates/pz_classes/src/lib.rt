@@ -7,6 +7,8 @@ mod checking;
 mod declarations;
 mod classes;
 mod entry;
+mod error;
+mod finding;
 mod members;
 mod method_id;
 mod methods;
@@ -16,6 +18,7 @@ mod slot;
 mod violation;
 
 pub use classes::Classes;
+pub use error::BuildError;
 pub use method_id::{Counts, MethodId};
 pub use slot::Slot;
 pub use violation::Violation;
