@@ -1,9 +1,11 @@
 mod Leasts
 mod Lines
 mod Numberings
+mod Agreeing
 mod Entries
 mod Found
 mod Gets
 mod Order
+mod ResolvedLists
 mod RowLookups
 mod Rows

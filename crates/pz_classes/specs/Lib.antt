@@ -11,3 +11,7 @@ pub mod Inherited
 pub mod Tables
 pub mod Refusals
 pub mod Found
+pub mod CodeView
+pub mod StepView
+pub mod Resolution
+pub mod ScopeView

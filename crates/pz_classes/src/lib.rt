@@ -3,9 +3,11 @@
 #![tactic(auto)]
 
 mod ancestry;
+mod body;
 mod checking;
 mod declarations;
 mod classes;
+mod code;
 mod entry;
 mod error;
 mod finding;
@@ -14,11 +16,17 @@ mod method_id;
 mod methods;
 mod numbering;
 mod reserved;
+mod resolving;
+mod scope;
 mod slot;
+mod step;
 mod violation;
 
+pub use body::Body;
 pub use classes::Classes;
+pub use code::{Code, CodeForm, CodeLink, CodeSending};
 pub use error::BuildError;
 pub use method_id::{Counts, MethodId};
 pub use slot::Slot;
+pub use step::{Step, StepForm};
 pub use violation::Violation;
