@@ -30,3 +30,6 @@ pub use method_id::{Counts, MethodId};
 pub use slot::Slot;
 pub use step::{Step, StepForm};
 pub use violation::Violation;
+
+#[cfg(test)]
+mod tests;

@@ -50,12 +50,13 @@ fn resolve_form(
             Ok(StepForm::Sel(resolve_branches(alloc, scope, branches.as_slice())?))
         }
         StmtForm::If(test, part, rest) => {
+            let test = resolve(alloc, scope, test)?;
             let part = resolve_statements(alloc, scope, part.as_slice())?;
             match rest {
-                None => Ok(StepForm::If(resolve(alloc, scope, test)?, part, None)),
+                None => Ok(StepForm::If(test, part, None)),
                 Some(rest) => {
                     let rest = resolve_statements(alloc, scope, rest.as_slice())?;
-                    Ok(StepForm::If(resolve(alloc, scope, test)?, part, Some(rest)))
+                    Ok(StepForm::If(test, part, Some(rest)))
                 }
             }
         }
@@ -78,25 +79,14 @@ fn resolve_form(
             name,
             args,
             block,
-        } => Ok(StepForm::Send {
-            port: scope.port(&port.name),
-            name: name.copy()?,
-            args: resolve_part(alloc, scope, args)?,
-            block: resolve_part(alloc, scope, block)?,
-        }),
+        } => resolve_send(alloc, scope, port, name, args, block, pos),
         StmtForm::Receive {
             port,
             name,
             into,
             condition,
             block,
-        } => Ok(StepForm::Receive {
-            port: scope.port(&port.name),
-            name: name.copy()?,
-            into: resolve_into(alloc, scope, into)?,
-            condition: resolve_condition(alloc, scope, condition)?,
-            block: resolve_part(alloc, scope, block)?,
-        }),
+        } => resolve_receive(alloc, scope, port, name, into, condition, block, pos),
         StmtForm::Call {
             method,
             args,
@@ -126,6 +116,46 @@ fn resolve_assignment(
         pos,
         form: CodeForm::Assign(scope.slot(&target.name), value),
     }))
+}
+
+fn resolve_send(
+    alloc: Global,
+    scope: &Scope,
+    port: &Id,
+    name: &Id,
+    args: &Option<Items<Expr>>,
+    block: &Option<Items<Expr>>,
+    pos: Pos,
+) -> Result<StepForm, AllocError>
+    ensures { IfOk result (λ f. step.form_view f pos ≡ resolved_statement (scope_view scope.now) (tree.form_view (StmtForm.Send port.now name.now args.now block.now) pos)) }
+{
+    Ok(StepForm::Send {
+        port: scope.port(&port.name),
+        name: name.copy()?,
+        args: resolve_part(alloc, scope, args)?,
+        block: resolve_part(alloc, scope, block)?,
+    })
+}
+
+fn resolve_receive(
+    alloc: Global,
+    scope: &Scope,
+    port: &Id,
+    name: &Id,
+    into: &Option<Items<Id>>,
+    condition: &Option<Expr>,
+    block: &Option<Items<Expr>>,
+    pos: Pos,
+) -> Result<StepForm, AllocError>
+    ensures { IfOk result (λ f. step.form_view f pos ≡ resolved_statement (scope_view scope.now) (tree.form_view (StmtForm.Receive port.now name.now into.now condition.now block.now) pos)) }
+{
+    Ok(StepForm::Receive {
+        port: scope.port(&port.name),
+        name: name.copy()?,
+        into: resolve_into(alloc, scope, into)?,
+        condition: resolve_condition(alloc, scope, condition)?,
+        block: resolve_part(alloc, scope, block)?,
+    })
 }
 
 /// The variables of a reception.
@@ -181,7 +211,11 @@ fn resolve_branches(
 {
     let mut steps = Items::new(alloc);
     for branch in branches {
-        steps.push(resolve_statements(alloc, scope, branch.as_slice())?)?;
+        let mut part = Items::new(alloc);
+        for stmt in branch.as_slice() {
+            part.push(resolve_statement(alloc, scope, stmt)?)?;
+        }
+        steps.push(part)?;
     }
     Ok(steps)
 }
