@@ -1,5 +1,5 @@
 -- Resolving statements one by one.
-use Rattle.std.proofs.Common.{◌≡◌, refl, ap, ◌∙◌, ℕ, ◌≤◌, List, [], ◌∷◌, map, take, length, Option, Some, None, rules}
+use Rattle.std.proofs.Common.{◌≡◌, refl, ap, ℕ, ◌≤◌, List, [], ◌∷◌, map, take, length, Option, Some, None, rules}
 use Rattle.std.specs.Option.{option_map}
 use Rattle.std.proofs.lemmas.List.{take_all}
 use Rattle.pz_ast.specs.declared.tokens.Pos.{Pos}
@@ -10,7 +10,7 @@ use Rattle.pz_ast.specs.declared.stmts.StmtForm.{StmtForm}
 use Rattle.pz_ast.specs.declared.stmts.StmtForm.TheVariants as ours
 use Rattle.pz_ast.specs.declared.stmts.StmtForm.TheFolds as old
 use Rattle.pz_ast.specs.Expressions.{assign}
-use Rattle.pz_ast.specs.Statements.{Statement, conditional, send, receive, assignment, value, Statements, then, not_written, otherwise}
+use Rattle.pz_ast.specs.Statements.{conditional, send, receive, assignment, value, Statements, then, not_written, otherwise}
 use Rattle.pz_ast.specs.ExpressionView as expression
 use Rattle.pz_ast.specs.StatementView as tree
 use Rattle.pz_value.specs.declared.value.ClassId.{ClassId}
@@ -87,7 +87,7 @@ module _ (scope : Scope) where
       → step.form_view (theirs.Receive at copied into test after) pos ≡ resolved_statement scope (tree.form_view (ours.Receive port name ids condition block) pos)
   receive_is pos port name copied at into test after ids condition block n p i t b =
       let same : receive pos at copied into (option_map code.view test) (code.part_view after)
-          ≡ receive pos (port_of scope port.name) name (option_map (slots_of scope) ids) (option_map (resolved scope) (option_map expression.view condition)) (resolved_part scope (expression.part_view block)) = cc in
+      ≡ receive pos (port_of scope port.name) name (option_map (slots_of scope) ids) (option_map (resolved scope) (option_map expression.view condition)) (resolved_part scope (expression.part_view block)) = cc in
       rw (shows_receive pos at copied into test after, stands_receive pos port name ids condition block) same
 
   pub assignment_is : (pos : Pos) (x : Id) (slot : Slot) (c : Code) (e : Expr) → slot ≡ slot_of scope x.name → code.view c ≡ resolved scope (expression.view e)

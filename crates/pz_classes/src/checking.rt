@@ -107,10 +107,22 @@ fn least_at_name(
 {
     let mut least = before;
     if breaks_c1(model, numbering, number, &id.name) {
-        least = lesser(least, Violation { rule: 1, pos: id.pos });
+        least = lesser(
+            least,
+            Violation {
+                rule: 1,
+                pos: id.pos,
+            },
+        );
     }
     if breaks_c3(model, parents, number) {
-        least = lesser(least, Violation { rule: 3, pos: id.pos });
+        least = lesser(
+            least,
+            Violation {
+                rule: 3,
+                pos: id.pos,
+            },
+        );
     }
     least
 }
@@ -135,7 +147,13 @@ fn least_of_class(
     }
     if let Some(id) = extended(decl) {
         if breaks_c2(model, numbering, decl, &id.name) {
-            least = lesser(least, Violation { rule: 2, pos: id.pos });
+            least = lesser(
+                least,
+                Violation {
+                    rule: 2,
+                    pos: id.pos,
+                },
+            );
         }
     }
     least

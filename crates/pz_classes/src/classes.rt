@@ -131,7 +131,12 @@ impl Classes {
         requires { HasClass self.now class }
         ensures { (m : ModelTree) → AreClasses m self.now → result ≡ methods.method m class.0 name.now inputs }
     {
-        find(self.entries.as_slice(), class.0, name, Counts::Data { inputs })
+        find(
+            self.entries.as_slice(),
+            class.0,
+            name,
+            Counts::Data { inputs },
+        )
     }
 
     /// The method of a process class with this name and numbers of inputs and outputs: that of the
@@ -146,6 +151,11 @@ impl Classes {
         requires { HasClass self.now class }
         ensures { (m : ModelTree) → AreClasses m self.now → result ≡ methods.process_method m class.0 name.now inputs outputs }
     {
-        find(self.entries.as_slice(), class.0, name, Counts::Process { inputs, outputs })
+        find(
+            self.entries.as_slice(),
+            class.0,
+            name,
+            Counts::Process { inputs, outputs },
+        )
     }
 }

@@ -51,12 +51,7 @@ fn entry_at(entries: &[Entry], class: u32) -> Option<&Entry>
 }
 
 /// The method of the nearest ancestor that has one with the name and the counts.
-pub(crate) fn find(
-    entries: &[Entry],
-    class: u32,
-    name: &[u8],
-    counts: Counts,
-) -> Option<MethodId>
+pub(crate) fn find(entries: &[Entry], class: u32, name: &[u8], counts: Counts) -> Option<MethodId>
     ensures { result ≡ found_in (map row_view entries.now) (record { name = name.now; counts = counts }) class }
 {
     let mut at = Some(class);

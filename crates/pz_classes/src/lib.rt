@@ -5,9 +5,9 @@
 mod ancestry;
 mod body;
 mod checking;
-mod declarations;
 mod classes;
 mod code;
+mod declarations;
 mod entry;
 mod error;
 mod finding;

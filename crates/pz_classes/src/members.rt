@@ -37,10 +37,7 @@ fn push_groups(names: &mut Items<Name>, groups: &[VarGroup]) -> Result<(), Alloc
     Ok(())
 }
 
-fn push_section(
-    names: &mut Items<Name>,
-    groups: &Option<Items<VarGroup>>,
-) -> Result<(), AllocError>
+fn push_section(names: &mut Items<Name>, groups: &Option<Items<VarGroup>>) -> Result<(), AllocError>
     ensures { OnOk result (names.new ≡ names.old ++ spelled (section groups.now)) }
 {
     match groups {
@@ -78,11 +75,7 @@ impl Members {
 
 /// What the first of these classes has, who inherits from all the others in turn. The only error is
 /// want of memory.
-pub(crate) fn members_of(
-    alloc: Global,
-    model: &Model,
-    line: &[u32],
-) -> Result<Members, AllocError>
+pub(crate) fn members_of(alloc: Global, model: &Model, line: &[u32]) -> Result<Members, AllocError>
     ensures { IfOk result (HasMembers (model_view model.now) line.now) }
 {
     let mut members = Members {
