@@ -12,7 +12,7 @@ use Rattle.pz_classes.specs.declared.violation.Violation.{Violation}
 use Rattle.pz_classes.specs.Numbers.{declared_name, declaration}
 use Rattle.pz_classes.specs.Ancestors.{extended, parent, ancestors}
 use Rattle.pz_classes.specs.Violations.{violation, breaks_c1, breaks_c2, Violates, c1, c2, c3, is_before, IsLeast}
-use Rattle.pz_classes.specs.ViolationList.{listed, breaks_c3, of_name, of_parent, of_class, among, violations, lesser, least_from}
+use Rattle.pz_classes.specs.ViolationList.{listed, breaks_c3, of_name, of_parent, of_class, among, violations, least_from}
 use Rattle.pz_classes.proofs.Order.{not_before_itself, never_before, not_behind}
 
 abbrev Member : Violation → List Violation → Type 0

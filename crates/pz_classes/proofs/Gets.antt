@@ -4,7 +4,6 @@ use Rattle.std.specs.List.{HoldsAt}
 use Rattle.std.specs.Option.{option_map, option_copied, MatchOption, IfSome}
 use Rattle.std.proofs.lemmas.Option.{slice_get_past, slice_get-get_or, slice_get-map}
 use Rattle.pz_ast.specs.declared.clusters.Decl.{Decl}
-use Rattle.pz_ast.specs.Classes.{DeclTree, ModelTree}
 use Rattle.pz_ast.specs.ClassView.{decl_view}
 use Rattle.pz_classes.specs.Numbers.{declaration}
 

@@ -6,7 +6,6 @@ use Rattle.pz_ast.specs.declared.clusters.Decl.{Decl}
 use Rattle.pz_ast.specs.Classes.{DeclTree, ModelTree}
 use Rattle.pz_ast.specs.ClassView.{decl_view}
 use Rattle.pz_classes.specs.Ancestors.{followed, parent, parent_of}
-use Rattle.pz_classes.specs.Numbers.{declaration}
 use Rattle.pz_classes.specs.Parents.{parent_in}
 
 -- the first step of some

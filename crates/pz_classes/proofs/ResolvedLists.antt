@@ -1,5 +1,5 @@
 -- Resolving lists one by one.
-use Rattle.std.proofs.Common.{◌≡◌, refl, ap, ◌∙◌, ℕ, ◌≤◌, List, [], ◌∷◌, map, take, length, Option, Some, None, rules}
+use Rattle.std.proofs.Common.{◌≡◌, refl, ap, ℕ, ◌≤◌, List, [], ◌∷◌, map, take, length, Option, Some, None, rules}
 use Rattle.std.proofs.lemmas.List.{take_all}
 use Rattle.pz_ast.specs.declared.tokens.Pos.{Pos}
 use Rattle.pz_ast.specs.declared.exprs.ExprForm.{ExprForm}

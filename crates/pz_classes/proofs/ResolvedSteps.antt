@@ -1,5 +1,5 @@
 -- Resolving statements one by one.
-use Rattle.std.proofs.Common.{◌≡◌, refl, ap, ◌∙◌, ℕ, ◌≤◌, List, [], ◌∷◌, map, take, length, Option, Some, None, rules}
+use Rattle.std.proofs.Common.{◌≡◌, refl, ap, ℕ, ◌≤◌, List, [], ◌∷◌, map, take, length, Option, Some, None, rules}
 use Rattle.std.specs.Option.{option_map}
 use Rattle.std.proofs.lemmas.List.{take_all}
 use Rattle.pz_ast.specs.declared.tokens.Pos.{Pos}
@@ -10,7 +10,7 @@ use Rattle.pz_ast.specs.declared.stmts.StmtForm.{StmtForm}
 use Rattle.pz_ast.specs.declared.stmts.StmtForm.TheVariants as ours
 use Rattle.pz_ast.specs.declared.stmts.StmtForm.TheFolds as old
 use Rattle.pz_ast.specs.Expressions.{assign}
-use Rattle.pz_ast.specs.Statements.{Statement, conditional, send, receive, assignment, value, Statements, then, not_written, otherwise}
+use Rattle.pz_ast.specs.Statements.{conditional, send, receive, assignment, value, Statements, then, not_written, otherwise}
 use Rattle.pz_ast.specs.ExpressionView as expression
 use Rattle.pz_ast.specs.StatementView as tree
 use Rattle.pz_value.specs.declared.value.ClassId.{ClassId}

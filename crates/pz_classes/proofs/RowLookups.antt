@@ -1,14 +1,13 @@
 -- What stands in the rows is what the model says.
 use Rattle.std.proofs.Common.{◌≡◌, refl, sym, ap, subst, ◌∙◌, ℕ, zero, suc, ◌+◌, ◌-◌, ◌<◌, Bool, true, false, List, [], ◌∷◌, map, length, Option, Some, None, slice_get, get_or, arith, if◌then◌else◌}
-use Rattle.std.specs.Option.{option_map, option_map_or, option_and_then, option_or}
+use Rattle.std.specs.Option.{option_map, option_and_then}
 use Rattle.std.proofs.lemmas.Option.{slice_get-map, slice_get_read}
 use Rattle.pz_ast.specs.Classes.{DeclTree, ModelTree}
 use Rattle.pz_classes.specs.declared.entry.Entry.{Entry}
 use Rattle.pz_classes.specs.declared.method_id.MethodId.{MethodId}
-use Rattle.pz_classes.specs.Numbers.{declaration}
 use Rattle.pz_classes.specs.Ancestors.{parent, parent_of, followed}
 use Rattle.pz_classes.specs.Methods.{Signature, signatures, same_signature, place_from, method_at, own_method, nearest, method_with}
-use Rattle.pz_classes.specs.Tables.{Routine, Row, routines_from, routines_of, row, rows_from, rows, row_view}
+use Rattle.pz_classes.specs.Tables.{Row, routines_from, row, rows_from, rows, row_view}
 use Rattle.pz_classes.specs.Found.{up_in, routine_with, own_in, found_in}
 use Rattle.pz_classes.proofs.Lines.{line_same}
 

@@ -1,15 +1,13 @@
 -- Small models: who inherits what, and what is refused.
 use Rattle.std.proofs.Common.{◌≡◌, refl, ℕ, ◌*◌, List, [], ◌∷◌, map, Option, Some, None, codes}
-use Rattle.pz_ast.specs.declared.tokens.Pos.{Pos}
 use Rattle.pz_ast.specs.declared.names.Id.{Id}
 use Rattle.pz_ast.specs.declared.classes.VarGroup.{VarGroup}
 use Rattle.pz_ast.specs.Expressions.{none}
-use Rattle.pz_ast.specs.Statements.{no_statements}
-use Rattle.pz_ast.specs.Classes.{DataMethodTree, DataClassTree, ProcessMethodTree, ProcessClassTree, DeclTree, data_class, process_class, ModelTree}
+use Rattle.pz_ast.specs.Classes.{DataMethodTree, ProcessMethodTree, DeclTree, data_class, process_class, ModelTree}
 use Rattle.pz_classes.specs.Numbers.{class}
 use Rattle.pz_classes.specs.Ancestors.{ancestors}
 use Rattle.pz_classes.specs.Members.{fields, variables, ports, spelled}
-use Rattle.pz_classes.specs.Methods.{method, method_at, process_method}
+use Rattle.pz_classes.specs.Methods.{method, method_at}
 use Rattle.pz_classes.specs.Violations.{violation}
 use Rattle.pz_classes.specs.ViolationList.{violations}
 

@@ -1,6 +1,5 @@
 -- Trees with slots and numbers in place of names. All other names stay.
 use Rattle.std.specs.Prelude.{ℕ, List, map, Option, Some, None, option_map, unwrap_or, cond}
-use Rattle.std.specs.Option.{option_map_or}
 use Rattle.pz_ast.specs.declared.names.Id.{Id}
 use Rattle.pz_ast.specs.Expressions.{Expression, literal, variable, me, clock, creation, group, chain, sends, unary, assign, returned, choice, loop, Expressions, none, more, Part, left_out, written, Links, no_links, link, Sendings, no_sendings, sending}
 use Rattle.pz_ast.specs.Statements.{Statement, skip, delay, bracketed, block, guarded, parallel, select, conditional, repeated, abort, interrupt, send, receive, call, assignment, value, Statements, no_statements, then, StatementPart, not_written, otherwise, Branches, no_branches, branch}

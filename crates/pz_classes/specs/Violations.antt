@@ -1,9 +1,9 @@
 -- The rules C1 to C3 of the checker, and which violation is the least.
-use Rattle.std.specs.Prelude.{◌≡◌, ◌≢◌, ℕ, Bool, true, false, not, ◌&&◌, ◌||◌, nat_eq, nat_lt, IsTrue, List, [], ◌∷◌, Contains, Option, Some, None, if◌then◌else◌}
+use Rattle.std.specs.Prelude.{◌≡◌, ℕ, Bool, true, false, not, ◌&&◌, ◌||◌, nat_eq, nat_lt, IsTrue, List, Contains, Some, if◌then◌else◌}
 use Rattle.std.specs.Option.{option_map_or, option_and_then}
 use Rattle.pz_ast.specs.declared.tokens.Pos.{Pos}
 use Rattle.pz_ast.specs.declared.names.Id.{Id}
-use Rattle.pz_ast.specs.Classes.{DeclTree, data_class, process_class, cluster_class, system, ModelTree}
+use Rattle.pz_ast.specs.Classes.{DeclTree, data_class, process_class, ModelTree}
 use Rattle.pz_classes.specs.declared.violation.Violation.{Violation}
 use Rattle.pz_classes.specs.ReservedNames.{is_primitive, is_unsupported, is_object}
 use Rattle.pz_classes.specs.Numbers.{declared_name, declaration, class}

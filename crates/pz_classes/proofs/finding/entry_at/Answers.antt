@@ -1,4 +1,4 @@
-use Rattle.std.proofs.Common.{◌≡◌, ap, ◌∙◌, sym, Option, slice_get, List}
+use Rattle.std.proofs.Common.{◌≡◌, ap, ◌∙◌, sym, Option, slice_get}
 use Rattle.std.specs.Option.{option_map, option_copied}
 use Rattle.std.proofs.lemmas.Option.{slice_get-map}
 use Rattle.pz_classes.specs.declared.entry.Entry.{Entry}

@@ -1,4 +1,4 @@
-use Rattle.std.proofs.Common.{◌≡◌, List, ℕ, None, Vec, Global, rules}
+use Rattle.std.proofs.Common.{◌≡◌, ℕ, None, Vec, Global, rules}
 use Rattle.std.specs.Map.{lookup}
 use Rattle.pz_classes.proofs.Numberings.{lookup-insert_named, finds}
 use Rattle.pz_classes.proofs.numbering.Numbering.add.Goals as goal

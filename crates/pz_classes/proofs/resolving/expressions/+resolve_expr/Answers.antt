@@ -1,6 +1,5 @@
-use Rattle.std.proofs.Common.{◌≡◌, ap, ◌∙◌, map, rules, None, Some, Option, List}
+use Rattle.std.proofs.Common.{◌≡◌, ap, ◌∙◌, rules, None, Some, Option, List}
 use Rattle.pz_ast.specs.declared.exprs.Expr.{Expr}
-use Rattle.pz_ast.specs.declared.exprs.ExprForm.{ExprForm}
 use Rattle.pz_ast.specs.declared.exprs.ExprForm.TheVariants.{If}
 use Rattle.pz_ast.specs.ExpressionView as tree
 use Rattle.pz_classes.specs.CodeView as code

@@ -1,4 +1,4 @@
-use Rattle.std.proofs.Common.{◌≡◌, ap, ◌∙◌, rules, None, Some, Option, List, arith}
+use Rattle.std.proofs.Common.{◌≡◌, ap, ◌∙◌, rules, Some, Option, List, arith}
 use Rattle.pz_ast.specs.declared.stmts.Stmt.{Stmt}
 use Rattle.pz_ast.specs.declared.stmts.StmtForm.TheVariants.{If}
 use Rattle.pz_ast.specs.ExpressionView as expression
@@ -8,7 +8,7 @@ use Rattle.pz_classes.specs.StepView as step
 use Rattle.pz_classes.specs.Resolution.{resolved, resolved_statement, resolved_statements}
 use Rattle.pz_classes.specs.ScopeView.{scope_view}
 use Rattle.pz_classes.proofs.Branches.{branch_step}
-use Rattle.pz_classes.proofs.ResolvedSteps.{list_done, branches_done, one_part, two_parts}
+use Rattle.pz_classes.proofs.ResolvedSteps.{list_done, branches_done, two_parts}
 use Rattle.pz_classes.proofs.resolving.statements.+resolve_stmt.Goals as goal
 
 pub resolve_statements-returns : goal.resolve_statements-returns
