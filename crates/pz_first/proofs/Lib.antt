@@ -1,0 +1,9 @@
+pub mod Texts
+pub mod Goings
+pub mod Remains
+pub mod Walked
+pub mod NameSets
+pub mod LastCalls
+pub mod NamesFitting
+pub mod Misfitting
+pub mod InGrammar

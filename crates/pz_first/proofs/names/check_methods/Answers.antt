@@ -1,0 +1,19 @@
+use Rattle.std.proofs.Common.{◌≡◌, ◌∙◌, refl, sym, ap, true, false, take}
+use Rattle.pz_first.specs.NamesTwin.{has_name, is_declared, declared_twice, unknown_call}
+use Rattle.pz_first.proofs.NameSets.{declared_more, fit_more, not_true, not_false}
+use Rattle.pz_first.proofs.names.check_methods.Goals as goal
+
+pub returns-then-not-branch : goal.returns-then-not-branch
+returns-then-not-branch c = λ _.
+    let m = c.method-item.result in
+    let here : has_name c.loop-method.seen c.as_str.result.now ≡ true = not_true _ (sym c.if-not-branch.true ∙ c.in_ok-insert.ensures.added) in
+    let declared : is_declared (take c.loop-method.method-index c.args.methods.now) m.name.name ≡ true = sym (c.loop-method.invariant.seen m.name.name) ∙ ap (has_name c.loop-method.seen) (sym c.as_str.ensures) ∙ here in
+    (m.name, record { number = c.loop-method.method-index; method = m; within = c.loop-method-test.true; is = c.method-item.is; before = c.loop-method.invariant.fit; misfit = declared_twice declared }, refl)
+
+pub returns-in-Some : goal.returns-in-Some
+returns-in-Some c = λ _.
+    let m = c.method-item.result in
+    let absent : has_name c.loop-method.seen c.as_str.result.now ≡ false = not_false _ (sym c.if-not-branch.false ∙ c.in_ok-insert.ensures.added) in
+    let new : is_declared (take c.loop-method.method-index c.args.methods.now) m.name.name ≡ false = sym (c.loop-method.invariant.seen m.name.name) ∙ ap (has_name c.loop-method.seen) (sym c.as_str.ensures) ∙ absent in
+    let id = c.in-Some.id.now in
+    (id, record { number = c.loop-method.method-index; method = m; within = c.loop-method-test.true; is = c.method-item.is; before = c.loop-method.invariant.fit; misfit = unknown_call id new c.in-Some.ensures.0 c.in-Some.ensures.1 }, refl)
