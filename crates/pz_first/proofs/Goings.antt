@@ -1,5 +1,5 @@
 -- The steps go through the text of each model of the first path, and from everywhere to an end.
-use Rattle.std.proofs.Common.{◌≡◌, ◌≢◌, ℕ, List, [], ◌∷◌, ◌++◌, Option, Some, None, refl, ap, sym, ◌∙◌}
+use Rattle.std.proofs.Common.{◌≡◌, ◌≢◌, ℕ, List, [], ◌∷◌, Some, refl}
 use Rattle.std.specs.Prelude.{pos, All, codes}
 use Rattle.std.proofs.lemmas.List.Elements.{All-head, All-tail}
 use Rattle.pz_ast.specs.declared.tokens.Symbol.TheVariants as s
@@ -12,7 +12,7 @@ use Rattle.pz_first.specs.declared.state.Behind.TheVariants as b
 use Rattle.pz_first.specs.declared.state.State.{State}
 use Rattle.pz_first.specs.declared.state.State.TheVariants as st
 use Rattle.pz_first.specs.Steps.{at_keyword, at_symbol, step, steps}
-use Rattle.pz_first.proofs.Texts.{brackets, simple, more, body, routines, instances, system, class, all}
+use Rattle.pz_first.proofs.Texts.{brackets, body, routines, instances, system, all}
 
 abbrev pub Ends : State → List TokenKind → Type 0
 Ends q xs = steps xs q ≡ Some st.End

@@ -1,6 +1,6 @@
 -- The grammar has the models of the first path.
-use Rattle.std.proofs.Common.{◌≡◌, ◌≢◌, ℕ, ◌≤◌, List, [], ◌∷◌, map, refl, arith}
-use Rattle.std.specs.Prelude.{All, max}
+use Rattle.std.proofs.Common.{◌≤◌, List, [], ◌∷◌, map, arith}
+use Rattle.std.specs.Prelude.{All}
 use Rattle.std.proofs.lemmas.List.Elements.{All-head, All-tail}
 use Rattle.pz_ast.specs.ModelForm.{Each, IsProcessMethod, IsModel}
 use Rattle.pz_ast.specs.StatementForm.{IsStatement, AreStatements, FollowStatements}

@@ -7,3 +7,6 @@ pub mod LastCalls
 pub mod NamesFitting
 pub mod Misfitting
 pub mod InGrammar
+pub mod HandedOn
+pub mod AllParts
+pub mod OfModel

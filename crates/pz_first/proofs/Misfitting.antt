@@ -1,18 +1,15 @@
 -- The first name that does not fit, over what the code has, is that of the definition.
-use Rattle.std.proofs.Common.{◌≡◌, ◌≢◌, ℕ, zero, suc, ◌+◌, ◌<◌, List, [], ◌∷◌, ◌++◌, length, map, take, drop, get_or, Bool, true, false, Option, Some, None, inl, inr, refl, sym, ap, ◌∙◌, subst, arith, append_assoc}
-use Rattle.std.specs.Prelude.{All, AllPairs, Any, Contains}
-use Rattle.std.specs.List.{list_any}
+use Rattle.std.proofs.Common.{◌≡◌, ◌≢◌, ℕ, zero, suc, ◌+◌, ◌<◌, List, [], ◌∷◌, ◌++◌, length, map, take, drop, get_or, Bool, true, false, Some, refl, sym, ap, ◌∙◌, subst, arith, append_assoc}
+use Rattle.std.specs.Prelude.{All, AllPairs, Contains}
 use Rattle.std.specs.Str.{bytes_eq}
 use Rattle.std.proofs.lemmas.List.{get_or-map, get_or_default, length-map, take_more, take-append-drop}
 use Rattle.std.proofs.lemmas.List.Elements.{All-take}
-use Rattle.std.proofs.lemmas.List.Folds.{list_any_at, Any-from_list_any, list_any-from_Any}
-use Rattle.std.proofs.lemmas.Slice.Eq.{bytes_eq-Decides}
+use Rattle.std.proofs.lemmas.List.Folds.{Any-from_list_any, list_any-from_Any}
 use Rattle.pz_ast.specs.declared.names.Id.{Id}
 use Rattle.pz_ast.specs.declared.classes.ProcessMethod.{ProcessMethod}
 use Rattle.pz_ast.specs.Classes.{ProcessMethodTree}
 use Rattle.pz_ast.specs.ClassView.{process_method_view}
-use Rattle.pz_ast.specs.StatementView.{sequence_view}
-use Rattle.pz_term.specs.FirstPath.{Simple, skips, delays, calls, statements_of, IsBody, Routine, FirstModel, method_of, HasBodies, reserved, HasRoutine, IsKnown}
+use Rattle.pz_term.specs.FirstPath.{Simple, skips, delays, calls, statements_of, IsBody, Routine, FirstModel, method_of, HasBodies, reserved, HasRoutine}
 use Rattle.pz_first.specs.Misfits.{IsNamed, RoutinesFit, IsRoutineMisfit, IsFirstMisfit}
 use Rattle.pz_first.specs.Misfits as misfit
 use Rattle.pz_first.specs.NamesTwin.{last_call, is_declared, is_reserved, CallIsKnown, MethodsFit, MethodMisfit, MethodsMisfit, PartsMisfit}

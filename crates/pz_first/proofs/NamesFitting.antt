@@ -1,12 +1,11 @@
 -- The rules on names, over what the code makes, are those of the definition.
-use Rattle.std.proofs.Common.{◌≡◌, ◌≢◌, ℕ, ◌<◌, List, [], ◌∷◌, length, map, get_or, Bool, true, false, Option, inl, inr, refl, sym, ap, ◌∙◌, subst, arith}
+use Rattle.std.proofs.Common.{◌≡◌, ◌≢◌, ℕ, ◌<◌, List, [], ◌∷◌, length, map, Bool, true, false, Option, refl, sym, ap, ◌∙◌, subst, arith}
 use Rattle.std.specs.Prelude.{◌||◌, All, AllPairs, Contains, IfSome}
 use Rattle.std.specs.List.{list_any}
 use Rattle.std.specs.Str.{bytes_eq}
-use Rattle.std.proofs.lemmas.Bool.{cases_Bool}
 use Rattle.std.proofs.lemmas.List.{get_or-map, length-map}
 use Rattle.std.proofs.lemmas.List.Elements.{All-nil, All-cons, All-head, All-tail}
-use Rattle.std.proofs.lemmas.List.Folds.{list_any_at, Any-from_list_any, list_any-from_Any}
+use Rattle.std.proofs.lemmas.List.Folds.{list_any_at, Any-from_list_any}
 use Rattle.std.proofs.lemmas.Slice.Eq.{bytes_eq-Decides}
 use Rattle.pz_ast.specs.declared.names.Id.{Id}
 use Rattle.pz_ast.specs.declared.classes.ProcessMethod.{ProcessMethod}
@@ -14,10 +13,7 @@ use Rattle.pz_ast.specs.Classes.{ProcessMethodTree}
 use Rattle.pz_ast.specs.StatementView.{sequence_view}
 use Rattle.pz_ast.specs.ClassView.{process_method_view}
 use Rattle.pz_term.specs.FirstPath.{Simple, skips, delays, calls, statements_of, IsBody, Routine, FirstModel, method_of, HasBodies, reserved, HasRoutine, IsKnown, NamesFit}
-use Rattle.pz_first.specs.Misfits.{IsNamed, RoutinesFit, IsRoutineMisfit, IsFirstMisfit}
-use Rattle.pz_first.specs.Misfits as misfit
-use Rattle.pz_first.specs.NamesTwin.{last_call, is_declared, is_reserved, CallIsKnown, MethodsFit, MethodMisfit, MethodsMisfit, PartsFit, PartsMisfit}
-use Rattle.pz_first.specs.NamesTwin as twin
+use Rattle.pz_first.specs.NamesTwin.{last_call, is_declared, is_reserved, CallIsKnown, PartsFit}
 
 pub same_bytes : (x y : List ℕ) → bytes_eq x y ≡ true → x ≡ y
 same_bytes x y e = (bytes_eq-Decides x y).0 e

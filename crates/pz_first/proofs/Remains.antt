@@ -1,6 +1,6 @@
 -- What the steps go through to an end is the text of a model of the first path.
 use Rattle.std.proofs.Common.{◌≡◌, ◌≢◌, ◌⊎◌, inl, inr, ℕ, Bool, true, false, cond, List, [], ◌∷◌, ◌++◌, Option, Some, None, refl, ap, sym, ◌∙◌, subst, rules}
-use Rattle.std.specs.Prelude.{ℤ, pos, All, if◌then◌else◌}
+use Rattle.std.specs.Prelude.{pos, All}
 use Rattle.std.specs.Option.{option_and_then}
 use Rattle.std.proofs.lemmas.List.Elements.{All-nil, All-cons}
 use denote.Enum.Bare.{sameb, same_true}
@@ -21,7 +21,7 @@ use Rattle.pz_first.specs.declared.state.State.{State}
 use Rattle.pz_first.specs.declared.state.State.TheVariants as st
 use Rattle.pz_first.specs.Steps.{at_keyword, at_symbol, at_name, at_duration, at_statement, at_end_of_body, at_end_of_simple, step, steps}
 use Rattle.pz_first.specs.Grammar.{IsFirst}
-use Rattle.pz_first.proofs.Texts.{kinds_are, brackets, simple, more, body, routines, instances, system, class, all}
+use Rattle.pz_first.proofs.Texts.{kinds_are, brackets, simple, more, body, routines, instances, system, all}
 use Rattle.pz_first.proofs.Goings.{Ends, opening, closing}
 
 -- ---- one step

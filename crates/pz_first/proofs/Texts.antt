@@ -1,5 +1,5 @@
 -- The kinds of the tokens of a model of the first path, written out.
-use Rattle.std.proofs.Common.{◌≡◌, ℕ, List, [], ◌∷◌, ◌++◌, map, refl, ap, sym, ◌∙◌, append_assoc}
+use Rattle.std.proofs.Common.{◌≡◌, ℕ, List, [], ◌∷◌, ◌++◌, map, refl, ap, ◌∙◌, append_assoc}
 use Rattle.std.specs.Prelude.{pos}
 use Rattle.std.proofs.lemmas.List.{map-append}
 use Rattle.pz_ast.specs.declared.tokens.Symbol.TheVariants as s
@@ -10,7 +10,7 @@ use Rattle.pz_ast.specs.declared.tokens.Mark.{Mark}
 use Rattle.pz_ast.specs.Marks.{each_text}
 use Rattle.pz_ast.specs.ClassText.{process_method_text}
 use Rattle.pz_ast.specs.StatementText.{text, texts, tail_texts}
-use Rattle.pz_term.specs.FirstPath.{Simple, skips, delays, calls, statement_of, statements_of, Routine, method_of, FirstModel, tree_of}
+use Rattle.pz_term.specs.FirstPath.{Simple, skips, delays, calls, statement_of, statements_of, Routine, method_of, FirstModel}
 use Rattle.pz_first.specs.Grammar.{kinds_of}
 
 abbrev pub kind_of : Mark → TokenKind

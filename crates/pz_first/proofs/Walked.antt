@@ -1,5 +1,5 @@
 -- Where the steps stop is where no text goes on.
-use Rattle.std.proofs.Common.{◌≡◌, ◌≢◌, ℕ, ◌+◌, ◌<◌, ◌≤◌, Bool, true, false, arith, List, [], ◌∷◌, ◌++◌, length, take, drop, map, get_or, Option, Some, None, refl, ap, sym, ◌∙◌, subst, append_assoc}
+use Rattle.std.proofs.Common.{◌≡◌, ◌≢◌, ℕ, ◌+◌, ◌<◌, ◌≤◌, true, false, List, [], ◌∷◌, ◌++◌, length, take, drop, get_or, Option, Some, None, refl, ap, sym, ◌∙◌, subst, append_assoc}
 use Rattle.std.specs.Option.{option_and_then}
 use Rattle.std.proofs.lemmas.List.{map-append, take_more, take_all, take-append-drop}
 use Rattle.pz_ast.specs.declared.tokens.Pos.{Pos}
@@ -7,7 +7,7 @@ use Rattle.pz_ast.specs.declared.tokens.Token.{Token}
 use Rattle.pz_ast.specs.declared.tokens.TokenKind.{TokenKind}
 use Rattle.pz_first.specs.declared.state.State.{State}
 use Rattle.pz_first.specs.declared.state.State.TheVariants as st
-use Rattle.pz_first.specs.Grammar.{kinds, kinds_of, IsFirst, Begins, IsRefusedAt, at_token, at_end}
+use Rattle.pz_first.specs.Grammar.{kinds, IsFirst, Begins, IsRefusedAt, at_token, at_end}
 use Rattle.pz_first.specs.Steps.{step, steps, is_end}
 use Rattle.pz_first.proofs.Texts.{kinds_are}
 use Rattle.pz_first.proofs.Goings.{Ends, all_ends, ending, ends}

@@ -1,6 +1,6 @@
 -- What may come next in the text of a model of the first path, as steps from state to state. A
 -- device of the proofs: that the steps go through exactly these texts is proved.
-use Rattle.std.specs.Prelude.{ℕ, ℤ, pos, Bool, true, false, if◌then◌else◌, List, [], ◌∷◌, Option, Some, None}
+use Rattle.std.specs.Prelude.{pos, Bool, true, false, if◌then◌else◌, List, [], ◌∷◌, Option, Some, None}
 use Rattle.std.specs.Option.{option_and_then}
 use denote.Enum.Bare.{sameb}
 use Rattle.pz_ast.specs.contracts.tokens.Keyword as keyword

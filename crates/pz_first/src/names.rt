@@ -56,7 +56,13 @@ fn check_parts(alloc: Global, class: &ProcessClass, system: &SystemDecl) -> Resu
         unreachable!()
     };
     let of_class = class_of_instance(system);
-    check_all(alloc, &class.name, &start.method, methods.as_slice(), of_class)
+    check_all(
+        alloc,
+        &class.name,
+        &start.method,
+        methods.as_slice(),
+        of_class,
+    )
 }
 
 /// The class of the one instance.

@@ -65,7 +65,11 @@ pub fn step(state: State, kind: &TokenKind) -> Option<State>
         State::SecondOpening(behind) => {
             at_symbol(kind, Symbol::LeftParen, State::SecondClosing(behind))
         }
-        State::SecondClosing(behind) => at_symbol(kind, Symbol::RightParen, behind_brackets(behind)),
+        State::SecondClosing(behind) => at_symbol(
+            kind,
+            Symbol::RightParen,
+            behind_brackets(behind),
+        ),
         State::Methods => at_keyword(kind, Keyword::Methods, State::MethodName),
         State::MethodName => at_name(kind, State::FirstOpening(Behind::Method)),
         State::Statement => at_statement(kind),

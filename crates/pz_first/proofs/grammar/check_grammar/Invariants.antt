@@ -1,4 +1,4 @@
-use Rattle.std.proofs.Common.{◌≡◌, take}
+use Rattle.std.proofs.Common.{take}
 use Rattle.pz_first.proofs.Walked.{Reached}
 use Rattle.pz_first.proofs.grammar.check_grammar.Given as goal
 

@@ -17,3 +17,14 @@ returns-in-Some c = λ _.
     let new : is_declared (take c.loop-method.method-index c.args.methods.now) m.name.name ≡ false = sym (c.loop-method.invariant.seen m.name.name) ∙ ap (has_name c.loop-method.seen) (sym c.as_str.ensures) ∙ absent in
     let id = c.in-Some.id.now in
     (id, record { number = c.loop-method.method-index; method = m; within = c.loop-method-test.true; is = c.method-item.is; before = c.loop-method.invariant.fit; misfit = unknown_call id new c.in-Some.ensures.0 c.in-Some.ensures.1 }, refl)
+
+pub loop-method-preserved : goal.loop-method-preserved
+loop-method-preserved c =
+    let m = c.method-item.result in
+    let absent : has_name c.loop-method.seen c.as_str.result.now ≡ false = not_false _ (sym c.if-not-branch.false ∙ c.in_ok-insert.ensures.added) in
+    let new : is_declared (take c.loop-method.method-index c.args.methods.now) m.name.name ≡ false = sym (c.loop-method.invariant.seen m.name.name) ∙ ap (has_name c.loop-method.seen) (sym c.as_str.ensures) ∙ absent in
+    record {
+      seen = declared_more c.loop-method.seen c.insert.new.self c.as_str.result c.in_ok-insert.field-0 c.args.methods.now c.loop-method.method-index m
+          c.in_ok-insert.ensures.added c.in_ok-insert.ensures.keys c.as_str.ensures c.loop-method-test.true c.method-item.is c.loop-method.invariant.seen;
+      fit = fit_more (has_name c.args.declared.now) c.args.methods.now c.loop-method.method-index m c.loop-method-test.true c.method-item.is new c.in_default.ensures c.loop-method.invariant.fit;
+    }
