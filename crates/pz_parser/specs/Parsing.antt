@@ -1,0 +1,56 @@
+-- What the call that parses promises.
+use Rattle.std.specs.Prelude.{◌≡◌, ◌<◌, ◌≤◌, ◌⊎◌, ◌-◌, ℕ, List, [], ◌∷◌, length, drop, ⊤, Result, MatchResult}
+use Rattle.pz_ast.specs.declared.tokens.Pos.{Pos}
+use Rattle.pz_ast.specs.declared.tokens.Token.{Token}
+use Rattle.pz_ast.specs.declared.clusters.Model.{Model}
+use Rattle.pz_ast.specs.Classes.{ModelTree}
+use Rattle.pz_ast.specs.ClassView.{model_view}
+use Rattle.pz_ast.specs.ModelText.{text}
+use Rattle.pz_ast.specs.ModelForm.{IsModel}
+use Rattle.pz_ast.specs.ModelNesting.{nesting}
+use Rattle.pz_ast.specs.ModelErasure.{erase}
+use Rattle.pz_cursor.specs.Input.{marks}
+use Rattle.pz_cursor.specs.Places.{positions}
+use Rattle.pz_cursor.specs.Openers.{openers}
+use Rattle.pz_cursor.specs.declared.refusal.Refusal.{Refusal}
+use Rattle.pz_cursor.specs.declared.refusal.Refusal.TheVariants as refusal
+use Rattle.pz_parser.specs.declared.error.ParseError.{ParseError}
+use Rattle.pz_parser.specs.declared.error.ParseError.TheVariants.{NoMemory, Syntax, TooNested}
+use Rattle.pz_parser.specs.ModelPlaces.{place_model}
+
+-- the model is one that the grammar has, no deeper than the limit, and the tokens are its text
+abbrev pub IsTextOf : ℕ → List Token → ModelTree → Type 0
+IsTextOf limit tokens m = IsModel m × (nesting m ≤ limit) × (marks tokens ≡ text m)
+
+-- this model is the answer, up to positions, unless memory fails
+abbrev pub ReadsAs : ModelTree → Result Model ParseError → Type 0
+ReadsAs t result = MatchResult result (λ m. erase (model_view m) ≡ erase t) (λ e. e ≡ NoMemory)
+
+-- each part stands where the token stands that it is named after
+abbrev pub IsInPlace : List Token → ModelTree → Type 0
+IsInPlace tokens m = m ≡ place_model (positions tokens) 0 m
+
+-- one of the tokens stands there
+abbrev pub IsPlace : List Token → Pos → Type 0
+IsPlace tokens p = (n : ℕ) × (n < length tokens) × (p ≡ positions tokens n)
+
+-- why there may be a refusal of this kind at this place
+abbrev pub MayRefuse : ℕ → List Token → Pos → ParseError → Type 0
+MayRefuse limit tokens end NoMemory = ⊤
+MayRefuse limit tokens end (Syntax p) = IsPlace tokens p ⊎ (p ≡ end)
+MayRefuse limit tokens end (TooNested p) = IsPlace tokens p × (limit < openers (marks tokens))
+
+-- ---- refusals with places
+
+abbrev pub first_or : Pos → List Token → Pos
+first_or end [] = end
+first_or end (t ∷ ts) = t.pos
+
+-- the place of the token from which on so many are left; the end where none is
+unfoldable pub place_left : List Token → Pos → ℕ → Pos
+place_left tokens end left = first_or end (drop (length tokens - left) tokens)
+
+abbrev pub error_of : List Token → Pos → Refusal → ParseError
+error_of tokens end refusal.NoMemory = NoMemory
+error_of tokens end (refusal.Syntax left) = Syntax (place_left tokens end left)
+error_of tokens end (refusal.TooNested left) = TooNested (place_left tokens end left)

@@ -1,0 +1,15 @@
+//! The parser: from tokens to the tree of a model.
+#![tactic(auto)]
+
+mod error;
+mod laws;
+mod models;
+mod parser;
+mod processes;
+
+pub use error::ParseError;
+pub use laws::one_tree;
+pub use parser::parse;
+
+#[cfg(test)]
+mod tests;
