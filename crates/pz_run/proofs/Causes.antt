@@ -67,10 +67,14 @@ module _ (text : List ℕ) (ts : List Token) (are : AreTokens text ts) where
   module _ (tree : ModelTree) (of : IsTreeOf ts tree) where
     -- the tree is one that runs
     pub with_model : IsFirstPath tree → (m : FirstModel) × (tree ≡ tree_of m) × IsModelOf text m
-    with_model is = (is.model, is.is_tree, record {
-      is_built = record { tokens = ts; are_tokens = are; is_tree = subst (IsTreeOf ts) is.is_tree of; has_bodies = is.has_bodies };
-      names_fit = is.names_fit;
-    })
+    with_model is = (
+      is.model,
+      is.is_tree,
+      record {
+        is_built = record { tokens = ts; are_tokens = are; is_tree = subst (IsTreeOf ts) is.is_tree of; has_bodies = is.has_bodies };
+        names_fit = is.names_fit;
+      },
+    )
 
     unbuilt : (at : Pos) → IsUnbuilt ts (end_of text) tree at → IsRefused text (refusal.Unbuilt at)
     unbuilt _ (grammar at is) = not_built ts tree at are of is

@@ -11,3 +11,4 @@ pub mod Goings
 pub mod Keeps
 pub mod Begun
 pub mod SaidRuns
+mod Rows

@@ -1,0 +1,94 @@
+-- The text of the first worked row is that of its model.
+use Rattle.std.proofs.Common.{◌≡◌, ◌≤◌, ℕ, List, [], ◌∷◌, Some, Result, Ok, Err, refl, codes, arith, lit<}
+use Rattle.std.specs.Prelude.{All}
+use Rattle.std.specs.Fmt.{digits}
+use Rattle.std.proofs.lemmas.List.Elements.{All-nil, All-cons}
+use Rattle.pz_ast.specs.declared.names.Id.{Id}
+use Rattle.pz_ast.specs.declared.tokens.Pos.{Pos}
+use Rattle.pz_ast.specs.declared.tokens.Token.{Token}
+use Rattle.pz_ast.specs.ModelNesting.{nesting}
+use Rattle.pz_lexer.specs.declared.error.LexError.{LexError}
+use Rattle.pz_lexer.specs.Tokens.{AreTokens}
+use Rattle.pz_lexer.specs.Twin.{lexed}
+use Rattle.pz_lexer.proofs.Cuts.{tokens_from_lexed}
+use Rattle.pz_first.proofs.InGrammar.{in_grammar}
+use Rattle.pz_first.proofs.NamesFitting.{free_sound}
+use Rattle.pz_term.specs.FirstPath.{skips, delays, Routine, FirstModel, tree_of, IsBody, HasBodies, IsKnown}
+use Rattle.pz_term.specs.declared.action.Action.TheVariants.{Internal}
+use Rattle.pz_term.specs.declared.action.Kind.{Kind}
+use Rattle.pz_term.specs.declared.action.Kind.TheVariants.{Skip, Expire, Call}
+use Rattle.pz_term.specs.Runs.{Event, acted, passed, ended}
+use Rattle.pz_run.specs.Models.{IsTreeOf, IsModelOf}
+use Rattle.pz_run.specs.TraceText.{trace_text}
+
+abbrev row_text : List ℕ
+row_text = codes "process class P\ninit a()()\nmethods a()()\nskip;\ndelay 3;\nskip\nsystem instances p : P\n"
+
+abbrev at : ℕ → ℕ → Pos
+at line column = record { line = line; column = column }
+
+abbrev id : List ℕ → Pos → Id
+id name pos = record { name = name; pos = pos }
+
+abbrev row_routine : Routine
+row_routine = record { name = id (codes "a") (at 3 9); body = skips (at 4 1) ∷ delays (at 5 1) (at 5 7) 3 ∷ skips (at 6 1) ∷ [] }
+
+abbrev row_model : FirstModel
+row_model = record {
+  class = id (codes "P") (at 1 15);
+  init = id (codes "a") (at 2 6);
+  routines = row_routine ∷ [];
+  system_pos = at 7 1;
+  instance = id (codes "p") (at 7 18);
+  of_class = id (codes "P") (at 7 22);
+}
+
+abbrev tokens_in : Result (List Token) LexError → List Token
+tokens_in (Ok tokens) = tokens
+tokens_in (Err error) = []
+
+abbrev row_tokens : List Token
+row_tokens = tokens_in (lexed row_text)
+
+are_tokens : AreTokens row_text row_tokens
+are_tokens = tokens_from_lexed row_text row_tokens refl
+
+has_bodies : HasBodies row_model
+has_bodies = record {
+  some = λ e. cc;
+  bodies = All-cons (λ r. IsBody r.body) row_routine [] tt (All-nil (λ r. IsBody r.body));
+}
+
+is_tree : IsTreeOf row_tokens (tree_of row_model)
+is_tree =
+    let law = in_grammar row_model has_bodies in
+    let few : nesting (tree_of row_model) ≤ 100 = omega (arith, law.1) in
+    record { is_text = (law.0, few, refl); in_place = refl }
+
+known : All (IsKnown row_model) row_routine.body
+known =
+    All-cons (IsKnown row_model) (skips (at 4 1)) (delays (at 5 1) (at 5 7) 3 ∷ skips (at 6 1) ∷ []) tt
+    (All-cons (IsKnown row_model) (delays (at 5 1) (at 5 7) 3) (skips (at 6 1) ∷ []) tt
+    (All-cons (IsKnown row_model) (skips (at 6 1)) [] tt (All-nil (IsKnown row_model))))
+
+row : IsModelOf row_text row_model
+row = record {
+  is_built = record { tokens = row_tokens; are_tokens = are_tokens; is_tree = is_tree; has_bodies = has_bodies };
+  names_fit = record {
+    class_is_free = free_sound (codes "P") refl;
+    init_is_known = (0, row_routine, lit< tt, refl, refl);
+    none_twice = λ i j d lt low. absurd (omega arith);
+    calls_are_known = All-cons (λ r. All (IsKnown row_model) r.body) row_routine [] known (All-nil (λ r. All (IsKnown row_model) r.body));
+    instance_of_class = refl;
+  };
+}
+
+-- the text of its run, of which the crate of the rules works out the events
+abbrev acts : ℕ → Kind → Pos → Event
+acts clock kind pos = acted clock 1 0 (Internal (record { process = 0; place = [] }) kind pos)
+
+row_trace :
+    trace_text (codes "p") (acts 0 Call (at 2 6) ∷ acts 0 Skip (at 4 1) ∷ passed 0 3 ∷ acts 3 Expire (at 5 1) ∷ acts 3 Skip (at 6 1) ∷ []) 3 ended
+    ≡ codes "poosl-trace 1\n0 1 0 p call 2:6\n0 1 0 p skip 4:1\n0 time 3\n3 1 0 p expire 5:1\n3 1 0 p skip 6:1\n3 end\n"
+unfolding digits
+row_trace = refl
