@@ -44,8 +44,8 @@ module _ (limit : ℕ) (i : Tokens) where
   pub in_place : (t : ModelTree) (j : Tokens) → spec.model limit i ≡ Ok (t, j) → IsInPlace i t
   in_place t j e = sym (read_as t t j (found t j e) e)
 
-  pub only : (t u : ModelTree) (j : Tokens) → spec.model limit i ≡ Ok (u, j) → IsTextOf limit i t → erase u ≡ erase t
-  only t u j e f = sym (ap erase (read_as t u j f e)) ∙ erased_model (positions i) 0 t
+  pub only : (t u : ModelTree) (j : Tokens) → spec.model limit i ≡ Ok (u, j) → IsTextOf limit i t → u ≡ place_model (positions i) 0 t
+  only t u j e f = sym (read_as t u j f e)
 
   -- the text of a model is not refused
   pub not_refused : (t : ModelTree) (r : Refusal) → IsTextOf limit i t → spec.model limit i ≡ Err r → ⊥
@@ -103,4 +103,4 @@ one_tree t u p q e =
     let i = located (λ n. origin) 0 (text t) in
     let m = marks_located (λ n. origin) 0 (text t) in
     let read = model_complete limit i t (p, omega arith) m in
-    sym (erased_model (positions i) 0 t) ∙ only limit i u (place_model (positions i) 0 t) [] read (q, omega arith, m ∙ e)
+    sym (erased_model (positions i) 0 t) ∙ ap erase (only limit i u (place_model (positions i) 0 t) [] read (q, omega arith, m ∙ e)) ∙ erased_model (positions i) 0 u

@@ -1,10 +1,16 @@
 -- A text has one tree.
-use Rattle.std.specs.Prelude.{◌≡◌}
+use Rattle.std.specs.Prelude.{◌≡◌, ℕ}
+use Rattle.pz_ast.specs.declared.tokens.Pos.{Pos}
 use Rattle.pz_ast.specs.Classes.{ModelTree}
 use Rattle.pz_ast.specs.ModelText.{text}
 use Rattle.pz_ast.specs.ModelForm.{IsModel}
 use Rattle.pz_ast.specs.ModelErasure.{erase}
+use Rattle.pz_parser.specs.ModelPlaces.{place_model}
 
 -- whatever the nesting
 abbrev pub HasOneTree : Type 0
 HasOneTree = (t u : ModelTree) → IsModel t → IsModel u → text t ≡ text u → erase t ≡ erase u
+
+-- a tree with the positions of tokens is that tree up to positions
+abbrev pub PlacesAlone : Type 0
+PlacesAlone = (at : ℕ → Pos) (n : ℕ) (t : ModelTree) → erase (place_model at n t) ≡ erase t

@@ -8,7 +8,6 @@ use Rattle.pz_ast.specs.ClassView.{model_view}
 use Rattle.pz_ast.specs.ModelText.{text}
 use Rattle.pz_ast.specs.ModelForm.{IsModel}
 use Rattle.pz_ast.specs.ModelNesting.{nesting}
-use Rattle.pz_ast.specs.ModelErasure.{erase}
 use Rattle.pz_cursor.specs.Input.{marks}
 use Rattle.pz_cursor.specs.Places.{positions}
 use Rattle.pz_cursor.specs.Openers.{openers}
@@ -22,9 +21,9 @@ use Rattle.pz_parser.specs.ModelPlaces.{place_model}
 abbrev pub IsTextOf : ℕ → List Token → ModelTree → Type 0
 IsTextOf limit tokens m = IsModel m × (nesting m ≤ limit) × (marks tokens ≡ text m)
 
--- this model is the answer, up to positions, unless memory fails
-abbrev pub ReadsAs : ModelTree → Result Model ParseError → Type 0
-ReadsAs t result = MatchResult result (λ m. erase (model_view m) ≡ erase t) (λ e. e ≡ NoMemory)
+-- this model is the answer, with the positions of the tokens, unless memory fails
+abbrev pub ReadsAs : List Token → ModelTree → Result Model ParseError → Type 0
+ReadsAs tokens t result = MatchResult result (λ m. model_view m ≡ place_model (positions tokens) 0 t) (λ e. e ≡ NoMemory)
 
 -- each part stands where the token stands that it is named after
 abbrev pub IsInPlace : List Token → ModelTree → Type 0

@@ -8,7 +8,7 @@ mod parser;
 mod processes;
 
 pub use error::ParseError;
-pub use laws::one_tree;
+pub use laws::{one_tree, places_alone};
 pub use parser::parse;
 
 #[cfg(test)]

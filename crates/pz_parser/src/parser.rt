@@ -16,7 +16,7 @@ use std::alloc::Global;
 /// one in another. `NoMemory` is the one answer that any tokens may have.
 pub fn parse(alloc: Global, tokens: &[Token], end: Pos) -> Result<Model, ParseError>
     ensures found { IfOk result (λ m. IsTextOf 100 tokens.now (model_view m)) }
-    ensures only { (t : ModelTree) → IsTextOf 100 tokens.now t → ReadsAs t result }
+    ensures only { (t : ModelTree) → IsTextOf 100 tokens.now t → ReadsAs tokens.now t result }
     ensures places { IfOk result (λ m. IsInPlace tokens.now (model_view m)) }
     ensures refused { IfErr result (λ e. MayRefuse 100 tokens.now end e) }
 {
@@ -32,7 +32,7 @@ fn parse_within(
 ) -> Result<Model, ParseError>
     requires room { limit < 2 ^ 64 - 1 }
     ensures found { IfOk result (λ m. IsTextOf limit tokens.now (model_view m)) }
-    ensures only { (t : ModelTree) → IsTextOf limit tokens.now t → ReadsAs t result }
+    ensures only { (t : ModelTree) → IsTextOf limit tokens.now t → ReadsAs tokens.now t result }
     ensures places { IfOk result (λ m. IsInPlace tokens.now (model_view m)) }
     ensures refused { IfErr result (λ e. MayRefuse limit tokens.now end e) }
 {

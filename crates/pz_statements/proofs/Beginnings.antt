@@ -1,18 +1,15 @@
 -- The first tokens of statements.
-use Rattle.std.proofs.Common.{◌≡◌, ◌≢◌, ℕ, zero, suc, ◌+◌, ◌≤◌, ◌<◌, Bool, true, false, List, [], ◌∷◌, ◌++◌, length, refl, ap, sym, ◌∙◌, subst, arith, append_assoc}
-use Rattle.std.specs.Prelude.{⊤}
+use Rattle.std.proofs.Common.{◌≡◌, ◌≢◌, ℕ, ◌+◌, ◌≤◌, Bool, true, false, List, [], ◌∷◌, ◌++◌, length, refl, ap, sym, ◌∙◌, arith, append_assoc}
 use Rattle.pz_ast.specs.declared.tokens.Pos.{Pos}
 use Rattle.pz_ast.specs.declared.tokens.Symbol.{Symbol}
 use Rattle.pz_ast.specs.declared.tokens.Symbol.TheVariants as s
 use Rattle.pz_ast.specs.declared.tokens.Mark.{Mark}
 use Rattle.pz_ast.specs.declared.names.Id.{Id}
-use Rattle.pz_ast.specs.declared.exprs.Literal.{Literal}
-use Rattle.pz_ast.specs.declared.exprs.Literal.TheVariants as lit
-use Rattle.pz_ast.specs.Marks.{mark, symbol}
-use Rattle.pz_ast.specs.Expressions.{Expression, literal, variable, me, clock, creation, group, chain, sends, unary, assign, returned, choice, loop, Links, no_links, link, Sendings, no_sendings, sending}
+use Rattle.pz_ast.specs.Marks.{symbol}
+use Rattle.pz_ast.specs.Expressions.{Expression, literal, variable, me, clock, creation, group, chain, sends, unary, assign, returned, choice, loop, no_links, link, no_sendings, sending}
 use Rattle.pz_ast.specs.ExpressionText.{links_text, sendings_text, literal_kind}
 use Rattle.pz_ast.specs.ExpressionText as expression
-use Rattle.pz_ast.specs.ExpressionForm.{IsExpression, IsSign, IsValue, level, operator_level}
+use Rattle.pz_ast.specs.ExpressionForm.{IsExpression, IsSign, level}
 use Rattle.pz_ast.specs.Statements.{Statement, skip, delay, bracketed, block, guarded, parallel, select, conditional, repeated, abort, interrupt, send, receive, call, assignment, value, Statements, no_statements, then}
 use Rattle.pz_ast.specs.StatementForm.{MayBeginStatement, IsStatement, AreStatements}
 use Rattle.pz_ast.specs.StatementText.{text, texts, tail_texts}
@@ -22,7 +19,6 @@ use Rattle.pz_cursor.specs.LookAhead.{next, next_by}
 use Rattle.pz_cursor.specs.Input.{Tokens, marks}
 use Rattle.pz_cursor.specs.Places.{located}
 use Rattle.pz_cursor.proofs.Reading.{split_located}
-use Rattle.pz_cursor.proofs.Joined.{token}
 use Rattle.pz_values.proofs.Texts.{starts, begins}
 use Rattle.pz_values.proofs.Firsts.{literal_shows}
 

@@ -1,5 +1,5 @@
 -- What does not go on with a statement, or with a body, that stands before it.
-use Rattle.std.proofs.Common.{◌≡◌, ◌≢◌, ℕ, ◌<◌, Bool, true, false, ◌∷◌, refl, arith}
+use Rattle.std.proofs.Common.{◌≡◌, ◌≢◌, ◌<◌, Bool, true, false, ◌∷◌, refl, arith}
 use Rattle.pz_ast.specs.declared.tokens.Pos.{Pos}
 use Rattle.pz_ast.specs.declared.tokens.Keyword.TheVariants as k
 use Rattle.pz_ast.specs.declared.tokens.TokenKind.TheVariants as kind

@@ -1,11 +1,10 @@
 -- The positions of the tokens change nothing else of a statement.
-use Rattle.std.proofs.Common.{◌≡◌, ℕ, suc, ◌+◌, List, [], ◌∷◌, length, map, Option, Some, None, refl, ap, ◌∙◌}
+use Rattle.std.proofs.Common.{◌≡◌, ℕ, suc, ◌+◌, length, map, refl, ap, ◌∙◌}
 use Rattle.std.specs.Prelude.{option_map}
 use Rattle.pz_ast.specs.declared.tokens.Pos.{Pos}
 use Rattle.pz_ast.specs.declared.tokens.Symbol.TheVariants as s
 use Rattle.pz_ast.specs.declared.names.Id.{Id}
 use Rattle.pz_ast.specs.Marks.{names_text, optional}
-use Rattle.pz_ast.specs.Expressions.{Expression}
 use Rattle.pz_ast.specs.ExpressionText.{arguments_text}
 use Rattle.pz_ast.specs.ExpressionText as expression_text
 use Rattle.pz_ast.specs.ExpressionErasure.{origin, erase_id, erase_all, erase_part}

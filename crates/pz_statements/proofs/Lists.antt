@@ -1,13 +1,12 @@
 -- Lists of statements and of branches as lists.
-use Rattle.std.proofs.Common.{◌≡◌, ℕ, zero, suc, ◌+◌, ◌≤◌, ◌<◌, List, [], ◌∷◌, ◌++◌, length, refl, ap, sym, ◌∙◌, arith}
-use Rattle.std.specs.Prelude.{⊤, max}
+use Rattle.std.proofs.Common.{◌≡◌, ℕ, suc, ◌+◌, ◌<◌, List, [], ◌∷◌, ◌++◌, length, refl, ap, sym, ◌∙◌, arith}
 use Rattle.pz_ast.specs.declared.tokens.Pos.{Pos}
 use Rattle.pz_ast.specs.declared.tokens.Symbol.TheVariants as s
 use Rattle.pz_ast.specs.declared.tokens.Keyword.{Keyword}
 use Rattle.pz_ast.specs.declared.tokens.TokenKind.TheVariants as kind
 use Rattle.pz_ast.specs.declared.tokens.Mark.{Mark}
 use Rattle.pz_ast.specs.declared.names.Id.{Id}
-use Rattle.pz_ast.specs.Marks.{mark, symbol, keyword}
+use Rattle.pz_ast.specs.Marks.{symbol, keyword}
 use Rattle.pz_ast.specs.Statements.{Statements, no_statements, then, Branches, no_branches, branch}
 use Rattle.pz_ast.specs.StatementView.{Tree, sequence_of, branches_of}
 use Rattle.pz_ast.specs.StatementText.{text, texts, tail_texts, branches_text, tail_branches}

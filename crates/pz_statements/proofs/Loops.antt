@@ -1,7 +1,7 @@
 -- The rules unfolded once.
-use Rattle.std.proofs.Common.{◌≡◌, ◌≢◌, ℕ, zero, suc, ◌+◌, List, map, Result, Ok, Err, refl, ap, sym, ◌∙◌, subst, arith}
+use Rattle.std.proofs.Common.{◌≡◌, ℕ, zero, suc, List, map, Result, Ok, Err, refl, subst}
 use Rattle.pz_ast.specs.declared.stmts.Stmt.{Stmt}
-use Rattle.pz_ast.specs.StatementView.{Tree, view, sequence_view}
+use Rattle.pz_ast.specs.StatementView.{view, sequence_view}
 use Rattle.pz_cursor.specs.declared.ahead.Next.TheVariants as n
 use Rattle.pz_cursor.specs.declared.refusal.Refusal.{Refusal}
 use Rattle.pz_cursor.specs.Input.{Tokens}

@@ -1,13 +1,12 @@
 -- What the rules for sends, receptions and calls read is the text of a statement that the grammar
 -- has, within the nesting.
-use Rattle.std.proofs.Common.{◌≡◌, ◌≢◌, ℕ, zero, suc, ◌+◌, ◌≤◌, ◌<◌, Bool, true, false, cond, List, [], ◌∷◌, ◌++◌, length, Option, Some, None, Ok, Err, refl, ap, sym, ◌∙◌, subst, arith, append_assoc}
-use Rattle.std.specs.Prelude.{⊤, max}
+use Rattle.std.proofs.Common.{◌≡◌, ℕ, suc, ◌<◌, Bool, true, false, cond, List, [], ◌∷◌, ◌++◌, Option, Some, None, Ok, refl, ap, sym, ◌∙◌, arith, append_assoc}
 use Rattle.pz_ast.specs.declared.tokens.Symbol.TheVariants as s
 use Rattle.pz_ast.specs.declared.tokens.TokenKind.TheVariants as kind
 use Rattle.pz_ast.specs.declared.tokens.Mark.{Mark}
 use Rattle.pz_ast.specs.declared.names.Id.{Id}
-use Rattle.pz_ast.specs.Marks.{symbol, word, head, names_text}
-use Rattle.pz_ast.specs.Expressions.{Expression, Part, left_out, written}
+use Rattle.pz_ast.specs.Marks.{symbol, word, head, names_text, in_parentheses}
+use Rattle.pz_ast.specs.Expressions.{Part, left_out, written}
 use Rattle.pz_ast.specs.ExpressionView.{list_of as expressions}
 use Rattle.pz_ast.specs.ExpressionView as expression
 use Rattle.pz_ast.specs.ExpressionText.{arguments_text}
@@ -24,7 +23,7 @@ use Rattle.pz_cursor.specs.declared.ahead.Next.{Next}
 use Rattle.pz_cursor.specs.declared.ahead.Next.TheVariants as n
 use Rattle.pz_cursor.specs.LookAhead.{next}
 use Rattle.pz_cursor.specs.Input.{Tokens, marks, after, position, identifier, sees}
-use Rattle.pz_cursor.specs.Device.{Outcome, Parser, ◌>>=◌, ◌>>◌, ◌<$>◌, pure, refuse, skip, and_then, expect, expect_id, deepen}
+use Rattle.pz_cursor.specs.Device.{Parser, ◌>>◌, ◌<$>◌, refuse, skip, expect, expect_id, deepen}
 use Rattle.pz_cursor.specs.Names.{optional_names}
 use Rattle.pz_cursor.proofs.Shown.{token_of}
 use Rattle.pz_cursor.proofs.Steps.{bind_ok, takes, sees_is, expected, opened}
@@ -39,8 +38,9 @@ use Rattle.pz_values.proofs.Readings.{bracketed, enclosed_sound, arguments_sound
 use Rattle.pz_statements.specs.Messages.{ReceptionTree, call_results, after_by, after_message, sent, condition, enclosed_reception, reception_by, reception, received, call_arguments, called}
 use Rattle.pz_statements.proofs.Lists.{Fits}
 
-abbrev results_text : List Id → List Mark
-results_text xs = symbol s.LeftParen ∷ (names_text xs ++ symbol s.RightParen ∷ [])
+-- the second group of a call
+abbrev pub results_text : List Id → List Mark
+results_text xs = in_parentheses (names_text xs)
 
 results_sound : Sound results_text call_results (Each Any)
 unfolding call_results

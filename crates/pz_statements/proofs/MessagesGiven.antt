@@ -1,7 +1,6 @@
 -- Each send, reception and call within the nesting is read from its text, with the places of the
 -- tokens, before what does not go on with it.
-use Rattle.std.proofs.Common.{◌≡◌, ◌≢◌, ℕ, zero, suc, ◌+◌, ◌≤◌, ◌<◌, Bool, true, false, List, [], ◌∷◌, ◌++◌, length, Option, Some, None, Ok, Err, refl, ap, sym, ◌∙◌, subst, arith, append_assoc, length-append}
-use Rattle.std.specs.Prelude.{⊤, max}
+use Rattle.std.proofs.Common.{◌≡◌, ◌≢◌, ℕ, suc, ◌+◌, ◌<◌, true, List, [], ◌∷◌, ◌++◌, length, Option, Some, None, Ok, refl, ap, sym, ◌∙◌, arith, append_assoc, length-append}
 use Rattle.pz_ast.specs.declared.tokens.Pos.{Pos}
 use Rattle.pz_ast.specs.declared.tokens.Symbol.TheVariants as s
 use Rattle.pz_ast.specs.declared.tokens.TokenKind.TheVariants as kind
@@ -25,7 +24,7 @@ use Rattle.pz_cursor.specs.LookAhead.{next, same}
 use Rattle.pz_cursor.specs.Input.{Tokens, after, position, identifier, name, sees}
 use Rattle.pz_cursor.specs.Device.{expect, expect_id}
 use Rattle.pz_cursor.specs.Places.{located, place_names}
-use Rattle.pz_cursor.proofs.Steps.{deepen_is, expect_is, not_seen}
+use Rattle.pz_cursor.proofs.Steps.{deepen_is, expect_is}
 use Rattle.pz_cursor.proofs.Reading.{split_located}
 use Rattle.pz_cursor.proofs.Joined.{token}
 use Rattle.pz_cursor.proofs.Named.{optional_names_complete}
@@ -33,13 +32,10 @@ use Rattle.pz_values.specs.declared.rule.Rule.TheVariants as rule
 use Rattle.pz_values.specs.Values.{below}
 use Rattle.pz_values.specs.ExpressionPlaces.{place_all, place_part}
 use Rattle.pz_values.proofs.Texts.{to_list, list_back}
-use Rattle.pz_values.proofs.Operators.{binding}
 use Rattle.pz_values.proofs.Completeness.{block_given, arguments_given, optional_given, below_complete}
 use Rattle.pz_statements.specs.Messages.{call_results, after_by, after_message, sent, condition, enclosed_reception, reception_by, reception, received, call_arguments, called}
 use Rattle.pz_statements.specs.StatementPlaces.{place_into, place_condition, place}
-
-abbrev results_text : List Id → List Mark
-results_text xs = symbol s.LeftParen ∷ (names_text xs ++ symbol s.RightParen ∷ [])
+use Rattle.pz_statements.proofs.MessageReadings.{results_text}
 
 results_given : (at : ℕ → Pos) (q : ℕ) (xs : List Id) (j : Tokens) → call_results (located at q (results_text xs) ++ j) ≡ Ok (place_names at (suc q) xs, j)
 unfolding call_results next after expect sees same

@@ -1,6 +1,6 @@
 -- The rules for sends, receptions and calls, as devices of the proofs, with at most so many constructs
 -- one in another.
-use Rattle.std.specs.Prelude.{ℕ, if◌then◌else◌, List, Option, Some, None, Ok, Err}
+use Rattle.std.specs.Prelude.{ℕ, if◌then◌else◌, List, Option, Some, None}
 use Rattle.pz_ast.specs.declared.names.Id.{Id}
 use Rattle.pz_ast.specs.Expressions.{Part, left_out, written}
 use Rattle.pz_ast.specs.ExpressionView.{list_of as expressions}

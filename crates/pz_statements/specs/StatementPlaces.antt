@@ -1,5 +1,5 @@
 -- Statements with the positions of the tokens of their texts.
-use Rattle.std.specs.Prelude.{ℕ, suc, ◌+◌, List, length, Option}
+use Rattle.std.specs.Prelude.{suc, ◌+◌, List, length, Option}
 use Rattle.pz_ast.specs.declared.tokens.Symbol.TheVariants as s
 use Rattle.pz_ast.specs.declared.names.Id.{Id}
 use Rattle.pz_ast.specs.Marks.{names_text, optional}

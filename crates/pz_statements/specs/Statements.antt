@@ -1,5 +1,5 @@
 -- The rules for statements, as devices of the proofs, over the statements one construct further in.
-use Rattle.std.specs.Prelude.{ℕ, zero, suc, if◌then◌else◌, List, Ok, Err}
+use Rattle.std.specs.Prelude.{ℕ, zero, suc, if◌then◌else◌, List}
 use Rattle.pz_ast.specs.declared.names.Id.{Id}
 use Rattle.pz_ast.specs.ExpressionView.{list_of as expressions}
 use Rattle.pz_ast.specs.Statements.{Statements, StatementPart, not_written}

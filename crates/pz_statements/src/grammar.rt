@@ -39,6 +39,7 @@ pub fn stmts(alloc: Global, cursor: &mut Cursor<'_>, depth: usize) -> Result<Ite
     grammar.sequence(cursor)
 }
 
+/// One statement.
 fn stmt(alloc: Global, cursor: &mut Cursor<'_>, depth: usize) -> Result<Stmt, Refusal>
     ensures reads { Reads view (spec.stmt depth cursor.old) result cursor.new }
 {
@@ -47,6 +48,7 @@ fn stmt(alloc: Global, cursor: &mut Cursor<'_>, depth: usize) -> Result<Stmt, Re
 }
 
 impl<F: Fn(Global, &mut Cursor<'_>, usize) -> Result<Stmt, Refusal>> Grammar<F> {
+    /// A statement is told by its first token, and where that is an identifier by the second.
     #[tactic(auto, unfolding(crate::specs::Statements::statement))]
     fn statement(&self, cursor: &mut Cursor<'_>) -> Result<Stmt, Refusal>
         requires parts { Nests self.now.depth (F.pre self.now.stmt) (F.post self.now.stmt) }

@@ -1,4 +1,4 @@
-use Rattle.std.proofs.Common.{◌≡◌, ℕ, suc, ◌+◌, ◌-◌, true, List, ◌∷◌, [], ◌++◌, map, Ok, refl, sym, ap, ◌∙◌, arith, rules}
+use Rattle.std.proofs.Common.{◌≡◌, suc, ◌+◌, ◌-◌, true, map, Ok, sym, ap, ◌∙◌, arith, rules}
 use Rattle.pz_ast.specs.StatementView.{view}
 use Rattle.pz_cursor.specs.Input.{sees, after}
 use Rattle.pz_cursor.specs.Lists.{tail_of, with_front}

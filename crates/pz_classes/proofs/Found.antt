@@ -1,0 +1,181 @@
+-- The list of violations has those of the rules and no others, and the least of the list is the
+-- least of them.
+use Rattle.std.proofs.Common.{◌≡◌, refl, sym, ap, subst, ◌∙◌, ℕ, zero, suc, ◌+◌, Bool, true, false, IsTrue, List, [], ◌∷◌, ◌++◌, Option, Some, None, slice_get, arith, ◌⊎◌, inl, inr}
+use Rattle.std.specs.List.{Contains}
+use Rattle.std.specs.Option.{option_map_or, MatchOption}
+use Rattle.std.proofs.lemmas.Bool.{eqb-true}
+use Rattle.std.proofs.lemmas.Cmp.{nat_eq_equiv}
+use Rattle.std.proofs.lemmas.Map.Views.{Contains-from_any, list_any-from_Contains}
+use Rattle.pz_ast.specs.declared.names.Id.{Id}
+use Rattle.pz_ast.specs.Classes.{DeclTree, ModelTree}
+use Rattle.pz_classes.specs.declared.violation.Violation.{Violation}
+use Rattle.pz_classes.specs.Numbers.{declared_name, declaration}
+use Rattle.pz_classes.specs.Ancestors.{extended, parent, ancestors}
+use Rattle.pz_classes.specs.Violations.{violation, breaks_c1, breaks_c2, Violates, c1, c2, c3, is_before, IsLeast}
+use Rattle.pz_classes.specs.ViolationList.{listed, breaks_c3, of_name, of_parent, of_class, among, violations, lesser, least_from}
+use Rattle.pz_classes.proofs.Order.{not_before_itself, never_before, not_behind}
+
+abbrev Member : Violation → List Violation → Type 0
+Member v [] = ⊥
+Member v (w ∷ ws) = (w ≡ v) ⊎ Member v ws
+
+member_left : (v : Violation) (xs ys : List Violation) → Member v xs → Member v (xs ++ ys)
+member_left v [] ys here = absurd here
+member_left v (x ∷ xs) ys (inl is) = inl is
+member_left v (x ∷ xs) ys (inr later) = inr (member_left v xs ys later)
+
+member_right : (v : Violation) (xs ys : List Violation) → Member v ys → Member v (xs ++ ys)
+member_right v [] ys here = here
+member_right v (x ∷ xs) ys here = inr (member_right v xs ys here)
+
+member_cases : (v : Violation) (xs ys : List Violation) → Member v (xs ++ ys) → Member v xs ⊎ Member v ys
+member_cases v [] ys here = inr here
+member_cases v (x ∷ xs) ys (inl is) = inl (inl is)
+member_cases v (x ∷ xs) ys (inr later) = by_part (member_cases v xs ys later)
+  where
+    by_part : Member v xs ⊎ Member v ys → Member v (x ∷ xs) ⊎ Member v ys
+    by_part (inl here) = inl (inr here)
+    by_part (inr there) = inr there
+
+listed_is : (b : Bool) (u v : Violation) → Member v (listed b u) → IsTrue b × (u ≡ v)
+listed_is true u v (inl is) = (refl, is)
+listed_is true u v (inr later) = absurd later
+listed_is false u v here = absurd here
+
+is_listed : (b : Bool) (u : Violation) → IsTrue b → Member u (listed b u)
+is_listed b u does = subst (λ (t : Bool). Member u (listed t u)) (sym does) (inl refl)
+
+module _ (m : ModelTree) where
+  -- the class and its parent's ancestors agree with the test
+  open_c3 : (c : ℕ) → IsTrue (breaks_c3 m c) → (p : ℕ) × (parent m c ≡ Some p) × Contains (ancestors m p) c
+  open_c3 c does = by_parent (parent m c) refl
+    where
+      by_parent : (o : Option ℕ) → parent m c ≡ o → (p : ℕ) × (parent m c ≡ Some p) × Contains (ancestors m p) c
+      by_parent None is = let wrong : false ≡ true = rw is at does in cc
+      by_parent (Some p) is = (p, is, Contains-from_any (λ x y. eqb-true x y) c (ancestors m p) (rw is at does))
+
+  close_c3 : (c p : ℕ) → parent m c ≡ Some p → Contains (ancestors m p) c → IsTrue (breaks_c3 m c)
+  close_c3 c p is above = rw is (list_any-from_Contains nat_eq_equiv c (ancestors m p) above)
+
+  name_sound : (c : ℕ) (d : DeclTree) (name : Id) (v : Violation) → declaration m c ≡ Some d → declared_name d ≡ Some name → Member v (of_name m c name) → Violates m v
+  name_sound c d name v here named found = by_rule (member_cases v (listed (breaks_c1 m c name.name) (violation 1 name.pos)) (listed (breaks_c3 m c) (violation 3 name.pos)) found)
+    where
+      by_rule : Member v (listed (breaks_c1 m c name.name) (violation 1 name.pos)) ⊎ Member v (listed (breaks_c3 m c) (violation 3 name.pos)) → Violates m v
+      by_rule (inl first) = let r = listed_is (breaks_c1 m c name.name) (violation 1 name.pos) v first in subst (Violates m) r.1 (c1 c d name here named r.0)
+      by_rule (inr third) =
+          let r = listed_is (breaks_c3 m c) (violation 3 name.pos) v third in
+          let round = open_c3 c r.0 in
+          subst (Violates m) r.1 (c3 c round.0 d name here named round.1 round.2)
+
+  parent_sound : (c : ℕ) (d : DeclTree) (name : Id) (v : Violation) → declaration m c ≡ Some d → extended d ≡ Some name → Member v (of_parent m d name) → Violates m v
+  parent_sound c d name v here named found = let r = listed_is (breaks_c2 m d name.name) (violation 2 name.pos) v found in subst (Violates m) r.1 (c2 c d name here named r.0)
+
+  class_sound : (c : ℕ) (d : DeclTree) (v : Violation) → declaration m c ≡ Some d → Member v (of_class m c d) → Violates m v
+  class_sound c d v here found = by_part (member_cases v (option_map_or (of_name m c) (declared_name d) []) (option_map_or (of_parent m d) (extended d) []) found)
+    where
+      by_name : (o : Option Id) → declared_name d ≡ o → Member v (option_map_or (of_name m c) o []) → Violates m v
+      by_name None is at = absurd at
+      by_name (Some name) is at = name_sound c d name v here is at
+
+      by_parent : (o : Option Id) → extended d ≡ o → Member v (option_map_or (of_parent m d) o []) → Violates m v
+      by_parent None is at = absurd at
+      by_parent (Some name) is at = parent_sound c d name v here is at
+
+      by_part : Member v (option_map_or (of_name m c) (declared_name d) []) ⊎ Member v (option_map_or (of_parent m d) (extended d) []) → Violates m v
+      by_part (inl at) = by_name (declared_name d) refl at
+      by_part (inr at) = by_parent (extended d) refl at
+
+  -- the declarations from number n on
+  abbrev From : ℕ → List DeclTree → Type 0
+  From n ds = (i : ℕ) → declaration m (i + n) ≡ slice_get ds i
+
+  from_next : (n : ℕ) (d : DeclTree) (ds : List DeclTree) → From n (d ∷ ds) → From (suc n) ds
+  from_next n d ds from i = let same : i + suc n ≡ suc i + n = omega arith in ap (λ (k : ℕ). declaration m k) same ∙ from (suc i)
+
+  from_first : (n : ℕ) (d : DeclTree) (ds : List DeclTree) → From n (d ∷ ds) → declaration m n ≡ Some d
+  from_first n d ds from = let same : n ≡ 0 + n = omega arith in ap (λ (k : ℕ). declaration m k) same ∙ from 0
+
+  among_sound : (n : ℕ) (ds : List DeclTree) (v : Violation) → From n ds → Member v (among m n ds) → Violates m v
+  among_sound n [] v from found = absurd found
+  among_sound n (d ∷ ds) v from found = by_part (λ later. among_sound (suc n) ds v (from_next n d ds from) later) (member_cases v (of_class m n d) (among m (suc n) ds) found)
+    where
+      by_part : (Member v (among m (suc n) ds) → Violates m v) → Member v (of_class m n d) ⊎ Member v (among m (suc n) ds) → Violates m v
+      by_part rest (inl here) = class_sound n d v (from_first n d ds from) here
+      by_part rest (inr later) = rest later
+
+  among_complete : (n : ℕ) (ds : List DeclTree) (v : Violation) → From n ds → (i : ℕ) (d : DeclTree) → slice_get ds i ≡ Some d → Member v (of_class m (i + n) d) → Member v (among m n ds)
+  among_complete n [] v from i d here found = cc
+  among_complete n (e ∷ ds) v from zero d here found =
+      let same : 0 + n ≡ n = omega arith in
+      let is : e ≡ d = cc in
+      let first : Member v (of_class m n e) = rw (is, ← same) found in
+      member_left v (of_class m n e) (among m (suc n) ds) first
+  among_complete n (e ∷ ds) v from (suc i) d here found =
+      let same : suc i + n ≡ i + suc n = omega arith in
+      let next : Member v (of_class m (i + suc n) d) = rw same at found in
+      member_right v (of_class m n e) (among m (suc n) ds) (among_complete (suc n) ds v (from_next n e ds from) i d here next)
+
+  from_one : From 1 m.decls
+  from_one i = let same : i + 1 ≡ suc i = omega arith in ap (λ (k : ℕ). declaration m k) same
+
+  -- a class that has a declaration is among them
+  at_class : (c : ℕ) (d : DeclTree) (v : Violation) → declaration m c ≡ Some d → Member v (of_class m c d) → Member v (violations m)
+  at_class zero d v here found = cc
+  at_class (suc i) d v here found =
+      let same : suc i ≡ i + 1 = omega arith in
+      among_complete 1 m.decls v from_one i d here (rw same at found)
+
+  complete : (v : Violation) → Violates m v → Member v (violations m)
+  complete _ (c1 c d name here named does) =
+      let found : Member (violation 1 name.pos) (of_name m c name) = member_left (violation 1 name.pos) _ _ (is_listed (breaks_c1 m c name.name) (violation 1 name.pos) does) in
+      at_class c d (violation 1 name.pos) here (member_left (violation 1 name.pos) (option_map_or (of_name m c) (declared_name d) []) (option_map_or (of_parent m d) (extended d) []) (rw named found))
+  complete _ (c2 c d name here named does) =
+      let found : Member (violation 2 name.pos) (of_parent m d name) = is_listed (breaks_c2 m d name.name) (violation 2 name.pos) does in
+      at_class c d (violation 2 name.pos) here (member_right (violation 2 name.pos) (option_map_or (of_name m c) (declared_name d) []) (option_map_or (of_parent m d) (extended d) []) (rw named found))
+  complete _ (c3 c p d name here named is above) =
+      let found : Member (violation 3 name.pos) (of_name m c name) = member_right (violation 3 name.pos) (listed (breaks_c1 m c name.name) (violation 1 name.pos)) _ (is_listed (breaks_c3 m c) (violation 3 name.pos) (close_c3 c p is above)) in
+      at_class c d (violation 3 name.pos) here (member_left (violation 3 name.pos) (option_map_or (of_name m c) (declared_name d) []) (option_map_or (of_parent m d) (extended d) []) (rw named found))
+
+  sound : (v : Violation) → Member v (violations m) → Violates m v
+  sound v found = among_sound 1 m.decls v from_one found
+
+-- the least of a list and of one before it
+record Least (u : Violation) (vs : List Violation) : Type 0 where
+  pub least : Violation
+  pub is : least_from (Some u) vs ≡ Some least
+  pub member : (u ≡ least) ⊎ Member least vs
+  pub first : is_before u least ≡ false
+  pub others : (w : Violation) → Member w vs → is_before w least ≡ false
+
+least_of : (u : Violation) (vs : List Violation) → Least u vs
+least_of u [] = record { least = u; is = refl; member = inl refl; first = not_before_itself u; others = λ w none. absurd none }
+least_of u (x ∷ xs) = by_test (is_before x u) refl (least_of u xs) (least_of x xs)
+  where
+    by_test : (t : Bool) → is_before x u ≡ t → Least u xs → Least x xs → Least u (x ∷ xs)
+    by_test true is old new = record {
+      least = new.least;
+      is = rw is new.is;
+      member = inr (elim new.member [ inl e ↦ inl e | inr later ↦ inr later ]);
+      first = never_before u x new.least (not_behind x u is) new.first;
+      others = λ w among. elim among [ inl e ↦ subst (λ (y : Violation). is_before y new.least ≡ false) e new.first | inr later ↦ new.others w later ];
+    }
+    by_test false is old new = record {
+      least = old.least;
+      is = rw is old.is;
+      member = elim old.member [ inl e ↦ inl e | inr later ↦ inr (inr later) ];
+      first = old.first;
+      others = λ w among. elim among [ inl e ↦ subst (λ (y : Violation). is_before y old.least ≡ false) e (never_before x u old.least is old.first) | inr later ↦ old.others w later ];
+    }
+
+-- what the search for the least finds
+pub least_found : (m : ModelTree) → MatchOption (least_from None (violations m)) ((v : Violation) → Violates m v → ⊥) (IsLeast (Violates m))
+least_found m = by_list (violations m) (sound m) (complete m)
+  where
+    by_list : (vs : List Violation) → ((v : Violation) → Member v vs → Violates m v) → ((v : Violation) → Violates m v → Member v vs) → MatchOption (least_from None vs) ((v : Violation) → Violates m v → ⊥) (IsLeast (Violates m))
+    by_list [] sounds completes = completes
+    by_list (u ∷ vs) sounds completes =
+        let l = least_of u vs in
+        rw l.is (record {
+          violated = sounds l.least l.member;
+          least = λ w wrong. elim (completes w wrong) [ inl e ↦ subst (λ (y : Violation). is_before y l.least ≡ false) e l.first | inr later ↦ l.others w later ];
+        })

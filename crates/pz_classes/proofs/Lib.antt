@@ -1,0 +1,13 @@
+mod Leasts
+mod Lines
+mod Numberings
+mod Agreeing
+mod Branches
+mod Entries
+mod Found
+mod Gets
+mod Order
+mod ResolvedLists
+mod ResolvedSteps
+mod RowLookups
+mod Rows

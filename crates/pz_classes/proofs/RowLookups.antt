@@ -1,0 +1,76 @@
+-- What stands in the rows is what the model says.
+use Rattle.std.proofs.Common.{◌≡◌, refl, sym, ap, subst, ◌∙◌, ℕ, zero, suc, ◌+◌, ◌-◌, ◌<◌, Bool, true, false, List, [], ◌∷◌, map, length, Option, Some, None, slice_get, get_or, arith, if◌then◌else◌}
+use Rattle.std.specs.Option.{option_map, option_map_or, option_and_then, option_or}
+use Rattle.std.proofs.lemmas.Option.{slice_get-map, slice_get_read}
+use Rattle.pz_ast.specs.Classes.{DeclTree, ModelTree}
+use Rattle.pz_classes.specs.declared.entry.Entry.{Entry}
+use Rattle.pz_classes.specs.declared.method_id.MethodId.{MethodId}
+use Rattle.pz_classes.specs.Numbers.{declaration}
+use Rattle.pz_classes.specs.Ancestors.{parent, parent_of, followed}
+use Rattle.pz_classes.specs.Methods.{Signature, signatures, same_signature, place_from, method_at, own_method, nearest, method_with}
+use Rattle.pz_classes.specs.Tables.{Routine, Row, routines_from, routines_of, row, rows_from, rows, row_view}
+use Rattle.pz_classes.specs.Found.{up_in, routine_with, own_in, found_in}
+use Rattle.pz_classes.proofs.Lines.{line_same}
+
+module _ (m : ModelTree) where
+  rows_from_at : (n : ℕ) (ds : List DeclTree) (i k : ℕ) → k ≡ i + n → slice_get (rows_from m n ds) i ≡ option_map (λ d. row m k) (slice_get ds i)
+  rows_from_at n [] i k is = refl
+  rows_from_at n (d ∷ ds) zero k is = let same : n ≡ k = omega arith in ap (λ (x : ℕ). Some (row m x)) same
+  rows_from_at n (d ∷ ds) (suc i) k is = rows_from_at (suc n) ds i k (omega arith)
+
+  pub rows_at : (i : ℕ) → slice_get (rows m) (suc i) ≡ option_map (λ d. row m (suc i)) (slice_get m.decls i)
+  rows_at i = rows_from_at 1 m.decls i (suc i) (omega arith)
+
+  rows_from_length : (n : ℕ) (ds : List DeclTree) → length (rows_from m n ds) ≡ length ds
+  rows_from_length n [] = refl
+  rows_from_length n (d ∷ ds) = ap (λ (k : ℕ). suc k) (rows_from_length (suc n) ds)
+
+  rows_length : length (rows m) - 1 ≡ length m.decls
+  rows_length = let count : length (rows_from m 1 m.decls) ≡ length m.decls = rows_from_length 1 m.decls in omega arith
+
+  some_row : (c : ℕ) (r : Row) → slice_get (rows m) c ≡ Some r → r ≡ row m c
+  some_row zero r here = cc
+  some_row (suc i) r here = by_decl (slice_get m.decls i) (sym (rows_at i) ∙ here)
+    where
+      by_decl : (o : Option DeclTree) → option_map (λ d. row m (suc i)) o ≡ Some r → r ≡ row m (suc i)
+      by_decl None is = cc
+      by_decl (Some d) is = cc
+
+  up_is : (c : ℕ) → up_in (rows m) c ≡ parent m c
+  up_is zero = refl
+  up_is (suc i) = rw (rows_at i) (by_decl (slice_get m.decls i) refl)
+    where
+      by_decl : (o : Option DeclTree) → slice_get m.decls i ≡ o → option_and_then (λ r. r.parent) (option_map (λ d. row m (suc i)) o) ≡ option_and_then (parent_of m) (slice_get m.decls i)
+      by_decl None is = rw is refl
+      by_decl (Some d) is = refl
+
+  routine_is : (s : Signature) (c n : ℕ) (ss : List Signature) → routine_with s (routines_from c n ss) ≡ option_map (method_at c) (place_from n s ss)
+  routine_is s c n [] = refl
+  routine_is s c n (t ∷ ts) = by_test (same_signature s t) (routine_is s c (suc n) ts)
+    where
+      by_test : (b : Bool) → routine_with s (routines_from c (suc n) ts) ≡ option_map (method_at c) (place_from (suc n) s ts)
+          → (if b then Some (method_at c n) else routine_with s (routines_from c (suc n) ts)) ≡ option_map (method_at c) (if b then Some n else place_from (suc n) s ts)
+      by_test true rest = refl
+      by_test false rest = rest
+
+  own_is : (s : Signature) (c : ℕ) → own_in (rows m) s c ≡ own_method m s c
+  own_is s zero = refl
+  own_is s (suc i) = rw (rows_at i) (by_decl (slice_get m.decls i) refl)
+    where
+      by_decl : (o : Option DeclTree) → slice_get m.decls i ≡ o → option_and_then (λ r. routine_with s r.methods) (option_map (λ d. row m (suc i)) o) ≡ own_method m s (suc i)
+      by_decl None is = rw is refl
+      by_decl (Some d) is = rw is (routine_is s (suc i) 0 (signatures d))
+
+  nearest_same : (f g : ℕ → Option MethodId) → ((c : ℕ) → f c ≡ g c) → (line : List ℕ) → nearest f line ≡ nearest g line
+  nearest_same f g agree [] = refl
+  nearest_same f g agree (c ∷ line) = rw (agree c, nearest_same f g agree line) refl
+
+  pub found_is : (listed : List Row) → listed ≡ rows m → (s : Signature) (c : ℕ) → found_in listed s c ≡ method_with m c s
+  found_is listed is s c =
+      rw is (nearest_same (own_in (rows m) s) (own_method m s) (own_is s) (followed (up_in (rows m)) (length (rows m) - 1) c)
+      ∙ ap (λ (line : List ℕ). nearest (own_method m s) line) (line_same (up_in (rows m)) (parent m) up_is (length (rows m) - 1) (length m.decls) c rows_length))
+
+  pub entry_is : (es : List Entry) (e : Entry) (c : ℕ) → map row_view es ≡ rows m → c < length es → e ≡ get_or es c e → row_view e ≡ row m c
+  entry_is es e c are within here =
+      let read : slice_get es c ≡ Some e = slice_get_read es (length es) c e refl within here in
+      some_row c (row_view e) (subst (λ (rs : List Row). slice_get rs c ≡ Some (row_view e)) are (slice_get-map row_view es c ∙ ap (λ (o : Option Entry). option_map row_view o) read))

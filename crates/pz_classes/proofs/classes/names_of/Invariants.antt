@@ -1,0 +1,7 @@
+use Rattle.std.proofs.Common.{◌≡◌, ◌∷◌, codes, map, take}
+use Rattle.pz_ast.specs.ClassView.{decl_view}
+use Rattle.pz_classes.specs.Numbers.{spelling}
+use Rattle.pz_classes.proofs.classes.names_of.Given as goal
+
+abbrev pub invariant-loop-decl : goal.invariant-loop-decl
+invariant-loop-decl l = l.names ≡ codes "Array" ∷ map spelling (map decl_view (take l.decl-index l.decl-items))

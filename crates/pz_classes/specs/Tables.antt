@@ -1,0 +1,83 @@
+-- What the table of a model's classes holds.
+use Rattle.std.specs.Prelude.{◌≡◌, ◌<◌, ℕ, suc, List, [], ◌∷◌, length, map, Option, codes}
+use Rattle.std.specs.Option.{option_map_or}
+use Rattle.pz_ast.specs.Classes.{DeclTree, ModelTree}
+use Rattle.pz_value.specs.declared.value.ClassId.{ClassId}
+use Rattle.pz_classes.specs.Numbers.{class, spelling, declaration}
+use Rattle.pz_classes.specs.Ancestors.{parent}
+use Rattle.pz_classes.specs.Members.{fields, variables, ports, spelled}
+use Rattle.pz_classes.specs.Methods.{Signature, signatures, method_at}
+use Rattle.pz_classes.specs.NumberIn.{number_in}
+use Rattle.pz_classes.specs.declared.method_id.MethodId.{MethodId}
+use Rattle.pz_classes.specs.declared.methods.Method.{Method}
+use Rattle.pz_classes.specs.declared.entry.Entry.{Entry}
+use Rattle.pz_classes.specs.declared.classes.Classes.{Classes}
+
+-- a method that a class itself declares
+pub record Routine : Type 0 where
+  pub id : MethodId
+  pub signature : Signature
+
+-- what is kept of a class
+pub record Row : Type 0 where
+  pub parent : Option ℕ
+  pub fields : List (List ℕ)
+  pub variables : List (List ℕ)
+  pub ports : List (List ℕ)
+  pub methods : List Routine
+
+-- the methods of class c, of which the first has the place n
+abbrev pub routines_from : ℕ → ℕ → List Signature → List Routine
+routines_from c n [] = []
+routines_from c n (s ∷ ss) = record { id = method_at c n; signature = s } ∷ routines_from c (suc n) ss
+
+abbrev pub routines_of : ℕ → DeclTree → List Routine
+routines_of c d = routines_from c 0 (signatures d)
+
+-- the row of the class of this number
+abbrev pub row : ModelTree → ℕ → Row
+row m c = record {
+  parent = parent m c;
+  fields = spelled (fields m c);
+  variables = spelled (variables m c);
+  ports = spelled (ports m c);
+  methods = option_map_or (routines_of c) (declaration m c) [];
+}
+
+-- the rows of these classes, of which the first has number n
+abbrev pub rows_from : ModelTree → ℕ → List DeclTree → List Row
+rows_from m n [] = []
+rows_from m n (d ∷ ds) = row m n ∷ rows_from m (suc n) ds
+
+-- the row of Array and those of the declarations
+abbrev pub rows : ModelTree → List Row
+rows m = row m 0 ∷ rows_from m 1 m.decls
+
+-- the name of each class at its number, empty for a system
+abbrev pub class_names : ModelTree → List (List ℕ)
+class_names m = codes "Array" ∷ map spelling m.decls
+
+abbrev pub routine_view : Method → Routine
+routine_view r = record { id = r.id; signature = record { name = r.name; counts = r.counts } }
+
+abbrev pub row_view : Entry → Row
+row_view e = record {
+  parent = e.parent;
+  fields = e.members.fields;
+  variables = e.members.variables;
+  ports = e.members.ports;
+  methods = map routine_view e.methods;
+}
+
+-- these are the classes of the model
+pub record AreClasses (m : ModelTree) (classes : Classes) : Type 0 where
+  pub names : classes.names ≡ class_names m
+  pub numbers : (name : List ℕ) → number_in classes.numbering name ≡ class m name
+  pub rows : map row_view classes.entries ≡ rows m
+
+abbrev pub class_id : ℕ → ClassId
+class_id c = record { 0 = c }
+
+-- the class is one of these
+abbrev pub HasClass : Classes → ClassId → Type 0
+HasClass classes c = c.0 < length classes.entries

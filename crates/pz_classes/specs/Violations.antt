@@ -1,0 +1,70 @@
+-- The rules C1 to C3 of the checker, and which violation is the least.
+use Rattle.std.specs.Prelude.{◌≡◌, ◌≢◌, ℕ, Bool, true, false, not, ◌&&◌, ◌||◌, nat_eq, nat_lt, IsTrue, List, [], ◌∷◌, Contains, Option, Some, None, if◌then◌else◌}
+use Rattle.std.specs.Option.{option_map_or, option_and_then}
+use Rattle.pz_ast.specs.declared.tokens.Pos.{Pos}
+use Rattle.pz_ast.specs.declared.names.Id.{Id}
+use Rattle.pz_ast.specs.Classes.{DeclTree, data_class, process_class, cluster_class, system, ModelTree}
+use Rattle.pz_classes.specs.declared.violation.Violation.{Violation}
+use Rattle.pz_classes.specs.ReservedNames.{is_primitive, is_unsupported, is_object}
+use Rattle.pz_classes.specs.Numbers.{declared_name, declaration, class}
+use Rattle.pz_classes.specs.Ancestors.{extended, parent, ancestors}
+
+abbrev pub violation : ℕ → Pos → Violation
+violation rule pos = record { rule = rule; pos = pos }
+
+-- the class of this number is not the first of its name
+abbrev pub is_again : ModelTree → ℕ → List ℕ → Bool
+is_again m c name = not (option_map_or (nat_eq c) (class m name) false)
+
+-- C1: declared a second time, or with a primitive's name. A class that is left out of the language
+-- is refused for that alone.
+abbrev pub breaks_c1 : ModelTree → ℕ → List ℕ → Bool
+breaks_c1 m c name = not (is_unsupported name) && (is_primitive name || is_again m c name)
+
+abbrev pub same_sort : DeclTree → DeclTree → Bool
+same_sort (data_class c) (data_class d) = true
+same_sort (process_class c) (process_class d) = true
+same_sort _ _ = false
+
+abbrev pub is_data : DeclTree → Bool
+is_data (data_class c) = true
+is_data _ = false
+
+-- a class of the same sort has this name
+abbrev pub is_of_sort : ModelTree → DeclTree → List ℕ → Bool
+is_of_sort m d name = option_map_or (same_sort d) (option_and_then (declaration m) (class m name)) false
+
+-- a data class may extend Object; every other parent is a class of the model of the same sort
+abbrev pub may_extend : ModelTree → DeclTree → List ℕ → Bool
+may_extend m d name = if is_primitive name then is_data d && is_object name else is_of_sort m d name
+
+-- C2: a parent that is unknown, of another sort or a primitive
+abbrev pub breaks_c2 : ModelTree → DeclTree → List ℕ → Bool
+breaks_c2 m d name = not (is_unsupported name) && not (may_extend m d name)
+
+pub data Violates (m : ModelTree) : Violation → Type 0 where
+  -- at the class's name
+  c1 : (c : ℕ) (d : DeclTree) (name : Id) → declaration m c ≡ Some d → declared_name d ≡ Some name
+      → IsTrue (breaks_c1 m c name.name) → Violates m (violation 1 name.pos)
+  -- at the parent's name
+  c2 : (c : ℕ) (d : DeclTree) (name : Id) → declaration m c ≡ Some d → extended d ≡ Some name
+      → IsTrue (breaks_c2 m d name.name) → Violates m (violation 2 name.pos)
+  -- C3: a class that is among the ancestors of its parent, at the class's name
+  c3 : (c p : ℕ) (d : DeclTree) (name : Id) → declaration m c ≡ Some d → declared_name d ≡ Some name
+      → parent m c ≡ Some p → Contains (ancestors m p) c → Violates m (violation 3 name.pos)
+
+-- by line and column
+abbrev pub pos_before : Pos → Pos → Bool
+pos_before p q = nat_lt p.line q.line || (nat_eq p.line q.line && nat_lt p.column q.column)
+
+abbrev pub pos_same : Pos → Pos → Bool
+pos_same p q = nat_eq p.line q.line && nat_eq p.column q.column
+
+-- by position, then by rule
+abbrev pub is_before : Violation → Violation → Bool
+is_before v w = pos_before v.pos w.pos || (pos_same v.pos w.pos && nat_lt v.rule w.rule)
+
+-- a violation that no other is before
+pub record IsLeast (Violated : Violation → Type 0) (v : Violation) : Type 0 where
+  pub violated : Violated v
+  pub least : (w : Violation) → Violated w → is_before w v ≡ false

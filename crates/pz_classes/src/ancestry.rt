@@ -1,0 +1,111 @@
+// The numbers of classes by their names, and who extends whom.
+
+ghost use Rattle.std.specs.Prelude.{◌≡◌, ◌<◌, ◌+◌, ◌-◌, ◌^◌, List, ℕ, length, nat_eq, false, IfOk};
+ghost use Rattle.std.specs.List.{list_any};
+ghost use Rattle.std.specs.Option.{option_map_or};
+ghost use Rattle.pz_ast.specs.ClassView.{decl_view, model_view};
+ghost use Rattle.pz_classes.specs.Numbers.{class};
+ghost use Rattle.pz_classes.specs.Ancestors.{parent, parent_of, followed};
+ghost use Rattle.pz_classes.specs.NumberIn.{number_in};
+ghost use Rattle.pz_classes.specs.Parents.{parent_in};
+
+use crate::declarations::{declared_name, extended};
+use crate::numbering::Numbering;
+use crate::reserved::{is_primitive, is_unsupported};
+use pz_ast::{Decl, Model};
+use std::alloc::{AllocError, Global};
+
+/// The number of each class by its name, from 1 in the order of the text; the first declaration of
+/// a name counts. The only error is want of memory.
+pub(crate) fn number_classes(alloc: Global, model: &Model) -> Result<Numbering, AllocError>
+    requires { length model.now.decls + 1 < 2 ^ 32 }
+    ensures { IfOk result (λ n. (q : List ℕ) → number_in n q ≡ class (model_view model.now) q) }
+{
+    let mut numbering = Numbering::new(alloc);
+    let mut number = 0u32;
+    for decl in model.decls.as_slice() {
+        number += 1;
+        if let Some(id) = declared_name(decl) {
+            numbering.add(alloc, &id.name, number)?;
+        }
+    }
+    Ok(numbering)
+}
+
+/// The parent of the class that is declared.
+fn parent_of_decl(model: &Model, numbering: &Numbering, decl: &Decl) -> Option<u32>
+    requires { (q : List ℕ) → number_in numbering.now q ≡ class (model_view model.now) q }
+    ensures { result ≡ parent_of (model_view model.now) (decl_view decl.now) }
+{
+    let id = extended(decl)?;
+    if is_unsupported(&id.name) || is_primitive(&id.name) {
+        return None;
+    }
+    numbering.get(id.name.as_str().as_bytes())
+}
+
+/// The parent of each class by its number; Array, with number 0, has none. The only error is want
+/// of memory.
+pub(crate) fn parents_of(
+    alloc: Global,
+    model: &Model,
+    numbering: &Numbering,
+) -> Result<Vec<Option<u32>>, AllocError>
+    requires { (q : List ℕ) → number_in numbering.now q ≡ class (model_view model.now) q }
+    ensures { IfOk result (λ parents. (c : ℕ) → parent_in parents.items c ≡ parent (model_view model.now) c) }
+{
+    let mut parents = Vec::new(alloc);
+    parents.push(None)?;
+    for decl in model.decls.as_slice() {
+        parents.push(parent_of_decl(model, numbering, decl))?;
+    }
+    Ok(parents)
+}
+
+pub(crate) fn parent_at(parents: &[Option<u32>], class: u32) -> Option<u32>
+    ensures { result ≡ parent_in parents.now class }
+{
+    parents.get(class as usize).copied().flatten()
+}
+
+/// A class and its ancestors, from itself on, at most so many. The only error is want of memory.
+pub(crate) fn line_of(
+    alloc: Global,
+    parents: &[Option<u32>],
+    class: u32,
+    most: usize,
+) -> Result<Vec<u32>, AllocError>
+    ensures { IfOk result (λ line. line.items ≡ followed (parent_in parents.now) most class) }
+{
+    let mut line = Vec::new(alloc);
+    let mut at = Some(class);
+    let mut left = most;
+    while left > 0 {
+        let Some(class) = at else {
+            return Ok(line);
+        };
+        line.push(class)?;
+        at = parent_at(parents, class);
+        left -= 1;
+    }
+    Ok(line)
+}
+
+/// Whether a class is among the first so many ancestors of its parent.
+pub(crate) fn goes_round(parents: &[Option<u32>], class: u32, most: usize) -> bool
+    ensures { result ≡ option_map_or (λ p. list_any (nat_eq class) (followed (parent_in parents.now) most p)) (parent_in parents.now class) false }
+{
+    let mut at = parent_at(parents, class);
+    let mut left = most;
+    while left > 0 {
+        let Some(above) = at else {
+            return false;
+        };
+        if above == class {
+            return true;
+        }
+        at = parent_at(parents, above);
+        left -= 1;
+    }
+    false
+}

@@ -1,0 +1,181 @@
+// The rules C1 to C3, and the least violation of them.
+
+ghost use Rattle.std.specs.Prelude.{◌≡◌, ◌<◌, ◌+◌, ◌^◌, List, ℕ, None, length};
+ghost use Rattle.pz_ast.specs.ClassView.{decl_view, model_view};
+ghost use Rattle.pz_classes.specs.Numbers.{class};
+ghost use Rattle.pz_classes.specs.Ancestors.{parent};
+ghost use Rattle.pz_classes.specs.NumberIn.{number_in};
+ghost use Rattle.pz_classes.specs.Parents.{parent_in};
+ghost use Rattle.pz_classes.specs.Violations as rules;
+ghost use Rattle.pz_classes.specs.ViolationList as list;
+
+use crate::Violation;
+use crate::ancestry::goes_round;
+use crate::declarations::{declaration, declared_name, extended, is_data, same_sort};
+use crate::numbering::Numbering;
+use crate::reserved::{is_object, is_primitive, is_unsupported};
+use pz_ast::{Decl, Id, Model, Name, Pos};
+
+/// Whether a class's name is declared before it, or is a primitive's.
+fn breaks_c1(model: &Model, numbering: &Numbering, number: u32, name: &Name) -> bool
+    requires { (q : List ℕ) → number_in numbering.now q ≡ class (model_view model.now) q }
+    ensures { result ≡ rules.breaks_c1 (model_view model.now) number name.now }
+{
+    if is_unsupported(name) {
+        return false;
+    }
+    is_primitive(name) || numbering.get(name.as_str().as_bytes()) != Some(number)
+}
+
+/// Whether a class of the sort of the declaration has this name.
+fn is_of_sort(model: &Model, numbering: &Numbering, decl: &Decl, name: &Name) -> bool
+    requires { (q : List ℕ) → number_in numbering.now q ≡ class (model_view model.now) q }
+    ensures { result ≡ rules.is_of_sort (model_view model.now) (decl_view decl.now) name.now }
+{
+    let Some(number) = numbering.get(name.as_str().as_bytes()) else {
+        return false;
+    };
+    match declaration(model, number) {
+        Some(other) => same_sort(decl, other),
+        None => false,
+    }
+}
+
+/// Whether what is declared may not extend a class of this name.
+fn breaks_c2(model: &Model, numbering: &Numbering, decl: &Decl, name: &Name) -> bool
+    requires { (q : List ℕ) → number_in numbering.now q ≡ class (model_view model.now) q }
+    ensures { result ≡ rules.breaks_c2 (model_view model.now) (decl_view decl.now) name.now }
+{
+    if is_unsupported(name) {
+        return false;
+    }
+    if is_primitive(name) {
+        return !(is_data(decl) && is_object(name));
+    }
+    !is_of_sort(model, numbering, decl, name)
+}
+
+fn pos_before(a: Pos, b: Pos) -> bool
+    ensures { result ≡ rules.pos_before a b }
+{
+    a.line < b.line || (a.line == b.line && a.column < b.column)
+}
+
+fn is_before(a: Violation, b: Violation) -> bool
+    ensures { result ≡ rules.is_before a b }
+{
+    pos_before(a.pos, b.pos) || (a.pos == b.pos && a.rule < b.rule)
+}
+
+/// The one before the other.
+fn lesser(least: Option<Violation>, found: Violation) -> Option<Violation>
+    ensures { result ≡ list.lesser least found }
+{
+    match least {
+        None => Some(found),
+        Some(least) => {
+            if is_before(found, least) {
+                Some(found)
+            } else {
+                Some(least)
+            }
+        }
+    }
+}
+
+/// Whether a class is among the ancestors of its parent.
+fn breaks_c3(model: &Model, parents: &[Option<u32>], number: u32) -> bool
+    requires { (c : ℕ) → parent_in parents.now c ≡ parent (model_view model.now) c }
+    ensures { result ≡ list.breaks_c3 (model_view model.now) number }
+{
+    goes_round(parents, number, model.decls.len())
+}
+
+/// The least of what was found before and the violations at the name of this class.
+#[tactic(auto, using(crate::proofs::Leasts::least_from_append))]
+fn least_at_name(
+    model: &Model,
+    numbering: &Numbering,
+    parents: &[Option<u32>],
+    number: u32,
+    id: &Id,
+    before: Option<Violation>,
+) -> Option<Violation>
+    requires numbered { (q : List ℕ) → number_in numbering.now q ≡ class (model_view model.now) q }
+    requires extending { (c : ℕ) → parent_in parents.now c ≡ parent (model_view model.now) c }
+    ensures { result ≡ list.least_from before (list.of_name (model_view model.now) number id.now) }
+{
+    let mut least = before;
+    if breaks_c1(model, numbering, number, &id.name) {
+        least = lesser(
+            least,
+            Violation {
+                rule: 1,
+                pos: id.pos,
+            },
+        );
+    }
+    if breaks_c3(model, parents, number) {
+        least = lesser(
+            least,
+            Violation {
+                rule: 3,
+                pos: id.pos,
+            },
+        );
+    }
+    least
+}
+
+/// The least of what was found before and the violations of this class.
+#[tactic(auto, using(crate::proofs::Leasts::least_from_append))]
+fn least_of_class(
+    model: &Model,
+    numbering: &Numbering,
+    parents: &[Option<u32>],
+    number: u32,
+    decl: &Decl,
+    before: Option<Violation>,
+) -> Option<Violation>
+    requires numbered { (q : List ℕ) → number_in numbering.now q ≡ class (model_view model.now) q }
+    requires extending { (c : ℕ) → parent_in parents.now c ≡ parent (model_view model.now) c }
+    ensures { result ≡ list.least_from before (list.of_class (model_view model.now) number (decl_view decl.now)) }
+{
+    let mut least = before;
+    if let Some(id) = declared_name(decl) {
+        least = least_at_name(model, numbering, parents, number, id, least);
+    }
+    if let Some(id) = extended(decl) {
+        if breaks_c2(model, numbering, decl, &id.name) {
+            least = lesser(
+                least,
+                Violation {
+                    rule: 2,
+                    pos: id.pos,
+                },
+            );
+        }
+    }
+    least
+}
+
+/// The least violation of the rules C1 to C3, if there is one.
+#[tactic(auto, using(crate::proofs::Leasts::least_from_append))]
+pub(crate) fn least_violation(
+    model: &Model,
+    numbering: &Numbering,
+    parents: &[Option<u32>],
+) -> Option<Violation>
+    requires numbered { (q : List ℕ) → number_in numbering.now q ≡ class (model_view model.now) q }
+    requires extending { (c : ℕ) → parent_in parents.now c ≡ parent (model_view model.now) c }
+    requires room { length model.now.decls + 1 < 2 ^ 32 }
+    ensures { result ≡ list.least_from None (list.violations (model_view model.now)) }
+{
+    let mut least = None;
+    let mut number = 0u32;
+    for decl in model.decls.as_slice() {
+        number += 1;
+        least = least_of_class(model, numbering, parents, number, decl, least);
+    }
+    least
+}

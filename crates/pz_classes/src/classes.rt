@@ -1,0 +1,161 @@
+ghost use Rattle.std.specs.Prelude.{◌≡◌, ◌<◌, List, ℕ, length, IfOk, OnOk, IfErr, IfSome};
+ghost use Rattle.std.specs.Option.{option_map};
+ghost use Rattle.pz_ast.specs.Classes.{ModelTree};
+ghost use Rattle.pz_ast.specs.ClassView.{decl_view, model_view};
+ghost use Rattle.pz_classes.specs.declared.violation.Violation.{Violation as Found};
+ghost use Rattle.pz_classes.specs.Numbers as numbers;
+ghost use Rattle.pz_classes.specs.Members as members;
+ghost use Rattle.pz_classes.specs.Members.{spelled};
+ghost use Rattle.pz_classes.specs.Methods as methods;
+ghost use Rattle.pz_classes.specs.Violations.{Violates, IsLeast};
+ghost use Rattle.pz_classes.specs.Refusals.{OnRefused};
+ghost use Rattle.pz_classes.specs.Tables.{AreClasses, HasClass, class_names, row, row_view, class_id};
+
+use crate::ancestry::{number_classes, parents_of};
+use crate::checking::least_violation;
+use crate::declarations::declared_name;
+use crate::entry::{Entry, entries_of};
+use crate::finding::find;
+use crate::numbering::Numbering;
+use crate::{BuildError, Counts, MethodId};
+use pz_ast::{Decl, Model, Name};
+use pz_items::Items;
+use pz_value::{ClassId, Text};
+use std::alloc::{AllocError, Global};
+
+/// The classes of a model, by their numbers: 0 is Array, and the class of the first declaration is
+/// number 1.
+#[derive(Drop)]
+pub struct Classes {
+    names: Items<Text>,
+    numbering: Numbering,
+    entries: Items<Entry>,
+}
+
+/// The name of the class that is declared, empty for a system. The only error is want of memory.
+fn spelling(alloc: Global, decl: &Decl) -> Result<Text, AllocError>
+    ensures { IfOk result (λ text. text ≡ numbers.spelling (decl_view decl.now)) }
+{
+    match declared_name(decl) {
+        Some(id) => Ok(Text::new(id.name.as_str().as_bytes().to_vec(alloc)?)),
+        None => Ok(Text::new(Vec::new(alloc))),
+    }
+}
+
+/// The name of each class at its number. The only error is want of memory.
+fn names_of(alloc: Global, model: &Model) -> Result<Items<Text>, AllocError>
+    ensures { IfOk result (λ names. names ≡ class_names (model_view model.now)) }
+{
+    let mut names = Items::new(alloc);
+    names.push(Text::new("Array".as_bytes().to_vec(alloc)?))?;
+    for decl in model.decls.as_slice() {
+        names.push(spelling(alloc, decl)?)?;
+    }
+    Ok(names)
+}
+
+impl Classes {
+    /// The classes of the model, or the least violation of the rules C1 to C3. Too many classes,
+    /// inputs or methods to number are taken for want of memory.
+    pub fn build(alloc: Global, model: &Model) -> Result<Classes, BuildError>
+        ensures classes { IfOk result (AreClasses (model_view model.now)) }
+        ensures sound { OnOk result ((v : Found) → ¬ Violates (model_view model.now) v) }
+        ensures refused { IfErr result (OnRefused (IsLeast (Violates (model_view model.now)))) }
+    {
+        if model.decls.len() >= u32::MAX as usize {
+            return Err(BuildError::NoMemory);
+        }
+        let numbering = number_classes(alloc, model)?;
+        let parents = parents_of(alloc, model, &numbering)?;
+        if let Some(violation) = least_violation(model, &numbering, parents.as_slice()) {
+            return Err(BuildError::Refused(violation));
+        }
+        let entries = entries_of(alloc, model, parents.as_slice())?;
+        let names = names_of(alloc, model)?;
+        Ok(Classes {
+            names,
+            numbering,
+            entries,
+        })
+    }
+
+    /// The class of this name; None where no class of the model has it.
+    pub fn class(&self, name: &[u8]) -> Option<ClassId>
+        ensures { (m : ModelTree) → AreClasses m self.now → result ≡ option_map class_id (numbers.class m name.now) }
+    {
+        self.numbering.get(name).map(ClassId)
+    }
+
+    /// The name of each class at its number, empty for a system.
+    pub fn names(&self) -> &[Text]
+        ensures { (m : ModelTree) → AreClasses m self.now → result.now ≡ class_names m }
+    {
+        self.names.as_slice()
+    }
+
+    fn entry(&self, class: ClassId) -> &Entry
+        requires { HasClass self.now class }
+        ensures { (m : ModelTree) → AreClasses m self.now → row_view result.now ≡ row m class.0 }
+    {
+        &self.entries.as_slice()[class.0 as usize]
+    }
+
+    /// The fields of a data class: those of its ancestors from the root on, in the order of the
+    /// text.
+    pub fn fields(&self, class: ClassId) -> &[Name]
+        requires { HasClass self.now class }
+        ensures { (m : ModelTree) → AreClasses m self.now → result.now ≡ spelled (members.fields m class.0) }
+    {
+        self.entry(class).members.fields.as_slice()
+    }
+
+    /// The parameters and variables of a process class, those of its ancestors first.
+    pub fn variables(&self, class: ClassId) -> &[Name]
+        requires { HasClass self.now class }
+        ensures { (m : ModelTree) → AreClasses m self.now → result.now ≡ spelled (members.variables m class.0) }
+    {
+        self.entry(class).members.variables.as_slice()
+    }
+
+    /// The ports of a class, those of its ancestors first.
+    pub fn ports(&self, class: ClassId) -> &[Name]
+        requires { HasClass self.now class }
+        ensures { (m : ModelTree) → AreClasses m self.now → result.now ≡ spelled (members.ports m class.0) }
+    {
+        self.entry(class).members.ports.as_slice()
+    }
+
+    /// The method of a data class with this name and number of inputs: that of the nearest ancestor
+    /// that has it. None where none has.
+    pub fn method(&self, class: ClassId, name: &[u8], inputs: u32) -> Option<MethodId>
+        requires { HasClass self.now class }
+        ensures { (m : ModelTree) → AreClasses m self.now → result ≡ methods.method m class.0 name.now inputs }
+    {
+        find(
+            self.entries.as_slice(),
+            class.0,
+            name,
+            Counts::Data { inputs },
+        )
+    }
+
+    /// The method of a process class with this name and numbers of inputs and outputs: that of the
+    /// nearest ancestor that has it. None where none has.
+    pub fn process_method(
+        &self,
+        class: ClassId,
+        name: &[u8],
+        inputs: u32,
+        outputs: u32,
+    ) -> Option<MethodId>
+        requires { HasClass self.now class }
+        ensures { (m : ModelTree) → AreClasses m self.now → result ≡ methods.process_method m class.0 name.now inputs outputs }
+    {
+        find(
+            self.entries.as_slice(),
+            class.0,
+            name,
+            Counts::Process { inputs, outputs },
+        )
+    }
+}

@@ -1,0 +1,49 @@
+use crate::Slot;
+use pz_ast::{Id, Literal, Pos, Symbol};
+use pz_items::{Boxed, Items};
+use pz_value::ClassId;
+
+/// An expression of a method's body, at the place of its first token. Variables are slots, and
+/// classes are numbers.
+#[cycle(code)]
+#[derive(Debug, Drop)]
+pub struct Code {
+    pub pos: Pos,
+    pub form: CodeForm,
+}
+
+/// The forms of expressions, as in the syntax.
+#[cycle(code)]
+#[derive(Debug, Drop)]
+pub enum CodeForm {
+    Lit(Literal),
+    Var(Slot),
+    Me,
+    Clock,
+    New(ClassId),
+    Group(Items<Code>),
+    Chain(Boxed<Code>, Items<CodeLink>),
+    Sends(Boxed<Code>, Items<CodeSending>),
+    Unary(Symbol, Boxed<Code>),
+    Assign(Slot, Boxed<Code>),
+    Return(Boxed<Code>),
+    If(Boxed<Code>, Items<Code>, Option<Items<Code>>),
+    While(Boxed<Code>, Items<Code>),
+}
+
+/// An operator, at its place, and its right operand.
+#[cycle(code)]
+#[derive(Debug, Drop)]
+pub struct CodeLink {
+    pub op: Symbol,
+    pub pos: Pos,
+    pub operand: Code,
+}
+
+/// A selector and its arguments, if a pair of brackets is written.
+#[cycle(code)]
+#[derive(Debug, Drop)]
+pub struct CodeSending {
+    pub selector: Id,
+    pub args: Option<Items<Code>>,
+}

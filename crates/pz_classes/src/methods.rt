@@ -1,0 +1,127 @@
+// The methods that a class declares.
+
+ghost use Rattle.std.specs.Prelude.{◌≡◌, suc, length, map, IfOk};
+ghost use Rattle.pz_ast.specs.ClassView.{decl_view, data_method_view, process_method_view};
+ghost use Rattle.std.specs.Option.{unwrap_or};
+ghost use Rattle.pz_classes.specs.Members.{grouped, section};
+ghost use Rattle.pz_classes.specs.Methods.{data_signature, process_signature};
+ghost use Rattle.pz_classes.specs.Tables.{routine_view, routines_from, routines_of};
+
+use crate::{Counts, MethodId};
+use pz_ast::{DataMethod, Decl, Name, ProcessMethod, VarGroup};
+use pz_items::Items;
+use pz_value::ClassId;
+use std::alloc::{AllocError, Global};
+
+/// A method of a class.
+#[derive(Debug, Drop)]
+pub(crate) struct Method {
+    pub(crate) id: MethodId,
+    pub(crate) name: Name,
+    pub(crate) counts: Counts,
+}
+
+/// How many names these are. Too many to number are taken for want of memory.
+fn count_names(groups: &[VarGroup]) -> Result<u32, AllocError>
+    ensures { IfOk result (λ n. n ≡ length (grouped groups.now)) }
+{
+    let mut count = 0u32;
+    for group in groups {
+        let Ok(more) = u32::try_from(group.names.len()) else {
+            return Err(AllocError);
+        };
+        let Some(sum) = count.checked_add(more) else {
+            return Err(AllocError);
+        };
+        count = sum;
+    }
+    Ok(count)
+}
+
+fn count_section(groups: &Option<Items<VarGroup>>) -> Result<u32, AllocError>
+    ensures { IfOk result (λ n. n ≡ length (section groups.now)) }
+{
+    match groups {
+        None => Ok(0),
+        Some(groups) => count_names(groups.as_slice()),
+    }
+}
+
+/// The number after this one. One too many is taken for want of memory.
+fn next(place: u32) -> Result<u32, AllocError>
+    ensures { IfOk result (λ n. n ≡ suc place) }
+{
+    match place.checked_add(1) {
+        Some(next) => Ok(next),
+        None => Err(AllocError),
+    }
+}
+
+/// The methods of a data class. The only error is want of memory.
+fn data_methods(
+    alloc: Global,
+    class: ClassId,
+    methods: &[DataMethod],
+) -> Result<Items<Method>, AllocError>
+    ensures { IfOk result (λ rs. map routine_view rs ≡ routines_from class.0 0 (map data_signature (map data_method_view methods.now))) }
+{
+    let mut routines = Items::new(alloc);
+    let mut place = 0u32;
+    for method in methods {
+        routines.push(Method {
+            id: MethodId { class, place },
+            name: method.name.name.copy()?,
+            counts: Counts::Data {
+                inputs: count_section(&method.inputs)?,
+            },
+        })?;
+        place = next(place)?;
+    }
+    Ok(routines)
+}
+
+/// The methods of a process class. The only error is want of memory.
+fn process_methods(
+    alloc: Global,
+    class: ClassId,
+    methods: &[ProcessMethod],
+) -> Result<Items<Method>, AllocError>
+    ensures { IfOk result (λ rs. map routine_view rs ≡ routines_from class.0 0 (map process_signature (map process_method_view methods.now))) }
+{
+    let mut routines = Items::new(alloc);
+    let mut place = 0u32;
+    for method in methods {
+        routines.push(Method {
+            id: MethodId { class, place },
+            name: method.name.name.copy()?,
+            counts: Counts::Process {
+                inputs: count_names(method.inputs.as_slice())?,
+                outputs: count_names(method.outputs.as_slice())?,
+            },
+        })?;
+        place = next(place)?;
+    }
+    Ok(routines)
+}
+
+/// The methods that a class itself declares. The only error is want of memory.
+pub(crate) fn methods_of(
+    alloc: Global,
+    class: ClassId,
+    decl: &Decl,
+) -> Result<Items<Method>, AllocError>
+    ensures { IfOk result (λ rs. map routine_view rs ≡ routines_of class.0 (decl_view decl.now)) }
+{
+    match decl {
+        Decl::Data(declared) => match &declared.methods {
+            Some(methods) => data_methods(alloc, class, methods.as_slice()),
+            None => Ok(Items::new(alloc)),
+        },
+        Decl::Process(declared) => match &declared.methods {
+            Some(methods) => process_methods(alloc, class, methods.as_slice()),
+            None => Ok(Items::new(alloc)),
+        },
+        Decl::Cluster(_) => Ok(Items::new(alloc)),
+        Decl::System(_) => Ok(Items::new(alloc)),
+    }
+}

@@ -1,0 +1,50 @@
+use crate::{Code, Slot};
+use pz_ast::{Id, Pos};
+use pz_items::{Boxed, Items};
+
+/// A statement of a method's body, at the place of its first token. Variables are slots, and ports
+/// are their numbers in the class.
+#[cycle(step)]
+#[derive(Debug, Drop)]
+pub struct Step {
+    pub pos: Pos,
+    pub form: StepForm,
+}
+
+/// The forms of statements, as in the syntax, but for `Eval`: an assignment, or an expression that
+/// is a statement.
+#[cycle(step)]
+#[derive(Debug, Drop)]
+pub enum StepForm {
+    Skip,
+    Delay(Code),
+    Group(Items<Step>),
+    Block(Items<Code>),
+    Guard(Code, Boxed<Step>),
+    Par(Items<Items<Step>>),
+    Sel(Items<Items<Step>>),
+    If(Code, Items<Step>, Option<Items<Step>>),
+    While(Code, Items<Step>),
+    Abort(Items<Step>, Boxed<Step>),
+    Interrupt(Items<Step>, Boxed<Step>),
+    Send {
+        port: u32,
+        name: Id,
+        args: Option<Items<Code>>,
+        block: Option<Items<Code>>,
+    },
+    /// Where there is a condition, `into` is there, and may be empty.
+    Receive {
+        port: u32,
+        name: Id,
+        into: Option<Items<Slot>>,
+        condition: Option<Code>,
+        block: Option<Items<Code>>,
+    },
+    Call {
+        method: Id,
+        args: Items<Code>,
+        results: Items<Slot>,
+    },
+    Eval(Code),
+}
