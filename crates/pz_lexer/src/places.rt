@@ -1,5 +1,5 @@
-ghost use Rattle.std.specs.Prelude.{◌≡◌, ◌+◌, ◌<◌, ◌^◌, length};
-ghost use Rattle.pz_lexer.specs.Places.{place_after};
+ghost use Rattle.std.specs.Prelude.{◌≡◌, ◌+◌, ◌-◌, ◌<◌, ◌^◌, length};
+ghost use Rattle.pz_lexer.specs.Places.{origin, place_after};
 
 use pz_ast::Pos;
 
@@ -23,4 +23,12 @@ pub fn place_after(pos: Pos, text: &[u8]) -> Pos
         }
     }
     Pos { line, column }
+}
+
+/// The place behind the last byte of a text.
+pub fn end_of(text: &[u8]) -> Pos
+    requires { length text.now < 2 ^ 32 - 1 }
+    ensures is { result ≡ place_after origin text.now }
+{
+    place_after(ORIGIN, text)
 }

@@ -3,13 +3,14 @@ use Rattle.std.proofs.Common.{◌≡◌, ◌≢◌, ◌⊎◌, inl, inr, ⊎_eli
 use Rattle.pz_io.specs.Outside.{Entries, lookup, raised, Rose, Exceeds}
 use Rattle.pz_term.specs.FirstPath.{FirstModel}
 use Rattle.pz_term.specs.Runs.{ended, deadlocked, stopped}
-use Rattle.pz_run.specs.FirstTexts.{IsModelOf}
+use Rattle.pz_run.specs.Refusals.{IsRefused}
 use Rattle.pz_run.specs.Keeping.{Shelf, Keeps, Unsaid, SaysModel}
 use Rattle.pz_run.specs.Lines.{usage_line, read_fault_line, too_long_line}
 use Rattle.pz_run.specs.Output.{Prints, usage, job, PrintsFile, lacks, too_long, reads, PrintsModel, refuses, runs, PrintsRun, run, model_limit}
 use Rattle.pz_run.specs.Promises.{PrintsAll, PrintsSome}
 use Rattle.pz_run.specs.Words.{first_job}
 use Rattle.pz_run.specs.Writing.{Sinks, Said}
+use Rattle.pz_run.specs.declared.refusal.Refusal.{Refusal}
 use Rattle.pz_run.specs.declared.status.Status.{Status}
 use Rattle.pz_run.specs.declared.status.Status.TheVariants.{Done, Deadlock, Usage, ModelRefused, TooLong, ReadFault, WriteFault, NoMemory}
 
@@ -159,12 +160,12 @@ module _ (words : List (List ℕ)) (name : List ℕ) (is_job : first_job words �
   run_ends m _ _ s (run events clock stopped first) e b c = b e
 
   -- the model was read whole
-  refused_text : (text bytes : List ℕ) (wanted : Status) → PrintsModel text bytes wanted → wanted ≡ ModelRefused → (m : FirstModel) → ¬ IsModelOf text m
-  refused_text text _ _ (refuses at none) e = none
+  refused_text : (text bytes : List ℕ) (wanted : Status) → PrintsModel text bytes wanted → wanted ≡ ModelRefused → (r : Refusal) × IsRefused text r
+  refused_text text _ _ (refuses r is) e = (r, is)
   refused_text text _ _ (runs m bytes wanted is prints) e = absurd (run_ends m bytes wanted ModelRefused prints (sym e) (λ d. cc) (λ d. cc))
 
   of_model : (text bytes : List ℕ) (wanted s : Status) → PrintsModel text bytes wanted → s ≡ wanted → (s ≡ ModelRefused → ⊥) → (s ≡ Done → ⊥) → (s ≡ Deadlock → ⊥) → ⊥
-  of_model text _ _ s (refuses at none) e a b c = a e
+  of_model text _ _ s (refuses r is) e a b c = a e
   of_model text _ _ s (runs m bytes wanted is prints) e a b c = run_ends m bytes wanted s prints e b c
 
   pub keeps_model : (text : List ℕ) (given : Status) → length text ≤ model_limit → (f.told ≡ true → lookup f.held name ≡ Some text) → SaysModel text before now given → Keeps words f g before now given

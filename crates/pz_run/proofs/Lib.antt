@@ -1,19 +1,7 @@
-pub mod Runs
-pub mod Digits
-pub mod WordKinds
-pub mod Cutting
-pub mod Turns
-pub mod Consuming
-pub mod Sound
-pub mod Repeating
-pub mod Refusing
-pub mod Seen
-pub mod Complete
-pub mod NameSets
-pub mod LastCalls
-pub mod NamesFitting
-pub mod Texts
-mod Rows
+pub mod Placed
+pub mod Heads
+pub mod Built
+pub mod Causes
 pub mod Writes
 pub mod Now
 pub mod Lined
@@ -23,3 +11,4 @@ pub mod Goings
 pub mod Keeps
 pub mod Begun
 pub mod SaidRuns
+mod Rows

@@ -1,24 +1,25 @@
 -- The text of the first worked row is that of its model.
-use Rattle.std.proofs.Common.{◌≡◌, ℕ, List, [], ◌∷◌, Some, refl, codes, arith, lit<}
-use Rattle.std.specs.Prelude.{All, unwrap_or}
+use Rattle.std.proofs.Common.{◌≡◌, ◌≤◌, ℕ, List, [], ◌∷◌, Some, Result, Ok, Err, refl, codes, arith, lit<}
+use Rattle.std.specs.Prelude.{All}
+use Rattle.std.specs.Fmt.{digits}
 use Rattle.std.proofs.lemmas.List.Elements.{All-nil, All-cons}
 use Rattle.pz_ast.specs.declared.names.Id.{Id}
 use Rattle.pz_ast.specs.declared.tokens.Pos.{Pos}
 use Rattle.pz_ast.specs.declared.tokens.Token.{Token}
-use Rattle.pz_term.specs.FirstPath.{skips, delays, Routine, FirstModel, IsKnown}
-use Rattle.std.specs.Fmt.{digits}
+use Rattle.pz_ast.specs.ModelNesting.{nesting}
+use Rattle.pz_lexer.specs.declared.error.LexError.{LexError}
+use Rattle.pz_lexer.specs.Tokens.{AreTokens}
+use Rattle.pz_lexer.specs.Twin.{lexed}
+use Rattle.pz_lexer.proofs.Cuts.{tokens_from_lexed}
+use Rattle.pz_first.proofs.InGrammar.{in_grammar}
+use Rattle.pz_first.proofs.NamesFitting.{free_sound}
+use Rattle.pz_term.specs.FirstPath.{skips, delays, Routine, FirstModel, tree_of, IsBody, HasBodies, IsKnown}
 use Rattle.pz_term.specs.declared.action.Action.TheVariants.{Internal}
 use Rattle.pz_term.specs.declared.action.Kind.{Kind}
 use Rattle.pz_term.specs.declared.action.Kind.TheVariants.{Skip, Expire, Call}
 use Rattle.pz_term.specs.Runs.{Event, acted, passed, ended}
-use Rattle.pz_run.specs.FirstTexts.{first_text, IsModelOf}
+use Rattle.pz_run.specs.Models.{IsTreeOf, IsModelOf}
 use Rattle.pz_run.specs.TraceText.{trace_text}
-use Rattle.pz_run.specs.Twins.Cuts.{tokens_from, tokens_of}
-use Rattle.pz_run.specs.Twins.Grammar.{is_key, is_symbol, groups, call, delay, simple, body, routine, routines, class_name, start, system, model}
-use Rattle.pz_run.proofs.Consuming.{reads_all}
-use Rattle.pz_run.proofs.Cutting.{tokens_found}
-use Rattle.pz_run.proofs.NamesFitting.{free_sound}
-use Rattle.pz_run.proofs.Sound.{model_sound}
 
 abbrev row_text : List ℕ
 row_text = codes "process class P\ninit a()()\nmethods a()()\nskip;\ndelay 3;\nskip\nsystem instances p : P\n"
@@ -42,16 +43,27 @@ row_model = record {
   of_class = id (codes "P") (at 7 22);
 }
 
+abbrev tokens_in : Result (List Token) LexError → List Token
+tokens_in (Ok tokens) = tokens
+tokens_in (Err error) = []
+
 abbrev row_tokens : List Token
-row_tokens = unwrap_or (tokens_of row_text) []
+row_tokens = tokens_in (lexed row_text)
 
-cut : tokens_of row_text ≡ Some row_tokens
-unfolding tokens_from
-cut = refl
+are_tokens : AreTokens row_text row_tokens
+are_tokens = tokens_from_lexed row_text row_tokens refl
 
-read : model row_tokens ≡ Some (row_model, [])
-unfolding tokens_from is_key is_symbol groups call delay simple body routine routines class_name start system model
-read = refl
+has_bodies : HasBodies row_model
+has_bodies = record {
+  some = λ e. cc;
+  bodies = All-cons (λ r. IsBody r.body) row_routine [] tt (All-nil (λ r. IsBody r.body));
+}
+
+is_tree : IsTreeOf row_tokens (tree_of row_model)
+is_tree =
+    let law = in_grammar row_model has_bodies in
+    let few : nesting (tree_of row_model) ≤ 100 = omega (arith, law.1) in
+    record { is_text = (law.0, few, refl); in_place = refl }
 
 known : All (IsKnown row_model) row_routine.body
 known =
@@ -60,19 +72,16 @@ known =
     (All-cons (IsKnown row_model) (skips (at 6 1)) [] tt (All-nil (IsKnown row_model))))
 
 row : IsModelOf row_text row_model
-row =
-    let took = model_sound row_tokens (row_model, []) read in
-    record {
-      has_bodies = took.has_bodies;
-      names_fit = record {
-        class_is_free = free_sound (codes "P") refl;
-        init_is_known = (0, row_routine, lit< tt, refl, refl);
-        none_twice = λ i j d lt low. absurd (omega arith);
-        calls_are_known = All-cons (λ r. All (IsKnown row_model) r.body) row_routine [] known (All-nil (λ r. All (IsKnown row_model) r.body));
-        instance_of_class = refl;
-      };
-      is_text = record { tokens = row_tokens; has_tokens = tokens_found row_text row_tokens cut; read = reads_all row_tokens (first_text row_model) took.text };
-    }
+row = record {
+  is_built = record { tokens = row_tokens; are_tokens = are_tokens; is_tree = is_tree; has_bodies = has_bodies };
+  names_fit = record {
+    class_is_free = free_sound (codes "P") refl;
+    init_is_known = (0, row_routine, lit< tt, refl, refl);
+    none_twice = λ i j d lt low. absurd (omega arith);
+    calls_are_known = All-cons (λ r. All (IsKnown row_model) r.body) row_routine [] known (All-nil (λ r. All (IsKnown row_model) r.body));
+    instance_of_class = refl;
+  };
+}
 
 -- the text of its run, of which the crate of the rules works out the events
 abbrev acts : ℕ → Kind → Pos → Event

@@ -1,18 +1,19 @@
 -- What is said of a run, and of the text of a model.
 use Rattle.std.proofs.Common.{◌≡◌, ◌⊎◌, inl, inr, ◌∙◌, ℕ, List, Ok, Err, refl, sym, subst}
-use Rattle.pz_ast.specs.declared.tokens.Pos.{Pos}
 use Rattle.pz_term.specs.FirstPath.{FirstModel}
 use Rattle.pz_term.specs.Laws.{HasFirstRun}
 use Rattle.pz_term.specs.Runs.{Ending, ended, deadlocked, stopped}
 use Rattle.pz_term.specs.Start.{bodies_of, start}
-use Rattle.pz_run.specs.FirstTexts.{IsModelOf}
+use Rattle.pz_run.specs.Models.{IsModelOf}
 use Rattle.pz_run.specs.Keeping.{SaysRun, SaysModel, Unsaid}
-use Rattle.pz_run.specs.Lines.{unbuilt_line}
+use Rattle.pz_run.specs.Lines.{refusal_line}
+use Rattle.pz_run.specs.Refusals.{IsRefused}
 use Rattle.pz_run.specs.Output.{action_limit, run, refuses, runs}
 use Rattle.pz_run.specs.Status.{status_of}
 use Rattle.pz_run.specs.TraceText.{trace_text}
 use Rattle.pz_run.specs.Writing.{Sinks, Wrote, Said}
 use Rattle.pz_run.specs.declared.printing.Halt.TheVariants as halt
+use Rattle.pz_run.specs.declared.refusal.Refusal.{Refusal}
 use Rattle.pz_run.specs.declared.status.Status.{Status}
 use Rattle.pz_run.specs.declared.status.Status.TheVariants.{ModelRefused, WriteFault, NoMemory}
 use Rattle.pz_run.proofs.Writes.{wrote_said, halt_said_memory, halt_said_fault}
@@ -52,8 +53,8 @@ module _ (text : List ℕ) (before now : Sinks) (given : Status) where
   pub says_model : (m : FirstModel) → IsModelOf text m → SaysRun m before now given → Unsaid before now given ⊎ SaysModel text before now given
   says_model m is says = inr (record { bytes = says.bytes; wanted = says.wanted; prints = runs m says.bytes says.wanted is says.prints; said = says.said })
 
-  pub says_unbuilt : (at : Pos) → ((m : FirstModel) → ¬ IsModelOf text m) → Said before now (unbuilt_line at) ModelRefused given → Unsaid before now given ⊎ SaysModel text before now given
-  says_unbuilt at none said = inr (record { bytes = unbuilt_line at; wanted = ModelRefused; prints = refuses at none; said = said })
+  pub says_refused : (r : Refusal) → IsRefused text r → Said before now (refusal_line r) ModelRefused given → Unsaid before now given ⊎ SaysModel text before now given
+  says_refused r is said = inr (record { bytes = refusal_line r; wanted = ModelRefused; prints = refuses r is; said = said })
 
 pub says_nothing : (text : List ℕ) (s : Sinks) → Unsaid s s NoMemory ⊎ SaysModel text s s NoMemory
 says_nothing text s = inl (record { nothing = refl; wanting = refl })

@@ -1,11 +1,7 @@
-pub mod Bytes
-pub mod Keywords
-pub mod Places
-pub mod Pieces
-pub mod Tokens
-pub mod FirstTexts
+pub mod Models
+pub mod Refusals
+pub mod Reading
 pub mod Words
-pub mod Twins
 pub mod Lines
 pub mod TraceText
 pub mod Status

@@ -8,6 +8,8 @@ use Rattle.pz_term.specs.declared.action.Kind.TheVariants.{Skip, Eval, Test, Exp
 use Rattle.pz_term.specs.declared.action.Action.{Action}
 use Rattle.pz_term.specs.declared.action.Action.TheVariants.{Internal}
 use Rattle.pz_term.specs.Runs.{Ending, ended, deadlocked, stopped}
+use Rattle.pz_run.specs.declared.refusal.Refusal.{Refusal}
+use Rattle.pz_run.specs.declared.refusal.Refusal.TheVariants as refusal
 
 abbrev pub newline : List ℕ
 newline = 10 ∷ []
@@ -50,5 +52,14 @@ read_fault_line name = codes "read fault: " ++ (name ++ newline)
 abbrev pub too_long_line : List ℕ → List ℕ
 too_long_line name = codes "too long: " ++ (name ++ newline)
 
-abbrev pub unbuilt_line : Pos → List ℕ
-unbuilt_line at = codes "model refused: Unbuilt " ++ (decimal at.line ++ (codes ":" ++ (decimal at.column ++ newline)))
+abbrev pub refused_line : List ℕ → Pos → List ℕ
+refused_line kind at = codes "model refused: " ++ (kind ++ (codes " " ++ (decimal at.line ++ (codes ":" ++ (decimal at.column ++ newline)))))
+
+abbrev pub refusal_line : Refusal → List ℕ
+refusal_line (refusal.BadByte at) = refused_line (codes "BadByte") at
+refusal_line (refusal.OpenComment at) = refused_line (codes "OpenComment") at
+refusal_line (refusal.OpenString at) = refused_line (codes "OpenString") at
+refusal_line (refusal.BadNumber at) = refused_line (codes "BadNumber") at
+refusal_line (refusal.Syntax at) = refused_line (codes "Syntax") at
+refusal_line (refusal.TooNested at) = refused_line (codes "TooNested") at
+refusal_line (refusal.Unbuilt at) = refused_line (codes "Unbuilt") at

@@ -1,16 +1,17 @@
 -- What the program prints for the words of its command line and the files, and how it ends: first
--- the words, then the model's size, then whether it is a model of the first path, then its run.
+-- the words, then the model's size, then whether it is refused, then its run.
 use Rattle.std.specs.Prelude.{◌≡◌, ◌<◌, ◌≤◌, ℕ, List, length, Option, Some, None}
-use Rattle.pz_ast.specs.declared.tokens.Pos.{Pos}
 use Rattle.pz_io.specs.Outside.{Entries, lookup}
 use Rattle.pz_term.specs.FirstPath.{FirstModel}
 use Rattle.pz_term.specs.Start.{bodies_of, start}
 use Rattle.pz_term.specs.Runs.{Event, Ending, IsFirstRun}
-use Rattle.pz_run.specs.FirstTexts.{IsModelOf}
-use Rattle.pz_run.specs.Lines.{usage_line, read_fault_line, too_long_line, unbuilt_line}
+use Rattle.pz_run.specs.Models.{IsModelOf}
+use Rattle.pz_run.specs.Refusals.{IsRefused}
+use Rattle.pz_run.specs.Lines.{usage_line, read_fault_line, too_long_line, refusal_line}
 use Rattle.pz_run.specs.Status.{status_of}
 use Rattle.pz_run.specs.TraceText.{trace_text}
 use Rattle.pz_run.specs.Words.{first_job}
+use Rattle.pz_run.specs.declared.refusal.Refusal.{Refusal}
 use Rattle.pz_run.specs.declared.status.Status.{Status}
 use Rattle.pz_run.specs.declared.status.Status.TheVariants.{Usage, ModelRefused, TooLong, ReadFault}
 
@@ -28,8 +29,7 @@ pub data PrintsRun (m : FirstModel) : List ℕ → Status → Type 0 where
       → PrintsRun m (trace_text m.instance.name events clock ending) (status_of ending)
 
 pub data PrintsModel (text : List ℕ) : List ℕ → Status → Type 0 where
-  -- the text is that of no model of the first path
-  refuses : (at : Pos) → ((m : FirstModel) → ¬ IsModelOf text m) → PrintsModel text (unbuilt_line at) ModelRefused
+  refuses : (r : Refusal) → IsRefused text r → PrintsModel text (refusal_line r) ModelRefused
   runs : (m : FirstModel) (bytes : List ℕ) (status : Status) → IsModelOf text m → PrintsRun m bytes status → PrintsModel text bytes status
 
 pub data PrintsFile (name : List ℕ) : Option (List ℕ) → List ℕ → Status → Type 0 where

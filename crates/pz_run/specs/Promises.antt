@@ -1,11 +1,11 @@
 -- What the top call promises, by parts. Bytes before and now are those that the sink has taken.
 use Rattle.std.specs.Prelude.{◌≡◌, ◌⊎◌, ◌<◌, ◌≤◌, ℕ, List, ◌++◌, length, Some, None}
 use Rattle.pz_io.specs.Outside.{Entries, lookup, Rose}
-use Rattle.pz_term.specs.FirstPath.{FirstModel}
-use Rattle.pz_run.specs.FirstTexts.{IsModelOf}
+use Rattle.pz_run.specs.Refusals.{IsRefused}
 use Rattle.pz_run.specs.Lines.{read_fault_line}
 use Rattle.pz_run.specs.Output.{Prints, model_limit}
 use Rattle.pz_run.specs.Words.{first_job}
+use Rattle.pz_run.specs.declared.refusal.Refusal.{Refusal}
 use Rattle.pz_run.specs.declared.status.Status.{Status}
 
 -- the bytes taken since are what is to be printed, and the status is the one that goes with them
@@ -45,7 +45,7 @@ Lacks words files = (name : List ℕ) × (first_job words ≡ Some name) × (loo
 abbrev pub IsLonger : List (List ℕ) → Entries → Type 0
 IsLonger words files = (name : List ℕ) × (text : List ℕ) × (first_job words ≡ Some name) × (lookup files name ≡ Some text) × (model_limit < length text)
 
--- the model of the job is within its limit, and no model of the first path
+-- the model of the job is within its limit, and refused
 abbrev pub IsNoModel : List (List ℕ) → Entries → Type 0
 IsNoModel words files =
-    (name : List ℕ) × (text : List ℕ) × (first_job words ≡ Some name) × (lookup files name ≡ Some text) × (length text ≤ model_limit) × ((m : FirstModel) → ¬ IsModelOf text m)
+    (name : List ℕ) × (text : List ℕ) × (first_job words ≡ Some name) × (lookup files name ≡ Some text) × (length text ≤ model_limit) × ((r : Refusal) × IsRefused text r)

@@ -5,6 +5,7 @@ mod lines;
 mod printing;
 mod program;
 mod reading;
+mod refusal;
 mod running;
 mod status;
 mod words;

@@ -3,6 +3,7 @@ ghost use Rattle.std.specs.Prelude.{◌≡◌, ◌++◌, IfOk, string_bytes, cod
 ghost use Rattle.pz_run.specs.Lines as lines;
 ghost use Rattle.pz_term.specs.Runs.{Ending};
 
+use crate::refusal::Refusal;
 use pz_ast::Pos;
 use pz_term::{Action, Kind};
 use std::alloc::{AllocError, Global};
@@ -81,10 +82,24 @@ pub fn too_long_line(alloc: Global, name: &str) -> Result<String, AllocError>
     format!(in alloc; "too long: {name}\n")
 }
 
-/// The line of a model that is not built yet, at the place where it leaves what is built.
-pub fn unbuilt_line(alloc: Global, at: Pos) -> Result<String, AllocError>
-    ensures { IfOk result (λ line. string_bytes line ≡ lines.unbuilt_line at) }
+/// The line of a refused model: what kind of refusal, and where.
+pub fn refusal_line(alloc: Global, refusal: Refusal) -> Result<String, AllocError>
+    ensures { IfOk result (λ line. string_bytes line ≡ lines.refusal_line refusal) }
+{
+    match refusal {
+        Refusal::BadByte(at) => refused_line(alloc, "BadByte", at),
+        Refusal::OpenComment(at) => refused_line(alloc, "OpenComment", at),
+        Refusal::OpenString(at) => refused_line(alloc, "OpenString", at),
+        Refusal::BadNumber(at) => refused_line(alloc, "BadNumber", at),
+        Refusal::Syntax(at) => refused_line(alloc, "Syntax", at),
+        Refusal::TooNested(at) => refused_line(alloc, "TooNested", at),
+        Refusal::Unbuilt(at) => refused_line(alloc, "Unbuilt", at),
+    }
+}
+
+fn refused_line(alloc: Global, kind: &str, at: Pos) -> Result<String, AllocError>
+    ensures { IfOk result (λ line. string_bytes line ≡ lines.refused_line kind.now at) }
 {
     let (line, column) = (at.line, at.column);
-    format!(in alloc; "model refused: Unbuilt {line}:{column}\n")
+    format!(in alloc; "model refused: {kind} {line}:{column}\n")
 }

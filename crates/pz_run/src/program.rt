@@ -10,7 +10,7 @@ ghost use Rattle.pz_run.specs.Words.{first_job};
 ghost use Rattle.pz_run.specs.Writing.{Sinks};
 
 use crate::Status;
-use crate::lines::{USAGE, read_fault_line, too_long_line, unbuilt_line};
+use crate::lines::{USAGE, read_fault_line, refusal_line, too_long_line};
 use crate::printing::{Halt, say, say_line};
 use crate::reading::{ReadModelError, read_model};
 use crate::running::run;
@@ -111,8 +111,8 @@ fn run_text<W: Sink>(alloc: Global, text: &[u8], out: &mut W) -> Status
             status
         }
         Err(ReadModelError::NoMemory) => Status::NoMemory,
-        Err(ReadModelError::Unbuilt(at)) => {
-            say_line(out, unbuilt_line(alloc, at), Status::ModelRefused)
+        Err(ReadModelError::Refused(refusal)) => {
+            say_line(out, refusal_line(alloc, refusal), Status::ModelRefused)
         }
     }
 }

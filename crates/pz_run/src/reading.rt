@@ -1,66 +1,112 @@
-//! Reading the text of a model of the first path: bytes to tokens, tokens to what they say by the
-//! grammar, the names of that, and its syntax tree.
-ghost use Rattle.std.specs.Prelude.{◌≡◌, ◌≢◌, ◌-◌, ◌<◌, ◌^◌, IfOk, IfErr, length, true};
+//! Reading a model: its tokens, its tree, and whether the tree is one that runs today.
+ghost use Rattle.std.specs.Prelude.{◌≡◌, ◌⊎◌, ◌-◌, ◌<◌, ◌^◌, IfOk, IfErr, length};
 ghost use Rattle.pz_ast.specs.ClassView.{model_view};
-ghost use Rattle.pz_term.specs.FirstPath.{FirstModel, tree_of, HasBodies};
-ghost use Rattle.pz_run.specs.FirstTexts.{first_text, Reads, IsTextOf, IsModelOf};
-ghost use Rattle.pz_run.specs.Twins.Grammar.{IsModel};
+ghost use Rattle.pz_term.specs.FirstPath.{FirstModel, IsFirstPath, tree_of};
+ghost use Rattle.pz_run.specs.Models.{IsModelOf};
+ghost use Rattle.pz_run.specs.Refusals.{IsRefused};
+ghost use Rattle.pz_run.specs.Reading.{HaveTheirHeads, IsOnlyTree, IsUnbuiltError};
+ghost use Rattle.pz_run.specs.declared.refusal.Refusal.{Refusal};
 
-mod cursor;
-mod grammar;
-mod keywords;
-mod names;
-mod parsed_model;
-mod pieces;
-mod refusal;
-mod tokens;
-
-use self::cursor::Cursor;
-use self::names::check_names;
-use self::parsed_model::ParsedModel;
-pub use self::refusal::ReadModelError;
-use self::tokens::{Tokens, read_tokens};
-use pz_ast::Model;
+use crate::refusal::Refusal;
+use pz_ast::{Model, Pos, Token, text_has_its_heads};
+use pz_first::laws::first_path_is_grammar;
+use pz_first::{NamesError, check_grammar, check_names};
+use pz_lexer::{LexError, end_of, lex};
+use pz_parser::{ParseError, parse};
 use std::alloc::Global;
+use std::mem::drop;
 
-/// The syntax tree of the text of a model of the first path. `Unbuilt` says where a text is none;
-/// of that place nothing is promised here.
-pub fn read_model(alloc: Global, text: &[u8]) -> Result<Model, ReadModelError>
-    requires { length text.now < 2 ^ 32 - 1 }
-    // The tree is that of the model whose text this is.
-    ensures found { IfOk result (λ model. (m : FirstModel) × (model_view model ≡ tree_of m) × IsModelOf text.now m) }
-
-    // A text is refused only where it is that of no model.
-    ensures refused { IfErr result (λ e. e ≢ ReadModelError.NoMemory → (m : FirstModel) → ¬ IsModelOf text.now m) }
-{
-    let model = read_grammar(alloc, text)?;
-    check_names(alloc, &model)?;
-    Ok(model.into_tree(alloc)?)
+/// Why a text gives no model that runs.
+#[derive(Clone, Copy, Debug, PartialEq, Eq)]
+pub enum ReadModelError {
+    /// Memory ran out. It says nothing of the text.
+    NoMemory,
+    /// The text is refused.
+    Refused(Refusal),
 }
 
-/// Reads a text by the grammar alone.
-fn read_grammar(alloc: Global, text: &[u8]) -> Result<ParsedModel, ReadModelError>
-    requires { length text.now < 2 ^ 32 - 1 }
-    ensures found { IfOk result (λ model. (m : FirstModel) × IsModel model m × HasBodies m × IsTextOf text.now m) }
-    ensures refused { IfErr result (λ e. e ≢ ReadModelError.NoMemory → (m : FirstModel) → HasBodies m → ¬ IsTextOf text.now m) }
-{
-    let tokens = read_tokens(alloc, text)?;
-    read_all(alloc, &tokens)
-}
+impl From<LexError> for ReadModelError {
+    ghost use Rattle.std.specs.Prelude.{◌≡◌};
+    ghost use Rattle.pz_run.specs.Reading.{of_lexer};
 
-/// Reads all of the tokens, if they are those of all of the text.
-fn read_all(alloc: Global, tokens: &Tokens) -> Result<ParsedModel, ReadModelError>
-    ensures found { IfOk result (λ model. (m : FirstModel) × IsModel model m × HasBodies m × Reads tokens.now.items (first_text m) × (tokens.now.whole ≡ true)) }
-    ensures refused { IfErr result (λ e. e ≢ ReadModelError.NoMemory → (m : FirstModel) → HasBodies m → Reads tokens.now.items (first_text m) → ¬ (tokens.now.whole ≡ true)) }
-{
-    let mut cursor = Cursor::new(tokens.items.as_slice(), tokens.end);
-    let model = grammar::model(alloc, &mut cursor)?;
-    if tokens.whole && cursor.is_at_end() {
-        Ok(model)
-    } else {
-        Err(cursor.refusal())
+    ghost from_gives = { λ e error. error ≡ of_lexer e };
+
+    fn from(error: LexError) -> ReadModelError {
+        match error {
+            LexError::NoMemory => ReadModelError::NoMemory,
+            LexError::BadByte(at) => ReadModelError::Refused(Refusal::BadByte(at)),
+            LexError::OpenComment(at) => ReadModelError::Refused(Refusal::OpenComment(at)),
+            LexError::OpenString(at) => ReadModelError::Refused(Refusal::OpenString(at)),
+            LexError::BadNumber(at) => ReadModelError::Refused(Refusal::BadNumber(at)),
+        }
     }
 }
 
-#[cfg(test)]
-mod tests;
+impl From<ParseError> for ReadModelError {
+    ghost use Rattle.std.specs.Prelude.{◌≡◌};
+    ghost use Rattle.pz_run.specs.Reading.{of_parser};
+
+    ghost from_gives = { λ e error. error ≡ of_parser e };
+
+    fn from(error: ParseError) -> ReadModelError {
+        match error {
+            ParseError::NoMemory => ReadModelError::NoMemory,
+            ParseError::Syntax(at) => ReadModelError::Refused(Refusal::Syntax(at)),
+            ParseError::TooNested(at) => ReadModelError::Refused(Refusal::TooNested(at)),
+        }
+    }
+}
+
+impl From<NamesError> for ReadModelError {
+    ghost use Rattle.std.specs.Prelude.{◌≡◌};
+    ghost use Rattle.pz_run.specs.Reading.{of_names};
+
+    ghost from_gives = { λ e error. error ≡ of_names e };
+
+    fn from(error: NamesError) -> ReadModelError {
+        match error {
+            NamesError::NoMemory => ReadModelError::NoMemory,
+            NamesError::Misfit(at) => ReadModelError::Refused(Refusal::Unbuilt(at)),
+        }
+    }
+}
+
+/// The syntax tree of the text of a model that runs today. The error is want of memory, or why the
+/// text is refused: first its tokens, then its tree, then whether that is built.
+pub fn read_model(alloc: Global, text: &[u8]) -> Result<Model, ReadModelError>
+    requires { length text.now < 2 ^ 32 - 1 }
+    ensures found { IfOk result (λ model. (m : FirstModel) × (model_view model ≡ tree_of m) × IsModelOf text.now m) }
+    ensures refused { IfErr result (λ e. (e ≡ ReadModelError.NoMemory) ⊎ ((r : Refusal) × (e ≡ ReadModelError.Refused r) × IsRefused text.now r)) }
+{
+    let tokens = lex(alloc, text)?;
+    let end = end_of(text);
+    let model = parse(alloc, tokens.as_slice(), end)?;
+    match check_built(alloc, tokens.as_slice(), end, &model) {
+        Ok(()) => Ok(model),
+        Err(error) => {
+            drop(model);
+            Err(error)
+        }
+    }
+}
+
+/// Whether the tree of these tokens is one that runs today.
+fn check_built(
+    alloc: Global,
+    tokens: &[Token],
+    end: Pos,
+    model: &Model,
+) -> Result<(), ReadModelError>
+    requires heads { HaveTheirHeads tokens.now }
+    requires only { IsOnlyTree tokens.now (model_view model.now) }
+    ensures runs { IfOk result (λ _. IsFirstPath (model_view model.now)) }
+    ensures refused { IfErr result (λ e. IsUnbuiltError tokens.now end (model_view model.now) e) }
+{
+    text_has_its_heads();
+    first_path_is_grammar();
+    if let Err(at) = check_grammar(tokens, end) {
+        return Err(ReadModelError::Refused(Refusal::Unbuilt(at)));
+    }
+    check_names(alloc, model)?;
+    Ok(())
+}

@@ -31,10 +31,31 @@ fn sink(alloc: Global) -> Result<RoomySink, Fail> {
     Ok(RoomySink::new(alloc, 100_000, Vec::new(alloc))?)
 }
 
+/// Whether the model of this text is refused with this line.
+fn is_refused(alloc: Global, text: &str, line: &str) -> Result<bool, Fail> {
+    let mut files = one_file(alloc, text, 0)?;
+    let mut out = sink(alloc)?;
+    let status = run_program(alloc, &words(alloc, "m")?, &mut files, &mut out);
+    Ok(status == Status::ModelRefused && out.bytes() == line.as_bytes())
+}
+
 #[test]
 fn a_run_with_ample_memory_is_done_and_prints_its_trace(rt: HostRuntime) -> Result<(), Fail> {
     let alloc = rt.alloc();
     let mut files = one_file(alloc, MODEL, 0)?;
+    let mut out = sink(alloc)?;
+    let status = run_program(alloc, &words(alloc, "m")?, &mut files, &mut out);
+    assert_eq!(rt; status, Status::Done);
+    assert_eq!(rt; out.bytes(), TRACE.as_bytes());
+    Ok(())
+}
+
+#[test]
+fn comments_and_blanks_change_nothing(rt: HostRuntime) -> Result<(), Fail> {
+    let alloc = rt.alloc();
+    let text =
+        "process class P // a class\r\ninit a()()\r\nmethods a()() /* its\tmethod */\r\nskip;\r\ndelay 3;\r\nskip\r\nsystem instances p : P\r\n";
+    let mut files = one_file(alloc, text, 0)?;
     let mut out = sink(alloc)?;
     let status = run_program(alloc, &words(alloc, "m")?, &mut files, &mut out);
     assert_eq!(rt; status, Status::Done);
@@ -102,20 +123,69 @@ fn a_model_may_have_a_mebibyte_and_no_byte_more(rt: HostRuntime) -> Result<(), F
 }
 
 #[test]
-fn what_is_not_built_is_refused_at_its_place(rt: HostRuntime) -> Result<(), Fail> {
+fn a_text_without_tokens_is_refused_first(rt: HostRuntime) -> Result<(), Fail> {
     let alloc = rt.alloc();
-    let mut files = one_file(alloc, "", 0)?;
-    let mut out = sink(alloc)?;
-    let status = run_program(alloc, &words(alloc, "m")?, &mut files, &mut out);
-    assert_eq!(rt; status.number(), 3);
-    assert_eq!(rt; out.bytes(), "model refused: Unbuilt 1:1\n".as_bytes());
-    let text =
+    assert!(rt; is_refused(alloc, "process # class", "model refused: BadByte 1:9\n")?);
+    assert!(rt;
+        is_refused(
+            alloc,
+            "skip\n  /* no end",
+            "model refused: OpenComment 2:3\n"
+        )?
+    );
+    assert!(rt;
+        is_refused(
+            alloc,
+            "skip \"no end\n\"",
+            "model refused: OpenString 1:6\n"
+        )?
+    );
+    assert!(rt; is_refused(alloc, "delay 3x", "model refused: BadNumber 1:7\n")?);
+    let too_large = "process class P init a()() methods a()()\ndelay 9223372036854775808";
+    assert!(rt; is_refused(alloc, too_large, "model refused: BadNumber 2:7\n")?);
+    Ok(())
+}
+
+#[test]
+fn tokens_without_a_tree_are_refused_next(rt: HostRuntime) -> Result<(), Fail> {
+    let alloc = rt.alloc();
+    assert!(rt; is_refused(alloc, "", "model refused: Syntax 1:1\n")?);
+    let early = "process class P\ninit a()()\nmethods a()()\nskip;\ndelay 3; ";
+    assert!(rt; is_refused(alloc, early, "model refused: Syntax 5:10\n")?);
+    let no_head = "process class P methods a() skip";
+    assert!(rt; is_refused(alloc, no_head, "model refused: Syntax 1:25\n")?);
+    Ok(())
+}
+
+#[test]
+fn a_hundred_and_one_constructs_are_too_many(rt: HostRuntime) -> Result<(), Fail> {
+    let alloc = rt.alloc();
+    let mut text = String::from_str(alloc, "process class P methods a()()\n")?;
+    for _ in 0..101 {
+        text.push_str("(")?;
+    }
+    text.push_str("skip")?;
+    for _ in 0..101 {
+        text.push_str(")")?;
+    }
+    let line = "model refused: TooNested 2:101\n";
+    assert!(rt; is_refused(alloc, text.as_str(), line)?);
+    Ok(())
+}
+
+#[test]
+fn what_is_not_built_is_refused_last(rt: HostRuntime) -> Result<(), Fail> {
+    let alloc = rt.alloc();
+    let statement =
         "process class P\ninit a()()\nmethods a()()\npar skip rap;\ndelay 3;\nskip\nsystem instances p : P\n";
-    let mut files = one_file(alloc, text, 0)?;
-    let mut out = sink(alloc)?;
-    let status = run_program(alloc, &words(alloc, "m")?, &mut files, &mut out);
-    assert_eq!(rt; status.number(), 3);
-    assert_eq!(rt; out.bytes(), "model refused: Unbuilt 4:1\n".as_bytes());
+    assert!(rt; is_refused(alloc, statement, "model refused: Unbuilt 4:1\n")?);
+    let behind_call =
+        "process class P init a()() methods a()()\na()(); skip\nsystem instances p : P\n";
+    assert!(rt; is_refused(alloc, behind_call, "model refused: Unbuilt 2:6\n")?);
+    let no_system = "process class P\ninit a()()\nmethods a()() skip\n";
+    assert!(rt; is_refused(alloc, no_system, "model refused: Unbuilt 4:1\n")?);
+    let class = "process class P\ninit a()()\nmethods a()() skip\nsystem instances p : Q";
+    assert!(rt; is_refused(alloc, class, "model refused: Unbuilt 4:22\n")?);
     Ok(())
 }
 
