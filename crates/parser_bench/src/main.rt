@@ -49,34 +49,49 @@ fn show(rt: &HostRuntime, shape: &Shape<'_>) -> io::Result<()> {
 }
 
 fn main(rt: HostRuntime) -> io::Result<()> {
-    show(&rt, &Shape {
-        name: "nested",
-        front: b"process class P methods a()() skip",
-        piece: b"; ((((((((((((((((((((skip))))))))))))))))))))",
-        times: 22_795,
-    })?;
-    show(&rt, &Shape {
-        name: "flat",
-        front: b"process class P methods a()() skip",
-        piece: b"; skip",
-        times: 174_762,
-    })?;
-    show(&rt, &Shape {
-        name: "expressions",
-        front: b"process class P methods a()() skip",
-        piece: b"; x := a f(1) * - b + 2",
-        times: 45_590,
-    })?;
-    show(&rt, &Shape {
-        name: "classes",
-        front: b"",
-        piece: b"data class A extends B variables x, y : C methods m(a : D) : E a + 1\n",
-        times: 15_196,
-    })?;
-    show(&rt, &Shape {
-        name: "instances",
-        front: b"system instances",
-        piece: b" p : P(x := 1)",
-        times: 74_898,
-    })
+    show(
+        &rt,
+        &Shape {
+            name: "nested",
+            front: b"process class P methods a()() skip",
+            piece: b"; ((((((((((((((((((((skip))))))))))))))))))))",
+            times: 22_795,
+        },
+    )?;
+    show(
+        &rt,
+        &Shape {
+            name: "flat",
+            front: b"process class P methods a()() skip",
+            piece: b"; skip",
+            times: 174_762,
+        },
+    )?;
+    show(
+        &rt,
+        &Shape {
+            name: "expressions",
+            front: b"process class P methods a()() skip",
+            piece: b"; x := a f(1) * - b + 2",
+            times: 45_590,
+        },
+    )?;
+    show(
+        &rt,
+        &Shape {
+            name: "classes",
+            front: b"",
+            piece: b"data class A extends B variables x, y : C methods m(a : D) : E a + 1\n",
+            times: 15_196,
+        },
+    )?;
+    show(
+        &rt,
+        &Shape {
+            name: "instances",
+            front: b"system instances",
+            piece: b" p : P(x := 1)",
+            times: 74_898,
+        },
+    )
 }

@@ -7,8 +7,7 @@ use pz_io::{OsFiles, read_all};
 use pz_lexer::lex;
 use pz_parser::parse;
 use std::alloc::{AllocError, Global};
-use std::env;
-use std::io;
+use std::{env, io};
 
 /// The most bytes of a file.
 const LIMIT: usize = 1_000_000;
@@ -54,7 +53,14 @@ fn show_line(rt: &HostRuntime, line: &str, end: u32) -> io::Result<()> {
     let Ok(tokens) = lex(rt.alloc(), text) else {
         return println!(rt; "no tokens: {line}");
     };
-    match parse(rt.alloc(), tokens.as_slice(), Pos { line: 1, column: end }) {
+    match parse(
+        rt.alloc(),
+        tokens.as_slice(),
+        Pos {
+            line: 1,
+            column: end,
+        },
+    ) {
         Ok(_) => println!(rt; "accepted: {line}"),
         Err(error) => println!(rt; "{error:?}: {line}"),
     }
