@@ -123,37 +123,22 @@ fn a_model_may_have_a_mebibyte_and_no_byte_more(rt: HostRuntime) -> Result<(), F
 }
 
 #[test]
-fn a_text_without_tokens_is_refused_first(rt: HostRuntime) -> Result<(), Fail> {
-    let alloc = rt.alloc();
-    assert!(rt; is_refused(alloc, "process # class", "model refused: BadByte 1:9\n")?);
-    assert!(rt;
-        is_refused(
-            alloc,
-            "skip\n  /* no end",
-            "model refused: OpenComment 2:3\n"
-        )?
-    );
-    assert!(rt;
-        is_refused(
-            alloc,
-            "skip \"no end\n\"",
-            "model refused: OpenString 1:6\n"
-        )?
-    );
-    assert!(rt; is_refused(alloc, "delay 3x", "model refused: BadNumber 1:7\n")?);
-    let too_large = "process class P init a()() methods a()()\ndelay 9223372036854775808";
-    assert!(rt; is_refused(alloc, too_large, "model refused: BadNumber 2:7\n")?);
-    Ok(())
-}
-
-#[test]
-fn tokens_without_a_tree_are_refused_next(rt: HostRuntime) -> Result<(), Fail> {
-    let alloc = rt.alloc();
-    assert!(rt; is_refused(alloc, "", "model refused: Syntax 1:1\n")?);
-    let early = "process class P\ninit a()()\nmethods a()()\nskip;\ndelay 3; ";
-    assert!(rt; is_refused(alloc, early, "model refused: Syntax 5:10\n")?);
-    let no_head = "process class P methods a() skip";
-    assert!(rt; is_refused(alloc, no_head, "model refused: Syntax 1:25\n")?);
+fn a_text_without_tokens_or_tree_is_refused(rt: HostRuntime) -> Result<(), Fail> {
+    let rows = [
+        ("process # class", "model refused: BadByte 1:9\n"),
+        ("skip\n  /* no end", "model refused: OpenComment 2:3\n"),
+        ("skip \"no end\n\"", "model refused: OpenString 1:6\n"),
+        ("delay 3x", "model refused: BadNumber 1:7\n"),
+        ("", "model refused: Syntax 1:1\n"),
+        ("process class P;", "model refused: Syntax 1:16\n"),
+        (
+            "process class P methods a() skip",
+            "model refused: Syntax 1:25\n",
+        ),
+    ];
+    for (text, line) in &rows {
+        assert!(rt; is_refused(rt.alloc(), text, line)?);
+    }
     Ok(())
 }
 
@@ -175,17 +160,23 @@ fn a_hundred_and_one_constructs_are_too_many(rt: HostRuntime) -> Result<(), Fail
 
 #[test]
 fn what_is_not_built_is_refused_last(rt: HostRuntime) -> Result<(), Fail> {
-    let alloc = rt.alloc();
-    let statement =
-        "process class P\ninit a()()\nmethods a()()\npar skip rap;\ndelay 3;\nskip\nsystem instances p : P\n";
-    assert!(rt; is_refused(alloc, statement, "model refused: Unbuilt 4:1\n")?);
-    let behind_call =
-        "process class P init a()() methods a()()\na()(); skip\nsystem instances p : P\n";
-    assert!(rt; is_refused(alloc, behind_call, "model refused: Unbuilt 2:6\n")?);
-    let no_system = "process class P\ninit a()()\nmethods a()() skip\n";
-    assert!(rt; is_refused(alloc, no_system, "model refused: Unbuilt 4:1\n")?);
-    let class = "process class P\ninit a()()\nmethods a()() skip\nsystem instances p : Q";
-    assert!(rt; is_refused(alloc, class, "model refused: Unbuilt 4:22\n")?);
+    let rows = [
+        (
+            "process class P\ninit a()()\nmethods a()()\npar skip rap;\ndelay 3;\nskip\nsystem instances p : P\n",
+            "model refused: Unbuilt 4:1\n",
+        ),
+        (
+            "process class P\ninit a()()\nmethods a()() skip\n",
+            "model refused: Unbuilt 4:1\n",
+        ),
+        (
+            "process class P\ninit a()()\nmethods a()() skip\nsystem instances p : Q",
+            "model refused: Unbuilt 4:22\n",
+        ),
+    ];
+    for (text, line) in &rows {
+        assert!(rt; is_refused(rt.alloc(), text, line)?);
+    }
     Ok(())
 }
 
