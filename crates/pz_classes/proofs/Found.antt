@@ -8,42 +8,15 @@ use Rattle.std.proofs.lemmas.Cmp.{nat_eq_equiv}
 use Rattle.std.proofs.lemmas.Map.Views.{Contains-from_any, list_any-from_Contains}
 use Rattle.pz_ast.specs.declared.names.Id.{Id}
 use Rattle.pz_ast.specs.Classes.{DeclTree, ModelTree}
-use Rattle.pz_classes.specs.declared.violation.Violation.{Violation}
+use Rattle.pz_violation.specs.declared.violation.Violation.{Violation}
 use Rattle.pz_classes.specs.Numbers.{declared_name, declaration}
 use Rattle.pz_classes.specs.Ancestors.{extended, parent, ancestors}
-use Rattle.pz_classes.specs.Violations.{violation, breaks_c1, breaks_c2, Violates, c1, c2, c3, is_before, IsLeast}
-use Rattle.pz_classes.specs.ViolationList.{listed, breaks_c3, of_name, of_parent, of_class, among, violations, least_from}
-use Rattle.pz_classes.proofs.Order.{not_before_itself, never_before, not_behind}
-
-abbrev Member : Violation → List Violation → Type 0
-Member v [] = ⊥
-Member v (w ∷ ws) = (w ≡ v) ⊎ Member v ws
-
-member_left : (v : Violation) (xs ys : List Violation) → Member v xs → Member v (xs ++ ys)
-member_left v [] ys here = absurd here
-member_left v (x ∷ xs) ys (inl is) = inl is
-member_left v (x ∷ xs) ys (inr later) = inr (member_left v xs ys later)
-
-member_right : (v : Violation) (xs ys : List Violation) → Member v ys → Member v (xs ++ ys)
-member_right v [] ys here = here
-member_right v (x ∷ xs) ys here = inr (member_right v xs ys here)
-
-member_cases : (v : Violation) (xs ys : List Violation) → Member v (xs ++ ys) → Member v xs ⊎ Member v ys
-member_cases v [] ys here = inr here
-member_cases v (x ∷ xs) ys (inl is) = inl (inl is)
-member_cases v (x ∷ xs) ys (inr later) = by_part (member_cases v xs ys later)
-  where
-    by_part : Member v xs ⊎ Member v ys → Member v (x ∷ xs) ⊎ Member v ys
-    by_part (inl here) = inl (inr here)
-    by_part (inr there) = inr there
-
-listed_is : (b : Bool) (u v : Violation) → Member v (listed b u) → IsTrue b × (u ≡ v)
-listed_is true u v (inl is) = (refl, is)
-listed_is true u v (inr later) = absurd later
-listed_is false u v here = absurd here
-
-is_listed : (b : Bool) (u : Violation) → IsTrue b → Member u (listed b u)
-is_listed b u does = subst (λ (t : Bool). Member u (listed t u)) (sym does) (inl refl)
+use Rattle.pz_violation.specs.Order.{violation}
+use Rattle.pz_violation.specs.Least.{LeastOf, listed, least_from, Member}
+use Rattle.pz_classes.specs.Violations.{breaks_c1, breaks_c2, Violates, c1, c2, c3}
+use Rattle.pz_classes.specs.ViolationList.{breaks_c3, of_name, of_parent, of_class, among, violations}
+use Rattle.pz_violation.proofs.Members.{member_left, member_right, member_cases, listed_is, is_listed}
+use Rattle.pz_violation.proofs.Leasts as leasts
 
 module _ (m : ModelTree) where
   -- the class and its parent's ancestors agree with the test
@@ -139,43 +112,6 @@ module _ (m : ModelTree) where
   sound : (v : Violation) → Member v (violations m) → Violates m v
   sound v found = among_sound 1 m.decls v from_one found
 
--- the least of a list and of one before it
-record Least (u : Violation) (vs : List Violation) : Type 0 where
-  pub least : Violation
-  pub is : least_from (Some u) vs ≡ Some least
-  pub member : (u ≡ least) ⊎ Member least vs
-  pub first : is_before u least ≡ false
-  pub others : (w : Violation) → Member w vs → is_before w least ≡ false
-
-least_of : (u : Violation) (vs : List Violation) → Least u vs
-least_of u [] = record { least = u; is = refl; member = inl refl; first = not_before_itself u; others = λ w none. absurd none }
-least_of u (x ∷ xs) = by_test (is_before x u) refl (least_of u xs) (least_of x xs)
-  where
-    by_test : (t : Bool) → is_before x u ≡ t → Least u xs → Least x xs → Least u (x ∷ xs)
-    by_test true is old new = record {
-      least = new.least;
-      is = rw is new.is;
-      member = inr (elim new.member [ inl e ↦ inl e | inr later ↦ inr later ]);
-      first = never_before u x new.least (not_behind x u is) new.first;
-      others = λ w among. elim among [ inl e ↦ subst (λ (y : Violation). is_before y new.least ≡ false) e new.first | inr later ↦ new.others w later ];
-    }
-    by_test false is old new = record {
-      least = old.least;
-      is = rw is old.is;
-      member = elim old.member [ inl e ↦ inl e | inr later ↦ inr (inr later) ];
-      first = old.first;
-      others = λ w among. elim among [ inl e ↦ subst (λ (y : Violation). is_before y old.least ≡ false) e (never_before x u old.least is old.first) | inr later ↦ old.others w later ];
-    }
-
 -- what the search for the least finds
-pub least_found : (m : ModelTree) → MatchOption (least_from None (violations m)) ((v : Violation) → Violates m v → ⊥) (IsLeast (Violates m))
-least_found m = by_list (violations m) (sound m) (complete m)
-  where
-    by_list : (vs : List Violation) → ((v : Violation) → Member v vs → Violates m v) → ((v : Violation) → Violates m v → Member v vs) → MatchOption (least_from None vs) ((v : Violation) → Violates m v → ⊥) (IsLeast (Violates m))
-    by_list [] sounds completes = completes
-    by_list (u ∷ vs) sounds completes =
-        let l = least_of u vs in
-        rw l.is (record {
-          violated = sounds l.least l.member;
-          least = λ w wrong. elim (completes w wrong) [ inl e ↦ subst (λ (y : Violation). is_before y l.least ≡ false) e l.first | inr later ↦ l.others w later ];
-        })
+pub least_found : (m : ModelTree) → LeastOf (Violates m) (least_from None (violations m))
+least_found m = leasts.least_found (Violates m) (violations m) (sound m) (complete m)

@@ -1,14 +1,12 @@
--- The least of two lists of violations.
+-- The least violation, class by class.
 use Rattle.std.proofs.Common.{◌≡◌, refl, sym, ap, ◌∙◌, ℕ, suc, ◌<◌, List, [], ◌∷◌, ◌++◌, map, drop, length, get_or, drop-cons, Option}
 use Rattle.pz_ast.specs.declared.clusters.Decl.{Decl}
 use Rattle.pz_ast.specs.Classes.{ModelTree}
 use Rattle.pz_ast.specs.ClassView.{decl_view}
-use Rattle.pz_classes.specs.declared.violation.Violation.{Violation}
-use Rattle.pz_classes.specs.ViolationList.{lesser, least_from, of_class, among}
-
-pub least_from_append : (least : Option Violation) (vs ws : List Violation) → least_from least (vs ++ ws) ≡ least_from (least_from least vs) ws
-least_from_append least [] ws = refl
-least_from_append least (v ∷ vs) ws = least_from_append (lesser least v) vs ws
+use Rattle.pz_violation.specs.declared.violation.Violation.{Violation}
+use Rattle.pz_violation.specs.Least.{least_from}
+use Rattle.pz_classes.specs.ViolationList.{of_class, among}
+use Rattle.pz_violation.proofs.Leasts.{least_from_append}
 
 -- one class further
 pub among_step : (m : ModelTree) (ds : List Decl) (d : Decl) (i j n next : ℕ) (least now whole : Option Violation) → i < length ds → d ≡ get_or ds i d → j ≡ suc i → next ≡ suc n

@@ -1,13 +1,7 @@
 mod Leasts
 mod Lines
-mod Numberings
-mod Agreeing
-mod Branches
 mod Entries
 mod Found
 mod Gets
-mod Order
-mod ResolvedLists
-mod ResolvedSteps
 mod RowLookups
 mod Rows

@@ -1,17 +1,11 @@
-pub mod ReservedNames
 pub mod Numbers
 pub mod Ancestors
 pub mod Members
 pub mod Methods
 pub mod Violations
 pub mod ViolationList
-pub mod NumberIn
 pub mod Parents
 pub mod Inherited
 pub mod Tables
 pub mod Refusals
 pub mod Found
-pub mod CodeView
-pub mod StepView
-pub mod Resolution
-pub mod ScopeView

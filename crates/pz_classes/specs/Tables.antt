@@ -7,7 +7,7 @@ use Rattle.pz_classes.specs.Numbers.{class, spelling, declaration}
 use Rattle.pz_classes.specs.Ancestors.{parent}
 use Rattle.pz_classes.specs.Members.{fields, variables, ports, spelled}
 use Rattle.pz_classes.specs.Methods.{Signature, signatures, method_at}
-use Rattle.pz_classes.specs.NumberIn.{number_in}
+use Rattle.pz_names.specs.NumberIn.{number_in}
 use Rattle.pz_classes.specs.declared.method_id.MethodId.{MethodId}
 use Rattle.pz_classes.specs.declared.methods.Method.{Method}
 use Rattle.pz_classes.specs.declared.entry.Entry.{Entry}

@@ -4,13 +4,12 @@ use Rattle.std.specs.Option.{option_map_or}
 use Rattle.std.specs.List.{list_any}
 use Rattle.pz_ast.specs.declared.names.Id.{Id}
 use Rattle.pz_ast.specs.Classes.{DeclTree, ModelTree}
-use Rattle.pz_classes.specs.declared.violation.Violation.{Violation}
+use Rattle.pz_violation.specs.declared.violation.Violation.{Violation}
 use Rattle.pz_classes.specs.Numbers.{declared_name}
 use Rattle.pz_classes.specs.Ancestors.{extended, parent, ancestors}
-use Rattle.pz_classes.specs.Violations.{violation, breaks_c1, breaks_c2, is_before}
-
-abbrev pub listed : Bool → Violation → List Violation
-listed b v = if b then v ∷ [] else []
+use Rattle.pz_classes.specs.Violations.{breaks_c1, breaks_c2}
+use Rattle.pz_violation.specs.Order.{violation}
+use Rattle.pz_violation.specs.Least.{listed}
 
 abbrev pub breaks_c3 : ModelTree → ℕ → Bool
 breaks_c3 m c = option_map_or (λ p. list_any (nat_eq c) (ancestors m p)) (parent m c) false
@@ -32,12 +31,3 @@ among m n (d ∷ ds) = of_class m n d ++ among m (suc n) ds
 
 abbrev pub violations : ModelTree → List Violation
 violations m = among m 1 m.decls
-
--- the one before the other, the first where neither is
-abbrev pub lesser : Option Violation → Violation → Option Violation
-lesser None v = Some v
-lesser (Some u) v = Some (if is_before v u then v else u)
-
-abbrev pub least_from : Option Violation → List Violation → Option Violation
-least_from least [] = least
-least_from least (v ∷ vs) = least_from (lesser least v) vs

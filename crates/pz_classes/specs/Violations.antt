@@ -1,16 +1,14 @@
--- The rules C1 to C3 of the checker, and which violation is the least.
+-- The rules C1 to C3 of the checker.
 use Rattle.std.specs.Prelude.{◌≡◌, ℕ, Bool, true, false, not, ◌&&◌, ◌||◌, nat_eq, nat_lt, IsTrue, List, Contains, Some, if◌then◌else◌}
 use Rattle.std.specs.Option.{option_map_or, option_and_then}
 use Rattle.pz_ast.specs.declared.tokens.Pos.{Pos}
 use Rattle.pz_ast.specs.declared.names.Id.{Id}
 use Rattle.pz_ast.specs.Classes.{DeclTree, data_class, process_class, ModelTree}
-use Rattle.pz_classes.specs.declared.violation.Violation.{Violation}
-use Rattle.pz_classes.specs.ReservedNames.{is_primitive, is_unsupported, is_object}
+use Rattle.pz_violation.specs.declared.violation.Violation.{Violation}
+use Rattle.pz_violation.specs.Order.{violation}
+use Rattle.pz_names.specs.ReservedNames.{is_primitive, is_unsupported, is_object}
 use Rattle.pz_classes.specs.Numbers.{declared_name, declaration, class}
 use Rattle.pz_classes.specs.Ancestors.{extended, parent, ancestors}
-
-abbrev pub violation : ℕ → Pos → Violation
-violation rule pos = record { rule = rule; pos = pos }
 
 -- the class of this number is not the first of its name
 abbrev pub is_again : ModelTree → ℕ → List ℕ → Bool
@@ -52,19 +50,3 @@ pub data Violates (m : ModelTree) : Violation → Type 0 where
   -- C3: a class that is among the ancestors of its parent, at the class's name
   c3 : (c p : ℕ) (d : DeclTree) (name : Id) → declaration m c ≡ Some d → declared_name d ≡ Some name
       → parent m c ≡ Some p → Contains (ancestors m p) c → Violates m (violation 3 name.pos)
-
--- by line and column
-abbrev pub pos_before : Pos → Pos → Bool
-pos_before p q = nat_lt p.line q.line || (nat_eq p.line q.line && nat_lt p.column q.column)
-
-abbrev pub pos_same : Pos → Pos → Bool
-pos_same p q = nat_eq p.line q.line && nat_eq p.column q.column
-
--- by position, then by rule
-abbrev pub is_before : Violation → Violation → Bool
-is_before v w = pos_before v.pos w.pos || (pos_same v.pos w.pos && nat_lt v.rule w.rule)
-
--- a violation that no other is before
-pub record IsLeast (Violated : Violation → Type 0) (v : Violation) : Type 0 where
-  pub violated : Violated v
-  pub least : (w : Violation) → Violated w → is_before w v ≡ false

@@ -6,13 +6,12 @@ ghost use Rattle.std.specs.Option.{option_map_or};
 ghost use Rattle.pz_ast.specs.ClassView.{decl_view, model_view};
 ghost use Rattle.pz_classes.specs.Numbers.{class};
 ghost use Rattle.pz_classes.specs.Ancestors.{parent, parent_of, followed};
-ghost use Rattle.pz_classes.specs.NumberIn.{number_in};
+ghost use Rattle.pz_names.specs.NumberIn.{number_in};
 ghost use Rattle.pz_classes.specs.Parents.{parent_in};
 
 use crate::declarations::{declared_name, extended};
-use crate::numbering::Numbering;
-use crate::reserved::{is_primitive, is_unsupported};
 use pz_ast::{Decl, Model};
+use pz_names::{Numbering, is_primitive, is_unsupported};
 use std::alloc::{AllocError, Global};
 
 /// The number of each class by its name, from 1 in the order of the text; the first declaration of

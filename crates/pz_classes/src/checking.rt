@@ -4,17 +4,17 @@ ghost use Rattle.std.specs.Prelude.{◌≡◌, ◌<◌, ◌+◌, ◌^◌, List, 
 ghost use Rattle.pz_ast.specs.ClassView.{decl_view, model_view};
 ghost use Rattle.pz_classes.specs.Numbers.{class};
 ghost use Rattle.pz_classes.specs.Ancestors.{parent};
-ghost use Rattle.pz_classes.specs.NumberIn.{number_in};
+ghost use Rattle.pz_names.specs.NumberIn.{number_in};
 ghost use Rattle.pz_classes.specs.Parents.{parent_in};
 ghost use Rattle.pz_classes.specs.Violations as rules;
 ghost use Rattle.pz_classes.specs.ViolationList as list;
+ghost use Rattle.pz_violation.specs.Least as least;
 
-use crate::Violation;
 use crate::ancestry::goes_round;
 use crate::declarations::{declaration, declared_name, extended, is_data, same_sort};
-use crate::numbering::Numbering;
-use crate::reserved::{is_object, is_primitive, is_unsupported};
-use pz_ast::{Decl, Id, Model, Name, Pos};
+use pz_ast::{Decl, Id, Model, Name};
+use pz_names::{Numbering, is_object, is_primitive, is_unsupported};
+use pz_violation::{Violation, lesser};
 
 /// Whether a class's name is declared before it, or is a primitive's.
 fn breaks_c1(model: &Model, numbering: &Numbering, number: u32, name: &Name) -> bool
@@ -55,34 +55,6 @@ fn breaks_c2(model: &Model, numbering: &Numbering, decl: &Decl, name: &Name) -> 
     !is_of_sort(model, numbering, decl, name)
 }
 
-fn pos_before(a: Pos, b: Pos) -> bool
-    ensures { result ≡ rules.pos_before a b }
-{
-    a.line < b.line || (a.line == b.line && a.column < b.column)
-}
-
-fn is_before(a: Violation, b: Violation) -> bool
-    ensures { result ≡ rules.is_before a b }
-{
-    pos_before(a.pos, b.pos) || (a.pos == b.pos && a.rule < b.rule)
-}
-
-/// The one before the other.
-fn lesser(least: Option<Violation>, found: Violation) -> Option<Violation>
-    ensures { result ≡ list.lesser least found }
-{
-    match least {
-        None => Some(found),
-        Some(least) => {
-            if is_before(found, least) {
-                Some(found)
-            } else {
-                Some(least)
-            }
-        }
-    }
-}
-
 /// Whether a class is among the ancestors of its parent.
 fn breaks_c3(model: &Model, parents: &[Option<u32>], number: u32) -> bool
     requires { (c : ℕ) → parent_in parents.now c ≡ parent (model_view model.now) c }
@@ -92,7 +64,7 @@ fn breaks_c3(model: &Model, parents: &[Option<u32>], number: u32) -> bool
 }
 
 /// The least of what was found before and the violations at the name of this class.
-#[tactic(auto, using(crate::proofs::Leasts::least_from_append))]
+#[tactic(auto, using(pz_violation::proofs::Leasts::least_from_append))]
 fn least_at_name(
     model: &Model,
     numbering: &Numbering,
@@ -103,7 +75,7 @@ fn least_at_name(
 ) -> Option<Violation>
     requires numbered { (q : List ℕ) → number_in numbering.now q ≡ class (model_view model.now) q }
     requires extending { (c : ℕ) → parent_in parents.now c ≡ parent (model_view model.now) c }
-    ensures { result ≡ list.least_from before (list.of_name (model_view model.now) number id.now) }
+    ensures { result ≡ least.least_from before (list.of_name (model_view model.now) number id.now) }
 {
     let mut least = before;
     if breaks_c1(model, numbering, number, &id.name) {
@@ -128,7 +100,7 @@ fn least_at_name(
 }
 
 /// The least of what was found before and the violations of this class.
-#[tactic(auto, using(crate::proofs::Leasts::least_from_append))]
+#[tactic(auto, using(pz_violation::proofs::Leasts::least_from_append))]
 fn least_of_class(
     model: &Model,
     numbering: &Numbering,
@@ -139,7 +111,7 @@ fn least_of_class(
 ) -> Option<Violation>
     requires numbered { (q : List ℕ) → number_in numbering.now q ≡ class (model_view model.now) q }
     requires extending { (c : ℕ) → parent_in parents.now c ≡ parent (model_view model.now) c }
-    ensures { result ≡ list.least_from before (list.of_class (model_view model.now) number (decl_view decl.now)) }
+    ensures { result ≡ least.least_from before (list.of_class (model_view model.now) number (decl_view decl.now)) }
 {
     let mut least = before;
     if let Some(id) = declared_name(decl) {
@@ -160,7 +132,7 @@ fn least_of_class(
 }
 
 /// The least violation of the rules C1 to C3, if there is one.
-#[tactic(auto, using(crate::proofs::Leasts::least_from_append))]
+#[tactic(auto, using(pz_violation::proofs::Leasts::least_from_append))]
 pub(crate) fn least_violation(
     model: &Model,
     numbering: &Numbering,
@@ -169,7 +141,7 @@ pub(crate) fn least_violation(
     requires numbered { (q : List ℕ) → number_in numbering.now q ≡ class (model_view model.now) q }
     requires extending { (c : ℕ) → parent_in parents.now c ≡ parent (model_view model.now) c }
     requires room { length model.now.decls + 1 < 2 ^ 32 }
-    ensures { result ≡ list.least_from None (list.violations (model_view model.now)) }
+    ensures { result ≡ least.least_from None (list.violations (model_view model.now)) }
 {
     let mut least = None;
     let mut number = 0u32;

@@ -2,12 +2,13 @@ ghost use Rattle.std.specs.Prelude.{◌≡◌, ◌<◌, List, ℕ, length, IfOk,
 ghost use Rattle.std.specs.Option.{option_map};
 ghost use Rattle.pz_ast.specs.Classes.{ModelTree};
 ghost use Rattle.pz_ast.specs.ClassView.{decl_view, model_view};
-ghost use Rattle.pz_classes.specs.declared.violation.Violation.{Violation as Found};
+ghost use Rattle.pz_violation.specs.declared.violation.Violation.{Violation as Found};
 ghost use Rattle.pz_classes.specs.Numbers as numbers;
 ghost use Rattle.pz_classes.specs.Members as members;
 ghost use Rattle.pz_classes.specs.Members.{spelled};
 ghost use Rattle.pz_classes.specs.Methods as methods;
-ghost use Rattle.pz_classes.specs.Violations.{Violates, IsLeast};
+ghost use Rattle.pz_classes.specs.Violations.{Violates};
+ghost use Rattle.pz_violation.specs.Order.{IsLeast};
 ghost use Rattle.pz_classes.specs.Refusals.{OnRefused};
 ghost use Rattle.pz_classes.specs.Tables.{AreClasses, HasClass, class_names, row, row_view, class_id};
 
@@ -16,10 +17,10 @@ use crate::checking::least_violation;
 use crate::declarations::declared_name;
 use crate::entry::{Entry, entries_of};
 use crate::finding::find;
-use crate::numbering::Numbering;
 use crate::{BuildError, Counts, MethodId};
 use pz_ast::{Decl, Model, Name};
 use pz_items::Items;
+use pz_names::Numbering;
 use pz_value::{ClassId, Text};
 use std::alloc::{AllocError, Global};
 

@@ -3,10 +3,8 @@
 #![tactic(auto)]
 
 mod ancestry;
-mod body;
 mod checking;
 mod classes;
-mod code;
 mod declarations;
 mod entry;
 mod error;
@@ -14,22 +12,12 @@ mod finding;
 mod members;
 mod method_id;
 mod methods;
-mod numbering;
-mod reserved;
-mod resolving;
-mod scope;
-mod slot;
-mod step;
-mod violation;
 
-pub use body::Body;
 pub use classes::Classes;
-pub use code::{Code, CodeForm, CodeLink, CodeSending};
 pub use error::BuildError;
 pub use method_id::{Counts, MethodId};
-pub use slot::Slot;
-pub use step::{Step, StepForm};
-pub use violation::Violation;
+pub use pz_code::{Body, Code, CodeForm, CodeLink, CodeSending, Slot, Step, StepForm};
+pub use pz_violation::Violation;
 
 #[cfg(test)]
 mod tests;

@@ -1,0 +1,3 @@
+mod Branches
+mod ResolvedLists
+mod ResolvedSteps

@@ -1,0 +1,4 @@
+pub mod CodeView
+pub mod StepView
+pub mod Resolution
+pub mod ScopeView

@@ -1,0 +1,17 @@
+//! The bodies of methods with slots in place of variables and numbers in place of classes and
+//! ports, and how a body of the syntax is resolved to one.
+#![tactic(auto)]
+
+mod body;
+mod code;
+mod resolving;
+mod scope;
+mod slot;
+mod step;
+
+pub use body::Body;
+pub use code::{Code, CodeForm, CodeLink, CodeSending};
+pub use resolving::{resolve_list, resolve_statements};
+pub use scope::Scope;
+pub use slot::Slot;
+pub use step::{Step, StepForm};

@@ -1,0 +1,2 @@
+pub mod ReservedNames
+pub mod NumberIn

@@ -1,0 +1,34 @@
+ghost use Rattle.std.specs.Prelude.{◌≡◌};
+ghost use Rattle.pz_violation.specs.Order as order;
+ghost use Rattle.pz_violation.specs.Least as list;
+
+use crate::Violation;
+use pz_ast::Pos;
+
+fn pos_before(a: Pos, b: Pos) -> bool
+    ensures { result ≡ order.pos_before a b }
+{
+    a.line < b.line || (a.line == b.line && a.column < b.column)
+}
+
+fn is_before(a: Violation, b: Violation) -> bool
+    ensures { result ≡ order.is_before a b }
+{
+    pos_before(a.pos, b.pos) || (a.pos == b.pos && a.rule < b.rule)
+}
+
+/// The one before the other; what was found first where neither is.
+pub fn lesser(least: Option<Violation>, found: Violation) -> Option<Violation>
+    ensures { result ≡ list.lesser least found }
+{
+    match least {
+        None => Some(found),
+        Some(least) => {
+            if is_before(found, least) {
+                Some(found)
+            } else {
+                Some(least)
+            }
+        }
+    }
+}

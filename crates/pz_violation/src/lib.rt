@@ -1,0 +1,8 @@
+//! What a model violates, and which violation is the least.
+#![tactic(auto)]
+
+mod least;
+mod violation;
+
+pub use least::lesser;
+pub use violation::Violation;
