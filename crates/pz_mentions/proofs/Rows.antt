@@ -39,7 +39,7 @@ abbrev both : VarGroup
 both = record { names = v ∷ w ∷ []; kind = T }
 
 -- process class P ports a messages a!f(T, T) variables v, w : T init f(1.5)()
--- methods f(v, w : T)() | a : T | a?f(v, w | v < currentTime); a!f(new(T) f(self, 1) f); f()(v)
+-- methods f(v : T)(w : T) | a : T | a?f(v, w | v < currentTime); a!f(new(T) f(self, 1) f); f()(v)
 process : parts (process_class (record {
   name = P;
   parameters = None;
@@ -50,8 +50,8 @@ process : parts (process_class (record {
   start = Some (record { method = f; args = more (literal here lit.Float) none });
   methods = Some (record {
     name = f;
-    inputs = both ∷ [];
-    outputs = [];
+    inputs = record { names = v ∷ []; kind = T } ∷ [];
+    outputs = record { names = w ∷ []; kind = T } ∷ [];
     locals = Some (record { names = a ∷ []; kind = T } ∷ []);
     body =
         (then) (receive here a f (Some (v ∷ w ∷ [])) (Some (chain here (variable here v) (link s.Less here (clock here) no_links))) left_out)
@@ -66,7 +66,7 @@ process : parts (process_class (record {
     record {
       locals = v ∷ w ∷ a ∷ [];
       mentions =
-          m.Typed T ∷ m.Typed T ∷
+          m.Typed T ∷ m.Typed T ∷ m.Typed T ∷
           m.Port a ∷ m.Received a f 2 ∷ m.Variable v ∷ m.Variable w ∷ m.Variable v ∷ m.Clock here ∷
           m.Port a ∷ m.Sent a f 1 ∷ m.Created T ∷ m.Selector f 2 ∷ m.Me here ∷ m.Selector f 0 ∷
           m.Called f 0 1 ∷ m.Variable v ∷ [];
