@@ -1,0 +1,20 @@
+//! What a declaration mentions: every word of it that a rule of the checker may speak of, in the
+//! order of the text. Nothing is said of right or wrong.
+#![tactic(auto)]
+
+mod adding;
+mod classes;
+mod declarations;
+mod expressions;
+mod groups;
+mod instances;
+mod mention;
+mod part;
+mod statements;
+
+pub use declarations::parts_of;
+pub use mention::Mention;
+pub use part::Part;
+
+#[cfg(test)]
+mod tests;

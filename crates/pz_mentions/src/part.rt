@@ -1,0 +1,12 @@
+use crate::Mention;
+use pz_ast::Id;
+use pz_items::Items;
+
+/// A stretch of a declaration in which the same local names are known.
+#[derive(Debug, Drop)]
+pub struct Part {
+    /// The local names, in the order of the text.
+    pub locals: Items<Id>,
+    /// What the stretch mentions, in the order of the text.
+    pub mentions: Items<Mention>,
+}
