@@ -5,3 +5,4 @@ mod Found
 mod Gets
 mod RowLookups
 mod Rows
+mod Worked

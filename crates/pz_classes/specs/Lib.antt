@@ -9,3 +9,15 @@ pub mod Inherited
 pub mod Tables
 pub mod Refusals
 pub mod Found
+pub mod Kinds
+pub mod Words
+pub mod Instances
+pub mod NameRules
+pub mod CallRules
+pub mod WordRules
+pub mod RepeatRules
+pub mod InstanceRules
+pub mod ChannelRules
+pub mod SizeRules
+pub mod Soundness
+pub mod CheckedView

@@ -8,6 +8,7 @@ use Rattle.pz_violation.specs.declared.violation.Violation.{Violation}
 use Rattle.pz_violation.specs.Order.{violation}
 use Rattle.pz_names.specs.ReservedNames.{is_primitive, is_unsupported, is_object}
 use Rattle.pz_classes.specs.Numbers.{declared_name, declaration, class}
+use Rattle.pz_classes.specs.Kinds.{is_data, is_declared_as}
 use Rattle.pz_classes.specs.Ancestors.{extended, parent, ancestors}
 
 -- the class of this number is not the first of its name
@@ -24,13 +25,9 @@ same_sort (data_class c) (data_class d) = true
 same_sort (process_class c) (process_class d) = true
 same_sort _ _ = false
 
-abbrev pub is_data : DeclTree → Bool
-is_data (data_class c) = true
-is_data _ = false
-
 -- a class of the same sort has this name
 abbrev pub is_of_sort : ModelTree → DeclTree → List ℕ → Bool
-is_of_sort m d name = option_map_or (same_sort d) (option_and_then (declaration m) (class m name)) false
+is_of_sort m d = is_declared_as (same_sort d) m
 
 -- a data class may extend Object; every other parent is a class of the model of the same sort
 abbrev pub may_extend : ModelTree → DeclTree → List ℕ → Bool

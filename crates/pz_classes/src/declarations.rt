@@ -5,6 +5,7 @@ ghost use Rattle.std.specs.Option.{option_copied, option_map};
 ghost use Rattle.pz_ast.specs.ClassView.{decl_view, model_view};
 ghost use Rattle.pz_classes.specs.Numbers as numbers;
 ghost use Rattle.pz_classes.specs.Ancestors as ancestors;
+ghost use Rattle.pz_classes.specs.Kinds as kinds;
 ghost use Rattle.pz_classes.specs.Violations as rules;
 
 use pz_ast::{Decl, Id, Model};
@@ -34,7 +35,7 @@ pub(crate) fn extended(decl: &Decl) -> Option<&Id>
 }
 
 pub(crate) fn is_data(decl: &Decl) -> bool
-    ensures { result ≡ rules.is_data (decl_view decl.now) }
+    ensures { result ≡ kinds.is_data (decl_view decl.now) }
 {
     matches!(decl, Decl::Data(_))
 }

@@ -3,6 +3,7 @@
 #![tactic(auto)]
 
 mod ancestry;
+mod checked;
 mod checking;
 mod classes;
 mod declarations;
@@ -13,6 +14,7 @@ mod members;
 mod method_id;
 mod methods;
 
+pub use checked::Checked;
 pub use classes::Classes;
 pub use error::BuildError;
 pub use method_id::{Counts, MethodId};

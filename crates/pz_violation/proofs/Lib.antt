@@ -1,3 +1,4 @@
 pub mod Order
 pub mod Leasts
 pub mod Members
+pub mod TwoLeasts

@@ -19,6 +19,11 @@ abbrev pub lesser : Option Violation → Violation → Option Violation
 lesser None v = Some v
 lesser (Some u) v = Some (if is_before v u then v else u)
 
+-- of what two searches found, the one before the other
+abbrev pub sooner : Option Violation → Option Violation → Option Violation
+sooner found None = found
+sooner found (Some v) = lesser found v
+
 abbrev pub least_from : Option Violation → List Violation → Option Violation
 least_from least [] = least
 least_from least (v ∷ vs) = least_from (lesser least v) vs

@@ -32,3 +32,13 @@ pub fn lesser(least: Option<Violation>, found: Violation) -> Option<Violation>
         }
     }
 }
+
+/// The one before the other of what two searches found; that of the first where neither is.
+pub fn sooner(first: Option<Violation>, second: Option<Violation>) -> Option<Violation>
+    ensures { result ≡ list.sooner first second }
+{
+    match second {
+        None => first,
+        Some(found) => lesser(first, found),
+    }
+}

@@ -1,0 +1,52 @@
+// A sound model.
+
+ghost use Rattle.std.specs.Prelude.{◌≡◌};
+ghost use Rattle.pz_ast.specs.ClassView.{model_view};
+ghost use Rattle.pz_violation.specs.declared.violation.Violation.{Violation};
+ghost use Rattle.pz_classes.specs.Violations.{Violates};
+ghost use Rattle.pz_classes.specs.Soundness.{Breaks};
+ghost use Rattle.pz_classes.specs.Tables.{AreClasses};
+
+use crate::Classes;
+use pz_ast::Model;
+
+/// A model that violates none of the rules C1 to C22, and its classes.
+#[derive(Drop)]
+pub struct Checked {
+    model: Model,
+    classes: Classes,
+    ghost classes_hold: { (v : Violation) → Violates (model_view model) v → ⊥ },
+    ghost rules_hold: { (v : Violation) → Breaks (model_view model) v → ⊥ },
+    ghost tabled: { AreClasses (model_view model) classes },
+}
+
+impl Checked {
+    ghost use Rattle.pz_classes.specs.CheckedView.{checked_model, checked_classes};
+    ghost use Rattle.pz_classes.specs.Soundness.{IsSound};
+
+    /// The model with its classes. Takes no memory.
+    pub fn new(model: Model, classes: Classes) -> Checked
+        requires sound { IsSound (model_view model) }
+        requires tabled { AreClasses (model_view model) classes }
+        ensures model { checked_model result ≡ model_view model }
+        ensures classes { checked_classes result ≡ classes }
+    {
+        Checked { model, classes }
+    }
+
+    /// The model. It is sound.
+    pub fn model(&self) -> &Model
+        ensures is { model_view result.now ≡ checked_model self.now }
+        ensures sound { IsSound (model_view result.now) }
+    {
+        &self.model
+    }
+
+    /// The classes of the model.
+    pub fn classes(&self) -> &Classes
+        ensures is { result.now ≡ checked_classes self.now }
+        ensures tabled { AreClasses (checked_model self.now) result.now }
+    {
+        &self.classes
+    }
+}
