@@ -1,20 +1,17 @@
 -- What is kept of a class is its row.
-use Rattle.std.proofs.Common.{◌≡◌, ap, ◌∙◌, ℕ, List, [], map, Option}
-use Rattle.std.specs.Option.{option_map_or}
+use Rattle.std.proofs.Common.{◌≡◌, ℕ, List, map, Option}
+use Rattle.std.specs.Option.{option_map}
 use Rattle.pz_ast.specs.Classes.{ModelTree}
+use Rattle.pz_code.specs.declared.step.Step.{Step}
+use Rattle.pz_code.specs.StepView as step
 use Rattle.pz_classes.specs.declared.members.Members.{Members}
 use Rattle.pz_classes.specs.declared.methods.Method.{Method}
-use Rattle.pz_classes.specs.Numbers.{declaration}
 use Rattle.pz_classes.specs.Ancestors.{parent, ancestors}
-use Rattle.pz_classes.specs.Members.{own_fields, own_variables, own_ports, fields, variables, ports, from_root, spelled}
 use Rattle.pz_classes.specs.Inherited.{HasMembers}
-use Rattle.pz_classes.specs.Tables.{row, row_view, routine_view, routines_of}
+use Rattle.pz_classes.specs.Starts.{own_call}
+use Rattle.pz_classes.specs.Tables.{row, row_view, routine_view, routines_at}
 
-pub row_is : (m : ModelTree) (c : ℕ) (up : Option ℕ) (members : Members) (methods : List Method) (line : List ℕ) → up ≡ parent m c → line ≡ ancestors m c
-    → HasMembers m line members → map routine_view methods ≡ option_map_or (routines_of c) (declaration m c) []
-    → row_view (record { parent = up; members = members; methods = methods }) ≡ row m c
-row_is m c up members methods line extends along has declares =
-    let same_fields : members.fields ≡ spelled (fields m c) = has.fields ∙ ap (λ (l : List ℕ). spelled (from_root own_fields m l)) along in
-    let same_variables : members.variables ≡ spelled (variables m c) = has.variables ∙ ap (λ (l : List ℕ). spelled (from_root own_variables m l)) along in
-    let same_ports : members.ports ≡ spelled (ports m c) = has.ports ∙ ap (λ (l : List ℕ). spelled (from_root own_ports m l)) along in
-    rw (extends, same_fields, same_variables, same_ports, declares)
+pub row_is : (m : ModelTree) (c : ℕ) (up : Option ℕ) (members : Members) (start : Option Step) (methods : List Method) → up ≡ parent m c
+    → HasMembers m (ancestors m c) members → option_map step.view start ≡ own_call m c → map routine_view methods ≡ routines_at m c
+    → row_view (record { parent = up; members = members; start = start; methods = methods }) ≡ row m c
+row_is m c up members start methods extends has starts declares = rw (extends, has.fields, has.variables, has.ports, starts, declares)

@@ -1,8 +1,8 @@
 -- The list of violations has those of the rules and no others, and the least of the list is the
 -- least of them.
-use Rattle.std.proofs.Common.{◌≡◌, refl, sym, ap, subst, ◌∙◌, ℕ, zero, suc, ◌+◌, Bool, true, false, IsTrue, List, [], ◌∷◌, ◌++◌, Option, Some, None, slice_get, arith, ◌⊎◌, inl, inr}
+use Rattle.std.proofs.Common.{◌≡◌, refl, ap, subst, ◌∙◌, ℕ, zero, suc, ◌+◌, true, false, IsTrue, List, [], ◌∷◌, Option, Some, None, slice_get, arith, ◌⊎◌, inl, inr}
 use Rattle.std.specs.List.{Contains}
-use Rattle.std.specs.Option.{option_map_or, MatchOption}
+use Rattle.std.specs.Option.{option_map_or}
 use Rattle.std.proofs.lemmas.Bool.{eqb-true}
 use Rattle.std.proofs.lemmas.Cmp.{nat_eq_equiv}
 use Rattle.std.proofs.lemmas.Map.Views.{Contains-from_any, list_any-from_Contains}

@@ -1,5 +1,5 @@
 -- The least violation, class by class.
-use Rattle.std.proofs.Common.{◌≡◌, refl, sym, ap, ◌∙◌, ℕ, suc, ◌<◌, List, [], ◌∷◌, ◌++◌, map, drop, length, get_or, drop-cons, Option}
+use Rattle.std.proofs.Common.{◌≡◌, sym, ap, ◌∙◌, ℕ, suc, ◌<◌, List, ◌∷◌, ◌++◌, map, drop, length, get_or, drop-cons, Option}
 use Rattle.pz_ast.specs.declared.clusters.Decl.{Decl}
 use Rattle.pz_ast.specs.Classes.{ModelTree}
 use Rattle.pz_ast.specs.ClassView.{decl_view}

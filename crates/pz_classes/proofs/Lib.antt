@@ -6,3 +6,10 @@ mod Gets
 mod RowLookups
 mod Rows
 mod Worked
+mod Agreeing
+mod Scopes
+mod Belongs
+mod Counting
+mod OwnBodies
+mod Reaching
+mod InstanceClasses

@@ -1,14 +1,15 @@
 -- What stands in the rows is what the model says.
 use Rattle.std.proofs.Common.{◌≡◌, refl, sym, ap, subst, ◌∙◌, ℕ, zero, suc, ◌+◌, ◌-◌, ◌<◌, Bool, true, false, List, [], ◌∷◌, map, length, Option, Some, None, slice_get, get_or, arith, if◌then◌else◌}
-use Rattle.std.specs.Option.{option_map, option_and_then}
+use Rattle.std.specs.Option.{option_map, option_map_or, option_and_then}
 use Rattle.std.proofs.lemmas.Option.{slice_get-map, slice_get_read}
 use Rattle.pz_ast.specs.Classes.{DeclTree, ModelTree}
 use Rattle.pz_classes.specs.declared.entry.Entry.{Entry}
-use Rattle.pz_classes.specs.declared.method_id.MethodId.{MethodId}
 use Rattle.pz_classes.specs.Ancestors.{parent, parent_of, followed}
-use Rattle.pz_classes.specs.Methods.{Signature, signatures, same_signature, place_from, method_at, own_method, nearest, method_with}
+use Rattle.pz_classes.specs.Methods.{Signature, signatures, same_signature, first_with, method_id, methods_before, own_method, nearest, method_with}
+use Rattle.pz_classes.specs.Numbers.{declaration}
+use Rattle.pz_classes.specs.Starts.{own_call, init}
 use Rattle.pz_classes.specs.Tables.{Row, routines_from, row, rows_from, rows, row_view}
-use Rattle.pz_classes.specs.Found.{up_in, routine_with, own_in, found_in}
+use Rattle.pz_classes.specs.Found.{up_in, routine_with, own_in, found_in, start_in, start_found}
 use Rattle.pz_classes.proofs.Lines.{line_same}
 
 module _ (m : ModelTree) where
@@ -43,12 +44,12 @@ module _ (m : ModelTree) where
       by_decl None is = rw is refl
       by_decl (Some d) is = refl
 
-  routine_is : (s : Signature) (c n : ℕ) (ss : List Signature) → routine_with s (routines_from c n ss) ≡ option_map (method_at c) (place_from n s ss)
-  routine_is s c n [] = refl
-  routine_is s c n (t ∷ ts) = by_test (same_signature s t) (routine_is s c (suc n) ts)
+  routine_is : (s : Signature) (n : ℕ) (ss : List Signature) → routine_with s (routines_from n ss) ≡ option_map method_id (first_with n s ss)
+  routine_is s n [] = refl
+  routine_is s n (t ∷ ts) = by_test (same_signature s t) (routine_is s (suc n) ts)
     where
-      by_test : (b : Bool) → routine_with s (routines_from c (suc n) ts) ≡ option_map (method_at c) (place_from (suc n) s ts)
-          → (if b then Some (method_at c n) else routine_with s (routines_from c (suc n) ts)) ≡ option_map (method_at c) (if b then Some n else place_from (suc n) s ts)
+      by_test : (b : Bool) → routine_with s (routines_from (suc n) ts) ≡ option_map method_id (first_with (suc n) s ts)
+          → (if b then Some (method_id n) else routine_with s (routines_from (suc n) ts)) ≡ option_map method_id (if b then Some n else first_with (suc n) s ts)
       by_test true rest = refl
       by_test false rest = rest
 
@@ -58,9 +59,17 @@ module _ (m : ModelTree) where
     where
       by_decl : (o : Option DeclTree) → slice_get m.decls i ≡ o → option_and_then (λ r. routine_with s r.methods) (option_map (λ d. row m (suc i)) o) ≡ own_method m s (suc i)
       by_decl None is = rw is refl
-      by_decl (Some d) is = rw is (routine_is s (suc i) 0 (signatures d))
+      by_decl (Some d) is = routine_is s (methods_before m (suc i)) (option_map_or signatures (declaration m (suc i)) [])
 
-  nearest_same : (f g : ℕ → Option MethodId) → ((c : ℕ) → f c ≡ g c) → (line : List ℕ) → nearest f line ≡ nearest g line
+  start_is : (c : ℕ) → start_in (rows m) c ≡ own_call m c
+  start_is zero = refl
+  start_is (suc i) = rw (rows_at i) (by_decl (slice_get m.decls i) refl)
+    where
+      by_decl : (o : Option DeclTree) → slice_get m.decls i ≡ o → option_and_then (λ r. r.start) (option_map (λ d. row m (suc i)) o) ≡ own_call m (suc i)
+      by_decl None is = rw is refl
+      by_decl (Some d) is = refl
+
+  nearest_same : {A : Type 0} (f g : ℕ → Option A) → ((c : ℕ) → f c ≡ g c) → (line : List ℕ) → nearest f line ≡ nearest g line
   nearest_same f g agree [] = refl
   nearest_same f g agree (c ∷ line) = rw (agree c, nearest_same f g agree line) refl
 
@@ -68,6 +77,11 @@ module _ (m : ModelTree) where
   found_is listed is s c =
       rw is (nearest_same (own_in (rows m) s) (own_method m s) (own_is s) (followed (up_in (rows m)) (length (rows m) - 1) c)
       ∙ ap (λ (line : List ℕ). nearest (own_method m s) line) (line_same (up_in (rows m)) (parent m) up_is (length (rows m) - 1) (length m.decls) c rows_length))
+
+  pub start_found_is : (listed : List Row) → listed ≡ rows m → (c : ℕ) → start_found listed c ≡ init m c
+  start_found_is listed is c =
+      rw is (nearest_same (start_in (rows m)) (own_call m) start_is (followed (up_in (rows m)) (length (rows m) - 1) c)
+      ∙ ap (λ (line : List ℕ). nearest (own_call m) line) (line_same (up_in (rows m)) (parent m) up_is (length (rows m) - 1) (length m.decls) c rows_length))
 
   pub entry_is : (es : List Entry) (e : Entry) (c : ℕ) → map row_view es ≡ rows m → c < length es → e ≡ get_or es c e → row_view e ≡ row m c
   entry_is es e c are within here =

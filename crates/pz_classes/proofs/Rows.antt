@@ -7,7 +7,7 @@ use Rattle.pz_ast.specs.Classes.{DataMethodTree, ProcessMethodTree, DeclTree, da
 use Rattle.pz_classes.specs.Numbers.{class}
 use Rattle.pz_classes.specs.Ancestors.{ancestors}
 use Rattle.pz_classes.specs.Members.{fields, variables, ports, spelled}
-use Rattle.pz_classes.specs.Methods.{method, method_at}
+use Rattle.pz_classes.specs.Methods.{method, method_id}
 use Rattle.pz_violation.specs.Order.{violation}
 use Rattle.pz_classes.specs.ViolationList.{violations}
 
@@ -66,13 +66,13 @@ family_ancestors = refl
 family_fields : spelled (fields family 1) ≡ codes "x" ∷ codes "y" ∷ codes "x" ∷ codes "z" ∷ []
 family_fields = refl
 
-own_f : method family 1 (codes "f") 0 ≡ Some (method_at 1 0)
+own_f : method family 1 (codes "f") 0 ≡ Some (method_id 0)
 own_f = refl
 
-inherited_f : method family 1 (codes "f") 1 ≡ Some (method_at 2 1)
+inherited_f : method family 1 (codes "f") 1 ≡ Some (method_id 2)
 inherited_f = refl
 
-first_g : method family 1 (codes "g") 0 ≡ Some (method_at 3 0)
+first_g : method family 1 (codes "g") 0 ≡ Some (method_id 4)
 first_g = refl
 
 no_such_method : method family 1 (codes "g") 1 ≡ None

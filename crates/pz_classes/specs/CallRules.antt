@@ -14,7 +14,8 @@ use Rattle.pz_classes.specs.declared.method_id.Counts.TheVariants.{Data}
 use Rattle.pz_classes.specs.Numbers.{declaration}
 use Rattle.pz_classes.specs.Ancestors.{ancestors}
 use Rattle.pz_classes.specs.Members.{ports}
-use Rattle.pz_classes.specs.Methods.{Signature, same_signature, signatures, process_method, own_start, nearest}
+use Rattle.pz_classes.specs.Methods.{Signature, same_signature, signatures, process_method, nearest}
+use Rattle.pz_classes.specs.Starts.{own_start}
 use Rattle.pz_classes.specs.Kinds.{is_process}
 use Rattle.pz_classes.specs.Words.{is_among}
 

@@ -2,6 +2,10 @@ pub mod Numbers
 pub mod Ancestors
 pub mod Members
 pub mod Methods
+pub mod Bodies
+pub mod Starts
+pub mod BodyView
+pub mod Surrounding
 pub mod Violations
 pub mod ViolationList
 pub mod Parents
@@ -21,3 +25,4 @@ pub mod ChannelRules
 pub mod SizeRules
 pub mod Soundness
 pub mod CheckedView
+pub mod Reached

@@ -1,8 +1,9 @@
 -- The method for a name and its counts: that of the nearest ancestor that has it.
-use Rattle.std.specs.Prelude.{ℕ, suc, Bool, false, ◌&&◌, nat_eq, List, [], ◌∷◌, length, map, Option, Some, None, if◌then◌else◌}
+use Rattle.std.specs.Prelude.{ℕ, suc, ◌-◌, Bool, false, ◌&&◌, nat_eq, List, [], ◌∷◌, length, map, take, Option, Some, None, if◌then◌else◌}
 use Rattle.std.specs.Option.{unwrap_or, option_map, option_map_or, option_or}
 use Rattle.std.specs.Str.{bytes_eq}
-use Rattle.pz_ast.specs.Classes.{DeclTree, data_class, process_class, DataMethodTree, ProcessMethodTree, StartTree, ModelTree}
+use Rattle.std.specs.List.{sum_by}
+use Rattle.pz_ast.specs.Classes.{DeclTree, data_class, process_class, DataMethodTree, ProcessMethodTree, ModelTree}
 use Rattle.pz_classes.specs.declared.method_id.Counts.{Counts}
 use Rattle.pz_classes.specs.declared.method_id.Counts.TheVariants.{Data, Process}
 use Rattle.pz_classes.specs.declared.method_id.MethodId.{MethodId}
@@ -35,17 +36,22 @@ signatures (data_class c) = map data_signature (unwrap_or c.methods [])
 signatures (process_class c) = map process_signature (unwrap_or c.methods [])
 signatures _ = []
 
--- the place of the first of these that is asked for; the first one is at n
-abbrev pub place_from : ℕ → Signature → List Signature → Option ℕ
-place_from n s [] = None
-place_from n s (t ∷ ts) = if same_signature s t then Some n else place_from (suc n) s ts
+-- how many methods the classes before this one declare
+abbrev pub methods_before : ModelTree → ℕ → ℕ
+methods_before m c = sum_by (λ d. length (signatures d)) (take (c - 1) m.decls)
 
-abbrev pub method_at : ℕ → ℕ → MethodId
-method_at c place = record { class = record { 0 = c }; place = place }
+-- the number of the first of these that is asked for; the first one has number n
+abbrev pub first_with : ℕ → Signature → List Signature → Option ℕ
+first_with n s [] = None
+first_with n s (t ∷ ts) = if same_signature s t then Some n else first_with (suc n) s ts
 
--- the method that a class itself declares
+abbrev pub method_id : ℕ → MethodId
+method_id n = record { 0 = n }
+
+-- The method that a class itself declares. The methods of a model are numbered through from 0, in
+-- the order of the text.
 abbrev pub own_method : ModelTree → Signature → ℕ → Option MethodId
-own_method m s c = option_map (method_at c) (place_from 0 s (option_map_or signatures (declaration m c) []))
+own_method m s c = option_map method_id (first_with (methods_before m c) s (option_map_or signatures (declaration m c) []))
 
 -- what the first of these classes that has one has
 abbrev pub nearest : {A : Type 0} → (ℕ → Option A) → List ℕ → Option A
@@ -62,8 +68,3 @@ method m c name inputs = method_with m c (record { name = name; counts = Data in
 -- of a process class, by name and numbers of inputs and outputs
 abbrev pub process_method : ModelTree → ℕ → List ℕ → ℕ → ℕ → Option MethodId
 process_method m c name inputs outputs = method_with m c (record { name = name; counts = Process inputs outputs })
-
--- the `init` that a class itself declares
-abbrev pub own_start : DeclTree → Option StartTree
-own_start (process_class c) = c.start
-own_start _ = None

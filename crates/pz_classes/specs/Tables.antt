@@ -1,13 +1,18 @@
 -- What the table of a model's classes holds.
 use Rattle.std.specs.Prelude.{◌≡◌, ◌<◌, ℕ, suc, List, [], ◌∷◌, length, map, Option, codes}
-use Rattle.std.specs.Option.{option_map_or}
+use Rattle.std.specs.Option.{option_map, option_map_or}
 use Rattle.pz_ast.specs.Classes.{DeclTree, ModelTree}
 use Rattle.pz_value.specs.declared.value.ClassId.{ClassId}
 use Rattle.pz_classes.specs.Numbers.{class, spelling, declaration}
 use Rattle.pz_classes.specs.Ancestors.{parent}
 use Rattle.pz_classes.specs.Members.{fields, variables, ports, spelled}
-use Rattle.pz_classes.specs.Methods.{Signature, signatures, method_at}
+use Rattle.pz_classes.specs.Methods.{Signature, signatures, method_id, methods_before}
+use Rattle.pz_classes.specs.Bodies.{bodies}
+use Rattle.pz_classes.specs.BodyView.{body_view}
+use Rattle.pz_classes.specs.Starts.{own_call}
 use Rattle.pz_names.specs.NumberIn.{number_in}
+use Rattle.pz_code.specs.StepView.{Tree}
+use Rattle.pz_code.specs.StepView as step
 use Rattle.pz_classes.specs.declared.method_id.MethodId.{MethodId}
 use Rattle.pz_classes.specs.declared.methods.Method.{Method}
 use Rattle.pz_classes.specs.declared.entry.Entry.{Entry}
@@ -24,15 +29,17 @@ pub record Row : Type 0 where
   pub fields : List (List ℕ)
   pub variables : List (List ℕ)
   pub ports : List (List ℕ)
+  pub start : Option Tree
   pub methods : List Routine
 
--- the methods of class c, of which the first has the place n
-abbrev pub routines_from : ℕ → ℕ → List Signature → List Routine
-routines_from c n [] = []
-routines_from c n (s ∷ ss) = record { id = method_at c n; signature = s } ∷ routines_from c (suc n) ss
+-- these methods, of which the first has number n
+abbrev pub routines_from : ℕ → List Signature → List Routine
+routines_from n [] = []
+routines_from n (s ∷ ss) = record { id = method_id n; signature = s } ∷ routines_from (suc n) ss
 
-abbrev pub routines_of : ℕ → DeclTree → List Routine
-routines_of c d = routines_from c 0 (signatures d)
+-- the methods that a class itself declares
+abbrev pub routines_at : ModelTree → ℕ → List Routine
+routines_at m c = routines_from (methods_before m c) (option_map_or signatures (declaration m c) [])
 
 -- the row of the class of this number
 abbrev pub row : ModelTree → ℕ → Row
@@ -41,7 +48,8 @@ row m c = record {
   fields = spelled (fields m c);
   variables = spelled (variables m c);
   ports = spelled (ports m c);
-  methods = option_map_or (routines_of c) (declaration m c) [];
+  start = own_call m c;
+  methods = routines_at m c;
 }
 
 -- the rows of these classes, of which the first has number n
@@ -66,6 +74,7 @@ row_view e = record {
   fields = e.members.fields;
   variables = e.members.variables;
   ports = e.members.ports;
+  start = option_map step.view e.start;
   methods = map routine_view e.methods;
 }
 
@@ -74,6 +83,7 @@ pub record AreClasses (m : ModelTree) (classes : Classes) : Type 0 where
   pub names : classes.names ≡ class_names m
   pub numbers : (name : List ℕ) → number_in classes.numbering name ≡ class m name
   pub rows : map row_view classes.entries ≡ rows m
+  pub bodies : map body_view classes.bodies ≡ bodies m
 
 abbrev pub class_id : ℕ → ClassId
 class_id c = record { 0 = c }
@@ -81,3 +91,7 @@ class_id c = record { 0 = c }
 -- the class is one of these
 abbrev pub HasClass : Classes → ClassId → Type 0
 HasClass classes c = c.0 < length classes.entries
+
+-- the method is one of these
+abbrev pub HasMethod : Classes → MethodId → Type 0
+HasMethod classes method = method.0 < length classes.bodies

@@ -17,7 +17,7 @@ pub struct Checked {
     classes: Classes,
     ghost classes_hold: { (v : Violation) → Violates (model_view model) v → ⊥ },
     ghost rules_hold: { (v : Violation) → Breaks (model_view model) v → ⊥ },
-    ghost tabled: { AreClasses (model_view model) classes },
+    ghost tabled: { ∥ AreClasses (model_view model) classes ∥₁ },
 }
 
 impl Checked {
@@ -45,7 +45,7 @@ impl Checked {
     /// The classes of the model.
     pub fn classes(&self) -> &Classes
         ensures is { result.now ≡ checked_classes self.now }
-        ensures tabled { AreClasses (checked_model self.now) result.now }
+        ensures tabled { ∥ AreClasses (checked_model self.now) result.now ∥₁ }
     {
         &self.classes
     }

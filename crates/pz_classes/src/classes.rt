@@ -1,23 +1,31 @@
-ghost use Rattle.std.specs.Prelude.{◌≡◌, ◌<◌, List, ℕ, length, IfOk, OnOk, IfErr, IfSome};
-ghost use Rattle.std.specs.Option.{option_map};
+ghost use Rattle.std.specs.Prelude.{◌≡◌, ◌<◌, ◌+◌, List, ℕ, length, IfOk, OnOk, IfErr, IfSome};
+ghost use Rattle.std.specs.Prelude.{Some, slice_get};
+ghost use Rattle.std.specs.Option.{option_map, option_copied};
+ghost use Rattle.pz_code.specs.StepView as step;
+ghost use Rattle.pz_classes.specs.Bodies.{bodies};
+ghost use Rattle.pz_classes.specs.BodyView.{body_view};
+ghost use Rattle.pz_classes.specs.Starts.{init};
 ghost use Rattle.pz_ast.specs.Classes.{ModelTree};
 ghost use Rattle.pz_ast.specs.ClassView.{decl_view, model_view};
 ghost use Rattle.pz_violation.specs.declared.violation.Violation.{Violation as Found};
+ghost use Rattle.pz_value.specs.declared.value.ClassId.{ClassId as Number};
 ghost use Rattle.pz_classes.specs.Numbers as numbers;
+ghost use Rattle.pz_classes.specs.Ancestors as ancestors;
 ghost use Rattle.pz_classes.specs.Members as members;
 ghost use Rattle.pz_classes.specs.Members.{spelled};
 ghost use Rattle.pz_classes.specs.Methods as methods;
 ghost use Rattle.pz_classes.specs.Violations.{Violates};
 ghost use Rattle.pz_violation.specs.Order.{IsLeast};
 ghost use Rattle.pz_classes.specs.Refusals.{OnRefused};
-ghost use Rattle.pz_classes.specs.Tables.{AreClasses, HasClass, class_names, row, row_view, class_id};
+ghost use Rattle.pz_classes.specs.Tables.{AreClasses, HasClass, HasMethod, class_names, row, row_view, class_id};
 
 use crate::ancestry::{number_classes, parents_of};
+use crate::bodies::bodies_of;
 use crate::checking::least_violation;
 use crate::declarations::declared_name;
 use crate::entry::{Entry, entries_of};
-use crate::finding::find;
-use crate::{BuildError, Counts, MethodId};
+use crate::finding::{find, find_start};
+use crate::{Body, BuildError, Counts, MethodId, Step};
 use pz_ast::{Decl, Model, Name};
 use pz_items::Items;
 use pz_names::Numbering;
@@ -31,6 +39,7 @@ pub struct Classes {
     names: Items<Text>,
     numbering: Numbering,
     entries: Items<Entry>,
+    bodies: Items<Body>,
 }
 
 /// The name of the class that is declared, empty for a system. The only error is want of memory.
@@ -71,18 +80,21 @@ impl Classes {
         if let Some(violation) = least_violation(model, &numbering, parents.as_slice()) {
             return Err(BuildError::Refused(violation));
         }
-        let entries = entries_of(alloc, model, parents.as_slice())?;
+        let entries = entries_of(alloc, model, &numbering, parents.as_slice())?;
+        let bodies = bodies_of(alloc, model, &numbering, entries.as_slice())?;
         let names = names_of(alloc, model)?;
         Ok(Classes {
             names,
             numbering,
             entries,
+            bodies,
         })
     }
 
     /// The class of this name; None where no class of the model has it.
     pub fn class(&self, name: &[u8]) -> Option<ClassId>
-        ensures { (m : ModelTree) → AreClasses m self.now → result ≡ option_map class_id (numbers.class m name.now) }
+        ensures class { (m : ModelTree) → AreClasses m self.now → result ≡ option_map class_id (numbers.class m name.now) }
+        ensures belongs { (m : ModelTree) → AreClasses m self.now → IfSome result (HasClass self.now) }
     {
         self.numbering.get(name).map(ClassId)
     }
@@ -92,6 +104,23 @@ impl Classes {
         ensures { (m : ModelTree) → AreClasses m self.now → result.now ≡ class_names m }
     {
         self.names.as_slice()
+    }
+
+    /// How many numbers of classes there are. Each number below it is that of a class.
+    pub fn count(&self) -> usize
+        ensures count { (m : ModelTree) → AreClasses m self.now → result ≡ length m.decls + 1 }
+        ensures belongs { (class : Number) → class.0 < result → HasClass self.now class }
+    {
+        self.entries.len()
+    }
+
+    /// The class that this one extends, if that is one of these.
+    pub fn parent(&self, class: ClassId) -> Option<ClassId>
+        requires { HasClass self.now class }
+        ensures parent { (m : ModelTree) → AreClasses m self.now → result ≡ option_map class_id (ancestors.parent m class.0) }
+        ensures belongs { (m : ModelTree) → AreClasses m self.now → IfSome result (HasClass self.now) }
+    {
+        self.entry(class).parent.map(ClassId)
     }
 
     fn entry(&self, class: ClassId) -> &Entry
@@ -130,7 +159,8 @@ impl Classes {
     /// that has it. None where none has.
     pub fn method(&self, class: ClassId, name: &[u8], inputs: u32) -> Option<MethodId>
         requires { HasClass self.now class }
-        ensures { (m : ModelTree) → AreClasses m self.now → result ≡ methods.method m class.0 name.now inputs }
+        ensures method { (m : ModelTree) → AreClasses m self.now → result ≡ methods.method m class.0 name.now inputs }
+        ensures belongs { (m : ModelTree) → AreClasses m self.now → IfSome result (HasMethod self.now) }
     {
         find(
             self.entries.as_slice(),
@@ -150,7 +180,8 @@ impl Classes {
         outputs: u32,
     ) -> Option<MethodId>
         requires { HasClass self.now class }
-        ensures { (m : ModelTree) → AreClasses m self.now → result ≡ methods.process_method m class.0 name.now inputs outputs }
+        ensures method { (m : ModelTree) → AreClasses m self.now → result ≡ methods.process_method m class.0 name.now inputs outputs }
+        ensures belongs { (m : ModelTree) → AreClasses m self.now → IfSome result (HasMethod self.now) }
     {
         find(
             self.entries.as_slice(),
@@ -158,5 +189,22 @@ impl Classes {
             name,
             Counts::Process { inputs, outputs },
         )
+    }
+
+    /// The body of a method, with slots in place of names.
+    pub fn body(&self, method: MethodId) -> &Body
+        requires { HasMethod self.now method }
+        ensures { (m : ModelTree) → AreClasses m self.now → slice_get (bodies m) method.0 ≡ Some (body_view result.now) }
+    {
+        &self.bodies.as_slice()[method.0 as usize]
+    }
+
+    /// The call that the `init` of the nearest ancestor of a process class names, without results,
+    /// at the place of the method's name. None where no ancestor has an `init`.
+    pub fn init(&self, class: ClassId) -> Option<&Step>
+        requires { HasClass self.now class }
+        ensures { (m : ModelTree) → AreClasses m self.now → option_map step.view (option_copied result) ≡ init m class.0 }
+    {
+        find_start(self.entries.as_slice(), class.0)
     }
 }

@@ -23,7 +23,7 @@ pub(crate) fn declared_name(decl: &Decl) -> Option<&Id>
 }
 
 /// The name behind `extends`, if there is one.
-pub(crate) fn extended(decl: &Decl) -> Option<&Id>
+pub fn extended(decl: &Decl) -> Option<&Id>
     ensures { option_copied result ≡ ancestors.extended (decl_view decl.now) }
 {
     match decl {
@@ -52,7 +52,7 @@ pub(crate) fn same_sort(decl: &Decl, other: &Decl) -> bool
 }
 
 /// The declaration of the class of this number.
-pub(crate) fn declaration(model: &Model, number: u32) -> Option<&Decl>
+pub fn declaration(model: &Model, number: u32) -> Option<&Decl>
     ensures { option_map decl_view (option_copied result) ≡ numbers.declaration (model_view model.now) number }
 {
     if number == 0 {

@@ -1,14 +1,15 @@
-// Looking methods up.
+// Looking methods and starts up.
 
 ghost use Rattle.std.specs.Prelude.{◌≡◌, map, slice_get};
 ghost use Rattle.std.specs.Option.{option_copied, option_map};
 ghost use Rattle.pz_classes.specs.Methods as methods;
 ghost use Rattle.pz_classes.specs.Tables.{row_view, routine_view};
-ghost use Rattle.pz_classes.specs.Found.{routine_with, found_in};
+ghost use Rattle.pz_classes.specs.Found.{routine_with, found_in, start_found};
+ghost use Rattle.pz_code.specs.StepView as step;
 
 use crate::entry::Entry;
 use crate::methods::Method;
-use crate::{Counts, MethodId};
+use crate::{Counts, MethodId, Step};
 
 fn same_counts(a: Counts, b: Counts) -> bool
     ensures { result ≡ methods.same_counts a b }
@@ -62,6 +63,23 @@ pub(crate) fn find(entries: &[Entry], class: u32, name: &[u8], counts: Counts) -
             return Some(id);
         }
         at = entry.parent;
+        left -= 1;
+    }
+    None
+}
+
+/// The call of the `init` of the nearest ancestor that has one.
+pub(crate) fn find_start(entries: &[Entry], class: u32) -> Option<&Step>
+    ensures { option_map step.view (option_copied result) ≡ start_found (map row_view entries.now) class }
+{
+    let mut here = Some(class);
+    let mut left = entries.len().saturating_sub(1);
+    while left > 0 {
+        let entry = entry_at(entries, here?)?;
+        if let Some(start) = &entry.start {
+            return Some(start);
+        }
+        here = entry.parent;
         left -= 1;
     }
     None

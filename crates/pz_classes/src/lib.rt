@@ -3,6 +3,7 @@
 #![tactic(auto)]
 
 mod ancestry;
+mod bodies;
 mod checked;
 mod checking;
 mod classes;
@@ -10,14 +11,22 @@ mod declarations;
 mod entry;
 mod error;
 mod finding;
+mod instances;
+mod laws;
 mod members;
 mod method_id;
 mod methods;
+mod starting;
+mod surroundings;
 
 pub use checked::Checked;
 pub use classes::Classes;
+pub use declarations::{declaration, extended};
 pub use error::BuildError;
+pub use instances::{channels_of, class_of_instance, instances_of, is_cluster};
+pub use laws::ancestors_are_reached;
 pub use method_id::{Counts, MethodId};
+pub use methods::{count_names, count_section};
 pub use pz_code::{Body, Code, CodeForm, CodeLink, CodeSending, Slot, Step, StepForm};
 pub use pz_violation::Violation;
 

@@ -28,7 +28,7 @@ fn push_ids(names: &mut Items<Name>, ids: &[Id]) -> Result<(), AllocError>
     Ok(())
 }
 
-fn push_groups(names: &mut Items<Name>, groups: &[VarGroup]) -> Result<(), AllocError>
+pub(crate) fn push_groups(names: &mut Items<Name>, groups: &[VarGroup]) -> Result<(), AllocError>
     ensures { OnOk result (names.new ≡ names.old ++ spelled (grouped groups.now)) }
 {
     for group in groups {
@@ -37,7 +37,10 @@ fn push_groups(names: &mut Items<Name>, groups: &[VarGroup]) -> Result<(), Alloc
     Ok(())
 }
 
-fn push_section(names: &mut Items<Name>, groups: &Option<Items<VarGroup>>) -> Result<(), AllocError>
+pub(crate) fn push_section(
+    names: &mut Items<Name>,
+    groups: &Option<Items<VarGroup>>,
+) -> Result<(), AllocError>
     ensures { OnOk result (names.new ≡ names.old ++ spelled (section groups.now)) }
 {
     match groups {

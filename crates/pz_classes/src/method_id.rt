@@ -1,5 +1,3 @@
-use pz_value::ClassId;
-
 /// How many inputs and outputs a method has; one of a data class has inputs alone.
 #[derive(Clone, Copy, Debug, PartialEq, Eq)]
 pub enum Counts {
@@ -7,9 +5,7 @@ pub enum Counts {
     Process { inputs: u32, outputs: u32 },
 }
 
-/// A method: the class that declares it, and its place from 0 among the methods there.
+/// The number of a method. The methods of a model are numbered through from 0, in the order of the
+/// text.
 #[derive(Clone, Copy, Debug, PartialEq, Eq)]
-pub struct MethodId {
-    pub class: ClassId,
-    pub place: u32,
-}
+pub struct MethodId(pub u32);

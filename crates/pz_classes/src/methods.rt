@@ -4,13 +4,12 @@ ghost use Rattle.std.specs.Prelude.{◌≡◌, suc, length, map, IfOk};
 ghost use Rattle.pz_ast.specs.ClassView.{decl_view, data_method_view, process_method_view};
 ghost use Rattle.std.specs.Option.{unwrap_or};
 ghost use Rattle.pz_classes.specs.Members.{grouped, section};
-ghost use Rattle.pz_classes.specs.Methods.{data_signature, process_signature};
-ghost use Rattle.pz_classes.specs.Tables.{routine_view, routines_from, routines_of};
+ghost use Rattle.pz_classes.specs.Methods.{data_signature, process_signature, signatures};
+ghost use Rattle.pz_classes.specs.Tables.{routine_view, routines_from};
 
 use crate::{Counts, MethodId};
 use pz_ast::{DataMethod, Decl, Name, ProcessMethod, VarGroup};
 use pz_items::Items;
-use pz_value::ClassId;
 use std::alloc::{AllocError, Global};
 
 /// A method of a class.
@@ -22,7 +21,7 @@ pub(crate) struct Method {
 }
 
 /// How many names these are. Too many to number are taken for want of memory.
-fn count_names(groups: &[VarGroup]) -> Result<u32, AllocError>
+pub fn count_names(groups: &[VarGroup]) -> Result<u32, AllocError>
     ensures { IfOk result (λ n. n ≡ length (grouped groups.now)) }
 {
     let mut count = 0u32;
@@ -38,7 +37,9 @@ fn count_names(groups: &[VarGroup]) -> Result<u32, AllocError>
     Ok(count)
 }
 
-fn count_section(groups: &Option<Items<VarGroup>>) -> Result<u32, AllocError>
+/// How many names a section has, none where it is not written. Too many to number are taken for want
+/// of memory.
+pub fn count_section(groups: &Option<Items<VarGroup>>) -> Result<u32, AllocError>
     ensures { IfOk result (λ n. n ≡ length (section groups.now)) }
 {
     match groups {
@@ -48,77 +49,78 @@ fn count_section(groups: &Option<Items<VarGroup>>) -> Result<u32, AllocError>
 }
 
 /// The number after this one. One too many is taken for want of memory.
-fn next(place: u32) -> Result<u32, AllocError>
-    ensures { IfOk result (λ n. n ≡ suc place) }
+pub(crate) fn next(number: u32) -> Result<u32, AllocError>
+    ensures { IfOk result (λ n. n ≡ suc number) }
 {
-    match place.checked_add(1) {
+    match number.checked_add(1) {
         Some(next) => Ok(next),
         None => Err(AllocError),
     }
 }
 
-/// The methods of a data class. The only error is want of memory.
+/// The methods of a data class, of which the first has this number. The only error is want of memory.
 fn data_methods(
     alloc: Global,
-    class: ClassId,
+    first: u32,
     methods: &[DataMethod],
 ) -> Result<Items<Method>, AllocError>
-    ensures { IfOk result (λ rs. map routine_view rs ≡ routines_from class.0 0 (map data_signature (map data_method_view methods.now))) }
+    ensures { IfOk result (λ rs. map routine_view rs ≡ routines_from first (map data_signature (map data_method_view methods.now))) }
 {
     let mut routines = Items::new(alloc);
-    let mut place = 0u32;
+    let mut number = first;
     for method in methods {
         routines.push(Method {
-            id: MethodId { class, place },
+            id: MethodId(number),
             name: method.name.name.copy()?,
             counts: Counts::Data {
                 inputs: count_section(&method.inputs)?,
             },
         })?;
-        place = next(place)?;
+        number = next(number)?;
     }
     Ok(routines)
 }
 
-/// The methods of a process class. The only error is want of memory.
+/// The methods of a process class, of which the first has this number. The only error is want of memory.
 fn process_methods(
     alloc: Global,
-    class: ClassId,
+    first: u32,
     methods: &[ProcessMethod],
 ) -> Result<Items<Method>, AllocError>
-    ensures { IfOk result (λ rs. map routine_view rs ≡ routines_from class.0 0 (map process_signature (map process_method_view methods.now))) }
+    ensures { IfOk result (λ rs. map routine_view rs ≡ routines_from first (map process_signature (map process_method_view methods.now))) }
 {
     let mut routines = Items::new(alloc);
-    let mut place = 0u32;
+    let mut number = first;
     for method in methods {
         routines.push(Method {
-            id: MethodId { class, place },
+            id: MethodId(number),
             name: method.name.name.copy()?,
             counts: Counts::Process {
                 inputs: count_names(method.inputs.as_slice())?,
                 outputs: count_names(method.outputs.as_slice())?,
             },
         })?;
-        place = next(place)?;
+        number = next(number)?;
     }
     Ok(routines)
 }
 
-/// The methods that a class itself declares. The only error is want of memory.
+/// The methods that a class itself declares, of which the first has this number. The only error is
+/// want of memory.
 pub(crate) fn methods_of(
     alloc: Global,
-    class: ClassId,
+    first: u32,
     decl: &Decl,
 ) -> Result<Items<Method>, AllocError>
-    ensures { IfOk result (λ rs. map routine_view rs ≡ routines_of class.0 (decl_view decl.now)) }
+    ensures { IfOk result (λ rs. map routine_view rs ≡ routines_from first (signatures (decl_view decl.now))) }
 {
     match decl {
         Decl::Data(declared) => match &declared.methods {
-            Some(methods) => data_methods(alloc, class, methods.as_slice()),
+            Some(methods) => data_methods(alloc, first, methods.as_slice()),
             None => Ok(Items::new(alloc)),
         },
         Decl::Process(declared) => match &declared.methods {
-            Some(methods) => process_methods(alloc, class, methods.as_slice()),
+            Some(methods) => process_methods(alloc, first, methods.as_slice()),
             None => Ok(Items::new(alloc)),
         },
         Decl::Cluster(_) => Ok(Items::new(alloc)),

@@ -16,6 +16,7 @@ const UNKNOWN: u32 = u32::MAX;
 
 /// The numbers of names: of inputs, outputs and locals, of the fields or variables of the class, of
 /// its ports, and of the classes of the model.
+#[derive(Drop)]
 pub struct Scope<'a> {
     pub locals: &'a Numbering,
     pub shared: &'a Numbering,

@@ -5,7 +5,8 @@ ghost use Rattle.pz_violation.specs.Least as list;
 use crate::Violation;
 use pz_ast::Pos;
 
-fn pos_before(a: Pos, b: Pos) -> bool
+/// Whether the first place comes before the second, by line and then by column.
+pub fn pos_before(a: Pos, b: Pos) -> bool
     ensures { result ≡ order.pos_before a b }
 {
     a.line < b.line || (a.line == b.line && a.column < b.column)

@@ -4,5 +4,5 @@
 mod least;
 mod violation;
 
-pub use least::{lesser, sooner};
+pub use least::{lesser, pos_before, sooner};
 pub use violation::Violation;

@@ -4,5 +4,5 @@ use Rattle.pz_classes.proofs.Entries.{row_is}
 use Rattle.pz_classes.proofs.entry.entry_of.Goals as goal
 
 pub returns : goal.returns
-returns c = row_is (model_view c.args.model.now) c.args.class c.parent_at-parent.result c.in_ok-members.members c.in_ok-methods.methods c.as_slice.result.now
-    (c.parent_at-parent.ensures ∙ c.requires c.args.class) (c.as_slice.ensures.value ∙ c.in_ok-line.ensures) c.in_ok-members.ensures c.in_ok-methods.ensures
+returns c = row_is (model_view c.args.model.now) c.args.class c.parent_at-parent.result c.in_ok-members.members c.in_ok-start.start c.in_ok-methods.methods
+    (c.parent_at-parent.ensures ∙ c.requires.extending c.args.class) c.in_ok-members.ensures c.in_ok-start.ensures c.in_ok-methods.ensures

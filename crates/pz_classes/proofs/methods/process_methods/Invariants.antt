@@ -5,5 +5,5 @@ use Rattle.pz_classes.specs.Tables.{routine_view, routines_from}
 use Rattle.pz_classes.proofs.methods.process_methods.Given as goal
 
 abbrev pub invariant-loop-method : goal.invariant-loop-method
-invariant-loop-method l = map routine_view l.routines ++ routines_from l.class.0 l.place (map process_signature (map process_method_view (drop l.method-index l.methods)))
-    ≡ routines_from l.class.0 0 (map process_signature (map process_method_view l.methods))
+invariant-loop-method l = map routine_view l.routines ++ routines_from l.number (map process_signature (map process_method_view (drop l.method-index l.methods)))
+    ≡ routines_from l.first (map process_signature (map process_method_view l.methods))

@@ -2,9 +2,16 @@ use Rattle.std.proofs.Common.{◌≡◌, map, ◌∙◌}
 use Rattle.pz_classes.specs.declared.method_id.Counts.TheVariants.{Process}
 use Rattle.pz_classes.specs.Tables.{row_view, rows}
 use Rattle.pz_classes.proofs.RowLookups.{found_is}
+use Rattle.pz_classes.proofs.Belongs.{method_belongs}
 use Rattle.pz_classes.proofs.classes.Classes.process_method.Goals as goal
 
-pub returns : goal.returns
-returns c = λ m are.
+pub returns-clause-method : goal.returns-clause-method
+returns-clause-method c = λ m are.
     let listed : map row_view c.as_slice.result.now ≡ rows m = rw c.as_slice.ensures are.rows in
     c.find.ensures ∙ found_is m (map row_view c.as_slice.result.now) listed (record { name = c.args.name.now; counts = Process c.args.inputs c.args.outputs }) c.args.class.0
+
+pub returns-clause-belongs : goal.returns-clause-belongs
+returns-clause-belongs c = λ m are.
+    let listed : map row_view c.as_slice.result.now ≡ rows m = rw c.as_slice.ensures are.rows in
+    method_belongs m c.args.self.now are (record { name = c.args.name.now; counts = Process c.args.inputs c.args.outputs }) c.args.class.0 c.find.result
+    (c.find.ensures ∙ found_is m (map row_view c.as_slice.result.now) listed (record { name = c.args.name.now; counts = Process c.args.inputs c.args.outputs }) c.args.class.0)

@@ -1,0 +1,26 @@
+#!/usr/bin/env bash
+# Times the front end with the checker on models of about a mebibyte, one shape each: many classes,
+# a chain of ten thousand classes, many methods, many variables of one class, many instances, and
+# many ends of one channel.
+cd "$(dirname "${BASH_SOURCE[0]}")/../crates/checker_rows" || exit 2
+rt run >/dev/null 2>&1 || exit 2
+trap 'rm -f out/*.bench' EXIT
+process='process class P(x : Integer) ports p messages p!m init s()() methods s()() p!m system'
+
+# so many pieces, each with its number for % and the number before it for @
+pieces() {
+  awk -v count="$1" -v piece="$2" 'BEGIN {
+    for (i = 1; i <= count; i++) { line = piece; gsub(/%/, i, line); gsub(/@/, i - 1, line); printf "%s", line }
+  }'
+}
+
+{ pieces 19000 'data class A% variables x : A% methods m : Integer x m '; echo 'system'; } >out/classes.bench
+{ echo -n 'data class A0 '; pieces 10000 'data class A% extends A@ methods m% : Integer self m1 '; echo 'system'; } >out/chain.bench
+{ echo -n 'data class A methods '; pieces 27000 'm%(x : Integer) : Integer x m%(1) '; echo 'system'; } >out/methods.bench
+{ echo -n 'data class A variables x'; pieces 80000 ', x%'; echo -n ' : Integer methods m : Integer x'; pieces 40000 ' + x%'; echo ' system'; } >out/variables.bench
+{ echo -n "$process instances"; pieces 40000 ' p% : P(x := %)'; echo; } >out/instances.bench
+{ echo -n "$process instances"; pieces 10000 ' p% : P(x := %)'; echo -n ' channels {'; pieces 10000 ', p%.p' | sed 's/^, //'; echo '}'; } >out/ends.bench
+for shape in classes chain methods variables instances ends; do
+  printf '%s, %s bytes: ' "$shape" "$(wc -c <"out/$shape.bench")"
+  (cd out && time ./checker_rows "$shape.bench" | cut -c1-60)
+done

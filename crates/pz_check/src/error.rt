@@ -1,0 +1,22 @@
+use pz_violation::Violation;
+use std::alloc::AllocError;
+
+/// Why a model is not accepted.
+#[derive(Clone, Copy, Debug, PartialEq, Eq)]
+pub enum CheckError {
+    /// Memory ran out. It says nothing of the model.
+    NoMemory,
+    /// One of the rules C4 to C22 is violated; this is the least violation of them.
+    Refused(Violation),
+}
+
+impl From<AllocError> for CheckError {
+    ghost use Rattle.std.specs.Prelude.{◌≡◌};
+    ghost use Rattle.pz_check.specs.declared.error.CheckError.TheVariants.{NoMemory};
+
+    ghost from_gives = { λ _ error. error ≡ NoMemory };
+
+    fn from(_: AllocError) -> CheckError {
+        CheckError::NoMemory
+    }
+}

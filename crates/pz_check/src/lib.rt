@@ -1,0 +1,9 @@
+//! The checker: a model is sound, or has a least violation.
+#![tactic(auto)]
+
+mod checking;
+mod error;
+mod size;
+
+pub use checking::check;
+pub use error::CheckError;

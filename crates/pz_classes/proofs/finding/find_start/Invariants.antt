@@ -1,0 +1,14 @@
+use Rattle.std.proofs.Common.{◌≡◌, [], map}
+use Rattle.std.specs.Option.{option_map_or}
+use Rattle.pz_classes.specs.Ancestors.{followed}
+use Rattle.pz_classes.specs.Methods.{nearest}
+use Rattle.pz_classes.specs.Tables.{row_view}
+use Rattle.pz_classes.specs.Found.{up_in, start_in, start_found}
+use Rattle.pz_classes.proofs.finding.find_start.Given as goal
+
+abbrev pub invariant-loop-left : goal.invariant-loop-left
+invariant-loop-left l = start_found (map row_view l.entries) l.class
+    ≡ nearest (start_in (map row_view l.entries)) (option_map_or (followed (up_in (map row_view l.entries)) l.left) l.here [])
+
+abbrev pub decreases-loop-left : goal.decreases-loop-left
+decreases-loop-left l = l.left

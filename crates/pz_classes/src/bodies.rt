@@ -1,0 +1,170 @@
+// The bodies of methods, with slots and numbers in place of names. The only error is want of memory.
+
+ghost use Rattle.std.specs.Prelude.{◌≡◌, ◌<◌, ◌+◌, ◌^◌, ◌++◌, ℕ, List, length, map, IfOk, OnOk};
+ghost use Rattle.pz_ast.specs.Classes.{ModelTree};
+ghost use Rattle.pz_ast.specs.ClassView.{decl_view, model_view, data_method_view, process_method_view};
+ghost use Rattle.pz_names.specs.NumberIn.{number_in};
+ghost use Rattle.pz_classes.specs.Numbers.{class};
+ghost use Rattle.pz_classes.specs.Ancestors.{ancestors};
+ghost use Rattle.pz_classes.specs.Members.{spelled};
+ghost use Rattle.pz_classes.specs.Inherited.{HasMembers};
+ghost use Rattle.pz_classes.specs.Bodies as spec;
+ghost use Rattle.pz_classes.specs.BodyView.{body_view};
+ghost use Rattle.pz_classes.specs.Surrounding.{scope_around, Numbers};
+ghost use Rattle.pz_classes.specs.Tables.{row_view, rows};
+
+use crate::Body;
+use crate::entry::Entry;
+use crate::members::{Members, push_groups, push_section};
+use crate::surroundings::{Surroundings, count, places_of, surround};
+use pz_ast::{DataMethod, Decl, Model, Name, ProcessMethod};
+use pz_code::{Scope, resolve_list, resolve_statements};
+use pz_items::Items;
+use pz_names::Numbering;
+use std::alloc::{AllocError, Global};
+
+/// The names of inputs and locals.
+fn data_names(alloc: Global, method: &DataMethod) -> Result<Items<Name>, AllocError>
+    ensures { IfOk result (λ names. names ≡ spelled (spec.data_locals (data_method_view method.now))) }
+{
+    let mut names = Items::new(alloc);
+    push_section(&mut names, &method.inputs)?;
+    push_section(&mut names, &method.locals)?;
+    Ok(names)
+}
+
+/// The names of inputs, outputs and locals.
+fn process_names(alloc: Global, method: &ProcessMethod) -> Result<Items<Name>, AllocError>
+    ensures { IfOk result (λ names. names ≡ spelled (spec.process_locals (process_method_view method.now))) }
+{
+    let mut names = Items::new(alloc);
+    push_groups(&mut names, method.inputs.as_slice())?;
+    push_groups(&mut names, method.outputs.as_slice())?;
+    push_section(&mut names, &method.locals)?;
+    Ok(names)
+}
+
+fn data_body(
+    alloc: Global,
+    around: &Surroundings,
+    classes: &Numbering,
+    method: &DataMethod,
+) -> Result<Body, AllocError>
+    ensures { IfOk result (λ b. body_view b ≡ spec.data_body_in (scope_around around.now classes.now) (data_method_view method.now)) }
+{
+    let names = data_names(alloc, method)?;
+    let places = places_of(alloc, names.as_slice())?;
+    let scope = Scope {
+        locals: &places,
+        shared: &around.shared,
+        ports: &around.ports,
+        classes,
+    };
+    let code = resolve_list(alloc, &scope, method.body.as_slice())?;
+    let locals = count(names.as_slice())?;
+    Ok(Body::Data { locals, code })
+}
+
+fn process_body(
+    alloc: Global,
+    around: &Surroundings,
+    classes: &Numbering,
+    method: &ProcessMethod,
+) -> Result<Body, AllocError>
+    ensures { IfOk result (λ b. body_view b ≡ spec.process_body_in (scope_around around.now classes.now) (process_method_view method.now)) }
+{
+    let names = process_names(alloc, method)?;
+    let places = places_of(alloc, names.as_slice())?;
+    let scope = Scope {
+        locals: &places,
+        shared: &around.shared,
+        ports: &around.ports,
+        classes,
+    };
+    let stmts = resolve_statements(alloc, &scope, method.body.as_slice())?;
+    let locals = count(names.as_slice())?;
+    Ok(Body::Process { locals, stmts })
+}
+
+fn push_data_bodies(
+    alloc: Global,
+    around: &Surroundings,
+    classes: &Numbering,
+    methods: &[DataMethod],
+    bodies: &mut Items<Body>,
+) -> Result<(), AllocError>
+    ensures { OnOk result (map body_view bodies.new ≡ map body_view bodies.old ++ map (spec.data_body_in (scope_around around.now classes.now)) (map data_method_view methods.now)) }
+{
+    for method in methods {
+        bodies.push(data_body(alloc, around, classes, method)?)?;
+    }
+    Ok(())
+}
+
+fn push_process_bodies(
+    alloc: Global,
+    around: &Surroundings,
+    classes: &Numbering,
+    methods: &[ProcessMethod],
+    bodies: &mut Items<Body>,
+) -> Result<(), AllocError>
+    ensures { OnOk result (map body_view bodies.new ≡ map body_view bodies.old ++ map (spec.process_body_in (scope_around around.now classes.now)) (map process_method_view methods.now)) }
+{
+    for method in methods {
+        bodies.push(process_body(alloc, around, classes, method)?)?;
+    }
+    Ok(())
+}
+
+/// Adds the bodies of the methods that the class of this declaration itself declares.
+fn push_bodies(
+    alloc: Global,
+    classes: &Numbering,
+    members: &Members,
+    decl: &Decl,
+    bodies: &mut Items<Body>,
+) -> Result<(), AllocError>
+    ensures { OnOk result ((m : ModelTree) (c : ℕ) → Numbers m classes.now → HasMembers m (ancestors m c) members.now → map body_view bodies.new ≡ map body_view bodies.old ++ spec.own_bodies m c (decl_view decl.now)) }
+{
+    let ports = members.ports.as_slice();
+    match decl {
+        Decl::Data(class) => match &class.methods {
+            Some(methods) => {
+                let around = surround(alloc, members.fields.as_slice(), ports)?;
+                push_data_bodies(alloc, &around, classes, methods.as_slice(), bodies)
+            }
+            None => Ok(()),
+        },
+        Decl::Process(class) => match &class.methods {
+            Some(methods) => {
+                let around = surround(alloc, members.variables.as_slice(), ports)?;
+                push_process_bodies(alloc, &around, classes, methods.as_slice(), bodies)
+            }
+            None => Ok(()),
+        },
+        Decl::Cluster(_) => Ok(()),
+        Decl::System(_) => Ok(()),
+    }
+}
+
+/// The body of each method of the model, at its number.
+pub(crate) fn bodies_of(
+    alloc: Global,
+    model: &Model,
+    numbering: &Numbering,
+    entries: &[Entry],
+) -> Result<Items<Body>, AllocError>
+    requires numbered { Numbers (model_view model.now) numbering.now }
+    requires listed { map row_view entries.now ≡ rows (model_view model.now) }
+    requires room { length model.now.decls + 1 < 2 ^ 32 }
+    ensures { IfOk result (λ bodies. map body_view bodies ≡ spec.bodies (model_view model.now)) }
+{
+    let mut bodies = Items::new(alloc);
+    let mut number = 0u32;
+    for decl in model.decls.as_slice() {
+        number += 1;
+        let members = &entries[number as usize].members;
+        push_bodies(alloc, numbering, members, decl, &mut bodies)?;
+    }
+    Ok(bodies)
+}

@@ -1,0 +1,87 @@
+// The calls with which processes start. The only error is want of memory.
+
+ghost use Rattle.std.specs.Prelude.{◌≡◌, [], ℕ, List, IfOk};
+ghost use Rattle.std.specs.Option.{option_map, option_copied, option_and_then};
+ghost use Rattle.pz_ast.specs.Classes.{ModelTree};
+ghost use Rattle.pz_ast.specs.ClassView.{model_view, start_view};
+ghost use Rattle.pz_ast.specs.Statements.{call};
+ghost use Rattle.pz_code.specs.StepView as step;
+ghost use Rattle.pz_code.specs.Resolution.{resolved_all};
+ghost use Rattle.pz_classes.specs.Numbers.{declaration as declared};
+ghost use Rattle.pz_classes.specs.Ancestors.{ancestors};
+ghost use Rattle.pz_classes.specs.Inherited.{HasMembers};
+ghost use Rattle.pz_classes.specs.Starts.{own_start, own_call};
+ghost use Rattle.pz_classes.specs.Surrounding.{scope_around, Numbers};
+
+use crate::declarations::declaration;
+use crate::members::Members;
+use crate::surroundings::{Surroundings, surround};
+use crate::{Step, StepForm};
+use pz_ast::{Decl, Model, Start};
+use pz_code::{Scope, resolve_list};
+use pz_items::Items;
+use pz_names::Numbering;
+use std::alloc::{AllocError, Global};
+
+/// The `init` that the class of this number itself declares.
+fn declared_start(model: &Model, class: u32) -> Option<&Start>
+    ensures { option_map start_view (option_copied result) ≡ option_and_then own_start (declared (model_view model.now) class) }
+{
+    match declaration(model, class)? {
+        Decl::Process(declared) => declared.start.as_ref(),
+        _ => None,
+    }
+}
+
+/// The call that an `init` names, without results.
+fn start_call(
+    alloc: Global,
+    around: &Surroundings,
+    classes: &Numbering,
+    start: &Start,
+) -> Result<Step, AllocError>
+    ensures { IfOk result (λ s. step.view s ≡ call start.now.method.pos start.now.method (resolved_all (scope_around around.now classes.now []) (start_view start.now).args) []) }
+{
+    let none = Numbering::new(alloc);
+    let scope = Scope {
+        locals: &none,
+        shared: &around.shared,
+        ports: &around.ports,
+        classes,
+    };
+    let args = resolve_list(alloc, &scope, start.args.as_slice())?;
+    let method = start.method.copy()?;
+    Ok(Step {
+        pos: start.method.pos,
+        form: StepForm::Call {
+            method,
+            args,
+            results: Items::new(alloc),
+        },
+    })
+}
+
+/// The call of the `init` that the class of this number itself declares, if it has one.
+pub(crate) fn start_at(
+    alloc: Global,
+    model: &Model,
+    classes: &Numbering,
+    members: &Members,
+    class: u32,
+) -> Result<Option<Step>, AllocError>
+    requires numbered { Numbers (model_view model.now) classes.now }
+    requires inherited { HasMembers (model_view model.now) (ancestors (model_view model.now) class) members.now }
+    ensures { IfOk result (λ s. option_map step.view s ≡ own_call (model_view model.now) class) }
+{
+    match declared_start(model, class) {
+        None => Ok(None),
+        Some(start) => {
+            let around = surround(
+                alloc,
+                members.variables.as_slice(),
+                members.ports.as_slice(),
+            )?;
+            Ok(Some(start_call(alloc, &around, classes, start)?))
+        }
+    }
+}

@@ -1,0 +1,10 @@
+mod Levels
+mod Searches
+mod SearchSteps
+mod Backs
+mod OneSystem
+mod ModelNodes
+mod SelfHolding
+mod Sizes
+mod Settled
+mod Rows

@@ -1,0 +1,17 @@
+//! Clusters in clusters, and the size of the system that they make.
+#![tactic(auto)]
+
+mod holding;
+mod nodes;
+mod reach;
+mod settling;
+mod size;
+mod systems;
+mod totals;
+
+pub use holding::least_holding;
+pub use size::oversized;
+pub use systems::least_system;
+
+#[cfg(test)]
+mod tests;

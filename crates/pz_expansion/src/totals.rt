@@ -1,0 +1,123 @@
+// What stands in a system once every cluster is replaced by what it holds, counted as far as just
+// above the limits.
+
+ghost use Rattle.std.specs.Prelude.{◌≡◌, length, IfOk};
+ghost use Rattle.pz_expansion.specs.Levels as spec;
+
+use crate::nodes::Node;
+use pz_ast::Channel;
+use std::alloc::{AllocError, Global};
+
+/// One more than the most processes, or the most clusters, that a system may have.
+const MANY: u32 = 10_001;
+/// One more than the most channels that a system may have.
+const MANY_CHANNELS: u32 = 1_000_001;
+
+/// How many processes, clusters and channels there are. A count that reaches the first number that
+/// is too many stands still there.
+#[derive(Clone, Copy, Debug, PartialEq, Eq)]
+pub(crate) struct Totals {
+    pub(crate) processes: u32,
+    pub(crate) clusters: u32,
+    pub(crate) channels: u32,
+}
+
+impl Totals {
+    pub(crate) fn nothing() -> Totals
+        ensures { result ≡ spec.none_yet }
+    {
+        Totals {
+            processes: 0,
+            clusters: 0,
+            channels: 0,
+        }
+    }
+
+    /// How many channels these are.
+    pub(crate) fn count_channels(channels: &[Channel]) -> u32
+        ensures { result ≡ spec.capped_channels (length channels.now) }
+    {
+        channels.len().min(MANY_CHANNELS as usize) as u32
+    }
+
+    /// Both together.
+    pub(crate) fn plus(self, more: Totals) -> Totals
+        ensures { result ≡ spec.capped_plus self more }
+    {
+        Totals {
+            processes: self.processes.saturating_add(more.processes).min(MANY),
+            clusters: self.clusters.saturating_add(more.clusters).min(MANY),
+            channels: self
+                .channels
+                .saturating_add(more.channels)
+                .min(MANY_CHANNELS),
+        }
+    }
+
+    /// Whether one of the counts is above its limit.
+    pub(crate) fn is_too_large(self) -> bool
+        ensures { result ≡ spec.is_above self }
+    {
+        self.processes >= MANY || self.clusters >= MANY || self.channels >= MANY_CHANNELS
+    }
+}
+
+/// The totals of the class of this number; nothing where there is no such class.
+pub(crate) fn total_in(totals: &[Totals], class: usize) -> Totals
+    ensures { result ≡ spec.total_in totals.now class }
+{
+    match totals.get(class) {
+        Some(total) => *total,
+        None => Totals::nothing(),
+    }
+}
+
+/// One of a class with its instances, each of them counted by these totals.
+fn total_with(node: &Node, totals: &[Totals]) -> Totals
+    ensures { result ≡ spec.total_with totals.now node.now }
+{
+    let mut total = node.own;
+    for held in node.held.as_slice() {
+        total = total.plus(total_in(totals, held.class as usize));
+    }
+    total
+}
+
+/// Each class with its instances, each of them counted by these totals. The only error is want of
+/// memory.
+fn next_level(alloc: Global, nodes: &[Node], totals: &[Totals]) -> Result<Vec<Totals>, AllocError>
+    ensures { IfOk result (λ ts. ts.items ≡ spec.next_level nodes.now totals.now) }
+{
+    let mut next = Vec::new(alloc);
+    for node in nodes {
+        next.push(total_with(node, totals))?;
+    }
+    Ok(next)
+}
+
+/// Nothing for each class. The only error is want of memory.
+fn no_levels(alloc: Global, nodes: &[Node]) -> Result<Vec<Totals>, AllocError>
+    ensures { IfOk result (λ ts. ts.items ≡ spec.level nodes.now 0) }
+{
+    let mut totals = Vec::new(alloc);
+    for _node in nodes {
+        totals.push(Totals::nothing())?;
+    }
+    Ok(totals)
+}
+
+/// The totals of each class, down to so many levels. The only error is want of memory.
+#[tactic(auto, using(crate::proofs::Levels::level_stays))]
+pub(crate) fn level(alloc: Global, nodes: &[Node], levels: usize) -> Result<Vec<Totals>, AllocError>
+    ensures { IfOk result (λ ts. ts.items ≡ spec.level nodes.now levels) }
+{
+    let mut totals = no_levels(alloc, nodes)?;
+    for _level in 0..levels {
+        let next = next_level(alloc, nodes, totals.as_slice())?;
+        if next.as_slice() == totals.as_slice() {
+            return Ok(totals);
+        }
+        totals = next;
+    }
+    Ok(totals)
+}

@@ -1,0 +1,4 @@
+pub mod NameSets
+pub mod Given
+pub mod Ends
+pub mod Inside

@@ -1,0 +1,15 @@
+//! The instances and channels of a model: the rules C14 and C16 of the checker.
+#![tactic(auto)]
+
+mod channel_ends;
+mod given;
+mod name_set;
+mod parameters;
+mod parts;
+mod ports;
+
+pub use channel_ends::least_missing_end;
+pub use given::least_ill_given;
+
+#[cfg(test)]
+mod tests;

@@ -1,0 +1,15 @@
+pub mod Earliest
+pub mod Lookups
+pub mod Steps
+pub mod Lists
+pub mod Repeated
+pub mod Declared
+pub mod OuterEnds
+pub mod EndsFound
+pub mod EndKeys
+pub mod NameKeys
+pub mod MethodKeys
+pub mod MessageKeys
+pub mod Along
+pub mod ClassSteps
+pub mod RepeatsFound

@@ -1,0 +1,7 @@
+use Rattle.std.proofs.Common.{◌≡◌, map, take}
+use Rattle.pz_ast.specs.declared.clusters.Instance.{Instance}
+use Rattle.pz_repeats.specs.Names.{id_of}
+use Rattle.pz_repeats.proofs.names.least_instance.Given as goal
+
+abbrev pub invariant-loop-instance : goal.invariant-loop-instance
+invariant-loop-instance l = map id_of l.names ≡ map (λ (i : Instance). i.name) (take l.instance-index l.instances)

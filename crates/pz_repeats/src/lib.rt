@@ -1,0 +1,17 @@
+//! What is declared twice, and what is connected twice.
+#![tactic(auto)]
+
+mod again;
+mod ends;
+mod inherited;
+mod messages;
+mod methods;
+mod names;
+mod places;
+mod repeats;
+
+pub use ends::least_double_end;
+pub use repeats::least_repeat;
+
+#[cfg(test)]
+mod tests;

@@ -1,0 +1,99 @@
+// Methods that repeat one another.
+
+ghost use Rattle.std.specs.Prelude.{◌≡◌, map, IfOk};
+ghost use Rattle.pz_ast.specs.ClassView.{decl_view, data_method_view, process_method_view};
+ghost use Rattle.pz_violation.specs.Least.{least_from};
+ghost use Rattle.pz_classes.specs.RepeatRules.{data_heading, process_heading, headings, same_heading};
+ghost use Rattle.pz_repeats.specs.Again.{repeats};
+ghost use Rattle.pz_repeats.specs.Headings.{heading_of, heading_place};
+
+use crate::again::least_again;
+use crate::places::Thing;
+use pz_ast::{DataMethod, Decl, ProcessMethod};
+use pz_classes::{count_names, count_section};
+use pz_items::Items;
+use pz_violation::Violation;
+use std::alloc::{AllocError, Global};
+
+/// A method, by its name and its counts.
+#[derive(Clone, Copy, Debug, PartialEq, Eq, Hash)]
+pub(crate) enum MethodKey<'a> {
+    Data {
+        name: &'a [u8],
+        inputs: u32,
+    },
+    Process {
+        name: &'a [u8],
+        inputs: u32,
+        outputs: u32,
+    },
+}
+
+fn data_things<'a>(
+    alloc: Global,
+    methods: &'a [DataMethod],
+) -> Result<Items<Thing<MethodKey<'a>>>, AllocError>
+    ensures { IfOk result (λ things. map heading_of things ≡ map data_heading (map data_method_view methods.now)) }
+{
+    let mut things = Items::new(alloc);
+    for method in methods {
+        things.push(Thing {
+            key: MethodKey::Data {
+                name: method.name.name.as_str().as_bytes(),
+                inputs: count_section(&method.inputs)?,
+            },
+            place: method.name.pos,
+        })?;
+    }
+    Ok(things)
+}
+
+fn process_things<'a>(
+    alloc: Global,
+    methods: &'a [ProcessMethod],
+) -> Result<Items<Thing<MethodKey<'a>>>, AllocError>
+    ensures { IfOk result (λ things. map heading_of things ≡ map process_heading (map process_method_view methods.now)) }
+{
+    let mut things = Items::new(alloc);
+    for method in methods {
+        things.push(Thing {
+            key: MethodKey::Process {
+                name: method.name.name.as_str().as_bytes(),
+                inputs: count_names(method.inputs.as_slice())?,
+                outputs: count_names(method.outputs.as_slice())?,
+            },
+            place: method.name.pos,
+        })?;
+    }
+    Ok(things)
+}
+
+/// The methods of a class.
+fn method_things(alloc: Global, decl: &Decl) -> Result<Items<Thing<MethodKey>>, AllocError>
+    ensures { IfOk result (λ things. map heading_of things ≡ headings (decl_view decl.now)) }
+{
+    match decl {
+        Decl::Data(class) => match &class.methods {
+            Some(methods) => data_things(alloc, methods.as_slice()),
+            None => Ok(Items::new(alloc)),
+        },
+        Decl::Process(class) => match &class.methods {
+            Some(methods) => process_things(alloc, methods.as_slice()),
+            None => Ok(Items::new(alloc)),
+        },
+        _ => Ok(Items::new(alloc)),
+    }
+}
+
+/// The least of what was found before and the methods that repeat one of the same class. Too many
+/// names to number are taken for want of memory.
+pub(crate) fn least_method(
+    alloc: Global,
+    decl: &Decl,
+    before: Option<Violation>,
+) -> Result<Option<Violation>, AllocError>
+    ensures { IfOk result (λ least. least ≡ least_from before (repeats same_heading heading_place 4 (headings (decl_view decl.now)))) }
+{
+    let things = method_things(alloc, decl)?;
+    least_again(alloc, 4, things.as_slice(), before)
+}

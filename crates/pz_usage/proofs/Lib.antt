@@ -1,0 +1,6 @@
+mod Sets
+mod Lists
+mod Classes
+mod Found
+mod Unsized
+mod Foreign

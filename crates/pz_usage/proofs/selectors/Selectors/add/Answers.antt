@@ -1,0 +1,12 @@
+use Rattle.std.proofs.Common.{◌&&◌, nat_eq}
+use Rattle.std.specs.Str.{bytes_eq}
+use Rattle.pz_usage.specs.declared.selectors.Selector.{Selector}
+use Rattle.pz_usage.proofs.Sets.{any_inserted, selectors_alike}
+use Rattle.pz_usage.proofs.selectors.Selectors.add.Goals as goal
+
+pub returns : goal.returns
+returns c = λ q n.
+    let key = c.in_ok-key_of.field-0 in
+    rw (c.in_ok-insert.ensures.keys, ← c.in_ok-key_of.ensures.named, ← c.in_ok-key_of.ensures.counted)
+    (any_inserted (λ (a b : Selector). bytes_eq a.name.items b.name.items && nat_eq a.count b.count) (λ s. nat_eq n s.count && bytes_eq q s.name.items) key
+    (λ x is. selectors_alike key.name.items x.name.items key.count x.count q n is) c.args.self.now.set.keys)

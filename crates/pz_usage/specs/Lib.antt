@@ -1,0 +1,5 @@
+pub mod Sets
+pub mod Along
+pub mod Scopes
+pub mod Misuses
+pub mod Unsized

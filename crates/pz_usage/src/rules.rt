@@ -1,0 +1,99 @@
+// What a rule asks of a name.
+
+ghost use Rattle.std.specs.Prelude.{◌≡◌, IfOk};
+ghost use Rattle.std.specs.Option.{option_copied, option_map, option_and_then};
+ghost use Rattle.pz_ast.specs.ClassView.{decl_view, model_view};
+ghost use Rattle.pz_classes.specs.Kinds as kinds;
+ghost use Rattle.pz_classes.specs.NameRules as names;
+ghost use Rattle.pz_classes.specs.Numbers as numbers;
+ghost use Rattle.pz_classes.specs.CallRules as calls;
+ghost use Rattle.pz_classes.specs.Tables.{AreClasses};
+
+use crate::inheritance::number_of;
+use pz_ast::{Decl, Model, Name};
+use pz_classes::{Classes, declaration};
+use pz_names::{is_array, is_primitive};
+
+/// The declaration of the class of this name.
+fn class_named<'a>(model: &'a Model, classes: &Classes, name: &Name) -> Option<&'a Decl>
+    requires { AreClasses (model_view model.now) classes.now }
+    ensures { option_map decl_view (option_copied result) ≡ option_and_then (numbers.declaration (model_view model.now)) (numbers.class (model_view model.now) name.now) }
+{
+    match number_of(classes, name) {
+        Some(number) => declaration(model, number),
+        None => None,
+    }
+}
+
+/// Whether the model declares a data class by this name.
+fn is_data_class(model: &Model, classes: &Classes, name: &Name) -> bool
+    requires { AreClasses (model_view model.now) classes.now }
+    ensures { result ≡ kinds.is_declared_as kinds.is_data (model_view model.now) name.now }
+{
+    match class_named(model, classes, name) {
+        Some(decl) => matches!(decl, Decl::Data(_)),
+        None => false,
+    }
+}
+
+/// Whether it is a primitive class or a data class.
+pub(crate) fn is_type(model: &Model, classes: &Classes, name: &Name) -> bool
+    requires { AreClasses (model_view model.now) classes.now }
+    ensures { result ≡ names.is_type (model_view model.now) name.now }
+{
+    is_primitive(name) || is_data_class(model, classes, name)
+}
+
+/// Whether `new` may create one.
+pub(crate) fn may_create(model: &Model, classes: &Classes, name: &Name) -> bool
+    requires { AreClasses (model_view model.now) classes.now }
+    ensures { result ≡ names.may_create (model_view model.now) name.now }
+{
+    if is_primitive(name) {
+        return is_array(name);
+    }
+    is_data_class(model, classes, name)
+}
+
+/// Whether it is a process class or a cluster class.
+pub(crate) fn has_instances(model: &Model, classes: &Classes, name: &Name) -> bool
+    requires { AreClasses (model_view model.now) classes.now }
+    ensures { result ≡ names.has_instances (model_view model.now) name.now }
+{
+    if is_primitive(name) {
+        return false;
+    }
+    match class_named(model, classes, name) {
+        Some(decl) => matches!(decl, Decl::Process(_) | Decl::Cluster(_)),
+        None => false,
+    }
+}
+
+/// Whether primitive values have this selector with so many arguments.
+pub(crate) fn is_primitive_selector(name: &Name, count: u32) -> bool
+    ensures { result ≡ calls.is_primitive_selector name.now count }
+{
+    let name = name.as_str();
+    match count {
+        0 => {
+            name == "isNil"
+                || name == "abs"
+                || name == "asString"
+                || name == "not"
+                || name == "asInteger"
+                || name == "size"
+        }
+        1 => {
+            name == "div"
+                || name == "modulo"
+                || name == "min"
+                || name == "max"
+                || name == "xor"
+                || name == "concat"
+                || name == "get"
+                || name == "resize"
+        }
+        2 => name == "put",
+        _ => false,
+    }
+}

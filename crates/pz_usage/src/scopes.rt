@@ -1,0 +1,109 @@
+// What a class lacks of what its words name.
+
+ghost use Rattle.std.specs.Prelude.{◌≡◌, Bool, not, ◌&&◌, IfOk};
+ghost use Rattle.std.specs.List.{list_any};
+ghost use Rattle.std.specs.Option.{is_none};
+ghost use Rattle.pz_ast.specs.ClassView.{decl_view};
+ghost use Rattle.pz_classes.specs.CallRules as calls;
+ghost use Rattle.pz_classes.specs.Kinds as kinds;
+ghost use Rattle.pz_classes.specs.Members as members;
+ghost use Rattle.pz_classes.specs.Methods as methods;
+ghost use Rattle.pz_classes.specs.NameRules as names;
+ghost use Rattle.pz_classes.specs.Words.{is_among};
+ghost use Rattle.pz_usage.specs.Scopes.{AreDeclared, IsScope, HasLocals, asked, model_of, decl_of};
+
+use crate::class_scope::ClassScope;
+use crate::declared::Declared;
+use crate::rules::is_primitive_selector;
+use crate::stretch::Stretch;
+use pz_ast::{Decl, Name};
+use std::alloc::{AllocError, Global};
+
+pub(crate) fn is_data(decl: &Decl) -> bool
+    ensures { result ≡ kinds.is_data (decl_view decl.now) }
+{
+    matches!(decl, Decl::Data(_))
+}
+
+/// Whether a process class has no `init`, of its own or inherited.
+pub(crate) fn never_starts(declared: &Declared, scope: &ClassScope) -> bool
+    requires { IsScope declared.now scope.now }
+    ensures { result ≡ (kinds.is_process (decl_of scope.now) && is_none (calls.start (model_of declared.now) scope.now.class.0)) }
+{
+    matches!(scope.decl, Decl::Process(_)) && scope.lacks_init
+}
+
+/// Whether a name is neither local nor shared by all bodies of the class.
+pub(crate) fn lacks_variable(
+    declared: &Declared,
+    scope: &ClassScope,
+    stretch: &Stretch,
+    name: &Name,
+) -> bool
+    requires scoped { IsScope declared.now scope.now }
+    requires local { HasLocals stretch.now }
+    ensures { result ≡ (not (is_among stretch.now.part.now.locals name.now) && not (is_among (names.shared (model_of declared.now) scope.now.class.0 (decl_of scope.now)) name.now)) }
+{
+    !stretch.locals.has(name) && !scope.shared.has(name)
+}
+
+/// Whether neither the class nor an ancestor has a method with this name and these counts.
+pub(crate) fn lacks_method(
+    declared: &Declared,
+    scope: &ClassScope,
+    name: &Name,
+    inputs: u32,
+    outputs: u32,
+) -> bool
+    requires declares { AreDeclared declared.now }
+    requires scoped { IsScope declared.now scope.now }
+    ensures { result ≡ is_none (methods.process_method (model_of declared.now) scope.now.class.0 name.now inputs outputs) }
+{
+    let name = name.as_str().as_bytes();
+    declared
+        .classes
+        .process_method(scope.class, name, inputs, outputs)
+        .is_none()
+}
+
+/// Whether neither primitive values nor a data class of the model have this selector with so many
+/// arguments. The only error is want of memory.
+pub(crate) fn lacks_selector(
+    alloc: Global,
+    declared: &Declared,
+    name: &Name,
+    count: u32,
+) -> Result<bool, AllocError>
+    requires { AreDeclared declared.now }
+    ensures { IfOk result (λ lacks. lacks ≡ (not (calls.is_primitive_selector name.now count) && not (calls.is_declared (model_of declared.now) (asked name.now count)))) }
+{
+    if is_primitive_selector(name, count) {
+        return Ok(false);
+    }
+    Ok(!declared.selectors.has(alloc, name, count)?)
+}
+
+/// Whether neither the class nor an ancestor has this port.
+pub(crate) fn lacks_port(declared: &Declared, scope: &ClassScope, name: &Name) -> bool
+    requires { IsScope declared.now scope.now }
+    ensures { result ≡ not (is_among (members.ports (model_of declared.now) scope.now.class.0) name.now) }
+{
+    !scope.ports.has(name)
+}
+
+/// Whether neither the class nor an ancestor declares a message on this port, of this direction and
+/// name, with so many parameters. The only error is want of memory.
+pub(crate) fn lacks_message(
+    alloc: Global,
+    declared: &Declared,
+    scope: &ClassScope,
+    port: &Name,
+    out: bool,
+    name: &Name,
+    count: u32,
+) -> Result<bool, AllocError>
+    requires { IsScope declared.now scope.now }
+    ensures { IfOk result (λ lacks. lacks ≡ not (list_any (calls.is_message port.now out name.now count) (calls.messages (model_of declared.now) scope.now.class.0))) }
+{
+    Ok(!scope.messages.has(alloc, port, out, name, count)?)
+}
