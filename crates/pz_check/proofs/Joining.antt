@@ -1,10 +1,10 @@
 -- What single searches find, joined.
-use Rattle.std.proofs.Common.{◌≡◌, refl, true, Option, Some, None, ◌⊎◌, inl, inr}
+use Rattle.std.proofs.Common.{◌≡◌, true, Option, Some, None, ◌⊎◌, inl, inr}
 use Rattle.std.specs.Option.{is_some}
 use Rattle.pz_ast.specs.declared.tokens.Pos.{Pos}
 use Rattle.pz_ast.specs.Classes.{ModelTree}
 use Rattle.pz_violation.specs.declared.violation.Violation.{Violation}
-use Rattle.pz_violation.specs.Order.{violation, IsLeast}
+use Rattle.pz_violation.specs.Order.{violation}
 use Rattle.pz_violation.specs.Least.{LeastOf, sooner}
 use Rattle.pz_violation.proofs.TwoLeasts.{sooner_is_least}
 use Rattle.pz_classes.specs.WordRules.{BreaksWord}
@@ -29,7 +29,7 @@ module _ (m : ModelTree) where
       → LeastOf (BreaksSize m) (sooner (sooner first second) third)
   size_joined first second third a b c =
       sooner_is_least (λ v. BreaksC15 m v ⊎ BreaksC20 m v) (BreaksC19 m) (sooner first second) third
-          (sooner_is_least (BreaksC15 m) (BreaksC20 m) first second a b) c
+      (sooner_is_least (BreaksC15 m) (BreaksC20 m) first second a b) c
 
   abbrev Named : Violation → Type 0
   Named v = BreaksWord m v ⊎ BreaksC4 m v
@@ -69,7 +69,7 @@ module _ (m : ModelTree) where
       let near : LeastOf (λ v. BreaksC14 m v ⊎ BreaksC16 m v) (sooner instances ends) = sooner_is_least (BreaksC14 m) (BreaksC16 m) instances ends c d in
       let connected : LeastOf Connected (sooner (sooner instances ends) doubled) = sooner_is_least (λ v. BreaksC14 m v ⊎ BreaksC16 m v) (BreaksC17 m) (sooner instances ends) doubled near e in
       let both : LeastOf (λ v. Named v ⊎ Connected v) (sooner (sooner words repeats) (sooner (sooner instances ends) doubled)) =
-          sooner_is_least Named Connected (sooner words repeats) (sooner (sooner instances ends) doubled) named connected in
+      sooner_is_least Named Connected (sooner words repeats) (sooner (sooner instances ends) doubled) named connected in
       same_least Any (Breaks m) is_some_rule is_any _ (sooner_is_least (λ v. Named v ⊎ Connected v) (BreaksSize m) (sooner (sooner words repeats) (sooner (sooner instances ends) doubled)) sized both f)
 
   -- where one of the rules is violated without which nothing has a size, no size is too large

@@ -1,18 +1,14 @@
 -- The rules at words of a small model, computed: what each refuses, and what comes near and stands.
-use Rattle.std.proofs.Common.{◌≡◌, refl, ℕ, Bool, true, false, List, [], ◌∷◌, Option, Some, None}
+use Rattle.std.proofs.Common.{◌≡◌, refl, ℕ, true, false, List, [], ◌∷◌, Some, None}
 use Rattle.std.specs.Prelude.{codes}
-use Rattle.pz_ast.specs.declared.tokens.Pos.{Pos}
 use Rattle.pz_ast.specs.declared.names.Id.{Id}
 use Rattle.pz_ast.specs.declared.classes.VarGroup.{VarGroup}
 use Rattle.pz_ast.specs.declared.classes.Message.{Message}
 use Rattle.pz_ast.specs.declared.clusters.SystemDecl.{SystemDecl}
-use Rattle.pz_ast.specs.declared.clusters.ClusterClass.{ClusterClass}
 use Rattle.pz_ast.specs.declared.clusters.Instance.{Instance}
-use Rattle.pz_ast.specs.declared.clusters.Given.{Given}
-use Rattle.pz_ast.specs.declared.clusters.Channel.{Channel}
 use Rattle.pz_ast.specs.declared.clusters.Arg.TheVariants.{Parameter}
 use Rattle.pz_ast.specs.declared.clusters.ChannelEnd.TheVariants.{Inner, Outer}
-use Rattle.pz_ast.specs.Classes.{DeclTree, data_class, process_class, cluster_class, system, DataMethodTree, ProcessMethodTree, ModelTree, StartTree}
+use Rattle.pz_ast.specs.Classes.{DeclTree, data_class, process_class, cluster_class, system, ModelTree}
 use Rattle.pz_ast.specs.Expressions.{none}
 use Rattle.pz_ast.specs.Statements.{no_statements}
 use Rattle.pz_mentions.specs.declared.mention.Mention.TheVariants as m
@@ -22,7 +18,7 @@ use Rattle.pz_classes.specs.InstanceRules.{gives_each, given_names}
 use Rattle.pz_classes.specs.Instances.{parameters}
 use Rattle.pz_classes.specs.Members.{spelled}
 use Rattle.pz_classes.specs.ChannelRules.{breaks_c16}
-use Rattle.pz_classes.specs.SizeRules.{system_size, systems}
+use Rattle.pz_classes.specs.SizeRules.{system_size}
 
 abbrev name : List ℕ → Id
 name bytes = record { name = bytes; pos = record { line = 1; column = 1 } }

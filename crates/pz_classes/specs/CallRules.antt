@@ -1,10 +1,9 @@
 -- The rules on what is called, sent and received.
-use Rattle.std.specs.Prelude.{ℕ, Bool, true, false, not, ◌&&◌, ◌||◌, nat_eq, List, [], ◌∷◌, length, Option, codes}
+use Rattle.std.specs.Prelude.{ℕ, Bool, true, false, not, ◌&&◌, nat_eq, List, [], ◌∷◌, length, Option, codes}
 use Rattle.std.specs.Option.{unwrap_or, option_map_or, option_and_then, is_none}
 use Rattle.std.specs.Bool.{beq}
 use Rattle.std.specs.Str.{bytes_eq}
 use Rattle.std.specs.List.{list_any, flat_map}
-use Rattle.pz_ast.specs.declared.names.Id.{Id}
 use Rattle.pz_ast.specs.declared.classes.Message.{Message}
 use Rattle.pz_ast.specs.Classes.{DeclTree, process_class, StartTree, ModelTree}
 use Rattle.pz_mentions.specs.declared.mention.Mention.{Mention}

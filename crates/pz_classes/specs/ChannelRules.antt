@@ -1,6 +1,6 @@
 -- The rules on the ends of channels.
 use Rattle.std.specs.Prelude.{◌≡◌, ℕ, Bool, true, false, not, ◌&&◌, List, Option, Some, Contains, IsTrue}
-use Rattle.std.specs.Option.{option_map_or, option_and_then}
+use Rattle.std.specs.Option.{option_map_or}
 use Rattle.std.specs.Str.{bytes_eq}
 use Rattle.std.specs.List.{find, flat_map}
 use Rattle.pz_ast.specs.declared.tokens.Pos.{Pos}

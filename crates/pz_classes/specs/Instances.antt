@@ -1,7 +1,6 @@
 -- The instances and channels of a cluster class or of the system.
-use Rattle.std.specs.Prelude.{ℕ, Bool, List, [], ◌++◌, map, Option, None, if◌then◌else◌}
+use Rattle.std.specs.Prelude.{ℕ, List, [], Option, None, if◌then◌else◌}
 use Rattle.std.specs.Option.{unwrap_or}
-use Rattle.std.specs.Str.{bytes_eq}
 use Rattle.pz_ast.specs.declared.names.Id.{Id}
 use Rattle.pz_ast.specs.declared.clusters.Instance.{Instance}
 use Rattle.pz_ast.specs.declared.clusters.Channel.{Channel}

@@ -1,6 +1,6 @@
 -- The rules C1 to C3 of the checker.
 use Rattle.std.specs.Prelude.{◌≡◌, ℕ, Bool, true, false, not, ◌&&◌, ◌||◌, nat_eq, IsTrue, List, Contains, Some, if◌then◌else◌}
-use Rattle.std.specs.Option.{option_map_or, option_and_then}
+use Rattle.std.specs.Option.{option_map_or}
 use Rattle.pz_ast.specs.declared.names.Id.{Id}
 use Rattle.pz_ast.specs.Classes.{DeclTree, data_class, process_class, ModelTree}
 use Rattle.pz_violation.specs.declared.violation.Violation.{Violation}

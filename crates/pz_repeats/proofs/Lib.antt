@@ -13,3 +13,4 @@ pub mod MessageKeys
 pub mod Along
 pub mod ClassSteps
 pub mod RepeatsFound
+pub mod Numbered

@@ -1,22 +1,19 @@
 // Names that repeat one another among a class and its ancestors.
 
 ghost use Rattle.std.specs.Prelude.{◌≡◌, ◌++◌, map, IfOk, OnOk};
-ghost use Rattle.std.specs.Option.{option_map};
-ghost use Rattle.pz_ast.specs.Classes.{ModelTree};
 ghost use Rattle.pz_ast.specs.ClassView.{decl_view, model_view};
 ghost use Rattle.pz_violation.specs.Least.{least_from};
 ghost use Rattle.pz_classes.specs.Ancestors as ancestry;
-ghost use Rattle.pz_classes.specs.Tables.{AreClasses, class_id};
+ghost use Rattle.pz_classes.specs.Tables.{AreClasses, HasClass};
 ghost use Rattle.pz_repeats.specs.Names.{id_of};
 ghost use Rattle.pz_repeats.specs.declared.inherited.Inherited.TheVariants.{Fields, Variables, Ports};
 ghost use Rattle.pz_repeats.specs.RepeatList.{own_of, own_at, along, of_inherited};
 
 use crate::names::{least_name, push_optional, push_section};
 use crate::places::Thing;
-use pz_ast::{Decl, Model, Name};
-use pz_classes::{Classes, declaration, extended};
+use pz_ast::{Decl, Model};
+use pz_classes::{Classes, declaration};
 use pz_items::Items;
-use pz_names::{is_primitive, is_unsupported};
 use pz_value::ClassId;
 use pz_violation::Violation;
 use std::alloc::{AllocError, Global};
@@ -80,33 +77,6 @@ fn push_own<'a>(
     }
 }
 
-/// The class that is extended by this name.
-fn parent_named(classes: &Classes, name: &Name) -> Option<ClassId>
-    ensures { (m : ModelTree) → AreClasses m classes.now → result ≡ option_map class_id (ancestry.parent_named m name.now) }
-{
-    if is_unsupported(name) || is_primitive(name) {
-        return None;
-    }
-    classes.class(name.as_str().as_bytes())
-}
-
-/// The class that is extended by the one that is declared.
-fn parent_of(classes: &Classes, decl: &Decl) -> Option<ClassId>
-    ensures { (m : ModelTree) → AreClasses m classes.now → result ≡ option_map class_id (ancestry.parent_of m (decl_view decl.now)) }
-{
-    let id = extended(decl)?;
-    parent_named(classes, &id.name)
-}
-
-/// The parent of the class of this number.
-fn parent(model: &Model, classes: &Classes, class: ClassId) -> Option<ClassId>
-    requires { AreClasses (model_view model.now) classes.now }
-    ensures { result ≡ option_map class_id (ancestry.parent (model_view model.now) class.0) }
-{
-    let decl = declaration(model, class.0)?;
-    parent_of(classes, decl)
-}
-
 /// What a class and its ancestors declare, the class's own first. The only error is want of memory.
 fn names_along<'a>(
     alloc: Global,
@@ -115,7 +85,8 @@ fn names_along<'a>(
     class: ClassId,
     sort: Inherited,
 ) -> Result<Items<Thing<&'a [u8]>>, AllocError>
-    requires { AreClasses (model_view model.now) classes.now }
+    requires tabled { AreClasses (model_view model.now) classes.now }
+    requires has { HasClass classes.now class }
     ensures { IfOk result (λ names. map id_of names ≡ along sort (model_view model.now) (ancestry.ancestors (model_view model.now) class.0)) }
 {
     let mut names = Items::new(alloc);
@@ -126,7 +97,7 @@ fn names_along<'a>(
             return Ok(names);
         };
         push_own(&mut names, model, here, sort)?;
-        at = parent(model, classes, here);
+        at = classes.parent(here);
         left -= 1;
     }
     Ok(names)
@@ -142,7 +113,8 @@ pub(crate) fn least_inherited(
     sort: Inherited,
     before: Option<Violation>,
 ) -> Result<Option<Violation>, AllocError>
-    requires { AreClasses (model_view model.now) classes.now }
+    requires tabled { AreClasses (model_view model.now) classes.now }
+    requires has { HasClass classes.now class }
     ensures { IfOk result (λ least. least ≡ least_from before (of_inherited (model_view model.now) sort class.0)) }
 {
     let names = names_along(alloc, model, classes, class, sort)?;

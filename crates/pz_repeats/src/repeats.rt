@@ -5,7 +5,7 @@ ghost use Rattle.pz_ast.specs.ClassView.{decl_view, model_view};
 ghost use Rattle.pz_mentions.specs.Declarations.{parts};
 ghost use Rattle.pz_violation.specs.Least.{LeastOf, least_from};
 ghost use Rattle.pz_classes.specs.RepeatRules.{BreaksC4};
-ghost use Rattle.pz_classes.specs.Tables.{AreClasses};
+ghost use Rattle.pz_classes.specs.Tables.{AreClasses, HasClass};
 ghost use Rattle.pz_repeats.specs.RepeatList.{of_parts, of_own, of_class};
 
 use crate::inherited::{Inherited, least_inherited};
@@ -60,7 +60,8 @@ fn least_of_class(
     decl: &Decl,
     before: Option<Violation>,
 ) -> Result<Option<Violation>, AllocError>
-    requires { AreClasses (model_view model.now) classes.now }
+    requires tabled { AreClasses (model_view model.now) classes.now }
+    requires has { HasClass classes.now class }
     ensures { IfOk result (λ least. least ≡ least_from before (of_class (model_view model.now) class.0 (decl_view decl.now))) }
 {
     let field = least_inherited(alloc, model, classes, class, Inherited::Fields, before)?;

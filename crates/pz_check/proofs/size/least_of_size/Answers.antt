@@ -1,4 +1,3 @@
-use Rattle.std.proofs.Common.{◌≡◌}
 use Rattle.pz_ast.specs.ClassView.{model_view}
 use Rattle.pz_check.proofs.Joining.{size_joined}
 use Rattle.pz_check.proofs.size.least_of_size.Goals as goal
@@ -7,4 +6,4 @@ use Rattle.pz_check.proofs.size.least_of_size.Goals as goal
 pub returns : goal.returns
 returns c = rw (c.sooner-2.ensures, c.sooner.ensures)
     (size_joined (model_view c.args.model.now) c.in_ok-holding.holding c.least_system-system.result c.in_ok-oversize.oversize
-        c.in_ok-holding.ensures c.least_system-system.ensures c.in_ok-oversize.ensures)
+    c.in_ok-holding.ensures c.least_system-system.ensures c.in_ok-oversize.ensures)
