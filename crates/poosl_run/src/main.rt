@@ -1,4 +1,4 @@
-// Runs a model, and prints its trace.
+// Runs a model and prints its trace, or checks it and prints how large it is.
 #![tactic(auto)]
 
 use pz_io::{OsFiles, OsSink};

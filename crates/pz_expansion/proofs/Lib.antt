@@ -7,4 +7,5 @@ mod ModelNodes
 mod SelfHolding
 mod Sizes
 mod Settled
+mod Counted
 mod Rows

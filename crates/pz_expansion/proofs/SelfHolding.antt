@@ -22,7 +22,9 @@ use Rattle.pz_expansion.specs.declared.nodes.Node.{Node}
 use Rattle.pz_expansion.specs.Nodes.{held_by, node_of, nodes as nodes_in}
 use Rattle.pz_expansion.specs.Reaching.{Reaches, itself, further, LeadsBack, leads_back, back_in, back_from, back_among}
 use Rattle.pz_expansion.specs.Search.{reached, back_to, all_back}
+use Rattle.pz_expansion.specs.Settling.{is_settled, AreSettled}
 use Rattle.pz_expansion.proofs.Searches.{reached_size, reached_sound, reached_complete}
+use Rattle.pz_expansion.proofs.Settled.{reaches_settled}
 use Rattle.pz_expansion.proofs.ModelNodes.{HeldAs, as_instance, is_held, declared, node_here}
 
 held_first : (h : Held) (hs : List Held) (x : Held) → Contains (h ∷ hs) x → (h ≡ x) ⊎ Contains hs x
@@ -115,6 +117,10 @@ marked_false [] i below is = absurd (omega arith)
 marked_false (b ∷ bs) zero below is = is
 marked_false (b ∷ bs) (suc i) below is = marked_false bs i (omega arith) is
 
+no_members : (vs : List Violation) → ((v : Violation) → Member v vs → ⊥) → vs ≡ []
+no_members [] never = refl
+no_members (v ∷ vs) never = absurd (never v (inl refl))
+
 module _ (nodes : List Node) where
   inside : (c : ℕ) (n : Node) → slice_get nodes c ≡ Some n → c < length nodes
   inside c n here = elim (slice_get_cases nodes c).1 [ inl found ↦ found.1 | inr past ↦ (let is : slice_get nodes c ≡ None = past.1 in cc) ]
@@ -132,13 +138,28 @@ module _ (nodes : List Node) where
   starts_inside start _ itself below = below
   starts_inside start _ (further c h before among) below = starts_inside start c before (held_inside c h among)
 
-  to_sound : (start : ℕ) (v : Violation) → Member v (back_to nodes start) → LeadsBack nodes v
-  to_sound start v found =
-      let b : Back start (reached nodes start) 0 nodes v = among_sound start (reached nodes start) 0 nodes v found in
+  reaches_back : (start : ℕ) (v : Violation) (b : Back start (reached nodes start) 0 nodes v) → Reaches nodes b.instance.class b.at
+  reaches_back start v b =
       let same : b.at + 0 ≡ b.at = omega arith in
       let marked : get_or (reached nodes start) b.at false ≡ true = sym (unwrap_or-slice_get (reached nodes start) b.at false) ∙ rw same at b.marked in
       let reaches : Reaches nodes start b.at = reached_sound nodes start b.at (inside b.at b.node b.here) (marked_true (reached nodes start) b.at marked) in
-      subst (LeadsBack nodes) b.place (leads_back b.at b.node b.instance b.here b.cluster b.among (subst (λ (k : ℕ). Reaches nodes k b.at) (sym b.class) reaches))
+      subst (λ (k : ℕ). Reaches nodes k b.at) (sym b.class) reaches
+
+  to_sound : (start : ℕ) (v : Violation) → Member v (back_to nodes start) → LeadsBack nodes v
+  to_sound start v found =
+      let b : Back start (reached nodes start) 0 nodes v = among_sound start (reached nodes start) 0 nodes v found in
+      subst (LeadsBack nodes) b.place (leads_back b.at b.node b.instance b.here b.cluster b.among (reaches_back start v b))
+
+  -- no instance of a settled class stands in one that is reached from it
+  to_settled : (bs : List Bool) → AreSettled nodes bs → (start : ℕ) → is_settled bs start ≡ true → (v : Violation) → Member v (back_to nodes start) → ⊥
+  to_settled bs settled start is v found =
+      let b : Back start (reached nodes start) 0 nodes v = among_sound start (reached nodes start) 0 nodes v found in
+      let held : Contains (held_by nodes b.at) b.instance = subst (λ (o : Option Node). Contains (option_map_or (λ n. n.held) o []) b.instance) (sym b.here) b.among in
+      let from_it : Reaches nodes start b.at = subst (λ (k : ℕ). Reaches nodes k b.at) b.class (reaches_back start v b) in
+      settled.never_back b.at b.instance (reaches_settled nodes bs settled start b.at from_it is) held (reaches_back start v b)
+
+  pub none_to_settled : (bs : List Bool) → AreSettled nodes bs → (start : ℕ) → is_settled bs start ≡ true → back_to nodes start ≡ []
+  none_to_settled bs settled start is = no_members (back_to nodes start) (to_settled bs settled start is)
 
   all_sound : (n : ℕ) (v : Violation) → Member v (all_back nodes n) → LeadsBack nodes v
   all_sound zero v found = absurd found
@@ -232,7 +253,3 @@ found_holding m ns seen (Ok found) nodes_are seen_are is =
     let all : all_back seen (length seen) ≡ all_back (nodes_in m) (length (nodes_in m)) = ap (λ (x : List Node). all_back x (length x)) (seen_are ∙ nodes_are) in
     subst (LeastOf (BreaksC15 m)) (sym (is ∙ ap (λ (vs : List Violation). least_from None vs) all)) (holding_found m)
 found_holding m ns seen (Err e) nodes_are seen_are is = tt
-
--- where no class leads back to itself
-pub none_holding : (m : ModelTree) (ns seen : List Node) → ns ≡ nodes_in m → seen ≡ ns → ((v : Violation) → LeadsBack seen v → ⊥) → LeastOf (BreaksC15 m) None
-none_holding m ns seen nodes_are seen_are never v breaks = never v (subst (λ (x : List Node). LeadsBack x v) (sym (seen_are ∙ nodes_are)) (c15_is_back m v breaks))

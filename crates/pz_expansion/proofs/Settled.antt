@@ -1,20 +1,18 @@
 -- Classes are settled one by one.
-use Rattle.std.proofs.Common.{◌≡◌, refl, sym, ap, subst, ◌∙◌, ℕ, zero, suc, ◌<◌, ◌≤◌, ◌≢◌, Bool, true, false, ◌&&◌, IsTrue, List, [], ◌∷◌, map, length, Option, Some, None, get_or, slice_get, arith, ◌⊎◌, inl, inr, get_or-set_same, get_or-set_other}
+use Rattle.std.proofs.Common.{◌≡◌, refl, sym, ap, subst, ◌∙◌, ℕ, zero, suc, ◌<◌, ◌≢◌, Bool, true, false, ◌&&◌, List, [], ◌∷◌, map, length, arith, ◌⊎◌, inl, inr, get_or-set_same, get_or-set_other}
 use Rattle.std.specs.List.{Contains}
-use Rattle.std.specs.Option.{option_map_or}
 use Rattle.std.proofs.Math.ListN.{set}
-use Rattle.std.proofs.lemmas.Option.{unwrap_or-slice_get, slice_get_cases}
-use Rattle.pz_violation.specs.declared.violation.Violation.{Violation}
+use Rattle.std.proofs.lemmas.Option.{unwrap_or-slice_get}
 use Rattle.pz_expansion.specs.declared.nodes.Held.{Held}
 use Rattle.pz_expansion.specs.declared.nodes.Node.{Node}
 use Rattle.pz_expansion.specs.Nodes.{held_by}
-use Rattle.pz_expansion.specs.Reaching.{Reaches, itself, further, LeadsBack, leads_back}
+use Rattle.pz_expansion.specs.Reaching.{Reaches, itself, further}
 use Rattle.pz_expansion.specs.Settling.{is_settled, all_settled, AreSettled}
 
 set_here : (bs : List Bool) (c : ℕ) → c < length bs → is_settled (set bs c true) c ≡ true
 set_here bs c below = unwrap_or-slice_get (set bs c true) c false ∙ get_or-set_same bs c true false below
 
-set_elsewhere : (bs : List Bool) (c x : ℕ) → x ≢ c → is_settled (set bs c true) x ≡ is_settled bs x
+pub set_elsewhere : (bs : List Bool) (c x : ℕ) → x ≢ c → is_settled (set bs c true) x ≡ is_settled bs x
 set_elsewhere bs c x other = unwrap_or-slice_get (set bs c true) x false ∙ (get_or-set_other bs c x true false other ∙ sym (unwrap_or-slice_get bs x false))
 
 both : (a b : Bool) → (a && b) ≡ true → (a ≡ true) × (b ≡ true)
@@ -22,14 +20,14 @@ both true true is = (refl, refl)
 both true false is = cc
 both false b is = cc
 
-each_settled : (bs : List Bool) (hs : List Held) (h : Held) → all_settled bs hs ≡ true → Contains hs h → is_settled bs h.class ≡ true
+pub each_settled : (bs : List Bool) (hs : List Held) (h : Held) → all_settled bs hs ≡ true → Contains hs h → is_settled bs h.class ≡ true
 each_settled bs [] h all (k, below, is) = absurd (omega arith)
 each_settled bs (g ∷ hs) h all (zero, below, is) = let first = both (is_settled bs g.class) (all_settled bs hs) all in subst (λ (x : Held). is_settled bs x.class ≡ true) is first.0
 each_settled bs (g ∷ hs) h all (suc k, below, is) = let rest = both (is_settled bs g.class) (all_settled bs hs) all in each_settled bs hs h rest.1 (k, omega arith, is)
 
 module _ (nodes : List Node) (bs : List Bool) (before : AreSettled nodes bs) where
   -- only settled classes are reached from settled ones
-  reaches_settled : (k c : ℕ) → Reaches nodes k c → is_settled bs k ≡ true → is_settled bs c ≡ true
+  pub reaches_settled : (k c : ℕ) → Reaches nodes k c → is_settled bs k ≡ true → is_settled bs c ≡ true
   reaches_settled k _ itself is = is
   reaches_settled k _ (further c h first among) is = before.closed c h (reaches_settled k c first is) among
 
@@ -66,7 +64,7 @@ module _ (nodes : List Node) (bs : List Bool) (before : AreSettled nodes bs) whe
     pub settled_more : AreSettled nodes (set bs c true)
     settled_more = record { closed = closed_now; never_back = never_now }
 
-none_is : (nodes : List Node) (c : ℕ) → is_settled (map (λ n. false) nodes) c ≡ false
+pub none_is : (nodes : List Node) (c : ℕ) → is_settled (map (λ n. false) nodes) c ≡ false
 none_is [] c = refl
 none_is (n ∷ nodes) zero = refl
 none_is (n ∷ nodes) (suc c) = none_is nodes c
@@ -84,15 +82,6 @@ none_yet nodes bs are = record {
         let wrong : false ≡ true = sym none ∙ is in
         cc
 
--- where all are, no class leads back to itself
-pub all_free : (nodes : List Node) (bs : List Bool) → AreSettled nodes bs → ((c : ℕ) → c < length nodes → is_settled bs c ≡ true) → (v : Violation) → LeadsBack nodes v → ⊥
-all_free nodes bs settled all _ (leads_back c n h here cluster among reaches) =
-    settled.never_back c h (all c (inside (slice_get_cases nodes c).1)) (subst (λ (o : Option Node). Contains (option_map_or (λ x. x.held) o []) h) (sym here) among) reaches
-  where
-    inside : ((x : Node) × (c < length nodes) × (slice_get nodes c ≡ Some x) × (get_or nodes c x ≡ x)) ⊎ ((length nodes ≤ c) × (slice_get nodes c ≡ None)) → c < length nodes
-    inside (inl found) = found.1
-    inside (inr past) = let is : slice_get nodes c ≡ None = past.1 in cc
-
 -- what the code settles
 pub settles : (nodes : List Node) (bs seen again : List Bool) (c : ℕ) (mark : Bool) (hs : List Held) (all : Bool) → c < length bs → seen ≡ bs → mark ≡ is_settled seen c → mark ≡ false
     → again ≡ bs → hs ≡ held_by nodes c → all ≡ all_settled again hs → all ≡ true → AreSettled nodes bs → AreSettled nodes (set bs c true)
@@ -100,7 +89,3 @@ settles nodes bs seen again c mark hs all within seen_is read unset again_is hel
     let unsettled : is_settled bs c ≡ false = ap (λ (x : List Bool). is_settled x c) (sym seen_is) ∙ (sym read ∙ unset) in
     let each : all_settled bs (held_by nodes c) ≡ true = ap (λ (x : List Bool). all_settled x (held_by nodes c)) (sym again_is) ∙ (ap (λ (x : List Held). all_settled again x) (sym held) ∙ (sym tested ∙ is)) in
     settled_more nodes bs before c within unsettled each
-
--- what the code concludes
-pub free : (nodes : List Node) (bs seen : List Bool) (each : Bool) → AreSettled nodes bs → seen ≡ bs → (IsTrue each → (c : ℕ) → c < length nodes → IsTrue (is_settled seen c)) → IsTrue each → (v : Violation) → LeadsBack nodes v → ⊥
-free nodes bs seen each settled seen_is all is = all_free nodes bs settled (λ c below. subst (λ (x : List Bool). is_settled x c ≡ true) seen_is (all is c below))

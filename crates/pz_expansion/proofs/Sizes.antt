@@ -187,15 +187,13 @@ module _ (m : ModelTree) where
   oversized_found sized = leasts.least_found (BreaksC19 m) (oversized_among (level (nodes m) (length (nodes m))) 1 m.decls) (sound sized) complete
 
 -- what the code finds
-chained : (ns seen nm : List Node) (n : ℕ) (items totals : List Totals) (ds : List DeclTree) (found : Option Violation) → ns ≡ nm → seen ≡ ns → n ≡ length ns → items ≡ level seen n → totals ≡ items
+chained : (seen nm : List Node) (items totals : List Totals) (ds : List DeclTree) (found : Option Violation) → seen ≡ nm → items ≡ level seen (length seen) → totals ≡ items
     → found ≡ least_from None (oversized_among totals 1 ds) → found ≡ least_from None (oversized_among (level nm (length nm)) 1 ds)
-chained ns seen nm n items totals ds found nodes_are seen_are count items_are totals_are is =
-    let seen_nm : seen ≡ nm = seen_are ∙ nodes_are in
-    let count_nm : n ≡ length nm = count ∙ ap length nodes_are in
-    let all : totals ≡ level nm (length nm) = totals_are ∙ (items_are ∙ (ap (λ (x : List Node). level x n) seen_nm ∙ ap (level nm) count_nm)) in
+chained seen nm items totals ds found seen_are items_are totals_are is =
+    let all : totals ≡ level nm (length nm) = totals_are ∙ (items_are ∙ ap (λ (x : List Node). level x (length x)) seen_are) in
     is ∙ ap (λ (ts : List Totals). least_from None (oversized_among ts 1 ds)) all
 
-pub found_oversized : (m : ModelTree) (ns seen : List Node) (n : ℕ) (items totals : List Totals) (found : Option Violation) → (HasNoSize m → ⊥) → ns ≡ nodes m → seen ≡ ns → n ≡ length ns → items ≡ level seen n → totals ≡ items
+pub found_oversized : (m : ModelTree) (ns seen : List Node) (items totals : List Totals) (found : Option Violation) → (HasNoSize m → ⊥) → ns ≡ nodes m → seen ≡ ns → items ≡ level seen (length seen) → totals ≡ items
     → found ≡ least_from None (oversized_among totals 1 m.decls) → LeastOf (BreaksC19 m) found
-found_oversized m ns seen n items totals found sized nodes_are seen_are count items_are totals_are is =
-    subst (LeastOf (BreaksC19 m)) (sym (chained ns seen (nodes m) n items totals m.decls found nodes_are seen_are count items_are totals_are is)) (oversized_found m sized)
+found_oversized m ns seen items totals found sized nodes_are seen_are items_are totals_are is =
+    subst (LeastOf (BreaksC19 m)) (sym (chained seen (nodes m) items totals m.decls found (seen_are ∙ nodes_are) items_are totals_are is)) (oversized_found m sized)

@@ -1,9 +1,11 @@
--- Classes of which it is known that they do not lead back to themselves.
-use Rattle.std.specs.Prelude.{ℕ, Bool, false, List, slice_get, Contains, IsTrue}
+-- Classes of which it is known that they do not lead back to themselves, and what their totals are.
+use Rattle.std.specs.Prelude.{◌≡◌, ◌≤◌, ℕ, Bool, false, List, length, slice_get, Contains, IsTrue}
 use Rattle.std.specs.Option.{unwrap_or}
 use Rattle.std.specs.List.{list_all}
 use Rattle.pz_expansion.specs.declared.nodes.Held.{Held}
 use Rattle.pz_expansion.specs.declared.nodes.Node.{Node}
+use Rattle.pz_expansion.specs.declared.totals.Totals.{Totals}
+use Rattle.pz_expansion.specs.Levels.{total_in, level}
 use Rattle.pz_expansion.specs.Nodes.{held_by}
 use Rattle.pz_expansion.specs.Reaching.{Reaches}
 
@@ -17,3 +19,8 @@ all_settled settled hs = list_all (λ h. is_settled settled h.class) hs
 pub record AreSettled (nodes : List Node) (settled : List Bool) : Type 0 where
   pub closed : (c : ℕ) (h : Held) → IsTrue (is_settled settled c) → Contains (held_by nodes c) h → IsTrue (is_settled settled h.class)
   pub never_back : (c : ℕ) (h : Held) → IsTrue (is_settled settled c) → Contains (held_by nodes c) h → Reaches nodes h.class c → ⊥
+
+-- the totals of a settled class are those of so many levels, and of all later ones
+pub record AreCounted (nodes : List Node) (settled : List Bool) (totals : List Totals) (levels : ℕ) : Type 0 where
+  pub sized : length totals ≡ length nodes
+  pub counted : (c l : ℕ) → IsTrue (is_settled settled c) → levels ≤ l → total_in totals c ≡ total_in (level nodes l) c

@@ -8,7 +8,7 @@ ghost use Rattle.pz_classes.specs.Tables.{AreClasses};
 
 use crate::nodes::nodes_of;
 use crate::reach::least_back_to_itself;
-use crate::settling::is_free_of_rounds;
+use crate::settling::settle_all;
 use pz_ast::Model;
 use pz_classes::Classes;
 use pz_violation::Violation;
@@ -25,8 +25,6 @@ pub fn least_holding(
     ensures { IfOk result (LeastOf (BreaksC15 (model_view model.now))) }
 {
     let nodes = nodes_of(alloc, model, classes)?;
-    if is_free_of_rounds(alloc, nodes.as_slice())? {
-        return Ok(None);
-    }
-    least_back_to_itself(alloc, nodes.as_slice())
+    let known = settle_all(alloc, nodes.as_slice())?;
+    least_back_to_itself(alloc, nodes.as_slice(), known.settled.as_slice())
 }

@@ -8,6 +8,7 @@ mod settling;
 mod size;
 mod systems;
 mod totals;
+mod work_list;
 
 pub use holding::least_holding;
 pub use size::oversized;

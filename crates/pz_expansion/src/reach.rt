@@ -6,8 +6,10 @@ ghost use Rattle.pz_violation.specs.Least as least;
 ghost use Rattle.pz_expansion.specs.Search.{reach_view};
 ghost use Rattle.pz_expansion.specs.Search as search;
 ghost use Rattle.pz_expansion.specs.Reaching as spec;
+ghost use Rattle.pz_expansion.specs.Settling.{AreSettled};
 
 use crate::nodes::{Held, Node, held_by};
+use crate::settling::is_settled;
 use pz_violation::{Violation, lesser};
 use std::alloc::{AllocError, Global};
 
@@ -138,30 +140,39 @@ fn least_among(
 }
 
 /// The least of what was found before and the rule at the instances of this class that stand in a
-/// class which is reached from it. The only error is want of memory.
+/// class which is reached from it; no instance of a settled class does. The only error is want of
+/// memory.
 fn least_to(
     alloc: Global,
     nodes: &[Node],
+    settled: &[bool],
     start: usize,
     before: Option<Violation>,
 ) -> Result<Option<Violation>, AllocError>
+    requires { AreSettled nodes.now settled.now }
     ensures { IfOk result (λ found. found ≡ least.least_from before (search.back_to nodes.now start)) }
 {
+    if is_settled(settled, start) {
+        return Ok(before);
+    }
     let marks = reached(alloc, nodes, start)?;
     Ok(least_among(nodes, marks.as_slice(), start, before))
 }
 
-/// The least instance by which a cluster class holds itself. The only error is want of memory.
+/// The least instance by which a cluster class holds itself, where it is known of some classes that
+/// they do not. The only error is want of memory.
 #[tactic(auto, using(pz_violation::proofs::Leasts::least_from_append))]
 pub(crate) fn least_back_to_itself(
     alloc: Global,
     nodes: &[Node],
+    settled: &[bool],
 ) -> Result<Option<Violation>, AllocError>
+    requires { AreSettled nodes.now settled.now }
     ensures { IfOk result (λ found. found ≡ least.least_from None (search.all_back nodes.now (length nodes.now))) }
 {
     let mut least = None;
     for start in 0..nodes.len() {
-        least = least_to(alloc, nodes, start, least)?;
+        least = least_to(alloc, nodes, settled, start, least)?;
     }
     Ok(least)
 }

@@ -1,16 +1,26 @@
-// A cheap pass that shows of most models that no class holds itself: a class is settled once all
-// that stand in it are.
+// Classes are settled one by one, each once all that stand in it are. A settled class does not hold
+// itself, and its totals are known.
 
-ghost use Rattle.std.specs.Prelude.{◌≡◌, ◌<◌, ℕ, length, IsTrue, IfOk};
-ghost use Rattle.pz_violation.specs.declared.violation.Violation.{Violation};
-ghost use Rattle.pz_expansion.specs.Reaching.{LeadsBack};
+ghost use Rattle.std.specs.Prelude.{◌≡◌, ◌<◌, ℕ, zero, suc, length, IsTrue, IfOk};
+ghost use Rattle.pz_expansion.specs.Levels as levels;
 ghost use Rattle.pz_expansion.specs.Settling as spec;
-ghost use Rattle.pz_expansion.specs.Settling.{AreSettled};
+ghost use Rattle.pz_expansion.specs.Settling.{AreSettled, AreCounted};
 
 use crate::nodes::{Held, Node, held_by};
+use crate::totals::{Totals, level, total_of};
+use crate::work_list::WorkList;
 use std::alloc::{AllocError, Global};
 
-fn is_settled(settled: &[bool], class: usize) -> bool
+/// What is known of the classes, each by its number.
+#[derive(Drop)]
+pub(crate) struct Settling {
+    /// Whether the class is settled.
+    pub(crate) settled: Vec<bool>,
+    /// The totals of the class, where it is settled.
+    pub(crate) totals: Vec<Totals>,
+}
+
+pub(crate) fn is_settled(settled: &[bool], class: usize) -> bool
     ensures { result ≡ spec.is_settled settled.now class }
 {
     match settled.get(class) {
@@ -31,46 +41,54 @@ fn are_all_settled(settled: &[bool], held: &[Held]) -> bool
     true
 }
 
-/// Settles a class if all that stand in it are settled. Whether it is newly settled.
-fn settle(nodes: &[Node], class: usize, settled: &mut Vec<bool>) -> bool
-    ensures { AreSettled nodes.now settled.old.items → AreSettled nodes.now settled.new.items }
-{
-    if class >= settled.len() || is_settled(settled.as_slice(), class) {
-        return false;
+impl Settling {
+    /// No class is settled yet. The only error is want of memory.
+    fn new(alloc: Global, nodes: &[Node]) -> Result<Settling, AllocError>
+        ensures settled { IfOk result (λ s. AreSettled nodes.now s.settled.items) }
+        ensures counted { IfOk result (λ s. AreCounted nodes.now s.settled.items s.totals.items zero) }
+    {
+        let mut settled = Vec::new(alloc);
+        let mut totals = Vec::new(alloc);
+        for _node in nodes {
+            settled.push(false)?;
+            totals.push(Totals::nothing())?;
+        }
+        Ok(Settling { settled, totals })
     }
-    if !are_all_settled(settled.as_slice(), held_by(nodes, class)) {
-        return false;
+
+    /// Settles a class if all that stand in it are settled.
+    fn settle(&mut self, nodes: &[Node], class: usize)
+        ensures settled { AreSettled nodes.now self.old.settled.items → AreSettled nodes.now self.new.settled.items }
+        ensures counted { (levels : ℕ) → AreCounted nodes.now self.old.settled.items self.old.totals.items levels
+            → AreCounted nodes.now self.new.settled.items self.new.totals.items (suc levels) }
+    {
+        if class >= self.settled.len() || class >= self.totals.len() {
+            return;
+        }
+        if is_settled(self.settled.as_slice(), class)
+            || !are_all_settled(self.settled.as_slice(), held_by(nodes, class))
+        {
+            return;
+        }
+        self.totals[class] = total_of(nodes, class, self.totals.as_slice());
+        self.settled[class] = true;
     }
-    settled[class] = true;
-    true
 }
 
-/// Tries each class once, in the order of the text. Whether one is newly settled.
-fn settle_forwards(nodes: &[Node], settled: &mut Vec<bool>) -> bool
-    ensures { AreSettled nodes.now settled.old.items → AreSettled nodes.now settled.new.items }
+/// What is known once no more classes can be settled. The only error is want of memory.
+pub(crate) fn settle_all(alloc: Global, nodes: &[Node]) -> Result<Settling, AllocError>
+    ensures settled { IfOk result (λ s. AreSettled nodes.now s.settled.items) }
+    ensures counted { IfOk result (λ s. AreCounted nodes.now s.settled.items s.totals.items (length nodes.now)) }
 {
-    let mut is_any = false;
-    for class in 0..nodes.len() {
-        if settle(nodes, class, settled) {
-            is_any = true;
+    let mut known = Settling::new(alloc, nodes)?;
+    let mut list = WorkList::new(alloc, nodes)?;
+    for place in 0..nodes.len() {
+        if let Some(class) = list.class_at(place) {
+            known.settle(nodes, class);
+            list.settled(class)?;
         }
     }
-    is_any
-}
-
-/// Tries each class once, the last one of the text first. Whether one is newly settled.
-fn settle_backwards(nodes: &[Node], settled: &mut Vec<bool>) -> bool
-    ensures { AreSettled nodes.now settled.old.items → AreSettled nodes.now settled.new.items }
-{
-    let mut is_any = false;
-    let mut left = nodes.len();
-    while left > 0 {
-        left -= 1;
-        if settle(nodes, left, settled) {
-            is_any = true;
-        }
-    }
-    is_any
+    Ok(known)
 }
 
 /// Whether every class is settled.
@@ -85,37 +103,15 @@ fn is_each_settled(nodes: &[Node], settled: &[bool]) -> bool
     true
 }
 
-/// No class is settled yet. The only error is want of memory.
-fn none_settled(alloc: Global, nodes: &[Node]) -> Result<Vec<bool>, AllocError>
-    ensures { IfOk result (λ settled. AreSettled nodes.now settled.items) }
+/// The totals of each class, down to as many levels as there are classes. The only error is want of
+/// memory.
+pub(crate) fn all_totals(alloc: Global, nodes: &[Node]) -> Result<Vec<Totals>, AllocError>
+    ensures { IfOk result (λ ts. ts.items ≡ levels.level nodes.now (length nodes.now)) }
 {
-    let mut settled = Vec::new(alloc);
-    for _node in nodes {
-        settled.push(false)?;
+    let known = settle_all(alloc, nodes)?;
+    if is_each_settled(nodes, known.settled.as_slice()) {
+        return Ok(known.totals);
     }
-    Ok(settled)
-}
-
-/// Of each class whether it is settled in the end. The only error is want of memory.
-fn settle_all(alloc: Global, nodes: &[Node]) -> Result<Vec<bool>, AllocError>
-    ensures { IfOk result (λ settled. AreSettled nodes.now settled.items) }
-{
-    let mut settled = none_settled(alloc, nodes)?;
-    for _round in 0..nodes.len() {
-        let forwards = settle_forwards(nodes, &mut settled);
-        let backwards = settle_backwards(nodes, &mut settled);
-        if !forwards && !backwards {
-            return Ok(settled);
-        }
-    }
-    Ok(settled)
-}
-
-/// True if no class leads back to itself and this pass sees it; false says nothing. The only error
-/// is want of memory.
-pub(crate) fn is_free_of_rounds(alloc: Global, nodes: &[Node]) -> Result<bool, AllocError>
-    ensures { IfOk result (λ free. IsTrue free → (v : Violation) → LeadsBack nodes.now v → ⊥) }
-{
-    let settled = settle_all(alloc, nodes)?;
-    Ok(is_each_settled(nodes, settled.as_slice()))
+    // Some class holds itself: never where the model is asked for its size.
+    level(alloc, nodes, nodes.len())
 }

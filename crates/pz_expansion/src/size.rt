@@ -9,7 +9,8 @@ ghost use Rattle.pz_classes.specs.Tables.{AreClasses};
 ghost use Rattle.pz_expansion.specs.Oversized as spec;
 
 use crate::nodes::nodes_of;
-use crate::totals::{Totals, level, total_in};
+use crate::settling::all_totals;
+use crate::totals::{Totals, total_in};
 use pz_ast::{Decl, Model};
 use pz_classes::Classes;
 use pz_violation::{Violation, lesser};
@@ -53,6 +54,6 @@ pub fn oversized(
     ensures { IfOk result (LeastOf (BreaksC19 (model_view model.now))) }
 {
     let nodes = nodes_of(alloc, model, classes)?;
-    let totals = level(alloc, nodes.as_slice(), nodes.len())?;
+    let totals = all_totals(alloc, nodes.as_slice())?;
     Ok(least_oversized(model, totals.as_slice()))
 }

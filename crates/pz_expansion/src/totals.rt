@@ -83,6 +83,17 @@ fn total_with(node: &Node, totals: &[Totals]) -> Totals
     total
 }
 
+/// One of the class of this number with its instances, each of them counted by these totals;
+/// nothing where there is no such class.
+pub(crate) fn total_of(nodes: &[Node], class: usize, totals: &[Totals]) -> Totals
+    ensures { result ≡ spec.total_in (spec.next_level nodes.now totals.now) class }
+{
+    match nodes.get(class) {
+        Some(node) => total_with(node, totals),
+        None => Totals::nothing(),
+    }
+}
+
 /// Each class with its instances, each of them counted by these totals. The only error is want of
 /// memory.
 fn next_level(alloc: Global, nodes: &[Node], totals: &[Totals]) -> Result<Vec<Totals>, AllocError>

@@ -1,7 +1,12 @@
 pub mod Placed
 pub mod Heads
-pub mod Built
 pub mod Causes
+pub mod Rising
+pub mod InOrder
+pub mod Fitting
+pub mod Built
+pub mod Runs
+pub mod Counted
 pub mod Writes
 pub mod Now
 pub mod Lined

@@ -1,20 +1,18 @@
 -- A model of the first path, once its parts stand at the tokens of its text.
-use Rattle.std.proofs.Common.{◌≡◌, ◌≢◌, ℕ, suc, ◌+◌, List, [], ◌∷◌, length, Some, None, map, refl, ap}
+use Rattle.std.proofs.Common.{◌≡◌, ◌≢◌, ℕ, suc, ◌+◌, List, [], ◌∷◌, length, None, map, refl, ap}
 use Rattle.std.specs.Prelude.{All}
 use Rattle.std.proofs.lemmas.List.Elements.{All-nil, All-cons, All-head, All-tail}
 use Rattle.pz_ast.specs.declared.tokens.Pos.{Pos}
-use Rattle.pz_ast.specs.declared.tokens.Keyword.TheVariants as k
-use Rattle.pz_ast.specs.Marks.{section, each_text}
 use Rattle.pz_ast.specs.ClassText.{process_method_text}
 use Rattle.pz_ast.specs.StatementText as statement
-use Rattle.pz_ast.specs.Statements.{Statement, Statements, then}
-use Rattle.pz_ast.specs.Classes.{ProcessMethodTree, process_class, system, ModelTree}
-use Rattle.pz_ast.specs.ModelText.{decl_text, instance_text}
-use Rattle.pz_cursor.specs.Places.{place_id, place_each}
+use Rattle.pz_ast.specs.Statements.{Statements}
+use Rattle.pz_ast.specs.Classes.{process_class}
+use Rattle.pz_ast.specs.ModelText.{decl_text}
+use Rattle.pz_cursor.specs.Places.{place_id}
 use Rattle.pz_statements.specs.StatementPlaces.{place, place_all, place_tail}
 use Rattle.pz_parser.specs.ProcessPlaces.{body_at, place_process_method, place_process_methods, start_at, methods_at}
 use Rattle.pz_parser.specs.ModelPlaces.{place_model}
-use Rattle.pz_term.specs.FirstPath.{Simple, skips, delays, calls, Routine, FirstModel, statement_of, statements_of, method_of, class_of, system_of, tree_of, IsBody, HasBodies}
+use Rattle.pz_term.specs.FirstPath.{Simple, skips, delays, calls, Routine, FirstModel, statement_of, statements_of, method_of, class_of, tree_of, IsBody, HasBodies}
 
 module _ (at : ℕ → Pos) where
   abbrev place_simple : ℕ → Simple → Simple
@@ -34,7 +32,7 @@ module _ (at : ℕ → Pos) where
   abbrev place_routine : ℕ → Routine → Routine
   place_routine n r = record { name = place_id at n r.name; body = place_body (body_at n (method_of r)) r.body }
 
-  abbrev place_routines : ℕ → List Routine → List Routine
+  abbrev pub place_routines : ℕ → List Routine → List Routine
   place_routines n [] = []
   place_routines n (r ∷ rs) = place_routine n r ∷ place_routines (n + length (process_method_text (method_of r))) rs
 

@@ -1,5 +1,5 @@
--- The text of the first worked row is that of its model.
-use Rattle.std.proofs.Common.{◌≡◌, ◌≤◌, ℕ, List, [], ◌∷◌, Some, Result, Ok, Err, refl, codes, arith, lit<}
+-- The text of the first worked row is that of its model. Words, lines and counts, worked out.
+use Rattle.std.proofs.Common.{◌≡◌, ◌≤◌, ℕ, List, [], ◌∷◌, Some, None, Result, Ok, Err, refl, codes, arith, lit<}
 use Rattle.std.specs.Prelude.{All}
 use Rattle.std.specs.Fmt.{digits}
 use Rattle.std.proofs.lemmas.List.Elements.{All-nil, All-cons}
@@ -13,13 +13,19 @@ use Rattle.pz_lexer.specs.Twin.{lexed}
 use Rattle.pz_lexer.proofs.Cuts.{tokens_from_lexed}
 use Rattle.pz_first.proofs.InGrammar.{in_grammar}
 use Rattle.pz_first.proofs.NamesFitting.{free_sound}
-use Rattle.pz_term.specs.FirstPath.{skips, delays, Routine, FirstModel, tree_of, IsBody, HasBodies, IsKnown}
+use Rattle.pz_term.specs.FirstPath.{skips, delays, Routine, FirstModel, system_of, tree_of, IsBody, HasBodies, IsKnown}
 use Rattle.pz_term.specs.declared.action.Action.TheVariants.{Internal}
 use Rattle.pz_term.specs.declared.action.Kind.{Kind}
 use Rattle.pz_term.specs.declared.action.Kind.TheVariants.{Skip, Expire, Call}
 use Rattle.pz_term.specs.Runs.{Event, acted, passed, ended}
 use Rattle.pz_run.specs.Models.{IsTreeOf, IsModelOf}
+use Rattle.pz_violation.specs.Order.{violation}
+use Rattle.pz_run.specs.Accepted.{uncounted, HasProcesses}
+use Rattle.pz_run.specs.Lines.{accepted_line, refusal_line}
 use Rattle.pz_run.specs.TraceText.{trace_text}
+use Rattle.pz_run.specs.Words.{asked, asks}
+use Rattle.pz_run.specs.declared.job.Job.TheVariants.{Run, Check}
+use Rattle.pz_run.specs.declared.refusal.Refusal.TheVariants.{Violates}
 
 abbrev row_text : List ℕ
 row_text = codes "process class P\ninit a()()\nmethods a()()\nskip;\ndelay 3;\nskip\nsystem instances p : P\n"
@@ -92,3 +98,32 @@ row_trace :
     ≡ codes "poosl-trace 1\n0 1 0 p call 2:6\n0 1 0 p skip 4:1\n0 time 3\n3 1 0 p expire 5:1\n3 1 0 p skip 6:1\n3 end\n"
 unfolding digits
 row_trace = refl
+
+-- the words of the two jobs, and words that ask for none
+check_words : asked (codes "check" ∷ codes "m" ∷ []) ≡ Some (asks Check (codes "m"))
+check_words = refl
+
+run_words : asked (codes "run" ∷ codes "m" ∷ codes "--first" ∷ []) ≡ Some (asks Run (codes "m"))
+run_words = refl
+
+no_name : asked (codes "check" ∷ codes "--first" ∷ []) ≡ None
+no_name = refl
+
+no_choice : asked (codes "run" ∷ codes "m" ∷ []) ≡ None
+no_choice = refl
+
+-- what is printed of a check
+accepted_row : accepted_line 1 ≡ codes "accepted 1 processes 0 wires\n"
+unfolding digits
+accepted_row = refl
+
+violation_row : refusal_line (Violates (violation 13 (at 7 22))) ≡ codes "model refused: C13 7:22\n"
+unfolding digits
+violation_row = refl
+
+-- all of the row is counted: its one process
+all_counted : uncounted (tree_of row_model) ≡ []
+all_counted = refl
+
+one_process : HasProcesses (tree_of row_model) 1
+one_process = record { system_of = system_of row_model; is_system = (0, omega arith, refl); counted = refl }

@@ -1,21 +1,28 @@
 -- What is said of a run, and of the text of a model.
 use Rattle.std.proofs.Common.{◌≡◌, ◌⊎◌, inl, inr, ◌∙◌, ℕ, List, Ok, Err, refl, sym, subst}
-use Rattle.pz_term.specs.FirstPath.{FirstModel}
+use Rattle.pz_ast.specs.declared.tokens.Token.{Token}
+use Rattle.pz_ast.specs.Classes.{ModelTree}
+use Rattle.pz_classes.specs.Soundness.{IsSound}
+use Rattle.pz_lexer.specs.Tokens.{AreTokens}
+use Rattle.pz_term.specs.FirstPath.{FirstModel, tree_of}
 use Rattle.pz_term.specs.Laws.{HasFirstRun}
 use Rattle.pz_term.specs.Runs.{Ending, ended, deadlocked, stopped}
 use Rattle.pz_term.specs.Start.{bodies_of, start}
-use Rattle.pz_run.specs.Models.{IsModelOf}
+use Rattle.pz_run.specs.Accepted.{IsAccepted}
+use Rattle.pz_run.specs.Models.{IsTreeOf, IsModelOf}
 use Rattle.pz_run.specs.Keeping.{SaysRun, SaysModel, Unsaid}
-use Rattle.pz_run.specs.Lines.{refusal_line}
+use Rattle.pz_run.specs.Lines.{refusal_line, accepted_line}
 use Rattle.pz_run.specs.Refusals.{IsRefused}
-use Rattle.pz_run.specs.Output.{action_limit, run, refuses, runs}
+use Rattle.pz_run.specs.Output.{action_limit, run, refuses, runs, accepts}
 use Rattle.pz_run.specs.Status.{status_of}
 use Rattle.pz_run.specs.TraceText.{trace_text}
 use Rattle.pz_run.specs.Writing.{Sinks, Wrote, Said}
+use Rattle.pz_run.specs.declared.job.Job.{Job}
+use Rattle.pz_run.specs.declared.job.Job.TheVariants.{Run, Check}
 use Rattle.pz_run.specs.declared.printing.Halt.TheVariants as halt
 use Rattle.pz_run.specs.declared.refusal.Refusal.{Refusal}
 use Rattle.pz_run.specs.declared.status.Status.{Status}
-use Rattle.pz_run.specs.declared.status.Status.TheVariants.{ModelRefused, WriteFault, NoMemory}
+use Rattle.pz_run.specs.declared.status.Status.TheVariants.{Done, ModelRefused, WriteFault, NoMemory}
 use Rattle.pz_run.proofs.Writes.{wrote_said, halt_said_memory, halt_said_fault}
 
 no_fault : (x : Ending) → status_of x ≡ WriteFault → ⊥
@@ -50,11 +57,14 @@ module _ (m : FirstModel) (before now : Sinks) (r : HasFirstRun (bodies_of m) ac
   }
 
 module _ (text : List ℕ) (before now : Sinks) (given : Status) where
-  pub says_model : (m : FirstModel) → IsModelOf text m → SaysRun m before now given → Unsaid before now given ⊎ SaysModel text before now given
-  says_model m is says = inr (record { bytes = says.bytes; wanted = says.wanted; prints = runs m says.bytes says.wanted is says.prints; said = says.said })
+  pub says_model : (m : FirstModel) → IsModelOf text m → IsSound (tree_of m) → SaysRun m before now given → Unsaid before now given ⊎ SaysModel Run text before now given
+  says_model m is sound says = inr (record { bytes = says.bytes; wanted = says.wanted; prints = runs m says.bytes says.wanted is sound says.prints; said = says.said })
 
-  pub says_refused : (r : Refusal) → IsRefused text r → Said before now (refusal_line r) ModelRefused given → Unsaid before now given ⊎ SaysModel text before now given
-  says_refused r is said = inr (record { bytes = refusal_line r; wanted = ModelRefused; prints = refuses r is; said = said })
+  pub says_accepted : (ts : List Token) (t : ModelTree) (count : ℕ) → AreTokens text ts → IsTreeOf ts t → IsAccepted t count → Said before now (accepted_line count) Done given → Unsaid before now given ⊎ SaysModel Check text before now given
+  says_accepted ts t count are of is said = inr (record { bytes = accepted_line count; wanted = Done; prints = accepts ts t count are of is; said = said })
 
-pub says_nothing : (text : List ℕ) (s : Sinks) → Unsaid s s NoMemory ⊎ SaysModel text s s NoMemory
-says_nothing text s = inl (record { nothing = refl; wanting = refl })
+  pub says_refused : (job : Job) (r : Refusal) → IsRefused job text r → Said before now (refusal_line r) ModelRefused given → Unsaid before now given ⊎ SaysModel job text before now given
+  says_refused job r is said = inr (record { bytes = refusal_line r; wanted = ModelRefused; prints = refuses job r is; said = said })
+
+pub says_nothing : (job : Job) (text : List ℕ) (s : Sinks) → Unsaid s s NoMemory ⊎ SaysModel job text s s NoMemory
+says_nothing job text s = inl (record { nothing = refl; wanting = refl })

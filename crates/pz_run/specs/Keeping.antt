@@ -4,7 +4,8 @@ use Rattle.pz_io.specs.Outside.{Entries, raised, Rose}
 use Rattle.pz_term.specs.FirstPath.{FirstModel}
 use Rattle.pz_run.specs.Output.{PrintsModel, PrintsRun, model_limit}
 use Rattle.pz_run.specs.Promises.{PrintsAll, PrintsFront, TakesFaultLine, Lacks, IsLonger, IsNoModel}
-use Rattle.pz_run.specs.Words.{first_job}
+use Rattle.pz_run.specs.Words.{asked, asked_model}
+use Rattle.pz_run.specs.declared.job.Job.{Job}
 use Rattle.pz_run.specs.Writing.{Sinks, Said}
 use Rattle.pz_run.specs.declared.status.Status.{Status}
 use Rattle.pz_run.specs.declared.status.Status.TheVariants.{Usage, ModelRefused, TooLong, ReadFault, WriteFault, NoMemory}
@@ -20,10 +21,10 @@ pub record Shelf : Type 0 where
 pub record Keeps (words : List (List ℕ)) (f g : Shelf) (before now : Sinks) (given : Status) : Type 0 where
   pub output : f.told ≡ true → before.told ≡ true → given ≢ WriteFault → given ≢ NoMemory → ¬ ((given ≡ ReadFault) × Rose f.faults g.faults) → PrintsAll words f.held before.taken now.taken given
   pub read_fault : before.told ≡ true → given ≡ ReadFault → Rose f.faults g.faults → TakesFaultLine words before.taken now.taken
-  pub opens : (name : List ℕ) → first_job words ≡ Some name → g.opens ≡ raised f.opens
+  pub opens : (name : List ℕ) → asked_model words ≡ Some name → g.opens ≡ raised f.opens
   pub front : f.told ≡ true → before.told ≡ true → PrintsFront words f.held f.faults g.faults before.taken now.taken
-  pub usage : given ≡ Usage → first_job words ≡ None
-  pub no_job : first_job words ≡ None → given ≢ WriteFault → given ≢ NoMemory → given ≡ Usage
+  pub usage : given ≡ Usage → asked words ≡ None
+  pub no_job : asked words ≡ None → given ≢ WriteFault → given ≢ NoMemory → given ≡ Usage
   pub model_refused : f.told ≡ true → given ≡ ModelRefused → IsNoModel words f.held
   pub too_long : given ≡ TooLong → model_limit < g.handed
   pub longer : f.told ≡ true → given ≡ TooLong → IsLonger words f.held
@@ -36,10 +37,10 @@ pub record Unsaid (before now : Sinks) (given : Status) : Type 0 where
   pub wanting : given ≡ NoMemory
 
 -- what a text has to print was said
-pub record SaysModel (text : List ℕ) (before now : Sinks) (given : Status) : Type 0 where
+pub record SaysModel (job : Job) (text : List ℕ) (before now : Sinks) (given : Status) : Type 0 where
   pub bytes : List ℕ
   pub wanted : Status
-  pub prints : PrintsModel text bytes wanted
+  pub prints : PrintsModel text job bytes wanted
   pub said : Said before now bytes wanted given
 
 -- what the run of a model has to print was said

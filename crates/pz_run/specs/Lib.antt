@@ -1,5 +1,7 @@
 pub mod Models
+pub mod Accepted
 pub mod Refusals
+pub mod Errors
 pub mod Reading
 pub mod Words
 pub mod Lines

@@ -52,8 +52,16 @@ read_fault_line name = codes "read fault: " ++ (name ++ newline)
 abbrev pub too_long_line : List ℕ → List ℕ
 too_long_line name = codes "too long: " ++ (name ++ newline)
 
+-- the wires between processes are not counted yet: there are none where a model has no channel
+abbrev pub accepted_line : ℕ → List ℕ
+accepted_line processes = codes "accepted " ++ (decimal processes ++ codes " processes 0 wires\n")
+
 abbrev pub refused_line : List ℕ → Pos → List ℕ
 refused_line kind at = codes "model refused: " ++ (kind ++ (codes " " ++ (decimal at.line ++ (codes ":" ++ (decimal at.column ++ newline)))))
+
+-- a rule by its number
+abbrev pub rule_name : ℕ → List ℕ
+rule_name rule = codes "C" ++ decimal rule
 
 abbrev pub refusal_line : Refusal → List ℕ
 refusal_line (refusal.BadByte at) = refused_line (codes "BadByte") at
@@ -62,4 +70,5 @@ refusal_line (refusal.OpenString at) = refused_line (codes "OpenString") at
 refusal_line (refusal.BadNumber at) = refused_line (codes "BadNumber") at
 refusal_line (refusal.Syntax at) = refused_line (codes "Syntax") at
 refusal_line (refusal.TooNested at) = refused_line (codes "TooNested") at
+refusal_line (refusal.Violates v) = refused_line (rule_name v.rule) v.pos
 refusal_line (refusal.Unbuilt at) = refused_line (codes "Unbuilt") at

@@ -1,5 +1,5 @@
 -- The model of a text: its tree, and whether it is one that runs today.
-use Rattle.std.specs.Prelude.{◌≡◌, ℕ, List}
+use Rattle.std.specs.Prelude.{ℕ, List}
 use Rattle.pz_ast.specs.declared.tokens.Token.{Token}
 use Rattle.pz_ast.specs.Classes.{ModelTree}
 use Rattle.pz_lexer.specs.Tokens.{AreTokens}

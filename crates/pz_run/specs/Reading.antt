@@ -1,45 +1,23 @@
 -- What the parts of the reading of a model hand to each other.
-use Rattle.std.specs.Prelude.{◌≡◌, ◌⊎◌, List, map, Bool}
+use Rattle.std.specs.Prelude.{◌≡◌, ◌⊎◌, ℕ, List, map, Bool}
 use Rattle.pz_ast.specs.declared.tokens.Pos.{Pos}
 use Rattle.pz_ast.specs.declared.tokens.Token.{Token}
-use Rattle.pz_ast.specs.declared.names.Id.{Id}
 use Rattle.pz_ast.specs.Classes.{ModelTree}
 use Rattle.pz_ast.specs.Heads.{heads}
 use Rattle.pz_cursor.specs.Places.{positions}
-use Rattle.pz_lexer.specs.declared.error.LexError.{LexError}
-use Rattle.pz_lexer.specs.declared.error.LexError.TheVariants as lex
-use Rattle.pz_parser.specs.declared.error.ParseError.{ParseError}
-use Rattle.pz_parser.specs.declared.error.ParseError.TheVariants as parse
+use Rattle.pz_lexer.specs.Tokens.{AreTokens}
 use Rattle.pz_parser.specs.ModelPlaces.{place_model}
 use Rattle.pz_parser.specs.Parsing.{IsTextOf}
-use Rattle.pz_first.specs.declared.error.NamesError.{NamesError}
-use Rattle.pz_first.specs.declared.error.NamesError.TheVariants as names
-use Rattle.pz_first.specs.Grammar.{kinds, IsRefusedAt}
-use Rattle.pz_first.specs.Misfits.{IsFirstMisfit}
-use Rattle.pz_term.specs.FirstPath.{FirstModel, tree_of, HasBodies}
-use Rattle.pz_run.specs.Models.{nesting_limit}
+use Rattle.pz_violation.specs.declared.violation.Violation.{Violation}
+use Rattle.pz_classes.specs.Soundness.{IsSound}
+use Rattle.pz_first.specs.Grammar.{kinds}
+use Rattle.pz_run.specs.Models.{nesting_limit, IsTreeOf}
+use Rattle.pz_run.specs.Refusals.{end_of, IsViolation, IsUnbuilt, IsRefused}
+use Rattle.pz_run.specs.declared.job.Job.{Job}
+use Rattle.pz_run.specs.declared.refusal.Refusal.{Refusal}
 use Rattle.pz_run.specs.declared.refusal.Refusal.TheVariants as refusal
-use Rattle.pz_run.specs.declared.reading.ReadModelError.{ReadModelError}
-use Rattle.pz_run.specs.declared.reading.ReadModelError.TheVariants.{NoMemory, Refused}
-
--- the error of the lexer as one of the reading
-abbrev pub of_lexer : LexError → ReadModelError
-of_lexer lex.NoMemory = NoMemory
-of_lexer (lex.BadByte at) = Refused (refusal.BadByte at)
-of_lexer (lex.OpenComment at) = Refused (refusal.OpenComment at)
-of_lexer (lex.OpenString at) = Refused (refusal.OpenString at)
-of_lexer (lex.BadNumber at) = Refused (refusal.BadNumber at)
-
--- the same for the parser
-abbrev pub of_parser : ParseError → ReadModelError
-of_parser parse.NoMemory = NoMemory
-of_parser (parse.Syntax at) = Refused (refusal.Syntax at)
-of_parser (parse.TooNested at) = Refused (refusal.TooNested at)
-
--- the same for the names
-abbrev pub of_names : NamesError → ReadModelError
-of_names names.NoMemory = NoMemory
-of_names (names.Misfit at) = Refused (refusal.Unbuilt at)
+use Rattle.pz_run.specs.declared.read_error.ReadModelError.{ReadModelError}
+use Rattle.pz_run.specs.declared.read_error.ReadModelError.TheVariants.{NoMemory, Refused}
 
 abbrev pub head_marks : List Token → List Bool
 head_marks = map (λ t. t.mark.head)
@@ -52,11 +30,26 @@ HaveTheirHeads tokens = head_marks tokens ≡ heads (kinds tokens)
 abbrev pub IsOnlyTree : List Token → ModelTree → Type 0
 IsOnlyTree tokens tree = (t : ModelTree) → IsTextOf nesting_limit tokens t → tree ≡ place_model (positions tokens) 0 t
 
--- why a tree of these tokens is none that runs
-pub data IsUnbuilt (tokens : List Token) (end : Pos) (tree : ModelTree) : Pos → Type 0 where
-  grammar : (at : Pos) → IsRefusedAt tokens end at → IsUnbuilt tokens end tree at
-  name : (m : FirstModel) (id : Id) → tree ≡ tree_of m → HasBodies m → IsFirstMisfit m id → IsUnbuilt tokens end tree id.pos
+-- the tokens of a text, the place of its end, and its tree, which violates no rule
+pub record AreRead (text : List ℕ) (tokens : List Token) (end : Pos) (tree : ModelTree) : Type 0 where
+  pub are_tokens : AreTokens text tokens
+  pub is_end : end ≡ end_of text
+  pub is_tree : IsTreeOf tokens tree
+  pub only : IsOnlyTree tokens tree
+  pub sound : IsSound tree
 
--- the error of a tree that does not run
-abbrev pub IsUnbuiltError : List Token → Pos → ModelTree → ReadModelError → Type 0
-IsUnbuiltError tokens end tree e = (e ≡ NoMemory) ⊎ ((at : Pos) × (e ≡ Refused (refusal.Unbuilt at)) × IsUnbuilt tokens end tree at)
+-- the error is want of memory, or a refusal of this kind
+abbrev pub IsErrorOf : (Refusal → Type 0) → ReadModelError → Type 0
+IsErrorOf P e = (e ≡ NoMemory) ⊎ ((r : Refusal) × (e ≡ Refused r) × P r)
+
+-- whatever the job is, the text is refused so
+abbrev pub IsRefusedAlways : List ℕ → Refusal → Type 0
+IsRefusedAlways text r = (job : Job) → IsRefused job text r
+
+-- the tree violates a rule
+abbrev pub IsViolationOf : ModelTree → Refusal → Type 0
+IsViolationOf tree r = (v : Violation) × (r ≡ refusal.Violates v) × IsViolation tree v
+
+-- the job is not built for the tree of these tokens
+abbrev pub IsUnbuiltFor : Job → List Token → Pos → ModelTree → Refusal → Type 0
+IsUnbuiltFor job tokens end tree r = (at : Pos) × (r ≡ refusal.Unbuilt at) × IsUnbuilt tokens end tree job at

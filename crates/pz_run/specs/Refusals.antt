@@ -1,9 +1,8 @@
--- When a text is refused, as what, and at which place: first its tokens, then its tree, then whether
--- the tree is one that runs today.
-use Rattle.std.specs.Prelude.{◌≡◌, ◌≢◌, ℕ, List}
+-- When a text is refused, as what, and at which place: first its tokens, then its tree, then the
+-- rules on models, then whether the job is built for such a model.
+use Rattle.std.specs.Prelude.{◌≡◌, ℕ, List, ◌∷◌}
 use Rattle.pz_ast.specs.declared.tokens.Pos.{Pos}
 use Rattle.pz_ast.specs.declared.tokens.Token.{Token}
-use Rattle.pz_ast.specs.declared.names.Id.{Id}
 use Rattle.pz_ast.specs.Classes.{ModelTree}
 use Rattle.pz_lexer.specs.declared.error.LexError.{LexError}
 use Rattle.pz_lexer.specs.declared.error.LexError.TheVariants as lex
@@ -13,12 +12,17 @@ use Rattle.pz_lexer.specs.Places.{origin, place_after}
 use Rattle.pz_parser.specs.declared.error.ParseError.{ParseError}
 use Rattle.pz_parser.specs.declared.error.ParseError.TheVariants as parse
 use Rattle.pz_parser.specs.Parsing.{MayRefuse}
+use Rattle.pz_violation.specs.declared.violation.Violation.{Violation}
+use Rattle.pz_violation.specs.Order.{IsLeast}
+use Rattle.pz_classes.specs.Violations.{Violates}
+use Rattle.pz_classes.specs.Soundness.{Breaks, IsSound}
 use Rattle.pz_first.specs.Grammar.{IsRefusedAt}
-use Rattle.pz_first.specs.Misfits.{IsFirstMisfit}
-use Rattle.pz_term.specs.FirstPath.{FirstModel}
+use Rattle.pz_run.specs.declared.job.Job.{Job}
+use Rattle.pz_run.specs.declared.job.Job.TheVariants.{Run, Check}
 use Rattle.pz_run.specs.declared.refusal.Refusal.{Refusal}
 use Rattle.pz_run.specs.declared.refusal.Refusal.TheVariants as refusal
-use Rattle.pz_run.specs.Models.{IsTreeOf, IsBuilt, nesting_limit}
+use Rattle.pz_run.specs.Accepted.{uncounted}
+use Rattle.pz_run.specs.Models.{IsTreeOf, nesting_limit}
 
 -- the place behind the last byte
 abbrev pub end_of : List ℕ → Pos
@@ -36,12 +40,24 @@ pub data IsOfParser : ParseError → Refusal → Type 0 where
   syntax : (at : Pos) → IsOfParser (parse.Syntax at) (refusal.Syntax at)
   too_nested : (at : Pos) → IsOfParser (parse.TooNested at) (refusal.TooNested at)
 
-pub data IsRefused (text : List ℕ) : Refusal → Type 0 where
-  -- the text has no tokens
-  no_tokens : (error : LexError) (r : Refusal) → tokens.IsRefused text error → IsOfLexer error r → IsRefused text r
-  -- the tokens have no tree; the refusal is one that the parser may give for them
-  no_tree : (ts : List Token) (error : ParseError) (r : Refusal) → AreTokens text ts → ((t : ModelTree) → ¬ IsTreeOf ts t) → MayRefuse nesting_limit ts (end_of text) error → IsOfParser error r → IsRefused text r
+-- the least violation of C1 to C3; where these hold, that of C4 to C22
+pub data IsViolation (t : ModelTree) : Violation → Type 0 where
+  in_classes : (v : Violation) → IsLeast (Violates t) v → IsViolation t v
+  in_rules : (v : Violation) → ((w : Violation) → Violates t w → ⊥) → IsLeast (Breaks t) v → IsViolation t v
+
+-- the first place for which a job is not built
+pub data IsUnbuilt (ts : List Token) (end : Pos) (t : ModelTree) : Job → Pos → Type 0 where
   -- the tree is none of the first path
-  not_built : (ts : List Token) (t : ModelTree) (at : Pos) → AreTokens text ts → IsTreeOf ts t → IsRefusedAt ts (end_of text) at → IsRefused text (refusal.Unbuilt at)
-  -- it is, and this name is the first that does not fit
-  misfit : (m : FirstModel) (id : Id) → IsBuilt text m → IsFirstMisfit m id → IsRefused text (refusal.Unbuilt id.pos)
+  grammar : (at : Pos) → IsRefusedAt ts end at → IsUnbuilt ts end t Run at
+  -- a cluster class or a channel
+  count : (at : Pos) (later : List Pos) → uncounted t ≡ at ∷ later → IsUnbuilt ts end t Check at
+
+pub data IsRefused (job : Job) (text : List ℕ) : Refusal → Type 0 where
+  -- the text has no tokens
+  no_tokens : (error : LexError) (r : Refusal) → tokens.IsRefused text error → IsOfLexer error r → IsRefused job text r
+  -- the tokens have no tree; the refusal is one that the parser may give for them
+  no_tree : (ts : List Token) (error : ParseError) (r : Refusal) → AreTokens text ts → ((t : ModelTree) → ¬ IsTreeOf ts t) → MayRefuse nesting_limit ts (end_of text) error → IsOfParser error r → IsRefused job text r
+  -- the model violates a rule
+  violates : (ts : List Token) (t : ModelTree) (v : Violation) → AreTokens text ts → IsTreeOf ts t → IsViolation t v → IsRefused job text (refusal.Violates v)
+  -- it violates none, and the job is not built for it
+  unbuilt : (ts : List Token) (t : ModelTree) (at : Pos) → AreTokens text ts → IsTreeOf ts t → IsSound t → IsUnbuilt ts (end_of text) t job at → IsRefused job text (refusal.Unbuilt at)

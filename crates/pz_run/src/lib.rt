@@ -1,9 +1,13 @@
-//! The program: bytes to a model, its run, and the lines of its trace.
+//! The program: bytes to a model that violates no rule, its run, and the lines of its trace.
 #![tactic(auto)]
 
+mod counting;
+mod first_path;
+mod job;
 mod lines;
 mod printing;
 mod program;
+mod read_error;
 mod reading;
 mod refusal;
 mod running;

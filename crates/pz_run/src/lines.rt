@@ -6,6 +6,7 @@ ghost use Rattle.pz_term.specs.Runs.{Ending};
 use crate::refusal::Refusal;
 use pz_ast::Pos;
 use pz_term::{Action, Kind};
+use pz_violation::Violation;
 use std::alloc::{AllocError, Global};
 
 /// The first line of a trace.
@@ -82,6 +83,13 @@ pub fn too_long_line(alloc: Global, name: &str) -> Result<String, AllocError>
     format!(in alloc; "too long: {name}\n")
 }
 
+/// The line of a model that is accepted, with the number of its processes.
+pub fn accepted_line(alloc: Global, processes: usize) -> Result<String, AllocError>
+    ensures { IfOk result (λ line. string_bytes line ≡ lines.accepted_line processes) }
+{
+    format!(in alloc; "accepted {processes} processes 0 wires\n")
+}
+
 /// The line of a refused model: what kind of refusal, and where.
 pub fn refusal_line(alloc: Global, refusal: Refusal) -> Result<String, AllocError>
     ensures { IfOk result (λ line. string_bytes line ≡ lines.refusal_line refusal) }
@@ -93,8 +101,18 @@ pub fn refusal_line(alloc: Global, refusal: Refusal) -> Result<String, AllocErro
         Refusal::BadNumber(at) => refused_line(alloc, "BadNumber", at),
         Refusal::Syntax(at) => refused_line(alloc, "Syntax", at),
         Refusal::TooNested(at) => refused_line(alloc, "TooNested", at),
+        Refusal::Violates(violation) => violation_line(alloc, violation),
         Refusal::Unbuilt(at) => refused_line(alloc, "Unbuilt", at),
     }
+}
+
+// The kind is the rule by its number.
+fn violation_line(alloc: Global, violation: Violation) -> Result<String, AllocError>
+    ensures { IfOk result (λ line. string_bytes line ≡ lines.refused_line (lines.rule_name violation.rule) violation.pos) }
+{
+    let rule = violation.rule;
+    let kind = format!(in alloc; "C{rule}")?;
+    refused_line(alloc, kind.as_str(), violation.pos)
 }
 
 fn refused_line(alloc: Global, kind: &str, at: Pos) -> Result<String, AllocError>

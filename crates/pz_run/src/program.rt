@@ -4,15 +4,21 @@ ghost use Rattle.pz_ast.specs.ClassView.{model_view};
 ghost use Rattle.pz_io.specs.Outside.{raised, Rose};
 ghost use Rattle.pz_term.specs.FirstPath.{FirstModel, IsFirstPath, tree_of};
 ghost use Rattle.pz_run.specs.Keeping.{Shelf, Keeps, Unsaid, SaysModel, SaysRun};
+ghost use Rattle.pz_run.specs.Reading.{IsErrorOf};
+ghost use Rattle.pz_run.specs.Refusals.{IsRefused};
 ghost use Rattle.pz_run.specs.Output.{model_limit};
 ghost use Rattle.pz_run.specs.Promises.{PrintsAll, PrintsFront, TakesFaultLine, Lacks, IsLonger, IsNoModel};
-ghost use Rattle.pz_run.specs.Words.{first_job};
+ghost use Rattle.pz_run.specs.Words.{asked, asked_model};
 ghost use Rattle.pz_run.specs.Writing.{Sinks};
+ghost use Rattle.pz_run.specs.declared.job.Job.{Job as TheJob};
 
 use crate::Status;
-use crate::lines::{USAGE, read_fault_line, refusal_line, too_long_line};
+use crate::counting::count_processes;
+use crate::first_path::read_first;
+use crate::job::Job;
+use crate::lines::{USAGE, accepted_line, read_fault_line, refusal_line, too_long_line};
 use crate::printing::{Halt, say, say_line};
-use crate::reading::{ReadModelError, read_model};
+use crate::read_error::ReadModelError;
 use crate::running::run;
 use crate::words::read_words;
 use pz_ast::Model;
@@ -26,9 +32,10 @@ const MODEL_LIMIT: usize = 1_048_576;
 
 /// Does the job that the words ask for, over the files, and prints to the sink.
 ///
-/// The words are those of the command line after the program's name. The only job today is
-/// `run MODEL --first`: it reads the named model, runs it from offer 0 to offer 0, and prints the
-/// trace. Each line goes out in one `write_all`. If a write fails, nothing more is written.
+/// The words are those of the command line after the program's name. `run MODEL --first` reads the
+/// named model, runs it from offer 0 to offer 0, and prints the trace; `check MODEL` reads it, and
+/// prints how many processes it has. Both refuse a model that violates a rule of the checker. Each
+/// line goes out in one `write_all`. If a write fails, nothing more is written.
 ///
 /// What is promised of contents holds over files and a sink that tell what they hold; what is
 /// promised of causes holds always. Want of memory, `NoMemory`, is the one answer without a cause.
@@ -39,14 +46,15 @@ pub fn run_program<F: Files, W: Sink>(
     out: &mut W,
 ) -> Status
     // What is printed, and the status, are those of the definitions: the text of a run of the rules,
-    // for a model of the first path.
+    // for a sound model of the first path; the number of the processes of a sound model without
+    // cluster classes and channels.
     ensures output { F.told files.old ≡ true → W.told out.old ≡ true → result ≢ Status.WriteFault → result ≢ Status.NoMemory →
         ¬ ((result ≡ Status.ReadFault) × Rose (F.faults files.old) (F.faults files.new)) →
         PrintsAll (map string_bytes words.now) (F.held files.old) (W.taken out.old) (W.taken out.new) result }
     // Where the files failed, the line that says so names the model, which was opened once.
     ensures read_fault { W.told out.old ≡ true → result ≡ Status.ReadFault → Rose (F.faults files.old) (F.faults files.new) →
         TakesFaultLine (map string_bytes words.now) (W.taken out.old) (W.taken out.new) }
-    ensures opens { (name : List ℕ) → first_job (map string_bytes words.now) ≡ Some name → F.opens files.new ≡ raised (F.opens files.old) }
+    ensures opens { (name : List ℕ) → asked_model (map string_bytes words.now) ≡ Some name → F.opens files.new ≡ raised (F.opens files.old) }
     // What is printed before a write fails, or memory is wanting, is a front of what is to be printed.
     ensures write_fault { F.told files.old ≡ true → W.told out.old ≡ true → result ≡ Status.WriteFault →
         PrintsFront (map string_bytes words.now) (F.held files.old) (F.faults files.old) (F.faults files.new) (W.taken out.old) (W.taken out.new) }
@@ -54,8 +62,8 @@ pub fn run_program<F: Files, W: Sink>(
         PrintsFront (map string_bytes words.now) (F.held files.old) (F.faults files.old) (F.faults files.new) (W.taken out.old) (W.taken out.new) }
 
     // When each answer comes.
-    ensures usage { result ≡ Status.Usage → first_job (map string_bytes words.now) ≡ None }
-    ensures no_job { first_job (map string_bytes words.now) ≡ None → result ≢ Status.WriteFault → result ≢ Status.NoMemory → result ≡ Status.Usage }
+    ensures usage { result ≡ Status.Usage → asked (map string_bytes words.now) ≡ None }
+    ensures no_job { asked (map string_bytes words.now) ≡ None → result ≢ Status.WriteFault → result ≢ Status.NoMemory → result ≡ Status.Usage }
     ensures model_refused { F.told files.old ≡ true → result ≡ Status.ModelRefused → IsNoModel (map string_bytes words.now) (F.held files.old) }
     ensures too_long { result ≡ Status.TooLong → model_limit < F.handed files.new }
     ensures longer { F.told files.old ≡ true → result ≡ Status.TooLong → IsLonger (map string_bytes words.now) (F.held files.old) }
@@ -83,11 +91,11 @@ fn run_words<F: Files, W: Sink>(
         (record { told = W.told out.old; faults = W.faults out.old; taken = W.taken out.old })
         (record { told = W.told out.new; faults = W.faults out.new; taken = W.taken out.new }) result }
 {
-    let Some(name) = read_words(words) else {
+    let Some((job, name)) = read_words(words) else {
         return say(out, USAGE, Status::Usage);
     };
     match read_all(alloc, files, name, MODEL_LIMIT) {
-        Ok(text) => run_text(alloc, &text, out),
+        Ok(text) => do_job(alloc, job, &text, out),
         Err(ReadAllError::NoMemory) => Status::NoMemory,
         Err(ReadAllError::TooLong) => { say_line(out, too_long_line(alloc, name), Status::TooLong) }
         Err(ReadAllError::Fault) => {
@@ -96,22 +104,63 @@ fn run_words<F: Files, W: Sink>(
     }
 }
 
-// Runs the model of this text, or refuses it.
+// Does the job with the model of this text, or refuses that.
+fn do_job<W: Sink>(alloc: Global, job: Job, text: &[u8], out: &mut W) -> Status
+    requires { length text.now ≤ 1048576 }
+    ensures { Unsaid (record { told = W.told out.old; faults = W.faults out.old; taken = W.taken out.old })
+        (record { told = W.told out.new; faults = W.faults out.new; taken = W.taken out.new }) result
+        ⊎ SaysModel job text.now (record { told = W.told out.old; faults = W.faults out.old; taken = W.taken out.old })
+        (record { told = W.told out.new; faults = W.faults out.new; taken = W.taken out.new }) result }
+{
+    match job {
+        Job::Run => run_text(alloc, text, out),
+        Job::Check => check_text(alloc, text, out),
+    }
+}
+
+// Runs the model of this text.
 fn run_text<W: Sink>(alloc: Global, text: &[u8], out: &mut W) -> Status
     requires { length text.now ≤ 1048576 }
     ensures { Unsaid (record { told = W.told out.old; faults = W.faults out.old; taken = W.taken out.old })
         (record { told = W.told out.new; faults = W.faults out.new; taken = W.taken out.new }) result
-        ⊎ SaysModel text.now (record { told = W.told out.old; faults = W.faults out.old; taken = W.taken out.old })
+        ⊎ SaysModel Job.Run text.now (record { told = W.told out.old; faults = W.faults out.old; taken = W.taken out.old })
         (record { told = W.told out.new; faults = W.faults out.new; taken = W.taken out.new }) result }
 {
-    match read_model(alloc, text) {
-        Ok(model) => {
-            let status = run_model(alloc, &model, out);
-            drop(model);
+    match read_first(alloc, text) {
+        Ok(checked) => {
+            let status = run_model(alloc, checked.model(), out);
+            drop(checked);
             status
         }
-        Err(ReadModelError::NoMemory) => Status::NoMemory,
-        Err(ReadModelError::Refused(refusal)) => {
+        Err(error) => say_refused(alloc, error, out),
+    }
+}
+
+// Says how large the model of this text is.
+fn check_text<W: Sink>(alloc: Global, text: &[u8], out: &mut W) -> Status
+    requires { length text.now ≤ 1048576 }
+    ensures { Unsaid (record { told = W.told out.old; faults = W.faults out.old; taken = W.taken out.old })
+        (record { told = W.told out.new; faults = W.faults out.new; taken = W.taken out.new }) result
+        ⊎ SaysModel Job.Check text.now (record { told = W.told out.old; faults = W.faults out.old; taken = W.taken out.old })
+        (record { told = W.told out.new; faults = W.faults out.new; taken = W.taken out.new }) result }
+{
+    match count_processes(alloc, text) {
+        Ok(processes) => say_line(out, accepted_line(alloc, processes), Status::Done),
+        Err(error) => say_refused(alloc, error, out),
+    }
+}
+
+// Says why a text is refused.
+fn say_refused<W: Sink>(alloc: Global, error: ReadModelError, out: &mut W) -> Status
+    ensures { (job : TheJob) (text : List ℕ) → IsErrorOf (IsRefused job text) error →
+        Unsaid (record { told = W.told out.old; faults = W.faults out.old; taken = W.taken out.old })
+        (record { told = W.told out.new; faults = W.faults out.new; taken = W.taken out.new }) result
+        ⊎ SaysModel job text (record { told = W.told out.old; faults = W.faults out.old; taken = W.taken out.old })
+        (record { told = W.told out.new; faults = W.faults out.new; taken = W.taken out.new }) result }
+{
+    match error {
+        ReadModelError::NoMemory => Status::NoMemory,
+        ReadModelError::Refused(refusal) => {
             say_line(out, refusal_line(alloc, refusal), Status::ModelRefused)
         }
     }

@@ -1,7 +1,9 @@
 use pz_ast::Pos;
+use pz_violation::Violation;
 
-/// Why a text is no model that runs, and where. The kinds come in this order: what has no tokens is
-/// not looked at further, and what has no tree is not asked whether it is built.
+/// Why nothing is done with a text, and where. The kinds come in this order: what has no tokens is not
+/// looked at further, what has no tree violates no rule, and only a model that violates none is asked
+/// whether it is built.
 #[derive(Clone, Copy, Debug, PartialEq, Eq)]
 pub enum Refusal {
     /// A byte that begins no token, or the `\` of an unknown escape.
@@ -16,6 +18,8 @@ pub enum Refusal {
     Syntax(Pos),
     /// More than 100 constructs stand one in another.
     TooNested(Pos),
-    /// What the language has and this program does not run yet; a name that does not fit.
+    /// A rule of the checker is violated.
+    Violates(Violation),
+    /// What the language has, and this program does not run or does not count yet.
     Unbuilt(Pos),
 }

@@ -31,7 +31,18 @@ fn sink(alloc: Global) -> Result<RoomySink, Fail> {
     Ok(RoomySink::new(alloc, 100_000, Vec::new(alloc))?)
 }
 
-/// Whether the model of this text is refused with this line.
+/// Whether a check of the model of this text ends with this status, and prints this line.
+fn is_checked(alloc: Global, text: &str, status: Status, line: &str) -> Result<bool, Fail> {
+    let mut files = one_file(alloc, text, 0)?;
+    let mut out = sink(alloc)?;
+    let command = String::from_str(alloc, "check")?;
+    let model = String::from_str(alloc, "m")?;
+    let words = vec![in alloc; command, model]?;
+    let given = run_program(alloc, &words, &mut files, &mut out);
+    Ok(given == status && out.bytes() == line.as_bytes())
+}
+
+/// Whether the model of this text is refused with this line, when it is to run.
 fn is_refused(alloc: Global, text: &str, line: &str) -> Result<bool, Fail> {
     let mut files = one_file(alloc, text, 0)?;
     let mut out = sink(alloc)?;
@@ -159,23 +170,62 @@ fn a_hundred_and_one_constructs_are_too_many(rt: HostRuntime) -> Result<(), Fail
 }
 
 #[test]
-fn what_is_not_built_is_refused_last(rt: HostRuntime) -> Result<(), Fail> {
+fn a_violation_is_refused_before_what_is_not_built(rt: HostRuntime) -> Result<(), Fail> {
     let rows = [
         (
-            "process class P\ninit a()()\nmethods a()()\npar skip rap;\ndelay 3;\nskip\nsystem instances p : P\n",
+            "process class P\ninit a()()\nmethods a()()\nskip;\ndelay 3;\nskip\nsystem instances p : Q\n",
+            "model refused: C13 7:22\n",
+        ),
+        (
+            "process class P\ninit b()()\nmethods a()()\nskip;\ndelay 3;\nskip\nsystem instances p : P\n",
+            "model refused: C7 2:6\n",
+        ),
+        (
+            "process class P\ninit a()()\nmethods a()() par skip rap\n",
+            "model refused: C20 1:1\n",
+        ),
+        (
+            "process class P\ninit a()()\nmethods a()()\npar skip rap\nsystem instances p : P\n",
             "model refused: Unbuilt 4:1\n",
         ),
         (
-            "process class P\ninit a()()\nmethods a()() skip\n",
-            "model refused: Unbuilt 4:1\n",
-        ),
-        (
-            "process class P\ninit a()()\nmethods a()() skip\nsystem instances p : Q",
-            "model refused: Unbuilt 4:22\n",
+            "process class P\ninit a()()\nmethods a()() skip\nsystem\n",
+            "model refused: Unbuilt 5:1\n",
         ),
     ];
     for (text, line) in &rows {
         assert!(rt; is_refused(rt.alloc(), text, line)?);
+    }
+    Ok(())
+}
+
+#[test]
+fn a_check_counts_the_processes_of_a_model(rt: HostRuntime) -> Result<(), Fail> {
+    let rows = [
+        (MODEL, Status::Done, "accepted 1 processes 0 wires\n"),
+        (
+            "process class P\ninit a()()\nmethods a()() par skip rap\nsystem instances p : P q : P\n",
+            Status::Done,
+            "accepted 2 processes 0 wires\n",
+        ),
+        (
+            "process class P\nports out\ninit a()()\nmethods a()() skip\nsystem instances p : P q : P\nchannels { p.out, q.out }\n",
+            Status::ModelRefused,
+            "model refused: Unbuilt 6:10\n",
+        ),
+        (
+            "process class P\ninit a()()\nmethods a()() skip\ncluster class C\ninstances p : P\nsystem instances c : C\n",
+            Status::ModelRefused,
+            "model refused: Unbuilt 4:15\n",
+        ),
+        (
+            "process class P\ninit a()()\nmethods a()() skip\ncluster class C\ninstances p : P\nsystem instances c : D\n",
+            Status::ModelRefused,
+            "model refused: C13 6:22\n",
+        ),
+    ];
+    for (text, status, line) in &rows {
+        assert!(rt; is_checked(rt.alloc(), text, *status, line)?);
     }
     Ok(())
 }

@@ -3,4 +3,4 @@ use Rattle.pz_expansion.proofs.Sizes.{found_oversized}
 use Rattle.pz_expansion.proofs.size.oversized.Goals as goal
 
 pub returns : goal.returns
-returns c = found_oversized (model_view c.args.model.now) _ _ _ _ _ _ c.requires.sized c.in_ok-nodes.ensures c.as_slice.ensures c.len.ensures c.in_ok-totals.ensures c.as_slice-2.ensures.value c.least_oversized.ensures
+returns c = found_oversized (model_view c.args.model.now) _ _ _ _ _ c.requires.sized c.in_ok-nodes.ensures c.as_slice.ensures c.in_ok-totals.ensures c.as_slice-2.ensures.value c.least_oversized.ensures
