@@ -20,7 +20,7 @@ use Rattle.pz_names.specs.ReservedNames.{primitives, unsupported, is_primitive, 
 use Rattle.pz_classes.specs.declared.method_id.Counts.TheVariants.{Process}
 use Rattle.pz_classes.specs.Numbers.{declaration}
 use Rattle.pz_classes.specs.Kinds.{is_process, is_cluster}
-use Rattle.pz_classes.specs.Methods.{Signature, process_signature, place_from, method_at, process_method as method_of_class}
+use Rattle.pz_classes.specs.Methods.{Signature, process_signature, first_with, method_id, process_method as method_of_class}
 use Rattle.pz_classes.specs.NameRules.{has_instances}
 use Rattle.pz_classes.specs.Words.{Mentions}
 use Rattle.pz_classes.specs.WordRules.{BreaksWord, c7, c13, c18}
@@ -60,10 +60,10 @@ abbrev asked_for : List ℕ → Signature
 asked_for q = record { name = q; counts = Process 0 0 }
 
 abbrev found_from : ℕ → List ℕ → List Routine → Bool
-found_from n q rs = is_none (option_or (option_map (method_at 1) (place_from n (asked_for q) (map process_signature (map method_of rs)))) None)
+found_from n q rs = is_none (option_or (option_map method_id (first_with n (asked_for q) (map process_signature (map method_of rs)))) None)
 
 known_here : (b : Bool) (n : ℕ) (q : List ℕ) (rs : List Routine) → (found_from (suc n) q rs ≡ false → list_any (λ r. bytes_eq q r.name.name) rs ≡ true)
-    → is_none (option_or (option_map (method_at 1) (if b then Some n else place_from (suc n) (asked_for q) (map process_signature (map method_of rs)))) None) ≡ false
+    → is_none (option_or (option_map method_id (if b then Some n else first_with (suc n) (asked_for q) (map process_signature (map method_of rs)))) None) ≡ false
     → (b || list_any (λ r. bytes_eq q r.name.name) rs) ≡ true
 known_here true n q rs behind e = refl
 known_here false n q rs behind e = behind e
