@@ -5,7 +5,7 @@
 
 ghost use Rattle.std.specs.Prelude.{IfSome};
 ghost use Rattle.pz_ast.specs.ClassView.{model_view};
-ghost use Rattle.pz_classes.specs.Tables.{AreClasses, HasMethod};
+ghost use Rattle.pz_classes.specs.Tables.{AreClasses, HasClass, HasMethod};
 
 use pz_ast::{Model, Name, Pos};
 use pz_classes::{Classes, MethodId};
@@ -35,19 +35,29 @@ fn show_names(rt: &HostRuntime, what: &str, names: &[Name]) -> io::Result<()> {
     Ok(())
 }
 
+/// What a class has.
+fn show_class(rt: &HostRuntime, classes: &Classes, class: ClassId) -> io::Result<()>
+    requires { HasClass classes.now class }
+{
+    let number = class.0;
+    let parent = classes.parent(class);
+    println!(rt; "{number} extends {parent:?}")?;
+    show_names(rt, "field", classes.fields(class))?;
+    show_names(rt, "variable", classes.variables(class))?;
+    show_names(rt, "port", classes.ports(class))?;
+    match classes.init(class) {
+        Some(step) => println!(rt; "  starts with {step:?}"),
+        None => Ok(()),
+    }
+}
+
 /// What each class has, by its number.
 fn show_classes(rt: &HostRuntime, classes: &Classes) -> io::Result<()> {
-    let count = u32::try_from(classes.count()).unwrap_or(0);
-    for number in 0..count {
-        let class = ClassId(number);
-        let parent = classes.parent(class);
-        println!(rt; "{number} extends {parent:?}")?;
-        show_names(rt, "field", classes.fields(class))?;
-        show_names(rt, "variable", classes.variables(class))?;
-        show_names(rt, "port", classes.ports(class))?;
-        if let Some(step) = classes.init(class) {
-            println!(rt; "  starts with {step:?}")?;
+    for number in 0..u32::MAX {
+        if number as usize >= classes.count() {
+            return Ok(());
         }
+        show_class(rt, classes, ClassId(number))?;
     }
     Ok(())
 }

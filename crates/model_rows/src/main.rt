@@ -10,14 +10,14 @@ use std::{env, io};
 fn check_words(alloc: Global, name: &str) -> Result<Vec<String>, AllocError> {
     let command = String::from_str(alloc, "check")?;
     let model = String::from_str(alloc, name)?;
-    vec![in alloc; command, model]
+    Ok(vec![in alloc; command, model]?)
 }
 
 fn run_words(alloc: Global, name: &str) -> Result<Vec<String>, AllocError> {
     let command = String::from_str(alloc, "run")?;
     let model = String::from_str(alloc, name)?;
     let choice = String::from_str(alloc, "--first")?;
-    vec![in alloc; command, model, choice]
+    Ok(vec![in alloc; command, model, choice]?)
 }
 
 fn show(rt: &HostRuntime, words: &[String]) -> io::Result<()> {
