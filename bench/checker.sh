@@ -1,7 +1,7 @@
 #!/usr/bin/env bash
 # Times the front end with the checker on models of about a mebibyte, one shape each: many classes,
 # a chain of ten thousand classes, many methods, many variables of one class, many instances, many
-# ends of one channel, and a chain of ten thousand clusters, each in the next.
+# ends of one channel, and ten thousand clusters, in a chain and in a ring.
 cd "$(dirname "${BASH_SOURCE[0]}")/../crates/checker_rows" || exit 2
 rt run >/dev/null 2>&1 || exit 2
 trap 'rm -f out/*.bench' EXIT
@@ -20,8 +20,9 @@ pieces() {
 { echo -n 'data class A variables x'; pieces 80000 ', x%'; echo -n ' : Integer methods m : Integer x'; pieces 40000 ' + x%'; echo ' system'; } >out/variables.bench
 { echo -n "$process instances"; pieces 40000 ' p% : P(x := %)'; echo; } >out/instances.bench
 { echo -n "$process instances"; pieces 10000 ' p% : P(x := %)'; echo -n ' channels {'; pieces 10000 ', p%.p' | sed 's/^, //'; echo '}'; } >out/ends.bench
+{ echo -n 'cluster class C0 instances c : C10000 '; pieces 10000 'cluster class C% instances c : C@ '; echo 'system instances c : C10000'; } >out/ring.bench
 { echo -n 'process class C0 init s()() methods s()() skip '; pieces 10000 'cluster class C% instances c : C@ '; echo 'system instances c : C10000'; } >out/clusters.bench
-for shape in classes chain methods variables instances ends clusters; do
+for shape in classes chain methods variables instances ends clusters ring; do
   printf '%s, %s bytes: ' "$shape" "$(wc -c <"out/$shape.bench")"
   (cd out && time ./checker_rows "$shape.bench" | cut -c1-60)
 done
