@@ -1,0 +1,33 @@
+-- What is left to be done.
+use Rattle.std.proofs.Common.{◌≡◌, ap, ℕ, zero, suc, ◌+◌, ◌≤◌, List, [], ◌∷◌, length, arith}
+use Rattle.std.proofs.Math.ListN.{set}
+use Rattle.pz_components.specs.declared.walk.State.{State}
+use Rattle.pz_components.specs.declared.walk.State.TheVariants.{Unseen, Open, Done}
+use Rattle.pz_components.specs.Graph.{targets}
+use Rattle.pz_components.specs.Walking.{state_of, done_all, cost, to_open}
+
+-- a vertex that is opened is left no more
+pub to_open-opened : (edges : List (List ℕ)) (ss : List State) (v i : ℕ) → length ss ≡ length edges → state_of ss v ≡ Unseen → to_open edges (set ss v (Open i)) + (length (targets edges v) + 2) ≡ to_open edges ss
+to_open-opened [] [] v i size is = cc
+to_open-opened [] (s ∷ ss) v i size is = absurd (omega arith)
+to_open-opened (e ∷ es) [] v i size is = absurd (omega arith)
+to_open-opened (e ∷ es) (s ∷ ss) zero i size is =
+    let first : cost e s ≡ length e + 2 = ap (cost e) is in
+    omega arith
+to_open-opened (e ∷ es) (s ∷ ss) (suc v) i size is =
+    let rest : to_open es (set ss v (Open i)) + (length (targets es v) + 2) ≡ to_open es ss = to_open-opened es ss v i (omega arith) is in
+    omega arith
+
+one_done : (edges : List (List ℕ)) (ss : List State) (v c : ℕ) → to_open edges (set ss v (Done c)) ≤ to_open edges ss
+one_done [] ss v c = omega arith
+one_done (e ∷ es) [] v c = omega arith
+one_done (e ∷ es) (s ∷ ss) zero c = omega arith
+one_done (e ∷ es) (s ∷ ss) (suc v) c = let rest : to_open es (set ss v (Done c)) ≤ to_open es ss = one_done es ss v c in omega arith
+
+-- what is done adds nothing
+pub to_open-done_all : (edges : List (List ℕ)) (ss : List State) (vs : List ℕ) (c : ℕ) → to_open edges (done_all ss vs c) ≤ to_open edges ss
+to_open-done_all edges ss [] c = omega arith
+to_open-done_all edges ss (v ∷ vs) c =
+    let first : to_open edges (set ss v (Done c)) ≤ to_open edges ss = one_done edges ss v c in
+    let rest : to_open edges (done_all (set ss v (Done c)) vs c) ≤ to_open edges (set ss v (Done c)) = to_open-done_all edges (set ss v (Done c)) vs c in
+    omega arith

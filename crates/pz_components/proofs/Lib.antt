@@ -1,0 +1,9 @@
+mod Places
+mod States
+mod Walks
+mod Passing
+mod Costs
+mod Opening
+mod Closing
+mod Steps
+mod Ends

@@ -1,0 +1,10 @@
+//! Which vertices of a graph reach each other.
+#![tactic(auto)]
+
+mod numbering;
+mod walk;
+
+pub use numbering::components;
+
+#[cfg(test)]
+mod tests;

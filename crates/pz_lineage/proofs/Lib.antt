@@ -1,0 +1,10 @@
+pub mod CycleWays
+pub mod CycleWalks
+pub mod CycleMarks
+pub mod CycleFound
+pub mod RowCounts
+pub mod Filling
+pub mod Ascending
+pub mod Visiting
+pub mod Going
+pub mod Ranks

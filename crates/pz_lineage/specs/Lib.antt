@@ -1,0 +1,5 @@
+pub mod Parents
+pub mod Reached
+pub mod Preorder
+pub mod Walks
+pub mod Rows

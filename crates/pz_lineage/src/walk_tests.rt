@@ -1,0 +1,14 @@
+use super::*;
+use std::test::Fail;
+
+#[test]
+fn a_class_comes_with_all_that_descend_from_it(rt: HostRuntime) -> Result<(), Fail> {
+    let parents = [None, Some(3), Some(0), None, Some(3), Some(2)];
+    let visits = preorder(rt.alloc(), &parents)?;
+    let wanted = [(0, 0), (2, 1), (5, 2), (3, 0), (1, 1), (4, 1)];
+    assert_eq!(rt; visits.len(), wanted.len());
+    for (visit, (class, depth)) in visits.iter().zip(wanted) {
+        assert_eq!(rt; *visit, Visit { class, depth });
+    }
+    Ok(())
+}

@@ -1,0 +1,4 @@
+pub mod Values
+mod Outermost
+mod Keeping
+mod Closing

@@ -1,0 +1,9 @@
+//! What is noted for keys in nested scopes.
+#![tactic(auto)]
+
+mod nested;
+
+pub use nested::Nested;
+
+#[cfg(test)]
+mod tests;
