@@ -84,7 +84,7 @@ with_within s (t ∷ ts) n i is = by_test (same_signature s t) refl (with_within
     by_test false here later = let rest : i < suc n + length ts = later (rw here at is) in omega arith
 
 -- how many methods a class itself declares
-abbrev methods : DeclTree → ℕ
+abbrev pub methods : DeclTree → ℕ
 methods d = length (signatures d)
 
 module _ (m : ModelTree) where

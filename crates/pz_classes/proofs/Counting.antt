@@ -1,54 +1,45 @@
--- Classes and methods, counted one class further.
-use Rattle.std.proofs.Common.{◌≡◌, refl, sym, ap, subst, ◌∙◌, ℕ, suc, ◌+◌, ◌-◌, ◌<◌, List, [], ◌∷◌, ◌++◌, append_assoc, map, length, take, drop, drop-cons, Option, Some, slice_get, get_or, arith}
-use Rattle.std.specs.Option.{option_map, option_map_or}
-use Rattle.std.specs.List.{sum_by}
-use Rattle.std.proofs.lemmas.List.{length-map}
-use Rattle.std.proofs.lemmas.List.Sums.{sum_by_more}
-use Rattle.std.proofs.lemmas.Option.{slice_get_read, slice_get-map, slice_get_within, get_or_from_slice_get}
+-- Classes, their rows and their bodies, counted one class further.
+use Rattle.std.proofs.Common.{◌≡◌, refl, sym, ap, ◌∙◌, ℕ, suc, ◌+◌, ◌<◌, List, [], ◌∷◌, ◌++◌, append_assoc, map, length, take, drop, drop-cons, Some, slice_get, get_or, zero, ◌≤◌, arith}
+use Rattle.std.proofs.lemmas.List.{length-map, map-append, take_more, take_all}
 use Rattle.pz_ast.specs.declared.clusters.Decl.{Decl}
 use Rattle.pz_ast.specs.Classes.{DeclTree, ModelTree}
 use Rattle.pz_ast.specs.ClassView.{decl_view}
 use Rattle.pz_classes.specs.declared.entry.Entry.{Entry}
 use Rattle.pz_classes.specs.Ancestors.{ancestors}
 use Rattle.pz_classes.specs.Inherited.{HasMembers}
-use Rattle.pz_classes.specs.Numbers.{declaration}
-use Rattle.pz_classes.specs.Methods.{Signature, signatures, methods_before}
 use Rattle.pz_classes.specs.Bodies.{BodyTree, own_bodies, bodies_from}
-use Rattle.pz_classes.specs.Tables.{Routine, Row, routines_from, row, rows, row_view, routine_view}
+use Rattle.pz_classes.specs.Tables.{Row, row, rows, row_view}
 use Rattle.pz_classes.proofs.Belongs.{entries_length}
-use Rattle.pz_classes.proofs.RowLookups.{entry_is}
+use Rattle.pz_classes.proofs.RowLookups.{entry_is, rows_length, row_at}
 
-routines_length : (n : ℕ) (ss : List Signature) → length (routines_from n ss) ≡ length ss
-routines_length n [] = refl
-routines_length n (s ∷ ss) = ap (λ (k : ℕ). suc k) (routines_length (suc n) ss)
+-- the rows of one class more
+pub rows_step : (m : ModelTree) (es : List Entry) (e : Entry) (c : ℕ) → c < suc (length m.decls) → row_view e ≡ row m c → map row_view es ≡ take c (rows m) → map row_view (es ++ e ∷ []) ≡ take (c + 1) (rows m)
+rows_step m es e c below is before =
+    let within : c < length (rows m) = (let count = rows_length m in omega arith) in
+    map-append row_view es (e ∷ []) ∙ ap (λ (rs : List Row). rs ++ row_view e ∷ []) before ∙ ap (λ (r : Row). take c (rows m) ++ r ∷ []) (is ∙ sym (row_at m c below)) ∙ sym (take_more (rows m) c (row m c) within)
 
--- how many methods are kept of a class
-kept : (m : ModelTree) (e : Entry) (c : ℕ) (d : DeclTree) → row_view e ≡ row m c → declaration m c ≡ Some d → length e.methods ≡ length (signatures d)
-kept m e c d is here =
-    let listed : map routine_view e.methods ≡ routines_from (methods_before m c) (option_map_or signatures (declaration m c) []) = ap (λ (r : Row). r.methods) is in
-    sym (length-map e.methods routine_view) ∙ ap (λ (rs : List Routine). length rs) listed ∙ routines_length (methods_before m c) (option_map_or signatures (declaration m c) []) ∙ rw here refl
+further : {X : Type 0} (xs : List X) (n : ℕ) (x : X) (rest : List X) → drop n xs ≡ x ∷ rest → (slice_get xs n ≡ Some x) × (drop (suc n) xs ≡ rest)
+further [] zero x rest is = cc
+further [] (suc n) x rest is = cc
+further (y ∷ ys) zero x rest is = (cc, cc)
+further (y ∷ ys) (suc n) x rest is = further ys n x rest is
 
--- the declaration that is read
-declared : (m : ModelTree) (ds : List Decl) (x : Decl) (i : ℕ) → m.decls ≡ map decl_view ds → i < length ds → x ≡ get_or ds i x → slice_get m.decls i ≡ Some (decl_view x)
-declared m ds x i are within here =
-    let read : slice_get ds i ≡ Some x = slice_get_read ds (length ds) i x refl within here in
-    ap (λ (l : List DeclTree). slice_get l i) are ∙ slice_get-map decl_view ds i ∙ ap (λ (o : Option Decl). option_map decl_view o) read
+-- what is left of a list, one element further
+pub one_further : {X : Type 0} (xs : List X) (n : ℕ) (x : X) (rest : List X) → drop n xs ≡ x ∷ rest → (slice_get xs n ≡ Some x) × (drop (n + 1) xs ≡ rest)
+one_further xs n x rest is = let at = further xs n x rest is in let on : n + 1 ≡ suc n = omega arith in (at.0, rw on at.1)
 
-pub methods_step : (m : ModelTree) (ds : List Decl) (x : Decl) (e : Entry) (i number first next : ℕ) → m.decls ≡ map decl_view ds → i < length ds → x ≡ get_or ds i x → number ≡ i
-    → row_view e ≡ row m (number + 1) → first ≡ methods_before m (suc number) → next ≡ first + length e.methods → next ≡ methods_before m (suc (number + 1))
-methods_step m ds x e i number first next are within here counted is before sum =
-    let read : slice_get m.decls i ≡ Some (decl_view x) = declared m ds x i are within here in
-    let at : number + 1 ≡ suc i = omega arith in
-    let own : length e.methods ≡ length (signatures (decl_view x)) = kept m e (suc i) (decl_view x) (subst (λ (k : ℕ). row_view e ≡ row m k) at is) read in
-    let same : get_or m.decls i (decl_view x) ≡ decl_view x = get_or_from_slice_get m.decls i (decl_view x) (decl_view x) read in
-    let more : sum_by (λ d. length (signatures d)) (take (i + 1) m.decls) ≡ sum_by (λ d. length (signatures d)) (take i m.decls) + length (signatures (get_or m.decls i (decl_view x))) =
-    sum_by_more (λ d. length (signatures d)) m.decls i (decl_view x) (slice_get_within m.decls i (decl_view x) read) in
-    let added : sum_by (λ d. length (signatures d)) (take (i + 1) m.decls) ≡ sum_by (λ d. length (signatures d)) (take i m.decls) + length (signatures (decl_view x)) = rw same at more in
-    let low : suc number - 1 ≡ i = omega arith in
-    let high : suc (number + 1) - 1 ≡ i + 1 = omega arith in
-    let old : methods_before m (suc number) ≡ sum_by (λ d. length (signatures d)) (take i m.decls) = ap (λ (k : ℕ). sum_by (λ d. length (signatures d)) (take k m.decls)) low in
-    let new : methods_before m (suc (number + 1)) ≡ sum_by (λ d. length (signatures d)) (take (i + 1) m.decls) = ap (λ (k : ℕ). sum_by (λ d. length (signatures d)) (take k m.decls)) high in
-    omega arith
+pub nothing_left : {X : Type 0} (xs : List X) → length xs ≡ 0 → xs ≡ []
+nothing_left [] none = refl
+nothing_left (x ∷ xs) none = absurd (omega arith)
+
+past_end : {X : Type 0} (xs : List X) (n : ℕ) → drop n xs ≡ [] → length xs ≤ n
+past_end [] n none = omega arith
+past_end (x ∷ xs) zero none = cc
+past_end (x ∷ xs) (suc n) none = let rest : length xs ≤ n = past_end xs n none in omega arith
+
+-- the rows of all classes
+pub all_rows : {X : Type 0} (m : ModelTree) (xs : List X) (n : ℕ) → length xs ≡ suc (length m.decls) → drop n xs ≡ [] → take n (rows m) ≡ rows m
+all_rows m xs n sized none = take_all n (rows m) (let past = past_end xs n none in let count = rows_length m in omega arith)
 
 -- the bodies of one class more
 pub bodies_step : (m : ModelTree) (ds : List Decl) (x : Decl) (old new whole : List BodyTree) (i number : ℕ) → i < length ds → x ≡ get_or ds i x → number ≡ i

@@ -20,14 +20,14 @@ use Rattle.pz_violation.proofs.Leasts as leasts
 
 module _ (m : ModelTree) where
   -- the class and its parent's ancestors agree with the test
-  open_c3 : (c : ℕ) → IsTrue (breaks_c3 m c) → (p : ℕ) × (parent m c ≡ Some p) × Contains (ancestors m p) c
+  pub open_c3 : (c : ℕ) → IsTrue (breaks_c3 m c) → (p : ℕ) × (parent m c ≡ Some p) × Contains (ancestors m p) c
   open_c3 c does = by_parent (parent m c) refl
     where
       by_parent : (o : Option ℕ) → parent m c ≡ o → (p : ℕ) × (parent m c ≡ Some p) × Contains (ancestors m p) c
       by_parent None is = let wrong : false ≡ true = rw is at does in cc
       by_parent (Some p) is = (p, is, Contains-from_any (λ x y. eqb-true x y) c (ancestors m p) (rw is at does))
 
-  close_c3 : (c p : ℕ) → parent m c ≡ Some p → Contains (ancestors m p) c → IsTrue (breaks_c3 m c)
+  pub close_c3 : (c p : ℕ) → parent m c ≡ Some p → Contains (ancestors m p) c → IsTrue (breaks_c3 m c)
   close_c3 c p is above = rw is (list_any-from_Contains nat_eq_equiv c (ancestors m p) above)
 
   name_sound : (c : ℕ) (d : DeclTree) (name : Id) (v : Violation) → declaration m c ≡ Some d → declared_name d ≡ Some name → Member v (of_name m c name) → Violates m v

@@ -10,6 +10,14 @@ mod Agreeing
 mod Scopes
 mod Belongs
 mod Counting
+mod Overloads
+mod Numbered
 mod OwnBodies
 mod Reaching
 mod InstanceClasses
+mod Acyclic
+mod Walked
+mod Rounds
+mod Inheriting
+mod Filling
+mod Building

@@ -12,7 +12,8 @@ use Rattle.std.proofs.lemmas.Map.Views.{Contains-from_any, list_any-from_Contain
 use Rattle.std.proofs.lemmas.Option.{slice_get_within}
 use Rattle.pz_ast.specs.Classes.{ModelTree}
 use Rattle.pz_classes.specs.Ancestors.{parent, ancestors, followed}
-use Rattle.pz_classes.specs.Reached.{Reaches, itself, further, AncestorsAreReached}
+use Rattle.pz_lineage.specs.Reached.{Reaches, itself, further}
+use Rattle.pz_classes.specs.Reached.{AncestorsAreReached}
 use Rattle.pz_classes.proofs.Belongs.{parent_within, parent_positive}
 
 -- a way from one class to another, and the classes on it
@@ -29,7 +30,7 @@ record Straight (m : ModelTree) (c k : ℕ) : Type 0 where
 same_number : (n : ℕ) → eqb n n ≡ true
 same_number n = grind (arith, nat_tests)
 
-apart : (c : ℕ) (xs : List ℕ) → list_any (eqb c) xs ≡ false → AllByRecursion (λ y. eqb c y ≡ false) xs
+pub apart : (c : ℕ) (xs : List ℕ) → list_any (eqb c) xs ≡ false → AllByRecursion (λ y. eqb c y ≡ false) xs
 apart c [] none = tt
 apart c (x ∷ xs) none = by_test (eqb c x) refl (apart c xs)
   where
@@ -51,7 +52,7 @@ module _ (m : ModelTree) where
       by_test true is later = subst (λ (x : ℕ). Straight m x k) (sym (eqb-true c p is)) (record { classes = p ∷ ys; walk = go p q k ys up rest; distinct = once })
       by_test false is later = later (rw is at here)
 
-  straight : (c k : ℕ) → Reaches m c k → Straight m c k
+  straight : (c k : ℕ) → Reaches (parent m) c k → Straight m c k
   unfolding IsDistinct
   straight _ _ (itself c) = record { classes = c ∷ []; walk = stay c; distinct = IsDistinct-cons eqb c [] tt tt }
   straight _ _ (further c p k up rest) = by_way (straight p k rest)
@@ -112,25 +113,25 @@ module _ (m : ModelTree) where
       by_test true is later = rw is refl
       by_test false is later = rw (is, up) later
 
-  followed_from : (n c k : ℕ) → list_any (eqb k) (followed (parent m) n c) ≡ true → Reaches m c k
+  pub followed_from : (n c k : ℕ) → list_any (eqb k) (followed (parent m) n c) ≡ true → Reaches (parent m) c k
   followed_from zero c k is = cc
   followed_from (suc n) c k is = by_test (followed_from n) (eqb k c) refl
     where
-      by_parent : ((p q : ℕ) → list_any (eqb q) (followed (parent m) n p) ≡ true → Reaches m p q) → (o : Option ℕ) → parent m c ≡ o → list_any (eqb k) (option_map_or (followed (parent m) n) o []) ≡ true → Reaches m c k
+      by_parent : ((p q : ℕ) → list_any (eqb q) (followed (parent m) n p) ≡ true → Reaches (parent m) p q) → (o : Option ℕ) → parent m c ≡ o → list_any (eqb k) (option_map_or (followed (parent m) n) o []) ≡ true → Reaches (parent m) c k
       by_parent from None up at = cc
       by_parent from (Some p) up at = further c p k up (from p k at)
 
-      by_test : ((p q : ℕ) → list_any (eqb q) (followed (parent m) n p) ≡ true → Reaches m p q) → (b : Bool) → eqb k c ≡ b → Reaches m c k
-      by_test from true here = subst (λ (x : ℕ). Reaches m c x) (sym (eqb-true k c here)) (itself c)
+      by_test : ((p q : ℕ) → list_any (eqb q) (followed (parent m) n p) ≡ true → Reaches (parent m) p q) → (b : Bool) → eqb k c ≡ b → Reaches (parent m) c k
+      by_test from true here = subst (λ (x : ℕ). Reaches (parent m) c x) (sym (eqb-true k c here)) (itself c)
       by_test from false other = by_parent from (parent m c) refl (rw other at is)
 
 pub reached : AncestorsAreReached
 reached m zero d here k = cc
 reached m (suc i) d here k =
     let below : i < length m.decls = slice_get_within m.decls i d here in (
-      λ among. followed_from m (length m.decls) (suc i) k (list_any-from_Contains nat_eq_equiv k (ancestors m (suc i)) among),
+      λ among. followed_from m (suc (length m.decls)) (suc i) k (list_any-from_Contains nat_eq_equiv k (ancestors m (suc i)) among),
       λ reach. to_list (straight m (suc i) k reach) (short m (suc i) k (omega arith) (omega arith) (straight m (suc i) k reach)),
     )
   where
     to_list : (way : Straight m (suc i) k) → length way.classes ≤ length m.decls → Contains (ancestors m (suc i)) k
-    to_list way fits = Contains-from_any (λ x y. eqb-true x y) k (ancestors m (suc i)) (followed_to m (suc i) k way.classes (length m.decls) way.walk fits)
+    to_list way fits = Contains-from_any (λ x y. eqb-true x y) k (ancestors m (suc i)) (followed_to m (suc i) k way.classes (suc (length m.decls)) way.walk (omega arith))

@@ -1,15 +1,14 @@
 -- What stands in the rows is what the model says.
-use Rattle.std.proofs.Common.{◌≡◌, refl, sym, ap, subst, ◌∙◌, ℕ, zero, suc, ◌+◌, ◌-◌, ◌<◌, Bool, true, false, List, [], ◌∷◌, map, length, Option, Some, None, slice_get, get_or, arith, if◌then◌else◌}
-use Rattle.std.specs.Option.{option_map, option_map_or, option_and_then}
-use Rattle.std.proofs.lemmas.Option.{slice_get-map, slice_get_read}
+use Rattle.std.proofs.Common.{◌≡◌, refl, sym, ap, subst, ◌∙◌, ℕ, zero, suc, ◌+◌, ◌<◌, ◌≤◌, ◌⊎◌, inl, inr, List, [], ◌∷◌, map, length, Option, Some, None, slice_get, get_or, arith}
+use Rattle.std.specs.Option.{option_map, option_and_then}
+use Rattle.std.proofs.lemmas.Option.{slice_get-map, slice_get_read, slice_get_cases, get_or_from_slice_get}
 use Rattle.pz_ast.specs.Classes.{DeclTree, ModelTree}
 use Rattle.pz_classes.specs.declared.entry.Entry.{Entry}
 use Rattle.pz_classes.specs.Ancestors.{parent, parent_of, followed}
-use Rattle.pz_classes.specs.Methods.{Signature, signatures, same_signature, first_with, method_id, methods_before, own_method, nearest, method_with}
-use Rattle.pz_classes.specs.Numbers.{declaration}
+use Rattle.pz_classes.specs.Methods.{Signature, own_method, nearest, method_with}
 use Rattle.pz_classes.specs.Starts.{own_call, init}
-use Rattle.pz_classes.specs.Tables.{Row, routines_from, row, rows_from, rows, row_view}
-use Rattle.pz_classes.specs.Found.{up_in, routine_with, own_in, found_in, start_in, start_found}
+use Rattle.pz_classes.specs.Tables.{Row, row, rows_from, rows, row_view}
+use Rattle.pz_classes.specs.Found.{up_in, own_in, found_in, start_in, start_found}
 use Rattle.pz_classes.proofs.Lines.{line_same}
 
 module _ (m : ModelTree) where
@@ -25,8 +24,16 @@ module _ (m : ModelTree) where
   rows_from_length n [] = refl
   rows_from_length n (d ∷ ds) = ap (λ (k : ℕ). suc k) (rows_from_length (suc n) ds)
 
-  rows_length : length (rows m) - 1 ≡ length m.decls
-  rows_length = let count : length (rows_from m 1 m.decls) ≡ length m.decls = rows_from_length 1 m.decls in omega arith
+  pub rows_length : length (rows m) ≡ suc (length m.decls)
+  rows_length = ap (λ (k : ℕ). suc k) (rows_from_length 1 m.decls)
+
+  pub row_at : (c : ℕ) → c < suc (length m.decls) → get_or (rows m) c (row m c) ≡ row m c
+  row_at zero below = refl
+  row_at (suc i) below = by_decl (slice_get_cases m.decls i).1
+    where
+      by_decl : ((d : DeclTree) × (i < length m.decls) × (slice_get m.decls i ≡ Some d) × (get_or m.decls i d ≡ d)) ⊎ ((length m.decls ≤ i) × (slice_get m.decls i ≡ None)) → get_or (rows m) (suc i) (row m (suc i)) ≡ row m (suc i)
+      by_decl (inl at) = get_or_from_slice_get (rows m) (suc i) (row m (suc i)) (row m (suc i)) (rows_at i ∙ ap (λ (o : Option DeclTree). option_map (λ d. row m (suc i)) o) at.2)
+      by_decl (inr past) = let beyond = past.0 in absurd (omega arith)
 
   some_row : (c : ℕ) (r : Row) → slice_get (rows m) c ≡ Some r → r ≡ row m c
   some_row zero r here = cc
@@ -44,22 +51,13 @@ module _ (m : ModelTree) where
       by_decl None is = rw is refl
       by_decl (Some d) is = refl
 
-  routine_is : (s : Signature) (n : ℕ) (ss : List Signature) → routine_with s (routines_from n ss) ≡ option_map method_id (first_with n s ss)
-  routine_is s n [] = refl
-  routine_is s n (t ∷ ts) = by_test (same_signature s t) (routine_is s (suc n) ts)
-    where
-      by_test : (b : Bool) → routine_with s (routines_from (suc n) ts) ≡ option_map method_id (first_with (suc n) s ts)
-          → (if b then Some (method_id n) else routine_with s (routines_from (suc n) ts)) ≡ option_map method_id (if b then Some n else first_with (suc n) s ts)
-      by_test true rest = refl
-      by_test false rest = rest
-
   own_is : (s : Signature) (c : ℕ) → own_in (rows m) s c ≡ own_method m s c
   own_is s zero = refl
   own_is s (suc i) = rw (rows_at i) (by_decl (slice_get m.decls i) refl)
     where
-      by_decl : (o : Option DeclTree) → slice_get m.decls i ≡ o → option_and_then (λ r. routine_with s r.methods) (option_map (λ d. row m (suc i)) o) ≡ own_method m s (suc i)
+      by_decl : (o : Option DeclTree) → slice_get m.decls i ≡ o → option_and_then (λ r. r.methods s) (option_map (λ d. row m (suc i)) o) ≡ own_method m s (suc i)
       by_decl None is = rw is refl
-      by_decl (Some d) is = routine_is s (methods_before m (suc i)) (option_map_or signatures (declaration m (suc i)) [])
+      by_decl (Some d) is = refl
 
   start_is : (c : ℕ) → start_in (rows m) c ≡ own_call m c
   start_is zero = refl
@@ -75,13 +73,13 @@ module _ (m : ModelTree) where
 
   pub found_is : (listed : List Row) → listed ≡ rows m → (s : Signature) (c : ℕ) → found_in listed s c ≡ method_with m c s
   found_is listed is s c =
-      rw is (nearest_same (own_in (rows m) s) (own_method m s) (own_is s) (followed (up_in (rows m)) (length (rows m) - 1) c)
-      ∙ ap (λ (line : List ℕ). nearest (own_method m s) line) (line_same (up_in (rows m)) (parent m) up_is (length (rows m) - 1) (length m.decls) c rows_length))
+      rw is (nearest_same (own_in (rows m) s) (own_method m s) (own_is s) (followed (up_in (rows m)) (length (rows m)) c)
+      ∙ ap (λ (line : List ℕ). nearest (own_method m s) line) (line_same (up_in (rows m)) (parent m) up_is (length (rows m)) (suc (length m.decls)) c rows_length))
 
   pub start_found_is : (listed : List Row) → listed ≡ rows m → (c : ℕ) → start_found listed c ≡ init m c
   start_found_is listed is c =
-      rw is (nearest_same (start_in (rows m)) (own_call m) start_is (followed (up_in (rows m)) (length (rows m) - 1) c)
-      ∙ ap (λ (line : List ℕ). nearest (own_call m) line) (line_same (up_in (rows m)) (parent m) up_is (length (rows m) - 1) (length m.decls) c rows_length))
+      rw is (nearest_same (start_in (rows m)) (own_call m) start_is (followed (up_in (rows m)) (length (rows m)) c)
+      ∙ ap (λ (line : List ℕ). nearest (own_call m) line) (line_same (up_in (rows m)) (parent m) up_is (length (rows m)) (suc (length m.decls)) c rows_length))
 
   pub entry_is : (es : List Entry) (e : Entry) (c : ℕ) → map row_view es ≡ rows m → c < length es → e ≡ get_or es c e → row_view e ≡ row m c
   entry_is es e c are within here =

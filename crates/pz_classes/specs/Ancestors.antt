@@ -30,7 +30,7 @@ abbrev pub followed : (ℕ → Option ℕ) → ℕ → ℕ → List ℕ
 followed up zero c = []
 followed up (suc n) c = c ∷ option_map_or (followed up n) (up c) []
 
--- The ancestors of a class from itself on. As many steps as there are declarations reach them all;
--- where parents go round, classes come again.
+-- The ancestors of a class from itself on. As many steps as there are classes, Array included, reach
+-- them all; where parents go round, classes come again.
 abbrev pub ancestors : ModelTree → ℕ → List ℕ
-ancestors m c = followed (parent m) (length m.decls) c
+ancestors m c = followed (parent m) (suc (length m.decls)) c

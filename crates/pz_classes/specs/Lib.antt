@@ -2,14 +2,16 @@ pub mod Numbers
 pub mod Ancestors
 pub mod Members
 pub mod Methods
+pub mod MethodIn
 pub mod Bodies
 pub mod Starts
 pub mod BodyView
 pub mod Surrounding
 pub mod Violations
 pub mod ViolationList
-pub mod Parents
 pub mod Inherited
+pub mod Rounds
+pub mod Preorder
 pub mod Tables
 pub mod Refusals
 pub mod Found

@@ -1,27 +1,23 @@
 -- What the table of a model's classes holds.
 use Rattle.std.specs.Prelude.{◌≡◌, ◌<◌, ℕ, suc, List, [], ◌∷◌, length, map, Option, codes}
-use Rattle.std.specs.Option.{option_map, option_map_or}
+use Rattle.std.specs.Option.{option_map}
 use Rattle.pz_ast.specs.Classes.{DeclTree, ModelTree}
 use Rattle.pz_value.specs.declared.value.ClassId.{ClassId}
-use Rattle.pz_classes.specs.Numbers.{class, spelling, declaration}
+use Rattle.pz_classes.specs.Numbers.{class, spelling}
 use Rattle.pz_classes.specs.Ancestors.{parent}
 use Rattle.pz_classes.specs.Members.{fields, variables, ports, spelled}
-use Rattle.pz_classes.specs.Methods.{Signature, signatures, method_id, methods_before}
+use Rattle.pz_classes.specs.Methods.{Signature, own_method}
+use Rattle.pz_classes.specs.MethodIn.{method_in}
 use Rattle.pz_classes.specs.Bodies.{bodies}
+use Rattle.pz_classes.specs.Preorder.{IsPreorderOf}
 use Rattle.pz_classes.specs.BodyView.{body_view}
 use Rattle.pz_classes.specs.Starts.{own_call}
 use Rattle.pz_names.specs.NumberIn.{number_in}
 use Rattle.pz_code.specs.StepView.{Tree}
 use Rattle.pz_code.specs.StepView as step
 use Rattle.pz_classes.specs.declared.method_id.MethodId.{MethodId}
-use Rattle.pz_classes.specs.declared.methods.Method.{Method}
 use Rattle.pz_classes.specs.declared.entry.Entry.{Entry}
 use Rattle.pz_classes.specs.declared.classes.Classes.{Classes}
-
--- a method that a class itself declares
-pub record Routine : Type 0 where
-  pub id : MethodId
-  pub signature : Signature
 
 -- what is kept of a class
 pub record Row : Type 0 where
@@ -30,16 +26,7 @@ pub record Row : Type 0 where
   pub variables : List (List ℕ)
   pub ports : List (List ℕ)
   pub start : Option Tree
-  pub methods : List Routine
-
--- these methods, of which the first has number n
-abbrev pub routines_from : ℕ → List Signature → List Routine
-routines_from n [] = []
-routines_from n (s ∷ ss) = record { id = method_id n; signature = s } ∷ routines_from (suc n) ss
-
--- the methods that a class itself declares
-abbrev pub routines_at : ModelTree → ℕ → List Routine
-routines_at m c = routines_from (methods_before m c) (option_map_or signatures (declaration m c) [])
+  pub methods : Signature → Option MethodId
 
 -- the row of the class of this number
 abbrev pub row : ModelTree → ℕ → Row
@@ -49,7 +36,7 @@ row m c = record {
   variables = spelled (variables m c);
   ports = spelled (ports m c);
   start = own_call m c;
-  methods = routines_at m c;
+  methods = λ s. own_method m s c;
 }
 
 -- the rows of these classes, of which the first has number n
@@ -65,9 +52,6 @@ rows m = row m 0 ∷ rows_from m 1 m.decls
 abbrev pub class_names : ModelTree → List (List ℕ)
 class_names m = codes "Array" ∷ map spelling m.decls
 
-abbrev pub routine_view : Method → Routine
-routine_view r = record { id = r.id; signature = record { name = r.name; counts = r.counts } }
-
 abbrev pub row_view : Entry → Row
 row_view e = record {
   parent = e.parent;
@@ -75,7 +59,7 @@ row_view e = record {
   variables = e.members.variables;
   ports = e.members.ports;
   start = option_map step.view e.start;
-  methods = map routine_view e.methods;
+  methods = method_in e.methods;
 }
 
 -- these are the classes of the model
@@ -84,6 +68,7 @@ pub record AreClasses (m : ModelTree) (classes : Classes) : Type 0 where
   pub numbers : (name : List ℕ) → number_in classes.numbering name ≡ class m name
   pub rows : map row_view classes.entries ≡ rows m
   pub bodies : map body_view classes.bodies ≡ bodies m
+  pub preorder : IsPreorderOf m classes.preorder
 
 abbrev pub class_id : ℕ → ClassId
 class_id c = record { 0 = c }

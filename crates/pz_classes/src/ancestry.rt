@@ -1,13 +1,11 @@
 // The numbers of classes by their names, and who extends whom.
 
-ghost use Rattle.std.specs.Prelude.{◌≡◌, ◌<◌, ◌+◌, ◌-◌, ◌^◌, List, ℕ, length, nat_eq, false, IfOk};
-ghost use Rattle.std.specs.List.{list_any};
-ghost use Rattle.std.specs.Option.{option_map_or};
+ghost use Rattle.std.specs.Prelude.{◌≡◌, ◌<◌, ◌+◌, ◌^◌, List, ℕ, length, IfOk};
 ghost use Rattle.pz_ast.specs.ClassView.{decl_view, model_view};
 ghost use Rattle.pz_classes.specs.Numbers.{class};
-ghost use Rattle.pz_classes.specs.Ancestors.{parent, parent_of, followed};
+ghost use Rattle.pz_classes.specs.Ancestors.{parent, parent_of};
 ghost use Rattle.pz_names.specs.NumberIn.{number_in};
-ghost use Rattle.pz_classes.specs.Parents.{parent_in};
+ghost use Rattle.pz_lineage.specs.Parents.{parent_in};
 
 use crate::declarations::{declared_name, extended};
 use pz_ast::{Decl, Model};
@@ -51,7 +49,8 @@ pub(crate) fn parents_of(
     numbering: &Numbering,
 ) -> Result<Vec<Option<u32>>, AllocError>
     requires { (q : List ℕ) → number_in numbering.now q ≡ class (model_view model.now) q }
-    ensures { IfOk result (λ parents. (c : ℕ) → parent_in parents.items c ≡ parent (model_view model.now) c) }
+    ensures each { IfOk result (λ parents. (c : ℕ) → parent_in parents.items c ≡ parent (model_view model.now) c) }
+    ensures counted { IfOk result (λ parents. length parents.items ≡ length model.now.decls + 1) }
 {
     let mut parents = Vec::new(alloc);
     parents.push(None)?;
@@ -65,46 +64,4 @@ pub(crate) fn parent_at(parents: &[Option<u32>], class: u32) -> Option<u32>
     ensures { result ≡ parent_in parents.now class }
 {
     parents.get(class as usize).copied().flatten()
-}
-
-/// A class and its ancestors, from itself on, at most so many. The only error is want of memory.
-pub(crate) fn line_of(
-    alloc: Global,
-    parents: &[Option<u32>],
-    class: u32,
-    most: usize,
-) -> Result<Vec<u32>, AllocError>
-    ensures { IfOk result (λ line. line.items ≡ followed (parent_in parents.now) most class) }
-{
-    let mut line = Vec::new(alloc);
-    let mut at = Some(class);
-    let mut left = most;
-    while left > 0 {
-        let Some(class) = at else {
-            return Ok(line);
-        };
-        line.push(class)?;
-        at = parent_at(parents, class);
-        left -= 1;
-    }
-    Ok(line)
-}
-
-/// Whether a class is among the first so many ancestors of its parent.
-pub(crate) fn goes_round(parents: &[Option<u32>], class: u32, most: usize) -> bool
-    ensures { result ≡ option_map_or (λ p. list_any (nat_eq class) (followed (parent_in parents.now) most p)) (parent_in parents.now class) false }
-{
-    let mut at = parent_at(parents, class);
-    let mut left = most;
-    while left > 0 {
-        let Some(above) = at else {
-            return false;
-        };
-        if above == class {
-            return true;
-        }
-        at = parent_at(parents, above);
-        left -= 1;
-    }
-    false
 }

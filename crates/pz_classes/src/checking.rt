@@ -3,14 +3,12 @@
 ghost use Rattle.std.specs.Prelude.{◌≡◌, ◌<◌, ◌+◌, ◌^◌, List, ℕ, None, length};
 ghost use Rattle.pz_ast.specs.ClassView.{decl_view, model_view};
 ghost use Rattle.pz_classes.specs.Numbers.{class};
-ghost use Rattle.pz_classes.specs.Ancestors.{parent};
 ghost use Rattle.pz_names.specs.NumberIn.{number_in};
-ghost use Rattle.pz_classes.specs.Parents.{parent_in};
+ghost use Rattle.pz_classes.specs.Rounds.{AreRound};
 ghost use Rattle.pz_classes.specs.Violations as rules;
 ghost use Rattle.pz_classes.specs.ViolationList as list;
 ghost use Rattle.pz_violation.specs.Least as least;
 
-use crate::ancestry::goes_round;
 use crate::declarations::{declaration, declared_name, extended, is_data, same_sort};
 use pz_ast::{Decl, Id, Model, Name};
 use pz_names::{Numbering, is_object, is_primitive, is_unsupported};
@@ -56,11 +54,11 @@ fn breaks_c2(model: &Model, numbering: &Numbering, decl: &Decl, name: &Name) -> 
 }
 
 /// Whether a class is among the ancestors of its parent.
-fn breaks_c3(model: &Model, parents: &[Option<u32>], number: u32) -> bool
-    requires { (c : ℕ) → parent_in parents.now c ≡ parent (model_view model.now) c }
+fn breaks_c3(model: &Model, round: &[bool], number: u32) -> bool
+    requires { AreRound (model_view model.now) round.now }
     ensures { result ≡ list.breaks_c3 (model_view model.now) number }
 {
-    goes_round(parents, number, model.decls.len())
+    round.get(number as usize).copied().unwrap_or(false)
 }
 
 /// The least of what was found before and the violations at the name of this class.
@@ -68,13 +66,13 @@ fn breaks_c3(model: &Model, parents: &[Option<u32>], number: u32) -> bool
 fn least_at_name(
     model: &Model,
     numbering: &Numbering,
-    parents: &[Option<u32>],
+    round: &[bool],
     number: u32,
     id: &Id,
     before: Option<Violation>,
 ) -> Option<Violation>
     requires numbered { (q : List ℕ) → number_in numbering.now q ≡ class (model_view model.now) q }
-    requires extending { (c : ℕ) → parent_in parents.now c ≡ parent (model_view model.now) c }
+    requires rounds { AreRound (model_view model.now) round.now }
     ensures { result ≡ least.least_from before (list.of_name (model_view model.now) number id.now) }
 {
     let mut least = before;
@@ -87,7 +85,7 @@ fn least_at_name(
             },
         );
     }
-    if breaks_c3(model, parents, number) {
+    if breaks_c3(model, round, number) {
         least = lesser(
             least,
             Violation {
@@ -104,18 +102,18 @@ fn least_at_name(
 fn least_of_class(
     model: &Model,
     numbering: &Numbering,
-    parents: &[Option<u32>],
+    round: &[bool],
     number: u32,
     decl: &Decl,
     before: Option<Violation>,
 ) -> Option<Violation>
     requires numbered { (q : List ℕ) → number_in numbering.now q ≡ class (model_view model.now) q }
-    requires extending { (c : ℕ) → parent_in parents.now c ≡ parent (model_view model.now) c }
+    requires rounds { AreRound (model_view model.now) round.now }
     ensures { result ≡ least.least_from before (list.of_class (model_view model.now) number (decl_view decl.now)) }
 {
     let mut least = before;
     if let Some(id) = declared_name(decl) {
-        least = least_at_name(model, numbering, parents, number, id, least);
+        least = least_at_name(model, numbering, round, number, id, least);
     }
     if let Some(id) = extended(decl) {
         if breaks_c2(model, numbering, decl, &id.name) {
@@ -136,10 +134,10 @@ fn least_of_class(
 pub(crate) fn least_violation(
     model: &Model,
     numbering: &Numbering,
-    parents: &[Option<u32>],
+    round: &[bool],
 ) -> Option<Violation>
     requires numbered { (q : List ℕ) → number_in numbering.now q ≡ class (model_view model.now) q }
-    requires extending { (c : ℕ) → parent_in parents.now c ≡ parent (model_view model.now) c }
+    requires rounds { AreRound (model_view model.now) round.now }
     requires room { length model.now.decls + 1 < 2 ^ 32 }
     ensures { result ≡ least.least_from None (list.violations (model_view model.now)) }
 {
@@ -147,7 +145,7 @@ pub(crate) fn least_violation(
     let mut number = 0u32;
     for decl in model.decls.as_slice() {
         number += 1;
-        least = least_of_class(model, numbering, parents, number, decl, least);
+        least = least_of_class(model, numbering, round, number, decl, least);
     }
     least
 }

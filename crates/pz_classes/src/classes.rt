@@ -16,6 +16,7 @@ ghost use Rattle.pz_classes.specs.Members.{spelled};
 ghost use Rattle.pz_classes.specs.Methods as methods;
 ghost use Rattle.pz_classes.specs.Violations.{Violates};
 ghost use Rattle.pz_violation.specs.Order.{IsLeast};
+ghost use Rattle.pz_classes.specs.Preorder.{IsPreorderOf};
 ghost use Rattle.pz_classes.specs.Refusals.{OnRefused};
 ghost use Rattle.pz_classes.specs.Tables.{AreClasses, HasClass, HasMethod, class_names, row, row_view, class_id};
 
@@ -25,9 +26,11 @@ use crate::checking::least_violation;
 use crate::declarations::declared_name;
 use crate::entry::{Entry, entries_of};
 use crate::finding::{find, find_start};
+use crate::members::members_of_classes;
 use crate::{Body, BuildError, Counts, MethodId, Step};
 use pz_ast::{Decl, Model, Name};
 use pz_items::Items;
+use pz_lineage::{Visit, go_round, preorder};
 use pz_names::Numbering;
 use pz_value::{ClassId, Text};
 use std::alloc::{AllocError, Global};
@@ -40,6 +43,7 @@ pub struct Classes {
     numbering: Numbering,
     entries: Items<Entry>,
     bodies: Items<Body>,
+    preorder: Items<Visit>,
 }
 
 /// The name of the class that is declared, empty for a system. The only error is want of memory.
@@ -77,10 +81,13 @@ impl Classes {
         }
         let numbering = number_classes(alloc, model)?;
         let parents = parents_of(alloc, model, &numbering)?;
-        if let Some(violation) = least_violation(model, &numbering, parents.as_slice()) {
+        let round = go_round(alloc, parents.as_slice())?;
+        if let Some(violation) = least_violation(model, &numbering, round.as_slice()) {
             return Err(BuildError::Refused(violation));
         }
-        let entries = entries_of(alloc, model, &numbering, parents.as_slice())?;
+        let visits = preorder(alloc, parents.as_slice())?;
+        let table = members_of_classes(alloc, model, parents.as_slice(), visits.as_slice())?;
+        let entries = entries_of(alloc, model, &numbering, parents.as_slice(), table)?;
         let bodies = bodies_of(alloc, model, &numbering, entries.as_slice())?;
         let names = names_of(alloc, model)?;
         Ok(Classes {
@@ -88,6 +95,7 @@ impl Classes {
             numbering,
             entries,
             bodies,
+            preorder: Items::from_vec(visits),
         })
     }
 
@@ -121,6 +129,14 @@ impl Classes {
         ensures belongs { (m : ModelTree) → AreClasses m self.now → IfSome result (HasClass self.now) }
     {
         self.entry(class).parent.map(ClassId)
+    }
+
+    /// The classes in an order in which each comes after its ancestors, and all that descend from
+    /// one come before the next that does not.
+    pub fn preorder(&self) -> &[Visit]
+        ensures preorder { (m : ModelTree) → AreClasses m self.now → IsPreorderOf m result.now }
+    {
+        self.preorder.as_slice()
     }
 
     fn entry(&self, class: ClassId) -> &Entry

@@ -15,6 +15,7 @@ mod instances;
 mod laws;
 mod members;
 mod method_id;
+mod method_index;
 mod methods;
 mod starting;
 mod surroundings;
@@ -28,6 +29,7 @@ pub use laws::ancestors_are_reached;
 pub use method_id::{Counts, MethodId};
 pub use methods::{count_names, count_section};
 pub use pz_code::{Body, Code, CodeForm, CodeLink, CodeSending, Slot, Step, StepForm};
+pub use pz_lineage::Visit;
 pub use pz_violation::Violation;
 
 #[cfg(test)]

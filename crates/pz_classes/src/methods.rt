@@ -5,20 +5,13 @@ ghost use Rattle.pz_ast.specs.ClassView.{decl_view, data_method_view, process_me
 ghost use Rattle.std.specs.Option.{unwrap_or};
 ghost use Rattle.pz_classes.specs.Members.{grouped, section};
 ghost use Rattle.pz_classes.specs.Methods.{data_signature, process_signature, signatures};
-ghost use Rattle.pz_classes.specs.Tables.{routine_view, routines_from};
+ghost use Rattle.pz_classes.specs.MethodIn.{HasMethods};
 
-use crate::{Counts, MethodId};
-use pz_ast::{DataMethod, Decl, Name, ProcessMethod, VarGroup};
+use crate::Counts;
+use crate::method_index::Methods;
+use pz_ast::{DataMethod, Decl, ProcessMethod, VarGroup};
 use pz_items::Items;
 use std::alloc::{AllocError, Global};
-
-/// A method of a class.
-#[derive(Debug, Drop)]
-pub(crate) struct Method {
-    pub(crate) id: MethodId,
-    pub(crate) name: Name,
-    pub(crate) counts: Counts,
-}
 
 /// How many names these are. Too many to number are taken for want of memory.
 pub fn count_names(groups: &[VarGroup]) -> Result<u32, AllocError>
@@ -59,26 +52,17 @@ pub(crate) fn next(number: u32) -> Result<u32, AllocError>
 }
 
 /// The methods of a data class, of which the first has this number. The only error is want of memory.
-fn data_methods(
-    alloc: Global,
-    first: u32,
-    methods: &[DataMethod],
-) -> Result<Items<Method>, AllocError>
-    ensures { IfOk result (λ rs. map routine_view rs ≡ routines_from first (map data_signature (map data_method_view methods.now))) }
+fn data_methods(alloc: Global, first: u32, methods: &[DataMethod]) -> Result<Methods, AllocError>
+    ensures { IfOk result (HasMethods first (map data_signature (map data_method_view methods.now))) }
 {
-    let mut routines = Items::new(alloc);
-    let mut number = first;
+    let mut named = Methods::new(alloc, first);
     for method in methods {
-        routines.push(Method {
-            id: MethodId(number),
-            name: method.name.name.copy()?,
-            counts: Counts::Data {
-                inputs: count_section(&method.inputs)?,
-            },
-        })?;
-        number = next(number)?;
+        let counts = Counts::Data {
+            inputs: count_section(&method.inputs)?,
+        };
+        named.add(alloc, &method.name.name, counts)?;
     }
-    Ok(routines)
+    Ok(named)
 }
 
 /// The methods of a process class, of which the first has this number. The only error is want of memory.
@@ -86,44 +70,35 @@ fn process_methods(
     alloc: Global,
     first: u32,
     methods: &[ProcessMethod],
-) -> Result<Items<Method>, AllocError>
-    ensures { IfOk result (λ rs. map routine_view rs ≡ routines_from first (map process_signature (map process_method_view methods.now))) }
+) -> Result<Methods, AllocError>
+    ensures { IfOk result (HasMethods first (map process_signature (map process_method_view methods.now))) }
 {
-    let mut routines = Items::new(alloc);
-    let mut number = first;
+    let mut named = Methods::new(alloc, first);
     for method in methods {
-        routines.push(Method {
-            id: MethodId(number),
-            name: method.name.name.copy()?,
-            counts: Counts::Process {
-                inputs: count_names(method.inputs.as_slice())?,
-                outputs: count_names(method.outputs.as_slice())?,
-            },
-        })?;
-        number = next(number)?;
+        let counts = Counts::Process {
+            inputs: count_names(method.inputs.as_slice())?,
+            outputs: count_names(method.outputs.as_slice())?,
+        };
+        named.add(alloc, &method.name.name, counts)?;
     }
-    Ok(routines)
+    Ok(named)
 }
 
 /// The methods that a class itself declares, of which the first has this number. The only error is
 /// want of memory.
-pub(crate) fn methods_of(
-    alloc: Global,
-    first: u32,
-    decl: &Decl,
-) -> Result<Items<Method>, AllocError>
-    ensures { IfOk result (λ rs. map routine_view rs ≡ routines_from first (signatures (decl_view decl.now))) }
+pub(crate) fn methods_of(alloc: Global, first: u32, decl: &Decl) -> Result<Methods, AllocError>
+    ensures { IfOk result (HasMethods first (signatures (decl_view decl.now))) }
 {
     match decl {
         Decl::Data(declared) => match &declared.methods {
             Some(methods) => data_methods(alloc, first, methods.as_slice()),
-            None => Ok(Items::new(alloc)),
+            None => Ok(Methods::new(alloc, first)),
         },
         Decl::Process(declared) => match &declared.methods {
             Some(methods) => process_methods(alloc, first, methods.as_slice()),
-            None => Ok(Items::new(alloc)),
+            None => Ok(Methods::new(alloc, first)),
         },
-        Decl::Cluster(_) => Ok(Items::new(alloc)),
-        Decl::System(_) => Ok(Items::new(alloc)),
+        Decl::Cluster(_) => Ok(Methods::new(alloc, first)),
+        Decl::System(_) => Ok(Methods::new(alloc, first)),
     }
 }

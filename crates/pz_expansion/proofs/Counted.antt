@@ -1,5 +1,5 @@
 -- The totals of classes that are settled.
-use Rattle.std.proofs.Common.{◌≡◌, refl, sym, ap, subst, ◌∙◌, ℕ, zero, suc, ◌<◌, ◌≤◌, ◌≢◌, Bool, true, false, IsTrue, List, [], ◌∷◌, map, length, get_or, arith, ◌⊎◌, inl, inr, get_or-set_same, get_or-set_other}
+use Rattle.std.proofs.Common.{◌≡◌, refl, sym, ap, subst, ◌∙◌, ℕ, zero, suc, ◌<◌, ◌≤◌, ◌≢◌, Bool, true, false, ◌&&◌, IsTrue, List, [], ◌∷◌, map, length, get_or, arith, ◌⊎◌, inl, inr, get_or-set_same, get_or-set_other}
 use Rattle.std.specs.List.{Contains}
 use Rattle.std.proofs.Math.ListN.{set, length-set}
 use Rattle.std.proofs.lemmas.List.{length-map, ext_get_or}
@@ -10,7 +10,24 @@ use Rattle.pz_expansion.specs.declared.totals.Totals.{Totals}
 use Rattle.pz_expansion.specs.Levels.{none_yet, capped_plus, total_in, with_all, total_with, next_level, level}
 use Rattle.pz_expansion.specs.Nodes.{held_by}
 use Rattle.pz_expansion.specs.Settling.{is_settled, all_settled, AreCounted}
-use Rattle.pz_expansion.proofs.Settled.{each_settled, set_elsewhere, none_is}
+
+set_elsewhere : (bs : List Bool) (c x : ℕ) → x ≢ c → is_settled (set bs c true) x ≡ is_settled bs x
+set_elsewhere bs c x other = unwrap_or-slice_get (set bs c true) x false ∙ (get_or-set_other bs c x true false other ∙ sym (unwrap_or-slice_get bs x false))
+
+both : (a b : Bool) → (a && b) ≡ true → (a ≡ true) × (b ≡ true)
+both true true is = (refl, refl)
+both true false is = cc
+both false b is = cc
+
+each_settled : (bs : List Bool) (hs : List Held) (h : Held) → all_settled bs hs ≡ true → Contains hs h → is_settled bs h.class ≡ true
+each_settled bs [] h all (k, below, is) = absurd (omega arith)
+each_settled bs (g ∷ hs) h all (zero, below, is) = let first = both (is_settled bs g.class) (all_settled bs hs) all in subst (λ (x : Held). is_settled bs x.class ≡ true) is first.0
+each_settled bs (g ∷ hs) h all (suc k, below, is) = let rest = both (is_settled bs g.class) (all_settled bs hs) all in each_settled bs hs h rest.1 (k, omega arith, is)
+
+none_is : (nodes : List Node) (c : ℕ) → is_settled (map (λ n. false) nodes) c ≡ false
+none_is [] c = refl
+none_is (n ∷ nodes) zero = refl
+none_is (n ∷ nodes) (suc c) = none_is nodes c
 
 -- what is held is counted alike by totals that agree on it
 with_agrees : (hs : List Held) (ts us : List Totals) (t : Totals) → ((h : Held) → Contains hs h → total_in ts h.class ≡ total_in us h.class) → with_all ts t hs ≡ with_all us t hs

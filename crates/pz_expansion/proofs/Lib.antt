@@ -1,11 +1,8 @@
 mod Levels
-mod Searches
-mod SearchSteps
 mod Backs
 mod OneSystem
 mod ModelNodes
 mod SelfHolding
 mod Sizes
-mod Settled
 mod Counted
 mod Rows

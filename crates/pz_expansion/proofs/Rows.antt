@@ -1,5 +1,5 @@
 -- Small models: what is refused in them, and how large they are.
-use Rattle.std.proofs.Common.{◌≡◌, refl, ℕ, List, [], ◌∷◌, length, Some, None, codes}
+use Rattle.std.proofs.Common.{◌≡◌, refl, ℕ, List, [], ◌∷◌, Some, None, codes}
 use Rattle.pz_ast.specs.declared.tokens.Pos.{Pos}
 use Rattle.pz_ast.specs.declared.names.Id.{Id}
 use Rattle.pz_ast.specs.declared.clusters.Instance.{Instance}
@@ -9,7 +9,7 @@ use Rattle.pz_ast.specs.Classes.{DeclTree, process_class, cluster_class, system,
 use Rattle.pz_violation.specs.Order.{violation}
 use Rattle.pz_classes.specs.SizeRules.{system_size}
 use Rattle.pz_expansion.specs.Nodes.{nodes}
-use Rattle.pz_expansion.specs.Search.{all_back}
+use Rattle.pz_expansion.specs.LeadingBack.{back_among}
 use Rattle.pz_expansion.specs.Systems.{later_systems}
 
 abbrev at : ℕ → ℕ → Pos
@@ -50,7 +50,8 @@ paired = record {
 paired_size : system_size paired pairs ≡ record { processes = 6; clusters = 4; channels = 3 }
 paired_size = refl
 
-paired_is_sound : all_back (nodes paired) (length (nodes paired)) ≡ []
+-- each class has a number of its own
+paired_is_sound : back_among (0 ∷ 4 ∷ 3 ∷ 2 ∷ 1 ∷ []) 0 (nodes paired) ≡ []
 paired_is_sound = refl
 
 -- A and B hold each other, and E itself; D and the system hold what is refused, and are not
@@ -65,7 +66,8 @@ rounds = record {
       system (system_at 7 (instance 8 (codes "E") ∷ []) []) ∷ [];
 }
 
-rounds_are_refused : all_back (nodes rounds) (length (nodes rounds)) ≡ violation 15 (at 4 5) ∷ violation 15 (at 2 5) ∷ violation 15 (at 6 5) ∷ []
+-- A and B, which stand behind Array, have one number
+rounds_are_refused : back_among (0 ∷ 2 ∷ 2 ∷ 1 ∷ 5 ∷ 3 ∷ 4 ∷ []) 0 (nodes rounds) ≡ violation 15 (at 2 5) ∷ violation 15 (at 4 5) ∷ violation 15 (at 6 5) ∷ []
 rounds_are_refused = refl
 
 -- the second and the third in the text, in whatever order they are given

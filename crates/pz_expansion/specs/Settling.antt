@@ -1,24 +1,17 @@
--- Classes of which it is known that they do not lead back to themselves, and what their totals are.
-use Rattle.std.specs.Prelude.{◌≡◌, ◌≤◌, ℕ, Bool, false, List, length, slice_get, Contains, IsTrue}
+-- Classes whose totals are known.
+use Rattle.std.specs.Prelude.{◌≡◌, ◌≤◌, ℕ, Bool, false, List, length, slice_get, IsTrue}
 use Rattle.std.specs.Option.{unwrap_or}
 use Rattle.std.specs.List.{list_all}
 use Rattle.pz_expansion.specs.declared.nodes.Held.{Held}
 use Rattle.pz_expansion.specs.declared.nodes.Node.{Node}
 use Rattle.pz_expansion.specs.declared.totals.Totals.{Totals}
 use Rattle.pz_expansion.specs.Levels.{total_in, level}
-use Rattle.pz_expansion.specs.Nodes.{held_by}
-use Rattle.pz_expansion.specs.Reaching.{Reaches}
 
 abbrev pub is_settled : List Bool → ℕ → Bool
 is_settled settled c = unwrap_or (slice_get settled c) false
 
 abbrev pub all_settled : List Bool → List Held → Bool
 all_settled settled hs = list_all (λ h. is_settled settled h.class) hs
-
--- in a settled class only settled ones stand, and none of them leads back to it
-pub record AreSettled (nodes : List Node) (settled : List Bool) : Type 0 where
-  pub closed : (c : ℕ) (h : Held) → IsTrue (is_settled settled c) → Contains (held_by nodes c) h → IsTrue (is_settled settled h.class)
-  pub never_back : (c : ℕ) (h : Held) → IsTrue (is_settled settled c) → Contains (held_by nodes c) h → Reaches nodes h.class c → ⊥
 
 -- the totals of a settled class are those of so many levels, and of all later ones
 pub record AreCounted (nodes : List Node) (settled : List Bool) (totals : List Totals) (levels : ℕ) : Type 0 where

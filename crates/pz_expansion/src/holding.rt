@@ -6,16 +6,16 @@ ghost use Rattle.pz_violation.specs.Least.{LeastOf};
 ghost use Rattle.pz_classes.specs.InstanceRules.{BreaksC15};
 ghost use Rattle.pz_classes.specs.Tables.{AreClasses};
 
+use crate::leading_back::least_leading_back;
 use crate::nodes::nodes_of;
-use crate::reach::least_back_to_itself;
-use crate::settling::settle_all;
 use pz_ast::Model;
 use pz_classes::Classes;
 use pz_violation::Violation;
 use std::alloc::{AllocError, Global};
 
 /// The least instance by which a cluster class holds itself, directly or through others, at the
-/// name of the instance's class. The only error is want of memory.
+/// name of the instance's class. The time is linear in the classes and their instances. The only
+/// error is want of memory.
 pub fn least_holding(
     alloc: Global,
     model: &Model,
@@ -25,6 +25,5 @@ pub fn least_holding(
     ensures { IfOk result (LeastOf (BreaksC15 (model_view model.now))) }
 {
     let nodes = nodes_of(alloc, model, classes)?;
-    let known = settle_all(alloc, nodes.as_slice())?;
-    least_back_to_itself(alloc, nodes.as_slice(), known.settled.as_slice())
+    least_leading_back(alloc, nodes.as_slice())
 }

@@ -2,8 +2,8 @@
 #![tactic(auto)]
 
 mod holding;
+mod leading_back;
 mod nodes;
-mod reach;
 mod settling;
 mod size;
 mod systems;

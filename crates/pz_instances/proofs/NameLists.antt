@@ -1,35 +1,28 @@
 -- Lists of names as sets.
-use Rattle.std.proofs.Common.{◌≡◌, refl, sym, ap, subst, ◌∙◌, ℕ, zero, suc, ◌<◌, Bool, true, false, ◌&&◌, ◌||◌, List, [], ◌∷◌, ◌++◌, map, length, Some, slice_get, get_or, drop, drop-cons, Vec, Global, if◌then◌else◌, ◌⊎◌, inl, inr}
+use Rattle.std.proofs.Common.{◌≡◌, refl, sym, ap, ◌∙◌, ℕ, suc, ◌<◌, Bool, Bor, true, false, ◌&&◌, ◌||◌, List, [], ◌∷◌, ◌++◌, map, length, get_or, drop, drop-cons, if◌then◌else◌}
 use Rattle.std.specs.List.{list_any, list_all}
 use Rattle.std.specs.Str.{bytes_eq}
 use Rattle.std.proofs.lemmas.Slice.Eq.{bytes_eq-Decides}
 use Rattle.std.proofs.lemmas.List.Folds.{list_any-append}
-use Rattle.std.proofs.lemmas.Option.{slice_get_read}
+use Rattle.std.proofs.lemmas.List.{map-append}
 use Rattle.indexmap.specs.IndexSet.{insert_key}
 use Rattle.pz_ast.specs.declared.names.Id.{Id}
 use Rattle.pz_ast.specs.declared.classes.VarGroup.{VarGroup}
 use Rattle.pz_classes.specs.Members.{spelled, grouped}
-use Rattle.pz_classes.specs.Words.{is_among}
-use Rattle.pz_instances.specs.declared.name_set.NameSet.{NameSet}
-use Rattle.pz_instances.specs.NameSets.{names_in, has_name, with_name, with_all, SameNames, AreNamesOf}
+use Rattle.pz_instances.specs.NameSets.{has_name, with_name, with_all, SameNames}
 
 pub any_map : {A B : Type 0} (p : B → Bool) (f : A → B) (xs : List A) → list_any (λ x. p (f x)) xs ≡ list_any p (map f xs)
 any_map p f [] = refl
 any_map p f (x ∷ xs) = ap (λ (b : Bool). p (f x) || b) (any_map p f xs)
 
 -- a key that is inserted, as a name
-pub added_is : (ks : List (Vec ℕ Global)) (k : Vec ℕ Global) (name : List ℕ) → k.items ≡ name
-    → map (λ v. v.items) (insert_key (λ a b. bytes_eq a.items b.items) ks k) ≡ with_name (map (λ v. v.items) ks) name
-added_is ks k name spelled = rw (← spelled) (by_test (list_any (λ v. bytes_eq k.items v.items) ks) (any_map (bytes_eq k.items) (λ (v : Vec ℕ Global). v.items) ks))
+pub added_is : (ks : List (Bor (List ℕ))) (k : Bor (List ℕ)) → map (λ v. v.now) (insert_key (λ a b. bytes_eq a.now b.now) ks k) ≡ with_name (map (λ v. v.now) ks) k.now
+added_is ks k = by_test (list_any (λ v. bytes_eq k.now v.now) ks) (any_map (bytes_eq k.now) (λ (v : Bor (List ℕ)). v.now) ks)
   where
-    pushed : (vs : List (Vec ℕ Global)) → map (λ v. v.items) (vs ++ k ∷ []) ≡ map (λ v. v.items) vs ++ k.items ∷ []
-    pushed [] = refl
-    pushed (v ∷ vs) = ap (λ (l : List (List ℕ)). v.items ∷ l) (pushed vs)
-
-    by_test : (b : Bool) → b ≡ has_name (map (λ v. v.items) ks) k.items
-        → map (λ v. v.items) (if b then ks else ks ++ k ∷ []) ≡ with_name (map (λ v. v.items) ks) k.items
+    by_test : (b : Bool) → b ≡ has_name (map (λ v. v.now) ks) k.now
+        → map (λ v. v.now) (if b then ks else ks ++ k ∷ []) ≡ with_name (map (λ v. v.now) ks) k.now
     by_test true is = rw (← is) refl
-    by_test false is = rw (← is) (pushed ks)
+    by_test false is = rw (← is) (map-append (λ (v : Bor (List ℕ)). v.now) ks (k ∷ []))
 
 -- a test of a name that is there
 pub all_false : (p : List ℕ → Bool) (xs : List (List ℕ)) (q : List ℕ) → has_name xs q ≡ true → p q ≡ false → list_all p xs ≡ false
@@ -126,68 +119,13 @@ pub with_all_append : (names xs ys : List (List ℕ)) → with_all names (xs ++ 
 with_all_append names [] ys = refl
 with_all_append names (x ∷ xs) ys = with_all_append (with_name names x) xs ys
 
--- from nothing on, what is added is all that is there
-pub same_as_added : (xs : List (List ℕ)) → SameNames (with_all [] xs) xs
-same_as_added xs q = has_with_all [] xs q
-
--- the names of one more class
-pub names_more : (names : ℕ → List (List ℕ)) (n : ℕ) (sets : List NameSet) (s : NameSet) → AreNamesOf names n sets → SameNames (names_in s) (names n)
-    → AreNamesOf names (suc n) (sets ++ s ∷ [])
-names_more names n sets s are is = record {
-  counted = longer sets ∙ ap (λ (k : ℕ). suc k) are.counted;
-  same = λ c t here. by_place (pushed sets c t here);
-}
-  where
-    longer : (xs : List NameSet) → length (xs ++ s ∷ []) ≡ suc (length xs)
-    longer [] = refl
-    longer (x ∷ xs) = ap (λ (k : ℕ). suc k) (longer xs)
-
-    pushed : (xs : List NameSet) (c : ℕ) (t : NameSet) → slice_get (xs ++ s ∷ []) c ≡ Some t → (slice_get xs c ≡ Some t) ⊎ ((c ≡ length xs) × (s ≡ t))
-    pushed [] zero t here = inr (refl, cc)
-    pushed [] (suc c) t here = cc
-    pushed (x ∷ xs) zero t here = inl here
-    pushed (x ∷ xs) (suc c) t here = next (pushed xs c t here)
-      where
-        next : (slice_get xs c ≡ Some t) ⊎ ((c ≡ length xs) × (s ≡ t)) → (slice_get xs c ≡ Some t) ⊎ ((suc c ≡ suc (length xs)) × (s ≡ t))
-        next (inl before) = inl before
-        next (inr last) = inr (ap (λ (k : ℕ). suc k) last.0, last.1)
-
-    by_place : {c : ℕ} {t : NameSet} → (slice_get sets c ≡ Some t) ⊎ ((c ≡ length sets) × (s ≡ t)) → SameNames (names_in t) (names c)
-    by_place {c} {t} (inl before) = are.same c t before
-    by_place {c} {t} (inr last) =
-        let at : c ≡ n = last.0 ∙ are.counted in
-        subst (λ (k : ℕ). SameNames (names_in t) (names k)) (sym at) (subst (λ (u : NameSet). SameNames (names_in u) (names n)) last.1 is)
-
-spelled_append : (xs ys : List Id) → spelled (xs ++ ys) ≡ spelled xs ++ spelled ys
+pub spelled_append : (xs ys : List Id) → spelled (xs ++ ys) ≡ spelled xs ++ spelled ys
 spelled_append [] ys = refl
 spelled_append (x ∷ xs) ys = ap (λ (l : List (List ℕ)). x.name ∷ l) (spelled_append xs ys)
 
 -- what is added in two parts
 pub with_ids_append : (names : List (List ℕ)) (xs ys : List Id) → with_all names (spelled (xs ++ ys)) ≡ with_all (with_all names (spelled xs)) (spelled ys)
 with_ids_append names xs ys = ap (λ (l : List (List ℕ)). with_all names l) (spelled_append xs ys) ∙ with_all_append names (spelled xs) (spelled ys)
-
--- a set of one class has what is among the class's names
-pub set_has : (ids : ℕ → List Id) (count : ℕ) (sets : List NameSet) (c : ℕ) (s : NameSet) (q : List ℕ) → AreNamesOf (λ k. spelled (ids k)) count sets
-    → c < count → s ≡ get_or sets c s → has_name (names_in s) q ≡ is_among (ids c) q
-set_has ids count sets c s q are within here = are.same c s (slice_get_read sets count c s (sym are.counted) within here) q ∙ sym (any_map (bytes_eq q) (λ (x : Id). x.name) (ids c))
-
--- and as a set it is the same as the class's names
-pub set_same : (names : ℕ → List (List ℕ)) (count : ℕ) (sets : List NameSet) (c : ℕ) (s : NameSet) → AreNamesOf names count sets
-    → c < count → s ≡ get_or sets c s → SameNames (names_in s) (names c)
-set_same names count sets c s are within here = are.same c s (slice_get_read sets count c s (sym are.counted) within here)
-
--- what is added to no name
-pub added_same : (none some xs ys : List (List ℕ)) → none ≡ [] → some ≡ with_all none xs → xs ≡ ys → SameNames some ys
-added_same none some xs ys empty added are = subst (λ (l : List (List ℕ)). SameNames some l) are (rw (added, empty) (same_as_added xs))
-
--- the set of the first class, which is Array
-pub names_first : (names : ℕ → List (List ℕ)) (none sets : List NameSet) (s : NameSet) → none ≡ [] → sets ≡ none ++ s ∷ [] → SameNames (names_in s) (names 0) → AreNamesOf names 1 sets
-names_first names none sets s empty pushed is = rw (pushed, empty) (names_more names 0 [] s (record { counted = refl; same = λ c t here. cc }) is)
-
--- and those of the others in turn
-pub names_next : (names : ℕ → List (List ℕ)) (n next : ℕ) (sets new : List NameSet) (s : NameSet) → next ≡ suc n → new ≡ sets ++ s ∷ [] → AreNamesOf names (suc n) sets
-    → SameNames (names_in s) (names next) → AreNamesOf names (suc next) new
-names_next names n next sets new s up pushed are is = rw (pushed, up) (names_more names (suc n) sets s are (subst (λ (k : ℕ). SameNames (names_in s) (names k)) up is))
 
 -- one group further
 pub groups_step : (groups : List VarGroup) (g : VarGroup) (i j : ℕ) (old new whole : List (List ℕ)) → i < length groups → g ≡ get_or groups i g → j ≡ suc i

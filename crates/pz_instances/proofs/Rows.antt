@@ -1,5 +1,5 @@
 -- A small model: what its instances give, and where its channels end.
-use Rattle.std.proofs.Common.{◌≡◌, refl, ℕ, List, [], ◌∷◌, map, Option, Some, None, codes}
+use Rattle.std.proofs.Common.{◌≡◌, refl, ℕ, List, [], ◌∷◌, map, nat_eq, cond, Option, Some, None, codes}
 use Rattle.pz_ast.specs.declared.names.Id.{Id}
 use Rattle.pz_ast.specs.declared.classes.VarGroup.{VarGroup}
 use Rattle.pz_ast.specs.declared.clusters.Arg.TheVariants.{Parameter}
@@ -8,6 +8,7 @@ use Rattle.pz_ast.specs.declared.clusters.Channel.{Channel}
 use Rattle.pz_ast.specs.declared.clusters.ChannelEnd.{ChannelEnd}
 use Rattle.pz_ast.specs.declared.clusters.ChannelEnd.TheVariants.{Inner, Outer}
 use Rattle.pz_ast.specs.Classes.{DeclTree, process_class, cluster_class, system, ModelTree}
+use Rattle.pz_lineage.specs.declared.visit.Visit.{Visit}
 use Rattle.pz_violation.specs.Order.{violation}
 use Rattle.pz_instances.specs.Given.{all_given}
 use Rattle.pz_instances.specs.Ends.{missing_ends}
@@ -76,14 +77,18 @@ model = record {
       }) ∷ [];
 }
 
+-- Array, P and then Q, which extends it, K and the system
+abbrev visits : List Visit
+visits = map (λ c. record { class = c; depth = cond (nat_eq c 1) 1 0 }) (0 ∷ 2 ∷ 1 ∷ 3 ∷ 4 ∷ [])
+
 -- a parameter that is not given, one given twice, one that is none; nothing of an unknown class
-ill_given : all_given model
-    ≡ violation 14 (record { line = 11; column = 1 }) ∷ violation 14 (record { line = 12; column = 1 })
-    ∷ violation 14 (record { line = 13; column = 1 }) ∷ violation 14 (record { line = 16; column = 1 }) ∷ []
+ill_given : all_given model visits
+    ≡ violation 14 (record { line = 16; column = 1 }) ∷ violation 14 (record { line = 11; column = 1 })
+    ∷ violation 14 (record { line = 12; column = 1 }) ∷ violation 14 (record { line = 13; column = 1 }) ∷ []
 ill_given = refl
 
--- no such port, no such instance, no such port of the cluster, and a port of the system
-missing : missing_ends model
-    ≡ violation 16 (record { line = 23; column = 1 }) ∷ violation 16 (record { line = 24; column = 1 })
-    ∷ violation 16 (record { line = 25; column = 1 }) ∷ violation 16 (record { line = 28; column = 1 }) ∷ []
+-- no such instance, and a port of the system; no such port, and no such port of the cluster
+missing : missing_ends model visits
+    ≡ violation 16 (record { line = 24; column = 1 }) ∷ violation 16 (record { line = 28; column = 1 })
+    ∷ violation 16 (record { line = 23; column = 1 }) ∷ violation 16 (record { line = 25; column = 1 }) ∷ []
 missing = refl

@@ -1,9 +1,9 @@
 -- How the code sees that an instance gives each parameter once: a device of the proofs.
-use Rattle.std.specs.Prelude.{ℕ, Bool, false, not, ◌&&◌, List, [], ◌∷◌, ◌++◌, Option, Some, None, if◌then◌else◌}
-use Rattle.std.specs.Option.{option_map_or}
-use Rattle.std.specs.List.{list_all, flat_map}
+use Rattle.std.specs.Prelude.{ℕ, Bool, true, false, not, ◌&&◌, nat_eq, List, [], ◌∷◌, ◌++◌, length, Option, Some, None, if◌then◌else◌}
+use Rattle.std.specs.List.{flat_map}
 use Rattle.pz_ast.specs.declared.clusters.Instance.{Instance}
 use Rattle.pz_ast.specs.Classes.{ModelTree}
+use Rattle.pz_lineage.specs.declared.visit.Visit.{Visit}
 use Rattle.pz_violation.specs.declared.violation.Violation.{Violation}
 use Rattle.pz_violation.specs.Order.{violation}
 use Rattle.pz_violation.specs.Least.{listed}
@@ -12,21 +12,40 @@ use Rattle.pz_classes.specs.Instances.{instances, instance_class, parameters}
 use Rattle.pz_classes.specs.InstanceRules.{given_names, gives_each}
 use Rattle.pz_instances.specs.NameSets.{has_name}
 
--- the names that are given behind those that were seen, if all are wanted and none comes again
-abbrev pub collected : List (List ℕ) → List (List ℕ) → List (List ℕ) → Option (List (List ℕ))
-collected wanted seen [] = Some seen
-collected wanted seen (x ∷ xs) = if has_name wanted x && not (has_name seen x) then collected wanted (seen ++ x ∷ []) xs else None
+-- each of the names that are given behind those that were seen is wanted, and none comes again
+abbrev pub all_new : List (List ℕ) → List (List ℕ) → List (List ℕ) → Bool
+all_new wanted seen [] = true
+all_new wanted seen (x ∷ xs) = if has_name wanted x && not (has_name seen x) then all_new wanted (seen ++ x ∷ []) xs else false
 
--- and none of the wanted is missing
+-- and they are as many as the wanted, of which no two are the same
 abbrev pub gives_wanted : List (List ℕ) → List (List ℕ) → Bool
-gives_wanted given wanted = option_map_or (λ seen. list_all (has_name seen) wanted) (collected wanted [] given) false
+gives_wanted given wanted = nat_eq (length given) (length wanted) && all_new wanted [] given
 
-abbrev pub is_ill_given : ModelTree → Instance → Bool
-is_ill_given m i = option_map_or (λ k. not (gives_each (given_names i) (spelled (parameters m k)))) (instance_class m i.class.name) false
+abbrev pub lacking : List (List ℕ) → Instance → List Violation
+lacking wanted i = listed (not (gives_wanted (given_names i) wanted)) (violation 14 i.name.pos)
 
--- the violations of C14 as a list
-abbrev pub of_instance : ModelTree → Instance → List Violation
-of_instance m i = listed (is_ill_given m i) (violation 14 i.name.pos)
+abbrev pub is_number : Option ℕ → ℕ → Bool
+is_number None k = false
+is_number (Some c) k = nat_eq c k
 
-abbrev pub all_given : ModelTree → List Violation
-all_given m = flat_map (λ d. flat_map (of_instance m) (instances d)) m.decls
+-- the instance, if it is one of this class
+abbrev pub if_of_class : ModelTree → ℕ → Instance → List Instance
+if_of_class m k i = if is_number (instance_class m i.class.name) k then i ∷ [] else []
+
+-- those of these instances that are of this class
+abbrev pub of_class : ModelTree → ℕ → List Instance → List Instance
+of_class m k is = flat_map (if_of_class m k) is
+
+abbrev pub all_instances : ModelTree → List Instance
+all_instances m = flat_map instances m.decls
+
+-- the violation of an instance of this class
+abbrev pub ill_given_of : ModelTree → ℕ → Instance → List Violation
+ill_given_of m k i = listed (not (gives_each (given_names i) (spelled (parameters m k)))) (violation 14 i.name.pos)
+
+abbrev pub ill_given_in : ModelTree → ℕ → List Violation
+ill_given_in m k = flat_map (ill_given_of m k) (of_class m k (all_instances m))
+
+-- the violations of C14 as a list, class by class
+abbrev pub all_given : ModelTree → List Visit → List Violation
+all_given m visits = flat_map (λ v. ill_given_in m v.class) visits

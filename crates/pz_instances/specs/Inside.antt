@@ -4,7 +4,7 @@ use Rattle.pz_ast.specs.ClassView.{decl_view}
 use Rattle.pz_names.specs.NumberIn.{number_in}
 use Rattle.pz_classes.specs.Instances.{instances}
 use Rattle.pz_instances.specs.Ends.{place_named}
-use Rattle.pz_instances.specs.declared.channel_ends.Inside.{Inside}
+use Rattle.pz_instances.specs.declared.needs.Inside.{Inside}
 
 -- the places are those of its instances
 abbrev pub IsInside : Inside → Type 0

@@ -1,12 +1,12 @@
 -- Sets of names, as lists in the order of their first coming.
-use Rattle.std.specs.Prelude.{◌≡◌, ℕ, Bool, List, [], ◌∷◌, ◌++◌, length, map, Some, slice_get, if◌then◌else◌}
+use Rattle.std.specs.Prelude.{◌≡◌, ℕ, Bool, List, [], ◌∷◌, ◌++◌, map, if◌then◌else◌}
 use Rattle.std.specs.List.{list_any}
 use Rattle.std.specs.Str.{bytes_eq}
 use Rattle.pz_instances.specs.declared.name_set.NameSet.{NameSet}
 
 -- the names of a set
 abbrev pub names_in : NameSet → List (List ℕ)
-names_in s = map (λ k. k.items) s.set.keys
+names_in s = map (λ k. k.now) s.set.keys
 
 abbrev pub has_name : List (List ℕ) → List ℕ → Bool
 has_name names q = list_any (bytes_eq q) names
@@ -23,8 +23,3 @@ with_all names (q ∷ qs) = with_all (with_name names q) qs
 -- the same names, in any order and however often
 abbrev pub SameNames : List (List ℕ) → List (List ℕ) → Type 0
 SameNames xs ys = (q : List ℕ) → has_name xs q ≡ has_name ys q
-
--- for each class of these numbers, the set of its names
-pub record AreNamesOf (names : ℕ → List (List ℕ)) (count : ℕ) (sets : List NameSet) : Type 0 where
-  pub counted : length sets ≡ count
-  pub same : (c : ℕ) (s : NameSet) → slice_get sets c ≡ Some s → SameNames (names_in s) (names c)

@@ -1,119 +1,39 @@
 // C16: the ends of channels are there.
 
-ghost use Rattle.std.specs.Prelude.{◌≡◌, ◌≤◌, ◌&&◌, ℕ, List, suc, length, slice_get, IfOk};
-ghost use Rattle.std.specs.Option.{option_map_or, option_copied};
+ghost use Rattle.std.specs.Prelude.{◌≡◌, ◌≤◌, ◌++◌, ℕ, suc, length, map, None, IfOk, OnOk};
 ghost use Rattle.std.specs.List.{flat_map};
 ghost use Rattle.pz_ast.specs.ClassView.{decl_view, model_view};
 ghost use Rattle.pz_violation.specs.Least.{LeastOf, least_from};
-ghost use Rattle.pz_names.specs.NumberIn.{number_in};
-ghost use Rattle.pz_classes.specs.Kinds.{is_cluster};
-ghost use Rattle.pz_classes.specs.Words.{is_among};
-ghost use Rattle.pz_classes.specs.Members.{spelled, ports as ports_of};
 ghost use Rattle.pz_classes.specs.ChannelRules as rules;
 ghost use Rattle.pz_classes.specs.Tables.{AreClasses};
-ghost use Rattle.pz_instances.specs.NameSets.{AreNamesOf};
-ghost use Rattle.pz_instances.specs.Ends.{place_named, of_end, of_ends};
+ghost use Rattle.pz_instances.specs.NameSets.{names_in};
+ghost use Rattle.pz_instances.specs.Ends as spec;
+ghost use Rattle.pz_instances.specs.Ends.{over, missing_at, wanted_at, absent};
+ghost use Rattle.pz_instances.specs.Search.{wanted, wanted_of, search_count};
 ghost use Rattle.pz_instances.specs.Inside.{IsInside};
 
+use crate::by_class::ByClass;
 use crate::name_set::NameSet;
-use crate::parts::next;
-use crate::ports::ports_of_classes;
-use pz_ast::{Channel, ChannelEnd, Decl, Instance, Model, Name, Pos};
-use pz_classes::{Classes, channels_of, class_of_instance, instances_of};
-use pz_names::Numbering;
+use crate::needs::{Inside, Need, places_of};
+use crate::open_names::OpenNames;
+use crate::parts::{next, ports_at};
+use pz_ast::{ChannelEnd, Decl, Model, Pos};
+use pz_classes::{Classes, channels_of, instances_of};
 use pz_violation::{Violation, lesser};
 use std::alloc::{AllocError, Global};
 
-/// A declaration with its number, and the places of its instances by their names.
+/// A port that an end of a channel asks of a class, and where the end stands.
+#[derive(Clone, Copy, Debug)]
+struct Asked<'a> {
+    port: &'a [u8],
+    place: Pos,
+}
+
+/// What is asked of each class, and the least of the ends that lack what they need in any case.
 #[derive(Drop)]
-struct Inside<'a> {
-    decl: &'a Decl,
-    number: usize,
-    places: &'a Numbering,
-}
-
-/// The place of each instance by its name, from 0; the first of a name counts. Too many to number
-/// are taken for want of memory, the only error.
-fn places_of(alloc: Global, instances: &[Instance]) -> Result<Numbering, AllocError>
-    ensures { IfOk result (λ places. (q : List ℕ) → number_in places q ≡ place_named 0 instances.now q) }
-{
-    let mut places = Numbering::new(alloc);
-    let mut place = 0u32;
-    for instance in instances {
-        places.add(alloc, &instance.name.name, place)?;
-        place = next(place)?;
-    }
-    Ok(places)
-}
-
-fn instance_at(instances: &[Instance], place: u32) -> Option<&Instance>
-    ensures { option_copied result ≡ slice_get instances.now place }
-{
-    instances.get(place as usize)
-}
-
-impl Inside<'_> {
-    /// The instance of this name.
-    fn instance(&self, name: &Name) -> Option<&Instance>
-        requires { IsInside self.now }
-        ensures { option_copied result ≡ rules.instance_named (decl_view self.now.decl.now) name.now }
-    {
-        let place = self.places.get(name.as_str().as_bytes())?;
-        instance_at(instances_of(self.decl), place)
-    }
-
-    /// Whether it is a cluster class that has this port.
-    fn has_port(&self, model: &Model, ports: &[NameSet], port: &Name) -> bool
-        requires listed { AreNamesOf (λ c. spelled (ports_of (model_view model.now) c)) (suc (length model.now.decls)) ports.now }
-        requires within { self.now.number ≤ length model.now.decls }
-        ensures { result ≡ (is_cluster (decl_view self.now.decl.now) && is_among (ports_of (model_view model.now) self.now.number) port.now) }
-    {
-        match self.decl {
-            Decl::Cluster(_) => ports[self.number].has(port.as_str().as_bytes()),
-            _ => false,
-        }
-    }
-}
-
-/// Whether the port is one of the instance's class, if that may have instances.
-fn has_port(
-    model: &Model,
-    classes: &Classes,
-    ports: &[NameSet],
-    instance: &Instance,
-    port: &Name,
-) -> bool
-    requires known { AreClasses (model_view model.now) classes.now }
-    requires listed { AreNamesOf (λ c. spelled (ports_of (model_view model.now) c)) (suc (length model.now.decls)) ports.now }
-    ensures { result ≡ rules.has_port (model_view model.now) port.now instance.now }
-{
-    let Some(class) = class_of_instance(model, classes, &instance.class.name) else {
-        return true;
-    };
-    ports[class.0 as usize].has(port.as_str().as_bytes())
-}
-
-/// Whether there is no such instance or port.
-fn is_missing(
-    model: &Model,
-    classes: &Classes,
-    ports: &[NameSet],
-    inside: &Inside,
-    end: &ChannelEnd,
-) -> bool
-    requires known { AreClasses (model_view model.now) classes.now }
-    requires listed { AreNamesOf (λ c. spelled (ports_of (model_view model.now) c)) (suc (length model.now.decls)) ports.now }
-    requires within { inside.now.number ≤ length model.now.decls }
-    requires placed { IsInside inside.now }
-    ensures { result ≡ rules.breaks_c16 (model_view model.now) inside.now.number (decl_view inside.now.decl.now) end.now }
-{
-    match end {
-        ChannelEnd::Inner(name, port) => match inside.instance(&name.name) {
-            Some(instance) => !has_port(model, classes, ports, instance, &port.name),
-            None => true,
-        },
-        ChannelEnd::Outer(port) => !inside.has_port(model, ports, &port.name),
-    }
+struct Search<'a> {
+    asked: ByClass<Asked<'a>>,
+    least: Option<Violation>,
 }
 
 /// Where an end stands.
@@ -126,87 +46,151 @@ fn place(end: &ChannelEnd) -> Pos
     }
 }
 
-/// The least of what was found before and the violation at this end.
-fn least_of_end(
-    model: &Model,
-    classes: &Classes,
-    ports: &[NameSet],
-    inside: &Inside,
-    end: &ChannelEnd,
-    before: Option<Violation>,
-) -> Option<Violation>
-    requires known { AreClasses (model_view model.now) classes.now }
-    requires listed { AreNamesOf (λ c. spelled (ports_of (model_view model.now) c)) (suc (length model.now.decls)) ports.now }
-    requires within { inside.now.number ≤ length model.now.decls }
-    requires placed { IsInside inside.now }
-    ensures { result ≡ least_from before (of_end (model_view model.now) inside.now.number (decl_view inside.now.decl.now) end.now) }
+/// The name of an end's port.
+fn port(end: &ChannelEnd) -> &[u8]
+    ensures { result.now ≡ spec.end_port end.now }
 {
-    if !is_missing(model, classes, ports, inside, end) {
+    match end {
+        ChannelEnd::Inner(_, port) => port.name.as_str().as_bytes(),
+        ChannelEnd::Outer(port) => port.name.as_str().as_bytes(),
+    }
+}
+
+impl<'a> Search<'a> {
+    /// Adds an end. The only error is want of memory.
+    fn add_end(
+        &mut self,
+        model: &Model,
+        classes: &Classes,
+        inside: &Inside,
+        end: &'a ChannelEnd,
+    ) -> Result<(), AllocError>
+        requires known { AreClasses (model_view model.now) classes.now }
+        requires rows { search_count self.old ≡ suc (length model.now.decls) }
+        requires within { inside.now.number ≤ length model.now.decls }
+        requires placed { IsInside inside.now }
+        ensures counted { OnOk result (search_count self.new ≡ search_count self.old) }
+        ensures asked { OnOk result ((k : ℕ) → wanted_of self.new k ≡ wanted_of self.old k ++ wanted_at (model_view model.now) k inside.now.number (decl_view inside.now.decl.now) end.now) }
+        ensures least { OnOk result (self.new.least ≡ least_from self.old.least (missing_at (model_view model.now) inside.now.number (decl_view inside.now.decl.now) end.now)) }
+    {
+        let place = place(end);
+        match inside.need(model, classes, end) {
+            Need::Nothing => {}
+            Need::Port(class) => {
+                let port = port(end);
+                self.asked.add(class, Asked { port, place })?;
+            }
+            Need::Missing => {
+                let violation = Violation {
+                    rule: 16,
+                    pos: place,
+                };
+                self.least = lesser(self.least, violation);
+            }
+        }
+        Ok(())
+    }
+
+    /// Adds these ends. The only error is want of memory.
+    fn add_ends(
+        &mut self,
+        model: &Model,
+        classes: &Classes,
+        inside: &Inside,
+        ends: &'a [ChannelEnd],
+    ) -> Result<(), AllocError>
+        requires known { AreClasses (model_view model.now) classes.now }
+        requires rows { search_count self.old ≡ suc (length model.now.decls) }
+        requires within { inside.now.number ≤ length model.now.decls }
+        requires placed { IsInside inside.now }
+        ensures counted { OnOk result (search_count self.new ≡ search_count self.old) }
+        ensures asked { OnOk result ((k : ℕ) → wanted_of self.new k ≡ wanted_of self.old k ++ flat_map (wanted_at (model_view model.now) k inside.now.number (decl_view inside.now.decl.now)) ends.now) }
+        ensures least { OnOk result (self.new.least ≡ least_from self.old.least (flat_map (missing_at (model_view model.now) inside.now.number (decl_view inside.now.decl.now)) ends.now)) }
+    {
+        for end in ends {
+            self.add_end(model, classes, inside, end)?;
+        }
+        Ok(())
+    }
+
+    /// Adds the ends of the declaration of this number. The only error is want of memory.
+    fn add_decl(
+        &mut self,
+        alloc: Global,
+        model: &Model,
+        classes: &Classes,
+        number: u32,
+        decl: &'a Decl,
+    ) -> Result<(), AllocError>
+        requires known { AreClasses (model_view model.now) classes.now }
+        requires rows { search_count self.old ≡ suc (length model.now.decls) }
+        requires within { number ≤ length model.now.decls }
+        ensures counted { OnOk result (search_count self.new ≡ search_count self.old) }
+        ensures asked { OnOk result ((k : ℕ) → wanted_of self.new k ≡ wanted_of self.old k ++ flat_map (wanted_at (model_view model.now) k number (decl_view decl.now)) (rules.ends (decl_view decl.now))) }
+        ensures least { OnOk result (self.new.least ≡ least_from self.old.least (flat_map (missing_at (model_view model.now) number (decl_view decl.now)) (rules.ends (decl_view decl.now)))) }
+    {
+        let places = places_of(alloc, instances_of(decl))?;
+        let inside = Inside {
+            decl,
+            number,
+            places: &places,
+        };
+        for channel in channels_of(decl) {
+            self.add_ends(model, classes, &inside, channel.ends.as_slice())?;
+        }
+        Ok(())
+    }
+}
+
+/// What the ends of all channels ask, and the least of those that lack what they need in any case.
+/// Too many classes or instances to number are taken for want of memory, the only error.
+fn search_ends<'a>(
+    alloc: Global,
+    model: &'a Model,
+    classes: &Classes,
+) -> Result<Search<'a>, AllocError>
+    requires { AreClasses (model_view model.now) classes.now }
+    ensures counted { IfOk result (λ found. search_count found ≡ suc (length model.now.decls)) }
+    ensures asked { IfOk result (λ found. (k : ℕ) → wanted_of found k ≡ over (wanted_at (model_view model.now) k) 1 (map decl_view model.now.decls)) }
+    ensures least { IfOk result (λ found. found.least ≡ least_from None (over (missing_at (model_view model.now)) 1 (map decl_view model.now.decls))) }
+{
+    let mut found = Search {
+        asked: ByClass::new(alloc, classes.count())?,
+        least: None,
+    };
+    let mut number = 0u32;
+    for decl in model.decls.as_slice() {
+        number = next(number)?;
+        found.add_decl(alloc, model, classes, number, decl)?;
+    }
+    Ok(found)
+}
+
+/// The least of what was found before and the violation at an end, if the port that it asks for is
+/// none of these.
+fn least_of_asked(ports: &NameSet, asked: &Asked, before: Option<Violation>) -> Option<Violation>
+    ensures { result ≡ least_from before (absent (names_in ports.now) (wanted asked.now)) }
+{
+    if ports.has(asked.port) {
         return before;
     }
     let violation = Violation {
         rule: 16,
-        pos: place(end),
+        pos: asked.place,
     };
     lesser(before, violation)
 }
 
-/// The least of what was found before and the violations at these ends.
-fn least_of_ends(
-    model: &Model,
-    classes: &Classes,
-    ports: &[NameSet],
-    inside: &Inside,
-    ends: &[ChannelEnd],
-    before: Option<Violation>,
-) -> Option<Violation>
-    requires known { AreClasses (model_view model.now) classes.now }
-    requires listed { AreNamesOf (λ c. spelled (ports_of (model_view model.now) c)) (suc (length model.now.decls)) ports.now }
-    requires within { inside.now.number ≤ length model.now.decls }
-    requires placed { IsInside inside.now }
-    ensures { result ≡ least_from before (of_ends (model_view model.now) inside.now.number (decl_view inside.now.decl.now) ends.now) }
+/// The least of what was found before and the violations at ends, where the port that they ask for
+/// is none of these.
+fn least_of_class(ports: &NameSet, asked: &[Asked], before: Option<Violation>) -> Option<Violation>
+    ensures { result ≡ least_from before (flat_map (λ a. absent (names_in ports.now) (wanted a)) asked.now) }
 {
     let mut least = before;
-    for end in ends {
-        least = least_of_end(model, classes, ports, inside, end, least);
+    for one in asked {
+        least = least_of_asked(ports, one, least);
     }
     least
-}
-
-/// The least of what was found before and the violations of this declaration. The only error is
-/// want of memory.
-fn least_of_decl(
-    alloc: Global,
-    model: &Model,
-    classes: &Classes,
-    ports: &[NameSet],
-    number: usize,
-    decl: &Decl,
-    before: Option<Violation>,
-) -> Result<Option<Violation>, AllocError>
-    requires known { AreClasses (model_view model.now) classes.now }
-    requires listed { AreNamesOf (λ c. spelled (ports_of (model_view model.now) c)) (suc (length model.now.decls)) ports.now }
-    requires within { number ≤ length model.now.decls }
-    ensures { IfOk result (λ least. least ≡ least_from before (of_ends (model_view model.now) number (decl_view decl.now) (rules.ends (decl_view decl.now)))) }
-{
-    let places = places_of(alloc, instances_of(decl))?;
-    let inside = Inside {
-        decl,
-        number,
-        places: &places,
-    };
-    let mut least = before;
-    for channel in channels_of(decl) {
-        least = least_of_ends(
-            model,
-            classes,
-            ports,
-            &inside,
-            channel.ends.as_slice(),
-            least,
-        );
-    }
-    Ok(least)
 }
 
 /// The least violation of C16, if there is one: an end of a channel whose instance or port is not
@@ -219,12 +203,13 @@ pub fn least_missing_end(
     requires { AreClasses (model_view model.now) classes.now }
     ensures { IfOk result (LeastOf (rules.BreaksC16 (model_view model.now))) }
 {
-    let ports = ports_of_classes(alloc, model, classes)?;
-    let mut least = None;
-    let mut number = 0usize;
-    for decl in model.decls.as_slice() {
-        number += 1;
-        least = least_of_decl(alloc, model, classes, &ports, number, decl, least)?;
+    let found = search_ends(alloc, model, classes)?;
+    let mut opened = OpenNames::new(alloc);
+    let mut least = found.least;
+    for visit in classes.preorder() {
+        opened.enter(visit.depth)?;
+        opened.add_ids(ports_at(model, visit.class))?;
+        least = least_of_class(opened.names(), found.asked.of(visit.class), least);
     }
     Ok(least)
 }

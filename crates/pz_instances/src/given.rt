@@ -1,71 +1,65 @@
 // C14: an instance gives the parameters of its class.
 
-ghost use Rattle.std.specs.Prelude.{◌≡◌, [], suc, length, map, IfOk};
-ghost use Rattle.std.specs.Option.{option_map};
+ghost use Rattle.std.specs.Prelude.{◌≡◌, ◌++◌, ℕ, [], suc, length, map, IfOk, OnOk};
 ghost use Rattle.std.specs.List.{flat_map};
 ghost use Rattle.pz_ast.specs.ClassView.{model_view};
 ghost use Rattle.pz_violation.specs.Least.{LeastOf, least_from};
-ghost use Rattle.pz_classes.specs.Members.{spelled};
-ghost use Rattle.pz_classes.specs.Instances.{parameters};
 ghost use Rattle.pz_classes.specs.InstanceRules.{BreaksC14, given_names};
 ghost use Rattle.pz_classes.specs.Tables.{AreClasses};
-ghost use Rattle.pz_instances.specs.NameSets.{names_in, AreNamesOf};
-ghost use Rattle.pz_instances.specs.Given.{collected, gives_wanted, of_instance};
+ghost use Rattle.pz_instances.specs.NameSets.{names_in};
+ghost use Rattle.pz_instances.specs.ClassRows.{row, row_count};
+ghost use Rattle.pz_instances.specs.Given as spec;
+ghost use Rattle.pz_instances.specs.Given.{gives_wanted, lacking, if_of_class, of_class, all_instances};
 
+use crate::by_class::ByClass;
 use crate::name_set::NameSet;
-use crate::parameters::parameters_of_classes;
-use crate::parts::given_of;
+use crate::open_names::OpenNames;
+use crate::parts::{given_of, parameters_at};
 use pz_ast::{Given, Instance, Model};
 use pz_classes::{Classes, class_of_instance, instances_of};
 use pz_violation::{Violation, lesser};
 use std::alloc::{AllocError, Global};
 
-/// The names that are given, if each is wanted and none is given twice. The only error is want of
-/// memory.
-fn collect(alloc: Global, given: &[Given], wanted: &NameSet) -> Result<Option<NameSet>, AllocError>
-    ensures { IfOk result (λ seen. option_map names_in seen ≡ collected (names_in wanted.now) [] (map (λ g. g.name.name) given.now)) }
+/// Whether each of these names is wanted, and none is given twice. The only error is want of memory.
+fn all_new(alloc: Global, given: &[Given], wanted: &NameSet) -> Result<bool, AllocError>
+    ensures { IfOk result (λ are. are ≡ spec.all_new (names_in wanted.now) [] (map (λ g. g.name.name) given.now)) }
 {
     let mut seen = NameSet::new(alloc);
     for item in given {
-        if !wanted.has(item.name.name.as_str().as_bytes()) {
-            return Ok(None);
+        let name = item.name.name.as_str().as_bytes();
+        if !wanted.has(name) {
+            return Ok(false);
         }
-        if !seen.add(alloc, &item.name.name)? {
-            return Ok(None);
+        if !seen.add(name)? {
+            return Ok(false);
         }
     }
-    Ok(Some(seen))
+    Ok(true)
 }
 
-/// Whether an instance gives each of the wanted names once, and no other. The only error is want of
-/// memory.
+/// Whether an instance gives each of the wanted names once, and no other: as many as there are,
+/// and all of them different. The only error is want of memory.
 fn gives_each(alloc: Global, instance: &Instance, wanted: &NameSet) -> Result<bool, AllocError>
     ensures { IfOk result (λ gives. gives ≡ gives_wanted (given_names instance.now) (names_in wanted.now)) }
 {
-    match collect(alloc, given_of(instance), wanted)? {
-        Some(seen) => Ok(seen.has_all(wanted)),
-        None => Ok(false),
+    let given = given_of(instance);
+    if given.len() != wanted.len() {
+        return Ok(false);
     }
+    all_new(alloc, given, wanted)
 }
 
-/// The least of what was found before and the violation of this instance. The only error is want of
-/// memory.
+/// The least of what was found before and the violation of this instance, of whose class these are
+/// the parameters. The only error is want of memory.
 fn least_of_instance(
     alloc: Global,
-    model: &Model,
-    classes: &Classes,
-    wanted: &[NameSet],
+    wanted: &NameSet,
     instance: &Instance,
     before: Option<Violation>,
 ) -> Result<Option<Violation>, AllocError>
-    requires known { AreClasses (model_view model.now) classes.now }
-    requires listed { AreNamesOf (λ c. spelled (parameters (model_view model.now) c)) (suc (length model.now.decls)) wanted.now }
-    ensures { IfOk result (λ least. least ≡ least_from before (of_instance (model_view model.now) instance.now)) }
+    ensures { IfOk result (λ least. least ≡ least_from before (lacking (names_in wanted.now) instance.now)) }
 {
-    let Some(class) = class_of_instance(model, classes, &instance.class.name) else {
-        return Ok(before);
-    };
-    if gives_each(alloc, instance, &wanted[class.0 as usize])? {
+    if gives_each(alloc, instance, wanted)? {
         return Ok(before);
     }
     let violation = Violation {
@@ -75,30 +69,79 @@ fn least_of_instance(
     Ok(lesser(before, violation))
 }
 
-/// The least of what was found before and the violations of these instances. The only error is want
-/// of memory.
-fn least_of_instances(
+/// The least of what was found before and the violations of these instances, of whose class these
+/// are the parameters. The only error is want of memory.
+fn least_of_class(
     alloc: Global,
-    model: &Model,
-    classes: &Classes,
-    wanted: &[NameSet],
-    instances: &[Instance],
+    wanted: &NameSet,
+    instances: &[&Instance],
     before: Option<Violation>,
 ) -> Result<Option<Violation>, AllocError>
-    requires known { AreClasses (model_view model.now) classes.now }
-    requires listed { AreNamesOf (λ c. spelled (parameters (model_view model.now) c)) (suc (length model.now.decls)) wanted.now }
-    ensures { IfOk result (λ least. least ≡ least_from before (flat_map (of_instance (model_view model.now)) instances.now)) }
+    ensures { IfOk result (λ least. least ≡ least_from before (flat_map (λ i. lacking (names_in wanted.now) i.now) instances.now)) }
 {
     let mut least = before;
     for instance in instances {
-        least = least_of_instance(alloc, model, classes, wanted, instance, least)?;
+        least = least_of_instance(alloc, wanted, instance, least)?;
     }
     Ok(least)
 }
 
+/// Adds an instance to the row of its class, if that may have instances. The only error is want of
+/// memory.
+fn add_instance<'a>(
+    rows: &mut ByClass<&'a Instance>,
+    model: &Model,
+    classes: &Classes,
+    instance: &'a Instance,
+) -> Result<(), AllocError>
+    requires known { AreClasses (model_view model.now) classes.now }
+    requires rows { row_count rows.old ≡ suc (length model.now.decls) }
+    ensures counted { OnOk result (row_count rows.new ≡ row_count rows.old) }
+    ensures added { OnOk result ((k : ℕ) → map (λ i. i.now) (row rows.new k) ≡ map (λ i. i.now) (row rows.old k) ++ if_of_class (model_view model.now) k instance.now) }
+{
+    match class_of_instance(model, classes, &instance.class.name) {
+        Some(class) => rows.add(class.0, instance),
+        None => Ok(()),
+    }
+}
+
+/// Adds each of these instances to the row of its class. The only error is want of memory.
+fn add_instances<'a>(
+    rows: &mut ByClass<&'a Instance>,
+    model: &Model,
+    classes: &Classes,
+    instances: &'a [Instance],
+) -> Result<(), AllocError>
+    requires known { AreClasses (model_view model.now) classes.now }
+    requires rows { row_count rows.old ≡ suc (length model.now.decls) }
+    ensures counted { OnOk result (row_count rows.new ≡ row_count rows.old) }
+    ensures added { OnOk result ((k : ℕ) → map (λ i. i.now) (row rows.new k) ≡ map (λ i. i.now) (row rows.old k) ++ of_class (model_view model.now) k instances.now) }
+{
+    for instance in instances {
+        add_instance(rows, model, classes, instance)?;
+    }
+    Ok(())
+}
+
+/// The instances of each class. The only error is want of memory.
+fn instances_by_class<'a>(
+    alloc: Global,
+    model: &'a Model,
+    classes: &Classes,
+) -> Result<ByClass<&'a Instance>, AllocError>
+    requires { AreClasses (model_view model.now) classes.now }
+    ensures counted { IfOk result (λ rows. row_count rows ≡ suc (length model.now.decls)) }
+    ensures listed { IfOk result (λ rows. (k : ℕ) → map (λ i. i.now) (row rows k) ≡ of_class (model_view model.now) k (all_instances (model_view model.now))) }
+{
+    let mut rows = ByClass::new(alloc, classes.count())?;
+    for decl in model.decls.as_slice() {
+        add_instances(&mut rows, model, classes, instances_of(decl))?;
+    }
+    Ok(rows)
+}
+
 /// The least violation of C14, if there is one: an instance that does not give each parameter of its
-/// class once, or gives what is none. Too many classes to number are taken for want of memory, the
-/// only error.
+/// class once, or gives what is none. The only error is want of memory.
 pub fn least_ill_given(
     alloc: Global,
     model: &Model,
@@ -107,11 +150,13 @@ pub fn least_ill_given(
     requires { AreClasses (model_view model.now) classes.now }
     ensures { IfOk result (LeastOf (BreaksC14 (model_view model.now))) }
 {
-    let wanted = parameters_of_classes(alloc, model, classes)?;
+    let instances = instances_by_class(alloc, model, classes)?;
+    let mut opened = OpenNames::new(alloc);
     let mut least = None;
-    for decl in model.decls.as_slice() {
-        let instances = instances_of(decl);
-        least = least_of_instances(alloc, model, classes, &wanted, instances, least)?;
+    for visit in classes.preorder() {
+        opened.enter(visit.depth)?;
+        opened.add_groups(parameters_at(model, visit.class))?;
+        least = least_of_class(alloc, opened.names(), instances.of(visit.class), least)?;
     }
     Ok(least)
 }

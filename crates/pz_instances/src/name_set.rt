@@ -1,26 +1,32 @@
-ghost use Rattle.std.specs.Prelude.{◌≡◌, [], map, not, IfOk, OnOk};
-ghost use Rattle.std.specs.List.{list_all};
-ghost use Rattle.pz_classes.specs.Members.{spelled};
+ghost use Rattle.std.specs.Prelude.{◌≡◌, [], not, length, take, IfOk, OnOk};
+ghost use Rattle.pz_classes.specs.Members.{spelled, grouped};
 ghost use Rattle.pz_instances.specs.NameSets.{names_in, has_name, with_name, with_all};
 
 use indexmap::IndexSet;
-use pz_ast::{Id, Name};
+use pz_ast::{Id, VarGroup};
 use std::alloc::{AllocError, Global};
 
-/// Names, each of which it has once.
+/// Names, each of which it has once, in the order in which they were added.
 #[derive(Drop)]
-pub(crate) struct NameSet {
-    set: IndexSet<Vec<u8>>,
+pub(crate) struct NameSet<'a> {
+    set: IndexSet<&'a [u8]>,
 }
 
-impl NameSet {
+impl<'a> NameSet<'a> {
     /// No name yet. Takes no memory.
-    pub(crate) fn new(alloc: Global) -> NameSet
+    pub(crate) fn new(alloc: Global) -> NameSet<'a>
         ensures { names_in result ≡ [] }
     {
         NameSet {
             set: IndexSet::new(alloc),
         }
+    }
+
+    /// How many names there are.
+    pub(crate) fn len(&self) -> usize
+        ensures { result ≡ length (names_in self.now) }
+    {
+        self.set.len()
     }
 
     pub(crate) fn has(&self, name: &[u8]) -> bool
@@ -30,47 +36,37 @@ impl NameSet {
     }
 
     /// Adds a name, and tells whether it is new. The only error is want of memory.
-    pub(crate) fn add(&mut self, alloc: Global, name: &Name) -> Result<bool, AllocError>
+    pub(crate) fn add(&mut self, name: &'a [u8]) -> Result<bool, AllocError>
         ensures added { OnOk result (names_in self.new ≡ with_name (names_in self.old) name.now) }
         ensures fresh { IfOk result (λ is_new. is_new ≡ not (has_name (names_in self.old) name.now)) }
     {
-        let bytes = name.as_str().as_bytes();
-        if self.has(bytes) {
-            return Ok(false);
-        }
-        self.set.insert(bytes.to_vec(alloc)?)?;
-        Ok(true)
-    }
-
-    /// Adds each of these names. The only error is want of memory.
-    pub(crate) fn add_names(&mut self, alloc: Global, names: &[Name]) -> Result<(), AllocError>
-        ensures { OnOk result (names_in self.new ≡ with_all (names_in self.old) names.now) }
-    {
-        for name in names {
-            self.add(alloc, name)?;
-        }
-        Ok(())
+        Ok(self.set.insert(name)?)
     }
 
     /// Adds the names of these. The only error is want of memory.
-    pub(crate) fn add_ids(&mut self, alloc: Global, ids: &[Id]) -> Result<(), AllocError>
+    pub(crate) fn add_ids(&mut self, ids: &'a [Id]) -> Result<(), AllocError>
         ensures { OnOk result (names_in self.new ≡ with_all (names_in self.old) (spelled ids.now)) }
     {
         for id in ids {
-            self.add(alloc, &id.name)?;
+            self.add(id.name.as_str().as_bytes())?;
         }
         Ok(())
     }
 
-    /// Whether each name of the other set is there.
-    pub(crate) fn has_all(&self, other: &NameSet) -> bool
-        ensures { result ≡ list_all (has_name (names_in self.now)) (names_in other.now) }
+    /// Adds the names of these groups. The only error is want of memory.
+    pub(crate) fn add_groups(&mut self, groups: &'a [VarGroup]) -> Result<(), AllocError>
+        ensures { OnOk result (names_in self.new ≡ with_all (names_in self.old) (spelled (grouped groups.now))) }
     {
-        for name in other.set.as_slice() {
-            if !self.has(name.as_slice()) {
-                return false;
-            }
+        for group in groups {
+            self.add_ids(group.names.as_slice())?;
         }
-        true
+        Ok(())
+    }
+
+    /// Keeps the first so many names.
+    pub(crate) fn truncate(&mut self, count: usize)
+        ensures { names_in self.new ≡ take count (names_in self.old) }
+    {
+        self.set.truncate(count);
     }
 }

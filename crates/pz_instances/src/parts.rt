@@ -1,12 +1,15 @@
 // The parts of a declaration that rules on instances speak of.
 
 ghost use Rattle.std.specs.Prelude.{◌≡◌, [], suc, IfOk};
-ghost use Rattle.std.specs.Option.{unwrap_or};
-ghost use Rattle.pz_ast.specs.ClassView.{decl_view};
+ghost use Rattle.std.specs.Option.{unwrap_or, option_map_or};
+ghost use Rattle.pz_ast.specs.ClassView.{decl_view, model_view};
+ghost use Rattle.pz_classes.specs.Numbers.{declaration as declared};
+ghost use Rattle.pz_classes.specs.Members as members;
 ghost use Rattle.pz_classes.specs.Members.{grouped};
 ghost use Rattle.pz_classes.specs.Instances as spec;
 
-use pz_ast::{Decl, Given, Instance, VarGroup};
+use pz_ast::{Decl, Given, Id, Instance, Model, VarGroup};
+use pz_classes::declaration;
 use pz_items::Items;
 use std::alloc::AllocError;
 
@@ -21,7 +24,7 @@ fn written<T>(section: &Option<Items<T>>) -> &[T]
 }
 
 /// The parameters that a class itself declares.
-pub(crate) fn own_parameters(decl: &Decl) -> &[VarGroup]
+fn own_parameters(decl: &Decl) -> &[VarGroup]
     ensures { grouped result.now ≡ spec.own_parameters (decl_view decl.now) }
 {
     match decl {
@@ -32,6 +35,39 @@ pub(crate) fn own_parameters(decl: &Decl) -> &[VarGroup]
     }
 }
 
+/// The ports that a class itself declares.
+fn own_ports(decl: &Decl) -> &[Id]
+    ensures { result.now ≡ members.own_ports (decl_view decl.now) }
+{
+    match decl {
+        Decl::Data(_) => &[],
+        Decl::Process(class) => written(&class.ports),
+        Decl::Cluster(class) => written(&class.ports),
+        Decl::System(_) => &[],
+    }
+}
+
+/// The parameters that the class of this number itself declares.
+pub(crate) fn parameters_at(model: &Model, class: u32) -> &[VarGroup]
+    ensures { grouped result.now ≡ option_map_or spec.own_parameters (declared (model_view model.now) class) [] }
+{
+    match declaration(model, class) {
+        Some(decl) => own_parameters(decl),
+        None => &[],
+    }
+}
+
+/// The ports that the class of this number itself declares.
+pub(crate) fn ports_at(model: &Model, class: u32) -> &[Id]
+    ensures { result.now ≡ option_map_or members.own_ports (declared (model_view model.now) class) [] }
+{
+    match declaration(model, class) {
+        Some(decl) => own_ports(decl),
+        None => &[],
+    }
+}
+
+/// What an instance is given.
 pub(crate) fn given_of(instance: &Instance) -> &[Given]
     ensures { result.now ≡ unwrap_or instance.now.given [] }
 {

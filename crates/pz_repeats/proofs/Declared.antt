@@ -1,6 +1,7 @@
 -- What a model declares, as elements of its list.
-use Rattle.std.proofs.Common.{◌≡◌, ap, ℕ, zero, suc, List, [], ◌∷◌, Some, slice_get, ◌⊎◌, inl, inr}
+use Rattle.std.proofs.Common.{◌≡◌, ◌≤◌, ◌<◌, ap, ℕ, zero, suc, List, [], ◌∷◌, length, Some, slice_get, arith, ◌⊎◌, inl, inr}
 use Rattle.std.specs.List.{Contains}
+use Rattle.std.proofs.lemmas.Option.{slice_get_within}
 use Rattle.pz_ast.specs.Classes.{DeclTree, ModelTree}
 use Rattle.pz_classes.specs.Numbers.{declaration}
 use Rattle.pz_repeats.proofs.Lists.{none_in, first_in, later_in, in_cases}
@@ -35,3 +36,7 @@ module _ (m : ModelTree) where
   pub among_declared : (c : ℕ) (d : DeclTree) → declaration m c ≡ Some d → Contains m.decls d
   among_declared zero d here = cc
   among_declared (suc i) d here = at_place m.decls i d here
+
+  pub declared_within : (c : ℕ) (d : DeclTree) → declaration m c ≡ Some d → c ≤ length m.decls
+  declared_within zero d here = omega arith
+  declared_within (suc i) d here = let within : i < length m.decls = slice_get_within m.decls i d here in omega (arith, within)

@@ -10,7 +10,12 @@ pub mod EndKeys
 pub mod NameKeys
 pub mod MethodKeys
 pub mod MessageKeys
-pub mod Along
-pub mod ClassSteps
+pub mod PlaceOrder
+pub mod EarliestPlaces
+pub mod LeastCovering
+pub mod Covering
+pub mod Known
+pub mod NameSteps
+pub mod Visiting
+pub mod Openings
 pub mod RepeatsFound
-pub mod Numbered

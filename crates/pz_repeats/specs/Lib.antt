@@ -1,6 +1,8 @@
 pub mod Earlier
 pub mod Again
 pub mod Names
+pub mod Inheriting
+pub mod Knowing
 pub mod Headings
 pub mod Signals
 pub mod RepeatList

@@ -28,7 +28,11 @@ fn places_of<K: Hash + Eq + Copy>(
 }
 
 /// The least of what was found before and the violation, if there is one.
-fn least_if(violated: bool, violation: Violation, before: Option<Violation>) -> Option<Violation>
+pub(crate) fn least_if(
+    violated: bool,
+    violation: Violation,
+    before: Option<Violation>,
+) -> Option<Violation>
     ensures { result ≡ least_from before (listed violated violation) }
 {
     if violated {

@@ -2,6 +2,7 @@
 #![tactic(auto)]
 
 mod again;
+mod declaring;
 mod ends;
 mod inherited;
 mod messages;
@@ -9,6 +10,7 @@ mod methods;
 mod names;
 mod places;
 mod repeats;
+mod walk;
 
 pub use ends::least_double_end;
 pub use repeats::least_repeat;

@@ -20,7 +20,7 @@ pub(crate) struct Thing<K> {
 }
 
 /// The earlier of two places, the one found first where neither is earlier.
-fn earlier_place(found: Option<Pos>, place: Pos) -> Pos
+pub(crate) fn earlier_place(found: Option<Pos>, place: Pos) -> Pos
     ensures { earlier found place ≡ Some result }
 {
     let Some(first) = found else {

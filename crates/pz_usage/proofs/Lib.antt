@@ -1,6 +1,10 @@
 mod Sets
 mod Lists
 mod Classes
+mod Shown
+mod Along
+mod Calls
+mod Walks
 mod Found
 mod Unsized
 mod Foreign

@@ -3,7 +3,6 @@ use Rattle.std.proofs.Common.{◌≡◌, refl, sym, ◌∙◌, ap, ℕ, Bool, tr
 use Rattle.std.specs.declared.result.Result.{Result}
 use Rattle.std.specs.declared.result.Result.TheVariants.{Ok, Err}
 use Rattle.std.specs.Result.{IfOk}
-use Rattle.std.specs.Bool.{beq}
 use Rattle.std.specs.List.{list_any}
 use Rattle.std.specs.Str.{bytes_eq}
 use Rattle.std.proofs.lemmas.Bool.{eqb-true, and_parts}
@@ -18,6 +17,12 @@ or_assoc false b c = refl
 pub or_none : (a : Bool) → (a || false) ≡ a
 or_none true = refl
 or_none false = refl
+
+pub and_assoc : (a b c d : Bool) → (a && (b && (c && d))) ≡ (a && b && c && d)
+and_assoc false b c d = refl
+and_assoc true false c d = refl
+and_assoc true true false d = refl
+and_assoc true true true d = refl
 
 or_true : (a : Bool) → (a || true) ≡ true
 or_true true = refl
@@ -55,28 +60,13 @@ module _ {K : Type 0} (eq : K → K → Bool) (test : K → Bool) (k : K) (alike
       by_key true is = sym (there ks is)
       by_key false is = list_any-append test ks (k ∷ []) ∙ ap (λ (r : Bool). list_any test ks || r) (or_none (test k))
 
-same_bytes : (xs ys q : List ℕ) → bytes_eq xs ys ≡ true → bytes_eq q xs ≡ bytes_eq q ys
+pub same_bytes : (xs ys q : List ℕ) → bytes_eq xs ys ≡ true → bytes_eq q xs ≡ bytes_eq q ys
 same_bytes xs ys q is = ap (λ (n : List ℕ). bytes_eq q n) ((bytes_eq-Decides xs ys).0 is)
 
 same_number : (i j n : ℕ) → nat_eq i j ≡ true → nat_eq n i ≡ nat_eq n j
 same_number i j n is = ap (λ (k : ℕ). nat_eq n k) (eqb-true i j is)
 
-same_bool : (a b o : Bool) → beq a b ≡ true → beq o a ≡ beq o b
-same_bool true true o is = refl
-same_bool false false o is = refl
-same_bool true false o is = cc
-same_bool false true o is = cc
-
 pub selectors_alike : (xs ys : List ℕ) (i j : ℕ) (q : List ℕ) (n : ℕ) → (bytes_eq xs ys && nat_eq i j) ≡ true → (nat_eq n i && bytes_eq q xs) ≡ (nat_eq n j && bytes_eq q ys)
 selectors_alike xs ys i j q n is =
     let both = and_parts (bytes_eq xs ys) (nat_eq i j) is in
     rw (same_bytes xs ys q both.0, same_number i j n both.1) refl
-
-pub messages_alike : (ps qs : List ℕ) (a b : Bool) (xs ys : List ℕ) (i j : ℕ) (p : List ℕ) (o : Bool) (q : List ℕ) (n : ℕ)
-    → (bytes_eq ps qs && (beq a b && (bytes_eq xs ys && nat_eq i j))) ≡ true
-    → (bytes_eq p ps && beq o a && bytes_eq q xs && nat_eq n i) ≡ (bytes_eq p qs && beq o b && bytes_eq q ys && nat_eq n j)
-messages_alike ps qs a b xs ys i j p o q n is =
-    let all = and_parts (bytes_eq ps qs) (beq a b && (bytes_eq xs ys && nat_eq i j)) is in
-    let three = and_parts (beq a b) (bytes_eq xs ys && nat_eq i j) all.1 in
-    let two = and_parts (bytes_eq xs ys) (nat_eq i j) three.1 in
-    rw (same_bytes ps qs p all.0, same_bool a b o three.0, same_bytes xs ys q two.0, same_number i j n two.1) refl

@@ -1,6 +1,7 @@
 -- The violations at words as a list, word by word, as a device of the proofs.
-use Rattle.std.specs.Prelude.{ℕ, suc, List, [], ◌∷◌, ◌++◌}
+use Rattle.std.specs.Prelude.{ℕ, List, [], ◌++◌}
 use Rattle.std.specs.List.{flat_map}
+use Rattle.std.specs.Option.{option_map_or}
 use Rattle.pz_ast.specs.declared.names.Id.{Id}
 use Rattle.pz_ast.specs.Classes.{DeclTree, ModelTree}
 use Rattle.pz_violation.specs.declared.violation.Violation.{Violation}
@@ -9,6 +10,7 @@ use Rattle.pz_violation.specs.Least.{listed}
 use Rattle.pz_mentions.specs.declared.mention.Mention.{Mention}
 use Rattle.pz_mentions.specs.declared.part.Part.{Part}
 use Rattle.pz_mentions.specs.Declarations.{parts}
+use Rattle.pz_classes.specs.Numbers.{declaration}
 use Rattle.pz_classes.specs.Words.{place}
 use Rattle.pz_classes.specs.NameRules.{breaks_c5, breaks_c6, breaks_c12, breaks_c13, breaks_c18, breaks_c21, breaks_c22}
 use Rattle.pz_classes.specs.CallRules.{breaks_c7, breaks_c8, breaks_c9, breaks_c10, breaks_c11}
@@ -40,10 +42,10 @@ module _ (m : ModelTree) (c : ℕ) (d : DeclTree) where
 abbrev pub of_class : ModelTree → ℕ → DeclTree → List Violation
 of_class m c d = of_parts m c d (parts d)
 
--- those of these classes, of which the first is number n
-abbrev pub among : ModelTree → ℕ → List DeclTree → List Violation
-among m n [] = []
-among m n (d ∷ ds) = of_class m n d ++ among m (suc n) ds
+-- none where the class of this number has no declaration
+abbrev pub of_number : ModelTree → ℕ → List Violation
+of_number m c = option_map_or (of_class m c) (declaration m c) []
 
-abbrev pub misuses : ModelTree → List Violation
-misuses m = among m 1 m.decls
+-- those of these classes, in turn
+abbrev pub misuses : ModelTree → List ℕ → List Violation
+misuses m cs = flat_map (of_number m) cs

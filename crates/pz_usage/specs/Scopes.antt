@@ -1,18 +1,16 @@
 -- What the code knows of a model and of a class when it comes to a word.
 use Rattle.std.specs.Prelude.{◌≡◌, ℕ, Bool, List}
 use Rattle.std.specs.List.{list_any}
-use Rattle.std.specs.Option.{is_none}
 use Rattle.pz_ast.specs.Classes.{DeclTree, ModelTree}
 use Rattle.pz_ast.specs.ClassView.{decl_view, model_view}
 use Rattle.pz_classes.specs.declared.method_id.Counts.TheVariants.{Data}
-use Rattle.pz_classes.specs.Members.{ports}
+use Rattle.pz_classes.specs.Ancestors.{ancestors}
 use Rattle.pz_classes.specs.Methods.{Signature, same_signature}
-use Rattle.pz_classes.specs.NameRules.{shared}
-use Rattle.pz_classes.specs.CallRules.{is_declared, is_message, messages, start}
-use Rattle.pz_classes.specs.Tables.{AreClasses, HasClass}
+use Rattle.pz_classes.specs.CallRules.{is_declared}
+use Rattle.pz_classes.specs.Tables.{AreClasses}
 use Rattle.pz_classes.specs.Words.{is_among}
-use Rattle.pz_usage.specs.Sets.{has_name, has_selector, has_message}
-use Rattle.pz_usage.specs.declared.messages.Messages.{Messages}
+use Rattle.pz_usage.specs.Sets.{has_name, has_selector}
+use Rattle.pz_usage.specs.Inherited.{IsOpen}
 use Rattle.pz_usage.specs.declared.declared.Declared.{Declared}
 use Rattle.pz_usage.specs.declared.class_scope.ClassScope.{ClassScope}
 use Rattle.pz_usage.specs.declared.stretch.Stretch.{Stretch}
@@ -31,20 +29,12 @@ pub record AreDeclared (declared : Declared) : Type 0 where
   pub classes : AreClasses (model_of declared) declared.classes.now
   pub selectors : (q : List ℕ) (n : ℕ) → has_selector declared.selectors.now q n ≡ is_declared (model_of declared) (asked q n)
 
--- these are the messages of the class
-abbrev pub AreMessages : ModelTree → ℕ → Messages → Type 0
-AreMessages m c set = (p : List ℕ) (o : Bool) (q : List ℕ) (n : ℕ) → has_message set p o q n ≡ list_any (is_message p o q n) (messages m c)
-
 abbrev pub decl_of : ClassScope → DeclTree
 decl_of scope = decl_view scope.decl.now
 
--- what the class of this scope has, its ancestors included
-pub record IsScope (declared : Declared) (scope : ClassScope) : Type 0 where
-  pub class : HasClass declared.classes.now scope.class
-  pub shared : (q : List ℕ) → has_name scope.shared q ≡ is_among (shared (model_of declared) scope.class.0 (decl_of scope)) q
-  pub ports : (q : List ℕ) → has_name scope.ports q ≡ is_among (ports (model_of declared) scope.class.0) q
-  pub messages : AreMessages (model_of declared) scope.class.0 scope.messages
-  pub start : scope.lacks_init ≡ is_none (start (model_of declared) scope.class.0)
+-- what the class of this scope and its ancestors declare is known
+abbrev pub IsScope : Declared → ClassScope → Type 0
+IsScope declared scope = IsOpen (model_of declared) (ancestors (model_of declared) scope.class.0) scope.inherited.now
 
 -- the set has the local names of the part
 abbrev pub HasLocals : Stretch → Type 0

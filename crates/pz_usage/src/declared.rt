@@ -4,8 +4,8 @@ use pz_classes::Classes;
 
 /// What a model declares: its classes, and the selectors of its data classes.
 #[derive(Drop)]
-pub(crate) struct Declared<'a> {
-    pub(crate) model: &'a Model,
-    pub(crate) classes: &'a Classes,
-    pub(crate) selectors: &'a Selectors,
+pub(crate) struct Declared<'s, 'm> {
+    pub(crate) model: &'m Model,
+    pub(crate) classes: &'m Classes,
+    pub(crate) selectors: &'s Selectors<'m>,
 }

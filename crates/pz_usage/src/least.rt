@@ -1,20 +1,25 @@
 // The least violation at a word.
 
-ghost use Rattle.std.specs.Prelude.{◌≡◌, ◌<◌, ◌≤◌, ◌+◌, ◌^◌, length, None, IfOk};
-ghost use Rattle.pz_ast.specs.ClassView.{decl_view, model_view};
+ghost use Rattle.std.specs.Prelude.{◌≡◌, [], None, IfOk};
+ghost use Rattle.pz_ast.specs.ClassView.{model_view};
+ghost use Rattle.pz_classes.specs.Ancestors.{ancestors};
+ghost use Rattle.pz_classes.specs.Preorder.{Opens};
 ghost use Rattle.pz_classes.specs.Tables.{AreClasses};
 ghost use Rattle.pz_classes.specs.WordRules.{BreaksWord};
+ghost use Rattle.pz_lineage.specs.Preorder.{visited};
 ghost use Rattle.pz_violation.specs.Least.{LeastOf, least_from};
+ghost use Rattle.pz_usage.specs.Inherited.{IsOpen};
 ghost use Rattle.pz_usage.specs.Scopes.{AreDeclared, IsScope, model_of, decl_of};
-ghost use Rattle.pz_usage.specs.Misuses.{of_part, of_parts, of_class, misuses};
+ghost use Rattle.pz_usage.specs.Misuses.{of_part, of_parts, of_number, misuses};
 
-use crate::class_scope::{ClassScope, scope_of};
+use crate::class_scope::ClassScope;
 use crate::declared::Declared;
+use crate::inherited::Inherited;
 use crate::selectors::selectors_of;
 use crate::stretch::stretch_of;
 use crate::words::least_at_word;
-use pz_ast::{Decl, Model};
-use pz_classes::Classes;
+use pz_ast::Model;
+use pz_classes::{Classes, Visit, declaration};
 use pz_mentions::{Part, parts_of};
 use pz_value::ClassId;
 use pz_violation::Violation;
@@ -36,7 +41,7 @@ fn least_of_part(
     let stretch = stretch_of(alloc, part)?;
     let mut least = before;
     for word in part.mentions.as_slice() {
-        least = least_at_word(alloc, declared, scope, &stretch, word, least)?;
+        least = least_at_word(declared, scope, &stretch, word, least);
     }
     Ok(least)
 }
@@ -61,42 +66,54 @@ fn least_of_parts(
     Ok(least)
 }
 
-/// The least of what was found before and the violations in the class of this number, which is
-/// declared so. The only error is want of memory.
+/// The least of what was found before and the violations in the class of this number. The only error
+/// is want of memory.
 fn least_of_class(
     alloc: Global,
     declared: &Declared,
+    inherited: &Inherited,
     number: u32,
-    decl: &Decl,
     before: Option<Violation>,
 ) -> Result<Option<Violation>, AllocError>
     requires declares { AreDeclared declared.now }
-    requires there { number ≤ length declared.now.model.now.decls }
-    ensures { IfOk result (λ least. least ≡ least_from before (of_class (model_of declared.now) number (decl_view decl.now))) }
+    requires opened { IsOpen (model_of declared.now) (ancestors (model_of declared.now) number) inherited.now }
+    ensures { IfOk result (λ least. least ≡ least_from before (of_number (model_of declared.now) number)) }
 {
-    let scope = scope_of(alloc, declared, ClassId(number), decl)?;
+    let Some(decl) = declaration(declared.model, number) else {
+        return Ok(before);
+    };
+    let scope = ClassScope {
+        class: ClassId(number),
+        decl,
+        inherited,
+    };
     let parts = parts_of(alloc, decl)?;
     least_of_parts(alloc, declared, &scope, parts.as_slice(), before)
 }
 
-/// The least of all violations at words. The only error is want of memory.
-fn least_of_all(alloc: Global, declared: &Declared) -> Result<Option<Violation>, AllocError>
+/// The least of the violations in these classes, to which a walk comes in turn. The only error is
+/// want of memory.
+fn least_of_visits(
+    alloc: Global,
+    declared: &Declared,
+    visits: &[Visit],
+) -> Result<Option<Violation>, AllocError>
     requires declares { AreDeclared declared.now }
-    requires room { length declared.now.model.now.decls + 1 < 2 ^ 32 }
-    ensures { IfOk result (λ least. least ≡ least_from None (misuses (model_of declared.now))) }
+    requires opens { Opens (model_of declared.now) [] visits.now }
+    ensures { IfOk result (λ least. least ≡ least_from None (misuses (model_of declared.now) (visited visits.now))) }
 {
+    let mut inherited = Inherited::new(alloc);
     let mut least = None;
-    let mut number = 0u32;
-    for decl in declared.model.decls.as_slice() {
-        number += 1;
-        least = least_of_class(alloc, declared, number, decl, least)?;
+    for visit in visits {
+        inherited.enter(declared.model, *visit)?;
+        least = least_of_class(alloc, declared, &inherited, visit.class, least)?;
     }
     Ok(least)
 }
 
 /// The least violation of the rules C5 to C13, C18, C21 and C22, which are broken at a word, if
-/// there is one. The only error is want of memory; too many classes to number, or a list too long
-/// to count in 32 bits, are taken for that.
+/// there is one. The only error is want of memory; a list too long to count in 32 bits is taken for
+/// that.
 pub fn least_misuse(
     alloc: Global,
     model: &Model,
@@ -105,14 +122,11 @@ pub fn least_misuse(
     requires { AreClasses (model_view model.now) classes.now }
     ensures { IfOk result (LeastOf (BreaksWord (model_view model.now))) }
 {
-    if model.decls.len() >= u32::MAX as usize {
-        return Err(AllocError);
-    }
     let selectors = selectors_of(alloc, model)?;
     let declared = Declared {
         model,
         classes,
         selectors: &selectors,
     };
-    least_of_all(alloc, &declared)
+    least_of_visits(alloc, &declared, classes.preorder())
 }

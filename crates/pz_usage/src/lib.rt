@@ -4,10 +4,12 @@
 
 mod class_scope;
 mod declared;
-mod inheritance;
+mod inherited;
 mod least;
 mod messages;
+mod methods;
 mod name_set;
+mod names;
 mod rules;
 mod scopes;
 mod selectors;

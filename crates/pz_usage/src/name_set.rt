@@ -1,57 +1,49 @@
 ghost use Rattle.std.specs.Prelude.{◌≡◌, List, ℕ, ◌||◌, false, OnOk};
-ghost use Rattle.std.specs.List.{list_any};
 ghost use Rattle.std.specs.Str.{bytes_eq};
+ghost use Rattle.pz_classes.specs.Words.{is_among};
 ghost use Rattle.pz_usage.specs.Sets.{has_name};
 
+use indexmap::IndexSet;
 use pz_ast::{Id, Name};
-use pz_names::Numbering;
 use std::alloc::{AllocError, Global};
 
 /// A set of names.
 #[derive(Drop)]
-pub(crate) struct NameSet {
-    numbering: Numbering,
+pub(crate) struct NameSet<'a> {
+    set: IndexSet<&'a [u8]>,
 }
 
-impl NameSet {
+impl<'a> NameSet<'a> {
     /// The empty set. Takes no memory.
-    pub(crate) fn new(alloc: Global) -> NameSet
+    pub(crate) fn new(alloc: Global) -> Self
         ensures { (q : List ℕ) → has_name result q ≡ false }
     {
         NameSet {
-            numbering: Numbering::new(alloc),
+            set: IndexSet::new(alloc),
         }
     }
 
     pub(crate) fn has(&self, name: &Name) -> bool
         ensures { result ≡ has_name self.now name.now }
     {
-        self.numbering.get(name.as_str().as_bytes()).is_some()
+        let sought = name.as_str().as_bytes();
+        self.set.contains(&sought)
     }
 
     /// Adds a name. The only error is want of memory.
-    fn add(&mut self, alloc: Global, name: &Name) -> Result<(), AllocError>
+    fn add(&mut self, name: &'a Name) -> Result<(), AllocError>
         ensures { OnOk result ((q : List ℕ) → has_name self.new q ≡ (has_name self.old q || bytes_eq q name.now)) }
     {
-        self.numbering.add(alloc, name, 0)
-    }
-
-    /// Adds each of these names. The only error is want of memory.
-    pub(crate) fn add_names(&mut self, alloc: Global, names: &[Name]) -> Result<(), AllocError>
-        ensures { OnOk result ((q : List ℕ) → has_name self.new q ≡ (has_name self.old q || list_any (bytes_eq q) names.now)) }
-    {
-        for name in names {
-            self.add(alloc, name)?;
-        }
+        self.set.insert(name.as_str().as_bytes())?;
         Ok(())
     }
 
     /// Adds the name of each of these. The only error is want of memory.
-    pub(crate) fn add_ids(&mut self, alloc: Global, ids: &[Id]) -> Result<(), AllocError>
-        ensures { OnOk result ((q : List ℕ) → has_name self.new q ≡ (has_name self.old q || list_any (λ x. bytes_eq q x.name) ids.now)) }
+    pub(crate) fn add_ids(&mut self, ids: &'a [Id]) -> Result<(), AllocError>
+        ensures { OnOk result ((q : List ℕ) → has_name self.new q ≡ (has_name self.old q || is_among ids.now q)) }
     {
         for id in ids {
-            self.add(alloc, &id.name)?;
+            self.add(&id.name)?;
         }
         Ok(())
     }

@@ -2,6 +2,7 @@
 
 ghost use Rattle.std.specs.Prelude.{◌≡◌, IfOk};
 ghost use Rattle.std.specs.Option.{option_copied, option_map, option_and_then};
+ghost use Rattle.pz_ast.specs.Classes.{ModelTree};
 ghost use Rattle.pz_ast.specs.ClassView.{decl_view, model_view};
 ghost use Rattle.pz_classes.specs.Kinds as kinds;
 ghost use Rattle.pz_classes.specs.NameRules as names;
@@ -9,10 +10,19 @@ ghost use Rattle.pz_classes.specs.Numbers as numbers;
 ghost use Rattle.pz_classes.specs.CallRules as calls;
 ghost use Rattle.pz_classes.specs.Tables.{AreClasses};
 
-use crate::inheritance::number_of;
 use pz_ast::{Decl, Model, Name};
 use pz_classes::{Classes, declaration};
 use pz_names::{is_array, is_primitive};
+
+/// The number of the class of this name.
+fn number_of(classes: &Classes, name: &Name) -> Option<u32>
+    ensures { (m : ModelTree) → AreClasses m classes.now → result ≡ numbers.class m name.now }
+{
+    match classes.class(name.as_str().as_bytes()) {
+        Some(class) => Some(class.0),
+        None => None,
+    }
+}
 
 /// The declaration of the class of this name.
 fn class_named<'a>(model: &'a Model, classes: &Classes, name: &Name) -> Option<&'a Decl>

@@ -1,6 +1,6 @@
 // What a class lacks of what its words name.
 
-ghost use Rattle.std.specs.Prelude.{◌≡◌, Bool, not, ◌&&◌, IfOk};
+ghost use Rattle.std.specs.Prelude.{◌≡◌, Bool, not, ◌&&◌};
 ghost use Rattle.std.specs.List.{list_any};
 ghost use Rattle.std.specs.Option.{is_none};
 ghost use Rattle.pz_ast.specs.ClassView.{decl_view};
@@ -17,7 +17,6 @@ use crate::declared::Declared;
 use crate::rules::is_primitive_selector;
 use crate::stretch::Stretch;
 use pz_ast::{Decl, Name};
-use std::alloc::{AllocError, Global};
 
 pub(crate) fn is_data(decl: &Decl) -> bool
     ensures { result ≡ kinds.is_data (decl_view decl.now) }
@@ -30,7 +29,24 @@ pub(crate) fn never_starts(declared: &Declared, scope: &ClassScope) -> bool
     requires { IsScope declared.now scope.now }
     ensures { result ≡ (kinds.is_process (decl_of scope.now) && is_none (calls.start (model_of declared.now) scope.now.class.0)) }
 {
-    matches!(scope.decl, Decl::Process(_)) && scope.lacks_init
+    match scope.decl {
+        Decl::Process(_) => !scope.inherited.has_start(),
+        _ => false,
+    }
+}
+
+/// Whether the name is that of a field of a data class, or of a parameter or variable of a process
+/// class.
+fn has_shared(declared: &Declared, scope: &ClassScope, name: &Name) -> bool
+    requires { IsScope declared.now scope.now }
+    ensures { result ≡ is_among (names.shared (model_of declared.now) scope.now.class.0 (decl_of scope.now)) name.now }
+{
+    match scope.decl {
+        Decl::Data(_) => scope.inherited.has_field(name),
+        Decl::Process(_) => scope.inherited.has_variable(name),
+        Decl::Cluster(_) => false,
+        Decl::System(_) => false,
+    }
 }
 
 /// Whether a name is neither local nor shared by all bodies of the class.
@@ -44,7 +60,7 @@ pub(crate) fn lacks_variable(
     requires local { HasLocals stretch.now }
     ensures { result ≡ (not (is_among stretch.now.part.now.locals name.now) && not (is_among (names.shared (model_of declared.now) scope.now.class.0 (decl_of scope.now)) name.now)) }
 {
-    !stretch.locals.has(name) && !scope.shared.has(name)
+    !stretch.locals.has(name) && !has_shared(declared, scope, name)
 }
 
 /// Whether neither the class nor an ancestor has a method with this name and these counts.
@@ -55,32 +71,19 @@ pub(crate) fn lacks_method(
     inputs: u32,
     outputs: u32,
 ) -> bool
-    requires declares { AreDeclared declared.now }
-    requires scoped { IsScope declared.now scope.now }
+    requires { IsScope declared.now scope.now }
     ensures { result ≡ is_none (methods.process_method (model_of declared.now) scope.now.class.0 name.now inputs outputs) }
 {
-    let name = name.as_str().as_bytes();
-    declared
-        .classes
-        .process_method(scope.class, name, inputs, outputs)
-        .is_none()
+    !scope.inherited.has_method(name, inputs, outputs)
 }
 
 /// Whether neither primitive values nor a data class of the model have this selector with so many
-/// arguments. The only error is want of memory.
-pub(crate) fn lacks_selector(
-    alloc: Global,
-    declared: &Declared,
-    name: &Name,
-    count: u32,
-) -> Result<bool, AllocError>
+/// arguments.
+pub(crate) fn lacks_selector(declared: &Declared, name: &Name, count: u32) -> bool
     requires { AreDeclared declared.now }
-    ensures { IfOk result (λ lacks. lacks ≡ (not (calls.is_primitive_selector name.now count) && not (calls.is_declared (model_of declared.now) (asked name.now count)))) }
+    ensures { result ≡ (not (calls.is_primitive_selector name.now count) && not (calls.is_declared (model_of declared.now) (asked name.now count))) }
 {
-    if is_primitive_selector(name, count) {
-        return Ok(false);
-    }
-    Ok(!declared.selectors.has(alloc, name, count)?)
+    !is_primitive_selector(name, count) && !declared.selectors.has(name, count)
 }
 
 /// Whether neither the class nor an ancestor has this port.
@@ -88,22 +91,21 @@ pub(crate) fn lacks_port(declared: &Declared, scope: &ClassScope, name: &Name) -
     requires { IsScope declared.now scope.now }
     ensures { result ≡ not (is_among (members.ports (model_of declared.now) scope.now.class.0) name.now) }
 {
-    !scope.ports.has(name)
+    !scope.inherited.has_port(name)
 }
 
 /// Whether neither the class nor an ancestor declares a message on this port, of this direction and
-/// name, with so many parameters. The only error is want of memory.
+/// name, with so many parameters.
 pub(crate) fn lacks_message(
-    alloc: Global,
     declared: &Declared,
     scope: &ClassScope,
     port: &Name,
     out: bool,
     name: &Name,
     count: u32,
-) -> Result<bool, AllocError>
+) -> bool
     requires { IsScope declared.now scope.now }
-    ensures { IfOk result (λ lacks. lacks ≡ not (list_any (calls.is_message port.now out name.now count) (calls.messages (model_of declared.now) scope.now.class.0))) }
+    ensures { result ≡ not (list_any (calls.is_message port.now out name.now count) (calls.messages (model_of declared.now) scope.now.class.0)) }
 {
-    Ok(!scope.messages.has(alloc, port, out, name, count)?)
+    !scope.inherited.has_message(port, out, name, count)
 }

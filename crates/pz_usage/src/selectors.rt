@@ -15,30 +15,31 @@ use pz_classes::count_section;
 use std::alloc::{AllocError, Global};
 
 /// A selector, and how many arguments it has.
-#[derive(PartialEq, Eq, Hash, Drop)]
-struct Selector {
-    name: Vec<u8>,
+#[derive(Clone, Copy, PartialEq, Eq, Hash)]
+struct Selector<'a> {
+    name: &'a [u8],
     count: u32,
 }
 
 /// A set of selectors.
 #[derive(Drop)]
-pub(crate) struct Selectors {
-    set: IndexSet<Selector>,
+pub(crate) struct Selectors<'a> {
+    set: IndexSet<Selector<'a>>,
 }
 
-/// The only error is want of memory.
-fn key_of(alloc: Global, name: &Name, count: u32) -> Result<Selector, AllocError>
-    ensures named { IfOk result (λ s. s.name.items ≡ name.now) }
-    ensures counted { IfOk result (λ s. s.count ≡ count) }
+fn key_of(name: &Name, count: u32) -> Selector
+    ensures named { result.name.now ≡ name.now }
+    ensures counted { result.count ≡ count }
 {
-    let name = name.as_str().as_bytes().to_vec(alloc)?;
-    Ok(Selector { name, count })
+    Selector {
+        name: name.as_str().as_bytes(),
+        count,
+    }
 }
 
-impl Selectors {
+impl<'a> Selectors<'a> {
     /// The empty set. Takes no memory.
-    fn new(alloc: Global) -> Selectors
+    fn new(alloc: Global) -> Self
         ensures { (q : List ℕ) (n : ℕ) → has_selector result q n ≡ false }
     {
         Selectors {
@@ -46,30 +47,29 @@ impl Selectors {
         }
     }
 
-    /// Whether the set has this selector with so many arguments. The only error is want of memory.
-    pub(crate) fn has(&self, alloc: Global, name: &Name, count: u32) -> Result<bool, AllocError>
-        ensures { IfOk result (λ has. has ≡ has_selector self.now name.now count) }
+    /// Whether the set has this selector with so many arguments.
+    pub(crate) fn has(&self, name: &Name, count: u32) -> bool
+        ensures { result ≡ has_selector self.now name.now count }
     {
-        let sought = key_of(alloc, name, count)?;
-        Ok(self.set.contains(&sought))
+        self.set.contains(&key_of(name, count))
     }
 
     /// Adds a selector. The only error is want of memory.
-    fn add(&mut self, alloc: Global, name: &Name, count: u32) -> Result<(), AllocError>
+    fn add(&mut self, name: &'a Name, count: u32) -> Result<(), AllocError>
         ensures { OnOk result ((q : List ℕ) (n : ℕ) → has_selector self.new q n ≡ (has_selector self.old q n || (nat_eq n count && bytes_eq q name.now))) }
     {
-        self.set.insert(key_of(alloc, name, count)?)?;
+        self.set.insert(key_of(name, count))?;
         Ok(())
     }
 
     /// Adds the selector of each method. Too many inputs to count in 32 bits are taken for want of
     /// memory.
-    fn add_methods(&mut self, alloc: Global, methods: &[DataMethod]) -> Result<(), AllocError>
+    fn add_methods(&mut self, methods: &'a [DataMethod]) -> Result<(), AllocError>
         ensures { OnOk result ((q : List ℕ) (n : ℕ) → has_selector self.new q n ≡ (has_selector self.old q n || is_one_of (asked q n) (map data_signature (map data_method_view methods.now)))) }
     {
         for method in methods {
             let count = count_section(&method.inputs)?;
-            self.add(alloc, &method.name.name, count)?;
+            self.add(&method.name.name, count)?;
         }
         Ok(())
     }
@@ -77,13 +77,13 @@ impl Selectors {
     /// Adds the selectors that a data class declares, none for another declaration. The only error is
     /// want of memory; too many inputs to count in 32 bits are taken for that.
     #[tactic(auto, using(crate::proofs::Sets::or_none, crate::proofs::Foreign::no_selector))]
-    fn add_declared(&mut self, alloc: Global, decl: &Decl) -> Result<(), AllocError>
+    fn add_declared(&mut self, decl: &'a Decl) -> Result<(), AllocError>
         ensures { OnOk result ((q : List ℕ) (n : ℕ) → has_selector self.new q n ≡ (has_selector self.old q n || is_one_of (asked q n) (signatures (decl_view decl.now)))) }
     {
         match decl {
             Decl::Data(class) => match &class.methods {
                 None => Ok(()),
-                Some(methods) => self.add_methods(alloc, methods.as_slice()),
+                Some(methods) => self.add_methods(methods.as_slice()),
             },
             Decl::Process(_) => Ok(()),
             Decl::Cluster(_) => Ok(()),
@@ -99,7 +99,7 @@ pub(crate) fn selectors_of(alloc: Global, model: &Model) -> Result<Selectors, Al
 {
     let mut selectors = Selectors::new(alloc);
     for decl in model.decls.as_slice() {
-        selectors.add_declared(alloc, decl)?;
+        selectors.add_declared(decl)?;
     }
     Ok(selectors)
 }

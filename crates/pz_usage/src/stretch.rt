@@ -9,7 +9,7 @@ use std::alloc::{AllocError, Global};
 #[derive(Drop)]
 pub(crate) struct Stretch<'a> {
     pub(crate) part: &'a Part,
-    pub(crate) locals: NameSet,
+    pub(crate) locals: NameSet<'a>,
 }
 
 /// The only error is want of memory.
@@ -18,6 +18,6 @@ pub(crate) fn stretch_of(alloc: Global, part: &Part) -> Result<Stretch, AllocErr
     ensures part { IfOk result (λ s. s.part.now ≡ part.now) }
 {
     let mut locals = NameSet::new(alloc);
-    locals.add_ids(alloc, part.locals.as_slice())?;
+    locals.add_ids(part.locals.as_slice())?;
     Ok(Stretch { part, locals })
 }

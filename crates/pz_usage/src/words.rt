@@ -1,6 +1,6 @@
 // Which rules are broken at a word.
 
-ghost use Rattle.std.specs.Prelude.{◌≡◌, not, ◌&&◌, ◌++◌, IfOk};
+ghost use Rattle.std.specs.Prelude.{◌≡◌, not, ◌&&◌, ◌++◌};
 ghost use Rattle.pz_names.specs.ReservedNames as reserved;
 ghost use Rattle.pz_violation.specs.Order.{violation};
 ghost use Rattle.pz_violation.specs.Least.{least_from, listed};
@@ -18,7 +18,6 @@ use pz_ast::{Id, Pos};
 use pz_mentions::Mention;
 use pz_names::is_unsupported;
 use pz_violation::{Violation, lesser};
-use std::alloc::{AllocError, Global};
 
 /// The least of what was found before and this rule at this place, if it is broken there.
 fn noted(before: Option<Violation>, broken: bool, rule: u8, pos: Pos) -> Option<Violation>
@@ -43,26 +42,24 @@ fn noted_class(before: Option<Violation>, class: &Id, broken: bool, rule: u8) ->
     }
 }
 
-/// The least of what was found before and the rules that are broken at this word. The only error is
-/// want of memory.
+/// The least of what was found before and the rules that are broken at this word.
 #[tactic(auto, using(pz_violation::proofs::Leasts::least_from_append))]
 pub(crate) fn least_at_word(
-    alloc: Global,
     declared: &Declared,
     scope: &ClassScope,
     stretch: &Stretch,
     word: &Mention,
     before: Option<Violation>,
-) -> Result<Option<Violation>, AllocError>
+) -> Option<Violation>
     requires declares { AreDeclared declared.now }
     requires scoped { IsScope declared.now scope.now }
     requires local { HasLocals stretch.now }
-    ensures { IfOk result (λ least. least ≡ least_from before (at_word (model_of declared.now) scope.now.class.0 (decl_of scope.now) stretch.now.part.now.locals word.now)) }
+    ensures { result ≡ least_from before (at_word (model_of declared.now) scope.now.class.0 (decl_of scope.now) stretch.now.part.now.locals word.now) }
 {
     let model = declared.model;
     let classes = declared.classes;
     let in_data = is_data(scope.decl);
-    let least = match word {
+    match word {
         Mention::Declared(x) => noted_class(before, x, never_starts(declared, scope), 11),
         Mention::Extended(x) => noted(before, is_unsupported(&x.name), 18, x.pos),
         Mention::Typed(x) => noted_class(before, x, !is_type(model, classes, &x.name), 5),
@@ -83,24 +80,23 @@ pub(crate) fn least_at_word(
             noted(before, lacks, 7, name.pos)
         }
         Mention::Selector { name, count } => {
-            let lacks = lacks_selector(alloc, declared, &name.name, *count)?;
+            let lacks = lacks_selector(declared, &name.name, *count);
             noted(before, lacks, 8, name.pos)
         }
         Mention::Port(x) => noted(before, lacks_port(declared, scope, &x.name), 9, x.pos),
         Mention::Sent { port, name, count } => {
             let (port, sent) = (&port.name, &name.name);
-            let lacks = lacks_message(alloc, declared, scope, port, true, sent, *count)?;
+            let lacks = lacks_message(declared, scope, port, true, sent, *count);
             noted(before, lacks, 10, name.pos)
         }
         Mention::Received { port, name, count } => {
             let (port, received) = (&port.name, &name.name);
-            let lacks = lacks_message(alloc, declared, scope, port, false, received, *count)?;
+            let lacks = lacks_message(declared, scope, port, false, received, *count);
             noted(before, lacks, 10, name.pos)
         }
         Mention::Clock(pos) => noted(before, in_data, 21, *pos),
         Mention::Me(pos) => noted(before, !in_data, 22, *pos),
         Mention::Return(pos) => noted(before, !in_data, 22, *pos),
         Mention::Float(pos) => noted(before, true, 18, *pos),
-    };
-    Ok(least)
+    }
 }

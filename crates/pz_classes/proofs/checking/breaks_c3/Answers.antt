@@ -1,10 +1,11 @@
-use Rattle.std.proofs.Common.{◌∙◌, sym, length}
-use Rattle.std.proofs.lemmas.List.{length-map}
-use Rattle.pz_ast.specs.ClassView.{decl_view, model_view}
-use Rattle.pz_classes.specs.Ancestors.{parent}
-use Rattle.pz_classes.specs.Parents.{parent_in}
-use Rattle.pz_classes.proofs.Lines.{round_same}
+use Rattle.std.proofs.Common.{◌∙◌, ap, false, Option, Bool}
+use Rattle.std.specs.Option.{unwrap_or}
+use Rattle.pz_ast.specs.ClassView.{model_view}
+use Rattle.pz_classes.proofs.Gets.{got}
+use Rattle.pz_classes.proofs.Rounds.{marked}
 use Rattle.pz_classes.proofs.checking.breaks_c3.Goals as goal
 
 pub returns : goal.returns
-returns c = c.goes_round.ensures ∙ round_same (parent_in c.args.parents.now) (parent (model_view c.args.model.now)) c.requires c.len.result (length (model_view c.args.model.now).decls) c.args.number (c.len.ensures ∙ sym (length-map c.args.model.now.decls decl_view))
+returns c =
+    let read = got c.args.round.now c.args.number c.get.result c.get.ensures.lookup.3 c.get.ensures.lookup.1 in
+    c.unwrap_or.ensures ∙ ap (λ (o : Option Bool). unwrap_or o false) (c.copied.ensures ∙ read) ∙ marked (model_view c.args.model.now) c.args.number c.args.round.now c.requires

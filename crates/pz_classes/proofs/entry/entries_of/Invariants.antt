@@ -1,12 +1,15 @@
-use Rattle.std.proofs.Common.{◌≡◌, ◌++◌, suc, map, drop}
-use Rattle.pz_ast.specs.ClassView.{decl_view, model_view}
+use Rattle.std.proofs.Common.{◌≡◌, ◌≤◌, length, map, take, drop}
+use Rattle.std.specs.Vec.Iter.{into_iter_items, into_iter_len}
+use Rattle.pz_ast.specs.ClassView.{model_view}
 use Rattle.pz_classes.specs.Methods.{methods_before}
-use Rattle.pz_classes.specs.Tables.{rows_from, rows, row_view}
+use Rattle.pz_classes.specs.Tables.{rows, row_view}
 use Rattle.pz_classes.proofs.entry.entries_of.Given as goal
 
-abbrev pub invariant-loop : goal.invariant-loop
-invariant-loop l = record {
-  counted : l.number ≡ l.index;
-  numbered : l.first ≡ methods_before (model_view l.model) (suc l.number);
-  listed : map row_view l.entries ++ rows_from (model_view l.model) (suc l.number) (map decl_view (drop l.index l.items)) ≡ rows (model_view l.model);
+abbrev pub invariant-loop-members : goal.invariant-loop-members
+invariant-loop-members l = record {
+  left : drop l.number l.fn.table.items ≡ into_iter_items l.members-iterator;
+  counted : into_iter_len l.members-iterator ≡ length (into_iter_items l.members-iterator);
+  within : l.number ≤ length l.fn.table.items;
+  numbered : l.first ≡ methods_before (model_view l.model) l.number;
+  listed : map row_view l.entries ≡ take l.number (rows (model_view l.model));
 }

@@ -1,9 +1,13 @@
-use Rattle.std.proofs.Common.{◌≡◌, ◌++◌, map, drop}
+use Rattle.std.proofs.Common.{◌≡◌, ◌+◌, map, drop}
+use Rattle.std.specs.Option.{option_map, option_or}
 use Rattle.pz_ast.specs.ClassView.{data_method_view}
-use Rattle.pz_classes.specs.Methods.{data_signature}
-use Rattle.pz_classes.specs.Tables.{routine_view, routines_from}
+use Rattle.pz_classes.specs.Methods.{Signature, data_signature, first_with, method_id}
+use Rattle.pz_classes.specs.MethodIn.{method_in}
 use Rattle.pz_classes.proofs.methods.data_methods.Given as goal
 
 abbrev pub invariant-loop-method : goal.invariant-loop-method
-invariant-loop-method l = map routine_view l.routines ++ routines_from l.number (map data_signature (map data_method_view (drop l.method-index l.methods)))
-    ≡ routines_from l.first (map data_signature (map data_method_view l.methods))
+invariant-loop-method l = record {
+  counted : l.named.next ≡ l.first + l.method-index;
+  found : (s : Signature) → option_or (method_in l.named s) (option_map method_id (first_with l.named.next s (map data_signature (map data_method_view (drop l.method-index l.methods)))))
+      ≡ option_map method_id (first_with l.first s (map data_signature (map data_method_view l.methods)));
+}

@@ -3,4 +3,4 @@ use Rattle.pz_expansion.proofs.SelfHolding.{found_holding}
 use Rattle.pz_expansion.proofs.holding.least_holding.Goals as goal
 
 pub returns : goal.returns
-returns c = found_holding (model_view c.args.model.now) _ _ _ c.in_ok-nodes.ensures c.as_slice-2.ensures c.least_back_to_itself.ensures
+returns c = found_holding (model_view c.args.model.now) _ _ _ c.in_ok-nodes.ensures c.as_slice.ensures c.least_leading_back.ensures

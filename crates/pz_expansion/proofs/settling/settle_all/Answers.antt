@@ -8,12 +8,6 @@ pub loop-place-preserved : goal.loop-place-preserved
 loop-place-preserved c =
     let one : suc c.loop-place.place ≡ c.loop-place.place + 1 = omega arith in
     elim c.match-class_at.branch [
-      | in-Some+in_ok-settled w ↦ rw w.known-is (record {
-        settled = w.settle.ensures.settled c.loop-place.invariant.settled;
-        counted = subst (AreCounted c.args.nodes.now _ _) one (w.settle.ensures.counted c.loop-place.place c.loop-place.invariant.counted);
-      })
-      | in_default w ↦ rw w.known-is (record {
-        settled = c.loop-place.invariant.settled;
-        counted = subst (AreCounted c.args.nodes.now _ _) one (counted_later c.args.nodes.now _ _ c.loop-place.place c.loop-place.invariant.counted);
-      })
+      | in-Some+in_ok-settled w ↦ rw w.known-is (subst (AreCounted c.args.nodes.now _ _) one (w.settle.ensures c.loop-place.place c.loop-place.invariant))
+      | in_default w ↦ rw w.known-is (subst (AreCounted c.args.nodes.now _ _) one (counted_later c.args.nodes.now _ _ c.loop-place.place c.loop-place.invariant))
     ]

@@ -1,8 +1,5 @@
-use Rattle.pz_expansion.specs.Settling.{AreSettled, AreCounted}
+use Rattle.pz_expansion.specs.Settling.{AreCounted}
 use Rattle.pz_expansion.proofs.settling.settle_all.Given as goal
 
 abbrev pub invariant-loop-place : goal.invariant-loop-place
-invariant-loop-place l = record {
-  settled : AreSettled l.nodes l.known.settled.items;
-  counted : AreCounted l.nodes l.known.settled.items l.known.totals.items l.place;
-}
+invariant-loop-place l = AreCounted l.nodes l.known.settled.items l.known.totals.items l.place

@@ -1,11 +1,15 @@
-use Rattle.std.proofs.Common.{◌≡◌, suc, None, map, drop}
-use Rattle.pz_ast.specs.ClassView.{decl_view, model_view}
+use Rattle.std.proofs.Common.{◌≡◌, None, drop}
+use Rattle.std.specs.List.{flat_map}
+use Rattle.pz_ast.specs.ClassView.{model_view}
 use Rattle.pz_violation.specs.Least.{least_from}
-use Rattle.pz_instances.specs.Ends.{missing_ends_from, missing_ends}
+use Rattle.pz_classes.specs.Members.{own_ports}
+use Rattle.pz_instances.specs.Open.{HasOpen}
+use Rattle.pz_instances.specs.Ends.{absent_in, missing_ends}
+use Rattle.pz_instances.proofs.Line.{line_after, scopes_of}
 use Rattle.pz_instances.proofs.channel_ends.least_missing_end.Given as goal
 
-abbrev pub invariant-loop-decl : goal.invariant-loop-decl
-invariant-loop-decl l = record {
-  counted : l.number ≡ l.decl-index;
-  found : least_from l.least (missing_ends_from (model_view l.model) (suc l.number) (map decl_view (drop l.decl-index l.decl-items))) ≡ least_from None (missing_ends (model_view l.model));
+abbrev pub invariant-loop-visit : goal.invariant-loop-visit
+invariant-loop-visit l = record {
+  opened : HasOpen (scopes_of (model_view l.model) own_ports (line_after (model_view l.model) l.visit-items l.visit-index)) l.opened;
+  found : least_from l.least (flat_map (λ v. absent_in (model_view l.model) v.class) (drop l.visit-index l.visit-items)) ≡ least_from None (missing_ends (model_view l.model) l.visit-items);
 }

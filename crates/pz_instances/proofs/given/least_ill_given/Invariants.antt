@@ -1,10 +1,15 @@
-use Rattle.std.proofs.Common.{◌≡◌, None, map, drop}
+use Rattle.std.proofs.Common.{◌≡◌, None, drop}
 use Rattle.std.specs.List.{flat_map}
-use Rattle.pz_ast.specs.ClassView.{decl_view, model_view}
+use Rattle.pz_ast.specs.ClassView.{model_view}
 use Rattle.pz_violation.specs.Least.{least_from}
-use Rattle.pz_classes.specs.Instances.{instances}
-use Rattle.pz_instances.specs.Given.{of_instance, all_given}
+use Rattle.pz_classes.specs.Instances.{own_parameters}
+use Rattle.pz_instances.specs.Open.{HasOpen}
+use Rattle.pz_instances.specs.Given.{ill_given_in, all_given}
+use Rattle.pz_instances.proofs.Line.{line_after, scopes_of}
 use Rattle.pz_instances.proofs.given.least_ill_given.Given as goal
 
-abbrev pub invariant-loop-decl : goal.invariant-loop-decl
-invariant-loop-decl l = least_from l.least (flat_map (λ d. flat_map (of_instance (model_view l.model)) (instances d)) (map decl_view (drop l.decl-index l.decl-items))) ≡ least_from None (all_given (model_view l.model))
+abbrev pub invariant-loop-visit : goal.invariant-loop-visit
+invariant-loop-visit l = record {
+  opened : HasOpen (scopes_of (model_view l.model) own_parameters (line_after (model_view l.model) l.visit-items l.visit-index)) l.opened;
+  found : least_from l.least (flat_map (λ v. ill_given_in (model_view l.model) v.class) (drop l.visit-index l.visit-items)) ≡ least_from None (all_given (model_view l.model) l.visit-items);
+}

@@ -9,7 +9,7 @@ use Rattle.pz_usage.proofs.least.least_of_part.Goals as goal
 pub loop-word-preserved : goal.loop-word-preserved
 loop-word-preserved c =
     let m = model_of c.args.declared.now in
-    let found = subst (λ (p : Part). c.in_ok-least.least ≡ least_from c.loop-word.least (at_word m c.args.scope.now.class.0 (decl_of c.args.scope.now) p.locals c.word-item.result))
-    c.in_ok-stretch.ensures.part c.in_ok-least.ensures in
+    let found = subst (λ (p : Part). c.least_at_word-least.result ≡ least_from c.loop-word.least (at_word m c.args.scope.now.class.0 (decl_of c.args.scope.now) p.locals c.word-item.result))
+    c.in_ok-stretch.ensures.part c.least_at_word-least.ensures in
     flat_step (at_word m c.args.scope.now.class.0 (decl_of c.args.scope.now) c.args.part.now.locals) _ c.word-item.result _ _ _ _ _
     c.loop-word-test.true c.word-item.is (omega arith) found c.loop-word.invariant

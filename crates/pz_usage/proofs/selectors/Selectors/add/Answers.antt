@@ -6,7 +6,7 @@ use Rattle.pz_usage.proofs.selectors.Selectors.add.Goals as goal
 
 pub returns : goal.returns
 returns c = λ q n.
-    let key = c.in_ok-key_of.field-0 in
-    rw (c.in_ok-insert.ensures.keys, ← c.in_ok-key_of.ensures.named, ← c.in_ok-key_of.ensures.counted)
-    (any_inserted (λ (a b : Selector). bytes_eq a.name.items b.name.items && nat_eq a.count b.count) (λ s. nat_eq n s.count && bytes_eq q s.name.items) key
-    (λ x is. selectors_alike key.name.items x.name.items key.count x.count q n is) c.args.self.now.set.keys)
+    let key = c.key_of.result in
+    rw (c.in_ok-insert.ensures.keys, ← c.key_of.ensures.named, ← c.key_of.ensures.counted)
+    (any_inserted (λ (a b : Selector). bytes_eq a.name.now b.name.now && nat_eq a.count b.count) (λ s. nat_eq n s.count && bytes_eq q s.name.now) key
+    (λ x is. selectors_alike key.name.now x.name.now key.count x.count q n is) c.args.self.now.set.keys)

@@ -1,7 +1,0 @@
-use Rattle.std.proofs.Common.{◌≡◌, [], map, drop}
-use Rattle.pz_instances.specs.NameSets.{names_in}
-use Rattle.pz_instances.specs.Given.{collected}
-use Rattle.pz_instances.proofs.given.collect.Given as goal
-
-abbrev pub invariant-loop-item : goal.invariant-loop-item
-invariant-loop-item l = collected (names_in l.wanted) (names_in l.seen) (map (λ g. g.name.name) (drop l.item-index l.given)) ≡ collected (names_in l.wanted) [] (map (λ g. g.name.name) l.given)

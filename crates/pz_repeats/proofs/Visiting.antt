@@ -1,0 +1,60 @@
+-- A walk over all classes finds a repeat that is not behind any.
+use Rattle.std.proofs.Common.{◌≡◌, sym, subst, ℕ, zero, suc, ◌-◌, List, [], ◌∷◌, length, drop, ◌⊎◌, inl, inr}
+use Rattle.std.specs.List.{Contains}
+use Rattle.std.proofs.lemmas.List.Elements.{Contains-append_left}
+use Rattle.pz_ast.specs.declared.names.Id.{Id}
+use Rattle.pz_ast.specs.Classes.{ModelTree}
+use Rattle.pz_violation.specs.declared.violation.Violation.{Violation}
+use Rattle.pz_violation.specs.Least.{Member}
+use Rattle.pz_violation.proofs.Members.{member_left, member_right}
+use Rattle.pz_lineage.specs.declared.visit.Visit.{Visit}
+use Rattle.pz_lineage.specs.Preorder.{outermost, visited}
+use Rattle.pz_classes.specs.Ancestors.{ancestors}
+use Rattle.pz_classes.specs.Members.{from_root}
+use Rattle.pz_classes.specs.Preorder.{Opens}
+use Rattle.pz_classes.specs.RepeatRules.{same_name}
+use Rattle.pz_repeats.specs.declared.inherited.Inherited.{Inherited}
+use Rattle.pz_repeats.specs.Names.{id_place}
+use Rattle.pz_repeats.specs.RepeatList.{own_of, own_at, of_line, of_visits}
+use Rattle.pz_repeats.proofs.Lists.{none_in, in_cases}
+use Rattle.pz_repeats.proofs.Repeated.{At}
+use Rattle.pz_repeats.proofs.Covering.{found_sound, Covers, covers_fewer, covers_more}
+
+module _ (m : ModelTree) (sort : Inherited) where
+  -- the names of these classes, those of the outermost first
+  abbrev pub names_on : List ℕ → List Id
+  names_on line = from_root (own_of sort) m line
+
+  pub line_sound : (line : List ℕ) (v : Violation) → Member v (of_line m sort line) → At same_name id_place 4 (names_on line) v
+  line_sound [] v found = absurd found
+  line_sound (c ∷ outer) v found = found_sound (names_on outer) (own_at sort m c) v found
+
+  -- what the outer classes declare is among what all declare
+  among_outer : (n : ℕ) (line : List ℕ) (x : Id) → Contains (names_on (drop n line)) x → Contains (names_on line) x
+  among_outer zero line x here = here
+  among_outer (suc n) [] x here = here
+  among_outer (suc n) (c ∷ line) x here = Contains-append_left (names_on line) (own_at sort m c) x (among_outer n line x here)
+
+  module _ (all : List Violation) where
+    covers_class : (c : ℕ) (outer line : List ℕ) → line ≡ c ∷ outer → ((v : Violation) → Member v (of_line m sort line) → Member v all) → Covers all (names_on outer) → Covers all (names_on line)
+    covers_class c outer line is given covers =
+        let inside : (v : Violation) → Member v (of_line m sort (c ∷ outer)) → Member v all = subst (λ (ks : List ℕ). (v : Violation) → Member v (of_line m sort ks) → Member v all) is given in
+        subst (λ (ks : List ℕ). Covers all (names_on ks)) (sym is) (covers_more all (names_on outer) (own_at sort m c) inside covers)
+
+    -- a walk covers each class that it comes to
+    pub covers_visited : (visits : List Visit) (line : List ℕ) → Opens m line visits → ((v : Violation) → Member v (of_visits m sort visits) → Member v all) → Covers all (names_on line)
+        → (c : ℕ) → Contains (visited visits) c → Covers all (names_on (ancestors m c))
+    covers_visited [] line nested given covers c here = absurd (none_in c here)
+    covers_visited (v ∷ vs) line nested given covers c here = by_part (λ first later. covers_visited vs (ancestors m v.class) nested.2 in_rest first c later) (in_cases v.class (visited vs) c here)
+      where
+        in_rest : (w : Violation) → Member w (of_visits m sort vs) → Member w all
+        in_rest w among = given w (member_right w (of_line m sort (ancestors m v.class)) (of_visits m sort vs) among)
+
+        own : Covers all (names_on (ancestors m v.class))
+        own = covers_class v.class (outermost v.depth line) (ancestors m v.class) nested.1
+            (λ w among. given w (member_left w (of_line m sort (ancestors m v.class)) (of_visits m sort vs) among))
+            (covers_fewer all (names_on line) (names_on (outermost v.depth line)) (λ x among. among_outer (length line - v.depth) line x among) covers)
+
+        by_part : (Covers all (names_on (ancestors m v.class)) → Contains (visited vs) c → Covers all (names_on (ancestors m c))) → (v.class ≡ c) ⊎ Contains (visited vs) c → Covers all (names_on (ancestors m c))
+        by_part rest (inl is) = subst (λ (k : ℕ). Covers all (names_on (ancestors m k))) is own
+        by_part rest (inr later) = rest own later

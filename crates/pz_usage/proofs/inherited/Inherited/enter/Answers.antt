@@ -1,0 +1,26 @@
+use Rattle.std.proofs.Common.{List, map, Option, ◌∷◌, subst}
+use Rattle.std.specs.Result.{OnOk}
+use Rattle.pz_ast.specs.Classes.{DeclTree}
+use Rattle.pz_ast.specs.ClassView.{model_view}
+use Rattle.pz_classes.specs.Numbers.{declaration}
+use Rattle.pz_lineage.specs.Preorder.{outermost}
+use Rattle.pz_usage.specs.Inherited.{AreOpen}
+use Rattle.pz_usage.proofs.Shown.{map_outermost}
+use Rattle.pz_usage.proofs.inherited.Inherited.enter.Goals as goal
+
+pub returns-in-Some : goal.returns-in-Some
+returns-in-Some c = λ line shown.
+    let m = model_view c.args.model.now in
+    let depth = c.args.visit.depth in
+    let outer : List (Option DeclTree) = map (declaration m) (outermost depth line) in
+    let closed : AreOpen outer c.close_to.new.self = subst (λ ds. AreOpen ds c.close_to.new.self) (map_outermost (declaration m) depth line) (c.close_to.ensures (map (declaration m) line) shown) in
+    let noted = c.note_own.ensures outer (c.in_ok-open.ensures outer closed) in
+    subst (λ (d : Option DeclTree). OnOk c.note_own.result (AreOpen (d ∷ outer) c.note_own.new.self)) c.in-Some.ensures noted
+
+pub returns-in-None : goal.returns-in-None
+returns-in-None c = λ line shown.
+    let m = model_view c.args.model.now in
+    let depth = c.args.visit.depth in
+    let outer : List (Option DeclTree) = map (declaration m) (outermost depth line) in
+    let closed : AreOpen outer c.close_to.new.self = subst (λ ds. AreOpen ds c.close_to.new.self) (map_outermost (declaration m) depth line) (c.close_to.ensures (map (declaration m) line) shown) in
+    subst (λ (d : Option DeclTree). AreOpen (d ∷ outer) c.open.new.self) c.in-None.ensures (c.in_ok-open.ensures outer closed)
