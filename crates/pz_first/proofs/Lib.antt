@@ -2,11 +2,4 @@ pub mod Texts
 pub mod Goings
 pub mod Remains
 pub mod Walked
-pub mod NameSets
-pub mod LastCalls
-pub mod NamesFitting
-pub mod Misfitting
 pub mod InGrammar
-pub mod HandedOn
-pub mod AllParts
-pub mod OfModel

@@ -1,5 +1,3 @@
 pub mod Grammar
-pub mod Misfits
 pub mod Steps
-pub mod NamesTwin
 pub mod Laws

@@ -9,6 +9,7 @@ pub fn is_blank(b: u8) -> bool
     b == b'\t' || b == b'\n' || b == b'\r' || b == b' '
 }
 
+/// A decimal digit.
 pub fn is_digit(b: u8) -> bool
     ensures { result ≡ is_digit b }
 {

@@ -1,8 +1,12 @@
 -- The text of the first worked row is that of its model. Words, lines and counts, worked out.
-use Rattle.std.proofs.Common.{◌≡◌, ◌≤◌, ℕ, List, [], ◌∷◌, Some, None, Result, Ok, Err, refl, codes, arith, lit<}
-use Rattle.std.specs.Prelude.{All}
+use Rattle.std.proofs.Common.{◌≡◌, ◌≤◌, ℕ, List, [], ◌∷◌, Some, None, Result, Ok, Err, true, refl, sym, codes, arith, lit<}
+use Rattle.std.specs.Prelude.{All, Contains}
 use Rattle.std.specs.Fmt.{digits}
+use Rattle.std.specs.List.{list_any}
+use Rattle.std.specs.Str.{bytes_eq}
 use Rattle.std.proofs.lemmas.List.Elements.{All-nil, All-cons}
+use Rattle.std.proofs.lemmas.List.Folds.{list_any_at}
+use Rattle.std.proofs.lemmas.Slice.Eq.{bytes_eq-Decides}
 use Rattle.pz_ast.specs.declared.names.Id.{Id}
 use Rattle.pz_ast.specs.declared.tokens.Pos.{Pos}
 use Rattle.pz_ast.specs.declared.tokens.Token.{Token}
@@ -12,8 +16,7 @@ use Rattle.pz_lexer.specs.Tokens.{AreTokens}
 use Rattle.pz_lexer.specs.Twin.{lexed}
 use Rattle.pz_lexer.proofs.Cuts.{tokens_from_lexed}
 use Rattle.pz_first.proofs.InGrammar.{in_grammar}
-use Rattle.pz_first.proofs.NamesFitting.{free_sound}
-use Rattle.pz_term.specs.FirstPath.{skips, delays, Routine, FirstModel, system_of, tree_of, IsBody, HasBodies, IsKnown}
+use Rattle.pz_term.specs.FirstPath.{skips, delays, Routine, FirstModel, system_of, tree_of, IsBody, HasBodies, reserved, IsKnown}
 use Rattle.pz_term.specs.declared.action.Action.TheVariants.{Internal}
 use Rattle.pz_term.specs.declared.action.Kind.{Kind}
 use Rattle.pz_term.specs.declared.action.Kind.TheVariants.{Skip, Expire, Call}
@@ -77,11 +80,16 @@ known =
     (All-cons (IsKnown row_model) (delays (at 5 1) (at 5 7) 3) (skips (at 6 1) ∷ []) tt
     (All-cons (IsKnown row_model) (skips (at 6 1)) [] tt (All-nil (IsKnown row_model))))
 
+class_is_free : ¬ Contains reserved (codes "P")
+class_is_free c =
+    let any : list_any (bytes_eq (codes "P")) reserved ≡ true = list_any_at (bytes_eq (codes "P")) reserved c.0 (codes "P") c.1 ((bytes_eq-Decides (codes "P") _).1 (sym c.2)) in
+    cc
+
 row : IsModelOf row_text row_model
 row = record {
   is_built = record { tokens = row_tokens; are_tokens = are_tokens; is_tree = is_tree; has_bodies = has_bodies };
   names_fit = record {
-    class_is_free = free_sound (codes "P") refl;
+    class_is_free = class_is_free;
     init_is_known = (0, row_routine, lit< tt, refl, refl);
     none_twice = λ i j d lt low. absurd (omega arith);
     calls_are_known = All-cons (λ r. All (IsKnown row_model) r.body) row_routine [] known (All-nil (λ r. All (IsKnown row_model) r.body));

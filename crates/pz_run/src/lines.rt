@@ -71,12 +71,14 @@ pub fn ending_line(alloc: Global, clock: u128, word: &str) -> Result<String, All
     format!(in alloc; "{clock} {word}\n")
 }
 
+/// The line of a file that cannot be opened or read.
 pub fn read_fault_line(alloc: Global, name: &str) -> Result<String, AllocError>
     ensures { IfOk result (λ line. string_bytes line ≡ lines.read_fault_line name.now) }
 {
     format!(in alloc; "read fault: {name}\n")
 }
 
+/// The line of a file that is longer than the limit.
 pub fn too_long_line(alloc: Global, name: &str) -> Result<String, AllocError>
     ensures { IfOk result (λ line. string_bytes line ≡ lines.too_long_line name.now) }
 {

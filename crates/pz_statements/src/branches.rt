@@ -15,6 +15,7 @@ use pz_items::Items;
 use std::alloc::Global;
 
 impl<F: Fn(Global, &mut Cursor<'_>, usize) -> Result<Stmt, Refusal>> Grammar<F> {
+    /// A `par` stands next: its branches, `and` between them, up to `rap`.
     #[tactic(auto, unfolding(crate::specs::Statements::parallel))]
     pub fn parallel(&self, cursor: &mut Cursor<'_>) -> Result<Stmt, Refusal>
         requires parts { Nests self.now.depth (F.pre self.now.stmt) (F.post self.now.stmt) }
@@ -25,6 +26,7 @@ impl<F: Fn(Global, &mut Cursor<'_>, usize) -> Result<Stmt, Refusal>> Grammar<F> 
         Ok(Stmt { pos, form })
     }
 
+    /// A `sel` stands next: its branches, `or` between them, up to `les`.
     #[tactic(auto, unfolding(crate::specs::Statements::selection))]
     pub fn selection(&self, cursor: &mut Cursor<'_>) -> Result<Stmt, Refusal>
         requires parts { Nests self.now.depth (F.pre self.now.stmt) (F.post self.now.stmt) }

@@ -19,6 +19,7 @@ use pz_items::{Boxed, Items};
 use std::alloc::Global;
 
 impl<F: Fn(Global, &mut Cursor<'_>, usize) -> Result<Stmt, Refusal>> Grammar<F> {
+    /// A `(` stands next: statements up to `)`.
     #[tactic(auto, unfolding(crate::specs::Statements::bracketed))]
     pub fn bracketed(&self, cursor: &mut Cursor<'_>) -> Result<Stmt, Refusal>
         requires parts { Nests self.now.depth (F.pre self.now.stmt) (F.post self.now.stmt) }
@@ -32,6 +33,7 @@ impl<F: Fn(Global, &mut Cursor<'_>, usize) -> Result<Stmt, Refusal>> Grammar<F> 
         Ok(Stmt { pos, form })
     }
 
+    /// A `[` stands next: a test, `]` and the statement that it guards.
     #[tactic(auto, unfolding(crate::specs::Statements::guarded))]
     pub fn guarded(&self, cursor: &mut Cursor<'_>) -> Result<Stmt, Refusal>
         requires parts { Nests self.now.depth (F.pre self.now.stmt) (F.post self.now.stmt) }
@@ -45,6 +47,7 @@ impl<F: Fn(Global, &mut Cursor<'_>, usize) -> Result<Stmt, Refusal>> Grammar<F> 
         Ok(Stmt { pos, form })
     }
 
+    /// An `if` stands next: a test, what is done where it holds, perhaps an `else`, and `fi`.
     #[tactic(auto, unfolding(crate::specs::Statements::conditional))]
     pub fn conditional(&self, cursor: &mut Cursor<'_>) -> Result<Stmt, Refusal>
         requires parts { Nests self.now.depth (F.pre self.now.stmt) (F.post self.now.stmt) }
@@ -74,6 +77,7 @@ impl<F: Fn(Global, &mut Cursor<'_>, usize) -> Result<Stmt, Refusal>> Grammar<F> 
         }
     }
 
+    /// A `while` stands next: a test, `do`, the body and `od`.
     #[tactic(auto, unfolding(crate::specs::Statements::repeated))]
     pub fn repeated(&self, cursor: &mut Cursor<'_>) -> Result<Stmt, Refusal>
         requires parts { Nests self.now.depth (F.pre self.now.stmt) (F.post self.now.stmt) }
@@ -88,6 +92,7 @@ impl<F: Fn(Global, &mut Cursor<'_>, usize) -> Result<Stmt, Refusal>> Grammar<F> 
         Ok(Stmt { pos, form })
     }
 
+    /// An `abort` stands next: its body, `with` and the statement that aborts it.
     #[tactic(auto, unfolding(crate::specs::Statements::aborted))]
     pub fn aborted(&self, cursor: &mut Cursor<'_>) -> Result<Stmt, Refusal>
         requires parts { Nests self.now.depth (F.pre self.now.stmt) (F.post self.now.stmt) }
@@ -99,6 +104,7 @@ impl<F: Fn(Global, &mut Cursor<'_>, usize) -> Result<Stmt, Refusal>> Grammar<F> 
         Ok(Stmt { pos, form })
     }
 
+    /// An `interrupt` stands next: its body, `with` and the statement that interrupts it.
     #[tactic(auto, unfolding(crate::specs::Statements::interrupted))]
     pub fn interrupted(&self, cursor: &mut Cursor<'_>) -> Result<Stmt, Refusal>
         requires parts { Nests self.now.depth (F.pre self.now.stmt) (F.post self.now.stmt) }

@@ -14,6 +14,7 @@ use pz_cursor::{Cursor, Next, Refusal};
 use pz_values::value;
 use std::alloc::Global;
 
+/// A `skip` stands next.
 pub fn skip(cursor: &mut Cursor<'_>) -> Stmt
     ensures { spec.skipped cursor.old ≡ Ok (view result, cursor.new) }
 {
@@ -23,6 +24,7 @@ pub fn skip(cursor: &mut Cursor<'_>) -> Stmt
     Stmt { pos, form }
 }
 
+/// A `delay` stands next: the time is a value behind it.
 #[tactic(auto, unfolding(crate::specs::Statements::delayed))]
 pub fn delay(alloc: Global, cursor: &mut Cursor<'_>, depth: usize) -> Result<Stmt, Refusal>
     ensures reads { Reads view (spec.delayed depth cursor.old) result cursor.new }

@@ -60,7 +60,7 @@ module _ {K : Type 0} (eq : K → K → Bool) (test : K → Bool) (k : K) (alike
       by_key true is = sym (there ks is)
       by_key false is = list_any-append test ks (k ∷ []) ∙ ap (λ (r : Bool). list_any test ks || r) (or_none (test k))
 
-pub same_bytes : (xs ys q : List ℕ) → bytes_eq xs ys ≡ true → bytes_eq q xs ≡ bytes_eq q ys
+same_bytes : (xs ys q : List ℕ) → bytes_eq xs ys ≡ true → bytes_eq q xs ≡ bytes_eq q ys
 same_bytes xs ys q is = ap (λ (n : List ℕ). bytes_eq q n) ((bytes_eq-Decides xs ys).0 is)
 
 same_number : (i j n : ℕ) → nat_eq i j ≡ true → nat_eq n i ≡ nat_eq n j

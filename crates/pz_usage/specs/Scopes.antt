@@ -1,5 +1,5 @@
 -- What the code knows of a model and of a class when it comes to a word.
-use Rattle.std.specs.Prelude.{◌≡◌, ℕ, Bool, List}
+use Rattle.std.specs.Prelude.{◌≡◌, ℕ, Bool, List, [], ◌∷◌}
 use Rattle.std.specs.List.{list_any}
 use Rattle.pz_ast.specs.Classes.{DeclTree, ModelTree}
 use Rattle.pz_ast.specs.ClassView.{decl_view, model_view}
@@ -8,8 +8,8 @@ use Rattle.pz_classes.specs.Ancestors.{ancestors}
 use Rattle.pz_classes.specs.Methods.{Signature, same_signature}
 use Rattle.pz_classes.specs.CallRules.{is_declared}
 use Rattle.pz_classes.specs.Tables.{AreClasses}
-use Rattle.pz_classes.specs.Words.{is_among}
-use Rattle.pz_usage.specs.Sets.{has_name, has_selector}
+use Rattle.pz_usage.specs.Sets.{has_selector}
+use Rattle.pz_usage.specs.Shown.{ShowsNames}
 use Rattle.pz_usage.specs.Inherited.{IsOpen}
 use Rattle.pz_usage.specs.declared.declared.Declared.{Declared}
 use Rattle.pz_usage.specs.declared.class_scope.ClassScope.{ClassScope}
@@ -36,6 +36,6 @@ decl_of scope = decl_view scope.decl.now
 abbrev pub IsScope : Declared → ClassScope → Type 0
 IsScope declared scope = IsOpen (model_of declared) (ancestors (model_of declared) scope.class.0) scope.inherited.now
 
--- the set has the local names of the part
+-- the local names of the part are noted, in one scope
 abbrev pub HasLocals : Stretch → Type 0
-HasLocals s = (q : List ℕ) → has_name s.locals q ≡ is_among s.part.now.locals q
+HasLocals s = ShowsNames (s.part.now.locals ∷ []) s.locals

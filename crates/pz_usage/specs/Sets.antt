@@ -1,12 +1,8 @@
--- What sets of names and selectors have.
+-- What sets of selectors have.
 use Rattle.std.specs.Prelude.{ℕ, Bool, ◌&&◌, nat_eq, List}
 use Rattle.std.specs.Str.{bytes_eq}
 use Rattle.indexmap.specs.IndexSet.{contains_by}
-use Rattle.pz_usage.specs.declared.name_set.NameSet.{NameSet}
 use Rattle.pz_usage.specs.declared.selectors.Selectors.{Selectors}
-
-abbrev pub has_name : NameSet → List ℕ → Bool
-has_name names q = contains_by (λ s. bytes_eq q s.now) names.set
 
 -- a selector of this name with so many arguments
 abbrev pub has_selector : Selectors → List ℕ → ℕ → Bool

@@ -8,7 +8,6 @@ mod inherited;
 mod least;
 mod messages;
 mod methods;
-mod name_set;
 mod names;
 mod rules;
 mod scopes;

@@ -1,6 +1,6 @@
-// Names that classes declare, in nested scopes.
+// Names that classes and methods declare, in nested scopes.
 
-ghost use Rattle.std.specs.Prelude.{◌≡◌, [], ◌∷◌, ◌++◌, List, OnOk};
+ghost use Rattle.std.specs.Prelude.{◌≡◌, [], ◌∷◌, ◌++◌, List, IfOk, OnOk};
 ghost use Rattle.std.specs.List.{list_any};
 ghost use Rattle.std.specs.Option.{unwrap_or};
 ghost use Rattle.pz_ast.specs.declared.names.Id.{Id as Named};
@@ -11,7 +11,17 @@ ghost use Rattle.pz_classes.specs.Words.{is_among};
 use pz_ast::{Id, Name, VarGroup};
 use pz_items::Items;
 use pz_nested::Nested;
-use std::alloc::AllocError;
+use std::alloc::{AllocError, Global};
+
+/// One scope with these names. The only error is want of memory.
+pub(crate) fn scope_of(alloc: Global, ids: &[Id]) -> Result<Nested<&[u8], ()>, AllocError>
+    ensures { IfOk result (ShowsNames (ids.now ∷ [])) }
+{
+    let mut names = Nested::new(alloc);
+    names.open()?;
+    note_ids(&mut names, ids)?;
+    Ok(names)
+}
 
 /// Notes these names. The only error is want of memory.
 fn note_ids<'a>(names: &mut Nested<&'a [u8], ()>, ids: &'a [Id]) -> Result<(), AllocError>

@@ -60,7 +60,7 @@ pub(crate) fn lacks_variable(
     requires local { HasLocals stretch.now }
     ensures { result ≡ (not (is_among stretch.now.part.now.locals name.now) && not (is_among (names.shared (model_of declared.now) scope.now.class.0 (decl_of scope.now)) name.now)) }
 {
-    !stretch.locals.has(name) && !has_shared(declared, scope, name)
+    !stretch.has_local(name) && !has_shared(declared, scope, name)
 }
 
 /// Whether neither the class nor an ancestor has a method with this name and these counts.

@@ -77,6 +77,8 @@ fn resolve_form(
     }
 }
 
+/// These expressions in order, each name replaced by what it stands for in the scope. The only error
+/// is want of memory.
 #[cycle(resolve_expr)]
 pub fn resolve_list(alloc: Global, scope: &Scope, list: &[Expr]) -> Result<Items<Code>, AllocError>
     ensures { IfOk result (λ cs. code.list_view cs ≡ resolved_all (scope_view scope.now) (tree.list_view list.now)) }

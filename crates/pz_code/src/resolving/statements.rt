@@ -186,6 +186,8 @@ fn resolve_condition(
     }
 }
 
+/// These statements in order, each name replaced by what it stands for in the scope. The only error
+/// is want of memory.
 #[cycle(resolve_stmt)]
 pub fn resolve_statements(
     alloc: Global,
