@@ -1,14 +1,14 @@
 //! Channels and their ends.
 
 ghost use Rattle.std.specs.Prelude.{◌≡◌};
-ghost use Rattle.pz_cursor.specs.Device.{Reads};
-ghost use Rattle.pz_cursor.specs.Lists as lists;
+ghost use Rattle.pz_cursor.specs.devices.Device.{Reads};
+ghost use Rattle.pz_cursor.specs.devices.Lists as lists;
 ghost use Rattle.pz_cursor.specs.declared.ahead.Next.TheVariants as n;
-ghost use Rattle.pz_clusters.specs.Clusters as spec;
+ghost use Rattle.pz_clusters.specs.devices.Clusters as spec;
 
-use pz_ast::{Channel, ChannelEnd};
 use pz_cursor::{Cursor, Next, Refusal};
 use pz_items::Items;
+use pz_syntax::{Channel, ChannelEnd};
 use std::alloc::Global;
 
 /// The channels, if `channels` stands next.

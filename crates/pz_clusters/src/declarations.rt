@@ -1,13 +1,13 @@
 //! Cluster classes and the system.
 
 ghost use Rattle.std.specs.Prelude.{◌≡◌};
-ghost use Rattle.pz_cursor.specs.Device.{Reads};
-ghost use Rattle.pz_clusters.specs.Clusters as spec;
+ghost use Rattle.pz_cursor.specs.devices.Device.{Reads};
+ghost use Rattle.pz_clusters.specs.devices.Clusters as spec;
 
 use crate::channels::channels_section;
 use crate::instances::instances_section;
-use pz_ast::{ClusterClass, SystemDecl};
 use pz_cursor::{Cursor, Next, Refusal, optional_formal, ports_section};
+use pz_syntax::{ClusterClass, SystemDecl};
 use std::alloc::Global;
 
 /// A cluster class. Its keyword `cluster` is to stand next.

@@ -1,14 +1,14 @@
 //! Instances and what their parameters are given.
 
 ghost use Rattle.std.specs.Prelude.{◌≡◌};
-ghost use Rattle.pz_cursor.specs.Device.{Reads};
-ghost use Rattle.pz_cursor.specs.Lists as lists;
+ghost use Rattle.pz_cursor.specs.devices.Device.{Reads};
+ghost use Rattle.pz_cursor.specs.devices.Lists as lists;
 ghost use Rattle.pz_cursor.specs.declared.ahead.Next.TheVariants as n;
-ghost use Rattle.pz_clusters.specs.Clusters as spec;
+ghost use Rattle.pz_clusters.specs.devices.Clusters as spec;
 
-use pz_ast::{Arg, Given, Instance};
 use pz_cursor::{Cursor, Next, Refusal};
 use pz_items::Items;
+use pz_syntax::{Arg, Given, Instance};
 use std::alloc::Global;
 
 /// The instances, if `instances` stands next.

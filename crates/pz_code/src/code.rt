@@ -1,6 +1,6 @@
 use crate::Slot;
-use pz_ast::{Id, Literal, Pos, Symbol};
 use pz_items::{Boxed, Items};
+use pz_syntax::{Id, Literal, Pos, Symbol};
 use pz_value::ClassId;
 
 /// An expression of a method's body, at the place of its first token. Variables are slots, and

@@ -1,6 +1,6 @@
 use crate::{Code, Slot};
-use pz_ast::{Id, Pos};
 use pz_items::{Boxed, Items};
+use pz_syntax::{Id, Pos};
 
 /// A statement of a method's body, at the place of its first token. Variables are slots, and ports
 /// are their numbers in the class.

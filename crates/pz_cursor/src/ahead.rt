@@ -1,9 +1,9 @@
 //! The look-ahead: what stands next, as one flat list of cases.
 
 ghost use Rattle.std.specs.Prelude.{◌≡◌};
-ghost use Rattle.pz_cursor.specs.LookAhead as spec;
+ghost use Rattle.pz_cursor.specs.devices.LookAhead as spec;
 
-use pz_ast::{Keyword, Symbol, Token, TokenKind};
+use pz_syntax::{Keyword, Symbol, Token, TokenKind};
 
 /// What comes next, without what it says. `Word` is an identifier that is no head, `Head` one that
 /// is, and `InitHead` the keyword `init` as a head; a keyword and a symbol that are no heads are

@@ -1,14 +1,14 @@
 //! A cursor over tokens.
 
 ghost use Rattle.std.specs.Prelude.{◌≡◌, length, Ok, codes};
-ghost use Rattle.pz_cursor.specs.LookAhead as look;
-ghost use Rattle.pz_cursor.specs.Input as input;
-ghost use Rattle.pz_cursor.specs.Device as device;
-ghost use Rattle.pz_cursor.specs.Device.{Reads, MakesOr};
+ghost use Rattle.pz_cursor.specs.devices.LookAhead as look;
+ghost use Rattle.pz_cursor.specs.devices.Input as input;
+ghost use Rattle.pz_cursor.specs.devices.Device as device;
+ghost use Rattle.pz_cursor.specs.devices.Device.{Reads, MakesOr};
 
 use crate::Refusal;
 use crate::ahead::{Next, next_of, same};
-use pz_ast::{Id, Keyword, Literal, Name, Pos, Token, TokenKind};
+use pz_syntax::{Id, Keyword, Literal, Name, Pos, Token, TokenKind};
 use std::alloc::Global;
 use std::marker::Model;
 
@@ -20,7 +20,7 @@ pub struct Cursor<'a> {
 
 impl<'a> Model for Cursor<'a> {
     ghost use Rattle.std.specs.Prelude.{List};
-    ghost use Rattle.pz_ast.specs.declared.tokens.Token.{Token};
+    ghost use Rattle.pz_syntax.specs.declared.tokens.Token.{Token};
 
     ghost Value = { List Token };
 

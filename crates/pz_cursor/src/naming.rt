@@ -1,15 +1,15 @@
 //! Names, variables and formal parameters.
 
 ghost use Rattle.std.specs.Prelude.{◌≡◌};
-ghost use Rattle.pz_cursor.specs.Names as spec;
-ghost use Rattle.pz_cursor.specs.Lists as lists;
-ghost use Rattle.pz_cursor.specs.Device.{Reads, behind};
+ghost use Rattle.pz_cursor.specs.devices.Names as spec;
+ghost use Rattle.pz_cursor.specs.devices.Lists as lists;
+ghost use Rattle.pz_cursor.specs.devices.Device.{Reads, behind};
 ghost use Rattle.pz_cursor.specs.declared.ahead.Next.TheVariants as n;
 
 use crate::ahead::Next;
 use crate::{Cursor, Refusal};
-use pz_ast::{Id, VarGroup};
 use pz_items::Items;
+use pz_syntax::{Id, VarGroup};
 use std::alloc::Global;
 
 /// One name or more, with commas between them.

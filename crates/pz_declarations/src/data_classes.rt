@@ -1,14 +1,14 @@
 //! Data classes.
 
 ghost use Rattle.std.specs.Prelude.{◌≡◌, ◌<◌, ◌-◌, ◌^◌, map, option_map};
-ghost use Rattle.pz_ast.specs.ClassView.{data_class_view, data_method_view};
-ghost use Rattle.pz_cursor.specs.Device.{Reads};
-ghost use Rattle.pz_declarations.specs.DataClasses as spec;
+ghost use Rattle.pz_syntax.specs.ClassView.{data_class_view, data_method_view};
+ghost use Rattle.pz_cursor.specs.devices.Device.{Reads};
+ghost use Rattle.pz_declarations.specs.devices.DataClasses as spec;
 
 use crate::sections::{parent_section, variables_section};
-use pz_ast::{DataClass, DataMethod};
 use pz_cursor::{Cursor, Next, Refusal, optional_formal, optional_locals};
 use pz_items::Items;
+use pz_syntax::{DataClass, DataMethod};
 use pz_values::exprs;
 use std::alloc::Global;
 

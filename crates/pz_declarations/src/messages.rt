@@ -1,14 +1,14 @@
 //! The messages that a process class declares.
 
 ghost use Rattle.std.specs.Prelude.{◌≡◌};
-ghost use Rattle.pz_cursor.specs.Device.{Reads};
-ghost use Rattle.pz_cursor.specs.Lists as lists;
+ghost use Rattle.pz_cursor.specs.devices.Device.{Reads};
+ghost use Rattle.pz_cursor.specs.devices.Lists as lists;
 ghost use Rattle.pz_cursor.specs.declared.ahead.Next.TheVariants as n;
-ghost use Rattle.pz_declarations.specs.Sections as spec;
+ghost use Rattle.pz_declarations.specs.devices.Sections as spec;
 
-use pz_ast::{Id, Message};
 use pz_cursor::{Cursor, Next, Refusal, optional_names};
 use pz_items::Items;
+use pz_syntax::{Id, Message};
 use std::alloc::Global;
 
 /// The messages of a process class, none or more, if `messages` stands next.

@@ -1,14 +1,14 @@
 //! Sections of classes: the parent, the variables, and the call with which a process starts.
 
 ghost use Rattle.std.specs.Prelude.{◌≡◌, ◌<◌, ◌-◌, ◌^◌, map, option_map};
-ghost use Rattle.pz_ast.specs.ExpressionView.{view};
-ghost use Rattle.pz_ast.specs.ClassView.{start_view};
-ghost use Rattle.pz_cursor.specs.Device.{Reads};
-ghost use Rattle.pz_declarations.specs.Sections as spec;
+ghost use Rattle.pz_syntax.specs.ExpressionView.{view};
+ghost use Rattle.pz_syntax.specs.ClassView.{start_view};
+ghost use Rattle.pz_cursor.specs.devices.Device.{Reads};
+ghost use Rattle.pz_declarations.specs.devices.Sections as spec;
 
-use pz_ast::{Expr, Id, Start, VarGroup};
 use pz_cursor::{Cursor, Next, Refusal, optional_variables};
 use pz_items::Items;
+use pz_syntax::{Expr, Id, Start, VarGroup};
 use pz_values::exprs;
 use std::alloc::Global;
 

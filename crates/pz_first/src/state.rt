@@ -1,9 +1,9 @@
 //! Where the reading of a model stands, and what each token makes of it.
 
 ghost use Rattle.std.specs.Prelude.{◌≡◌, if◌then◌else◌, Some, None};
-ghost use Rattle.pz_first.specs.Steps as spec;
+ghost use Rattle.pz_first.specs.devices.Steps as spec;
 
-use pz_ast::{Keyword, Symbol, TokenKind};
+use pz_syntax::{Keyword, Symbol, TokenKind};
 
 /// What the brackets `()()` stand behind.
 #[derive(Clone, Copy, Debug, PartialEq, Eq)]

@@ -1,4 +1,4 @@
-use pz_ast::{Id, Pos};
+use pz_syntax::{Id, Pos};
 
 /// A word of a declaration, by what it is there.
 #[derive(Debug, Drop)]

@@ -1,6 +1,6 @@
 use crate::Mention;
-use pz_ast::Id;
 use pz_items::Items;
+use pz_syntax::Id;
 
 /// A stretch of a declaration in which the same local names are known.
 #[derive(Debug, Drop)]

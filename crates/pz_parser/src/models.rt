@@ -1,16 +1,16 @@
 //! Declarations and whole models.
 
 ghost use Rattle.std.specs.Prelude.{◌≡◌, ◌<◌, ◌-◌, ◌^◌, map};
-ghost use Rattle.pz_ast.specs.ClassView.{decl_view, model_view};
-ghost use Rattle.pz_cursor.specs.Device.{Reads};
-ghost use Rattle.pz_parser.specs.Models as spec;
+ghost use Rattle.pz_syntax.specs.ClassView.{decl_view, model_view};
+ghost use Rattle.pz_cursor.specs.devices.Device.{Reads};
+ghost use Rattle.pz_parser.specs.devices.Models as spec;
 
 use crate::processes::process_class;
-use pz_ast::{Decl, Model};
 use pz_clusters::{cluster_class, system};
 use pz_cursor::{Cursor, Next, Refusal};
 use pz_declarations::data_class;
 use pz_items::Items;
+use pz_syntax::{Decl, Model};
 use std::alloc::Global;
 
 /// A whole model, which all tokens are to make up. At most `depth` constructs stand one in another.

@@ -1,16 +1,16 @@
 //! Process methods and process classes.
 
 ghost use Rattle.std.specs.Prelude.{◌≡◌, ◌<◌, ◌-◌, ◌^◌, map, option_map};
-ghost use Rattle.pz_ast.specs.ClassView.{process_method_view, process_class_view};
-ghost use Rattle.pz_cursor.specs.Device.{Reads, behind};
+ghost use Rattle.pz_syntax.specs.ClassView.{process_method_view, process_class_view};
+ghost use Rattle.pz_cursor.specs.devices.Device.{Reads, behind};
 ghost use Rattle.pz_cursor.specs.declared.ahead.Next.TheVariants as n;
-ghost use Rattle.pz_parser.specs.Processes as spec;
+ghost use Rattle.pz_parser.specs.devices.Processes as spec;
 
-use pz_ast::{ProcessClass, ProcessMethod};
 use pz_cursor::{Cursor, Next, Refusal, formal, optional_formal, optional_locals, ports_section};
 use pz_declarations::{messages_section, parent_section, start_section, variables_section};
 use pz_items::Items;
 use pz_statements::stmts;
+use pz_syntax::{ProcessClass, ProcessMethod};
 use std::alloc::Global;
 
 /// A process class from `process` on. In its start and in its methods at most `depth` constructs

@@ -1,17 +1,17 @@
 //! `par` and `sel`.
 
 ghost use Rattle.std.specs.Prelude.{◌≡◌, map};
-ghost use Rattle.pz_ast.specs.StatementView.{view};
-ghost use Rattle.pz_cursor.specs.Device.{Reads};
-ghost use Rattle.pz_cursor.specs.Lists as lists;
-ghost use Rattle.pz_statements.specs.Statements as spec;
-ghost use Rattle.pz_statements.specs.Statements.{below_stmt};
-ghost use Rattle.pz_statements.specs.Nests.{Nests};
+ghost use Rattle.pz_syntax.specs.StatementView.{view};
+ghost use Rattle.pz_cursor.specs.devices.Device.{Reads};
+ghost use Rattle.pz_cursor.specs.devices.Lists as lists;
+ghost use Rattle.pz_statements.specs.devices.Statements as spec;
+ghost use Rattle.pz_statements.specs.devices.Statements.{below_stmt};
+ghost use Rattle.pz_statements.specs.devices.Nests.{Nests};
 
 use crate::grammar::Grammar;
-use pz_ast::{Stmt, StmtForm};
 use pz_cursor::{Cursor, Next, Refusal};
 use pz_items::Items;
+use pz_syntax::{Stmt, StmtForm};
 use std::alloc::Global;
 
 impl<F: Fn(Global, &mut Cursor<'_>, usize) -> Result<Stmt, Refusal>> Grammar<F> {

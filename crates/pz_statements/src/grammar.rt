@@ -2,19 +2,19 @@
 //! is proved by itself.
 
 ghost use Rattle.std.specs.Prelude.{◌≡◌, ◌<◌, ◌-◌, ◌^◌, map};
-ghost use Rattle.pz_ast.specs.StatementView.{view, sequence_view};
-ghost use Rattle.pz_cursor.specs.Device.{Reads};
-ghost use Rattle.pz_cursor.specs.Lists as lists;
+ghost use Rattle.pz_syntax.specs.StatementView.{view, sequence_view};
+ghost use Rattle.pz_cursor.specs.devices.Device.{Reads};
+ghost use Rattle.pz_cursor.specs.devices.Lists as lists;
 ghost use Rattle.pz_cursor.specs.declared.ahead.Next.TheVariants as n;
-ghost use Rattle.pz_statements.specs.Statements as spec;
-ghost use Rattle.pz_statements.specs.Statements.{below_stmt};
-ghost use Rattle.pz_statements.specs.Nests.{Nests};
+ghost use Rattle.pz_statements.specs.devices.Statements as spec;
+ghost use Rattle.pz_statements.specs.devices.Statements.{below_stmt};
+ghost use Rattle.pz_statements.specs.devices.Nests.{Nests};
 
 use crate::messages::call;
 use crate::single::{block, delay, skip, valued, worded};
-use pz_ast::Stmt;
 use pz_cursor::{Cursor, Next, Refusal};
 use pz_items::Items;
+use pz_syntax::Stmt;
 use std::alloc::Global;
 
 /// The nesting, and the parser of the statements one construct further in.

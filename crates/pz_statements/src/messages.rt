@@ -1,17 +1,17 @@
 //! Sends, receptions and calls.
 
 ghost use Rattle.std.specs.Prelude.{◌≡◌, map, option_map};
-ghost use Rattle.pz_ast.specs.ExpressionView.{part_view};
-ghost use Rattle.pz_ast.specs.ExpressionView as expression;
-ghost use Rattle.pz_ast.specs.StatementView.{view};
-ghost use Rattle.pz_cursor.specs.Device.{Reads};
-ghost use Rattle.pz_statements.specs.Messages as spec;
-ghost use Rattle.pz_statements.specs.Views.{reception_view};
+ghost use Rattle.pz_syntax.specs.ExpressionView.{part_view};
+ghost use Rattle.pz_syntax.specs.ExpressionView as expression;
+ghost use Rattle.pz_syntax.specs.StatementView.{view};
+ghost use Rattle.pz_cursor.specs.devices.Device.{Reads};
+ghost use Rattle.pz_statements.specs.devices.Messages as spec;
+ghost use Rattle.pz_statements.specs.devices.Views.{reception_view};
 
 use crate::single::inner_value;
-use pz_ast::{Expr, Id, Stmt, StmtForm};
 use pz_cursor::{Cursor, Next, Refusal, optional_names};
 use pz_items::Items;
+use pz_syntax::{Expr, Id, Stmt, StmtForm};
 use pz_values::{arguments, block, optional_arguments};
 use std::alloc::Global;
 

@@ -1,21 +1,21 @@
 //! Brackets, guards, `if`, `while`, `abort` and `interrupt`.
 
 ghost use Rattle.std.specs.Prelude.{◌≡◌, map};
-ghost use Rattle.pz_ast.specs.ExpressionView as expression;
-ghost use Rattle.pz_ast.specs.StatementView.{view, sequence_view};
-ghost use Rattle.pz_cursor.specs.Device.{Reads};
-ghost use Rattle.pz_statements.specs.Views.{otherwise_view, handled_view};
-ghost use Rattle.pz_values.specs.Values as values;
-ghost use Rattle.pz_values.specs.Values.{below};
-ghost use Rattle.pz_statements.specs.Statements as spec;
-ghost use Rattle.pz_statements.specs.Statements.{below_stmt};
-ghost use Rattle.pz_statements.specs.Nests.{Nests};
+ghost use Rattle.pz_syntax.specs.ExpressionView as expression;
+ghost use Rattle.pz_syntax.specs.StatementView.{view, sequence_view};
+ghost use Rattle.pz_cursor.specs.devices.Device.{Reads};
+ghost use Rattle.pz_statements.specs.devices.Views.{otherwise_view, handled_view};
+ghost use Rattle.pz_values.specs.devices.Values as values;
+ghost use Rattle.pz_values.specs.devices.Values.{below};
+ghost use Rattle.pz_statements.specs.devices.Statements as spec;
+ghost use Rattle.pz_statements.specs.devices.Statements.{below_stmt};
+ghost use Rattle.pz_statements.specs.devices.Nests.{Nests};
 
 use crate::grammar::Grammar;
 use crate::single::inner_value;
-use pz_ast::{Expr, Stmt, StmtForm};
 use pz_cursor::{Cursor, Next, Refusal};
 use pz_items::{Boxed, Items};
+use pz_syntax::{Expr, Stmt, StmtForm};
 use std::alloc::Global;
 
 impl<F: Fn(Global, &mut Cursor<'_>, usize) -> Result<Stmt, Refusal>> Grammar<F> {

@@ -1,16 +1,16 @@
 //! Statements in which no other statement stands.
 
 ghost use Rattle.std.specs.Prelude.{◌≡◌, Ok};
-ghost use Rattle.pz_ast.specs.ExpressionView as expression;
-ghost use Rattle.pz_ast.specs.StatementView.{view};
-ghost use Rattle.pz_cursor.specs.Device.{Reads};
+ghost use Rattle.pz_syntax.specs.ExpressionView as expression;
+ghost use Rattle.pz_syntax.specs.StatementView.{view};
+ghost use Rattle.pz_cursor.specs.devices.Device.{Reads};
 ghost use Rattle.pz_values.specs.declared.rule.Rule.TheVariants as rule;
-ghost use Rattle.pz_values.specs.Values.{below};
-ghost use Rattle.pz_statements.specs.Statements as spec;
+ghost use Rattle.pz_values.specs.devices.Values.{below};
+ghost use Rattle.pz_statements.specs.devices.Statements as spec;
 
 use crate::messages::{receive, send};
-use pz_ast::{Expr, Stmt, StmtForm};
 use pz_cursor::{Cursor, Next, Refusal};
+use pz_syntax::{Expr, Stmt, StmtForm};
 use pz_values::value;
 use std::alloc::Global;
 

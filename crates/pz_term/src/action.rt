@@ -1,5 +1,5 @@
 use crate::Place;
-use pz_ast::Pos;
+use pz_syntax::Pos;
 
 /// A part of a process: the number of the process, from 0 in the order of the text, and the place
 /// in its term.

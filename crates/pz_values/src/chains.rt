@@ -1,18 +1,18 @@
 //! Chains of operators.
 
 ghost use Rattle.std.specs.Prelude.{◌≡◌, ◌<◌, map};
-ghost use Rattle.pz_ast.specs.ExpressionView.{view, link_view};
-ghost use Rattle.pz_cursor.specs.Device.{Reads, MakesOr};
-ghost use Rattle.pz_values.specs.Rules as rules;
-ghost use Rattle.pz_values.specs.Rules.{rank};
-ghost use Rattle.pz_values.specs.Values as spec;
-ghost use Rattle.pz_values.specs.Nests.{Nests};
+ghost use Rattle.pz_syntax.specs.ExpressionView.{view, link_view};
+ghost use Rattle.pz_cursor.specs.devices.Device.{Reads, MakesOr};
+ghost use Rattle.pz_values.specs.devices.Rules as rules;
+ghost use Rattle.pz_values.specs.devices.Rules.{rank};
+ghost use Rattle.pz_values.specs.devices.Values as spec;
+ghost use Rattle.pz_values.specs.devices.Nests.{Nests};
 
 use crate::Rule;
 use crate::grammar::Grammar;
-use pz_ast::{Expr, ExprForm, Link, Pos, Symbol};
 use pz_cursor::{Cursor, Next, Refusal};
 use pz_items::{Boxed, Items};
+use pz_syntax::{Expr, ExprForm, Link, Pos, Symbol};
 use std::alloc::Global;
 
 impl<F: Fn(Global, &mut Cursor<'_>, usize, Rule) -> Result<Expr, Refusal>> Grammar<F> {

@@ -2,21 +2,21 @@
 //! by itself.
 
 ghost use Rattle.std.specs.Prelude.{◌≡◌, ◌<◌, ◌-◌, ◌^◌, map, true, suc, option_map};
-ghost use Rattle.pz_ast.specs.ExpressionView.{view, list_view, part_view};
-ghost use Rattle.pz_cursor.specs.Device.{Reads, optional};
-ghost use Rattle.pz_cursor.specs.Input.{sees};
-ghost use Rattle.pz_cursor.specs.Lists as lists;
+ghost use Rattle.pz_syntax.specs.ExpressionView.{view, list_view, part_view};
+ghost use Rattle.pz_cursor.specs.devices.Device.{Reads, optional};
+ghost use Rattle.pz_cursor.specs.devices.Input.{sees};
+ghost use Rattle.pz_cursor.specs.devices.Lists as lists;
 ghost use Rattle.pz_cursor.specs.declared.ahead.Next.TheVariants as n;
 ghost use Rattle.pz_values.specs.declared.rule.Rule.TheVariants as rule;
-ghost use Rattle.pz_values.specs.Rules.{rank};
-ghost use Rattle.pz_values.specs.Values as spec;
-ghost use Rattle.pz_values.specs.Values.{below};
-ghost use Rattle.pz_values.specs.Nests.{Nests};
+ghost use Rattle.pz_values.specs.devices.Rules.{rank};
+ghost use Rattle.pz_values.specs.devices.Values as spec;
+ghost use Rattle.pz_values.specs.devices.Values.{below};
+ghost use Rattle.pz_values.specs.devices.Nests.{Nests};
 
 use crate::Rule;
-use pz_ast::{Expr, ExprForm};
 use pz_cursor::{Cursor, Next, Refusal};
 use pz_items::{Boxed, Items};
+use pz_syntax::{Expr, ExprForm};
 use std::alloc::Global;
 
 /// The rule that is read, and the parser of parts.

@@ -1,17 +1,17 @@
 //! Signs, sendings and arguments.
 
 ghost use Rattle.std.specs.Prelude.{◌≡◌, map};
-ghost use Rattle.pz_ast.specs.ExpressionView.{view, part_view, sending_view};
-ghost use Rattle.pz_cursor.specs.Device.{Reads, MakesOr};
-ghost use Rattle.pz_values.specs.Values as spec;
-ghost use Rattle.pz_values.specs.Values.{below};
-ghost use Rattle.pz_values.specs.Nests.{Nests};
+ghost use Rattle.pz_syntax.specs.ExpressionView.{view, part_view, sending_view};
+ghost use Rattle.pz_cursor.specs.devices.Device.{Reads, MakesOr};
+ghost use Rattle.pz_values.specs.devices.Values as spec;
+ghost use Rattle.pz_values.specs.devices.Values.{below};
+ghost use Rattle.pz_values.specs.devices.Nests.{Nests};
 
 use crate::Rule;
 use crate::grammar::Grammar;
-use pz_ast::{Expr, ExprForm, Pos, Sending, Symbol};
 use pz_cursor::{Cursor, Next, Refusal};
 use pz_items::{Boxed, Items};
+use pz_syntax::{Expr, ExprForm, Pos, Sending, Symbol};
 use std::alloc::Global;
 
 impl<F: Fn(Global, &mut Cursor<'_>, usize, Rule) -> Result<Expr, Refusal>> Grammar<F> {

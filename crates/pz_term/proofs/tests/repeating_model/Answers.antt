@@ -1,8 +1,8 @@
 use Rattle.std.proofs.Common.{◌≡◌, ◌∙◌, ap, refl, codes}
-use Rattle.pz_ast.specs.declared.tokens.Pos.{Pos}
-use Rattle.pz_ast.specs.declared.names.Id.{Id}
-use Rattle.pz_ast.specs.declared.clusters.Decl.TheVariants.{Process, System}
-use Rattle.pz_ast.specs.StatementView.{sequence_view}
+use Rattle.pz_syntax.specs.declared.tokens.Pos.{Pos}
+use Rattle.pz_syntax.specs.declared.names.Id.{Id}
+use Rattle.pz_syntax.specs.declared.clusters.Decl.TheVariants.{Process, System}
+use Rattle.pz_syntax.specs.StatementView.{sequence_view}
 use Rattle.pz_term.specs.FirstPath.{skips, calls, statement_of, statements_of}
 use Rattle.pz_term.proofs.Rows.{named, repeating, repeating_body, repeating_is_first, repeating_statements, pushed_two, tree_is}
 use Rattle.pz_term.proofs.tests.repeating_model.Goals as goal
