@@ -1,8 +1,10 @@
-pub mod Earliest
 pub mod Lookups
 pub mod Steps
 pub mod Lists
 pub mod Repeated
+pub mod Turned
+pub mod AlikeKeys
+pub mod SystemsFound
 pub mod Declared
 pub mod OuterEnds
 pub mod EndsFound
