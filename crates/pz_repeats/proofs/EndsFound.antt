@@ -15,7 +15,7 @@ use Rattle.pz_repeats.specs.devices.EndList.{outers, of_decl, double_ends}
 use Rattle.pz_repeats.proofs.Lists.{flat_member, member_flat}
 use Rattle.pz_repeats.proofs.Declared.{number_of, among_declared}
 use Rattle.pz_repeats.proofs.LeastCovering.{NotBehind, least_covering}
-use Rattle.pz_repeats.proofs.Turned.{ends_turned, outers_turned}
+use Rattle.pz_classes.proofs.Turned.{ends_turned, outers_turned}
 use Rattle.pz_repeats.proofs.Covering.{found_sound, covers_all}
 
 module _ (m : ModelTree) where

@@ -2,7 +2,6 @@ pub mod Lookups
 pub mod Steps
 pub mod Lists
 pub mod Repeated
-pub mod Turned
 pub mod AlikeKeys
 pub mod SystemsFound
 pub mod Declared

@@ -26,7 +26,7 @@ use Rattle.pz_repeats.specs.devices.Signals.{message_place}
 use Rattle.pz_repeats.specs.devices.RepeatList.{of_line, of_visits, of_names, of_part, of_parts, of_own, all_repeats}
 use Rattle.pz_repeats.proofs.Lists.{none_in, flat_member, member_flat, at_place}
 use Rattle.pz_repeats.proofs.Repeated.{At}
-use Rattle.pz_repeats.proofs.Turned.{names_turned, headings_turned, messages_turned}
+use Rattle.pz_classes.proofs.Turned.{names_turned, headings_turned, messages_turned}
 use Rattle.pz_repeats.proofs.Declared.{number_of, among_declared, declared_within}
 use Rattle.pz_repeats.proofs.LeastCovering.{NotBehind, least_covering}
 use Rattle.pz_repeats.proofs.Covering.{found_sound, covers_none, covers_all}

@@ -17,7 +17,7 @@ use Rattle.pz_repeats.specs.devices.Names.{id_place}
 use Rattle.pz_repeats.specs.devices.RepeatList.{own_of, own_at, of_line, of_visits}
 use Rattle.pz_repeats.proofs.Lists.{none_in, in_cases}
 use Rattle.pz_repeats.proofs.Repeated.{At}
-use Rattle.pz_repeats.proofs.Turned.{names_turned}
+use Rattle.pz_classes.proofs.Turned.{names_turned}
 use Rattle.pz_repeats.proofs.Covering.{found_sound, Covers, covers_front, covers_more}
 
 module _ (m : ModelTree) (sort : Inherited) where
