@@ -27,3 +27,5 @@ pub mod Apart
 mod SoundInstances
 mod SoundEnds
 mod SoundSystem
+mod Heirs
+mod SoundClasses

@@ -32,14 +32,16 @@ within_limits p k h never = by_test (nat_lt 10000 p || nat_lt 10000 k || nat_lt 
     by_test true is = absurd (never is)
     by_test false is = (grind (arith, nat_tests), grind (arith, nat_tests), grind (arith, nat_tests))
 
+zero_not_one : ◌≡◌ {A = ℕ} 0 1 → ⊥
+zero_not_one is = cc
+
 module _ (m : ModelTree) (sound : IsSound m) where
   one_of : (ss : List SystemDecl) → systems m ≡ ss → HasOneSystem m
   one_of [] is = absurd (sound.rules (violation 20 text_start) (the_system (violation 20 text_start) (no_system is)))
   one_of (s ∷ []) is = record { the_system = s; only = is }
   one_of (s ∷ t ∷ ss) is =
       let alone : AreApart any_two (systems m) = apart any_two (λ x. x.pos) (systems m) (λ x y same. refl) (λ x again. sound.rules (violation 20 x.pos) (the_system (violation 20 x.pos) (again_system x again))) in
-      let wrong : 0 ≡ 1 = alone 0 1 s t (rw is refl) (rw is refl) refl in
-      absurd (omega arith)
+      absurd (zero_not_one (alone 0 1 s t (rw is refl) (rw is refl) refl))
 
   parts_fit : (c : ℕ) (d : DeclTree) → declaration m c ≡ Some d → PartsFit m c d
   parts_fit c d declared = record {

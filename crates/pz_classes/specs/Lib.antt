@@ -24,4 +24,5 @@ pub mod CheckedView
 pub mod Reached
 pub mod Apart
 pub mod SoundSystem
+pub mod SoundClasses
 pub mod devices

@@ -1,6 +1,7 @@
 // Laws of the definitions, each the contract of a function that does nothing.
 
 ghost use Rattle.pz_classes.specs.Reached.{AncestorsAreReached};
+ghost use Rattle.pz_classes.specs.SoundClasses.{SoundClassesFit};
 ghost use Rattle.pz_classes.specs.SoundSystem.{SoundSystemsFit};
 
 /// The ancestors of a class that is declared are the classes that one comes to by its parent, that
@@ -14,4 +15,11 @@ pub fn ancestors_are_reached()
 /// itself, and the expanded system is not too large.
 pub fn sound_systems_fit()
     ensures law { SoundSystemsFit }
+{}
+
+/// In a sound model the fields, variables and ports of an ancestor begin those of the class, and no
+/// name stands twice among them. Each process class starts with a call of a method that it has. A
+/// method that is called in a class is one of the class and of all that descend from it.
+pub fn sound_classes_fit()
+    ensures law { SoundClassesFit }
 {}

@@ -20,3 +20,4 @@ pub mod NameSteps
 pub mod Visiting
 pub mod Openings
 pub mod RepeatsFound
+mod Rows
