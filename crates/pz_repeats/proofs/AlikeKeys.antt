@@ -1,5 +1,5 @@
 -- Things of which any two repeat one another.
-use Rattle.std.proofs.Common.{◌≡◌, refl, ap, ◌∙◌, ℕ, Bool, true, List, map}
+use Rattle.std.proofs.Common.{◌≡◌, refl, ap, ◌∙◌, ℕ, Bool, true, List, [], ◌∷◌, map}
 use Rattle.pz_syntax.specs.declared.tokens.Pos.{Pos}
 use Rattle.pz_syntax.specs.declared.clusters.SystemDecl.{SystemDecl}
 use Rattle.pz_repeats.specs.declared.places.Alike.{Alike}
@@ -16,3 +16,14 @@ alike_repeat eq all rule things places same =
 
 pub systems_repeat : (ss : List SystemDecl) → repeats any_two_systems system_place 20 ss ≡ repeats any_two itself 20 (map system_place ss)
 systems_repeat ss = repeats_seen any_two_systems system_place system_place any_two itself (λ x y. refl) (λ x. refl) 20 ss
+
+-- of two lists that are seen alike both are empty or none
+pub none_mapped : {A B C : Type 0} (f : A → C) (g : B → C) (xs : List A) (ys : List B) → map f xs ≡ map g ys → xs ≡ [] → ys ≡ []
+none_mapped f g [] [] same none = refl
+none_mapped f g [] (y ∷ ys) same none = cc
+none_mapped f g (x ∷ xs) ys same none = cc
+
+pub none_seen : {A B C : Type 0} (f : A → C) (g : B → C) (xs : List A) (ys : List B) → map f xs ≡ map g ys → ys ≡ [] → xs ≡ []
+none_seen f g [] ys same none = refl
+none_seen f g (x ∷ xs) [] same none = cc
+none_seen f g (x ∷ xs) (y ∷ ys) same none = cc
