@@ -1,5 +1,7 @@
 // What no clause says: that the calls succeed where memory is ample, and examples of each answer.
-use super::*;
+use pz_io::{
+    FailingFiles, Files, Got, MemFiles, Opened, OsFiles, OsSink, ReadError, RoomySink, Sink, WriteError, read_all, write_all,
+};
 use std::alloc::{AllocError, Global};
 use std::test::Fail;
 
@@ -50,11 +52,11 @@ fn a_missing_name_is_a_fault(rt: HostRuntime) -> Result<(), Fail> {
     let mut files = files_of(rt.alloc(), &[("a", "xy")])?;
     assert_eq!(rt;
         read_all(rt.alloc(), &mut files, "b", 9).err(),
-        Some(ReadAllError::Fault)
+        Some(ReadError::Fault)
     );
     assert_eq!(rt;
         read_all(rt.alloc(), &mut files, "", 9).err(),
-        Some(ReadAllError::Fault)
+        Some(ReadError::Fault)
     );
     Ok(())
 }
@@ -66,7 +68,7 @@ fn a_file_of_the_limit_is_read_and_one_byte_more_is_too_long(rt: HostRuntime) ->
     assert_eq!(rt; read.as_slice(), b"xyz".as_slice());
     assert_eq!(rt;
         read_all(rt.alloc(), &mut files, "a", 2).err(),
-        Some(ReadAllError::TooLong)
+        Some(ReadError::TooLong)
     );
     assert_eq!(rt; read_all(rt.alloc(), &mut files, "empty", 0)?.len(), 0);
     Ok(())
@@ -113,7 +115,7 @@ fn each_failing_call_of_a_read_is_a_fault_and_none_an_end(rt: HostRuntime) -> Re
         let inner = files_of(rt.alloc(), &[("a", "xyz")])?;
         let mut files = FailingFiles::new(inner, vec![in rt.alloc(); call]?);
         let failed = read_all(rt.alloc(), &mut files, "a", 3);
-        assert_eq!(rt; failed.err(), Some(ReadAllError::Fault), "at call {call}");
+        assert_eq!(rt; failed.err(), Some(ReadError::Fault), "at call {call}");
         let read = read_all(rt.alloc(), &mut files, "a", 3)?;
         assert_eq!(rt; read.as_slice(), b"xyz".as_slice(), "after call {call}");
     }
@@ -124,8 +126,8 @@ fn each_failing_call_of_a_read_is_a_fault_and_none_an_end(rt: HostRuntime) -> Re
 fn a_sink_with_little_room_takes_a_front(rt: HostRuntime) -> Result<(), Fail> {
     let mut sink = RoomySink::new(rt.alloc(), 5, Vec::new(rt.alloc()))?;
     assert_eq!(rt; write_all(&mut sink, b"abc"), Ok(()));
-    assert_eq!(rt; write_all(&mut sink, b"defg"), Err(WriteFault { sent: 2 }));
-    assert_eq!(rt; write_all(&mut sink, b"h"), Err(WriteFault { sent: 0 }));
+    assert_eq!(rt; write_all(&mut sink, b"defg"), Err(WriteError::Fault { sent: 2 }));
+    assert_eq!(rt; write_all(&mut sink, b"h"), Err(WriteError::Fault { sent: 0 }));
     assert_eq!(rt; write_all(&mut sink, b""), Ok(()), "no byte, no write");
     assert_eq!(rt; sink.bytes(), b"abcde".as_slice());
     Ok(())
@@ -135,7 +137,7 @@ fn a_sink_with_little_room_takes_a_front(rt: HostRuntime) -> Result<(), Fail> {
 fn a_listed_write_fails_with_what_was_sent(rt: HostRuntime) -> Result<(), Fail> {
     let mut sink = RoomySink::new(rt.alloc(), 9, vec![in rt.alloc(); 2]?)?;
     assert_eq!(rt; write_all(&mut sink, b"abc"), Ok(()));
-    assert_eq!(rt; write_all(&mut sink, b"def"), Err(WriteFault { sent: 0 }));
+    assert_eq!(rt; write_all(&mut sink, b"def"), Err(WriteError::Fault { sent: 0 }));
     assert_eq!(rt; write_all(&mut sink, b"ghi"), Ok(()));
     assert_eq!(rt; sink.bytes(), b"abcghi".as_slice());
     Ok(())
@@ -150,7 +152,7 @@ fn the_system_refuses_a_name_that_no_file_has_and_takes_output(
     assert_eq!(rt; files.open("no file has this name"), Opened::Failed);
     assert_eq!(rt; files.read(&mut buf), Got::End);
     let missing = read_all(rt.alloc(), &mut files, "no file has this name", 9);
-    assert_eq!(rt; missing.err(), Some(ReadAllError::Fault));
+    assert_eq!(rt; missing.err(), Some(ReadError::Fault));
     let mut sink = OsSink::new(rt);
     assert_eq!(rt; write_all(&mut sink, b"a line of output\n"), Ok(()));
     Ok(())
