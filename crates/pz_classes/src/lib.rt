@@ -31,6 +31,3 @@ pub use methods::{count_names, count_section};
 pub use pz_code::{Body, Code, CodeForm, CodeLink, CodeSending, Slot, Step, StepForm};
 pub use pz_lineage::Visit;
 pub use pz_violation::Violation;
-
-#[cfg(test)]
-mod tests;

@@ -2,7 +2,7 @@
 
 ghost use Rattle.std.specs.Prelude.{◌≡◌, map, IfOk};
 ghost use Rattle.pz_components.specs.Graph.{AreComponents};
-ghost use Rattle.pz_components.specs.Walking as spec;
+ghost use Rattle.pz_components.specs.devices.Walking as spec;
 
 use crate::walk::{State, Walk};
 use pz_items::Items;

@@ -1,9 +1,9 @@
 -- The rule that there is one system, and what the search for later systems finds.
 use Rattle.std.proofs.Common.{◌≡◌, refl, sym, ap, subst, ◌∙◌, zero, suc, ◌<◌, Bool, true, false, ◌&&◌, ◌||◌, IsTrue, List, [], ◌∷◌, ◌++◌, Some, None, arith, ◌⊎◌, inl, inr}
 use Rattle.std.specs.List.{Contains, flat_map}
-use Rattle.pz_ast.specs.declared.tokens.Pos.{Pos}
-use Rattle.pz_ast.specs.declared.clusters.SystemDecl.{SystemDecl}
-use Rattle.pz_ast.specs.Classes.{DeclTree, data_class, process_class, cluster_class, system, ModelTree}
+use Rattle.pz_syntax.specs.declared.tokens.Pos.{Pos}
+use Rattle.pz_syntax.specs.declared.clusters.SystemDecl.{SystemDecl}
+use Rattle.pz_syntax.specs.Classes.{DeclTree, data_class, process_class, cluster_class, system, ModelTree}
 use Rattle.pz_violation.specs.declared.violation.Violation.{Violation}
 use Rattle.pz_violation.specs.Order.{violation, pos_before, pos_same, is_before, IsLeast}
 use Rattle.pz_violation.specs.Least.{LeastOf, listed, least_from, Member}
@@ -12,7 +12,7 @@ use Rattle.pz_violation.proofs.Members.{listed_is, is_listed, member_left, membe
 use Rattle.pz_violation.proofs.Leasts as leasts
 use Rattle.pz_classes.specs.RepeatRules.{Repeats}
 use Rattle.pz_classes.specs.SizeRules.{system_of, systems, text_start, BreaksC20, again_system, no_system}
-use Rattle.pz_expansion.specs.Systems.{all_systems, later_systems}
+use Rattle.pz_expansion.specs.devices.Systems.{all_systems, later_systems}
 
 -- the violations at these systems, and at those of them behind a place
 abbrev at_all : List SystemDecl → List Violation

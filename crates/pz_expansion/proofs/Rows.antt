@@ -1,16 +1,16 @@
 -- Small models: what is refused in them, and how large they are.
 use Rattle.std.proofs.Common.{◌≡◌, refl, ℕ, List, [], ◌∷◌, Some, None, codes}
-use Rattle.pz_ast.specs.declared.tokens.Pos.{Pos}
-use Rattle.pz_ast.specs.declared.names.Id.{Id}
-use Rattle.pz_ast.specs.declared.clusters.Instance.{Instance}
-use Rattle.pz_ast.specs.declared.clusters.Channel.{Channel}
-use Rattle.pz_ast.specs.declared.clusters.SystemDecl.{SystemDecl}
-use Rattle.pz_ast.specs.Classes.{DeclTree, process_class, cluster_class, system, ModelTree}
+use Rattle.pz_syntax.specs.declared.tokens.Pos.{Pos}
+use Rattle.pz_syntax.specs.declared.names.Id.{Id}
+use Rattle.pz_syntax.specs.declared.clusters.Instance.{Instance}
+use Rattle.pz_syntax.specs.declared.clusters.Channel.{Channel}
+use Rattle.pz_syntax.specs.declared.clusters.SystemDecl.{SystemDecl}
+use Rattle.pz_syntax.specs.Classes.{DeclTree, process_class, cluster_class, system, ModelTree}
 use Rattle.pz_violation.specs.Order.{violation}
 use Rattle.pz_classes.specs.SizeRules.{system_size}
-use Rattle.pz_expansion.specs.Nodes.{nodes}
-use Rattle.pz_expansion.specs.LeadingBack.{back_among}
-use Rattle.pz_expansion.specs.Systems.{later_systems}
+use Rattle.pz_expansion.specs.devices.Nodes.{nodes}
+use Rattle.pz_expansion.specs.devices.LeadingBack.{back_among}
+use Rattle.pz_expansion.specs.devices.Systems.{later_systems}
 
 abbrev at : ℕ → ℕ → Pos
 at line column = record { line = line; column = column }

@@ -13,6 +13,3 @@ mod work_list;
 pub use holding::least_holding;
 pub use size::oversized;
 pub use systems::least_system;
-
-#[cfg(test)]
-mod tests;

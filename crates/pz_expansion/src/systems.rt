@@ -1,14 +1,14 @@
 // The rule C20: there is one system.
 
 ghost use Rattle.std.specs.Prelude.{◌≡◌, None};
-ghost use Rattle.pz_ast.specs.ClassView.{decl_view, model_view};
+ghost use Rattle.pz_syntax.specs.ClassView.{decl_view, model_view};
 ghost use Rattle.pz_violation.specs.Order as order;
 ghost use Rattle.pz_violation.specs.Least as least;
 ghost use Rattle.pz_violation.specs.Least.{LeastOf};
 ghost use Rattle.pz_classes.specs.SizeRules.{BreaksC20};
-ghost use Rattle.pz_expansion.specs.Systems as spec;
+ghost use Rattle.pz_expansion.specs.devices.Systems as spec;
 
-use pz_ast::{Decl, Model, Pos};
+use pz_syntax::{Decl, Model, Pos};
 use pz_violation::{Violation, lesser, pos_before};
 
 const THE_SYSTEM: u8 = 20;

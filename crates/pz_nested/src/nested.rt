@@ -2,7 +2,7 @@
 
 ghost use Rattle.std.specs.Prelude.{◌≡◌, ◌+◌, ◌<◌, List, [], ◌∷◌, OnOk, vec_len};
 ghost use Rattle.pz_nested.specs.Scopes.{Note, value_in, outermost};
-ghost use Rattle.pz_nested.specs.Holding.{Keeps, Holds};
+ghost use Rattle.pz_nested.specs.devices.Holding.{Keeps, Holds};
 
 use indexmap::IndexMap;
 use std::alloc::{AllocError, Global};

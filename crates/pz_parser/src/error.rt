@@ -1,4 +1,4 @@
-use pz_ast::Pos;
+use pz_syntax::Pos;
 
 /// Why tokens are not the text of a model, and where.
 #[derive(Clone, Copy, Debug, PartialEq, Eq)]

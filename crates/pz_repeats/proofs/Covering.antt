@@ -4,16 +4,16 @@ use Rattle.std.specs.List.{Contains}
 use Rattle.std.specs.Str.{bytes_eq}
 use Rattle.std.proofs.lemmas.List.Elements.{Contains-append_left, Contains-append_right, Contains-push_cases}
 use Rattle.std.proofs.lemmas.Slice.Eq.{bytes_eq-Decides}
-use Rattle.pz_ast.specs.declared.tokens.Pos.{Pos}
-use Rattle.pz_ast.specs.declared.names.Id.{Id}
+use Rattle.pz_syntax.specs.declared.tokens.Pos.{Pos}
+use Rattle.pz_syntax.specs.declared.names.Id.{Id}
 use Rattle.pz_violation.specs.declared.violation.Violation.{Violation}
 use Rattle.pz_violation.specs.Order.{violation, pos_before}
 use Rattle.pz_violation.specs.Least.{listed, Member}
 use Rattle.pz_violation.proofs.Order.{not_before_itself}
 use Rattle.pz_violation.proofs.Members.{member_left, member_right, member_cases, listed_is, is_listed}
 use Rattle.pz_classes.specs.RepeatRules.{RepeatsName, same_name}
-use Rattle.pz_repeats.specs.Names.{id_place}
-use Rattle.pz_repeats.specs.Inheriting.{earliest, later_of, found_in}
+use Rattle.pz_repeats.specs.devices.Names.{id_place}
+use Rattle.pz_repeats.specs.devices.Inheriting.{earliest, later_of, found_in}
 use Rattle.pz_repeats.proofs.Lists.{none_in, first_in}
 use Rattle.pz_repeats.proofs.Repeated.{At}
 use Rattle.pz_repeats.proofs.LeastCovering.{NotBehind}

@@ -4,11 +4,11 @@ use Rattle.std.proofs.lemmas.Bool.Decides.{nat_tests}
 use Rattle.std.specs.Cmp.{IsEquivalence}
 use Rattle.std.specs.Option.{option_map_or}
 use Rattle.std.specs.List.{list_any}
-use Rattle.pz_ast.specs.declared.tokens.Pos.{Pos}
+use Rattle.pz_syntax.specs.declared.tokens.Pos.{Pos}
 use Rattle.pz_violation.specs.Order.{pos_before}
 use Rattle.pz_repeats.specs.declared.places.Thing.{Thing}
-use Rattle.pz_repeats.specs.Earlier.{earlier, earliest_from}
-use Rattle.pz_repeats.specs.Again.{same_key, thing_place, is_again}
+use Rattle.pz_repeats.specs.devices.Earlier.{earlier, earliest_from}
+use Rattle.pz_repeats.specs.devices.Again.{same_key, thing_place, is_again}
 
 -- by two numbers in turn
 abbrev before : ℕ → ℕ → ℕ → ℕ → Bool

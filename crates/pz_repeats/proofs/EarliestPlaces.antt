@@ -2,11 +2,11 @@
 use Rattle.std.proofs.Common.{◌≡◌, refl, ℕ, Bool, true, false, IsTrue, List, [], ◌∷◌, ◌++◌, Option, Some, None, if◌then◌else◌, ◌⊎◌, inl, inr}
 use Rattle.std.specs.List.{Contains}
 use Rattle.std.specs.Str.{bytes_eq}
-use Rattle.pz_ast.specs.declared.tokens.Pos.{Pos}
-use Rattle.pz_ast.specs.declared.names.Id.{Id}
+use Rattle.pz_syntax.specs.declared.tokens.Pos.{Pos}
+use Rattle.pz_syntax.specs.declared.names.Id.{Id}
 use Rattle.pz_violation.specs.Order.{pos_before}
-use Rattle.pz_repeats.specs.Earlier.{earlier}
-use Rattle.pz_repeats.specs.Inheriting.{earliest}
+use Rattle.pz_repeats.specs.devices.Earlier.{earlier}
+use Rattle.pz_repeats.specs.devices.Inheriting.{earliest}
 use Rattle.pz_repeats.proofs.Lists.{none_in, first_in, later_in, in_cases}
 use Rattle.pz_repeats.proofs.PlaceOrder.{not_before_its_own, never_sooner, not_later}
 

@@ -1,17 +1,17 @@
 -- Ends by their keys.
 use Rattle.std.proofs.Common.{◌≡◌, refl, sym, ap, ◌∙◌, ℕ, Bool, true, false, ◌&&◌, List, map, Bor}
 use Rattle.std.specs.Str.{bytes_eq}
-use Rattle.pz_ast.specs.declared.tokens.Pos.{Pos}
-use Rattle.pz_ast.specs.declared.clusters.ChannelEnd.{ChannelEnd}
-use Rattle.pz_ast.specs.declared.clusters.ChannelEnd.TheVariants.{Inner, Outer}
+use Rattle.pz_syntax.specs.declared.tokens.Pos.{Pos}
+use Rattle.pz_syntax.specs.declared.clusters.ChannelEnd.{ChannelEnd}
+use Rattle.pz_syntax.specs.declared.clusters.ChannelEnd.TheVariants.{Inner, Outer}
 use Rattle.pz_classes.specs.ChannelRules.{end_place, same_end}
 use Rattle.pz_repeats.specs.declared.ends.EndKey.{EndKey}
 use Rattle.pz_repeats.specs.declared.ends.EndKey.TheVariants as key
 use Rattle.pz_repeats.specs.declared.ends.Outside.{Outside}
 use Rattle.pz_repeats.specs.declared.places.Thing.{Thing}
-use Rattle.pz_repeats.specs.Again.{same_key, thing_place, repeats}
-use Rattle.pz_repeats.specs.Tips.{tip, tip_of, tip_place, same_tip, keyed_tip}
-use Rattle.pz_repeats.specs.Outers.{any_two, itself}
+use Rattle.pz_repeats.specs.devices.Again.{same_key, thing_place, repeats}
+use Rattle.pz_repeats.specs.devices.Tips.{tip, tip_of, tip_place, same_tip, keyed_tip}
+use Rattle.pz_repeats.specs.devices.Outers.{any_two, itself}
 use Rattle.pz_repeats.proofs.Repeated.{repeats_seen}
 
 -- the equality of keys says this

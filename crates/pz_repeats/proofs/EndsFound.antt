@@ -1,7 +1,7 @@
 -- The list of the violations of C17 has those of the rule and no others.
 use Rattle.std.proofs.Common.{◌≡◌, refl, ap, subst, ◌∙◌, ℕ, Bool, true, false, IsTrue, [], Some, None, if◌then◌else◌, ◌⊎◌, inl, inr}
 use Rattle.std.specs.List.{flat_map}
-use Rattle.pz_ast.specs.Classes.{DeclTree, ModelTree}
+use Rattle.pz_syntax.specs.Classes.{DeclTree, ModelTree}
 use Rattle.pz_violation.specs.declared.violation.Violation.{Violation}
 use Rattle.pz_violation.specs.Order.{violation}
 use Rattle.pz_violation.specs.Least.{LeastOf, least_from, Member}
@@ -11,9 +11,9 @@ use Rattle.pz_classes.specs.Numbers.{declaration}
 use Rattle.pz_classes.specs.Kinds.{is_cluster}
 use Rattle.pz_classes.specs.Instances.{channels}
 use Rattle.pz_classes.specs.ChannelRules.{end_place, ends, same_end, BreaksC17, again_end, again_outer}
-use Rattle.pz_repeats.specs.Again.{repeats}
-use Rattle.pz_repeats.specs.Outers.{outer_places, any_two, itself}
-use Rattle.pz_repeats.specs.EndList.{outers, of_decl, double_ends}
+use Rattle.pz_repeats.specs.devices.Again.{repeats}
+use Rattle.pz_repeats.specs.devices.Outers.{outer_places, any_two, itself}
+use Rattle.pz_repeats.specs.devices.EndList.{outers, of_decl, double_ends}
 use Rattle.pz_repeats.proofs.Lists.{flat_member, member_flat}
 use Rattle.pz_repeats.proofs.Repeated.{repeat_of, at_repeat}
 use Rattle.pz_repeats.proofs.Declared.{number_of, among_declared}

@@ -3,14 +3,14 @@ use Rattle.std.proofs.Common.{◌≡◌, refl, sym, ap, ◌∙◌, ℕ, zero, su
 use Rattle.std.specs.Option.{option_or}
 use Rattle.std.specs.Str.{bytes_eq}
 use Rattle.std.proofs.lemmas.Slice.Eq.{bytes_eq-Decides}
-use Rattle.pz_ast.specs.declared.tokens.Pos.{Pos}
-use Rattle.pz_ast.specs.declared.names.Id.{Id}
+use Rattle.pz_syntax.specs.declared.tokens.Pos.{Pos}
+use Rattle.pz_syntax.specs.declared.names.Id.{Id}
 use Rattle.pz_nested.specs.Scopes.{Note, latest, value_in, outermost}
-use Rattle.pz_nested.specs.Holding.{Holds}
+use Rattle.pz_nested.specs.devices.Holding.{Holds}
 use Rattle.pz_nested.specs.declared.nested.Nested.{Nested}
-use Rattle.pz_repeats.specs.Earlier.{earlier}
-use Rattle.pz_repeats.specs.Inheriting.{earliest}
-use Rattle.pz_repeats.specs.Knowing.{spread, same_bytes, Scope, Tells, Knows}
+use Rattle.pz_repeats.specs.devices.Earlier.{earlier}
+use Rattle.pz_repeats.specs.devices.Inheriting.{earliest}
+use Rattle.pz_repeats.specs.devices.Knowing.{spread, same_bytes, Scope, Tells, Knows}
 use Rattle.pz_repeats.proofs.EarliestPlaces.{earliest_append}
 
 -- what is noted for a key is its earliest place

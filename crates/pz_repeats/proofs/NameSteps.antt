@@ -1,13 +1,13 @@
 -- One name further among those that a class declares.
 use Rattle.std.proofs.Common.{◌≡◌, sym, ap, ◌∙◌, ℕ, suc, ◌+◌, ◌<◌, List, [], ◌∷◌, ◌++◌, append_assoc, map, take, drop, length, get_or, drop-cons, Bor, Option, None, arith}
 use Rattle.std.proofs.lemmas.List.{map_more}
-use Rattle.pz_ast.specs.declared.names.Id.{Id}
+use Rattle.pz_syntax.specs.declared.names.Id.{Id}
 use Rattle.pz_violation.specs.declared.violation.Violation.{Violation}
 use Rattle.pz_violation.specs.Least.{least_from}
 use Rattle.pz_violation.proofs.Leasts.{least_from_append}
 use Rattle.pz_repeats.specs.declared.places.Thing.{Thing}
-use Rattle.pz_repeats.specs.Names.{id_of}
-use Rattle.pz_repeats.specs.Inheriting.{earliest, later_of, found_in}
+use Rattle.pz_repeats.specs.devices.Names.{id_of}
+use Rattle.pz_repeats.specs.devices.Inheriting.{earliest, later_of, found_in}
 
 module _ (own : List Id) (things : List (Thing (Bor (List ℕ)))) (i : ℕ) where
   -- the class's names with those of the first i things

@@ -1,14 +1,14 @@
 -- The ports of a cluster class itself among ends, and where they stand.
 use Rattle.std.proofs.Common.{◌≡◌, refl, sym, subst, true≢false, IsTrue, List, [], ◌∷◌, ◌⊎◌, inl, inr}
 use Rattle.std.specs.List.{Contains}
-use Rattle.pz_ast.specs.declared.tokens.Pos.{Pos}
-use Rattle.pz_ast.specs.declared.names.Id.{Id}
-use Rattle.pz_ast.specs.declared.clusters.ChannelEnd.{ChannelEnd}
-use Rattle.pz_ast.specs.declared.clusters.ChannelEnd.TheVariants.{Inner, Outer}
+use Rattle.pz_syntax.specs.declared.tokens.Pos.{Pos}
+use Rattle.pz_syntax.specs.declared.names.Id.{Id}
+use Rattle.pz_syntax.specs.declared.clusters.ChannelEnd.{ChannelEnd}
+use Rattle.pz_syntax.specs.declared.clusters.ChannelEnd.TheVariants.{Inner, Outer}
 use Rattle.pz_violation.specs.Order.{pos_before}
 use Rattle.pz_classes.specs.RepeatRules.{Repeats}
 use Rattle.pz_classes.specs.ChannelRules.{end_place, both_outer}
-use Rattle.pz_repeats.specs.Outers.{outer_places, any_two, itself}
+use Rattle.pz_repeats.specs.devices.Outers.{outer_places, any_two, itself}
 use Rattle.pz_repeats.proofs.Lists.{none_in, first_in, later_in, in_cases}
 
 -- a port of the cluster class that stands there

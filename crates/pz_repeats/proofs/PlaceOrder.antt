@@ -1,6 +1,6 @@
 -- The order of places, from that of violations.
 use Rattle.std.proofs.Common.{◌≡◌, refl, sym, ◌∙◌, true≢false, Bool, true, false, ◌&&◌, ◌||◌}
-use Rattle.pz_ast.specs.declared.tokens.Pos.{Pos}
+use Rattle.pz_syntax.specs.declared.tokens.Pos.{Pos}
 use Rattle.pz_violation.specs.Order.{violation, pos_before, pos_same, is_before}
 use Rattle.pz_violation.proofs.Order.{not_before_itself, never_before, not_behind}
 

@@ -1,13 +1,13 @@
 -- The violations of a list are those at its repeats.
 use Rattle.std.proofs.Common.{◌≡◌, refl, sym, subst, true≢false, ℕ, Bool, true, false, ◌&&◌, ◌||◌, IsTrue, List, [], ◌∷◌, map, ◌⊎◌, inl, inr}
 use Rattle.std.specs.List.{Contains}
-use Rattle.pz_ast.specs.declared.tokens.Pos.{Pos}
+use Rattle.pz_syntax.specs.declared.tokens.Pos.{Pos}
 use Rattle.pz_violation.specs.declared.violation.Violation.{Violation}
 use Rattle.pz_violation.specs.Order.{violation, pos_before}
 use Rattle.pz_violation.specs.Least.{listed, Member}
 use Rattle.pz_violation.proofs.Members.{listed_is, is_listed}
 use Rattle.pz_classes.specs.RepeatRules.{Repeats}
-use Rattle.pz_repeats.specs.Again.{is_again, repeated, repeats}
+use Rattle.pz_repeats.specs.devices.Again.{is_again, repeated, repeats}
 use Rattle.pz_repeats.proofs.Lists.{none_in, first_in, later_in, in_cases, flat_member, member_flat}
 
 both_true : (a b : Bool) → IsTrue (a && b) → IsTrue a × IsTrue b

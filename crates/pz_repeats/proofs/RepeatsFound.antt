@@ -2,9 +2,9 @@
 -- them.
 use Rattle.std.proofs.Common.{◌≡◌, refl, subst, ℕ, zero, suc, List, [], ◌++◌, length, map, Option, Some, None, ◌⊎◌, inl, inr}
 use Rattle.std.specs.List.{Contains, flat_map}
-use Rattle.pz_ast.specs.declared.names.Id.{Id}
-use Rattle.pz_ast.specs.declared.clusters.Instance.{Instance}
-use Rattle.pz_ast.specs.Classes.{DeclTree, ModelTree}
+use Rattle.pz_syntax.specs.declared.names.Id.{Id}
+use Rattle.pz_syntax.specs.declared.clusters.Instance.{Instance}
+use Rattle.pz_syntax.specs.Classes.{DeclTree, ModelTree}
 use Rattle.pz_mentions.specs.Declarations.{parts}
 use Rattle.pz_violation.specs.declared.violation.Violation.{Violation}
 use Rattle.pz_violation.specs.Order.{violation}
@@ -20,11 +20,11 @@ use Rattle.pz_classes.specs.Instances.{instances}
 use Rattle.pz_classes.specs.RepeatRules.{RepeatsName, same_name, headings, same_heading, same_message, BreaksC4, again_field, again_variable, again_port, again_local, again_instance, again_method, again_message}
 use Rattle.pz_repeats.specs.declared.inherited.Inherited.{Inherited}
 use Rattle.pz_repeats.specs.declared.inherited.Inherited.TheVariants.{Fields, Variables, Ports}
-use Rattle.pz_repeats.specs.Again.{repeats}
-use Rattle.pz_repeats.specs.Names.{id_place}
-use Rattle.pz_repeats.specs.Headings.{heading_place}
-use Rattle.pz_repeats.specs.Signals.{message_place}
-use Rattle.pz_repeats.specs.RepeatList.{of_line, of_visits, of_names, of_part, of_parts, of_own, all_repeats}
+use Rattle.pz_repeats.specs.devices.Again.{repeats}
+use Rattle.pz_repeats.specs.devices.Names.{id_place}
+use Rattle.pz_repeats.specs.devices.Headings.{heading_place}
+use Rattle.pz_repeats.specs.devices.Signals.{message_place}
+use Rattle.pz_repeats.specs.devices.RepeatList.{of_line, of_visits, of_names, of_part, of_parts, of_own, all_repeats}
 use Rattle.pz_repeats.proofs.Lists.{none_in, flat_member, member_flat}
 use Rattle.pz_repeats.proofs.Repeated.{At, repeat_of, at_repeat}
 use Rattle.pz_repeats.proofs.Declared.{number_of, among_declared, declared_within}

@@ -1,11 +1,11 @@
 -- One thing further in a list.
 use Rattle.std.proofs.Common.{◌≡◌, refl, sym, ap, ◌∙◌, ℕ, suc, ◌<◌, Bool, List, [], ◌∷◌, ◌++◌, map, drop, length, get_or, drop-cons, Option}
 use Rattle.std.specs.List.{flat_map}
-use Rattle.pz_ast.specs.declared.tokens.Pos.{Pos}
+use Rattle.pz_syntax.specs.declared.tokens.Pos.{Pos}
 use Rattle.pz_violation.specs.declared.violation.Violation.{Violation}
 use Rattle.pz_violation.specs.Order.{violation}
 use Rattle.pz_violation.specs.Least.{listed, least_from}
-use Rattle.pz_repeats.specs.Again.{is_again, repeated}
+use Rattle.pz_repeats.specs.devices.Again.{is_again, repeated}
 use Rattle.pz_violation.proofs.Leasts.{least_from_append}
 
 pub repeated_step : {A : Type 0} (same : A → A → Bool) (place : A → Pos) (rule : ℕ) (xs : List A) (y : A) (i j : ℕ) (again : Bool) (least now whole : Option Violation)

@@ -2,8 +2,8 @@
 use Rattle.std.proofs.Common.{◌≡◌, sym, subst, ℕ, zero, suc, ◌-◌, List, [], ◌∷◌, length, drop, ◌⊎◌, inl, inr}
 use Rattle.std.specs.List.{Contains}
 use Rattle.std.proofs.lemmas.List.Elements.{Contains-append_left}
-use Rattle.pz_ast.specs.declared.names.Id.{Id}
-use Rattle.pz_ast.specs.Classes.{ModelTree}
+use Rattle.pz_syntax.specs.declared.names.Id.{Id}
+use Rattle.pz_syntax.specs.Classes.{ModelTree}
 use Rattle.pz_violation.specs.declared.violation.Violation.{Violation}
 use Rattle.pz_violation.specs.Least.{Member}
 use Rattle.pz_violation.proofs.Members.{member_left, member_right}
@@ -14,8 +14,8 @@ use Rattle.pz_classes.specs.Members.{from_root}
 use Rattle.pz_classes.specs.Preorder.{Opens}
 use Rattle.pz_classes.specs.RepeatRules.{same_name}
 use Rattle.pz_repeats.specs.declared.inherited.Inherited.{Inherited}
-use Rattle.pz_repeats.specs.Names.{id_place}
-use Rattle.pz_repeats.specs.RepeatList.{own_of, own_at, of_line, of_visits}
+use Rattle.pz_repeats.specs.devices.Names.{id_place}
+use Rattle.pz_repeats.specs.devices.RepeatList.{own_of, own_at, of_line, of_visits}
 use Rattle.pz_repeats.proofs.Lists.{none_in, in_cases}
 use Rattle.pz_repeats.proofs.Repeated.{At}
 use Rattle.pz_repeats.proofs.Covering.{found_sound, Covers, covers_fewer, covers_more}

@@ -3,12 +3,12 @@
 ghost use Rattle.std.specs.Prelude.{◌≡◌, None, IfOk};
 ghost use Rattle.indexmap.specs.IndexMap.{get};
 ghost use Rattle.pz_violation.specs.Least.{listed, least_from};
-ghost use Rattle.pz_repeats.specs.Earlier.{earliest_from};
-ghost use Rattle.pz_repeats.specs.Again.{same_key, thing_place, repeats};
+ghost use Rattle.pz_repeats.specs.devices.Earlier.{earliest_from};
+ghost use Rattle.pz_repeats.specs.devices.Again.{same_key, thing_place, repeats};
 
 use crate::places::{Thing, has_earlier, note};
 use indexmap::IndexMap;
-use pz_ast::Pos;
+use pz_syntax::Pos;
 use pz_violation::{Violation, lesser};
 use std::alloc::{AllocError, Global};
 use std::hash::Hash;

@@ -1,16 +1,16 @@
 // Names that classes declare, each held against those of its ancestors.
 
 ghost use Rattle.std.specs.Prelude.{◌≡◌, List, [], ◌∷◌, ◌++◌, None, map, IfOk, OnOk};
-ghost use Rattle.pz_ast.specs.declared.names.Id.{Id};
+ghost use Rattle.pz_syntax.specs.declared.names.Id.{Id};
 ghost use Rattle.pz_violation.specs.Least.{least_from};
-ghost use Rattle.pz_repeats.specs.Names.{id_of};
-ghost use Rattle.pz_repeats.specs.Inheriting.{earliest, later_of, found_in};
-ghost use Rattle.pz_repeats.specs.Knowing.{spread, Knows};
+ghost use Rattle.pz_repeats.specs.devices.Names.{id_of};
+ghost use Rattle.pz_repeats.specs.devices.Inheriting.{earliest, later_of, found_in};
+ghost use Rattle.pz_repeats.specs.devices.Knowing.{spread, Knows};
 
 use crate::again::least_if;
 use crate::places::{Thing, earlier_place};
-use pz_ast::Pos;
 use pz_nested::Nested;
+use pz_syntax::Pos;
 use pz_violation::{Violation, pos_before};
 use std::alloc::AllocError;
 

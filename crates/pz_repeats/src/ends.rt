@@ -2,20 +2,20 @@
 
 ghost use Rattle.std.specs.Prelude.{◌≡◌, ◌∷◌, [], ◌++◌, map, IfOk, OnOk};
 ghost use Rattle.std.specs.List.{flat_map};
-ghost use Rattle.pz_ast.specs.declared.clusters.Channel.{Channel as Tree};
-ghost use Rattle.pz_ast.specs.ClassView.{decl_view, model_view};
+ghost use Rattle.pz_syntax.specs.declared.clusters.Channel.{Channel as Tree};
+ghost use Rattle.pz_syntax.specs.ClassView.{decl_view, model_view};
 ghost use Rattle.pz_violation.specs.Least.{LeastOf, least_from};
 ghost use Rattle.pz_classes.specs.ChannelRules.{BreaksC17, end_place, same_end};
-ghost use Rattle.pz_repeats.specs.Again.{thing_place, repeats};
-ghost use Rattle.pz_repeats.specs.Tips.{tip, tip_of};
-ghost use Rattle.pz_repeats.specs.Outers.{outer_places};
-ghost use Rattle.pz_repeats.specs.EndList.{outers, of_decl};
+ghost use Rattle.pz_repeats.specs.devices.Again.{thing_place, repeats};
+ghost use Rattle.pz_repeats.specs.devices.Tips.{tip, tip_of};
+ghost use Rattle.pz_repeats.specs.devices.Outers.{outer_places};
+ghost use Rattle.pz_repeats.specs.devices.EndList.{outers, of_decl};
 
 use crate::again::least_again;
 use crate::places::Thing;
-use pz_ast::{Channel, ChannelEnd, Decl, Model};
 use pz_classes::{channels_of, is_cluster};
 use pz_items::Items;
+use pz_syntax::{Channel, ChannelEnd, Decl, Model};
 use pz_violation::Violation;
 use std::alloc::{AllocError, Global};
 

@@ -14,6 +14,3 @@ mod walk;
 
 pub use ends::least_double_end;
 pub use repeats::least_repeat;
-
-#[cfg(test)]
-mod tests;

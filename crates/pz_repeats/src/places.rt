@@ -4,10 +4,10 @@ ghost use Rattle.std.specs.Prelude.{◌≡◌, Some, OnOk, false, if◌then◌el
 ghost use Rattle.std.specs.Option.{option_map_or};
 ghost use Rattle.indexmap.specs.IndexMap.{get};
 ghost use Rattle.pz_violation.specs.Order as order;
-ghost use Rattle.pz_repeats.specs.Earlier.{earlier};
+ghost use Rattle.pz_repeats.specs.devices.Earlier.{earlier};
 
 use indexmap::IndexMap;
-use pz_ast::Pos;
+use pz_syntax::Pos;
 use pz_violation::pos_before;
 use std::alloc::AllocError;
 use std::hash::Hash;

@@ -7,7 +7,7 @@ use Rattle.pz_term.specs.Start.{bodies_of, start}
 use Rattle.pz_run.specs.Output.{action_limit}
 use Rattle.pz_run.specs.Status.{status_of}
 use Rattle.pz_run.specs.TraceText.{trace_text}
-use Rattle.pz_run.specs.Writing.{Sinks, Wrote}
+use Rattle.pz_run.specs.devices.Writing.{Sinks, Wrote}
 use Rattle.pz_run.specs.declared.printing.Halt.{Halt}
 use Rattle.pz_run.specs.declared.status.Status.{Status}
 

@@ -7,8 +7,8 @@ use Rattle.std.specs.Str.{bytes_eq}
 use Rattle.std.proofs.lemmas.List.Elements.{All-nil, All-cons, All-contains_itself, Contains-append_right}
 use Rattle.std.proofs.lemmas.List.Folds.{list_any_at, list_any-append, Any-from_list_any}
 use Rattle.std.proofs.lemmas.Slice.Eq.{bytes_eq-Decides}
-use Rattle.pz_ast.specs.declared.names.Id.{Id}
-use Rattle.pz_ast.specs.Classes.{DeclTree, process_class, system}
+use Rattle.pz_syntax.specs.declared.names.Id.{Id}
+use Rattle.pz_syntax.specs.Classes.{DeclTree, process_class, system}
 use Rattle.pz_violation.specs.declared.violation.Violation.{Violation}
 use Rattle.pz_violation.specs.Order.{violation, pos_before}
 use Rattle.pz_mentions.specs.declared.mention.Mention.{Mention}
@@ -16,7 +16,7 @@ use Rattle.pz_mentions.specs.declared.mention.Mention.TheVariants.{Declared, Cal
 use Rattle.pz_mentions.specs.declared.part.Part.{Part}
 use Rattle.pz_mentions.specs.Declarations.{process_head, process_method, system_part}
 use Rattle.pz_mentions.specs.Statements.{mentioned_statements}
-use Rattle.pz_names.specs.ReservedNames.{primitives, unsupported, is_primitive, is_unsupported}
+use Rattle.pz_code.specs.ReservedNames.{primitives, unsupported, is_primitive, is_unsupported}
 use Rattle.pz_classes.specs.declared.method_id.Counts.TheVariants.{Process}
 use Rattle.pz_classes.specs.Numbers.{declaration}
 use Rattle.pz_classes.specs.Kinds.{is_process, is_cluster}

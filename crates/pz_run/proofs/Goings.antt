@@ -15,7 +15,7 @@ use Rattle.pz_run.specs.Lines.{ending_line}
 use Rattle.pz_run.specs.Output.{action_limit}
 use Rattle.pz_run.specs.Status.{status_of}
 use Rattle.pz_run.specs.TraceText.{event_line, rest_text}
-use Rattle.pz_run.specs.Writing.{Sinks, Wrote}
+use Rattle.pz_run.specs.devices.Writing.{Sinks, Wrote}
 use Rattle.pz_run.specs.declared.printing.Halt.{Halt}
 use Rattle.pz_run.specs.declared.status.Status.{Status}
 use Rattle.pz_run.proofs.Now.{of_whole, some_choice}

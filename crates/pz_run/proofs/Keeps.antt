@@ -4,12 +4,12 @@ use Rattle.pz_io.specs.Outside.{Entries, lookup, raised, Rose, Exceeds}
 use Rattle.pz_term.specs.FirstPath.{FirstModel}
 use Rattle.pz_term.specs.Runs.{ended, deadlocked, stopped}
 use Rattle.pz_run.specs.Refusals.{IsRefused}
-use Rattle.pz_run.specs.Keeping.{Shelf, Keeps, Unsaid, SaysModel}
+use Rattle.pz_run.specs.devices.Keeping.{Shelf, Keeps, Unsaid, SaysModel}
 use Rattle.pz_run.specs.Lines.{usage_line, read_fault_line, too_long_line}
 use Rattle.pz_run.specs.Output.{Prints, usage, does, PrintsFile, lacks, too_long, reads, PrintsModel, refuses, runs, accepts, PrintsRun, run, model_limit}
 use Rattle.pz_run.specs.Promises.{PrintsAll, PrintsSome}
 use Rattle.pz_run.specs.Words.{asked, asks, asked_model}
-use Rattle.pz_run.specs.Writing.{Sinks, Said}
+use Rattle.pz_run.specs.devices.Writing.{Sinks, Said}
 use Rattle.pz_run.specs.declared.job.Job.{Job}
 use Rattle.pz_run.specs.declared.refusal.Refusal.{Refusal}
 use Rattle.pz_run.specs.declared.status.Status.{Status}

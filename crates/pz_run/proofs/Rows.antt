@@ -7,13 +7,13 @@ use Rattle.std.specs.Str.{bytes_eq}
 use Rattle.std.proofs.lemmas.List.Elements.{All-nil, All-cons}
 use Rattle.std.proofs.lemmas.List.Folds.{list_any_at}
 use Rattle.std.proofs.lemmas.Slice.Eq.{bytes_eq-Decides}
-use Rattle.pz_ast.specs.declared.names.Id.{Id}
-use Rattle.pz_ast.specs.declared.tokens.Pos.{Pos}
-use Rattle.pz_ast.specs.declared.tokens.Token.{Token}
-use Rattle.pz_ast.specs.ModelNesting.{nesting}
+use Rattle.pz_syntax.specs.declared.names.Id.{Id}
+use Rattle.pz_syntax.specs.declared.tokens.Pos.{Pos}
+use Rattle.pz_syntax.specs.declared.tokens.Token.{Token}
+use Rattle.pz_syntax.specs.ModelNesting.{nesting}
 use Rattle.pz_lexer.specs.declared.error.LexError.{LexError}
 use Rattle.pz_lexer.specs.Tokens.{AreTokens}
-use Rattle.pz_lexer.specs.Twin.{lexed}
+use Rattle.pz_lexer.specs.devices.Twin.{lexed}
 use Rattle.pz_lexer.proofs.Cuts.{tokens_from_lexed}
 use Rattle.pz_first.proofs.InGrammar.{in_grammar}
 use Rattle.pz_term.specs.FirstPath.{skips, delays, Routine, FirstModel, system_of, tree_of, IsBody, HasBodies, reserved, IsKnown}

@@ -1,7 +1,7 @@
 -- What is said of a run, and of the text of a model.
 use Rattle.std.proofs.Common.{◌≡◌, ◌⊎◌, inl, inr, ◌∙◌, ℕ, List, Ok, Err, refl, sym, subst}
-use Rattle.pz_ast.specs.declared.tokens.Token.{Token}
-use Rattle.pz_ast.specs.Classes.{ModelTree}
+use Rattle.pz_syntax.specs.declared.tokens.Token.{Token}
+use Rattle.pz_syntax.specs.Classes.{ModelTree}
 use Rattle.pz_classes.specs.Soundness.{IsSound}
 use Rattle.pz_lexer.specs.Tokens.{AreTokens}
 use Rattle.pz_term.specs.FirstPath.{FirstModel, tree_of}
@@ -10,13 +10,13 @@ use Rattle.pz_term.specs.Runs.{Ending, ended, deadlocked, stopped}
 use Rattle.pz_term.specs.Start.{bodies_of, start}
 use Rattle.pz_run.specs.Accepted.{IsAccepted}
 use Rattle.pz_run.specs.Models.{IsTreeOf, IsModelOf}
-use Rattle.pz_run.specs.Keeping.{SaysRun, SaysModel, Unsaid}
+use Rattle.pz_run.specs.devices.Keeping.{SaysRun, SaysModel, Unsaid}
 use Rattle.pz_run.specs.Lines.{refusal_line, accepted_line}
 use Rattle.pz_run.specs.Refusals.{IsRefused}
 use Rattle.pz_run.specs.Output.{action_limit, run, refuses, runs, accepts}
 use Rattle.pz_run.specs.Status.{status_of}
 use Rattle.pz_run.specs.TraceText.{trace_text}
-use Rattle.pz_run.specs.Writing.{Sinks, Wrote, Said}
+use Rattle.pz_run.specs.devices.Writing.{Sinks, Wrote, Said}
 use Rattle.pz_run.specs.declared.job.Job.{Job}
 use Rattle.pz_run.specs.declared.job.Job.TheVariants.{Run, Check}
 use Rattle.pz_run.specs.declared.printing.Halt.TheVariants as halt

@@ -3,7 +3,7 @@ use Rattle.std.proofs.Common.{◌≡◌, ◌≢◌, ◌≤◌, inl, inr, ℕ, Li
 use Rattle.std.specs.Result.{IsErrAnd}
 use Rattle.std.proofs.lemmas.Result.{err_from_is_err_and}
 use Rattle.pz_io.specs.Outside.{Rose}
-use Rattle.pz_run.specs.Writing.{Sinks, TookFront, Wrote, Said, SoFar}
+use Rattle.pz_run.specs.devices.Writing.{Sinks, TookFront, Wrote, Said, SoFar}
 use Rattle.pz_term.specs.Runs.{Ending}
 use Rattle.pz_run.specs.Status.{status_of}
 use Rattle.pz_run.specs.declared.printing.Halt.{Halt}

@@ -16,6 +16,3 @@ mod words;
 
 pub use program::run_program;
 pub use status::Status;
-
-#[cfg(test)]
-mod tests;

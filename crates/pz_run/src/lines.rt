@@ -4,7 +4,7 @@ ghost use Rattle.pz_run.specs.Lines as lines;
 ghost use Rattle.pz_term.specs.Runs.{Ending};
 
 use crate::refusal::Refusal;
-use pz_ast::Pos;
+use pz_syntax::Pos;
 use pz_term::{Action, Kind};
 use pz_violation::Violation;
 use std::alloc::{AllocError, Global};

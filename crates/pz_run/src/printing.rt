@@ -1,6 +1,6 @@
 // Pieces of the output, and last lines.
 ghost use Rattle.std.specs.Prelude.{◌≡◌, ◌≢◌, List, ℕ, IfOk, string_bytes};
-ghost use Rattle.pz_run.specs.Writing.{Sinks, Wrote, Said};
+ghost use Rattle.pz_run.specs.devices.Writing.{Sinks, Wrote, Said};
 
 use crate::Status;
 use pz_io::{Sink, write_all};

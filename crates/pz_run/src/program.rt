@@ -1,15 +1,15 @@
 // The top call.
 ghost use Rattle.std.specs.Prelude.{◌≡◌, ◌≢◌, ◌⊎◌, ◌<◌, ◌≤◌, ◌++◌, ℕ, List, true, None, Some, length, map, string_bytes};
-ghost use Rattle.pz_ast.specs.ClassView.{model_view};
+ghost use Rattle.pz_syntax.specs.ClassView.{model_view};
 ghost use Rattle.pz_io.specs.Outside.{raised, Rose};
 ghost use Rattle.pz_term.specs.FirstPath.{FirstModel, IsFirstPath, tree_of};
-ghost use Rattle.pz_run.specs.Keeping.{Shelf, Keeps, Unsaid, SaysModel, SaysRun};
-ghost use Rattle.pz_run.specs.Reading.{IsErrorOf};
+ghost use Rattle.pz_run.specs.devices.Keeping.{Shelf, Keeps, Unsaid, SaysModel, SaysRun};
+ghost use Rattle.pz_run.specs.devices.Reading.{IsErrorOf};
 ghost use Rattle.pz_run.specs.Refusals.{IsRefused};
 ghost use Rattle.pz_run.specs.Output.{model_limit};
 ghost use Rattle.pz_run.specs.Promises.{PrintsAll, PrintsFront, TakesFaultLine, Lacks, IsLonger, IsNoModel};
 ghost use Rattle.pz_run.specs.Words.{asked, asked_model};
-ghost use Rattle.pz_run.specs.Writing.{Sinks};
+ghost use Rattle.pz_run.specs.devices.Writing.{Sinks};
 ghost use Rattle.pz_run.specs.declared.job.Job.{Job as TheJob};
 
 use crate::Status;
@@ -21,8 +21,8 @@ use crate::printing::{Halt, say, say_line};
 use crate::read_error::ReadModelError;
 use crate::running::run;
 use crate::words::read_words;
-use pz_ast::Model;
 use pz_io::{Files, ReadAllError, Sink, read_all};
+use pz_syntax::Model;
 use pz_term::laws;
 use std::alloc::Global;
 use std::mem::drop;

@@ -1,4 +1,4 @@
-use pz_ast::Pos;
+use pz_syntax::Pos;
 use pz_violation::Violation;
 
 /// Why nothing is done with a text, and where. The kinds come in this order: what has no tokens is not

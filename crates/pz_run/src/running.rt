@@ -1,6 +1,6 @@
 // A run, line by line.
 ghost use Rattle.std.specs.Prelude.{◌≡◌, ◌≤◌, ◌<◌, ◌+◌, ◌*◌, ◌^◌, ℕ, List, IfOk, OnOk, false, string_bytes};
-ghost use Rattle.pz_ast.specs.ClassView.{model_view};
+ghost use Rattle.pz_syntax.specs.ClassView.{model_view};
 ghost use Rattle.pz_term.specs.FirstPath.{FirstModel, IsFirstPath, tree_of};
 ghost use Rattle.pz_term.specs.Start.{bodies_of, start};
 ghost use Rattle.pz_term.specs.Runs.{Event, acted, passed, Ending, ended, deadlocked, stopped, IsChoice, IsFirstRun};
@@ -11,13 +11,13 @@ ghost use Rattle.pz_run.specs.Lines.{ending_line as the_ending_line, ending_word
 ghost use Rattle.pz_run.specs.Output.{action_limit};
 ghost use Rattle.pz_run.specs.Status.{status_of};
 ghost use Rattle.pz_run.specs.TraceText.{event_line, rest_text, trace_text};
-ghost use Rattle.pz_run.specs.Writing.{Sinks, Wrote};
+ghost use Rattle.pz_run.specs.devices.Writing.{Sinks, Wrote};
 
 use crate::Status;
 use crate::lines::{HEADER, action_line, ending_line, time_line};
 use crate::printing::{Halt, put};
-use pz_ast::{Decl, Model};
 use pz_io::Sink;
+use pz_syntax::{Decl, Model};
 use pz_term::{ChooseError, Moment, PassError, Plain, laws};
 use std::alloc::{AllocError, Global};
 use std::mem::drop;

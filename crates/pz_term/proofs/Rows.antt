@@ -5,17 +5,17 @@ use Rattle.std.specs.List.{list_any}
 use Rattle.std.specs.Str.{bytes_eq}
 use Rattle.std.proofs.lemmas.List.Elements.{All-nil, All-cons}
 use Rattle.std.proofs.lemmas.List.Folds.{list_any_at}
-use Rattle.pz_ast.specs.declared.tokens.Pos.{Pos}
-use Rattle.pz_ast.specs.declared.names.Id.{Id}
-use Rattle.pz_ast.specs.Statements.{Statements, skip, no_statements, then}
-use Rattle.pz_ast.specs.Classes.{ProcessClassTree, process_class, system, ModelTree}
-use Rattle.pz_ast.specs.ClassView.{process_class_view, model_view}
-use Rattle.pz_ast.specs.StatementView.{sequence_view, view}
-use Rattle.pz_ast.specs.declared.stmts.Stmt.{Stmt}
-use Rattle.pz_ast.specs.declared.classes.ProcessClass.{ProcessClass}
-use Rattle.pz_ast.specs.declared.clusters.SystemDecl.{SystemDecl}
-use Rattle.pz_ast.specs.declared.clusters.Decl.{Decl}
-use Rattle.pz_ast.specs.declared.clusters.Decl.TheVariants.{Process, System}
+use Rattle.pz_syntax.specs.declared.tokens.Pos.{Pos}
+use Rattle.pz_syntax.specs.declared.names.Id.{Id}
+use Rattle.pz_syntax.specs.Statements.{Statements, skip, no_statements, then}
+use Rattle.pz_syntax.specs.Classes.{ProcessClassTree, process_class, system, ModelTree}
+use Rattle.pz_syntax.specs.ClassView.{process_class_view, model_view}
+use Rattle.pz_syntax.specs.StatementView.{sequence_view, view}
+use Rattle.pz_syntax.specs.declared.stmts.Stmt.{Stmt}
+use Rattle.pz_syntax.specs.declared.classes.ProcessClass.{ProcessClass}
+use Rattle.pz_syntax.specs.declared.clusters.SystemDecl.{SystemDecl}
+use Rattle.pz_syntax.specs.declared.clusters.Decl.{Decl}
+use Rattle.pz_syntax.specs.declared.clusters.Decl.TheVariants.{Process, System}
 use Rattle.pz_term.specs.declared.action.Kind.{Kind}
 use Rattle.pz_term.specs.declared.action.Kind.TheVariants.{Skip, Expire, Call}
 use Rattle.pz_term.specs.declared.action.Action.{Action}

@@ -3,8 +3,8 @@ use crate::bodies::{Body, copy_bodies};
 use crate::passing::pass;
 use crate::term::{Term, count_actions, first_call, is_done, least_delay};
 use crate::{Action, Moment, Place};
-use pz_ast::{Decl, Model, ProcessClass};
 use pz_items::Items;
+use pz_syntax::{Decl, Model, ProcessClass};
 use std::alloc::{AllocError, Global};
 use std::mem::{self, drop};
 
@@ -42,7 +42,7 @@ impl Plain {
     ghost use Rattle.std.specs.Prelude.{◌≡◌, ◌<◌, ◌≤◌, ◌^◌, ℕ, [], true, false, IfOk, OnOk, IfErr, OnErr, IsErrOf};
     ghost use Rattle.pz_term.specs.Moments.{IsMoment};
     ghost use Rattle.pz_term.specs.Refusals.{OnNoSuchOffer, OnChooseNotNow, OnChooseRefused, NoActions, OnPassNotNow, OnPassRefused, NoTime};
-    ghost use Rattle.pz_ast.specs.ClassView.{model_view, process_class_view};
+    ghost use Rattle.pz_syntax.specs.ClassView.{model_view, process_class_view};
     ghost use Rattle.pz_term.specs.FirstPath.{IsFirstPath, FirstModel, class_of, tree_of};
     ghost use Rattle.pz_term.specs.Start.{bodies_of, start as start_of};
     ghost use Rattle.pz_term.specs.Offers.{IsOffers};

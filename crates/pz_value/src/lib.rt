@@ -6,6 +6,3 @@ mod value;
 
 pub use text::Text;
 pub use value::{ClassId, Value};
-
-#[cfg(test)]
-mod tests;

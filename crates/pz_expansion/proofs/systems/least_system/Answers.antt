@@ -1,5 +1,5 @@
 use Rattle.std.proofs.Common.{sym}
-use Rattle.pz_ast.specs.ClassView.{model_view}
+use Rattle.pz_syntax.specs.ClassView.{model_view}
 use Rattle.pz_expansion.proofs.OneSystem.{none_found, later_found}
 use Rattle.pz_expansion.proofs.systems.least_system.Goals as goal
 

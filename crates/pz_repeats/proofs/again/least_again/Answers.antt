@@ -1,5 +1,5 @@
 use Rattle.std.proofs.Common.{arith}
-use Rattle.pz_repeats.specs.Again.{same_key, thing_place}
+use Rattle.pz_repeats.specs.devices.Again.{same_key, thing_place}
 use Rattle.pz_repeats.proofs.Earliest.{again_found}
 use Rattle.pz_repeats.proofs.Steps.{repeated_step}
 use Rattle.pz_repeats.proofs.again.least_again.Goals as goal

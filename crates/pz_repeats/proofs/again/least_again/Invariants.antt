@@ -1,6 +1,6 @@
 use Rattle.std.proofs.Common.{◌≡◌, drop}
 use Rattle.pz_violation.specs.Least.{least_from}
-use Rattle.pz_repeats.specs.Again.{same_key, thing_place, repeats, repeated}
+use Rattle.pz_repeats.specs.devices.Again.{same_key, thing_place, repeats, repeated}
 use Rattle.pz_repeats.proofs.again.least_again.Given as goal
 
 abbrev pub invariant-loop-thing : goal.invariant-loop-thing

@@ -1,6 +1,6 @@
 use Rattle.std.proofs.Common.{◌≡◌, None, drop}
 use Rattle.indexmap.specs.IndexMap.{get}
-use Rattle.pz_repeats.specs.Earlier.{earliest_from}
+use Rattle.pz_repeats.specs.devices.Earlier.{earliest_from}
 use Rattle.pz_repeats.proofs.again.places_of.Given as goal
 
 abbrev pub invariant-loop-thing : goal.invariant-loop-thing

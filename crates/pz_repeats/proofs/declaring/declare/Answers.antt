@@ -1,8 +1,8 @@
 use Rattle.std.proofs.Common.{refl, ap, ◌∙◌, ◌∷◌, Option}
-use Rattle.pz_ast.specs.declared.tokens.Pos.{Pos}
+use Rattle.pz_syntax.specs.declared.tokens.Pos.{Pos}
 use Rattle.pz_violation.specs.Least.{least_from}
-use Rattle.pz_repeats.specs.Names.{id_of}
-use Rattle.pz_repeats.specs.Inheriting.{later_of}
+use Rattle.pz_repeats.specs.devices.Names.{id_of}
+use Rattle.pz_repeats.specs.devices.Inheriting.{later_of}
 use Rattle.pz_repeats.proofs.Known.{known_first, knows_noted}
 use Rattle.pz_repeats.proofs.declaring.declare.Goals as goal
 

@@ -2,8 +2,8 @@ use Rattle.std.proofs.Common.{◌≡◌, refl, subst, List, map, rules}
 use Rattle.std.specs.Result.{IfOk}
 use Rattle.pz_violation.specs.declared.violation.Violation.{Violation}
 use Rattle.pz_violation.specs.Least.{least_from}
-use Rattle.pz_repeats.specs.Again.{thing_place}
-use Rattle.pz_repeats.specs.Outers.{outer_places}
+use Rattle.pz_repeats.specs.devices.Again.{thing_place}
+use Rattle.pz_repeats.specs.devices.Outers.{outer_places}
 use Rattle.pz_repeats.proofs.EndKeys.{outers_repeat}
 use Rattle.pz_repeats.proofs.ends.least_outer.Goals as goal
 

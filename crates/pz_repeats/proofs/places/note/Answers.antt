@@ -1,6 +1,6 @@
 use Rattle.std.proofs.Common.{◌≡◌, Some, rules}
 use Rattle.indexmap.specs.IndexMap.{get}
-use Rattle.pz_repeats.specs.Earlier.{earlier}
+use Rattle.pz_repeats.specs.devices.Earlier.{earlier}
 use Rattle.pz_repeats.proofs.Lookups.{noted}
 use Rattle.pz_repeats.proofs.places.note.Goals as goal
 

@@ -1,5 +1,5 @@
 use Rattle.std.proofs.Common.{ap, ◌∙◌, List, ℕ, ◌++◌, take}
-use Rattle.pz_run.specs.Writing.{Sinks}
+use Rattle.pz_run.specs.devices.Writing.{Sinks}
 use Rattle.pz_run.proofs.Writes.{front_of_part}
 use Rattle.pz_run.proofs.printing.put.Goals as goal
 
