@@ -101,24 +101,24 @@ fn a_text_is_refused_with_its_kind_and_place(rt: HostRuntime) -> Result<(), Fail
         ("process class P;", "Syntax 1:16"),
         ("process class P methods a() skip", "Syntax 1:25"),
         (
-            "process class P init a()() methods a()() skip system instances p : Q",
-            "C13 1:68",
+            "process class P\ninit a()()\nmethods a()()\nskip;\ndelay 3;\nskip\nsystem instances p : Q\n",
+            "C13 7:22",
         ),
         (
-            "process class P init b()() methods a()() skip system instances p : P",
-            "C7 1:22",
+            "process class P\ninit b()()\nmethods a()()\nskip;\ndelay 3;\nskip\nsystem instances p : P\n",
+            "C7 2:6",
         ),
         (
-            "process class P init a()() methods a()() par skip rap",
+            "process class P\ninit a()()\nmethods a()() par skip rap\n",
             "C20 1:1",
         ),
         (
-            "process class P init a()() methods a()() par skip rap system instances p : P",
-            "Unbuilt 1:42",
+            "process class P\ninit a()()\nmethods a()()\npar skip rap\nsystem instances p : P\n",
+            "Unbuilt 4:1",
         ),
         (
-            "process class P init a()() methods a()() skip system",
-            "Unbuilt 1:53",
+            "process class P\ninit a()()\nmethods a()() skip\nsystem\n",
+            "Unbuilt 5:1",
         ),
     ];
     for (text, refusal) in rows {
