@@ -149,7 +149,7 @@ module _ (words : List (List ℕ)) (job : Job) (name : List ℕ) (is_job : asked
   prints_file bytes status file held prints = does job name bytes status is_job (subst (λ (o : Option (List ℕ)). PrintsFile job name o bytes status) (sym held) prints)
 
   -- memory was wanting
-  keeps_nothing : (given : Status) → now ≡ before → given ≡ NoMemory → KeepsPromises words f g before now given
+  pub keeps_nothing : (given : Status) → now ≡ before → given ≡ NoMemory → KeepsPromises words f g before now given
   keeps_nothing given unchanged wanting = record {
     output = λ _ _ no_want _. absurd (no_want wanting);
     read_fault = λ is _. absurd (other ReadFault is (λ e. cc));
