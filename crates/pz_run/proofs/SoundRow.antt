@@ -1,10 +1,9 @@
 -- The model of the first worked row violates no rule: each rule is asked of all that it can be broken at.
-use Rattle.std.proofs.Common.{◌≡◌, ◌≤◌, ◌∙◌, refl, sym, subst, ℕ, zero, suc, List, [], ◌∷◌, map, length, Bool, true, false, Option, Some, None, arith}
-use Rattle.std.specs.Prelude.{Contains, IsTrue, not, nat_lt, ◌||◌, ◌&&◌, nat_eq}
-use Rattle.std.specs.List.{list_any, slice_index_or}
+use Rattle.std.proofs.Common.{◌≡◌, ◌≢◌, ◌≤◌, ◌∙◌, refl, sym, subst, ℕ, zero, suc, List, [], ◌∷◌, map, length, Bool, true, false, Option, Some, None, arith}
+use Rattle.std.specs.Prelude.{Contains, not, nat_lt, slice_get}
+use Rattle.std.specs.List.{list_any}
 use Rattle.std.specs.Option.{option_map_or}
 use Rattle.std.proofs.lemmas.Bool.{ltb-false}
-use Rattle.std.proofs.lemmas.Bool.Decides.{nat_tests}
 use Rattle.std.proofs.lemmas.List.Folds.{list_any_at}
 use Rattle.pz_syntax.specs.declared.tokens.Pos.{Pos}
 use Rattle.pz_syntax.specs.declared.names.Id.{Id}
@@ -14,12 +13,11 @@ use Rattle.pz_mentions.specs.declared.mention.Mention.{Mention}
 use Rattle.pz_mentions.specs.declared.part.Part.{Part}
 use Rattle.pz_mentions.specs.Declarations.{parts}
 use Rattle.pz_violation.specs.declared.violation.Violation.{Violation}
-use Rattle.pz_violation.specs.Order.{pos_before}
 use Rattle.pz_classes.specs.Numbers.{declaration, declared_name}
 use Rattle.pz_classes.specs.Ancestors.{extended, parent, ancestors}
 use Rattle.pz_classes.specs.Members.{from_root, own_fields, own_variables, own_ports, spelled}
 use Rattle.pz_classes.specs.Kinds.{is_cluster}
-use Rattle.pz_classes.specs.Instances.{instances, channels, instance_class, parameters}
+use Rattle.pz_classes.specs.Instances.{instances, instance_class, parameters}
 use Rattle.pz_classes.specs.Words.{Mentions}
 use Rattle.pz_classes.specs.WordRules.{BreaksWord, c5, c6, c7, c8, c9, c10, c11, c12, c13, c18, c21, c22}
 use Rattle.pz_classes.specs.NameRules.{breaks_c5, breaks_c6, breaks_c12, breaks_c13, breaks_c18, breaks_c21, breaks_c22}
@@ -113,24 +111,16 @@ no_word _ (c22 c d p x at broken) = no_mention (λ _ d _ x. breaks_c22 d x) refl
 
 -- ---- what is declared twice
 
-not_before_itself : (p : Pos) → pos_before p p ≡ true → ⊥
-not_before_itself p is = numbers p.line p.column is
-  where
-    numbers : (l c : ℕ) → (nat_lt l l || (nat_eq l l && nat_lt c c)) ≡ true → ⊥
-    numbers l c e = grind (arith, nat_tests)
-
 -- of one at most, none is there again
 none_again : {A P : Type 0} (same : A → A → Bool) (place : A → Pos) (xs : List A) (y : A) → nat_lt 1 (length xs) ≡ false → Repeats same place xs y → P
-none_again {A} {P} same place xs y few again = absurd (alone xs (ltb-false 1 (length xs) few) again.first_in again.again_in)
+none_again {A} {P} same place xs y few again = absurd (alone xs again.first_at again.again_at again.first y (ltb-false 1 (length xs) few) again.first_there again.again_there again.apart)
   where
-    alone : (xs : List A) → length xs ≤ 1 → Contains xs again.first → Contains xs y → ⊥
-    alone [] short (k, within, is) there = absurd (omega arith)
-    alone (x ∷ []) short (zero, within, is) (zero, inside, so) =
-        let one : again.first ≡ y = sym is ∙ so in
-        not_before_itself (place y) (subst (λ (z : A). pos_before (place z) (place y) ≡ true) one again.later)
-    alone (x ∷ []) short (zero, within, is) (suc n, inside, so) = absurd (omega arith)
-    alone (x ∷ []) short (suc k, within, is) there = absurd (omega arith)
-    alone (x ∷ z ∷ xs) short here there = absurd (omega arith)
+    alone : (xs : List A) (i j : ℕ) (x z : A) → length xs ≤ 1 → slice_get xs i ≡ Some x → slice_get xs j ≡ Some z → i ≢ j → ⊥
+    alone [] i j x z short first second apart = cc
+    alone (w ∷ []) zero zero x z short first second apart = apart refl
+    alone (w ∷ []) zero (suc j) x z short first second apart = cc
+    alone (w ∷ []) (suc i) j x z short first second apart = cc
+    alone (w ∷ v ∷ ws) i j x z short first second apart = absurd (omega arith)
 
 few_inherited : (own : DeclTree → List Id) → nat_lt 1 (length (own class)) ≡ false → nat_lt 1 (length (own whole)) ≡ false
     → (c : ℕ) → nat_lt 1 (length (from_root own tree (ancestors tree c))) ≡ false

@@ -7,7 +7,7 @@ use Rattle.pz_run.specs.Refusals.{IsRefused}
 use Rattle.pz_run.specs.Taken.{TookAll, TookFront}
 use Rattle.pz_run.specs.Words.{Asked, asked, asks, JobFile, files_for}
 use Rattle.pz_run.specs.declared.job.Job.{Job}
-use Rattle.pz_run.specs.declared.job.Job.TheVariants.{Run, Check}
+use Rattle.pz_run.specs.declared.job.Job.TheVariants.{Run}
 use Rattle.pz_run.specs.declared.limits.TheConstants.{MODEL_LIMIT}
 use Rattle.pz_run.specs.declared.refusal.Refusal.{Refusal}
 use Rattle.pz_run.specs.declared.status.Status.{Status}

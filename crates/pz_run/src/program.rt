@@ -93,9 +93,7 @@ fn run_words<F: Files, W: Sink>(
         Ok(text) => do_job(alloc, job, &text, out),
         Err(ReadError::NoMemory) => Status::NoMemory,
         Err(ReadError::TooLong) => { say_line(out, too_long_line(alloc, name), Status::TooLong) }
-        Err(ReadError::Fault) => {
-            say_line(out, read_fault_line(alloc, name), Status::ReadFault)
-        }
+        Err(ReadError::Fault) => { say_line(out, read_fault_line(alloc, name), Status::ReadFault) }
     }
 }
 

@@ -1,5 +1,5 @@
 -- The promises of the top call as one, for the calls below it.
-use Rattle.std.specs.Prelude.{◌≡◌, ◌≢◌, ◌⊎◌, ℕ, List, true, None}
+use Rattle.std.specs.Prelude.{◌≡◌, ◌≢◌, ◌⊎◌, ℕ, List, true}
 use Rattle.pz_io.specs.Outside.{FilesState, SinkState, Rose}
 use Rattle.pz_term.specs.FirstPath.{FirstModel}
 use Rattle.pz_run.specs.Output.{PrintsModel, PrintsRun}
@@ -8,7 +8,7 @@ use Rattle.pz_run.specs.Words.{asked, files_for}
 use Rattle.pz_run.specs.declared.job.Job.{Job}
 use Rattle.pz_run.specs.devices.Writing.{Said, NothingWritten}
 use Rattle.pz_run.specs.declared.status.Status.{Status}
-use Rattle.pz_run.specs.declared.status.Status.TheVariants.{Usage, ModelRefused, TooLong, ReadFault, WriteFault, NoMemory}
+use Rattle.pz_run.specs.declared.status.Status.TheVariants.{ModelRefused, TooLong, ReadFault, WriteFault, NoMemory}
 
 pub record KeepsPromises (words : List (List ℕ)) (f g : FilesState) (before now : SinkState) (given : Status) : Type 0 where
   pub output : f.told ≡ true → given ≢ WriteFault → given ≢ NoMemory → ¬ ((given ≡ ReadFault) × Rose f.faults g.faults) → PrintsAll words f.held before now given

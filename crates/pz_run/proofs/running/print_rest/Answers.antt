@@ -1,4 +1,4 @@
-use Rattle.std.proofs.Common.{◌≡◌, ◌-◌, ℕ, suc, List, sym, subst, refl, arith}
+use Rattle.std.proofs.Common.{◌≡◌, ◌-◌, ℕ, suc, List, sym, subst, arith}
 use Rattle.pz_term.specs.declared.plain.Plain.{Plain}
 use Rattle.pz_term.specs.Plains.{simulation_of}
 use Rattle.pz_term.specs.Runs.{Event, Ending, IsFirstRun}
