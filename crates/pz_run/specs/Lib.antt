@@ -2,6 +2,7 @@ pub mod Models
 pub mod Accepted
 pub mod Refusals
 pub mod Words
+pub mod Taken
 pub mod Lines
 pub mod TraceText
 pub mod Status

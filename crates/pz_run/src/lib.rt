@@ -2,8 +2,10 @@
 #![tactic(auto)]
 
 mod counting;
+mod ending;
 mod first_path;
 mod job;
+mod limits;
 mod lines;
 mod printing;
 mod program;
