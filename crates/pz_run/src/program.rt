@@ -34,11 +34,11 @@ const MODEL_LIMIT: usize = 1_048_576;
 ///
 /// The words are those of the command line after the program's name. `run MODEL --first` reads the
 /// named model, runs it from offer 0 to offer 0, and prints the trace; `check MODEL` reads it, and
-/// prints how many processes it has. Both refuse a model that violates a rule of the checker. Each
-/// line goes out in one `write_all`. If a write fails, nothing more is written.
+/// prints how many processes it has. Both refuse a model that violates a rule of the checker.
 ///
-/// What is promised of contents holds over files and a sink that tell what they hold; what is
-/// promised of causes holds always. Want of memory, `NoMemory`, is the one answer without a cause.
+/// What is promised of contents holds over files and a sink that tell what they hold, and of a
+/// refusal over such files; what is promised of the causes of faults, of a model that is too long and
+/// of words without a job holds always. Want of memory, `NoMemory`, is the one answer without a cause.
 pub fn run_program<F: Files, W: Sink>(
     alloc: Global,
     words: &[String],
