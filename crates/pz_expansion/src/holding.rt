@@ -14,8 +14,7 @@ use pz_violation::Violation;
 use std::alloc::{AllocError, Global};
 
 /// The least instance by which a cluster class holds itself, directly or through others, at the
-/// name of the instance's class. The time is linear in the classes and their instances. The only
-/// error is want of memory.
+/// name of the instance's class. The only error is want of memory.
 pub fn least_holding(
     alloc: Global,
     model: &Model,

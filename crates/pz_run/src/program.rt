@@ -30,8 +30,7 @@ use std::mem::drop;
 ///
 /// The words are those of the command line after the program's name. `run MODEL --first` reads the
 /// named model, runs it from offer 0 to offer 0, and prints the trace; `check MODEL` reads it, and
-/// prints how many processes it has. Both refuse a model that violates a rule of the checker. Each
-/// line goes out in one `write_all`. If a write fails, nothing more is written.
+/// prints how many processes it has. Both refuse a model that violates a rule of the checker.
 ///
 /// What is promised of the bytes that are printed holds over a sink that tells what it took, and what
 /// is promised of the contents of files over files that tell; the rest holds always. Want of memory,

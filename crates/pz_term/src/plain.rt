@@ -133,9 +133,9 @@ impl Plain {
     ///
     /// # Errors
     ///
-    /// `NoSuchOffer` comes exactly where there are offers, but none of this number, and `NotNow`
-    /// exactly where the moment is not `Actions`; then nothing has changed. After `NoMemory` the
-    /// simulator is broken.
+    /// But for `NoMemory`, `NoSuchOffer` comes exactly where there are offers, but none of this
+    /// number, and `NotNow` exactly where the moment is not `Actions`; then nothing has changed. After
+    /// `NoMemory` the simulator is broken.
     pub fn choose(&mut self, k: u64) -> Result<(), ChooseError>
         ensures ok { OnOk result (Chooses (simulation_of self.old) (simulation_of self.new) k) }
         ensures no_such_offer { IfErr result (OnNoSuchOffer (λ offers. IsMomentOf (simulation_of self.old) (Moment.Actions offers) × (offers ≤ k))) }
@@ -183,8 +183,8 @@ impl Plain {
     ///
     /// # Errors
     ///
-    /// `NotNow` comes exactly where the moment is not `Time`; then nothing has changed. After
-    /// `NoMemory` the simulator is broken.
+    /// But for `NoMemory`, `NotNow` comes exactly where the moment is not `Time`; then nothing has
+    /// changed. After `NoMemory` the simulator is broken.
     pub fn pass(&mut self) -> Result<(), PassError>
         requires { (simulation_of self.old).config.clock < 2 ^ 127 }
         ensures ok { OnOk result (Passes (simulation_of self.old) (simulation_of self.new)) }
