@@ -21,10 +21,23 @@ apart {A} same place xs turned never i j x y first second alike = by_places (eit
   where
     by_test : i ≢ j → (b : Bool) → pos_before (place y) (place x) ≡ b → i ≡ j
     by_test other false behind = absurd (never y (record {
-      first = x; first_at = i; again_at = j; first_there = first; again_there = second; apart = other; alike = alike; later = behind;
+      first = x;
+      first_at = i;
+      again_at = j;
+      first_there = first;
+      again_there = second;
+      apart = other;
+      alike = alike;
+      later = behind;
     }))
     by_test other true before_it = absurd (never x (record {
-      first = y; first_at = j; again_at = i; first_there = second; again_there = first; apart = λ is. other (sym is); alike = turned x y alike;
+      first = y;
+      first_at = j;
+      again_at = i;
+      first_there = second;
+      again_there = first;
+      apart = λ is. other (sym is);
+      alike = turned x y alike;
       later = not_both (place y).line (place y).column (place x).line (place x).column before_it;
     }))
 

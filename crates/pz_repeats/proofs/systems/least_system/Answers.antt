@@ -20,6 +20,6 @@ returns c =
     let all : map thing_place c.as_slice.result.now ≡ map system_place (systems m) = ap (map thing_place) c.as_slice.ensures ∙ c.in_ok-things.ensures in
     let same = alike_repeat _ (λ _ _. refl) 20 c.as_slice.result.now (map system_place (systems m)) all ∙ sym (systems_repeat (systems m)) in
     let some : systems m ≡ [] → ⊥ = λ none.
-        let full : true ≡ false = sym (c.is_empty.ensures.1 (none_seen thing_place system_place c.in_ok-things.things (systems m) c.in_ok-things.ensures none)) ∙ c.if-is_empty.false in
-        cc in
+    let full : true ≡ false = sym (c.is_empty.ensures.1 (none_seen thing_place system_place c.in_ok-things.things (systems m) c.in_ok-things.ensures none)) ∙ c.if-is_empty.false in
+    cc in
     IfOk-weaker c.least_again.result _ (LeastOf (BreaksC20 m)) (λ least is. subst (LeastOf (BreaksC20 m)) (sym (is ∙ ap (least_from None) same)) (second_found m some)) c.least_again.ensures
