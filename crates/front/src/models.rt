@@ -1,0 +1,93 @@
+//! Models: that their text is that of their tokens, their heads and their nesting.
+
+use crate::reading::{LIMIT, model_in, tokens_in, tree_of};
+use pz_ast::{nesting, tokens_of};
+use pz_syntax::{Mark, Model, Token};
+use std::alloc::{AllocError, Global};
+use std::io;
+
+/// The marks of tokens, as they are printed.
+fn read_marks(alloc: Global, tokens: &[Token]) -> Result<String, AllocError> {
+    let mut text = String::new(alloc);
+    for token in tokens {
+        let mark = format!(in alloc; "{:?} ", token.mark)?;
+        text.push_str(mark.as_str())?;
+    }
+    Ok(text)
+}
+
+fn printed_marks(alloc: Global, marks: &[Mark]) -> Result<String, AllocError> {
+    let mut text = String::new(alloc);
+    for mark in marks {
+        let mark = format!(in alloc; "{mark:?} ")?;
+        text.push_str(mark.as_str())?;
+    }
+    Ok(text)
+}
+
+/// Whether the text of the model are the marks of the tokens.
+fn is_text(alloc: Global, model: &Model, tokens: &[Token]) -> Result<bool, AllocError> {
+    let marks = tokens_of(alloc, model)?;
+    let read = read_marks(alloc, tokens)?;
+    let printed = printed_marks(alloc, marks.as_slice())?;
+    Ok(read.as_str() == printed.as_str())
+}
+
+fn show_parsed(rt: &HostRuntime, text: &[u8], tokens: &[Token]) -> io::Result<()> {
+    match tree_of(rt.alloc(), text, tokens) {
+        Ok(model) => {
+            let same = is_text(rt.alloc(), &model, tokens);
+            let decls = model.decls.len();
+            println!(rt; "{decls} declarations, text as read: {same:?}")
+        }
+        Err(refusal) => println!(rt; "{refusal}"),
+    }
+}
+
+/// How many declarations a text has, and whether their text is the one that was read.
+pub fn show_model(rt: &HostRuntime, text: &[u8]) -> io::Result<()> {
+    match tokens_in(rt.alloc(), text) {
+        Ok(tokens) => show_parsed(rt, text, tokens.as_slice()),
+        Err(refusal) => println!(rt; "{refusal}"),
+    }
+}
+
+/// Why a line is no model.
+pub fn show_refusal(rt: &HostRuntime, line: &str) -> io::Result<()> {
+    match model_in(rt.alloc(), line.as_bytes()) {
+        Ok(_) => println!(rt; "accepted: {line}"),
+        Err(refusal) => println!(rt; "{refusal}: {line}"),
+    }
+}
+
+/// The numbers of the marks that are heads, from 0.
+fn heads_of(alloc: Global, marks: &[Mark]) -> Result<Vec<usize>, AllocError> {
+    let mut heads = Vec::new(alloc);
+    for (number, mark) in marks.iter().enumerate() {
+        if mark.head {
+            heads.push(number)?;
+        }
+    }
+    Ok(heads)
+}
+
+/// How many tokens a model has, which of them are heads, and its nesting.
+fn show_shape(rt: &HostRuntime, model: &Model) -> io::Result<()> {
+    let marks = tokens_of(rt.alloc(), model)?;
+    let count = marks.len();
+    if count > LIMIT {
+        return println!(rt; "too long");
+    }
+    let depth = nesting(model);
+    let heads = heads_of(rt.alloc(), marks.as_slice());
+    println!(rt; "{count} tokens, heads {heads:?}, nesting {depth}")
+}
+
+/// The same of the model of a line.
+pub fn show_tree(rt: &HostRuntime, line: &str) -> io::Result<()> {
+    println!(rt; "{line}")?;
+    match model_in(rt.alloc(), line.as_bytes()) {
+        Ok(model) => show_shape(rt, &model),
+        Err(refusal) => println!(rt; "{refusal}"),
+    }
+}
