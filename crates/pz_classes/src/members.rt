@@ -18,7 +18,7 @@ use pz_syntax::{Decl, Id, Model, Name, VarGroup};
 use std::alloc::{AllocError, Global};
 
 /// The names of what a class has, those of its ancestors first.
-#[derive(Debug, Drop)]
+#[derive(Drop)]
 pub(crate) struct Members {
     pub(crate) fields: Items<Name>,
     pub(crate) variables: Items<Name>,

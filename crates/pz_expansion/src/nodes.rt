@@ -20,7 +20,7 @@ pub(crate) struct Held {
 }
 
 /// What stands in a class.
-#[derive(Debug, Drop)]
+#[derive(Drop)]
 pub(crate) struct Node {
     /// One of the class, without its instances.
     pub(crate) own: Totals,

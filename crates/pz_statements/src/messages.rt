@@ -16,7 +16,7 @@ use pz_values::{arguments, block, optional_arguments};
 use std::alloc::Global;
 
 /// The variables and the condition of a reception. A condition is there only where brackets are.
-#[derive(Debug, Drop)]
+#[derive(Drop)]
 pub struct Reception {
     pub into: Option<Items<Id>>,
     pub condition: Option<Expr>,

@@ -2,14 +2,14 @@ use crate::{Expr, Id, Stmt};
 use pz_items::Items;
 
 /// Names that are declared together, and their type.
-#[derive(Debug, Drop)]
+#[derive(Drop)]
 pub struct VarGroup {
     pub names: Items<Id>,
     pub kind: Id,
 }
 
 /// A data class. A section is there if its keyword is written.
-#[derive(Debug, Drop)]
+#[derive(Drop)]
 pub struct DataClass {
     pub name: Id,
     pub parent: Option<Id>,
@@ -18,7 +18,7 @@ pub struct DataClass {
 }
 
 /// A method of a data class. `init` may name one too.
-#[derive(Debug, Drop)]
+#[derive(Drop)]
 pub struct DataMethod {
     pub name: Id,
     pub inputs: Option<Items<VarGroup>>,
@@ -29,7 +29,7 @@ pub struct DataMethod {
 
 /// A process class. A section is there if its keyword is written, and the parameters if their
 /// brackets are.
-#[derive(Debug, Drop)]
+#[derive(Drop)]
 pub struct ProcessClass {
     pub name: Id,
     pub parameters: Option<Items<VarGroup>>,
@@ -42,7 +42,7 @@ pub struct ProcessClass {
 }
 
 /// A message that may go out of a port, or come in at it.
-#[derive(Debug, Drop)]
+#[derive(Drop)]
 pub struct Message {
     pub port: Id,
     pub out: bool,
@@ -51,14 +51,14 @@ pub struct Message {
 }
 
 /// The call with which a process starts.
-#[derive(Debug, Drop)]
+#[derive(Drop)]
 pub struct Start {
     pub method: Id,
     pub args: Items<Expr>,
 }
 
 /// A method of a process class.
-#[derive(Debug, Drop)]
+#[derive(Drop)]
 pub struct ProcessMethod {
     pub name: Id,
     pub inputs: Items<VarGroup>,

@@ -2,13 +2,13 @@ use crate::{DataClass, Id, Literal, Pos, ProcessClass, VarGroup};
 use pz_items::Items;
 
 /// A whole model.
-#[derive(Debug, Drop)]
+#[derive(Drop)]
 pub struct Model {
     pub decls: Items<Decl>,
 }
 
 /// A declaration at the top of a model.
-#[derive(Debug, Drop)]
+#[derive(Drop)]
 pub enum Decl {
     Data(DataClass),
     Process(ProcessClass),
@@ -18,7 +18,7 @@ pub enum Decl {
 
 /// A cluster class. A section is there if its keyword is written, and the parameters if their
 /// brackets are.
-#[derive(Debug, Drop)]
+#[derive(Drop)]
 pub struct ClusterClass {
     pub name: Id,
     pub parameters: Option<Items<VarGroup>>,
@@ -28,7 +28,7 @@ pub struct ClusterClass {
 }
 
 /// The system, at the place of its keyword.
-#[derive(Debug, Drop)]
+#[derive(Drop)]
 pub struct SystemDecl {
     pub pos: Pos,
     pub instances: Option<Items<Instance>>,
@@ -36,7 +36,7 @@ pub struct SystemDecl {
 }
 
 /// An instance of a class, with the arguments in its brackets if they are written.
-#[derive(Debug, Drop)]
+#[derive(Drop)]
 pub struct Instance {
     pub name: Id,
     pub class: Id,
@@ -44,7 +44,7 @@ pub struct Instance {
 }
 
 /// A parameter and what it is given.
-#[derive(Debug, Drop)]
+#[derive(Drop)]
 pub struct Given {
     pub name: Id,
     pub arg: Arg,
@@ -52,7 +52,7 @@ pub struct Given {
 
 /// An argument of an instance, at the place of its first token. `Negated` has the integer behind
 /// the minus.
-#[derive(Debug, Drop)]
+#[derive(Drop)]
 pub enum Arg {
     Plain(Literal, Pos),
     Negated(i64, Pos),
@@ -60,14 +60,14 @@ pub enum Arg {
 }
 
 /// A channel, at the place of its opening brace.
-#[derive(Debug, Drop)]
+#[derive(Drop)]
 pub struct Channel {
     pub pos: Pos,
     pub ends: Items<ChannelEnd>,
 }
 
 /// A port of an instance, or a port of the cluster itself.
-#[derive(Debug, Drop)]
+#[derive(Drop)]
 pub enum ChannelEnd {
     Inner(Id, Id),
     Outer(Id),

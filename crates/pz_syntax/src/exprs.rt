@@ -5,7 +5,7 @@ use pz_items::{Boxed, Items};
 use std::alloc::AllocError;
 
 /// A constant of the text. Of a float only its presence is kept.
-#[derive(Debug, Drop)]
+#[derive(Drop)]
 pub enum Literal {
     Int(i64),
     Float,
@@ -35,7 +35,7 @@ impl Literal {
 
 /// An expression, at the place of its first token.
 #[cycle(expr)]
-#[derive(Debug, Drop)]
+#[derive(Drop)]
 pub struct Expr {
     pub pos: Pos,
     pub form: ExprForm,
@@ -43,7 +43,7 @@ pub struct Expr {
 
 /// The forms of expressions. `Me` is `self` and `Clock` is `currentTime`.
 #[cycle(expr)]
-#[derive(Debug, Drop)]
+#[derive(Drop)]
 pub enum ExprForm {
     Lit(Literal),
     Var(Name),
@@ -64,7 +64,7 @@ pub enum ExprForm {
 
 /// An operator, at its place, and its right operand.
 #[cycle(expr)]
-#[derive(Debug, Drop)]
+#[derive(Drop)]
 pub struct Link {
     pub op: Symbol,
     pub pos: Pos,
@@ -73,7 +73,7 @@ pub struct Link {
 
 /// A selector and its arguments, if a pair of brackets is written.
 #[cycle(expr)]
-#[derive(Debug, Drop)]
+#[derive(Drop)]
 pub struct Sending {
     pub selector: Id,
     pub args: Option<Items<Expr>>,

@@ -82,7 +82,7 @@ impl Text {
 }
 
 /// A name where it stands in the text of the model.
-#[derive(Debug, Drop)]
+#[derive(Drop)]
 pub struct Id {
     pub name: Name,
     /// The place of its token.

@@ -3,7 +3,7 @@ use pz_items::{Boxed, Items};
 
 /// A statement, at the place of its first token.
 #[cycle(stmt)]
-#[derive(Debug, Drop)]
+#[derive(Drop)]
 pub struct Stmt {
     pub pos: Pos,
     pub form: StmtForm,
@@ -11,7 +11,7 @@ pub struct Stmt {
 
 /// The forms of statements. What is optional is kept as written or not written.
 #[cycle(stmt)]
-#[derive(Debug, Drop)]
+#[derive(Drop)]
 pub enum StmtForm {
     Skip,
     Delay(Expr),

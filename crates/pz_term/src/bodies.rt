@@ -9,7 +9,7 @@ use pz_syntax::{Name, ProcessMethod, Stmt};
 use std::alloc::{AllocError, Global};
 
 /// A method: its name and its body.
-#[derive(Debug, Drop)]
+#[derive(Drop)]
 pub struct Body {
     pub name: Name,
     pub statements: Items<Stmt>,

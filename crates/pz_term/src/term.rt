@@ -16,7 +16,7 @@ use std::marker::Model;
 
 /// The statements behind the one that is open. Contracts see them in the order in which they
 /// come; the next one lies at the end of the `Vec`, so that it is taken without moving the others.
-#[derive(Debug, Drop)]
+#[derive(Drop)]
 pub struct Rest {
     reversed: Vec<Stmt>,
 }
@@ -63,7 +63,7 @@ impl Rest {
 }
 
 /// What is left of a process.
-#[derive(Debug, Drop)]
+#[derive(Drop)]
 pub enum Term {
     Done,
     Leaf(Stmt),

@@ -1,7 +1,7 @@
 use Rattle.std.proofs.Common.{◌≡◌, subst, ℕ, zero, suc, ◌<◌, List, [], ◌∷◌, get_or, Option, Some, None, arith}
 use Rattle.pz_lineage.specs.Parents.{parent_in}
 use Rattle.pz_lineage.proofs.Ranks.{nobody_goes_round}
-use Rattle.pz_lineage.proofs.walk_tests.a_class_comes_with_all_that_descend_from_it.Goals as goal
+use Rattle.classes_tests.proofs.lineage.a_class_comes_with_all_that_descend_from_it.Goals as goal
 
 abbrev parents : List (Option ℕ)
 parents = None ∷ Some 3 ∷ Some 0 ∷ None ∷ Some 3 ∷ Some 2 ∷ []
