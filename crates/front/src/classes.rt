@@ -4,8 +4,9 @@ ghost use Rattle.std.specs.Prelude.{IfSome};
 ghost use Rattle.pz_syntax.specs.ClassView.{model_view};
 ghost use Rattle.pz_classes.specs.Tables.{AreClasses, HasClass, HasMethod};
 
+use crate::bodies::{show_body, show_step};
 use crate::reading::model_in;
-use pz_classes::{Classes, MethodId};
+use pz_classes::{Classes, MethodId, Step};
 use pz_syntax::{Model, Name};
 use pz_value::ClassId;
 use std::io;
@@ -21,6 +22,12 @@ fn show_names(rt: &HostRuntime, what: &str, names: &[Name]) -> io::Result<()> {
     Ok(())
 }
 
+fn show_start(rt: &HostRuntime, step: &Step) -> io::Result<()> {
+    print!(rt; "  starts with ")?;
+    show_step(rt, step)?;
+    println!(rt)
+}
+
 /// What a class has.
 fn show_class(rt: &HostRuntime, classes: &Classes, class: ClassId) -> io::Result<()>
     requires { HasClass classes.now class }
@@ -32,7 +39,7 @@ fn show_class(rt: &HostRuntime, classes: &Classes, class: ClassId) -> io::Result
     show_names(rt, "variable", classes.variables(class))?;
     show_names(rt, "port", classes.ports(class))?;
     match classes.init(class) {
-        Some(step) => println!(rt; "  starts with {step:?}"),
+        Some(step) => show_start(rt, step),
         None => Ok(()),
     }
 }
@@ -74,9 +81,9 @@ fn show_method(rt: &HostRuntime, model: &Model, classes: &Classes, question: &st
     match answer(model, classes, question) {
         None => println!(rt; "{question}: none"),
         Some(method) => {
-            let number = method.0;
-            let body = classes.body(method);
-            println!(rt; "{question}: {number} {body:?}")
+            print!(rt; "{question}: {} ", method.0)?;
+            show_body(rt, classes.body(method))?;
+            println!(rt)
         }
     }
 }

@@ -5,7 +5,7 @@ use crate::reading::model_in;
 use pz_classes::{channels_of, instances_of};
 use pz_items::Items;
 use pz_mentions::{Part, parts_of};
-use pz_syntax::{Arg, Channel, ChannelEnd, Decl, Given, Instance, Message, Model};
+use pz_syntax::{Arg, Channel, ChannelEnd, Decl, Given, Id, Instance, Message, Model};
 use std::io;
 
 fn show_parts(rt: &HostRuntime, parts: &[Part]) -> io::Result<()> {
@@ -17,11 +17,20 @@ fn show_parts(rt: &HostRuntime, parts: &[Part]) -> io::Result<()> {
     Ok(())
 }
 
+/// What it is, and a copy of its name and place.
+fn show_id(rt: &HostRuntime, what: &str, id: &Id) -> io::Result<()> {
+    let copy = id.copy()?;
+    let name = copy.name.as_str();
+    println!(rt; "  {what} {name} at {}:{}", copy.pos.line, copy.pos.column)
+}
+
 fn show_message(rt: &HostRuntime, message: &Message) -> io::Result<()> {
     let way = if message.out { "goes out" } else { "comes in" };
-    let types = message.types.as_ref().map(|types| types.len());
-    let name = message.name.copy();
-    println!(rt; "  message {name:?} {way}, types {types:?}")
+    show_id(rt, "message", &message.name)?;
+    match &message.types {
+        None => println!(rt; "    {way} without brackets"),
+        Some(types) => println!(rt; "    {way} with {} types", types.len()),
+    }
 }
 
 fn show_messages(rt: &HostRuntime, messages: &Option<Items<Message>>) -> io::Result<()> {
@@ -36,15 +45,19 @@ fn show_messages(rt: &HostRuntime, messages: &Option<Items<Message>>) -> io::Res
 fn show_given(rt: &HostRuntime, given: &Given) -> io::Result<()> {
     let name = given.name.name.as_str();
     match &given.arg {
-        Arg::Plain(_, pos) => println!(rt; "    {name}: a literal at {pos:?}"),
-        Arg::Negated(number, pos) => println!(rt; "    {name}: {number} negated at {pos:?}"),
-        Arg::Parameter(id) => println!(rt; "    {name}: {id:?}"),
+        Arg::Plain(_, pos) => println!(rt; "    {name}: a literal at {}:{}", pos.line, pos.column),
+        Arg::Negated(number, pos) => {
+            println!(rt;
+                "    {name}: {number} negated at {}:{}",
+                pos.line, pos.column
+            )
+        }
+        Arg::Parameter(id) => println!(rt; "    {name}: {}", id.name.as_str()),
     }
 }
 
 fn show_instance(rt: &HostRuntime, instance: &Instance) -> io::Result<()> {
-    let name = instance.name.copy();
-    println!(rt; "  instance {name:?}")?;
+    show_id(rt, "instance", &instance.name)?;
     if let Some(givens) = &instance.given {
         for given in givens.as_slice() {
             show_given(rt, given)?;
@@ -55,13 +68,15 @@ fn show_instance(rt: &HostRuntime, instance: &Instance) -> io::Result<()> {
 
 fn show_end(rt: &HostRuntime, end: &ChannelEnd) -> io::Result<()> {
     match end {
-        ChannelEnd::Inner(part, port) => println!(rt; "    {part:?} at its {port:?}"),
-        ChannelEnd::Outer(port) => println!(rt; "    {port:?} of the cluster"),
+        ChannelEnd::Inner(part, port) => {
+            println!(rt; "    port {} of {}", port.name.as_str(), part.name.as_str())
+        }
+        ChannelEnd::Outer(port) => println!(rt; "    port {} of the cluster", port.name.as_str()),
     }
 }
 
 fn show_channel(rt: &HostRuntime, channel: &Channel) -> io::Result<()> {
-    println!(rt; "  channel at {:?}", channel.pos)?;
+    println!(rt; "  channel at {}:{}", channel.pos.line, channel.pos.column)?;
     for end in channel.ends.as_slice() {
         show_end(rt, end)?;
     }

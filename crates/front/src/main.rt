@@ -6,6 +6,7 @@
 #![tactic(auto)]
 
 mod benches;
+mod bodies;
 mod classes;
 mod declarations;
 mod models;

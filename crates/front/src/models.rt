@@ -60,27 +60,25 @@ pub fn show_refusal(rt: &HostRuntime, line: &str) -> io::Result<()> {
     }
 }
 
-/// The numbers of the marks that are heads, from 0.
-fn heads_of(alloc: Global, marks: &[Mark]) -> Result<Vec<usize>, AllocError> {
-    let mut heads = Vec::new(alloc);
+/// The marks that are heads, by their numbers from 0.
+fn show_heads(rt: &HostRuntime, marks: &[Mark]) -> io::Result<()> {
     for (number, mark) in marks.iter().enumerate() {
         if mark.head {
-            heads.push(number)?;
+            println!(rt; "  head {number} {:?}", mark.kind)?;
         }
     }
-    Ok(heads)
+    Ok(())
 }
 
-/// How many tokens a model has, which of them are heads, and its nesting.
+/// How many tokens a model has, its nesting and its heads.
 fn show_shape(rt: &HostRuntime, model: &Model) -> io::Result<()> {
     let marks = tokens_of(rt.alloc(), model)?;
     let count = marks.len();
     if count > LIMIT {
-        return println!(rt; "too long");
+        return println!(rt; "  too long");
     }
-    let depth = nesting(model);
-    let heads = heads_of(rt.alloc(), marks.as_slice());
-    println!(rt; "{count} tokens, heads {heads:?}, nesting {depth}")
+    println!(rt; "  {count} tokens, nesting {}", nesting(model))?;
+    show_heads(rt, marks.as_slice())
 }
 
 /// The same of the model of a line.
@@ -88,6 +86,6 @@ pub fn show_tree(rt: &HostRuntime, line: &str) -> io::Result<()> {
     println!(rt; "{line}")?;
     match model_in(rt.alloc(), line.as_bytes()) {
         Ok(model) => show_shape(rt, &model),
-        Err(refusal) => println!(rt; "{refusal}"),
+        Err(refusal) => println!(rt; "  {refusal}"),
     }
 }
