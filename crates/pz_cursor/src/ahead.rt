@@ -83,7 +83,7 @@ pub enum Next {
 }
 
 /// What comes next in these tokens.
-#[tactic(auto, unfolding(crate::specs::LookAhead::next))]
+#[tactic(auto, unfolding(crate::specs::devices::LookAhead::next))]
 pub fn next_of(tokens: &[Token]) -> Next
     ensures is { result ≡ spec.next tokens.now }
 {
@@ -94,7 +94,7 @@ pub fn next_of(tokens: &[Token]) -> Next
 }
 
 /// Whether both are one case.
-#[tactic(auto, unfolding(crate::specs::LookAhead::same))]
+#[tactic(auto, unfolding(crate::specs::devices::LookAhead::same))]
 pub fn same(a: Next, b: Next) -> bool
     ensures is { result ≡ spec.same a b }
 {

@@ -13,7 +13,7 @@ use pz_values::exprs;
 use std::alloc::Global;
 
 /// A data class from `data` on. In its methods at most `depth` constructs stand one in another.
-#[tactic(auto, unfolding(crate::specs::DataClasses::data_class))]
+#[tactic(auto, unfolding(crate::specs::devices::DataClasses::data_class))]
 pub fn data_class(
     alloc: Global,
     cursor: &mut Cursor<'_>,
@@ -36,7 +36,7 @@ pub fn data_class(
     })
 }
 
-#[tactic(auto, unfolding(crate::specs::DataClasses::data_methods_section, pz_cursor::specs::Device::expect, pz_cursor::specs::Device::past))]
+#[tactic(auto, unfolding(crate::specs::devices::DataClasses::data_methods_section, pz_cursor::specs::devices::Device::expect, pz_cursor::specs::devices::Device::past))]
 fn methods_section(
     alloc: Global,
     cursor: &mut Cursor<'_>,
@@ -52,7 +52,7 @@ fn methods_section(
 }
 
 /// Methods, as long as a name of one stands next.
-#[tactic(auto, unfolding(crate::specs::DataClasses::data_methods, pz_cursor::specs::Lists::each_of, pz_cursor::specs::Lists::repeat))]
+#[tactic(auto, unfolding(crate::specs::devices::DataClasses::data_methods, pz_cursor::specs::devices::Lists::each_of, pz_cursor::specs::devices::Lists::repeat))]
 fn data_methods(
     alloc: Global,
     cursor: &mut Cursor<'_>,
@@ -72,7 +72,7 @@ fn data_methods(
 }
 
 /// A method from its name on, which stands next.
-#[tactic(auto, unfolding(crate::specs::DataClasses::data_method))]
+#[tactic(auto, unfolding(crate::specs::devices::DataClasses::data_method))]
 fn data_method(alloc: Global, cursor: &mut Cursor<'_>, depth: usize) -> Result<DataMethod, Refusal>
     requires room { depth < 2 ^ 64 - 1 }
     ensures { Reads data_method_view (spec.data_method depth cursor.old) result cursor.new }

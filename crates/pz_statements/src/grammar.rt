@@ -49,7 +49,7 @@ fn stmt(alloc: Global, cursor: &mut Cursor<'_>, depth: usize) -> Result<Stmt, Re
 
 impl<F: Fn(Global, &mut Cursor<'_>, usize) -> Result<Stmt, Refusal>> Grammar<F> {
     /// A statement is told by its first token, and where that is an identifier by the second.
-    #[tactic(auto, unfolding(crate::specs::Statements::statement))]
+    #[tactic(auto, unfolding(crate::specs::devices::Statements::statement))]
     fn statement(&self, cursor: &mut Cursor<'_>) -> Result<Stmt, Refusal>
         requires parts { Nests self.now.depth (F.pre self.now.stmt) (F.post self.now.stmt) }
         ensures reads { Reads view (spec.statement self.now.depth (below_stmt self.now.depth) cursor.old) result cursor.new }
@@ -88,7 +88,7 @@ impl<F: Fn(Global, &mut Cursor<'_>, usize) -> Result<Stmt, Refusal>> Grammar<F> 
     }
 
     /// One statement or more, one construct further in.
-    #[tactic(auto, unfolding(pz_cursor::specs::Lists::list_of))]
+    #[tactic(auto, unfolding(pz_cursor::specs::devices::Lists::list_of))]
     pub fn sequence(&self, cursor: &mut Cursor<'_>) -> Result<Items<Stmt>, Refusal>
         requires parts { Nests self.now.depth (F.pre self.now.stmt) (F.post self.now.stmt) }
         ensures reads { Reads (map view) (spec.sequence self.now.depth (below_stmt self.now.depth) cursor.old) result cursor.new }
@@ -98,7 +98,7 @@ impl<F: Fn(Global, &mut Cursor<'_>, usize) -> Result<Stmt, Refusal>> Grammar<F> 
         self.more(cursor, found)
     }
 
-    #[tactic(auto, unfolding(pz_cursor::specs::Lists::more_of, pz_cursor::specs::Lists::tail_of))]
+    #[tactic(auto, unfolding(pz_cursor::specs::devices::Lists::more_of, pz_cursor::specs::devices::Lists::tail_of))]
     fn more(&self, cursor: &mut Cursor<'_>, mut found: Items<Stmt>) -> Result<Items<Stmt>, Refusal>
         requires parts { Nests self.now.depth (F.pre self.now.stmt) (F.post self.now.stmt) }
         ensures reads { Reads (map view) (lists.more_of (below_stmt self.now.depth) n.Semicolon (map view found) cursor.old) result cursor.new }
