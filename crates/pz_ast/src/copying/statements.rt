@@ -170,7 +170,11 @@ fn copy_branches(alloc: Global, branches: &[Items<Stmt>]) -> Result<Items<Items<
 {
     let mut copy = Items::new(alloc);
     for branch in branches {
-        copy.push(copy_statements(alloc, branch.as_slice())?)?;
+        let mut part = Items::new(alloc);
+        for stmt in branch.as_slice() {
+            part.push(copy_statement(alloc, stmt)?)?;
+        }
+        copy.push(part)?;
     }
     Ok(copy)
 }
