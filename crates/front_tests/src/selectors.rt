@@ -29,6 +29,9 @@ fn a_data_class_ends_before_an_identifier_that_is_spelled_init(
     let class = data_class(rt.alloc(), &mut cursor, 100)?;
     assert_eq!(rt; cursor.left(), 1);
     assert_eq!(rt; class.name.pos.column, 12);
-    assert_eq!(rt; class.methods.as_ref().map(|methods| methods.len()), Some(1));
+    assert_eq!(rt;
+        class.methods.as_ref().map(|methods| methods.len()),
+        Some(1)
+    );
     Ok(())
 }
