@@ -9,7 +9,8 @@ ghost use Rattle.pz_classes.specs.Tables.{AreClasses};
 ghost use Rattle.pz_check.specs.Together.{BreaksSize};
 
 use pz_classes::Classes;
-use pz_expansion::{least_holding, least_system, oversized};
+use pz_expansion::{least_holding, oversized};
+use pz_repeats::least_system;
 use pz_syntax::Model;
 use pz_usage::has_unsized_words;
 use pz_violation::{Violation, sooner};
@@ -51,7 +52,7 @@ pub(crate) fn least_of_size(
     ensures { IfOk result (LeastOf (BreaksSize (model_view model.now))) }
 {
     let holding = least_holding(alloc, model, classes)?;
-    let system = least_system(model);
+    let system = least_system(alloc, model)?;
     let oversize = least_oversize(alloc, model, classes, holding, system)?;
     Ok(sooner(sooner(holding, system), oversize))
 }

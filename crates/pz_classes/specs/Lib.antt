@@ -22,4 +22,7 @@ pub mod SizeRules
 pub mod Soundness
 pub mod CheckedView
 pub mod Reached
+pub mod Apart
+pub mod SoundSystem
+pub mod SoundClasses
 pub mod devices

@@ -1,6 +1,5 @@
 pub mod Nodes
 pub mod Levels
-pub mod Systems
 pub mod LeadingBack
 pub mod Oversized
 pub mod Settling

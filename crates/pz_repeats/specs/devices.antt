@@ -9,3 +9,4 @@ pub mod RepeatList
 pub mod Tips
 pub mod Outers
 pub mod EndList
+pub mod Systems

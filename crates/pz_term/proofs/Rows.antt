@@ -120,19 +120,19 @@ repeating_is_first t is = subst IsFirstPath (sym is) (first_path 4 repeating_bod
 
 -- ---- the model with a delay, moment by moment
 
-abbrev offer : Place → Kind → Pos → Action
+abbrev pub offer : Place → Kind → Pos → Action
 offer place kind pos = Internal (record { process = 0; place = place }) kind pos
 
-abbrev calling : Action
+abbrev pub calling : Action
 calling = offer [] Call (at 2 6)
 
-abbrev skipping : Pos → Action
+abbrev pub skipping : Pos → Action
 skipping pos = offer (0 ∷ 0 ∷ []) Skip pos
 
-abbrev expiring : Action
+abbrev pub expiring : Action
 expiring = offer (0 ∷ 0 ∷ []) Expire (at 5 1)
 
-abbrev last_skip : Action
+abbrev pub last_skip : Action
 last_skip = offer (0 ∷ []) Skip (at 6 1)
 
 abbrev last : Statements Id Id Id
@@ -194,7 +194,7 @@ only : (c : Config) (a : Action) → offers_of c ≡ a ∷ [] → IsChoice c 1 0
 only c a is = record { offers = a ∷ []; all = subst (λ (l : List Action). IsOffers c l) is (offers_are c); count = refl; chosen = refl }
 
 -- its run, event by event
-delaying_run :
+pub delaying_run :
     IsFirstRun (bodies_of delaying) 1000 (start delaying)
     (acted 0 1 0 calling ∷ acted 0 1 0 (skipping (at 4 1)) ∷ passed 0 3 ∷ acted 3 1 0 expiring ∷ acted 3 1 0 last_skip ∷ []) 3 ended
 delaying_run =

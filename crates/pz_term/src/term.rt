@@ -9,6 +9,7 @@ ghost use Rattle.pz_term.specs.devices.Twins.{local_actions, term_delay, is_done
 ghost use Rattle.pz_syntax.specs.ExpressionView as expression;
 ghost use Rattle.pz_term.specs.View.{term_view};
 
+use pz_ast::copy_statement;
 use pz_items::{Boxed, Items};
 use pz_syntax::{Expr, ExprForm, Id, Literal, Pos, Stmt, StmtForm};
 use std::alloc::{AllocError, Global};
@@ -41,7 +42,7 @@ impl Rest {
     {
         let mut reversed = Vec::new(alloc);
         for statement in statements {
-            reversed.push(statement.copy(alloc)?)?;
+            reversed.push(copy_statement(alloc, statement)?)?;
         }
         reversed.reverse();
         Ok(Rest { reversed })

@@ -1,23 +1,30 @@
--- The repeats in a list, as a list of violations: a device of the proofs.
-use Rattle.std.specs.Prelude.{ℕ, Bool, ◌&&◌, List}
-use Rattle.std.specs.List.{list_any, flat_map}
+-- What is found where the things of a list are held one after another against the earliest place of
+-- those before them that are the same: violations such that none comes before all of them. A device
+-- of the proofs.
+use Rattle.std.specs.Prelude.{ℕ, Bool, List, [], ◌∷◌, ◌++◌, Option, Some, None, if◌then◌else◌}
 use Rattle.pz_syntax.specs.declared.tokens.Pos.{Pos}
 use Rattle.pz_violation.specs.declared.violation.Violation.{Violation}
 use Rattle.pz_violation.specs.Order.{violation, pos_before}
-use Rattle.pz_violation.specs.Least.{listed}
 use Rattle.pz_repeats.specs.declared.places.Thing.{Thing}
+use Rattle.pz_repeats.specs.devices.Earlier.{earliest_of}
 
-module _ {A : Type 0} (same : A → A → Bool) (place : A → Pos) where
-  -- something that is the same stands earlier
-  abbrev pub is_again : List A → A → Bool
-  is_again xs y = list_any (λ x. same x y && pos_before (place x) (place y)) xs
+-- the later of two places, the second where neither is later
+abbrev pub later : Pos → Pos → Pos
+later q p = if pos_before p q then q else p
 
-  -- those of ys that repeat one of xs
-  abbrev pub repeated : ℕ → List A → List A → List Violation
-  repeated rule xs ys = flat_map (λ y. listed (is_again xs y) (violation rule (place y))) ys
+-- at the later of a place that was found and another, if one was found
+abbrev pub later_of : ℕ → Option Pos → Pos → List Violation
+later_of rule None p = []
+later_of rule (Some q) p = violation rule (later q p) ∷ []
 
-  abbrev pub repeats : ℕ → List A → List Violation
-  repeats rule xs = repeated rule xs xs
+module _ {A : Type 0} (same : A → A → Bool) (place : A → Pos) (rule : ℕ) where
+  -- each of these in turn, held against the earliest place that what is the same has so far
+  abbrev pub found_in : List A → List A → List Violation
+  found_in before [] = []
+  found_in before (y ∷ ys) = later_of rule (earliest_of place (same y) None before) (place y) ++ found_in (before ++ (y ∷ [])) ys
+
+  abbrev pub repeats : List A → List Violation
+  repeats xs = found_in [] xs
 
 -- things are the same by their keys
 abbrev pub same_key : {K : Type 0} → (K → K → Bool) → Thing K → Thing K → Bool
