@@ -6,10 +6,10 @@ ghost use Rattle.pz_classes.specs.Tables.{AreClasses};
 
 use crate::reading::model_in;
 use pz_classes::{BuildError, Classes, Violation};
-use pz_expansion::{least_holding, least_system};
+use pz_expansion::least_holding;
 use pz_instances::{least_ill_given, least_missing_end};
 use pz_items::Items;
-use pz_repeats::{least_double_end, least_repeat};
+use pz_repeats::{least_double_end, least_repeat, least_system};
 use pz_syntax::{Decl, Model, SystemDecl};
 use pz_usage::{has_unsized_words, least_misuse};
 use std::alloc::{AllocError, Global};
@@ -54,7 +54,7 @@ fn show_systems(rt: &HostRuntime, model: &Model, classes: &Classes) -> io::Resul
     requires { AreClasses (model_view model.now) classes.now }
 {
     let holding = Answer(least_holding(rt.alloc(), model, classes));
-    let system = Answer(Ok(least_system(model)));
+    let system = Answer(least_system(rt.alloc(), model));
     println!(rt; "holding {holding}, system {system}")
 }
 
