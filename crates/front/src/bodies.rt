@@ -31,22 +31,25 @@ fn show_form(rt: &HostRuntime, form: &CodeForm) -> io::Result<()> {
         CodeForm::Lit(literal) => show_literal(rt, literal),
         CodeForm::Var(slot) => print!(rt; "Var({slot:?})"),
         CodeForm::New(class) => print!(rt; "New({class:?})"),
-        CodeForm::Chain(first, links) => show_chain(rt, first.get(), links.as_slice()),
+        CodeForm::Chain(first, links) => {
+            show_first(rt, "Chain", first.get())?;
+            show_links(rt, links.as_slice())
+        }
         CodeForm::Sends(receiver, sendings) => {
-            show_sends(rt, receiver.get(), sendings.as_slice())
+            show_first(rt, "Sends", receiver.get())?;
+            show_sendings(rt, sendings.as_slice())
         }
         CodeForm::Assign(slot, value) => show_assign(rt, *slot, value.get()),
         _ => print!(rt; "another form"),
     }
 }
 
+/// The front of a chain or of sendings, up to its list.
 #[cycle(code)]
-fn show_chain(rt: &HostRuntime, first: &Code, links: &[CodeLink]) -> io::Result<()> {
-    print!(rt; "Chain(Boxed {{ inner: ")?;
-    show_code(rt, first)?;
-    print!(rt; " }}, Items {{ items: [")?;
-    show_links(rt, links)?;
-    print!(rt; "] }})")
+fn show_first(rt: &HostRuntime, what: &str, code: &Code) -> io::Result<()> {
+    print!(rt; "{what}(Boxed {{ inner: ")?;
+    show_code(rt, code)?;
+    print!(rt; " }}, Items {{ items: [")
 }
 
 #[cycle(code)]
@@ -60,15 +63,6 @@ fn show_links(rt: &HostRuntime, links: &[CodeLink]) -> io::Result<()> {
         show_code(rt, &link.operand)?;
         print!(rt; " }}")?;
     }
-    Ok(())
-}
-
-#[cycle(code)]
-fn show_sends(rt: &HostRuntime, receiver: &Code, sendings: &[CodeSending]) -> io::Result<()> {
-    print!(rt; "Sends(Boxed {{ inner: ")?;
-    show_code(rt, receiver)?;
-    print!(rt; " }}, Items {{ items: [")?;
-    show_sendings(rt, sendings)?;
     print!(rt; "] }})")
 }
 
@@ -101,7 +95,7 @@ fn show_sendings(rt: &HostRuntime, sendings: &[CodeSending]) -> io::Result<()> {
         show_comma(rt, number)?;
         show_sending(rt, sending)?;
     }
-    Ok(())
+    print!(rt; "] }})")
 }
 
 fn show_codes(rt: &HostRuntime, codes: &[Code]) -> io::Result<()> {
