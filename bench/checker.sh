@@ -3,7 +3,7 @@
 # a chain of ten thousand data classes, one of ten thousand process classes that call, receive and
 # send what they inherit, many methods, many methods that call one another, many variables of one
 # class, many instances, many ends of one channel, and clusters in a chain and in a ring.
-cd "$(dirname "${BASH_SOURCE[0]}")/../crates/checker_rows" || exit 2
+cd "$(dirname "${BASH_SOURCE[0]}")/../crates/front" || exit 2
 rt run >/dev/null 2>&1 || exit 2
 trap 'rm -f out/*.bench' EXIT
 process='process class P(x : Integer) ports p messages p!m init s()() methods s()() p!m system'
@@ -27,5 +27,5 @@ pieces() {
 { echo -n 'process class C0 init s()() methods s()() skip '; pieces 10000 'cluster class C% instances c : C@ '; echo 'system instances c : C10000'; } >out/clusters.bench
 for shape in classes chain processes methods calls variables instances ends clusters ring; do
   printf '%s, %s bytes: ' "$shape" "$(wc -c <"out/$shape.bench")"
-  (cd out && time ./checker_rows "$shape.bench" | cut -c1-60)
+  (cd out && time ./front rows violations "$shape.bench" | tail -n +2 | cut -c1-60)
 done

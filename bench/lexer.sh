@@ -1,5 +1,5 @@
 #!/usr/bin/env bash
 # Times the lexer on six texts of about a mebibyte, one sort of token each.
-cd "$(dirname "${BASH_SOURCE[0]}")/../crates/lexer_bench" || exit 2
+cd "$(dirname "${BASH_SOURCE[0]}")/../crates/front" || exit 2
 rt run >/dev/null 2>&1 || exit 2
-time ./out/lexer_bench
+time ./out/front bench lex

@@ -1,5 +1,5 @@
 #!/usr/bin/env bash
 # Times the lexer and the parser on five texts of about a mebibyte.
-cd "$(dirname "${BASH_SOURCE[0]}")/../crates/parser_bench" || exit 2
+cd "$(dirname "${BASH_SOURCE[0]}")/../crates/front" || exit 2
 rt run >/dev/null 2>&1 || exit 2
-time ./out/parser_bench
+time ./out/front bench parse

@@ -1,5 +1,0 @@
-use Rattle.std.proofs.Common.{arith}
-use Rattle.classes_rows.proofs.show_classes.Goals as goal
-
-pub show_class-requires : goal.show_class-requires
-show_class-requires c = c.count.ensures.belongs (record { 0 = c.loop-number.number }) (omega (arith, c.if-number-count.false))

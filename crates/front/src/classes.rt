@@ -1,0 +1,149 @@
+//! The classes of a model: what each inherits, the look-up of methods, and bodies with slots.
+
+ghost use Rattle.std.specs.Prelude.{IfSome};
+ghost use Rattle.pz_syntax.specs.ClassView.{model_view};
+ghost use Rattle.pz_classes.specs.Tables.{AreClasses, HasClass, HasMethod};
+
+use crate::bodies::{show_body, show_step};
+use crate::reading::model_in;
+use pz_classes::{Classes, MethodId, Step};
+use pz_syntax::{Model, Name};
+use pz_value::ClassId;
+use std::io;
+
+/// What a comment begins with that asks for a class or a method.
+const QUESTION: &str = "//? ";
+
+fn show_names(rt: &HostRuntime, what: &str, names: &[Name]) -> io::Result<()> {
+    for name in names {
+        let name = name.as_str();
+        println!(rt; "  {what} {name}")?;
+    }
+    Ok(())
+}
+
+fn show_start(rt: &HostRuntime, step: &Step) -> io::Result<()> {
+    print!(rt; "  starts with ")?;
+    show_step(rt, step)?;
+    println!(rt)
+}
+
+/// What a class has.
+fn show_class(rt: &HostRuntime, classes: &Classes, class: ClassId) -> io::Result<()>
+    requires { HasClass classes.now class }
+{
+    let number = class.0;
+    let parent = classes.parent(class);
+    println!(rt; "{number} extends {parent:?}")?;
+    show_names(rt, "field", classes.fields(class))?;
+    show_names(rt, "variable", classes.variables(class))?;
+    show_names(rt, "port", classes.ports(class))?;
+    match classes.init(class) {
+        Some(step) => show_start(rt, step),
+        None => Ok(()),
+    }
+}
+
+/// What each class has, by its number.
+fn show_classes(rt: &HostRuntime, classes: &Classes) -> io::Result<()> {
+    for number in 0..u32::MAX {
+        if number as usize >= classes.count() {
+            return Ok(());
+        }
+        show_class(rt, classes, ClassId(number))?;
+    }
+    Ok(())
+}
+
+/// The method that a question asks for: the class, the name, the inputs, and of a process class the
+/// outputs.
+fn answer(model: &Model, classes: &Classes, question: &str) -> Option<MethodId>
+    requires { AreClasses (model_view model.now) classes.now }
+    ensures { IfSome result (HasMethod classes.now) }
+{
+    let mut words = question.split_whitespace();
+    let class = classes.class(words.next()?.as_bytes())?;
+    let name = words.next()?.as_bytes();
+    let inputs = words.next()?.parse::<u32>().ok()?;
+    match words.next() {
+        None => classes.method(class, name, inputs),
+        Some(outputs) => {
+            let outputs = outputs.parse::<u32>().ok()?;
+            classes.process_method(class, name, inputs, outputs)
+        }
+    }
+}
+
+/// The method that a question asks for, and its body.
+fn show_method(rt: &HostRuntime, model: &Model, classes: &Classes, question: &str) -> io::Result<()>
+    requires { AreClasses (model_view model.now) classes.now }
+{
+    match answer(model, classes, question) {
+        None => println!(rt; "{question}: none"),
+        Some(method) => {
+            print!(rt; "{question}: {} ", method.0)?;
+            show_body(rt, classes.body(method))?;
+            println!(rt)
+        }
+    }
+}
+
+/// The class that a question of one word asks for, and how many numbers classes have.
+fn show_number(rt: &HostRuntime, classes: &Classes, name: &str) -> io::Result<()> {
+    let class = classes.class(name.as_bytes());
+    let count = classes.names().len();
+    println!(rt; "{name}: {class:?} of {count}")
+}
+
+/// The answer to each question in the comments of a text.
+fn show_answers(rt: &HostRuntime, model: &Model, classes: &Classes, text: &str) -> io::Result<()>
+    requires { AreClasses (model_view model.now) classes.now }
+{
+    for line in text.lines() {
+        if let Some(question) = line.strip_prefix(QUESTION) {
+            if question.contains(' ') {
+                show_method(rt, model, classes, question)?;
+            } else {
+                show_number(rt, classes, question)?;
+            }
+        }
+    }
+    Ok(())
+}
+
+fn show_built(rt: &HostRuntime, model: &Model, text: &str) -> io::Result<()> {
+    match Classes::build(rt.alloc(), model) {
+        Ok(classes) => {
+            show_classes(rt, &classes)?;
+            show_answers(rt, model, &classes, text)
+        }
+        Err(error) => println!(rt; "{error:?}"),
+    }
+}
+
+/// What each class of a text has, and the answers to the questions in its comments.
+pub fn show_family(rt: &HostRuntime, text: &[u8]) -> io::Result<()> {
+    let Ok(written) = std::str::from_utf8(text) else {
+        return println!(rt; "no text");
+    };
+    match model_in(rt.alloc(), text) {
+        Ok(model) => show_built(rt, &model, written),
+        Err(refusal) => println!(rt; "{refusal}"),
+    }
+}
+
+/// Which of the rules on classes and their parents the model of a line violates.
+fn show_violated(rt: &HostRuntime, model: &Model, line: &str) -> io::Result<()> {
+    match Classes::build(rt.alloc(), model) {
+        Ok(_) => println!(rt; "accepted: {line}"),
+        Err(error) => println!(rt; "{error:?}: {line}"),
+    }
+}
+
+/// The same of a line, or why it is no model.
+pub fn show_refusal(rt: &HostRuntime, line: &str) -> io::Result<()> {
+    match model_in(rt.alloc(), line.as_bytes()) {
+        Ok(model) => show_violated(rt, &model, line),
+        Err(refusal) => println!(rt; "{refusal}: {line}"),
+    }
+}

@@ -1,0 +1,56 @@
+//! From a text to its tokens and its model.
+
+use pz_items::Items;
+use pz_lexer::{LexError, end_of, lex};
+use pz_parser::{ParseError, parse};
+use pz_syntax::{Model, Token};
+use std::alloc::Global;
+use std::fmt;
+
+/// The most bytes of a text.
+pub const LIMIT: usize = 4_000_000;
+
+/// Why a text is that of no model.
+#[derive(Debug, Drop)]
+pub enum NoModel {
+    TooLong,
+    Tokens(LexError),
+    Tree(ParseError),
+}
+
+impl fmt::Display for NoModel {
+    fn fmt<W: fmt::Write>(&self, f: &mut fmt::Formatter<W>) -> fmt::Result {
+        match self {
+            NoModel::TooLong => write!(f, "too long"),
+            NoModel::Tokens(error) => write!(f, "{error:?}"),
+            NoModel::Tree(error) => write!(f, "{error:?}"),
+        }
+    }
+}
+
+/// The tokens of a text of at most `LIMIT` bytes.
+pub fn tokens_in(alloc: Global, text: &[u8]) -> Result<Items<Token>, NoModel> {
+    if text.len() > LIMIT {
+        return Err(NoModel::TooLong);
+    }
+    lex(alloc, text).map_err(NoModel::Tokens)
+}
+
+/// The model of these tokens of a text.
+pub fn tree_of(alloc: Global, text: &[u8], tokens: &[Token]) -> Result<Model, NoModel> {
+    if text.len() > LIMIT {
+        return Err(NoModel::TooLong);
+    }
+    match parse(alloc, tokens, end_of(text)) {
+        Ok(model) => Ok(model),
+        Err(error) => Err(NoModel::Tree(error)),
+    }
+}
+
+/// The model of a text.
+pub fn model_in(alloc: Global, text: &[u8]) -> Result<Model, NoModel> {
+    match tokens_in(alloc, text) {
+        Ok(tokens) => tree_of(alloc, text, tokens.as_slice()),
+        Err(refusal) => Err(refusal),
+    }
+}

@@ -1,0 +1,6 @@
+use pz_lexer::one_answer;
+
+#[test]
+fn a_text_has_one_answer() {
+    one_answer();
+}
