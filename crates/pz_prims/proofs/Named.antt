@@ -13,10 +13,11 @@ by_test f false x later o e = e
 
 pub beside-map : {A B : Type 0} (f : A → B) (selector : List ℕ) (rows : List (List ℕ × A)) → beside selector (map (row_of f) rows) ≡ option_map f (beside selector rows)
 beside-map f selector [] = refl
-beside-map f selector (row ∷ rows) = by_test f (bytes_eq row.0 selector) row.1 _ _ (beside-map f selector rows)
+beside-map f selector (row ∷ rows) = by_test f (bytes_eq selector row.0) row.1 _ _ (beside-map f selector rows)
 
 -- with one argument
 pub answered_by_name : {X N : Type 0} (rows : Rows X) (meaning : N → Value → Answer X) (names : List (List ℕ × N)) → rows.with_one ≡ map (row_of meaning) names → (selector : List ℕ) (v : Value) (found : Option N) → found ≡ beside selector names → answered rows selector (v ∷ []) ≡ option_map (λ n. meaning n v) found
+unfolding answered
 answered_by_name rows meaning names are selector v found is =
     ap (λ r. option_map (λ answer. answer v) (beside selector r)) are
     ∙ ap (option_map (λ answer. answer v)) (beside-map meaning selector names)

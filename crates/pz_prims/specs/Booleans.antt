@@ -1,6 +1,6 @@
 -- What a Boolean answers.
 use Rattle.std.specs.Prelude.{Bool, not, ◌&&◌, ◌||◌, if◌then◌else◌, [], ◌∷◌, Ok, Err, codes}
-use Rattle.std.specs.Bool.{xor}
+use Rattle.std.specs.Bool.{beq}
 use Rattle.pz_value.specs.declared.value.Value.{Value}
 use Rattle.pz_value.specs.declared.value.Value.TheVariants.{Bool as Boolean, Str}
 use Rattle.pz_value.specs.declared.fault.FaultKind.TheVariants.{NotBoolean}
@@ -20,5 +20,5 @@ booleans a = record {
   with_one =
     (codes "&", of_boolean (λ b. Ok (Boolean (a && b)))) ∷
     (codes "|", of_boolean (λ b. Ok (Boolean (a || b)))) ∷
-    (codes "xor", of_boolean (λ b. Ok (Boolean (xor a b)))) ∷ [];
+    (codes "xor", of_boolean (λ b. Ok (Boolean (not (beq a b))))) ∷ [];
   with_two = [] }

@@ -16,10 +16,10 @@ pub record Rows (X : Type 0) : Type 0 where
 -- what stands beside the selector, in the first row that has it
 abbrev pub beside : {A : Type 0} → List ℕ → List (List ℕ × A) → Option A
 beside selector [] = None
-beside selector (row ∷ rows) = if bytes_eq row.0 selector then Some row.1 else beside selector rows
+beside selector (row ∷ rows) = if bytes_eq selector row.0 then Some row.1 else beside selector rows
 
 -- the answer to a selector with these arguments; none where no row has the selector with so many
-abbrev pub answered : {X : Type 0} → Rows X → List ℕ → List Value → Option (Answer X)
+unfoldable pub answered : {X : Type 0} → Rows X → List ℕ → List Value → Option (Answer X)
 answered rows selector [] = beside selector rows.alone
 answered rows selector (v ∷ []) = option_map (λ answer. answer v) (beside selector rows.with_one)
 answered rows selector (v ∷ w ∷ []) = option_map (λ answer. answer v w) (beside selector rows.with_two)

@@ -25,6 +25,9 @@ at_place items (pos zero) = None
 at_place items (pos (suc before)) = slice_get items before
 at_place items (negsuc n) = None
 
+abbrev pub char_at : List ℕ → ℤ → Answer Value
+char_at bytes place = option_map_or (λ byte. Ok (Char byte)) (at_place bytes place) (Err Index)
+
 unfoldable pub strings : List ℕ → Rows Value
 strings a = record {
   alone =
@@ -33,5 +36,5 @@ strings a = record {
   with_one =
     (codes "+", of_string (λ b. string (a ++ b))) ∷
     (codes "concat", of_string (λ b. string (a ++ b))) ∷
-    (codes "get", of_integer (λ place. option_map_or (λ byte. Ok (Char byte)) (at_place a place) (Err Index))) ∷ [];
+    (codes "get", of_integer (char_at a)) ∷ [];
   with_two = [] }

@@ -1,2 +1,2 @@
-pub mod Names
-pub mod IntegerNames
+pub mod Entries
+pub mod Operators

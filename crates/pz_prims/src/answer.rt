@@ -1,6 +1,3 @@
-ghost use Rattle.std.specs.Prelude.{◌≡◌, Some};
-ghost use Rattle.pz_prims.specs.Table.{told};
-
 use pz_value::{FaultKind, Value};
 
 /// What a value answers to a selector.
@@ -10,17 +7,10 @@ pub enum Prim {
     Value(Value),
     /// What is wrong.
     Fault(FaultKind),
-    /// No primitive has the selector: the class of the object may have a method for it.
+    /// The receiver is an object that is no Array, and not every value has the selector: its class
+    /// may have a method.
     Other,
 }
 
-impl Prim {
-    pub(crate) fn new(answer: Result<Value, FaultKind>) -> Prim
-        ensures { result ≡ told (Some answer) }
-    {
-        match answer {
-            Ok(value) => Prim::Value(value),
-            Err(fault) => Prim::Fault(fault),
-        }
-    }
-}
+/// What a row of the table gives.
+pub type Answer = Result<Value, FaultKind>;

@@ -5,12 +5,12 @@ use Rattle.pz_prims.proofs.spellings.find.Goals as goal
 
 pub loop-spelling-preserved : goal.loop-spelling-preserved
 loop-spelling-preserved g c =
-    let apart : bytes_eq c.loop-spelling-item.result.0.now c.args.selector.now ≡ false = rw (← c.as_bytes.ensures.value) (sym c.if-eq.ensures) in
+    let apart : bytes_eq c.args.selector.now c.loop-spelling-item.result.0.now ≡ false = rw (← c.as_bytes.ensures.value) (sym c.if-eq.ensures) in
     sym (beside_later c.args.table.now c.args.selector.now c.loop-spelling.spelling-index c.loop-spelling-item.result c.loop-spelling-test.true c.loop-spelling-item.is apart) ∙ c.loop-spelling.invariant
 
 pub returns-then-eq : goal.returns-then-eq
 returns-then-eq g c =
-    let same : bytes_eq c.loop-spelling-item.result.0.now c.args.selector.now ≡ true = rw (← c.as_bytes.ensures.value) (sym c.if-eq.ensures) in
+    let same : bytes_eq c.args.selector.now c.loop-spelling-item.result.0.now ≡ true = rw (← c.as_bytes.ensures.value) (sym c.if-eq.ensures) in
     sym (beside_at c.args.table.now c.args.selector.now c.loop-spelling.spelling-index c.loop-spelling-item.result c.loop-spelling-test.true c.loop-spelling-item.is same) ∙ c.loop-spelling.invariant
 
 pub returns : goal.returns

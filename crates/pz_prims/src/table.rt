@@ -1,0 +1,99 @@
+ghost use Rattle.std.specs.Prelude.{◌≡◌, ◌↔◌, ◌⊎◌, IfOk, OnOk, OnErr, All, length};
+ghost use Rattle.pz_value.specs.Marks.{changed};
+ghost use Rattle.pz_value.specs.References.{RefersWithin};
+ghost use Rattle.pz_value.specs.States.{HasObject};
+ghost use Rattle.pz_prims.specs.Table.{outcome, of_sort, told, understood};
+
+use crate::answer::{Answer, Prim};
+use crate::{arrays, booleans, chars, every_value, integers, strings};
+use pz_value::{ClassId, FaultKind, State, Value};
+use std::alloc::{AllocError, Global};
+
+/// The class of Arrays.
+const ARRAY: u32 = 0;
+
+/// What a row gives.
+fn told(answer: Answer) -> Prim
+    ensures { result ≡ told answer }
+{
+    match answer {
+        Ok(value) => Prim::Value(value),
+        Err(fault) => Prim::Fault(fault),
+    }
+}
+
+/// What a row gives. What no row has is not understood.
+fn understood(answer: Option<Answer>) -> Prim
+    ensures { result ≡ understood answer }
+{
+    match answer {
+        Some(answer) => told(answer),
+        None => Prim::Fault(FaultKind::NotUnderstood),
+    }
+}
+
+/// What an object answers as one of its class.
+fn object_answer(
+    state: &mut State,
+    r: u32,
+    selector: &[u8],
+    args: &[Value],
+) -> Result<Prim, AllocError>
+    requires there { HasObject state.old.held r }
+    requires within { All (RefersWithin (length state.old.held.objects)) args.now }
+    ensures answer { IfOk result (λ prim. prim ≡ (of_sort state.old.held (Value.Ref r) selector.now args.now).answer) }
+    ensures state { OnOk result (state.new ≡ changed state.old (of_sort state.old.held (Value.Ref r) selector.now args.now).state) }
+    ensures err { OnErr result (state.new ≡ state.old) }
+{
+    if state.object(r).class().0 != ARRAY {
+        return Ok(Prim::Other);
+    }
+    let answer = arrays::answer(state, r, selector, args)?;
+    Ok(understood(answer))
+}
+
+/// What a value answers by its sort.
+fn sort_answer(
+    alloc: Global,
+    state: &mut State,
+    receiver: &Value,
+    selector: &[u8],
+    args: &[Value],
+) -> Result<Prim, AllocError>
+    requires receiver { RefersWithin (length state.old.held.objects) receiver.now }
+    requires args { All (RefersWithin (length state.old.held.objects)) args.now }
+    ensures answer { IfOk result (λ prim. prim ≡ (of_sort state.old.held receiver.now selector.now args.now).answer) }
+    ensures state { OnOk result (state.new ≡ changed state.old (of_sort state.old.held receiver.now selector.now args.now).state) }
+    ensures err { OnErr result (state.new ≡ state.old) }
+{
+    let answer = match receiver {
+        Value::Nil => None,
+        Value::Bool(a) => booleans::answer(alloc, *a, selector, args)?,
+        Value::Int(a) => integers::answer(alloc, *a, selector, args)?,
+        Value::Char(a) => chars::answer(alloc, *a, selector, args)?,
+        Value::Str(a) => strings::answer(alloc, a, selector, args)?,
+        Value::Ref(r) => return object_answer(state, *r, selector, args),
+    };
+    Ok(understood(answer))
+}
+
+/// What a value answers to a selector, by the table of primitive values. The only error is want of
+/// memory, and then the state is as before.
+pub fn prim(
+    alloc: Global,
+    state: &mut State,
+    receiver: &Value,
+    selector: &[u8],
+    args: &[Value],
+) -> Result<Prim, AllocError>
+    requires receiver { RefersWithin (length state.old.held.objects) receiver.now }
+    requires args { All (RefersWithin (length state.old.held.objects)) args.now }
+    ensures answer { IfOk result (λ prim. prim ≡ (outcome state.old.held receiver.now selector.now args.now).answer) }
+    ensures state { OnOk result (state.new ≡ changed state.old (outcome state.old.held receiver.now selector.now args.now).state) }
+    ensures err { OnErr result (state.new ≡ state.old) }
+{
+    match every_value::answer(receiver, selector, args) {
+        Some(answer) => Ok(told(answer)),
+        None => sort_answer(alloc, state, receiver, selector, args),
+    }
+}
