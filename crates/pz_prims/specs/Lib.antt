@@ -6,4 +6,5 @@ pub mod Chars
 pub mod Strings
 pub mod Arrays
 pub mod Table
+pub mod Promises
 pub mod devices

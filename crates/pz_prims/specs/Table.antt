@@ -37,17 +37,23 @@ of_array s answer = record { answer = understood (option_map value_of answer); s
 abbrev pub is_array : ClassId → Bool
 is_array class = class.0 == 0
 
--- What a value answers by its sort. An object that is no Array may have a method for the selector.
-abbrev pub of_sort : StateView → Value → List ℕ → List Value → Outcome
-of_sort s Nil selector args = record { answer = Prim.Fault NotUnderstood; state = s }
-of_sort s (Boolean a) selector args = record { answer = understood (answered (booleans a) selector args); state = s }
-of_sort s (Int a) selector args = record { answer = understood (answered (integers a) selector args); state = s }
-of_sort s (Char a) selector args = record { answer = understood (answered (chars a) selector args); state = s }
-of_sort s (Str a) selector args = record { answer = understood (answered (strings a) selector args); state = s }
-of_sort s (Ref r) selector args =
-    if is_array (object s r).class then of_array s (answered (arrays s r) selector args) else record { answer = Prim.Other; state = s }
+-- what the rows of its sort give, where a value is no reference
+abbrev pub by_sort : Value → List ℕ → List Value → Option (Answer Value)
+by_sort Nil selector args = None
+by_sort (Boolean a) selector args = answered (booleans a) selector args
+by_sort (Int a) selector args = answered (integers a) selector args
+by_sort (Char a) selector args = answered (chars a) selector args
+by_sort (Str a) selector args = answered (strings a) selector args
+by_sort (Ref r) selector args = None
 
--- What a value answers in a state: first by the rows of every value, then by those of its sort.
+-- What a value answers beside what every value does. The class of an object that is no Array may
+-- have a method for the selector.
+abbrev pub of_itself : StateView → Value → List ℕ → List Value → Outcome
+of_itself s (Ref r) selector args =
+    if is_array (object s r).class then of_array s (answered (arrays s r) selector args) else record { answer = Prim.Other; state = s }
+of_itself s v selector args = record { answer = understood (by_sort v selector args); state = s }
+
+-- what a value answers in a state: by the rows of every value, or else of itself
 unfoldable pub outcome : StateView → Value → List ℕ → List Value → Outcome
 outcome s v selector args =
-    option_map_or (λ answer. record { answer = told answer; state = s }) (answered (every_value v) selector args) (of_sort s v selector args)
+    option_map_or (λ answer. record { answer = told answer; state = s }) (answered (every_value v) selector args) (of_itself s v selector args)
