@@ -8,6 +8,7 @@ mod object;
 mod state;
 mod text;
 mod value;
+mod values;
 
 pub use fault::FaultKind;
 pub use object::{ARRAY_LIMIT, Object};
