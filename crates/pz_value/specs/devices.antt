@@ -1,1 +1,2 @@
+pub mod FrameTables
 pub mod Fields

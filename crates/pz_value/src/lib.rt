@@ -3,6 +3,7 @@
 #![tactic(auto)]
 
 mod fault;
+mod frames;
 mod journal;
 mod object;
 mod state;

@@ -167,7 +167,7 @@ impl State {
     /// Opens a frame with so many locals, all nil, under the least number from 1 that no open frame
     /// has. The only error is want of memory, and then all is as before.
     pub fn open_frame(&mut self, locals: u32) -> Result<FrameId, AllocError>
-        ensures least { IfOk result (λ frame. IsLeastFree self.old.held frame.0) }
+        ensures least { IfOk result (λ frame. IsLeastFree self.old.held.frames frame.0) }
         ensures ok { IfOk result (λ frame. self.new ≡ changed self.old (opened self.old.held frame.0 locals)) }
         ensures err { OnErr result (self.new ≡ self.old) }
     {
