@@ -1,3 +1,4 @@
 pub mod Reading
 pub mod FrameTables
 pub mod ObjectLists
+pub mod Journals

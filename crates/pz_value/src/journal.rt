@@ -1,8 +1,8 @@
 //! What leads back from a state to its marks.
 
-ghost use Rattle.std.specs.Prelude.{◌≡◌, ◌≤◌, ◌<◌, ◌+◌, ◌++◌, [], ◌∷◌, length, IfOk, OnOk, OnErr, vec_len, vec_capacity};
+ghost use Rattle.std.specs.Prelude.{◌≡◌, ◌≤◌, ◌<◌, ◌+◌, ◌++◌, [], ◌∷◌, length, slice_set, IfOk, OnOk, OnErr, vec_len, vec_capacity};
 ghost use Rattle.pz_value.specs.devices.StoredStates.{KeepsRoom};
-ghost use Rattle.pz_value.specs.devices.Journals.{undone_entry, is_mark, noted, settled, IsReadyEntry, AreReady, Undoes};
+ghost use Rattle.pz_value.specs.devices.Journals.{undone_entry, is_mark, noted, while_marked, IsReadyEntry, AreReady, Undoes};
 
 use crate::Value;
 use crate::contents::Contents;
@@ -90,19 +90,27 @@ impl Journal {
         Ok(place)
     }
 
-    /// Leaves the mark at a place, one of the open ones. Where it is the only one, nothing need be
-    /// kept any more. Takes no memory.
-    pub fn keep(&mut self, place: usize)
-        requires within { place < length self.old.entries.items }
-        requires marked { 0 < self.old.marks }
-        ensures entries { self.new.entries.items ≡ settled self.new.marks place self.old.entries.items }
+    /// One mark fewer is open. Without any, nothing is kept.
+    pub fn close_mark(&mut self)
+        requires { 0 < self.old.marks }
+        ensures entries { self.new.entries.items ≡ while_marked self.new.marks self.old.entries.items }
         ensures marks { self.new.marks + 1 ≡ self.old.marks }
     {
-        self.entries[place] = Entry::Kept;
         self.marks -= 1;
         if self.marks == 0 {
             self.entries.clear();
         }
+    }
+
+    /// Leaves the mark at a place, one of the open ones. Takes no memory.
+    pub fn keep(&mut self, place: usize)
+        requires within { place < length self.old.entries.items }
+        requires marked { 0 < self.old.marks }
+        ensures entries { self.new.entries.items ≡ while_marked self.new.marks (slice_set self.old.entries.items place Entry.Kept) }
+        ensures marks { self.new.marks + 1 ≡ self.old.marks }
+    {
+        self.entries[place] = Entry::Kept;
+        self.close_mark();
     }
 }
 

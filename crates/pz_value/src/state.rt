@@ -238,7 +238,7 @@ impl State {
     {
         let _latest = point;
         undo_last(&mut self.contents, &mut self.journal.entries);
-        self.journal.marks -= 1;
+        self.journal.close_mark();
     }
 
     /// Leaves the latest open mark; the changes since it stay. Takes no memory.

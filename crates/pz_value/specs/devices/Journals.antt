@@ -1,5 +1,5 @@
 -- Where a journal leads back to. Its latest entry is its last.
-use Rattle.std.specs.Prelude.{◌≡◌, ◌++◌, ℕ, zero, suc, List, [], ◌∷◌, Bool, true, false, slice_set}
+use Rattle.std.specs.Prelude.{◌≡◌, ◌++◌, ℕ, zero, suc, List, [], ◌∷◌, Bool, true, false}
 use Rattle.pz_value.specs.declared.journal.Change.{Change}
 use Rattle.pz_value.specs.declared.journal.Entry.{Entry}
 use Rattle.pz_value.specs.declared.journal.Entry.TheVariants as entry
@@ -41,10 +41,10 @@ abbrev pub noted : ℕ → Change → List Entry → List Entry
 noted zero change es = es
 noted (suc marks) change es = es ++ entry.Change change ∷ []
 
--- where this many marks stay, the mark at a place is left
-abbrev pub settled : ℕ → ℕ → List Entry → List Entry
-settled zero place es = []
-settled (suc marks) place es = slice_set es place entry.Kept
+-- where no mark is open, nothing is kept
+abbrev pub while_marked : ℕ → List Entry → List Entry
+while_marked zero es = []
+while_marked (suc marks) es = es
 
 abbrev pub IsReadyEntry : Room → Entry → StateView → Type 0
 IsReadyEntry room (entry.Change c) s = IsReady room c s
