@@ -81,10 +81,13 @@ fewer_objects (change.Opened frame) s = omega arith
 fewer_objects (change.Closed frame locals) s = omega arith
 fewer_objects change.Made s = let k = length-take (length s.objects - 1) s.objects in omega arith
 
-fewer_before : (e : Entry) (s : StateView) → length (undone_entry e s).objects ≤ length s.objects
+pub fewer_before : (e : Entry) (s : StateView) → length (undone_entry e s).objects ≤ length s.objects
 fewer_before entry.Mark s = omega arith
 fewer_before entry.Kept s = omega arith
 fewer_before (entry.Change c) s = fewer_objects c s
+
+pub fewer_after : (e : Entry) (s s1 : StateView) → s1 ≡ undone_entry e s → length s1.objects ≤ length s.objects
+fewer_after e s s1 q = let a = fewer_before e s in let b = ap (λ (z : StateView). length z.objects) q in omega arith
 
 fewer_replayed : (es : List Entry) (s : StateView) → length (replay es s).objects ≤ length s.objects
 fewer_replayed [] s = omega arith

@@ -136,6 +136,7 @@ pub fn undo_last(contents: &mut Contents, entries: &mut Vec<Entry>)
     requires { AreReady contents.old.room entries.old.items contents.old.state }
     ensures undone { Undoes contents.old.state entries.old.items contents.new.state entries.new.items }
     ensures ready { AreReady contents.new.room entries.new.items contents.new.state }
+    ensures fewer { length contents.new.state.objects ≤ length contents.old.state.objects }
 {
     while let Some(entry) = entries.pop() {
         if undo_entry(contents, entry) {

@@ -1,6 +1,6 @@
 -- What the fields of a `State` stand for, and what they keep.
 use Rattle.std.specs.Prelude.{◌≡◌, ◌≤◌, ℕ, [], length, All}
-use Rattle.pz_value.specs.declared.TheConstants.{OBJECT_LIMIT}
+use Rattle.pz_value.specs.declared.state.TheConstants.{OBJECT_LIMIT}
 use Rattle.pz_value.specs.declared.state.State.TheInside.{Inside}
 use Rattle.pz_value.specs.References.{IsSelfContained}
 use Rattle.pz_value.specs.Marks.{Seen}
