@@ -35,15 +35,22 @@ abbrev pub locals_in : Frames → ℕ → Option (List Value)
 locals_in [] number = None
 locals_in (f ∷ fs) number = if nat_eq f.0 number then Some f.1 else locals_in fs number
 
+-- no locals where there is no such frame
+abbrev pub locals_of : Frames → ℕ → List Value
+locals_of frames number = unwrap_or (locals_in frames number) []
+
 abbrev pub locals : StateView → ℕ → List Value
-locals s number = unwrap_or (locals_in s.frames number) []
+locals s number = locals_of s.frames number
 
 abbrev pub local : StateView → ℕ → ℕ → Value
 local s number slot = value_at (locals s number) slot
 
 -- an Array without items stands for an object that is not there
+abbrev pub no_object : ObjectView
+no_object = record { class = record { 0 = 0 }; items = [] }
+
 abbrev pub object : StateView → ℕ → ObjectView
-object s r = unwrap_or (slice_get s.objects r) (record { class = record { 0 = 0 }; items = [] })
+object s r = unwrap_or (slice_get s.objects r) no_object
 
 abbrev pub item : StateView → ℕ → ℕ → Value
 item s r place = value_at (object s r).items place
@@ -66,10 +73,10 @@ abbrev pub HasItem : StateView → ℕ → ℕ → Type 0
 HasItem s r place = place < length (object s r).items
 
 -- numbers of frames begin at 1: no open frame has this one, and some open frame has each before it
-pub record IsLeastFree (s : StateView) (number : ℕ) : Type 0 where
+pub record IsLeastFree (frames : Frames) (number : ℕ) : Type 0 where
   pub positive : 0 < number
-  pub free : locals_in s.frames number ≡ None
-  pub below : (n : ℕ) → 0 < n → n < number → HasFrame s n
+  pub free : locals_in frames number ≡ None
+  pub below : (n : ℕ) → 0 < n → n < number → IsSome (locals_in frames n)
 
 -- Writing
 

@@ -2,12 +2,15 @@
 //! and the numbers of its classes and faults.
 #![tactic(auto)]
 
+mod contents;
 mod fault;
+mod frames;
 mod journal;
 mod object;
 mod state;
 mod text;
 mod value;
+mod values;
 
 pub use fault::FaultKind;
 pub use object::{ARRAY_LIMIT, Object};
