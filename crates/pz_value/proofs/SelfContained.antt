@@ -1,8 +1,8 @@
 -- References of a state name objects that are there, whatever a call changes.
-use Rattle.std.proofs.Common.{◌≡◌, ℕ, zero, suc, Bool, true, false, nat_eq, nat_lt, ◌+◌, ◌-◌, ◌≤◌, ◌<◌, List, [], ◌∷◌, ◌++◌, length, take, replicate, get_or, slice_set, slice_index_or, slice_get, Option, Some, None, unwrap_or, refl, ap, subst, sym, ◌∙◌, arith, length-append}
+use Rattle.std.proofs.Common.{◌≡◌, ℕ, zero, suc, Bool, true, false, nat_eq, nat_lt, ◌+◌, ◌-◌, ◌≤◌, ◌<◌, ◌^◌, List, [], ◌∷◌, ◌++◌, length, take, replicate, get_or, slice_set, slice_index_or, slice_get, Option, Some, None, unwrap_or, refl, ap, subst, sym, ◌∙◌, arith, length-append}
 use Rattle.std.specs.Prelude.{All}
 use Rattle.std.proofs.lemmas.List.Elements.{All-append, All-set, All-replicate}
-use Rattle.std.proofs.lemmas.List.{get_or-take, length-take}
+use Rattle.std.proofs.lemmas.List.{get_or-take, length-take, length-set, length-replicate}
 use Rattle.std.proofs.lemmas.Option.{unwrap_or-slice_get}
 use Rattle.pz_value.specs.declared.value.ClassId.{ClassId}
 use Rattle.pz_value.specs.declared.value.Value.{Value}
@@ -48,11 +48,14 @@ record Within (n : ℕ) (s : StateView) : Type 0 where
 within : (s : StateView) → IsSelfContained s → Within (length s.objects) s
 within s c = record { vars = c.vars; frames = c.frames; objects = c.objects }
 
-contained_by : (n : ℕ) (s : StateView) → n ≡ length s.objects → Within n s → IsSelfContained s
-contained_by n s e w = contained (subst (λ (k : ℕ). Within k s) e w)
+abbrev HasFew : List Value → Type 0
+HasFew values = length values < 2 ^ 32
+
+contained_by : (n : ℕ) (s : StateView) → n ≡ length s.objects → Within n s → All (λ o. HasFew o.items) s.objects → IsSelfContained s
+contained_by n s e w few = contained (subst (λ (k : ℕ). Within k s) e w)
   where
     contained : Within (length s.objects) s → IsSelfContained s
-    contained v = record { vars = v.vars; frames = v.frames; objects = v.objects }
+    contained v = record { vars = v.vars; frames = v.frames; objects = v.objects; counted = few }
 
 nils_within : (n count : ℕ) → AreWithin n (nils count)
 nils_within n count = All-replicate (RefersWithin n) count value.Nil tt
@@ -84,13 +87,17 @@ without_frame_within n number (f ∷ fs) h = by_number (without_frame_within n n
     by_number rest true e = rw e (all_tail (λ g. AreWithin n g.1) f fs h)
     by_number rest false e = rw e (all_cons (λ g. AreWithin n g.1) f (without_frame number fs) (all_head (λ g. AreWithin n g.1) f fs h) rest)
 
+at_object_all : (P : List Value → Type 0) (r : ℕ) (change : List Value → List Value) → ((values : List Value) → P values → P (change values)) → (os : List ObjectView)
+    → All (λ o. P o.items) os → All (λ o. P o.items) (at_object r change os)
+at_object_all P r change keeps [] h = h
+at_object_all P zero change keeps (o ∷ os) h = all_cons (λ x. P x.items) (record { class = o.class; items = change o.items }) os
+    (keeps o.items (all_head (λ x. P x.items) o os h)) (all_tail (λ x. P x.items) o os h)
+at_object_all P (suc r) change keeps (o ∷ os) h = all_cons (λ x. P x.items) o (at_object r change os) (all_head (λ x. P x.items) o os h)
+    (at_object_all P r change keeps os (all_tail (λ x. P x.items) o os h))
+
 at_object_within : (n r : ℕ) (change : List Value → List Value) → ((values : List Value) → AreWithin n values → AreWithin n (change values)) → (os : List ObjectView)
     → All (λ o. AreWithin n o.items) os → All (λ o. AreWithin n o.items) (at_object r change os)
-at_object_within n r change keeps [] h = h
-at_object_within n zero change keeps (o ∷ os) h = all_cons (λ x. AreWithin n x.items) (record { class = o.class; items = change o.items }) os
-    (keeps o.items (all_head (λ x. AreWithin n x.items) o os h)) (all_tail (λ x. AreWithin n x.items) o os h)
-at_object_within n (suc r) change keeps (o ∷ os) h = all_cons (λ x. AreWithin n x.items) o (at_object r change os) (all_head (λ x. AreWithin n x.items) o os h)
-    (at_object_within n r change keeps os (all_tail (λ x. AreWithin n x.items) o os h))
+at_object_within n = at_object_all (AreWithin n)
 
 take_within : (n count : ℕ) (values : List Value) → AreWithin n values → AreWithin n (take count values)
 take_within n zero values h = all_none (RefersWithin n)
@@ -100,40 +107,46 @@ take_within n (suc count) (v ∷ vs) h = all_cons (RefersWithin n) v (take count
 fitted_within : (n count : ℕ) (values : List Value) → AreWithin n values → AreWithin n (fitted count values)
 fitted_within n count values h = All-append (RefersWithin n) (take count values) (nils (count - length values)) (take_within n count values h) (nils_within n (count - length values))
 
+length-fitted : (count : ℕ) (values : List Value) → length (fitted count values) ≡ count
+length-fitted count values = omega (arith, length-append (take count values) (nils (count - length values)), length-take count values, length-replicate (count - length values) value.Nil)
+
 -- states
 
 pub contained-initial : (variables : ℕ) → IsSelfContained (initial variables)
-contained-initial variables = record { vars = nils_within 0 variables; frames = all_none _; objects = all_none _ }
+contained-initial variables = record { vars = nils_within 0 variables; frames = all_none _; objects = all_none _; counted = all_none _ }
 
 pub contained-set_variable : (s : StateView) (slot : ℕ) (x : Value) → IsSelfContained s → RefersWithin (length s.objects) x → IsSelfContained (set_variable s slot x)
-contained-set_variable s slot x c r = record { vars = All-set (RefersWithin (length s.objects)) s.vars slot x r c.vars; frames = c.frames; objects = c.objects }
+contained-set_variable s slot x c r = record { vars = All-set (RefersWithin (length s.objects)) s.vars slot x r c.vars; frames = c.frames; objects = c.objects; counted = c.counted }
 
 pub contained-set_local : (s : StateView) (number slot : ℕ) (x : Value) → IsSelfContained s → RefersWithin (length s.objects) x → IsSelfContained (set_local s number slot x)
 contained-set_local s number slot x c r = record {
   vars = c.vars;
   frames = at_frame_within (length s.objects) number (λ values. slice_set values slot x) (λ values w. All-set (RefersWithin (length s.objects)) values slot x r w) s.frames c.frames;
   objects = c.objects;
+  counted = c.counted;
 }
 
 pub contained-set_item : (s : StateView) (o place : ℕ) (x : Value) → IsSelfContained s → RefersWithin (length s.objects) x → IsSelfContained (set_item s o place x)
 contained-set_item s o place x c r = contained_by (length s.objects) (set_item s o place x) (sym (length-at_object s.objects o (λ values. slice_set values place x)))
     (record { vars = c.vars; frames = c.frames; objects = at_object_within (length s.objects) o (λ values. slice_set values place x) (λ values w. All-set (RefersWithin (length s.objects)) values place x r w) s.objects c.objects })
+    (at_object_all HasFew o (λ values. slice_set values place x) (λ values few. rw length-set few) s.objects c.counted)
 
-pub contained-resized : (s : StateView) (o count : ℕ) → IsSelfContained s → IsSelfContained (resized s o count)
-contained-resized s o count c = contained_by (length s.objects) (resized s o count) (sym (length-at_object s.objects o (fitted count)))
+pub contained-resized : (s : StateView) (o count : ℕ) → count < 2 ^ 32 → IsSelfContained s → IsSelfContained (resized s o count)
+contained-resized s o count few c = contained_by (length s.objects) (resized s o count) (sym (length-at_object s.objects o (fitted count)))
     (record { vars = c.vars; frames = c.frames; objects = at_object_within (length s.objects) o (fitted count) (fitted_within (length s.objects) count) s.objects c.objects })
+    (at_object_all HasFew o (fitted count) (λ values was. rw length-fitted few) s.objects c.counted)
 
 pub contained-opened : (s : StateView) (number count : ℕ) → IsSelfContained s → IsSelfContained (opened s number count)
-contained-opened s number count c = record { vars = c.vars; frames = with_frame_within (length s.objects) number (nils count) (nils_within (length s.objects) count) s.frames c.frames; objects = c.objects }
+contained-opened s number count c = record { vars = c.vars; frames = with_frame_within (length s.objects) number (nils count) (nils_within (length s.objects) count) s.frames c.frames; objects = c.objects; counted = c.counted }
 
 pub contained-closed : (s : StateView) (number : ℕ) → IsSelfContained s → IsSelfContained (closed s number)
-contained-closed s number c = record { vars = c.vars; frames = without_frame_within (length s.objects) number s.frames c.frames; objects = c.objects }
+contained-closed s number c = record { vars = c.vars; frames = without_frame_within (length s.objects) number s.frames c.frames; objects = c.objects; counted = c.counted }
 
 pub length-made : (s : StateView) (class : ClassId) (count : ℕ) → length (made s class count).objects ≡ length s.objects + 1
 length-made s class count = length-append s.objects (record { class = class; items = nils count } ∷ []) ∙ omega arith
 
-pub contained-made : (s : StateView) (class : ClassId) (count : ℕ) → IsSelfContained s → IsSelfContained (made s class count)
-contained-made s class count c = let n = length s.objects in let grows : length s.objects ≤ length s.objects + 1 = omega arith in
+pub contained-made : (s : StateView) (class : ClassId) (count : ℕ) → count < 2 ^ 32 → IsSelfContained s → IsSelfContained (made s class count)
+contained-made s class count few c = let n = length s.objects in let grows : length s.objects ≤ length s.objects + 1 = omega arith in
     let wider = λ (values : List Value) (w : AreWithin (length s.objects) values). all_weaker (RefersWithin (length s.objects)) (RefersWithin (length s.objects + 1)) (more grows) values w in
     contained_by (length s.objects + 1) (made s class count) (sym (length-made s class count)) (record {
       vars = wider s.vars c.vars;
@@ -142,6 +155,8 @@ contained-made s class count c = let n = length s.objects in let grows : length 
           (all_weaker (λ o. AreWithin (length s.objects) o.items) (λ o. AreWithin (length s.objects + 1) o.items) (λ o w. wider o.items w) s.objects c.objects)
           (all_cons (λ o. AreWithin (length s.objects + 1) o.items) (record { class = class; items = nils count }) [] (nils_within (length s.objects + 1) count) (all_none _));
     })
+    (All-append (λ o. HasFew o.items) s.objects (record { class = class; items = nils count } ∷ []) c.counted
+        (all_cons (λ o. HasFew o.items) (record { class = class; items = nils count }) [] (rw length-replicate few) (all_none (λ o. HasFew o.items))))
 
 -- what is read
 
@@ -171,3 +186,11 @@ object_within_of n (suc r) (o ∷ os) h = object_within_of n r os (all_tail (λ 
 
 pub object_within : (s : StateView) (r : ℕ) → IsSelfContained s → All (RefersWithin (length s.objects)) (object s r).items
 object_within s r c = object_within_of (length s.objects) r s.objects c.objects
+
+object_few_of : (r : ℕ) (os : List ObjectView) → All (λ o. HasFew o.items) os → HasFew (unwrap_or (slice_get os r) no_object).items
+object_few_of r [] h = omega arith
+object_few_of zero (o ∷ os) h = all_head (λ x. HasFew x.items) o os h
+object_few_of (suc r) (o ∷ os) h = object_few_of r os (all_tail (λ x. HasFew x.items) o os h)
+
+pub object_few : (s : StateView) (r : ℕ) → IsSelfContained s → length (object s r).items < 2 ^ 32
+object_few s r c = object_few_of r s.objects c.counted

@@ -1,4 +1,4 @@
-use Rattle.std.proofs.Common.{◌≡◌, ◌+◌, ◌<◌, ◌≤◌, ℕ, List, length, slice_set, refl, ap, sym, subst, ◌∙◌, arith}
+use Rattle.std.proofs.Common.{◌≡◌, ◌+◌, ◌<◌, ◌≤◌, ℕ, List, length, slice_set, refl, ap, sym, subst, ◌∙◌, ◌^◌, arith, rules}
 use Rattle.pz_value.specs.declared.state.State.TheInside.{Inside}
 use Rattle.pz_value.specs.States.{StateView, set_variable, set_local, set_item, resized, opened, closed, made, fitted}
 use Rattle.pz_value.specs.Marks.{Seen}
@@ -16,8 +16,8 @@ invariant_of-self-in_err-make c = (stays c.self.inside c.self.view_is c.self.inv
 
 pub invariant_of-self-2 : goal.invariant_of-self-2
 invariant_of-self-2 c = (changes_by c.self.inside c.self.view_is c.self.invariant c.make.new.self change.Made c.reserve.new.self c.note.new.self (λ (z : StateView). made z c.args.class c.args.items) c.in_ok-make.ensures.state c.in_ok-make.ensures.back c.reserve.ensures.entries c.reserve.ensures.marks c.note.ensures.entries c.note.ensures.marks
-    (contained-made c.self.inside.contents.state c.args.class c.args.items c.self.invariant.contained) (let n = length-made c.self.inside.contents.state c.args.class c.args.items in let held = ap (λ (z : Seen). length z.held.objects) c.self.view_is in let count = c.objects-count.ensures.count in let limit = c.objects-count.ensures.limit in let other = c.if-count-eq-OBJECT_LIMIT.false in omega arith)).kept
+    (contained-made c.self.inside.contents.state c.args.class c.args.items (let few : c.args.items < 2 ^ 32 = search rules in few) c.self.invariant.contained) (let n = length-made c.self.inside.contents.state c.args.class c.args.items in let held = ap (λ (z : Seen). length z.held.objects) c.self.view_is in let count = c.objects-count.ensures.count in let limit = c.objects-count.ensures.limit in let other = c.if-count-eq-OBJECT_LIMIT.false in omega arith)).kept
 
 pub returns-clause-ok : goal.returns-clause-ok
 returns-clause-ok c = (changes_by c.self.inside c.self.view_is c.self.invariant c.make.new.self change.Made c.reserve.new.self c.note.new.self (λ (z : StateView). made z c.args.class c.args.items) c.in_ok-make.ensures.state c.in_ok-make.ensures.back c.reserve.ensures.entries c.reserve.ensures.marks c.note.ensures.entries c.note.ensures.marks
-    (contained-made c.self.inside.contents.state c.args.class c.args.items c.self.invariant.contained) (let n = length-made c.self.inside.contents.state c.args.class c.args.items in let held = ap (λ (z : Seen). length z.held.objects) c.self.view_is in let count = c.objects-count.ensures.count in let limit = c.objects-count.ensures.limit in let other = c.if-count-eq-OBJECT_LIMIT.false in omega arith)).is
+    (contained-made c.self.inside.contents.state c.args.class c.args.items (let few : c.args.items < 2 ^ 32 = search rules in few) c.self.invariant.contained) (let n = length-made c.self.inside.contents.state c.args.class c.args.items in let held = ap (λ (z : Seen). length z.held.objects) c.self.view_is in let count = c.objects-count.ensures.count in let limit = c.objects-count.ensures.limit in let other = c.if-count-eq-OBJECT_LIMIT.false in omega arith)).is
