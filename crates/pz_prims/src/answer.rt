@@ -1,7 +1,7 @@
 use pz_value::{FaultKind, Value};
 
 /// What a value answers to a selector.
-#[derive(Debug, Drop)]
+#[derive(Drop)]
 pub enum Prim {
     /// This value.
     Value(Value),
