@@ -24,6 +24,6 @@ answered_by_name rows meaning names are selector v found is =
     ∙ once_mapped (beside selector names)
     ∙ ap (option_map (λ n. meaning n v)) (sym is)
   where
-  once_mapped : (o : Option _) → option_map (λ answer. answer v) (option_map meaning o) ≡ option_map (λ n. meaning n v) o
-  once_mapped None = refl
-  once_mapped (Some n) = refl
+    once_mapped : (o : Option _) → option_map (λ answer. answer v) (option_map meaning o) ≡ option_map (λ n. meaning n v) o
+    once_mapped None = refl
+    once_mapped (Some n) = refl

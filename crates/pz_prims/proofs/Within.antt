@@ -46,14 +46,14 @@ unfolding answered
 answered_gives P rows gives selector [] = beside_each P selector rows.alone gives.alone
 answered_gives P rows gives selector (v ∷ []) = applied (beside selector rows.with_one) (beside_each _ selector rows.with_one gives.with_one)
   where
-  applied : (found : Option (Value → Answer _)) → IfSome found (λ answer. (w : Value) → P (answer w)) → IfSome (option_map (λ answer. answer v) found) P
-  applied None h = tt
-  applied (Some answer) h = h v
+    applied : (found : Option (Value → Answer _)) → IfSome found (λ answer. (w : Value) → P (answer w)) → IfSome (option_map (λ answer. answer v) found) P
+    applied None h = tt
+    applied (Some answer) h = h v
 answered_gives P rows gives selector (v ∷ w ∷ []) = applied (beside selector rows.with_two) (beside_each _ selector rows.with_two gives.with_two)
   where
-  applied : (found : Option (Value → Value → Answer _)) → IfSome found (λ answer. (x y : Value) → P (answer x y)) → IfSome (option_map (λ answer. answer v w) found) P
-  applied None h = tt
-  applied (Some answer) h = h v w
+    applied : (found : Option (Value → Value → Answer _)) → IfSome found (λ answer. (x y : Value) → P (answer x y)) → IfSome (option_map (λ answer. answer v w) found) P
+    applied None h = tt
+    applied (Some answer) h = h v w
 answered_gives P rows gives selector (v ∷ w ∷ x ∷ more) = tt
 
 either : {A : Type 0} (P : A → Type 0) (test : Bool) (x y : A) → P x → P y → P (if test then x else y)
@@ -119,50 +119,79 @@ module _ (n : ℕ) where
   every_value_within v = record {
     alone = (tt, tt);
     with_one = (λ w. tt, (λ w. tt, (λ w. tt, (λ w. tt, tt))));
-    with_two = tt }
+    with_two = tt;
+  }
 
   integers_within : (a : ℤ) → Gives (GivesWithin n) (integers a)
   unfolding integers
   integers_within a = record {
     alone = (within_number (neg_ℤ a), (within_number (pos (unsigned_abs a)), (tt, tt)));
-    with_one =
-      (by_integer _ (λ b. within_number (a +ℤ b)),
-      (by_integer _ (λ b. within_number (a -ℤ b)),
-      (by_integer _ (λ b. within_number (a *ℤ b)),
-      (by_integer _ (λ b. within_divided b (number (int_div a b)) (within_number (int_div a b))),
-      (by_integer _ (λ b. within_divided b (number (int_div a b)) (within_number (int_div a b))),
-      (by_integer _ (λ b. within_divided b (Ok (value.Int (a -ℤ (int_div a b *ℤ b)))) tt),
-      (by_integer _ (λ b. tt),
-      (by_integer _ (λ b. tt),
-      (by_integer _ (λ b. tt),
-      (by_integer _ (λ b. tt),
-      (by_integer _ (λ b. tt),
-      (by_integer _ (λ b. tt), tt))))))))))));
-    with_two = tt }
+    with_one = (
+      by_integer _ (λ b. within_number (a +ℤ b)),
+      (
+        by_integer _ (λ b. within_number (a -ℤ b)),
+        (
+          by_integer _ (λ b. within_number (a *ℤ b)),
+          (
+            by_integer _ (λ b. within_divided b (number (int_div a b)) (within_number (int_div a b))),
+            (
+              by_integer _ (λ b. within_divided b (number (int_div a b)) (within_number (int_div a b))),
+              (
+                by_integer _ (λ b. within_divided b (Ok (value.Int (a -ℤ (int_div a b *ℤ b)))) tt),
+                (
+                  by_integer _ (λ b. tt),
+                  (
+                    by_integer _ (λ b. tt),
+                    (
+                      by_integer _ (λ b. tt),
+                      (
+                        by_integer _ (λ b. tt),
+                        (
+                          by_integer _ (λ b. tt),
+                          (by_integer _ (λ b. tt), tt),
+                        ),
+                      ),
+                    ),
+                  ),
+                ),
+              ),
+            ),
+          ),
+        ),
+      ),
+    );
+    with_two = tt;
+  }
 
   booleans_within : (a : Bool) → Gives (GivesWithin n) (booleans a)
   unfolding booleans
   booleans_within a = record {
     alone = (tt, (tt, (tt, tt)));
     with_one = (by_boolean _ (λ b. tt), (by_boolean _ (λ b. tt), (by_boolean _ (λ b. tt), tt)));
-    with_two = tt }
+    with_two = tt;
+  }
 
   chars_within : (a : ℕ) → Gives (GivesWithin n) (chars a)
   unfolding chars
   chars_within a = record {
     alone = (tt, (tt, tt));
     with_one = (by_char _ (λ b. tt), (by_char _ (λ b. tt), (by_char _ (λ b. tt), (by_char _ (λ b. tt), tt))));
-    with_two = tt }
+    with_two = tt;
+  }
 
   strings_within : (a : List ℕ) → Gives (GivesWithin n) (strings a)
   unfolding strings
   strings_within a = record {
     alone = (tt, (tt, tt));
-    with_one =
-      (by_string _ (λ b. within_string (a ++ b)),
-      (by_string _ (λ b. within_string (a ++ b)),
-      (by_integer _ (λ place. within_char (at_place a place)), tt)));
-    with_two = tt }
+    with_one = (
+      by_string _ (λ b. within_string (a ++ b)),
+      (
+        by_string _ (λ b. within_string (a ++ b)),
+        (by_integer _ (λ place. within_char (at_place a place)), tt),
+      ),
+    );
+    with_two = tt;
+  }
 
   by_sort_within : (v : Value) (selector : List ℕ) (args : List Value) → IfSome (by_sort v selector args) (GivesWithin n)
   by_sort_within value.Nil selector args = tt
@@ -228,10 +257,12 @@ module _ (s : StateView) (r : ℕ) (there : HasObject s r) (all : All (RefersWit
   unfolding arrays
   arrays_within = record {
     alone = ((tt, refl), tt);
-    with_one =
-      (integer_argument Fine tt _ resize_within,
-      (integer_argument Fine tt _ (λ place. item_within (at_place (object s r).items place) (all_at_place _ (object s r).items place all)), tt));
-    with_two = (λ place v. integer_argument Fine tt _ (put_within v) place, tt) }
+    with_one = (
+      integer_argument Fine tt _ resize_within,
+      (integer_argument Fine tt _ (λ place. item_within (at_place (object s r).items place) (all_at_place _ (object s r).items place all)), tt),
+    );
+    with_two = (λ place v. integer_argument Fine tt _ (put_within v) place, tt);
+  }
 
   array_within : (found : Option (Answer Changed)) → IfSome found Fine → StaysWithin s (of_array s found)
   array_within None h = (tt, refl)

@@ -47,9 +47,10 @@ item_at s r place = option_map_or (λ item. Ok (record { value = item; state = s
 unfoldable pub arrays : StateView → ℕ → Rows Changed
 arrays s r = record {
   alone =
-    (codes "size", Ok (record { value = Int (pos (length (object s r).items)); state = s })) ∷ [];
+      (codes "size", Ok (record { value = Int (pos (length (object s r).items)); state = s })) ∷ [];
   with_one =
-    (codes "resize", of_integer (resize s r)) ∷
-    (codes "get", of_integer (item_at s r)) ∷ [];
+      (codes "resize", of_integer (resize s r)) ∷
+      (codes "get", of_integer (item_at s r)) ∷ [];
   with_two =
-    (codes "put", λ place value. of_integer (put s r value) place) ∷ [] }
+      (codes "put", λ place value. of_integer (put s r value) place) ∷ [];
+}

@@ -14,11 +14,12 @@ of_boolean answer v = Err NotBoolean
 unfoldable pub booleans : Bool → Rows Value
 booleans a = record {
   alone =
-    (codes "!", Ok (Boolean (not a))) ∷
-    (codes "not", Ok (Boolean (not a))) ∷
-    (codes "asString", Ok (Str (if a then codes "true" else codes "false"))) ∷ [];
+      (codes "!", Ok (Boolean (not a))) ∷
+      (codes "not", Ok (Boolean (not a))) ∷
+      (codes "asString", Ok (Str (if a then codes "true" else codes "false"))) ∷ [];
   with_one =
-    (codes "&", of_boolean (λ b. Ok (Boolean (a && b)))) ∷
-    (codes "|", of_boolean (λ b. Ok (Boolean (a || b)))) ∷
-    (codes "xor", of_boolean (λ b. Ok (Boolean (not (beq a b))))) ∷ [];
-  with_two = [] }
+      (codes "&", of_boolean (λ b. Ok (Boolean (a && b)))) ∷
+      (codes "|", of_boolean (λ b. Ok (Boolean (a || b)))) ∷
+      (codes "xor", of_boolean (λ b. Ok (Boolean (not (beq a b))))) ∷ [];
+  with_two = [];
+}

@@ -13,11 +13,12 @@ of_char answer v = Err NotUnderstood
 unfoldable pub chars : ℕ → Rows Value
 chars a = record {
   alone =
-    (codes "asInteger", Ok (Int (pos a))) ∷
-    (codes "asString", Ok (Str (a ∷ []))) ∷ [];
+      (codes "asInteger", Ok (Int (pos a))) ∷
+      (codes "asString", Ok (Str (a ∷ []))) ∷ [];
   with_one =
-    (codes "<", of_char (λ b. Ok (Boolean (nat_lt a b)))) ∷
-    (codes "<=", of_char (λ b. Ok (Boolean (nat_le a b)))) ∷
-    (codes ">", of_char (λ b. Ok (Boolean (nat_lt b a)))) ∷
-    (codes ">=", of_char (λ b. Ok (Boolean (nat_le b a)))) ∷ [];
-  with_two = [] }
+      (codes "<", of_char (λ b. Ok (Boolean (nat_lt a b)))) ∷
+      (codes "<=", of_char (λ b. Ok (Boolean (nat_le a b)))) ∷
+      (codes ">", of_char (λ b. Ok (Boolean (nat_lt b a)))) ∷
+      (codes ">=", of_char (λ b. Ok (Boolean (nat_le b a)))) ∷ [];
+  with_two = [];
+}

@@ -24,10 +24,11 @@ is_nil v = false
 unfoldable pub every_value : Value → Rows Value
 every_value v = record {
   alone =
-    (codes "isNil", Ok (Boolean (is_nil v))) ∷ [];
+      (codes "isNil", Ok (Boolean (is_nil v))) ∷ [];
   with_one =
-    (codes "=", λ w. Ok (Boolean (same v w))) ∷
-    (codes "==", λ w. Ok (Boolean (same v w))) ∷
-    (codes "!=", λ w. Ok (Boolean (not (same v w)))) ∷
-    (codes "!==", λ w. Ok (Boolean (not (same v w)))) ∷ [];
-  with_two = [] }
+      (codes "=", λ w. Ok (Boolean (same v w))) ∷
+      (codes "==", λ w. Ok (Boolean (same v w))) ∷
+      (codes "!=", λ w. Ok (Boolean (not (same v w)))) ∷
+      (codes "!==", λ w. Ok (Boolean (not (same v w)))) ∷ [];
+  with_two = [];
+}

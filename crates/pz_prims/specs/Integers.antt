@@ -31,20 +31,21 @@ divided_by b answer = if is_zero b then Err DivideByZero else answer
 unfoldable pub integers : ℤ → Rows Value
 integers a = record {
   alone =
-    (codes "-", number (neg_ℤ a)) ∷
-    (codes "abs", number (pos (unsigned_abs a))) ∷
-    (codes "asString", Ok (Str (signed_decimal a))) ∷ [];
+      (codes "-", number (neg_ℤ a)) ∷
+      (codes "abs", number (pos (unsigned_abs a))) ∷
+      (codes "asString", Ok (Str (signed_decimal a))) ∷ [];
   with_one =
-    (codes "+", of_integer (λ b. number (a +ℤ b))) ∷
-    (codes "-", of_integer (λ b. number (a -ℤ b))) ∷
-    (codes "*", of_integer (λ b. number (a *ℤ b))) ∷
-    (codes "/", of_integer (λ b. divided_by b (number (int_div a b)))) ∷
-    (codes "div", of_integer (λ b. divided_by b (number (int_div a b)))) ∷
-    (codes "modulo", of_integer (λ b. divided_by b (Ok (Int (a -ℤ (int_div a b *ℤ b)))))) ∷
-    (codes "<", of_integer (λ b. Ok (Boolean (int_lt a b)))) ∷
-    (codes "<=", of_integer (λ b. Ok (Boolean (int_le a b)))) ∷
-    (codes ">", of_integer (λ b. Ok (Boolean (int_lt b a)))) ∷
-    (codes ">=", of_integer (λ b. Ok (Boolean (int_le b a)))) ∷
-    (codes "min", of_integer (λ b. Ok (Int (int_min a b)))) ∷
-    (codes "max", of_integer (λ b. Ok (Int (int_max a b)))) ∷ [];
-  with_two = [] }
+      (codes "+", of_integer (λ b. number (a +ℤ b))) ∷
+      (codes "-", of_integer (λ b. number (a -ℤ b))) ∷
+      (codes "*", of_integer (λ b. number (a *ℤ b))) ∷
+      (codes "/", of_integer (λ b. divided_by b (number (int_div a b)))) ∷
+      (codes "div", of_integer (λ b. divided_by b (number (int_div a b)))) ∷
+      (codes "modulo", of_integer (λ b. divided_by b (Ok (Int (a -ℤ (int_div a b *ℤ b)))))) ∷
+      (codes "<", of_integer (λ b. Ok (Boolean (int_lt a b)))) ∷
+      (codes "<=", of_integer (λ b. Ok (Boolean (int_le a b)))) ∷
+      (codes ">", of_integer (λ b. Ok (Boolean (int_lt b a)))) ∷
+      (codes ">=", of_integer (λ b. Ok (Boolean (int_le b a)))) ∷
+      (codes "min", of_integer (λ b. Ok (Int (int_min a b)))) ∷
+      (codes "max", of_integer (λ b. Ok (Int (int_max a b)))) ∷ [];
+  with_two = [];
+}

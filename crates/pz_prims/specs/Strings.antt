@@ -31,10 +31,11 @@ char_at bytes place = option_map_or (λ byte. Ok (Char byte)) (at_place bytes pl
 unfoldable pub strings : List ℕ → Rows Value
 strings a = record {
   alone =
-    (codes "size", Ok (Int (pos (length a)))) ∷
-    (codes "asString", Ok (Str a)) ∷ [];
+      (codes "size", Ok (Int (pos (length a)))) ∷
+      (codes "asString", Ok (Str a)) ∷ [];
   with_one =
-    (codes "+", of_string (λ b. string (a ++ b))) ∷
-    (codes "concat", of_string (λ b. string (a ++ b))) ∷
-    (codes "get", of_integer (char_at a)) ∷ [];
-  with_two = [] }
+      (codes "+", of_string (λ b. string (a ++ b))) ∷
+      (codes "concat", of_string (λ b. string (a ++ b))) ∷
+      (codes "get", of_integer (char_at a)) ∷ [];
+  with_two = [];
+}

@@ -78,7 +78,12 @@ fn put(state: &mut State, r: u32, place: &Value, value: &Value) -> Result<Answer
     Ok(Ok(Value::Ref(r)))
 }
 
-fn apply(request: Request, state: &mut State, r: u32, argument: &Value) -> Result<Answer, AllocError>
+fn apply(
+    request: Request,
+    state: &mut State,
+    r: u32,
+    argument: &Value,
+) -> Result<Answer, AllocError>
     requires { HasObject state.old.held r }
     ensures answer { IfOk result (λ answer. answer ≡ value_of (request_row state.old.held r request argument.now)) }
     ensures state { OnOk result (state.new ≡ changed state.old (state_after state.old.held (Some (request_row state.old.held r request argument.now)))) }
@@ -105,7 +110,12 @@ fn alone(state: &State, r: u32, selector: &[u8]) -> Option<Answer>
 
 /// What an Array answers to a selector with one argument.
 #[tactic(auto, using(crate::proofs::Operators::by_request))]
-fn with_one(state: &mut State, r: u32, selector: &[u8], argument: &Value) -> Result<Option<Answer>, AllocError>
+fn with_one(
+    state: &mut State,
+    r: u32,
+    selector: &[u8],
+    argument: &Value,
+) -> Result<Option<Answer>, AllocError>
     requires { HasObject state.old.held r }
     ensures answer { IfOk result (λ answer. answer ≡ option_map value_of (answered (arrays state.old.held r) selector.now (argument.now ∷ []))) }
     ensures state { OnOk result (state.new ≡ changed state.old (state_after state.old.held (answered (arrays state.old.held r) selector.now (argument.now ∷ [])))) }
@@ -119,7 +129,13 @@ fn with_one(state: &mut State, r: u32, selector: &[u8], argument: &Value) -> Res
 
 /// What an Array answers to a selector with two arguments.
 #[tactic(auto, unfolding(crate::specs::Rows::answered, crate::specs::Arrays::arrays))]
-fn with_two(state: &mut State, r: u32, selector: &[u8], place: &Value, value: &Value) -> Result<Option<Answer>, AllocError>
+fn with_two(
+    state: &mut State,
+    r: u32,
+    selector: &[u8],
+    place: &Value,
+    value: &Value,
+) -> Result<Option<Answer>, AllocError>
     requires there { HasObject state.old.held r }
     requires within { RefersWithin (length state.old.held.objects) value.now }
     ensures answer { IfOk result (λ answer. answer ≡ option_map value_of (answered (arrays state.old.held r) selector.now (place.now ∷ value.now ∷ []))) }
@@ -135,7 +151,12 @@ fn with_two(state: &mut State, r: u32, selector: &[u8], place: &Value, value: &V
 /// What an Array answers to a selector. The only error is want of memory, and then the state is as
 /// before.
 #[tactic(auto, unfolding(crate::specs::Rows::answered, crate::specs::Arrays::arrays))]
-pub fn answer(state: &mut State, r: u32, selector: &[u8], args: &[Value]) -> Result<Option<Answer>, AllocError>
+pub fn answer(
+    state: &mut State,
+    r: u32,
+    selector: &[u8],
+    args: &[Value],
+) -> Result<Option<Answer>, AllocError>
     requires there { HasObject state.old.held r }
     requires within { All (RefersWithin (length state.old.held.objects)) args.now }
     ensures answer { IfOk result (λ answer. answer ≡ option_map value_of (answered (arrays state.old.held r) selector.now args.now)) }

@@ -81,7 +81,12 @@ fn with_one(a: bool, selector: &[u8], argument: &Value) -> Option<Answer>
 
 /// What a Boolean answers to a selector. The only error is want of memory.
 #[tactic(auto, unfolding(crate::specs::Rows::answered, crate::specs::Booleans::booleans))]
-pub fn answer(alloc: Global, a: bool, selector: &[u8], args: &[Value]) -> Result<Option<Answer>, AllocError>
+pub fn answer(
+    alloc: Global,
+    a: bool,
+    selector: &[u8],
+    args: &[Value],
+) -> Result<Option<Answer>, AllocError>
     ensures { IfOk result (λ answer. answer ≡ answered (booleans a) selector.now args.now) }
 {
     match args {

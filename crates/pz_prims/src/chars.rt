@@ -77,7 +77,12 @@ fn with_one(a: u8, selector: &[u8], argument: &Value) -> Option<Answer>
 
 /// What a Char answers to a selector. The only error is want of memory.
 #[tactic(auto, unfolding(crate::specs::Rows::answered, crate::specs::Chars::chars))]
-pub fn answer(alloc: Global, a: u8, selector: &[u8], args: &[Value]) -> Result<Option<Answer>, AllocError>
+pub fn answer(
+    alloc: Global,
+    a: u8,
+    selector: &[u8],
+    args: &[Value],
+) -> Result<Option<Answer>, AllocError>
     ensures { IfOk result (λ answer. answer ≡ answered (chars a) selector.now args.now) }
 {
     match args {

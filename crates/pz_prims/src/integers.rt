@@ -60,10 +60,10 @@ fn number(n: Option<i64>) -> Answer
 fn quotient(a: i64, b: i64) -> Answer
     ensures { result ≡ computed Operator.Quotient a b }
 {
-    if b == 0 {
-        return Err(FaultKind::DivideByZero);
+    match b {
+        0 => Err(FaultKind::DivideByZero),
+        _ => number(a.checked_div(b)),
     }
-    number(a.checked_div(b))
 }
 
 /// The remainder has the sign of the dividend. By -1 it is 0, also of the least Integer.
@@ -142,7 +142,12 @@ fn with_one(a: i64, selector: &[u8], argument: &Value) -> Option<Answer>
 
 /// What an Integer answers to a selector. The only error is want of memory.
 #[tactic(auto, unfolding(crate::specs::Rows::answered, crate::specs::Integers::integers))]
-pub fn answer(alloc: Global, a: i64, selector: &[u8], args: &[Value]) -> Result<Option<Answer>, AllocError>
+pub fn answer(
+    alloc: Global,
+    a: i64,
+    selector: &[u8],
+    args: &[Value],
+) -> Result<Option<Answer>, AllocError>
     ensures { IfOk result (λ answer. answer ≡ answered (integers a) selector.now args.now) }
 {
     match args {

@@ -13,4 +13,5 @@ mod strings;
 mod table;
 
 pub use answer::Prim;
+pub use strings::STRING_LIMIT;
 pub use table::prim;

@@ -66,7 +66,12 @@ fn get(a: &[u8], place: &Value) -> Answer
     }
 }
 
-fn apply(alloc: Global, operation: Operation, a: &Text, argument: &Value) -> Result<Answer, AllocError>
+fn apply(
+    alloc: Global,
+    operation: Operation,
+    a: &Text,
+    argument: &Value,
+) -> Result<Answer, AllocError>
     ensures { IfOk result (λ answer. answer ≡ operation_row a.now operation argument.now) }
 {
     match operation {
@@ -92,7 +97,12 @@ fn alone(a: &Text, selector: &[u8]) -> Result<Option<Answer>, AllocError>
 
 /// What a String answers to a selector with one argument.
 #[tactic(auto, using(crate::proofs::Operators::by_operation))]
-fn with_one(alloc: Global, a: &Text, selector: &[u8], argument: &Value) -> Result<Option<Answer>, AllocError>
+fn with_one(
+    alloc: Global,
+    a: &Text,
+    selector: &[u8],
+    argument: &Value,
+) -> Result<Option<Answer>, AllocError>
     ensures { IfOk result (λ answer. answer ≡ answered (strings a.now) selector.now (argument.now ∷ [])) }
 {
     match operation_for(selector) {
@@ -103,7 +113,12 @@ fn with_one(alloc: Global, a: &Text, selector: &[u8], argument: &Value) -> Resul
 
 /// What a String answers to a selector. The only error is want of memory.
 #[tactic(auto, unfolding(crate::specs::Rows::answered, crate::specs::Strings::strings))]
-pub fn answer(alloc: Global, a: &Text, selector: &[u8], args: &[Value]) -> Result<Option<Answer>, AllocError>
+pub fn answer(
+    alloc: Global,
+    a: &Text,
+    selector: &[u8],
+    args: &[Value],
+) -> Result<Option<Answer>, AllocError>
     ensures { IfOk result (λ answer. answer ≡ answered (strings a.now) selector.now args.now) }
 {
     match args {

@@ -8,7 +8,7 @@ ghost use Rattle.pz_prims.specs.devices.Staying.{StaysWithin};
 
 use crate::answer::{Answer, Prim};
 use crate::{arrays, booleans, chars, every_value, integers, strings};
-use pz_value::{ClassId, FaultKind, State, Value};
+use pz_value::{FaultKind, State, Value};
 use std::alloc::{AllocError, Global};
 
 /// The class of Arrays.
