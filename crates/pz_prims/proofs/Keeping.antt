@@ -1,5 +1,5 @@
 -- A state changes only where a value is answered, and when an answer is Other.
-use Rattle.std.proofs.Common.{◌≡◌, ℕ, List, Bool, true, false, Option, None, Some, Ok, Err, Result, refl, ap, sym, ◌∙◌}
+use Rattle.std.proofs.Common.{◌≡◌, ℕ, List, Bool, true, false, Option, None, Some, Ok, Err, Result, refl, ap, ◌∙◌}
 use Rattle.std.specs.Prelude.{◌↔◌, if◌then◌else◌, IfOk, OnOk}
 use Rattle.pz_value.specs.declared.value.Value.{Value}
 use Rattle.pz_value.specs.declared.value.Value.TheVariants as value

@@ -1,5 +1,5 @@
 -- Quotients and remainders.
-use Rattle.std.proofs.Common.{◌≡◌, ℕ, ℤ, pos, negsuc, ◌-ℤ◌, ◌*ℤ◌, refl, arith, w64}
+use Rattle.std.proofs.Common.{◌≡◌, ℤ, pos, negsuc, ◌-ℤ◌, ◌*ℤ◌, refl, arith, w64}
 use Rattle.std.specs.Prelude.{int_rem, int_div}
 use Rattle.std.specs.Int.{cast_unsigned}
 use Rattle.std.proofs.lemmas.Int.{ints, quot-rem}

@@ -1,6 +1,6 @@
 -- Values that are answered refer to objects that are there.
-use Rattle.std.proofs.Common.{◌≡◌, ◌<◌, ◌++◌, ℕ, zero, suc, ℤ, pos, negsuc, List, [], ◌∷◌, length, Bool, true, false, Option, None, Some, Ok, Err, Result, refl, ap, sym, ◌∙◌, arith}
-use Rattle.std.specs.Prelude.{◌↔◌, if◌then◌else◌, IfOk, IfSome, OnOk, OnErr, All, slice_get, bytes_eq, nat_le, option_map, neg_ℤ, ◌+ℤ◌, ◌-ℤ◌, ◌*ℤ◌, unsigned_abs, int_div, get_or}
+use Rattle.std.proofs.Common.{◌≡◌, ◌++◌, ℕ, zero, suc, ℤ, pos, negsuc, List, [], ◌∷◌, length, Bool, true, false, Option, None, Some, Ok, Err, Result, refl, ap, ◌∙◌, arith}
+use Rattle.std.specs.Prelude.{if◌then◌else◌, IfOk, IfSome, OnOk, OnErr, All, slice_get, bytes_eq, nat_le, option_map, neg_ℤ, ◌+ℤ◌, ◌-ℤ◌, ◌*ℤ◌, unsigned_abs, int_div}
 use Rattle.std.specs.Option.{option_map_or}
 use Rattle.pz_value.specs.declared.value.Value.{Value}
 use Rattle.pz_value.specs.declared.value.Value.TheVariants as value
@@ -15,12 +15,12 @@ use Rattle.pz_prims.specs.EveryValue.{every_value}
 use Rattle.pz_prims.specs.Integers.{integers, fits, number, of_integer, is_zero, divided_by}
 use Rattle.pz_prims.specs.Booleans.{booleans, of_boolean}
 use Rattle.pz_prims.specs.Chars.{chars, of_char}
-use Rattle.pz_prims.specs.Strings.{strings, of_string, string, string_limit, at_place, char_at}
-use Rattle.pz_prims.specs.Arrays.{Changed, arrays, array_limit, resize, put, item_at, value_of, state_after}
+use Rattle.pz_prims.specs.Strings.{strings, of_string, string, string_limit, at_place}
+use Rattle.pz_prims.specs.Arrays.{Changed, arrays, array_limit, resize, put}
 use Rattle.pz_prims.specs.Table.{Outcome, outcome, of_itself, of_array, by_sort, told, understood, is_array}
 use Rattle.pz_prims.specs.Promises.{AnswersWithin}
 use Rattle.pz_prims.specs.devices.Staying.{StaysWithin}
-use Rattle.pz_prims.proofs.Outcomes.{by_found, outcome-by_found, IsPlain, of_itself-plain}
+use Rattle.pz_prims.proofs.Outcomes.{outcome-by_found, IsPlain, of_itself-plain}
 
 -- what holds of each row
 

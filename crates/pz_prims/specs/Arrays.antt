@@ -1,5 +1,5 @@
 -- What an Array answers, and the state that it leaves.
-use Rattle.std.specs.Prelude.{ℕ, zero, suc, nat_le, ℤ, pos, negsuc, List, [], ◌∷◌, length, Option, Some, None, Ok, Err, if◌then◌else◌, codes}
+use Rattle.std.specs.Prelude.{ℕ, zero, suc, nat_le, ℤ, pos, negsuc, [], ◌∷◌, length, Option, Some, None, Ok, Err, if◌then◌else◌, codes}
 use Rattle.std.specs.Option.{option_map_or}
 use Rattle.pz_value.specs.declared.value.Value.{Value}
 use Rattle.pz_value.specs.declared.value.Value.TheVariants.{Int, Ref}

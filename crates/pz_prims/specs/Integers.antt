@@ -1,5 +1,5 @@
 -- What an Integer answers. An Integer has 64 bits, one of them for its sign.
-use Rattle.std.specs.Prelude.{ℕ, ◌==◌, ◌^◌, nat_lt, ℤ, pos, negsuc, neg_ℤ, ◌+ℤ◌, ◌-ℤ◌, ◌*ℤ◌, unsigned_abs, int_lt, int_le, int_div, Bool, false, if◌then◌else◌, [], ◌∷◌, Ok, Err, codes}
+use Rattle.std.specs.Prelude.{◌==◌, ◌^◌, nat_lt, ℤ, pos, negsuc, neg_ℤ, ◌+ℤ◌, ◌-ℤ◌, ◌*ℤ◌, unsigned_abs, int_lt, int_le, int_div, Bool, false, if◌then◌else◌, [], ◌∷◌, Ok, Err, codes}
 use Rattle.std.specs.Int.{int_min, int_max}
 use Rattle.std.specs.Fmt.{signed_decimal}
 use Rattle.pz_value.specs.declared.value.Value.{Value}

@@ -1,5 +1,5 @@
-use Rattle.std.proofs.Common.{◌≡◌, ◌∙◌, ap, sym, ℤ, ◌-ℤ◌, ◌*ℤ◌, Ok, w64, FitsSigned, to_z, of_z, rules, arith}
-use Rattle.std.specs.Prelude.{int_rem, int_div}
+use Rattle.std.proofs.Common.{◌≡◌, ◌∙◌, ap, sym, Ok, w64, FitsSigned, rules, arith}
+use Rattle.std.specs.Prelude.{int_rem}
 use Rattle.std.proofs.lemmas.Int.{to_z-of_z}
 use Rattle.pz_value.specs.declared.value.Value.TheVariants.{Int}
 use Rattle.pz_prims.proofs.Numbers.{modulo_is, divided_by_other}

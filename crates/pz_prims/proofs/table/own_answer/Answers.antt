@@ -1,6 +1,5 @@
-use Rattle.std.proofs.Common.{◌≡◌, refl, arith}
-use Rattle.pz_value.specs.Marks.{changed}
-use Rattle.pz_prims.proofs.Outcomes.{IsPlain, of_itself-plain, on_ok}
+use Rattle.std.proofs.Common.{refl}
+use Rattle.pz_prims.proofs.Outcomes.{of_itself-plain, on_ok}
 use Rattle.pz_prims.proofs.Within.{plain_within, object_within}
 use Rattle.pz_prims.proofs.table.own_answer.Goals as goal
 
