@@ -2,12 +2,12 @@
 //! promised here: the output is the test.
 #![tactic(auto)]
 
-use pz_ast::{Model, Pos};
 use pz_check::{CheckError, check};
 use pz_classes::{BuildError, Classes, Violation};
 use pz_io::{OsFiles, read_all};
 use pz_lexer::lex;
 use pz_parser::parse;
+use pz_syntax::{Model, Pos};
 use std::alloc::Global;
 use std::{env, io};
 

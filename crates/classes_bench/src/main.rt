@@ -1,10 +1,10 @@
 //! Builds the classes of long chains of classes, for `bench/classes.sh` to time.
 #![tactic(auto)]
 
-use pz_ast::Pos;
 use pz_classes::Classes;
 use pz_lexer::lex;
 use pz_parser::parse;
+use pz_syntax::Pos;
 use std::alloc::{AllocError, Global};
 use std::io;
 

@@ -4,14 +4,14 @@
 #![tactic(auto)]
 
 ghost use Rattle.std.specs.Prelude.{IfSome};
-ghost use Rattle.pz_ast.specs.ClassView.{model_view};
+ghost use Rattle.pz_syntax.specs.ClassView.{model_view};
 ghost use Rattle.pz_classes.specs.Tables.{AreClasses, HasClass, HasMethod};
 
-use pz_ast::{Model, Name, Pos};
 use pz_classes::{Classes, MethodId};
 use pz_io::{OsFiles, read_all};
 use pz_lexer::lex;
 use pz_parser::parse;
+use pz_syntax::{Model, Name, Pos};
 use pz_value::ClassId;
 use std::alloc::{AllocError, Global};
 use std::{env, io};

@@ -2,9 +2,9 @@
 //! flat statements, one of expressions, and two of declarations.
 #![tactic(auto)]
 
-use pz_ast::Pos;
 use pz_lexer::lex;
 use pz_parser::parse;
+use pz_syntax::Pos;
 use std::alloc::{AllocError, Global};
 use std::io;
 

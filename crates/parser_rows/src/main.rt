@@ -2,10 +2,11 @@
 //! of another file why it is no model. Nothing is promised here: the output is the test.
 #![tactic(auto)]
 
-use pz_ast::{Model, Pos, Token, tokens_of};
+use pz_ast::tokens_of;
 use pz_io::{OsFiles, read_all};
 use pz_lexer::lex;
 use pz_parser::parse;
+use pz_syntax::{Model, Pos, Token};
 use std::alloc::{AllocError, Global};
 use std::{env, io};
 

@@ -1,16 +1,16 @@
 -- Texts of classes, clusters and models, written by hand from the grammar, and the nesting of two models.
 use Rattle.std.proofs.Common.{◌≡◌, refl, true, false, List, [], ◌∷◌, pos, Some, None}
-use Rattle.pz_ast.specs.declared.tokens.Symbol.TheVariants as s
-use Rattle.pz_ast.specs.declared.tokens.Keyword.TheVariants as k
-use Rattle.pz_ast.specs.declared.exprs.Literal.TheVariants as lit
-use Rattle.pz_ast.specs.declared.classes.VarGroup.{VarGroup}
-use Rattle.pz_ast.specs.declared.clusters.Arg.TheVariants.{Plain, Negated, Parameter}
-use Rattle.pz_ast.specs.declared.clusters.ChannelEnd.TheVariants.{Inner, Outer}
-use Rattle.pz_ast.specs.Marks.{symbol, keyword, word, head, selector_head}
-use Rattle.pz_ast.specs.ExpressionErasure.{origin}
-use Rattle.pz_ast.specs.Statements.{skip, no_statements, then}
-use Rattle.pz_ast.specs.ClassText.{data_method_text, data_class_text, process_class_text, process_method_text}
-use Rattle.pz_ast.specs.ModelText.{cluster_class_text, system_text}
+use Rattle.pz_syntax.specs.declared.tokens.Symbol.TheVariants as s
+use Rattle.pz_syntax.specs.declared.tokens.Keyword.TheVariants as k
+use Rattle.pz_syntax.specs.declared.exprs.Literal.TheVariants as lit
+use Rattle.pz_syntax.specs.declared.classes.VarGroup.{VarGroup}
+use Rattle.pz_syntax.specs.declared.clusters.Arg.TheVariants.{Plain, Negated, Parameter}
+use Rattle.pz_syntax.specs.declared.clusters.ChannelEnd.TheVariants.{Inner, Outer}
+use Rattle.pz_syntax.specs.Marks.{symbol, keyword, word, head, selector_head}
+use Rattle.pz_syntax.specs.ExpressionErasure.{origin}
+use Rattle.pz_syntax.specs.Statements.{skip, no_statements, then}
+use Rattle.pz_syntax.specs.ClassText.{data_method_text, data_class_text, process_class_text, process_method_text}
+use Rattle.pz_syntax.specs.ModelText.{cluster_class_text, system_text}
 use Rattle.pz_ast.proofs.RowWords.{a, b, m, p, x, y, T, P, init, number, var, one, two}
 
 abbrev variables : List VarGroup

@@ -1,11 +1,11 @@
 -- The text of an expression has at least as many marks as constructs stand one in another.
 use Rattle.std.proofs.Common.{◌≤◌, length, length-append, arith}
-use Rattle.pz_ast.specs.declared.tokens.Symbol.{Symbol}
-use Rattle.pz_ast.specs.declared.tokens.Symbol.TheVariants as s
-use Rattle.pz_ast.specs.declared.names.Id.{Id}
-use Rattle.pz_ast.specs.Expressions.{Expression, literal, variable, me, clock, creation, group, chain, sends, unary, assign, returned, choice, loop, Expressions, none, more, Part, left_out, written, Links, no_links, link, Sendings, no_sendings, sending}
-use Rattle.pz_ast.specs.ExpressionText.{text, texts, tail_texts, otherwise_text, links_text, sendings_text, arguments_text}
-use Rattle.pz_ast.specs.ExpressionNesting.{nesting, nestings, otherwise_nesting, links_nesting, sendings_nesting, bracketed_nesting}
+use Rattle.pz_syntax.specs.declared.tokens.Symbol.{Symbol}
+use Rattle.pz_syntax.specs.declared.tokens.Symbol.TheVariants as s
+use Rattle.pz_syntax.specs.declared.names.Id.{Id}
+use Rattle.pz_syntax.specs.Expressions.{Expression, literal, variable, me, clock, creation, group, chain, sends, unary, assign, returned, choice, loop, Expressions, none, more, Part, left_out, written, Links, no_links, link, Sendings, no_sendings, sending}
+use Rattle.pz_syntax.specs.ExpressionText.{text, texts, tail_texts, otherwise_text, links_text, sendings_text, arguments_text}
+use Rattle.pz_syntax.specs.ExpressionNesting.{nesting, nestings, otherwise_nesting, links_nesting, sendings_nesting, bracketed_nesting}
 
 mutual
   pub expression_bound : (t : Expression Id Id) → nesting t ≤ length (text t)

@@ -1,17 +1,17 @@
 -- The text of an expression of the grammar has its heads.
 use Rattle.std.proofs.Common.{◌≡◌, ℕ, ◌≤◌, Bool, true, false, [], ◌∷◌, refl, arith, bytes_eq, codes, cond}
-use Rattle.pz_ast.specs.declared.tokens.Symbol.{Symbol}
-use Rattle.pz_ast.specs.declared.tokens.Symbol.TheVariants as s
-use Rattle.pz_ast.specs.declared.tokens.Keyword.TheVariants as k
-use Rattle.pz_ast.specs.declared.tokens.TokenKind.TheVariants as kind
-use Rattle.pz_ast.specs.declared.names.Id.{Id}
-use Rattle.pz_ast.specs.declared.exprs.Literal.{Literal}
-use Rattle.pz_ast.specs.declared.exprs.Literal.TheVariants as lit
-use Rattle.pz_ast.specs.Marks.{mark, symbol, keyword, word, selector, selector_kind}
-use Rattle.pz_ast.specs.Heads.{name, other, role}
-use Rattle.pz_ast.specs.Expressions.{Expression, literal, variable, me, clock, creation, group, chain, sends, unary, assign, returned, choice, loop, Expressions, none, more, Part, left_out, written, Links, no_links, link, Sendings, no_sendings, sending}
-use Rattle.pz_ast.specs.ExpressionText.{literal_kind, text, texts, tail_texts, otherwise_text, links_text, sendings_text, arguments_text}
-use Rattle.pz_ast.specs.ExpressionForm.{operator_level, IsSign, IsExpression, AreExpressions, IsBody, IsOtherwise, AreLinks, AreSendings, AreArguments}
+use Rattle.pz_syntax.specs.declared.tokens.Symbol.{Symbol}
+use Rattle.pz_syntax.specs.declared.tokens.Symbol.TheVariants as s
+use Rattle.pz_syntax.specs.declared.tokens.Keyword.TheVariants as k
+use Rattle.pz_syntax.specs.declared.tokens.TokenKind.TheVariants as kind
+use Rattle.pz_syntax.specs.declared.names.Id.{Id}
+use Rattle.pz_syntax.specs.declared.exprs.Literal.{Literal}
+use Rattle.pz_syntax.specs.declared.exprs.Literal.TheVariants as lit
+use Rattle.pz_syntax.specs.Marks.{mark, symbol, keyword, word, selector, selector_kind}
+use Rattle.pz_syntax.specs.Heads.{name, other, role}
+use Rattle.pz_syntax.specs.Expressions.{Expression, literal, variable, me, clock, creation, group, chain, sends, unary, assign, returned, choice, loop, Expressions, none, more, Part, left_out, written, Links, no_links, link, Sendings, no_sendings, sending}
+use Rattle.pz_syntax.specs.ExpressionText.{literal_kind, text, texts, tail_texts, otherwise_text, links_text, sendings_text, arguments_text}
+use Rattle.pz_syntax.specs.ExpressionForm.{operator_level, IsSign, IsExpression, AreExpressions, IsBody, IsOtherwise, AreLinks, AreSendings, AreArguments}
 use Rattle.pz_ast.proofs.Marked.{Marked, Quiet, Starts, no_marks, no_start, starts_quiet, plain, named, start, joined, joined_quiet, joined_start, bracketed, closed_marked, bracketed_quiet}
 
 operator_role : (op : Symbol) → 1 ≤ operator_level op → role (kind.Sym op) ≡ other

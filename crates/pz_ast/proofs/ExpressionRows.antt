@@ -1,13 +1,13 @@
 -- Texts of expressions, written by hand from the grammar.
 use Rattle.std.proofs.Common.{◌≡◌, refl, [], ◌∷◌, pos, codes}
-use Rattle.pz_ast.specs.declared.tokens.Symbol.TheVariants as s
-use Rattle.pz_ast.specs.declared.tokens.Keyword.TheVariants as k
-use Rattle.pz_ast.specs.declared.tokens.TokenKind.TheVariants as kind
-use Rattle.pz_ast.specs.declared.exprs.Literal.TheVariants as lit
-use Rattle.pz_ast.specs.Marks.{mark, symbol, keyword, word}
-use Rattle.pz_ast.specs.ExpressionErasure.{origin}
-use Rattle.pz_ast.specs.Expressions.{literal, me, clock, creation, group, chain, sends, unary, assign, returned, choice, loop, none, left_out, written, no_links, link, no_sendings, sending}
-use Rattle.pz_ast.specs.ExpressionText.{text}
+use Rattle.pz_syntax.specs.declared.tokens.Symbol.TheVariants as s
+use Rattle.pz_syntax.specs.declared.tokens.Keyword.TheVariants as k
+use Rattle.pz_syntax.specs.declared.tokens.TokenKind.TheVariants as kind
+use Rattle.pz_syntax.specs.declared.exprs.Literal.TheVariants as lit
+use Rattle.pz_syntax.specs.Marks.{mark, symbol, keyword, word}
+use Rattle.pz_syntax.specs.ExpressionErasure.{origin}
+use Rattle.pz_syntax.specs.Expressions.{literal, me, clock, creation, group, chain, sends, unary, assign, returned, choice, loop, none, left_out, written, no_links, link, no_sendings, sending}
+use Rattle.pz_syntax.specs.ExpressionText.{text}
 use Rattle.pz_ast.proofs.RowWords.{a, b, m, x, y, P, init, number, var, int, one, two}
 
 -- 3

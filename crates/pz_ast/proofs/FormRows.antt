@@ -1,11 +1,11 @@
 -- Trees that the grammar has, and trees that it has not.
 use Rattle.std.proofs.Common.{refl, pos, Some, None, arith, lit≤, lit<}
-use Rattle.pz_ast.specs.declared.tokens.Symbol.TheVariants as s
-use Rattle.pz_ast.specs.Expressions.{group, chain, sends, unary, assign, none, left_out, no_links, link, no_sendings, sending}
-use Rattle.pz_ast.specs.ExpressionErasure.{origin}
-use Rattle.pz_ast.specs.ExpressionForm.{IsExpression, IsValue}
-use Rattle.pz_ast.specs.Statements.{value, parallel, receive, no_branches, branch, no_statements}
-use Rattle.pz_ast.specs.StatementForm.{IsStatement}
+use Rattle.pz_syntax.specs.declared.tokens.Symbol.TheVariants as s
+use Rattle.pz_syntax.specs.Expressions.{group, chain, sends, unary, assign, none, left_out, no_links, link, no_sendings, sending}
+use Rattle.pz_syntax.specs.ExpressionErasure.{origin}
+use Rattle.pz_syntax.specs.ExpressionForm.{IsExpression, IsValue}
+use Rattle.pz_syntax.specs.Statements.{value, parallel, receive, no_branches, branch, no_statements}
+use Rattle.pz_syntax.specs.StatementForm.{IsStatement}
 use Rattle.pz_ast.proofs.RowWords.{m, p, x, y, var, int, one}
 
 -- x - y + 1

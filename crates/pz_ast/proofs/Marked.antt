@@ -1,13 +1,13 @@
 -- Pieces of text that have their heads, whatever follows.
 use Rattle.std.proofs.Common.{◌≡◌, ℕ, suc, Bool, true, false, List, [], ◌∷◌, ◌++◌, map, Option, Some, None, refl, ap, ◌∙◌, append-nil}
-use Rattle.pz_ast.specs.declared.tokens.Symbol.{Symbol}
-use Rattle.pz_ast.specs.declared.tokens.Symbol.TheVariants as s
-use Rattle.pz_ast.specs.declared.tokens.Keyword.{Keyword}
-use Rattle.pz_ast.specs.declared.tokens.TokenKind.TheVariants as kind
-use Rattle.pz_ast.specs.declared.tokens.Mark.{Mark}
-use Rattle.pz_ast.specs.Marks.{symbol, keyword, in_parentheses, tail_separated, separated, each_text, optional, section}
-use Rattle.pz_ast.specs.ModelForm.{Each, IfWritten}
-use Rattle.pz_ast.specs.Heads.{Role, name, colon, opening, closing, other, role, behind_match, goes_on, makes_head, role_heads, heads}
+use Rattle.pz_syntax.specs.declared.tokens.Symbol.{Symbol}
+use Rattle.pz_syntax.specs.declared.tokens.Symbol.TheVariants as s
+use Rattle.pz_syntax.specs.declared.tokens.Keyword.{Keyword}
+use Rattle.pz_syntax.specs.declared.tokens.TokenKind.TheVariants as kind
+use Rattle.pz_syntax.specs.declared.tokens.Mark.{Mark}
+use Rattle.pz_syntax.specs.Marks.{symbol, keyword, in_parentheses, tail_separated, separated, each_text, optional, section}
+use Rattle.pz_syntax.specs.ModelForm.{Each, IfWritten}
+use Rattle.pz_syntax.specs.Heads.{Role, name, colon, opening, closing, other, role, behind_match, goes_on, makes_head, role_heads, heads}
 
 abbrev pub roles : List Mark → List Role
 roles = map (λ x. role x.kind)

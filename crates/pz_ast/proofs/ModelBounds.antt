@@ -1,14 +1,14 @@
 -- The text of a model has at least as many marks as constructs stand one in another.
 use Rattle.std.proofs.Common.{ℕ, ◌≤◌, List, [], ◌∷◌, length, length-append, Option, Some, None, arith}
-use Rattle.pz_ast.specs.declared.tokens.Symbol.TheVariants as s
-use Rattle.pz_ast.specs.declared.tokens.Keyword.{Keyword}
-use Rattle.pz_ast.specs.declared.tokens.Keyword.TheVariants as k
-use Rattle.pz_ast.specs.declared.tokens.Mark.{Mark}
-use Rattle.pz_ast.specs.Marks.{each_text, section}
-use Rattle.pz_ast.specs.Classes.{DataMethodTree, DataClassTree, StartTree, ProcessMethodTree, ProcessClassTree, DeclTree, data_class, process_class, cluster_class, system, ModelTree}
-use Rattle.pz_ast.specs.ClassText.{data_method_text, data_class_text, start_text, process_method_text, process_class_text}
-use Rattle.pz_ast.specs.ModelText.{decl_text, text}
-use Rattle.pz_ast.specs.ModelNesting.{greatest, optional_nesting, data_method_nesting, data_class_nesting, start_nesting, process_method_nesting, process_class_nesting, decl_nesting, nesting}
+use Rattle.pz_syntax.specs.declared.tokens.Symbol.TheVariants as s
+use Rattle.pz_syntax.specs.declared.tokens.Keyword.{Keyword}
+use Rattle.pz_syntax.specs.declared.tokens.Keyword.TheVariants as k
+use Rattle.pz_syntax.specs.declared.tokens.Mark.{Mark}
+use Rattle.pz_syntax.specs.Marks.{each_text, section}
+use Rattle.pz_syntax.specs.Classes.{DataMethodTree, DataClassTree, StartTree, ProcessMethodTree, ProcessClassTree, DeclTree, data_class, process_class, cluster_class, system, ModelTree}
+use Rattle.pz_syntax.specs.ClassText.{data_method_text, data_class_text, start_text, process_method_text, process_class_text}
+use Rattle.pz_syntax.specs.ModelText.{decl_text, text}
+use Rattle.pz_syntax.specs.ModelNesting.{greatest, optional_nesting, data_method_nesting, data_class_nesting, start_nesting, process_method_nesting, process_class_nesting, decl_nesting, nesting}
 use Rattle.pz_ast.proofs.ExpressionBounds.{expressions_bound}
 use Rattle.pz_ast.proofs.StatementBounds.{statements_bound}
 

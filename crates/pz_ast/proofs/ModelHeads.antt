@@ -1,29 +1,29 @@
 -- The text of a model of the grammar has its heads.
 use Rattle.std.proofs.Common.{◌≡◌, Bool, true, false, List, [], ◌∷◌, ◌++◌, Option, Some, None, refl}
 use Rattle.std.specs.Prelude.{⊤}
-use Rattle.pz_ast.specs.declared.tokens.Symbol.TheVariants as s
-use Rattle.pz_ast.specs.declared.tokens.Keyword.TheVariants as k
-use Rattle.pz_ast.specs.declared.tokens.TokenKind.TheVariants as kind
-use Rattle.pz_ast.specs.declared.tokens.Mark.{Mark}
-use Rattle.pz_ast.specs.declared.names.Id.{Id}
-use Rattle.pz_ast.specs.declared.classes.VarGroup.{VarGroup}
-use Rattle.pz_ast.specs.declared.classes.Message.{Message}
-use Rattle.pz_ast.specs.declared.clusters.Arg.{Arg}
-use Rattle.pz_ast.specs.declared.clusters.Arg.TheVariants.{Plain, Negated, Parameter}
-use Rattle.pz_ast.specs.declared.clusters.Given.{Given}
-use Rattle.pz_ast.specs.declared.clusters.Instance.{Instance}
-use Rattle.pz_ast.specs.declared.clusters.ChannelEnd.{ChannelEnd}
-use Rattle.pz_ast.specs.declared.clusters.ChannelEnd.TheVariants.{Inner, Outer}
-use Rattle.pz_ast.specs.declared.clusters.Channel.{Channel}
-use Rattle.pz_ast.specs.declared.clusters.ClusterClass.{ClusterClass}
-use Rattle.pz_ast.specs.declared.clusters.SystemDecl.{SystemDecl}
-use Rattle.pz_ast.specs.Marks.{mark, symbol, keyword, word, head, selector_head, each_text, optional, section, word_text, names_text}
-use Rattle.pz_ast.specs.Heads.{name, other, role}
-use Rattle.pz_ast.specs.ExpressionText.{literal_kind}
-use Rattle.pz_ast.specs.Classes.{DataMethodTree, DataClassTree, StartTree, ProcessMethodTree, ProcessClassTree, DeclTree, data_class, process_class, cluster_class, system}
-use Rattle.pz_ast.specs.ClassText.{group_names_from, group_text, variables_text, formal_text, locals_text, data_method_text, data_class_text, direction, types_text, message_text, messages_text, start_text, process_method_text, process_class_text}
-use Rattle.pz_ast.specs.ModelText.{arg_text, given_text, givens_text, instance_text, end_text, channel_text, cluster_class_text, system_text, decl_text, text}
-use Rattle.pz_ast.specs.ModelForm.{Each, IfWritten, IsDataMethod, IsDataClass, IsStart, IsProcessMethod, IsProcessClass, IsDecl}
+use Rattle.pz_syntax.specs.declared.tokens.Symbol.TheVariants as s
+use Rattle.pz_syntax.specs.declared.tokens.Keyword.TheVariants as k
+use Rattle.pz_syntax.specs.declared.tokens.TokenKind.TheVariants as kind
+use Rattle.pz_syntax.specs.declared.tokens.Mark.{Mark}
+use Rattle.pz_syntax.specs.declared.names.Id.{Id}
+use Rattle.pz_syntax.specs.declared.classes.VarGroup.{VarGroup}
+use Rattle.pz_syntax.specs.declared.classes.Message.{Message}
+use Rattle.pz_syntax.specs.declared.clusters.Arg.{Arg}
+use Rattle.pz_syntax.specs.declared.clusters.Arg.TheVariants.{Plain, Negated, Parameter}
+use Rattle.pz_syntax.specs.declared.clusters.Given.{Given}
+use Rattle.pz_syntax.specs.declared.clusters.Instance.{Instance}
+use Rattle.pz_syntax.specs.declared.clusters.ChannelEnd.{ChannelEnd}
+use Rattle.pz_syntax.specs.declared.clusters.ChannelEnd.TheVariants.{Inner, Outer}
+use Rattle.pz_syntax.specs.declared.clusters.Channel.{Channel}
+use Rattle.pz_syntax.specs.declared.clusters.ClusterClass.{ClusterClass}
+use Rattle.pz_syntax.specs.declared.clusters.SystemDecl.{SystemDecl}
+use Rattle.pz_syntax.specs.Marks.{mark, symbol, keyword, word, head, selector_head, each_text, optional, section, word_text, names_text}
+use Rattle.pz_syntax.specs.Heads.{name, other, role}
+use Rattle.pz_syntax.specs.ExpressionText.{literal_kind}
+use Rattle.pz_syntax.specs.Classes.{DataMethodTree, DataClassTree, StartTree, ProcessMethodTree, ProcessClassTree, DeclTree, data_class, process_class, cluster_class, system}
+use Rattle.pz_syntax.specs.ClassText.{group_names_from, group_text, variables_text, formal_text, locals_text, data_method_text, data_class_text, direction, types_text, message_text, messages_text, start_text, process_method_text, process_class_text}
+use Rattle.pz_syntax.specs.ModelText.{arg_text, given_text, givens_text, instance_text, end_text, channel_text, cluster_class_text, system_text, decl_text, text}
+use Rattle.pz_syntax.specs.ModelForm.{Each, IfWritten, IsDataMethod, IsDataClass, IsStart, IsProcessMethod, IsProcessClass, IsDecl}
 use Rattle.pz_ast.specs.HeadsLaw.{TextHasItsHeads}
 use Rattle.pz_ast.proofs.Marked.{Marked, Quiet, Starts, no_marks, no_start, starts_quiet, plain, named, headed, start, joined, closed_joined, joined_quiet, joined_start, closed_marked, barred, bracketed, bracketed_quiet, bracketed_makes, bracketed_then, group_makes, colon_then, colon_makes, separated_marked, each_marked, section_marked, section_start, whole}
 use Rattle.pz_ast.proofs.ExpressionHeads.{bare_word, selector_role, literal_role, list_marked, body_marked, body_quiet}

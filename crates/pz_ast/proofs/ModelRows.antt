@@ -1,17 +1,17 @@
 -- The text, the heads and the nesting of two models.
 use Rattle.std.proofs.Common.{◌≡◌, refl, List, [], ◌∷◌, map, Option, pos, Some, None, codes}
-use Rattle.pz_ast.specs.declared.tokens.Symbol.TheVariants as s
-use Rattle.pz_ast.specs.declared.tokens.Keyword.TheVariants as k
-use Rattle.pz_ast.specs.declared.names.Id.{Id}
-use Rattle.pz_ast.specs.declared.classes.VarGroup.{VarGroup}
-use Rattle.pz_ast.specs.Marks.{symbol, keyword, word, head}
-use Rattle.pz_ast.specs.Expressions.{none, chain, link, no_links}
-use Rattle.pz_ast.specs.ExpressionErasure.{origin}
-use Rattle.pz_ast.specs.Statements.{Statements, Statement, skip, delay, assignment, parallel, guarded, no_statements, then, no_branches, branch}
-use Rattle.pz_ast.specs.Classes.{process_class, system, ModelTree}
-use Rattle.pz_ast.specs.ModelText.{text}
-use Rattle.pz_ast.specs.ModelNesting.{nesting}
-use Rattle.pz_ast.specs.Heads.{heads}
+use Rattle.pz_syntax.specs.declared.tokens.Symbol.TheVariants as s
+use Rattle.pz_syntax.specs.declared.tokens.Keyword.TheVariants as k
+use Rattle.pz_syntax.specs.declared.names.Id.{Id}
+use Rattle.pz_syntax.specs.declared.classes.VarGroup.{VarGroup}
+use Rattle.pz_syntax.specs.Marks.{symbol, keyword, word, head}
+use Rattle.pz_syntax.specs.Expressions.{none, chain, link, no_links}
+use Rattle.pz_syntax.specs.ExpressionErasure.{origin}
+use Rattle.pz_syntax.specs.Statements.{Statements, Statement, skip, delay, assignment, parallel, guarded, no_statements, then, no_branches, branch}
+use Rattle.pz_syntax.specs.Classes.{process_class, system, ModelTree}
+use Rattle.pz_syntax.specs.ModelText.{text}
+use Rattle.pz_syntax.specs.ModelNesting.{nesting}
+use Rattle.pz_syntax.specs.Heads.{heads}
 use Rattle.pz_ast.proofs.RowWords.{id, a, p, P, number, var, int}
 
 -- process class P with these variables, init a()(), methods a()() with this body; system instances p : P

@@ -1,6 +1,6 @@
 -- Nestings of parts that are seen as other things.
 use Rattle.std.proofs.Common.{◌≡◌, ℕ, max, List, [], ◌∷◌, map, Option, Some, None, option_map, refl, ap}
-use Rattle.pz_ast.specs.ModelNesting.{greatest, optional_nesting}
+use Rattle.pz_syntax.specs.ModelNesting.{greatest, optional_nesting}
 
 pub greatest_map : {A B : Type 0} (nesting_of : B → ℕ) (view : A → B) (xs : List A) → greatest nesting_of (map view xs) ≡ greatest (λ x. nesting_of (view x)) xs
 greatest_map nesting_of view [] = refl

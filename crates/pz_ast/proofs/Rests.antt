@@ -1,15 +1,15 @@
 -- What is still to be written after so many parts of a list with separators.
 use Rattle.std.proofs.Common.{ℕ, zero, suc, List}
-use Rattle.pz_ast.specs.declared.tokens.Symbol.{Symbol}
-use Rattle.pz_ast.specs.declared.tokens.Mark.{Mark}
-use Rattle.pz_ast.specs.declared.names.Id.{Id}
-use Rattle.pz_ast.specs.Marks.{separated, tail_separated}
-use Rattle.pz_ast.specs.Expressions.{Expressions}
-use Rattle.pz_ast.specs.ExpressionText.{texts, tail_texts}
-use Rattle.pz_ast.specs.declared.tokens.Keyword.{Keyword}
-use Rattle.pz_ast.specs.Statements.{Statements, Branches}
-use Rattle.pz_ast.specs.StatementText.{branches_text, tail_branches}
-use Rattle.pz_ast.specs.StatementText as statement
+use Rattle.pz_syntax.specs.declared.tokens.Symbol.{Symbol}
+use Rattle.pz_syntax.specs.declared.tokens.Mark.{Mark}
+use Rattle.pz_syntax.specs.declared.names.Id.{Id}
+use Rattle.pz_syntax.specs.Marks.{separated, tail_separated}
+use Rattle.pz_syntax.specs.Expressions.{Expressions}
+use Rattle.pz_syntax.specs.ExpressionText.{texts, tail_texts}
+use Rattle.pz_syntax.specs.declared.tokens.Keyword.{Keyword}
+use Rattle.pz_syntax.specs.Statements.{Statements, Branches}
+use Rattle.pz_syntax.specs.StatementText.{branches_text, tail_branches}
+use Rattle.pz_syntax.specs.StatementText as statement
 
 abbrev pub rest_separated : {A : Type 0} → ℕ → (A → List Mark) → Symbol → List A → List Mark
 rest_separated zero text_of separator xs = separated text_of separator xs

@@ -1,12 +1,12 @@
 -- Short words for the rows: names, marks and trees at one place.
 use Rattle.std.proofs.Common.{ℕ, List, ℤ, codes}
-use Rattle.pz_ast.specs.declared.tokens.TokenKind.TheVariants as kind
-use Rattle.pz_ast.specs.declared.tokens.Mark.{Mark}
-use Rattle.pz_ast.specs.declared.names.Id.{Id}
-use Rattle.pz_ast.specs.declared.exprs.Literal.TheVariants as lit
-use Rattle.pz_ast.specs.Marks.{mark}
-use Rattle.pz_ast.specs.ExpressionErasure.{origin}
-use Rattle.pz_ast.specs.Expressions.{Expression, literal, variable, Expressions, none, more}
+use Rattle.pz_syntax.specs.declared.tokens.TokenKind.TheVariants as kind
+use Rattle.pz_syntax.specs.declared.tokens.Mark.{Mark}
+use Rattle.pz_syntax.specs.declared.names.Id.{Id}
+use Rattle.pz_syntax.specs.declared.exprs.Literal.TheVariants as lit
+use Rattle.pz_syntax.specs.Marks.{mark}
+use Rattle.pz_syntax.specs.ExpressionErasure.{origin}
+use Rattle.pz_syntax.specs.Expressions.{Expression, literal, variable, Expressions, none, more}
 
 abbrev pub id : List ℕ → Id
 id name = record { name = name; pos = origin }

@@ -1,14 +1,14 @@
 -- The text of a statement has at least as many marks as constructs stand one in another.
 use Rattle.std.proofs.Common.{◌≤◌, List, length, length-append, Option, Some, None, arith}
-use Rattle.pz_ast.specs.declared.tokens.Symbol.TheVariants as s
-use Rattle.pz_ast.specs.declared.tokens.Keyword.{Keyword}
-use Rattle.pz_ast.specs.declared.tokens.Keyword.TheVariants as k
-use Rattle.pz_ast.specs.declared.names.Id.{Id}
-use Rattle.pz_ast.specs.Expressions.{Expression, Part, left_out, written}
-use Rattle.pz_ast.specs.ExpressionNesting.{bracketed_nesting}
-use Rattle.pz_ast.specs.Statements.{Statement, skip, delay, bracketed, block, guarded, parallel, select, conditional, repeated, abort, interrupt, send, receive, call, assignment, value, Statements, no_statements, then, StatementPart, not_written, otherwise, Branches, no_branches, branch}
-use Rattle.pz_ast.specs.StatementText.{after_text, condition_text, reception_text, text, texts, tail_texts, otherwise_text, branches_text, tail_branches}
-use Rattle.pz_ast.specs.StatementNesting.{condition_nesting, reception_nesting, nesting, nestings, otherwise_nesting, branches_nesting}
+use Rattle.pz_syntax.specs.declared.tokens.Symbol.TheVariants as s
+use Rattle.pz_syntax.specs.declared.tokens.Keyword.{Keyword}
+use Rattle.pz_syntax.specs.declared.tokens.Keyword.TheVariants as k
+use Rattle.pz_syntax.specs.declared.names.Id.{Id}
+use Rattle.pz_syntax.specs.Expressions.{Expression, Part, left_out, written}
+use Rattle.pz_syntax.specs.ExpressionNesting.{bracketed_nesting}
+use Rattle.pz_syntax.specs.Statements.{Statement, skip, delay, bracketed, block, guarded, parallel, select, conditional, repeated, abort, interrupt, send, receive, call, assignment, value, Statements, no_statements, then, StatementPart, not_written, otherwise, Branches, no_branches, branch}
+use Rattle.pz_syntax.specs.StatementText.{after_text, condition_text, reception_text, text, texts, tail_texts, otherwise_text, branches_text, tail_branches}
+use Rattle.pz_syntax.specs.StatementNesting.{condition_nesting, reception_nesting, nesting, nestings, otherwise_nesting, branches_nesting}
 use Rattle.pz_ast.proofs.ExpressionBounds.{expression_bound, expressions_bound, arguments_bound}
 
 after_bound : (after : Part Id Id) → bracketed_nesting after ≤ length (after_text after)

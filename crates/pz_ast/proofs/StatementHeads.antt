@@ -1,18 +1,18 @@
 -- The text of a statement of the grammar has its heads.
 use Rattle.std.proofs.Common.{◌≡◌, List, [], ◌∷◌, ◌++◌, Option, Some, None, refl}
-use Rattle.pz_ast.specs.declared.tokens.Symbol.TheVariants as s
-use Rattle.pz_ast.specs.declared.tokens.Keyword.{Keyword}
-use Rattle.pz_ast.specs.declared.tokens.Keyword.TheVariants as k
-use Rattle.pz_ast.specs.declared.tokens.TokenKind.TheVariants as kind
-use Rattle.pz_ast.specs.declared.tokens.Mark.{Mark}
-use Rattle.pz_ast.specs.declared.names.Id.{Id}
-use Rattle.pz_ast.specs.Marks.{symbol, keyword, word, head, word_text, names_text}
-use Rattle.pz_ast.specs.Heads.{other, role}
-use Rattle.pz_ast.specs.Expressions.{Expression, Expressions, Part, left_out, written}
-use Rattle.pz_ast.specs.ExpressionForm.{AreExpressions}
-use Rattle.pz_ast.specs.Statements.{Statement, skip, delay, bracketed, block, guarded, parallel, select, conditional, repeated, abort, interrupt, send, receive, call, assignment, value, Statements, no_statements, then, StatementPart, not_written, otherwise, Branches, no_branches, branch}
-use Rattle.pz_ast.specs.StatementText.{block_text, after_text, condition_text, reception_text, text, texts, tail_texts, otherwise_text, branches_text, tail_branches}
-use Rattle.pz_ast.specs.StatementForm.{IsAfter, IsReception, IsStatement, AreStatements, FollowStatements, IsOtherwise, AreBranches, FollowBranches}
+use Rattle.pz_syntax.specs.declared.tokens.Symbol.TheVariants as s
+use Rattle.pz_syntax.specs.declared.tokens.Keyword.{Keyword}
+use Rattle.pz_syntax.specs.declared.tokens.Keyword.TheVariants as k
+use Rattle.pz_syntax.specs.declared.tokens.TokenKind.TheVariants as kind
+use Rattle.pz_syntax.specs.declared.tokens.Mark.{Mark}
+use Rattle.pz_syntax.specs.declared.names.Id.{Id}
+use Rattle.pz_syntax.specs.Marks.{symbol, keyword, word, head, word_text, names_text}
+use Rattle.pz_syntax.specs.Heads.{other, role}
+use Rattle.pz_syntax.specs.Expressions.{Expression, Expressions, Part, left_out, written}
+use Rattle.pz_syntax.specs.ExpressionForm.{AreExpressions}
+use Rattle.pz_syntax.specs.Statements.{Statement, skip, delay, bracketed, block, guarded, parallel, select, conditional, repeated, abort, interrupt, send, receive, call, assignment, value, Statements, no_statements, then, StatementPart, not_written, otherwise, Branches, no_branches, branch}
+use Rattle.pz_syntax.specs.StatementText.{block_text, after_text, condition_text, reception_text, text, texts, tail_texts, otherwise_text, branches_text, tail_branches}
+use Rattle.pz_syntax.specs.StatementForm.{IsAfter, IsReception, IsStatement, AreStatements, FollowStatements, IsOtherwise, AreBranches, FollowBranches}
 use Rattle.pz_ast.proofs.Marked as pieces
 use Rattle.pz_ast.proofs.Marked.{Marked, Quiet, Starts, no_marks, no_start, starts_quiet, plain, named, headed, start, joined, joined_quiet, joined_start, closed_marked, bracketed_quiet, bracketed_makes, bracketed_then, separated_marked}
 use Rattle.pz_ast.proofs.ExpressionHeads.{bare_word, list_marked, arguments_marked, arguments_quiet}

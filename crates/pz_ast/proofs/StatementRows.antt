@@ -1,13 +1,13 @@
 -- Texts of statements, written by hand from the grammar.
 use Rattle.std.proofs.Common.{◌≡◌, refl, [], ◌∷◌, pos, Some, None}
-use Rattle.pz_ast.specs.declared.tokens.Symbol.TheVariants as s
-use Rattle.pz_ast.specs.declared.tokens.Keyword.TheVariants as k
-use Rattle.pz_ast.specs.declared.names.Id.{Id}
-use Rattle.pz_ast.specs.Marks.{symbol, keyword, word, head}
-use Rattle.pz_ast.specs.ExpressionErasure.{origin}
-use Rattle.pz_ast.specs.Expressions.{none, left_out, written}
-use Rattle.pz_ast.specs.Statements.{Statement, skip, delay, bracketed, block, guarded, parallel, select, conditional, repeated, abort, interrupt, send, receive, call, assignment, value, Statements, no_statements, then, not_written, otherwise, no_branches, branch}
-use Rattle.pz_ast.specs.StatementText.{text}
+use Rattle.pz_syntax.specs.declared.tokens.Symbol.TheVariants as s
+use Rattle.pz_syntax.specs.declared.tokens.Keyword.TheVariants as k
+use Rattle.pz_syntax.specs.declared.names.Id.{Id}
+use Rattle.pz_syntax.specs.Marks.{symbol, keyword, word, head}
+use Rattle.pz_syntax.specs.ExpressionErasure.{origin}
+use Rattle.pz_syntax.specs.Expressions.{none, left_out, written}
+use Rattle.pz_syntax.specs.Statements.{Statement, skip, delay, bracketed, block, guarded, parallel, select, conditional, repeated, abort, interrupt, send, receive, call, assignment, value, Statements, no_statements, then, not_written, otherwise, no_branches, branch}
+use Rattle.pz_syntax.specs.StatementText.{text}
 use Rattle.pz_ast.proofs.RowWords.{a, m, p, x, y, number, var, int, one, two}
 
 abbrev skips : Statement Id Id Id

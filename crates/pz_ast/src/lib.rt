@@ -1,29 +1,18 @@
-//! The syntax of POOSL: tokens and their marks, and the trees of models.
+//! What is computed from the trees of models: their text, their nesting, copies. The types and the
+//! definitions are those of `pz_syntax`, which are handed on.
 #![tactic(auto)]
 
-mod classes;
-mod clusters;
 mod copying;
 mod depth;
-mod exprs;
 mod laws;
-mod names;
 mod printing;
-mod stmts;
-mod tokens;
 
-pub use classes::{DataClass, DataMethod, Message, ProcessClass, ProcessMethod, Start, VarGroup};
-pub use clusters::{
-    Arg, Channel, ChannelEnd, ClusterClass, Decl, Given, Instance, Model, SystemDecl,
-};
-pub use copying::copy_statements;
+pub use copying::{copy_expression, copy_statement, copy_statements};
 pub use depth::nesting;
-pub use exprs::{Expr, ExprForm, Link, Literal, Sending};
 pub use laws::text_has_its_heads;
-pub use names::{Id, Name, Text};
 pub use printing::tokens_of;
-pub use stmts::{Stmt, StmtForm};
-pub use tokens::{Keyword, Mark, Pos, Symbol, Token, TokenKind};
-
-#[cfg(test)]
-mod tests;
+pub use pz_syntax::{
+    Arg, Channel, ChannelEnd, ClusterClass, DataClass, DataMethod, Decl, Expr, ExprForm, Given, Id,
+    Instance, Keyword, Link, Literal, Mark, Message, Model, Name, Pos, ProcessClass, ProcessMethod,
+    Sending, Start, Stmt, StmtForm, Symbol, SystemDecl, Text, Token, TokenKind, VarGroup,
+};

@@ -1,8 +1,8 @@
 -- What single searches find, joined.
 use Rattle.std.proofs.Common.{◌≡◌, true, Option, Some, None, ◌⊎◌, inl, inr}
 use Rattle.std.specs.Option.{is_some}
-use Rattle.pz_ast.specs.declared.tokens.Pos.{Pos}
-use Rattle.pz_ast.specs.Classes.{ModelTree}
+use Rattle.pz_syntax.specs.declared.tokens.Pos.{Pos}
+use Rattle.pz_syntax.specs.Classes.{ModelTree}
 use Rattle.pz_violation.specs.declared.violation.Violation.{Violation}
 use Rattle.pz_violation.specs.Order.{violation}
 use Rattle.pz_violation.specs.Least.{LeastOf, sooner}

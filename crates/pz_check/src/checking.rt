@@ -1,7 +1,7 @@
 // All rules together.
 
 ghost use Rattle.std.specs.Prelude.{◌≡◌, IfOk, IfErr};
-ghost use Rattle.pz_ast.specs.ClassView.{model_view};
+ghost use Rattle.pz_syntax.specs.ClassView.{model_view};
 ghost use Rattle.pz_violation.specs.declared.violation.Violation.{Violation as Found};
 ghost use Rattle.pz_violation.specs.Order.{IsLeast};
 ghost use Rattle.pz_violation.specs.Least.{LeastOf};
@@ -13,10 +13,10 @@ ghost use Rattle.pz_check.specs.Together.{OnRefused};
 
 use crate::CheckError;
 use crate::size::least_of_size;
-use pz_ast::Model;
 use pz_classes::{Checked, Classes};
 use pz_instances::{least_ill_given, least_missing_end};
 use pz_repeats::{least_double_end, least_repeat};
+use pz_syntax::Model;
 use pz_usage::least_misuse;
 use pz_violation::{Violation, sooner};
 use std::alloc::{AllocError, Global};

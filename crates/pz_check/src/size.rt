@@ -1,16 +1,17 @@
 // The rules on the system and on what stands in it: C15, C20 and, where they hold, C19.
 
 ghost use Rattle.std.specs.Prelude.{IfOk};
-ghost use Rattle.pz_ast.specs.ClassView.{model_view};
+ghost use Rattle.pz_syntax.specs.ClassView.{model_view};
 ghost use Rattle.pz_violation.specs.Least.{LeastOf};
 ghost use Rattle.pz_classes.specs.InstanceRules.{BreaksC15};
 ghost use Rattle.pz_classes.specs.SizeRules.{BreaksC19, BreaksC20};
 ghost use Rattle.pz_classes.specs.Tables.{AreClasses};
 ghost use Rattle.pz_check.specs.Together.{BreaksSize};
 
-use pz_ast::Model;
 use pz_classes::Classes;
-use pz_expansion::{least_holding, least_system, oversized};
+use pz_expansion::{least_holding, oversized};
+use pz_repeats::least_system;
+use pz_syntax::Model;
 use pz_usage::has_unsized_words;
 use pz_violation::{Violation, sooner};
 use std::alloc::{AllocError, Global};
@@ -51,7 +52,7 @@ pub(crate) fn least_of_size(
     ensures { IfOk result (LeastOf (BreaksSize (model_view model.now))) }
 {
     let holding = least_holding(alloc, model, classes)?;
-    let system = least_system(model);
+    let system = least_system(alloc, model)?;
     let oversize = least_oversize(alloc, model, classes, holding, system)?;
     Ok(sooner(sooner(holding, system), oversize))
 }

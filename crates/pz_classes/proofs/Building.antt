@@ -1,7 +1,7 @@
 -- What the table of a model's classes is built from, as the code sees it.
 use Rattle.std.proofs.Common.{◌≡◌, sym, ap, ◌∙◌, subst, ℕ, ◌+◌, ◌↔◌, Bool, true, List, Option, Some, length, slice_get, arith}
-use Rattle.pz_ast.specs.declared.clusters.Model.{Model}
-use Rattle.pz_ast.specs.ClassView.{model_view}
+use Rattle.pz_syntax.specs.declared.clusters.Model.{Model}
+use Rattle.pz_syntax.specs.ClassView.{model_view}
 use Rattle.pz_violation.specs.declared.violation.Violation.{Violation}
 use Rattle.pz_lineage.specs.declared.visit.Visit.{Visit}
 use Rattle.pz_lineage.specs.Parents.{parent_in, AreWithin}
@@ -9,7 +9,7 @@ use Rattle.pz_lineage.specs.Reached.{GoesRound}
 use Rattle.pz_lineage.specs.Preorder.{IsPreorder}
 use Rattle.pz_classes.specs.Ancestors.{parent}
 use Rattle.pz_classes.specs.Violations.{Violates}
-use Rattle.pz_classes.specs.Rounds.{AreRound}
+use Rattle.pz_classes.specs.devices.Rounds.{AreRound}
 use Rattle.pz_classes.specs.Preorder.{IsPreorderOf}
 use Rattle.pz_classes.proofs.Belongs.{parent_within}
 use Rattle.pz_classes.proofs.Filling.{counted_with}

@@ -1,12 +1,12 @@
 -- Classes, their rows and their bodies, counted one class further.
 use Rattle.std.proofs.Common.{◌≡◌, refl, sym, ap, ◌∙◌, ℕ, suc, ◌+◌, ◌<◌, List, [], ◌∷◌, ◌++◌, append_assoc, map, length, take, drop, drop-cons, Some, slice_get, get_or, zero, ◌≤◌, arith}
 use Rattle.std.proofs.lemmas.List.{length-map, map-append, take_more, take_all}
-use Rattle.pz_ast.specs.declared.clusters.Decl.{Decl}
-use Rattle.pz_ast.specs.Classes.{DeclTree, ModelTree}
-use Rattle.pz_ast.specs.ClassView.{decl_view}
+use Rattle.pz_syntax.specs.declared.clusters.Decl.{Decl}
+use Rattle.pz_syntax.specs.Classes.{DeclTree, ModelTree}
+use Rattle.pz_syntax.specs.ClassView.{decl_view}
 use Rattle.pz_classes.specs.declared.entry.Entry.{Entry}
 use Rattle.pz_classes.specs.Ancestors.{ancestors}
-use Rattle.pz_classes.specs.Inherited.{HasMembers}
+use Rattle.pz_classes.specs.devices.Inherited.{HasMembers}
 use Rattle.pz_classes.specs.Bodies.{BodyTree, own_bodies, bodies_from}
 use Rattle.pz_classes.specs.Tables.{Row, row, rows, row_view}
 use Rattle.pz_classes.proofs.Belongs.{entries_length}

@@ -1,15 +1,15 @@
 -- What is kept of a class is its row.
 use Rattle.std.proofs.Common.{◌≡◌, ℕ, Option}
 use Rattle.std.specs.Option.{option_map}
-use Rattle.pz_ast.specs.Classes.{ModelTree}
+use Rattle.pz_syntax.specs.Classes.{ModelTree}
 use Rattle.pz_code.specs.declared.step.Step.{Step}
 use Rattle.pz_code.specs.StepView as step
 use Rattle.pz_classes.specs.declared.members.Members.{Members}
 use Rattle.pz_classes.specs.declared.method_index.Methods.{Methods}
 use Rattle.pz_classes.specs.Ancestors.{parent, ancestors}
-use Rattle.pz_classes.specs.Inherited.{HasMembers}
+use Rattle.pz_classes.specs.devices.Inherited.{HasMembers}
 use Rattle.pz_classes.specs.Methods.{Signature, own_method}
-use Rattle.pz_classes.specs.MethodIn.{method_in, HasMethodsOf}
+use Rattle.pz_classes.specs.devices.MethodIn.{method_in, HasMethodsOf}
 use Rattle.pz_classes.specs.Starts.{own_call}
 use Rattle.pz_classes.specs.Tables.{row, row_view}
 use Rattle.pz_classes.proofs.Agreeing.{agreeing}

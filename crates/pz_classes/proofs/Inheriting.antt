@@ -4,13 +4,13 @@ use Rattle.std.proofs.Math.ListN.{set}
 use Rattle.std.specs.Option.{option_map_or, unwrap_or}
 use Rattle.std.proofs.lemmas.List.{map-append, length-set}
 use Rattle.std.proofs.lemmas.Option.{slice_get_cases, slice_get_read, get_or_from_slice_get}
-use Rattle.pz_ast.specs.declared.names.Id.{Id}
-use Rattle.pz_ast.specs.Classes.{ModelTree}
+use Rattle.pz_syntax.specs.declared.names.Id.{Id}
+use Rattle.pz_syntax.specs.Classes.{ModelTree}
 use Rattle.pz_classes.specs.Numbers.{declaration}
 use Rattle.pz_classes.specs.Ancestors.{ancestors}
 use Rattle.pz_classes.specs.Members.{from_root, own_fields, own_variables, own_ports, spelled}
 use Rattle.pz_classes.specs.declared.members.Members.{Members}
-use Rattle.pz_classes.specs.Inherited.{HasMembers, AddsAt, none_yet, inherited_in}
+use Rattle.pz_classes.specs.devices.Inherited.{HasMembers, AddsAt, none_yet, inherited_in}
 
 one_more : (old : List Id) (own : List Id) (before now : List (List ℕ)) → before ≡ spelled old → now ≡ before ++ spelled own → now ≡ spelled (old ++ own)
 one_more old own before now is grown = grown ∙ ap (λ (xs : List (List ℕ)). xs ++ spelled own) is ∙ sym (map-append (λ (x : Id). x.name) old own)

@@ -21,3 +21,11 @@ mod Rounds
 mod Inheriting
 mod Filling
 mod Building
+pub mod Turned
+pub mod Elements
+pub mod Apart
+mod SoundInstances
+mod SoundEnds
+mod SoundSystem
+mod Heirs
+mod SoundClasses

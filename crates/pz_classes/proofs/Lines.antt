@@ -1,9 +1,9 @@
 -- The parents of classes, and the lines that they make.
 use Rattle.std.proofs.Common.{◌≡◌, refl, ap, ℕ, zero, suc, List, [], ◌∷◌, map, Option, Some, None, slice_get, sym, ◌∙◌}
 use Rattle.std.specs.Option.{option_map_or, option_and_then}
-use Rattle.pz_ast.specs.declared.clusters.Decl.{Decl}
-use Rattle.pz_ast.specs.Classes.{DeclTree, ModelTree}
-use Rattle.pz_ast.specs.ClassView.{decl_view}
+use Rattle.pz_syntax.specs.declared.clusters.Decl.{Decl}
+use Rattle.pz_syntax.specs.Classes.{DeclTree, ModelTree}
+use Rattle.pz_syntax.specs.ClassView.{decl_view}
 use Rattle.pz_classes.specs.Ancestors.{followed, parent, parent_of}
 use Rattle.pz_lineage.specs.Parents.{parent_in}
 

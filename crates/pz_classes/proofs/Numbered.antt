@@ -5,12 +5,12 @@ use Rattle.std.specs.List.{sum_by}
 use Rattle.std.proofs.lemmas.List.{take_all}
 use Rattle.std.proofs.lemmas.List.Sums.{sum_by_more}
 use Rattle.std.proofs.lemmas.Option.{slice_get_cases}
-use Rattle.pz_ast.specs.Classes.{DeclTree, ModelTree}
+use Rattle.pz_syntax.specs.Classes.{DeclTree, ModelTree}
 use Rattle.pz_classes.specs.declared.method_index.Methods.{Methods}
 use Rattle.pz_classes.specs.Numbers.{declaration}
 use Rattle.pz_classes.specs.Methods.{Signature, signatures, first_with, method_id, methods_before}
 use Rattle.pz_classes.proofs.Belongs.{methods}
-use Rattle.pz_classes.specs.MethodIn.{HasMethods, HasMethodsOf}
+use Rattle.pz_classes.specs.devices.MethodIn.{HasMethods, HasMethodsOf}
 
 -- the number after those of a class
 pub methods_after : (m : ModelTree) (c : ℕ) → methods_before m (c + 1) ≡ methods_before m c + length (option_map_or signatures (declaration m c) [])

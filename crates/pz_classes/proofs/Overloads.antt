@@ -12,7 +12,7 @@ use Rattle.pz_classes.specs.declared.method_id.MethodId.{MethodId}
 use Rattle.pz_classes.specs.declared.method_index.Overload.{Overload}
 use Rattle.pz_classes.specs.declared.method_index.Methods.{Methods}
 use Rattle.pz_classes.specs.Methods.{Signature, same_counts, same_signature}
-use Rattle.pz_classes.specs.MethodIn.{first_with_counts, overloads_in, method_in}
+use Rattle.pz_classes.specs.devices.MethodIn.{first_with_counts, overloads_in, method_in}
 
 abbrev Key : Type 0
 Key = Vec ℕ Global

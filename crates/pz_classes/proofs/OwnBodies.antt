@@ -1,21 +1,21 @@
 -- The bodies of the methods that a class itself declares.
 use Rattle.std.proofs.Common.{◌≡◌, refl, ap, sym, ◌∙◌, ℕ, List, ◌++◌, map, Some}
-use Rattle.pz_ast.specs.declared.names.Id.{Id}
-use Rattle.pz_ast.specs.declared.clusters.Decl.{Decl}
-use Rattle.pz_ast.specs.declared.clusters.Decl.TheVariants as decl
-use Rattle.pz_ast.specs.declared.classes.DataClass.{DataClass}
-use Rattle.pz_ast.specs.declared.classes.DataMethod.{DataMethod}
-use Rattle.pz_ast.specs.declared.classes.ProcessClass.{ProcessClass}
-use Rattle.pz_ast.specs.declared.classes.ProcessMethod.{ProcessMethod}
-use Rattle.pz_ast.specs.Classes.{ModelTree}
-use Rattle.pz_ast.specs.ClassView.{decl_view, data_method_view, process_method_view}
-use Rattle.pz_names.specs.declared.numbering.Numbering.{Numbering}
+use Rattle.pz_syntax.specs.declared.names.Id.{Id}
+use Rattle.pz_syntax.specs.declared.clusters.Decl.{Decl}
+use Rattle.pz_syntax.specs.declared.clusters.Decl.TheVariants as decl
+use Rattle.pz_syntax.specs.declared.classes.DataClass.{DataClass}
+use Rattle.pz_syntax.specs.declared.classes.DataMethod.{DataMethod}
+use Rattle.pz_syntax.specs.declared.classes.ProcessClass.{ProcessClass}
+use Rattle.pz_syntax.specs.declared.classes.ProcessMethod.{ProcessMethod}
+use Rattle.pz_syntax.specs.Classes.{ModelTree}
+use Rattle.pz_syntax.specs.ClassView.{decl_view, data_method_view, process_method_view}
+use Rattle.pz_code.specs.declared.numbering.Numbering.{Numbering}
 use Rattle.pz_code.specs.Resolution.{Scope}
 use Rattle.pz_classes.specs.declared.surroundings.Surroundings.{Surroundings}
 use Rattle.pz_classes.specs.Members as members
 use Rattle.pz_classes.specs.Members.{spelled}
 use Rattle.pz_classes.specs.Bodies.{BodyTree, scope_of, data_scope, process_scope, data_body_in, process_body_in, own_bodies}
-use Rattle.pz_classes.specs.Surrounding.{scope_around}
+use Rattle.pz_classes.specs.devices.Surrounding.{scope_around}
 
 module _ (m : ModelTree) (c : ℕ) (d : Decl) (around : Surroundings) (classes : Numbering) (shared ports : List (List ℕ)) (old new : List BodyTree) where
   pub data_bodies_are : (class : DataClass) (methods : List DataMethod) → d ≡ decl.Data class → class.methods ≡ Some methods → scope_around around classes ≡ scope_of m shared ports

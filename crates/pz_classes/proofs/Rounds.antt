@@ -2,8 +2,8 @@
 use Rattle.std.proofs.Common.{◌≡◌, refl, sym, ◌∙◌, ℕ, zero, suc, ◌<◌, Bool, true, false, List, Option, Some, None, slice_get, get_or, length, ◌≤◌, arith, ◌⊎◌, inl, inr}
 use Rattle.std.specs.Option.{option_and_then, unwrap_or}
 use Rattle.std.proofs.lemmas.Option.{slice_get_cases}
-use Rattle.pz_ast.specs.declared.names.Id.{Id}
-use Rattle.pz_ast.specs.Classes.{DeclTree, data_class, process_class, cluster_class, system, ModelTree}
+use Rattle.pz_syntax.specs.declared.names.Id.{Id}
+use Rattle.pz_syntax.specs.Classes.{DeclTree, data_class, process_class, cluster_class, system, ModelTree}
 use Rattle.pz_violation.specs.declared.violation.Violation.{Violation}
 use Rattle.pz_violation.specs.Order.{violation}
 use Rattle.pz_lineage.specs.Parents.{parent_in}
@@ -11,8 +11,8 @@ use Rattle.pz_lineage.specs.Reached.{GoesRound, round}
 use Rattle.pz_classes.specs.Numbers.{declaration, declared_name}
 use Rattle.pz_classes.specs.Ancestors.{extended, parent_named, parent}
 use Rattle.pz_classes.specs.Violations.{Violates, c3}
-use Rattle.pz_classes.specs.ViolationList.{breaks_c3}
-use Rattle.pz_classes.specs.Rounds.{AreRound}
+use Rattle.pz_classes.specs.devices.ViolationList.{breaks_c3}
+use Rattle.pz_classes.specs.devices.Rounds.{AreRound}
 use Rattle.pz_classes.proofs.Agreeing.{agreeing}
 use Rattle.pz_classes.proofs.Belongs.{parent_within, parent_positive}
 use Rattle.pz_classes.proofs.Found.{open_c3, close_c3}

@@ -1,15 +1,15 @@
 -- Small models: who inherits what, and what is refused.
 use Rattle.std.proofs.Common.{◌≡◌, refl, ℕ, ◌*◌, List, [], ◌∷◌, map, Option, Some, None, codes}
-use Rattle.pz_ast.specs.declared.names.Id.{Id}
-use Rattle.pz_ast.specs.declared.classes.VarGroup.{VarGroup}
-use Rattle.pz_ast.specs.Expressions.{none}
-use Rattle.pz_ast.specs.Classes.{DataMethodTree, ProcessMethodTree, DeclTree, data_class, process_class, ModelTree}
+use Rattle.pz_syntax.specs.declared.names.Id.{Id}
+use Rattle.pz_syntax.specs.declared.classes.VarGroup.{VarGroup}
+use Rattle.pz_syntax.specs.Expressions.{none}
+use Rattle.pz_syntax.specs.Classes.{DataMethodTree, ProcessMethodTree, DeclTree, data_class, process_class, ModelTree}
 use Rattle.pz_classes.specs.Numbers.{class}
 use Rattle.pz_classes.specs.Ancestors.{ancestors}
 use Rattle.pz_classes.specs.Members.{fields, variables, ports, spelled}
 use Rattle.pz_classes.specs.Methods.{method, method_id}
 use Rattle.pz_violation.specs.Order.{violation}
-use Rattle.pz_classes.specs.ViolationList.{violations}
+use Rattle.pz_classes.specs.devices.ViolationList.{violations}
 
 -- a name in this line, in column 1
 abbrev id : ℕ → List ℕ → Id

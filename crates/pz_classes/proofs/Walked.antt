@@ -3,7 +3,7 @@ use Rattle.std.proofs.Common.{◌≡◌, refl, sym, ap, ◌∙◌, subst, ℕ, z
 use Rattle.std.specs.List.{Contains}
 use Rattle.std.specs.Option.{option_map_or}
 use Rattle.std.proofs.lemmas.List.Elements.{Contains-append_left, Contains-push}
-use Rattle.pz_ast.specs.Classes.{ModelTree}
+use Rattle.pz_syntax.specs.Classes.{ModelTree}
 use Rattle.pz_lineage.specs.declared.visit.Visit.{Visit}
 use Rattle.pz_lineage.specs.Reached.{GoesRound}
 use Rattle.pz_lineage.specs.Preorder.{innermost, outermost, Visits, visited, IsPreorder}

@@ -1,9 +1,9 @@
 -- The parent of a class, and its ancestors.
 use Rattle.std.specs.Prelude.{ℕ, zero, suc, List, [], ◌∷◌, length, Option, None, if◌then◌else◌}
 use Rattle.std.specs.Option.{option_map_or, option_and_then}
-use Rattle.pz_ast.specs.declared.names.Id.{Id}
-use Rattle.pz_ast.specs.Classes.{DeclTree, data_class, process_class, cluster_class, system, ModelTree}
-use Rattle.pz_names.specs.ReservedNames.{is_primitive, is_unsupported}
+use Rattle.pz_syntax.specs.declared.names.Id.{Id}
+use Rattle.pz_syntax.specs.Classes.{DeclTree, data_class, process_class, cluster_class, system, ModelTree}
+use Rattle.pz_code.specs.ReservedNames.{is_primitive, is_unsupported}
 use Rattle.pz_classes.specs.Numbers.{declaration, class}
 
 -- the name behind `extends`

@@ -2,10 +2,10 @@
 use Rattle.std.specs.Prelude.{ℕ, suc, List, [], ◌∷◌, ◌++◌, length, map, Option, Some, None, if◌then◌else◌}
 use Rattle.std.specs.Option.{unwrap_or}
 use Rattle.std.specs.Str.{bytes_eq}
-use Rattle.pz_ast.specs.declared.names.Id.{Id}
-use Rattle.pz_ast.specs.Expressions.{Expressions}
-use Rattle.pz_ast.specs.Statements.{Statements}
-use Rattle.pz_ast.specs.Classes.{DeclTree, data_class, process_class, DataMethodTree, ProcessMethodTree, ModelTree}
+use Rattle.pz_syntax.specs.declared.names.Id.{Id}
+use Rattle.pz_syntax.specs.Expressions.{Expressions}
+use Rattle.pz_syntax.specs.Statements.{Statements}
+use Rattle.pz_syntax.specs.Classes.{DeclTree, data_class, process_class, DataMethodTree, ProcessMethodTree, ModelTree}
 use Rattle.pz_value.specs.declared.value.ClassId.{ClassId}
 use Rattle.pz_code.specs.declared.slot.Slot.{Slot}
 use Rattle.pz_code.specs.Resolution.{Scope, resolved_all, resolved_statements}

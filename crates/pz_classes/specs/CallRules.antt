@@ -4,11 +4,11 @@ use Rattle.std.specs.Option.{unwrap_or, option_map_or, option_and_then, is_none}
 use Rattle.std.specs.Bool.{beq}
 use Rattle.std.specs.Str.{bytes_eq}
 use Rattle.std.specs.List.{list_any, flat_map}
-use Rattle.pz_ast.specs.declared.classes.Message.{Message}
-use Rattle.pz_ast.specs.Classes.{DeclTree, process_class, StartTree, ModelTree}
+use Rattle.pz_syntax.specs.declared.classes.Message.{Message}
+use Rattle.pz_syntax.specs.Classes.{DeclTree, process_class, StartTree, ModelTree}
 use Rattle.pz_mentions.specs.declared.mention.Mention.{Mention}
 use Rattle.pz_mentions.specs.declared.mention.Mention.TheVariants.{Declared, Selector, Called, Port, Sent, Received}
-use Rattle.pz_names.specs.ReservedNames.{is_unsupported}
+use Rattle.pz_code.specs.ReservedNames.{is_unsupported}
 use Rattle.pz_classes.specs.declared.method_id.Counts.TheVariants.{Data}
 use Rattle.pz_classes.specs.Numbers.{declaration}
 use Rattle.pz_classes.specs.Ancestors.{ancestors}

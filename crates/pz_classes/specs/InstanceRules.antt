@@ -3,8 +3,8 @@ use Rattle.std.specs.Prelude.{◌≡◌, ◌⊎◌, ℕ, Bool, false, ◌&&◌, 
 use Rattle.std.specs.Option.{unwrap_or}
 use Rattle.std.specs.Str.{bytes_eq}
 use Rattle.std.specs.List.{list_any, list_all, count_by}
-use Rattle.pz_ast.specs.declared.clusters.Instance.{Instance}
-use Rattle.pz_ast.specs.Classes.{DeclTree, ModelTree}
+use Rattle.pz_syntax.specs.declared.clusters.Instance.{Instance}
+use Rattle.pz_syntax.specs.Classes.{DeclTree, ModelTree}
 use Rattle.pz_violation.specs.declared.violation.Violation.{Violation}
 use Rattle.pz_violation.specs.Order.{violation}
 use Rattle.pz_classes.specs.Numbers.{declaration}

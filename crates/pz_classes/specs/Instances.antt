@@ -1,11 +1,11 @@
 -- The instances and channels of a cluster class or of the system.
 use Rattle.std.specs.Prelude.{ℕ, List, [], Option, None, if◌then◌else◌}
 use Rattle.std.specs.Option.{unwrap_or}
-use Rattle.pz_ast.specs.declared.names.Id.{Id}
-use Rattle.pz_ast.specs.declared.clusters.Instance.{Instance}
-use Rattle.pz_ast.specs.declared.clusters.Channel.{Channel}
-use Rattle.pz_ast.specs.Classes.{DeclTree, process_class, cluster_class, system, ModelTree}
-use Rattle.pz_names.specs.ReservedNames.{is_unsupported}
+use Rattle.pz_syntax.specs.declared.names.Id.{Id}
+use Rattle.pz_syntax.specs.declared.clusters.Instance.{Instance}
+use Rattle.pz_syntax.specs.declared.clusters.Channel.{Channel}
+use Rattle.pz_syntax.specs.Classes.{DeclTree, process_class, cluster_class, system, ModelTree}
+use Rattle.pz_code.specs.ReservedNames.{is_unsupported}
 use Rattle.pz_classes.specs.Numbers.{class}
 use Rattle.pz_classes.specs.Ancestors.{ancestors}
 use Rattle.pz_classes.specs.Members.{section, from_root}

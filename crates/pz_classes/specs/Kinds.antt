@@ -1,7 +1,7 @@
 -- What a name stands for: a class of some sort.
 use Rattle.std.specs.Prelude.{ℕ, Bool, true, false, List}
 use Rattle.std.specs.Option.{option_map_or, option_and_then}
-use Rattle.pz_ast.specs.Classes.{DeclTree, data_class, process_class, cluster_class, ModelTree}
+use Rattle.pz_syntax.specs.Classes.{DeclTree, data_class, process_class, cluster_class, ModelTree}
 use Rattle.pz_classes.specs.Numbers.{declaration, class}
 
 abbrev pub is_data : DeclTree → Bool

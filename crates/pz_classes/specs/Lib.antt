@@ -2,19 +2,13 @@ pub mod Numbers
 pub mod Ancestors
 pub mod Members
 pub mod Methods
-pub mod MethodIn
 pub mod Bodies
 pub mod Starts
 pub mod BodyView
-pub mod Surrounding
 pub mod Violations
-pub mod ViolationList
-pub mod Inherited
-pub mod Rounds
 pub mod Preorder
 pub mod Tables
 pub mod Refusals
-pub mod Found
 pub mod Kinds
 pub mod Words
 pub mod Instances
@@ -28,3 +22,7 @@ pub mod SizeRules
 pub mod Soundness
 pub mod CheckedView
 pub mod Reached
+pub mod Apart
+pub mod SoundSystem
+pub mod SoundClasses
+pub mod devices

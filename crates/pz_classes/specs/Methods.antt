@@ -3,7 +3,7 @@ use Rattle.std.specs.Prelude.{ℕ, suc, ◌-◌, Bool, false, ◌&&◌, nat_eq, 
 use Rattle.std.specs.Option.{unwrap_or, option_map, option_map_or, option_or}
 use Rattle.std.specs.Str.{bytes_eq}
 use Rattle.std.specs.List.{sum_by}
-use Rattle.pz_ast.specs.Classes.{DeclTree, data_class, process_class, DataMethodTree, ProcessMethodTree, ModelTree}
+use Rattle.pz_syntax.specs.Classes.{DeclTree, data_class, process_class, DataMethodTree, ProcessMethodTree, ModelTree}
 use Rattle.pz_classes.specs.declared.method_id.Counts.{Counts}
 use Rattle.pz_classes.specs.declared.method_id.Counts.TheVariants.{Data, Process}
 use Rattle.pz_classes.specs.declared.method_id.MethodId.{MethodId}

@@ -1,11 +1,11 @@
 -- The rules on the names of classes and variables, and on words that only some classes may use.
 -- A class that is left out of the language is refused by C18 alone.
 use Rattle.std.specs.Prelude.{ℕ, Bool, true, false, not, ◌&&◌, ◌||◌, List, [], if◌then◌else◌}
-use Rattle.pz_ast.specs.declared.names.Id.{Id}
-use Rattle.pz_ast.specs.Classes.{DeclTree, data_class, process_class, ModelTree}
+use Rattle.pz_syntax.specs.declared.names.Id.{Id}
+use Rattle.pz_syntax.specs.Classes.{DeclTree, data_class, process_class, ModelTree}
 use Rattle.pz_mentions.specs.declared.mention.Mention.{Mention}
 use Rattle.pz_mentions.specs.declared.mention.Mention.TheVariants.{Declared, Extended, Typed, Variable, Created, Instantiated, Clock, Me, Return, Float}
-use Rattle.pz_names.specs.ReservedNames.{is_primitive, is_unsupported, is_array}
+use Rattle.pz_code.specs.ReservedNames.{is_primitive, is_unsupported, is_array}
 use Rattle.pz_classes.specs.Kinds.{is_data, is_process, is_cluster, is_declared_as}
 use Rattle.pz_classes.specs.Members.{fields, variables}
 use Rattle.pz_classes.specs.Words.{is_among}

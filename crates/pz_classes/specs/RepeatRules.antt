@@ -1,12 +1,12 @@
 -- C4: of two declarations of one name, the one that stands later in the text.
-use Rattle.std.specs.Prelude.{◌≡◌, ℕ, Bool, ◌&&◌, nat_eq, List, [], length, map, Some, Contains, IsTrue}
+use Rattle.std.specs.Prelude.{◌≡◌, ◌≢◌, ℕ, Bool, false, ◌&&◌, nat_eq, List, [], length, map, Some, Contains, IsTrue, slice_get}
 use Rattle.std.specs.Option.{unwrap_or}
 use Rattle.std.specs.Bool.{beq}
 use Rattle.std.specs.Str.{bytes_eq}
-use Rattle.pz_ast.specs.declared.tokens.Pos.{Pos}
-use Rattle.pz_ast.specs.declared.names.Id.{Id}
-use Rattle.pz_ast.specs.declared.classes.Message.{Message}
-use Rattle.pz_ast.specs.Classes.{DeclTree, data_class, process_class, DataMethodTree, ProcessMethodTree, ModelTree}
+use Rattle.pz_syntax.specs.declared.tokens.Pos.{Pos}
+use Rattle.pz_syntax.specs.declared.names.Id.{Id}
+use Rattle.pz_syntax.specs.declared.classes.Message.{Message}
+use Rattle.pz_syntax.specs.Classes.{DeclTree, data_class, process_class, DataMethodTree, ProcessMethodTree, ModelTree}
 use Rattle.pz_violation.specs.declared.violation.Violation.{Violation}
 use Rattle.pz_violation.specs.Order.{violation, pos_before}
 use Rattle.pz_mentions.specs.declared.part.Part.{Part}
@@ -17,13 +17,17 @@ use Rattle.pz_classes.specs.Methods.{Signature, same_signature, data_signature, 
 use Rattle.pz_classes.specs.CallRules.{own_messages}
 use Rattle.pz_classes.specs.Instances.{instances}
 
--- of these, y stands later in the text than one that is the same
+-- Two of these are the same, each at a place of its own in the list, and y is the one that does not
+-- come before the other in the text. Where both are said to stand at one position, either is.
 pub record Repeats {A : Type 0} (same : A → A → Bool) (place : A → Pos) (xs : List A) (y : A) : Type 0 where
   pub first : A
-  pub first_in : Contains xs first
-  pub again_in : Contains xs y
+  pub first_at : ℕ
+  pub again_at : ℕ
+  pub first_there : slice_get xs first_at ≡ Some first
+  pub again_there : slice_get xs again_at ≡ Some y
+  pub apart : first_at ≢ again_at
   pub alike : IsTrue (same first y)
-  pub later : IsTrue (pos_before (place first) (place y))
+  pub later : pos_before (place y) (place first) ≡ false
 
 abbrev pub same_name : Id → Id → Bool
 same_name x y = bytes_eq x.name y.name

@@ -1,18 +1,18 @@
 -- What the table of a model's classes holds.
 use Rattle.std.specs.Prelude.{◌≡◌, ◌<◌, ℕ, suc, List, [], ◌∷◌, length, map, Option, codes}
 use Rattle.std.specs.Option.{option_map}
-use Rattle.pz_ast.specs.Classes.{DeclTree, ModelTree}
+use Rattle.pz_syntax.specs.Classes.{DeclTree, ModelTree}
 use Rattle.pz_value.specs.declared.value.ClassId.{ClassId}
 use Rattle.pz_classes.specs.Numbers.{class, spelling}
 use Rattle.pz_classes.specs.Ancestors.{parent}
 use Rattle.pz_classes.specs.Members.{fields, variables, ports, spelled}
 use Rattle.pz_classes.specs.Methods.{Signature, own_method}
-use Rattle.pz_classes.specs.MethodIn.{method_in}
+use Rattle.pz_classes.specs.devices.MethodIn.{method_in}
 use Rattle.pz_classes.specs.Bodies.{bodies}
 use Rattle.pz_classes.specs.Preorder.{IsPreorderOf}
 use Rattle.pz_classes.specs.BodyView.{body_view}
 use Rattle.pz_classes.specs.Starts.{own_call}
-use Rattle.pz_names.specs.NumberIn.{number_in}
+use Rattle.pz_code.specs.NumberIn.{number_in}
 use Rattle.pz_code.specs.StepView.{Tree}
 use Rattle.pz_code.specs.StepView as step
 use Rattle.pz_classes.specs.declared.method_id.MethodId.{MethodId}

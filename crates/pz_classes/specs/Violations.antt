@@ -1,11 +1,11 @@
 -- The rules C1 to C3 of the checker.
 use Rattle.std.specs.Prelude.{◌≡◌, ℕ, Bool, true, false, not, ◌&&◌, ◌||◌, nat_eq, IsTrue, List, Contains, Some, if◌then◌else◌}
 use Rattle.std.specs.Option.{option_map_or}
-use Rattle.pz_ast.specs.declared.names.Id.{Id}
-use Rattle.pz_ast.specs.Classes.{DeclTree, data_class, process_class, ModelTree}
+use Rattle.pz_syntax.specs.declared.names.Id.{Id}
+use Rattle.pz_syntax.specs.Classes.{DeclTree, data_class, process_class, ModelTree}
 use Rattle.pz_violation.specs.declared.violation.Violation.{Violation}
 use Rattle.pz_violation.specs.Order.{violation}
-use Rattle.pz_names.specs.ReservedNames.{is_primitive, is_unsupported, is_object}
+use Rattle.pz_code.specs.ReservedNames.{is_primitive, is_unsupported, is_object}
 use Rattle.pz_classes.specs.Numbers.{declared_name, declaration, class}
 use Rattle.pz_classes.specs.Kinds.{is_data, is_declared_as}
 use Rattle.pz_classes.specs.Ancestors.{extended, parent, ancestors}

@@ -1,6 +1,6 @@
 -- The rules that are broken at a word.
 use Rattle.std.specs.Prelude.{ℕ, IsTrue}
-use Rattle.pz_ast.specs.Classes.{DeclTree, ModelTree}
+use Rattle.pz_syntax.specs.Classes.{DeclTree, ModelTree}
 use Rattle.pz_violation.specs.declared.violation.Violation.{Violation}
 use Rattle.pz_violation.specs.Order.{violation}
 use Rattle.pz_mentions.specs.declared.mention.Mention.{Mention}

@@ -2,9 +2,9 @@
 use Rattle.std.specs.Prelude.{◌≡◌, ℕ, Bool, List, Some, Contains}
 use Rattle.std.specs.Str.{bytes_eq}
 use Rattle.std.specs.List.{list_any}
-use Rattle.pz_ast.specs.declared.tokens.Pos.{Pos}
-use Rattle.pz_ast.specs.declared.names.Id.{Id}
-use Rattle.pz_ast.specs.Classes.{DeclTree, ModelTree}
+use Rattle.pz_syntax.specs.declared.tokens.Pos.{Pos}
+use Rattle.pz_syntax.specs.declared.names.Id.{Id}
+use Rattle.pz_syntax.specs.Classes.{DeclTree, ModelTree}
 use Rattle.pz_mentions.specs.declared.mention.Mention.{Mention}
 use Rattle.pz_mentions.specs.declared.mention.Mention.TheVariants.{Declared, Extended, Typed, Variable, Created, Selector, Called, Port, Sent, Received, Instantiated, Clock, Me, Return, Float}
 use Rattle.pz_mentions.specs.declared.part.Part.{Part}

@@ -1,26 +1,25 @@
 // The bodies of methods, with slots and numbers in place of names. The only error is want of memory.
 
 ghost use Rattle.std.specs.Prelude.{◌≡◌, ◌<◌, ◌+◌, ◌^◌, ◌++◌, ℕ, List, length, map, IfOk, OnOk};
-ghost use Rattle.pz_ast.specs.Classes.{ModelTree};
-ghost use Rattle.pz_ast.specs.ClassView.{decl_view, model_view, data_method_view, process_method_view};
-ghost use Rattle.pz_names.specs.NumberIn.{number_in};
+ghost use Rattle.pz_syntax.specs.Classes.{ModelTree};
+ghost use Rattle.pz_syntax.specs.ClassView.{decl_view, model_view, data_method_view, process_method_view};
+ghost use Rattle.pz_code.specs.NumberIn.{number_in};
 ghost use Rattle.pz_classes.specs.Numbers.{class};
 ghost use Rattle.pz_classes.specs.Ancestors.{ancestors};
 ghost use Rattle.pz_classes.specs.Members.{spelled};
-ghost use Rattle.pz_classes.specs.Inherited.{HasMembers};
+ghost use Rattle.pz_classes.specs.devices.Inherited.{HasMembers};
 ghost use Rattle.pz_classes.specs.Bodies as spec;
 ghost use Rattle.pz_classes.specs.BodyView.{body_view};
-ghost use Rattle.pz_classes.specs.Surrounding.{scope_around, Numbers};
+ghost use Rattle.pz_classes.specs.devices.Surrounding.{scope_around, Numbers};
 ghost use Rattle.pz_classes.specs.Tables.{row_view, rows};
 
 use crate::Body;
 use crate::entry::Entry;
 use crate::members::{Members, push_groups, push_section};
 use crate::surroundings::{Surroundings, count, places_of, surround};
-use pz_ast::{DataMethod, Decl, Model, Name, ProcessMethod};
-use pz_code::{Scope, resolve_list, resolve_statements};
+use pz_code::{Numbering, Scope, resolve_list, resolve_statements};
 use pz_items::Items;
-use pz_names::Numbering;
+use pz_syntax::{DataMethod, Decl, Model, Name, ProcessMethod};
 use std::alloc::{AllocError, Global};
 
 /// The names of inputs and locals.

@@ -1,14 +1,14 @@
 // A sound model.
 
 ghost use Rattle.std.specs.Prelude.{◌≡◌};
-ghost use Rattle.pz_ast.specs.ClassView.{model_view};
+ghost use Rattle.pz_syntax.specs.ClassView.{model_view};
 ghost use Rattle.pz_violation.specs.declared.violation.Violation.{Violation};
 ghost use Rattle.pz_classes.specs.Violations.{Violates};
 ghost use Rattle.pz_classes.specs.Soundness.{Breaks};
 ghost use Rattle.pz_classes.specs.Tables.{AreClasses};
 
 use crate::Classes;
-use pz_ast::Model;
+use pz_syntax::Model;
 
 /// A model that violates none of the rules C1 to C22, and its classes.
 #[derive(Drop)]

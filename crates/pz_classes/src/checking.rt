@@ -1,17 +1,17 @@
 // The rules C1 to C3, and the least violation of them.
 
 ghost use Rattle.std.specs.Prelude.{◌≡◌, ◌<◌, ◌+◌, ◌^◌, List, ℕ, None, length};
-ghost use Rattle.pz_ast.specs.ClassView.{decl_view, model_view};
+ghost use Rattle.pz_syntax.specs.ClassView.{decl_view, model_view};
 ghost use Rattle.pz_classes.specs.Numbers.{class};
-ghost use Rattle.pz_names.specs.NumberIn.{number_in};
-ghost use Rattle.pz_classes.specs.Rounds.{AreRound};
+ghost use Rattle.pz_code.specs.NumberIn.{number_in};
+ghost use Rattle.pz_classes.specs.devices.Rounds.{AreRound};
 ghost use Rattle.pz_classes.specs.Violations as rules;
-ghost use Rattle.pz_classes.specs.ViolationList as list;
+ghost use Rattle.pz_classes.specs.devices.ViolationList as list;
 ghost use Rattle.pz_violation.specs.Least as least;
 
 use crate::declarations::{declaration, declared_name, extended, is_data, same_sort};
-use pz_ast::{Decl, Id, Model, Name};
-use pz_names::{Numbering, is_object, is_primitive, is_unsupported};
+use pz_code::{Numbering, is_object, is_primitive, is_unsupported};
+use pz_syntax::{Decl, Id, Model, Name};
 use pz_violation::{Violation, lesser};
 
 /// Whether a class's name is declared before it, or is a primitive's.

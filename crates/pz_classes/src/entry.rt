@@ -1,15 +1,15 @@
 // What is kept of a class.
 
 ghost use Rattle.std.specs.Prelude.{◌≡◌, ◌<◌, ◌+◌, ◌-◌, ◌^◌, ℕ, List, length, map, IfOk};
-ghost use Rattle.pz_ast.specs.ClassView.{model_view};
-ghost use Rattle.pz_names.specs.NumberIn.{number_in};
+ghost use Rattle.pz_syntax.specs.ClassView.{model_view};
+ghost use Rattle.pz_code.specs.NumberIn.{number_in};
 ghost use Rattle.pz_classes.specs.Numbers.{class as numbered};
 ghost use Rattle.pz_classes.specs.Ancestors.{ancestors, parent};
-ghost use Rattle.pz_classes.specs.Inherited.{HasMembers, AreMembers};
+ghost use Rattle.pz_classes.specs.devices.Inherited.{HasMembers, AreMembers};
 ghost use Rattle.pz_classes.specs.Methods.{methods_before};
-ghost use Rattle.pz_classes.specs.MethodIn.{HasMethodsOf};
+ghost use Rattle.pz_classes.specs.devices.MethodIn.{HasMethodsOf};
 ghost use Rattle.pz_lineage.specs.Parents.{parent_in};
-ghost use Rattle.pz_classes.specs.Surrounding.{Numbers};
+ghost use Rattle.pz_classes.specs.devices.Surrounding.{Numbers};
 ghost use Rattle.pz_classes.specs.Tables.{row, rows, row_view};
 
 use crate::Step;
@@ -19,9 +19,9 @@ use crate::members::Members;
 use crate::method_index::Methods;
 use crate::methods::methods_of;
 use crate::starting::start_at;
-use pz_ast::Model;
+use pz_code::Numbering;
 use pz_items::Items;
-use pz_names::Numbering;
+use pz_syntax::Model;
 use std::alloc::{AllocError, Global};
 
 /// A class: what it inherits and has of its own, and the `init` and the methods that it declares.
@@ -63,8 +63,8 @@ fn entry_of(
     ensures row { IfOk result (λ e. row_view e ≡ row (model_view model.now) class) }
     ensures next { IfOk result (λ e. e.methods.next ≡ methods_before (model_view model.now) (class + 1)) }
 {
-    let start = start_at(alloc, model, numbering, &members, class)?;
     let methods = methods_at(alloc, model, class, first)?;
+    let start = start_at(alloc, model, numbering, &members, class)?;
     let parent = parent_at(parents, class);
     Ok(Entry {
         parent,

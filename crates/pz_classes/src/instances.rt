@@ -2,7 +2,7 @@
 
 ghost use Rattle.std.specs.Prelude.{◌≡◌, ◌||◌, false, [], IfSome};
 ghost use Rattle.std.specs.Option.{option_map, option_map_or, unwrap_or};
-ghost use Rattle.pz_ast.specs.ClassView.{decl_view, model_view};
+ghost use Rattle.pz_syntax.specs.ClassView.{decl_view, model_view};
 ghost use Rattle.pz_classes.specs.Numbers as numbers;
 ghost use Rattle.pz_classes.specs.Kinds as kinds;
 ghost use Rattle.pz_classes.specs.Kinds.{is_process, is_cluster};
@@ -11,9 +11,9 @@ ghost use Rattle.pz_classes.specs.Tables.{AreClasses, HasClass, class_id};
 
 use crate::Classes;
 use crate::declarations::declaration;
-use pz_ast::{Channel, Decl, Instance, Model, Name};
+use pz_code::{is_primitive, is_unsupported};
 use pz_items::Items;
-use pz_names::{is_primitive, is_unsupported};
+use pz_syntax::{Channel, Decl, Instance, Model, Name};
 use pz_value::ClassId;
 
 /// What a section has, nothing where it is not written.

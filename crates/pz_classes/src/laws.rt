@@ -1,8 +1,25 @@
-// A law of the definitions, as the contract of a function that does nothing.
+// Laws of the definitions, each the contract of a function that does nothing.
+
 ghost use Rattle.pz_classes.specs.Reached.{AncestorsAreReached};
+ghost use Rattle.pz_classes.specs.SoundClasses.{SoundClassesFit};
+ghost use Rattle.pz_classes.specs.SoundSystem.{SoundSystemsFit};
 
 /// The ancestors of a class that is declared are the classes that one comes to by its parent, that
 /// one's parent and so on, and no others.
 pub fn ancestors_are_reached()
     ensures law { AncestorsAreReached }
+{}
+
+/// A sound model has one system. Each instance has its class and gives each parameter of it once,
+/// and no other name. Each end of a channel is there, and stands once. No cluster class holds
+/// itself, and the expanded system is not too large.
+pub fn sound_systems_fit()
+    ensures law { SoundSystemsFit }
+{}
+
+/// In a sound model the fields, variables and ports of an ancestor begin those of the class, and no
+/// name stands twice among them. Each process class starts with a call of a method that it has. A
+/// method that is called in a class is one of the class and of all that descend from it.
+pub fn sound_classes_fit()
+    ensures law { SoundClassesFit }
 {}

@@ -2,23 +2,23 @@
 
 ghost use Rattle.std.specs.Prelude.{◌≡◌, ◌<◌, ◌+◌, ◌++◌, ℕ, List, [], length, IfOk, OnOk, IfSome};
 ghost use Rattle.std.specs.Option.{unwrap_or};
-ghost use Rattle.pz_ast.specs.ClassView.{decl_view, model_view};
+ghost use Rattle.pz_syntax.specs.ClassView.{decl_view, model_view};
 ghost use Rattle.pz_classes.specs.Members.{spelled, grouped, section};
 ghost use Rattle.pz_lineage.specs.Parents.{parent_in};
 ghost use Rattle.pz_lineage.specs.Reached.{GoesRound};
 ghost use Rattle.pz_lineage.specs.Preorder.{IsPreorder};
 ghost use Rattle.pz_classes.specs.Ancestors.{parent};
-ghost use Rattle.pz_classes.specs.Inherited.{Adds, AddsAt, AreMembers, Joins, none_yet, inherited_in};
+ghost use Rattle.pz_classes.specs.devices.Inherited.{Adds, AddsAt, AreMembers, Joins, none_yet, inherited_in};
 
 use crate::ancestry::parent_at;
 use crate::declarations::declaration;
-use pz_ast::{Decl, Id, Model, Name, VarGroup};
 use pz_items::Items;
 use pz_lineage::Visit;
+use pz_syntax::{Decl, Id, Model, Name, VarGroup};
 use std::alloc::{AllocError, Global};
 
 /// The names of what a class has, those of its ancestors first.
-#[derive(Debug, Drop)]
+#[derive(Drop)]
 pub(crate) struct Members {
     pub(crate) fields: Items<Name>,
     pub(crate) variables: Items<Name>,

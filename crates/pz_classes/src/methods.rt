@@ -1,16 +1,16 @@
 // The methods that a class declares.
 
 ghost use Rattle.std.specs.Prelude.{◌≡◌, suc, length, map, IfOk};
-ghost use Rattle.pz_ast.specs.ClassView.{decl_view, data_method_view, process_method_view};
+ghost use Rattle.pz_syntax.specs.ClassView.{decl_view, data_method_view, process_method_view};
 ghost use Rattle.std.specs.Option.{unwrap_or};
 ghost use Rattle.pz_classes.specs.Members.{grouped, section};
 ghost use Rattle.pz_classes.specs.Methods.{data_signature, process_signature, signatures};
-ghost use Rattle.pz_classes.specs.MethodIn.{HasMethods};
+ghost use Rattle.pz_classes.specs.devices.MethodIn.{HasMethods};
 
 use crate::Counts;
 use crate::method_index::Methods;
-use pz_ast::{DataMethod, Decl, ProcessMethod, VarGroup};
 use pz_items::Items;
+use pz_syntax::{DataMethod, Decl, ProcessMethod, VarGroup};
 use std::alloc::{AllocError, Global};
 
 /// How many names these are. Too many to number are taken for want of memory.

@@ -2,25 +2,24 @@
 
 ghost use Rattle.std.specs.Prelude.{◌≡◌, [], ℕ, List, IfOk};
 ghost use Rattle.std.specs.Option.{option_map, option_copied, option_and_then};
-ghost use Rattle.pz_ast.specs.Classes.{ModelTree};
-ghost use Rattle.pz_ast.specs.ClassView.{model_view, start_view};
-ghost use Rattle.pz_ast.specs.Statements.{call};
+ghost use Rattle.pz_syntax.specs.Classes.{ModelTree};
+ghost use Rattle.pz_syntax.specs.ClassView.{model_view, start_view};
+ghost use Rattle.pz_syntax.specs.Statements.{call};
 ghost use Rattle.pz_code.specs.StepView as step;
 ghost use Rattle.pz_code.specs.Resolution.{resolved_all};
 ghost use Rattle.pz_classes.specs.Numbers.{declaration as declared};
 ghost use Rattle.pz_classes.specs.Ancestors.{ancestors};
-ghost use Rattle.pz_classes.specs.Inherited.{HasMembers};
+ghost use Rattle.pz_classes.specs.devices.Inherited.{HasMembers};
 ghost use Rattle.pz_classes.specs.Starts.{own_start, own_call};
-ghost use Rattle.pz_classes.specs.Surrounding.{scope_around, Numbers};
+ghost use Rattle.pz_classes.specs.devices.Surrounding.{scope_around, Numbers};
 
 use crate::declarations::declaration;
 use crate::members::Members;
 use crate::surroundings::{Surroundings, surround};
 use crate::{Step, StepForm};
-use pz_ast::{Decl, Model, Start};
-use pz_code::{Scope, resolve_list};
+use pz_code::{Numbering, Scope, resolve_list};
 use pz_items::Items;
-use pz_names::Numbering;
+use pz_syntax::{Decl, Model, Start};
 use std::alloc::{AllocError, Global};
 
 /// The `init` that the class of this number itself declares.

@@ -1,15 +1,15 @@
 // The numbers of the names that methods can name.
 
 ghost use Rattle.std.specs.Prelude.{◌≡◌, List, ℕ, length, IfOk};
-ghost use Rattle.pz_ast.specs.Classes.{ModelTree};
-ghost use Rattle.pz_names.specs.NumberIn.{number_in};
+ghost use Rattle.pz_syntax.specs.Classes.{ModelTree};
+ghost use Rattle.pz_code.specs.NumberIn.{number_in};
 ghost use Rattle.pz_classes.specs.Bodies.{place_in, scope_of};
-ghost use Rattle.pz_classes.specs.Surrounding.{scope_around, Numbers};
-ghost use Rattle.pz_names.specs.declared.numbering.Numbering.{Numbering as Names};
+ghost use Rattle.pz_classes.specs.devices.Surrounding.{scope_around, Numbers};
+ghost use Rattle.pz_code.specs.declared.numbering.Numbering.{Numbering as Names};
 
 use crate::methods::next;
-use pz_ast::Name;
-use pz_names::Numbering;
+use pz_code::Numbering;
+use pz_syntax::Name;
 use std::alloc::{AllocError, Global};
 
 /// What the methods of a class have in common: the numbers of its fields or variables, and of its

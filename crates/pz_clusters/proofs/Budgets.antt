@@ -1,19 +1,19 @@
 -- The rules of clusters and the system never refuse as too nested.
 use Rattle.std.proofs.Common.{ℕ, Bool, true, false, cond, Ok}
-use Rattle.pz_ast.specs.declared.names.Id.{Id}
-use Rattle.pz_ast.specs.declared.clusters.Arg.TheVariants.{Plain, Negated, Parameter}
-use Rattle.pz_ast.specs.declared.clusters.ChannelEnd.TheVariants.{Inner, Outer}
+use Rattle.pz_syntax.specs.declared.names.Id.{Id}
+use Rattle.pz_syntax.specs.declared.clusters.Arg.TheVariants.{Plain, Negated, Parameter}
+use Rattle.pz_syntax.specs.declared.clusters.ChannelEnd.TheVariants.{Inner, Outer}
 use Rattle.pz_cursor.specs.declared.ahead.Next.{Next}
 use Rattle.pz_cursor.specs.declared.ahead.Next.TheVariants as n
-use Rattle.pz_cursor.specs.LookAhead.{next}
-use Rattle.pz_cursor.specs.Input.{after, position, identifier, number, literal, sees}
-use Rattle.pz_cursor.specs.Device.{◌<$>◌, pure, refuse, ask, skip, take_id, take_literal, expect, past}
-use Rattle.pz_cursor.specs.Lists.{list_of}
-use Rattle.pz_cursor.specs.Names as names
+use Rattle.pz_cursor.specs.devices.LookAhead.{next}
+use Rattle.pz_cursor.specs.devices.Input.{after, position, identifier, number, literal, sees}
+use Rattle.pz_cursor.specs.devices.Device.{◌<$>◌, pure, refuse, ask, skip, take_id, take_literal, expect, past}
+use Rattle.pz_cursor.specs.devices.Lists.{list_of}
+use Rattle.pz_cursor.specs.devices.Names as names
 use Rattle.pz_cursor.proofs.Budget.{Budget, pure_budget, ask_budget, take_budget, refuse_budget, bind_budget, expect_budget, if_at, optional_budget, or_none_budget, list_budget, each_budget, eaten}
 use Rattle.pz_cursor.proofs.NameBudgets.{word_budget, optional_formal_budget}
 use Rattle.pz_cursor.proofs.Sections.{section_budget, ports_budget}
-use Rattle.pz_clusters.specs.Clusters as spec
+use Rattle.pz_clusters.specs.devices.Clusters as spec
 
 module _ (bound : ℕ) where
   constant_budget : Budget bound spec.constant

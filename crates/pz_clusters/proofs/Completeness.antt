@@ -1,32 +1,32 @@
 -- Each cluster class and each system that the grammar has is read from its text, with the places of
 -- the tokens, before the end or the next declaration.
 use Rattle.std.proofs.Common.{◌≡◌, ◌≢◌, ℕ, suc, ◌+◌, true, List, [], ◌∷◌, ◌++◌, length, Option, Some, None, Ok, refl, ap, sym, ◌∙◌, arith}
-use Rattle.pz_ast.specs.declared.tokens.Pos.{Pos}
-use Rattle.pz_ast.specs.declared.tokens.Symbol.TheVariants as s
-use Rattle.pz_ast.specs.declared.tokens.Keyword.TheVariants as k
-use Rattle.pz_ast.specs.declared.tokens.TokenKind.TheVariants as kind
-use Rattle.pz_ast.specs.declared.exprs.Literal.{Literal}
-use Rattle.pz_ast.specs.declared.exprs.Literal.TheVariants as lit
-use Rattle.pz_ast.specs.declared.clusters.Arg.{Arg}
-use Rattle.pz_ast.specs.declared.clusters.Arg.TheVariants.{Plain, Negated, Parameter}
-use Rattle.pz_ast.specs.declared.clusters.Given.{Given}
-use Rattle.pz_ast.specs.declared.clusters.Instance.{Instance}
-use Rattle.pz_ast.specs.declared.clusters.ChannelEnd.{ChannelEnd}
-use Rattle.pz_ast.specs.declared.clusters.ChannelEnd.TheVariants.{Inner, Outer}
-use Rattle.pz_ast.specs.declared.clusters.Channel.{Channel}
-use Rattle.pz_ast.specs.declared.clusters.ClusterClass.{ClusterClass}
-use Rattle.pz_ast.specs.declared.clusters.SystemDecl.{SystemDecl}
-use Rattle.pz_ast.specs.Marks.{symbol, separated, each_text, optional as optional_text, section as section_text, names_text}
-use Rattle.pz_ast.specs.ExpressionText.{literal_kind}
-use Rattle.pz_ast.specs.ClassText.{formal_text}
-use Rattle.pz_ast.specs.ModelText.{arg_text, given_text, givens_text, instance_text, end_text, channel_text, cluster_class_text, system_text}
-use Rattle.pz_ast.specs.ModelForm.{Each, IfWritten, IsChannel, IsClusterClass, IsSystem}
+use Rattle.pz_syntax.specs.declared.tokens.Pos.{Pos}
+use Rattle.pz_syntax.specs.declared.tokens.Symbol.TheVariants as s
+use Rattle.pz_syntax.specs.declared.tokens.Keyword.TheVariants as k
+use Rattle.pz_syntax.specs.declared.tokens.TokenKind.TheVariants as kind
+use Rattle.pz_syntax.specs.declared.exprs.Literal.{Literal}
+use Rattle.pz_syntax.specs.declared.exprs.Literal.TheVariants as lit
+use Rattle.pz_syntax.specs.declared.clusters.Arg.{Arg}
+use Rattle.pz_syntax.specs.declared.clusters.Arg.TheVariants.{Plain, Negated, Parameter}
+use Rattle.pz_syntax.specs.declared.clusters.Given.{Given}
+use Rattle.pz_syntax.specs.declared.clusters.Instance.{Instance}
+use Rattle.pz_syntax.specs.declared.clusters.ChannelEnd.{ChannelEnd}
+use Rattle.pz_syntax.specs.declared.clusters.ChannelEnd.TheVariants.{Inner, Outer}
+use Rattle.pz_syntax.specs.declared.clusters.Channel.{Channel}
+use Rattle.pz_syntax.specs.declared.clusters.ClusterClass.{ClusterClass}
+use Rattle.pz_syntax.specs.declared.clusters.SystemDecl.{SystemDecl}
+use Rattle.pz_syntax.specs.Marks.{symbol, separated, each_text, optional as optional_text, section as section_text, names_text}
+use Rattle.pz_syntax.specs.ExpressionText.{literal_kind}
+use Rattle.pz_syntax.specs.ClassText.{formal_text}
+use Rattle.pz_syntax.specs.ModelText.{arg_text, given_text, givens_text, instance_text, end_text, channel_text, cluster_class_text, system_text}
+use Rattle.pz_syntax.specs.ModelForm.{Each, IfWritten, IsChannel, IsClusterClass, IsSystem}
 use Rattle.pz_cursor.specs.declared.ahead.Next.{Next}
 use Rattle.pz_cursor.specs.declared.ahead.Next.TheVariants as n
-use Rattle.pz_cursor.specs.LookAhead.{next, same}
-use Rattle.pz_cursor.specs.Input.{Tokens, after, position, identifier, name, number, literal, sees}
-use Rattle.pz_cursor.specs.Device.{expect, expect_id, past}
-use Rattle.pz_cursor.specs.Lists.{list_of}
+use Rattle.pz_cursor.specs.devices.LookAhead.{next, same}
+use Rattle.pz_cursor.specs.devices.Input.{Tokens, after, position, identifier, name, number, literal, sees}
+use Rattle.pz_cursor.specs.devices.Device.{expect, expect_id, past}
+use Rattle.pz_cursor.specs.devices.Lists.{list_of}
 use Rattle.pz_cursor.specs.Places.{located, place_separated, place_optional, place_section}
 use Rattle.pz_cursor.proofs.Steps.{not_seen}
 use Rattle.pz_cursor.proofs.Reading.{Complete, split_located}
@@ -36,7 +36,7 @@ use Rattle.pz_cursor.proofs.Optional.{optional_complete, or_none_complete}
 use Rattle.pz_cursor.proofs.Named.{Any, Whatever, every, if_written, nonempty, comma_is, comma_seen, word_complete, optional_formal_complete}
 use Rattle.pz_cursor.proofs.Sections.{section_complete, ports_complete}
 use Rattle.pz_cursor.proofs.Orders.{Behind, Ends, behind_not, section_behind}
-use Rattle.pz_clusters.specs.Clusters as spec
+use Rattle.pz_clusters.specs.devices.Clusters as spec
 use Rattle.pz_clusters.specs.ClusterPlaces.{place_arg, place_given, place_givens, place_instance, place_instances, place_end, place_channel, place_channels, ports_at, instances_at, channels_at, place_cluster_class, place_system}
 
 -- ---- arguments of instances

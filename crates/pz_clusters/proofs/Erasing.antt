@@ -1,13 +1,13 @@
 -- The positions of the tokens change nothing else of clusters and the system.
 use Rattle.std.proofs.Common.{suc, ◌+◌, length, refl, ap, ◌∙◌}
 use Rattle.std.specs.Prelude.{map, option_map}
-use Rattle.pz_ast.specs.declared.tokens.Keyword.TheVariants as k
-use Rattle.pz_ast.specs.declared.clusters.Arg.TheVariants.{Plain, Negated, Parameter}
-use Rattle.pz_ast.specs.declared.clusters.ChannelEnd.TheVariants.{Inner, Outer}
-use Rattle.pz_ast.specs.Marks.{each_text, section as section_text}
-use Rattle.pz_ast.specs.ModelText.{given_text, instance_text, end_text, channel_text}
-use Rattle.pz_ast.specs.ExpressionErasure.{origin, erase_id}
-use Rattle.pz_ast.specs.ModelErasure.{erase_group, erase_arg, erase_given, erase_instance, erase_end, erase_channel, erase_cluster_class, erase_system}
+use Rattle.pz_syntax.specs.declared.tokens.Keyword.TheVariants as k
+use Rattle.pz_syntax.specs.declared.clusters.Arg.TheVariants.{Plain, Negated, Parameter}
+use Rattle.pz_syntax.specs.declared.clusters.ChannelEnd.TheVariants.{Inner, Outer}
+use Rattle.pz_syntax.specs.Marks.{each_text, section as section_text}
+use Rattle.pz_syntax.specs.ModelText.{given_text, instance_text, end_text, channel_text}
+use Rattle.pz_syntax.specs.ExpressionErasure.{origin, erase_id}
+use Rattle.pz_syntax.specs.ModelErasure.{erase_group, erase_arg, erase_given, erase_instance, erase_end, erase_channel, erase_cluster_class, erase_system}
 use Rattle.pz_cursor.specs.Places.{place_section, place_names, place_enclosed}
 use Rattle.pz_cursor.proofs.Erasing.{Erased, erased_separated, erased_each, erased_optional, erased_section, erased_names, erased_enclosed}
 use Rattle.pz_clusters.specs.ClusterPlaces.{place_arg, place_given, place_givens, place_instance, place_instances, place_end, place_channel, place_channels, ports_at, instances_at, channels_at, place_cluster_class, place_system}

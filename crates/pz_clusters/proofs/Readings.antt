@@ -1,29 +1,29 @@
 -- What each rule reads is the text of what the grammar has.
 use Rattle.std.proofs.Common.{◌≡◌, ℤ, Bool, true, false, cond, List, [], ◌∷◌, ◌++◌, length, Ok, Err, refl, ap, sym, ◌∙◌, append_assoc}
-use Rattle.pz_ast.specs.declared.tokens.Symbol.TheVariants as s
-use Rattle.pz_ast.specs.declared.tokens.Keyword.TheVariants as k
-use Rattle.pz_ast.specs.declared.tokens.TokenKind.TheVariants as kind
-use Rattle.pz_ast.specs.declared.tokens.Mark.{Mark}
-use Rattle.pz_ast.specs.declared.names.Id.{Id}
-use Rattle.pz_ast.specs.declared.clusters.Arg.{Arg}
-use Rattle.pz_ast.specs.declared.clusters.Arg.TheVariants.{Plain, Negated, Parameter}
-use Rattle.pz_ast.specs.declared.clusters.Instance.{Instance}
-use Rattle.pz_ast.specs.declared.clusters.ChannelEnd.{ChannelEnd}
-use Rattle.pz_ast.specs.declared.clusters.ChannelEnd.TheVariants.{Inner, Outer}
-use Rattle.pz_ast.specs.declared.clusters.Channel.{Channel}
-use Rattle.pz_ast.specs.Marks.{mark, symbol, keyword, word, head, separated, each_text, optional as optional_text, section as section_text, names_text}
-use Rattle.pz_ast.specs.ExpressionText.{literal_kind}
-use Rattle.pz_ast.specs.ClassText.{formal_text}
-use Rattle.pz_ast.specs.ModelText.{arg_text, given_text, givens_text, instance_text, end_text, channel_text, cluster_class_text, system_text}
-use Rattle.pz_ast.specs.ModelForm.{Each, IfWritten, IsChannel, IsClusterClass, IsSystem}
+use Rattle.pz_syntax.specs.declared.tokens.Symbol.TheVariants as s
+use Rattle.pz_syntax.specs.declared.tokens.Keyword.TheVariants as k
+use Rattle.pz_syntax.specs.declared.tokens.TokenKind.TheVariants as kind
+use Rattle.pz_syntax.specs.declared.tokens.Mark.{Mark}
+use Rattle.pz_syntax.specs.declared.names.Id.{Id}
+use Rattle.pz_syntax.specs.declared.clusters.Arg.{Arg}
+use Rattle.pz_syntax.specs.declared.clusters.Arg.TheVariants.{Plain, Negated, Parameter}
+use Rattle.pz_syntax.specs.declared.clusters.Instance.{Instance}
+use Rattle.pz_syntax.specs.declared.clusters.ChannelEnd.{ChannelEnd}
+use Rattle.pz_syntax.specs.declared.clusters.ChannelEnd.TheVariants.{Inner, Outer}
+use Rattle.pz_syntax.specs.declared.clusters.Channel.{Channel}
+use Rattle.pz_syntax.specs.Marks.{mark, symbol, keyword, word, head, separated, each_text, optional as optional_text, section as section_text, names_text}
+use Rattle.pz_syntax.specs.ExpressionText.{literal_kind}
+use Rattle.pz_syntax.specs.ClassText.{formal_text}
+use Rattle.pz_syntax.specs.ModelText.{arg_text, given_text, givens_text, instance_text, end_text, channel_text, cluster_class_text, system_text}
+use Rattle.pz_syntax.specs.ModelForm.{Each, IfWritten, IsChannel, IsClusterClass, IsSystem}
 use Rattle.pz_cursor.specs.declared.ahead.Next.{Next}
 use Rattle.pz_cursor.specs.declared.ahead.Next.TheVariants as n
 use Rattle.pz_cursor.specs.declared.refusal.Refusal.TheVariants.{Syntax}
-use Rattle.pz_cursor.specs.LookAhead.{next}
-use Rattle.pz_cursor.specs.Input.{Tokens, marks, after, position, identifier, number, literal, sees}
-use Rattle.pz_cursor.specs.Device.{◌<$>◌, pure, expect, past}
-use Rattle.pz_cursor.specs.Lists.{list_of}
-use Rattle.pz_cursor.specs.Names as names
+use Rattle.pz_cursor.specs.devices.LookAhead.{next}
+use Rattle.pz_cursor.specs.devices.Input.{Tokens, marks, after, position, identifier, number, literal, sees}
+use Rattle.pz_cursor.specs.devices.Device.{◌<$>◌, pure, expect, past}
+use Rattle.pz_cursor.specs.devices.Lists.{list_of}
+use Rattle.pz_cursor.specs.devices.Names as names
 use Rattle.pz_cursor.proofs.Shown.{token_of}
 use Rattle.pz_cursor.proofs.Steps.{bind_ok, takes, sees_is, expected}
 use Rattle.pz_cursor.proofs.Words.{word_is, head_is, number_is, literal_is, int_literal_is}
@@ -34,7 +34,7 @@ use Rattle.pz_cursor.proofs.Each.{each_sound}
 use Rattle.pz_cursor.proofs.Optional.{optional_sound, or_none_sound}
 use Rattle.pz_cursor.proofs.Named.{Any, filled, word_sound, optional_formal_sound}
 use Rattle.pz_cursor.proofs.Sections.{section_sound, ports_sound}
-use Rattle.pz_clusters.specs.Clusters as spec
+use Rattle.pz_clusters.specs.devices.Clusters as spec
 
 -- without a condition
 loosen : {A : Type 0} {text : A → List Mark} {P : A → Type 0} {i : Tokens} {y : A × Tokens} → Took text P i y → Took text Any i y

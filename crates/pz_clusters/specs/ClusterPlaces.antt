@@ -1,18 +1,18 @@
 -- Clusters and the system with the positions of the tokens of their texts.
 use Rattle.std.specs.Prelude.{ℕ, suc, ◌+◌, List, length}
-use Rattle.pz_ast.specs.declared.tokens.Keyword.TheVariants as k
-use Rattle.pz_ast.specs.declared.clusters.Arg.{Arg}
-use Rattle.pz_ast.specs.declared.clusters.Arg.TheVariants.{Plain, Negated, Parameter}
-use Rattle.pz_ast.specs.declared.clusters.Given.{Given}
-use Rattle.pz_ast.specs.declared.clusters.Instance.{Instance}
-use Rattle.pz_ast.specs.declared.clusters.ChannelEnd.{ChannelEnd}
-use Rattle.pz_ast.specs.declared.clusters.ChannelEnd.TheVariants.{Inner, Outer}
-use Rattle.pz_ast.specs.declared.clusters.Channel.{Channel}
-use Rattle.pz_ast.specs.declared.clusters.ClusterClass.{ClusterClass}
-use Rattle.pz_ast.specs.declared.clusters.SystemDecl.{SystemDecl}
-use Rattle.pz_ast.specs.Marks.{each_text, optional, section, names_text}
-use Rattle.pz_ast.specs.ClassText.{formal_text}
-use Rattle.pz_ast.specs.ModelText.{given_text, instance_text, end_text, channel_text}
+use Rattle.pz_syntax.specs.declared.tokens.Keyword.TheVariants as k
+use Rattle.pz_syntax.specs.declared.clusters.Arg.{Arg}
+use Rattle.pz_syntax.specs.declared.clusters.Arg.TheVariants.{Plain, Negated, Parameter}
+use Rattle.pz_syntax.specs.declared.clusters.Given.{Given}
+use Rattle.pz_syntax.specs.declared.clusters.Instance.{Instance}
+use Rattle.pz_syntax.specs.declared.clusters.ChannelEnd.{ChannelEnd}
+use Rattle.pz_syntax.specs.declared.clusters.ChannelEnd.TheVariants.{Inner, Outer}
+use Rattle.pz_syntax.specs.declared.clusters.Channel.{Channel}
+use Rattle.pz_syntax.specs.declared.clusters.ClusterClass.{ClusterClass}
+use Rattle.pz_syntax.specs.declared.clusters.SystemDecl.{SystemDecl}
+use Rattle.pz_syntax.specs.Marks.{each_text, optional, section, names_text}
+use Rattle.pz_syntax.specs.ClassText.{formal_text}
+use Rattle.pz_syntax.specs.ModelText.{given_text, instance_text, end_text, channel_text}
 use Rattle.pz_cursor.specs.Places.{Placing, place_id, place_separated, place_each, place_optional, place_names, place_enclosed, place_section}
 
 abbrev pub place_arg : Placing Arg

@@ -1,2 +1,2 @@
-pub mod Clusters
 pub mod ClusterPlaces
+pub mod devices

@@ -1,18 +1,18 @@
 //! Channels and their ends.
 
 ghost use Rattle.std.specs.Prelude.{◌≡◌};
-ghost use Rattle.pz_cursor.specs.Device.{Reads};
-ghost use Rattle.pz_cursor.specs.Lists as lists;
+ghost use Rattle.pz_cursor.specs.devices.Device.{Reads};
+ghost use Rattle.pz_cursor.specs.devices.Lists as lists;
 ghost use Rattle.pz_cursor.specs.declared.ahead.Next.TheVariants as n;
-ghost use Rattle.pz_clusters.specs.Clusters as spec;
+ghost use Rattle.pz_clusters.specs.devices.Clusters as spec;
 
-use pz_ast::{Channel, ChannelEnd};
 use pz_cursor::{Cursor, Next, Refusal};
 use pz_items::Items;
+use pz_syntax::{Channel, ChannelEnd};
 use std::alloc::Global;
 
 /// The channels, if `channels` stands next.
-#[tactic(auto, unfolding(crate::specs::Clusters::channels_section))]
+#[tactic(auto, unfolding(crate::specs::devices::Clusters::channels_section))]
 pub fn channels_section(
     alloc: Global,
     cursor: &mut Cursor<'_>,
@@ -28,7 +28,7 @@ pub fn channels_section(
 }
 
 /// None or more channels. One begins with a `{`.
-#[tactic(auto, unfolding(crate::specs::Clusters::channels, pz_cursor::specs::Lists::each_of, pz_cursor::specs::Lists::repeat))]
+#[tactic(auto, unfolding(crate::specs::devices::Clusters::channels, pz_cursor::specs::devices::Lists::each_of, pz_cursor::specs::devices::Lists::repeat))]
 fn channels(alloc: Global, cursor: &mut Cursor<'_>) -> Result<Items<Channel>, Refusal>
     ensures { Reads (λ x. x) (spec.channels cursor.old) result cursor.new }
 {
@@ -42,7 +42,7 @@ fn channels(alloc: Global, cursor: &mut Cursor<'_>) -> Result<Items<Channel>, Re
     Ok(found)
 }
 
-#[tactic(auto, unfolding(crate::specs::Clusters::one_channel))]
+#[tactic(auto, unfolding(crate::specs::devices::Clusters::one_channel))]
 fn channel(alloc: Global, cursor: &mut Cursor<'_>) -> Result<Channel, Refusal>
     ensures { Reads (λ x. x) (spec.one_channel cursor.old) result cursor.new }
 {
@@ -54,7 +54,7 @@ fn channel(alloc: Global, cursor: &mut Cursor<'_>) -> Result<Channel, Refusal>
 }
 
 /// One end or more, with commas between them.
-#[tactic(auto, unfolding(pz_cursor::specs::Lists::list_of))]
+#[tactic(auto, unfolding(pz_cursor::specs::devices::Lists::list_of))]
 fn ends(alloc: Global, cursor: &mut Cursor<'_>) -> Result<Items<ChannelEnd>, Refusal>
     ensures { Reads (λ x. x) (lists.list_of spec.one_end n.Comma cursor.old) result cursor.new }
 {
@@ -63,7 +63,7 @@ fn ends(alloc: Global, cursor: &mut Cursor<'_>) -> Result<Items<ChannelEnd>, Ref
     more_ends(alloc, cursor, found)
 }
 
-#[tactic(auto, unfolding(pz_cursor::specs::Lists::more_of, pz_cursor::specs::Lists::tail_of))]
+#[tactic(auto, unfolding(pz_cursor::specs::devices::Lists::more_of, pz_cursor::specs::devices::Lists::tail_of))]
 fn more_ends(
     alloc: Global,
     cursor: &mut Cursor<'_>,
@@ -81,7 +81,7 @@ fn more_ends(
 }
 
 /// A port of an instance, behind its name and a dot, or a port of the cluster itself.
-#[tactic(auto, unfolding(crate::specs::Clusters::one_end))]
+#[tactic(auto, unfolding(crate::specs::devices::Clusters::one_end))]
 fn end(alloc: Global, cursor: &mut Cursor<'_>) -> Result<ChannelEnd, Refusal>
     ensures { Reads (λ x. x) (spec.one_end cursor.old) result cursor.new }
 {

@@ -1,17 +1,17 @@
 //! Cluster classes and the system.
 
 ghost use Rattle.std.specs.Prelude.{◌≡◌};
-ghost use Rattle.pz_cursor.specs.Device.{Reads};
-ghost use Rattle.pz_clusters.specs.Clusters as spec;
+ghost use Rattle.pz_cursor.specs.devices.Device.{Reads};
+ghost use Rattle.pz_clusters.specs.devices.Clusters as spec;
 
 use crate::channels::channels_section;
 use crate::instances::instances_section;
-use pz_ast::{ClusterClass, SystemDecl};
 use pz_cursor::{Cursor, Next, Refusal, optional_formal, ports_section};
+use pz_syntax::{ClusterClass, SystemDecl};
 use std::alloc::Global;
 
 /// A cluster class. Its keyword `cluster` is to stand next.
-#[tactic(auto, unfolding(crate::specs::Clusters::cluster_class))]
+#[tactic(auto, unfolding(crate::specs::devices::Clusters::cluster_class))]
 pub fn cluster_class(alloc: Global, cursor: &mut Cursor<'_>) -> Result<ClusterClass, Refusal>
     ensures reads { Reads (λ x. x) (spec.cluster_class cursor.old) result cursor.new }
 {
@@ -32,7 +32,7 @@ pub fn cluster_class(alloc: Global, cursor: &mut Cursor<'_>) -> Result<ClusterCl
 }
 
 /// The system. Its keyword is to stand next.
-#[tactic(auto, unfolding(crate::specs::Clusters::system))]
+#[tactic(auto, unfolding(crate::specs::devices::Clusters::system))]
 pub fn system(alloc: Global, cursor: &mut Cursor<'_>) -> Result<SystemDecl, Refusal>
     ensures reads { Reads (λ x. x) (spec.system cursor.old) result cursor.new }
 {

@@ -1,18 +1,18 @@
 //! Instances and what their parameters are given.
 
 ghost use Rattle.std.specs.Prelude.{◌≡◌};
-ghost use Rattle.pz_cursor.specs.Device.{Reads};
-ghost use Rattle.pz_cursor.specs.Lists as lists;
+ghost use Rattle.pz_cursor.specs.devices.Device.{Reads};
+ghost use Rattle.pz_cursor.specs.devices.Lists as lists;
 ghost use Rattle.pz_cursor.specs.declared.ahead.Next.TheVariants as n;
-ghost use Rattle.pz_clusters.specs.Clusters as spec;
+ghost use Rattle.pz_clusters.specs.devices.Clusters as spec;
 
-use pz_ast::{Arg, Given, Instance};
 use pz_cursor::{Cursor, Next, Refusal};
 use pz_items::Items;
+use pz_syntax::{Arg, Given, Instance};
 use std::alloc::Global;
 
 /// The instances, if `instances` stands next.
-#[tactic(auto, unfolding(crate::specs::Clusters::instances_section))]
+#[tactic(auto, unfolding(crate::specs::devices::Clusters::instances_section))]
 pub fn instances_section(
     alloc: Global,
     cursor: &mut Cursor<'_>,
@@ -28,7 +28,7 @@ pub fn instances_section(
 }
 
 /// None or more instances. One begins with a head.
-#[tactic(auto, unfolding(crate::specs::Clusters::instances, pz_cursor::specs::Lists::each_of, pz_cursor::specs::Lists::repeat))]
+#[tactic(auto, unfolding(crate::specs::devices::Clusters::instances, pz_cursor::specs::devices::Lists::each_of, pz_cursor::specs::devices::Lists::repeat))]
 fn instances(alloc: Global, cursor: &mut Cursor<'_>) -> Result<Items<Instance>, Refusal>
     ensures { Reads (λ x. x) (spec.instances cursor.old) result cursor.new }
 {
@@ -42,7 +42,7 @@ fn instances(alloc: Global, cursor: &mut Cursor<'_>) -> Result<Items<Instance>, 
     Ok(found)
 }
 
-#[tactic(auto, unfolding(crate::specs::Clusters::one_instance))]
+#[tactic(auto, unfolding(crate::specs::devices::Clusters::one_instance))]
 fn instance(alloc: Global, cursor: &mut Cursor<'_>) -> Result<Instance, Refusal>
     ensures { Reads (λ x. x) (spec.one_instance cursor.old) result cursor.new }
 {
@@ -53,7 +53,7 @@ fn instance(alloc: Global, cursor: &mut Cursor<'_>) -> Result<Instance, Refusal>
     Ok(Instance { name, class, given })
 }
 
-#[tactic(auto, unfolding(crate::specs::Clusters::optional_givens))]
+#[tactic(auto, unfolding(crate::specs::devices::Clusters::optional_givens))]
 fn optional_givens(alloc: Global, cursor: &mut Cursor<'_>) -> Result<Option<Items<Given>>, Refusal>
     ensures { Reads (λ x. x) (spec.optional_givens cursor.old) result cursor.new }
 {
@@ -64,7 +64,7 @@ fn optional_givens(alloc: Global, cursor: &mut Cursor<'_>) -> Result<Option<Item
     }
 }
 
-#[tactic(auto, unfolding(crate::specs::Clusters::bracketed_givens))]
+#[tactic(auto, unfolding(crate::specs::devices::Clusters::bracketed_givens))]
 fn bracketed_givens(alloc: Global, cursor: &mut Cursor<'_>) -> Result<Items<Given>, Refusal>
     ensures { Reads (λ x. x) (spec.bracketed_givens cursor.old) result cursor.new }
 {
@@ -75,7 +75,7 @@ fn bracketed_givens(alloc: Global, cursor: &mut Cursor<'_>) -> Result<Items<Give
 }
 
 /// What parameters are given, or nothing where no name stands next.
-#[tactic(auto, unfolding(crate::specs::Clusters::givens, pz_cursor::specs::Lists::list_of))]
+#[tactic(auto, unfolding(crate::specs::devices::Clusters::givens, pz_cursor::specs::devices::Lists::list_of))]
 fn givens(alloc: Global, cursor: &mut Cursor<'_>) -> Result<Items<Given>, Refusal>
     ensures { Reads (λ x. x) (spec.givens cursor.old) result cursor.new }
 {
@@ -87,7 +87,7 @@ fn givens(alloc: Global, cursor: &mut Cursor<'_>) -> Result<Items<Given>, Refusa
     more_givens(alloc, cursor, found)
 }
 
-#[tactic(auto, unfolding(pz_cursor::specs::Lists::more_of, pz_cursor::specs::Lists::tail_of))]
+#[tactic(auto, unfolding(pz_cursor::specs::devices::Lists::more_of, pz_cursor::specs::devices::Lists::tail_of))]
 fn more_givens(
     alloc: Global,
     cursor: &mut Cursor<'_>,
@@ -104,7 +104,7 @@ fn more_givens(
     Ok(found)
 }
 
-#[tactic(auto, unfolding(crate::specs::Clusters::given))]
+#[tactic(auto, unfolding(crate::specs::devices::Clusters::given))]
 fn given(alloc: Global, cursor: &mut Cursor<'_>) -> Result<Given, Refusal>
     ensures { Reads (λ x. x) (spec.given cursor.old) result cursor.new }
 {
@@ -115,7 +115,7 @@ fn given(alloc: Global, cursor: &mut Cursor<'_>) -> Result<Given, Refusal>
 }
 
 /// A literal, an integer behind a minus, or the name of a parameter of the cluster.
-#[tactic(auto, unfolding(crate::specs::Clusters::arg))]
+#[tactic(auto, unfolding(crate::specs::devices::Clusters::arg))]
 fn arg(alloc: Global, cursor: &mut Cursor<'_>) -> Result<Arg, Refusal>
     ensures { Reads (λ x. x) (spec.arg cursor.old) result cursor.new }
 {
@@ -128,7 +128,7 @@ fn arg(alloc: Global, cursor: &mut Cursor<'_>) -> Result<Arg, Refusal>
     }
 }
 
-#[tactic(auto, unfolding(crate::specs::Clusters::constant))]
+#[tactic(auto, unfolding(crate::specs::devices::Clusters::constant))]
 fn constant(cursor: &mut Cursor<'_>) -> Result<Arg, Refusal>
     ensures { Reads (λ x. x) (spec.constant cursor.old) result cursor.new }
 {
@@ -137,7 +137,7 @@ fn constant(cursor: &mut Cursor<'_>) -> Result<Arg, Refusal>
     Ok(Arg::Plain(literal, pos))
 }
 
-#[tactic(auto, unfolding(crate::specs::Clusters::negated, crate::specs::Clusters::expect_number))]
+#[tactic(auto, unfolding(crate::specs::devices::Clusters::negated, crate::specs::devices::Clusters::expect_number))]
 fn negated(cursor: &mut Cursor<'_>) -> Result<Arg, Refusal>
     ensures { Reads (λ x. x) (spec.negated cursor.old) result cursor.new }
 {
@@ -149,7 +149,7 @@ fn negated(cursor: &mut Cursor<'_>) -> Result<Arg, Refusal>
     Ok(Arg::Negated(cursor.take_number(), pos))
 }
 
-#[tactic(auto, unfolding(crate::specs::Clusters::parameter))]
+#[tactic(auto, unfolding(crate::specs::devices::Clusters::parameter))]
 fn parameter(alloc: Global, cursor: &mut Cursor<'_>) -> Result<Arg, Refusal>
     ensures { Reads (λ x. x) (spec.parameter cursor.old) result cursor.new }
 {

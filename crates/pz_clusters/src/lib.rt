@@ -6,6 +6,3 @@ mod declarations;
 mod instances;
 
 pub use declarations::{cluster_class, system};
-
-#[cfg(test)]
-mod tests;

@@ -1,3 +1,4 @@
 mod Branches
 mod ResolvedLists
 mod ResolvedSteps
+mod Numberings

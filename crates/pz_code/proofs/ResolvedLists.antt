@@ -1,20 +1,20 @@
 -- Resolving lists one by one.
 use Rattle.std.proofs.Common.{◌≡◌, refl, ap, ℕ, ◌≤◌, List, [], ◌∷◌, map, take, length, Option, Some, None, rules}
 use Rattle.std.proofs.lemmas.List.{take_all}
-use Rattle.pz_ast.specs.declared.tokens.Pos.{Pos}
-use Rattle.pz_ast.specs.declared.exprs.ExprForm.{ExprForm}
-use Rattle.pz_ast.specs.declared.exprs.ExprForm.TheVariants as ours
+use Rattle.pz_syntax.specs.declared.tokens.Pos.{Pos}
+use Rattle.pz_syntax.specs.declared.exprs.ExprForm.{ExprForm}
+use Rattle.pz_syntax.specs.declared.exprs.ExprForm.TheVariants as ours
 use Rattle.pz_code.specs.declared.code.Code.{Code}
 use Rattle.pz_code.specs.declared.code.CodeForm.TheVariants as theirs
 use Rattle.pz_code.specs.declared.code.CodeForm.TheFolds.{the_lemmas}
-use Rattle.pz_ast.specs.declared.exprs.ExprForm.TheFolds as old
+use Rattle.pz_syntax.specs.declared.exprs.ExprForm.TheFolds as old
 use Rattle.pz_code.specs.declared.code.CodeLink.{CodeLink}
 use Rattle.pz_code.specs.declared.code.CodeSending.{CodeSending}
-use Rattle.pz_ast.specs.declared.exprs.Expr.{Expr}
-use Rattle.pz_ast.specs.declared.exprs.Link.{Link}
-use Rattle.pz_ast.specs.declared.exprs.Sending.{Sending}
-use Rattle.pz_ast.specs.Expressions.{choice, Expressions, more, left_out, written, Links, link, Sendings, sending}
-use Rattle.pz_ast.specs.ExpressionView as tree
+use Rattle.pz_syntax.specs.declared.exprs.Expr.{Expr}
+use Rattle.pz_syntax.specs.declared.exprs.Link.{Link}
+use Rattle.pz_syntax.specs.declared.exprs.Sending.{Sending}
+use Rattle.pz_syntax.specs.Expressions.{choice, Expressions, more, left_out, written, Links, link, Sendings, sending}
+use Rattle.pz_syntax.specs.ExpressionView as tree
 use Rattle.pz_value.specs.declared.value.ClassId.{ClassId}
 use Rattle.pz_code.specs.declared.slot.Slot.{Slot}
 use Rattle.pz_code.specs.CodeView as code

@@ -2,17 +2,17 @@
 use Rattle.std.proofs.Common.{◌≡◌, refl, ap, ℕ, ◌≤◌, List, [], ◌∷◌, map, take, length, Option, Some, None, rules}
 use Rattle.std.specs.Option.{option_map}
 use Rattle.std.proofs.lemmas.List.{take_all}
-use Rattle.pz_ast.specs.declared.tokens.Pos.{Pos}
-use Rattle.pz_ast.specs.declared.names.Id.{Id}
-use Rattle.pz_ast.specs.declared.exprs.Expr.{Expr}
-use Rattle.pz_ast.specs.declared.stmts.Stmt.{Stmt}
-use Rattle.pz_ast.specs.declared.stmts.StmtForm.{StmtForm}
-use Rattle.pz_ast.specs.declared.stmts.StmtForm.TheVariants as ours
-use Rattle.pz_ast.specs.declared.stmts.StmtForm.TheFolds as old
-use Rattle.pz_ast.specs.Expressions.{assign}
-use Rattle.pz_ast.specs.Statements.{conditional, send, receive, assignment, value, Statements, then, not_written, otherwise}
-use Rattle.pz_ast.specs.ExpressionView as expression
-use Rattle.pz_ast.specs.StatementView as tree
+use Rattle.pz_syntax.specs.declared.tokens.Pos.{Pos}
+use Rattle.pz_syntax.specs.declared.names.Id.{Id}
+use Rattle.pz_syntax.specs.declared.exprs.Expr.{Expr}
+use Rattle.pz_syntax.specs.declared.stmts.Stmt.{Stmt}
+use Rattle.pz_syntax.specs.declared.stmts.StmtForm.{StmtForm}
+use Rattle.pz_syntax.specs.declared.stmts.StmtForm.TheVariants as ours
+use Rattle.pz_syntax.specs.declared.stmts.StmtForm.TheFolds as old
+use Rattle.pz_syntax.specs.Expressions.{assign}
+use Rattle.pz_syntax.specs.Statements.{conditional, send, receive, assignment, value, Statements, then, not_written, otherwise}
+use Rattle.pz_syntax.specs.ExpressionView as expression
+use Rattle.pz_syntax.specs.StatementView as tree
 use Rattle.pz_value.specs.declared.value.ClassId.{ClassId}
 use Rattle.pz_code.specs.declared.slot.Slot.{Slot}
 use Rattle.pz_code.specs.declared.code.Code.{Code}

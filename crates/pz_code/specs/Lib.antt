@@ -2,3 +2,5 @@ pub mod CodeView
 pub mod StepView
 pub mod Resolution
 pub mod ScopeView
+pub mod ReservedNames
+pub mod NumberIn

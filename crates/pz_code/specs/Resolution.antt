@@ -1,12 +1,12 @@
 -- Trees with slots and numbers in place of names. All other names stay.
 use Rattle.std.specs.Prelude.{ℕ, List, map, Option, Some, None, option_map, unwrap_or, cond}
-use Rattle.pz_ast.specs.declared.names.Id.{Id}
-use Rattle.pz_ast.specs.Expressions.{Expression, literal, variable, me, clock, creation, group, chain, sends, unary, assign, returned, choice, loop, Expressions, none, more, Part, left_out, written, Links, no_links, link, Sendings, no_sendings, sending}
-use Rattle.pz_ast.specs.Statements.{Statement, skip, delay, bracketed, block, guarded, parallel, select, conditional, repeated, abort, interrupt, send, receive, call, assignment, value, Statements, no_statements, then, StatementPart, not_written, otherwise, Branches, no_branches, branch}
+use Rattle.pz_syntax.specs.declared.names.Id.{Id}
+use Rattle.pz_syntax.specs.Expressions.{Expression, literal, variable, me, clock, creation, group, chain, sends, unary, assign, returned, choice, loop, Expressions, none, more, Part, left_out, written, Links, no_links, link, Sendings, no_sendings, sending}
+use Rattle.pz_syntax.specs.Statements.{Statement, skip, delay, bracketed, block, guarded, parallel, select, conditional, repeated, abort, interrupt, send, receive, call, assignment, value, Statements, no_statements, then, StatementPart, not_written, otherwise, Branches, no_branches, branch}
 use Rattle.pz_value.specs.declared.value.ClassId.{ClassId}
 use Rattle.pz_code.specs.declared.slot.Slot.{Slot}
 use Rattle.pz_code.specs.declared.slot.Slot.TheVariants.{Local, Shared, Unknown}
-use Rattle.pz_names.specs.ReservedNames.{is_array}
+use Rattle.pz_code.specs.ReservedNames.{is_array}
 
 -- The numbers of names in a body: of its inputs, outputs and locals, of the fields or variables of
 -- its class, of the ports there, and of classes.

@@ -1,6 +1,6 @@
 -- The scope that the code holds.
 use Rattle.pz_code.specs.declared.scope.Scope.{Scope}
-use Rattle.pz_names.specs.NumberIn.{number_in}
+use Rattle.pz_code.specs.NumberIn.{number_in}
 use Rattle.pz_code.specs.Resolution as spec
 
 abbrev pub scope_view : Scope → spec.Scope

@@ -1,7 +1,7 @@
 -- The plain data that the steps of a body stand for.
 use Rattle.std.specs.Prelude.{ℕ, List, [], ◌∷◌, map, Option, Some, None, option_map}
-use Rattle.pz_ast.specs.declared.tokens.Pos.{Pos}
-use Rattle.pz_ast.specs.Statements.{Statement, skip, delay, bracketed, block, guarded, parallel, select, conditional, repeated, abort, interrupt, send, receive, call, value, Statements, no_statements, then, StatementPart, not_written, otherwise, Branches, no_branches, branch}
+use Rattle.pz_syntax.specs.declared.tokens.Pos.{Pos}
+use Rattle.pz_syntax.specs.Statements.{Statement, skip, delay, bracketed, block, guarded, parallel, select, conditional, repeated, abort, interrupt, send, receive, call, value, Statements, no_statements, then, StatementPart, not_written, otherwise, Branches, no_branches, branch}
 use Rattle.pz_value.specs.declared.value.ClassId.{ClassId}
 use Rattle.pz_code.specs.declared.slot.Slot.{Slot}
 use Rattle.pz_code.specs.declared.step.StepForm.{StepForm, fold-StepForm}

@@ -3,7 +3,7 @@ use pz_items::Items;
 
 /// The body of a method. `locals` is how many inputs, outputs and locals there are; they are
 /// numbered in this order.
-#[derive(Debug, Drop)]
+#[derive(Drop)]
 pub enum Body {
     Data { locals: u32, code: Items<Code> },
     Process { locals: u32, stmts: Items<Step> },

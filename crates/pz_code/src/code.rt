@@ -1,12 +1,12 @@
 use crate::Slot;
-use pz_ast::{Id, Literal, Pos, Symbol};
 use pz_items::{Boxed, Items};
+use pz_syntax::{Id, Literal, Pos, Symbol};
 use pz_value::ClassId;
 
 /// An expression of a method's body, at the place of its first token. Variables are slots, and
 /// classes are numbers.
 #[cycle(code)]
-#[derive(Debug, Drop)]
+#[derive(Drop)]
 pub struct Code {
     pub pos: Pos,
     pub form: CodeForm,
@@ -14,7 +14,7 @@ pub struct Code {
 
 /// The forms of expressions, as in the syntax.
 #[cycle(code)]
-#[derive(Debug, Drop)]
+#[derive(Drop)]
 pub enum CodeForm {
     Lit(Literal),
     Var(Slot),
@@ -33,7 +33,7 @@ pub enum CodeForm {
 
 /// An operator, at its place, and its right operand.
 #[cycle(code)]
-#[derive(Debug, Drop)]
+#[derive(Drop)]
 pub struct CodeLink {
     pub op: Symbol,
     pub pos: Pos,
@@ -42,7 +42,7 @@ pub struct CodeLink {
 
 /// A selector and its arguments, if a pair of brackets is written.
 #[cycle(code)]
-#[derive(Debug, Drop)]
+#[derive(Drop)]
 pub struct CodeSending {
     pub selector: Id,
     pub args: Option<Items<Code>>,

@@ -1,9 +1,11 @@
 //! The bodies of methods with slots in place of variables and numbers in place of classes and
-//! ports, and how a body of the syntax is resolved to one.
+//! ports, and how a body of the syntax is resolved to one; names that no model declares, and numberings of names.
 #![tactic(auto)]
 
 mod body;
 mod code;
+mod numbering;
+mod reserved;
 mod resolving;
 mod scope;
 mod slot;
@@ -11,6 +13,8 @@ mod step;
 
 pub use body::Body;
 pub use code::{Code, CodeForm, CodeLink, CodeSending};
+pub use numbering::Numbering;
+pub use reserved::{is_array, is_object, is_primitive, is_unsupported};
 pub use resolving::{resolve_list, resolve_statements};
 pub use scope::Scope;
 pub use slot::Slot;

@@ -4,10 +4,9 @@ ghost use Rattle.std.specs.Prelude.{◌≡◌, IfOk};
 ghost use Rattle.pz_code.specs.Resolution as spec;
 ghost use Rattle.pz_code.specs.ScopeView.{scope_view};
 
-use crate::Slot;
-use pz_ast::{Id, Name};
+use crate::{Numbering, Slot, is_array};
 use pz_items::Items;
-use pz_names::{Numbering, is_array};
+use pz_syntax::{Id, Name};
 use pz_value::ClassId;
 use std::alloc::{AllocError, Global};
 

@@ -1,11 +1,11 @@
 use crate::{Code, Slot};
-use pz_ast::{Id, Pos};
 use pz_items::{Boxed, Items};
+use pz_syntax::{Id, Pos};
 
 /// A statement of a method's body, at the place of its first token. Variables are slots, and ports
 /// are their numbers in the class.
 #[cycle(step)]
-#[derive(Debug, Drop)]
+#[derive(Drop)]
 pub struct Step {
     pub pos: Pos,
     pub form: StepForm,
@@ -14,7 +14,7 @@ pub struct Step {
 /// The forms of statements, as in the syntax, but for `Eval`: an assignment, or an expression that
 /// is a statement.
 #[cycle(step)]
-#[derive(Debug, Drop)]
+#[derive(Drop)]
 pub enum StepForm {
     Skip,
     Delay(Code),

@@ -6,9 +6,9 @@ use Rattle.pz_components.specs.declared.walk.State.{State}
 use Rattle.pz_components.specs.declared.walk.State.TheVariants.{Unseen, Open, Done}
 use Rattle.pz_components.specs.declared.walk.Group.{Group}
 use Rattle.pz_components.specs.Graph.{targets, Reaches}
-use Rattle.pz_components.specs.Walking.{Walked, state_of, done_all, closed, left}
-use Rattle.pz_components.specs.Walking as walking
-use Rattle.pz_components.specs.IsWalk.{At, NoStart, IsFollowed, to_done, to_open, WaitsFor, IsWaiting, HasSource, IsWalk, Advances}
+use Rattle.pz_components.specs.devices.Walking.{Walked, state_of, done_all, closed, left}
+use Rattle.pz_components.specs.devices.Walking as walking
+use Rattle.pz_components.specs.devices.IsWalk.{At, NoStart, IsFollowed, to_done, to_open, WaitsFor, IsWaiting, HasSource, IsWalk, Advances}
 use Rattle.pz_components.proofs.Places.{within, Pushed, before, last, pushed, at_last, in_first, of_taken, is_taken, of_dropped, is_dropped}
 use Rattle.pz_components.proofs.States.{two_ways, at_state, is_at, past, open_within, length-done_all, done_other, done_same}
 use Rattle.pz_components.proofs.Costs.{to_open-done_all}

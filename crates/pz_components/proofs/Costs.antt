@@ -4,7 +4,7 @@ use Rattle.std.proofs.Math.ListN.{set}
 use Rattle.pz_components.specs.declared.walk.State.{State}
 use Rattle.pz_components.specs.declared.walk.State.TheVariants.{Unseen, Open, Done}
 use Rattle.pz_components.specs.Graph.{targets}
-use Rattle.pz_components.specs.Walking.{state_of, done_all, cost, to_open}
+use Rattle.pz_components.specs.devices.Walking.{state_of, done_all, cost, to_open}
 
 -- a vertex that is opened is left no more
 pub to_open-opened : (edges : List (List ℕ)) (ss : List State) (v i : ℕ) → length ss ≡ length edges → state_of ss v ≡ Unseen → to_open edges (set ss v (Open i)) + (length (targets edges v) + 2) ≡ to_open edges ss

@@ -9,8 +9,8 @@ use Rattle.pz_components.specs.declared.walk.State.{State}
 use Rattle.pz_components.specs.declared.walk.State.TheVariants.{Unseen, Open, Done}
 use Rattle.pz_components.specs.declared.walk.Group.{Group}
 use Rattle.pz_components.specs.Graph.{targets, Reaches, itself, further, number_of, AreComponents}
-use Rattle.pz_components.specs.Walking.{Walked, state_of, number, below, unseen, nothing_seen, is_at_end}
-use Rattle.pz_components.specs.IsWalk.{At, IsWalk}
+use Rattle.pz_components.specs.devices.Walking.{Walked, state_of, number, below, unseen, nothing_seen, is_at_end}
+use Rattle.pz_components.specs.devices.IsWalk.{At, IsWalk}
 use Rattle.pz_components.proofs.Places.{within, no_place, Pushed, before, last, pushed, at_last, in_first}
 use Rattle.pz_components.proofs.States.{two_ways, at_state, is_at, unseen_within, past}
 

@@ -7,8 +7,8 @@ use Rattle.pz_components.specs.declared.walk.State.{State}
 use Rattle.pz_components.specs.declared.walk.State.TheVariants.{Unseen, Open, Done}
 use Rattle.pz_components.specs.declared.walk.Group.{Group}
 use Rattle.pz_components.specs.Graph.{targets, Reaches, itself}
-use Rattle.pz_components.specs.Walking.{Walked, state_of, opened, to_open}
-use Rattle.pz_components.specs.IsWalk.{At, NoStart, IsFollowed, to_done, to_open as known_open, WaitsFor, IsWaiting, HasSource, IsWalk, IsOpenEnded, Advances}
+use Rattle.pz_components.specs.devices.Walking.{Walked, state_of, opened, to_open}
+use Rattle.pz_components.specs.devices.IsWalk.{At, NoStart, IsFollowed, to_done, to_open as known_open, WaitsFor, IsWaiting, HasSource, IsWalk, IsOpenEnded, Advances}
 use Rattle.pz_components.proofs.Places.{within, Pushed, before, last, pushed, at_last, in_first, in_second, Part, first, second, part, is_member, place}
 use Rattle.pz_components.proofs.States.{same_number, set_same, set_other, at_state, is_at, unseen_within}
 use Rattle.pz_components.proofs.Walks.{size, earlier, waits, room, reaches_next}

@@ -4,8 +4,8 @@ use Rattle.std.specs.List.{Contains}
 use Rattle.pz_components.specs.declared.walk.State.TheVariants.{Unseen, Open, Done}
 use Rattle.pz_components.specs.declared.walk.Group.{Group}
 use Rattle.pz_components.specs.Graph.{targets, Reaches}
-use Rattle.pz_components.specs.Walking.{Walked, state_of}
-use Rattle.pz_components.specs.IsWalk.{At, NoStart, IsFollowed, to_done, to_open, WaitsFor, IsWaiting, HasSource, IsWalk, IsOpenEnded, AreJoined, Advances}
+use Rattle.pz_components.specs.devices.Walking.{Walked, state_of}
+use Rattle.pz_components.specs.devices.IsWalk.{At, NoStart, IsFollowed, to_done, to_open, WaitsFor, IsWaiting, HasSource, IsWalk, IsOpenEnded, AreJoined, Advances}
 use Rattle.pz_components.proofs.Places.{Pushed, before, last}
 use Rattle.pz_components.proofs.States.{two_ways}
 use Rattle.pz_components.proofs.Walks.{reaches_on, size, earlier, waits, room, reaches_next}

@@ -2,7 +2,7 @@
 use Rattle.std.proofs.Common.{◌≡◌, refl, ap, ◌∙◌, ℕ, zero, suc, ◌+◌, ◌<◌, List, [], ◌∷◌, ◌++◌, length, take, drop, Some, arith}
 use Rattle.std.specs.List.{Contains}
 use Rattle.std.proofs.lemmas.Option.{slice_get-get_or, get_or_from_slice_get, slice_get_within}
-use Rattle.pz_components.specs.IsWalk.{At}
+use Rattle.pz_components.specs.devices.IsWalk.{At}
 
 module _ {A : Type 0} where
   pub within : (xs : List A) (k : ℕ) (x : A) → At xs k x → k < length xs

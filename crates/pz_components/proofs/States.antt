@@ -5,8 +5,8 @@ use Rattle.std.proofs.lemmas.List.{get_or_past}
 use Rattle.std.proofs.lemmas.Option.{unwrap_or-slice_get, slice_get-get_or, get_or_from_slice_get}
 use Rattle.pz_components.specs.declared.walk.State.{State}
 use Rattle.pz_components.specs.declared.walk.State.TheVariants.{Unseen, Open, Done}
-use Rattle.pz_components.specs.IsWalk.{At}
-use Rattle.pz_components.specs.Walking.{state_of, done_all}
+use Rattle.pz_components.specs.devices.IsWalk.{At}
+use Rattle.pz_components.specs.devices.Walking.{state_of, done_all}
 
 pub same_number : (u v : ℕ) → (u ≡ v) ⊎ (u ≢ v)
 same_number u v = grind arith

@@ -6,8 +6,8 @@ use Rattle.std.proofs.lemmas.Option.{slice_get-get_or, get_or_from_slice_get}
 use Rattle.pz_components.specs.declared.walk.State.{State}
 use Rattle.pz_components.specs.declared.walk.State.TheVariants.{Unseen, Open, Done}
 use Rattle.pz_components.specs.declared.walk.Group.{Group}
-use Rattle.pz_components.specs.Walking.{Walked, state_of, last_of, followed_group, is_at_end, opened, closed}
-use Rattle.pz_components.specs.IsWalk.{At, IsWalk, IsOpenEnded, AreJoined, Advances}
+use Rattle.pz_components.specs.devices.Walking.{Walked, state_of, last_of, followed_group, is_at_end, opened, closed}
+use Rattle.pz_components.specs.devices.IsWalk.{At, IsWalk, IsOpenEnded, AreJoined, Advances}
 use Rattle.pz_components.proofs.Places.{within}
 use Rattle.pz_components.proofs.Passing.{back, to_component}
 use Rattle.pz_components.proofs.Opening.{opens}

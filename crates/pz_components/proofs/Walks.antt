@@ -6,8 +6,8 @@ use Rattle.std.proofs.lemmas.Option.{slice_get-get_or}
 use Rattle.pz_components.specs.declared.walk.State.TheVariants.{Open}
 use Rattle.pz_components.specs.declared.walk.Group.{Group}
 use Rattle.pz_components.specs.Graph.{Reaches, itself, further}
-use Rattle.pz_components.specs.Walking.{Walked, state_of, followed_group}
-use Rattle.pz_components.specs.IsWalk.{At, IsWalk, IsOpenEnded, HasSource}
+use Rattle.pz_components.specs.devices.Walking.{Walked, state_of, followed_group}
+use Rattle.pz_components.specs.devices.IsWalk.{At, IsWalk, IsOpenEnded, HasSource}
 use Rattle.pz_components.proofs.Places.{within, Pushed, pushed, in_first, at_last}
 
 pub reaches_on : (edges : List (List ℕ)) (v u w : ℕ) → Reaches edges v u → Reaches edges u w → Reaches edges v w

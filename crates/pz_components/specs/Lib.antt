@@ -1,3 +1,2 @@
 pub mod Graph
-pub mod Walking
-pub mod IsWalk
+pub mod devices

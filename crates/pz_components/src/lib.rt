@@ -5,6 +5,3 @@ mod numbering;
 mod walk;
 
 pub use numbering::components;
-
-#[cfg(test)]
-mod tests;

@@ -2,7 +2,7 @@
 
 ghost use Rattle.std.specs.Prelude.{◌≡◌, map, IfOk};
 ghost use Rattle.pz_components.specs.Graph.{AreComponents};
-ghost use Rattle.pz_components.specs.Walking as spec;
+ghost use Rattle.pz_components.specs.devices.Walking as spec;
 
 use crate::walk::{State, Walk};
 use pz_items::Items;
@@ -31,8 +31,7 @@ fn numbers_of(alloc: Global, states: &[State]) -> Result<Vec<usize>, AllocError>
 
 /// The number of each vertex's component: two vertices have the same number just where each is
 /// reached from the other. For each vertex stands where its edges lead; an edge that leads to no
-/// vertex counts for nothing. The time is linear in the vertices and the edges. The only error is
-/// want of memory.
+/// vertex counts for nothing. The only error is want of memory.
 pub fn components(alloc: Global, edges: &[Items<u32>]) -> Result<Vec<usize>, AllocError>
     ensures { IfOk result (λ numbers. AreComponents edges.now numbers.items) }
 {

@@ -4,9 +4,9 @@
 
 ghost use Rattle.std.specs.Prelude.{◌≡◌, ◌≤◌, ◌++◌, false, length, IfOk, OnOk, IfSome};
 ghost use Rattle.pz_components.specs.Graph as graph;
-ghost use Rattle.pz_components.specs.Walking as spec;
-ghost use Rattle.pz_components.specs.Walking.{walk_view};
-ghost use Rattle.pz_components.specs.IsWalk.{IsWalk, IsOpenEnded, Advances, AreJoined};
+ghost use Rattle.pz_components.specs.devices.Walking as spec;
+ghost use Rattle.pz_components.specs.devices.Walking.{walk_view};
+ghost use Rattle.pz_components.specs.devices.IsWalk.{IsWalk, IsOpenEnded, Advances, AreJoined};
 
 use pz_items::Items;
 use std::alloc::{AllocError, Global};

@@ -1,13 +1,13 @@
 -- A rule refuses as too nested only at a token, and only where as many tokens as its budget begin a
 -- construct.
 use Rattle.std.proofs.Common.{◌≡◌, ℕ, zero, suc, ◌≤◌, ◌<◌, Bool, true, false, cond, List, [], ◌∷◌, ◌++◌, length, Some, None, Ok, Err, refl, ap, arith, inl, inr, ◌⊎◌}
-use Rattle.pz_ast.specs.declared.tokens.TokenKind.{TokenKind}
+use Rattle.pz_syntax.specs.declared.tokens.TokenKind.{TokenKind}
 use Rattle.pz_cursor.specs.declared.ahead.Next.{Next}
 use Rattle.pz_cursor.specs.declared.refusal.Refusal.TheVariants.{Syntax, TooNested}
-use Rattle.pz_cursor.specs.LookAhead.{next}
-use Rattle.pz_cursor.specs.Input.{Tokens, marks, after, identifier, sees}
-use Rattle.pz_cursor.specs.Device.{Outcome, Parser, ◌>>=◌, ◌<$>◌, pure, refuse, ask, and_then, expect, expect_id, deepen, past, optional, or_none}
-use Rattle.pz_cursor.specs.Lists.{tail_of, more_of, list_of, with_front, turns, repeat, each_of}
+use Rattle.pz_cursor.specs.devices.LookAhead.{next}
+use Rattle.pz_cursor.specs.devices.Input.{Tokens, marks, after, identifier, sees}
+use Rattle.pz_cursor.specs.devices.Device.{Outcome, Parser, ◌>>=◌, ◌<$>◌, pure, refuse, ask, and_then, expect, expect_id, deepen, past, optional, or_none}
+use Rattle.pz_cursor.specs.devices.Lists.{tail_of, more_of, list_of, with_front, turns, repeat, each_of}
 use Rattle.pz_cursor.specs.Openers.{opens, openers}
 use Rattle.pz_cursor.proofs.Shown.{token_of}
 use Rattle.pz_cursor.proofs.Steps.{takes}

@@ -1,14 +1,14 @@
 -- Lists without separators, of anything that has a text.
 use Rattle.std.proofs.Common.{◌≡◌, ℕ, zero, suc, ◌+◌, ◌≤◌, ◌<◌, Bool, true, false, List, [], ◌∷◌, ◌++◌, length, Ok, refl, ap, sym, ◌∙◌, subst, arith, append_assoc, length-append}
-use Rattle.pz_ast.specs.declared.tokens.Pos.{Pos}
-use Rattle.pz_ast.specs.declared.tokens.Mark.{Mark}
-use Rattle.pz_ast.specs.Marks.{each_text}
-use Rattle.pz_ast.specs.ModelForm.{Each}
+use Rattle.pz_syntax.specs.declared.tokens.Pos.{Pos}
+use Rattle.pz_syntax.specs.declared.tokens.Mark.{Mark}
+use Rattle.pz_syntax.specs.Marks.{each_text}
+use Rattle.pz_syntax.specs.ModelForm.{Each}
 use Rattle.pz_cursor.specs.declared.ahead.Next.{Next}
-use Rattle.pz_cursor.specs.LookAhead.{next}
-use Rattle.pz_cursor.specs.Input.{Tokens, marks}
-use Rattle.pz_cursor.specs.Device.{Parser, ◌>>=◌, pure}
-use Rattle.pz_cursor.specs.Lists.{repeat, each_of, turns}
+use Rattle.pz_cursor.specs.devices.LookAhead.{next}
+use Rattle.pz_cursor.specs.devices.Input.{Tokens, marks}
+use Rattle.pz_cursor.specs.devices.Device.{Parser, ◌>>=◌, pure}
+use Rattle.pz_cursor.specs.devices.Lists.{repeat, each_of, turns}
 use Rattle.pz_cursor.specs.Places.{located, Placing, place_each}
 use Rattle.pz_cursor.proofs.Steps.{bind_ok}
 use Rattle.pz_cursor.proofs.Reading.{Took, Sound, Complete, ok_took, split_located, located_length}

@@ -1,11 +1,11 @@
 -- The positions of the tokens change nothing else of names, groups, lists and what may be left out.
 use Rattle.std.proofs.Common.{◌≡◌, ℕ, suc, ◌+◌, List, [], ◌∷◌, length, Some, None, refl, ap, ◌∙◌}
 use Rattle.std.specs.Prelude.{map, option_map}
-use Rattle.pz_ast.specs.declared.tokens.Mark.{Mark}
-use Rattle.pz_ast.specs.Marks.{word_text}
-use Rattle.pz_ast.specs.ClassText.{group_text}
-use Rattle.pz_ast.specs.ExpressionErasure.{erase_id}
-use Rattle.pz_ast.specs.ModelErasure.{erase_group}
+use Rattle.pz_syntax.specs.declared.tokens.Mark.{Mark}
+use Rattle.pz_syntax.specs.Marks.{word_text}
+use Rattle.pz_syntax.specs.ClassText.{group_text}
+use Rattle.pz_syntax.specs.ExpressionErasure.{erase_id}
+use Rattle.pz_syntax.specs.ModelErasure.{erase_group}
 use Rattle.pz_cursor.specs.Places.{Placing, place_id, place_tail, place_separated, place_each, place_optional, place_section, place_names, place_group, place_variables, place_enclosed}
 
 -- what is left once the positions are erased does not depend on them

@@ -1,15 +1,15 @@
 -- The names of a group, beside the loop that reads them.
 use Rattle.std.proofs.Common.{◌≡◌, ℕ, suc, List, [], ◌∷◌, ◌++◌, length, Ok, Err, refl, ap}
-use Rattle.pz_ast.specs.declared.names.Id.{Id}
+use Rattle.pz_syntax.specs.declared.names.Id.{Id}
 use Rattle.pz_cursor.specs.declared.ahead.Next.{Next}
 use Rattle.pz_cursor.specs.declared.ahead.Next.TheVariants as n
 use Rattle.pz_cursor.specs.declared.refusal.Refusal.{Refusal}
 use Rattle.pz_cursor.specs.declared.refusal.Refusal.TheVariants.{Syntax}
-use Rattle.pz_cursor.specs.LookAhead.{next}
-use Rattle.pz_cursor.specs.Input.{Tokens, after, identifier}
-use Rattle.pz_cursor.specs.Device.{Outcome, Parser, expect}
-use Rattle.pz_cursor.specs.Lists.{with_front}
-use Rattle.pz_cursor.specs.Names.{names_of_group, names_by}
+use Rattle.pz_cursor.specs.devices.LookAhead.{next}
+use Rattle.pz_cursor.specs.devices.Input.{Tokens, after, identifier}
+use Rattle.pz_cursor.specs.devices.Device.{Outcome, Parser, expect}
+use Rattle.pz_cursor.specs.devices.Lists.{with_front}
+use Rattle.pz_cursor.specs.devices.Names.{names_of_group, names_by}
 use Rattle.pz_cursor.proofs.Loops.{with_front_more}
 
 pub ok_is : {A : Type 0} (x y : A × Tokens) → (let o : Outcome A = Ok x in o) ≡ Ok y → x ≡ y

@@ -1,18 +1,18 @@
 -- Lists with separators, of anything that has a text.
 use Rattle.std.proofs.Common.{◌≡◌, ℕ, zero, suc, ◌+◌, ◌≤◌, Bool, true, false, List, [], ◌∷◌, ◌++◌, length, Some, Ok, Err, refl, ap, sym, ◌∙◌, subst, arith, append_assoc, length-append}
-use Rattle.pz_ast.specs.declared.tokens.Pos.{Pos}
-use Rattle.pz_ast.specs.declared.tokens.Symbol.{Symbol}
-use Rattle.pz_ast.specs.declared.tokens.TokenKind.{TokenKind}
-use Rattle.pz_ast.specs.declared.tokens.TokenKind.TheVariants as kind
-use Rattle.pz_ast.specs.declared.tokens.Mark.{Mark}
-use Rattle.pz_ast.specs.declared.tokens.Token.{Token}
-use Rattle.pz_ast.specs.Marks.{mark, symbol, separated, tail_separated}
-use Rattle.pz_ast.specs.ModelForm.{Each}
+use Rattle.pz_syntax.specs.declared.tokens.Pos.{Pos}
+use Rattle.pz_syntax.specs.declared.tokens.Symbol.{Symbol}
+use Rattle.pz_syntax.specs.declared.tokens.TokenKind.{TokenKind}
+use Rattle.pz_syntax.specs.declared.tokens.TokenKind.TheVariants as kind
+use Rattle.pz_syntax.specs.declared.tokens.Mark.{Mark}
+use Rattle.pz_syntax.specs.declared.tokens.Token.{Token}
+use Rattle.pz_syntax.specs.Marks.{mark, symbol, separated, tail_separated}
+use Rattle.pz_syntax.specs.ModelForm.{Each}
 use Rattle.pz_cursor.specs.declared.ahead.Next.{Next}
-use Rattle.pz_cursor.specs.LookAhead.{next}
-use Rattle.pz_cursor.specs.Input.{Tokens, marks, after, sees}
-use Rattle.pz_cursor.specs.Device.{Outcome, Parser, ◌>>=◌, pure, past}
-use Rattle.pz_cursor.specs.Lists.{tail_of, list_of, more_of, with_front, turns}
+use Rattle.pz_cursor.specs.devices.LookAhead.{next}
+use Rattle.pz_cursor.specs.devices.Input.{Tokens, marks, after, sees}
+use Rattle.pz_cursor.specs.devices.Device.{Outcome, Parser, ◌>>=◌, pure, past}
+use Rattle.pz_cursor.specs.devices.Lists.{tail_of, list_of, more_of, with_front, turns}
 use Rattle.pz_cursor.specs.Places.{located, Placing, place_tail, place_separated}
 use Rattle.pz_cursor.proofs.Shown.{token_of}
 use Rattle.pz_cursor.proofs.Steps.{bind_ok, takes, sees_is, not_seen}

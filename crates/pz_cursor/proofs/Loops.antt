@@ -2,9 +2,9 @@
 use Rattle.std.proofs.Common.{◌≡◌, ℕ, suc, Bool, true, false, List, [], ◌∷◌, ◌++◌, Ok, Err, refl, ap, sym, ◌∙◌, append_assoc, map}
 use Rattle.std.proofs.lemmas.List.{map-append}
 use Rattle.pz_cursor.specs.declared.ahead.Next.{Next}
-use Rattle.pz_cursor.specs.Input.{Tokens, after, sees}
-use Rattle.pz_cursor.specs.Device.{Outcome, Parser, and_then, past}
-use Rattle.pz_cursor.specs.Lists.{with_front, tail_of, repeat}
+use Rattle.pz_cursor.specs.devices.Input.{Tokens, after, sees}
+use Rattle.pz_cursor.specs.devices.Device.{Outcome, Parser, and_then, past}
+use Rattle.pz_cursor.specs.devices.Lists.{with_front, tail_of, repeat}
 
 pub with_front_more : {A : Type 0} (front : List A) (x : A) (o : Outcome (List A)) → with_front front (and_then o (λ xs i. Ok (x ∷ xs, i))) ≡ with_front (front ++ x ∷ []) o
 with_front_more front x (Ok p) = ap (λ l. Ok (l, p.1)) (sym (append_assoc front (x ∷ []) p.0))

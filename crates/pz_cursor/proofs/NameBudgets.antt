@@ -1,13 +1,13 @@
 -- The rules for names and variables never refuse as too nested.
 use Rattle.std.proofs.Common.{ℕ, zero, suc, List, [], ◌∷◌}
-use Rattle.pz_ast.specs.declared.names.Id.{Id}
+use Rattle.pz_syntax.specs.declared.names.Id.{Id}
 use Rattle.pz_cursor.specs.declared.ahead.Next.{Next}
 use Rattle.pz_cursor.specs.declared.ahead.Next.TheVariants as n
-use Rattle.pz_cursor.specs.LookAhead.{next}
-use Rattle.pz_cursor.specs.Input.{identifier, sees}
-use Rattle.pz_cursor.specs.Device.{Parser, take_id, expect, ask}
-use Rattle.pz_cursor.specs.Lists.{turns}
-use Rattle.pz_cursor.specs.Names as spec
+use Rattle.pz_cursor.specs.devices.LookAhead.{next}
+use Rattle.pz_cursor.specs.devices.Input.{identifier, sees}
+use Rattle.pz_cursor.specs.devices.Device.{Parser, take_id, expect, ask}
+use Rattle.pz_cursor.specs.devices.Lists.{turns}
+use Rattle.pz_cursor.specs.devices.Names as spec
 use Rattle.pz_cursor.proofs.Budget.{Budget, pure_budget, ask_budget, take_budget, refuse_budget, bind_budget, expect_budget, expect_id_budget, optional_budget, or_none_budget, list_budget}
 
 module _ (bound : ℕ) where

@@ -1,22 +1,22 @@
 -- The rules for names, variables and formal parameters.
 use Rattle.std.proofs.Common.{◌≡◌, ◌≢◌, ℕ, zero, suc, ◌+◌, ◌<◌, true, false, List, [], ◌∷◌, ◌++◌, length, Option, Some, None, Ok, refl, ap, sym, ◌∙◌, arith, append_assoc, length-append}
 use Rattle.std.specs.Prelude.{⊤}
-use Rattle.pz_ast.specs.declared.tokens.Pos.{Pos}
-use Rattle.pz_ast.specs.declared.tokens.Symbol.TheVariants as s
-use Rattle.pz_ast.specs.declared.tokens.TokenKind.TheVariants as kind
-use Rattle.pz_ast.specs.declared.tokens.Mark.{Mark}
-use Rattle.pz_ast.specs.declared.names.Id.{Id}
-use Rattle.pz_ast.specs.declared.classes.VarGroup.{VarGroup}
-use Rattle.pz_ast.specs.Marks.{symbol, word, word_text, names_text, optional as optional_text}
-use Rattle.pz_ast.specs.ClassText.{group_names_from, group_names, group_text, variables_text, formal_text, locals_text}
-use Rattle.pz_ast.specs.ModelForm.{Each, IfWritten, IsGroup, IsNonempty, AreVariables, AreLocals}
+use Rattle.pz_syntax.specs.declared.tokens.Pos.{Pos}
+use Rattle.pz_syntax.specs.declared.tokens.Symbol.TheVariants as s
+use Rattle.pz_syntax.specs.declared.tokens.TokenKind.TheVariants as kind
+use Rattle.pz_syntax.specs.declared.tokens.Mark.{Mark}
+use Rattle.pz_syntax.specs.declared.names.Id.{Id}
+use Rattle.pz_syntax.specs.declared.classes.VarGroup.{VarGroup}
+use Rattle.pz_syntax.specs.Marks.{symbol, word, word_text, names_text, optional as optional_text}
+use Rattle.pz_syntax.specs.ClassText.{group_names_from, group_names, group_text, variables_text, formal_text, locals_text}
+use Rattle.pz_syntax.specs.ModelForm.{Each, IfWritten, IsGroup, IsNonempty, AreVariables, AreLocals}
 use Rattle.pz_cursor.specs.declared.ahead.Next.{Next}
 use Rattle.pz_cursor.specs.declared.ahead.Next.TheVariants as n
-use Rattle.pz_cursor.specs.LookAhead.{next, same}
-use Rattle.pz_cursor.specs.Input.{Tokens, marks, after, identifier, name, position, sees}
-use Rattle.pz_cursor.specs.Device.{expect, expect_id}
-use Rattle.pz_cursor.specs.Lists.{turns, list_of}
-use Rattle.pz_cursor.specs.Names as spec
+use Rattle.pz_cursor.specs.devices.LookAhead.{next, same}
+use Rattle.pz_cursor.specs.devices.Input.{Tokens, marks, after, identifier, name, position, sees}
+use Rattle.pz_cursor.specs.devices.Device.{expect, expect_id}
+use Rattle.pz_cursor.specs.devices.Lists.{turns, list_of}
+use Rattle.pz_cursor.specs.devices.Names as spec
 use Rattle.pz_cursor.specs.Places.{located, place_id, place_names, place_group, place_variables, place_enclosed, place_tail, place_optional}
 use Rattle.pz_cursor.proofs.Shown.{token_of}
 use Rattle.pz_cursor.proofs.Steps.{bind_ok, takes, not_seen, expect_ok, expect_id_ok}

@@ -1,13 +1,13 @@
 -- What may be left out, and lists that may be empty.
 use Rattle.std.proofs.Common.{◌≡◌, ℕ, Bool, true, false, cond, List, [], ◌∷◌, ◌++◌, Option, Some, None, Ok, refl, ap, sym}
-use Rattle.pz_ast.specs.declared.tokens.Pos.{Pos}
-use Rattle.pz_ast.specs.declared.tokens.Mark.{Mark}
-use Rattle.pz_ast.specs.Marks.{optional as optional_text}
-use Rattle.pz_ast.specs.ModelForm.{Each, IfWritten}
+use Rattle.pz_syntax.specs.declared.tokens.Pos.{Pos}
+use Rattle.pz_syntax.specs.declared.tokens.Mark.{Mark}
+use Rattle.pz_syntax.specs.Marks.{optional as optional_text}
+use Rattle.pz_syntax.specs.ModelForm.{Each, IfWritten}
 use Rattle.pz_cursor.specs.declared.ahead.Next.{Next}
-use Rattle.pz_cursor.specs.LookAhead.{next}
-use Rattle.pz_cursor.specs.Input.{Tokens, marks}
-use Rattle.pz_cursor.specs.Device.{Parser, ◌<$>◌, pure, optional, or_none}
+use Rattle.pz_cursor.specs.devices.LookAhead.{next}
+use Rattle.pz_cursor.specs.devices.Input.{Tokens, marks}
+use Rattle.pz_cursor.specs.devices.Device.{Parser, ◌<$>◌, pure, optional, or_none}
 use Rattle.pz_cursor.specs.Places.{located, Placing, place_optional}
 use Rattle.pz_cursor.proofs.Steps.{bind_ok}
 use Rattle.pz_cursor.proofs.Joined.{Filled}

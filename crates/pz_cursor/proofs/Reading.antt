@@ -2,12 +2,12 @@
 -- such tree from its text, with the places of the tokens, before what does not go on with it.
 use Rattle.std.proofs.Common.{◌≡◌, ℕ, suc, ◌+◌, List, [], ◌∷◌, ◌++◌, length, Ok, refl, ap, sym, ◌∙◌, subst, arith}
 use Rattle.std.proofs.lemmas.List.{append-nil}
-use Rattle.pz_ast.specs.declared.tokens.Pos.{Pos}
-use Rattle.pz_ast.specs.declared.tokens.Mark.{Mark}
+use Rattle.pz_syntax.specs.declared.tokens.Pos.{Pos}
+use Rattle.pz_syntax.specs.declared.tokens.Mark.{Mark}
 use Rattle.pz_cursor.specs.declared.ahead.Next.{Next}
-use Rattle.pz_cursor.specs.LookAhead.{next}
-use Rattle.pz_cursor.specs.Input.{Tokens, marks}
-use Rattle.pz_cursor.specs.Device.{Outcome, Parser}
+use Rattle.pz_cursor.specs.devices.LookAhead.{next}
+use Rattle.pz_cursor.specs.devices.Input.{Tokens, marks}
+use Rattle.pz_cursor.specs.devices.Device.{Outcome, Parser}
 use Rattle.pz_cursor.specs.Places.{located, positions, Placing}
 
 -- what a parser took from the front: the text of its value, which meets P

@@ -1,18 +1,18 @@
 -- What stands behind a keyword and may be left out.
 use Rattle.std.proofs.Common.{◌≡◌, ◌≢◌, ℕ, suc, true, List, ◌∷◌, ◌++◌, Option, Some, None, refl, ap, sym, ◌∙◌}
-use Rattle.pz_ast.specs.declared.tokens.Pos.{Pos}
-use Rattle.pz_ast.specs.declared.tokens.Keyword.{Keyword}
-use Rattle.pz_ast.specs.declared.tokens.Keyword.TheVariants as k
-use Rattle.pz_ast.specs.declared.tokens.TokenKind.TheVariants as kind
-use Rattle.pz_ast.specs.declared.tokens.Mark.{Mark}
-use Rattle.pz_ast.specs.Marks.{keyword, names_text, optional as optional_text, section as section_text}
-use Rattle.pz_ast.specs.ModelForm.{IfWritten}
+use Rattle.pz_syntax.specs.declared.tokens.Pos.{Pos}
+use Rattle.pz_syntax.specs.declared.tokens.Keyword.{Keyword}
+use Rattle.pz_syntax.specs.declared.tokens.Keyword.TheVariants as k
+use Rattle.pz_syntax.specs.declared.tokens.TokenKind.TheVariants as kind
+use Rattle.pz_syntax.specs.declared.tokens.Mark.{Mark}
+use Rattle.pz_syntax.specs.Marks.{keyword, names_text, optional as optional_text, section as section_text}
+use Rattle.pz_syntax.specs.ModelForm.{IfWritten}
 use Rattle.pz_cursor.specs.declared.ahead.Next.{Next}
 use Rattle.pz_cursor.specs.declared.ahead.Next.TheVariants as n
-use Rattle.pz_cursor.specs.LookAhead.{next, same}
-use Rattle.pz_cursor.specs.Input.{Tokens, marks, after, sees}
-use Rattle.pz_cursor.specs.Device.{Parser, expect, behind, section}
-use Rattle.pz_cursor.specs.Names as spec
+use Rattle.pz_cursor.specs.devices.LookAhead.{next, same}
+use Rattle.pz_cursor.specs.devices.Input.{Tokens, marks, after, sees}
+use Rattle.pz_cursor.specs.devices.Device.{Parser, expect, behind, section}
+use Rattle.pz_cursor.specs.devices.Names as spec
 use Rattle.pz_cursor.specs.Places.{located, Placing, place_section, place_names}
 use Rattle.pz_cursor.proofs.Shown.{token_of}
 use Rattle.pz_cursor.proofs.Steps.{bind_ok, expected, expect_is, not_seen}

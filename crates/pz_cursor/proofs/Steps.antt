@@ -1,16 +1,16 @@
 -- What each step takes, and when it takes it.
 use Rattle.std.proofs.Common.{◌≡◌, ℕ, zero, suc, ◌<◌, Bool, true, false, cond, [], ◌∷◌, length, Some, Ok, Err, refl, ap, ◌∙◌, arith, rules}
 use denote.Enum.Bare.{same_true}
-use Rattle.pz_ast.specs.declared.tokens.TokenKind.{TokenKind}
-use Rattle.pz_ast.specs.declared.tokens.Mark.{Mark}
-use Rattle.pz_ast.specs.declared.names.Id.{Id}
-use Rattle.pz_ast.specs.Marks.{mark}
+use Rattle.pz_syntax.specs.declared.tokens.TokenKind.{TokenKind}
+use Rattle.pz_syntax.specs.declared.tokens.Mark.{Mark}
+use Rattle.pz_syntax.specs.declared.names.Id.{Id}
+use Rattle.pz_syntax.specs.Marks.{mark}
 use Rattle.pz_cursor.specs.declared.ahead.Next.{Next}
 use Rattle.pz_cursor.specs.declared.refusal.Refusal.TheVariants.{Syntax}
 use Rattle.pz_cursor.specs.contracts.ahead.Next.{the_type}
-use Rattle.pz_cursor.specs.LookAhead.{next, same}
-use Rattle.pz_cursor.specs.Input.{Tokens, marks, after, identifier, sees}
-use Rattle.pz_cursor.specs.Device.{Outcome, Parser, and_then, expect, expect_id, deepen}
+use Rattle.pz_cursor.specs.devices.LookAhead.{next, same}
+use Rattle.pz_cursor.specs.devices.Input.{Tokens, marks, after, identifier, sees}
+use Rattle.pz_cursor.specs.devices.Device.{Outcome, Parser, and_then, expect, expect_id, deepen}
 use Rattle.pz_cursor.proofs.Shown.{token_of, takes_kind}
 
 pub bind_ok : {A B : Type 0} (o : Outcome A) (f : A → Parser B) (y : B × Tokens) → and_then o f ≡ Ok y → (p : A × Tokens) × (o ≡ Ok p) × (f p.0 p.1 ≡ Ok y)

@@ -1,22 +1,22 @@
 -- Tokens that stand as names, and literals: what shows as one is one.
 use Rattle.std.proofs.Common.{◌≡◌, ℕ, ◌⊎◌, inl, inr, Bool, true, false, not, List, [], ◌∷◌, refl, ap, sym, ◌∙◌, subst}
 use Rattle.std.specs.Prelude.{⊤, bytes_eq, codes, if◌then◌else◌}
-use Rattle.pz_ast.specs.declared.tokens.Symbol.{Symbol}
-use Rattle.pz_ast.specs.declared.tokens.Symbol.TheVariants as s
-use Rattle.pz_ast.specs.declared.tokens.Keyword.{Keyword}
-use Rattle.pz_ast.specs.declared.tokens.Keyword.TheVariants as k
-use Rattle.pz_ast.specs.declared.tokens.TokenKind.{TokenKind}
-use Rattle.pz_ast.specs.declared.tokens.TokenKind.TheVariants as kind
-use Rattle.pz_ast.specs.declared.tokens.Mark.{Mark}
-use Rattle.pz_ast.specs.declared.tokens.Pos.{Pos}
-use Rattle.pz_ast.specs.declared.tokens.Token.{Token}
-use Rattle.pz_ast.specs.declared.names.Id.{Id}
-use Rattle.pz_ast.specs.Marks.{mark, word, head, selector, selector_head}
-use Rattle.pz_ast.specs.ExpressionText.{literal_kind}
+use Rattle.pz_syntax.specs.declared.tokens.Symbol.{Symbol}
+use Rattle.pz_syntax.specs.declared.tokens.Symbol.TheVariants as s
+use Rattle.pz_syntax.specs.declared.tokens.Keyword.{Keyword}
+use Rattle.pz_syntax.specs.declared.tokens.Keyword.TheVariants as k
+use Rattle.pz_syntax.specs.declared.tokens.TokenKind.{TokenKind}
+use Rattle.pz_syntax.specs.declared.tokens.TokenKind.TheVariants as kind
+use Rattle.pz_syntax.specs.declared.tokens.Mark.{Mark}
+use Rattle.pz_syntax.specs.declared.tokens.Pos.{Pos}
+use Rattle.pz_syntax.specs.declared.tokens.Token.{Token}
+use Rattle.pz_syntax.specs.declared.names.Id.{Id}
+use Rattle.pz_syntax.specs.Marks.{mark, word, head, selector, selector_head}
+use Rattle.pz_syntax.specs.ExpressionText.{literal_kind}
 use Rattle.pz_cursor.specs.declared.ahead.Next.{Next}
 use Rattle.pz_cursor.specs.declared.ahead.Next.TheVariants as n
-use Rattle.pz_cursor.specs.LookAhead.{next, next_by, next_head_key, next_key, next_symbol}
-use Rattle.pz_cursor.specs.Input.{Tokens, marks, after, position, identifier, name, name_by, number, number_by, literal, literal_by, literal_key, selects, selects_by, selects_head, selects_head_by, spelled_init}
+use Rattle.pz_cursor.specs.devices.LookAhead.{next, next_by, next_head_key, next_key, next_symbol}
+use Rattle.pz_cursor.specs.devices.Input.{Tokens, marks, after, position, identifier, name, name_by, number, number_by, literal, literal_by, literal_key, selects, selects_by, selects_head, selects_head_by, spelled_init}
 use Rattle.std.proofs.lemmas.Slice.Eq.{bytes_eq-Decides}
 use Rattle.pz_cursor.proofs.Steps.{mark_is}
 

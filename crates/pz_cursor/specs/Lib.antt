@@ -1,7 +1,3 @@
-pub mod LookAhead
-pub mod Input
-pub mod Device
-pub mod Lists
-pub mod Names
 pub mod Places
 pub mod Openers
+pub mod devices

@@ -1,9 +1,9 @@
 //! The look-ahead: what stands next, as one flat list of cases.
 
 ghost use Rattle.std.specs.Prelude.{◌≡◌};
-ghost use Rattle.pz_cursor.specs.LookAhead as spec;
+ghost use Rattle.pz_cursor.specs.devices.LookAhead as spec;
 
-use pz_ast::{Keyword, Symbol, Token, TokenKind};
+use pz_syntax::{Keyword, Symbol, Token, TokenKind};
 
 /// What comes next, without what it says. `Word` is an identifier that is no head, `Head` one that
 /// is, and `InitHead` the keyword `init` as a head; a keyword and a symbol that are no heads are
@@ -83,7 +83,7 @@ pub enum Next {
 }
 
 /// What comes next in these tokens.
-#[tactic(auto, unfolding(crate::specs::LookAhead::next))]
+#[tactic(auto, unfolding(crate::specs::devices::LookAhead::next))]
 pub fn next_of(tokens: &[Token]) -> Next
     ensures is { result ≡ spec.next tokens.now }
 {
@@ -94,7 +94,7 @@ pub fn next_of(tokens: &[Token]) -> Next
 }
 
 /// Whether both are one case.
-#[tactic(auto, unfolding(crate::specs::LookAhead::same))]
+#[tactic(auto, unfolding(crate::specs::devices::LookAhead::same))]
 pub fn same(a: Next, b: Next) -> bool
     ensures is { result ≡ spec.same a b }
 {

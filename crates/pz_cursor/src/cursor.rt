@@ -1,14 +1,14 @@
 //! A cursor over tokens.
 
 ghost use Rattle.std.specs.Prelude.{◌≡◌, length, Ok, codes};
-ghost use Rattle.pz_cursor.specs.LookAhead as look;
-ghost use Rattle.pz_cursor.specs.Input as input;
-ghost use Rattle.pz_cursor.specs.Device as device;
-ghost use Rattle.pz_cursor.specs.Device.{Reads, MakesOr};
+ghost use Rattle.pz_cursor.specs.devices.LookAhead as look;
+ghost use Rattle.pz_cursor.specs.devices.Input as input;
+ghost use Rattle.pz_cursor.specs.devices.Device as device;
+ghost use Rattle.pz_cursor.specs.devices.Device.{Reads, MakesOr};
 
 use crate::Refusal;
 use crate::ahead::{Next, next_of, same};
-use pz_ast::{Id, Keyword, Literal, Name, Pos, Token, TokenKind};
+use pz_syntax::{Id, Keyword, Literal, Name, Pos, Token, TokenKind};
 use std::alloc::Global;
 use std::marker::Model;
 
@@ -20,7 +20,7 @@ pub struct Cursor<'a> {
 
 impl<'a> Model for Cursor<'a> {
     ghost use Rattle.std.specs.Prelude.{List};
-    ghost use Rattle.pz_ast.specs.declared.tokens.Token.{Token};
+    ghost use Rattle.pz_syntax.specs.declared.tokens.Token.{Token};
 
     ghost Value = { List Token };
 
@@ -50,7 +50,7 @@ impl<'a> Cursor<'a> {
     }
 
     /// Where the next token stands. At the end any place.
-    #[tactic(auto, unfolding(crate::specs::Input::position))]
+    #[tactic(auto, unfolding(crate::specs::devices::Input::position))]
     pub fn pos(&self) -> Pos
         ensures is { result ≡ input.position self.now }
     {
@@ -68,7 +68,7 @@ impl<'a> Cursor<'a> {
     }
 
     /// Whether this stands next.
-    #[tactic(auto, unfolding(crate::specs::Input::sees))]
+    #[tactic(auto, unfolding(crate::specs::devices::Input::sees))]
     pub fn sees(&self, next: Next) -> bool
         ensures is { result ≡ input.sees next self.now }
     {
@@ -76,7 +76,7 @@ impl<'a> Cursor<'a> {
     }
 
     /// Whether this stands behind the next token.
-    #[tactic(auto, unfolding(crate::specs::Input::sees, crate::specs::Input::after))]
+    #[tactic(auto, unfolding(crate::specs::devices::Input::sees, crate::specs::devices::Input::after))]
     pub fn sees_second(&self, next: Next) -> bool
         ensures is { result ≡ input.sees next (input.after self.now) }
     {
@@ -87,7 +87,7 @@ impl<'a> Cursor<'a> {
     }
 
     /// Whether the next token is a selector that is sent.
-    #[tactic(auto, unfolding(crate::specs::Input::selects))]
+    #[tactic(auto, unfolding(crate::specs::devices::Input::selects))]
     pub fn sees_selector(&self) -> bool
         ensures is { result ≡ input.selects self.now }
     {
@@ -99,7 +99,7 @@ impl<'a> Cursor<'a> {
     }
 
     /// Whether the next token is a selector that names a method.
-    #[tactic(auto, unfolding(crate::specs::Input::selects_head))]
+    #[tactic(auto, unfolding(crate::specs::devices::Input::selects_head))]
     pub fn sees_selector_head(&self) -> bool
         ensures is { result ≡ input.selects_head self.now }
     {
@@ -111,7 +111,7 @@ impl<'a> Cursor<'a> {
     }
 
     /// Goes past the next token. At the end nothing happens.
-    #[tactic(auto, unfolding(crate::specs::Input::after))]
+    #[tactic(auto, unfolding(crate::specs::devices::Input::after))]
     pub fn skip(&mut self)
         ensures past { self.new ≡ input.after self.old }
     {
@@ -121,7 +121,7 @@ impl<'a> Cursor<'a> {
     }
 
     /// Goes past the next token if it is this, and tells whether it was.
-    #[tactic(auto, unfolding(crate::specs::Device::past))]
+    #[tactic(auto, unfolding(crate::specs::devices::Device::past))]
     pub fn eat(&mut self, next: Next) -> bool
         ensures found { result ≡ input.sees next self.old }
         ensures past { self.new ≡ device.past next self.old }
@@ -134,7 +134,7 @@ impl<'a> Cursor<'a> {
     }
 
     /// Goes past the next token, which has to be this.
-    #[tactic(auto, unfolding(crate::specs::Device::expect))]
+    #[tactic(auto, unfolding(crate::specs::devices::Device::expect))]
     pub fn expect(&mut self, next: Next) -> Result<(), Refusal>
         ensures reads { Reads (λ _. tt) (device.expect next self.old) result self.new }
     {
@@ -148,7 +148,7 @@ impl<'a> Cursor<'a> {
 
     /// Goes past the next token, with which one more construct begins, if `depth` more may nest and
     /// that is not 0.
-    #[tactic(auto, unfolding(crate::specs::Device::deepen))]
+    #[tactic(auto, unfolding(crate::specs::devices::Device::deepen))]
     pub fn deepen(&mut self, depth: usize) -> Result<(), Refusal>
         ensures reads { Reads (λ _. tt) (device.deepen depth self.old) result self.new }
     {
@@ -160,7 +160,7 @@ impl<'a> Cursor<'a> {
     }
 
     /// The next token as a name at its place. The keyword `init` is the name `init`.
-    #[tactic(auto, unfolding(crate::specs::Input::identifier))]
+    #[tactic(auto, unfolding(crate::specs::devices::Input::identifier))]
     pub fn take_id(&mut self, alloc: Global) -> Result<Id, Refusal>
         ensures reads { Reads (λ x. x) (device.take_id self.old) result self.new }
     {
@@ -171,7 +171,7 @@ impl<'a> Cursor<'a> {
     }
 
     /// The next token, which has to be this kind of name.
-    #[tactic(auto, unfolding(crate::specs::Device::expect_id))]
+    #[tactic(auto, unfolding(crate::specs::devices::Device::expect_id))]
     pub fn expect_id(&mut self, alloc: Global, next: Next) -> Result<Id, Refusal>
         ensures reads { Reads (λ x. x) (device.expect_id next self.old) result self.new }
     {
@@ -201,7 +201,7 @@ impl<'a> Cursor<'a> {
     }
 }
 
-#[tactic(auto, unfolding(crate::specs::Input::name))]
+#[tactic(auto, unfolding(crate::specs::devices::Input::name))]
 fn name_of(alloc: Global, tokens: &[Token]) -> Result<Name, Refusal>
     ensures { MakesOr (λ name. name ≡ input.name tokens.now) result }
 {
@@ -226,7 +226,7 @@ fn init_name(alloc: Global) -> Result<Name, Refusal>
     Ok(Name::new(String::from_str(alloc, "init")?))
 }
 
-#[tactic(auto, unfolding(crate::specs::Input::spelled_init, crate::specs::Input::name))]
+#[tactic(auto, unfolding(crate::specs::devices::Input::spelled_init, crate::specs::devices::Input::name))]
 fn spelled_init(tokens: &[Token]) -> bool
     ensures { result ≡ input.spelled_init tokens.now }
 {
@@ -239,7 +239,7 @@ fn spelled_init(tokens: &[Token]) -> bool
     }
 }
 
-#[tactic(auto, unfolding(crate::specs::Input::number))]
+#[tactic(auto, unfolding(crate::specs::devices::Input::number))]
 fn number_of(tokens: &[Token]) -> i64
     ensures { result ≡ input.number tokens.now }
 {
@@ -252,7 +252,7 @@ fn number_of(tokens: &[Token]) -> i64
     }
 }
 
-#[tactic(auto, unfolding(crate::specs::Input::literal))]
+#[tactic(auto, unfolding(crate::specs::devices::Input::literal))]
 fn literal_of(tokens: &[Token]) -> Result<Literal, Refusal>
     ensures { MakesOr (λ x. x ≡ input.literal tokens.now) result }
 {

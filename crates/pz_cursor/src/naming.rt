@@ -1,19 +1,19 @@
 //! Names, variables and formal parameters.
 
 ghost use Rattle.std.specs.Prelude.{◌≡◌};
-ghost use Rattle.pz_cursor.specs.Names as spec;
-ghost use Rattle.pz_cursor.specs.Lists as lists;
-ghost use Rattle.pz_cursor.specs.Device.{Reads, behind};
+ghost use Rattle.pz_cursor.specs.devices.Names as spec;
+ghost use Rattle.pz_cursor.specs.devices.Lists as lists;
+ghost use Rattle.pz_cursor.specs.devices.Device.{Reads, behind};
 ghost use Rattle.pz_cursor.specs.declared.ahead.Next.TheVariants as n;
 
 use crate::ahead::Next;
 use crate::{Cursor, Refusal};
-use pz_ast::{Id, VarGroup};
 use pz_items::Items;
+use pz_syntax::{Id, VarGroup};
 use std::alloc::Global;
 
 /// One name or more, with commas between them.
-#[tactic(auto, unfolding(crate::specs::Names::names, crate::specs::Lists::list_of))]
+#[tactic(auto, unfolding(crate::specs::devices::Names::names, crate::specs::devices::Lists::list_of))]
 pub fn names(alloc: Global, cursor: &mut Cursor<'_>) -> Result<Items<Id>, Refusal>
     ensures reads { Reads (λ x. x) (spec.names cursor.old) result cursor.new }
 {
@@ -22,7 +22,7 @@ pub fn names(alloc: Global, cursor: &mut Cursor<'_>) -> Result<Items<Id>, Refusa
     more_names(alloc, cursor, found)
 }
 
-#[tactic(auto, unfolding(crate::specs::Lists::more_of, crate::specs::Lists::tail_of))]
+#[tactic(auto, unfolding(crate::specs::devices::Lists::more_of, crate::specs::devices::Lists::tail_of))]
 fn more_names(
     alloc: Global,
     cursor: &mut Cursor<'_>,
@@ -40,7 +40,7 @@ fn more_names(
 }
 
 /// The names, or none where no name stands next.
-#[tactic(auto, unfolding(crate::specs::Names::optional_names))]
+#[tactic(auto, unfolding(crate::specs::devices::Names::optional_names))]
 pub fn optional_names(alloc: Global, cursor: &mut Cursor<'_>) -> Result<Items<Id>, Refusal>
     ensures reads { Reads (λ x. x) (spec.optional_names cursor.old) result cursor.new }
 {
@@ -52,7 +52,7 @@ pub fn optional_names(alloc: Global, cursor: &mut Cursor<'_>) -> Result<Items<Id
 }
 
 /// The names of a group: commas stand between them, and the last is a head.
-#[tactic(auto, unfolding(crate::specs::Names::group_names, crate::specs::Names::names_of_group))]
+#[tactic(auto, unfolding(crate::specs::devices::Names::group_names, crate::specs::devices::Names::names_of_group))]
 fn group_names(alloc: Global, cursor: &mut Cursor<'_>) -> Result<Items<Id>, Refusal>
     ensures { Reads (λ x. x) (spec.group_names cursor.old) result cursor.new }
 {
@@ -73,7 +73,7 @@ fn group_names(alloc: Global, cursor: &mut Cursor<'_>) -> Result<Items<Id>, Refu
     Err(cursor.refuse())
 }
 
-#[tactic(auto, unfolding(crate::specs::Names::group))]
+#[tactic(auto, unfolding(crate::specs::devices::Names::group))]
 fn group(alloc: Global, cursor: &mut Cursor<'_>) -> Result<VarGroup, Refusal>
     ensures { Reads (λ x. x) (spec.group cursor.old) result cursor.new }
 {
@@ -84,7 +84,7 @@ fn group(alloc: Global, cursor: &mut Cursor<'_>) -> Result<VarGroup, Refusal>
 }
 
 /// One group of variables or more, with commas between them.
-#[tactic(auto, unfolding(crate::specs::Names::variables, crate::specs::Lists::list_of))]
+#[tactic(auto, unfolding(crate::specs::devices::Names::variables, crate::specs::devices::Lists::list_of))]
 pub fn variables(alloc: Global, cursor: &mut Cursor<'_>) -> Result<Items<VarGroup>, Refusal>
     ensures reads { Reads (λ x. x) (spec.variables cursor.old) result cursor.new }
 {
@@ -93,7 +93,7 @@ pub fn variables(alloc: Global, cursor: &mut Cursor<'_>) -> Result<Items<VarGrou
     more_groups(alloc, cursor, found)
 }
 
-#[tactic(auto, unfolding(crate::specs::Lists::more_of, crate::specs::Lists::tail_of))]
+#[tactic(auto, unfolding(crate::specs::devices::Lists::more_of, crate::specs::devices::Lists::tail_of))]
 fn more_groups(
     alloc: Global,
     cursor: &mut Cursor<'_>,
@@ -111,7 +111,7 @@ fn more_groups(
 }
 
 /// The variables, or none where no group of them stands next.
-#[tactic(auto, unfolding(crate::specs::Names::optional_variables))]
+#[tactic(auto, unfolding(crate::specs::devices::Names::optional_variables))]
 pub fn optional_variables(
     alloc: Global,
     cursor: &mut Cursor<'_>,
@@ -125,7 +125,7 @@ pub fn optional_variables(
     }
 }
 
-#[tactic(auto, unfolding(crate::specs::Names::begins_group))]
+#[tactic(auto, unfolding(crate::specs::devices::Names::begins_group))]
 fn begins_group(cursor: &Cursor<'_>) -> bool
     ensures { result ≡ spec.begins_group cursor.now }
 {
@@ -133,7 +133,7 @@ fn begins_group(cursor: &Cursor<'_>) -> bool
 }
 
 /// Formal parameters in round brackets.
-#[tactic(auto, unfolding(crate::specs::Names::formal))]
+#[tactic(auto, unfolding(crate::specs::devices::Names::formal))]
 pub fn formal(alloc: Global, cursor: &mut Cursor<'_>) -> Result<Items<VarGroup>, Refusal>
     ensures reads { Reads (λ x. x) (spec.formal cursor.old) result cursor.new }
 {
@@ -144,7 +144,7 @@ pub fn formal(alloc: Global, cursor: &mut Cursor<'_>) -> Result<Items<VarGroup>,
 }
 
 /// Formal parameters, if a `(` stands next.
-#[tactic(auto, unfolding(crate::specs::Names::optional_formal))]
+#[tactic(auto, unfolding(crate::specs::devices::Names::optional_formal))]
 pub fn optional_formal(
     alloc: Global,
     cursor: &mut Cursor<'_>,
@@ -158,7 +158,7 @@ pub fn optional_formal(
     }
 }
 
-#[tactic(auto, unfolding(crate::specs::Names::locals))]
+#[tactic(auto, unfolding(crate::specs::devices::Names::locals))]
 fn locals(alloc: Global, cursor: &mut Cursor<'_>) -> Result<Items<VarGroup>, Refusal>
     ensures { Reads (λ x. x) (spec.locals cursor.old) result cursor.new }
 {
@@ -169,7 +169,7 @@ fn locals(alloc: Global, cursor: &mut Cursor<'_>) -> Result<Items<VarGroup>, Ref
 }
 
 /// Local variables between bars, if a `|` stands next.
-#[tactic(auto, unfolding(crate::specs::Names::optional_locals))]
+#[tactic(auto, unfolding(crate::specs::devices::Names::optional_locals))]
 pub fn optional_locals(
     alloc: Global,
     cursor: &mut Cursor<'_>,
@@ -191,7 +191,7 @@ fn ports_behind(alloc: Global, cursor: &mut Cursor<'_>) -> Result<Items<Id>, Ref
 }
 
 /// The names of ports, if `ports` stands next.
-#[tactic(auto, unfolding(crate::specs::Names::ports))]
+#[tactic(auto, unfolding(crate::specs::devices::Names::ports))]
 pub fn ports_section(alloc: Global, cursor: &mut Cursor<'_>) -> Result<Option<Items<Id>>, Refusal>
     ensures reads { Reads (λ x. x) (spec.ports cursor.old) result cursor.new }
 {

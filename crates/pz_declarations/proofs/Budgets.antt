@@ -1,22 +1,22 @@
 -- The rules for declarations refuse as too nested only where as many tokens as their budget begin a
 -- construct.
 use Rattle.std.proofs.Common.{ℕ, suc, true, false, not}
-use Rattle.pz_ast.specs.ExpressionView.{list_of as expressions}
+use Rattle.pz_syntax.specs.ExpressionView.{list_of as expressions}
 use Rattle.pz_cursor.specs.declared.ahead.Next.{Next}
 use Rattle.pz_cursor.specs.declared.ahead.Next.TheVariants as n
-use Rattle.pz_cursor.specs.LookAhead.{next}
-use Rattle.pz_cursor.specs.Input.{identifier, sees, selects_head}
-use Rattle.pz_cursor.specs.Device.{skip, take_id, expect, expect_id}
-use Rattle.pz_cursor.specs.Lists.{list_of}
-use Rattle.pz_cursor.specs.Names as names
+use Rattle.pz_cursor.specs.devices.LookAhead.{next}
+use Rattle.pz_cursor.specs.devices.Input.{identifier, sees, selects_head}
+use Rattle.pz_cursor.specs.devices.Device.{skip, take_id, expect, expect_id}
+use Rattle.pz_cursor.specs.devices.Lists.{list_of}
+use Rattle.pz_cursor.specs.devices.Names as names
 use Rattle.pz_cursor.proofs.Budget.{BudgetAt, Budget, pure_budget, take_budget, refuse_budget, bind_budget, expect_budget, expect_id_budget, optional_budget, or_none_budget, list_budget, each_budget}
 use Rattle.pz_cursor.proofs.NameBudgets.{word_budget, optional_names_budget, optional_variables_budget, optional_formal_budget, optional_locals_budget}
 use Rattle.pz_cursor.proofs.Sections.{section_budget}
 use Rattle.pz_values.specs.declared.rule.Rule.TheVariants as rule
-use Rattle.pz_values.specs.Values.{expr, exprs_before}
+use Rattle.pz_values.specs.devices.Values.{expr, exprs_before}
 use Rattle.pz_values.proofs.Budgets.{expr_budget}
-use Rattle.pz_declarations.specs.Sections as spec
-use Rattle.pz_declarations.specs.DataClasses as classes
+use Rattle.pz_declarations.specs.devices.Sections as spec
+use Rattle.pz_declarations.specs.devices.DataClasses as classes
 
 module _ (bound : ℕ) where
   pub parent_section_budget : Budget bound spec.parent_section

@@ -1,28 +1,28 @@
 -- The rule for data classes.
 use Rattle.std.proofs.Common.{◌≡◌, ℕ, suc, ◌+◌, ◌<◌, true, List, [], ◌∷◌, ◌++◌, length, Option, Some, None, Ok, refl, ap, sym, ◌∙◌, arith, append_assoc}
-use Rattle.pz_ast.specs.declared.tokens.Pos.{Pos}
-use Rattle.pz_ast.specs.declared.tokens.Keyword.TheVariants as k
-use Rattle.pz_ast.specs.declared.tokens.TokenKind.TheVariants as kind
-use Rattle.pz_ast.specs.declared.tokens.Mark.{Mark}
-use Rattle.pz_ast.specs.declared.names.Id.{Id}
-use Rattle.pz_ast.specs.Marks.{keyword, word, word_text, each_text, section as section_text}
-use Rattle.pz_ast.specs.Classes.{DataMethodTree, DataClassTree}
-use Rattle.pz_ast.specs.ClassText.{variables_text, data_method_text, data_class_text}
-use Rattle.pz_ast.specs.ModelForm.{Each, IfWritten, IsDataMethod, IsDataClass}
-use Rattle.pz_ast.specs.ModelNesting.{greatest, optional_nesting, data_method_nesting, data_class_nesting}
+use Rattle.pz_syntax.specs.declared.tokens.Pos.{Pos}
+use Rattle.pz_syntax.specs.declared.tokens.Keyword.TheVariants as k
+use Rattle.pz_syntax.specs.declared.tokens.TokenKind.TheVariants as kind
+use Rattle.pz_syntax.specs.declared.tokens.Mark.{Mark}
+use Rattle.pz_syntax.specs.declared.names.Id.{Id}
+use Rattle.pz_syntax.specs.Marks.{keyword, word, word_text, each_text, section as section_text}
+use Rattle.pz_syntax.specs.Classes.{DataMethodTree, DataClassTree}
+use Rattle.pz_syntax.specs.ClassText.{variables_text, data_method_text, data_class_text}
+use Rattle.pz_syntax.specs.ModelForm.{Each, IfWritten, IsDataMethod, IsDataClass}
+use Rattle.pz_syntax.specs.ModelNesting.{greatest, optional_nesting, data_method_nesting, data_class_nesting}
 use Rattle.pz_cursor.specs.declared.ahead.Next.TheVariants as n
-use Rattle.pz_cursor.specs.LookAhead.{next, same}
-use Rattle.pz_cursor.specs.Input.{Tokens, marks, after, identifier, name, position, sees}
-use Rattle.pz_cursor.specs.Device.{expect, expect_id}
-use Rattle.pz_cursor.specs.Names as names
+use Rattle.pz_cursor.specs.devices.LookAhead.{next, same}
+use Rattle.pz_cursor.specs.devices.Input.{Tokens, marks, after, identifier, name, position, sees}
+use Rattle.pz_cursor.specs.devices.Device.{expect, expect_id}
+use Rattle.pz_cursor.specs.devices.Names as names
 use Rattle.pz_cursor.specs.Places.{located, place_section}
 use Rattle.pz_cursor.proofs.Steps.{bind_ok, expected}
 use Rattle.pz_cursor.proofs.Reading.{Sound, Complete, ok_took, split_located}
 use Rattle.pz_cursor.proofs.Joined.{token}
 use Rattle.pz_cursor.proofs.Named.{Any, word_sound}
 use Rattle.pz_cursor.proofs.Sections.{section_sound, section_complete}
-use Rattle.pz_declarations.specs.Sections.{parent_section, variables_section}
-use Rattle.pz_declarations.specs.DataClasses as spec
+use Rattle.pz_declarations.specs.devices.Sections.{parent_section, variables_section}
+use Rattle.pz_declarations.specs.devices.DataClasses as spec
 use Rattle.pz_declarations.specs.DeclarationPlaces.{behind_parent, place_data_methods, place_data_class}
 use Rattle.pz_cursor.proofs.Orders.{Behind, Ends, behind_not, section_behind, sections_behind}
 use Rattle.pz_declarations.proofs.SectionRules.{parent_section_sound, parent_section_complete, variables_section_sound, variables_section_complete}

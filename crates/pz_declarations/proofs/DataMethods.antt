@@ -1,26 +1,26 @@
 -- The rules for the methods of a data class.
 use Rattle.std.proofs.Common.{◌≡◌, ◌≢◌, ℕ, suc, ◌+◌, ◌<◌, Bool, true, false, List, ◌∷◌, ◌++◌, length, Ok, refl, ap, sym, ◌∙◌, arith, append_assoc}
-use Rattle.pz_ast.specs.declared.tokens.Pos.{Pos}
-use Rattle.pz_ast.specs.declared.tokens.Symbol.TheVariants as s
-use Rattle.pz_ast.specs.declared.tokens.TokenKind.TheVariants as kind
-use Rattle.pz_ast.specs.declared.tokens.Mark.{Mark}
-use Rattle.pz_ast.specs.declared.names.Id.{Id}
-use Rattle.pz_ast.specs.Marks.{symbol, word, selector_head, each_text, optional as optional_text}
-use Rattle.pz_ast.specs.Expressions.{Expressions, none, more}
-use Rattle.pz_ast.specs.ExpressionView.{list_of as expressions}
-use Rattle.pz_ast.specs.ExpressionText.{text, texts, tail_texts}
-use Rattle.pz_ast.specs.ExpressionForm.{IsBody}
-use Rattle.pz_ast.specs.Classes.{DataMethodTree}
-use Rattle.pz_ast.specs.ClassText.{formal_text, locals_text, data_method_text}
-use Rattle.pz_ast.specs.ModelForm.{Each, IsDataMethod}
-use Rattle.pz_ast.specs.ModelNesting.{data_method_nesting}
+use Rattle.pz_syntax.specs.declared.tokens.Pos.{Pos}
+use Rattle.pz_syntax.specs.declared.tokens.Symbol.TheVariants as s
+use Rattle.pz_syntax.specs.declared.tokens.TokenKind.TheVariants as kind
+use Rattle.pz_syntax.specs.declared.tokens.Mark.{Mark}
+use Rattle.pz_syntax.specs.declared.names.Id.{Id}
+use Rattle.pz_syntax.specs.Marks.{symbol, word, selector_head, each_text, optional as optional_text}
+use Rattle.pz_syntax.specs.Expressions.{Expressions, none, more}
+use Rattle.pz_syntax.specs.ExpressionView.{list_of as expressions}
+use Rattle.pz_syntax.specs.ExpressionText.{text, texts, tail_texts}
+use Rattle.pz_syntax.specs.ExpressionForm.{IsBody}
+use Rattle.pz_syntax.specs.Classes.{DataMethodTree}
+use Rattle.pz_syntax.specs.ClassText.{formal_text, locals_text, data_method_text}
+use Rattle.pz_syntax.specs.ModelForm.{Each, IsDataMethod}
+use Rattle.pz_syntax.specs.ModelNesting.{data_method_nesting}
 use Rattle.pz_cursor.specs.declared.ahead.Next.{Next}
 use Rattle.pz_cursor.specs.declared.ahead.Next.TheVariants as n
-use Rattle.pz_cursor.specs.LookAhead.{next, same}
-use Rattle.pz_cursor.specs.Input.{Tokens, marks, after, identifier, sees, selects_head, selects_head_by, spelled_init}
-use Rattle.pz_cursor.specs.Device.{expect}
-use Rattle.pz_cursor.specs.Lists.{list_of}
-use Rattle.pz_cursor.specs.Names as names
+use Rattle.pz_cursor.specs.devices.LookAhead.{next, same}
+use Rattle.pz_cursor.specs.devices.Input.{Tokens, marks, after, identifier, sees, selects_head, selects_head_by, spelled_init}
+use Rattle.pz_cursor.specs.devices.Device.{expect}
+use Rattle.pz_cursor.specs.devices.Lists.{list_of}
+use Rattle.pz_cursor.specs.devices.Names as names
 use Rattle.pz_cursor.specs.Places.{located}
 use Rattle.pz_cursor.proofs.Steps.{bind_ok, expected}
 use Rattle.pz_cursor.proofs.Words.{selector_head_is, selector_head_seen}
@@ -28,13 +28,13 @@ use Rattle.pz_cursor.proofs.Reading.{Took, Sound, Complete, ok_took, split_locat
 use Rattle.pz_cursor.proofs.Each.{each_sound, each_complete}
 use Rattle.pz_cursor.proofs.Named.{word_sound, word_complete, optional_formal_sound, optional_formal_complete, optional_locals_sound, optional_locals_complete}
 use Rattle.pz_values.specs.declared.rule.Rule.TheVariants as rule
-use Rattle.pz_values.specs.Values.{expr}
+use Rattle.pz_values.specs.devices.Values.{expr}
 use Rattle.pz_values.specs.ExpressionPlaces.{place_all}
 use Rattle.pz_values.proofs.Texts.{starts, begins, body, body_nested, list_back}
 use Rattle.pz_values.proofs.Operators.{binding}
 use Rattle.pz_values.proofs.Readings.{exprs_sound, expr_sound}
 use Rattle.pz_values.proofs.Completeness.{body_given, expr_complete}
-use Rattle.pz_declarations.specs.DataClasses as spec
+use Rattle.pz_declarations.specs.devices.DataClasses as spec
 use Rattle.pz_declarations.specs.DeclarationPlaces.{colon_at, place_data_method, place_data_methods}
 use Rattle.pz_cursor.proofs.Orders.{Ends}
 

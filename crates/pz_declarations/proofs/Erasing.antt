@@ -1,11 +1,11 @@
 -- The positions of the tokens change nothing else of a declaration.
 use Rattle.std.proofs.Common.{suc, ◌+◌, length, refl, ap, ◌∙◌}
 use Rattle.std.specs.Prelude.{map, option_map}
-use Rattle.pz_ast.specs.declared.tokens.Keyword.TheVariants as k
-use Rattle.pz_ast.specs.Marks.{optional as optional_text, section as section_text}
-use Rattle.pz_ast.specs.ClassText.{locals_text, variables_text, message_text, data_method_text}
-use Rattle.pz_ast.specs.ExpressionErasure.{erase_id, erase_all}
-use Rattle.pz_ast.specs.ModelErasure.{erase_group, erase_message, erase_start, erase_data_method, erase_data_class}
+use Rattle.pz_syntax.specs.declared.tokens.Keyword.TheVariants as k
+use Rattle.pz_syntax.specs.Marks.{optional as optional_text, section as section_text}
+use Rattle.pz_syntax.specs.ClassText.{locals_text, variables_text, message_text, data_method_text}
+use Rattle.pz_syntax.specs.ExpressionErasure.{erase_id, erase_all}
+use Rattle.pz_syntax.specs.ModelErasure.{erase_group, erase_message, erase_start, erase_data_method, erase_data_class}
 use Rattle.pz_cursor.specs.Places.{place_id, place_variables, place_enclosed, place_optional, place_section}
 use Rattle.pz_cursor.proofs.Erasing.{Erased, erased_separated, erased_each, erased_optional, erased_section, erased_names, erased_variables, erased_enclosed}
 use Rattle.pz_values.specs.ExpressionPlaces.{place_all}

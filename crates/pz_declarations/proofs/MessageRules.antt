@@ -1,22 +1,22 @@
 -- The rules for the messages of a process class.
 use Rattle.std.proofs.Common.{◌≡◌, ◌≢◌, ℕ, suc, ◌+◌, Bool, true, false, List, [], ◌∷◌, ◌++◌, length, Option, Some, None, Ok, refl, ap, sym, ◌∙◌, arith, append_assoc}
-use Rattle.pz_ast.specs.declared.tokens.Pos.{Pos}
-use Rattle.pz_ast.specs.declared.tokens.Symbol.TheVariants as s
-use Rattle.pz_ast.specs.declared.tokens.Keyword.TheVariants as k
-use Rattle.pz_ast.specs.declared.tokens.TokenKind.TheVariants as kind
-use Rattle.pz_ast.specs.declared.tokens.Mark.{Mark}
-use Rattle.pz_ast.specs.declared.names.Id.{Id}
-use Rattle.pz_ast.specs.declared.classes.Message.{Message}
-use Rattle.pz_ast.specs.Marks.{symbol, word, names_text, optional as optional_text, section as section_text}
-use Rattle.pz_ast.specs.ClassText.{direction as direction_symbol, types_text, message_text, messages_text}
-use Rattle.pz_ast.specs.ModelForm.{IfWritten}
+use Rattle.pz_syntax.specs.declared.tokens.Pos.{Pos}
+use Rattle.pz_syntax.specs.declared.tokens.Symbol.TheVariants as s
+use Rattle.pz_syntax.specs.declared.tokens.Keyword.TheVariants as k
+use Rattle.pz_syntax.specs.declared.tokens.TokenKind.TheVariants as kind
+use Rattle.pz_syntax.specs.declared.tokens.Mark.{Mark}
+use Rattle.pz_syntax.specs.declared.names.Id.{Id}
+use Rattle.pz_syntax.specs.declared.classes.Message.{Message}
+use Rattle.pz_syntax.specs.Marks.{symbol, word, names_text, optional as optional_text, section as section_text}
+use Rattle.pz_syntax.specs.ClassText.{direction as direction_symbol, types_text, message_text, messages_text}
+use Rattle.pz_syntax.specs.ModelForm.{IfWritten}
 use Rattle.pz_cursor.specs.declared.ahead.Next.{Next}
 use Rattle.pz_cursor.specs.declared.ahead.Next.TheVariants as n
-use Rattle.pz_cursor.specs.LookAhead.{next, same}
-use Rattle.pz_cursor.specs.Input.{Tokens, marks, after, identifier, name, position, sees}
-use Rattle.pz_cursor.specs.Device.{expect, expect_id}
-use Rattle.pz_cursor.specs.Lists.{list_of}
-use Rattle.pz_cursor.specs.Names as names
+use Rattle.pz_cursor.specs.devices.LookAhead.{next, same}
+use Rattle.pz_cursor.specs.devices.Input.{Tokens, marks, after, identifier, name, position, sees}
+use Rattle.pz_cursor.specs.devices.Device.{expect, expect_id}
+use Rattle.pz_cursor.specs.devices.Lists.{list_of}
+use Rattle.pz_cursor.specs.devices.Names as names
 use Rattle.pz_cursor.specs.Places.{located, place_optional, place_section}
 use Rattle.pz_cursor.proofs.Shown.{token_of}
 use Rattle.pz_cursor.proofs.Steps.{bind_ok, takes, expected, not_seen}
@@ -25,7 +25,7 @@ use Rattle.pz_cursor.proofs.Joined.{joined, joined_is, joined_sound, joined_comp
 use Rattle.pz_cursor.proofs.Optional.{optional_sound, optional_complete, or_none_sound, or_none_complete}
 use Rattle.pz_cursor.proofs.Named.{Any, Whatever, every, comma_is, comma_seen, word_sound, optional_names_sound, optional_names_complete}
 use Rattle.pz_cursor.proofs.Sections.{section_sound, section_complete}
-use Rattle.pz_declarations.specs.Sections as spec
+use Rattle.pz_declarations.specs.devices.Sections as spec
 use Rattle.pz_declarations.specs.DeclarationPlaces.{place_types, place_message, place_messages}
 use Rattle.pz_cursor.proofs.Orders.{Behind, behind_not}
 

@@ -1,24 +1,24 @@
 -- The rules for the parent, the ports, the variables, and the call with which a process starts.
 use Rattle.std.proofs.Common.{◌≡◌, ℕ, suc, ◌+◌, ◌<◌, true, not, List, [], ◌∷◌, ◌++◌, length, Ok, refl, ap, sym, ◌∙◌, arith, append_assoc}
-use Rattle.pz_ast.specs.declared.tokens.Pos.{Pos}
-use Rattle.pz_ast.specs.declared.tokens.Symbol.TheVariants as s
-use Rattle.pz_ast.specs.declared.tokens.Keyword.TheVariants as k
-use Rattle.pz_ast.specs.declared.tokens.TokenKind.TheVariants as kind
-use Rattle.pz_ast.specs.declared.tokens.Mark.{Mark}
-use Rattle.pz_ast.specs.declared.names.Id.{Id}
-use Rattle.pz_ast.specs.Marks.{symbol, head, word_text, names_text, section as section_text}
-use Rattle.pz_ast.specs.ExpressionView.{Tree, list_of as expressions}
-use Rattle.pz_ast.specs.ExpressionText.{texts}
-use Rattle.pz_ast.specs.Classes.{StartTree}
-use Rattle.pz_ast.specs.ClassText.{variables_text, start_text}
-use Rattle.pz_ast.specs.ModelForm.{Each, IfWritten, AreVariables, IsStart}
-use Rattle.pz_ast.specs.ModelNesting.{start_nesting}
+use Rattle.pz_syntax.specs.declared.tokens.Pos.{Pos}
+use Rattle.pz_syntax.specs.declared.tokens.Symbol.TheVariants as s
+use Rattle.pz_syntax.specs.declared.tokens.Keyword.TheVariants as k
+use Rattle.pz_syntax.specs.declared.tokens.TokenKind.TheVariants as kind
+use Rattle.pz_syntax.specs.declared.tokens.Mark.{Mark}
+use Rattle.pz_syntax.specs.declared.names.Id.{Id}
+use Rattle.pz_syntax.specs.Marks.{symbol, head, word_text, names_text, section as section_text}
+use Rattle.pz_syntax.specs.ExpressionView.{Tree, list_of as expressions}
+use Rattle.pz_syntax.specs.ExpressionText.{texts}
+use Rattle.pz_syntax.specs.Classes.{StartTree}
+use Rattle.pz_syntax.specs.ClassText.{variables_text, start_text}
+use Rattle.pz_syntax.specs.ModelForm.{Each, IfWritten, AreVariables, IsStart}
+use Rattle.pz_syntax.specs.ModelNesting.{start_nesting}
 use Rattle.pz_cursor.specs.declared.ahead.Next.TheVariants as n
-use Rattle.pz_cursor.specs.LookAhead.{next, same}
-use Rattle.pz_cursor.specs.Input.{Tokens, marks, after, identifier, name, position, sees}
-use Rattle.pz_cursor.specs.Device.{expect, expect_id}
-use Rattle.pz_cursor.specs.Lists.{list_of}
-use Rattle.pz_cursor.specs.Names as names
+use Rattle.pz_cursor.specs.devices.LookAhead.{next, same}
+use Rattle.pz_cursor.specs.devices.Input.{Tokens, marks, after, identifier, name, position, sees}
+use Rattle.pz_cursor.specs.devices.Device.{expect, expect_id}
+use Rattle.pz_cursor.specs.devices.Lists.{list_of}
+use Rattle.pz_cursor.specs.devices.Names as names
 use Rattle.pz_cursor.specs.Places.{located, place_id, place_names, place_variables, place_section}
 use Rattle.pz_cursor.proofs.Steps.{bind_ok, expected, expect_id_ok}
 use Rattle.pz_cursor.proofs.Words.{head_is}
@@ -28,12 +28,12 @@ use Rattle.pz_cursor.proofs.Optional.{or_none_sound}
 use Rattle.pz_cursor.proofs.Named.{Any, Whatever, StopsVariables, comma_is, comma_seen, word_sound, word_complete, optional_variables_sound, optional_variables_complete}
 use Rattle.pz_cursor.proofs.Sections.{section_sound, section_complete, ports_complete}
 use Rattle.pz_values.specs.declared.rule.Rule.TheVariants as rule
-use Rattle.pz_values.specs.Values.{expr, exprs_before}
+use Rattle.pz_values.specs.devices.Values.{expr, exprs_before}
 use Rattle.pz_values.specs.ExpressionPlaces.{place_all}
 use Rattle.pz_values.proofs.Texts.{Fits, are, nested, list_back}
 use Rattle.pz_values.proofs.Readings.{exprs_sound, expr_sound}
 use Rattle.pz_values.proofs.Completeness.{before_given, expr_complete}
-use Rattle.pz_declarations.specs.Sections as spec
+use Rattle.pz_declarations.specs.devices.Sections as spec
 use Rattle.pz_declarations.specs.DeclarationPlaces.{place_start}
 use Rattle.pz_cursor.proofs.Orders.{Behind, behind_not}
 

@@ -1,12 +1,12 @@
 -- Declarations with the positions of the tokens of their texts. The number is that of the first
 -- token of the part.
 use Rattle.std.specs.Prelude.{ℕ, suc, ◌+◌, List, length}
-use Rattle.pz_ast.specs.declared.tokens.Keyword.TheVariants as k
-use Rattle.pz_ast.specs.declared.names.Id.{Id}
-use Rattle.pz_ast.specs.declared.classes.Message.{Message}
-use Rattle.pz_ast.specs.Marks.{optional, section, word_text}
-use Rattle.pz_ast.specs.Classes.{DataMethodTree, DataClassTree, StartTree}
-use Rattle.pz_ast.specs.ClassText.{formal_text, locals_text, variables_text, message_text, data_method_text}
+use Rattle.pz_syntax.specs.declared.tokens.Keyword.TheVariants as k
+use Rattle.pz_syntax.specs.declared.names.Id.{Id}
+use Rattle.pz_syntax.specs.declared.classes.Message.{Message}
+use Rattle.pz_syntax.specs.Marks.{optional, section, word_text}
+use Rattle.pz_syntax.specs.Classes.{DataMethodTree, DataClassTree, StartTree}
+use Rattle.pz_syntax.specs.ClassText.{formal_text, locals_text, variables_text, message_text, data_method_text}
 use Rattle.pz_cursor.specs.Places.{Placing, place_id, place_names, place_variables, place_enclosed, place_separated, place_each, place_optional, place_section}
 use Rattle.pz_values.specs.ExpressionPlaces.{place_all}
 

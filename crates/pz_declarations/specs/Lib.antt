@@ -1,3 +1,2 @@
-pub mod Sections
-pub mod DataClasses
 pub mod DeclarationPlaces
+pub mod devices

@@ -1,19 +1,19 @@
 //! Data classes.
 
 ghost use Rattle.std.specs.Prelude.{◌≡◌, ◌<◌, ◌-◌, ◌^◌, map, option_map};
-ghost use Rattle.pz_ast.specs.ClassView.{data_class_view, data_method_view};
-ghost use Rattle.pz_cursor.specs.Device.{Reads};
-ghost use Rattle.pz_declarations.specs.DataClasses as spec;
+ghost use Rattle.pz_syntax.specs.ClassView.{data_class_view, data_method_view};
+ghost use Rattle.pz_cursor.specs.devices.Device.{Reads};
+ghost use Rattle.pz_declarations.specs.devices.DataClasses as spec;
 
 use crate::sections::{parent_section, variables_section};
-use pz_ast::{DataClass, DataMethod};
 use pz_cursor::{Cursor, Next, Refusal, optional_formal, optional_locals};
 use pz_items::Items;
+use pz_syntax::{DataClass, DataMethod};
 use pz_values::exprs;
 use std::alloc::Global;
 
 /// A data class from `data` on. In its methods at most `depth` constructs stand one in another.
-#[tactic(auto, unfolding(crate::specs::DataClasses::data_class))]
+#[tactic(auto, unfolding(crate::specs::devices::DataClasses::data_class))]
 pub fn data_class(
     alloc: Global,
     cursor: &mut Cursor<'_>,
@@ -36,7 +36,7 @@ pub fn data_class(
     })
 }
 
-#[tactic(auto, unfolding(crate::specs::DataClasses::data_methods_section, pz_cursor::specs::Device::expect, pz_cursor::specs::Device::past))]
+#[tactic(auto, unfolding(crate::specs::devices::DataClasses::data_methods_section, pz_cursor::specs::devices::Device::expect, pz_cursor::specs::devices::Device::past))]
 fn methods_section(
     alloc: Global,
     cursor: &mut Cursor<'_>,
@@ -52,7 +52,7 @@ fn methods_section(
 }
 
 /// Methods, as long as a name of one stands next.
-#[tactic(auto, unfolding(crate::specs::DataClasses::data_methods, pz_cursor::specs::Lists::each_of, pz_cursor::specs::Lists::repeat))]
+#[tactic(auto, unfolding(crate::specs::devices::DataClasses::data_methods, pz_cursor::specs::devices::Lists::each_of, pz_cursor::specs::devices::Lists::repeat))]
 fn data_methods(
     alloc: Global,
     cursor: &mut Cursor<'_>,
@@ -72,7 +72,7 @@ fn data_methods(
 }
 
 /// A method from its name on, which stands next.
-#[tactic(auto, unfolding(crate::specs::DataClasses::data_method))]
+#[tactic(auto, unfolding(crate::specs::devices::DataClasses::data_method))]
 fn data_method(alloc: Global, cursor: &mut Cursor<'_>, depth: usize) -> Result<DataMethod, Refusal>
     requires room { depth < 2 ^ 64 - 1 }
     ensures { Reads data_method_view (spec.data_method depth cursor.old) result cursor.new }

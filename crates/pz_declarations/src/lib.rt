@@ -9,6 +9,3 @@ mod sections;
 pub use data_classes::data_class;
 pub use messages::messages_section;
 pub use sections::{parent_section, start_section, variables_section};
-
-#[cfg(test)]
-mod tests;

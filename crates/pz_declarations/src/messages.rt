@@ -1,18 +1,18 @@
 //! The messages that a process class declares.
 
 ghost use Rattle.std.specs.Prelude.{◌≡◌};
-ghost use Rattle.pz_cursor.specs.Device.{Reads};
-ghost use Rattle.pz_cursor.specs.Lists as lists;
+ghost use Rattle.pz_cursor.specs.devices.Device.{Reads};
+ghost use Rattle.pz_cursor.specs.devices.Lists as lists;
 ghost use Rattle.pz_cursor.specs.declared.ahead.Next.TheVariants as n;
-ghost use Rattle.pz_declarations.specs.Sections as spec;
+ghost use Rattle.pz_declarations.specs.devices.Sections as spec;
 
-use pz_ast::{Id, Message};
 use pz_cursor::{Cursor, Next, Refusal, optional_names};
 use pz_items::Items;
+use pz_syntax::{Id, Message};
 use std::alloc::Global;
 
 /// The messages of a process class, none or more, if `messages` stands next.
-#[tactic(auto, unfolding(crate::specs::Sections::messages_section, pz_cursor::specs::Device::expect, pz_cursor::specs::Device::past))]
+#[tactic(auto, unfolding(crate::specs::devices::Sections::messages_section, pz_cursor::specs::devices::Device::expect, pz_cursor::specs::devices::Device::past))]
 pub fn messages_section(
     alloc: Global,
     cursor: &mut Cursor<'_>,
@@ -25,7 +25,7 @@ pub fn messages_section(
     Ok(Some(optional_messages(alloc, cursor)?))
 }
 
-#[tactic(auto, unfolding(crate::specs::Sections::optional_messages))]
+#[tactic(auto, unfolding(crate::specs::devices::Sections::optional_messages))]
 fn optional_messages(alloc: Global, cursor: &mut Cursor<'_>) -> Result<Items<Message>, Refusal>
     ensures { Reads (λ x. x) (spec.optional_messages cursor.old) result cursor.new }
 {
@@ -36,7 +36,7 @@ fn optional_messages(alloc: Global, cursor: &mut Cursor<'_>) -> Result<Items<Mes
     }
 }
 
-#[tactic(auto, unfolding(crate::specs::Sections::messages, pz_cursor::specs::Lists::list_of))]
+#[tactic(auto, unfolding(crate::specs::devices::Sections::messages, pz_cursor::specs::devices::Lists::list_of))]
 fn messages(alloc: Global, cursor: &mut Cursor<'_>) -> Result<Items<Message>, Refusal>
     ensures { Reads (λ x. x) (spec.messages cursor.old) result cursor.new }
 {
@@ -45,7 +45,7 @@ fn messages(alloc: Global, cursor: &mut Cursor<'_>) -> Result<Items<Message>, Re
     more_messages(alloc, cursor, found)
 }
 
-#[tactic(auto, unfolding(pz_cursor::specs::Lists::more_of, pz_cursor::specs::Lists::tail_of))]
+#[tactic(auto, unfolding(pz_cursor::specs::devices::Lists::more_of, pz_cursor::specs::devices::Lists::tail_of))]
 fn more_messages(
     alloc: Global,
     cursor: &mut Cursor<'_>,
@@ -64,7 +64,7 @@ fn more_messages(
 
 /// A port, the direction, the name of the message, and the types of its parameters if a `(` stands
 /// behind it.
-#[tactic(auto, unfolding(crate::specs::Sections::message))]
+#[tactic(auto, unfolding(crate::specs::devices::Sections::message))]
 fn message(alloc: Global, cursor: &mut Cursor<'_>) -> Result<Message, Refusal>
     ensures { Reads (λ x. x) (spec.message cursor.old) result cursor.new }
 {
@@ -81,7 +81,7 @@ fn message(alloc: Global, cursor: &mut Cursor<'_>) -> Result<Message, Refusal>
 }
 
 /// Whether the message goes out: `!` or `?`.
-#[tactic(auto, unfolding(crate::specs::Sections::direction))]
+#[tactic(auto, unfolding(crate::specs::devices::Sections::direction))]
 fn direction(cursor: &mut Cursor<'_>) -> Result<bool, Refusal>
     ensures { Reads (λ x. x) (spec.direction cursor.old) result cursor.new }
 {
@@ -98,7 +98,7 @@ fn direction(cursor: &mut Cursor<'_>) -> Result<bool, Refusal>
     }
 }
 
-#[tactic(auto, unfolding(crate::specs::Sections::optional_types))]
+#[tactic(auto, unfolding(crate::specs::devices::Sections::optional_types))]
 fn optional_types(alloc: Global, cursor: &mut Cursor<'_>) -> Result<Option<Items<Id>>, Refusal>
     ensures { Reads (λ x. x) (spec.optional_types cursor.old) result cursor.new }
 {
@@ -109,7 +109,7 @@ fn optional_types(alloc: Global, cursor: &mut Cursor<'_>) -> Result<Option<Items
     }
 }
 
-#[tactic(auto, unfolding(crate::specs::Sections::types))]
+#[tactic(auto, unfolding(crate::specs::devices::Sections::types))]
 fn types(alloc: Global, cursor: &mut Cursor<'_>) -> Result<Items<Id>, Refusal>
     ensures { Reads (λ x. x) (spec.types cursor.old) result cursor.new }
 {

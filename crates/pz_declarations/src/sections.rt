@@ -1,19 +1,19 @@
 //! Sections of classes: the parent, the variables, and the call with which a process starts.
 
 ghost use Rattle.std.specs.Prelude.{◌≡◌, ◌<◌, ◌-◌, ◌^◌, map, option_map};
-ghost use Rattle.pz_ast.specs.ExpressionView.{view};
-ghost use Rattle.pz_ast.specs.ClassView.{start_view};
-ghost use Rattle.pz_cursor.specs.Device.{Reads};
-ghost use Rattle.pz_declarations.specs.Sections as spec;
+ghost use Rattle.pz_syntax.specs.ExpressionView.{view};
+ghost use Rattle.pz_syntax.specs.ClassView.{start_view};
+ghost use Rattle.pz_cursor.specs.devices.Device.{Reads};
+ghost use Rattle.pz_declarations.specs.devices.Sections as spec;
 
-use pz_ast::{Expr, Id, Start, VarGroup};
 use pz_cursor::{Cursor, Next, Refusal, optional_variables};
 use pz_items::Items;
+use pz_syntax::{Expr, Id, Start, VarGroup};
 use pz_values::exprs;
 use std::alloc::Global;
 
 /// The name of the parent, if `extends` stands next.
-#[tactic(auto, unfolding(crate::specs::Sections::parent_section, pz_cursor::specs::Device::expect, pz_cursor::specs::Device::past))]
+#[tactic(auto, unfolding(crate::specs::devices::Sections::parent_section, pz_cursor::specs::devices::Device::expect, pz_cursor::specs::devices::Device::past))]
 pub fn parent_section(alloc: Global, cursor: &mut Cursor<'_>) -> Result<Option<Id>, Refusal>
     ensures reads { Reads (λ x. x) (spec.parent_section cursor.old) result cursor.new }
 {
@@ -24,7 +24,7 @@ pub fn parent_section(alloc: Global, cursor: &mut Cursor<'_>) -> Result<Option<I
 }
 
 /// The variables, none or more, if `variables` stands next.
-#[tactic(auto, unfolding(crate::specs::Sections::variables_section, pz_cursor::specs::Device::expect, pz_cursor::specs::Device::past))]
+#[tactic(auto, unfolding(crate::specs::devices::Sections::variables_section, pz_cursor::specs::devices::Device::expect, pz_cursor::specs::devices::Device::past))]
 pub fn variables_section(
     alloc: Global,
     cursor: &mut Cursor<'_>,
@@ -39,7 +39,7 @@ pub fn variables_section(
 
 /// The call with which a process starts, if `init` stands next. In its arguments at most `depth`
 /// constructs stand one in another; its brackets do not count.
-#[tactic(auto, unfolding(crate::specs::Sections::start_section, pz_cursor::specs::Device::expect, pz_cursor::specs::Device::past))]
+#[tactic(auto, unfolding(crate::specs::devices::Sections::start_section, pz_cursor::specs::devices::Device::expect, pz_cursor::specs::devices::Device::past))]
 pub fn start_section(
     alloc: Global,
     cursor: &mut Cursor<'_>,
@@ -54,7 +54,7 @@ pub fn start_section(
     Ok(Some(start(alloc, cursor, depth)?))
 }
 
-#[tactic(auto, unfolding(crate::specs::Sections::start))]
+#[tactic(auto, unfolding(crate::specs::devices::Sections::start))]
 fn start(alloc: Global, cursor: &mut Cursor<'_>, depth: usize) -> Result<Start, Refusal>
     requires room { depth < 2 ^ 64 - 1 }
     ensures { Reads start_view (spec.start depth cursor.old) result cursor.new }
@@ -69,7 +69,7 @@ fn start(alloc: Global, cursor: &mut Cursor<'_>, depth: usize) -> Result<Start, 
 }
 
 /// Expressions with commas between them, or none where a `)` stands next.
-#[tactic(auto, unfolding(crate::specs::Sections::start_arguments, pz_values::specs::Values::exprs_before))]
+#[tactic(auto, unfolding(crate::specs::devices::Sections::start_arguments, pz_values::specs::devices::Values::exprs_before))]
 fn arguments(alloc: Global, cursor: &mut Cursor<'_>, depth: usize) -> Result<Items<Expr>, Refusal>
     requires room { depth < 2 ^ 64 - 1 }
     ensures { Reads (map view) (spec.start_arguments depth cursor.old) result cursor.new }

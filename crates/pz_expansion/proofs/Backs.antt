@@ -5,7 +5,7 @@ use Rattle.pz_violation.specs.Least.{least_from}
 use Rattle.pz_violation.proofs.Leasts.{least_from_append}
 use Rattle.pz_components.specs.Graph.{number_of}
 use Rattle.pz_expansion.specs.declared.nodes.Node.{Node}
-use Rattle.pz_expansion.specs.LeadingBack.{back_from, back_among}
+use Rattle.pz_expansion.specs.devices.LeadingBack.{back_from, back_among}
 
 -- one class further
 pub back_step : (numbers : List ℕ) (nodes : List Node) (n : Node) (c next : ℕ) (least now whole : Option Violation) (number : ℕ) → c < length nodes → n ≡ get_or nodes c n → next ≡ suc c

@@ -7,9 +7,9 @@ use Rattle.std.proofs.lemmas.Option.{unwrap_or-slice_get}
 use Rattle.pz_expansion.specs.declared.nodes.Held.{Held}
 use Rattle.pz_expansion.specs.declared.nodes.Node.{Node}
 use Rattle.pz_expansion.specs.declared.totals.Totals.{Totals}
-use Rattle.pz_expansion.specs.Levels.{none_yet, capped_plus, total_in, with_all, total_with, next_level, level}
-use Rattle.pz_expansion.specs.Nodes.{held_by}
-use Rattle.pz_expansion.specs.Settling.{is_settled, all_settled, AreCounted}
+use Rattle.pz_expansion.specs.devices.Levels.{none_yet, capped_plus, total_in, with_all, total_with, next_level, level}
+use Rattle.pz_expansion.specs.devices.Nodes.{held_by}
+use Rattle.pz_expansion.specs.devices.Settling.{is_settled, all_settled, AreCounted}
 
 set_elsewhere : (bs : List Bool) (c x : ℕ) → x ≢ c → is_settled (set bs c true) x ≡ is_settled bs x
 set_elsewhere bs c x other = unwrap_or-slice_get (set bs c true) x false ∙ (get_or-set_other bs c x true false other ∙ sym (unwrap_or-slice_get bs x false))

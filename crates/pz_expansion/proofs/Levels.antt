@@ -3,7 +3,7 @@ use Rattle.std.proofs.Common.{◌≡◌, refl, sym, ap, ◌∙◌, ℕ, zero, su
 use lib.Pointwise.{pointwise}
 use Rattle.pz_expansion.specs.declared.nodes.Node.{Node}
 use Rattle.pz_expansion.specs.declared.totals.Totals.{Totals}
-use Rattle.pz_expansion.specs.Levels.{next_level, level}
+use Rattle.pz_expansion.specs.devices.Levels.{next_level, level}
 
 stays_on : (nodes : List Node) (l more : ℕ) → next_level nodes (level nodes l) ≡ level nodes l → level nodes (more + l) ≡ level nodes l
 stays_on nodes l zero stays = let none : 0 + l ≡ l = omega arith in ap (level nodes) none

@@ -1,6 +1,5 @@
 mod Levels
 mod Backs
-mod OneSystem
 mod ModelNodes
 mod SelfHolding
 mod Sizes

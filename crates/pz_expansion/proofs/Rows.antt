@@ -1,16 +1,15 @@
 -- Small models: what is refused in them, and how large they are.
 use Rattle.std.proofs.Common.{◌≡◌, refl, ℕ, List, [], ◌∷◌, Some, None, codes}
-use Rattle.pz_ast.specs.declared.tokens.Pos.{Pos}
-use Rattle.pz_ast.specs.declared.names.Id.{Id}
-use Rattle.pz_ast.specs.declared.clusters.Instance.{Instance}
-use Rattle.pz_ast.specs.declared.clusters.Channel.{Channel}
-use Rattle.pz_ast.specs.declared.clusters.SystemDecl.{SystemDecl}
-use Rattle.pz_ast.specs.Classes.{DeclTree, process_class, cluster_class, system, ModelTree}
+use Rattle.pz_syntax.specs.declared.tokens.Pos.{Pos}
+use Rattle.pz_syntax.specs.declared.names.Id.{Id}
+use Rattle.pz_syntax.specs.declared.clusters.Instance.{Instance}
+use Rattle.pz_syntax.specs.declared.clusters.Channel.{Channel}
+use Rattle.pz_syntax.specs.declared.clusters.SystemDecl.{SystemDecl}
+use Rattle.pz_syntax.specs.Classes.{DeclTree, process_class, cluster_class, system, ModelTree}
 use Rattle.pz_violation.specs.Order.{violation}
 use Rattle.pz_classes.specs.SizeRules.{system_size}
-use Rattle.pz_expansion.specs.Nodes.{nodes}
-use Rattle.pz_expansion.specs.LeadingBack.{back_among}
-use Rattle.pz_expansion.specs.Systems.{later_systems}
+use Rattle.pz_expansion.specs.devices.Nodes.{nodes}
+use Rattle.pz_expansion.specs.devices.LeadingBack.{back_among}
 
 abbrev at : ℕ → ℕ → Pos
 at line column = record { line = line; column = column }
@@ -69,7 +68,3 @@ rounds = record {
 -- A and B, which stand behind Array, have one number
 rounds_are_refused : back_among (0 ∷ 2 ∷ 2 ∷ 1 ∷ 5 ∷ 3 ∷ 4 ∷ []) 0 (nodes rounds) ≡ violation 15 (at 2 5) ∷ violation 15 (at 4 5) ∷ violation 15 (at 6 5) ∷ []
 rounds_are_refused = refl
-
--- the second and the third in the text, in whatever order they are given
-three_systems : later_systems (at 1 1) (system (system_at 3 [] []) ∷ system (system_at 1 [] []) ∷ system (system_at 2 [] []) ∷ []) ≡ violation 20 (at 3 1) ∷ violation 20 (at 2 1) ∷ []
-three_systems = refl

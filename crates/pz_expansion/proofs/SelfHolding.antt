@@ -8,8 +8,8 @@ use Rattle.std.proofs.lemmas.Bool.Decides.{nat_tests}
 use Rattle.std.proofs.lemmas.List.{length-map}
 use Rattle.std.proofs.lemmas.Option.{slice_get_within}
 use Rattle.std.specs.declared.alloc.AllocError.{AllocError}
-use Rattle.pz_ast.specs.declared.tokens.Pos.{Pos}
-use Rattle.pz_ast.specs.Classes.{ModelTree}
+use Rattle.pz_syntax.specs.declared.tokens.Pos.{Pos}
+use Rattle.pz_syntax.specs.Classes.{ModelTree}
 use Rattle.pz_violation.specs.declared.violation.Violation.{Violation}
 use Rattle.pz_violation.specs.Order.{violation}
 use Rattle.pz_violation.specs.Least.{LeastOf, listed, least_from, Member}
@@ -21,8 +21,8 @@ use Rattle.pz_classes.specs.InstanceRules.{Holds, directly, through, BreaksC15, 
 use Rattle.pz_components.specs.Graph.{targets, Reaches, itself, further, number_of, AreComponents}
 use Rattle.pz_expansion.specs.declared.nodes.Held.{Held}
 use Rattle.pz_expansion.specs.declared.nodes.Node.{Node}
-use Rattle.pz_expansion.specs.Nodes.{held_by, node_of, nodes as nodes_in}
-use Rattle.pz_expansion.specs.LeadingBack.{classes_of, edges, LeadsBack, leads_back, is_numbered, back_in, back_from, back_among}
+use Rattle.pz_expansion.specs.devices.Nodes.{held_by, node_of, nodes as nodes_in}
+use Rattle.pz_expansion.specs.devices.LeadingBack.{classes_of, edges, LeadsBack, leads_back, is_numbered, back_in, back_from, back_among}
 use Rattle.pz_expansion.proofs.ModelNodes.{HeldAs, as_instance, is_held, declared, node_here}
 
 held_first : (h : Held) (hs : List Held) (x : Held) → Contains (h ∷ hs) x → (h ≡ x) ⊎ Contains hs x

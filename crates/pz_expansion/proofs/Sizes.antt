@@ -4,9 +4,9 @@ use Rattle.std.specs.List.{Contains, flat_map}
 use Rattle.std.specs.Option.{option_map_or}
 use Rattle.std.proofs.lemmas.Bool.Decides.{nat_tests}
 use Rattle.std.proofs.lemmas.List.{length-map}
-use Rattle.pz_ast.specs.declared.clusters.Instance.{Instance}
-use Rattle.pz_ast.specs.declared.clusters.SystemDecl.{SystemDecl}
-use Rattle.pz_ast.specs.Classes.{DeclTree, data_class, process_class, cluster_class, system, ModelTree}
+use Rattle.pz_syntax.specs.declared.clusters.Instance.{Instance}
+use Rattle.pz_syntax.specs.declared.clusters.SystemDecl.{SystemDecl}
+use Rattle.pz_syntax.specs.Classes.{DeclTree, data_class, process_class, cluster_class, system, ModelTree}
 use Rattle.pz_violation.specs.declared.violation.Violation.{Violation}
 use Rattle.pz_violation.specs.Order.{violation}
 use Rattle.pz_violation.specs.Least.{LeastOf, least_from, Member}
@@ -17,9 +17,9 @@ use Rattle.pz_classes.specs.SizeRules as size
 use Rattle.pz_classes.specs.SizeRules.{system_of, systems, all_of, one_of, expanded, system_size, is_too_large, HasNoSize, BreaksC19, too_large}
 use Rattle.pz_expansion.specs.declared.nodes.Node.{Node}
 use Rattle.pz_expansion.specs.declared.totals.Totals.{Totals}
-use Rattle.pz_expansion.specs.Nodes.{all_held, node_of, nodes}
-use Rattle.pz_expansion.specs.Levels.{none_yet, capped_plus, is_above, total_in, with_all, total_with, level}
-use Rattle.pz_expansion.specs.Oversized.{oversized_at, oversized_among}
+use Rattle.pz_expansion.specs.devices.Nodes.{all_held, node_of, nodes}
+use Rattle.pz_expansion.specs.devices.Levels.{none_yet, capped_plus, is_above, total_in, with_all, total_with, level}
+use Rattle.pz_expansion.specs.devices.Oversized.{oversized_at, oversized_among}
 
 -- as far as just above the limits
 abbrev capped : size.Totals → Totals

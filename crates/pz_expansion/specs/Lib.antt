@@ -1,6 +1,1 @@
-pub mod Nodes
-pub mod Levels
-pub mod Systems
-pub mod LeadingBack
-pub mod Oversized
-pub mod Settling
+pub mod devices

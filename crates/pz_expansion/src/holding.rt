@@ -1,21 +1,20 @@
 // The rule C15: no cluster class holds itself.
 
 ghost use Rattle.std.specs.Prelude.{IfOk};
-ghost use Rattle.pz_ast.specs.ClassView.{model_view};
+ghost use Rattle.pz_syntax.specs.ClassView.{model_view};
 ghost use Rattle.pz_violation.specs.Least.{LeastOf};
 ghost use Rattle.pz_classes.specs.InstanceRules.{BreaksC15};
 ghost use Rattle.pz_classes.specs.Tables.{AreClasses};
 
 use crate::leading_back::least_leading_back;
 use crate::nodes::nodes_of;
-use pz_ast::Model;
 use pz_classes::Classes;
+use pz_syntax::Model;
 use pz_violation::Violation;
 use std::alloc::{AllocError, Global};
 
 /// The least instance by which a cluster class holds itself, directly or through others, at the
-/// name of the instance's class. The time is linear in the classes and their instances. The only
-/// error is want of memory.
+/// name of the instance's class. The only error is want of memory.
 pub fn least_holding(
     alloc: Global,
     model: &Model,

@@ -5,8 +5,8 @@ ghost use Rattle.std.specs.Prelude.{◌≡◌, None, IfOk};
 ghost use Rattle.pz_violation.specs.Least as least;
 ghost use Rattle.pz_violation.specs.Least.{LeastOf};
 ghost use Rattle.pz_components.specs.Graph.{number_of};
-ghost use Rattle.pz_expansion.specs.LeadingBack as spec;
-ghost use Rattle.pz_expansion.specs.LeadingBack.{LeadsBack};
+ghost use Rattle.pz_expansion.specs.devices.LeadingBack as spec;
+ghost use Rattle.pz_expansion.specs.devices.LeadingBack.{LeadsBack};
 
 use crate::nodes::{Held, Node};
 use pz_components::components;

@@ -6,13 +6,8 @@ mod leading_back;
 mod nodes;
 mod settling;
 mod size;
-mod systems;
 mod totals;
 mod work_list;
 
 pub use holding::least_holding;
 pub use size::oversized;
-pub use systems::least_system;
-
-#[cfg(test)]
-mod tests;

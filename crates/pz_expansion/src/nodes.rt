@@ -1,14 +1,14 @@
 // The classes of a model as far as instances stand in them.
 
 ghost use Rattle.std.specs.Prelude.{◌≡◌, ◌++◌, IfOk, OnOk};
-ghost use Rattle.pz_ast.specs.ClassView.{decl_view, model_view};
+ghost use Rattle.pz_syntax.specs.ClassView.{decl_view, model_view};
 ghost use Rattle.pz_classes.specs.Tables.{AreClasses};
-ghost use Rattle.pz_expansion.specs.Nodes as spec;
+ghost use Rattle.pz_expansion.specs.devices.Nodes as spec;
 
 use crate::totals::Totals;
-use pz_ast::{Decl, Instance, Model, Pos};
 use pz_classes::{Classes, channels_of, class_of_instance, instances_of, is_cluster};
 use pz_items::Items;
+use pz_syntax::{Decl, Instance, Model, Pos};
 use std::alloc::{AllocError, Global};
 
 /// An instance that stands in a class: the number of its own class, and the place where that is
@@ -20,7 +20,7 @@ pub(crate) struct Held {
 }
 
 /// What stands in a class.
-#[derive(Debug, Drop)]
+#[derive(Drop)]
 pub(crate) struct Node {
     /// One of the class, without its instances.
     pub(crate) own: Totals,

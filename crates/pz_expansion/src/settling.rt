@@ -2,9 +2,9 @@
 // are known.
 
 ghost use Rattle.std.specs.Prelude.{◌≡◌, ◌<◌, ℕ, zero, suc, length, IsTrue, IfOk};
-ghost use Rattle.pz_expansion.specs.Levels as levels;
-ghost use Rattle.pz_expansion.specs.Settling as spec;
-ghost use Rattle.pz_expansion.specs.Settling.{AreCounted};
+ghost use Rattle.pz_expansion.specs.devices.Levels as levels;
+ghost use Rattle.pz_expansion.specs.devices.Settling as spec;
+ghost use Rattle.pz_expansion.specs.devices.Settling.{AreCounted};
 
 use crate::nodes::{Held, Node, held_by};
 use crate::totals::{Totals, level, total_of};

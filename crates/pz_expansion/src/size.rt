@@ -1,18 +1,18 @@
 // The rule C19: the expanded system is not too large.
 
 ghost use Rattle.std.specs.Prelude.{◌≡◌, None, IfOk};
-ghost use Rattle.pz_ast.specs.ClassView.{model_view};
+ghost use Rattle.pz_syntax.specs.ClassView.{model_view};
 ghost use Rattle.pz_violation.specs.Least as least;
 ghost use Rattle.pz_violation.specs.Least.{LeastOf};
 ghost use Rattle.pz_classes.specs.SizeRules.{BreaksC19, HasNoSize};
 ghost use Rattle.pz_classes.specs.Tables.{AreClasses};
-ghost use Rattle.pz_expansion.specs.Oversized as spec;
+ghost use Rattle.pz_expansion.specs.devices.Oversized as spec;
 
 use crate::nodes::nodes_of;
 use crate::settling::all_totals;
 use crate::totals::{Totals, total_in};
-use pz_ast::{Decl, Model};
 use pz_classes::Classes;
+use pz_syntax::{Decl, Model};
 use pz_violation::{Violation, lesser};
 use std::alloc::{AllocError, Global};
 

@@ -2,10 +2,10 @@
 // above the limits.
 
 ghost use Rattle.std.specs.Prelude.{◌≡◌, length, IfOk};
-ghost use Rattle.pz_expansion.specs.Levels as spec;
+ghost use Rattle.pz_expansion.specs.devices.Levels as spec;
 
 use crate::nodes::Node;
-use pz_ast::Channel;
+use pz_syntax::Channel;
 use std::alloc::{AllocError, Global};
 
 /// One more than the most processes, or the most clusters, that a system may have.

@@ -2,16 +2,16 @@
 use Rattle.std.proofs.Common.{◌≡◌, ◌≢◌, ℕ, List, [], ◌∷◌, Some, refl}
 use Rattle.std.specs.Prelude.{pos, All, codes}
 use Rattle.std.proofs.lemmas.List.Elements.{All-head, All-tail}
-use Rattle.pz_ast.specs.declared.tokens.Symbol.TheVariants as s
-use Rattle.pz_ast.specs.declared.tokens.Keyword.TheVariants as k
-use Rattle.pz_ast.specs.declared.tokens.TokenKind.{TokenKind}
-use Rattle.pz_ast.specs.declared.tokens.TokenKind.TheVariants as kind
+use Rattle.pz_syntax.specs.declared.tokens.Symbol.TheVariants as s
+use Rattle.pz_syntax.specs.declared.tokens.Keyword.TheVariants as k
+use Rattle.pz_syntax.specs.declared.tokens.TokenKind.{TokenKind}
+use Rattle.pz_syntax.specs.declared.tokens.TokenKind.TheVariants as kind
 use Rattle.pz_term.specs.FirstPath.{Simple, skips, delays, calls, Routine, FirstModel, IsBody, HasBodies}
 use Rattle.pz_first.specs.declared.state.Behind.{Behind}
 use Rattle.pz_first.specs.declared.state.Behind.TheVariants as b
 use Rattle.pz_first.specs.declared.state.State.{State}
 use Rattle.pz_first.specs.declared.state.State.TheVariants as st
-use Rattle.pz_first.specs.Steps.{at_keyword, at_symbol, step, steps}
+use Rattle.pz_first.specs.devices.Steps.{at_keyword, at_symbol, step, steps}
 use Rattle.pz_first.proofs.Texts.{brackets, body, routines, instances, system, all}
 
 abbrev pub Ends : State → List TokenKind → Type 0

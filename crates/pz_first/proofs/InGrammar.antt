@@ -2,10 +2,10 @@
 use Rattle.std.proofs.Common.{◌≤◌, List, [], ◌∷◌, map, arith}
 use Rattle.std.specs.Prelude.{All}
 use Rattle.std.proofs.lemmas.List.Elements.{All-head, All-tail}
-use Rattle.pz_ast.specs.ModelForm.{Each, IsProcessMethod, IsModel}
-use Rattle.pz_ast.specs.StatementForm.{IsStatement, AreStatements, FollowStatements}
-use Rattle.pz_ast.specs.StatementNesting as statement
-use Rattle.pz_ast.specs.ModelNesting.{greatest, process_method_nesting, nesting}
+use Rattle.pz_syntax.specs.ModelForm.{Each, IsProcessMethod, IsModel}
+use Rattle.pz_syntax.specs.StatementForm.{IsStatement, AreStatements, FollowStatements}
+use Rattle.pz_syntax.specs.StatementNesting as statement
+use Rattle.pz_syntax.specs.ModelNesting.{greatest, process_method_nesting, nesting}
 use Rattle.pz_term.specs.FirstPath.{Simple, skips, delays, calls, statement_of, statements_of, Routine, method_of, FirstModel, tree_of, IsBody, HasBodies}
 
 is_statement : (x : Simple) → IsStatement (statement_of x)

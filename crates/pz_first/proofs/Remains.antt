@@ -4,22 +4,22 @@ use Rattle.std.specs.Prelude.{pos, All}
 use Rattle.std.specs.Option.{option_and_then}
 use Rattle.std.proofs.lemmas.List.Elements.{All-nil, All-cons}
 use denote.Enum.Bare.{sameb, same_true}
-use Rattle.pz_ast.specs.contracts.tokens.Keyword as keyword
-use Rattle.pz_ast.specs.contracts.tokens.Symbol as symbol
-use Rattle.pz_ast.specs.declared.tokens.Symbol.{Symbol}
-use Rattle.pz_ast.specs.declared.tokens.Symbol.TheVariants as s
-use Rattle.pz_ast.specs.declared.tokens.Keyword.{Keyword}
-use Rattle.pz_ast.specs.declared.tokens.Keyword.TheVariants as k
-use Rattle.pz_ast.specs.declared.tokens.TokenKind.{TokenKind}
-use Rattle.pz_ast.specs.declared.tokens.TokenKind.TheVariants as kind
-use Rattle.pz_ast.specs.declared.names.Id.{Id}
-use Rattle.pz_ast.specs.ExpressionErasure.{origin}
+use Rattle.pz_syntax.specs.contracts.tokens.Keyword as keyword
+use Rattle.pz_syntax.specs.contracts.tokens.Symbol as symbol
+use Rattle.pz_syntax.specs.declared.tokens.Symbol.{Symbol}
+use Rattle.pz_syntax.specs.declared.tokens.Symbol.TheVariants as s
+use Rattle.pz_syntax.specs.declared.tokens.Keyword.{Keyword}
+use Rattle.pz_syntax.specs.declared.tokens.Keyword.TheVariants as k
+use Rattle.pz_syntax.specs.declared.tokens.TokenKind.{TokenKind}
+use Rattle.pz_syntax.specs.declared.tokens.TokenKind.TheVariants as kind
+use Rattle.pz_syntax.specs.declared.names.Id.{Id}
+use Rattle.pz_syntax.specs.ExpressionErasure.{origin}
 use Rattle.pz_term.specs.FirstPath.{Simple, skips, delays, calls, Routine, FirstModel, IsBody, HasBodies}
 use Rattle.pz_first.specs.declared.state.Behind.{Behind}
 use Rattle.pz_first.specs.declared.state.Behind.TheVariants as b
 use Rattle.pz_first.specs.declared.state.State.{State}
 use Rattle.pz_first.specs.declared.state.State.TheVariants as st
-use Rattle.pz_first.specs.Steps.{at_keyword, at_symbol, at_name, at_duration, at_statement, at_end_of_body, at_end_of_simple, step, steps}
+use Rattle.pz_first.specs.devices.Steps.{at_keyword, at_symbol, at_name, at_duration, at_statement, at_end_of_body, at_end_of_simple, step, steps}
 use Rattle.pz_first.specs.Grammar.{IsFirst}
 use Rattle.pz_first.proofs.Texts.{kinds_are, brackets, simple, more, body, routines, instances, system, all}
 use Rattle.pz_first.proofs.Goings.{Ends, opening, closing}

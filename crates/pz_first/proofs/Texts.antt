@@ -2,14 +2,14 @@
 use Rattle.std.proofs.Common.{◌≡◌, ℕ, List, [], ◌∷◌, ◌++◌, map, refl, ap, ◌∙◌, append_assoc}
 use Rattle.std.specs.Prelude.{pos}
 use Rattle.std.proofs.lemmas.List.{map-append}
-use Rattle.pz_ast.specs.declared.tokens.Symbol.TheVariants as s
-use Rattle.pz_ast.specs.declared.tokens.Keyword.TheVariants as k
-use Rattle.pz_ast.specs.declared.tokens.TokenKind.{TokenKind}
-use Rattle.pz_ast.specs.declared.tokens.TokenKind.TheVariants as kind
-use Rattle.pz_ast.specs.declared.tokens.Mark.{Mark}
-use Rattle.pz_ast.specs.Marks.{each_text}
-use Rattle.pz_ast.specs.ClassText.{process_method_text}
-use Rattle.pz_ast.specs.StatementText.{text, texts, tail_texts}
+use Rattle.pz_syntax.specs.declared.tokens.Symbol.TheVariants as s
+use Rattle.pz_syntax.specs.declared.tokens.Keyword.TheVariants as k
+use Rattle.pz_syntax.specs.declared.tokens.TokenKind.{TokenKind}
+use Rattle.pz_syntax.specs.declared.tokens.TokenKind.TheVariants as kind
+use Rattle.pz_syntax.specs.declared.tokens.Mark.{Mark}
+use Rattle.pz_syntax.specs.Marks.{each_text}
+use Rattle.pz_syntax.specs.ClassText.{process_method_text}
+use Rattle.pz_syntax.specs.StatementText.{text, texts, tail_texts}
 use Rattle.pz_term.specs.FirstPath.{Simple, skips, delays, calls, statement_of, statements_of, Routine, method_of, FirstModel}
 use Rattle.pz_first.specs.Grammar.{kinds_of}
 

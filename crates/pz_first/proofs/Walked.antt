@@ -2,13 +2,13 @@
 use Rattle.std.proofs.Common.{◌≡◌, ◌≢◌, ℕ, ◌+◌, ◌<◌, ◌≤◌, true, false, List, [], ◌∷◌, ◌++◌, length, take, drop, get_or, Option, Some, None, refl, ap, sym, ◌∙◌, subst, append_assoc}
 use Rattle.std.specs.Option.{option_and_then}
 use Rattle.std.proofs.lemmas.List.{map-append, take_more, take_all, take-append-drop}
-use Rattle.pz_ast.specs.declared.tokens.Pos.{Pos}
-use Rattle.pz_ast.specs.declared.tokens.Token.{Token}
-use Rattle.pz_ast.specs.declared.tokens.TokenKind.{TokenKind}
+use Rattle.pz_syntax.specs.declared.tokens.Pos.{Pos}
+use Rattle.pz_syntax.specs.declared.tokens.Token.{Token}
+use Rattle.pz_syntax.specs.declared.tokens.TokenKind.{TokenKind}
 use Rattle.pz_first.specs.declared.state.State.{State}
 use Rattle.pz_first.specs.declared.state.State.TheVariants as st
 use Rattle.pz_first.specs.Grammar.{kinds, IsFirst, Begins, IsRefusedAt, at_token, at_end}
-use Rattle.pz_first.specs.Steps.{step, steps, is_end}
+use Rattle.pz_first.specs.devices.Steps.{step, steps, is_end}
 use Rattle.pz_first.proofs.Texts.{kinds_are}
 use Rattle.pz_first.proofs.Goings.{Ends, all_ends, ending, ends}
 use Rattle.pz_first.proofs.Remains.{remains, first_of}

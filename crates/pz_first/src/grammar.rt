@@ -4,7 +4,7 @@ ghost use Rattle.std.specs.Prelude.{IfOk, IfErr};
 ghost use Rattle.pz_first.specs.Grammar.{kinds, IsFirst, IsRefusedAt};
 
 use crate::state::{State, is_end, step};
-use pz_ast::{Pos, Token};
+use pz_syntax::{Pos, Token};
 
 /// Whether these are the tokens of a process class with an `init`, with methods of skips, delays by
 /// a constant and a call at the end, and of a system of one process. Names are not looked at.

@@ -1,9 +1,9 @@
 //! Where the reading of a model stands, and what each token makes of it.
 
 ghost use Rattle.std.specs.Prelude.{◌≡◌, if◌then◌else◌, Some, None};
-ghost use Rattle.pz_first.specs.Steps as spec;
+ghost use Rattle.pz_first.specs.devices.Steps as spec;
 
-use pz_ast::{Keyword, Symbol, TokenKind};
+use pz_syntax::{Keyword, Symbol, TokenKind};
 
 /// What the brackets `()()` stand behind.
 #[derive(Clone, Copy, Debug, PartialEq, Eq)]
@@ -46,7 +46,7 @@ pub enum State {
 }
 
 /// What is to come behind this token; none, if the token may not come.
-#[tactic(auto, unfolding(crate::specs::Steps::step))]
+#[tactic(auto, unfolding(crate::specs::devices::Steps::step))]
 pub fn step(state: State, kind: &TokenKind) -> Option<State>
     ensures { result ≡ spec.step state kind.now }
 {
@@ -94,7 +94,7 @@ fn behind_brackets(behind: Behind) -> State
     }
 }
 
-#[tactic(auto, unfolding(crate::specs::Steps::at_keyword))]
+#[tactic(auto, unfolding(crate::specs::devices::Steps::at_keyword))]
 fn at_keyword(kind: &TokenKind, wanted: Keyword, state: State) -> Option<State>
     ensures { result ≡ spec.at_keyword wanted state kind.now }
 {
@@ -104,7 +104,7 @@ fn at_keyword(kind: &TokenKind, wanted: Keyword, state: State) -> Option<State>
     }
 }
 
-#[tactic(auto, unfolding(crate::specs::Steps::at_symbol))]
+#[tactic(auto, unfolding(crate::specs::devices::Steps::at_symbol))]
 fn at_symbol(kind: &TokenKind, wanted: Symbol, state: State) -> Option<State>
     ensures { result ≡ spec.at_symbol wanted state kind.now }
 {

@@ -4,10 +4,10 @@ use Rattle.std.specs.List.{Contains, flat_map}
 use Rattle.std.specs.Option.{option_map_or}
 use Rattle.std.proofs.lemmas.Bool.Decides.{nat_tests}
 use Rattle.std.proofs.lemmas.List.Elements.{Contains-append_left, Contains-append_right, Contains-append_cases}
-use Rattle.pz_ast.specs.declared.clusters.Instance.{Instance}
-use Rattle.pz_ast.specs.declared.clusters.ChannelEnd.{ChannelEnd}
-use Rattle.pz_ast.specs.declared.clusters.ChannelEnd.TheVariants.{Inner, Outer}
-use Rattle.pz_ast.specs.Classes.{DeclTree, ModelTree}
+use Rattle.pz_syntax.specs.declared.clusters.Instance.{Instance}
+use Rattle.pz_syntax.specs.declared.clusters.ChannelEnd.{ChannelEnd}
+use Rattle.pz_syntax.specs.declared.clusters.ChannelEnd.TheVariants.{Inner, Outer}
+use Rattle.pz_syntax.specs.Classes.{DeclTree, ModelTree}
 use Rattle.pz_lineage.specs.declared.visit.Visit.{Visit}
 use Rattle.pz_violation.specs.declared.violation.Violation.{Violation}
 use Rattle.pz_violation.specs.Order.{violation}
@@ -23,8 +23,8 @@ use Rattle.pz_classes.specs.ChannelRules.{ends, end_place, has_port, instance_na
 use Rattle.pz_classes.specs.Preorder.{IsPreorderOf}
 use Rattle.pz_instances.specs.declared.needs.Need.{Need}
 use Rattle.pz_instances.specs.declared.needs.Need.TheVariants.{Nothing, Port, Missing}
-use Rattle.pz_instances.specs.Needs.{need, need_of_instance}
-use Rattle.pz_instances.specs.Ends.{Wanted, end_port, is_missing, is_port_of, missing_at, wanted_at, over, absent_of, absent_in, missing_ends}
+use Rattle.pz_instances.specs.devices.Needs.{need, need_of_instance}
+use Rattle.pz_instances.specs.devices.Ends.{Wanted, end_port, is_missing, is_port_of, missing_at, wanted_at, over, absent_of, absent_in, missing_ends}
 use Rattle.pz_instances.proofs.Contained.{holder, held, only_one, first_of, in_none, member_contained, contained_member}
 use Rattle.pz_instances.proofs.Numbered.{declared_within, instance_class_within, visit_of}
 

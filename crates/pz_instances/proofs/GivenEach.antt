@@ -10,8 +10,8 @@ use Rattle.std.proofs.lemmas.List.Folds.{list_any-append}
 use Rattle.std.proofs.lemmas.List.Sums.{sum_by-append}
 use Rattle.std.proofs.lemmas.Map.Keys.{IsDistinct-push}
 use Rattle.std.proofs.lemmas.Map.Made.{length-le_from_is_member}
-use Rattle.pz_instances.specs.NameSets.{has_name, SameNames}
-use Rattle.pz_instances.specs.Given.{all_new, gives_wanted}
+use Rattle.pz_instances.specs.devices.NameSets.{has_name, SameNames}
+use Rattle.pz_instances.specs.devices.Given.{all_new, gives_wanted}
 use Rattle.pz_classes.specs.InstanceRules.{gives_each}
 use Rattle.pz_instances.proofs.NameLists.{all_false, some_false, all_same, has_first, has_later}
 

@@ -3,8 +3,8 @@ use Rattle.std.proofs.Common.{◌≡◌, refl, sym, ap, subst, ℕ, arith, Bool,
 use Rattle.std.specs.List.{Contains}
 use Rattle.std.proofs.lemmas.Bool.{not-true}
 use Rattle.std.proofs.lemmas.Bool.Decides.{nat_tests}
-use Rattle.pz_ast.specs.declared.clusters.Instance.{Instance}
-use Rattle.pz_ast.specs.Classes.{ModelTree}
+use Rattle.pz_syntax.specs.declared.clusters.Instance.{Instance}
+use Rattle.pz_syntax.specs.Classes.{ModelTree}
 use Rattle.pz_lineage.specs.declared.visit.Visit.{Visit}
 use Rattle.pz_violation.specs.declared.violation.Violation.{Violation}
 use Rattle.pz_violation.specs.Order.{violation}
@@ -15,7 +15,7 @@ use Rattle.pz_classes.specs.Members.{spelled}
 use Rattle.pz_classes.specs.Instances.{instances, instance_class, parameters}
 use Rattle.pz_classes.specs.InstanceRules.{given_names, gives_each, BreaksC14, ill_given}
 use Rattle.pz_classes.specs.Preorder.{IsPreorderOf}
-use Rattle.pz_instances.specs.Given.{is_number, if_of_class, of_class, all_instances, ill_given_of, ill_given_in, all_given}
+use Rattle.pz_instances.specs.devices.Given.{is_number, if_of_class, of_class, all_instances, ill_given_of, ill_given_in, all_given}
 use Rattle.pz_instances.proofs.Contained.{holder, held, only_one, first_of, in_none, member_contained, contained_member}
 use Rattle.pz_instances.proofs.Numbered.{numbered, declared, instance_class_within, visit_of}
 

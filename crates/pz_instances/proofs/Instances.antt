@@ -4,10 +4,10 @@ use Rattle.std.specs.List.{HoldsAt, find}
 use Rattle.std.specs.Str.{bytes_eq}
 use Rattle.std.specs.Option.{option_map, option_and_then, option_copied, MatchOption, IfSome}
 use Rattle.std.proofs.lemmas.Option.{slice_get_past, slice_get-get_or}
-use Rattle.pz_ast.specs.declared.clusters.Instance.{Instance}
+use Rattle.pz_syntax.specs.declared.clusters.Instance.{Instance}
 use Rattle.pz_value.specs.declared.value.ClassId.{ClassId}
 use Rattle.pz_classes.specs.Tables.{class_id}
-use Rattle.pz_instances.specs.Ends.{place_named}
+use Rattle.pz_instances.specs.devices.Ends.{place_named}
 
 -- what `get` reads of a list
 pub got : {X : Type 0} (xs : List X) (i : ℕ) (r : Option (Bor X)) → MatchOption r (length xs ≤ i) (λ x. (i < length xs) × HoldsAt {X = X} (λ y. x.now ≡ y) xs i)

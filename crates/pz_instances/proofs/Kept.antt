@@ -7,8 +7,8 @@ use Rattle.std.proofs.lemmas.Cmp.{lists_equiv, nat_eq_equiv}
 use Rattle.std.proofs.lemmas.List.{length_push, length-take, length-map, take-append-le, take_all, get_or_append_left, get_or_push, drop-map}
 use Rattle.std.proofs.lemmas.Map.Keys.{IsDistinct-push}
 use Rattle.pz_lineage.specs.Preorder.{outermost}
-use Rattle.pz_instances.specs.NameSets.{has_name, with_name, with_all}
-use Rattle.pz_instances.specs.Open.{kept, starts_of}
+use Rattle.pz_instances.specs.devices.NameSets.{has_name, with_name, with_all}
+use Rattle.pz_instances.specs.devices.Open.{kept, starts_of}
 
 module _ {A : Type 0} where
   -- a list has no more than all its elements

@@ -6,10 +6,10 @@ use Rattle.std.proofs.lemmas.Slice.Eq.{bytes_eq-Decides}
 use Rattle.std.proofs.lemmas.List.Folds.{list_any-append}
 use Rattle.std.proofs.lemmas.List.{map-append}
 use Rattle.indexmap.specs.IndexSet.{insert_key}
-use Rattle.pz_ast.specs.declared.names.Id.{Id}
-use Rattle.pz_ast.specs.declared.classes.VarGroup.{VarGroup}
+use Rattle.pz_syntax.specs.declared.names.Id.{Id}
+use Rattle.pz_syntax.specs.declared.classes.VarGroup.{VarGroup}
 use Rattle.pz_classes.specs.Members.{spelled, grouped}
-use Rattle.pz_instances.specs.NameSets.{has_name, with_name, with_all, SameNames}
+use Rattle.pz_instances.specs.devices.NameSets.{has_name, with_name, with_all, SameNames}
 
 pub any_map : {A B : Type 0} (p : B → Bool) (f : A → B) (xs : List A) → list_any (λ x. p (f x)) xs ≡ list_any p (map f xs)
 any_map p f [] = refl

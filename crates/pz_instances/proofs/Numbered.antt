@@ -3,10 +3,10 @@ use Rattle.std.proofs.Common.{◌≡◌, refl, sym, ap, ◌∙◌, ℕ, zero, su
 use Rattle.std.specs.List.{Contains}
 use Rattle.std.proofs.lemmas.List.{length-map}
 use Rattle.std.proofs.lemmas.Option.{slice_get-get_or, slice_get_within, get_or_from_slice_get}
-use Rattle.pz_ast.specs.Classes.{DeclTree, ModelTree}
+use Rattle.pz_syntax.specs.Classes.{DeclTree, ModelTree}
 use Rattle.pz_lineage.specs.declared.visit.Visit.{Visit}
 use Rattle.pz_lineage.specs.Preorder.{visited}
-use Rattle.pz_names.specs.ReservedNames.{is_unsupported}
+use Rattle.pz_code.specs.ReservedNames.{is_unsupported}
 use Rattle.pz_classes.specs.Numbers.{declaration, class, first_named, is_named}
 use Rattle.pz_classes.specs.NameRules.{has_instances}
 use Rattle.pz_classes.specs.Instances.{instance_class}

@@ -1,17 +1,17 @@
 -- A small model: what its instances give, and where its channels end.
 use Rattle.std.proofs.Common.{◌≡◌, refl, ℕ, List, [], ◌∷◌, map, nat_eq, cond, Option, Some, None, codes}
-use Rattle.pz_ast.specs.declared.names.Id.{Id}
-use Rattle.pz_ast.specs.declared.classes.VarGroup.{VarGroup}
-use Rattle.pz_ast.specs.declared.clusters.Arg.TheVariants.{Parameter}
-use Rattle.pz_ast.specs.declared.clusters.Instance.{Instance}
-use Rattle.pz_ast.specs.declared.clusters.Channel.{Channel}
-use Rattle.pz_ast.specs.declared.clusters.ChannelEnd.{ChannelEnd}
-use Rattle.pz_ast.specs.declared.clusters.ChannelEnd.TheVariants.{Inner, Outer}
-use Rattle.pz_ast.specs.Classes.{DeclTree, process_class, cluster_class, system, ModelTree}
+use Rattle.pz_syntax.specs.declared.names.Id.{Id}
+use Rattle.pz_syntax.specs.declared.classes.VarGroup.{VarGroup}
+use Rattle.pz_syntax.specs.declared.clusters.Arg.TheVariants.{Parameter}
+use Rattle.pz_syntax.specs.declared.clusters.Instance.{Instance}
+use Rattle.pz_syntax.specs.declared.clusters.Channel.{Channel}
+use Rattle.pz_syntax.specs.declared.clusters.ChannelEnd.{ChannelEnd}
+use Rattle.pz_syntax.specs.declared.clusters.ChannelEnd.TheVariants.{Inner, Outer}
+use Rattle.pz_syntax.specs.Classes.{DeclTree, process_class, cluster_class, system, ModelTree}
 use Rattle.pz_lineage.specs.declared.visit.Visit.{Visit}
 use Rattle.pz_violation.specs.Order.{violation}
-use Rattle.pz_instances.specs.Given.{all_given}
-use Rattle.pz_instances.specs.Ends.{missing_ends}
+use Rattle.pz_instances.specs.devices.Given.{all_given}
+use Rattle.pz_instances.specs.devices.Ends.{missing_ends}
 
 -- a name in this line, in column 1
 abbrev id : ℕ → List ℕ → Id

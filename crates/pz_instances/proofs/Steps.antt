@@ -3,17 +3,17 @@ use Rattle.std.proofs.Common.{◌≡◌, refl, sym, ap, ◌∙◌, ℕ, zero, su
 use Rattle.std.specs.List.{flat_map}
 use Rattle.std.proofs.lemmas.List.Concat.{flat_map-append}
 use Rattle.std.proofs.lemmas.List.Folds.{flat_map-map}
-use Rattle.pz_ast.specs.declared.clusters.ChannelEnd.{ChannelEnd}
-use Rattle.pz_ast.specs.declared.clusters.Decl.{Decl}
-use Rattle.pz_ast.specs.Classes.{DeclTree, ModelTree}
-use Rattle.pz_ast.specs.ClassView.{decl_view}
+use Rattle.pz_syntax.specs.declared.clusters.ChannelEnd.{ChannelEnd}
+use Rattle.pz_syntax.specs.declared.clusters.Decl.{Decl}
+use Rattle.pz_syntax.specs.Classes.{DeclTree, ModelTree}
+use Rattle.pz_syntax.specs.ClassView.{decl_view}
 use Rattle.pz_violation.specs.declared.violation.Violation.{Violation}
 use Rattle.pz_violation.specs.Least.{least_from}
 use Rattle.pz_violation.proofs.Leasts.{least_from_append}
 use Rattle.pz_classes.specs.Instances.{instances}
 use Rattle.pz_classes.specs.ChannelRules.{ends}
-use Rattle.pz_instances.specs.Given.{of_class, if_of_class}
-use Rattle.pz_instances.specs.Ends.{over}
+use Rattle.pz_instances.specs.devices.Given.{of_class, if_of_class}
+use Rattle.pz_instances.specs.devices.Ends.{over}
 use Rattle.pz_instances.proofs.ClassLists.{added_none}
 
 module _ {A : Type 0} where

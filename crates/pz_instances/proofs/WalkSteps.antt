@@ -3,9 +3,9 @@ use Rattle.std.proofs.Common.{◌≡◌, refl, sym, ap, subst, ◌∙◌, ℕ, s
 use Rattle.std.specs.List.{flat_map}
 use Rattle.std.specs.Str.{bytes_eq}
 use Rattle.std.proofs.lemmas.List.Folds.{flat_map-map}
-use Rattle.pz_ast.specs.declared.names.Id.{Id}
-use Rattle.pz_ast.specs.declared.clusters.Instance.{Instance}
-use Rattle.pz_ast.specs.Classes.{DeclTree, ModelTree}
+use Rattle.pz_syntax.specs.declared.names.Id.{Id}
+use Rattle.pz_syntax.specs.declared.clusters.Instance.{Instance}
+use Rattle.pz_syntax.specs.Classes.{DeclTree, ModelTree}
 use Rattle.pz_lineage.specs.declared.visit.Visit.{Visit}
 use Rattle.pz_lineage.specs.Preorder.{outermost}
 use Rattle.pz_violation.specs.Least.{listed}
@@ -17,11 +17,11 @@ use Rattle.pz_classes.specs.InstanceRules.{given_names}
 use Rattle.pz_classes.specs.Preorder.{IsPreorderOf}
 use Rattle.pz_instances.specs.declared.channel_ends.Asked.{Asked}
 use Rattle.pz_instances.specs.declared.open_names.OpenNames.{OpenNames}
-use Rattle.pz_instances.specs.NameSets.{has_name}
-use Rattle.pz_instances.specs.Open.{HasOpen, kept}
-use Rattle.pz_instances.specs.Given.{lacking, of_class, all_instances, ill_given_of, ill_given_in}
-use Rattle.pz_instances.specs.Search.{wanted}
-use Rattle.pz_instances.specs.Ends.{Wanted, absent, absent_of, absent_in, over, wanted_at}
+use Rattle.pz_instances.specs.devices.NameSets.{has_name}
+use Rattle.pz_instances.specs.devices.Open.{HasOpen, kept}
+use Rattle.pz_instances.specs.devices.Given.{lacking, of_class, all_instances, ill_given_of, ill_given_in}
+use Rattle.pz_instances.specs.devices.Search.{wanted}
+use Rattle.pz_instances.specs.devices.Ends.{Wanted, absent, absent_of, absent_in, over, wanted_at}
 use Rattle.pz_instances.proofs.NameLists.{any_map}
 use Rattle.pz_instances.proofs.Kept.{kept_distinct}
 use Rattle.pz_instances.proofs.Line.{line_after, own_names, scopes_of, scopes_next, scopes_at, kept_same}

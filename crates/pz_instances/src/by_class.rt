@@ -1,5 +1,5 @@
 ghost use Rattle.std.specs.Prelude.{◌≡◌, ◌<◌, ◌==◌, ◌++◌, ◌∷◌, [], ℕ, if◌then◌else◌, IfOk, OnOk};
-ghost use Rattle.pz_instances.specs.ClassRows.{row, row_count};
+ghost use Rattle.pz_instances.specs.devices.ClassRows.{row, row_count};
 
 use std::alloc::{AllocError, Global};
 

@@ -2,23 +2,23 @@
 
 ghost use Rattle.std.specs.Prelude.{◌≡◌, ◌≤◌, ◌++◌, ℕ, suc, length, map, None, IfOk, OnOk};
 ghost use Rattle.std.specs.List.{flat_map};
-ghost use Rattle.pz_ast.specs.ClassView.{decl_view, model_view};
+ghost use Rattle.pz_syntax.specs.ClassView.{decl_view, model_view};
 ghost use Rattle.pz_violation.specs.Least.{LeastOf, least_from};
 ghost use Rattle.pz_classes.specs.ChannelRules as rules;
 ghost use Rattle.pz_classes.specs.Tables.{AreClasses};
-ghost use Rattle.pz_instances.specs.NameSets.{names_in};
-ghost use Rattle.pz_instances.specs.Ends as spec;
-ghost use Rattle.pz_instances.specs.Ends.{over, missing_at, wanted_at, absent};
-ghost use Rattle.pz_instances.specs.Search.{wanted, wanted_of, search_count};
-ghost use Rattle.pz_instances.specs.Inside.{IsInside};
+ghost use Rattle.pz_instances.specs.devices.NameSets.{names_in};
+ghost use Rattle.pz_instances.specs.devices.Ends as spec;
+ghost use Rattle.pz_instances.specs.devices.Ends.{over, missing_at, wanted_at, absent};
+ghost use Rattle.pz_instances.specs.devices.Search.{wanted, wanted_of, search_count};
+ghost use Rattle.pz_instances.specs.devices.Inside.{IsInside};
 
 use crate::by_class::ByClass;
 use crate::name_set::NameSet;
 use crate::needs::{Inside, Need, places_of};
 use crate::open_names::OpenNames;
 use crate::parts::{next, ports_at};
-use pz_ast::{ChannelEnd, Decl, Model, Pos};
 use pz_classes::{Classes, channels_of, instances_of};
+use pz_syntax::{ChannelEnd, Decl, Model, Pos};
 use pz_violation::{Violation, lesser};
 use std::alloc::{AllocError, Global};
 

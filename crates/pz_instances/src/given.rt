@@ -2,21 +2,21 @@
 
 ghost use Rattle.std.specs.Prelude.{◌≡◌, ◌++◌, ℕ, [], suc, length, map, IfOk, OnOk};
 ghost use Rattle.std.specs.List.{flat_map};
-ghost use Rattle.pz_ast.specs.ClassView.{model_view};
+ghost use Rattle.pz_syntax.specs.ClassView.{model_view};
 ghost use Rattle.pz_violation.specs.Least.{LeastOf, least_from};
 ghost use Rattle.pz_classes.specs.InstanceRules.{BreaksC14, given_names};
 ghost use Rattle.pz_classes.specs.Tables.{AreClasses};
-ghost use Rattle.pz_instances.specs.NameSets.{names_in};
-ghost use Rattle.pz_instances.specs.ClassRows.{row, row_count};
-ghost use Rattle.pz_instances.specs.Given as spec;
-ghost use Rattle.pz_instances.specs.Given.{gives_wanted, lacking, if_of_class, of_class, all_instances};
+ghost use Rattle.pz_instances.specs.devices.NameSets.{names_in};
+ghost use Rattle.pz_instances.specs.devices.ClassRows.{row, row_count};
+ghost use Rattle.pz_instances.specs.devices.Given as spec;
+ghost use Rattle.pz_instances.specs.devices.Given.{gives_wanted, lacking, if_of_class, of_class, all_instances};
 
 use crate::by_class::ByClass;
 use crate::name_set::NameSet;
 use crate::open_names::OpenNames;
 use crate::parts::{given_of, parameters_at};
-use pz_ast::{Given, Instance, Model};
 use pz_classes::{Classes, class_of_instance, instances_of};
+use pz_syntax::{Given, Instance, Model};
 use pz_violation::{Violation, lesser};
 use std::alloc::{AllocError, Global};
 

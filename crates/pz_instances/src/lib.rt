@@ -11,6 +11,3 @@ mod parts;
 
 pub use channel_ends::least_missing_end;
 pub use given::least_ill_given;
-
-#[cfg(test)]
-mod tests;

@@ -2,18 +2,18 @@
 
 ghost use Rattle.std.specs.Prelude.{◌≡◌, ℕ, List, slice_get, IfOk};
 ghost use Rattle.std.specs.Option.{option_copied};
-ghost use Rattle.pz_ast.specs.ClassView.{decl_view, model_view};
-ghost use Rattle.pz_names.specs.NumberIn.{number_in};
+ghost use Rattle.pz_syntax.specs.ClassView.{decl_view, model_view};
+ghost use Rattle.pz_code.specs.NumberIn.{number_in};
 ghost use Rattle.pz_classes.specs.ChannelRules as rules;
 ghost use Rattle.pz_classes.specs.Tables.{AreClasses};
-ghost use Rattle.pz_instances.specs.Ends.{place_named};
-ghost use Rattle.pz_instances.specs.Needs as spec;
-ghost use Rattle.pz_instances.specs.Inside.{IsInside};
+ghost use Rattle.pz_instances.specs.devices.Ends.{place_named};
+ghost use Rattle.pz_instances.specs.devices.Needs as spec;
+ghost use Rattle.pz_instances.specs.devices.Inside.{IsInside};
 
 use crate::parts::next;
-use pz_ast::{ChannelEnd, Decl, Instance, Model, Name};
 use pz_classes::{Classes, class_of_instance, instances_of};
-use pz_names::Numbering;
+use pz_code::Numbering;
+use pz_syntax::{ChannelEnd, Decl, Instance, Model, Name};
 use std::alloc::{AllocError, Global};
 
 /// What an end of a channel needs.

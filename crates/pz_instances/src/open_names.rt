@@ -3,11 +3,11 @@
 ghost use Rattle.std.specs.Prelude.{◌≡◌, List, ℕ, [], ◌∷◌, ◌++◌, OnOk};
 ghost use Rattle.pz_lineage.specs.Preorder.{outermost};
 ghost use Rattle.pz_classes.specs.Members.{spelled, grouped};
-ghost use Rattle.pz_instances.specs.NameSets.{names_in};
-ghost use Rattle.pz_instances.specs.Open.{HasOpen, kept};
+ghost use Rattle.pz_instances.specs.devices.NameSets.{names_in};
+ghost use Rattle.pz_instances.specs.devices.Open.{HasOpen, kept};
 
 use crate::name_set::NameSet;
-use pz_ast::{Id, VarGroup};
+use pz_syntax::{Id, VarGroup};
 use std::alloc::{AllocError, Global};
 
 /// The names that the open classes declare: a class and its ancestors. A name that several of them

@@ -4,7 +4,8 @@ use Rattle.std.proofs.lemmas.Grind.{common_steps}
 use Rattle.std.specs.List.{slice_get}
 use Rattle.std.specs.Str.{bytes_eq}
 use Rattle.pz_io.specs.Outside.{lookup}
-use Rattle.pz_io.specs.Entries.{Entry, entries_of, entry_bytes, rest_of, rest_in}
+use Rattle.pz_io.specs.Entries.{Entry, entries_of, rest_of, rest_in}
+use Rattle.pz_io.specs.devices.Places.{entry_bytes}
 
 -- An entry that has the name is the one that is found from its place on.
 pub lookup-drop-found : (entries : List Entry) (i : ℕ) (entry : Entry) (name : List ℕ) → i < length entries → entry ≡ get_or entries i entry → bytes_eq (string_bytes entry.0) name ≡ true → lookup (entries_of (drop i entries)) name ≡ entry_bytes entries (Some i)

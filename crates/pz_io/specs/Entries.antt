@@ -1,9 +1,9 @@
--- The entries that files in memory are made of, and the place that is read next.
-use Rattle.std.specs.Prelude.{◌≡◌, ℕ, List, [], Option, Some, None, string_bytes, drop, map}
+-- The entries that files in memory are made of, and what is left of the open one.
+use Rattle.std.specs.Prelude.{ℕ, List, [], Option, Some, None, string_bytes, drop, map}
 use Rattle.std.specs.List.{slice_get}
 use Rattle.std.specs.declared.alloc.Global.{Global}
 use Rattle.std.proofs.Common.{Vec, String}
-use Rattle.pz_io.specs.Outside.{Entries, lookup}
+use Rattle.pz_io.specs.Outside.{Entries}
 
 abbrev pub Entry : Type 0
 Entry = String Global × Vec ℕ Global
@@ -21,12 +21,3 @@ rest_in (Some entry) handed = drop handed entry.1.items
 abbrev pub rest_of : List Entry → Option ℕ → ℕ → List ℕ
 rest_of entries None handed = []
 rest_of entries (Some i) handed = rest_in (slice_get entries i) handed
-
--- the bytes of the entry at this place
-abbrev pub entry_bytes : List Entry → Option ℕ → Option (List ℕ)
-entry_bytes entries None = None
-entry_bytes entries (Some i) = Some (rest_in (slice_get entries i) 0)
-
--- the place is that of the entry whose name this is; there is no place where no entry has it
-abbrev pub IsPlaceOf : List Entry → List ℕ → Option ℕ → Type 0
-IsPlaceOf entries name place = lookup (entries_of entries) name ≡ entry_bytes entries place

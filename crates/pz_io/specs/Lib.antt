@@ -5,3 +5,4 @@ pub mod Mem
 pub mod Failing
 pub mod Roomy
 pub mod Os
+pub mod devices

@@ -1,20 +1,16 @@
--- What files in memory show.
-use Rattle.std.specs.Prelude.{ℕ, List, Bool}
-use Rattle.pz_io.specs.Outside.{Entries}
+-- What files in memory are. Their count of faults is always 0.
+use Rattle.std.specs.Prelude.{true}
+use Rattle.pz_io.specs.Outside.{FilesState}
 use Rattle.pz_io.specs.Entries.{entries_of, rest_of}
 use Rattle.pz_io.specs.declared.mem.MemFiles.{MemFiles}
 
-abbrev pub mem_held : MemFiles → Entries
-mem_held files = entries_of files.entries.items
-
-abbrev pub mem_rest : MemFiles → List ℕ
-mem_rest files = rest_of files.entries.items files.current files.handed
-
-abbrev pub mem_opens : MemFiles → ℕ
-mem_opens files = files.opens
-
-abbrev pub mem_handed : MemFiles → ℕ
-mem_handed files = files.handed
-
-abbrev pub mem_ended : MemFiles → Bool
-mem_ended files = files.ended
+abbrev pub mem_state : MemFiles → FilesState
+mem_state files = record {
+  told = true;
+  held = entries_of files.entries.items;
+  rest = rest_of files.entries.items files.current files.handed;
+  faults = 0;
+  opens = files.opens;
+  handed = files.handed;
+  ended = files.ended;
+}

@@ -1,19 +1,19 @@
--- What the files and the output of the system count.
-use Rattle.std.specs.Prelude.{ℕ, Bool}
+-- What the files and the output of the system are: they tell nothing of what they hold.
+use Rattle.std.specs.Prelude.{[], false}
+use Rattle.pz_io.specs.Outside.{FilesState, SinkState}
 use Rattle.pz_io.specs.declared.os.OsFiles.{OsFiles}
 use Rattle.pz_io.specs.declared.os.OsSink.{OsSink}
 
-abbrev pub os_faults : OsFiles → ℕ
-os_faults files = files.faults
+abbrev pub os_files_state : OsFiles → FilesState
+os_files_state files = record {
+  told = false;
+  held = [];
+  rest = [];
+  faults = files.faults;
+  opens = files.opens;
+  handed = files.handed;
+  ended = files.ended;
+}
 
-abbrev pub os_opens : OsFiles → ℕ
-os_opens files = files.opens
-
-abbrev pub os_handed : OsFiles → ℕ
-os_handed files = files.handed
-
-abbrev pub os_ended : OsFiles → Bool
-os_ended files = files.ended
-
-abbrev pub os_sink_faults : OsSink → ℕ
-os_sink_faults sink = sink.faults
+abbrev pub os_sink_state : OsSink → SinkState
+os_sink_state sink = record { told = false; taken = []; faults = sink.faults }

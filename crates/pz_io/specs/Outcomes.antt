@@ -1,4 +1,4 @@
--- The answers of files and of a sink, by cases.
+-- The answers of files, of a sink, and of a write of all bytes, by cases.
 use Rattle.std.specs.Prelude.{ℕ, Bool, true, false}
 use Rattle.pz_io.specs.declared.outside.Opened.{Opened}
 use Rattle.pz_io.specs.declared.outside.Opened.TheVariants as opened
@@ -6,6 +6,8 @@ use Rattle.pz_io.specs.declared.outside.Got.{Got}
 use Rattle.pz_io.specs.declared.outside.Got.TheVariants as got
 use Rattle.pz_io.specs.declared.outside.Put.{Put}
 use Rattle.pz_io.specs.declared.outside.Put.TheVariants as put
+use Rattle.pz_io.specs.declared.whole.WriteError.{WriteError}
+use Rattle.pz_io.specs.declared.whole.WriteError.TheVariants.{Fault}
 
 abbrev pub OnReady : Opened → Type 0 → Type 0
 OnReady opened.Ready P = P
@@ -61,3 +63,7 @@ OnWriteFailed put.Failed P = P
 abbrev pub is_write_failed : Put → Bool
 is_write_failed (put.Took n) = false
 is_write_failed put.Failed = true
+
+-- how many bytes the sink took before its fault
+abbrev pub sent_of : WriteError → ℕ
+sent_of (Fault sent) = sent

@@ -1,5 +1,5 @@
--- What files and a sink mean: names with their bytes, and counts that stand still at their end.
-use Rattle.std.specs.Prelude.{◌≡◌, ◌⊎◌, ◌≤◌, ◌<◌, ◌+◌, ◌-◌, ◌^◌, min, if◌then◌else◌, Bool, ℕ, List, [], ◌∷◌, length, Option, Some, None}
+-- What files and a sink are at some moment, and counts that stand still at their end.
+use Rattle.std.specs.Prelude.{◌≡◌, ◌⊎◌, ◌<◌, ◌≤◌, ◌+◌, ◌-◌, ◌^◌, min, if◌then◌else◌, Bool, false, ℕ, List, [], ◌∷◌, length, Option, Some, None}
 use Rattle.std.specs.Str.{bytes_eq}
 
 -- the names of the files, each with the bytes of its file
@@ -14,6 +14,40 @@ lookup (entry ∷ entries) name = if bytes_eq entry.0 name then Some entry.1 els
 -- there is a file, and it has more bytes than this
 abbrev pub Exceeds : Option (List ℕ) → ℕ → Type 0
 Exceeds file limit = (bytes : List ℕ) × (file ≡ Some bytes) × (limit < length bytes)
+
+-- named files, of which at most one is open
+pub record FilesState : Type 0 where
+  -- whether they tell what they hold: the next two mean something only then
+  pub told : Bool
+  -- the names and the bytes of the files
+  pub held : Entries
+  -- what is left of the open file; nothing where none is open
+  pub rest : List ℕ
+  -- how many faults there were
+  pub faults : ℕ
+  -- how many calls of `open` there were
+  pub opens : ℕ
+  -- how many bytes were handed out since the last `open`
+  pub handed : ℕ
+  -- whether the last call was a `read` that answered `End`
+  pub ended : Bool
+
+-- what takes bytes
+pub record SinkState : Type 0 where
+  -- whether it tells what it took: the next one means something only then
+  pub told : Bool
+  -- the bytes taken so far
+  pub taken : List ℕ
+  -- how many faults there were
+  pub faults : ℕ
+
+-- files of which nothing was asked yet
+abbrev pub new_files : Bool → Entries → FilesState
+new_files told held = record { told = told; held = held; rest = []; faults = 0; opens = 0; handed = 0; ended = false }
+
+-- a sink that was given nothing yet
+abbrev pub new_sink : Bool → SinkState
+new_sink told = record { told = told; taken = []; faults = 0 }
 
 -- one more, but a count that is kept in a u64 stands still at its end
 abbrev pub raised : ℕ → ℕ

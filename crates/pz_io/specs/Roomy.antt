@@ -1,18 +1,15 @@
--- What a sink in memory shows, and which writes fail.
-use Rattle.std.specs.Prelude.{ℕ, List, Bool, ◌==◌, ◌||◌}
+-- What a sink in memory is, and which writes fail.
+use Rattle.std.specs.Prelude.{ℕ, List, Bool, true, ◌==◌, ◌||◌}
 use Rattle.std.specs.List.{list_any}
-use Rattle.pz_io.specs.Outside.{raised}
+use Rattle.pz_io.specs.Outside.{SinkState, raised}
 use Rattle.pz_io.specs.declared.roomy.RoomySink.{RoomySink}
 
-abbrev pub roomy_bytes : RoomySink → List ℕ
-roomy_bytes sink = sink.bytes.items
+abbrev pub roomy_state : RoomySink → SinkState
+roomy_state sink = record { told = true; taken = sink.bytes.items; faults = sink.faults }
 
 -- how many more bytes the sink takes
 abbrev pub roomy_room : RoomySink → ℕ
 roomy_room sink = sink.room
-
-abbrev pub roomy_faults : RoomySink → ℕ
-roomy_faults sink = sink.faults
 
 -- how many writes there were
 abbrev pub roomy_made : RoomySink → ℕ

@@ -18,17 +18,12 @@ pub struct FailingFiles {
 }
 
 impl FailingFiles {
-    ghost use Rattle.pz_io.specs.Mem.{mem_held, mem_rest, mem_opens, mem_handed, mem_ended};
-    ghost use Rattle.pz_io.specs.Failing.{failing_held, failing_rest, failing_opens, failing_handed, failing_ended, failing_faults, failing_made, failing_calls, next_call_fails};
+    ghost use Rattle.pz_io.specs.Mem.{mem_state};
+    ghost use Rattle.pz_io.specs.Failing.{failing_state, failing_made, failing_calls, next_call_fails};
 
     /// The files of `inner`, failing at the listed calls.
     pub fn new(inner: MemFiles, calls: Vec<u64>) -> FailingFiles
-        ensures held { failing_held result ≡ mem_held inner }
-        ensures rest { failing_rest result ≡ mem_rest inner }
-        ensures opens { failing_opens result ≡ mem_opens inner }
-        ensures handed { failing_handed result ≡ mem_handed inner }
-        ensures ended { failing_ended result ≡ mem_ended inner }
-        ensures faults { failing_faults result ≡ 0 }
+        ensures state { failing_state result ≡ mem_state inner }
         ensures made { failing_made result ≡ 0 }
         ensures calls { failing_calls result ≡ calls.items }
     {
@@ -59,44 +54,32 @@ impl FailingFiles {
 }
 
 impl Files for FailingFiles {
-    ghost use Rattle.pz_io.specs.Failing.{failing_held, failing_rest, failing_opens, failing_handed, failing_ended, failing_faults, failing_made, failing_calls, next_call_fails};
+    ghost use Rattle.pz_io.specs.Failing.{failing_state, failing_made, failing_calls, next_call_fails};
 
-    ghost told = { λ files. true };
-
-    ghost held = { failing_held };
-
-    ghost rest = { failing_rest };
-
-    ghost faults = { failing_faults };
-
-    ghost opens = { failing_opens };
-
-    ghost handed = { failing_handed };
-
-    ghost ended = { failing_ended };
+    ghost state = { failing_state };
 
     /// A call that is not listed fails only where the files lack the name.
     fn open(&mut self, name: &str) -> Opened
-        ensures held { failing_held self.new ≡ failing_held self.old }
-        ensures opens { failing_opens self.new ≡ raised (failing_opens self.old) }
-        ensures handed { failing_handed self.new ≡ 0 }
-        ensures ended { failing_ended self.new ≡ false }
-        ensures faults { failing_faults self.old ≤ failing_faults self.new }
+        ensures held { (failing_state self.new).held ≡ (failing_state self.old).held }
+        ensures opens { (failing_state self.new).opens ≡ raised (failing_state self.old).opens }
+        ensures handed { (failing_state self.new).handed ≡ 0 }
+        ensures ended { (failing_state self.new).ended ≡ false }
+        ensures faults { (failing_state self.old).faults ≤ (failing_state self.new).faults }
         ensures ready { OnReady result
-            (lookup (failing_held self.old) name.now ≡ Some (failing_rest self.new)) }
+            (lookup (failing_state self.old).held name.now ≡ Some (failing_state self.new).rest) }
         ensures failed { OnOpenFailed result
-            (Rose (failing_faults self.old) (failing_faults self.new)
-            ⊎ (lookup (failing_held self.old) name.now ≡ None)) }
-        ensures closed { OnOpenFailed result (failing_rest self.new ≡ []) }
+            (Rose (failing_state self.old).faults (failing_state self.new).faults
+            ⊎ (lookup (failing_state self.old).held name.now ≡ None)) }
+        ensures closed { OnOpenFailed result ((failing_state self.new).rest ≡ []) }
 
         // which calls fail
         ensures made { failing_made self.new ≡ raised (failing_made self.old) }
         ensures calls { failing_calls self.new ≡ failing_calls self.old }
-        ensures counted { failing_faults self.new ≡
-            raised_if (next_call_fails self.old) (failing_faults self.old) }
+        ensures counted { (failing_state self.new).faults ≡
+            raised_if (next_call_fails self.old) (failing_state self.old).faults }
         ensures listed { next_call_fails self.old ≡ true → result ≡ Opened.Failed }
         ensures unlisted { next_call_fails self.old ≡ false →
-            OnOpenFailed result (lookup (failing_held self.old) name.now ≡ None) }
+            OnOpenFailed result (lookup (failing_state self.old).held name.now ≡ None) }
     {
         if self.count_call() {
             self.inner.refuse_open();
@@ -108,25 +91,28 @@ impl Files for FailingFiles {
     /// Exactly the listed calls fail. Another hands out as many bytes as are left and fit.
     fn read(&mut self, buf: &mut [u8]) -> Got
         requires { 0 < length buf.old }
-        ensures held { failing_held self.new ≡ failing_held self.old }
-        ensures opens { failing_opens self.new ≡ failing_opens self.old }
-        ensures handed { failing_handed self.new ≡ failing_handed self.old + bytes_got result }
-        ensures ended { failing_ended self.new ≡ is_end result }
-        ensures faults { failing_faults self.old ≤ failing_faults self.new }
+        ensures held { (failing_state self.new).held ≡ (failing_state self.old).held }
+        ensures opens { (failing_state self.new).opens ≡ (failing_state self.old).opens }
+        ensures handed { (failing_state self.new).handed ≡
+            (failing_state self.old).handed + bytes_got result }
+        ensures ended { (failing_state self.new).ended ≡ is_end result }
+        ensures faults { (failing_state self.old).faults ≤ (failing_state self.new).faults }
         ensures count { IfBytes result
-            (λ n. (1 ≤ n) × (n ≡ min (length (failing_rest self.old)) (length buf.new))) }
+            (λ n. (1 ≤ n) × (n ≡ min (length (failing_state self.old).rest) (length buf.new))) }
         ensures bytes { IfBytes result
-            (λ n. failing_rest self.old ≡ take n buf.new ++ failing_rest self.new) }
-        ensures end { OnEnd result ((failing_rest self.old ≡ []) × (failing_rest self.new ≡ [])) }
+            (λ n. (failing_state self.old).rest ≡ take n buf.new ++ (failing_state self.new).rest) }
+        ensures end { OnEnd result
+            (((failing_state self.old).rest ≡ []) × ((failing_state self.new).rest ≡ [])) }
         ensures failed { OnReadFailed result
-            (Rose (failing_faults self.old) (failing_faults self.new)) }
-        ensures failed_rest { OnReadFailed result (failing_rest self.new ≡ failing_rest self.old) }
+            (Rose (failing_state self.old).faults (failing_state self.new).faults) }
+        ensures failed_rest { OnReadFailed result
+            ((failing_state self.new).rest ≡ (failing_state self.old).rest) }
 
         // which calls fail
         ensures made { failing_made self.new ≡ raised (failing_made self.old) }
         ensures calls { failing_calls self.new ≡ failing_calls self.old }
-        ensures counted { failing_faults self.new ≡
-            raised_if (next_call_fails self.old) (failing_faults self.old) }
+        ensures counted { (failing_state self.new).faults ≡
+            raised_if (next_call_fails self.old) (failing_state self.old).faults }
         ensures fails { is_read_failed result ≡ next_call_fails self.old }
     {
         if self.count_call() {

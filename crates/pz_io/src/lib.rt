@@ -11,8 +11,6 @@ mod mem;
 mod os;
 mod outside;
 mod roomy;
-#[cfg(test)]
-mod tests;
 mod whole;
 
 pub use failing::FailingFiles;
@@ -20,4 +18,4 @@ pub use mem::MemFiles;
 pub use os::{OsFiles, OsSink};
 pub use outside::{Files, Got, Opened, Put, Sink};
 pub use roomy::RoomySink;
-pub use whole::{ReadAllError, WriteFault, read_all, write_all};
+pub use whole::{ReadError, WriteError, read_all, write_all};

@@ -1,8 +1,9 @@
 // Files in memory.
 ghost use Rattle.std.specs.Prelude.{◌≡◌, ◌≤◌, ◌<◌, ◌+◌, ◌++◌, [], true, false, length, take, min};
-ghost use Rattle.pz_io.specs.Outside.{raised};
+ghost use Rattle.pz_io.specs.Outside.{new_files, raised};
 ghost use Rattle.pz_io.specs.Outcomes.{IfBytes, OnEnd, is_end, is_read_failed, bytes_got};
-ghost use Rattle.pz_io.specs.Entries.{entries_of, rest_of, IsPlaceOf};
+ghost use Rattle.pz_io.specs.Entries.{entries_of, rest_of};
+ghost use Rattle.pz_io.specs.devices.Places.{IsPlaceOf};
 
 use crate::{Files, Got, Opened};
 
@@ -18,16 +19,12 @@ pub struct MemFiles {
 }
 
 impl MemFiles {
-    ghost use Rattle.pz_io.specs.Mem.{mem_held, mem_rest, mem_opens, mem_handed, mem_ended};
+    ghost use Rattle.pz_io.specs.Mem.{mem_state};
 
     /// Files with these names and bytes, none of them open. Where two entries have one name, the
     /// first counts.
     pub fn new(entries: Vec<(String, Vec<u8>)>) -> MemFiles
-        ensures held { mem_held result ≡ entries_of entries.items }
-        ensures rest { mem_rest result ≡ [] }
-        ensures opens { mem_opens result ≡ 0 }
-        ensures handed { mem_handed result ≡ 0 }
-        ensures ended { mem_ended result ≡ false }
+        ensures { mem_state result ≡ new_files true (entries_of entries.items) }
     {
         MemFiles {
             entries,
@@ -40,11 +37,11 @@ impl MemFiles {
 
     // An `open` that fails: it is counted, and no file is open after it.
     pub(crate) fn refuse_open(&mut self)
-        ensures held { mem_held self.new ≡ mem_held self.old }
-        ensures rest { mem_rest self.new ≡ [] }
-        ensures opens { mem_opens self.new ≡ raised (mem_opens self.old) }
-        ensures handed { mem_handed self.new ≡ 0 }
-        ensures ended { mem_ended self.new ≡ false }
+        ensures held { (mem_state self.new).held ≡ (mem_state self.old).held }
+        ensures rest { (mem_state self.new).rest ≡ [] }
+        ensures opens { (mem_state self.new).opens ≡ raised (mem_state self.old).opens }
+        ensures handed { (mem_state self.new).handed ≡ 0 }
+        ensures ended { (mem_state self.new).ended ≡ false }
     {
         self.current = None;
         self.opens = self.opens.saturating_add(1);
@@ -90,21 +87,9 @@ fn rest(entries: &[(String, Vec<u8>)], current: Option<usize>, handed: usize) ->
 }
 
 impl Files for MemFiles {
-    ghost use Rattle.pz_io.specs.Mem.{mem_held, mem_rest, mem_opens, mem_handed, mem_ended};
+    ghost use Rattle.pz_io.specs.Mem.{mem_state};
 
-    ghost told = { λ files. true };
-
-    ghost held = { mem_held };
-
-    ghost rest = { mem_rest };
-
-    ghost faults = { λ files. 0 };
-
-    ghost opens = { mem_opens };
-
-    ghost handed = { mem_handed };
-
-    ghost ended = { mem_ended };
+    ghost state = { mem_state };
 
     fn open(&mut self, name: &str) -> Opened {
         self.current = find_entry(&self.entries, name);
@@ -120,15 +105,17 @@ impl Files for MemFiles {
     /// Hands out as many bytes as are left and fit.
     fn read(&mut self, buf: &mut [u8]) -> Got
         requires { 0 < length buf.old }
-        ensures held { mem_held self.new ≡ mem_held self.old }
-        ensures opens { mem_opens self.new ≡ mem_opens self.old }
-        ensures handed { mem_handed self.new ≡ mem_handed self.old + bytes_got result }
-        ensures ended { mem_ended self.new ≡ is_end result }
+        ensures held { (mem_state self.new).held ≡ (mem_state self.old).held }
+        ensures opens { (mem_state self.new).opens ≡ (mem_state self.old).opens }
+        ensures handed { (mem_state self.new).handed ≡
+            (mem_state self.old).handed + bytes_got result }
+        ensures ended { (mem_state self.new).ended ≡ is_end result }
         ensures count { IfBytes result
-            (λ n. (1 ≤ n) × (n ≡ min (length (mem_rest self.old)) (length buf.new))) }
+            (λ n. (1 ≤ n) × (n ≡ min (length (mem_state self.old).rest) (length buf.new))) }
         ensures bytes { IfBytes result
-            (λ n. mem_rest self.old ≡ take n buf.new ++ mem_rest self.new) }
-        ensures end { OnEnd result ((mem_rest self.old ≡ []) × (mem_rest self.new ≡ [])) }
+            (λ n. (mem_state self.old).rest ≡ take n buf.new ++ (mem_state self.new).rest) }
+        ensures end { OnEnd result
+            (((mem_state self.old).rest ≡ []) × ((mem_state self.new).rest ≡ [])) }
         ensures never_fails { is_read_failed result ≡ false }
     {
         let left = rest(&self.entries, self.current, self.handed);

@@ -1,7 +1,7 @@
 // The files and the standard output of the system: the edge to what is trusted. They tell nothing
 // of what they hold.
 ghost use Rattle.std.specs.Prelude.{◌≡◌, ◌≤◌, ◌<◌, ◌+◌, [], false, length};
-ghost use Rattle.pz_io.specs.Outside.{raised, raised_if, Rose};
+ghost use Rattle.pz_io.specs.Outside.{new_files, new_sink, raised, raised_if, Rose};
 ghost use Rattle.pz_io.specs.Outcomes.{OnOpenFailed, is_open_failed, IfBytes, OnReadFailed, is_end, is_read_failed, bytes_got, IfTook, OnWriteFailed, is_write_failed};
 
 use crate::{Files, Got, Opened, Put, Sink};
@@ -23,14 +23,11 @@ pub struct OsFiles {
 }
 
 impl OsFiles {
-    ghost use Rattle.pz_io.specs.Os.{os_faults, os_opens, os_handed, os_ended};
+    ghost use Rattle.pz_io.specs.Os.{os_files_state};
 
     /// The files of the system, none of them open.
     pub fn new(rt: HostRuntime) -> OsFiles
-        ensures faults { os_faults result ≡ 0 }
-        ensures opens { os_opens result ≡ 0 }
-        ensures handed { os_handed result ≡ 0 }
-        ensures ended { os_ended result ≡ false }
+        ensures { os_files_state result ≡ new_files false [] }
     {
         OsFiles {
             rt,
@@ -44,30 +41,19 @@ impl OsFiles {
 }
 
 impl Files for OsFiles {
-    ghost use Rattle.pz_io.specs.Os.{os_faults, os_opens, os_handed, os_ended};
+    ghost use Rattle.pz_io.specs.Os.{os_files_state};
 
-    ghost told = { λ files. false };
-
-    ghost held = { λ files. [] };
-
-    ghost rest = { λ files. [] };
-
-    ghost faults = { os_faults };
-
-    ghost opens = { os_opens };
-
-    ghost handed = { os_handed };
-
-    ghost ended = { os_ended };
+    ghost state = { os_files_state };
 
     fn open(&mut self, name: &str) -> Opened
-        ensures opens { os_opens self.new ≡ raised (os_opens self.old) }
-        ensures handed { os_handed self.new ≡ 0 }
-        ensures ended { os_ended self.new ≡ false }
-        ensures faults { os_faults self.old ≤ os_faults self.new }
-        ensures failed { OnOpenFailed result (Rose (os_faults self.old) (os_faults self.new)) }
-        ensures counted { os_faults self.new ≡
-            raised_if (is_open_failed result) (os_faults self.old) }
+        ensures opens { (os_files_state self.new).opens ≡ raised (os_files_state self.old).opens }
+        ensures handed { (os_files_state self.new).handed ≡ 0 }
+        ensures ended { (os_files_state self.new).ended ≡ false }
+        ensures faults { (os_files_state self.old).faults ≤ (os_files_state self.new).faults }
+        ensures failed { OnOpenFailed result
+            (Rose (os_files_state self.old).faults (os_files_state self.new).faults) }
+        ensures counted { (os_files_state self.new).faults ≡
+            raised_if (is_open_failed result) (os_files_state self.old).faults }
     {
         self.file = None;
         self.opens = self.opens.saturating_add(1);
@@ -87,14 +73,16 @@ impl Files for OsFiles {
 
     fn read(&mut self, buf: &mut [u8]) -> Got
         requires { 0 < length buf.old }
-        ensures opens { os_opens self.new ≡ os_opens self.old }
-        ensures handed { os_handed self.new ≡ os_handed self.old + bytes_got result }
-        ensures ended { os_ended self.new ≡ is_end result }
+        ensures opens { (os_files_state self.new).opens ≡ (os_files_state self.old).opens }
+        ensures handed { (os_files_state self.new).handed ≡
+            (os_files_state self.old).handed + bytes_got result }
+        ensures ended { (os_files_state self.new).ended ≡ is_end result }
         ensures count { IfBytes result (λ n. (1 ≤ n) × (n ≤ length buf.new)) }
-        ensures faults { os_faults self.old ≤ os_faults self.new }
-        ensures failed { OnReadFailed result (Rose (os_faults self.old) (os_faults self.new)) }
-        ensures counted { os_faults self.new ≡
-            raised_if (is_read_failed result) (os_faults self.old) }
+        ensures faults { (os_files_state self.old).faults ≤ (os_files_state self.new).faults }
+        ensures failed { OnReadFailed result
+            (Rose (os_files_state self.old).faults (os_files_state self.new).faults) }
+        ensures counted { (os_files_state self.new).faults ≡
+            raised_if (is_read_failed result) (os_files_state self.old).faults }
     {
         self.ended = false;
         let Some(file) = &mut self.file else {
@@ -127,33 +115,29 @@ pub struct OsSink {
 }
 
 impl OsSink {
-    ghost use Rattle.pz_io.specs.Os.{os_sink_faults};
+    ghost use Rattle.pz_io.specs.Os.{os_sink_state};
 
     /// The standard output.
     pub fn new(rt: HostRuntime) -> OsSink
-        ensures { os_sink_faults result ≡ 0 }
+        ensures { os_sink_state result ≡ new_sink false }
     {
         OsSink { rt, faults: 0 }
     }
 }
 
 impl Sink for OsSink {
-    ghost use Rattle.pz_io.specs.Os.{os_sink_faults};
+    ghost use Rattle.pz_io.specs.Os.{os_sink_state};
 
-    ghost told = { λ sink. false };
-
-    ghost taken = { λ sink. [] };
-
-    ghost faults = { os_sink_faults };
+    ghost state = { os_sink_state };
 
     fn write(&mut self, piece: &[u8]) -> Put
         requires { 0 < length piece.now }
         ensures count { IfTook result (λ n. (1 ≤ n) × (n ≤ length piece.now)) }
-        ensures faults { os_sink_faults self.old ≤ os_sink_faults self.new }
+        ensures faults { (os_sink_state self.old).faults ≤ (os_sink_state self.new).faults }
         ensures failed { OnWriteFailed result
-            (Rose (os_sink_faults self.old) (os_sink_faults self.new)) }
-        ensures counted { os_sink_faults self.new ≡
-            raised_if (is_write_failed result) (os_sink_faults self.old) }
+            (Rose (os_sink_state self.old).faults (os_sink_state self.new).faults) }
+        ensures counted { (os_sink_state self.new).faults ≡
+            raised_if (is_write_failed result) (os_sink_state self.old).faults }
     {
         match io::writer(&self.rt).write(piece) {
             Ok(0) | Err(_) => {

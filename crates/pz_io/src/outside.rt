@@ -1,6 +1,6 @@
 // Files and a sink, as a program sees them.
-ghost use Rattle.std.specs.Prelude.{◌≡◌, ◌⊎◌, ◌≤◌, ◌<◌, ◌+◌, ◌++◌, [], Bool, true, false, None, Some, List, ℕ, length, take};
-ghost use Rattle.pz_io.specs.Outside.{Entries, lookup, raised, Rose};
+ghost use Rattle.std.specs.Prelude.{◌≡◌, ◌⊎◌, ◌≤◌, ◌<◌, ◌+◌, ◌++◌, [], true, false, None, Some, length, take};
+ghost use Rattle.pz_io.specs.Outside.{FilesState, SinkState, lookup, raised, Rose};
 ghost use Rattle.pz_io.specs.Outcomes.{OnReady, OnOpenFailed, IfBytes, OnEnd, OnReadFailed, is_end, bytes_got, IfTook, OnWriteFailed};
 
 /// The answer of an `open`.
@@ -36,43 +36,27 @@ pub enum Put {
 ///
 /// A count is kept in a u64. At 2^64 - 1 it stands still, and is taken as having risen.
 pub trait Files {
-    /// Whether they tell what they hold. The next two members mean something only then.
-    ghost told: { Self → Bool };
-
-    /// The names and the bytes of the files.
-    ghost held: { Self → Entries };
-
-    /// What is left of the open file; nothing where none is open.
-    ghost rest: { Self → List ℕ };
-
-    /// A count of faults. It never falls.
-    ghost faults: { Self → ℕ };
-
-    /// How many calls of `open` there were.
-    ghost opens: { Self → ℕ };
-
-    /// How many bytes were handed out since the last `open`.
-    ghost handed: { Self → ℕ };
-
-    /// Whether the last call was a `read` that answered `End`.
-    ghost ended: { Self → Bool };
+    /// What they are at a moment: whether they tell what they hold, what that is and what is left
+    /// of the open file, and their counts.
+    ghost state: { Self → FilesState };
 
     /// Closes what was open, and opens the named file from its start.
     ///
     /// `Ready` comes, where the files tell, only for a name that they have. `Failed` comes only
     /// where the count of faults rose in this call, or where the files tell and lack the name.
     fn open(&mut self, name: &str) -> Opened
-        ensures told { told self.new ≡ told self.old }
-        ensures held { held self.new ≡ held self.old }
-        ensures opens { opens self.new ≡ raised (opens self.old) }
-        ensures handed { handed self.new ≡ 0 }
-        ensures ended { ended self.new ≡ false }
-        ensures faults { faults self.old ≤ faults self.new }
-        ensures ready { OnReady result
-            (told self.old ≡ true → lookup (held self.old) name.now ≡ Some (rest self.new)) }
-        ensures failed { OnOpenFailed result (Rose (faults self.old) (faults self.new)
-            ⊎ ((told self.old ≡ true) × (lookup (held self.old) name.now ≡ None))) }
-        ensures closed { OnOpenFailed result (told self.old ≡ true → rest self.new ≡ []) };
+        ensures told { (state self.new).told ≡ (state self.old).told }
+        ensures held { (state self.new).held ≡ (state self.old).held }
+        ensures opens { (state self.new).opens ≡ raised (state self.old).opens }
+        ensures handed { (state self.new).handed ≡ 0 }
+        ensures ended { (state self.new).ended ≡ false }
+        ensures faults { (state self.old).faults ≤ (state self.new).faults }
+        ensures ready { OnReady result ((state self.old).told ≡ true →
+            lookup (state self.old).held name.now ≡ Some (state self.new).rest) }
+        ensures failed { OnOpenFailed result (Rose (state self.old).faults (state self.new).faults
+            ⊎ (((state self.old).told ≡ true) × (lookup (state self.old).held name.now ≡ None))) }
+        ensures closed { OnOpenFailed result
+            ((state self.old).told ≡ true → (state self.new).rest ≡ []) };
 
     /// Hands out the next bytes of the open file, at least one and at most as many as fit.
     ///
@@ -80,44 +64,41 @@ pub trait Files {
     /// count of faults rose in this call, and takes nothing.
     fn read(&mut self, buf: &mut [u8]) -> Got
         requires { 0 < length buf.old }
-        ensures told { told self.new ≡ told self.old }
-        ensures held { held self.new ≡ held self.old }
-        ensures opens { opens self.new ≡ opens self.old }
-        ensures handed { handed self.new ≡ handed self.old + bytes_got result }
-        ensures ended { ended self.new ≡ is_end result }
-        ensures faults { faults self.old ≤ faults self.new }
+        ensures told { (state self.new).told ≡ (state self.old).told }
+        ensures held { (state self.new).held ≡ (state self.old).held }
+        ensures opens { (state self.new).opens ≡ (state self.old).opens }
+        ensures handed { (state self.new).handed ≡ (state self.old).handed + bytes_got result }
+        ensures ended { (state self.new).ended ≡ is_end result }
+        ensures faults { (state self.old).faults ≤ (state self.new).faults }
         ensures count { IfBytes result (λ n. (1 ≤ n) × (n ≤ length buf.new)) }
-        ensures bytes { IfBytes result
-            (λ n. told self.old ≡ true → rest self.old ≡ take n buf.new ++ rest self.new) }
-        ensures end { OnEnd result
-            (told self.old ≡ true → (rest self.old ≡ []) × (rest self.new ≡ [])) }
-        ensures failed { OnReadFailed result (Rose (faults self.old) (faults self.new)) }
+        ensures bytes { IfBytes result (λ n. (state self.old).told ≡ true →
+            (state self.old).rest ≡ take n buf.new ++ (state self.new).rest) }
+        ensures end { OnEnd result ((state self.old).told ≡ true →
+            ((state self.old).rest ≡ []) × ((state self.new).rest ≡ [])) }
+        ensures failed { OnReadFailed result
+            (Rose (state self.old).faults (state self.new).faults) }
         ensures failed_rest { OnReadFailed result
-            (told self.old ≡ true → rest self.new ≡ rest self.old) };
+            ((state self.old).told ≡ true → (state self.new).rest ≡ (state self.old).rest) };
 }
 
 /// What takes bytes, one after the other.
 pub trait Sink {
-    /// Whether it tells what it took. The next member means something only then.
-    ghost told: { Self → Bool };
-
-    /// The bytes taken so far.
-    ghost taken: { Self → List ℕ };
-
-    /// A count of faults, kept as those of [`Files`]. It never falls.
-    ghost faults: { Self → ℕ };
+    /// What it is at a moment: whether it tells what it took, what that is, and its count of
+    /// faults, which is kept as that of [`Files`].
+    ghost state: { Self → SinkState };
 
     /// Takes the first bytes of the piece, at least one.
     ///
     /// `Failed` comes only where the count of faults rose in this call, and takes nothing.
     fn write(&mut self, piece: &[u8]) -> Put
         requires { 0 < length piece.now }
-        ensures told { told self.new ≡ told self.old }
-        ensures faults { faults self.old ≤ faults self.new }
+        ensures told { (state self.new).told ≡ (state self.old).told }
+        ensures faults { (state self.old).faults ≤ (state self.new).faults }
         ensures count { IfTook result (λ n. (1 ≤ n) × (n ≤ length piece.now)) }
-        ensures bytes { IfTook result
-            (λ n. told self.old ≡ true → taken self.new ≡ taken self.old ++ take n piece.now) }
-        ensures failed { OnWriteFailed result (Rose (faults self.old) (faults self.new)) }
+        ensures bytes { IfTook result (λ n. (state self.old).told ≡ true →
+            (state self.new).taken ≡ (state self.old).taken ++ take n piece.now) }
+        ensures failed { OnWriteFailed result
+            (Rose (state self.old).faults (state self.new).faults) }
         ensures nothing { OnWriteFailed result
-            (told self.old ≡ true → taken self.new ≡ taken self.old) };
+            ((state self.old).told ≡ true → (state self.new).taken ≡ (state self.old).taken) };
 }

@@ -1,13 +1,14 @@
 // A whole file in, a whole piece out.
 ghost use Rattle.std.specs.Prelude.{◌≡◌, ◌⊎◌, ◌≤◌, ◌<◌, ◌++◌, [], true, false, Some, None, length, take, is_ok, IfOk, OnOk, IfErr, OnErr, IsErrOf};
 ghost use Rattle.pz_io.specs.Outside.{lookup, raised, Rose, Exceeds};
+ghost use Rattle.pz_io.specs.Outcomes.{sent_of};
 
 use crate::{Files, Got, Opened, Put, Sink};
 use std::alloc::{AllocError, Global};
 
 /// Why [`read_all`] gave no bytes.
 #[derive(Clone, Copy, Debug, PartialEq, Eq)]
-pub enum ReadAllError {
+pub enum ReadError {
     /// Memory was wanting.
     NoMemory,
     /// The files failed, or they lack the name.
@@ -16,20 +17,21 @@ pub enum ReadAllError {
     TooLong,
 }
 
-impl From<AllocError> for ReadAllError {
-    ghost use Rattle.pz_io.specs.declared.whole.ReadAllError.TheVariants.{NoMemory};
+impl From<AllocError> for ReadError {
+    ghost use Rattle.pz_io.specs.declared.whole.ReadError.TheVariants.{NoMemory};
 
     ghost from_gives = { λ _ error. error ≡ NoMemory };
 
     fn from(_: AllocError) -> Self {
-        ReadAllError::NoMemory
+        ReadError::NoMemory
     }
 }
 
-/// The sink failed after it took the first `sent` bytes.
+/// Why [`write_all`] wrote no more.
 #[derive(Clone, Copy, Debug, PartialEq, Eq)]
-pub struct WriteFault {
-    pub sent: usize,
+pub enum WriteError {
+    /// The sink failed after it took the first `sent` bytes.
+    Fault { sent: usize },
 }
 
 // How many bytes are asked for in one read.
@@ -51,63 +53,63 @@ pub fn read_all<F: Files>(
     files: &mut F,
     name: &str,
     limit: usize,
-) -> Result<Vec<u8>, ReadAllError>
-    ensures told { F.told files.new ≡ F.told files.old }
-    ensures held { F.held files.new ≡ F.held files.old }
-    ensures opens { F.opens files.new ≡ raised (F.opens files.old) }
-    ensures faults { F.faults files.old ≤ F.faults files.new }
+) -> Result<Vec<u8>, ReadError>
+    ensures told { (F.state files.new).told ≡ (F.state files.old).told }
+    ensures held { (F.state files.new).held ≡ (F.state files.old).held }
+    ensures opens { (F.state files.new).opens ≡ raised (F.state files.old).opens }
+    ensures faults { (F.state files.old).faults ≤ (F.state files.new).faults }
 
     // what comes at Ok
-    ensures content { IfOk result (λ bytes. F.told files.old ≡ true →
-        lookup (F.held files.old) name.now ≡ Some bytes.items) }
-    ensures handed { IfOk result (λ bytes. length bytes.items ≡ F.handed files.new) }
+    ensures content { IfOk result (λ bytes. (F.state files.old).told ≡ true →
+        lookup (F.state files.old).held name.now ≡ Some bytes.items) }
+    ensures handed { IfOk result (λ bytes. length bytes.items ≡ (F.state files.new).handed) }
     ensures limit { IfOk result (λ bytes. length bytes.items ≤ limit) }
-    ensures ended { F.ended files.new ≡ is_ok result }
-    ensures rest { OnOk result (F.told files.old ≡ true → F.rest files.new ≡ []) }
+    ensures ended { (F.state files.new).ended ≡ is_ok result }
+    ensures rest { OnOk result ((F.state files.old).told ≡ true → (F.state files.new).rest ≡ []) }
 
     // when each other answer comes
-    ensures fault { IsErrOf result ReadAllError.Fault →
-        Rose (F.faults files.old) (F.faults files.new)
-        ⊎ ((F.told files.old ≡ true) × (lookup (F.held files.old) name.now ≡ None)) }
-    ensures too_long { IsErrOf result ReadAllError.TooLong → limit < F.handed files.new }
-    ensures longer { IsErrOf result ReadAllError.TooLong → F.told files.old ≡ true →
-        Exceeds (lookup (F.held files.old) name.now) limit }
+    ensures fault { IsErrOf result ReadError.Fault →
+        Rose (F.state files.old).faults (F.state files.new).faults
+        ⊎ (((F.state files.old).told ≡ true)
+        × (lookup (F.state files.old).held name.now ≡ None)) }
+    ensures too_long { IsErrOf result ReadError.TooLong → limit < (F.state files.new).handed }
+    ensures longer { IsErrOf result ReadError.TooLong → (F.state files.old).told ≡ true →
+        Exceeds (lookup (F.state files.old).held name.now) limit }
 {
     match files.open(name) {
         Opened::Ready => read_rest(alloc, files, limit),
-        Opened::Failed => Err(ReadAllError::Fault),
+        Opened::Failed => Err(ReadError::Fault),
     }
 }
 
 // Reads what is left of a file of which nothing was handed out yet.
-fn read_rest<F: Files>(alloc: Global, files: &mut F, limit: usize) -> Result<Vec<u8>, ReadAllError>
-    requires handed { F.handed files.old ≡ 0 }
-    requires ended { F.ended files.old ≡ false }
-    ensures told { F.told files.new ≡ F.told files.old }
-    ensures held { F.held files.new ≡ F.held files.old }
-    ensures opens { F.opens files.new ≡ F.opens files.old }
-    ensures faults { F.faults files.old ≤ F.faults files.new }
+fn read_rest<F: Files>(alloc: Global, files: &mut F, limit: usize) -> Result<Vec<u8>, ReadError>
+    requires { (F.state files.old).handed ≡ 0 }
+    ensures told { (F.state files.new).told ≡ (F.state files.old).told }
+    ensures held { (F.state files.new).held ≡ (F.state files.old).held }
+    ensures opens { (F.state files.new).opens ≡ (F.state files.old).opens }
+    ensures faults { (F.state files.old).faults ≤ (F.state files.new).faults }
     ensures content { IfOk result
-        (λ bytes. F.told files.old ≡ true → F.rest files.old ≡ bytes.items) }
-    ensures handed { IfOk result (λ bytes. length bytes.items ≡ F.handed files.new) }
+        (λ bytes. (F.state files.old).told ≡ true → (F.state files.old).rest ≡ bytes.items) }
+    ensures handed { IfOk result (λ bytes. length bytes.items ≡ (F.state files.new).handed) }
     ensures limit { IfOk result (λ bytes. length bytes.items ≤ limit) }
-    ensures ended { F.ended files.new ≡ is_ok result }
-    ensures rest { OnOk result (F.told files.old ≡ true → F.rest files.new ≡ []) }
-    ensures fault { IsErrOf result ReadAllError.Fault →
-        Rose (F.faults files.old) (F.faults files.new) }
-    ensures too_long { IsErrOf result ReadAllError.TooLong → limit < F.handed files.new }
-    ensures longer { IsErrOf result ReadAllError.TooLong → F.told files.old ≡ true →
-        limit < length (F.rest files.old) }
+    ensures ended { (F.state files.new).ended ≡ is_ok result }
+    ensures rest { OnOk result ((F.state files.old).told ≡ true → (F.state files.new).rest ≡ []) }
+    ensures fault { IsErrOf result ReadError.Fault →
+        Rose (F.state files.old).faults (F.state files.new).faults }
+    ensures too_long { IsErrOf result ReadError.TooLong → limit < (F.state files.new).handed }
+    ensures longer { IsErrOf result ReadError.TooLong → (F.state files.old).told ≡ true →
+        limit < length (F.state files.old).rest }
 {
     let mut bytes = Vec::new(alloc);
     let mut buf = [0u8; BUFFER_LEN];
     'reads: loop {
         match files.read(&mut buf) {
             Got::End => return Ok(bytes),
-            Got::Failed => return Err(ReadAllError::Fault),
+            Got::Failed => return Err(ReadError::Fault),
             Got::Bytes(n) => {
                 if n > limit - bytes.len() {
-                    return Err(ReadAllError::TooLong);
+                    return Err(ReadError::TooLong);
                 }
                 bytes.extend_from_slice(&buf[..n])?;
             }
@@ -121,21 +123,21 @@ fn read_rest<F: Files>(alloc: Global, files: &mut F, limit: usize) -> Result<Vec
 ///
 /// The sink failed, and its count of faults rose in this call. It took exactly the first `sent`
 /// bytes.
-pub fn write_all<W: Sink>(sink: &mut W, bytes: &[u8]) -> Result<(), WriteFault>
-    ensures told { W.told sink.new ≡ W.told sink.old }
-    ensures faults { W.faults sink.old ≤ W.faults sink.new }
-    ensures all { OnOk result
-        (W.told sink.old ≡ true → W.taken sink.new ≡ W.taken sink.old ++ bytes.now) }
-    ensures front { IfErr result (λ fault. W.told sink.old ≡ true →
-        W.taken sink.new ≡ W.taken sink.old ++ take fault.sent bytes.now) }
-    ensures sent { IfErr result (λ fault. fault.sent < length bytes.now) }
-    ensures cause { OnErr result (Rose (W.faults sink.old) (W.faults sink.new)) }
+pub fn write_all<W: Sink>(sink: &mut W, bytes: &[u8]) -> Result<(), WriteError>
+    ensures told { (W.state sink.new).told ≡ (W.state sink.old).told }
+    ensures faults { (W.state sink.old).faults ≤ (W.state sink.new).faults }
+    ensures all { OnOk result ((W.state sink.old).told ≡ true →
+        (W.state sink.new).taken ≡ (W.state sink.old).taken ++ bytes.now) }
+    ensures front { IfErr result (λ error. (W.state sink.old).told ≡ true →
+        (W.state sink.new).taken ≡ (W.state sink.old).taken ++ take (sent_of error) bytes.now) }
+    ensures sent { IfErr result (λ error. sent_of error < length bytes.now) }
+    ensures cause { OnErr result (Rose (W.state sink.old).faults (W.state sink.new).faults) }
 {
     let mut sent = 0;
     'writes: while sent < bytes.len() {
         match sink.write(&bytes[sent..]) {
             Put::Took(n) => sent += n,
-            Put::Failed => return Err(WriteFault { sent }),
+            Put::Failed => return Err(WriteError::Fault { sent }),
         }
     }
     Ok(())

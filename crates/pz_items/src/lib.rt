@@ -7,6 +7,3 @@ mod items;
 
 pub use boxed::Boxed;
 pub use items::Items;
-
-#[cfg(test)]
-mod tests;

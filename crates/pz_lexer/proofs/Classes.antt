@@ -4,7 +4,7 @@ use Rattle.std.specs.Prelude.{◌==◌}
 use Rattle.std.proofs.lemmas.Bool.{cond_both}
 use Rattle.std.proofs.lemmas.Bool.Decides.{nat_tests}
 use Rattle.pz_lexer.specs.Bytes.{is_blank, is_letter, is_digit}
-use Rattle.pz_lexer.specs.Twin.{Class, blanks, letter, digit, double_quote, single_quote, slash, other, class_of}
+use Rattle.pz_lexer.specs.devices.Twin.{Class, blanks, letter, digit, double_quote, single_quote, slash, other, class_of}
 
 -- no class above it
 pub record IsOther (b : ℕ) : Type 0 where

@@ -9,11 +9,11 @@ use Rattle.pz_lexer.specs.declared.pieces.Found.{Found}
 use Rattle.pz_lexer.specs.declared.pieces.Stop.{Stop}
 use Rattle.pz_lexer.specs.Bytes.{begins}
 use Rattle.pz_lexer.specs.Comments.{begins_pair, is_in_line}
-use Rattle.pz_lexer.specs.Reading.{Reads}
-use Rattle.pz_lexer.specs.Step.{front}
-use Rattle.pz_lexer.specs.SymbolStep.{symbol_step}
-use Rattle.pz_lexer.specs.CommentStep.{Closed, closed, open_end, longer, close_of, block_by, block_step, line_step}
-use Rattle.pz_lexer.specs.Gives.{Gives}
+use Rattle.pz_lexer.specs.devices.Reading.{Reads}
+use Rattle.pz_lexer.specs.devices.Step.{front}
+use Rattle.pz_lexer.specs.devices.SymbolStep.{symbol_step}
+use Rattle.pz_lexer.specs.devices.CommentStep.{Closed, closed, open_end, longer, close_of, block_by, block_step, line_step}
+use Rattle.pz_lexer.specs.devices.Gives.{Gives}
 use Rattle.pz_lexer.proofs.CommentSteps.{close-here, close-later, block_right, line_right}
 use Rattle.std.specs.List.{take_while}
 use Rattle.pz_lexer.proofs.SymbolSteps.{symbol_right}

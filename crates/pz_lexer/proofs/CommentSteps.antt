@@ -7,9 +7,9 @@ use Rattle.pz_lexer.specs.declared.pieces.Sort.{Sort}
 use Rattle.pz_lexer.specs.Pieces.{a_line_comment, a_block_comment}
 use Rattle.pz_lexer.specs.declared.pieces.Reason.{Reason}
 use Rattle.pz_lexer.specs.Refusals.{comment}
-use Rattle.pz_lexer.specs.Step.{piece, stop, front}
-use Rattle.pz_lexer.specs.CommentStep.{Closed, closed, open_end, longer, close_of, block_by, block_step, line_step}
-use Rattle.pz_lexer.specs.Twin.{first_step}
+use Rattle.pz_lexer.specs.devices.Step.{piece, stop, front}
+use Rattle.pz_lexer.specs.devices.CommentStep.{Closed, closed, open_end, longer, close_of, block_by, block_step, line_step}
+use Rattle.pz_lexer.specs.devices.Twin.{first_step}
 use Rattle.pz_lexer.proofs.Runs.{front_run, back_run, front_all, back_begins, front-back}
 use Rattle.pz_lexer.proofs.Steps.{IsRight}
 

@@ -1,18 +1,18 @@
 -- A text cut from left to right.
 use Rattle.std.proofs.Common.{◌≡◌, ◌⊎◌, inl, inr, ℕ, ◌+◌, ◌≤◌, List, [], ◌∷◌, ◌++◌, length, take, drop, map, Bool, refl, sym, ◌∙◌, ap, ap₂, subst, append_assoc, arith, length-append}
 use Rattle.std.proofs.lemmas.List.{take-append-drop, append-nil, map-append}
-use Rattle.pz_ast.specs.declared.tokens.Pos.{Pos}
-use Rattle.pz_ast.specs.declared.tokens.Token.{Token}
-use Rattle.pz_ast.specs.Heads.{heads}
+use Rattle.pz_syntax.specs.declared.tokens.Pos.{Pos}
+use Rattle.pz_syntax.specs.declared.tokens.Token.{Token}
+use Rattle.pz_syntax.specs.Heads.{heads}
 use Rattle.pz_lexer.specs.declared.pieces.Found.{Found}
 use Rattle.pz_lexer.specs.declared.pieces.Stop.{Stop}
 use Rattle.pz_lexer.specs.declared.error.LexError.{LexError}
 use Rattle.pz_lexer.specs.Pieces.{IsPiece, Piece, joined, ArePieces}
 use Rattle.pz_lexer.specs.Places.{origin, place_after}
 use Rattle.pz_lexer.specs.Tokens.{Placed, kept, placed, marked, AreTokens, error_at, IsRefused}
-use Rattle.pz_lexer.specs.Reading.{StopsAt, IsFound}
-use Rattle.pz_lexer.specs.Marking.{with_head, with_heads, heads_of}
-use Rattle.pz_lexer.specs.Cutting.{unmarked, AreCutInto, Refuses}
+use Rattle.pz_lexer.specs.devices.Reading.{StopsAt, IsFound}
+use Rattle.pz_lexer.specs.devices.Marking.{with_head, with_heads, heads_of}
+use Rattle.pz_lexer.specs.devices.Cutting.{unmarked, AreCutInto, Refuses}
 use Rattle.pz_lexer.proofs.PlaceReads.{place_after-append, place_bound}
 
 joined-append : (ps qs : List Piece) → joined (ps ++ qs) ≡ joined ps ++ joined qs

@@ -1,6 +1,6 @@
 -- A text has one cut: into pieces to its end, or up to the place of its refusal.
 use Rattle.std.proofs.Common.{◌≡◌, ◌⊎◌, inl, inr, ℕ, ◌≤◌, List, [], ◌∷◌, ◌++◌, length, Result, Ok, Err, refl, sym, ◌∙◌, ap, subst, append_assoc, arith, length-append}
-use Rattle.pz_ast.specs.declared.tokens.Token.{Token}
+use Rattle.pz_syntax.specs.declared.tokens.Token.{Token}
 use Rattle.pz_lexer.specs.declared.error.LexError.{LexError}
 use Rattle.pz_lexer.specs.declared.pieces.Sort.{Sort}
 use Rattle.pz_lexer.specs.Pieces.{IsPiece, Piece, joined, ArePieces}
@@ -8,8 +8,8 @@ use Rattle.std.proofs.lemmas.List.{append-nil}
 use Rattle.pz_lexer.specs.declared.pieces.Reason.{Reason}
 use Rattle.pz_lexer.specs.Refusals.{Stops, no_token, no_escape_in_string, no_escape_in_character, comment, string, number}
 use Rattle.pz_lexer.specs.Tokens.{AreTokens, IsRefused, Answers}
-use Rattle.pz_lexer.specs.Step.{Step, piece, stop}
-use Rattle.pz_lexer.specs.Twin.{first_step, Cut, whole, broken, more_cut, cut_by, cut_of, answer_of, lexed}
+use Rattle.pz_lexer.specs.devices.Step.{Step, piece, stop}
+use Rattle.pz_lexer.specs.devices.Twin.{first_step, Cut, whole, broken, more_cut, cut_by, cut_of, answer_of, lexed}
 use Rattle.pz_lexer.proofs.Steps.{HasByte, some_length, IsRight}
 use Rattle.pz_lexer.proofs.FirstStep.{piece_found, stop_found, step_right}
 

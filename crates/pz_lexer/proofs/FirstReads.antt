@@ -6,9 +6,9 @@ use Rattle.pz_lexer.specs.declared.pieces.Found.{Found}
 use Rattle.pz_lexer.specs.declared.pieces.Stop.{Stop}
 use Rattle.pz_lexer.specs.Bytes.{is_blank, is_letter, is_digit}
 use Rattle.pz_lexer.specs.Pieces.{a_blank}
-use Rattle.pz_lexer.specs.Reading.{Reads, IsFound}
-use Rattle.pz_lexer.specs.SymbolStep.{symbol_step}
-use Rattle.pz_lexer.specs.Gives.{Gives}
+use Rattle.pz_lexer.specs.devices.Reading.{Reads, IsFound}
+use Rattle.pz_lexer.specs.devices.SymbolStep.{symbol_step}
+use Rattle.pz_lexer.specs.devices.Gives.{Gives}
 use Rattle.pz_lexer.proofs.Classes.{IsOther, class_other}
 use Rattle.pz_lexer.proofs.SymbolSteps.{begins_symbol, symbol_right}
 use Rattle.pz_lexer.proofs.FirstStep.{no_slash_apart}

@@ -8,9 +8,9 @@ use Rattle.pz_lexer.specs.declared.pieces.Sort.{Sort}
 use Rattle.pz_lexer.specs.Pieces.{IsPiece, a_blank, a_line_comment, a_block_comment, a_word, an_integer, a_float, a_character, a_string, a_symbol}
 use Rattle.pz_lexer.specs.declared.pieces.Reason.{Reason}
 use Rattle.pz_lexer.specs.Refusals.{Stops, no_token, no_escape_in_string, no_escape_in_character, comment, string, number}
-use Rattle.pz_lexer.specs.Step.{piece, stop}
-use Rattle.pz_lexer.specs.CommentStep.{slash_step, slash_by}
-use Rattle.pz_lexer.specs.Twin.{first_step, Class, blanks, letter, digit, double_quote, single_quote, slash, other, class_of, step_by}
+use Rattle.pz_lexer.specs.devices.Step.{piece, stop}
+use Rattle.pz_lexer.specs.devices.CommentStep.{slash_step, slash_by}
+use Rattle.pz_lexer.specs.devices.Twin.{first_step, Class, blanks, letter, digit, double_quote, single_quote, slash, other, class_of, step_by}
 use Rattle.pz_lexer.proofs.Classes.{ClassIs, class_is, class_blank}
 use Rattle.pz_lexer.proofs.Steps.{IsRight}
 use Rattle.pz_lexer.proofs.WordSteps.{word_found, word_right}

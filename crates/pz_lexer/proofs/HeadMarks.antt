@@ -1,11 +1,11 @@
 -- Tokens marked from the last to the first.
 use Rattle.std.proofs.Common.{◌≡◌, ℕ, ◌+◌, ◌≤◌, ◌<◌, List, [], ◌∷◌, length, take, drop, get_or, map, Bool, refl, sym, ◌∙◌, ap, ap₂, subst, arith, set, length-set}
 use Rattle.std.proofs.lemmas.List.{drop_more, take-set, take-take, drop-set, get_or-take}
-use Rattle.pz_ast.specs.declared.tokens.Token.{Token}
-use Rattle.pz_ast.specs.Heads.{Role, role, is_head, role_heads}
+use Rattle.pz_syntax.specs.declared.tokens.Token.{Token}
+use Rattle.pz_syntax.specs.Heads.{Role, role, is_head, role_heads}
 use Rattle.pz_lexer.specs.declared.heads.Role.{Role as Seen}
 use Rattle.pz_lexer.specs.declared.heads.Following.{Following}
-use Rattle.pz_lexer.specs.Marking.{role_of, with_head, with_heads, heads_of, Follows, Judges, TakesIn}
+use Rattle.pz_lexer.specs.devices.Marking.{role_of, with_head, with_heads, heads_of, Follows, Judges, TakesIn}
 
 abbrev pub roles_of : List Token → List Role
 roles_of tokens = map (λ t. role t.mark.kind) tokens

@@ -3,10 +3,10 @@ use Rattle.std.proofs.Common.{◌≡◌, ℕ, zero, suc, List, [], ◌∷◌, �
 use Rattle.std.specs.Prelude.{unwrap_or}
 use Rattle.std.specs.Option.{option_to_list}
 use Rattle.std.proofs.lemmas.List.{same_from_push, append-nil}
-use Rattle.pz_ast.specs.Heads.{Role, name, colon, opening, closing, other, behind_match, goes_on}
+use Rattle.pz_syntax.specs.Heads.{Role, name, colon, opening, closing, other, behind_match, goes_on}
 use Rattle.pz_lexer.specs.declared.heads.Role.{Role as Seen}
 use Rattle.pz_lexer.specs.declared.heads.Following.{Following}
-use Rattle.pz_lexer.specs.Marking.{rest_of, closings, backwards, TakesIn}
+use Rattle.pz_lexer.specs.devices.Marking.{rest_of, closings, backwards, TakesIn}
 
 -- the answer at a place, and no past the end
 at : List Bool → ℕ → Bool

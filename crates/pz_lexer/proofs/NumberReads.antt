@@ -4,17 +4,17 @@ use Rattle.std.specs.List.{list_all, fold}
 use Rattle.std.proofs.lemmas.List.{take-append-drop}
 use Rattle.std.proofs.lemmas.List.Sums.{fold_more, fold-append}
 use Rattle.std.proofs.lemmas.Bool.{and_parts}
-use Rattle.pz_ast.specs.declared.tokens.TokenKind.{TokenKind}
+use Rattle.pz_syntax.specs.declared.tokens.TokenKind.{TokenKind}
 use Rattle.pz_lexer.specs.declared.pieces.Sort.{Sort}
 use Rattle.pz_lexer.specs.declared.pieces.Reason.{Reason}
 use Rattle.pz_lexer.specs.declared.pieces.Found.{Found}
 use Rattle.pz_lexer.specs.declared.pieces.Stop.{Stop}
 use Rattle.pz_lexer.specs.Bytes.{is_digit, begins}
 use Rattle.pz_lexer.specs.Numbers.{value_of, begins_fraction}
-use Rattle.pz_lexer.specs.Step.{front, back}
-use Rattle.pz_lexer.specs.NumberStep.{number_by, float_step, integer_step, digits_by, digits_step, number_step}
-use Rattle.pz_lexer.specs.Gives.{Gives}
-use Rattle.pz_lexer.specs.Reading.{Reads}
+use Rattle.pz_lexer.specs.devices.Step.{front, back}
+use Rattle.pz_lexer.specs.devices.NumberStep.{number_by, float_step, integer_step, digits_by, digits_step, number_step}
+use Rattle.pz_lexer.specs.devices.Gives.{Gives}
+use Rattle.pz_lexer.specs.devices.Reading.{Reads}
 use Rattle.pz_lexer.proofs.NumberSteps.{number_right}
 use Rattle.pz_lexer.proofs.ReadSteps.{reads_from}
 

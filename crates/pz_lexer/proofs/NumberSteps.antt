@@ -3,16 +3,16 @@ use Rattle.std.proofs.Common.{◌≡◌, ◌⊎◌, inl, inr, ℕ, ◌^◌, List
 use Rattle.std.specs.Prelude.{◌||◌, ◌==◌, nat_le, pos}
 use Rattle.std.proofs.lemmas.Bool.{false≢true, or_left, or_right, or_from, or_parts, or_cases, and_parts, leb-true, leb-false, lt-leb, le-leb, eqb-true}
 use Rattle.std.proofs.lemmas.Bool.Decides.{nat_tests}
-use Rattle.pz_ast.specs.declared.tokens.TokenKind.{TokenKind}
+use Rattle.pz_syntax.specs.declared.tokens.TokenKind.{TokenKind}
 use Rattle.pz_lexer.specs.Bytes.{is_digit, is_letter, is_word, begins}
 use Rattle.pz_lexer.specs.Numbers.{AreDigits, value_of, begins_fraction, IsInteger, IsFloat}
 use Rattle.pz_lexer.specs.declared.pieces.Sort.{Sort}
 use Rattle.pz_lexer.specs.Pieces.{an_integer, a_float}
 use Rattle.pz_lexer.specs.declared.pieces.Reason.{Reason}
 use Rattle.pz_lexer.specs.Refusals.{IsBadNumber, too_large, lettered, lettered_float, number}
-use Rattle.pz_lexer.specs.Step.{piece, stop, front, back}
-use Rattle.pz_lexer.specs.NumberStep.{number_by, integer_step, float_step, digits_by, digits_step, number_step}
-use Rattle.pz_lexer.specs.Twin.{first_step, step_by}
+use Rattle.pz_lexer.specs.devices.Step.{piece, stop, front, back}
+use Rattle.pz_lexer.specs.devices.NumberStep.{number_by, integer_step, float_step, digits_by, digits_step, number_step}
+use Rattle.pz_lexer.specs.devices.Twin.{first_step, step_by}
 use Rattle.pz_lexer.proofs.Runs.{front_run, back_run, front_all, back_begins, front-back, front_begins, begins-append}
 use Rattle.pz_lexer.proofs.Classes.{class_digit}
 use Rattle.pz_lexer.proofs.Steps.{IsRight, some_begins}

@@ -1,7 +1,7 @@
 -- Places, byte by byte and piece by piece.
 use Rattle.std.proofs.Common.{◌≡◌, ℕ, ◌+◌, ◌≤◌, List, [], ◌∷◌, ◌++◌, length, Bool, true, false, refl, arith}
 use Rattle.std.specs.Prelude.{◌==◌}
-use Rattle.pz_ast.specs.declared.tokens.Pos.{Pos}
+use Rattle.pz_syntax.specs.declared.tokens.Pos.{Pos}
 use Rattle.pz_lexer.specs.Places.{after_byte, place_after}
 
 pub place_after-append : (pos : Pos) (a b : List ℕ) → place_after pos (a ++ b) ≡ place_after (place_after pos a) b

@@ -2,7 +2,7 @@
 use Rattle.std.proofs.Common.{◌≡◌, ◌⊎◌, ⊎_elim, ℕ, ◌+◌, ◌≤◌, ◌<◌, List, [], ◌∷◌, ◌++◌, length, take, drop, true, false, Result, Ok, Err, refl, sym, ◌∙◌, ap, subst, append_assoc, arith, length-append, length-drop}
 use Rattle.std.specs.Prelude.{◌==◌}
 use Rattle.std.proofs.lemmas.List.{take_at, drop_at, length-take-le, drop-drop, append-nil, take-append-drop}
-use Rattle.pz_ast.specs.declared.tokens.TokenKind.{TokenKind}
+use Rattle.pz_syntax.specs.declared.tokens.TokenKind.{TokenKind}
 use Rattle.pz_lexer.specs.declared.items.Inside.{Inside as Seen}
 use Rattle.pz_lexer.specs.declared.pieces.Sort.{Sort}
 use Rattle.pz_lexer.specs.declared.pieces.Reason.{Reason}
@@ -12,9 +12,9 @@ use Rattle.pz_lexer.specs.Bytes.{begins}
 use Rattle.pz_lexer.specs.Quoted.{IsItem, AreItems, none, more}
 use Rattle.pz_lexer.specs.Pieces.{a_string}
 use Rattle.pz_lexer.specs.Refusals.{NoItem, IsOpenString, cut_string, no_escape_in_string, string}
-use Rattle.pz_lexer.specs.Reading.{Reads, IsFound, StopsAt}
-use Rattle.pz_lexer.specs.QuotedStep.{Inside, item, no_escape, closing, cut_off, inside_at, character_by, character_end, character_step}
-use Rattle.pz_lexer.specs.Gives.{Gives, Sees}
+use Rattle.pz_lexer.specs.devices.Reading.{Reads, IsFound, StopsAt}
+use Rattle.pz_lexer.specs.devices.QuotedStep.{Inside, item, no_escape, closing, cut_off, inside_at, character_by, character_end, character_step}
+use Rattle.pz_lexer.specs.devices.Gives.{Gives, Sees}
 use Rattle.pz_lexer.proofs.FirstStep.{second_is}
 use Rattle.pz_lexer.proofs.QuotedSteps.{InsideIs, inside_is, item_some, character_right}
 use Rattle.pz_lexer.proofs.ReadSteps.{reads_from, found_from, stop_from}

@@ -2,7 +2,7 @@
 use Rattle.std.proofs.Common.{◌≡◌, ℕ, ◌+◌, ◌*◌, ◌≤◌, ◌<◌, List, [], ◌∷◌, ◌++◌, length, Bool, true, false, Option, Some, None, refl, sym, ◌∙◌, ap, ap₂, subst, append_assoc, arith, length-append}
 use Rattle.std.specs.Prelude.{◌==◌, not, drop}
 use Rattle.std.proofs.lemmas.Bool.{false≢true, and_parts, and_from, not-true, not_from_false, eqb-true, cond_both, not_from_true}
-use Rattle.pz_ast.specs.declared.tokens.TokenKind.{TokenKind}
+use Rattle.pz_syntax.specs.declared.tokens.TokenKind.{TokenKind}
 use Rattle.pz_lexer.specs.Bytes.{begins}
 use Rattle.pz_lexer.specs.Comments.{is_in_line}
 use Rattle.pz_lexer.specs.Quoted.{is_plain, escaped, hex_value, IsItem, plain, escape, hex, AreItems, none, more, IsString, IsCharacter}
@@ -10,9 +10,9 @@ use Rattle.pz_lexer.specs.declared.pieces.Sort.{Sort}
 use Rattle.pz_lexer.specs.Pieces.{a_string, a_character}
 use Rattle.pz_lexer.specs.declared.pieces.Reason.{Reason}
 use Rattle.pz_lexer.specs.Refusals.{NoItem, IsOpenString, cut_string, cut_character, no_item, not_closed, no_escape_in_string, no_escape_in_character, string}
-use Rattle.pz_lexer.specs.Step.{piece, stop}
-use Rattle.pz_lexer.specs.QuotedStep.{Inside, item, no_escape, closing, cut_off, hex_by, hex_at, escape_by, escape_at, inside_at, Items, items, more_items, items_by, items_at, string_end, string_by, string_step, character_end, character_by, character_step}
-use Rattle.pz_lexer.specs.Twin.{first_step}
+use Rattle.pz_lexer.specs.devices.Step.{piece, stop}
+use Rattle.pz_lexer.specs.devices.QuotedStep.{Inside, item, no_escape, closing, cut_off, hex_by, hex_at, escape_by, escape_at, inside_at, Items, items, more_items, items_by, items_at, string_end, string_by, string_step, character_end, character_by, character_step}
+use Rattle.pz_lexer.specs.devices.Twin.{first_step}
 use Rattle.pz_lexer.proofs.Steps.{IsRight}
 
 -- The relation gives the item that is found.

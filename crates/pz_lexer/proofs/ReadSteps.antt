@@ -7,9 +7,9 @@ use Rattle.pz_lexer.specs.declared.pieces.Found.{Found}
 use Rattle.pz_lexer.specs.declared.pieces.Stop.{Stop}
 use Rattle.pz_lexer.specs.Pieces.{IsPiece}
 use Rattle.pz_lexer.specs.Refusals.{Stops}
-use Rattle.pz_lexer.specs.Reading.{StopsAt, IsFound, Reads}
-use Rattle.pz_lexer.specs.Step.{Step, piece, stop}
-use Rattle.pz_lexer.specs.Gives.{Gives}
+use Rattle.pz_lexer.specs.devices.Reading.{StopsAt, IsFound, Reads}
+use Rattle.pz_lexer.specs.devices.Step.{Step, piece, stop}
+use Rattle.pz_lexer.specs.devices.Gives.{Gives}
 use Rattle.pz_lexer.proofs.Steps.{some_length, IsRight}
 
 pub found_from : (all text rest : List ℕ) (sort : Sort) (found : Found) → IsRight all (piece text sort rest) → found.len ≡ length text → found.sort ≡ sort → IsFound all found

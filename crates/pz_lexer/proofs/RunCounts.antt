@@ -9,7 +9,7 @@ use Rattle.std.proofs.lemmas.Bool.{and_parts, cond-true, cond-false}
 use Rattle.std.proofs.lemmas.Bool.Decides.{nat_tests}
 use Rattle.pz_lexer.specs.Bytes.{is_word}
 use Rattle.std.proofs.Math.Numerals.{one-add}
-use Rattle.pz_lexer.specs.Step.{front, back}
+use Rattle.pz_lexer.specs.devices.Step.{front, back}
 use Rattle.pz_lexer.proofs.Runs.{front-in, front-out, back-in, back-out}
 
 module _ (sort : ℕ → Bool) where

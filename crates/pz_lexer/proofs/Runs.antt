@@ -3,7 +3,7 @@ use Rattle.std.proofs.Common.{◌≡◌, ℕ, List, [], ◌∷◌, ◌++◌, Boo
 use Rattle.std.specs.List.{list_all}
 use Rattle.std.proofs.lemmas.Bool.{and_parts, and_from, false≢true}
 use Rattle.pz_lexer.specs.Bytes.{begins}
-use Rattle.pz_lexer.specs.Step.{front, back}
+use Rattle.pz_lexer.specs.devices.Step.{front, back}
 
 module _ (sort : ℕ → Bool) where
   pub front-in : (b : ℕ) (bs : List ℕ) → sort b ≡ true → front sort (b ∷ bs) ≡ b ∷ front sort bs

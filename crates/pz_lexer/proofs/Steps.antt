@@ -3,7 +3,7 @@ use Rattle.std.proofs.Common.{◌<◌, length, arith, ◌≡◌, ℕ, List, [], 
 use Rattle.pz_lexer.specs.Bytes.{begins}
 use Rattle.pz_lexer.specs.Pieces.{IsPiece}
 use Rattle.pz_lexer.specs.Refusals.{Stops}
-use Rattle.pz_lexer.specs.Step.{Step, piece, stop}
+use Rattle.pz_lexer.specs.devices.Step.{Step, piece, stop}
 
 -- there is a first byte
 abbrev pub HasByte : List ℕ → Type 0

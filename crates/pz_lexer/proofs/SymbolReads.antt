@@ -4,13 +4,13 @@ use Rattle.std.specs.Prelude.{option_map, min}
 use Rattle.std.specs.Option.{ok_or}
 use Rattle.pz_lexer.specs.declared.pieces.Reason.{Reason}
 use Rattle.std.proofs.lemmas.List.{take_min, length-take}
-use Rattle.pz_ast.specs.declared.tokens.Symbol.{Symbol}
+use Rattle.pz_syntax.specs.declared.tokens.Symbol.{Symbol}
 use Rattle.pz_lexer.specs.declared.pieces.Found.{Found}
 use Rattle.pz_lexer.specs.declared.pieces.Stop.{Stop}
 use Rattle.pz_lexer.specs.Spellings.{spelled}
-use Rattle.pz_lexer.specs.Step.{Step, stop}
-use Rattle.pz_lexer.specs.SymbolStep.{symbol_by}
-use Rattle.pz_lexer.specs.Gives.{Gives, found_symbol}
+use Rattle.pz_lexer.specs.devices.Step.{Step, stop}
+use Rattle.pz_lexer.specs.devices.SymbolStep.{symbol_by}
+use Rattle.pz_lexer.specs.devices.Gives.{Gives, found_symbol}
 
 -- what a table says of the first so many bytes, or of fewer where the text is shorter
 module _ (table : List (List ℕ × Symbol)) (text : List ℕ) (most len : ℕ) (spelling : List ℕ) where

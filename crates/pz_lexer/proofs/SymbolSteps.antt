@@ -5,8 +5,8 @@ use Rattle.std.specs.List.{list_all}
 use Rattle.std.proofs.lemmas.Bool.{false≢true, and_parts, or_parts, or_from, eqb-true, cases_lt, leb-true}
 use Rattle.std.proofs.lemmas.Slice.Eq.{bytes_eq-Decides}
 use Rattle.std.proofs.lemmas.List.{take_at, drop_at, take_all, drop_all, append-nil, nil_from_length, take-append-drop}
-use Rattle.pz_ast.specs.declared.tokens.TokenKind.{TokenKind}
-use Rattle.pz_ast.specs.declared.tokens.Symbol.{Symbol}
+use Rattle.pz_syntax.specs.declared.tokens.TokenKind.{TokenKind}
+use Rattle.pz_syntax.specs.declared.tokens.Symbol.{Symbol}
 use Rattle.pz_lexer.specs.Bytes.{begins, is_blank, is_word, is_letter, is_digit}
 use Rattle.pz_lexer.specs.Spellings.{spelled}
 use Rattle.pz_lexer.specs.Comments.{begins_comment}
@@ -15,10 +15,10 @@ use Rattle.pz_lexer.specs.declared.pieces.Sort.{Sort}
 use Rattle.pz_lexer.specs.Pieces.{a_symbol}
 use Rattle.pz_lexer.specs.declared.pieces.Reason.{Reason}
 use Rattle.pz_lexer.specs.Refusals.{begins_piece, no_token}
-use Rattle.pz_lexer.specs.Step.{Step, piece, stop}
-use Rattle.pz_lexer.specs.SymbolStep.{symbol_by, symbol_at, symbol_step}
-use Rattle.pz_lexer.specs.CommentStep.{slash_step, slash_by}
-use Rattle.pz_lexer.specs.Twin.{first_step, Class, blanks, letter, digit, double_quote, single_quote, slash, other, class_of, step_by}
+use Rattle.pz_lexer.specs.devices.Step.{Step, piece, stop}
+use Rattle.pz_lexer.specs.devices.SymbolStep.{symbol_by, symbol_at, symbol_step}
+use Rattle.pz_lexer.specs.devices.CommentStep.{slash_step, slash_by}
+use Rattle.pz_lexer.specs.devices.Twin.{first_step, Class, blanks, letter, digit, double_quote, single_quote, slash, other, class_of, step_by}
 use Rattle.pz_lexer.proofs.Classes.{ClassIs, IsOther, class_is, class_other}
 use Rattle.pz_lexer.proofs.Steps.{HasByte, IsRight}
 

@@ -5,8 +5,8 @@ use Rattle.pz_lexer.specs.Bytes.{is_letter, is_word, begins}
 use Rattle.pz_lexer.specs.Words.{IsWord, word_kind}
 use Rattle.pz_lexer.specs.declared.pieces.Sort.{Sort}
 use Rattle.pz_lexer.specs.Pieces.{a_word}
-use Rattle.pz_lexer.specs.Step.{piece}
-use Rattle.pz_lexer.specs.Twin.{first_step, word_step, step_by}
+use Rattle.pz_lexer.specs.devices.Step.{piece}
+use Rattle.pz_lexer.specs.devices.Twin.{first_step, word_step, step_by}
 use Rattle.pz_lexer.proofs.Runs.{front_run, back_run, front_all, back_begins, front-back, front_begins}
 use Rattle.pz_lexer.proofs.Classes.{class_letter}
 use Rattle.pz_lexer.proofs.Steps.{IsRight, some_begins}

@@ -8,14 +8,5 @@ pub mod Quoted
 pub mod Pieces
 pub mod Refusals
 pub mod Places
-pub mod Reading
 pub mod Tokens
-pub mod Cutting
-pub mod Marking
-pub mod Step
-pub mod NumberStep
-pub mod QuotedStep
-pub mod SymbolStep
-pub mod CommentStep
-pub mod Twin
-pub mod Gives
+pub mod devices

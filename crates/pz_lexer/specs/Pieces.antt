@@ -1,7 +1,7 @@
 -- The pieces that a text is cut into.
 use Rattle.std.specs.Prelude.{◌≡◌, ℕ, List, [], ◌∷◌, ◌++◌, true, pos}
-use Rattle.pz_ast.specs.declared.tokens.Symbol.{Symbol}
-use Rattle.pz_ast.specs.declared.tokens.TokenKind.{TokenKind}
+use Rattle.pz_syntax.specs.declared.tokens.Symbol.{Symbol}
+use Rattle.pz_syntax.specs.declared.tokens.TokenKind.{TokenKind}
 use Rattle.pz_lexer.specs.declared.pieces.Sort.{Sort}
 use Rattle.pz_lexer.specs.Bytes.{is_blank}
 use Rattle.pz_lexer.specs.Words.{IsWord, word_kind}

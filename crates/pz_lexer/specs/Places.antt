@@ -1,6 +1,6 @@
 -- Lines and columns.
 use Rattle.std.specs.Prelude.{ℕ, ◌+◌, List, [], ◌∷◌, ◌==◌, if◌then◌else◌}
-use Rattle.pz_ast.specs.declared.tokens.Pos.{Pos}
+use Rattle.pz_syntax.specs.declared.tokens.Pos.{Pos}
 
 -- the place of the first byte
 abbrev pub origin : Pos

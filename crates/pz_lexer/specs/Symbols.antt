@@ -1,6 +1,6 @@
 -- Symbols, by longest match.
 use Rattle.std.specs.Prelude.{◌≡◌, ℕ, ◌≤◌, List, [], ◌∷◌, ◌++◌, length, false, Some, IsSome, codes}
-use Rattle.pz_ast.specs.declared.tokens.Symbol.{Symbol}
+use Rattle.pz_syntax.specs.declared.tokens.Symbol.{Symbol}
 use Rattle.pz_lexer.specs.Spellings.{spelled}
 use Rattle.pz_lexer.specs.Comments.{begins_comment}
 

@@ -1,9 +1,9 @@
 -- The tokens of a text, and its refusal.
 use Rattle.std.specs.Prelude.{◌≡◌, ℕ, List, [], ◌∷◌, ◌++◌, map, Bool, Result, Ok, Err}
-use Rattle.pz_ast.specs.declared.tokens.Pos.{Pos}
-use Rattle.pz_ast.specs.declared.tokens.Token.{Token}
-use Rattle.pz_ast.specs.declared.tokens.TokenKind.{TokenKind}
-use Rattle.pz_ast.specs.Heads.{heads}
+use Rattle.pz_syntax.specs.declared.tokens.Pos.{Pos}
+use Rattle.pz_syntax.specs.declared.tokens.Token.{Token}
+use Rattle.pz_syntax.specs.declared.tokens.TokenKind.{TokenKind}
+use Rattle.pz_syntax.specs.Heads.{heads}
 use Rattle.pz_lexer.specs.declared.pieces.Sort.{Sort}
 use Rattle.pz_lexer.specs.Pieces.{Piece, joined, ArePieces}
 use Rattle.pz_lexer.specs.declared.pieces.Reason.{Reason}

@@ -1,8 +1,8 @@
 -- Identifiers and reserved words.
 use Rattle.std.specs.Prelude.{◌≡◌, ℕ, List, [], ◌∷◌, true, false, codes, unwrap_or, option_map}
 use Rattle.std.specs.List.{list_all}
-use Rattle.pz_ast.specs.declared.tokens.Keyword.{Keyword}
-use Rattle.pz_ast.specs.declared.tokens.TokenKind.{TokenKind}
+use Rattle.pz_syntax.specs.declared.tokens.Keyword.{Keyword}
+use Rattle.pz_syntax.specs.declared.tokens.TokenKind.{TokenKind}
 use Rattle.pz_lexer.specs.Bytes.{is_letter, is_word, begins}
 use Rattle.pz_lexer.specs.Spellings.{spelled}
 

@@ -1,7 +1,7 @@
 ghost use Rattle.std.specs.Prelude.{◌≡◌, ◌==◌, ◌<◌, ◌+◌, true, ℕ, List, ◌∷◌, length, drop};
 ghost use Rattle.pz_lexer.specs.Bytes.{begins};
 ghost use Rattle.pz_lexer.specs.Comments.{begins_pair};
-ghost use Rattle.pz_lexer.specs.Reading.{Reads};
+ghost use Rattle.pz_lexer.specs.devices.Reading.{Reads};
 
 use crate::bytes::{begins_byte, line_len};
 use crate::pieces::{Found, Reason, Sort, Stop};

@@ -1,4 +1,4 @@
-use pz_ast::Pos;
+use pz_syntax::Pos;
 use std::alloc::{AllocError, AllocFailed};
 
 /// Why a text has no tokens, and where.

@@ -1,8 +1,8 @@
 ghost use Rattle.std.specs.Prelude.{◌≡◌, OnOk, []};
-ghost use Rattle.pz_ast.specs.Heads.{role};
-ghost use Rattle.pz_lexer.specs.Marking.{role_of, Follows, Judges, TakesIn, with_heads, heads_of};
+ghost use Rattle.pz_syntax.specs.Heads.{role};
+ghost use Rattle.pz_lexer.specs.devices.Marking.{role_of, Follows, Judges, TakesIn, with_heads, heads_of};
 
-use pz_ast::{Keyword, Symbol, Token, TokenKind};
+use pz_syntax::{Keyword, Symbol, Token, TokenKind};
 use std::alloc::{AllocError, Global};
 
 /// What a token is to the rule for heads.

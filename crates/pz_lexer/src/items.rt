@@ -1,7 +1,7 @@
 ghost use Rattle.std.specs.Prelude.{◌≡◌, ◌<◌, IfSome};
 ghost use Rattle.pz_lexer.specs.Quoted.{escaped, hex_value};
-ghost use Rattle.pz_lexer.specs.QuotedStep.{hex_at, escape_at, inside_at};
-ghost use Rattle.pz_lexer.specs.Gives.{Sees};
+ghost use Rattle.pz_lexer.specs.devices.QuotedStep.{hex_at, escape_at, inside_at};
+ghost use Rattle.pz_lexer.specs.devices.Gives.{Sees};
 
 /// What stands in quotes at some place.
 #[derive(Clone, Copy, Debug, PartialEq, Eq)]

@@ -1,18 +1,18 @@
 ghost use Rattle.std.specs.Prelude.{◌≡◌, ◌⊎◌, ◌<◌, ◌-◌, ◌+◌, ◌^◌, ◌++◌, ◌↔◌, ℕ, List, length, map, IfOk, OnOk, IfErr, Ok, Err};
-ghost use Rattle.pz_ast.specs.declared.tokens.Token.{Token};
+ghost use Rattle.pz_syntax.specs.declared.tokens.Token.{Token};
 ghost use Rattle.pz_lexer.specs.declared.error.LexError.{LexError};
-ghost use Rattle.pz_lexer.specs.Reading.{StopsAt};
+ghost use Rattle.pz_lexer.specs.devices.Reading.{StopsAt};
 ghost use Rattle.pz_lexer.specs.Tokens.{kept, error_at, AreTokens, IsRefused, Answers};
-ghost use Rattle.pz_lexer.specs.Twin.{lexed};
-ghost use Rattle.pz_lexer.specs.Cutting.{unmarked, AreCutInto, Refuses};
+ghost use Rattle.pz_lexer.specs.devices.Twin.{lexed};
+ghost use Rattle.pz_lexer.specs.devices.Cutting.{unmarked, AreCutInto, Refuses};
 
 use crate::LexError;
 use crate::heads::mark_heads;
 use crate::pieces::{Reason, Sort, Stop};
 use crate::places::{ORIGIN, place_after};
 use crate::read::first_piece;
-use pz_ast::{Mark, Pos, Token};
 use pz_items::Items;
+use pz_syntax::{Mark, Pos, Token};
 use std::alloc::{AllocError, Global};
 
 /// The tokens of a text, each with its place, and with a mark if it is a head. `NoMemory` is the one

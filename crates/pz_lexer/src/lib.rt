@@ -19,6 +19,3 @@ mod words;
 pub use error::LexError;
 pub use lexer::{lex, one_answer};
 pub use places::end_of;
-
-#[cfg(test)]
-mod tests;

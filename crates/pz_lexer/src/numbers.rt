@@ -2,13 +2,13 @@ ghost use Rattle.std.specs.Prelude.{◌≡◌, ◌<◌, ◌↔◌, ◌^◌, IfSo
 ghost use Rattle.std.specs.List.{list_all};
 ghost use Rattle.pz_lexer.specs.Bytes.{is_digit, begins};
 ghost use Rattle.pz_lexer.specs.Numbers.{value_of, begins_fraction};
-ghost use Rattle.pz_lexer.specs.Reading.{Reads};
-ghost use Rattle.pz_lexer.specs.NumberStep.{integer_step, float_step};
-ghost use Rattle.pz_lexer.specs.Gives.{Gives};
+ghost use Rattle.pz_lexer.specs.devices.Reading.{Reads};
+ghost use Rattle.pz_lexer.specs.devices.NumberStep.{integer_step, float_step};
+ghost use Rattle.pz_lexer.specs.devices.Gives.{Gives};
 
 use crate::bytes::{begins_digit, begins_letter, digits_len};
 use crate::pieces::{Found, Reason, Sort, Stop};
-use pz_ast::TokenKind;
+use pz_syntax::TokenKind;
 
 /// The number that a digit begins.
 pub fn number(text: &[u8]) -> Result<Found, Stop>

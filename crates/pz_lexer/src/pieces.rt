@@ -1,4 +1,4 @@
-use pz_ast::TokenKind;
+use pz_syntax::TokenKind;
 use std::alloc::{AllocError, AllocFailed};
 
 /// What a piece of a text is. Only tokens are kept.

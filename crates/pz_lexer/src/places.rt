@@ -1,7 +1,7 @@
 ghost use Rattle.std.specs.Prelude.{◌≡◌, ◌+◌, ◌-◌, ◌<◌, ◌^◌, length};
 ghost use Rattle.pz_lexer.specs.Places.{origin, place_after};
 
-use pz_ast::Pos;
+use pz_syntax::Pos;
 
 /// The place of the first byte.
 pub const ORIGIN: Pos = Pos { line: 1, column: 1 };

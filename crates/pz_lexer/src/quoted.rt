@@ -1,11 +1,11 @@
 ghost use Rattle.std.specs.Prelude.{◌≡◌, ◌==◌, true};
 ghost use Rattle.pz_lexer.specs.Bytes.{begins};
-ghost use Rattle.pz_lexer.specs.Reading.{Reads};
+ghost use Rattle.pz_lexer.specs.devices.Reading.{Reads};
 
 use crate::bytes::begins_byte;
 use crate::items::{Inside, inside_at};
 use crate::pieces::{Found, Reason, Sort, Stop};
-use pz_ast::{Text, TokenKind};
+use pz_syntax::{Text, TokenKind};
 use std::alloc::Global;
 
 /// The string that a `"` begins.

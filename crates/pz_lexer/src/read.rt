@@ -1,5 +1,5 @@
 ghost use Rattle.std.specs.Prelude.{◌<◌, length};
-ghost use Rattle.pz_lexer.specs.Reading.{Reads};
+ghost use Rattle.pz_lexer.specs.devices.Reading.{Reads};
 
 use crate::pieces::{Found, Sort, Stop};
 use crate::{bytes, comments, numbers, quoted, symbols, words};

@@ -1,12 +1,12 @@
 ghost use Rattle.std.specs.Prelude.{◌≡◌, length, take, option_map};
 ghost use Rattle.pz_lexer.specs.Spellings.{spelled};
 ghost use Rattle.pz_lexer.specs.Symbols.{symbols};
-ghost use Rattle.pz_lexer.specs.SymbolStep.{symbol_step};
-ghost use Rattle.pz_lexer.specs.Gives.{Gives, found_symbol};
+ghost use Rattle.pz_lexer.specs.devices.SymbolStep.{symbol_step};
+ghost use Rattle.pz_lexer.specs.devices.Gives.{Gives, found_symbol};
 
 use crate::pieces::{Found, Reason, Sort, Stop};
 use crate::spellings::find;
-use pz_ast::{Symbol, TokenKind};
+use pz_syntax::{Symbol, TokenKind};
 
 static SYMBOLS: [(&str, Symbol); 27] = [
     ("(", Symbol::LeftParen),

@@ -3,12 +3,12 @@ ghost use Rattle.std.specs.List.{list_all};
 ghost use Rattle.pz_lexer.specs.Bytes.{is_letter, is_word, begins};
 ghost use Rattle.pz_lexer.specs.Spellings.{spelled};
 ghost use Rattle.pz_lexer.specs.Words.{keywords, word_kind};
-ghost use Rattle.pz_lexer.specs.Reading.{Reads};
+ghost use Rattle.pz_lexer.specs.devices.Reading.{Reads};
 
 use crate::bytes::word_len;
 use crate::pieces::{Found, Sort, Stop};
 use crate::spellings::find;
-use pz_ast::{Keyword, Name, TokenKind};
+use pz_syntax::{Keyword, Name, TokenKind};
 use std::alloc::{AllocError, Global};
 
 /// The word that a letter begins.

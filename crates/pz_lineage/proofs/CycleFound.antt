@@ -1,7 +1,7 @@
 -- What a cycle that was found adds.
 use Rattle.std.proofs.Common.{◌≡◌, ℕ, ◌↔◌, Bool, List, Option, Some, ◌⊎◌, inl, inr}
 use Rattle.pz_lineage.specs.Reached.{Reaches, GoesRound}
-use Rattle.pz_lineage.specs.Walks.{IsWalked, Finds, IsMarked, AreFound}
+use Rattle.pz_lineage.specs.devices.Walks.{IsWalked, Finds, IsMarked, AreFound}
 use Rattle.pz_lineage.proofs.CycleWays.{one_more, round_on}
 
 module _ (up : ℕ → Option ℕ) (old new : List ℕ) (before : List Bool) (found : AreFound up old before) where

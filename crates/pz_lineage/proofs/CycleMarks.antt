@@ -2,7 +2,7 @@
 use Rattle.std.proofs.Common.{◌≡◌, refl, sym, subst, ◌∙◌, ℕ, ◌<◌, ◌≢◌, ◌↔◌, Bool, true, false, List, length, Option, Some, None, get_or, set, ◌⊎◌, inl, inr, get_or-set_same, get_or-set_other}
 use Rattle.std.proofs.lemmas.Bool.{cases_eq}
 use Rattle.pz_lineage.specs.Reached.{Reaches, itself}
-use Rattle.pz_lineage.specs.Walks.{IsMarked, AreMarkedUp}
+use Rattle.pz_lineage.specs.devices.Walks.{IsMarked, AreMarkedUp}
 use Rattle.pz_lineage.proofs.CycleWays.{one_more, kept_on}
 
 -- the marking of ancestors as it comes to the class at

@@ -2,7 +2,7 @@
 use Rattle.std.proofs.Common.{◌≡◌, sym, subst, ◌∙◌, ℕ, ◌+◌, ◌<◌, ◌≢◌, List, length, Option, Some, None, get_or, set, arith, ◌⊎◌, inl, inr, get_or-set_same, get_or-set_other}
 use Rattle.std.proofs.lemmas.Bool.{cases_eq}
 use Rattle.pz_lineage.specs.Reached.{Reaches, itself, further, GoesRound, round}
-use Rattle.pz_lineage.specs.Walks.{IsWalked, AreWalked, Finds}
+use Rattle.pz_lineage.specs.devices.Walks.{IsWalked, AreWalked, Finds}
 use Rattle.pz_lineage.proofs.CycleWays.{one_more, back, round_on, not_at_root, kept_on}
 
 -- the number of a class is the one that it had, or the class is new and has that of this walk

@@ -8,7 +8,7 @@ use Rattle.std.proofs.lemmas.Option.{slice_get-get_or}
 use Rattle.pz_lineage.specs.declared.visit.Visit.{Visit}
 use Rattle.pz_lineage.specs.Parents.{AreWithin}
 use Rattle.pz_lineage.specs.Preorder.{visited}
-use Rattle.pz_lineage.specs.Rows.{one_if, times, among_roots, at_depth}
+use Rattle.pz_lineage.specs.devices.Rows.{one_if, times, among_roots, at_depth}
 use Rattle.pz_lineage.proofs.RowCounts.{times_push}
 
 -- a row has each class from n on as often as it is wanted there, and no others

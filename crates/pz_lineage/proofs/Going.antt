@@ -12,7 +12,7 @@ use Rattle.pz_lineage.specs.declared.visit.Visit.{Visit}
 use Rattle.pz_lineage.specs.Parents.{parent_in, AreWithin}
 use Rattle.pz_lineage.specs.Reached.{GoesRound}
 use Rattle.pz_lineage.specs.Preorder.{outermost, Visits, visited, IsPreorder}
-use Rattle.pz_lineage.specs.Rows.{one_if, times, as_root, as_child, among_roots, among_children, at_depth}
+use Rattle.pz_lineage.specs.devices.Rows.{one_if, times, as_root, as_child, among_roots, among_children, at_depth}
 use Rattle.pz_lineage.proofs.RowCounts.{one_if_same, times_append, times_push, times_from_any, any_from_times, distinct}
 use Rattle.pz_lineage.proofs.Filling.{visited_push}
 use Rattle.pz_lineage.proofs.Ascending.{everywhere}

@@ -6,7 +6,7 @@ use Rattle.std.proofs.lemmas.Bool.{eqb-true}
 use Rattle.std.proofs.lemmas.Bool.Decides.{nat_tests}
 use Rattle.std.proofs.lemmas.List.{length-map, map-set, get_or-set_same, get_or-set_other}
 use Rattle.std.proofs.lemmas.Map.Keys.{IsDistinct-cons}
-use Rattle.pz_lineage.specs.Rows.{one_if, times, row}
+use Rattle.pz_lineage.specs.devices.Rows.{one_if, times, row}
 
 pub same_number : (n : ℕ) → eqb n n ≡ true
 same_number n = grind (arith, nat_tests)

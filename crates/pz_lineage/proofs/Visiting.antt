@@ -3,7 +3,7 @@ use Rattle.std.proofs.Common.{◌≡◌, refl, sym, subst, ℕ, suc, ◌<◌, �
 use Rattle.std.proofs.lemmas.List.{append-nil, append_assoc, length-drop, reverse-append}
 use Rattle.pz_lineage.specs.declared.visit.Visit.{Visit}
 use Rattle.pz_lineage.specs.Preorder.{innermost, outermost, Visits}
-use Rattle.pz_lineage.specs.Rows.{one_if, times, at_depth}
+use Rattle.pz_lineage.specs.devices.Rows.{one_if, times, at_depth}
 use Rattle.pz_lineage.proofs.RowCounts.{one_if_same}
 
 -- the classes that these visits leave open

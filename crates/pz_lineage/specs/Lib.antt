@@ -1,5 +1,4 @@
 pub mod Parents
 pub mod Reached
 pub mod Preorder
-pub mod Walks
-pub mod Rows
+pub mod devices

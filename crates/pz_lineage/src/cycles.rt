@@ -6,7 +6,7 @@
 ghost use Rattle.std.specs.Prelude.{◌≡◌, ◌↔◌, ◌⊎◌, ◌<◌, ◌+◌, ℕ, Some, true, length, slice_get, IfOk};
 ghost use Rattle.pz_lineage.specs.Parents.{parent_in, AreWithin};
 ghost use Rattle.pz_lineage.specs.Reached.{Reaches, GoesRound};
-ghost use Rattle.pz_lineage.specs.Walks.{AreWalked, AreFound, AreMarkedUp, IsMarked, Finds};
+ghost use Rattle.pz_lineage.specs.devices.Walks.{AreWalked, AreFound, AreMarkedUp, IsMarked, Finds};
 
 use std::alloc::{AllocError, Global};
 

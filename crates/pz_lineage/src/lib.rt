@@ -9,8 +9,3 @@ mod walk;
 pub use cycles::go_round;
 pub use visit::Visit;
 pub use walk::preorder;
-
-#[cfg(test)]
-mod cycles_tests;
-#[cfg(test)]
-mod walk_tests;

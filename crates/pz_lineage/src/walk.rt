@@ -4,7 +4,7 @@ ghost use Rattle.std.specs.Prelude.{◌≡◌, ◌<◌, ◌+◌, ◌==◌, ◌^�
 ghost use Rattle.pz_lineage.specs.Parents.{parent_in, AreWithin};
 ghost use Rattle.pz_lineage.specs.Reached.{GoesRound};
 ghost use Rattle.pz_lineage.specs.Preorder.{IsPreorder, visited};
-ghost use Rattle.pz_lineage.specs.Rows.{times, row, one_if, is_child_of, as_root, as_child, at_depth};
+ghost use Rattle.pz_lineage.specs.devices.Rows.{times, row, one_if, is_child_of, as_root, as_child, at_depth};
 
 use crate::Visit;
 use std::alloc::{AllocError, Global};

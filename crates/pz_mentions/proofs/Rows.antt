@@ -1,14 +1,14 @@
 -- Small declarations and what they mention.
 use Rattle.std.proofs.Common.{◌≡◌, refl, [], ◌∷◌, Some, None, true, codes, pos}
-use Rattle.pz_ast.specs.declared.tokens.Pos.{Pos}
-use Rattle.pz_ast.specs.declared.tokens.Symbol.TheVariants as s
-use Rattle.pz_ast.specs.declared.names.Id.{Id}
-use Rattle.pz_ast.specs.declared.exprs.Literal.TheVariants as lit
-use Rattle.pz_ast.specs.declared.classes.VarGroup.{VarGroup}
-use Rattle.pz_ast.specs.declared.clusters.Arg.TheVariants as arg
-use Rattle.pz_ast.specs.Expressions.{literal, variable, me, clock, creation, chain, sends, none, more, left_out, written, no_links, link, no_sendings, sending}
-use Rattle.pz_ast.specs.Statements.{send, receive, call, no_statements, then}
-use Rattle.pz_ast.specs.Classes.{process_class, system}
+use Rattle.pz_syntax.specs.declared.tokens.Pos.{Pos}
+use Rattle.pz_syntax.specs.declared.tokens.Symbol.TheVariants as s
+use Rattle.pz_syntax.specs.declared.names.Id.{Id}
+use Rattle.pz_syntax.specs.declared.exprs.Literal.TheVariants as lit
+use Rattle.pz_syntax.specs.declared.classes.VarGroup.{VarGroup}
+use Rattle.pz_syntax.specs.declared.clusters.Arg.TheVariants as arg
+use Rattle.pz_syntax.specs.Expressions.{literal, variable, me, clock, creation, chain, sends, none, more, left_out, written, no_links, link, no_sendings, sending}
+use Rattle.pz_syntax.specs.Statements.{send, receive, call, no_statements, then}
+use Rattle.pz_syntax.specs.Classes.{process_class, system}
 use Rattle.pz_mentions.specs.declared.mention.Mention.TheVariants as m
 use Rattle.pz_mentions.specs.Declarations.{parts}
 

@@ -3,16 +3,16 @@
 use Rattle.std.specs.Prelude.{List, [], ◌∷◌, ◌++◌, map, Option, Some, None}
 use Rattle.std.specs.Option.{unwrap_or}
 use Rattle.std.specs.List.{flat_map}
-use Rattle.pz_ast.specs.declared.names.Id.{Id}
-use Rattle.pz_ast.specs.declared.classes.VarGroup.{VarGroup}
-use Rattle.pz_ast.specs.declared.classes.Message.{Message}
-use Rattle.pz_ast.specs.declared.clusters.Arg.{Arg}
-use Rattle.pz_ast.specs.declared.clusters.Arg.TheVariants as arg
-use Rattle.pz_ast.specs.declared.clusters.Given.{Given}
-use Rattle.pz_ast.specs.declared.clusters.Instance.{Instance}
-use Rattle.pz_ast.specs.declared.clusters.ClusterClass.{ClusterClass}
-use Rattle.pz_ast.specs.declared.clusters.SystemDecl.{SystemDecl}
-use Rattle.pz_ast.specs.Classes.{DataMethodTree, DataClassTree, StartTree, ProcessMethodTree, ProcessClassTree, DeclTree, data_class, process_class, cluster_class, system}
+use Rattle.pz_syntax.specs.declared.names.Id.{Id}
+use Rattle.pz_syntax.specs.declared.classes.VarGroup.{VarGroup}
+use Rattle.pz_syntax.specs.declared.classes.Message.{Message}
+use Rattle.pz_syntax.specs.declared.clusters.Arg.{Arg}
+use Rattle.pz_syntax.specs.declared.clusters.Arg.TheVariants as arg
+use Rattle.pz_syntax.specs.declared.clusters.Given.{Given}
+use Rattle.pz_syntax.specs.declared.clusters.Instance.{Instance}
+use Rattle.pz_syntax.specs.declared.clusters.ClusterClass.{ClusterClass}
+use Rattle.pz_syntax.specs.declared.clusters.SystemDecl.{SystemDecl}
+use Rattle.pz_syntax.specs.Classes.{DataMethodTree, DataClassTree, StartTree, ProcessMethodTree, ProcessClassTree, DeclTree, data_class, process_class, cluster_class, system}
 use Rattle.pz_mentions.specs.declared.mention.Mention.{Mention}
 use Rattle.pz_mentions.specs.declared.mention.Mention.TheVariants as m
 use Rattle.pz_mentions.specs.declared.part.Part.{Part}

@@ -5,8 +5,8 @@ ghost use Rattle.pz_mentions.specs.declared.mention.Mention.TheVariants as m;
 ghost use Rattle.pz_mentions.specs.Statements.{variables};
 
 use crate::Mention;
-use pz_ast::Id;
 use pz_items::Items;
+use pz_syntax::Id;
 use std::alloc::AllocError;
 
 /// How many elements these are. Too many to count in 32 bits are taken for want of memory.

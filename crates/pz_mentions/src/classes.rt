@@ -2,7 +2,7 @@
 
 ghost use Rattle.std.specs.Prelude.{◌≡◌, [], ◌∷◌, ◌++◌, map, option_map, IfOk, OnOk};
 ghost use Rattle.std.specs.Option.{unwrap_or};
-ghost use Rattle.pz_ast.specs.ClassView.{start_view, data_method_view, data_class_view, process_method_view, process_class_view};
+ghost use Rattle.pz_syntax.specs.ClassView.{start_view, data_method_view, data_class_view, process_method_view, process_class_view};
 ghost use Rattle.pz_mentions.specs.declared.mention.Mention.TheVariants as m;
 ghost use Rattle.pz_mentions.specs.Declarations.{named_types, extended, mentioned_message, mentioned_messages, mentioned_start, data_head, data_method, process_head, process_method, data_class_parts, process_class_parts};
 
@@ -11,8 +11,8 @@ use crate::expressions::{add_exprs, count_exprs};
 use crate::groups::{add_section_types, add_types, push_names, push_section_names};
 use crate::statements::add_statements;
 use crate::{Mention, Part};
-use pz_ast::{DataClass, DataMethod, Id, Message, ProcessClass, ProcessMethod, Start};
 use pz_items::Items;
+use pz_syntax::{DataClass, DataMethod, Id, Message, ProcessClass, ProcessMethod, Start};
 use std::alloc::{AllocError, Global};
 
 pub(crate) fn add_declared(out: &mut Items<Mention>, name: &Id) -> Result<(), AllocError>

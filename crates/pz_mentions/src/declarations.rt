@@ -1,13 +1,13 @@
 ghost use Rattle.std.specs.Prelude.{◌≡◌, [], ◌∷◌, IfOk};
-ghost use Rattle.pz_ast.specs.ClassView.{decl_view};
+ghost use Rattle.pz_syntax.specs.ClassView.{decl_view};
 ghost use Rattle.pz_mentions.specs.Declarations.{cluster_part, system_part, parts};
 
 use crate::Part;
 use crate::classes::{add_declared, data_parts, process_parts};
 use crate::groups::{add_section_types, push_section_names};
 use crate::instances::add_instances;
-use pz_ast::{ClusterClass, Decl, SystemDecl};
 use pz_items::Items;
+use pz_syntax::{ClusterClass, Decl, SystemDecl};
 use std::alloc::{AllocError, Global};
 
 fn cluster_part_of(alloc: Global, class: &ClusterClass) -> Result<Part, AllocError>

@@ -1,12 +1,12 @@
 ghost use Rattle.std.specs.Prelude.{◌≡◌, [], ◌∷◌, ◌++◌, map, IfOk, OnOk};
-ghost use Rattle.pz_ast.specs.ExpressionView.{view, list_view, part_view, link_view, sending_view, links_of, sendings_of};
+ghost use Rattle.pz_syntax.specs.ExpressionView.{view, list_view, part_view, link_view, sending_view, links_of, sendings_of};
 ghost use Rattle.pz_mentions.specs.declared.mention.Mention.TheVariants as m;
 ghost use Rattle.pz_mentions.specs.Expressions.{count, count_written, mentioned, mentioned_all, mentioned_literal, mentioned_part, mentioned_links, mentioned_sendings};
 
 use crate::Mention;
 use crate::adding::{add_variable, count_of};
-use pz_ast::{Expr, ExprForm, Id, Link, Literal, Name, Pos, Sending};
 use pz_items::Items;
+use pz_syntax::{Expr, ExprForm, Id, Link, Literal, Name, Pos, Sending};
 use std::alloc::AllocError;
 
 /// How many expressions these are. Too many to count in 32 bits are taken for want of memory.

@@ -5,8 +5,8 @@ ghost use Rattle.pz_mentions.specs.Declarations.{names, types, section_names, se
 
 use crate::Mention;
 use crate::adding::add_type;
-use pz_ast::{Id, VarGroup};
 use pz_items::Items;
+use pz_syntax::{Id, VarGroup};
 use std::alloc::AllocError;
 
 fn push_ids(out: &mut Items<Id>, ids: &[Id]) -> Result<(), AllocError>

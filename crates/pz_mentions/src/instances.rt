@@ -8,8 +8,8 @@ ghost use Rattle.pz_mentions.specs.Declarations.{mentioned_argument, mentioned_g
 use crate::Mention;
 use crate::adding::add_variable;
 use crate::expressions::add_literal;
-use pz_ast::{Arg, Given, Id, Instance};
 use pz_items::Items;
+use pz_syntax::{Arg, Given, Id, Instance};
 use std::alloc::AllocError;
 
 fn add_class(out: &mut Items<Mention>, class: &Id) -> Result<(), AllocError>

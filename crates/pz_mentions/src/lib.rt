@@ -15,6 +15,3 @@ mod statements;
 pub use declarations::parts_of;
 pub use mention::Mention;
 pub use part::Part;
-
-#[cfg(test)]
-mod tests;

@@ -1,7 +1,7 @@
-use pz_ast::{Id, Pos};
+use pz_syntax::{Id, Pos};
 
 /// A word of a declaration, by what it is there.
-#[derive(Debug, Drop)]
+#[derive(Drop)]
 pub enum Mention {
     /// The name of the class that is declared.
     Declared(Id),

@@ -1,9 +1,9 @@
 use crate::Mention;
-use pz_ast::Id;
 use pz_items::Items;
+use pz_syntax::Id;
 
 /// A stretch of a declaration in which the same local names are known.
-#[derive(Debug, Drop)]
+#[derive(Drop)]
 pub struct Part {
     /// The local names, in the order of the text.
     pub locals: Items<Id>,

@@ -1,7 +1,7 @@
 ghost use Rattle.std.specs.Prelude.{◌≡◌, [], ◌∷◌, ◌++◌, length, map, option_map, IfOk, OnOk};
-ghost use Rattle.pz_ast.specs.ExpressionView.{list_view, part_view};
-ghost use Rattle.pz_ast.specs.ExpressionView as expression_view;
-ghost use Rattle.pz_ast.specs.StatementView.{view, sequence_view, branches_of};
+ghost use Rattle.pz_syntax.specs.ExpressionView.{list_view, part_view};
+ghost use Rattle.pz_syntax.specs.ExpressionView as expression_view;
+ghost use Rattle.pz_syntax.specs.StatementView.{view, sequence_view, branches_of};
 ghost use Rattle.pz_mentions.specs.declared.mention.Mention.TheVariants as m;
 ghost use Rattle.pz_mentions.specs.Expressions.{count, count_written, mentioned_all, mentioned_part};
 ghost use Rattle.pz_mentions.specs.Expressions as expression;
@@ -10,8 +10,8 @@ ghost use Rattle.pz_mentions.specs.Statements.{variables, received, mentioned_co
 use crate::Mention;
 use crate::adding::{add_port, add_variable, add_variables, count_of};
 use crate::expressions::{add_expr, add_exprs, add_part, count_args, count_exprs};
-use pz_ast::{Expr, Id, Stmt, StmtForm};
 use pz_items::Items;
+use pz_syntax::{Expr, Id, Stmt, StmtForm};
 use std::alloc::AllocError;
 
 #[cycle(add)]

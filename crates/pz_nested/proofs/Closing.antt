@@ -5,7 +5,7 @@ use Rattle.std.proofs.lemmas.List.{length_push, length-drop, take-append-drop, t
 use Rattle.std.proofs.lemmas.Bool.{cases_lt}
 use Rattle.std.proofs.lemmas.List.Prefix.{end_rest}
 use Rattle.pz_nested.specs.Scopes.{Note, notes_of, outermost}
-use Rattle.pz_nested.specs.Holding.{starts_of, Keeps}
+use Rattle.pz_nested.specs.devices.Holding.{starts_of, Keeps}
 use Rattle.pz_nested.specs.declared.nested.Nested.{Nested}
 use Rattle.pz_nested.proofs.Outermost.{outermost_all, outermost_rest, outermost_more}
 use Rattle.pz_nested.proofs.Keeping.{length_changes}

@@ -4,7 +4,7 @@ use Rattle.std.specs.Cmp.{IsEquivalence}
 use Rattle.std.specs.Option.{option_flatten}
 use Rattle.std.proofs.lemmas.List.{length_push}
 use Rattle.pz_nested.specs.Scopes.{Note, latest}
-use Rattle.pz_nested.specs.Holding.{changes_of}
+use Rattle.pz_nested.specs.devices.Holding.{changes_of}
 use Rattle.pz_nested.specs.declared.nested.Change.{Change}
 use Rattle.pz_nested.proofs.Values.{latest_equal}
 

@@ -1,2 +1,2 @@
 pub mod Scopes
-pub mod Holding
+pub mod devices

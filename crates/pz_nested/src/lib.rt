@@ -4,6 +4,3 @@
 mod nested;
 
 pub use nested::Nested;
-
-#[cfg(test)]
-mod tests;

@@ -2,7 +2,7 @@
 
 ghost use Rattle.std.specs.Prelude.{◌≡◌, ◌+◌, ◌<◌, List, [], ◌∷◌, OnOk, vec_len};
 ghost use Rattle.pz_nested.specs.Scopes.{Note, value_in, outermost};
-ghost use Rattle.pz_nested.specs.Holding.{Keeps, Holds};
+ghost use Rattle.pz_nested.specs.devices.Holding.{Keeps, Holds};
 
 use indexmap::IndexMap;
 use std::alloc::{AllocError, Global};
@@ -16,8 +16,7 @@ struct Change<K, V> {
 }
 
 /// What is noted for keys in nested scopes. The innermost note for a key counts, and leaving a scope
-/// takes back what was noted in it. Each note costs the same, however many scopes and notes there
-/// are: it is made once and taken back once.
+/// takes back what was noted in it. Each note is made once and taken back once.
 #[derive(Drop)]
 pub struct Nested<K: Hash + Eq, V> {
     // what counts for each key that was ever noted: None where all its notes were taken back

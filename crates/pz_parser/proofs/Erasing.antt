@@ -1,12 +1,12 @@
 -- The positions of the tokens change nothing else of processes and models.
 use Rattle.std.proofs.Common.{◌≡◌, ℕ, suc, ◌+◌, length, refl, ap, ◌∙◌}
 use Rattle.std.specs.Prelude.{map, option_map}
-use Rattle.pz_ast.specs.Classes.{DeclTree, data_class, process_class, cluster_class, system, ModelTree}
-use Rattle.pz_ast.specs.ClassText.{process_method_text}
-use Rattle.pz_ast.specs.ModelText.{decl_text}
-use Rattle.pz_ast.specs.ExpressionErasure.{erase_id}
-use Rattle.pz_ast.specs.StatementErasure.{erase_sequence}
-use Rattle.pz_ast.specs.ModelErasure.{erase_group, erase_message, erase_start, erase_process_method, erase_process_class, erase_decl, erase}
+use Rattle.pz_syntax.specs.Classes.{DeclTree, data_class, process_class, cluster_class, system, ModelTree}
+use Rattle.pz_syntax.specs.ClassText.{process_method_text}
+use Rattle.pz_syntax.specs.ModelText.{decl_text}
+use Rattle.pz_syntax.specs.ExpressionErasure.{erase_id}
+use Rattle.pz_syntax.specs.StatementErasure.{erase_sequence}
+use Rattle.pz_syntax.specs.ModelErasure.{erase_group, erase_message, erase_start, erase_process_method, erase_process_class, erase_decl, erase}
 use Rattle.pz_cursor.specs.Places.{place_id, place_optional, place_section, place_names, place_variables, place_enclosed}
 use Rattle.pz_cursor.proofs.Erasing.{Erased, erased_each, erased_optional, erased_section, erased_names, erased_enclosed}
 use Rattle.pz_statements.specs.StatementPlaces.{place_all}

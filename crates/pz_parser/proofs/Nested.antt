@@ -1,7 +1,7 @@
 -- What nests less deep than a bound, in lists and where it may be left out.
 use Rattle.std.proofs.Common.{ℕ, ◌<◌, List, [], ◌∷◌, Option, Some, None, arith}
-use Rattle.pz_ast.specs.ModelForm.{Each, IfWritten}
-use Rattle.pz_ast.specs.ModelNesting.{greatest, optional_nesting}
+use Rattle.pz_syntax.specs.ModelForm.{Each, IfWritten}
+use Rattle.pz_syntax.specs.ModelNesting.{greatest, optional_nesting}
 
 module _ {A : Type 0} (P : A → Type 0) (nesting_of : A → ℕ) (bound : ℕ) where
   abbrev pub Within : A → Type 0

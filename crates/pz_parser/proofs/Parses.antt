@@ -2,26 +2,26 @@
 use Rattle.std.proofs.Common.{◌≡◌, ◌≢◌, ℕ, zero, suc, ◌+◌, ◌-◌, ◌≤◌, ◌<◌, ◌⊎◌, inl, inr, List, [], ◌∷◌, ◌++◌, length, drop, Result, Ok, Err, refl, ap, sym, ◌∙◌, subst, arith, length-drop}
 use Rattle.std.specs.Prelude.{⊤, max, MatchResult, IfErr, IfOk}
 use Rattle.std.proofs.lemmas.List.{append-nil}
-use Rattle.pz_ast.specs.declared.tokens.Pos.{Pos}
-use Rattle.pz_ast.specs.declared.tokens.Token.{Token}
-use Rattle.pz_ast.specs.declared.clusters.Model.{Model}
-use Rattle.pz_ast.specs.Classes.{ModelTree}
-use Rattle.pz_ast.specs.ClassView.{model_view}
-use Rattle.pz_ast.specs.ModelText.{text}
-use Rattle.pz_ast.specs.ModelForm.{IsModel}
-use Rattle.pz_ast.specs.ModelNesting.{nesting}
-use Rattle.pz_ast.specs.ModelErasure.{erase}
-use Rattle.pz_ast.specs.ExpressionErasure.{origin}
+use Rattle.pz_syntax.specs.declared.tokens.Pos.{Pos}
+use Rattle.pz_syntax.specs.declared.tokens.Token.{Token}
+use Rattle.pz_syntax.specs.declared.clusters.Model.{Model}
+use Rattle.pz_syntax.specs.Classes.{ModelTree}
+use Rattle.pz_syntax.specs.ClassView.{model_view}
+use Rattle.pz_syntax.specs.ModelText.{text}
+use Rattle.pz_syntax.specs.ModelForm.{IsModel}
+use Rattle.pz_syntax.specs.ModelNesting.{nesting}
+use Rattle.pz_syntax.specs.ModelErasure.{erase}
+use Rattle.pz_syntax.specs.ExpressionErasure.{origin}
 use Rattle.pz_cursor.specs.declared.refusal.Refusal.{Refusal}
 use Rattle.pz_cursor.specs.declared.refusal.Refusal.TheVariants as refusal
-use Rattle.pz_cursor.specs.Input.{Tokens, marks}
-use Rattle.pz_cursor.specs.Device.{Outcome, Reads}
+use Rattle.pz_cursor.specs.devices.Input.{Tokens, marks}
+use Rattle.pz_cursor.specs.devices.Device.{Outcome, Reads}
 use Rattle.pz_cursor.specs.Openers.{openers}
 use Rattle.pz_cursor.specs.Places.{located, positions}
 use Rattle.pz_cursor.proofs.Reading.{done, marks_located}
 use Rattle.pz_parser.specs.declared.error.ParseError.{ParseError}
 use Rattle.pz_parser.specs.declared.error.ParseError.TheVariants.{NoMemory, Syntax, TooNested}
-use Rattle.pz_parser.specs.Models as spec
+use Rattle.pz_parser.specs.devices.Models as spec
 use Rattle.pz_parser.specs.ModelPlaces.{place_model}
 use Rattle.pz_parser.specs.Parsing.{IsTextOf, ReadsAs, IsInPlace, IsPlace, MayRefuse, first_or, place_left, error_of}
 use Rattle.pz_parser.proofs.ModelRules.{model_sound, model_complete}

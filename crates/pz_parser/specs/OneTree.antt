@@ -1,10 +1,10 @@
 -- A text has one tree.
 use Rattle.std.specs.Prelude.{◌≡◌, ℕ}
-use Rattle.pz_ast.specs.declared.tokens.Pos.{Pos}
-use Rattle.pz_ast.specs.Classes.{ModelTree}
-use Rattle.pz_ast.specs.ModelText.{text}
-use Rattle.pz_ast.specs.ModelForm.{IsModel}
-use Rattle.pz_ast.specs.ModelErasure.{erase}
+use Rattle.pz_syntax.specs.declared.tokens.Pos.{Pos}
+use Rattle.pz_syntax.specs.Classes.{ModelTree}
+use Rattle.pz_syntax.specs.ModelText.{text}
+use Rattle.pz_syntax.specs.ModelForm.{IsModel}
+use Rattle.pz_syntax.specs.ModelErasure.{erase}
 use Rattle.pz_parser.specs.ModelPlaces.{place_model}
 
 -- whatever the nesting

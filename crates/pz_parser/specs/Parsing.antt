@@ -1,14 +1,14 @@
 -- What the call that parses promises.
 use Rattle.std.specs.Prelude.{◌≡◌, ◌<◌, ◌≤◌, ◌⊎◌, ◌-◌, ℕ, List, [], ◌∷◌, length, drop, ⊤, Result, MatchResult}
-use Rattle.pz_ast.specs.declared.tokens.Pos.{Pos}
-use Rattle.pz_ast.specs.declared.tokens.Token.{Token}
-use Rattle.pz_ast.specs.declared.clusters.Model.{Model}
-use Rattle.pz_ast.specs.Classes.{ModelTree}
-use Rattle.pz_ast.specs.ClassView.{model_view}
-use Rattle.pz_ast.specs.ModelText.{text}
-use Rattle.pz_ast.specs.ModelForm.{IsModel}
-use Rattle.pz_ast.specs.ModelNesting.{nesting}
-use Rattle.pz_cursor.specs.Input.{marks}
+use Rattle.pz_syntax.specs.declared.tokens.Pos.{Pos}
+use Rattle.pz_syntax.specs.declared.tokens.Token.{Token}
+use Rattle.pz_syntax.specs.declared.clusters.Model.{Model}
+use Rattle.pz_syntax.specs.Classes.{ModelTree}
+use Rattle.pz_syntax.specs.ClassView.{model_view}
+use Rattle.pz_syntax.specs.ModelText.{text}
+use Rattle.pz_syntax.specs.ModelForm.{IsModel}
+use Rattle.pz_syntax.specs.ModelNesting.{nesting}
+use Rattle.pz_cursor.specs.devices.Input.{marks}
 use Rattle.pz_cursor.specs.Places.{positions}
 use Rattle.pz_cursor.specs.Openers.{openers}
 use Rattle.pz_cursor.specs.declared.refusal.Refusal.{Refusal}

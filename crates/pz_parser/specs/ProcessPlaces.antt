@@ -1,10 +1,10 @@
 -- Process classes with the positions of the tokens of their texts. A number is that of the first
 -- token of the part.
 use Rattle.std.specs.Prelude.{ℕ, suc, ◌+◌, List, length}
-use Rattle.pz_ast.specs.declared.tokens.Keyword.TheVariants as k
-use Rattle.pz_ast.specs.Marks.{optional, section, word_text, names_text}
-use Rattle.pz_ast.specs.Classes.{ProcessMethodTree, ProcessClassTree}
-use Rattle.pz_ast.specs.ClassText.{formal_text, locals_text, variables_text, messages_text, start_text, process_method_text}
+use Rattle.pz_syntax.specs.declared.tokens.Keyword.TheVariants as k
+use Rattle.pz_syntax.specs.Marks.{optional, section, word_text, names_text}
+use Rattle.pz_syntax.specs.Classes.{ProcessMethodTree, ProcessClassTree}
+use Rattle.pz_syntax.specs.ClassText.{formal_text, locals_text, variables_text, messages_text, start_text, process_method_text}
 use Rattle.pz_cursor.specs.Places.{Placing, place_id, place_names, place_variables, place_enclosed, place_each, place_optional, place_section}
 use Rattle.pz_statements.specs.StatementPlaces.{place_all}
 use Rattle.pz_declarations.specs.DeclarationPlaces.{place_messages, place_start}

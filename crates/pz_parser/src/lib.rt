@@ -10,6 +10,3 @@ mod processes;
 pub use error::ParseError;
 pub use laws::{one_tree, places_alone};
 pub use parser::parse;
-
-#[cfg(test)]
-mod tests;

@@ -1,20 +1,20 @@
 //! Declarations and whole models.
 
 ghost use Rattle.std.specs.Prelude.{◌≡◌, ◌<◌, ◌-◌, ◌^◌, map};
-ghost use Rattle.pz_ast.specs.ClassView.{decl_view, model_view};
-ghost use Rattle.pz_cursor.specs.Device.{Reads};
-ghost use Rattle.pz_parser.specs.Models as spec;
+ghost use Rattle.pz_syntax.specs.ClassView.{decl_view, model_view};
+ghost use Rattle.pz_cursor.specs.devices.Device.{Reads};
+ghost use Rattle.pz_parser.specs.devices.Models as spec;
 
 use crate::processes::process_class;
-use pz_ast::{Decl, Model};
 use pz_clusters::{cluster_class, system};
 use pz_cursor::{Cursor, Next, Refusal};
 use pz_declarations::data_class;
 use pz_items::Items;
+use pz_syntax::{Decl, Model};
 use std::alloc::Global;
 
 /// A whole model, which all tokens are to make up. At most `depth` constructs stand one in another.
-#[tactic(auto, unfolding(crate::specs::Models::model))]
+#[tactic(auto, unfolding(crate::specs::devices::Models::model))]
 pub fn model(alloc: Global, cursor: &mut Cursor<'_>, depth: usize) -> Result<Model, Refusal>
     requires room { depth < 2 ^ 64 - 1 }
     ensures reads { Reads model_view (spec.model depth cursor.old) result cursor.new }
@@ -24,7 +24,7 @@ pub fn model(alloc: Global, cursor: &mut Cursor<'_>, depth: usize) -> Result<Mod
     Ok(Model { decls })
 }
 
-#[tactic(auto, unfolding(crate::specs::Models::end))]
+#[tactic(auto, unfolding(crate::specs::devices::Models::end))]
 fn end(cursor: &Cursor<'_>) -> Result<(), Refusal>
     ensures { Reads (λ _. tt) (spec.end cursor.now) result cursor.now }
 {
@@ -36,7 +36,7 @@ fn end(cursor: &Cursor<'_>) -> Result<(), Refusal>
 }
 
 /// One declaration or more.
-#[tactic(auto, unfolding(crate::specs::Models::decls))]
+#[tactic(auto, unfolding(crate::specs::devices::Models::decls))]
 fn decls(alloc: Global, cursor: &mut Cursor<'_>, depth: usize) -> Result<Items<Decl>, Refusal>
     requires room { depth < 2 ^ 64 - 1 }
     ensures { Reads (map decl_view) (spec.decls depth cursor.old) result cursor.new }
@@ -46,7 +46,7 @@ fn decls(alloc: Global, cursor: &mut Cursor<'_>, depth: usize) -> Result<Items<D
     more_decls(alloc, cursor, depth, found)
 }
 
-#[tactic(auto, unfolding(crate::specs::Models::more_decls, pz_cursor::specs::Lists::each_of, pz_cursor::specs::Lists::repeat))]
+#[tactic(auto, unfolding(crate::specs::devices::Models::more_decls, pz_cursor::specs::devices::Lists::each_of, pz_cursor::specs::devices::Lists::repeat))]
 fn more_decls(
     alloc: Global,
     cursor: &mut Cursor<'_>,
@@ -65,7 +65,7 @@ fn more_decls(
     Ok(found)
 }
 
-#[tactic(auto, unfolding(crate::specs::Models::begins_decl))]
+#[tactic(auto, unfolding(crate::specs::devices::Models::begins_decl))]
 fn begins_decl(cursor: &Cursor<'_>) -> bool
     ensures { result ≡ spec.begins_decl cursor.now }
 {
@@ -78,7 +78,7 @@ fn begins_decl(cursor: &Cursor<'_>) -> bool
     }
 }
 
-#[tactic(auto, unfolding(crate::specs::Models::decl))]
+#[tactic(auto, unfolding(crate::specs::devices::Models::decl))]
 fn decl(alloc: Global, cursor: &mut Cursor<'_>, depth: usize) -> Result<Decl, Refusal>
     requires room { depth < 2 ^ 64 - 1 }
     ensures { Reads decl_view (spec.decl depth cursor.old) result cursor.new }

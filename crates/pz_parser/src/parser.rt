@@ -1,15 +1,15 @@
 //! The call that parses.
 
 ghost use Rattle.std.specs.Prelude.{◌≡◌, ◌<◌, ◌-◌, ◌^◌, IfOk, IfErr};
-ghost use Rattle.pz_ast.specs.Classes.{ModelTree};
-ghost use Rattle.pz_ast.specs.ClassView.{model_view};
+ghost use Rattle.pz_syntax.specs.Classes.{ModelTree};
+ghost use Rattle.pz_syntax.specs.ClassView.{model_view};
 ghost use Rattle.pz_parser.specs.Parsing.{IsTextOf, ReadsAs, IsInPlace, MayRefuse};
 ghost use Rattle.pz_parser.specs.Parsing as spec;
 
 use crate::ParseError;
 use crate::models::model;
-use pz_ast::{Model, Pos, Token};
 use pz_cursor::{Cursor, Refusal};
+use pz_syntax::{Model, Pos, Token};
 use std::alloc::Global;
 
 /// The model of these tokens, the last of which stands before `end`. At most 100 constructs stand

@@ -1,21 +1,21 @@
 //! Process methods and process classes.
 
 ghost use Rattle.std.specs.Prelude.{◌≡◌, ◌<◌, ◌-◌, ◌^◌, map, option_map};
-ghost use Rattle.pz_ast.specs.ClassView.{process_method_view, process_class_view};
-ghost use Rattle.pz_cursor.specs.Device.{Reads, behind};
+ghost use Rattle.pz_syntax.specs.ClassView.{process_method_view, process_class_view};
+ghost use Rattle.pz_cursor.specs.devices.Device.{Reads, behind};
 ghost use Rattle.pz_cursor.specs.declared.ahead.Next.TheVariants as n;
-ghost use Rattle.pz_parser.specs.Processes as spec;
+ghost use Rattle.pz_parser.specs.devices.Processes as spec;
 
-use pz_ast::{ProcessClass, ProcessMethod};
 use pz_cursor::{Cursor, Next, Refusal, formal, optional_formal, optional_locals, ports_section};
 use pz_declarations::{messages_section, parent_section, start_section, variables_section};
 use pz_items::Items;
 use pz_statements::stmts;
+use pz_syntax::{ProcessClass, ProcessMethod};
 use std::alloc::Global;
 
 /// A process class from `process` on. In its start and in its methods at most `depth` constructs
 /// stand one in another.
-#[tactic(auto, unfolding(crate::specs::Processes::process_class))]
+#[tactic(auto, unfolding(crate::specs::devices::Processes::process_class))]
 pub fn process_class(
     alloc: Global,
     cursor: &mut Cursor<'_>,
@@ -46,7 +46,7 @@ pub fn process_class(
     })
 }
 
-#[tactic(auto, unfolding(crate::specs::Processes::process_methods_section))]
+#[tactic(auto, unfolding(crate::specs::devices::Processes::process_methods_section))]
 fn methods_section(
     alloc: Global,
     cursor: &mut Cursor<'_>,
@@ -75,7 +75,7 @@ fn methods_behind(
 }
 
 /// Methods, as long as a head stands next.
-#[tactic(auto, unfolding(crate::specs::Processes::process_methods, pz_cursor::specs::Lists::each_of, pz_cursor::specs::Lists::repeat))]
+#[tactic(auto, unfolding(crate::specs::devices::Processes::process_methods, pz_cursor::specs::devices::Lists::each_of, pz_cursor::specs::devices::Lists::repeat))]
 fn process_methods(
     alloc: Global,
     cursor: &mut Cursor<'_>,
@@ -95,7 +95,7 @@ fn process_methods(
 }
 
 /// A method from its name on, which stands next.
-#[tactic(auto, unfolding(crate::specs::Processes::process_method))]
+#[tactic(auto, unfolding(crate::specs::devices::Processes::process_method))]
 fn process_method(
     alloc: Global,
     cursor: &mut Cursor<'_>,

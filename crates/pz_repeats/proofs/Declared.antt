@@ -2,9 +2,9 @@
 use Rattle.std.proofs.Common.{◌≡◌, ◌≤◌, ◌<◌, ap, ℕ, zero, suc, List, [], ◌∷◌, length, Some, slice_get, arith, ◌⊎◌, inl, inr}
 use Rattle.std.specs.List.{Contains}
 use Rattle.std.proofs.lemmas.Option.{slice_get_within}
-use Rattle.pz_ast.specs.Classes.{DeclTree, ModelTree}
+use Rattle.pz_syntax.specs.Classes.{DeclTree, ModelTree}
 use Rattle.pz_classes.specs.Numbers.{declaration}
-use Rattle.pz_repeats.proofs.Lists.{none_in, first_in, later_in, in_cases}
+use Rattle.pz_repeats.proofs.Lists.{none_in, in_cases, at_place}
 
 -- the place of an element
 record Place {A : Type 0} (xs : List A) (x : A) : Type 0 where
@@ -18,11 +18,6 @@ place_of {A} (y ∷ ys) x here = by_part (λ later. place_of ys x later) (in_cas
     by_part : (Contains ys x → Place ys x) → (y ≡ x) ⊎ Contains ys x → Place (y ∷ ys) x
     by_part rest (inl is) = record { place = zero; there = ap (λ (z : A). Some z) is }
     by_part rest (inr later) = let r = rest later in record { place = suc r.place; there = r.there }
-
-at_place : {A : Type 0} (xs : List A) (i : ℕ) (x : A) → slice_get xs i ≡ Some x → Contains xs x
-at_place [] i x here = cc
-at_place (y ∷ ys) zero x here = let is : y ≡ x = cc in rw is (first_in x ys)
-at_place (y ∷ ys) (suc i) x here = later_in y ys x (at_place ys i x here)
 
 module _ (m : ModelTree) where
   -- the number of what is declared

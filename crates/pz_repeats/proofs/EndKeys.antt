@@ -1,17 +1,15 @@
 -- Ends by their keys.
-use Rattle.std.proofs.Common.{◌≡◌, refl, sym, ap, ◌∙◌, ℕ, Bool, true, false, ◌&&◌, List, map, Bor}
+use Rattle.std.proofs.Common.{◌≡◌, refl, sym, ap, ◌∙◌, ℕ, Bool, false, ◌&&◌, List, map, Bor}
 use Rattle.std.specs.Str.{bytes_eq}
-use Rattle.pz_ast.specs.declared.tokens.Pos.{Pos}
-use Rattle.pz_ast.specs.declared.clusters.ChannelEnd.{ChannelEnd}
-use Rattle.pz_ast.specs.declared.clusters.ChannelEnd.TheVariants.{Inner, Outer}
+use Rattle.pz_syntax.specs.declared.tokens.Pos.{Pos}
+use Rattle.pz_syntax.specs.declared.clusters.ChannelEnd.{ChannelEnd}
+use Rattle.pz_syntax.specs.declared.clusters.ChannelEnd.TheVariants.{Inner, Outer}
 use Rattle.pz_classes.specs.ChannelRules.{end_place, same_end}
 use Rattle.pz_repeats.specs.declared.ends.EndKey.{EndKey}
 use Rattle.pz_repeats.specs.declared.ends.EndKey.TheVariants as key
-use Rattle.pz_repeats.specs.declared.ends.Outside.{Outside}
 use Rattle.pz_repeats.specs.declared.places.Thing.{Thing}
-use Rattle.pz_repeats.specs.Again.{same_key, thing_place, repeats}
-use Rattle.pz_repeats.specs.Tips.{tip, tip_of, tip_place, same_tip, keyed_tip}
-use Rattle.pz_repeats.specs.Outers.{any_two, itself}
+use Rattle.pz_repeats.specs.devices.Again.{same_key, thing_place, repeats}
+use Rattle.pz_repeats.specs.devices.Tips.{tip, tip_of, tip_place, same_tip, keyed_tip}
 use Rattle.pz_repeats.proofs.Repeated.{repeats_seen}
 
 -- the equality of keys says this
@@ -48,8 +46,3 @@ ends_repeat eq t rule things ends same =
     repeats_seen (same_key eq) thing_place tip_of same_tip tip_place (λ x y. keys_alike eq t x.place y.place x.key y.key) (λ x. key_stands x.place x.key) rule things
     ∙ (ap (repeats same_tip tip_place rule) same
     ∙ sym (repeats_seen same_end end_place tip same_tip tip_place ends_alike end_stands rule ends))
-
-pub outers_repeat : (eq : Outside → Outside → Bool) → ((x y : Outside) → eq x y ≡ true) → (rule : ℕ) (things : List (Thing Outside)) (places : List Pos)
-    → map thing_place things ≡ places → repeats (same_key eq) thing_place rule things ≡ repeats any_two itself rule places
-outers_repeat eq all rule things places same =
-    repeats_seen (same_key eq) thing_place thing_place any_two itself (λ x y. all x.key y.key) (λ x. refl) rule things ∙ ap (repeats any_two itself rule) same

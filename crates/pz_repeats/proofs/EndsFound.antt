@@ -1,43 +1,40 @@
--- The list of the violations of C17 has those of the rule and no others.
-use Rattle.std.proofs.Common.{◌≡◌, refl, ap, subst, ◌∙◌, ℕ, Bool, true, false, IsTrue, [], Some, None, if◌then◌else◌, ◌⊎◌, inl, inr}
+-- The list of the violations of C17 has only those of the rule, and none of the rule is before all of
+-- them.
+use Rattle.std.proofs.Common.{◌≡◌, refl, subst, ℕ, Bool, true, false, IsTrue, [], Some, None, if◌then◌else◌, ◌⊎◌, inl, inr}
 use Rattle.std.specs.List.{flat_map}
-use Rattle.pz_ast.specs.Classes.{DeclTree, ModelTree}
+use Rattle.pz_syntax.specs.Classes.{DeclTree, ModelTree}
 use Rattle.pz_violation.specs.declared.violation.Violation.{Violation}
-use Rattle.pz_violation.specs.Order.{violation}
 use Rattle.pz_violation.specs.Least.{LeastOf, least_from, Member}
 use Rattle.pz_violation.proofs.Members.{member_left, member_right, member_cases}
-use Rattle.pz_violation.proofs.Leasts as leasts
 use Rattle.pz_classes.specs.Numbers.{declaration}
 use Rattle.pz_classes.specs.Kinds.{is_cluster}
 use Rattle.pz_classes.specs.Instances.{channels}
-use Rattle.pz_classes.specs.ChannelRules.{end_place, ends, same_end, BreaksC17, again_end, again_outer}
-use Rattle.pz_repeats.specs.Again.{repeats}
-use Rattle.pz_repeats.specs.Outers.{outer_places, any_two, itself}
-use Rattle.pz_repeats.specs.EndList.{outers, of_decl, double_ends}
+use Rattle.pz_classes.specs.ChannelRules.{end_place, ends, same_end, both_outer, BreaksC17, again_end, again_outer}
+use Rattle.pz_repeats.specs.devices.Again.{repeats}
+use Rattle.pz_repeats.specs.devices.EndList.{outers, of_decl, double_ends}
 use Rattle.pz_repeats.proofs.Lists.{flat_member, member_flat}
-use Rattle.pz_repeats.proofs.Repeated.{repeat_of, at_repeat}
 use Rattle.pz_repeats.proofs.Declared.{number_of, among_declared}
-use Rattle.pz_repeats.proofs.OuterEnds.{second_at, places_repeat}
+use Rattle.pz_repeats.proofs.LeastCovering.{NotBehind, least_covering}
+use Rattle.pz_classes.proofs.Turned.{ends_turned, outers_turned}
+use Rattle.pz_repeats.proofs.Covering.{found_sound, covers_all}
 
 module _ (m : ModelTree) where
   outer_sound : (c : ℕ) (d : DeclTree) (v : Violation) → declaration m c ≡ Some d → IsTrue (is_cluster d) → Member v (flat_map outers (channels d)) → BreaksC17 m v
   outer_sound c d v here cluster found =
       let h = flat_member outers (channels d) v found in
-      let r = repeat_of any_two itself 17 (outer_places h.element.ends) v h.has in
-      let s = second_at h.element.ends r.again r.repeat in
-      let is : violation 17 (end_place s.second) ≡ v = ap (violation 17) s.stands ∙ r.is in
-      subst (BreaksC17 m) is (again_outer c d h.element s.second here cluster h.element_in s.repeat)
+      let r = found_sound both_outer end_place 17 outers_turned [] h.element.ends v h.has in
+      subst (BreaksC17 m) r.is (again_outer c d h.element r.again here cluster h.element_in r.repeat)
 
   decl_sound : (c : ℕ) (d : DeclTree) (v : Violation) → declaration m c ≡ Some d → Member v (of_decl d) → BreaksC17 m v
   decl_sound c d v here found = by_part (member_cases v (repeats same_end end_place 17 (ends d)) (if is_cluster d then flat_map outers (channels d) else []) found)
     where
       by_cluster : (b : Bool) → is_cluster d ≡ b → Member v (if b then flat_map outers (channels d) else []) → BreaksC17 m v
-      by_cluster true is at = outer_sound c d v here is at
-      by_cluster false is at = absurd at
+      by_cluster true is there = outer_sound c d v here is there
+      by_cluster false is there = absurd there
 
       by_part : Member v (repeats same_end end_place 17 (ends d)) ⊎ Member v (if is_cluster d then flat_map outers (channels d) else []) → BreaksC17 m v
-      by_part (inl at) = let r = repeat_of same_end end_place 17 (ends d) v at in subst (BreaksC17 m) r.is (again_end c d r.again here r.repeat)
-      by_part (inr at) = by_cluster (is_cluster d) refl at
+      by_part (inl there) = let r = found_sound same_end end_place 17 ends_turned [] (ends d) v there in subst (BreaksC17 m) r.is (again_end c d r.again here r.repeat)
+      by_part (inr there) = by_cluster (is_cluster d) refl there
 
   sound : (v : Violation) → Member v (double_ends m) → BreaksC17 m v
   sound v found =
@@ -48,15 +45,17 @@ module _ (m : ModelTree) where
   at_decl : (c : ℕ) (d : DeclTree) (v : Violation) → declaration m c ≡ Some d → Member v (of_decl d) → Member v (double_ends m)
   at_decl c d v here found = member_flat of_decl m.decls d v (among_declared m c d here) found
 
-  complete : (v : Violation) → BreaksC17 m v → Member v (double_ends m)
+  complete : (v : Violation) → BreaksC17 m v → NotBehind (double_ends m) v
   complete _ (again_end c d e here again) =
-      at_decl c d (violation 17 (end_place e)) here (member_left (violation 17 (end_place e)) (repeats same_end end_place 17 (ends d)) (if is_cluster d then flat_map outers (channels d) else []) (at_repeat same_end end_place 17 (ends d) e again))
+      covers_all same_end end_place 17 ends_turned (double_ends m) (ends d)
+      (λ v found. at_decl c d v here (member_left v (repeats same_end end_place 17 (ends d)) (if is_cluster d then flat_map outers (channels d) else []) found)) e again
   complete _ (again_outer c d h e here cluster among again) =
-      let v = violation 17 (end_place e) in
-      let there : Member v (flat_map outers (channels d)) = member_flat outers (channels d) h v among (at_repeat any_two itself 17 (outer_places h.ends) (end_place e) (places_repeat h.ends e again)) in
+      covers_all both_outer end_place 17 outers_turned (double_ends m) h.ends
+      (λ v found.
+      let there : Member v (flat_map outers (channels d)) = member_flat outers (channels d) h v among found in
       let chosen : Member v (if is_cluster d then flat_map outers (channels d) else []) = rw cluster there in
-      at_decl c d v here (member_right v (repeats same_end end_place 17 (ends d)) (if is_cluster d then flat_map outers (channels d) else []) chosen)
+      at_decl c d v here (member_right v (repeats same_end end_place 17 (ends d)) (if is_cluster d then flat_map outers (channels d) else []) chosen)) e again
 
 -- what the search for the least finds
 pub least_found : (m : ModelTree) → LeastOf (BreaksC17 m) (least_from None (double_ends m))
-least_found m = leasts.least_found (BreaksC17 m) (double_ends m) (sound m) (complete m)
+least_found m = least_covering (BreaksC17 m) (double_ends m) (sound m) (complete m)

@@ -3,14 +3,15 @@ use Rattle.std.proofs.Common.{◌≡◌, refl, sym, ap, ◌∙◌, ℕ, zero, su
 use Rattle.std.specs.Option.{option_or}
 use Rattle.std.specs.Str.{bytes_eq}
 use Rattle.std.proofs.lemmas.Slice.Eq.{bytes_eq-Decides}
-use Rattle.pz_ast.specs.declared.tokens.Pos.{Pos}
-use Rattle.pz_ast.specs.declared.names.Id.{Id}
+use Rattle.pz_syntax.specs.declared.tokens.Pos.{Pos}
+use Rattle.pz_syntax.specs.declared.names.Id.{Id}
 use Rattle.pz_nested.specs.Scopes.{Note, latest, value_in, outermost}
-use Rattle.pz_nested.specs.Holding.{Holds}
+use Rattle.pz_nested.specs.devices.Holding.{Holds}
 use Rattle.pz_nested.specs.declared.nested.Nested.{Nested}
-use Rattle.pz_repeats.specs.Earlier.{earlier}
-use Rattle.pz_repeats.specs.Inheriting.{earliest}
-use Rattle.pz_repeats.specs.Knowing.{spread, same_bytes, Scope, Tells, Knows}
+use Rattle.pz_repeats.specs.devices.Earlier.{earlier}
+use Rattle.pz_repeats.specs.devices.Inheriting.{earliest}
+use Rattle.pz_repeats.specs.devices.Knowing.{spread, same_bytes, Scope, Tells, Knows}
+use Rattle.pz_repeats.specs.devices.Names.{id_place}
 use Rattle.pz_repeats.proofs.EarliestPlaces.{earliest_append}
 
 -- what is noted for a key is its earliest place
@@ -45,7 +46,7 @@ noted_tells : (names : List Id) (noted : Bor (List ℕ)) (x : Id) (place : Pos) 
     → ((key : Bor (List ℕ)) → value_in same_bytes (scope ∷ scopes) key ≡ earliest None key.now names)
     → (key : Bor (List ℕ)) → value_in same_bytes ((note_of noted place ∷ scope) ∷ scopes) key ≡ earliest None key.now (names ++ (x ∷ []))
 noted_tells names noted x place scope scopes named is tells key =
-    by_test (bytes_eq key.now x.name) refl ∙ sym (earliest_append None key.now names (x ∷ []))
+    by_test (bytes_eq key.now x.name) refl ∙ sym (earliest_append id_place (λ y. bytes_eq key.now y.name) None names (x ∷ []))
   where
     Now : Bool → Option Pos
     Now t = option_or (if t then Some place else latest same_bytes scope key) (value_in same_bytes scopes key)

@@ -1,8 +1,9 @@
-pub mod Earliest
 pub mod Lookups
 pub mod Steps
 pub mod Lists
 pub mod Repeated
+pub mod AlikeKeys
+pub mod SystemsFound
 pub mod Declared
 pub mod OuterEnds
 pub mod EndsFound
@@ -19,3 +20,4 @@ pub mod NameSteps
 pub mod Visiting
 pub mod Openings
 pub mod RepeatsFound
+mod Rows

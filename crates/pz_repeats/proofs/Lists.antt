@@ -1,5 +1,5 @@
 -- Elements of lists, and the violations that elements have.
-use Rattle.std.proofs.Common.{◌≡◌, sym, subst, List, [], ◌∷◌, ◌++◌, arith, ◌⊎◌, inl, inr}
+use Rattle.std.proofs.Common.{◌≡◌, refl, ap, sym, subst, ℕ, zero, suc, List, [], ◌∷◌, ◌++◌, length, Some, slice_get, arith, ◌⊎◌, inl, inr}
 use Rattle.std.specs.List.{Contains, flat_map}
 use Rattle.std.proofs.lemmas.List.Elements.{Contains-get_or, Contains-append_right, Contains-append_cases, Contains-push_cases}
 use Rattle.pz_violation.specs.declared.violation.Violation.{Violation}
@@ -26,6 +26,33 @@ module _ {A : Type 0} where
       by_part : Contains (x ∷ []) y ⊎ Contains xs y → (x ≡ y) ⊎ Contains xs y
       by_part (inl first) = by_first (Contains-push_cases [] x y first)
       by_part (inr later) = inr later
+
+  -- ---- elements at their places
+
+  pub at_place : (xs : List A) (i : ℕ) (x : A) → slice_get xs i ≡ Some x → Contains xs x
+  at_place [] i x here = cc
+  at_place (y ∷ ys) zero x here = let is : y ≡ x = cc in subst (λ (z : A). Contains (z ∷ ys) x) (sym is) (first_in x ys)
+  at_place (y ∷ ys) (suc i) x here = later_in y ys x (at_place ys i x here)
+
+  pub there_before : (xs ys : List A) (i : ℕ) (x : A) → slice_get xs i ≡ Some x → slice_get (xs ++ ys) i ≡ Some x
+  there_before [] ys i x here = cc
+  there_before (z ∷ zs) ys zero x here = here
+  there_before (z ∷ zs) ys (suc i) x here = there_before zs ys i x here
+
+  pub last_there : (xs : List A) (y : A) → slice_get (xs ++ (y ∷ [])) (length xs) ≡ Some y
+  last_there [] y = refl
+  last_there (x ∷ xs) y = last_there xs y
+
+  -- among these, or the last
+  pub there_cases : (xs : List A) (y : A) (i : ℕ) (x : A) → slice_get (xs ++ (y ∷ [])) i ≡ Some x → (slice_get xs i ≡ Some x) ⊎ ((i ≡ length xs) × (y ≡ x))
+  there_cases [] y zero x here = let is : y ≡ x = cc in inr (refl, is)
+  there_cases [] y (suc i) x here = cc
+  there_cases (z ∷ zs) y zero x here = inl here
+  there_cases (z ∷ zs) y (suc i) x here = by_part (there_cases zs y i x here)
+    where
+      by_part : (slice_get zs i ≡ Some x) ⊎ ((i ≡ length zs) × (y ≡ x)) → (slice_get zs i ≡ Some x) ⊎ ((suc i ≡ suc (length zs)) × (y ≡ x))
+      by_part (inl there) = inl there
+      by_part (inr (last, is)) = inr (ap suc last, is)
 
   -- an element that has the violation
   pub record Having (f : A → List Violation) (xs : List A) (v : Violation) : Type 0 where

@@ -1,11 +1,11 @@
 -- Messages by their keys.
 use Rattle.std.proofs.Common.{◌≡◌, refl, sym, ap, ◌∙◌, ℕ, Bool, List, map}
-use Rattle.pz_ast.specs.declared.classes.Message.{Message}
+use Rattle.pz_syntax.specs.declared.classes.Message.{Message}
 use Rattle.pz_classes.specs.RepeatRules.{same_message}
 use Rattle.pz_repeats.specs.declared.messages.MessageKey.{MessageKey}
 use Rattle.pz_repeats.specs.declared.places.Thing.{Thing}
-use Rattle.pz_repeats.specs.Again.{same_key, thing_place, repeats}
-use Rattle.pz_repeats.specs.Signals.{signal, signal_of, signal_place, same_signal, message_place}
+use Rattle.pz_repeats.specs.devices.Again.{same_key, thing_place, repeats}
+use Rattle.pz_repeats.specs.devices.Signals.{signal, signal_of, signal_place, same_signal, message_place}
 use Rattle.pz_repeats.proofs.Repeated.{repeats_seen}
 
 -- things that stand for messages repeat where these do

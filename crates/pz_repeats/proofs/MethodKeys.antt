@@ -1,13 +1,13 @@
 -- Methods by their keys.
 use Rattle.std.proofs.Common.{◌≡◌, refl, ap, ◌∙◌, ℕ, Bool, true, false, ◌&&◌, nat_eq, List, map, Bor}
 use Rattle.std.specs.Str.{bytes_eq}
-use Rattle.pz_ast.specs.declared.tokens.Pos.{Pos}
+use Rattle.pz_syntax.specs.declared.tokens.Pos.{Pos}
 use Rattle.pz_classes.specs.RepeatRules.{Heading, same_heading}
 use Rattle.pz_repeats.specs.declared.methods.MethodKey.{MethodKey}
 use Rattle.pz_repeats.specs.declared.methods.MethodKey.TheVariants as key
 use Rattle.pz_repeats.specs.declared.places.Thing.{Thing}
-use Rattle.pz_repeats.specs.Again.{same_key, thing_place, repeats}
-use Rattle.pz_repeats.specs.Headings.{heading_of, keyed_heading, heading_place}
+use Rattle.pz_repeats.specs.devices.Again.{same_key, thing_place, repeats}
+use Rattle.pz_repeats.specs.devices.Headings.{heading_of, keyed_heading, heading_place}
 use Rattle.pz_repeats.proofs.Repeated.{repeats_seen}
 
 -- the equality of keys says this

@@ -1,11 +1,11 @@
 -- Names by their keys.
 use Rattle.std.proofs.Common.{◌≡◌, refl, ap, ◌∙◌, ℕ, Bool, List, map, Bor}
 use Rattle.std.specs.Str.{bytes_eq}
-use Rattle.pz_ast.specs.declared.names.Id.{Id}
+use Rattle.pz_syntax.specs.declared.names.Id.{Id}
 use Rattle.pz_classes.specs.RepeatRules.{same_name}
 use Rattle.pz_repeats.specs.declared.places.Thing.{Thing}
-use Rattle.pz_repeats.specs.Again.{same_key, thing_place, repeats}
-use Rattle.pz_repeats.specs.Names.{id_of, id_place}
+use Rattle.pz_repeats.specs.devices.Again.{same_key, thing_place, repeats}
+use Rattle.pz_repeats.specs.devices.Names.{id_of, id_place}
 use Rattle.pz_repeats.proofs.Repeated.{repeats_seen}
 
 -- things that stand for names repeat where these do

@@ -1,9 +1,9 @@
 -- A walk goes on, with what is noted of the names of the open classes.
 use Rattle.std.proofs.Common.{◌≡◌, refl, sym, subst, ap, ◌∙◌, ℕ, suc, ◌-◌, ◌<◌, List, [], ◌∷◌, ◌++◌, length, map, drop, get_or, drop-cons, Bor, Option}
 use Rattle.std.proofs.lemmas.List.{length-map, drop-map}
-use Rattle.pz_ast.specs.declared.tokens.Pos.{Pos}
-use Rattle.pz_ast.specs.declared.names.Id.{Id}
-use Rattle.pz_ast.specs.Classes.{ModelTree}
+use Rattle.pz_syntax.specs.declared.tokens.Pos.{Pos}
+use Rattle.pz_syntax.specs.declared.names.Id.{Id}
+use Rattle.pz_syntax.specs.Classes.{ModelTree}
 use Rattle.pz_violation.specs.declared.violation.Violation.{Violation}
 use Rattle.pz_violation.specs.Least.{least_from}
 use Rattle.pz_lineage.specs.declared.visit.Visit.{Visit}
@@ -13,9 +13,9 @@ use Rattle.pz_classes.specs.Ancestors.{ancestors}
 use Rattle.pz_classes.specs.Members.{from_root}
 use Rattle.pz_classes.specs.Preorder.{Opens}
 use Rattle.pz_repeats.specs.declared.inherited.Inherited.{Inherited}
-use Rattle.pz_repeats.specs.Inheriting.{found_in}
-use Rattle.pz_repeats.specs.Knowing.{spread, Knows}
-use Rattle.pz_repeats.specs.RepeatList.{own_of, own_at, of_line}
+use Rattle.pz_repeats.specs.devices.Inheriting.{found_in}
+use Rattle.pz_repeats.specs.devices.Knowing.{spread, Knows}
+use Rattle.pz_repeats.specs.devices.RepeatList.{own_of, own_at, of_line}
 
 -- the outermost of a list stay the outermost
 outermost_map : {A B : Type 0} (f : A → B) (n : ℕ) (xs : List A) → outermost n (map f xs) ≡ map f (outermost n xs)

@@ -1,80 +1,43 @@
 -- The ports of a cluster class itself among ends, and where they stand.
-use Rattle.std.proofs.Common.{◌≡◌, refl, sym, subst, true≢false, IsTrue, List, [], ◌∷◌, ◌⊎◌, inl, inr}
-use Rattle.std.specs.List.{Contains}
-use Rattle.pz_ast.specs.declared.tokens.Pos.{Pos}
-use Rattle.pz_ast.specs.declared.names.Id.{Id}
-use Rattle.pz_ast.specs.declared.clusters.ChannelEnd.{ChannelEnd}
-use Rattle.pz_ast.specs.declared.clusters.ChannelEnd.TheVariants.{Inner, Outer}
-use Rattle.pz_violation.specs.Order.{pos_before}
-use Rattle.pz_classes.specs.RepeatRules.{Repeats}
+use Rattle.std.proofs.Common.{◌≡◌, refl, sym, ap, ◌∙◌, List, [], ◌∷◌, ◌++◌, append_assoc, append-nil, Option, None}
+use Rattle.pz_syntax.specs.declared.tokens.Pos.{Pos}
+use Rattle.pz_syntax.specs.declared.names.Id.{Id}
+use Rattle.pz_syntax.specs.declared.clusters.ChannelEnd.{ChannelEnd}
+use Rattle.pz_syntax.specs.declared.clusters.ChannelEnd.TheVariants.{Inner, Outer}
+use Rattle.pz_violation.specs.declared.violation.Violation.{Violation}
 use Rattle.pz_classes.specs.ChannelRules.{end_place, both_outer}
-use Rattle.pz_repeats.specs.Outers.{outer_places, any_two, itself}
-use Rattle.pz_repeats.proofs.Lists.{none_in, first_in, later_in, in_cases}
+use Rattle.pz_repeats.specs.devices.Earlier.{earlier, earliest_of}
+use Rattle.pz_repeats.specs.devices.Again.{later_of, found_in, repeats}
+use Rattle.pz_repeats.specs.devices.Outers.{outer_place, outer_places, any_two, itself}
 
--- a port of the cluster class that stands there
-record OuterAt (ends : List ChannelEnd) (p : Pos) : Type 0 where
-  pub port : Id
-  pub port_in : Contains ends (Outer port)
-  pub stands : port.pos ≡ p
+-- of what is an inner end none is the same
+none_for_inner : (i port : Id) (found : Option Pos) (es : List ChannelEnd) → earliest_of end_place (both_outer (Inner i port)) found es ≡ found
+none_for_inner i port found [] = refl
+none_for_inner i port found (Inner j other ∷ es) = none_for_inner i port found es
+none_for_inner i port found (Outer other ∷ es) = none_for_inner i port found es
 
-outer_at : (ends : List ChannelEnd) (p : Pos) → Contains (outer_places ends) p → OuterAt ends p
-outer_at [] p here = absurd (none_in p here)
-outer_at (Inner i port ∷ es) p here = let r = outer_at es p here in record { port = r.port; port_in = later_in (Inner i port) es (Outer r.port) r.port_in; stands = r.stands }
-outer_at (Outer port ∷ es) p here = by_part (λ later. outer_at es p later) (in_cases port.pos (outer_places es) p here)
-  where
-    by_part : (Contains (outer_places es) p → OuterAt es p) → (port.pos ≡ p) ⊎ Contains (outer_places es) p → OuterAt (Outer port ∷ es) p
-    by_part rest (inl is) = record { port = port; port_in = first_in (Outer port) es; stands = is }
-    by_part rest (inr later) = let r = rest later in record { port = r.port; port_in = later_in (Outer port) es (Outer r.port) r.port_in; stands = r.stands }
+-- of what is an outer end all outer ends are
+all_for_outer : (port : Id) (p : Pos) (found : Option Pos) (es : List ChannelEnd) → earliest_of itself (any_two p) found (outer_places es) ≡ earliest_of end_place (both_outer (Outer port)) found es
+all_for_outer port p found [] = refl
+all_for_outer port p found (Inner j other ∷ es) = all_for_outer port p found es
+all_for_outer port p found (Outer other ∷ es) = all_for_outer port p (earlier found other.pos) es
 
--- where an end stands, if it is a port of the cluster class
-abbrev StandsOutside : List ChannelEnd → ChannelEnd → Type 0
-StandsOutside ends (Inner i port) = Unit {0}
-StandsOutside ends (Outer port) = Contains (outer_places ends) port.pos
+one_more : (es : List ChannelEnd) (e : ChannelEnd) → outer_places (es ++ (e ∷ [])) ≡ outer_places es ++ outer_place e
+one_more [] e = append-nil (outer_place e)
+one_more (x ∷ es) e = ap (λ (ps : List Pos). outer_place x ++ ps) (one_more es e) ∙ sym (append_assoc (outer_place x) (outer_places es) (outer_place e))
 
-stands_later : (x : ChannelEnd) (es : List ChannelEnd) (e : ChannelEnd) → StandsOutside es e → StandsOutside (x ∷ es) e
-stands_later x es (Inner i port) here = tt
-stands_later (Inner j other) es (Outer port) here = here
-stands_later (Outer other) es (Outer port) here = later_in other.pos (outer_places es) port.pos here
+found_outside : (before es : List ChannelEnd) → found_in any_two itself 17 (outer_places before) (outer_places es) ≡ found_in both_outer end_place 17 before es
+found_outside before [] = refl
+found_outside before (Inner i port ∷ es) =
+    let same : outer_places (before ++ (Inner i port ∷ [])) ≡ outer_places before = one_more before (Inner i port) ∙ append-nil (outer_places before) in
+    ap (λ (ps : List Pos). found_in any_two itself 17 ps (outer_places es)) (sym same)
+    ∙ (found_outside (before ++ (Inner i port ∷ [])) es
+    ∙ ap (λ (o : Option Pos). later_of 17 o i.pos ++ found_in both_outer end_place 17 (before ++ (Inner i port ∷ [])) es) (sym (none_for_inner i port None before)))
+found_outside before (Outer port ∷ es) =
+    ap (λ (o : Option Pos). later_of 17 o port.pos ++ found_in any_two itself 17 (outer_places before ++ (port.pos ∷ [])) (outer_places es)) (all_for_outer port port.pos None before)
+    ∙ ap (λ (vs : List Violation). later_of 17 (earliest_of end_place (both_outer (Outer port)) None before) port.pos ++ vs)
+    (ap (λ (ps : List Pos). found_in any_two itself 17 ps (outer_places es)) (sym (one_more before (Outer port))) ∙ found_outside (before ++ (Outer port ∷ [])) es)
 
-stands_first : (e : ChannelEnd) (es : List ChannelEnd) → StandsOutside (e ∷ es) e
-stands_first (Inner i port) es = tt
-stands_first (Outer port) es = first_in port.pos (outer_places es)
-
-stands_outside : (ends : List ChannelEnd) (e : ChannelEnd) → Contains ends e → StandsOutside ends e
-stands_outside [] e here = absurd (none_in e here)
-stands_outside (x ∷ es) e here = by_part (λ later. stands_outside es e later) (in_cases x es e here)
-  where
-    by_part : (Contains es e → StandsOutside es e) → (x ≡ e) ⊎ Contains es e → StandsOutside (x ∷ es) e
-    by_part rest (inl is) = subst (λ (z : ChannelEnd). StandsOutside (z ∷ es) e) (sym is) (stands_first e es)
-    by_part rest (inr later) = stands_later x es e (rest later)
-
--- an end at a place where a second port of the cluster class stands
-pub record SecondAt (ends : List ChannelEnd) (p : Pos) : Type 0 where
-  pub second : ChannelEnd
-  pub repeat : Repeats both_outer end_place ends second
-  pub stands : end_place second ≡ p
-
-pub second_at : (ends : List ChannelEnd) (p : Pos) → Repeats any_two itself (outer_places ends) p → SecondAt ends p
-second_at ends p r =
-    let f = outer_at ends r.first r.first_in in
-    let s = outer_at ends p r.again_in in
-    let later : IsTrue (pos_before f.port.pos s.port.pos) = rw (f.stands, s.stands) r.later in
-    record {
-      second = Outer s.port;
-      repeat = record { first = Outer f.port; first_in = f.port_in; again_in = s.port_in; alike = refl; later = later };
-      stands = s.stands;
-    }
-
-pub places_repeat : (ends : List ChannelEnd) (e : ChannelEnd) → Repeats both_outer end_place ends e → Repeats any_two itself (outer_places ends) (end_place e)
-places_repeat ends e r = by_ends r.first e r.first_in r.again_in r.alike r.later
-  where
-    by_ends : (f s : ChannelEnd) → Contains ends f → Contains ends s → IsTrue (both_outer f s) → IsTrue (pos_before (end_place f) (end_place s)) → Repeats any_two itself (outer_places ends) (end_place s)
-    by_ends (Inner i port) s first again is later = absurd (true≢false (sym is))
-    by_ends (Outer other) (Inner i port) first again is later = absurd (true≢false (sym is))
-    by_ends (Outer other) (Outer port) first again is later = record {
-      first = other.pos;
-      first_in = stands_outside ends (Outer other) first;
-      again_in = stands_outside ends (Outer port) again;
-      alike = refl;
-      later = later;
-    }
+-- the outer ends repeat where their places do
+pub outers_repeat : (es : List ChannelEnd) → repeats any_two itself 17 (outer_places es) ≡ repeats both_outer end_place 17 es
+outers_repeat es = found_outside [] es

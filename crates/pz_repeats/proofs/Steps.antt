@@ -1,22 +1,37 @@
 -- One thing further in a list.
-use Rattle.std.proofs.Common.{◌≡◌, refl, sym, ap, ◌∙◌, ℕ, suc, ◌<◌, Bool, List, [], ◌∷◌, ◌++◌, map, drop, length, get_or, drop-cons, Option}
+use Rattle.std.proofs.Common.{◌≡◌, refl, sym, ap, ◌∙◌, ℕ, suc, ◌+◌, ◌<◌, Bool, List, [], ◌∷◌, ◌++◌, map, take, drop, length, get_or, drop-cons, Option, None, if◌then◌else◌, arith}
+use Rattle.std.proofs.lemmas.List.{take_more}
 use Rattle.std.specs.List.{flat_map}
-use Rattle.pz_ast.specs.declared.tokens.Pos.{Pos}
+use Rattle.pz_syntax.specs.declared.tokens.Pos.{Pos}
 use Rattle.pz_violation.specs.declared.violation.Violation.{Violation}
-use Rattle.pz_violation.specs.Order.{violation}
-use Rattle.pz_violation.specs.Least.{listed, least_from}
-use Rattle.pz_repeats.specs.Again.{is_again, repeated}
+use Rattle.pz_violation.specs.Least.{least_from}
+use Rattle.pz_repeats.specs.devices.Earlier.{earlier, earliest_of}
+use Rattle.pz_repeats.specs.devices.Again.{later_of, found_in}
+use Rattle.pz_repeats.proofs.EarliestPlaces.{earliest_append}
 use Rattle.pz_violation.proofs.Leasts.{least_from_append}
 
-pub repeated_step : {A : Type 0} (same : A → A → Bool) (place : A → Pos) (rule : ℕ) (xs : List A) (y : A) (i j : ℕ) (again : Bool) (least now whole : Option Violation)
-    → i < length xs → y ≡ get_or xs i y → j ≡ suc i → again ≡ is_again same place xs y
-    → now ≡ least_from least (listed again (violation rule (place y)))
-    → least_from least (repeated same place rule xs (drop i xs)) ≡ whole
-    → least_from now (repeated same place rule xs (drop j xs)) ≡ whole
-repeated_step {A} same place rule xs y i j again least now whole within here after is found before =
-    let first : drop i xs ≡ y ∷ drop (suc i) xs = drop-cons xs i y within ∙ ap (λ (x : A). x ∷ drop (suc i) xs) (sym here) in
-    let split : least_from least (listed (is_again same place xs y) (violation rule (place y)) ++ repeated same place rule xs (drop (suc i) xs)) ≡ whole = rw first at before in
-    rw (found, is, after) (sym (least_from_append least (listed (is_again same place xs y) (violation rule (place y))) (repeated same place rule xs (drop (suc i) xs))) ∙ split)
+-- one thing further, held against the earliest that is the same of those before it
+pub found_step : {A : Type 0} (same : A → A → Bool) (place : A → Pos) (rule : ℕ) (xs : List A) (y : A) (i j : ℕ) (first : Option Pos) (least now whole : Option Violation)
+    → i < length xs → y ≡ get_or xs i y → j ≡ i + 1 → first ≡ earliest_of place (same y) None (take i xs)
+    → now ≡ least_from least (later_of rule first (place y))
+    → least_from least (found_in same place rule (take i xs) (drop i xs)) ≡ whole
+    → least_from now (found_in same place rule (take j xs) (drop j xs)) ≡ whole
+found_step {A} same place rule xs y i j first least now whole within here after is found before =
+    let behind : drop i xs ≡ y ∷ drop (suc i) xs = drop-cons xs i y within ∙ ap (λ (x : A). x ∷ drop (suc i) xs) (sym here) in
+    let grown : take (i + 1) xs ≡ take i xs ++ (y ∷ []) = take_more xs i y within ∙ ap (λ (x : A). take i xs ++ (x ∷ [])) (sym here) in
+    let next : i + 1 ≡ suc i = omega arith in
+    let left : drop (i + 1) xs ≡ drop (suc i) xs = ap (λ (n : ℕ). drop n xs) next in
+    let at_y = later_of rule (earliest_of place (same y) None (take i xs)) (place y) in
+    let rest = found_in same place rule (take i xs ++ (y ∷ [])) (drop (suc i) xs) in
+    let split : least_from least (at_y ++ rest) ≡ whole = rw behind at before in
+    rw (found, is, after, grown, left) (sym (least_from_append least at_y rest) ∙ split)
+
+-- the earliest place of each mark, one thing further
+pub earliest_step : {A : Type 0} (place : A → Pos) (alike : A → Bool) (xs : List A) (y : A) (i j : ℕ) → i < length xs → y ≡ get_or xs i y → j ≡ i + 1
+    → earliest_of place alike None (take j xs) ≡ (if alike y then earlier (earliest_of place alike None (take i xs)) (place y) else earliest_of place alike None (take i xs))
+earliest_step {A} place alike xs y i j within here after =
+    let grown : take (i + 1) xs ≡ take i xs ++ (y ∷ []) = take_more xs i y within ∙ ap (λ (x : A). take i xs ++ (x ∷ [])) (sym here) in
+    rw (after, grown) (earliest_append place alike None (take i xs) (y ∷ []))
 
 -- the violations of each in turn
 pub flat_step : {A : Type 0} (f : A → List Violation) (xs : List A) (x : A) (i j : ℕ) (least now whole : Option Violation)

@@ -1,11 +1,1 @@
-pub mod Earlier
-pub mod Again
-pub mod Names
-pub mod Inheriting
-pub mod Knowing
-pub mod Headings
-pub mod Signals
-pub mod RepeatList
-pub mod Tips
-pub mod Outers
-pub mod EndList
+pub mod devices

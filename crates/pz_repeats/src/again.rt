@@ -1,49 +1,52 @@
 // The least repeat in a list of things.
 
-ghost use Rattle.std.specs.Prelude.{◌≡◌, None, IfOk};
-ghost use Rattle.indexmap.specs.IndexMap.{get};
-ghost use Rattle.pz_violation.specs.Least.{listed, least_from};
-ghost use Rattle.pz_repeats.specs.Earlier.{earliest_from};
-ghost use Rattle.pz_repeats.specs.Again.{same_key, thing_place, repeats};
+ghost use Rattle.std.specs.Prelude.{◌≡◌, IfOk};
+ghost use Rattle.pz_violation.specs.Least.{least_from};
+ghost use Rattle.pz_repeats.specs.devices.Again.{later, later_of, same_key, thing_place, repeats};
 
-use crate::places::{Thing, has_earlier, note};
+use crate::places::{Thing, note};
 use indexmap::IndexMap;
-use pz_ast::Pos;
-use pz_violation::{Violation, lesser};
+use pz_syntax::Pos;
+use pz_violation::{Violation, lesser, pos_before};
 use std::alloc::{AllocError, Global};
 use std::hash::Hash;
 
-/// The earliest place of each key. The only error is want of memory.
-fn places_of<K: Hash + Eq + Copy>(
-    alloc: Global,
-    things: &[Thing<K>],
-) -> Result<IndexMap<K, Pos>, AllocError>
-    ensures { IfOk result (λ places. (key : K) → get K.eq places key ≡ earliest_from K.eq None key things.now) }
+/// The later of two places, the second where neither is later.
+fn later_place(first: Pos, place: Pos) -> Pos
+    ensures { result ≡ later first place }
 {
-    let mut places = IndexMap::new(alloc);
-    for thing in things {
-        note(&mut places, thing)?;
+    if pos_before(place, first) {
+        first
+    } else {
+        place
     }
-    Ok(places)
 }
 
-/// The least of what was found before and the violation, if there is one.
-pub(crate) fn least_if(
-    violated: bool,
-    violation: Violation,
+/// The least of what was found before and the violation at the later of two places, if a first one
+/// was found.
+#[tactic(auto, using(pz_violation::proofs::Leasts::least_from_append))]
+pub(crate) fn least_later(
+    rule: u8,
+    first: Option<Pos>,
+    place: Pos,
     before: Option<Violation>,
 ) -> Option<Violation>
-    ensures { result ≡ least_from before (listed violated violation) }
+    ensures { result ≡ least_from before (later_of rule first place) }
 {
-    if violated {
-        lesser(before, violation)
-    } else {
-        before
+    match first {
+        None => before,
+        Some(first) => lesser(
+            before,
+            Violation {
+                rule,
+                pos: later_place(first, place),
+            },
+        ),
     }
 }
 
-/// The least of what was found before and the places where a thing repeats one that stands earlier.
-/// The only error is want of memory.
+/// The least of what was found before and the places where a thing repeats another that does not
+/// come after it. The only error is want of memory.
 pub(crate) fn least_again<K: Hash + Eq + Copy>(
     alloc: Global,
     rule: u8,
@@ -52,18 +55,11 @@ pub(crate) fn least_again<K: Hash + Eq + Copy>(
 ) -> Result<Option<Violation>, AllocError>
     ensures { IfOk result (λ least. least ≡ least_from before (repeats (same_key K.eq) thing_place rule things.now)) }
 {
-    let places = places_of(alloc, things)?;
+    let mut places = IndexMap::new(alloc);
     let mut least = before;
     for thing in things {
-        let again = has_earlier(&places, thing);
-        least = least_if(
-            again,
-            Violation {
-                rule,
-                pos: thing.place,
-            },
-            least,
-        );
+        let first = note(&mut places, thing)?;
+        least = least_later(rule, first, thing.place, least);
     }
     Ok(least)
 }

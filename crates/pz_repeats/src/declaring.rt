@@ -1,38 +1,19 @@
 // Names that classes declare, each held against those of its ancestors.
 
 ghost use Rattle.std.specs.Prelude.{◌≡◌, List, [], ◌∷◌, ◌++◌, None, map, IfOk, OnOk};
-ghost use Rattle.pz_ast.specs.declared.names.Id.{Id};
+ghost use Rattle.pz_syntax.specs.declared.names.Id.{Id};
 ghost use Rattle.pz_violation.specs.Least.{least_from};
-ghost use Rattle.pz_repeats.specs.Names.{id_of};
-ghost use Rattle.pz_repeats.specs.Inheriting.{earliest, later_of, found_in};
-ghost use Rattle.pz_repeats.specs.Knowing.{spread, Knows};
+ghost use Rattle.pz_repeats.specs.devices.Names.{id_of};
+ghost use Rattle.pz_repeats.specs.devices.Again.{later_of};
+ghost use Rattle.pz_repeats.specs.devices.Inheriting.{earliest, found_in};
+ghost use Rattle.pz_repeats.specs.devices.Knowing.{spread, Knows};
 
-use crate::again::least_if;
+use crate::again::least_later;
 use crate::places::{Thing, earlier_place};
-use pz_ast::Pos;
 use pz_nested::Nested;
-use pz_violation::{Violation, pos_before};
+use pz_syntax::Pos;
+use pz_violation::Violation;
 use std::alloc::AllocError;
-
-/// The least of what was found before and the later of two places of a name.
-#[tactic(auto, using(pz_violation::proofs::Leasts::least_from_append))]
-fn least_later(first: Option<Pos>, place: Pos, before: Option<Violation>) -> Option<Violation>
-    ensures { result ≡ least_from before (later_of first place) }
-{
-    let Some(first) = first else {
-        return before;
-    };
-    let here = Violation {
-        rule: 4,
-        pos: place,
-    };
-    let there = Violation {
-        rule: 4,
-        pos: first,
-    };
-    let least = least_if(pos_before(first, place), here, before);
-    least_if(pos_before(place, first), there, least)
-}
 
 /// Notes the earliest place of a name, and gives the least of what was found before and the later
 /// place, where the name stands at two. The only error is want of memory.
@@ -42,11 +23,11 @@ fn declare<'a>(
     before: Option<Violation>,
 ) -> Result<Option<Violation>, AllocError>
     ensures known { (own : List Id) (outer : List (List Id)) → Knows (own ∷ outer) known.old → OnOk result (Knows ((own ++ (id_of name.now ∷ [])) ∷ outer) known.new) }
-    ensures found { (names : List (List Id)) → Knows names known.old → IfOk result (λ least. least ≡ least_from before (later_of (earliest None name.now.key.now (spread names)) name.now.place)) }
+    ensures found { (names : List (List Id)) → Knows names known.old → IfOk result (λ least. least ≡ least_from before (later_of 4 (earliest None name.now.key.now (spread names)) name.now.place)) }
 {
     let first = known.get(name.key);
     known.note(name.key, earlier_place(first, name.place))?;
-    Ok(least_later(first, name.place, before))
+    Ok(least_later(4, first, name.place, before))
 }
 
 /// The same for each of these names.

@@ -2,20 +2,20 @@
 
 ghost use Rattle.std.specs.Prelude.{◌≡◌, ◌∷◌, [], ◌++◌, map, IfOk, OnOk};
 ghost use Rattle.std.specs.List.{flat_map};
-ghost use Rattle.pz_ast.specs.declared.clusters.Channel.{Channel as Tree};
-ghost use Rattle.pz_ast.specs.ClassView.{decl_view, model_view};
+ghost use Rattle.pz_syntax.specs.declared.clusters.Channel.{Channel as Tree};
+ghost use Rattle.pz_syntax.specs.ClassView.{decl_view, model_view};
 ghost use Rattle.pz_violation.specs.Least.{LeastOf, least_from};
 ghost use Rattle.pz_classes.specs.ChannelRules.{BreaksC17, end_place, same_end};
-ghost use Rattle.pz_repeats.specs.Again.{thing_place, repeats};
-ghost use Rattle.pz_repeats.specs.Tips.{tip, tip_of};
-ghost use Rattle.pz_repeats.specs.Outers.{outer_places};
-ghost use Rattle.pz_repeats.specs.EndList.{outers, of_decl};
+ghost use Rattle.pz_repeats.specs.devices.Again.{thing_place, repeats};
+ghost use Rattle.pz_repeats.specs.devices.Tips.{tip, tip_of};
+ghost use Rattle.pz_repeats.specs.devices.Outers.{outer_places};
+ghost use Rattle.pz_repeats.specs.devices.EndList.{outers, of_decl};
 
 use crate::again::least_again;
-use crate::places::Thing;
-use pz_ast::{Channel, ChannelEnd, Decl, Model};
+use crate::places::{Alike, Thing};
 use pz_classes::{channels_of, is_cluster};
 use pz_items::Items;
+use pz_syntax::{Channel, ChannelEnd, Decl, Model};
 use pz_violation::Violation;
 use std::alloc::{AllocError, Global};
 
@@ -27,10 +27,6 @@ pub(crate) enum EndKey<'a> {
     /// A port of the cluster class itself.
     Outer(&'a [u8]),
 }
-
-/// Any port of the cluster class itself.
-#[derive(Clone, Copy, Debug, PartialEq, Eq, Hash)]
-pub(crate) struct Outside;
 
 fn end_thing(end: &ChannelEnd) -> Thing<EndKey>
     ensures { tip_of result ≡ tip end.now }
@@ -78,14 +74,14 @@ fn least_end(
 }
 
 /// The ports of the cluster class itself among these ends.
-fn outer_things(alloc: Global, ends: &[ChannelEnd]) -> Result<Items<Thing<Outside>>, AllocError>
+fn outer_things(alloc: Global, ends: &[ChannelEnd]) -> Result<Items<Thing<Alike>>, AllocError>
     ensures { IfOk result (λ things. map thing_place things ≡ outer_places ends.now) }
 {
     let mut things = Items::new(alloc);
     for end in ends {
         if let ChannelEnd::Outer(port) = end {
             things.push(Thing {
-                key: Outside,
+                key: Alike,
                 place: port.pos,
             })?;
         }

@@ -1,16 +1,16 @@
 // What classes inherit by name.
 
 ghost use Rattle.std.specs.Prelude.{◌≡◌, ◌++◌, map, IfOk, OnOk};
-ghost use Rattle.pz_ast.specs.ClassView.{decl_view, model_view};
-ghost use Rattle.pz_repeats.specs.Names.{id_of};
+ghost use Rattle.pz_syntax.specs.ClassView.{decl_view, model_view};
+ghost use Rattle.pz_repeats.specs.devices.Names.{id_of};
 ghost use Rattle.pz_repeats.specs.declared.inherited.Inherited.TheVariants.{Fields, Variables, Ports};
-ghost use Rattle.pz_repeats.specs.RepeatList.{own_of, own_at};
+ghost use Rattle.pz_repeats.specs.devices.RepeatList.{own_of, own_at};
 
 use crate::names::{push_optional, push_section};
 use crate::places::Thing;
-use pz_ast::{Decl, Model};
 use pz_classes::declaration;
 use pz_items::Items;
+use pz_syntax::{Decl, Model};
 use std::alloc::{AllocError, Global};
 
 /// What a class inherits by name.

@@ -1,4 +1,4 @@
-//! What is declared twice, and what is connected twice.
+//! What is declared twice, what is connected twice, and that there is one system.
 #![tactic(auto)]
 
 mod again;
@@ -10,10 +10,9 @@ mod methods;
 mod names;
 mod places;
 mod repeats;
+mod systems;
 mod walk;
 
 pub use ends::least_double_end;
 pub use repeats::least_repeat;
-
-#[cfg(test)]
-mod tests;
+pub use systems::least_system;

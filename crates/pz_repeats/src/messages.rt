@@ -2,17 +2,17 @@
 
 ghost use Rattle.std.specs.Prelude.{◌≡◌, [], length, map, IfOk};
 ghost use Rattle.std.specs.Option.{unwrap_or};
-ghost use Rattle.pz_ast.specs.ClassView.{decl_view};
+ghost use Rattle.pz_syntax.specs.ClassView.{decl_view};
 ghost use Rattle.pz_violation.specs.Least.{least_from};
 ghost use Rattle.pz_classes.specs.CallRules.{own_messages};
 ghost use Rattle.pz_classes.specs.RepeatRules.{same_message};
-ghost use Rattle.pz_repeats.specs.Again.{repeats};
-ghost use Rattle.pz_repeats.specs.Signals.{signal, signal_of, message_place};
+ghost use Rattle.pz_repeats.specs.devices.Again.{repeats};
+ghost use Rattle.pz_repeats.specs.devices.Signals.{signal, signal_of, message_place};
 
 use crate::again::least_again;
 use crate::places::Thing;
-use pz_ast::{Decl, Id, Message};
 use pz_items::Items;
+use pz_syntax::{Decl, Id, Message};
 use pz_violation::Violation;
 use std::alloc::{AllocError, Global};
 

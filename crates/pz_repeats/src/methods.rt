@@ -1,17 +1,17 @@
 // Methods that repeat one another.
 
 ghost use Rattle.std.specs.Prelude.{◌≡◌, map, IfOk};
-ghost use Rattle.pz_ast.specs.ClassView.{decl_view, data_method_view, process_method_view};
+ghost use Rattle.pz_syntax.specs.ClassView.{decl_view, data_method_view, process_method_view};
 ghost use Rattle.pz_violation.specs.Least.{least_from};
 ghost use Rattle.pz_classes.specs.RepeatRules.{data_heading, process_heading, headings, same_heading};
-ghost use Rattle.pz_repeats.specs.Again.{repeats};
-ghost use Rattle.pz_repeats.specs.Headings.{heading_of, heading_place};
+ghost use Rattle.pz_repeats.specs.devices.Again.{repeats};
+ghost use Rattle.pz_repeats.specs.devices.Headings.{heading_of, heading_place};
 
 use crate::again::least_again;
 use crate::places::Thing;
-use pz_ast::{DataMethod, Decl, ProcessMethod};
 use pz_classes::{count_names, count_section};
 use pz_items::Items;
+use pz_syntax::{DataMethod, Decl, ProcessMethod};
 use pz_violation::Violation;
 use std::alloc::{AllocError, Global};
 

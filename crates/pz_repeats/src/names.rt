@@ -2,17 +2,17 @@
 
 ghost use Rattle.std.specs.Prelude.{◌≡◌, ◌++◌, [], map, IfOk, OnOk};
 ghost use Rattle.std.specs.Option.{unwrap_or};
-ghost use Rattle.pz_ast.specs.declared.clusters.Instance.{Instance as Tree};
+ghost use Rattle.pz_syntax.specs.declared.clusters.Instance.{Instance as Tree};
 ghost use Rattle.pz_violation.specs.Least.{least_from};
 ghost use Rattle.pz_classes.specs.Members.{grouped, section};
 ghost use Rattle.pz_classes.specs.RepeatRules.{same_name};
-ghost use Rattle.pz_repeats.specs.Again.{repeats};
-ghost use Rattle.pz_repeats.specs.Names.{id_of, id_place};
+ghost use Rattle.pz_repeats.specs.devices.Again.{repeats};
+ghost use Rattle.pz_repeats.specs.devices.Names.{id_of, id_place};
 
 use crate::again::least_again;
 use crate::places::Thing;
-use pz_ast::{Id, Instance, VarGroup};
 use pz_items::Items;
+use pz_syntax::{Id, Instance, VarGroup};
 use pz_violation::Violation;
 use std::alloc::{AllocError, Global};
 

@@ -1,13 +1,11 @@
 // Things that may repeat one another, and the earliest place of each key.
 
-ghost use Rattle.std.specs.Prelude.{◌≡◌, Some, OnOk, false, if◌then◌else◌};
-ghost use Rattle.std.specs.Option.{option_map_or};
+ghost use Rattle.std.specs.Prelude.{◌≡◌, Some, IfOk, OnOk, if◌then◌else◌};
 ghost use Rattle.indexmap.specs.IndexMap.{get};
-ghost use Rattle.pz_violation.specs.Order as order;
-ghost use Rattle.pz_repeats.specs.Earlier.{earlier};
+ghost use Rattle.pz_repeats.specs.devices.Earlier.{earlier};
 
 use indexmap::IndexMap;
-use pz_ast::Pos;
+use pz_syntax::Pos;
 use pz_violation::pos_before;
 use std::alloc::AllocError;
 use std::hash::Hash;
@@ -18,6 +16,10 @@ pub(crate) struct Thing<K> {
     pub(crate) key: K,
     pub(crate) place: Pos,
 }
+
+/// What things share of which any two repeat each other.
+#[derive(Clone, Copy, Debug, PartialEq, Eq, Hash)]
+pub(crate) struct Alike;
 
 /// The earlier of two places, the one found first where neither is earlier.
 pub(crate) fn earlier_place(found: Option<Pos>, place: Pos) -> Pos
@@ -33,24 +35,17 @@ pub(crate) fn earlier_place(found: Option<Pos>, place: Pos) -> Pos
     }
 }
 
-/// Notes where a thing stands, among the earliest places of keys. The only error is want of memory.
+/// Notes where a thing stands, among the earliest places of keys, and gives the place that its key
+/// had before. The only error is want of memory.
 pub(crate) fn note<K: Hash + Eq + Copy>(
     places: &mut IndexMap<K, Pos>,
     thing: &Thing<K>,
-) -> Result<(), AllocError>
-    ensures { OnOk result ((key : K) → get K.eq places.new key ≡ (if K.eq key thing.now.key then earlier (get K.eq places.old key) thing.now.place else get K.eq places.old key)) }
+) -> Result<Option<Pos>, AllocError>
+    ensures first { IfOk result (λ first. first ≡ get K.eq places.old thing.now.key) }
+    ensures noted { OnOk result ((key : K) → get K.eq places.new key ≡ (if K.eq key thing.now.key then earlier (get K.eq places.old key) thing.now.place else get K.eq places.old key)) }
 {
-    let place = earlier_place(places.get(&thing.key).copied(), thing.place);
+    let first = places.get(&thing.key).copied();
+    let place = earlier_place(first, thing.place);
     places.insert(thing.key, place)?;
-    Ok(())
-}
-
-/// Whether a thing stands behind the earliest place of its key.
-pub(crate) fn has_earlier<K: Hash + Eq + Copy>(places: &IndexMap<K, Pos>, thing: &Thing<K>) -> bool
-    ensures { result ≡ option_map_or (λ p. order.pos_before p thing.now.place) (get K.eq places.now thing.now.key) false }
-{
-    match places.get(&thing.key) {
-        Some(first) => pos_before(*first, thing.place),
-        None => false,
-    }
+    Ok(first)
 }

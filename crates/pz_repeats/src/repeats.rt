@@ -2,21 +2,21 @@
 
 ghost use Rattle.std.specs.Prelude.{◌≡◌, IfOk};
 ghost use Rattle.std.specs.List.{flat_map};
-ghost use Rattle.pz_ast.specs.ClassView.{decl_view, model_view};
+ghost use Rattle.pz_syntax.specs.ClassView.{decl_view, model_view};
 ghost use Rattle.pz_mentions.specs.Declarations.{parts};
 ghost use Rattle.pz_violation.specs.Least.{LeastOf, least_from};
 ghost use Rattle.pz_classes.specs.RepeatRules.{BreaksC4};
 ghost use Rattle.pz_classes.specs.Tables.{AreClasses};
-ghost use Rattle.pz_repeats.specs.RepeatList.{of_parts, of_own};
+ghost use Rattle.pz_repeats.specs.devices.RepeatList.{of_parts, of_own};
 
 use crate::inherited::Inherited;
 use crate::messages::least_message;
 use crate::methods::least_method;
 use crate::names::{least_id, least_instance};
 use crate::walk::least_inherited;
-use pz_ast::{Decl, Model};
 use pz_classes::{Classes, instances_of};
 use pz_mentions::parts_of;
+use pz_syntax::{Decl, Model};
 use pz_violation::Violation;
 use std::alloc::{AllocError, Global};
 

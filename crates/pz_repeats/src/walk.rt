@@ -1,19 +1,19 @@
 // Names that repeat one another among a class and its ancestors: all classes in one walk.
 
 ghost use Rattle.std.specs.Prelude.{◌≡◌, List, ◌∷◌, IfOk, OnOk};
-ghost use Rattle.pz_ast.specs.declared.names.Id.{Id};
-ghost use Rattle.pz_ast.specs.ClassView.{model_view};
+ghost use Rattle.pz_syntax.specs.declared.names.Id.{Id};
+ghost use Rattle.pz_syntax.specs.ClassView.{model_view};
 ghost use Rattle.pz_violation.specs.Least.{least_from};
 ghost use Rattle.pz_classes.specs.Preorder.{IsPreorderOf};
-ghost use Rattle.pz_repeats.specs.Inheriting.{found_in};
-ghost use Rattle.pz_repeats.specs.Knowing.{spread, Knows};
-ghost use Rattle.pz_repeats.specs.RepeatList.{own_at, of_visits};
+ghost use Rattle.pz_repeats.specs.devices.Inheriting.{found_in};
+ghost use Rattle.pz_repeats.specs.devices.Knowing.{spread, Knows};
+ghost use Rattle.pz_repeats.specs.devices.RepeatList.{own_at, of_visits};
 
 use crate::declaring::declare_all;
 use crate::inherited::{Inherited, own_names};
-use pz_ast::{Model, Pos};
 use pz_lineage::Visit;
 use pz_nested::Nested;
+use pz_syntax::{Model, Pos};
 use pz_violation::Violation;
 use std::alloc::{AllocError, Global};
 

@@ -1,14 +1,14 @@
 -- The tree of tokens that are those of a model of the first path.
 use Rattle.std.proofs.Common.{◌≡◌, ◌≤◌, ◌∙◌, List, arith}
-use Rattle.pz_ast.specs.declared.tokens.Token.{Token}
-use Rattle.pz_ast.specs.Classes.{ModelTree}
+use Rattle.pz_syntax.specs.declared.tokens.Token.{Token}
+use Rattle.pz_syntax.specs.Classes.{ModelTree}
 use Rattle.pz_ast.specs.HeadsLaw.{TextHasItsHeads}
-use Rattle.pz_ast.specs.ModelNesting.{nesting}
+use Rattle.pz_syntax.specs.ModelNesting.{nesting}
 use Rattle.pz_cursor.specs.Places.{positions}
 use Rattle.pz_first.specs.Grammar.{kinds, IsFirst}
 use Rattle.pz_first.specs.Laws.{FirstPathIsGrammar}
 use Rattle.pz_term.specs.FirstPath.{FirstModel, tree_of, HasBodies}
-use Rattle.pz_run.specs.Reading.{HaveTheirHeads, IsOnlyTree}
+use Rattle.pz_run.specs.devices.Reading.{HaveTheirHeads, IsOnlyTree}
 use Rattle.pz_run.proofs.Heads.{are_marks}
 use Rattle.pz_run.proofs.Placed.{place_first, tree_placed, bodies_placed}
 

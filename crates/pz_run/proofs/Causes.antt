@@ -3,9 +3,9 @@ use Rattle.std.proofs.Common.{◌≡◌, ◌≢◌, ◌⊎◌, inl, inr, ℕ, Li
 use Rattle.std.specs.Prelude.{IfErr}
 use Rattle.std.specs.Result.{IsErrAnd}
 use Rattle.std.proofs.lemmas.Result.{err_from_is_err_and}
-use Rattle.pz_ast.specs.declared.tokens.Pos.{Pos}
-use Rattle.pz_ast.specs.declared.tokens.Token.{Token}
-use Rattle.pz_ast.specs.Classes.{ModelTree}
+use Rattle.pz_syntax.specs.declared.tokens.Pos.{Pos}
+use Rattle.pz_syntax.specs.declared.tokens.Token.{Token}
+use Rattle.pz_syntax.specs.Classes.{ModelTree}
 use Rattle.pz_lexer.specs.declared.error.LexError.{LexError}
 use Rattle.pz_lexer.specs.declared.error.LexError.TheVariants as lex
 use Rattle.pz_lexer.specs.Tokens.{AreTokens}
@@ -25,8 +25,8 @@ use Rattle.pz_check.specs.declared.error.CheckError.TheVariants as check
 use Rattle.pz_check.specs.Together as together
 use Rattle.pz_run.specs.Models.{IsTreeOf, nesting_limit}
 use Rattle.pz_run.specs.Refusals.{IsRefused, no_tokens, no_tree, violates, unbuilt, bad_byte, open_comment, open_string, bad_number, syntax, too_nested, end_of, in_classes, in_rules, IsUnbuilt}
-use Rattle.pz_run.specs.Errors.{of_lexer, of_parser, of_classes, of_checker}
-use Rattle.pz_run.specs.Reading.{AreRead, IsErrorOf, IsRefusedAlways, IsViolationOf, IsUnbuiltFor}
+use Rattle.pz_run.specs.devices.Errors.{of_lexer, of_parser, of_classes, of_checker}
+use Rattle.pz_run.specs.devices.Reading.{AreRead, IsErrorOf, IsRefusedAlways, IsViolationOf, IsUnbuiltFor}
 use Rattle.pz_run.specs.declared.job.Job.{Job}
 use Rattle.pz_run.specs.declared.refusal.Refusal.{Refusal}
 use Rattle.pz_run.specs.declared.refusal.Refusal.TheVariants as refusal

@@ -3,10 +3,10 @@ use Rattle.std.proofs.Common.{◌≡◌, ◌∙◌, refl, sym, ap, ℕ, suc, ◌
 use Rattle.std.specs.Prelude.{slice_get}
 use Rattle.std.proofs.lemmas.List.{drop_all}
 use Rattle.std.specs.List.{flat_map}
-use Rattle.pz_ast.specs.declared.clusters.Decl.{Decl}
-use Rattle.pz_ast.specs.declared.clusters.SystemDecl.{SystemDecl}
-use Rattle.pz_ast.specs.Classes.{DeclTree, system, ModelTree}
-use Rattle.pz_ast.specs.ClassView.{decl_view}
+use Rattle.pz_syntax.specs.declared.clusters.Decl.{Decl}
+use Rattle.pz_syntax.specs.declared.clusters.SystemDecl.{SystemDecl}
+use Rattle.pz_syntax.specs.Classes.{DeclTree, system, ModelTree}
+use Rattle.pz_syntax.specs.ClassView.{decl_view}
 use Rattle.pz_violation.specs.Order.{violation}
 use Rattle.pz_classes.specs.Instances.{instances}
 use Rattle.pz_classes.specs.SizeRules.{system_of, systems, no_system, text_start}

@@ -1,14 +1,16 @@
 -- The names of a model of the first path fit where it violates no rule.
-use Rattle.std.proofs.Common.{◌≡◌, ◌≢◌, ◌∙◌, refl, sym, ℕ, zero, suc, List, [], ◌∷◌, ◌++◌, map, Bool, true, false, Some, None, arith}
+use Rattle.std.proofs.Common.{◌≡◌, ◌≢◌, ◌∙◌, refl, sym, ap, ℕ, zero, suc, ◌<◌, length, slice_get, nat_eq, nat_lt, List, [], ◌∷◌, ◌++◌, map, Bool, true, false, Some, None, arith}
 use Rattle.std.specs.Prelude.{◌||◌, ◌&&◌, not, All, AllPairs, Contains, IsTrue, option_map, if◌then◌else◌}
 use Rattle.std.specs.Option.{option_or, option_map_or, option_and_then, is_none}
 use Rattle.std.specs.List.{list_any, slice_index_or}
 use Rattle.std.specs.Str.{bytes_eq}
 use Rattle.std.proofs.lemmas.List.Elements.{All-nil, All-cons, All-contains_itself, Contains-append_right}
 use Rattle.std.proofs.lemmas.List.Folds.{list_any_at, list_any-append, Any-from_list_any}
+use Rattle.std.proofs.lemmas.Bool.Decides.{nat_tests}
 use Rattle.std.proofs.lemmas.Slice.Eq.{bytes_eq-Decides}
-use Rattle.pz_ast.specs.declared.names.Id.{Id}
-use Rattle.pz_ast.specs.Classes.{DeclTree, process_class, system}
+use Rattle.pz_syntax.specs.declared.tokens.Pos.{Pos}
+use Rattle.pz_syntax.specs.declared.names.Id.{Id}
+use Rattle.pz_syntax.specs.Classes.{DeclTree, process_class, system}
 use Rattle.pz_violation.specs.declared.violation.Violation.{Violation}
 use Rattle.pz_violation.specs.Order.{violation, pos_before}
 use Rattle.pz_mentions.specs.declared.mention.Mention.{Mention}
@@ -16,7 +18,7 @@ use Rattle.pz_mentions.specs.declared.mention.Mention.TheVariants.{Declared, Cal
 use Rattle.pz_mentions.specs.declared.part.Part.{Part}
 use Rattle.pz_mentions.specs.Declarations.{process_head, process_method, system_part}
 use Rattle.pz_mentions.specs.Statements.{mentioned_statements}
-use Rattle.pz_names.specs.ReservedNames.{primitives, unsupported, is_primitive, is_unsupported}
+use Rattle.pz_code.specs.ReservedNames.{primitives, unsupported, is_primitive, is_unsupported}
 use Rattle.pz_classes.specs.declared.method_id.Counts.TheVariants.{Process}
 use Rattle.pz_classes.specs.Numbers.{declaration}
 use Rattle.pz_classes.specs.Kinds.{is_process, is_cluster}
@@ -28,6 +30,24 @@ use Rattle.pz_classes.specs.RepeatRules.{process_heading, again_method}
 use Rattle.pz_classes.specs.Violations.{c1}
 use Rattle.pz_classes.specs.Soundness.{IsSound, a_word, a_repeat}
 use Rattle.pz_term.specs.FirstPath.{Simple, skips, delays, calls, Routine, FirstModel, statements_of, method_of, class_of, system_of, tree_of, reserved, HasRoutine, IsKnown, NamesFit}
+
+-- elements at their places
+there : {A : Type 0} (xs : List A) (i : ℕ) (d : A) → i < length xs → slice_get xs i ≡ Some (slice_index_or xs i d)
+there [] i d within = absurd (omega arith)
+there (x ∷ xs) zero d within = refl
+there (x ∷ xs) (suc i) d within = there xs i d (omega arith)
+
+there_mapped : {A B : Type 0} (f : A → B) (xs : List A) (i : ℕ) (x : A) → slice_get xs i ≡ Some x → slice_get (map f xs) i ≡ Some (f x)
+there_mapped f [] i x here = cc
+there_mapped f (y ∷ ys) zero x here = let same : y ≡ x = cc in ap (λ z. Some (f z)) same
+there_mapped f (y ∷ ys) (suc i) x here = there_mapped f ys i x here
+
+-- by two numbers in turn
+not_both : (a b x y : ℕ) → (nat_lt a x || (nat_eq a x && nat_lt b y)) ≡ true → (nat_lt x a || (nat_eq x a && nat_lt y b)) ≡ false
+not_both a b x y is = grind (arith, nat_tests)
+
+not_later : (p q : Pos) → IsTrue (pos_before p q) → pos_before q p ≡ false
+not_later p q is = not_both p.line p.column q.line q.column is
 
 same_bytes : (x y : List ℕ) → bytes_eq x y ≡ true → x ≡ y
 same_bytes x y e = (bytes_eq-Decides x y).0 e
@@ -136,10 +156,13 @@ module _ (m : FirstModel) (sound : IsSound (tree_of m)) where
       let s : Routine = slice_index_or m.routines j d in
       sound.rules (violation 4 s.name.pos) (a_repeat (violation 4 s.name.pos) (again_method 1 the_class (process_heading (method_of s)) refl (record {
         first = process_heading (method_of r);
-        first_in = contains_map process_heading (map method_of m.routines) (method_of r) (contains_map method_of m.routines r (All-contains_itself m.routines i d (omega (arith, before, within))));
-        again_in = contains_map process_heading (map method_of m.routines) (method_of s) (contains_map method_of m.routines s (All-contains_itself m.routines j d within));
+        first_at = i;
+        again_at = j;
+        first_there = there_mapped process_heading (map method_of m.routines) i (method_of r) (there_mapped method_of m.routines i r (there m.routines i d (omega (arith, before, within))));
+        again_there = there_mapped process_heading (map method_of m.routines) j (method_of s) (there_mapped method_of m.routines j s (there m.routines j d within));
+        apart = λ one. omega (arith, one, before);
         alike = bytes_same r.name.name s.name.name same;
-        later = in_order i j d before within;
+        later = not_later r.name.pos s.name.pos (in_order i j d before within);
       })))
 
   instance_mentioned : Mentions (tree_of m) 2 (system (system_of m)) (system_part (system_of m)) (Instantiated m.of_class)

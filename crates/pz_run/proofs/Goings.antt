@@ -12,10 +12,11 @@ use Rattle.pz_term.specs.Laws.{OneMoment, OneFirstRun, EveryFirstRun, ActsAfterT
 use Rattle.pz_term.specs.Runs.{Event, acted, passed, Ending, ended, deadlocked, stopped, IsChoice, IsFirstRun}
 use Rattle.pz_term.specs.Simulations.{Simulation, IsMomentOf, Chooses, Passes}
 use Rattle.pz_run.specs.Lines.{ending_line}
-use Rattle.pz_run.specs.Output.{action_limit}
+use Rattle.pz_run.specs.declared.limits.TheConstants.{ACTION_LIMIT}
 use Rattle.pz_run.specs.Status.{status_of}
 use Rattle.pz_run.specs.TraceText.{event_line, rest_text}
-use Rattle.pz_run.specs.Writing.{Sinks, Wrote}
+use Rattle.pz_io.specs.Outside.{SinkState}
+use Rattle.pz_run.specs.devices.Writing.{Wrote}
 use Rattle.pz_run.specs.declared.printing.Halt.{Halt}
 use Rattle.pz_run.specs.declared.status.Status.{Status}
 use Rattle.pz_run.proofs.Now.{of_whole, some_choice}
@@ -23,7 +24,7 @@ use Rattle.pz_run.proofs.Rests as rests
 use Rattle.pz_run.proofs.Rests.{Leaves}
 use Rattle.pz_run.proofs.Weights.{weight}
 
-pub record Going (path : List ℕ) (first : Simulation) (before : Sinks) (s : Simulation) (m : Moment) (left : ℕ) (now : Sinks) : Type 0 where
+pub record Going (path : List ℕ) (first : Simulation) (before : SinkState) (s : Simulation) (m : Moment) (left : ℕ) (now : SinkState) : Type 0 where
   pub whole : s.broken ≡ false
   pub bodies : s.bodies ≡ first.bodies
   pub moment : IsMomentOf s m
@@ -39,7 +40,7 @@ weight_small Finished = omega arith
 weight_small Deadlock = omega arith
 weight_small Broken = omega arith
 
-module _ (path : List ℕ) (first : Simulation) (before : Sinks) where
+module _ (path : List ℕ) (first : Simulation) (before : SinkState) where
   pub at_first : OneFirstRun → (m : Moment) → first.broken ≡ false → first.config.clock ≡ 0 → IsMomentOf first m → ((d : ℕ) → m ≡ Time d → d < 2 ^ 64) → Going path first before first m 1000 before
   at_first one m whole early is short = record {
     whole = whole;
@@ -50,7 +51,7 @@ module _ (path : List ℕ) (first : Simulation) (before : Sinks) where
     leaves = rests.at_start path first.bodies first.config before one;
   }
 
-  module _ (one : OneMoment) (s : Simulation) (left : ℕ) (now : Sinks) where
+  module _ (one : OneMoment) (s : Simulation) (left : ℕ) (now : SinkState) where
     -- a passing of time
     module _ (d : ℕ) (going : Going path first before s (Time d) left now) where
       waits : IsMoment s.config (Time d)
@@ -64,7 +65,7 @@ module _ (path : List ℕ) (first : Simulation) (before : Sinks) where
           same_time : Time passes.time ≡ Time d → passes.time ≡ d
           same_time e = cc
 
-      pub passes_on : {T : Type 0} (after_time : ActsAfterTime) (t : Simulation) (m : Moment) (after : Sinks) (v : T) → Passes s t → Wrote {T = T} now after (event_line path (passed s.config.clock d)) (Ok v) → IsMomentOf t m → ((e : ℕ) → m ≡ Time e → e < 2 ^ 64) → Going path first before t m left after
+      pub passes_on : {T : Type 0} (after_time : ActsAfterTime) (t : Simulation) (m : Moment) (after : SinkState) (v : T) → Passes s t → Wrote {T = T} now after (event_line path (passed s.config.clock d)) (Ok v) → IsMomentOf t m → ((e : ℕ) → m ≡ Time e → e < 2 ^ 64) → Going path first before t m left after
       passes_on after_time t m after v passes wrote is short =
           let reached = passed_by t passes in
           let whole : t.broken ≡ false = ap (λ (u : Simulation). u.broken) reached ∙ going.whole in
@@ -82,7 +83,7 @@ module _ (path : List ℕ) (first : Simulation) (before : Sinks) where
             leaves = subst (λ (c : Config). Leaves path first.bodies first.config c left before after) (sym config) (rests.passed_on path first.bodies first.config before s.config left now after d v going.leaves waits wrote);
           }
 
-      pub passing_fails : {T : Type 0} (every : EveryFirstRun) (after : Sinks) (es : List Event) (t : ℕ) (x : Ending) → IsFirstRun first.bodies action_limit first.config es t x → (e : Halt) (r : Result Status Halt)
+      pub passing_fails : {T : Type 0} (every : EveryFirstRun) (after : SinkState) (es : List Event) (t : ℕ) (x : Ending) → IsFirstRun first.bodies ACTION_LIMIT first.config es t x → (e : Halt) (r : Result Status Halt)
           → Wrote {T = T} now after (event_line path (passed s.config.clock d)) (Err e) → IsErrAnd r (λ y. y ≡ e)
           → Wrote before after (rest_text path es t x) r × IfOk r (λ given. given ≡ status_of x)
       passing_fails every after es t x whole e r wrote is_err = rests.passing_stops path first.bodies first.config before s.config left now after es t x whole every d e r going.leaves waits wrote is_err
@@ -92,7 +93,7 @@ module _ (path : List ℕ) (first : Simulation) (before : Sinks) where
       acts : IsMoment s.config (Actions n)
       acts = of_whole s (Actions n) going.whole going.moment
 
-      pub acts_on : {T : Type 0} (t : Simulation) (m : Moment) (after : Sinks) (v : T) → Chooses s t 0 → ((a : Action) → IsChoice s.config n 0 a → Wrote {T = T} now after (event_line path (acted s.config.clock n 0 a)) (Ok v)) → IsMomentOf t m → ((e : ℕ) → m ≡ Time e → e < 2 ^ 64) → Going path first before t m left after
+      pub acts_on : {T : Type 0} (t : Simulation) (m : Moment) (after : SinkState) (v : T) → Chooses s t 0 → ((a : Action) → IsChoice s.config n 0 a → Wrote {T = T} now after (event_line path (acted s.config.clock n 0 a)) (Ok v)) → IsMomentOf t m → ((e : ℕ) → m ≡ Time e → e < 2 ^ 64) → Going path first before t m left after
       acts_on t m after v chooses wrote is short =
           let count : chooses.count ≡ n = same_count (one s.config (Actions chooses.count) (Actions n) (of_whole s (Actions chooses.count) going.whole chooses.moment) acts) in
           let choice : IsChoice s.config n 0 chooses.action = subst (λ (k : ℕ). IsChoice s.config k 0 chooses.action) count chooses.choice in
@@ -115,7 +116,7 @@ module _ (path : List ℕ) (first : Simulation) (before : Sinks) where
           keeps_clock : (a : Action) → (next first.bodies s.config a).clock ≡ s.config.clock
           keeps_clock (Internal at kind pos) = refl
 
-      pub acting_fails : {T : Type 0} (every : EveryFirstRun) (after : Sinks) (es : List Event) (t : ℕ) (x : Ending) → IsFirstRun first.bodies action_limit first.config es t x → (e : Halt) (r : Result Status Halt)
+      pub acting_fails : {T : Type 0} (every : EveryFirstRun) (after : SinkState) (es : List Event) (t : ℕ) (x : Ending) → IsFirstRun first.bodies ACTION_LIMIT first.config es t x → (e : Halt) (r : Result Status Halt)
           → ((a : Action) → IsChoice s.config n 0 a → Wrote {T = T} now after (event_line path (acted s.config.clock n 0 a)) (Err e)) → IsErrAnd r (λ y. y ≡ e)
           → Wrote before after (rest_text path es t x) r × IfOk r (λ given. given ≡ status_of x)
       acting_fails every after es t x whole e r wrote is_err =
@@ -123,7 +124,7 @@ module _ (path : List ℕ) (first : Simulation) (before : Sinks) where
           rests.acting_stops path first.bodies first.config before s.config left now after es t x whole every n a.0 e r going.leaves acts a.1 (wrote a.0 a.1) is_err
 
   -- the last line
-  module _ (s : Simulation) (left : ℕ) (now after : Sinks) (es : List Event) (t : ℕ) (x : Ending) (whole : IsFirstRun first.bodies action_limit first.config es t x) (r : Result Status Halt) where
+  module _ (s : Simulation) (left : ℕ) (now after : SinkState) (es : List Event) (t : ℕ) (x : Ending) (whole : IsFirstRun first.bodies ACTION_LIMIT first.config es t x) (r : Result Status Halt) where
     pub finishes : Going path first before s Finished left now → Wrote now after (ending_line s.config.clock ended) r → IfOk r (λ given. given ≡ status_of ended) → Wrote before after (rest_text path es t x) r × IfOk r (λ given. given ≡ status_of x)
     finishes going = rests.ends_here path first.bodies first.config before s.config left now after es t x whole going.leaves (of_whole s Finished going.whole going.moment) r
 

@@ -1,18 +1,18 @@
 -- The tokens of a text are marked as the rule for heads marks them, and so are those of a tree.
 use Rattle.std.proofs.Common.{◌≡◌, List, [], ◌∷◌, map, Bool, refl, sym, ap, subst, ◌∙◌, ℕ}
-use Rattle.pz_ast.specs.declared.tokens.Mark.{Mark}
-use Rattle.pz_ast.specs.declared.tokens.Token.{Token}
-use Rattle.pz_ast.specs.declared.tokens.TokenKind.{TokenKind}
-use Rattle.pz_ast.specs.Classes.{ModelTree}
-use Rattle.pz_ast.specs.Heads.{role, is_head, heads}
+use Rattle.pz_syntax.specs.declared.tokens.Mark.{Mark}
+use Rattle.pz_syntax.specs.declared.tokens.Token.{Token}
+use Rattle.pz_syntax.specs.declared.tokens.TokenKind.{TokenKind}
+use Rattle.pz_syntax.specs.Classes.{ModelTree}
+use Rattle.pz_syntax.specs.Heads.{role, is_head, heads}
 use Rattle.pz_ast.specs.HeadsLaw.{TextHasItsHeads}
-use Rattle.pz_ast.specs.ModelForm.{IsModel}
-use Rattle.pz_ast.specs.ModelText as model
-use Rattle.pz_cursor.specs.Input.{marks}
+use Rattle.pz_syntax.specs.ModelForm.{IsModel}
+use Rattle.pz_syntax.specs.ModelText as model
+use Rattle.pz_cursor.specs.devices.Input.{marks}
 use Rattle.pz_lexer.specs.Places.{origin}
 use Rattle.pz_lexer.specs.Tokens.{Placed, placed, marked, AreTokens}
 use Rattle.pz_first.specs.Grammar.{kinds}
-use Rattle.pz_run.specs.Reading.{head_marks, HaveTheirHeads}
+use Rattle.pz_run.specs.devices.Reading.{head_marks, HaveTheirHeads}
 
 abbrev placed_kinds : List Placed → List TokenKind
 placed_kinds = map (λ t. t.kind)

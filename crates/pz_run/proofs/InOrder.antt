@@ -4,13 +4,13 @@ use Rattle.std.specs.Prelude.{AllPairs, IsTrue}
 use Rattle.std.specs.List.{slice_index_or}
 use Rattle.std.specs.Option.{unwrap_or}
 use Rattle.std.proofs.lemmas.List.{length-map}
-use Rattle.pz_ast.specs.declared.tokens.Mark.{Mark}
-use Rattle.pz_ast.specs.declared.tokens.Pos.{Pos}
-use Rattle.pz_ast.specs.declared.tokens.Token.{Token}
-use Rattle.pz_ast.specs.Classes.{DeclTree, process_class, system, ModelTree}
-use Rattle.pz_ast.specs.ClassText.{process_method_text, process_class_text}
-use Rattle.pz_ast.specs.Marks.{each_text}
-use Rattle.pz_ast.specs.ModelText.{decl_text, text}
+use Rattle.pz_syntax.specs.declared.tokens.Mark.{Mark}
+use Rattle.pz_syntax.specs.declared.tokens.Pos.{Pos}
+use Rattle.pz_syntax.specs.declared.tokens.Token.{Token}
+use Rattle.pz_syntax.specs.Classes.{DeclTree, process_class, system, ModelTree}
+use Rattle.pz_syntax.specs.ClassText.{process_method_text, process_class_text}
+use Rattle.pz_syntax.specs.Marks.{each_text}
+use Rattle.pz_syntax.specs.ModelText.{decl_text, text}
 use Rattle.pz_cursor.specs.Places.{positions}
 use Rattle.pz_lexer.specs.Tokens.{AreTokens}
 use Rattle.pz_parser.specs.ProcessPlaces.{methods_at}

@@ -16,4 +16,5 @@ pub mod Goings
 pub mod Keeps
 pub mod Begun
 pub mod SaidRuns
+mod SoundRow
 mod Rows

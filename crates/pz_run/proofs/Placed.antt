@@ -2,12 +2,12 @@
 use Rattle.std.proofs.Common.{◌≡◌, ◌≢◌, ℕ, suc, ◌+◌, List, [], ◌∷◌, length, None, map, refl, ap}
 use Rattle.std.specs.Prelude.{All}
 use Rattle.std.proofs.lemmas.List.Elements.{All-nil, All-cons, All-head, All-tail}
-use Rattle.pz_ast.specs.declared.tokens.Pos.{Pos}
-use Rattle.pz_ast.specs.ClassText.{process_method_text}
-use Rattle.pz_ast.specs.StatementText as statement
-use Rattle.pz_ast.specs.Statements.{Statements}
-use Rattle.pz_ast.specs.Classes.{process_class}
-use Rattle.pz_ast.specs.ModelText.{decl_text}
+use Rattle.pz_syntax.specs.declared.tokens.Pos.{Pos}
+use Rattle.pz_syntax.specs.ClassText.{process_method_text}
+use Rattle.pz_syntax.specs.StatementText as statement
+use Rattle.pz_syntax.specs.Statements.{Statements}
+use Rattle.pz_syntax.specs.Classes.{process_class}
+use Rattle.pz_syntax.specs.ModelText.{decl_text}
 use Rattle.pz_cursor.specs.Places.{place_id}
 use Rattle.pz_statements.specs.StatementPlaces.{place, place_all, place_tail}
 use Rattle.pz_parser.specs.ProcessPlaces.{body_at, place_process_method, place_process_methods, start_at, methods_at}

@@ -10,27 +10,28 @@ use Rattle.pz_term.specs.Moments.{IsMoment}
 use Rattle.pz_term.specs.Laws.{OneFirstRun, EveryFirstRun}
 use Rattle.pz_term.specs.Runs.{Event, acted, passed, Ending, ended, deadlocked, stopped, IsChoice, IsFirstRun, acts, passes, ends, deadlocks, stops}
 use Rattle.pz_run.specs.Lines.{ending_line}
-use Rattle.pz_run.specs.Output.{action_limit}
+use Rattle.pz_run.specs.declared.limits.TheConstants.{ACTION_LIMIT}
 use Rattle.pz_run.specs.Status.{status_of}
 use Rattle.pz_run.specs.TraceText.{event_line, rest_text}
-use Rattle.pz_run.specs.Writing.{Sinks, Wrote, SoFar}
+use Rattle.pz_io.specs.Outside.{SinkState}
+use Rattle.pz_run.specs.devices.Writing.{Wrote, SoFar}
 use Rattle.pz_run.specs.declared.printing.Halt.{Halt}
 use Rattle.pz_run.specs.declared.status.Status.{Status}
 use Rattle.pz_run.proofs.Writes as writes
 
 -- whatever the run from here on is, its text is what is still to be written of the whole run's
-pub record Leaves (path : List ℕ) (b : Bodies) (start c : Config) (left : ℕ) (before now : Sinks) : Type 0 where
-  pub text : (es fs : List Event) (t u : ℕ) (x y : Ending) → IsFirstRun b action_limit start es t x → IsFirstRun b left c fs u y → SoFar before now (rest_text path fs u y) (rest_text path es t x)
-  pub ending : (es fs : List Event) (t u : ℕ) (x y : Ending) → IsFirstRun b action_limit start es t x → IsFirstRun b left c fs u y → y ≡ x
+pub record Leaves (path : List ℕ) (b : Bodies) (start c : Config) (left : ℕ) (before now : SinkState) : Type 0 where
+  pub text : (es fs : List Event) (t u : ℕ) (x y : Ending) → IsFirstRun b ACTION_LIMIT start es t x → IsFirstRun b left c fs u y → SoFar before now (rest_text path fs u y) (rest_text path es t x)
+  pub ending : (es fs : List Event) (t u : ℕ) (x y : Ending) → IsFirstRun b ACTION_LIMIT start es t x → IsFirstRun b left c fs u y → y ≡ x
 
-module _ (path : List ℕ) (b : Bodies) (start : Config) (before : Sinks) where
-  pub at_start : OneFirstRun → Leaves path b start start action_limit before before
+module _ (path : List ℕ) (b : Bodies) (start : Config) (before : SinkState) where
+  pub at_start : OneFirstRun → Leaves path b start start ACTION_LIMIT before before
   at_start one = record {
-    text = λ es fs t u x y whole rest. let same = one b action_limit start es fs t u x y whole rest in rw (same.0, same.1, same.2) (writes.started before (rest_text path fs u y));
-    ending = λ es fs t u x y whole rest. sym (one b action_limit start es fs t u x y whole rest).2;
+    text = λ es fs t u x y whole rest. let same = one b ACTION_LIMIT start es fs t u x y whole rest in rw (same.0, same.1, same.2) (writes.started before (rest_text path fs u y));
+    ending = λ es fs t u x y whole rest. sym (one b ACTION_LIMIT start es fs t u x y whole rest).2;
   }
 
-  module _ (c : Config) (left : ℕ) (now after : Sinks) where
+  module _ (c : Config) (left : ℕ) (now after : SinkState) where
     pub passed_on : {T : Type 0} (d : ℕ) (v : T) → Leaves path b start c left before now → IsMoment c (Time d) → Wrote {T = T} now after (event_line path (passed c.clock d)) (Ok v) → Leaves path b start (pass d c) left before after
     passed_on d v leaves is wrote = record {
       text = λ es fs t u x y whole rest.
@@ -47,7 +48,7 @@ module _ (path : List ℕ) (b : Bodies) (start : Config) (before : Sinks) where
       ending = λ es fs t u x y whole rest. leaves.ending es (acted c.clock n 0 a ∷ fs) t u x y whole (acts left c n a fs u y is choice rest);
     }
 
-  module _ (c : Config) (left : ℕ) (now after : Sinks) (es : List Event) (t : ℕ) (x : Ending) (whole : IsFirstRun b action_limit start es t x) where
+  module _ (c : Config) (left : ℕ) (now after : SinkState) (es : List Event) (t : ℕ) (x : Ending) (whole : IsFirstRun b ACTION_LIMIT start es t x) where
     abbrev Answers : Result Status Halt → Type 0
     Answers r = Wrote before after (rest_text path es t x) r × IfOk r (λ given. given ≡ status_of x)
 

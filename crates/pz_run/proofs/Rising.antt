@@ -1,15 +1,15 @@
 -- Of the tokens of a text, each stands behind those before it.
 use Rattle.std.proofs.Common.{◌≡◌, ◌∙◌, ◌⊎◌, inl, inr, refl, sym, ap, subst, ℕ, zero, suc, ◌+◌, ◌<◌, List, [], ◌∷◌, ◌++◌, map, length, Bool, true, false, if◌then◌else◌, ◌||◌, ◌&&◌, nat_eq, nat_lt, ◌==◌, arith}
 use Rattle.std.proofs.lemmas.Bool.Decides.{nat_tests}
-use Rattle.pz_ast.specs.declared.tokens.Pos.{Pos}
-use Rattle.pz_ast.specs.declared.tokens.Token.{Token}
-use Rattle.pz_ast.specs.Heads.{heads}
+use Rattle.pz_syntax.specs.declared.tokens.Pos.{Pos}
+use Rattle.pz_syntax.specs.declared.tokens.Token.{Token}
+use Rattle.pz_syntax.specs.Heads.{heads}
 use Rattle.pz_cursor.specs.Places.{positions}
 use Rattle.pz_lexer.specs.declared.pieces.Reason.{Reason}
 use Rattle.pz_lexer.specs.declared.pieces.Sort.{Sort}
 use Rattle.pz_lexer.specs.Pieces.{IsPiece, Piece, joined, ArePieces}
 use Rattle.pz_lexer.specs.Places.{origin, after_byte, place_after}
-use Rattle.pz_lexer.specs.Step.{piece, stop}
+use Rattle.pz_lexer.specs.devices.Step.{piece, stop}
 use Rattle.pz_lexer.specs.Tokens.{Placed, kept, placed, marked, AreTokens}
 use Rattle.pz_lexer.proofs.Steps.{HasByte, IsRight}
 use Rattle.pz_lexer.proofs.FirstStep.{piece_found, step_right}

@@ -1,15 +1,15 @@
 -- A model of the first path that violates no rule.
 use Rattle.std.proofs.Common.{◌≡◌, ℕ, List, subst}
-use Rattle.pz_ast.specs.declared.tokens.Pos.{Pos}
-use Rattle.pz_ast.specs.declared.tokens.Token.{Token}
-use Rattle.pz_ast.specs.Classes.{ModelTree}
+use Rattle.pz_syntax.specs.declared.tokens.Pos.{Pos}
+use Rattle.pz_syntax.specs.declared.tokens.Token.{Token}
+use Rattle.pz_syntax.specs.Classes.{ModelTree}
 use Rattle.pz_ast.specs.HeadsLaw.{TextHasItsHeads}
 use Rattle.pz_classes.specs.Soundness.{IsSound}
 use Rattle.pz_first.specs.Grammar.{kinds, IsFirst}
 use Rattle.pz_first.specs.Laws.{FirstPathIsGrammar}
 use Rattle.pz_term.specs.FirstPath.{FirstModel, tree_of, IsFirstPath}
 use Rattle.pz_run.specs.Models.{IsTreeOf, IsModelOf}
-use Rattle.pz_run.specs.Reading.{AreRead}
+use Rattle.pz_run.specs.devices.Reading.{AreRead}
 use Rattle.pz_run.proofs.Built.{first_tree}
 use Rattle.pz_run.proofs.Fitting.{names_fit}
 use Rattle.pz_run.proofs.Heads.{tokens_have_heads}

@@ -1,9 +1,9 @@
 -- What a check says of a sound model, and what it does not count yet: cluster classes and channels.
 use Rattle.std.specs.Prelude.{◌≡◌, ℕ, List, [], ◌∷◌, length, map, Contains}
 use Rattle.std.specs.List.{flat_map}
-use Rattle.pz_ast.specs.declared.tokens.Pos.{Pos}
-use Rattle.pz_ast.specs.declared.clusters.SystemDecl.{SystemDecl}
-use Rattle.pz_ast.specs.Classes.{DeclTree, cluster_class, system, ModelTree}
+use Rattle.pz_syntax.specs.declared.tokens.Pos.{Pos}
+use Rattle.pz_syntax.specs.declared.clusters.SystemDecl.{SystemDecl}
+use Rattle.pz_syntax.specs.Classes.{DeclTree, cluster_class, system, ModelTree}
 use Rattle.pz_classes.specs.Instances.{instances, channels}
 use Rattle.pz_classes.specs.SizeRules.{systems}
 use Rattle.pz_classes.specs.Soundness.{IsSound}

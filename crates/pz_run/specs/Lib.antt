@@ -1,13 +1,11 @@
 pub mod Models
 pub mod Accepted
 pub mod Refusals
-pub mod Errors
-pub mod Reading
 pub mod Words
+pub mod Taken
 pub mod Lines
 pub mod TraceText
 pub mod Status
 pub mod Output
-pub mod Writing
 pub mod Promises
-pub mod Keeping
+pub mod devices

@@ -1,7 +1,7 @@
 -- The model of a text: its tree, and whether it is one that runs today.
 use Rattle.std.specs.Prelude.{ℕ, List}
-use Rattle.pz_ast.specs.declared.tokens.Token.{Token}
-use Rattle.pz_ast.specs.Classes.{ModelTree}
+use Rattle.pz_syntax.specs.declared.tokens.Token.{Token}
+use Rattle.pz_syntax.specs.Classes.{ModelTree}
 use Rattle.pz_lexer.specs.Tokens.{AreTokens}
 use Rattle.pz_parser.specs.Parsing.{IsTextOf, IsInPlace}
 use Rattle.pz_term.specs.FirstPath.{FirstModel, tree_of, HasBodies, NamesFit}

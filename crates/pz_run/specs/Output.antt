@@ -2,8 +2,8 @@
 -- the words, then the model's size, then whether it is refused, then its run or what is said of it.
 use Rattle.std.specs.Prelude.{◌≡◌, ◌<◌, ◌≤◌, ℕ, List, length, Option, Some, None}
 use Rattle.pz_io.specs.Outside.{Entries, lookup}
-use Rattle.pz_ast.specs.declared.tokens.Token.{Token}
-use Rattle.pz_ast.specs.Classes.{ModelTree}
+use Rattle.pz_syntax.specs.declared.tokens.Token.{Token}
+use Rattle.pz_syntax.specs.Classes.{ModelTree}
 use Rattle.pz_classes.specs.Soundness.{IsSound}
 use Rattle.pz_lexer.specs.Tokens.{AreTokens}
 use Rattle.pz_term.specs.FirstPath.{FirstModel, tree_of}
@@ -18,21 +18,14 @@ use Rattle.pz_run.specs.TraceText.{trace_text}
 use Rattle.pz_run.specs.Words.{asked, asks}
 use Rattle.pz_run.specs.declared.job.Job.{Job}
 use Rattle.pz_run.specs.declared.job.Job.TheVariants.{Run, Check}
+use Rattle.pz_run.specs.declared.limits.TheConstants.{MODEL_LIMIT, ACTION_LIMIT}
 use Rattle.pz_run.specs.declared.refusal.Refusal.{Refusal}
 use Rattle.pz_run.specs.declared.status.Status.{Status}
 use Rattle.pz_run.specs.declared.status.Status.TheVariants.{Done, Usage, ModelRefused, TooLong, ReadFault}
 
--- the most bytes that a model may have
-abbrev pub model_limit : ℕ
-model_limit = 1048576
-
--- a run stops before one action more than these
-abbrev pub action_limit : ℕ
-action_limit = 1000
-
 -- the bytes are the text of the run of this model that always takes the first offer
 pub data PrintsRun (m : FirstModel) : List ℕ → Status → Type 0 where
-  run : (events : List Event) (clock : ℕ) (ending : Ending) → IsFirstRun (bodies_of m) action_limit (start m) events clock ending
+  run : (events : List Event) (clock : ℕ) (ending : Ending) → IsFirstRun (bodies_of m) ACTION_LIMIT (start m) events clock ending
       → PrintsRun m (trace_text m.instance.name events clock ending) (status_of ending)
 
 pub data PrintsModel (text : List ℕ) : Job → List ℕ → Status → Type 0 where
@@ -42,8 +35,8 @@ pub data PrintsModel (text : List ℕ) : Job → List ℕ → Status → Type 0 
 
 pub data PrintsFile (job : Job) (name : List ℕ) : Option (List ℕ) → List ℕ → Status → Type 0 where
   lacks : PrintsFile job name None (read_fault_line name) ReadFault
-  too_long : (text : List ℕ) → model_limit < length text → PrintsFile job name (Some text) (too_long_line name) TooLong
-  reads : (text bytes : List ℕ) (status : Status) → length text ≤ model_limit → PrintsModel text job bytes status → PrintsFile job name (Some text) bytes status
+  too_long : (text : List ℕ) → MODEL_LIMIT < length text → PrintsFile job name (Some text) (too_long_line name) TooLong
+  reads : (text bytes : List ℕ) (status : Status) → length text ≤ MODEL_LIMIT → PrintsModel text job bytes status → PrintsFile job name (Some text) bytes status
 
 pub data Prints (words : List (List ℕ)) (files : Entries) : List ℕ → Status → Type 0 where
   usage : asked words ≡ None → Prints words files usage_line Usage

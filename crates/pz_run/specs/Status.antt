@@ -1,6 +1,8 @@
 -- How the program ends.
 use Rattle.std.specs.Prelude.{ℕ}
 use Rattle.pz_term.specs.Runs.{Ending, ended, deadlocked, stopped}
+use Rattle.pz_run.specs.declared.ending.Ending.{Ending as TheEnding}
+use Rattle.pz_run.specs.declared.ending.Ending.TheVariants as ending
 use Rattle.pz_run.specs.declared.status.Status.{Status}
 use Rattle.pz_run.specs.declared.status.Status.TheVariants.{Done, Deadlock, Usage, ModelRefused, ModelFault, ChoiceRefused, TraceRefused, TooLong, ReadFault, WriteFault, NoMemory}
 
@@ -23,3 +25,9 @@ abbrev pub status_of : Ending → Status
 status_of ended = Done
 status_of deadlocked = Deadlock
 status_of stopped = Done
+
+-- what the program calls an ending
+abbrev pub ending_of : TheEnding → Ending
+ending_of ending.End = ended
+ending_of ending.Deadlock = deadlocked
+ending_of ending.Stop = stopped

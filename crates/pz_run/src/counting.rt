@@ -1,21 +1,21 @@
 //! Models that are accepted, and how large they are.
 ghost use Rattle.std.specs.Prelude.{◌≡◌, ◌-◌, ◌<◌, ◌^◌, IfOk, IfErr, List, ◌∷◌, length, slice_get};
-ghost use Rattle.pz_ast.specs.ClassView.{decl_view, model_view};
-ghost use Rattle.pz_ast.specs.declared.tokens.Pos.{Pos as ThePos};
-ghost use Rattle.pz_ast.specs.declared.tokens.Token.{Token as TheToken};
-ghost use Rattle.pz_ast.specs.Classes.{ModelTree};
+ghost use Rattle.pz_syntax.specs.ClassView.{decl_view, model_view};
+ghost use Rattle.pz_syntax.specs.declared.tokens.Pos.{Pos as ThePos};
+ghost use Rattle.pz_syntax.specs.declared.tokens.Token.{Token as TheToken};
+ghost use Rattle.pz_syntax.specs.Classes.{ModelTree};
 ghost use Rattle.pz_classes.specs.Soundness.{IsSound};
 ghost use Rattle.pz_lexer.specs.Tokens.{AreTokens};
 ghost use Rattle.pz_run.specs.Models.{IsTreeOf};
 ghost use Rattle.pz_run.specs.Accepted.{uncounted, uncounted_in, HasProcesses, IsAccepted};
 ghost use Rattle.pz_run.specs.Refusals.{IsRefused};
-ghost use Rattle.pz_run.specs.Reading.{IsErrorOf};
+ghost use Rattle.pz_run.specs.devices.Reading.{IsErrorOf};
 
 use crate::job::Job;
 use crate::read_error::ReadModelError;
 use crate::reading::read_model;
 use crate::refusal::Refusal;
-use pz_ast::{Decl, Model, Pos};
+use pz_syntax::{Decl, Model, Pos};
 use std::alloc::Global;
 use std::mem::drop;
 

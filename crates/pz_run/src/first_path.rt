@@ -5,7 +5,7 @@ ghost use Rattle.pz_classes.specs.Soundness.{IsSound};
 ghost use Rattle.pz_term.specs.FirstPath.{FirstModel, tree_of};
 ghost use Rattle.pz_run.specs.Models.{IsModelOf};
 ghost use Rattle.pz_run.specs.Refusals.{IsRefused};
-ghost use Rattle.pz_run.specs.Reading.{IsErrorOf};
+ghost use Rattle.pz_run.specs.devices.Reading.{IsErrorOf};
 
 use crate::job::Job;
 use crate::read_error::ReadModelError;

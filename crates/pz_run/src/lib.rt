@@ -2,8 +2,10 @@
 #![tactic(auto)]
 
 mod counting;
+mod ending;
 mod first_path;
 mod job;
+mod limits;
 mod lines;
 mod printing;
 mod program;
@@ -16,6 +18,3 @@ mod words;
 
 pub use program::run_program;
 pub use status::Status;
-
-#[cfg(test)]
-mod tests;

@@ -1,10 +1,11 @@
 // The lines that the program prints. The only error is want of memory.
 ghost use Rattle.std.specs.Prelude.{◌≡◌, ◌++◌, IfOk, string_bytes, codes};
 ghost use Rattle.pz_run.specs.Lines as lines;
-ghost use Rattle.pz_term.specs.Runs.{Ending};
+ghost use Rattle.pz_run.specs.Status.{ending_of};
 
+use crate::ending::Ending;
 use crate::refusal::Refusal;
-use pz_ast::Pos;
+use pz_syntax::Pos;
 use pz_term::{Action, Kind};
 use pz_violation::Violation;
 use std::alloc::{AllocError, Global};
@@ -64,10 +65,11 @@ pub fn time_line(alloc: Global, clock: u128, time: u128) -> Result<String, Alloc
     format!(in alloc; "{clock} time {time}\n")
 }
 
-/// The last line of a trace. The word is `end`, `deadlock` or `stop`.
-pub fn ending_line(alloc: Global, clock: u128, word: &str) -> Result<String, AllocError>
-    ensures { IfOk result (λ line. (ending : Ending) → word.now ≡ lines.ending_word ending → string_bytes line ≡ lines.ending_line clock ending) }
+/// The last line of a trace.
+pub fn ending_line(alloc: Global, clock: u128, ending: Ending) -> Result<String, AllocError>
+    ensures { IfOk result (λ line. string_bytes line ≡ lines.ending_line clock (ending_of ending)) }
 {
+    let word = ending.word();
     format!(in alloc; "{clock} {word}\n")
 }
 

@@ -1,6 +1,6 @@
 // Pieces of the output, and last lines.
 ghost use Rattle.std.specs.Prelude.{◌≡◌, ◌≢◌, List, ℕ, IfOk, string_bytes};
-ghost use Rattle.pz_run.specs.Writing.{Sinks, Wrote, Said};
+ghost use Rattle.pz_run.specs.devices.Writing.{Wrote, Said};
 
 use crate::Status;
 use pz_io::{Sink, write_all};
@@ -25,8 +25,7 @@ impl From<AllocError> for Halt {
 
 /// Writes the text, in one `write_all`.
 pub fn put<W: Sink>(out: &mut W, text: &str) -> Result<(), Halt>
-    ensures { Wrote (record { told = W.told out.old; faults = W.faults out.old; taken = W.taken out.old })
-        (record { told = W.told out.new; faults = W.faults out.new; taken = W.taken out.new }) text.now result }
+    ensures { Wrote (W.state out.old) (W.state out.new) text.now result }
 {
     match write_all(out, text.as_bytes()) {
         Ok(()) => Ok(()),
@@ -38,8 +37,7 @@ pub fn put<W: Sink>(out: &mut W, text: &str) -> Result<(), Halt>
 pub fn say<W: Sink>(out: &mut W, text: &str, status: Status) -> Status
     requires ordinary { status ≢ Status.WriteFault }
     requires ample { status ≢ Status.NoMemory }
-    ensures { Said (record { told = W.told out.old; faults = W.faults out.old; taken = W.taken out.old })
-        (record { told = W.told out.new; faults = W.faults out.new; taken = W.taken out.new }) text.now status result }
+    ensures { Said (W.state out.old) (W.state out.new) text.now status result }
 {
     match put(out, text) {
         Ok(()) => status,
@@ -53,8 +51,7 @@ pub fn say_line<W: Sink>(out: &mut W, line: Result<String, AllocError>, status: 
     requires ordinary { status ≢ Status.WriteFault }
     requires ample { status ≢ Status.NoMemory }
     ensures { (text : List ℕ) → IfOk line (λ made. string_bytes made ≡ text) →
-        Said (record { told = W.told out.old; faults = W.faults out.old; taken = W.taken out.old })
-        (record { told = W.told out.new; faults = W.faults out.new; taken = W.taken out.new }) text status result }
+        Said (W.state out.old) (W.state out.new) text status result }
 {
     match line {
         Ok(line) => say(out, line.as_str(), status),

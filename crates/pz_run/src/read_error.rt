@@ -15,7 +15,7 @@ pub enum ReadModelError {
 
 impl From<LexError> for ReadModelError {
     ghost use Rattle.std.specs.Prelude.{◌≡◌};
-    ghost use Rattle.pz_run.specs.Errors.{of_lexer};
+    ghost use Rattle.pz_run.specs.devices.Errors.{of_lexer};
 
     ghost from_gives = { λ e error. error ≡ of_lexer e };
 
@@ -32,7 +32,7 @@ impl From<LexError> for ReadModelError {
 
 impl From<ParseError> for ReadModelError {
     ghost use Rattle.std.specs.Prelude.{◌≡◌};
-    ghost use Rattle.pz_run.specs.Errors.{of_parser};
+    ghost use Rattle.pz_run.specs.devices.Errors.{of_parser};
 
     ghost from_gives = { λ e error. error ≡ of_parser e };
 
@@ -47,7 +47,7 @@ impl From<ParseError> for ReadModelError {
 
 impl From<BuildError> for ReadModelError {
     ghost use Rattle.std.specs.Prelude.{◌≡◌};
-    ghost use Rattle.pz_run.specs.Errors.{of_classes};
+    ghost use Rattle.pz_run.specs.devices.Errors.{of_classes};
 
     ghost from_gives = { λ e error. error ≡ of_classes e };
 
@@ -63,7 +63,7 @@ impl From<BuildError> for ReadModelError {
 
 impl From<CheckError> for ReadModelError {
     ghost use Rattle.std.specs.Prelude.{◌≡◌};
-    ghost use Rattle.pz_run.specs.Errors.{of_checker};
+    ghost use Rattle.pz_run.specs.devices.Errors.{of_checker};
 
     ghost from_gives = { λ e error. error ≡ of_checker e };
 

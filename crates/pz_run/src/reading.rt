@@ -1,17 +1,17 @@
 //! Reading a model: its tokens, its tree, and whether that violates a rule.
 ghost use Rattle.std.specs.Prelude.{◌≡◌, ◌-◌, ◌<◌, ◌^◌, IfOk, IfErr, length};
-ghost use Rattle.pz_ast.specs.ClassView.{model_view};
+ghost use Rattle.pz_syntax.specs.ClassView.{model_view};
 ghost use Rattle.pz_classes.specs.CheckedView.{checked_model};
 ghost use Rattle.pz_classes.specs.Soundness.{IsSound};
-ghost use Rattle.pz_run.specs.Reading.{AreRead, IsErrorOf, IsRefusedAlways, IsViolationOf};
+ghost use Rattle.pz_run.specs.devices.Reading.{AreRead, IsErrorOf, IsRefusedAlways, IsViolationOf};
 
 use crate::read_error::ReadModelError;
-use pz_ast::{Model, Pos, Token};
 use pz_check::check;
 use pz_classes::{Checked, Classes};
 use pz_items::Items;
 use pz_lexer::{end_of, lex};
 use pz_parser::parse;
+use pz_syntax::{Model, Pos, Token};
 use std::alloc::Global;
 use std::mem::drop;
 

@@ -1,4 +1,4 @@
-use pz_ast::Pos;
+use pz_syntax::Pos;
 use pz_violation::Violation;
 
 /// Why nothing is done with a text, and where. The kinds come in this order: what has no tokens is not
@@ -10,13 +10,13 @@ pub enum Refusal {
     BadByte(Pos),
     /// A comment without end.
     OpenComment(Pos),
-    /// A string or a character that is not closed.
+    /// A string or a character that is not closed, or a character that has not exactly one item.
     OpenString(Pos),
     /// An integer that is too large, or a number that a letter follows.
     BadNumber(Pos),
-    /// The tokens are those of no tree.
+    /// The tokens are those of no tree within 100 constructs one in another.
     Syntax(Pos),
-    /// More than 100 constructs stand one in another.
+    /// The same, where more than 100 tokens begin a construct.
     TooNested(Pos),
     /// A rule of the checker is violated.
     Violates(Violation),

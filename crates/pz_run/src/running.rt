@@ -1,29 +1,27 @@
 // A run, line by line.
 ghost use Rattle.std.specs.Prelude.{◌≡◌, ◌≤◌, ◌<◌, ◌+◌, ◌*◌, ◌^◌, ℕ, List, IfOk, OnOk, false, string_bytes};
-ghost use Rattle.pz_ast.specs.ClassView.{model_view};
+ghost use Rattle.pz_syntax.specs.ClassView.{model_view};
 ghost use Rattle.pz_term.specs.FirstPath.{FirstModel, IsFirstPath, tree_of};
 ghost use Rattle.pz_term.specs.Start.{bodies_of, start};
-ghost use Rattle.pz_term.specs.Runs.{Event, acted, passed, Ending, ended, deadlocked, stopped, IsChoice, IsFirstRun};
+ghost use Rattle.pz_term.specs.Runs.{Event, acted, passed, Ending as AnEnding, IsChoice, IsFirstRun};
 ghost use Rattle.pz_term.specs.declared.action.Action.{Action};
 ghost use Rattle.pz_term.specs.Simulations.{IsMomentOf, Chooses, Passes};
 ghost use Rattle.pz_term.specs.Plains.{simulation_of};
-ghost use Rattle.pz_run.specs.Lines.{ending_line as the_ending_line, ending_word, header};
-ghost use Rattle.pz_run.specs.Output.{action_limit};
-ghost use Rattle.pz_run.specs.Status.{status_of};
+ghost use Rattle.pz_run.specs.Lines.{ending_line as the_ending_line, header};
+ghost use Rattle.pz_run.specs.Status.{ending_of, status_of};
 ghost use Rattle.pz_run.specs.TraceText.{event_line, rest_text, trace_text};
-ghost use Rattle.pz_run.specs.Writing.{Sinks, Wrote};
+ghost use Rattle.pz_run.specs.devices.Writing.{Wrote};
 
 use crate::Status;
+use crate::ending::Ending;
+use crate::limits::ACTION_LIMIT;
 use crate::lines::{HEADER, action_line, ending_line, time_line};
 use crate::printing::{Halt, put};
-use pz_ast::{Decl, Model};
 use pz_io::Sink;
+use pz_syntax::{Decl, Model};
 use pz_term::{ChooseError, Moment, PassError, Plain, laws};
 use std::alloc::{AllocError, Global};
 use std::mem::drop;
-
-// A run stops before one action more.
-const ACTION_LIMIT: u64 = 1000;
 
 // Writes the line of the passing of time that comes now, and lets it pass.
 fn print_passing<W: Sink>(
@@ -36,8 +34,7 @@ fn print_passing<W: Sink>(
     requires whole { (simulation_of plain.old).broken ≡ false }
     requires soon { (simulation_of plain.old).config.clock < 2 ^ 127 }
     ensures passed { OnOk result (Passes (simulation_of plain.old) (simulation_of plain.new)) }
-    ensures wrote { (path : List ℕ) → Wrote (record { told = W.told out.old; faults = W.faults out.old; taken = W.taken out.old })
-        (record { told = W.told out.new; faults = W.faults out.new; taken = W.taken out.new })
+    ensures wrote { (path : List ℕ) → Wrote (W.state out.old) (W.state out.new)
         (event_line path (passed (simulation_of plain.old).config.clock time)) result }
 {
     laws::one_moment();
@@ -85,9 +82,7 @@ fn print_action<W: Sink>(
     requires whole { (simulation_of plain.old).broken ≡ false }
     ensures chosen { OnOk result (Chooses (simulation_of plain.old) (simulation_of plain.new) 0) }
     ensures wrote { (a : Action) → IsChoice (simulation_of plain.old).config offers 0 a →
-        Wrote (record { told = W.told out.old; faults = W.faults out.old; taken = W.taken out.old })
-        (record { told = W.told out.new; faults = W.faults out.new; taken = W.taken out.new })
-        (event_line path.now (acted (simulation_of plain.old).config.clock offers 0 a)) result }
+        Wrote (W.state out.old) (W.state out.new) (event_line path.now (acted (simulation_of plain.old).config.clock offers 0 a)) result }
 {
     laws::one_moment();
     let line = first_line(alloc, path, plain, offers)?;
@@ -104,19 +99,15 @@ fn print_action<W: Sink>(
 fn print_ending<W: Sink>(
     alloc: Global,
     clock: u128,
-    word: &str,
-    status: Status,
+    ending: Ending,
     out: &mut W,
 ) -> Result<Status, Halt>
-    ensures status { IfOk result (λ given. given ≡ status) }
-    ensures wrote { (ending : Ending) → word.now ≡ ending_word ending →
-        Wrote (record { told = W.told out.old; faults = W.faults out.old; taken = W.taken out.old })
-        (record { told = W.told out.new; faults = W.faults out.new; taken = W.taken out.new })
-        (the_ending_line clock ending) result }
+    ensures status { IfOk result (λ status. status ≡ status_of (ending_of ending)) }
+    ensures wrote { Wrote (W.state out.old) (W.state out.new) (the_ending_line clock (ending_of ending)) result }
 {
-    let line = ending_line(alloc, clock, word)?;
+    let line = ending_line(alloc, clock, ending)?;
     put(out, line.as_str())?;
-    Ok(status)
+    Ok(ending.status())
 }
 
 // Writes the rest of the trace, from where the simulator stands.
@@ -128,11 +119,9 @@ fn print_rest<W: Sink>(
 ) -> Result<Status, Halt>
     requires whole { (simulation_of plain.old).broken ≡ false }
     requires early { (simulation_of plain.old).config.clock ≡ 0 }
-    ensures { (events : List Event) (clock : ℕ) (ending : Ending) →
-        IsFirstRun (simulation_of plain.old).bodies action_limit (simulation_of plain.old).config events clock ending →
-        Wrote (record { told = W.told out.old; faults = W.faults out.old; taken = W.taken out.old })
-        (record { told = W.told out.new; faults = W.faults out.new; taken = W.taken out.new })
-        (rest_text path.now events clock ending) result
+    ensures { (events : List Event) (clock : ℕ) (ending : AnEnding) →
+        IsFirstRun (simulation_of plain.old).bodies ACTION_LIMIT (simulation_of plain.old).config events clock ending →
+        Wrote (W.state out.old) (W.state out.new) (rest_text path.now events clock ending) result
         × IfOk result (λ status. status ≡ status_of ending) }
 {
     laws::one_moment();
@@ -145,16 +134,16 @@ fn print_rest<W: Sink>(
             Moment::Time(time) => print_passing(alloc, plain, time, out)?,
             Moment::Actions(offers) => {
                 if left == 0 {
-                    return print_ending(alloc, plain.clock(), "stop", Status::Done, out);
+                    return print_ending(alloc, plain.clock(), Ending::Stop, out);
                 }
                 print_action(alloc, path, plain, offers, out)?;
                 left -= 1;
             }
             Moment::Finished => {
-                return print_ending(alloc, plain.clock(), "end", Status::Done, out);
+                return print_ending(alloc, plain.clock(), Ending::End, out);
             }
             Moment::Deadlock => {
-                return print_ending(alloc, plain.clock(), "deadlock", Status::Deadlock, out);
+                return print_ending(alloc, plain.clock(), Ending::Deadlock, out);
             }
             Moment::Broken => unreachable!(),
         }
@@ -188,11 +177,9 @@ fn print_trace<W: Sink>(
 ) -> Result<Status, Halt>
     requires whole { (simulation_of plain.old).broken ≡ false }
     requires early { (simulation_of plain.old).config.clock ≡ 0 }
-    ensures { (events : List Event) (clock : ℕ) (ending : Ending) →
-        IsFirstRun (simulation_of plain.old).bodies action_limit (simulation_of plain.old).config events clock ending →
-        Wrote (record { told = W.told out.old; faults = W.faults out.old; taken = W.taken out.old })
-        (record { told = W.told out.new; faults = W.faults out.new; taken = W.taken out.new })
-        (trace_text path.now events clock ending) result
+    ensures { (events : List Event) (clock : ℕ) (ending : AnEnding) →
+        IsFirstRun (simulation_of plain.old).bodies ACTION_LIMIT (simulation_of plain.old).config events clock ending →
+        Wrote (W.state out.old) (W.state out.new) (trace_text path.now events clock ending) result
         × IfOk result (λ status. status ≡ status_of ending) }
 {
     put(out, HEADER)?;
@@ -203,11 +190,9 @@ fn print_trace<W: Sink>(
 /// before one action more than the limit. The status is that of the end of the run.
 pub fn run<W: Sink>(alloc: Global, model: &Model, out: &mut W) -> Result<Status, Halt>
     requires { IsFirstPath (model_view model.now) }
-    ensures { (m : FirstModel) → model_view model.now ≡ tree_of m → (events : List Event) (clock : ℕ) (ending : Ending) →
-        IsFirstRun (bodies_of m) action_limit (start m) events clock ending →
-        Wrote (record { told = W.told out.old; faults = W.faults out.old; taken = W.taken out.old })
-        (record { told = W.told out.new; faults = W.faults out.new; taken = W.taken out.new })
-        (trace_text m.instance.name events clock ending) result
+    ensures { (m : FirstModel) → model_view model.now ≡ tree_of m → (events : List Event) (clock : ℕ) (ending : AnEnding) →
+        IsFirstRun (bodies_of m) ACTION_LIMIT (start m) events clock ending →
+        Wrote (W.state out.old) (W.state out.new) (trace_text m.instance.name events clock ending) result
         × IfOk result (λ status. status ≡ status_of ending) }
 {
     let mut plain = Plain::start(alloc, model)?;

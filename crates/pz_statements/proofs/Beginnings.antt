@@ -1,22 +1,22 @@
 -- The first tokens of statements.
 use Rattle.std.proofs.Common.{◌≡◌, ◌≢◌, ℕ, ◌+◌, ◌≤◌, Bool, true, false, List, [], ◌∷◌, ◌++◌, length, refl, ap, sym, ◌∙◌, arith, append_assoc}
-use Rattle.pz_ast.specs.declared.tokens.Pos.{Pos}
-use Rattle.pz_ast.specs.declared.tokens.Symbol.{Symbol}
-use Rattle.pz_ast.specs.declared.tokens.Symbol.TheVariants as s
-use Rattle.pz_ast.specs.declared.tokens.Mark.{Mark}
-use Rattle.pz_ast.specs.declared.names.Id.{Id}
-use Rattle.pz_ast.specs.Marks.{symbol}
-use Rattle.pz_ast.specs.Expressions.{Expression, literal, variable, me, clock, creation, group, chain, sends, unary, assign, returned, choice, loop, no_links, link, no_sendings, sending}
-use Rattle.pz_ast.specs.ExpressionText.{links_text, sendings_text, literal_kind}
-use Rattle.pz_ast.specs.ExpressionText as expression
-use Rattle.pz_ast.specs.ExpressionForm.{IsExpression, IsSign, level}
-use Rattle.pz_ast.specs.Statements.{Statement, skip, delay, bracketed, block, guarded, parallel, select, conditional, repeated, abort, interrupt, send, receive, call, assignment, value, Statements, no_statements, then}
-use Rattle.pz_ast.specs.StatementForm.{MayBeginStatement, IsStatement, AreStatements}
-use Rattle.pz_ast.specs.StatementText.{text, texts, tail_texts}
+use Rattle.pz_syntax.specs.declared.tokens.Pos.{Pos}
+use Rattle.pz_syntax.specs.declared.tokens.Symbol.{Symbol}
+use Rattle.pz_syntax.specs.declared.tokens.Symbol.TheVariants as s
+use Rattle.pz_syntax.specs.declared.tokens.Mark.{Mark}
+use Rattle.pz_syntax.specs.declared.names.Id.{Id}
+use Rattle.pz_syntax.specs.Marks.{symbol}
+use Rattle.pz_syntax.specs.Expressions.{Expression, literal, variable, me, clock, creation, group, chain, sends, unary, assign, returned, choice, loop, no_links, link, no_sendings, sending}
+use Rattle.pz_syntax.specs.ExpressionText.{links_text, sendings_text, literal_kind}
+use Rattle.pz_syntax.specs.ExpressionText as expression
+use Rattle.pz_syntax.specs.ExpressionForm.{IsExpression, IsSign, level}
+use Rattle.pz_syntax.specs.Statements.{Statement, skip, delay, bracketed, block, guarded, parallel, select, conditional, repeated, abort, interrupt, send, receive, call, assignment, value, Statements, no_statements, then}
+use Rattle.pz_syntax.specs.StatementForm.{MayBeginStatement, IsStatement, AreStatements}
+use Rattle.pz_syntax.specs.StatementText.{text, texts, tail_texts}
 use Rattle.pz_cursor.specs.declared.ahead.Next.{Next}
 use Rattle.pz_cursor.specs.declared.ahead.Next.TheVariants as n
-use Rattle.pz_cursor.specs.LookAhead.{next, next_by}
-use Rattle.pz_cursor.specs.Input.{Tokens, marks}
+use Rattle.pz_cursor.specs.devices.LookAhead.{next, next_by}
+use Rattle.pz_cursor.specs.devices.Input.{Tokens, marks}
 use Rattle.pz_cursor.specs.Places.{located}
 use Rattle.pz_cursor.proofs.Reading.{split_located}
 use Rattle.pz_values.proofs.Texts.{starts, begins}

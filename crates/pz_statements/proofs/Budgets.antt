@@ -1,33 +1,33 @@
 -- The rules for statements refuse as too nested only where as many tokens as their budget begin a
 -- construct.
 use Rattle.std.proofs.Common.{◌≡◌, ℕ, zero, suc, ◌≤◌, cond, Some, None, refl, ap, arith}
-use Rattle.pz_ast.specs.declared.tokens.Symbol.TheVariants as s
-use Rattle.pz_ast.specs.declared.tokens.Keyword.{Keyword}
-use Rattle.pz_ast.specs.declared.tokens.Keyword.TheVariants as k
-use Rattle.pz_ast.specs.declared.tokens.TokenKind.{TokenKind}
-use Rattle.pz_ast.specs.declared.tokens.TokenKind.TheVariants as kind
-use Rattle.pz_ast.specs.Expressions.{left_out, written}
-use Rattle.pz_ast.specs.ExpressionView.{list_of as expressions}
-use Rattle.pz_ast.specs.Statements.{StatementPart, not_written}
-use Rattle.pz_ast.specs.Statements as tree
-use Rattle.pz_ast.specs.StatementView.{Tree, sequence_of, branches_of}
+use Rattle.pz_syntax.specs.declared.tokens.Symbol.TheVariants as s
+use Rattle.pz_syntax.specs.declared.tokens.Keyword.{Keyword}
+use Rattle.pz_syntax.specs.declared.tokens.Keyword.TheVariants as k
+use Rattle.pz_syntax.specs.declared.tokens.TokenKind.{TokenKind}
+use Rattle.pz_syntax.specs.declared.tokens.TokenKind.TheVariants as kind
+use Rattle.pz_syntax.specs.Expressions.{left_out, written}
+use Rattle.pz_syntax.specs.ExpressionView.{list_of as expressions}
+use Rattle.pz_syntax.specs.Statements.{StatementPart, not_written}
+use Rattle.pz_syntax.specs.Statements as tree
+use Rattle.pz_syntax.specs.StatementView.{Tree, sequence_of, branches_of}
 use Rattle.pz_cursor.specs.declared.ahead.Next.{Next}
 use Rattle.pz_cursor.specs.declared.ahead.Next.TheVariants as n
-use Rattle.pz_cursor.specs.LookAhead.{next}
-use Rattle.pz_cursor.specs.Input.{Tokens, after, position, identifier, sees}
-use Rattle.pz_cursor.specs.Device.{Parser, ◌>>=◌, ◌>>◌, pure, refuse, ask, skip, take_id, expect, expect_id}
-use Rattle.pz_cursor.specs.Lists.{list_of}
-use Rattle.pz_cursor.specs.Names.{optional_names}
+use Rattle.pz_cursor.specs.devices.LookAhead.{next}
+use Rattle.pz_cursor.specs.devices.Input.{Tokens, after, position, identifier, sees}
+use Rattle.pz_cursor.specs.devices.Device.{Parser, ◌>>=◌, ◌>>◌, pure, refuse, ask, skip, take_id, expect, expect_id}
+use Rattle.pz_cursor.specs.devices.Lists.{list_of}
+use Rattle.pz_cursor.specs.devices.Names.{optional_names}
 use Rattle.pz_cursor.specs.Openers.{opens}
 use Rattle.pz_cursor.proofs.Shown.{token_of}
 use Rattle.pz_cursor.proofs.Steps.{sees_is}
 use Rattle.pz_cursor.proofs.Budget.{BudgetAt, Budget, pure_budget, ask_budget, take_budget, refuse_budget, bind_at, bind_budget, expect_budget, expect_id_budget, opened_at, if_at, optional_budget, list_budget}
 use Rattle.pz_cursor.proofs.NameBudgets.{optional_names_budget}
 use Rattle.pz_values.specs.declared.rule.Rule.TheVariants as rule
-use Rattle.pz_values.specs.Values.{expr, below, enclosed, arguments, test}
+use Rattle.pz_values.specs.devices.Values.{expr, below, enclosed, arguments, test}
 use Rattle.pz_values.proofs.Budgets.{enclosed_at, arguments_budget, test_budget, expr_budget, below_budget}
-use Rattle.pz_statements.specs.Messages.{ReceptionTree, call_results, after_by, after_message, sent, condition, enclosed_reception, reception_by, reception, received, call_arguments, called}
-use Rattle.pz_statements.specs.Statements.{delayed, block, assigned, valued, worded, sequence, bracketed, guarded, branched, parallel, selection, otherwise_by, otherwise, conditional, repeated, handled, aborted, interrupted, statement_by, statement, stmt, stmts}
+use Rattle.pz_statements.specs.devices.Messages.{ReceptionTree, call_results, after_by, after_message, sent, condition, enclosed_reception, reception_by, reception, received, call_arguments, called}
+use Rattle.pz_statements.specs.devices.Statements.{delayed, block, assigned, valued, worded, sequence, bracketed, guarded, branched, parallel, selection, otherwise_by, otherwise, conditional, repeated, handled, aborted, interrupted, statement_by, statement, stmt, stmts}
 
 results_budget : (bound : ℕ) → Budget bound call_results
 unfolding call_results

@@ -1,41 +1,41 @@
 -- Each statement that the grammar has, within the nesting, is read from its text, with the places of
 -- the tokens, before what does not go on with it.
 use Rattle.std.proofs.Common.{◌≡◌, ◌≢◌, ℕ, zero, suc, ◌+◌, ◌<◌, true, [], ◌∷◌, ◌++◌, length, Ok, refl, ap, ◌∙◌, arith}
-use Rattle.pz_ast.specs.declared.tokens.Pos.{Pos}
-use Rattle.pz_ast.specs.declared.tokens.Symbol.TheVariants as s
-use Rattle.pz_ast.specs.declared.tokens.Keyword.{Keyword}
-use Rattle.pz_ast.specs.declared.tokens.Keyword.TheVariants as k
-use Rattle.pz_ast.specs.declared.tokens.TokenKind.TheVariants as kind
-use Rattle.pz_ast.specs.declared.names.Id.{Id}
-use Rattle.pz_ast.specs.Marks.{symbol, keyword}
-use Rattle.pz_ast.specs.Expressions.{Expression, Expressions}
-use Rattle.pz_ast.specs.ExpressionText as expression_text
-use Rattle.pz_ast.specs.ExpressionForm.{AreExpressions}
-use Rattle.pz_ast.specs.ExpressionNesting as expression_nesting
-use Rattle.pz_ast.specs.Statements.{skip, delay, bracketed as brackets, block as block_of, guarded as guard, parallel as par, select, conditional as choice, repeated as loop, abort, interrupt, send, receive, call, assignment, value, Statements, StatementPart, not_written, otherwise as written_else, Branches}
-use Rattle.pz_ast.specs.StatementView.{Tree, sequence_of}
-use Rattle.pz_ast.specs.StatementText.{text, texts, otherwise_text, branches_text}
-use Rattle.pz_ast.specs.StatementForm.{MayBeginStatement, AreStatements, IsOtherwise, AreBranches}
-use Rattle.pz_ast.specs.StatementNesting.{nestings, otherwise_nesting, branches_nesting}
+use Rattle.pz_syntax.specs.declared.tokens.Pos.{Pos}
+use Rattle.pz_syntax.specs.declared.tokens.Symbol.TheVariants as s
+use Rattle.pz_syntax.specs.declared.tokens.Keyword.{Keyword}
+use Rattle.pz_syntax.specs.declared.tokens.Keyword.TheVariants as k
+use Rattle.pz_syntax.specs.declared.tokens.TokenKind.TheVariants as kind
+use Rattle.pz_syntax.specs.declared.names.Id.{Id}
+use Rattle.pz_syntax.specs.Marks.{symbol, keyword}
+use Rattle.pz_syntax.specs.Expressions.{Expression, Expressions}
+use Rattle.pz_syntax.specs.ExpressionText as expression_text
+use Rattle.pz_syntax.specs.ExpressionForm.{AreExpressions}
+use Rattle.pz_syntax.specs.ExpressionNesting as expression_nesting
+use Rattle.pz_syntax.specs.Statements.{skip, delay, bracketed as brackets, block as block_of, guarded as guard, parallel as par, select, conditional as choice, repeated as loop, abort, interrupt, send, receive, call, assignment, value, Statements, StatementPart, not_written, otherwise as written_else, Branches}
+use Rattle.pz_syntax.specs.StatementView.{Tree, sequence_of}
+use Rattle.pz_syntax.specs.StatementText.{text, texts, otherwise_text, branches_text}
+use Rattle.pz_syntax.specs.StatementForm.{MayBeginStatement, AreStatements, IsOtherwise, AreBranches}
+use Rattle.pz_syntax.specs.StatementNesting.{nestings, otherwise_nesting, branches_nesting}
 use Rattle.pz_cursor.specs.declared.ahead.Next.{Next}
 use Rattle.pz_cursor.specs.declared.ahead.Next.TheVariants as n
-use Rattle.pz_cursor.specs.LookAhead.{next, same}
-use Rattle.pz_cursor.specs.Input.{Tokens, after, position, identifier, name, sees}
-use Rattle.pz_cursor.specs.Device.{Parser, refuse}
-use Rattle.pz_cursor.specs.Lists.{list_of}
+use Rattle.pz_cursor.specs.devices.LookAhead.{next, same}
+use Rattle.pz_cursor.specs.devices.Input.{Tokens, after, position, identifier, name, sees}
+use Rattle.pz_cursor.specs.devices.Device.{Parser, refuse}
+use Rattle.pz_cursor.specs.devices.Lists.{list_of}
 use Rattle.pz_cursor.specs.Places.{located}
 use Rattle.pz_cursor.proofs.Steps.{deepen_is, expect_is, not_seen}
 use Rattle.pz_cursor.proofs.Reading.{Complete, split_located}
 use Rattle.pz_cursor.proofs.Joined.{joined_complete, Filled, token}
 use Rattle.pz_values.specs.declared.rule.Rule.TheVariants as rule
-use Rattle.pz_values.specs.Values.{below, test}
+use Rattle.pz_values.specs.devices.Values.{below, test}
 use Rattle.pz_values.specs.ExpressionPlaces as expression_places
 use Rattle.pz_values.proofs.Texts.{stands, list_back as expressions_back}
 use Rattle.pz_values.proofs.Texts as value_texts
 use Rattle.pz_values.proofs.Operators.{binding}
 use Rattle.pz_values.proofs.Firsts.{no_second}
 use Rattle.pz_values.proofs.Completeness.{semicolon_is, semicolon_seen, unbound, block_given, expr_complete, below_complete}
-use Rattle.pz_statements.specs.Statements.{delayed, block, assigned, valued, worded, sequence, bracketed, guarded, branched, parallel, selection, otherwise_by, otherwise, conditional, repeated, handled, aborted, interrupted, statement_by, statement, stmt, stmts}
+use Rattle.pz_statements.specs.devices.Statements.{delayed, block, assigned, valued, worded, sequence, bracketed, guarded, branched, parallel, selection, otherwise_by, otherwise, conditional, repeated, handled, aborted, interrupted, statement_by, statement, stmt, stmts}
 use Rattle.pz_statements.specs.StatementPlaces.{place, place_all, place_otherwise, place_branches}
 use Rattle.pz_statements.proofs.Lists.{Fits, to_list, list_back, texts_of, places_are, sequence_text, place_sequence, to_lists, lists_back, branches_texts, branch_places, are, nested, filled_of, filled_of_branches}
 use Rattle.pz_statements.proofs.Ends.{EndsStatement, EndsBody, ends_body, semicolon_ends, and_is, and_seen, or_is, or_seen}

@@ -1,12 +1,12 @@
 -- What does not go on with a statement, or with a body, that stands before it.
 use Rattle.std.proofs.Common.{◌≡◌, ◌≢◌, ◌<◌, Bool, true, false, ◌∷◌, refl, arith}
-use Rattle.pz_ast.specs.declared.tokens.Pos.{Pos}
-use Rattle.pz_ast.specs.declared.tokens.Keyword.TheVariants as k
-use Rattle.pz_ast.specs.declared.tokens.TokenKind.TheVariants as kind
+use Rattle.pz_syntax.specs.declared.tokens.Pos.{Pos}
+use Rattle.pz_syntax.specs.declared.tokens.Keyword.TheVariants as k
+use Rattle.pz_syntax.specs.declared.tokens.TokenKind.TheVariants as kind
 use Rattle.pz_cursor.specs.declared.ahead.Next.{Next}
 use Rattle.pz_cursor.specs.declared.ahead.Next.TheVariants as n
-use Rattle.pz_cursor.specs.LookAhead.{next, same}
-use Rattle.pz_cursor.specs.Input.{Tokens, sees}
+use Rattle.pz_cursor.specs.devices.LookAhead.{next, same}
+use Rattle.pz_cursor.specs.devices.Input.{Tokens, sees}
 use Rattle.pz_cursor.proofs.Joined.{token}
 use Rattle.pz_values.proofs.Operators.{binding}
 

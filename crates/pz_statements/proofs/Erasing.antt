@@ -1,17 +1,17 @@
 -- The positions of the tokens change nothing else of a statement.
 use Rattle.std.proofs.Common.{◌≡◌, ℕ, suc, ◌+◌, length, map, refl, ap, ◌∙◌}
 use Rattle.std.specs.Prelude.{option_map}
-use Rattle.pz_ast.specs.declared.tokens.Pos.{Pos}
-use Rattle.pz_ast.specs.declared.tokens.Symbol.TheVariants as s
-use Rattle.pz_ast.specs.declared.names.Id.{Id}
-use Rattle.pz_ast.specs.Marks.{names_text, optional}
-use Rattle.pz_ast.specs.ExpressionText.{arguments_text}
-use Rattle.pz_ast.specs.ExpressionText as expression_text
-use Rattle.pz_ast.specs.ExpressionErasure.{origin, erase_id, erase_all, erase_part}
-use Rattle.pz_ast.specs.ExpressionErasure as expression
-use Rattle.pz_ast.specs.Statements.{Statement, skip, delay, bracketed, block, guarded, parallel, select, conditional, repeated, abort, interrupt, send, receive, call, assignment, value, Statements, no_statements, then, StatementPart, not_written, otherwise, Branches, no_branches, branch}
-use Rattle.pz_ast.specs.StatementText.{text, texts, reception_text}
-use Rattle.pz_ast.specs.StatementErasure.{erase, erase_sequence, erase_otherwise, erase_branches}
+use Rattle.pz_syntax.specs.declared.tokens.Pos.{Pos}
+use Rattle.pz_syntax.specs.declared.tokens.Symbol.TheVariants as s
+use Rattle.pz_syntax.specs.declared.names.Id.{Id}
+use Rattle.pz_syntax.specs.Marks.{names_text, optional}
+use Rattle.pz_syntax.specs.ExpressionText.{arguments_text}
+use Rattle.pz_syntax.specs.ExpressionText as expression_text
+use Rattle.pz_syntax.specs.ExpressionErasure.{origin, erase_id, erase_all, erase_part}
+use Rattle.pz_syntax.specs.ExpressionErasure as expression
+use Rattle.pz_syntax.specs.Statements.{Statement, skip, delay, bracketed, block, guarded, parallel, select, conditional, repeated, abort, interrupt, send, receive, call, assignment, value, Statements, no_statements, then, StatementPart, not_written, otherwise, Branches, no_branches, branch}
+use Rattle.pz_syntax.specs.StatementText.{text, texts, reception_text}
+use Rattle.pz_syntax.specs.StatementErasure.{erase, erase_sequence, erase_otherwise, erase_branches}
 use Rattle.pz_cursor.specs.Places.{place_names}
 use Rattle.pz_cursor.proofs.Erasing.{Erased, erased_optional, erased_names}
 use Rattle.pz_values.specs.ExpressionPlaces.{place_part}

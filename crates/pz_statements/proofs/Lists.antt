@@ -1,18 +1,18 @@
 -- Lists of statements and of branches as lists.
 use Rattle.std.proofs.Common.{◌≡◌, ℕ, suc, ◌+◌, ◌<◌, List, [], ◌∷◌, ◌++◌, length, refl, ap, sym, ◌∙◌, arith}
-use Rattle.pz_ast.specs.declared.tokens.Pos.{Pos}
-use Rattle.pz_ast.specs.declared.tokens.Symbol.TheVariants as s
-use Rattle.pz_ast.specs.declared.tokens.Keyword.{Keyword}
-use Rattle.pz_ast.specs.declared.tokens.TokenKind.TheVariants as kind
-use Rattle.pz_ast.specs.declared.tokens.Mark.{Mark}
-use Rattle.pz_ast.specs.declared.names.Id.{Id}
-use Rattle.pz_ast.specs.Marks.{symbol, keyword}
-use Rattle.pz_ast.specs.Statements.{Statements, no_statements, then, Branches, no_branches, branch}
-use Rattle.pz_ast.specs.StatementView.{Tree, sequence_of, branches_of}
-use Rattle.pz_ast.specs.StatementText.{text, texts, tail_texts, branches_text, tail_branches}
-use Rattle.pz_ast.specs.StatementForm.{IsStatement, AreStatements, FollowStatements, AreBranches, FollowBranches}
-use Rattle.pz_ast.specs.StatementNesting.{nesting, nestings, branches_nesting}
-use Rattle.pz_ast.specs.ModelForm.{Each}
+use Rattle.pz_syntax.specs.declared.tokens.Pos.{Pos}
+use Rattle.pz_syntax.specs.declared.tokens.Symbol.TheVariants as s
+use Rattle.pz_syntax.specs.declared.tokens.Keyword.{Keyword}
+use Rattle.pz_syntax.specs.declared.tokens.TokenKind.TheVariants as kind
+use Rattle.pz_syntax.specs.declared.tokens.Mark.{Mark}
+use Rattle.pz_syntax.specs.declared.names.Id.{Id}
+use Rattle.pz_syntax.specs.Marks.{symbol, keyword}
+use Rattle.pz_syntax.specs.Statements.{Statements, no_statements, then, Branches, no_branches, branch}
+use Rattle.pz_syntax.specs.StatementView.{Tree, sequence_of, branches_of}
+use Rattle.pz_syntax.specs.StatementText.{text, texts, tail_texts, branches_text, tail_branches}
+use Rattle.pz_syntax.specs.StatementForm.{IsStatement, AreStatements, FollowStatements, AreBranches, FollowBranches}
+use Rattle.pz_syntax.specs.StatementNesting.{nesting, nestings, branches_nesting}
+use Rattle.pz_syntax.specs.ModelForm.{Each}
 use Rattle.pz_cursor.specs.Places.{Placing, place_tail as place_behind, place_separated}
 use Rattle.pz_cursor.proofs.Joined.{joined, tails, Filled}
 use Rattle.pz_statements.specs.StatementPlaces.{place, place_all, place_tail, place_branches, place_tail_branches}

@@ -1,13 +1,13 @@
 -- The rules unfolded once.
 use Rattle.std.proofs.Common.{◌≡◌, ℕ, zero, suc, List, map, Result, Ok, Err, refl, subst}
-use Rattle.pz_ast.specs.declared.stmts.Stmt.{Stmt}
-use Rattle.pz_ast.specs.StatementView.{view, sequence_view}
+use Rattle.pz_syntax.specs.declared.stmts.Stmt.{Stmt}
+use Rattle.pz_syntax.specs.StatementView.{view, sequence_view}
 use Rattle.pz_cursor.specs.declared.ahead.Next.TheVariants as n
 use Rattle.pz_cursor.specs.declared.refusal.Refusal.{Refusal}
-use Rattle.pz_cursor.specs.Input.{Tokens}
-use Rattle.pz_cursor.specs.Device.{Reads}
-use Rattle.pz_cursor.specs.Lists.{list_of}
-use Rattle.pz_statements.specs.Statements.{statement, stmt, below_stmt, stmts}
+use Rattle.pz_cursor.specs.devices.Input.{Tokens}
+use Rattle.pz_cursor.specs.devices.Device.{Reads}
+use Rattle.pz_cursor.specs.devices.Lists.{list_of}
+use Rattle.pz_statements.specs.devices.Statements.{statement, stmt, below_stmt, stmts}
 
 pub stmt_is : (d : ℕ) → stmt d ≡ statement d (below_stmt d)
 unfolding stmt

@@ -1,41 +1,41 @@
 -- What the rules for sends, receptions and calls read is the text of a statement that the grammar
 -- has, within the nesting.
 use Rattle.std.proofs.Common.{◌≡◌, ℕ, suc, ◌<◌, Bool, true, false, cond, List, [], ◌∷◌, ◌++◌, Option, Some, None, Ok, refl, ap, sym, ◌∙◌, arith, append_assoc}
-use Rattle.pz_ast.specs.declared.tokens.Symbol.TheVariants as s
-use Rattle.pz_ast.specs.declared.tokens.TokenKind.TheVariants as kind
-use Rattle.pz_ast.specs.declared.tokens.Mark.{Mark}
-use Rattle.pz_ast.specs.declared.names.Id.{Id}
-use Rattle.pz_ast.specs.Marks.{symbol, word, head, names_text, in_parentheses}
-use Rattle.pz_ast.specs.Expressions.{Part, left_out, written}
-use Rattle.pz_ast.specs.ExpressionView.{list_of as expressions}
-use Rattle.pz_ast.specs.ExpressionView as expression
-use Rattle.pz_ast.specs.ExpressionText.{arguments_text}
-use Rattle.pz_ast.specs.ExpressionText as expression_text
-use Rattle.pz_ast.specs.ExpressionForm.{IsValue}
-use Rattle.pz_ast.specs.ExpressionNesting.{bracketed_nesting}
-use Rattle.pz_ast.specs.Statements.{send, receive, call}
-use Rattle.pz_ast.specs.StatementView.{Tree}
-use Rattle.pz_ast.specs.StatementText.{text, after_text, condition_text, reception_text}
-use Rattle.pz_ast.specs.StatementForm.{IsAfter, IsReception}
-use Rattle.pz_ast.specs.StatementNesting.{condition_nesting, reception_nesting}
-use Rattle.pz_ast.specs.ModelForm.{Each, IfWritten}
+use Rattle.pz_syntax.specs.declared.tokens.Symbol.TheVariants as s
+use Rattle.pz_syntax.specs.declared.tokens.TokenKind.TheVariants as kind
+use Rattle.pz_syntax.specs.declared.tokens.Mark.{Mark}
+use Rattle.pz_syntax.specs.declared.names.Id.{Id}
+use Rattle.pz_syntax.specs.Marks.{symbol, word, head, names_text, in_parentheses}
+use Rattle.pz_syntax.specs.Expressions.{Part, left_out, written}
+use Rattle.pz_syntax.specs.ExpressionView.{list_of as expressions}
+use Rattle.pz_syntax.specs.ExpressionView as expression
+use Rattle.pz_syntax.specs.ExpressionText.{arguments_text}
+use Rattle.pz_syntax.specs.ExpressionText as expression_text
+use Rattle.pz_syntax.specs.ExpressionForm.{IsValue}
+use Rattle.pz_syntax.specs.ExpressionNesting.{bracketed_nesting}
+use Rattle.pz_syntax.specs.Statements.{send, receive, call}
+use Rattle.pz_syntax.specs.StatementView.{Tree}
+use Rattle.pz_syntax.specs.StatementText.{text, after_text, condition_text, reception_text}
+use Rattle.pz_syntax.specs.StatementForm.{IsAfter, IsReception}
+use Rattle.pz_syntax.specs.StatementNesting.{condition_nesting, reception_nesting}
+use Rattle.pz_syntax.specs.ModelForm.{Each, IfWritten}
 use Rattle.pz_cursor.specs.declared.ahead.Next.{Next}
 use Rattle.pz_cursor.specs.declared.ahead.Next.TheVariants as n
-use Rattle.pz_cursor.specs.LookAhead.{next}
-use Rattle.pz_cursor.specs.Input.{Tokens, marks, after, position, identifier, sees}
-use Rattle.pz_cursor.specs.Device.{Parser, ◌>>◌, ◌<$>◌, refuse, skip, expect, expect_id, deepen}
-use Rattle.pz_cursor.specs.Names.{optional_names}
+use Rattle.pz_cursor.specs.devices.LookAhead.{next}
+use Rattle.pz_cursor.specs.devices.Input.{Tokens, marks, after, position, identifier, sees}
+use Rattle.pz_cursor.specs.devices.Device.{Parser, ◌>>◌, ◌<$>◌, refuse, skip, expect, expect_id, deepen}
+use Rattle.pz_cursor.specs.devices.Names.{optional_names}
 use Rattle.pz_cursor.proofs.Shown.{token_of}
 use Rattle.pz_cursor.proofs.Steps.{bind_ok, takes, sees_is, expected, opened}
 use Rattle.pz_cursor.proofs.Words.{word_is, head_is}
 use Rattle.pz_cursor.proofs.Reading.{Took, Sound, ok_took, done}
 use Rattle.pz_cursor.proofs.Named.{word_sound, optional_names_sound, Any}
 use Rattle.pz_values.specs.declared.rule.Rule.TheVariants as rule
-use Rattle.pz_values.specs.Values.{below, enclosed, arguments}
+use Rattle.pz_values.specs.devices.Values.{below, enclosed, arguments}
 use Rattle.pz_values.proofs.Texts.{are, nested}
 use Rattle.pz_values.proofs.Texts as expression_proofs
 use Rattle.pz_values.proofs.Readings.{bracketed, enclosed_sound, arguments_sound, below_sound}
-use Rattle.pz_statements.specs.Messages.{ReceptionTree, call_results, after_by, after_message, sent, condition, enclosed_reception, reception_by, reception, received, call_arguments, called}
+use Rattle.pz_statements.specs.devices.Messages.{ReceptionTree, call_results, after_by, after_message, sent, condition, enclosed_reception, reception_by, reception, received, call_arguments, called}
 use Rattle.pz_statements.proofs.Lists.{Fits}
 
 -- the second group of a call

@@ -1,39 +1,39 @@
 -- Each send, reception and call within the nesting is read from its text, with the places of the
 -- tokens, before what does not go on with it.
 use Rattle.std.proofs.Common.{◌≡◌, ◌≢◌, ℕ, suc, ◌+◌, ◌<◌, true, List, [], ◌∷◌, ◌++◌, length, Option, Some, None, Ok, refl, ap, sym, ◌∙◌, arith, append_assoc, length-append}
-use Rattle.pz_ast.specs.declared.tokens.Pos.{Pos}
-use Rattle.pz_ast.specs.declared.tokens.Symbol.TheVariants as s
-use Rattle.pz_ast.specs.declared.tokens.TokenKind.TheVariants as kind
-use Rattle.pz_ast.specs.declared.tokens.Mark.{Mark}
-use Rattle.pz_ast.specs.declared.names.Id.{Id}
-use Rattle.pz_ast.specs.Marks.{symbol, names_text, optional as optional_text}
-use Rattle.pz_ast.specs.Expressions.{Expression, Expressions, Part, left_out, written}
-use Rattle.pz_ast.specs.ExpressionText.{arguments_text}
-use Rattle.pz_ast.specs.ExpressionText as expression_text
-use Rattle.pz_ast.specs.ExpressionForm.{IsValue, AreArguments, AreExpressions}
-use Rattle.pz_ast.specs.ExpressionNesting.{bracketed_nesting}
-use Rattle.pz_ast.specs.ExpressionNesting as expression_nesting
-use Rattle.pz_ast.specs.Statements.{send, receive, call}
-use Rattle.pz_ast.specs.StatementText.{text, after_text, condition_text, reception_text}
-use Rattle.pz_ast.specs.StatementForm.{IsAfter, IsReception}
-use Rattle.pz_ast.specs.StatementNesting.{condition_nesting, reception_nesting}
-use Rattle.pz_ast.specs.ModelForm.{IfWritten}
+use Rattle.pz_syntax.specs.declared.tokens.Pos.{Pos}
+use Rattle.pz_syntax.specs.declared.tokens.Symbol.TheVariants as s
+use Rattle.pz_syntax.specs.declared.tokens.TokenKind.TheVariants as kind
+use Rattle.pz_syntax.specs.declared.tokens.Mark.{Mark}
+use Rattle.pz_syntax.specs.declared.names.Id.{Id}
+use Rattle.pz_syntax.specs.Marks.{symbol, names_text, optional as optional_text}
+use Rattle.pz_syntax.specs.Expressions.{Expression, Expressions, Part, left_out, written}
+use Rattle.pz_syntax.specs.ExpressionText.{arguments_text}
+use Rattle.pz_syntax.specs.ExpressionText as expression_text
+use Rattle.pz_syntax.specs.ExpressionForm.{IsValue, AreArguments, AreExpressions}
+use Rattle.pz_syntax.specs.ExpressionNesting.{bracketed_nesting}
+use Rattle.pz_syntax.specs.ExpressionNesting as expression_nesting
+use Rattle.pz_syntax.specs.Statements.{send, receive, call}
+use Rattle.pz_syntax.specs.StatementText.{text, after_text, condition_text, reception_text}
+use Rattle.pz_syntax.specs.StatementForm.{IsAfter, IsReception}
+use Rattle.pz_syntax.specs.StatementNesting.{condition_nesting, reception_nesting}
+use Rattle.pz_syntax.specs.ModelForm.{IfWritten}
 use Rattle.pz_cursor.specs.declared.ahead.Next.{Next}
 use Rattle.pz_cursor.specs.declared.ahead.Next.TheVariants as n
-use Rattle.pz_cursor.specs.LookAhead.{next, same}
-use Rattle.pz_cursor.specs.Input.{Tokens, after, position, identifier, name, sees}
-use Rattle.pz_cursor.specs.Device.{expect, expect_id}
+use Rattle.pz_cursor.specs.devices.LookAhead.{next, same}
+use Rattle.pz_cursor.specs.devices.Input.{Tokens, after, position, identifier, name, sees}
+use Rattle.pz_cursor.specs.devices.Device.{expect, expect_id}
 use Rattle.pz_cursor.specs.Places.{located, place_names}
 use Rattle.pz_cursor.proofs.Steps.{deepen_is, expect_is}
 use Rattle.pz_cursor.proofs.Reading.{split_located}
 use Rattle.pz_cursor.proofs.Joined.{token}
 use Rattle.pz_cursor.proofs.Named.{optional_names_complete}
 use Rattle.pz_values.specs.declared.rule.Rule.TheVariants as rule
-use Rattle.pz_values.specs.Values.{below}
+use Rattle.pz_values.specs.devices.Values.{below}
 use Rattle.pz_values.specs.ExpressionPlaces.{place_all, place_part}
 use Rattle.pz_values.proofs.Texts.{to_list, list_back}
 use Rattle.pz_values.proofs.Completeness.{block_given, arguments_given, optional_given, below_complete}
-use Rattle.pz_statements.specs.Messages.{call_results, after_by, after_message, sent, condition, enclosed_reception, reception_by, reception, received, call_arguments, called}
+use Rattle.pz_statements.specs.devices.Messages.{call_results, after_by, after_message, sent, condition, enclosed_reception, reception_by, reception, received, call_arguments, called}
 use Rattle.pz_statements.specs.StatementPlaces.{place_into, place_condition, place}
 use Rattle.pz_statements.proofs.MessageReadings.{results_text}
 

@@ -1,40 +1,40 @@
 -- What each rule for statements reads is the text of a statement that the grammar has, within the
 -- nesting.
 use Rattle.std.proofs.Common.{◌≡◌, ℕ, zero, suc, ◌≤◌, ◌<◌, Bool, true, false, cond, List, [], ◌∷◌, ◌++◌, Some, Ok, refl, ap, sym, ◌∙◌, arith, append_assoc}
-use Rattle.pz_ast.specs.declared.tokens.Pos.{Pos}
-use Rattle.pz_ast.specs.declared.tokens.Symbol.TheVariants as s
-use Rattle.pz_ast.specs.declared.tokens.Keyword.{Keyword}
-use Rattle.pz_ast.specs.declared.tokens.Keyword.TheVariants as k
-use Rattle.pz_ast.specs.declared.tokens.TokenKind.TheVariants as kind
-use Rattle.pz_ast.specs.declared.tokens.Mark.{Mark}
-use Rattle.pz_ast.specs.declared.names.Id.{Id}
-use Rattle.pz_ast.specs.Marks.{symbol, keyword, word}
-use Rattle.pz_ast.specs.ExpressionView.{list_of as expressions}
-use Rattle.pz_ast.specs.ExpressionView as expression
-use Rattle.pz_ast.specs.ExpressionText as expression_text
-use Rattle.pz_ast.specs.Statements.{Statements, StatementPart, not_written}
-use Rattle.pz_ast.specs.Statements as tree
-use Rattle.pz_ast.specs.StatementView.{Tree, sequence_of, branches_of}
-use Rattle.pz_ast.specs.StatementText.{text, texts, otherwise_text, branches_text}
-use Rattle.pz_ast.specs.StatementForm.{AreStatements, IsOtherwise}
-use Rattle.pz_ast.specs.StatementNesting.{nestings, otherwise_nesting}
+use Rattle.pz_syntax.specs.declared.tokens.Pos.{Pos}
+use Rattle.pz_syntax.specs.declared.tokens.Symbol.TheVariants as s
+use Rattle.pz_syntax.specs.declared.tokens.Keyword.{Keyword}
+use Rattle.pz_syntax.specs.declared.tokens.Keyword.TheVariants as k
+use Rattle.pz_syntax.specs.declared.tokens.TokenKind.TheVariants as kind
+use Rattle.pz_syntax.specs.declared.tokens.Mark.{Mark}
+use Rattle.pz_syntax.specs.declared.names.Id.{Id}
+use Rattle.pz_syntax.specs.Marks.{symbol, keyword, word}
+use Rattle.pz_syntax.specs.ExpressionView.{list_of as expressions}
+use Rattle.pz_syntax.specs.ExpressionView as expression
+use Rattle.pz_syntax.specs.ExpressionText as expression_text
+use Rattle.pz_syntax.specs.Statements.{Statements, StatementPart, not_written}
+use Rattle.pz_syntax.specs.Statements as tree
+use Rattle.pz_syntax.specs.StatementView.{Tree, sequence_of, branches_of}
+use Rattle.pz_syntax.specs.StatementText.{text, texts, otherwise_text, branches_text}
+use Rattle.pz_syntax.specs.StatementForm.{AreStatements, IsOtherwise}
+use Rattle.pz_syntax.specs.StatementNesting.{nestings, otherwise_nesting}
 use Rattle.pz_cursor.specs.declared.ahead.Next.{Next}
 use Rattle.pz_cursor.specs.declared.ahead.Next.TheVariants as n
-use Rattle.pz_cursor.specs.LookAhead.{next}
-use Rattle.pz_cursor.specs.Input.{Tokens, marks, after, position, identifier, sees}
-use Rattle.pz_cursor.specs.Device.{Parser, refuse, expect, deepen}
-use Rattle.pz_cursor.specs.Lists.{list_of}
+use Rattle.pz_cursor.specs.devices.LookAhead.{next}
+use Rattle.pz_cursor.specs.devices.Input.{Tokens, marks, after, position, identifier, sees}
+use Rattle.pz_cursor.specs.devices.Device.{Parser, refuse, expect, deepen}
+use Rattle.pz_cursor.specs.devices.Lists.{list_of}
 use Rattle.pz_cursor.proofs.Shown.{token_of}
 use Rattle.pz_cursor.proofs.Steps.{bind_ok, takes, sees_is, expected, opened}
 use Rattle.pz_cursor.proofs.Words.{word_is}
 use Rattle.pz_cursor.proofs.Reading.{Took, Sound, ok_took}
 use Rattle.pz_cursor.proofs.Joined.{joined_sound, Filled}
 use Rattle.pz_values.specs.declared.rule.Rule.TheVariants as rule
-use Rattle.pz_values.specs.Values.{expr, below, enclosed, test}
+use Rattle.pz_values.specs.devices.Values.{expr, below, enclosed, test}
 use Rattle.pz_values.proofs.Texts as value
 use Rattle.pz_values.proofs.Readings.{enclosed_sound, test_sound, expr_sound, below_sound}
-use Rattle.pz_statements.specs.Messages.{sent, received}
-use Rattle.pz_statements.specs.Statements.{delayed, block, assigned, valued, worded, sequence, bracketed, guarded, branched, parallel, selection, otherwise_by, otherwise, conditional, repeated, handled, aborted, interrupted, statement_by, statement, stmt, stmts}
+use Rattle.pz_statements.specs.devices.Messages.{sent, received}
+use Rattle.pz_statements.specs.devices.Statements.{delayed, block, assigned, valued, worded, sequence, bracketed, guarded, branched, parallel, selection, otherwise_by, otherwise, conditional, repeated, handled, aborted, interrupted, statement_by, statement, stmt, stmts}
 use Rattle.pz_statements.proofs.Lists.{Fits, texts_are, sequence_text, branches_are, are, nested, are_branches, branches_nested}
 use Rattle.pz_statements.proofs.Beginnings.{begins_value, is_statement}
 use Rattle.pz_statements.proofs.MessageReadings.{sent_sound, received_sound, called_sound}

@@ -1,5 +1,2 @@
-pub mod Messages
-pub mod Statements
-pub mod Views
-pub mod Nests
 pub mod StatementPlaces
+pub mod devices

@@ -1,13 +1,13 @@
 -- Statements with the positions of the tokens of their texts.
 use Rattle.std.specs.Prelude.{suc, ◌+◌, List, length, Option}
-use Rattle.pz_ast.specs.declared.tokens.Symbol.TheVariants as s
-use Rattle.pz_ast.specs.declared.names.Id.{Id}
-use Rattle.pz_ast.specs.Marks.{names_text, optional}
-use Rattle.pz_ast.specs.Expressions.{Expression}
-use Rattle.pz_ast.specs.ExpressionText.{arguments_text}
-use Rattle.pz_ast.specs.ExpressionText as expression
-use Rattle.pz_ast.specs.Statements.{Statement, skip, delay, bracketed, block, guarded, parallel, select, conditional, repeated, abort, interrupt, send, receive, call, assignment, value, Statements, no_statements, then, StatementPart, not_written, otherwise, Branches, no_branches, branch}
-use Rattle.pz_ast.specs.StatementText.{text, texts, reception_text}
+use Rattle.pz_syntax.specs.declared.tokens.Symbol.TheVariants as s
+use Rattle.pz_syntax.specs.declared.names.Id.{Id}
+use Rattle.pz_syntax.specs.Marks.{names_text, optional}
+use Rattle.pz_syntax.specs.Expressions.{Expression}
+use Rattle.pz_syntax.specs.ExpressionText.{arguments_text}
+use Rattle.pz_syntax.specs.ExpressionText as expression
+use Rattle.pz_syntax.specs.Statements.{Statement, skip, delay, bracketed, block, guarded, parallel, select, conditional, repeated, abort, interrupt, send, receive, call, assignment, value, Statements, no_statements, then, StatementPart, not_written, otherwise, Branches, no_branches, branch}
+use Rattle.pz_syntax.specs.StatementText.{text, texts, reception_text}
 use Rattle.pz_cursor.specs.Places.{Placing, place_id, place_names, place_optional}
 use Rattle.pz_values.specs.ExpressionPlaces.{place_part}
 use Rattle.pz_values.specs.ExpressionPlaces as expression_places

@@ -1,22 +1,22 @@
 //! `par` and `sel`.
 
 ghost use Rattle.std.specs.Prelude.{◌≡◌, map};
-ghost use Rattle.pz_ast.specs.StatementView.{view};
-ghost use Rattle.pz_cursor.specs.Device.{Reads};
-ghost use Rattle.pz_cursor.specs.Lists as lists;
-ghost use Rattle.pz_statements.specs.Statements as spec;
-ghost use Rattle.pz_statements.specs.Statements.{below_stmt};
-ghost use Rattle.pz_statements.specs.Nests.{Nests};
+ghost use Rattle.pz_syntax.specs.StatementView.{view};
+ghost use Rattle.pz_cursor.specs.devices.Device.{Reads};
+ghost use Rattle.pz_cursor.specs.devices.Lists as lists;
+ghost use Rattle.pz_statements.specs.devices.Statements as spec;
+ghost use Rattle.pz_statements.specs.devices.Statements.{below_stmt};
+ghost use Rattle.pz_statements.specs.devices.Nests.{Nests};
 
 use crate::grammar::Grammar;
-use pz_ast::{Stmt, StmtForm};
 use pz_cursor::{Cursor, Next, Refusal};
 use pz_items::Items;
+use pz_syntax::{Stmt, StmtForm};
 use std::alloc::Global;
 
 impl<F: Fn(Global, &mut Cursor<'_>, usize) -> Result<Stmt, Refusal>> Grammar<F> {
     /// A `par` stands next: its branches, `and` between them, up to `rap`.
-    #[tactic(auto, unfolding(crate::specs::Statements::parallel))]
+    #[tactic(auto, unfolding(crate::specs::devices::Statements::parallel))]
     pub fn parallel(&self, cursor: &mut Cursor<'_>) -> Result<Stmt, Refusal>
         requires parts { Nests self.now.depth (F.pre self.now.stmt) (F.post self.now.stmt) }
         ensures reads { Reads view (spec.parallel self.now.depth (below_stmt self.now.depth) cursor.old) result cursor.new }
@@ -27,7 +27,7 @@ impl<F: Fn(Global, &mut Cursor<'_>, usize) -> Result<Stmt, Refusal>> Grammar<F> 
     }
 
     /// A `sel` stands next: its branches, `or` between them, up to `les`.
-    #[tactic(auto, unfolding(crate::specs::Statements::selection))]
+    #[tactic(auto, unfolding(crate::specs::devices::Statements::selection))]
     pub fn selection(&self, cursor: &mut Cursor<'_>) -> Result<Stmt, Refusal>
         requires parts { Nests self.now.depth (F.pre self.now.stmt) (F.post self.now.stmt) }
         ensures reads { Reads view (spec.selection self.now.depth (below_stmt self.now.depth) cursor.old) result cursor.new }
@@ -38,7 +38,7 @@ impl<F: Fn(Global, &mut Cursor<'_>, usize) -> Result<Stmt, Refusal>> Grammar<F> 
     }
 
     /// One branch or more with this word between them, and the closing word.
-    #[tactic(auto, unfolding(crate::specs::Statements::branched))]
+    #[tactic(auto, unfolding(crate::specs::devices::Statements::branched))]
     fn branched(
         &self,
         cursor: &mut Cursor<'_>,
@@ -54,7 +54,7 @@ impl<F: Fn(Global, &mut Cursor<'_>, usize) -> Result<Stmt, Refusal>> Grammar<F> 
         Ok(found)
     }
 
-    #[tactic(auto, unfolding(pz_cursor::specs::Lists::list_of))]
+    #[tactic(auto, unfolding(pz_cursor::specs::devices::Lists::list_of))]
     fn branches(
         &self,
         cursor: &mut Cursor<'_>,
@@ -68,7 +68,7 @@ impl<F: Fn(Global, &mut Cursor<'_>, usize) -> Result<Stmt, Refusal>> Grammar<F> 
         self.more_branches(cursor, separator, found)
     }
 
-    #[tactic(auto, unfolding(pz_cursor::specs::Lists::more_of, pz_cursor::specs::Lists::tail_of))]
+    #[tactic(auto, unfolding(pz_cursor::specs::devices::Lists::more_of, pz_cursor::specs::devices::Lists::tail_of))]
     fn more_branches(
         &self,
         cursor: &mut Cursor<'_>,

@@ -2,19 +2,19 @@
 //! is proved by itself.
 
 ghost use Rattle.std.specs.Prelude.{◌≡◌, ◌<◌, ◌-◌, ◌^◌, map};
-ghost use Rattle.pz_ast.specs.StatementView.{view, sequence_view};
-ghost use Rattle.pz_cursor.specs.Device.{Reads};
-ghost use Rattle.pz_cursor.specs.Lists as lists;
+ghost use Rattle.pz_syntax.specs.StatementView.{view, sequence_view};
+ghost use Rattle.pz_cursor.specs.devices.Device.{Reads};
+ghost use Rattle.pz_cursor.specs.devices.Lists as lists;
 ghost use Rattle.pz_cursor.specs.declared.ahead.Next.TheVariants as n;
-ghost use Rattle.pz_statements.specs.Statements as spec;
-ghost use Rattle.pz_statements.specs.Statements.{below_stmt};
-ghost use Rattle.pz_statements.specs.Nests.{Nests};
+ghost use Rattle.pz_statements.specs.devices.Statements as spec;
+ghost use Rattle.pz_statements.specs.devices.Statements.{below_stmt};
+ghost use Rattle.pz_statements.specs.devices.Nests.{Nests};
 
 use crate::messages::call;
 use crate::single::{block, delay, skip, valued, worded};
-use pz_ast::Stmt;
 use pz_cursor::{Cursor, Next, Refusal};
 use pz_items::Items;
+use pz_syntax::Stmt;
 use std::alloc::Global;
 
 /// The nesting, and the parser of the statements one construct further in.
@@ -49,7 +49,7 @@ fn stmt(alloc: Global, cursor: &mut Cursor<'_>, depth: usize) -> Result<Stmt, Re
 
 impl<F: Fn(Global, &mut Cursor<'_>, usize) -> Result<Stmt, Refusal>> Grammar<F> {
     /// A statement is told by its first token, and where that is an identifier by the second.
-    #[tactic(auto, unfolding(crate::specs::Statements::statement))]
+    #[tactic(auto, unfolding(crate::specs::devices::Statements::statement))]
     fn statement(&self, cursor: &mut Cursor<'_>) -> Result<Stmt, Refusal>
         requires parts { Nests self.now.depth (F.pre self.now.stmt) (F.post self.now.stmt) }
         ensures reads { Reads view (spec.statement self.now.depth (below_stmt self.now.depth) cursor.old) result cursor.new }
@@ -88,7 +88,7 @@ impl<F: Fn(Global, &mut Cursor<'_>, usize) -> Result<Stmt, Refusal>> Grammar<F> 
     }
 
     /// One statement or more, one construct further in.
-    #[tactic(auto, unfolding(pz_cursor::specs::Lists::list_of))]
+    #[tactic(auto, unfolding(pz_cursor::specs::devices::Lists::list_of))]
     pub fn sequence(&self, cursor: &mut Cursor<'_>) -> Result<Items<Stmt>, Refusal>
         requires parts { Nests self.now.depth (F.pre self.now.stmt) (F.post self.now.stmt) }
         ensures reads { Reads (map view) (spec.sequence self.now.depth (below_stmt self.now.depth) cursor.old) result cursor.new }
@@ -98,7 +98,7 @@ impl<F: Fn(Global, &mut Cursor<'_>, usize) -> Result<Stmt, Refusal>> Grammar<F> 
         self.more(cursor, found)
     }
 
-    #[tactic(auto, unfolding(pz_cursor::specs::Lists::more_of, pz_cursor::specs::Lists::tail_of))]
+    #[tactic(auto, unfolding(pz_cursor::specs::devices::Lists::more_of, pz_cursor::specs::devices::Lists::tail_of))]
     fn more(&self, cursor: &mut Cursor<'_>, mut found: Items<Stmt>) -> Result<Items<Stmt>, Refusal>
         requires parts { Nests self.now.depth (F.pre self.now.stmt) (F.post self.now.stmt) }
         ensures reads { Reads (map view) (lists.more_of (below_stmt self.now.depth) n.Semicolon (map view found) cursor.old) result cursor.new }

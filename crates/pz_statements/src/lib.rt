@@ -8,6 +8,3 @@ mod nested;
 mod single;
 
 pub use grammar::stmts;
-
-#[cfg(test)]
-mod tests;

@@ -1,29 +1,29 @@
 //! Sends, receptions and calls.
 
 ghost use Rattle.std.specs.Prelude.{◌≡◌, map, option_map};
-ghost use Rattle.pz_ast.specs.ExpressionView.{part_view};
-ghost use Rattle.pz_ast.specs.ExpressionView as expression;
-ghost use Rattle.pz_ast.specs.StatementView.{view};
-ghost use Rattle.pz_cursor.specs.Device.{Reads};
-ghost use Rattle.pz_statements.specs.Messages as spec;
-ghost use Rattle.pz_statements.specs.Views.{reception_view};
+ghost use Rattle.pz_syntax.specs.ExpressionView.{part_view};
+ghost use Rattle.pz_syntax.specs.ExpressionView as expression;
+ghost use Rattle.pz_syntax.specs.StatementView.{view};
+ghost use Rattle.pz_cursor.specs.devices.Device.{Reads};
+ghost use Rattle.pz_statements.specs.devices.Messages as spec;
+ghost use Rattle.pz_statements.specs.devices.Views.{reception_view};
 
 use crate::single::inner_value;
-use pz_ast::{Expr, Id, Stmt, StmtForm};
 use pz_cursor::{Cursor, Next, Refusal, optional_names};
 use pz_items::Items;
+use pz_syntax::{Expr, Id, Stmt, StmtForm};
 use pz_values::{arguments, block, optional_arguments};
 use std::alloc::Global;
 
 /// The variables and the condition of a reception. A condition is there only where brackets are.
-#[derive(Debug, Drop)]
+#[derive(Drop)]
 pub struct Reception {
     pub into: Option<Items<Id>>,
     pub condition: Option<Expr>,
 }
 
 /// A `!` stands behind the next token.
-#[tactic(auto, unfolding(crate::specs::Messages::sent))]
+#[tactic(auto, unfolding(crate::specs::devices::Messages::sent))]
 pub fn send(alloc: Global, cursor: &mut Cursor<'_>, depth: usize) -> Result<Stmt, Refusal>
     ensures reads { Reads view (spec.sent depth cursor.old) result cursor.new }
 {
@@ -43,7 +43,7 @@ pub fn send(alloc: Global, cursor: &mut Cursor<'_>, depth: usize) -> Result<Stmt
 }
 
 /// A `?` stands behind the next token.
-#[tactic(auto, unfolding(crate::specs::Messages::received))]
+#[tactic(auto, unfolding(crate::specs::devices::Messages::received))]
 pub fn receive(alloc: Global, cursor: &mut Cursor<'_>, depth: usize) -> Result<Stmt, Refusal>
     ensures reads { Reads view (spec.received depth cursor.old) result cursor.new }
 {
@@ -64,7 +64,7 @@ pub fn receive(alloc: Global, cursor: &mut Cursor<'_>, depth: usize) -> Result<S
 }
 
 /// The next token is the name of the method.
-#[tactic(auto, unfolding(crate::specs::Messages::called))]
+#[tactic(auto, unfolding(crate::specs::devices::Messages::called))]
 pub fn call(alloc: Global, cursor: &mut Cursor<'_>, depth: usize) -> Result<Stmt, Refusal>
     ensures reads { Reads view (spec.called depth cursor.old) result cursor.new }
 {
@@ -80,7 +80,7 @@ pub fn call(alloc: Global, cursor: &mut Cursor<'_>, depth: usize) -> Result<Stmt
     Ok(Stmt { pos, form })
 }
 
-#[tactic(auto, unfolding(crate::specs::Messages::call_arguments))]
+#[tactic(auto, unfolding(crate::specs::devices::Messages::call_arguments))]
 fn call_arguments(
     alloc: Global,
     cursor: &mut Cursor<'_>,
@@ -95,7 +95,7 @@ fn call_arguments(
 }
 
 /// Names in brackets.
-#[tactic(auto, unfolding(crate::specs::Messages::call_results))]
+#[tactic(auto, unfolding(crate::specs::devices::Messages::call_results))]
 fn call_results(alloc: Global, cursor: &mut Cursor<'_>) -> Result<Items<Id>, Refusal>
     ensures reads { Reads (λ x. x) (spec.call_results cursor.old) result cursor.new }
 {
@@ -106,7 +106,7 @@ fn call_results(alloc: Global, cursor: &mut Cursor<'_>) -> Result<Items<Id>, Ref
 }
 
 /// The block behind a message, if a `{` stands next.
-#[tactic(auto, unfolding(crate::specs::Messages::after_message))]
+#[tactic(auto, unfolding(crate::specs::devices::Messages::after_message))]
 fn optional_block(
     alloc: Global,
     cursor: &mut Cursor<'_>,
@@ -121,7 +121,7 @@ fn optional_block(
 }
 
 /// The variables and the condition, if a `(` stands next.
-#[tactic(auto, unfolding(crate::specs::Messages::reception))]
+#[tactic(auto, unfolding(crate::specs::devices::Messages::reception))]
 fn optional_reception(
     alloc: Global,
     cursor: &mut Cursor<'_>,
@@ -139,7 +139,7 @@ fn optional_reception(
 }
 
 /// A `(` stands next.
-#[tactic(auto, unfolding(crate::specs::Messages::enclosed_reception))]
+#[tactic(auto, unfolding(crate::specs::devices::Messages::enclosed_reception))]
 fn enclosed_reception(
     alloc: Global,
     cursor: &mut Cursor<'_>,
@@ -158,7 +158,7 @@ fn enclosed_reception(
 }
 
 /// The condition of a reception, if a `|` stands next.
-#[tactic(auto, unfolding(crate::specs::Messages::condition))]
+#[tactic(auto, unfolding(crate::specs::devices::Messages::condition))]
 fn condition(alloc: Global, cursor: &mut Cursor<'_>, depth: usize) -> Result<Option<Expr>, Refusal>
     ensures reads { Reads (option_map expression.view) (spec.condition depth cursor.old) result cursor.new }
 {

@@ -1,26 +1,26 @@
 //! Brackets, guards, `if`, `while`, `abort` and `interrupt`.
 
 ghost use Rattle.std.specs.Prelude.{◌≡◌, map};
-ghost use Rattle.pz_ast.specs.ExpressionView as expression;
-ghost use Rattle.pz_ast.specs.StatementView.{view, sequence_view};
-ghost use Rattle.pz_cursor.specs.Device.{Reads};
-ghost use Rattle.pz_statements.specs.Views.{otherwise_view, handled_view};
-ghost use Rattle.pz_values.specs.Values as values;
-ghost use Rattle.pz_values.specs.Values.{below};
-ghost use Rattle.pz_statements.specs.Statements as spec;
-ghost use Rattle.pz_statements.specs.Statements.{below_stmt};
-ghost use Rattle.pz_statements.specs.Nests.{Nests};
+ghost use Rattle.pz_syntax.specs.ExpressionView as expression;
+ghost use Rattle.pz_syntax.specs.StatementView.{view, sequence_view};
+ghost use Rattle.pz_cursor.specs.devices.Device.{Reads};
+ghost use Rattle.pz_statements.specs.devices.Views.{otherwise_view, handled_view};
+ghost use Rattle.pz_values.specs.devices.Values as values;
+ghost use Rattle.pz_values.specs.devices.Values.{below};
+ghost use Rattle.pz_statements.specs.devices.Statements as spec;
+ghost use Rattle.pz_statements.specs.devices.Statements.{below_stmt};
+ghost use Rattle.pz_statements.specs.devices.Nests.{Nests};
 
 use crate::grammar::Grammar;
 use crate::single::inner_value;
-use pz_ast::{Expr, Stmt, StmtForm};
 use pz_cursor::{Cursor, Next, Refusal};
 use pz_items::{Boxed, Items};
+use pz_syntax::{Expr, Stmt, StmtForm};
 use std::alloc::Global;
 
 impl<F: Fn(Global, &mut Cursor<'_>, usize) -> Result<Stmt, Refusal>> Grammar<F> {
     /// A `(` stands next: statements up to `)`.
-    #[tactic(auto, unfolding(crate::specs::Statements::bracketed))]
+    #[tactic(auto, unfolding(crate::specs::devices::Statements::bracketed))]
     pub fn bracketed(&self, cursor: &mut Cursor<'_>) -> Result<Stmt, Refusal>
         requires parts { Nests self.now.depth (F.pre self.now.stmt) (F.post self.now.stmt) }
         ensures reads { Reads view (spec.bracketed self.now.depth (below_stmt self.now.depth) cursor.old) result cursor.new }
@@ -34,7 +34,7 @@ impl<F: Fn(Global, &mut Cursor<'_>, usize) -> Result<Stmt, Refusal>> Grammar<F> 
     }
 
     /// A `[` stands next: a test, `]` and the statement that it guards.
-    #[tactic(auto, unfolding(crate::specs::Statements::guarded))]
+    #[tactic(auto, unfolding(crate::specs::devices::Statements::guarded))]
     pub fn guarded(&self, cursor: &mut Cursor<'_>) -> Result<Stmt, Refusal>
         requires parts { Nests self.now.depth (F.pre self.now.stmt) (F.post self.now.stmt) }
         ensures reads { Reads view (spec.guarded self.now.depth (below_stmt self.now.depth) cursor.old) result cursor.new }
@@ -48,7 +48,7 @@ impl<F: Fn(Global, &mut Cursor<'_>, usize) -> Result<Stmt, Refusal>> Grammar<F> 
     }
 
     /// An `if` stands next: a test, what is done where it holds, perhaps an `else`, and `fi`.
-    #[tactic(auto, unfolding(crate::specs::Statements::conditional))]
+    #[tactic(auto, unfolding(crate::specs::devices::Statements::conditional))]
     pub fn conditional(&self, cursor: &mut Cursor<'_>) -> Result<Stmt, Refusal>
         requires parts { Nests self.now.depth (F.pre self.now.stmt) (F.post self.now.stmt) }
         ensures reads { Reads view (spec.conditional self.now.depth (below_stmt self.now.depth) cursor.old) result cursor.new }
@@ -63,7 +63,7 @@ impl<F: Fn(Global, &mut Cursor<'_>, usize) -> Result<Stmt, Refusal>> Grammar<F> 
         Ok(Stmt { pos, form })
     }
 
-    #[tactic(auto, unfolding(crate::specs::Statements::otherwise))]
+    #[tactic(auto, unfolding(crate::specs::devices::Statements::otherwise))]
     fn otherwise(&self, cursor: &mut Cursor<'_>) -> Result<Option<Items<Stmt>>, Refusal>
         requires parts { Nests self.now.depth (F.pre self.now.stmt) (F.post self.now.stmt) }
         ensures reads { Reads otherwise_view (spec.otherwise self.now.depth (below_stmt self.now.depth) cursor.old) result cursor.new }
@@ -78,7 +78,7 @@ impl<F: Fn(Global, &mut Cursor<'_>, usize) -> Result<Stmt, Refusal>> Grammar<F> 
     }
 
     /// A `while` stands next: a test, `do`, the body and `od`.
-    #[tactic(auto, unfolding(crate::specs::Statements::repeated))]
+    #[tactic(auto, unfolding(crate::specs::devices::Statements::repeated))]
     pub fn repeated(&self, cursor: &mut Cursor<'_>) -> Result<Stmt, Refusal>
         requires parts { Nests self.now.depth (F.pre self.now.stmt) (F.post self.now.stmt) }
         ensures reads { Reads view (spec.repeated self.now.depth (below_stmt self.now.depth) cursor.old) result cursor.new }
@@ -93,7 +93,7 @@ impl<F: Fn(Global, &mut Cursor<'_>, usize) -> Result<Stmt, Refusal>> Grammar<F> 
     }
 
     /// An `abort` stands next: its body, `with` and the statement that aborts it.
-    #[tactic(auto, unfolding(crate::specs::Statements::aborted))]
+    #[tactic(auto, unfolding(crate::specs::devices::Statements::aborted))]
     pub fn aborted(&self, cursor: &mut Cursor<'_>) -> Result<Stmt, Refusal>
         requires parts { Nests self.now.depth (F.pre self.now.stmt) (F.post self.now.stmt) }
         ensures reads { Reads view (spec.aborted self.now.depth (below_stmt self.now.depth) cursor.old) result cursor.new }
@@ -105,7 +105,7 @@ impl<F: Fn(Global, &mut Cursor<'_>, usize) -> Result<Stmt, Refusal>> Grammar<F> 
     }
 
     /// An `interrupt` stands next: its body, `with` and the statement that interrupts it.
-    #[tactic(auto, unfolding(crate::specs::Statements::interrupted))]
+    #[tactic(auto, unfolding(crate::specs::devices::Statements::interrupted))]
     pub fn interrupted(&self, cursor: &mut Cursor<'_>) -> Result<Stmt, Refusal>
         requires parts { Nests self.now.depth (F.pre self.now.stmt) (F.post self.now.stmt) }
         ensures reads { Reads view (spec.interrupted self.now.depth (below_stmt self.now.depth) cursor.old) result cursor.new }
@@ -117,7 +117,7 @@ impl<F: Fn(Global, &mut Cursor<'_>, usize) -> Result<Stmt, Refusal>> Grammar<F> 
     }
 
     /// A body, and the statement behind `with`.
-    #[tactic(auto, unfolding(crate::specs::Statements::handled))]
+    #[tactic(auto, unfolding(crate::specs::devices::Statements::handled))]
     fn handled(&self, cursor: &mut Cursor<'_>) -> Result<(Items<Stmt>, Boxed<Stmt>), Refusal>
         requires parts { Nests self.now.depth (F.pre self.now.stmt) (F.post self.now.stmt) }
         ensures reads { Reads handled_view (spec.handled self.now.depth (below_stmt self.now.depth) cursor.old) result cursor.new }
@@ -130,7 +130,7 @@ impl<F: Fn(Global, &mut Cursor<'_>, usize) -> Result<Stmt, Refusal>> Grammar<F> 
     }
 
     /// A value one construct further in, and this token behind it.
-    #[tactic(auto, unfolding(pz_values::specs::Values::test))]
+    #[tactic(auto, unfolding(pz_values::specs::devices::Values::test))]
     fn test(&self, cursor: &mut Cursor<'_>, close: Next) -> Result<Expr, Refusal>
         ensures reads { Reads expression.view (values.test (below self.now.depth) close cursor.old) result cursor.new }
     {

@@ -1,16 +1,16 @@
 //! Statements in which no other statement stands.
 
 ghost use Rattle.std.specs.Prelude.{◌≡◌, Ok};
-ghost use Rattle.pz_ast.specs.ExpressionView as expression;
-ghost use Rattle.pz_ast.specs.StatementView.{view};
-ghost use Rattle.pz_cursor.specs.Device.{Reads};
+ghost use Rattle.pz_syntax.specs.ExpressionView as expression;
+ghost use Rattle.pz_syntax.specs.StatementView.{view};
+ghost use Rattle.pz_cursor.specs.devices.Device.{Reads};
 ghost use Rattle.pz_values.specs.declared.rule.Rule.TheVariants as rule;
-ghost use Rattle.pz_values.specs.Values.{below};
-ghost use Rattle.pz_statements.specs.Statements as spec;
+ghost use Rattle.pz_values.specs.devices.Values.{below};
+ghost use Rattle.pz_statements.specs.devices.Statements as spec;
 
 use crate::messages::{receive, send};
-use pz_ast::{Expr, Stmt, StmtForm};
 use pz_cursor::{Cursor, Next, Refusal};
+use pz_syntax::{Expr, Stmt, StmtForm};
 use pz_values::value;
 use std::alloc::Global;
 
@@ -25,7 +25,7 @@ pub fn skip(cursor: &mut Cursor<'_>) -> Stmt
 }
 
 /// A `delay` stands next: the time is a value behind it.
-#[tactic(auto, unfolding(crate::specs::Statements::delayed))]
+#[tactic(auto, unfolding(crate::specs::devices::Statements::delayed))]
 pub fn delay(alloc: Global, cursor: &mut Cursor<'_>, depth: usize) -> Result<Stmt, Refusal>
     ensures reads { Reads view (spec.delayed depth cursor.old) result cursor.new }
 {
@@ -36,7 +36,7 @@ pub fn delay(alloc: Global, cursor: &mut Cursor<'_>, depth: usize) -> Result<Stm
 }
 
 /// A `{` stands next.
-#[tactic(auto, unfolding(crate::specs::Statements::block))]
+#[tactic(auto, unfolding(crate::specs::devices::Statements::block))]
 pub fn block(alloc: Global, cursor: &mut Cursor<'_>, depth: usize) -> Result<Stmt, Refusal>
     ensures reads { Reads view (spec.block depth cursor.old) result cursor.new }
 {
@@ -46,7 +46,7 @@ pub fn block(alloc: Global, cursor: &mut Cursor<'_>, depth: usize) -> Result<Stm
 }
 
 /// What begins with an identifier: the token behind it tells what it is.
-#[tactic(auto, unfolding(crate::specs::Statements::worded))]
+#[tactic(auto, unfolding(crate::specs::devices::Statements::worded))]
 pub fn worded(alloc: Global, cursor: &mut Cursor<'_>, depth: usize) -> Result<Stmt, Refusal>
     ensures reads { Reads view (spec.worded depth cursor.old) result cursor.new }
 {
@@ -61,7 +61,7 @@ pub fn worded(alloc: Global, cursor: &mut Cursor<'_>, depth: usize) -> Result<St
     }
 }
 
-#[tactic(auto, unfolding(crate::specs::Statements::assigned))]
+#[tactic(auto, unfolding(crate::specs::devices::Statements::assigned))]
 fn assign(alloc: Global, cursor: &mut Cursor<'_>, depth: usize) -> Result<Stmt, Refusal>
     ensures reads { Reads view (spec.assigned depth cursor.old) result cursor.new }
 {
@@ -73,7 +73,7 @@ fn assign(alloc: Global, cursor: &mut Cursor<'_>, depth: usize) -> Result<Stmt, 
 }
 
 /// A value that is a statement.
-#[tactic(auto, unfolding(crate::specs::Statements::valued))]
+#[tactic(auto, unfolding(crate::specs::devices::Statements::valued))]
 pub fn valued(alloc: Global, cursor: &mut Cursor<'_>, depth: usize) -> Result<Stmt, Refusal>
     ensures reads { Reads view (spec.valued depth cursor.old) result cursor.new }
 {

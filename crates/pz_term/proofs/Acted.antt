@@ -1,9 +1,9 @@
 -- What an action in a child leaves of a sequence and of a frame.
 use Rattle.std.proofs.Common.{◌≡◌, ℕ, List, ◌∷◌, Result, IfOk, ap, sym, ◌∙◌}
 use Rattle.std.proofs.lemmas.Result.{IfOk-weaker}
-use Rattle.pz_ast.specs.declared.names.Id.{Id}
-use Rattle.pz_ast.specs.StatementView.{sequence_view}
-use Rattle.pz_ast.specs.declared.stmts.Stmt.{Stmt}
+use Rattle.pz_syntax.specs.declared.names.Id.{Id}
+use Rattle.pz_syntax.specs.StatementView.{sequence_view}
+use Rattle.pz_syntax.specs.declared.stmts.Stmt.{Stmt}
 use Rattle.pz_term.specs.declared.term.Term.{Term}
 use Rattle.pz_term.specs.declared.term.Term.TheVariants.{Seq, Frame}
 use Rattle.pz_term.specs.Terms as terms

@@ -2,7 +2,7 @@
 use Rattle.std.proofs.Common.{◌≡◌, ◌≤◌, ◌+◌, inl, inr, ℕ, zero, suc, List, [], ◌∷◌, map, get_or, Some, None, refl, subst, ◌∙◌, arith}
 use Rattle.std.specs.List.{All, AllPairs, Contains, slice_get}
 use Rattle.std.proofs.lemmas.List.Elements.{All-map, All-nil, All-append, All-contains, Contains-append_left, Contains-append_right}
-use Rattle.pz_ast.specs.declared.tokens.Pos.{Pos}
+use Rattle.pz_syntax.specs.declared.tokens.Pos.{Pos}
 use Rattle.pz_term.specs.declared.action.End.{End}
 use Rattle.pz_term.specs.declared.action.Kind.{Kind}
 use Rattle.pz_term.specs.declared.action.Action.{Action}
@@ -11,7 +11,7 @@ use Rattle.pz_term.specs.Terms.{Place}
 use Rattle.pz_term.specs.LocalActions.{Can}
 use Rattle.pz_term.specs.Configurations.{Process, Config}
 use Rattle.pz_term.specs.Offers.{Offers, internal, PlaceBefore, EndBefore, Before, IsOffers}
-use Rattle.pz_term.specs.Twins.{Local, local_actions, of_process}
+use Rattle.pz_term.specs.devices.Twins.{Local, local_actions, of_process}
 use Rattle.pz_term.proofs.Computed.{offers_from, offers_of}
 use Rattle.pz_term.proofs.Lists.{Contains-map, AllPairs-nil, AllPairs-map, AllPairs-append, one_increasing}
 use Rattle.pz_term.proofs.LocalOffers as locals

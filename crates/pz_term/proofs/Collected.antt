@@ -3,7 +3,7 @@ use Rattle.std.proofs.Common.{◌≡◌, ℕ, List, [], ◌∷◌, ◌++◌, map
 use Rattle.pz_term.specs.declared.action.Action.{Action}
 use Rattle.pz_term.specs.declared.term.Term.{Term}
 use Rattle.pz_term.specs.Terms.{Place}
-use Rattle.pz_term.specs.Twins.{Local, below, under, local_actions, of_process}
+use Rattle.pz_term.specs.devices.Twins.{Local, below, under, local_actions, of_process}
 use Rattle.pz_term.specs.View.{term_view}
 
 pub below-under : (place : Place) (i : ℕ) (ls : List Local) → map (below (place ++ i ∷ [])) ls ≡ map (below place) (map (under i) ls)

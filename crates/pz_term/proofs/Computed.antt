@@ -4,7 +4,7 @@ use Rattle.pz_term.specs.declared.action.Action.{Action}
 use Rattle.pz_term.specs.declared.moment.Moment.{Moment}
 use Rattle.pz_term.specs.declared.moment.Moment.TheVariants.{Actions, Time, Finished, Deadlock}
 use Rattle.pz_term.specs.Configurations.{Process, Config}
-use Rattle.pz_term.specs.Twins.{local_actions, of_process, term_delay, is_done}
+use Rattle.pz_term.specs.devices.Twins.{local_actions, of_process, term_delay, is_done}
 
 -- the offers of processes numbered from i on
 abbrev pub offers_from : ℕ → List Process → List Action

@@ -5,7 +5,7 @@ use Rattle.std.proofs.lemmas.Result.{IfOk-weaker}
 use Rattle.pz_term.specs.declared.term.Term.{Term}
 use Rattle.pz_term.specs.Terms.{Place}
 use Rattle.pz_term.specs.Residual.{Bodies, after_action}
-use Rattle.pz_term.specs.Twins.{Local, under, local_actions}
+use Rattle.pz_term.specs.devices.Twins.{Local, under, local_actions}
 use Rattle.pz_term.specs.View.{term_view}
 
 slice_get-map : (f : Local → Local) (ls : List Local) (k : ℕ) (y : Local) → slice_get (map f ls) k ≡ Some y → (x : Local) × (slice_get ls k ≡ Some x) × (y ≡ f x)

@@ -5,13 +5,13 @@ use Rattle.std.specs.Prelude.{◌&&◌}
 use Rattle.std.specs.List.{All, slice_get}
 use Rattle.std.proofs.lemmas.Bool.{cases_lt}
 use Rattle.std.proofs.lemmas.List.Elements.{All-nil, All-cons}
-use Rattle.pz_ast.specs.declared.names.Id.{Id}
-use Rattle.pz_ast.specs.Statements.{Statement, delay}
+use Rattle.pz_syntax.specs.declared.names.Id.{Id}
+use Rattle.pz_syntax.specs.Statements.{Statement, delay}
 use Rattle.pz_term.specs.Terms.{Term, done, leaf, wait, sequence, frame, Place}
 use Rattle.pz_term.specs.Delays.{Delays, not_begun, begun, in_sequence, in_frame}
 use Rattle.pz_term.specs.Configurations.{Process, Config}
 use Rattle.pz_term.specs.Moments.{IsLeft, IsLeast}
-use Rattle.pz_term.specs.Twins.{statement_delay, term_delay, is_done}
+use Rattle.pz_term.specs.devices.Twins.{statement_delay, term_delay, is_done}
 use Rattle.pz_term.proofs.Computed.{sooner, least_delay, all_done}
 
 no_delay : {P : Type 0} {d : ℕ} → None ≡ Some d → P

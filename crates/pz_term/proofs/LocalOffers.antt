@@ -2,16 +2,16 @@
 use Rattle.std.proofs.Common.{◌≡◌, ◌≤◌, ℕ, zero, suc, [], ◌∷◌, length, Option, Some, None, refl, ap, inr, arith}
 use Rattle.std.specs.List.{All, AllPairs, Contains}
 use Rattle.std.proofs.lemmas.List.Elements.{All-map, All-nil, All-cons}
-use Rattle.pz_ast.specs.declared.tokens.Pos.{Pos}
-use Rattle.pz_ast.specs.declared.names.Id.{Id}
-use Rattle.pz_ast.specs.Statements.{Statement, skip, delay, call}
+use Rattle.pz_syntax.specs.declared.tokens.Pos.{Pos}
+use Rattle.pz_syntax.specs.declared.names.Id.{Id}
+use Rattle.pz_syntax.specs.Statements.{Statement, skip, delay, call}
 use Rattle.pz_term.specs.declared.action.Kind.{Kind}
 use Rattle.pz_term.specs.declared.action.Kind.TheVariants.{Skip, Expire, Call}
 use Rattle.pz_term.specs.Terms.{Term, done, leaf, wait, sequence, frame, Place}
 use Rattle.pz_term.specs.Values.{duration_of}
 use Rattle.pz_term.specs.LocalActions.{Can, skips, elapses, expires, calls, in_sequence, in_frame}
 use Rattle.pz_term.specs.Offers.{PlaceBefore}
-use Rattle.pz_term.specs.Twins.{Local, expiry, expiry_of, statement_actions, under, local_actions}
+use Rattle.pz_term.specs.devices.Twins.{Local, expiry, expiry_of, statement_actions, under, local_actions}
 use Rattle.pz_term.proofs.Lists.{Contains-map, Contains-first, AllPairs-nil, AllPairs-short, AllPairs-map}
 
 abbrev pub local : Place → Kind → Pos → Local

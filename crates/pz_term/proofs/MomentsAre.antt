@@ -3,7 +3,7 @@ use Rattle.std.proofs.Common.{◌≡◌, ◌≤◌, ◌<◌, ◌-◌, ℕ, zero,
 use Rattle.std.specs.List.{slice_get}
 use Rattle.std.specs.Prelude.{option_map}
 use Rattle.std.proofs.lemmas.Option.{slice_get-map}
-use Rattle.pz_ast.specs.declared.tokens.Pos.{Pos}
+use Rattle.pz_syntax.specs.declared.tokens.Pos.{Pos}
 use Rattle.pz_term.specs.declared.action.Kind.TheVariants.{Expire}
 use Rattle.pz_term.specs.declared.action.Action.{Action}
 use Rattle.pz_term.specs.declared.action.Action.TheVariants.{Internal}

@@ -10,7 +10,7 @@ use Rattle.pz_term.specs.Configurations.{Config}
 use Rattle.pz_term.specs.Offers.{IsOffers}
 use Rattle.pz_term.specs.Moments.{IsMoment}
 use Rattle.pz_term.specs.Simulations.{IsMomentBy}
-use Rattle.pz_term.specs.Twins.{Local, local_actions, of_process, below, term_delay, is_done}
+use Rattle.pz_term.specs.devices.Twins.{Local, local_actions, of_process, below, term_delay, is_done}
 use Rattle.pz_term.proofs.Computed.{sooner, moment_by, moment_of}
 use Rattle.pz_term.proofs.AllOffers.{offers_are}
 use Rattle.pz_term.proofs.Collected.{below-root}

@@ -1,8 +1,8 @@
 -- Statements that stand open before others.
 use Rattle.std.proofs.Common.{◌≡◌, true, false, List, [], ◌∷◌, length, refl}
 use Rattle.std.specs.Prelude.{◌==◌}
-use Rattle.pz_ast.specs.declared.stmts.Stmt.{Stmt}
-use Rattle.pz_ast.specs.StatementView.{sequence_view, view}
+use Rattle.pz_syntax.specs.declared.stmts.Stmt.{Stmt}
+use Rattle.pz_syntax.specs.StatementView.{sequence_view, view}
 use Rattle.pz_term.specs.Terms.{leaf, sequence}
 use Rattle.pz_term.specs.Opening.{open_statements}
 

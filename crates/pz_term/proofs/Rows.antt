@@ -5,17 +5,17 @@ use Rattle.std.specs.List.{list_any}
 use Rattle.std.specs.Str.{bytes_eq}
 use Rattle.std.proofs.lemmas.List.Elements.{All-nil, All-cons}
 use Rattle.std.proofs.lemmas.List.Folds.{list_any_at}
-use Rattle.pz_ast.specs.declared.tokens.Pos.{Pos}
-use Rattle.pz_ast.specs.declared.names.Id.{Id}
-use Rattle.pz_ast.specs.Statements.{Statements, skip, no_statements, then}
-use Rattle.pz_ast.specs.Classes.{ProcessClassTree, process_class, system, ModelTree}
-use Rattle.pz_ast.specs.ClassView.{process_class_view, model_view}
-use Rattle.pz_ast.specs.StatementView.{sequence_view, view}
-use Rattle.pz_ast.specs.declared.stmts.Stmt.{Stmt}
-use Rattle.pz_ast.specs.declared.classes.ProcessClass.{ProcessClass}
-use Rattle.pz_ast.specs.declared.clusters.SystemDecl.{SystemDecl}
-use Rattle.pz_ast.specs.declared.clusters.Decl.{Decl}
-use Rattle.pz_ast.specs.declared.clusters.Decl.TheVariants.{Process, System}
+use Rattle.pz_syntax.specs.declared.tokens.Pos.{Pos}
+use Rattle.pz_syntax.specs.declared.names.Id.{Id}
+use Rattle.pz_syntax.specs.Statements.{Statements, skip, no_statements, then}
+use Rattle.pz_syntax.specs.Classes.{ProcessClassTree, process_class, system, ModelTree}
+use Rattle.pz_syntax.specs.ClassView.{process_class_view, model_view}
+use Rattle.pz_syntax.specs.StatementView.{sequence_view, view}
+use Rattle.pz_syntax.specs.declared.stmts.Stmt.{Stmt}
+use Rattle.pz_syntax.specs.declared.classes.ProcessClass.{ProcessClass}
+use Rattle.pz_syntax.specs.declared.clusters.SystemDecl.{SystemDecl}
+use Rattle.pz_syntax.specs.declared.clusters.Decl.{Decl}
+use Rattle.pz_syntax.specs.declared.clusters.Decl.TheVariants.{Process, System}
 use Rattle.pz_term.specs.declared.action.Kind.{Kind}
 use Rattle.pz_term.specs.declared.action.Kind.TheVariants.{Skip, Expire, Call}
 use Rattle.pz_term.specs.declared.action.Action.{Action}
@@ -120,19 +120,19 @@ repeating_is_first t is = subst IsFirstPath (sym is) (first_path 4 repeating_bod
 
 -- ---- the model with a delay, moment by moment
 
-abbrev offer : Place → Kind → Pos → Action
+abbrev pub offer : Place → Kind → Pos → Action
 offer place kind pos = Internal (record { process = 0; place = place }) kind pos
 
-abbrev calling : Action
+abbrev pub calling : Action
 calling = offer [] Call (at 2 6)
 
-abbrev skipping : Pos → Action
+abbrev pub skipping : Pos → Action
 skipping pos = offer (0 ∷ 0 ∷ []) Skip pos
 
-abbrev expiring : Action
+abbrev pub expiring : Action
 expiring = offer (0 ∷ 0 ∷ []) Expire (at 5 1)
 
-abbrev last_skip : Action
+abbrev pub last_skip : Action
 last_skip = offer (0 ∷ []) Skip (at 6 1)
 
 abbrev last : Statements Id Id Id
@@ -194,7 +194,7 @@ only : (c : Config) (a : Action) → offers_of c ≡ a ∷ [] → IsChoice c 1 0
 only c a is = record { offers = a ∷ []; all = subst (λ (l : List Action). IsOffers c l) is (offers_are c); count = refl; chosen = refl }
 
 -- its run, event by event
-delaying_run :
+pub delaying_run :
     IsFirstRun (bodies_of delaying) 1000 (start delaying)
     (acted 0 1 0 calling ∷ acted 0 1 0 (skipping (at 4 1)) ∷ passed 0 3 ∷ acted 3 1 0 expiring ∷ acted 3 1 0 last_skip ∷ []) 3 ended
 delaying_run =

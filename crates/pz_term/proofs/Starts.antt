@@ -1,13 +1,13 @@
 -- The simulator at its start.
 use Rattle.std.proofs.Common.{◌≡◌, ℕ, List, [], ◌∷◌, map, Option, Some, option_map, Bool, false, refl, sym, ap, ◌∙◌}
-use Rattle.pz_ast.specs.declared.classes.ProcessMethod.{ProcessMethod}
-use Rattle.pz_ast.specs.declared.classes.ProcessClass.{ProcessClass}
-use Rattle.pz_ast.specs.declared.classes.Start.{Start}
-use Rattle.pz_ast.specs.declared.names.Id.{Id}
-use Rattle.pz_ast.specs.Expressions.{none}
-use Rattle.pz_ast.specs.Statements.{Statements, call}
-use Rattle.pz_ast.specs.Classes.{ProcessMethodTree, StartTree, ProcessClassTree}
-use Rattle.pz_ast.specs.ClassView.{process_method_view, process_class_view, start_view}
+use Rattle.pz_syntax.specs.declared.classes.ProcessMethod.{ProcessMethod}
+use Rattle.pz_syntax.specs.declared.classes.ProcessClass.{ProcessClass}
+use Rattle.pz_syntax.specs.declared.classes.Start.{Start}
+use Rattle.pz_syntax.specs.declared.names.Id.{Id}
+use Rattle.pz_syntax.specs.Expressions.{none}
+use Rattle.pz_syntax.specs.Statements.{Statements, call}
+use Rattle.pz_syntax.specs.Classes.{ProcessMethodTree, StartTree, ProcessClassTree}
+use Rattle.pz_syntax.specs.ClassView.{process_method_view, process_class_view, start_view}
 use Rattle.pz_term.specs.FirstPath.{FirstModel, method_of, class_of}
 use Rattle.pz_term.specs.Terms as terms
 use Rattle.pz_term.specs.Residual.{Bodies}

@@ -9,7 +9,7 @@ use Rattle.pz_term.specs.Delays.{pass_term}
 use Rattle.pz_term.specs.Configurations.{Config, next, pass}
 use Rattle.pz_term.specs.Moments.{IsMoment, IsLeast}
 use Rattle.pz_term.specs.Runs.{IsChoice}
-use Rattle.pz_term.specs.Twins.{Local, local_actions, of_process, term_delay}
+use Rattle.pz_term.specs.devices.Twins.{Local, local_actions, of_process, term_delay}
 use Rattle.pz_term.specs.Simulations.{Chooses, Passes}
 use Rattle.pz_term.specs.Plains.{simulation_of}
 use Rattle.pz_term.specs.View.{term_view, bodies_view}

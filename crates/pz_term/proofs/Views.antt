@@ -1,8 +1,8 @@
 -- What each form of the code's terms stands for.
 use Rattle.std.proofs.Common.{◌≡◌, List, ap, sym, ◌∙◌}
-use Rattle.pz_ast.specs.declared.names.Id.{Id}
-use Rattle.pz_ast.specs.declared.stmts.Stmt.{Stmt}
-use Rattle.pz_ast.specs.StatementView.{sequence_view, view}
+use Rattle.pz_syntax.specs.declared.names.Id.{Id}
+use Rattle.pz_syntax.specs.declared.stmts.Stmt.{Stmt}
+use Rattle.pz_syntax.specs.StatementView.{sequence_view, view}
 use Rattle.pz_term.specs.declared.term.Term.{Term, fold-roll-Term}
 use Rattle.pz_term.specs.declared.term.Term.TheOpen.{Term-F}
 use Rattle.pz_term.specs.declared.term.Term.TheVariants.{Leaf, Seq, Frame, rolls-Leaf, rolls-Seq, rolls-Frame}

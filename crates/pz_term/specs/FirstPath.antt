@@ -1,13 +1,13 @@
 -- The models of the first path: one class with methods of skips, delays and a call at the end,
 -- and one process of this class.
 use Rattle.std.specs.Prelude.{◌≡◌, ◌≢◌, ℕ, List, [], ◌∷◌, Some, None, Any, All, AllPairs, Contains, map, codes, pos}
-use Rattle.pz_ast.specs.declared.tokens.Pos.{Pos}
-use Rattle.pz_ast.specs.declared.names.Id.{Id}
-use Rattle.pz_ast.specs.declared.exprs.Literal.TheVariants.{Int}
-use Rattle.pz_ast.specs.declared.clusters.SystemDecl.{SystemDecl}
-use Rattle.pz_ast.specs.Expressions.{literal, none}
-use Rattle.pz_ast.specs.Statements.{Statement, skip, delay, call, Statements, no_statements, then}
-use Rattle.pz_ast.specs.Classes.{ProcessMethodTree, ProcessClassTree, process_class, system, ModelTree}
+use Rattle.pz_syntax.specs.declared.tokens.Pos.{Pos}
+use Rattle.pz_syntax.specs.declared.names.Id.{Id}
+use Rattle.pz_syntax.specs.declared.exprs.Literal.TheVariants.{Int}
+use Rattle.pz_syntax.specs.declared.clusters.SystemDecl.{SystemDecl}
+use Rattle.pz_syntax.specs.Expressions.{literal, none}
+use Rattle.pz_syntax.specs.Statements.{Statement, skip, delay, call, Statements, no_statements, then}
+use Rattle.pz_syntax.specs.Classes.{ProcessMethodTree, ProcessClassTree, process_class, system, ModelTree}
 
 -- a skip, a delay by a constant at its place, or a call
 pub data Simple : Type 0 where

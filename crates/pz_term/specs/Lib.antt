@@ -11,8 +11,8 @@ pub mod Moments
 pub mod Runs
 pub mod Start
 pub mod Laws
-pub mod Twins
 pub mod View
 pub mod Simulations
 pub mod Plains
 pub mod Refusals
+pub mod devices

@@ -1,10 +1,10 @@
 -- What a term can do by itself: an action of a kind, at a place of the term, with the place of its
 -- statement in the text. One rule for each statement that acts, and one for each term around it.
 use Rattle.std.specs.Prelude.{◌≡◌, List, [], ◌∷◌, Some}
-use Rattle.pz_ast.specs.declared.tokens.Pos.{Pos}
-use Rattle.pz_ast.specs.declared.names.Id.{Id}
-use Rattle.pz_ast.specs.Expressions.{Expression, Expressions}
-use Rattle.pz_ast.specs.Statements.{Statements, skip, delay, call}
+use Rattle.pz_syntax.specs.declared.tokens.Pos.{Pos}
+use Rattle.pz_syntax.specs.declared.names.Id.{Id}
+use Rattle.pz_syntax.specs.Expressions.{Expression, Expressions}
+use Rattle.pz_syntax.specs.Statements.{Statements, skip, delay, call}
 use Rattle.pz_term.specs.declared.action.Kind.{Kind}
 use Rattle.pz_term.specs.declared.action.Kind.TheVariants.{Skip, Expire, Call}
 use Rattle.pz_term.specs.Terms.{Term, leaf, wait, sequence, frame, Place}

@@ -1,6 +1,6 @@
 -- How statements become terms, without an action.
-use Rattle.pz_ast.specs.declared.names.Id.{Id}
-use Rattle.pz_ast.specs.Statements.{Statement, Statements, no_statements, then}
+use Rattle.pz_syntax.specs.declared.names.Id.{Id}
+use Rattle.pz_syntax.specs.Statements.{Statement, Statements, no_statements, then}
 use Rattle.pz_term.specs.Terms.{Term, done, leaf, sequence}
 
 -- A compound statement that becomes a term of its own is a further case here.

@@ -1,8 +1,8 @@
 -- What an action leaves of a term.
 use Rattle.std.specs.Prelude.{ℕ, zero, List, [], ◌∷◌, if◌then◌else◌}
 use Rattle.std.specs.Str.{bytes_eq}
-use Rattle.pz_ast.specs.declared.names.Id.{Id}
-use Rattle.pz_ast.specs.Statements.{Statement, Statements, no_statements, call}
+use Rattle.pz_syntax.specs.declared.names.Id.{Id}
+use Rattle.pz_syntax.specs.Statements.{Statement, Statements, no_statements, call}
 use Rattle.pz_term.specs.Terms.{Term, done, leaf, sequence, frame, Place, child, part}
 use Rattle.pz_term.specs.Opening.{open_statements}
 

@@ -1,7 +1,7 @@
 -- Where a model starts, and the methods of its class.
 use Rattle.std.specs.Prelude.{[], ◌∷◌, map}
-use Rattle.pz_ast.specs.Expressions.{none}
-use Rattle.pz_ast.specs.Statements.{call}
+use Rattle.pz_syntax.specs.Expressions.{none}
+use Rattle.pz_syntax.specs.Statements.{call}
 use Rattle.pz_term.specs.FirstPath.{FirstModel, statements_of}
 use Rattle.pz_term.specs.Terms.{leaf}
 use Rattle.pz_term.specs.Residual.{Bodies}

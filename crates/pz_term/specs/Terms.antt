@@ -1,8 +1,8 @@
 -- What is left of a process. Further compound statements become further terms.
 use Rattle.std.specs.Prelude.{ℕ, zero, ◌+◌, List, [], ◌∷◌}
-use Rattle.pz_ast.specs.declared.tokens.Pos.{Pos}
-use Rattle.pz_ast.specs.declared.names.Id.{Id}
-use Rattle.pz_ast.specs.Statements.{Statement, Statements}
+use Rattle.pz_syntax.specs.declared.tokens.Pos.{Pos}
+use Rattle.pz_syntax.specs.declared.names.Id.{Id}
+use Rattle.pz_syntax.specs.Statements.{Statement, Statements}
 
 pub data Term : Type 0 where
   done : Term

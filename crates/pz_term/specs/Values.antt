@@ -1,9 +1,9 @@
 -- The value of the expression of a delay. So far only constants have one.
 use Rattle.std.specs.Prelude.{ℕ, Option, Some, None, pos}
-use Rattle.pz_ast.specs.declared.names.Id.{Id}
-use Rattle.pz_ast.specs.declared.exprs.Literal.{Literal}
-use Rattle.pz_ast.specs.declared.exprs.Literal.TheVariants.{Int}
-use Rattle.pz_ast.specs.Expressions.{Expression, literal}
+use Rattle.pz_syntax.specs.declared.names.Id.{Id}
+use Rattle.pz_syntax.specs.declared.exprs.Literal.{Literal}
+use Rattle.pz_syntax.specs.declared.exprs.Literal.TheVariants.{Int}
+use Rattle.pz_syntax.specs.Expressions.{Expression, literal}
 
 abbrev pub duration_of_literal : Literal → Option ℕ
 duration_of_literal (Int (pos n)) = Some n

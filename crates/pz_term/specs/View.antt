@@ -1,7 +1,7 @@
 -- What the code's terms and methods stand for.
 use Rattle.std.specs.Prelude.{List, map}
-use Rattle.pz_ast.specs.declared.classes.ProcessMethod.{ProcessMethod}
-use Rattle.pz_ast.specs.StatementView as statement
+use Rattle.pz_syntax.specs.declared.classes.ProcessMethod.{ProcessMethod}
+use Rattle.pz_syntax.specs.StatementView as statement
 use Rattle.pz_term.specs.declared.term.Term.{Term, fold-Term}
 use Rattle.pz_term.specs.declared.term.Term.TheOpen.{Term-F}
 use Rattle.pz_term.specs.declared.bodies.Body.{Body}

@@ -1,15 +1,15 @@
 ghost use Rattle.std.specs.Prelude.{◌≡◌, [], ◌∷◌, ◌++◌, map, IfOk, OnOk, ℕ, false, Some, slice_get};
-ghost use Rattle.pz_ast.specs.StatementView.{sequence_view, view};
+ghost use Rattle.pz_syntax.specs.StatementView.{sequence_view, view};
 ghost use Rattle.pz_term.specs.Terms as terms;
 ghost use Rattle.pz_term.specs.Residual.{left_of as the_left, around, framed as the_framed, left_of_statement, after_action};
-ghost use Rattle.pz_term.specs.Twins.{Local, local_actions, statement_actions, expiry, below, of_process, is_done as done_of, is_replaced as replaced};
+ghost use Rattle.pz_term.specs.devices.Twins.{Local, local_actions, statement_actions, expiry, below, of_process, is_done as done_of, is_replaced as replaced};
 ghost use Rattle.pz_term.specs.View.{term_view, bodies_view};
 
 use crate::bodies::{Body, find_body};
 use crate::term::{Rest, Term, duration_of, open};
 use crate::{Action, End, Kind, Place};
-use pz_ast::{Id, Pos, Stmt, StmtForm};
 use pz_items::{Boxed, Items};
+use pz_syntax::{Id, Pos, Stmt, StmtForm};
 use std::alloc::{AllocError, Global};
 use std::mem::drop;
 

@@ -1,9 +1,9 @@
 use crate::Place;
-use pz_ast::Pos;
+use pz_syntax::Pos;
 
 /// A part of a process: the number of the process, from 0 in the order of the text, and the place
 /// in its term.
-#[derive(Debug, Drop)]
+#[derive(Drop)]
 pub struct End {
     pub process: u32,
     pub place: Place,
@@ -26,7 +26,7 @@ pub enum Kind {
 
 /// One event of a model: so far one internal step of one process, at the place of the first token
 /// of its statement.
-#[derive(Debug, Drop)]
+#[derive(Drop)]
 pub enum Action {
     Internal { at: End, kind: Kind, pos: Pos },
 }

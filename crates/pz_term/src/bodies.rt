@@ -1,14 +1,15 @@
 ghost use Rattle.std.specs.Prelude.{◌≡◌, IfOk};
-ghost use Rattle.pz_ast.specs.StatementView.{sequence_view};
+ghost use Rattle.pz_syntax.specs.StatementView.{sequence_view};
 ghost use Rattle.pz_term.specs.Residual.{body_of};
 ghost use Rattle.pz_term.specs.View.{bodies_view, bodies_of_methods};
 
-use pz_ast::{Name, ProcessMethod, Stmt, copy_statements};
+use pz_ast::copy_statements;
 use pz_items::Items;
+use pz_syntax::{Name, ProcessMethod, Stmt};
 use std::alloc::{AllocError, Global};
 
 /// A method: its name and its body.
-#[derive(Debug, Drop)]
+#[derive(Drop)]
 pub struct Body {
     pub name: Name,
     pub statements: Items<Stmt>,

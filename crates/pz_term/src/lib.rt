@@ -15,6 +15,3 @@ pub use action::{Action, End, Kind};
 pub use moment::Moment;
 pub use place::Place;
 pub use plain::{ChooseError, PassError, Plain};
-
-#[cfg(test)]
-mod tests;

@@ -1,12 +1,12 @@
 ghost use Rattle.std.specs.Prelude.{◌≡◌, IfOk};
-ghost use Rattle.pz_ast.specs.StatementView.{view};
+ghost use Rattle.pz_syntax.specs.StatementView.{view};
 ghost use Rattle.pz_term.specs.Delays.{pass_term, pass_statement as the_passed};
-ghost use Rattle.pz_term.specs.Twins.{statement_delay};
+ghost use Rattle.pz_term.specs.devices.Twins.{statement_delay};
 ghost use Rattle.pz_term.specs.View.{term_view};
 
 use crate::term::{Term, duration_of};
-use pz_ast::{Stmt, StmtForm};
 use pz_items::Boxed;
+use pz_syntax::{Stmt, StmtForm};
 use std::alloc::{AllocError, Global};
 use std::mem::drop;
 

@@ -5,7 +5,7 @@ use std::marker::Model;
 
 /// A place in a term: the numbers of the children, from 0, on the way from the root to a part.
 /// Contracts see the list of the numbers.
-#[derive(Debug, Drop)]
+#[derive(Drop)]
 pub struct Place {
     steps: Vec<u32>,
 }

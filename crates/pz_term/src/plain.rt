@@ -3,8 +3,8 @@ use crate::bodies::{Body, copy_bodies};
 use crate::passing::pass;
 use crate::term::{Term, count_actions, first_call, is_done, least_delay};
 use crate::{Action, Moment, Place};
-use pz_ast::{Decl, Model, ProcessClass};
 use pz_items::Items;
+use pz_syntax::{Decl, Model, ProcessClass};
 use std::alloc::{AllocError, Global};
 use std::mem::{self, drop};
 
@@ -42,7 +42,7 @@ impl Plain {
     ghost use Rattle.std.specs.Prelude.{◌≡◌, ◌<◌, ◌≤◌, ◌^◌, ℕ, [], true, false, IfOk, OnOk, IfErr, OnErr, IsErrOf};
     ghost use Rattle.pz_term.specs.Moments.{IsMoment};
     ghost use Rattle.pz_term.specs.Refusals.{OnNoSuchOffer, OnChooseNotNow, OnChooseRefused, NoActions, OnPassNotNow, OnPassRefused, NoTime};
-    ghost use Rattle.pz_ast.specs.ClassView.{model_view, process_class_view};
+    ghost use Rattle.pz_syntax.specs.ClassView.{model_view, process_class_view};
     ghost use Rattle.pz_term.specs.FirstPath.{IsFirstPath, FirstModel, class_of, tree_of};
     ghost use Rattle.pz_term.specs.Start.{bodies_of, start as start_of};
     ghost use Rattle.pz_term.specs.Offers.{IsOffers};
@@ -133,9 +133,9 @@ impl Plain {
     ///
     /// # Errors
     ///
-    /// `NoSuchOffer` comes exactly where there are offers, but none of this number, and `NotNow`
-    /// exactly where the moment is not `Actions`; then nothing has changed. After `NoMemory` the
-    /// simulator is broken.
+    /// But for `NoMemory`, `NoSuchOffer` comes exactly where there are offers, but none of this
+    /// number, and `NotNow` exactly where the moment is not `Actions`; then nothing has changed. After
+    /// `NoMemory` the simulator is broken.
     pub fn choose(&mut self, k: u64) -> Result<(), ChooseError>
         ensures ok { OnOk result (Chooses (simulation_of self.old) (simulation_of self.new) k) }
         ensures no_such_offer { IfErr result (OnNoSuchOffer (λ offers. IsMomentOf (simulation_of self.old) (Moment.Actions offers) × (offers ≤ k))) }
@@ -183,8 +183,8 @@ impl Plain {
     ///
     /// # Errors
     ///
-    /// `NotNow` comes exactly where the moment is not `Time`; then nothing has changed. After
-    /// `NoMemory` the simulator is broken.
+    /// But for `NoMemory`, `NotNow` comes exactly where the moment is not `Time`; then nothing has
+    /// changed. After `NoMemory` the simulator is broken.
     pub fn pass(&mut self) -> Result<(), PassError>
         requires { (simulation_of self.old).config.clock < 2 ^ 127 }
         ensures ok { OnOk result (Passes (simulation_of self.old) (simulation_of self.new)) }

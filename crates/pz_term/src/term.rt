@@ -1,22 +1,23 @@
 ghost use Rattle.std.specs.Prelude.{◌≡◌, [], ◌∷◌, length, IfOk, MatchOption, ◌==◌};
-ghost use Rattle.pz_ast.specs.StatementView.{sequence_view, view};
-ghost use Rattle.pz_ast.specs.Expressions.{none};
-ghost use Rattle.pz_ast.specs.Statements.{call};
+ghost use Rattle.pz_syntax.specs.StatementView.{sequence_view, view};
+ghost use Rattle.pz_syntax.specs.Expressions.{none};
+ghost use Rattle.pz_syntax.specs.Statements.{call};
 ghost use Rattle.pz_term.specs.Terms as terms;
 ghost use Rattle.pz_term.specs.Opening.{open_statements};
 ghost use Rattle.pz_term.specs.Values.{duration_of as the_duration};
-ghost use Rattle.pz_term.specs.Twins.{local_actions, term_delay, is_done as done_of, statement_actions};
-ghost use Rattle.pz_ast.specs.ExpressionView as expression;
+ghost use Rattle.pz_term.specs.devices.Twins.{local_actions, term_delay, is_done as done_of, statement_actions};
+ghost use Rattle.pz_syntax.specs.ExpressionView as expression;
 ghost use Rattle.pz_term.specs.View.{term_view};
 
-use pz_ast::{Expr, ExprForm, Id, Literal, Pos, Stmt, StmtForm};
+use pz_ast::copy_statement;
 use pz_items::{Boxed, Items};
+use pz_syntax::{Expr, ExprForm, Id, Literal, Pos, Stmt, StmtForm};
 use std::alloc::{AllocError, Global};
 use std::marker::Model;
 
 /// The statements behind the one that is open. Contracts see them in the order in which they
 /// come; the next one lies at the end of the `Vec`, so that it is taken without moving the others.
-#[derive(Debug, Drop)]
+#[derive(Drop)]
 pub struct Rest {
     reversed: Vec<Stmt>,
 }
@@ -24,8 +25,8 @@ pub struct Rest {
 impl Model for Rest {
     ghost use Rattle.std.specs.Prelude.{List, reverse};
     ghost use Rattle.std.specs.Coded.{codes};
-    ghost use Rattle.pz_ast.specs.declared.stmts.Stmt.{Stmt};
-    ghost use Rattle.pz_ast.specs.contracts.stmts.Stmt as stmt;
+    ghost use Rattle.pz_syntax.specs.declared.stmts.Stmt.{Stmt};
+    ghost use Rattle.pz_syntax.specs.contracts.stmts.Stmt as stmt;
 
     ghost Value = { List Stmt };
 
@@ -41,7 +42,7 @@ impl Rest {
     {
         let mut reversed = Vec::new(alloc);
         for statement in statements {
-            reversed.push(statement.copy(alloc)?)?;
+            reversed.push(copy_statement(alloc, statement)?)?;
         }
         reversed.reverse();
         Ok(Rest { reversed })
@@ -63,7 +64,7 @@ impl Rest {
 }
 
 /// What is left of a process.
-#[derive(Debug, Drop)]
+#[derive(Drop)]
 pub enum Term {
     Done,
     Leaf(Stmt),

@@ -4,17 +4,17 @@ use Rattle.std.specs.List.{list_any, flat_map}
 use Rattle.std.specs.Option.{is_some, option_map_or, option_and_then, option_to_list}
 use Rattle.std.specs.Str.{bytes_eq}
 use Rattle.std.proofs.lemmas.List.Folds.{list_any-append}
-use Rattle.pz_ast.specs.declared.names.Id.{Id}
-use Rattle.pz_ast.specs.Classes.{DeclTree, StartTree, ModelTree}
+use Rattle.pz_syntax.specs.declared.names.Id.{Id}
+use Rattle.pz_syntax.specs.Classes.{DeclTree, StartTree, ModelTree}
 use Rattle.pz_classes.specs.Numbers.{declaration}
 use Rattle.pz_classes.specs.Members.{from_root}
 use Rattle.pz_classes.specs.Starts.{own_start}
 use Rattle.pz_classes.specs.Words.{is_among}
 use Rattle.pz_nested.specs.Scopes.{Note, outermost}
-use Rattle.pz_nested.specs.Holding.{Holds}
+use Rattle.pz_nested.specs.devices.Holding.{Holds}
 use Rattle.pz_nested.specs.declared.nested.Nested.{Nested}
-use Rattle.pz_usage.specs.Shown.{Shows}
-use Rattle.pz_usage.specs.Inherited.{of_each, own_starts, start_along}
+use Rattle.pz_usage.specs.devices.Shown.{Shows}
+use Rattle.pz_usage.specs.devices.Inherited.{of_each, own_starts, start_along}
 use Rattle.pz_usage.proofs.Shown.{or_flip, some_or, map_outermost, closed_shown}
 
 -- the scopes of the classes that stay

@@ -2,7 +2,7 @@
 use Rattle.std.proofs.Common.{◌≡◌, refl, ℕ, zero, suc, ◌≤◌, List, length, Option, Some, None, arith}
 use Rattle.std.proofs.lemmas.Option.{slice_get_within}
 use Rattle.std.specs.Option.{option_and_then}
-use Rattle.pz_ast.specs.Classes.{DeclTree, ModelTree}
+use Rattle.pz_syntax.specs.Classes.{DeclTree, ModelTree}
 use Rattle.pz_classes.specs.Numbers.{class, declaration}
 
 -- a class that has a declaration is one of the model

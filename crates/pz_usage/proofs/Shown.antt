@@ -6,9 +6,9 @@ use Rattle.std.proofs.lemmas.List.{length-map, drop-map, map-append, take_more, 
 use Rattle.std.proofs.lemmas.Grind.{flat_map-append}
 use Rattle.std.proofs.lemmas.List.Folds.{list_any-append}
 use Rattle.pz_nested.specs.Scopes.{Note, latest, value_in, outermost}
-use Rattle.pz_nested.specs.Holding.{Holds}
+use Rattle.pz_nested.specs.devices.Holding.{Holds}
 use Rattle.pz_nested.specs.declared.nested.Nested.{Nested}
-use Rattle.pz_usage.specs.Shown.{Shows, has_note, is_key_of}
+use Rattle.pz_usage.specs.devices.Shown.{Shows, has_note, is_key_of}
 use Rattle.pz_usage.proofs.Sets.{or_none}
 
 pub map_outermost : {A B : Type 0} (f : A → B) (n : ℕ) (xs : List A) → outermost n (map f xs) ≡ map f (outermost n xs)

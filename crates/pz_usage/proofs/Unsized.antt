@@ -1,8 +1,8 @@
 -- Whether C13 or C18 is violated, word by word.
 use Rattle.std.proofs.Common.{◌≡◌, ◌∙◌, refl, sym, subst, ℕ, zero, suc, Bool, true, false, ◌||◌, IsTrue, List, [], ◌∷◌, Some, slice_get, arith, ◌⊎◌, inl, inr}
-use Rattle.pz_ast.specs.declared.tokens.Pos.{Pos}
+use Rattle.pz_syntax.specs.declared.tokens.Pos.{Pos}
 use Rattle.std.specs.List.{Contains, list_any}
-use Rattle.pz_ast.specs.Classes.{DeclTree, ModelTree}
+use Rattle.pz_syntax.specs.Classes.{DeclTree, ModelTree}
 use Rattle.pz_mentions.specs.declared.mention.Mention.{Mention}
 use Rattle.pz_mentions.specs.declared.part.Part.{Part}
 use Rattle.pz_mentions.specs.Declarations.{parts}
@@ -12,7 +12,7 @@ use Rattle.pz_classes.specs.Words.{Mentions, place}
 use Rattle.pz_classes.specs.NameRules.{breaks_c13, breaks_c18}
 use Rattle.pz_classes.specs.WordRules.{BreaksWord, c5, c6, c7, c8, c9, c10, c11, c12, c13, c18, c21, c22}
 use Rattle.pz_violation.specs.Order.{violation}
-use Rattle.pz_usage.specs.Unsized.{is_unsized, is_unsized_part, is_unsized_class, is_unsized_model}
+use Rattle.pz_usage.specs.devices.Unsized.{is_unsized, is_unsized_part, is_unsized_class, is_unsized_model}
 use Rattle.pz_usage.proofs.Lists.{none_in, contained_cases, contained_first, contained_later}
 
 or_left : (a b : Bool) → IsTrue a → IsTrue (a || b)

@@ -1,6 +1,6 @@
 -- One class further on the walk.
 use Rattle.std.proofs.Common.{◌≡◌, sym, subst, ◌∙◌, ℕ, suc, ◌<◌, ◌≤◌, List, ◌∷◌, ◌++◌, length, drop, get_or, drop-cons, Option}
-use Rattle.pz_ast.specs.Classes.{ModelTree}
+use Rattle.pz_syntax.specs.Classes.{ModelTree}
 use Rattle.pz_classes.specs.Ancestors.{ancestors}
 use Rattle.pz_classes.specs.Preorder.{Opens}
 use Rattle.pz_lineage.specs.Preorder.{visited, outermost}
@@ -8,7 +8,7 @@ use Rattle.pz_lineage.specs.declared.visit.Visit.{Visit}
 use Rattle.pz_violation.specs.declared.violation.Violation.{Violation}
 use Rattle.pz_violation.specs.Least.{least_from}
 use Rattle.pz_violation.proofs.Leasts.{least_from_append}
-use Rattle.pz_usage.specs.Misuses.{of_number, misuses}
+use Rattle.pz_usage.specs.devices.Misuses.{of_number, misuses}
 
 module _ (m : ModelTree) (vs : List Visit) (d : Visit) (i j : ℕ) (within : i < length vs) (after : j ≡ suc i) where
   abbrev pub visit : Visit

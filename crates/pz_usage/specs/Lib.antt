@@ -1,6 +1,1 @@
-pub mod Sets
-pub mod Shown
-pub mod Inherited
-pub mod Scopes
-pub mod Misuses
-pub mod Unsized
+pub mod devices

@@ -1,5 +1,5 @@
 use crate::inherited::Inherited;
-use pz_ast::Decl;
+use pz_syntax::Decl;
 use pz_value::ClassId;
 
 /// A class that a walk has come to, and what it and its ancestors declare.

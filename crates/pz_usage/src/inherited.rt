@@ -3,21 +3,21 @@
 ghost use Rattle.std.specs.Prelude.{◌≡◌, [], ◌∷◌, List, ℕ, Bool, Option, None, Some, OnOk};
 ghost use Rattle.std.specs.List.{list_any};
 ghost use Rattle.std.specs.Option.{is_some, option_map, option_to_list};
-ghost use Rattle.pz_ast.specs.Classes.{DeclTree as Tree, process_class, StartTree, ModelTree};
-ghost use Rattle.pz_ast.specs.ClassView.{decl_view, process_class_view, start_view, model_view};
+ghost use Rattle.pz_syntax.specs.Classes.{DeclTree as Tree, process_class, StartTree, ModelTree};
+ghost use Rattle.pz_syntax.specs.ClassView.{decl_view, process_class_view, start_view, model_view};
 ghost use Rattle.pz_classes.specs.Members.{from_root, own_fields, own_variables, own_ports};
 ghost use Rattle.pz_classes.specs.CallRules.{is_message};
 ghost use Rattle.pz_classes.specs.Words.{is_among};
 ghost use Rattle.pz_lineage.specs.Preorder.{outermost};
-ghost use Rattle.pz_usage.specs.Shown.{ShowsStarts, called};
-ghost use Rattle.pz_usage.specs.Inherited.{AreOpen, IsOpen, messages_along, method_along, start_along};
+ghost use Rattle.pz_usage.specs.devices.Shown.{ShowsStarts, called};
+ghost use Rattle.pz_usage.specs.devices.Inherited.{AreOpen, IsOpen, messages_along, method_along, start_along};
 
 use crate::messages::{Signal, note_messages};
 use crate::methods::{Call, note_methods};
 use crate::names::{has_name, note_optional, note_section};
-use pz_ast::{Decl, Model, Name, ProcessClass, Start};
 use pz_classes::{Visit, declaration};
 use pz_nested::Nested;
+use pz_syntax::{Decl, Model, Name, ProcessClass, Start};
 use std::alloc::{AllocError, Global};
 
 /// What the classes that are open declare: a class that a walk has come to, and its ancestors. Each

@@ -1,16 +1,16 @@
 // The least violation at a word.
 
 ghost use Rattle.std.specs.Prelude.{◌≡◌, [], None, IfOk};
-ghost use Rattle.pz_ast.specs.ClassView.{model_view};
+ghost use Rattle.pz_syntax.specs.ClassView.{model_view};
 ghost use Rattle.pz_classes.specs.Ancestors.{ancestors};
 ghost use Rattle.pz_classes.specs.Preorder.{Opens};
 ghost use Rattle.pz_classes.specs.Tables.{AreClasses};
 ghost use Rattle.pz_classes.specs.WordRules.{BreaksWord};
 ghost use Rattle.pz_lineage.specs.Preorder.{visited};
 ghost use Rattle.pz_violation.specs.Least.{LeastOf, least_from};
-ghost use Rattle.pz_usage.specs.Inherited.{IsOpen};
-ghost use Rattle.pz_usage.specs.Scopes.{AreDeclared, IsScope, model_of, decl_of};
-ghost use Rattle.pz_usage.specs.Misuses.{of_part, of_parts, of_number, misuses};
+ghost use Rattle.pz_usage.specs.devices.Inherited.{IsOpen};
+ghost use Rattle.pz_usage.specs.devices.Scopes.{AreDeclared, IsScope, model_of, decl_of};
+ghost use Rattle.pz_usage.specs.devices.Misuses.{of_part, of_parts, of_number, misuses};
 
 use crate::class_scope::ClassScope;
 use crate::declared::Declared;
@@ -18,9 +18,9 @@ use crate::inherited::Inherited;
 use crate::selectors::selectors_of;
 use crate::stretch::stretch_of;
 use crate::words::least_at_word;
-use pz_ast::Model;
 use pz_classes::{Classes, Visit, declaration};
 use pz_mentions::{Part, parts_of};
+use pz_syntax::Model;
 use pz_value::ClassId;
 use pz_violation::Violation;
 use std::alloc::{AllocError, Global};
@@ -103,10 +103,27 @@ fn least_of_visits(
     ensures { IfOk result (λ least. least ≡ least_from None (misuses (model_of declared.now) (visited visits.now))) }
 {
     let mut inherited = Inherited::new(alloc);
+    let least = least_of_each(alloc, declared, visits, &mut inherited);
+    std::mem::drop(inherited);
+    least
+}
+
+/// As `least_of_visits`, where no class is open yet.
+fn least_of_each<'a>(
+    alloc: Global,
+    declared: &Declared<'_, 'a>,
+    visits: &[Visit],
+    inherited: &mut Inherited<'a>,
+) -> Result<Option<Violation>, AllocError>
+    requires declares { AreDeclared declared.now }
+    requires opens { Opens (model_of declared.now) [] visits.now }
+    requires empty { IsOpen (model_of declared.now) [] inherited.old }
+    ensures { IfOk result (λ least. least ≡ least_from None (misuses (model_of declared.now) (visited visits.now))) }
+{
     let mut least = None;
     for visit in visits {
         inherited.enter(declared.model, *visit)?;
-        least = least_of_class(alloc, declared, &inherited, visit.class, least)?;
+        least = least_of_class(alloc, declared, inherited, visit.class, least)?;
     }
     Ok(least)
 }

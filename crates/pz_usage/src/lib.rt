@@ -18,6 +18,3 @@ mod words;
 
 pub use least::least_misuse;
 pub use sizes::has_unsized_words;
-
-#[cfg(test)]
-mod tests;

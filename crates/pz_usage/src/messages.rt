@@ -2,12 +2,12 @@
 
 ghost use Rattle.std.specs.Prelude.{◌≡◌, [], ◌∷◌, ◌++◌, List, length, OnOk};
 ghost use Rattle.std.specs.Option.{unwrap_or};
-ghost use Rattle.pz_ast.specs.declared.classes.Message.{Message as Declared};
-ghost use Rattle.pz_usage.specs.Shown.{ShowsMessages};
+ghost use Rattle.pz_syntax.specs.declared.classes.Message.{Message as Declared};
+ghost use Rattle.pz_usage.specs.devices.Shown.{ShowsMessages};
 
-use pz_ast::{Id, Message, Name};
 use pz_items::Items;
 use pz_nested::Nested;
+use pz_syntax::{Id, Message, Name};
 use std::alloc::AllocError;
 
 /// A message as it is sent or received: on which port, in which direction, by which name and with

@@ -2,15 +2,15 @@
 
 ghost use Rattle.std.specs.Prelude.{◌≡◌, ℕ, [], ◌∷◌, ◌++◌, List, map, IfOk, OnOk};
 ghost use Rattle.std.specs.Option.{unwrap_or, option_map};
-ghost use Rattle.pz_ast.specs.Classes.{ProcessMethodTree as Tree};
-ghost use Rattle.pz_ast.specs.ClassView.{process_method_view};
+ghost use Rattle.pz_syntax.specs.Classes.{ProcessMethodTree as Tree};
+ghost use Rattle.pz_syntax.specs.ClassView.{process_method_view};
 ghost use Rattle.pz_classes.specs.Methods.{process_signature};
-ghost use Rattle.pz_usage.specs.Shown.{ShowsMethods, called, signature_of};
+ghost use Rattle.pz_usage.specs.devices.Shown.{ShowsMethods, called, signature_of};
 
-use pz_ast::{Name, ProcessMethod};
 use pz_classes::count_names;
 use pz_items::Items;
 use pz_nested::Nested;
+use pz_syntax::{Name, ProcessMethod};
 use std::alloc::AllocError;
 
 /// A method as it is called: by which name, and with how many inputs and outputs.

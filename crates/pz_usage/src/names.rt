@@ -3,14 +3,14 @@
 ghost use Rattle.std.specs.Prelude.{◌≡◌, [], ◌∷◌, ◌++◌, List, IfOk, OnOk};
 ghost use Rattle.std.specs.List.{list_any};
 ghost use Rattle.std.specs.Option.{unwrap_or};
-ghost use Rattle.pz_ast.specs.declared.names.Id.{Id as Named};
+ghost use Rattle.pz_syntax.specs.declared.names.Id.{Id as Named};
 ghost use Rattle.pz_classes.specs.Members.{grouped, section};
-ghost use Rattle.pz_usage.specs.Shown.{ShowsNames};
+ghost use Rattle.pz_usage.specs.devices.Shown.{ShowsNames};
 ghost use Rattle.pz_classes.specs.Words.{is_among};
 
-use pz_ast::{Id, Name, VarGroup};
 use pz_items::Items;
 use pz_nested::Nested;
+use pz_syntax::{Id, Name, VarGroup};
 use std::alloc::{AllocError, Global};
 
 /// One scope with these names. The only error is want of memory.

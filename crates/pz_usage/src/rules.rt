@@ -2,17 +2,17 @@
 
 ghost use Rattle.std.specs.Prelude.{◌≡◌, IfOk};
 ghost use Rattle.std.specs.Option.{option_copied, option_map, option_and_then};
-ghost use Rattle.pz_ast.specs.Classes.{ModelTree};
-ghost use Rattle.pz_ast.specs.ClassView.{decl_view, model_view};
+ghost use Rattle.pz_syntax.specs.Classes.{ModelTree};
+ghost use Rattle.pz_syntax.specs.ClassView.{decl_view, model_view};
 ghost use Rattle.pz_classes.specs.Kinds as kinds;
 ghost use Rattle.pz_classes.specs.NameRules as names;
 ghost use Rattle.pz_classes.specs.Numbers as numbers;
 ghost use Rattle.pz_classes.specs.CallRules as calls;
 ghost use Rattle.pz_classes.specs.Tables.{AreClasses};
 
-use pz_ast::{Decl, Model, Name};
 use pz_classes::{Classes, declaration};
-use pz_names::{is_array, is_primitive};
+use pz_code::{is_array, is_primitive};
+use pz_syntax::{Decl, Model, Name};
 
 /// The number of the class of this name.
 fn number_of(classes: &Classes, name: &Name) -> Option<u32>
@@ -79,30 +79,38 @@ pub(crate) fn has_instances(model: &Model, classes: &Classes, name: &Name) -> bo
     }
 }
 
+fn is_primitive_without(name: &str) -> bool
+    ensures { result ≡ calls.is_primitive_selector name.now 0 }
+{
+    name == "isNil"
+        || name == "abs"
+        || name == "asString"
+        || name == "not"
+        || name == "asInteger"
+        || name == "size"
+}
+
+fn is_primitive_with_one(name: &str) -> bool
+    ensures { result ≡ calls.is_primitive_selector name.now 1 }
+{
+    name == "div"
+        || name == "modulo"
+        || name == "min"
+        || name == "max"
+        || name == "xor"
+        || name == "concat"
+        || name == "get"
+        || name == "resize"
+}
+
 /// Whether primitive values have this selector with so many arguments.
 pub(crate) fn is_primitive_selector(name: &Name, count: u32) -> bool
     ensures { result ≡ calls.is_primitive_selector name.now count }
 {
     let name = name.as_str();
     match count {
-        0 => {
-            name == "isNil"
-                || name == "abs"
-                || name == "asString"
-                || name == "not"
-                || name == "asInteger"
-                || name == "size"
-        }
-        1 => {
-            name == "div"
-                || name == "modulo"
-                || name == "min"
-                || name == "max"
-                || name == "xor"
-                || name == "concat"
-                || name == "get"
-                || name == "resize"
-        }
+        0 => is_primitive_without(name),
+        1 => is_primitive_with_one(name),
         2 => name == "put",
         _ => false,
     }

@@ -3,15 +3,15 @@
 ghost use Rattle.std.specs.Prelude.{◌≡◌, List, ℕ, ◌||◌, ◌&&◌, false, map, nat_eq, IfOk, OnOk};
 ghost use Rattle.std.specs.List.{list_any};
 ghost use Rattle.std.specs.Str.{bytes_eq};
-ghost use Rattle.pz_ast.specs.ClassView.{decl_view, data_method_view, model_view};
+ghost use Rattle.pz_syntax.specs.ClassView.{decl_view, data_method_view, model_view};
 ghost use Rattle.pz_classes.specs.Methods.{signatures, data_signature};
 ghost use Rattle.pz_classes.specs.CallRules.{is_declared};
-ghost use Rattle.pz_usage.specs.Sets.{has_selector};
-ghost use Rattle.pz_usage.specs.Scopes.{is_one_of, asked};
+ghost use Rattle.pz_usage.specs.devices.Sets.{has_selector};
+ghost use Rattle.pz_usage.specs.devices.Scopes.{is_one_of, asked};
 
 use indexmap::IndexSet;
-use pz_ast::{DataMethod, Decl, Model, Name};
 use pz_classes::count_section;
+use pz_syntax::{DataMethod, Decl, Model, Name};
 use std::alloc::{AllocError, Global};
 
 /// A selector, and how many arguments it has.

@@ -2,18 +2,18 @@
 
 ghost use Rattle.std.specs.Prelude.{◌≡◌, ◌⊎◌, true, false, IfOk};
 ghost use Rattle.std.specs.List.{list_any};
-ghost use Rattle.pz_ast.specs.declared.tokens.Pos.{Pos as Place};
-ghost use Rattle.pz_ast.specs.ClassView.{model_view};
+ghost use Rattle.pz_syntax.specs.declared.tokens.Pos.{Pos as Place};
+ghost use Rattle.pz_syntax.specs.ClassView.{model_view};
 ghost use Rattle.pz_classes.specs.Tables.{AreClasses};
 ghost use Rattle.pz_classes.specs.WordRules.{BreaksWord};
 ghost use Rattle.pz_violation.specs.Order.{violation};
-ghost use Rattle.pz_usage.specs.Unsized as spec;
+ghost use Rattle.pz_usage.specs.devices.Unsized as spec;
 
 use crate::rules::has_instances;
-use pz_ast::Model;
 use pz_classes::Classes;
+use pz_code::is_unsupported;
 use pz_mentions::{Mention, Part, parts_of};
-use pz_names::is_unsupported;
+use pz_syntax::Model;
 use std::alloc::{AllocError, Global};
 
 /// Whether C13 or C18 is broken at this word.

@@ -1,11 +1,11 @@
 ghost use Rattle.std.specs.Prelude.{◌≡◌, IfOk};
 ghost use Rattle.pz_classes.specs.Words.{is_among};
-ghost use Rattle.pz_usage.specs.Scopes.{HasLocals};
+ghost use Rattle.pz_usage.specs.devices.Scopes.{HasLocals};
 
 use crate::names::{has_name, scope_of};
-use pz_ast::Name;
 use pz_mentions::Part;
 use pz_nested::Nested;
+use pz_syntax::Name;
 use std::alloc::{AllocError, Global};
 
 /// A part of a class, and its local names in one scope.

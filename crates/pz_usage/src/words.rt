@@ -1,11 +1,11 @@
 // Which rules are broken at a word.
 
 ghost use Rattle.std.specs.Prelude.{◌≡◌, not, ◌&&◌, ◌++◌};
-ghost use Rattle.pz_names.specs.ReservedNames as reserved;
+ghost use Rattle.pz_code.specs.ReservedNames as reserved;
 ghost use Rattle.pz_violation.specs.Order.{violation};
 ghost use Rattle.pz_violation.specs.Least.{least_from, listed};
-ghost use Rattle.pz_usage.specs.Scopes.{AreDeclared, IsScope, HasLocals, model_of, decl_of};
-ghost use Rattle.pz_usage.specs.Misuses.{at_word};
+ghost use Rattle.pz_usage.specs.devices.Scopes.{AreDeclared, IsScope, HasLocals, model_of, decl_of};
+ghost use Rattle.pz_usage.specs.devices.Misuses.{at_word};
 
 use crate::class_scope::ClassScope;
 use crate::declared::Declared;
@@ -14,9 +14,9 @@ use crate::scopes::{
     is_data, lacks_message, lacks_method, lacks_port, lacks_selector, lacks_variable, never_starts,
 };
 use crate::stretch::Stretch;
-use pz_ast::{Id, Pos};
+use pz_code::is_unsupported;
 use pz_mentions::Mention;
-use pz_names::is_unsupported;
+use pz_syntax::{Id, Pos};
 use pz_violation::{Violation, lesser};
 
 /// The least of what was found before and this rule at this place, if it is broken there.

@@ -1,28 +1,28 @@
 -- The rules of expressions refuse as too nested only where as many tokens as their budget begin a
 -- construct.
 use Rattle.std.proofs.Common.{◌≡◌, ℕ, zero, suc, ◌≤◌, not, List, [], ◌∷◌, Option, Some, None, refl, ap, ◌∙◌, arith}
-use Rattle.pz_ast.specs.declared.tokens.Pos.{Pos}
-use Rattle.pz_ast.specs.declared.tokens.Symbol.{Symbol}
-use Rattle.pz_ast.specs.declared.tokens.Symbol.TheVariants as s
-use Rattle.pz_ast.specs.declared.tokens.Keyword.TheVariants as k
-use Rattle.pz_ast.specs.declared.tokens.TokenKind.{TokenKind}
-use Rattle.pz_ast.specs.declared.tokens.TokenKind.TheVariants as kind
-use Rattle.pz_ast.specs.Expressions.{group, choice, loop, assign, returned as return_of, creation, unary, Part, left_out, written}
-use Rattle.pz_ast.specs.Expressions as tree
-use Rattle.pz_ast.specs.ExpressionView.{Tree, list_of as expressions, LinkTree}
+use Rattle.pz_syntax.specs.declared.tokens.Pos.{Pos}
+use Rattle.pz_syntax.specs.declared.tokens.Symbol.{Symbol}
+use Rattle.pz_syntax.specs.declared.tokens.Symbol.TheVariants as s
+use Rattle.pz_syntax.specs.declared.tokens.Keyword.TheVariants as k
+use Rattle.pz_syntax.specs.declared.tokens.TokenKind.{TokenKind}
+use Rattle.pz_syntax.specs.declared.tokens.TokenKind.TheVariants as kind
+use Rattle.pz_syntax.specs.Expressions.{group, choice, loop, assign, returned as return_of, creation, unary, Part, left_out, written}
+use Rattle.pz_syntax.specs.Expressions as tree
+use Rattle.pz_syntax.specs.ExpressionView.{Tree, list_of as expressions, LinkTree}
 use Rattle.pz_cursor.specs.declared.ahead.Next.{Next}
 use Rattle.pz_cursor.specs.declared.ahead.Next.TheVariants as n
-use Rattle.pz_cursor.specs.LookAhead.{next}
-use Rattle.pz_cursor.specs.Input.{Tokens, after, position, identifier, literal as literal_at, sees, selects}
-use Rattle.pz_cursor.specs.Device.{Parser, ◌>>=◌, ◌>>◌, pure, refuse, ask, skip, take_id, expect, expect_id}
-use Rattle.pz_cursor.specs.Lists.{list_of, each_of, turns}
+use Rattle.pz_cursor.specs.devices.LookAhead.{next}
+use Rattle.pz_cursor.specs.devices.Input.{Tokens, after, position, identifier, literal as literal_at, sees, selects}
+use Rattle.pz_cursor.specs.devices.Device.{Parser, ◌>>=◌, ◌>>◌, pure, refuse, ask, skip, take_id, expect, expect_id}
+use Rattle.pz_cursor.specs.devices.Lists.{list_of, each_of, turns}
 use Rattle.pz_cursor.specs.Openers.{opens}
 use Rattle.pz_cursor.proofs.Shown.{token_of}
 use Rattle.pz_cursor.proofs.Budget.{BudgetAt, Budget, pure_budget, ask_budget, take_budget, refuse_budget, bind_at, bind_budget, expect_budget, expect_id_budget, opened_at, if_at, or_none_budget, list_budget, each_budget}
 use Rattle.pz_values.specs.declared.rule.Rule.{Rule}
 use Rattle.pz_values.specs.declared.rule.Rule.TheVariants as rule
-use Rattle.pz_values.specs.Rules.{operator}
-use Rattle.pz_values.specs.Values.{expr, below, by_rule, chained, one_link, link_at, links_by, all_links, chain_of, assignment, returned, named, expression, expression_by, created, test, otherwise, otherwise_by, exprs_before, enclosed, grouped, conditional, repetition, primary, primary_by, arguments, arguments_by, one_sending, all_sendings, sent, sent_to, signed, operand, operand_by, products, sums, comparisons, conjunctions, values}
+use Rattle.pz_values.specs.devices.Rules.{operator}
+use Rattle.pz_values.specs.devices.Values.{expr, below, by_rule, chained, one_link, link_at, links_by, all_links, chain_of, assignment, returned, named, expression, expression_by, created, test, otherwise, otherwise_by, exprs_before, enclosed, grouped, conditional, repetition, primary, primary_by, arguments, arguments_by, one_sending, all_sendings, sent, sent_to, signed, operand, operand_by, products, sums, comparisons, conjunctions, values}
 
 -- ---- chains
 

@@ -1,27 +1,27 @@
 -- Each expression that the grammar has, within the nesting, is read from its text, with the places
 -- of the tokens, before what does not go on with it.
 use Rattle.std.proofs.Common.{◌≡◌, ◌≢◌, ℕ, zero, suc, ◌+◌, ◌≤◌, ◌<◌, Bool, true, false, List, [], ◌∷◌, ◌++◌, length, Ok, refl, ap, sym, ◌∙◌, subst, arith}
-use Rattle.pz_ast.specs.declared.tokens.Pos.{Pos}
-use Rattle.pz_ast.specs.declared.tokens.Symbol.{Symbol}
-use Rattle.pz_ast.specs.declared.tokens.Symbol.TheVariants as s
-use Rattle.pz_ast.specs.declared.tokens.Keyword.TheVariants as k
-use Rattle.pz_ast.specs.declared.tokens.TokenKind.TheVariants as kind
-use Rattle.pz_ast.specs.declared.names.Id.{Id}
-use Rattle.pz_ast.specs.declared.exprs.Literal.{Literal}
-use Rattle.pz_ast.specs.declared.exprs.Literal.TheVariants as lit
-use Rattle.pz_ast.specs.Marks.{symbol, keyword, selector, each_text}
-use Rattle.pz_ast.specs.Expressions.{literal, variable, me, clock, creation, group, chain, sends, unary, assign, returned as return_of, choice, loop, Expressions, none, more, Part, left_out, written, no_links, link, Sendings, no_sendings, sending}
-use Rattle.pz_ast.specs.ExpressionView.{Tree, SendingTree, sendings_of}
-use Rattle.pz_ast.specs.ExpressionText.{text, texts, tail_texts, otherwise_text, sendings_text, arguments_text, literal_kind}
-use Rattle.pz_ast.specs.ExpressionForm.{IsBody, AreExpressions, IsOtherwise, AreArguments, AreSendings}
-use Rattle.pz_ast.specs.ExpressionNesting.{nestings, otherwise_nesting, sendings_nesting, bracketed_nesting}
-use Rattle.pz_ast.specs.ModelForm.{Each}
+use Rattle.pz_syntax.specs.declared.tokens.Pos.{Pos}
+use Rattle.pz_syntax.specs.declared.tokens.Symbol.{Symbol}
+use Rattle.pz_syntax.specs.declared.tokens.Symbol.TheVariants as s
+use Rattle.pz_syntax.specs.declared.tokens.Keyword.TheVariants as k
+use Rattle.pz_syntax.specs.declared.tokens.TokenKind.TheVariants as kind
+use Rattle.pz_syntax.specs.declared.names.Id.{Id}
+use Rattle.pz_syntax.specs.declared.exprs.Literal.{Literal}
+use Rattle.pz_syntax.specs.declared.exprs.Literal.TheVariants as lit
+use Rattle.pz_syntax.specs.Marks.{symbol, keyword, selector, each_text}
+use Rattle.pz_syntax.specs.Expressions.{literal, variable, me, clock, creation, group, chain, sends, unary, assign, returned as return_of, choice, loop, Expressions, none, more, Part, left_out, written, no_links, link, Sendings, no_sendings, sending}
+use Rattle.pz_syntax.specs.ExpressionView.{Tree, SendingTree, sendings_of}
+use Rattle.pz_syntax.specs.ExpressionText.{text, texts, tail_texts, otherwise_text, sendings_text, arguments_text, literal_kind}
+use Rattle.pz_syntax.specs.ExpressionForm.{IsBody, AreExpressions, IsOtherwise, AreArguments, AreSendings}
+use Rattle.pz_syntax.specs.ExpressionNesting.{nestings, otherwise_nesting, sendings_nesting, bracketed_nesting}
+use Rattle.pz_syntax.specs.ModelForm.{Each}
 use Rattle.pz_cursor.specs.declared.ahead.Next.{Next}
 use Rattle.pz_cursor.specs.declared.ahead.Next.TheVariants as n
-use Rattle.pz_cursor.specs.LookAhead.{next, same}
-use Rattle.pz_cursor.specs.Input.{Tokens, after, position, identifier, name, literal as literal_at, sees, selects}
-use Rattle.pz_cursor.specs.Device.{Parser, refuse, expect, expect_id}
-use Rattle.pz_cursor.specs.Lists.{list_of, each_of}
+use Rattle.pz_cursor.specs.devices.LookAhead.{next, same}
+use Rattle.pz_cursor.specs.devices.Input.{Tokens, after, position, identifier, name, literal as literal_at, sees, selects}
+use Rattle.pz_cursor.specs.devices.Device.{Parser, refuse, expect, expect_id}
+use Rattle.pz_cursor.specs.devices.Lists.{list_of, each_of}
 use Rattle.pz_cursor.specs.Places.{located, Placing, place_id, place_each}
 use Rattle.pz_cursor.proofs.Steps.{deepen_is, expect_is, not_seen}
 use Rattle.pz_cursor.proofs.Words.{selector_seen}
@@ -30,8 +30,8 @@ use Rattle.pz_cursor.proofs.Joined.{joined_complete, token}
 use Rattle.pz_cursor.proofs.Each.{each_complete}
 use Rattle.pz_values.specs.declared.rule.Rule.{Rule}
 use Rattle.pz_values.specs.declared.rule.Rule.TheVariants as rule
-use Rattle.pz_values.specs.Rules.{rank}
-use Rattle.pz_values.specs.Values.{expr, below, by_rule, assignment, returned, named, expression, expression_by, created, test, otherwise, otherwise_by, exprs_before, enclosed, grouped, conditional, repetition, primary, arguments, arguments_by, one_sending, all_sendings, sent_to, signed, operand, products, sums, comparisons, conjunctions, values}
+use Rattle.pz_values.specs.devices.Rules.{rank}
+use Rattle.pz_values.specs.devices.Values.{expr, below, by_rule, assignment, returned, named, expression, expression_by, created, test, otherwise, otherwise_by, exprs_before, enclosed, grouped, conditional, repetition, primary, arguments, arguments_by, one_sending, all_sendings, sent_to, signed, operand, products, sums, comparisons, conjunctions, values}
 use Rattle.pz_values.specs.ExpressionPlaces.{place, place_all, place_part, place_sendings}
 use Rattle.pz_values.proofs.Loops.{operand_default}
 use Rattle.pz_values.proofs.Texts.{Fits, starts, begins, stands, to_list, list_back, texts_of, places_are, filled_of_body}

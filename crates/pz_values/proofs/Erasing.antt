@@ -1,11 +1,11 @@
 -- The positions of the tokens change nothing else of an expression.
 use Rattle.std.proofs.Common.{◌≡◌, ℕ, suc, ◌+◌, length, refl, ap, ◌∙◌}
-use Rattle.pz_ast.specs.declared.tokens.Pos.{Pos}
-use Rattle.pz_ast.specs.declared.tokens.Symbol.TheVariants as s
-use Rattle.pz_ast.specs.declared.names.Id.{Id}
-use Rattle.pz_ast.specs.Expressions.{Expression, literal, variable, me, clock, creation, group, chain, sends, unary, assign, returned, choice, loop, Expressions, none, more, Part, left_out, written, Links, no_links, link, Sendings, no_sendings, sending}
-use Rattle.pz_ast.specs.ExpressionText.{text, texts, arguments_text}
-use Rattle.pz_ast.specs.ExpressionErasure.{origin, erase_id, erase, erase_all, erase_part, erase_links, erase_sendings}
+use Rattle.pz_syntax.specs.declared.tokens.Pos.{Pos}
+use Rattle.pz_syntax.specs.declared.tokens.Symbol.TheVariants as s
+use Rattle.pz_syntax.specs.declared.names.Id.{Id}
+use Rattle.pz_syntax.specs.Expressions.{Expression, literal, variable, me, clock, creation, group, chain, sends, unary, assign, returned, choice, loop, Expressions, none, more, Part, left_out, written, Links, no_links, link, Sendings, no_sendings, sending}
+use Rattle.pz_syntax.specs.ExpressionText.{text, texts, arguments_text}
+use Rattle.pz_syntax.specs.ExpressionErasure.{origin, erase_id, erase, erase_all, erase_part, erase_links, erase_sendings}
 use Rattle.pz_values.specs.ExpressionPlaces.{place, place_all, place_tail, place_part, place_links, place_sendings}
 
 mutual

@@ -1,20 +1,20 @@
 -- The first two tokens of values and of operands.
 use Rattle.std.proofs.Common.{◌≡◌, ◌≢◌, ℕ, suc, ◌+◌, ◌≤◌, Bool, true, false, ◌∷◌, ◌++◌, length, refl, ap, sym, ◌∙◌, subst, arith}
-use Rattle.pz_ast.specs.declared.tokens.Pos.{Pos}
-use Rattle.pz_ast.specs.declared.tokens.Symbol.{Symbol}
-use Rattle.pz_ast.specs.declared.tokens.Symbol.TheVariants as s
-use Rattle.pz_ast.specs.declared.tokens.TokenKind.TheVariants as kind
-use Rattle.pz_ast.specs.declared.names.Id.{Id}
-use Rattle.pz_ast.specs.declared.exprs.Literal.{Literal}
-use Rattle.pz_ast.specs.declared.exprs.Literal.TheVariants as lit
-use Rattle.pz_ast.specs.Expressions.{literal, variable, me, clock, creation, group, chain, sends, unary, assign, returned, choice, loop, no_links, link, no_sendings, sending}
-use Rattle.pz_ast.specs.ExpressionView.{Tree}
-use Rattle.pz_ast.specs.ExpressionText.{text, links_text, sendings_text, arguments_text, literal_kind}
-use Rattle.pz_ast.specs.ExpressionForm.{IsExpression, IsSign, level, operator_level}
+use Rattle.pz_syntax.specs.declared.tokens.Pos.{Pos}
+use Rattle.pz_syntax.specs.declared.tokens.Symbol.{Symbol}
+use Rattle.pz_syntax.specs.declared.tokens.Symbol.TheVariants as s
+use Rattle.pz_syntax.specs.declared.tokens.TokenKind.TheVariants as kind
+use Rattle.pz_syntax.specs.declared.names.Id.{Id}
+use Rattle.pz_syntax.specs.declared.exprs.Literal.{Literal}
+use Rattle.pz_syntax.specs.declared.exprs.Literal.TheVariants as lit
+use Rattle.pz_syntax.specs.Expressions.{literal, variable, me, clock, creation, group, chain, sends, unary, assign, returned, choice, loop, no_links, link, no_sendings, sending}
+use Rattle.pz_syntax.specs.ExpressionView.{Tree}
+use Rattle.pz_syntax.specs.ExpressionText.{text, links_text, sendings_text, arguments_text, literal_kind}
+use Rattle.pz_syntax.specs.ExpressionForm.{IsExpression, IsSign, level, operator_level}
 use Rattle.pz_cursor.specs.declared.ahead.Next.{Next}
 use Rattle.pz_cursor.specs.declared.ahead.Next.TheVariants as n
-use Rattle.pz_cursor.specs.LookAhead.{next, next_symbol}
-use Rattle.pz_cursor.specs.Input.{Tokens, after, selects, selects_by, spelled_init}
+use Rattle.pz_cursor.specs.devices.LookAhead.{next, next_symbol}
+use Rattle.pz_cursor.specs.devices.Input.{Tokens, after, selects, selects_by, spelled_init}
 use Rattle.pz_cursor.specs.Places.{located}
 use Rattle.pz_cursor.proofs.Reading.{split_located}
 use Rattle.pz_cursor.proofs.Joined.{token}

@@ -1,29 +1,29 @@
 -- Chains of operators of one level.
 use Rattle.std.proofs.Common.{◌≡◌, ℕ, zero, suc, ◌+◌, ◌≤◌, ◌<◌, List, [], ◌∷◌, ◌++◌, length, Option, Some, None, Ok, refl, ap, sym, ◌∙◌, subst, arith, append_assoc, length-append, inl, inr, ◌⊎◌}
 use Rattle.std.proofs.Math.Nat.{eq-or-lt_of_le}
-use Rattle.pz_ast.specs.declared.tokens.Pos.{Pos}
-use Rattle.pz_ast.specs.declared.tokens.Symbol.{Symbol}
-use Rattle.pz_ast.specs.declared.tokens.TokenKind.TheVariants as kind
-use Rattle.pz_ast.specs.declared.tokens.Mark.{Mark}
-use Rattle.pz_ast.specs.declared.names.Id.{Id}
-use Rattle.pz_ast.specs.Marks.{symbol}
-use Rattle.pz_ast.specs.Expressions.{literal, variable, me, clock, creation, group, chain, sends, unary, assign, returned, choice, loop, Links, no_links, link}
-use Rattle.pz_ast.specs.ExpressionView.{Tree, LinkTree, links_of}
-use Rattle.pz_ast.specs.ExpressionText.{text, links_text}
-use Rattle.pz_ast.specs.ExpressionForm.{IsExpression, AreLinks, level}
-use Rattle.pz_ast.specs.ExpressionNesting.{links_nesting}
+use Rattle.pz_syntax.specs.declared.tokens.Pos.{Pos}
+use Rattle.pz_syntax.specs.declared.tokens.Symbol.{Symbol}
+use Rattle.pz_syntax.specs.declared.tokens.TokenKind.TheVariants as kind
+use Rattle.pz_syntax.specs.declared.tokens.Mark.{Mark}
+use Rattle.pz_syntax.specs.declared.names.Id.{Id}
+use Rattle.pz_syntax.specs.Marks.{symbol}
+use Rattle.pz_syntax.specs.Expressions.{literal, variable, me, clock, creation, group, chain, sends, unary, assign, returned, choice, loop, Links, no_links, link}
+use Rattle.pz_syntax.specs.ExpressionView.{Tree, LinkTree, links_of}
+use Rattle.pz_syntax.specs.ExpressionText.{text, links_text}
+use Rattle.pz_syntax.specs.ExpressionForm.{IsExpression, AreLinks, level}
+use Rattle.pz_syntax.specs.ExpressionNesting.{links_nesting}
 use Rattle.pz_cursor.specs.declared.ahead.Next.{Next}
-use Rattle.pz_cursor.specs.LookAhead.{next}
-use Rattle.pz_cursor.specs.Input.{Tokens, marks, after, position}
-use Rattle.pz_cursor.specs.Device.{Parser, pure}
-use Rattle.pz_cursor.specs.Lists.{turns}
+use Rattle.pz_cursor.specs.devices.LookAhead.{next}
+use Rattle.pz_cursor.specs.devices.Input.{Tokens, marks, after, position}
+use Rattle.pz_cursor.specs.devices.Device.{Parser, pure}
+use Rattle.pz_cursor.specs.devices.Lists.{turns}
 use Rattle.pz_cursor.specs.Places.{located}
 use Rattle.pz_cursor.proofs.Steps.{bind_ok, takes}
 use Rattle.pz_cursor.proofs.Reading.{Took, Sound, Complete, ok_took, split_located, located_length}
 use Rattle.pz_values.specs.declared.rule.Rule.{Rule}
 use Rattle.pz_values.specs.declared.rule.Rule.TheVariants as rule
-use Rattle.pz_values.specs.Rules.{rank, operator}
-use Rattle.pz_values.specs.Values.{links_by, link_at, one_link, all_links, chain_of, chained}
+use Rattle.pz_values.specs.devices.Rules.{rank, operator}
+use Rattle.pz_values.specs.devices.Values.{links_by, link_at, one_link, all_links, chain_of, chained}
 use Rattle.pz_values.specs.ExpressionPlaces.{place, place_links}
 use Rattle.pz_values.proofs.Texts.{Fits, stands}
 use Rattle.pz_values.proofs.Operators.{operator_sound, operator_none, operator_seen, IsChain, binding, strength, Stops}

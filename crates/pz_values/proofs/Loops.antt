@@ -1,21 +1,21 @@
 -- Chains beside the loop that reads them, and the rules unfolded once.
 use Rattle.std.proofs.Common.{◌≡◌, ℕ, zero, suc, List, [], ◌∷◌, ◌++◌, Option, Some, None, Result, Ok, Err, refl, ap, sym, ◌∙◌, subst}
 use Rattle.std.proofs.lemmas.List.{append-nil}
-use Rattle.pz_ast.specs.declared.tokens.Symbol.{Symbol}
-use Rattle.pz_ast.specs.ExpressionView.{Tree, LinkTree, view}
+use Rattle.pz_syntax.specs.declared.tokens.Symbol.{Symbol}
+use Rattle.pz_syntax.specs.ExpressionView.{Tree, LinkTree, view}
 use Rattle.pz_cursor.specs.declared.ahead.Next.{Next}
 use Rattle.pz_cursor.specs.declared.ahead.Next.TheVariants as n
 use Rattle.pz_cursor.specs.declared.refusal.Refusal.{Refusal}
-use Rattle.pz_cursor.specs.LookAhead.{next}
-use Rattle.pz_cursor.specs.Input.{Tokens}
-use Rattle.pz_cursor.specs.Device.{Parser, Outcome, Reads, MakesOr}
-use Rattle.pz_cursor.specs.Lists.{with_front}
+use Rattle.pz_cursor.specs.devices.LookAhead.{next}
+use Rattle.pz_cursor.specs.devices.Input.{Tokens}
+use Rattle.pz_cursor.specs.devices.Device.{Parser, Outcome, Reads, MakesOr}
+use Rattle.pz_cursor.specs.devices.Lists.{with_front}
 use Rattle.pz_cursor.proofs.Loops.{with_front_more}
-use Rattle.pz_ast.specs.declared.exprs.Expr.{Expr}
+use Rattle.pz_syntax.specs.declared.exprs.Expr.{Expr}
 use Rattle.pz_values.specs.declared.rule.Rule.{Rule}
 use Rattle.pz_values.specs.declared.rule.Rule.TheVariants as rule
-use Rattle.pz_values.specs.Rules.{operator}
-use Rattle.pz_values.specs.Values.{links_by, one_link, expr, by_rule, below, sent_to, operand_by, chain_of, expression}
+use Rattle.pz_values.specs.devices.Rules.{operator}
+use Rattle.pz_values.specs.devices.Values.{links_by, one_link, expr, by_rule, below, sent_to, operand_by, chain_of, expression}
 
 pub links_more : (ops : Next → Option Symbol) (item : Parser Tree) (turn : ℕ) (front : List LinkTree) (i j : Tokens) (op : Symbol) (l : LinkTree) → ops (next i) ≡ Some op → one_link op item i ≡ Ok (l, j)
     → with_front front (links_by ops item (suc turn) i) ≡ with_front (front ++ l ∷ []) (links_by ops item turn j)

@@ -1,20 +1,20 @@
 -- The operators of each rule, and what goes on with what a rule has read.
 use Rattle.std.proofs.Common.{◌≡◌, ◌≢◌, ℕ, ◌<◌, ◌∷◌, Option, Some, None, refl, subst, arith}
 use Rattle.std.specs.Prelude.{⊤}
-use Rattle.pz_ast.specs.declared.tokens.Pos.{Pos}
-use Rattle.pz_ast.specs.declared.tokens.Symbol.{Symbol}
-use Rattle.pz_ast.specs.declared.tokens.Symbol.TheVariants as s
-use Rattle.pz_ast.specs.declared.tokens.TokenKind.TheVariants as kind
-use Rattle.pz_ast.specs.ExpressionForm.{operator_level}
+use Rattle.pz_syntax.specs.declared.tokens.Pos.{Pos}
+use Rattle.pz_syntax.specs.declared.tokens.Symbol.{Symbol}
+use Rattle.pz_syntax.specs.declared.tokens.Symbol.TheVariants as s
+use Rattle.pz_syntax.specs.declared.tokens.TokenKind.TheVariants as kind
+use Rattle.pz_syntax.specs.ExpressionForm.{operator_level}
 use Rattle.pz_cursor.specs.declared.ahead.Next.{Next}
 use Rattle.pz_cursor.specs.declared.ahead.Next.TheVariants as n
-use Rattle.pz_cursor.specs.LookAhead.{next, next_symbol}
-use Rattle.pz_cursor.specs.Input.{Tokens}
+use Rattle.pz_cursor.specs.devices.LookAhead.{next, next_symbol}
+use Rattle.pz_cursor.specs.devices.Input.{Tokens}
 use Rattle.pz_cursor.proofs.Shown.{token_of}
 use Rattle.pz_cursor.proofs.Joined.{token}
 use Rattle.pz_values.specs.declared.rule.Rule.{Rule}
 use Rattle.pz_values.specs.declared.rule.Rule.TheVariants as rule
-use Rattle.pz_values.specs.Rules.{rank, disjunction, conjunction, comparison, sum, product, operator}
+use Rattle.pz_values.specs.devices.Rules.{rank, disjunction, conjunction, comparison, sum, product, operator}
 
 -- How tightly what comes next goes on with what was read before it: an operator by its level, a
 -- selector, brackets and `:=` more tightly, the rest not at all.

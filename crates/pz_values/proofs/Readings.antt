@@ -1,26 +1,26 @@
 -- What each rule reads is the text of an expression that the grammar has, within the nesting.
 use Rattle.std.proofs.Common.{◌≡◌, ℕ, zero, suc, ◌<◌, Bool, true, false, not, cond, List, [], ◌∷◌, ◌++◌, Some, Ok, refl, ap, sym, ◌∙◌, arith, append_assoc}
-use Rattle.pz_ast.specs.declared.tokens.Pos.{Pos}
-use Rattle.pz_ast.specs.declared.tokens.Symbol.{Symbol}
-use Rattle.pz_ast.specs.declared.tokens.Symbol.TheVariants as s
-use Rattle.pz_ast.specs.declared.tokens.TokenKind.{TokenKind}
-use Rattle.pz_ast.specs.declared.tokens.Keyword.TheVariants as k
-use Rattle.pz_ast.specs.declared.tokens.TokenKind.TheVariants as kind
-use Rattle.pz_ast.specs.declared.tokens.Mark.{Mark}
-use Rattle.pz_ast.specs.declared.names.Id.{Id}
-use Rattle.pz_ast.specs.Marks.{mark, symbol, keyword, word, selector, each_text}
-use Rattle.pz_ast.specs.Expressions.{literal, variable, me, clock, creation, group, unary, assign, returned as return_of, choice, loop, Expressions, Part, left_out, written}
-use Rattle.pz_ast.specs.ExpressionView.{Tree, list_of as expressions, SendingTree, sendings_of}
-use Rattle.pz_ast.specs.ExpressionText.{text, texts, otherwise_text, sendings_text, arguments_text}
-use Rattle.pz_ast.specs.ExpressionForm.{IsOtherwise, AreArguments, AreSendings, IsSign}
-use Rattle.pz_ast.specs.ExpressionNesting.{otherwise_nesting, sendings_nesting, bracketed_nesting}
-use Rattle.pz_ast.specs.ModelForm.{Each}
+use Rattle.pz_syntax.specs.declared.tokens.Pos.{Pos}
+use Rattle.pz_syntax.specs.declared.tokens.Symbol.{Symbol}
+use Rattle.pz_syntax.specs.declared.tokens.Symbol.TheVariants as s
+use Rattle.pz_syntax.specs.declared.tokens.TokenKind.{TokenKind}
+use Rattle.pz_syntax.specs.declared.tokens.Keyword.TheVariants as k
+use Rattle.pz_syntax.specs.declared.tokens.TokenKind.TheVariants as kind
+use Rattle.pz_syntax.specs.declared.tokens.Mark.{Mark}
+use Rattle.pz_syntax.specs.declared.names.Id.{Id}
+use Rattle.pz_syntax.specs.Marks.{mark, symbol, keyword, word, selector, each_text}
+use Rattle.pz_syntax.specs.Expressions.{literal, variable, me, clock, creation, group, unary, assign, returned as return_of, choice, loop, Expressions, Part, left_out, written}
+use Rattle.pz_syntax.specs.ExpressionView.{Tree, list_of as expressions, SendingTree, sendings_of}
+use Rattle.pz_syntax.specs.ExpressionText.{text, texts, otherwise_text, sendings_text, arguments_text}
+use Rattle.pz_syntax.specs.ExpressionForm.{IsOtherwise, AreArguments, AreSendings, IsSign}
+use Rattle.pz_syntax.specs.ExpressionNesting.{otherwise_nesting, sendings_nesting, bracketed_nesting}
+use Rattle.pz_syntax.specs.ModelForm.{Each}
 use Rattle.pz_cursor.specs.declared.ahead.Next.{Next}
 use Rattle.pz_cursor.specs.declared.ahead.Next.TheVariants as n
-use Rattle.pz_cursor.specs.LookAhead.{next}
-use Rattle.pz_cursor.specs.Input.{Tokens, marks, after, position, identifier, literal as literal_at, sees, selects}
-use Rattle.pz_cursor.specs.Device.{Parser, refuse, expect, expect_id, deepen}
-use Rattle.pz_cursor.specs.Lists.{list_of}
+use Rattle.pz_cursor.specs.devices.LookAhead.{next}
+use Rattle.pz_cursor.specs.devices.Input.{Tokens, marks, after, position, identifier, literal as literal_at, sees, selects}
+use Rattle.pz_cursor.specs.devices.Device.{Parser, refuse, expect, expect_id, deepen}
+use Rattle.pz_cursor.specs.devices.Lists.{list_of}
 use Rattle.pz_cursor.proofs.Shown.{token_of}
 use Rattle.pz_cursor.proofs.Steps.{bind_ok, takes, sees_is, expected, opened}
 use Rattle.pz_cursor.proofs.Words.{word_is, selector_is, literal_is, int_literal_is}
@@ -31,8 +31,8 @@ use Rattle.pz_cursor.proofs.Optional.{or_none_sound}
 use Rattle.pz_cursor.proofs.Named.{word_sound}
 use Rattle.pz_values.specs.declared.rule.Rule.{Rule}
 use Rattle.pz_values.specs.declared.rule.Rule.TheVariants as rule
-use Rattle.pz_values.specs.Rules.{rank}
-use Rattle.pz_values.specs.Values.{expr, below, by_rule, assignment, returned, named, expression, expression_by, created, test, otherwise, otherwise_by, exprs_before, enclosed, grouped, conditional, repetition, primary, primary_by, arguments, arguments_by, one_sending, all_sendings, sent, sent_to, signed, operand, operand_by, products, sums, comparisons, conjunctions, values}
+use Rattle.pz_values.specs.devices.Rules.{rank}
+use Rattle.pz_values.specs.devices.Values.{expr, below, by_rule, assignment, returned, named, expression, expression_by, created, test, otherwise, otherwise_by, exprs_before, enclosed, grouped, conditional, repetition, primary, primary_by, arguments, arguments_by, one_sending, all_sendings, sent, sent_to, signed, operand, operand_by, products, sums, comparisons, conjunctions, values}
 use Rattle.pz_values.proofs.Texts.{Fits, texts_are, are, nested, body, body_nested}
 use Rattle.pz_values.proofs.Linked.{chain_sound}
 

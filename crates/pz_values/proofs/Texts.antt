@@ -1,23 +1,23 @@
 -- How the text of an expression begins, and lists of expressions as lists.
 use Rattle.std.proofs.Common.{◌≡◌, ℕ, suc, ◌+◌, ◌≤◌, ◌<◌, Bool, true, false, List, [], ◌∷◌, ◌++◌, length, refl, ap, sym, ◌∙◌, arith}
-use Rattle.pz_ast.specs.declared.tokens.Pos.{Pos}
-use Rattle.pz_ast.specs.declared.tokens.Symbol.{Symbol}
-use Rattle.pz_ast.specs.declared.tokens.Symbol.TheVariants as s
-use Rattle.pz_ast.specs.declared.tokens.TokenKind.TheVariants as kind
-use Rattle.pz_ast.specs.declared.names.Id.{Id}
-use Rattle.pz_ast.specs.declared.exprs.Literal.{Literal}
-use Rattle.pz_ast.specs.declared.exprs.Literal.TheVariants as lit
-use Rattle.pz_ast.specs.Marks.{mark, symbol}
-use Rattle.pz_ast.specs.Expressions.{literal, variable, me, clock, creation, group, chain, sends, unary, assign, returned, choice, loop, Expressions, none, more, no_links, link, no_sendings, sending}
-use Rattle.pz_ast.specs.ExpressionView.{Tree, list_of}
-use Rattle.pz_ast.specs.ExpressionText.{text, texts, tail_texts, links_text, sendings_text, literal_kind}
-use Rattle.pz_ast.specs.ExpressionForm.{IsExpression, AreExpressions, IsBody, IsSign, level}
-use Rattle.pz_ast.specs.ExpressionNesting.{nesting, nestings}
-use Rattle.pz_ast.specs.ModelForm.{Each}
+use Rattle.pz_syntax.specs.declared.tokens.Pos.{Pos}
+use Rattle.pz_syntax.specs.declared.tokens.Symbol.{Symbol}
+use Rattle.pz_syntax.specs.declared.tokens.Symbol.TheVariants as s
+use Rattle.pz_syntax.specs.declared.tokens.TokenKind.TheVariants as kind
+use Rattle.pz_syntax.specs.declared.names.Id.{Id}
+use Rattle.pz_syntax.specs.declared.exprs.Literal.{Literal}
+use Rattle.pz_syntax.specs.declared.exprs.Literal.TheVariants as lit
+use Rattle.pz_syntax.specs.Marks.{mark, symbol}
+use Rattle.pz_syntax.specs.Expressions.{literal, variable, me, clock, creation, group, chain, sends, unary, assign, returned, choice, loop, Expressions, none, more, no_links, link, no_sendings, sending}
+use Rattle.pz_syntax.specs.ExpressionView.{Tree, list_of}
+use Rattle.pz_syntax.specs.ExpressionText.{text, texts, tail_texts, links_text, sendings_text, literal_kind}
+use Rattle.pz_syntax.specs.ExpressionForm.{IsExpression, AreExpressions, IsBody, IsSign, level}
+use Rattle.pz_syntax.specs.ExpressionNesting.{nesting, nestings}
+use Rattle.pz_syntax.specs.ModelForm.{Each}
 use Rattle.pz_cursor.specs.declared.ahead.Next.{Next}
 use Rattle.pz_cursor.specs.declared.ahead.Next.TheVariants as n
-use Rattle.pz_cursor.specs.LookAhead.{next}
-use Rattle.pz_cursor.specs.Input.{Tokens, position, literal as literal_at}
+use Rattle.pz_cursor.specs.devices.LookAhead.{next}
+use Rattle.pz_cursor.specs.devices.Input.{Tokens, position, literal as literal_at}
 use Rattle.pz_cursor.specs.Places.{located, place_tail as place_behind, place_separated}
 use Rattle.pz_cursor.proofs.Reading.{split_located}
 use Rattle.pz_cursor.proofs.Joined.{joined, tails, Filled}

@@ -1,9 +1,9 @@
 -- Expressions with the positions of the tokens of their texts.
 use Rattle.std.specs.Prelude.{suc, ◌+◌, length}
-use Rattle.pz_ast.specs.declared.tokens.Symbol.TheVariants as s
-use Rattle.pz_ast.specs.declared.names.Id.{Id}
-use Rattle.pz_ast.specs.Expressions.{Expression, literal, variable, me, clock, creation, group, chain, sends, unary, assign, returned, choice, loop, Expressions, none, more, Part, left_out, written, Links, no_links, link, Sendings, no_sendings, sending}
-use Rattle.pz_ast.specs.ExpressionText.{text, texts, arguments_text}
+use Rattle.pz_syntax.specs.declared.tokens.Symbol.TheVariants as s
+use Rattle.pz_syntax.specs.declared.names.Id.{Id}
+use Rattle.pz_syntax.specs.Expressions.{Expression, literal, variable, me, clock, creation, group, chain, sends, unary, assign, returned, choice, loop, Expressions, none, more, Part, left_out, written, Links, no_links, link, Sendings, no_sendings, sending}
+use Rattle.pz_syntax.specs.ExpressionText.{text, texts, arguments_text}
 use Rattle.pz_cursor.specs.Places.{Placing, place_id}
 
 -- An expression stands at its first token, an operator and a name at theirs. The number is that of

@@ -1,4 +1,2 @@
-pub mod Rules
-pub mod Values
-pub mod Nests
 pub mod ExpressionPlaces
+pub mod devices

@@ -1,23 +1,23 @@
 //! Chains of operators.
 
 ghost use Rattle.std.specs.Prelude.{◌≡◌, ◌<◌, map};
-ghost use Rattle.pz_ast.specs.ExpressionView.{view, link_view};
-ghost use Rattle.pz_cursor.specs.Device.{Reads, MakesOr};
-ghost use Rattle.pz_values.specs.Rules as rules;
-ghost use Rattle.pz_values.specs.Rules.{rank};
-ghost use Rattle.pz_values.specs.Values as spec;
-ghost use Rattle.pz_values.specs.Nests.{Nests};
+ghost use Rattle.pz_syntax.specs.ExpressionView.{view, link_view};
+ghost use Rattle.pz_cursor.specs.devices.Device.{Reads, MakesOr};
+ghost use Rattle.pz_values.specs.devices.Rules as rules;
+ghost use Rattle.pz_values.specs.devices.Rules.{rank};
+ghost use Rattle.pz_values.specs.devices.Values as spec;
+ghost use Rattle.pz_values.specs.devices.Nests.{Nests};
 
 use crate::Rule;
 use crate::grammar::Grammar;
-use pz_ast::{Expr, ExprForm, Link, Pos, Symbol};
 use pz_cursor::{Cursor, Next, Refusal};
 use pz_items::{Boxed, Items};
+use pz_syntax::{Expr, ExprForm, Link, Pos, Symbol};
 use std::alloc::Global;
 
 impl<F: Fn(Global, &mut Cursor<'_>, usize, Rule) -> Result<Expr, Refusal>> Grammar<F> {
     /// Operands of the later rule `operand`, with the operators of this rule between them.
-    #[tactic(auto, unfolding(crate::specs::Values::chain_of))]
+    #[tactic(auto, unfolding(crate::specs::devices::Values::chain_of))]
     pub fn chain(&self, cursor: &mut Cursor<'_>, operand: Rule) -> Result<Expr, Refusal>
         requires parts { Nests self.now.depth self.now.rule (F.pre self.now.expr) (F.post self.now.expr) }
         requires later { rank self.now.rule < rank operand }
@@ -29,7 +29,7 @@ impl<F: Fn(Global, &mut Cursor<'_>, usize, Rule) -> Result<Expr, Refusal>> Gramm
         chained(self.alloc, pos, first, found)
     }
 
-    #[tactic(auto, unfolding(crate::specs::Values::all_links, crate::specs::Values::links_by))]
+    #[tactic(auto, unfolding(crate::specs::devices::Values::all_links, crate::specs::devices::Values::links_by))]
     fn links(&self, cursor: &mut Cursor<'_>, operand: Rule) -> Result<Items<Link>, Refusal>
         requires parts { Nests self.now.depth self.now.rule (F.pre self.now.expr) (F.post self.now.expr) }
         requires later { rank self.now.rule < rank operand }
@@ -45,7 +45,7 @@ impl<F: Fn(Global, &mut Cursor<'_>, usize, Rule) -> Result<Expr, Refusal>> Gramm
         Ok(found)
     }
 
-    #[tactic(auto, unfolding(crate::specs::Values::one_link))]
+    #[tactic(auto, unfolding(crate::specs::devices::Values::one_link))]
     fn link(&self, cursor: &mut Cursor<'_>, op: Symbol, operand: Rule) -> Result<Link, Refusal>
         requires parts { Nests self.now.depth self.now.rule (F.pre self.now.expr) (F.post self.now.expr) }
         requires later { rank self.now.rule < rank operand }

@@ -2,21 +2,21 @@
 //! by itself.
 
 ghost use Rattle.std.specs.Prelude.{◌≡◌, ◌<◌, ◌-◌, ◌^◌, map, true, suc, option_map};
-ghost use Rattle.pz_ast.specs.ExpressionView.{view, list_view, part_view};
-ghost use Rattle.pz_cursor.specs.Device.{Reads, optional};
-ghost use Rattle.pz_cursor.specs.Input.{sees};
-ghost use Rattle.pz_cursor.specs.Lists as lists;
+ghost use Rattle.pz_syntax.specs.ExpressionView.{view, list_view, part_view};
+ghost use Rattle.pz_cursor.specs.devices.Device.{Reads, optional};
+ghost use Rattle.pz_cursor.specs.devices.Input.{sees};
+ghost use Rattle.pz_cursor.specs.devices.Lists as lists;
 ghost use Rattle.pz_cursor.specs.declared.ahead.Next.TheVariants as n;
 ghost use Rattle.pz_values.specs.declared.rule.Rule.TheVariants as rule;
-ghost use Rattle.pz_values.specs.Rules.{rank};
-ghost use Rattle.pz_values.specs.Values as spec;
-ghost use Rattle.pz_values.specs.Values.{below};
-ghost use Rattle.pz_values.specs.Nests.{Nests};
+ghost use Rattle.pz_values.specs.devices.Rules.{rank};
+ghost use Rattle.pz_values.specs.devices.Values as spec;
+ghost use Rattle.pz_values.specs.devices.Values.{below};
+ghost use Rattle.pz_values.specs.devices.Nests.{Nests};
 
 use crate::Rule;
-use pz_ast::{Expr, ExprForm};
 use pz_cursor::{Cursor, Next, Refusal};
 use pz_items::{Boxed, Items};
+use pz_syntax::{Expr, ExprForm};
 use std::alloc::Global;
 
 /// The rule that is read, and the parser of parts.
@@ -158,7 +158,7 @@ impl<F: Fn(Global, &mut Cursor<'_>, usize, Rule) -> Result<Expr, Refusal>> Gramm
     }
 
     /// One expression or more, one construct further in.
-    #[tactic(auto, unfolding(pz_cursor::specs::Lists::list_of))]
+    #[tactic(auto, unfolding(pz_cursor::specs::devices::Lists::list_of))]
     pub fn exprs(&self, cursor: &mut Cursor<'_>, separator: Next) -> Result<Items<Expr>, Refusal>
         requires parts { Nests self.now.depth self.now.rule (F.pre self.now.expr) (F.post self.now.expr) }
         ensures reads { Reads (map view) (lists.list_of (below self.now.depth rule.Expression) separator cursor.old) result cursor.new }
@@ -168,7 +168,7 @@ impl<F: Fn(Global, &mut Cursor<'_>, usize, Rule) -> Result<Expr, Refusal>> Gramm
         self.more(cursor, separator, found)
     }
 
-    #[tactic(auto, unfolding(pz_cursor::specs::Lists::more_of, pz_cursor::specs::Lists::tail_of))]
+    #[tactic(auto, unfolding(pz_cursor::specs::devices::Lists::more_of, pz_cursor::specs::devices::Lists::tail_of))]
     fn more(
         &self,
         cursor: &mut Cursor<'_>,
@@ -189,7 +189,7 @@ impl<F: Fn(Global, &mut Cursor<'_>, usize, Rule) -> Result<Expr, Refusal>> Gramm
 
     /// None or more expressions before this closing token, which is taken too, and so is the opening
     /// one that stands next.
-    #[tactic(auto, unfolding(crate::specs::Values::enclosed))]
+    #[tactic(auto, unfolding(crate::specs::devices::Values::enclosed))]
     pub fn enclosed(
         &self,
         cursor: &mut Cursor<'_>,
@@ -205,7 +205,7 @@ impl<F: Fn(Global, &mut Cursor<'_>, usize, Rule) -> Result<Expr, Refusal>> Gramm
         Ok(found)
     }
 
-    #[tactic(auto, unfolding(crate::specs::Values::exprs_before))]
+    #[tactic(auto, unfolding(crate::specs::devices::Values::exprs_before))]
     fn exprs_before(
         &self,
         cursor: &mut Cursor<'_>,
@@ -222,7 +222,7 @@ impl<F: Fn(Global, &mut Cursor<'_>, usize, Rule) -> Result<Expr, Refusal>> Gramm
         }
     }
 
-    #[tactic(auto, unfolding(crate::specs::Values::expression))]
+    #[tactic(auto, unfolding(crate::specs::devices::Values::expression))]
     fn expression(&self, cursor: &mut Cursor<'_>) -> Result<Expr, Refusal>
         requires parts { Nests self.now.depth self.now.rule (F.pre self.now.expr) (F.post self.now.expr) }
         requires first { rank self.now.rule < 1 }
@@ -235,7 +235,7 @@ impl<F: Fn(Global, &mut Cursor<'_>, usize, Rule) -> Result<Expr, Refusal>> Gramm
         }
     }
 
-    #[tactic(auto, unfolding(crate::specs::Values::named))]
+    #[tactic(auto, unfolding(crate::specs::devices::Values::named))]
     fn named(&self, cursor: &mut Cursor<'_>) -> Result<Expr, Refusal>
         requires parts { Nests self.now.depth self.now.rule (F.pre self.now.expr) (F.post self.now.expr) }
         requires first { rank self.now.rule < 1 }
@@ -248,7 +248,7 @@ impl<F: Fn(Global, &mut Cursor<'_>, usize, Rule) -> Result<Expr, Refusal>> Gramm
         }
     }
 
-    #[tactic(auto, unfolding(crate::specs::Values::assignment))]
+    #[tactic(auto, unfolding(crate::specs::devices::Values::assignment))]
     fn assignment(&self, cursor: &mut Cursor<'_>) -> Result<Expr, Refusal>
         requires parts { Nests self.now.depth self.now.rule (F.pre self.now.expr) (F.post self.now.expr) }
         requires first { rank self.now.rule < 1 }
@@ -262,7 +262,7 @@ impl<F: Fn(Global, &mut Cursor<'_>, usize, Rule) -> Result<Expr, Refusal>> Gramm
         Ok(Expr { pos, form })
     }
 
-    #[tactic(auto, unfolding(crate::specs::Values::returned))]
+    #[tactic(auto, unfolding(crate::specs::devices::Values::returned))]
     fn returned(&self, cursor: &mut Cursor<'_>) -> Result<Expr, Refusal>
         requires parts { Nests self.now.depth self.now.rule (F.pre self.now.expr) (F.post self.now.expr) }
         requires first { rank self.now.rule < 1 }

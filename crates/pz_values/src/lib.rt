@@ -9,6 +9,3 @@ mod rule;
 
 pub use grammar::{arguments, block, expr, exprs, optional_arguments, value};
 pub use rule::Rule;
-
-#[cfg(test)]
-mod tests;

@@ -1,22 +1,22 @@
 //! Signs, sendings and arguments.
 
 ghost use Rattle.std.specs.Prelude.{◌≡◌, map};
-ghost use Rattle.pz_ast.specs.ExpressionView.{view, part_view, sending_view};
-ghost use Rattle.pz_cursor.specs.Device.{Reads, MakesOr};
-ghost use Rattle.pz_values.specs.Values as spec;
-ghost use Rattle.pz_values.specs.Values.{below};
-ghost use Rattle.pz_values.specs.Nests.{Nests};
+ghost use Rattle.pz_syntax.specs.ExpressionView.{view, part_view, sending_view};
+ghost use Rattle.pz_cursor.specs.devices.Device.{Reads, MakesOr};
+ghost use Rattle.pz_values.specs.devices.Values as spec;
+ghost use Rattle.pz_values.specs.devices.Values.{below};
+ghost use Rattle.pz_values.specs.devices.Nests.{Nests};
 
 use crate::Rule;
 use crate::grammar::Grammar;
-use pz_ast::{Expr, ExprForm, Pos, Sending, Symbol};
 use pz_cursor::{Cursor, Next, Refusal};
 use pz_items::{Boxed, Items};
+use pz_syntax::{Expr, ExprForm, Pos, Sending, Symbol};
 use std::alloc::Global;
 
 impl<F: Fn(Global, &mut Cursor<'_>, usize, Rule) -> Result<Expr, Refusal>> Grammar<F> {
     /// Arguments in round brackets, if a `(` stands next.
-    #[tactic(auto, unfolding(crate::specs::Values::arguments))]
+    #[tactic(auto, unfolding(crate::specs::devices::Values::arguments))]
     pub fn arguments(&self, cursor: &mut Cursor<'_>) -> Result<Option<Items<Expr>>, Refusal>
         requires parts { Nests self.now.depth self.now.rule (F.pre self.now.expr) (F.post self.now.expr) }
         ensures reads { Reads part_view (spec.arguments self.now.depth (below self.now.depth) cursor.old) result cursor.new }
@@ -27,7 +27,7 @@ impl<F: Fn(Global, &mut Cursor<'_>, usize, Rule) -> Result<Expr, Refusal>> Gramm
         }
     }
 
-    #[tactic(auto, unfolding(crate::specs::Values::one_sending))]
+    #[tactic(auto, unfolding(crate::specs::devices::Values::one_sending))]
     fn sending(&self, cursor: &mut Cursor<'_>) -> Result<Sending, Refusal>
         requires parts { Nests self.now.depth self.now.rule (F.pre self.now.expr) (F.post self.now.expr) }
         ensures reads { Reads sending_view (spec.one_sending self.now.depth (below self.now.depth) cursor.old) result cursor.new }
@@ -37,7 +37,7 @@ impl<F: Fn(Global, &mut Cursor<'_>, usize, Rule) -> Result<Expr, Refusal>> Gramm
         Ok(Sending { selector, args })
     }
 
-    #[tactic(auto, unfolding(crate::specs::Values::all_sendings, pz_cursor::specs::Lists::each_of, pz_cursor::specs::Lists::repeat))]
+    #[tactic(auto, unfolding(crate::specs::devices::Values::all_sendings, pz_cursor::specs::devices::Lists::each_of, pz_cursor::specs::devices::Lists::repeat))]
     fn sendings(&self, cursor: &mut Cursor<'_>) -> Result<Items<Sending>, Refusal>
         requires parts { Nests self.now.depth self.now.rule (F.pre self.now.expr) (F.post self.now.expr) }
         ensures reads { Reads (map sending_view) (spec.all_sendings self.now.depth (below self.now.depth) cursor.old) result cursor.new }
@@ -52,7 +52,7 @@ impl<F: Fn(Global, &mut Cursor<'_>, usize, Rule) -> Result<Expr, Refusal>> Gramm
         Ok(found)
     }
 
-    #[tactic(auto, unfolding(crate::specs::Values::sent_to))]
+    #[tactic(auto, unfolding(crate::specs::devices::Values::sent_to))]
     fn sent_to(&self, cursor: &mut Cursor<'_>) -> Result<Expr, Refusal>
         requires parts { Nests self.now.depth self.now.rule (F.pre self.now.expr) (F.post self.now.expr) }
         ensures reads { Reads view (spec.sent_to self.now.depth (below self.now.depth) cursor.old) result cursor.new }
@@ -64,7 +64,7 @@ impl<F: Fn(Global, &mut Cursor<'_>, usize, Rule) -> Result<Expr, Refusal>> Gramm
     }
 
     /// A sign and its operand, or what selectors are sent to with its sendings.
-    #[tactic(auto, unfolding(crate::specs::Values::operand))]
+    #[tactic(auto, unfolding(crate::specs::devices::Values::operand))]
     pub fn operand(&self, cursor: &mut Cursor<'_>) -> Result<Expr, Refusal>
         requires parts { Nests self.now.depth self.now.rule (F.pre self.now.expr) (F.post self.now.expr) }
         ensures reads { Reads view (spec.operand self.now.depth (below self.now.depth) cursor.old) result cursor.new }
@@ -76,7 +76,7 @@ impl<F: Fn(Global, &mut Cursor<'_>, usize, Rule) -> Result<Expr, Refusal>> Gramm
         }
     }
 
-    #[tactic(auto, unfolding(crate::specs::Values::signed))]
+    #[tactic(auto, unfolding(crate::specs::devices::Values::signed))]
     fn signed(&self, cursor: &mut Cursor<'_>, sign: Symbol) -> Result<Expr, Refusal>
         requires parts { Nests self.now.depth self.now.rule (F.pre self.now.expr) (F.post self.now.expr) }
         ensures reads { Reads view (spec.signed self.now.depth (below self.now.depth) sign cursor.old) result cursor.new }

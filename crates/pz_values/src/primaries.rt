@@ -1,24 +1,24 @@
 //! What selectors are sent to.
 
 ghost use Rattle.std.specs.Prelude.{◌≡◌, map, Ok};
-ghost use Rattle.pz_ast.specs.ExpressionView.{view, list_view, part_view};
-ghost use Rattle.pz_ast.specs.Expressions as tree;
-ghost use Rattle.pz_cursor.specs.Device.{Reads};
-ghost use Rattle.pz_values.specs.Values as spec;
-ghost use Rattle.pz_values.specs.Values.{below};
-ghost use Rattle.pz_values.specs.Nests.{Nests};
+ghost use Rattle.pz_syntax.specs.ExpressionView.{view, list_view, part_view};
+ghost use Rattle.pz_syntax.specs.Expressions as tree;
+ghost use Rattle.pz_cursor.specs.devices.Device.{Reads};
+ghost use Rattle.pz_values.specs.devices.Values as spec;
+ghost use Rattle.pz_values.specs.devices.Values.{below};
+ghost use Rattle.pz_values.specs.devices.Nests.{Nests};
 
 use crate::Rule;
 use crate::grammar::Grammar;
-use pz_ast::{Expr, ExprForm, Id, Pos};
 use pz_cursor::{Cursor, Next, Refusal};
 use pz_items::{Boxed, Items};
+use pz_syntax::{Expr, ExprForm, Id, Pos};
 use std::alloc::Global;
 
 impl<F: Fn(Global, &mut Cursor<'_>, usize, Rule) -> Result<Expr, Refusal>> Grammar<F> {
     /// A literal, a name, `self`, `currentTime`, `new`, or an expression that ends with a token of
     /// its own.
-    #[tactic(auto, unfolding(crate::specs::Values::primary))]
+    #[tactic(auto, unfolding(crate::specs::devices::Values::primary))]
     pub fn primary(&self, cursor: &mut Cursor<'_>) -> Result<Expr, Refusal>
         requires parts { Nests self.now.depth self.now.rule (F.pre self.now.expr) (F.post self.now.expr) }
         ensures reads { Reads view (spec.primary self.now.depth (below self.now.depth) cursor.old) result cursor.new }
@@ -37,7 +37,7 @@ impl<F: Fn(Global, &mut Cursor<'_>, usize, Rule) -> Result<Expr, Refusal>> Gramm
         }
     }
 
-    #[tactic(auto, unfolding(crate::specs::Values::grouped))]
+    #[tactic(auto, unfolding(crate::specs::devices::Values::grouped))]
     fn group(&self, cursor: &mut Cursor<'_>) -> Result<Expr, Refusal>
         requires parts { Nests self.now.depth self.now.rule (F.pre self.now.expr) (F.post self.now.expr) }
         ensures reads { Reads view (spec.grouped self.now.depth (below self.now.depth) cursor.old) result cursor.new }
@@ -50,7 +50,7 @@ impl<F: Fn(Global, &mut Cursor<'_>, usize, Rule) -> Result<Expr, Refusal>> Gramm
         Ok(Expr { pos, form })
     }
 
-    #[tactic(auto, unfolding(crate::specs::Values::conditional))]
+    #[tactic(auto, unfolding(crate::specs::devices::Values::conditional))]
     fn conditional(&self, cursor: &mut Cursor<'_>) -> Result<Expr, Refusal>
         requires parts { Nests self.now.depth self.now.rule (F.pre self.now.expr) (F.post self.now.expr) }
         ensures reads { Reads view (spec.conditional self.now.depth (below self.now.depth) cursor.old) result cursor.new }
@@ -65,7 +65,7 @@ impl<F: Fn(Global, &mut Cursor<'_>, usize, Rule) -> Result<Expr, Refusal>> Gramm
     }
 
     /// A value and this word behind it.
-    #[tactic(auto, unfolding(crate::specs::Values::test))]
+    #[tactic(auto, unfolding(crate::specs::devices::Values::test))]
     fn test(&self, cursor: &mut Cursor<'_>, word: Next) -> Result<Boxed<Expr>, Refusal>
         requires parts { Nests self.now.depth self.now.rule (F.pre self.now.expr) (F.post self.now.expr) }
         ensures reads { Reads view (spec.test (below self.now.depth) word cursor.old) result cursor.new }
@@ -75,7 +75,7 @@ impl<F: Fn(Global, &mut Cursor<'_>, usize, Rule) -> Result<Expr, Refusal>> Gramm
         Ok(test)
     }
 
-    #[tactic(auto, unfolding(crate::specs::Values::otherwise))]
+    #[tactic(auto, unfolding(crate::specs::devices::Values::otherwise))]
     fn otherwise(&self, cursor: &mut Cursor<'_>) -> Result<Option<Items<Expr>>, Refusal>
         requires parts { Nests self.now.depth self.now.rule (F.pre self.now.expr) (F.post self.now.expr) }
         ensures reads { Reads part_view (spec.otherwise (below self.now.depth) cursor.old) result cursor.new }
@@ -89,7 +89,7 @@ impl<F: Fn(Global, &mut Cursor<'_>, usize, Rule) -> Result<Expr, Refusal>> Gramm
         }
     }
 
-    #[tactic(auto, unfolding(crate::specs::Values::repetition))]
+    #[tactic(auto, unfolding(crate::specs::devices::Values::repetition))]
     fn repetition(&self, cursor: &mut Cursor<'_>) -> Result<Expr, Refusal>
         requires parts { Nests self.now.depth self.now.rule (F.pre self.now.expr) (F.post self.now.expr) }
         ensures reads { Reads view (spec.repetition self.now.depth (below self.now.depth) cursor.old) result cursor.new }
@@ -111,7 +111,7 @@ fn literal(cursor: &mut Cursor<'_>) -> Result<Expr, Refusal>
     Ok(Expr { pos, form })
 }
 
-#[tactic(auto, unfolding(pz_cursor::specs::Input::identifier))]
+#[tactic(auto, unfolding(pz_cursor::specs::devices::Input::identifier))]
 fn variable(alloc: Global, cursor: &mut Cursor<'_>) -> Result<Expr, Refusal>
     ensures { Reads view (spec.named_variable cursor.old) result cursor.new }
 {
@@ -138,7 +138,7 @@ fn clock(cursor: &mut Cursor<'_>) -> Expr
     Expr { pos, form }
 }
 
-#[tactic(auto, unfolding(crate::specs::Values::created))]
+#[tactic(auto, unfolding(crate::specs::devices::Values::created))]
 fn creation(alloc: Global, cursor: &mut Cursor<'_>) -> Result<Expr, Refusal>
     ensures { Reads view (spec.created cursor.old) result cursor.new }
 {

@@ -1,6 +1,6 @@
 -- The order of violations, and which one is the least.
 use Rattle.std.specs.Prelude.{◌≡◌, ℕ, Bool, false, ◌&&◌, ◌||◌, nat_eq, nat_lt}
-use Rattle.pz_ast.specs.declared.tokens.Pos.{Pos}
+use Rattle.pz_syntax.specs.declared.tokens.Pos.{Pos}
 use Rattle.pz_violation.specs.declared.violation.Violation.{Violation}
 
 abbrev pub violation : ℕ → Pos → Violation

@@ -3,7 +3,7 @@ ghost use Rattle.pz_violation.specs.Order as order;
 ghost use Rattle.pz_violation.specs.Least as list;
 
 use crate::Violation;
-use pz_ast::Pos;
+use pz_syntax::Pos;
 
 /// Whether the first place comes before the second, by line and then by column.
 pub fn pos_before(a: Pos, b: Pos) -> bool

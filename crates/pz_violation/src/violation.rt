@@ -1,4 +1,4 @@
-use pz_ast::Pos;
+use pz_syntax::Pos;
 
 /// A rule of the checker that a model violates, by its number, and the place in the text.
 #[derive(Clone, Copy, Debug, PartialEq, Eq)]

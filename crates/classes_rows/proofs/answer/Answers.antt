@@ -1,4 +1,4 @@
-use Rattle.pz_ast.specs.ClassView.{model_view}
+use Rattle.pz_syntax.specs.ClassView.{model_view}
 use Rattle.classes_rows.proofs.answer.Goals as goal
 
 pub method-requires : goal.method-requires

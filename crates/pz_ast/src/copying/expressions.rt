@@ -1,25 +1,8 @@
 ghost use Rattle.std.specs.Prelude.{◌≡◌, IfOk};
 
-use crate::{Expr, ExprForm, Id, Link, Literal, Sending};
 use pz_items::{Boxed, Items};
+use pz_syntax::{Expr, ExprForm, Id, Link, Sending};
 use std::alloc::{AllocError, Global};
-
-impl Literal {
-    /// An equal literal. The only error is want of memory.
-    pub fn copy(&self) -> Result<Literal, AllocError>
-        ensures { IfOk result (λ copy. copy ≡ self.now) }
-    {
-        Ok(match self {
-            Literal::Int(n) => Literal::Int(*n),
-            Literal::Float => Literal::Float,
-            Literal::Char(b) => Literal::Char(*b),
-            Literal::Str(text) => Literal::Str(text.copy()?),
-            Literal::True => Literal::True,
-            Literal::False => Literal::False,
-            Literal::Nil => Literal::Nil,
-        })
-    }
-}
 
 /// An equal list of names. The only error is want of memory.
 pub(crate) fn copy_ids(alloc: Global, ids: &[Id]) -> Result<Items<Id>, AllocError>
@@ -32,17 +15,15 @@ pub(crate) fn copy_ids(alloc: Global, ids: &[Id]) -> Result<Items<Id>, AllocErro
     Ok(copy)
 }
 
-impl Expr {
-    /// An equal expression. The only error is want of memory.
-    #[cycle(copy_expr)]
-    pub fn copy(&self, alloc: Global) -> Result<Expr, AllocError>
-        ensures { IfOk result (λ copy. copy ≡ self.now) }
-    {
-        Ok(Expr {
-            pos: self.pos,
-            form: copy_form(alloc, &self.form)?,
-        })
-    }
+/// An equal expression. The only error is want of memory.
+#[cycle(copy_expr)]
+pub fn copy_expression(alloc: Global, expr: &Expr) -> Result<Expr, AllocError>
+    ensures { IfOk result (λ copy. copy ≡ expr.now) }
+{
+    Ok(Expr {
+        pos: expr.pos,
+        form: copy_form(alloc, &expr.form)?,
+    })
 }
 
 #[cycle(copy_expr)]
@@ -57,27 +38,27 @@ fn copy_form(alloc: Global, form: &ExprForm) -> Result<ExprForm, AllocError>
         ExprForm::New(class) => Ok(ExprForm::New(class.copy()?)),
         ExprForm::Group(list) => Ok(ExprForm::Group(copy_list(alloc, list.as_slice())?)),
         ExprForm::Chain(first, links) => {
-            let first = Boxed::new(alloc, first.get().copy(alloc)?)?;
+            let first = Boxed::new(alloc, copy_expression(alloc, first.get())?)?;
             Ok(ExprForm::Chain(first, copy_links(alloc, links.as_slice())?))
         }
         ExprForm::Sends(first, sendings) => {
-            let first = Boxed::new(alloc, first.get().copy(alloc)?)?;
+            let first = Boxed::new(alloc, copy_expression(alloc, first.get())?)?;
             Ok(ExprForm::Sends(first, copy_sendings(alloc, sendings.as_slice())?))
         }
         ExprForm::Unary(op, operand) => {
-            let operand = Boxed::new(alloc, operand.get().copy(alloc)?)?;
+            let operand = Boxed::new(alloc, copy_expression(alloc, operand.get())?)?;
             Ok(ExprForm::Unary(*op, operand))
         }
         ExprForm::Assign(target, value) => {
-            let value = Boxed::new(alloc, value.get().copy(alloc)?)?;
+            let value = Boxed::new(alloc, copy_expression(alloc, value.get())?)?;
             Ok(ExprForm::Assign(target.copy()?, value))
         }
         ExprForm::Return(value) => {
-            let value = Boxed::new(alloc, value.get().copy(alloc)?)?;
+            let value = Boxed::new(alloc, copy_expression(alloc, value.get())?)?;
             Ok(ExprForm::Return(value))
         }
         ExprForm::If(test, part, rest) => {
-            let test = Boxed::new(alloc, test.get().copy(alloc)?)?;
+            let test = Boxed::new(alloc, copy_expression(alloc, test.get())?)?;
             let part = copy_list(alloc, part.as_slice())?;
             match rest {
                 None => Ok(ExprForm::If(test, part, None)),
@@ -88,7 +69,7 @@ fn copy_form(alloc: Global, form: &ExprForm) -> Result<ExprForm, AllocError>
             }
         }
         ExprForm::While(test, body) => {
-            let test = Boxed::new(alloc, test.get().copy(alloc)?)?;
+            let test = Boxed::new(alloc, copy_expression(alloc, test.get())?)?;
             Ok(ExprForm::While(test, copy_list(alloc, body.as_slice())?))
         }
     }
@@ -100,7 +81,7 @@ pub(crate) fn copy_list(alloc: Global, list: &[Expr]) -> Result<Items<Expr>, All
 {
     let mut copy = Items::new(alloc);
     for expr in list {
-        copy.push(expr.copy(alloc)?)?;
+        copy.push(copy_expression(alloc, expr)?)?;
     }
     Ok(copy)
 }
@@ -114,7 +95,7 @@ fn copy_links(alloc: Global, links: &[Link]) -> Result<Items<Link>, AllocError>
         copy.push(Link {
             op: link.op,
             pos: link.pos,
-            operand: link.operand.copy(alloc)?,
+            operand: copy_expression(alloc, &link.operand)?,
         })?;
     }
     Ok(copy)

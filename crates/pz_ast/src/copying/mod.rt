@@ -2,4 +2,5 @@
 mod expressions;
 mod statements;
 
-pub use statements::copy_statements;
+pub use expressions::copy_expression;
+pub use statements::{copy_statement, copy_statements};

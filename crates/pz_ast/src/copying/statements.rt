@@ -1,21 +1,19 @@
 ghost use Rattle.std.specs.Prelude.{◌≡◌, IfOk};
 
-use crate::copying::expressions::{copy_ids, copy_list as copy_exprs, copy_part};
-use crate::{Expr, Id, Stmt, StmtForm};
+use crate::copying::expressions::{copy_expression, copy_ids, copy_list as copy_exprs, copy_part};
 use pz_items::{Boxed, Items};
+use pz_syntax::{Expr, Id, Stmt, StmtForm};
 use std::alloc::{AllocError, Global};
 
-impl Stmt {
-    /// An equal statement. The only error is want of memory.
-    #[cycle(copy_stmt)]
-    pub fn copy(&self, alloc: Global) -> Result<Stmt, AllocError>
-        ensures { IfOk result (λ copy. copy ≡ self.now) }
-    {
-        Ok(Stmt {
-            pos: self.pos,
-            form: copy_form(alloc, &self.form)?,
-        })
-    }
+/// An equal statement. The only error is want of memory.
+#[cycle(copy_stmt)]
+pub fn copy_statement(alloc: Global, stmt: &Stmt) -> Result<Stmt, AllocError>
+    ensures { IfOk result (λ copy. copy ≡ stmt.now) }
+{
+    Ok(Stmt {
+        pos: stmt.pos,
+        form: copy_form(alloc, &stmt.form)?,
+    })
 }
 
 #[cycle(copy_stmt)]
@@ -24,35 +22,35 @@ fn copy_form(alloc: Global, form: &StmtForm) -> Result<StmtForm, AllocError>
 {
     match form {
         StmtForm::Skip => Ok(StmtForm::Skip),
-        StmtForm::Delay(time) => Ok(StmtForm::Delay(time.copy(alloc)?)),
+        StmtForm::Delay(time) => Ok(StmtForm::Delay(copy_expression(alloc, time)?)),
         StmtForm::Group(list) => Ok(StmtForm::Group(copy_statements(alloc, list.as_slice())?)),
         StmtForm::Block(list) => Ok(StmtForm::Block(copy_exprs(alloc, list.as_slice())?)),
         StmtForm::Guard(test, guarded) => {
-            let guarded = Boxed::new(alloc, guarded.get().copy(alloc)?)?;
-            Ok(StmtForm::Guard(test.copy(alloc)?, guarded))
+            let guarded = Boxed::new(alloc, copy_statement(alloc, guarded.get())?)?;
+            Ok(StmtForm::Guard(copy_expression(alloc, test)?, guarded))
         }
         StmtForm::Par(branches) => Ok(StmtForm::Par(copy_branches(alloc, branches.as_slice())?)),
         StmtForm::Sel(branches) => Ok(StmtForm::Sel(copy_branches(alloc, branches.as_slice())?)),
         StmtForm::If(test, part, rest) => {
             let part = copy_statements(alloc, part.as_slice())?;
             match rest {
-                None => Ok(StmtForm::If(test.copy(alloc)?, part, None)),
+                None => Ok(StmtForm::If(copy_expression(alloc, test)?, part, None)),
                 Some(rest) => {
                     let rest = copy_statements(alloc, rest.as_slice())?;
-                    Ok(StmtForm::If(test.copy(alloc)?, part, Some(rest)))
+                    Ok(StmtForm::If(copy_expression(alloc, test)?, part, Some(rest)))
                 }
             }
         }
         StmtForm::While(test, body) => {
             let body = copy_statements(alloc, body.as_slice())?;
-            Ok(StmtForm::While(test.copy(alloc)?, body))
+            Ok(StmtForm::While(copy_expression(alloc, test)?, body))
         }
         StmtForm::Abort(first, second) => {
-            let second = Boxed::new(alloc, second.get().copy(alloc)?)?;
+            let second = Boxed::new(alloc, copy_statement(alloc, second.get())?)?;
             Ok(StmtForm::Abort(copy_statements(alloc, first.as_slice())?, second))
         }
         StmtForm::Interrupt(first, second) => {
-            let second = Boxed::new(alloc, second.get().copy(alloc)?)?;
+            let second = Boxed::new(alloc, copy_statement(alloc, second.get())?)?;
             Ok(StmtForm::Interrupt(copy_statements(alloc, first.as_slice())?, second))
         }
         StmtForm::Send {
@@ -78,9 +76,9 @@ fn copy_form(alloc: Global, form: &StmtForm) -> Result<StmtForm, AllocError>
             results: copy_ids(alloc, results.as_slice())?,
         }),
         StmtForm::Assign(target, value) => {
-            Ok(StmtForm::Assign(target.copy()?, value.copy(alloc)?))
+            Ok(StmtForm::Assign(target.copy()?, copy_expression(alloc, value)?))
         }
-        StmtForm::Value(value) => Ok(StmtForm::Value(value.copy(alloc)?)),
+        StmtForm::Value(value) => Ok(StmtForm::Value(copy_expression(alloc, value)?)),
     }
 }
 
@@ -111,21 +109,47 @@ fn copy_receive(
 ) -> Result<StmtForm, AllocError>
     ensures { IfOk result (λ copy. copy ≡ StmtForm.Receive port.now name.now into.now condition.now block.now) }
 {
-    let into = match into {
-        None => None,
-        Some(ids) => Some(copy_ids(alloc, ids.as_slice())?),
-    };
-    let condition = match condition {
-        None => None,
-        Some(test) => Some(test.copy(alloc)?),
-    };
+    let port = port.copy()?;
+    let name = name.copy()?;
+    let (into, condition, block) = copy_optional(alloc, into, condition, block)?;
     Ok(StmtForm::Receive {
-        port: port.copy()?,
-        name: name.copy()?,
+        port,
+        name,
         into,
         condition,
-        block: copy_part(alloc, block)?,
+        block,
     })
+}
+
+fn copy_optional(
+    alloc: Global,
+    into: &Option<Items<Id>>,
+    condition: &Option<Expr>,
+    block: &Option<Items<Expr>>,
+) -> Result<(Option<Items<Id>>, Option<Expr>, Option<Items<Expr>>), AllocError>
+    ensures { IfOk result (λ copy. copy ≡ (into.now, condition.now, block.now)) }
+{
+    let into = copy_into(alloc, into)?;
+    let condition = copy_condition(alloc, condition)?;
+    Ok((into, condition, copy_part(alloc, block)?))
+}
+
+fn copy_into(alloc: Global, into: &Option<Items<Id>>) -> Result<Option<Items<Id>>, AllocError>
+    ensures { IfOk result (λ copy. copy ≡ into.now) }
+{
+    match into {
+        None => Ok(None),
+        Some(ids) => Ok(Some(copy_ids(alloc, ids.as_slice())?)),
+    }
+}
+
+fn copy_condition(alloc: Global, condition: &Option<Expr>) -> Result<Option<Expr>, AllocError>
+    ensures { IfOk result (λ copy. copy ≡ condition.now) }
+{
+    match condition {
+        None => Ok(None),
+        Some(test) => Ok(Some(copy_expression(alloc, test)?)),
+    }
 }
 
 /// Equal statements in the same order. The only error is want of memory.
@@ -135,7 +159,7 @@ pub fn copy_statements(alloc: Global, list: &[Stmt]) -> Result<Items<Stmt>, Allo
 {
     let mut copy = Items::new(alloc);
     for stmt in list {
-        copy.push(stmt.copy(alloc)?)?;
+        copy.push(copy_statement(alloc, stmt)?)?;
     }
     Ok(copy)
 }
@@ -148,7 +172,7 @@ fn copy_branches(alloc: Global, branches: &[Items<Stmt>]) -> Result<Items<Items<
     for branch in branches {
         let mut part = Items::new(alloc);
         for stmt in branch.as_slice() {
-            part.push(stmt.copy(alloc)?)?;
+            part.push(copy_statement(alloc, stmt)?)?;
         }
         copy.push(part)?;
     }

@@ -1,9 +1,9 @@
 ghost use Rattle.std.specs.Prelude.{◌≡◌, suc, ◌<◌, ◌^◌, map};
-ghost use Rattle.pz_ast.specs.ExpressionView.{view, list_view, part_view, link_view, sending_view, links_of, sendings_of};
-ghost use Rattle.pz_ast.specs.ExpressionNesting.{nesting, nestings, otherwise_nesting, links_nesting, sendings_nesting, bracketed_nesting};
+ghost use Rattle.pz_syntax.specs.ExpressionView.{view, list_view, part_view, link_view, sending_view, links_of, sendings_of};
+ghost use Rattle.pz_syntax.specs.ExpressionNesting.{nesting, nestings, otherwise_nesting, links_nesting, sendings_nesting, bracketed_nesting};
 
-use crate::{Expr, ExprForm, Link, Sending};
 use pz_items::Items;
+use pz_syntax::{Expr, ExprForm, Link, Sending};
 
 #[cycle(nest)]
 pub(crate) fn expr_nesting(e: &Expr) -> u32

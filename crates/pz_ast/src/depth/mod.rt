@@ -1,14 +1,14 @@
 ghost use Rattle.std.specs.Prelude.{◌≡◌, ℕ, max, ◌<◌, ◌^◌, option_map};
-ghost use Rattle.pz_ast.specs.ClassView.{data_method_view, start_view, process_method_view, process_class_view, decl_view, model_view};
-ghost use Rattle.pz_ast.specs.ModelText.{HasFewMarks};
-ghost use Rattle.pz_ast.specs.ModelNesting.{greatest, optional_nesting, data_method_nesting, data_class_nesting, start_nesting, process_method_nesting, process_class_nesting, decl_nesting, nesting};
+ghost use Rattle.pz_syntax.specs.ClassView.{data_method_view, start_view, process_method_view, process_class_view, decl_view, model_view};
+ghost use Rattle.pz_syntax.specs.ModelText.{HasFewMarks};
+ghost use Rattle.pz_syntax.specs.ModelNesting.{greatest, optional_nesting, data_method_nesting, data_class_nesting, start_nesting, process_method_nesting, process_class_nesting, decl_nesting, nesting};
 
 mod exprs;
 mod stmts;
 
-use crate::{DataMethod, Decl, Model, ProcessClass, ProcessMethod, Start};
 use exprs::exprs_nesting;
 use pz_items::Items;
+use pz_syntax::{DataMethod, Decl, Model, ProcessClass, ProcessMethod, Start};
 use stmts::stmts_nesting;
 
 /// How many constructs that nest stand one in another, at most: brackets, blocks, guards, `par`,

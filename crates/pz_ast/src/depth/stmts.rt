@@ -1,13 +1,13 @@
 ghost use Rattle.std.specs.Prelude.{◌≡◌, suc, max, ◌<◌, ◌^◌, map, option_map};
-ghost use Rattle.pz_ast.specs.ExpressionNesting.{bracketed_nesting};
-ghost use Rattle.pz_ast.specs.ExpressionView.{part_view};
-ghost use Rattle.pz_ast.specs.ExpressionView as expression_view;
-ghost use Rattle.pz_ast.specs.StatementView.{view, sequence_view, branches_of};
-ghost use Rattle.pz_ast.specs.StatementNesting.{reception_nesting, nesting, nestings, branches_nesting};
+ghost use Rattle.pz_syntax.specs.ExpressionNesting.{bracketed_nesting};
+ghost use Rattle.pz_syntax.specs.ExpressionView.{part_view};
+ghost use Rattle.pz_syntax.specs.ExpressionView as expression_view;
+ghost use Rattle.pz_syntax.specs.StatementView.{view, sequence_view, branches_of};
+ghost use Rattle.pz_syntax.specs.StatementNesting.{reception_nesting, nesting, nestings, branches_nesting};
 
 use super::exprs::{bracketed_nesting, expr_nesting, exprs_nesting};
-use crate::{Expr, Id, Stmt, StmtForm};
 use pz_items::Items;
+use pz_syntax::{Expr, Id, Stmt, StmtForm};
 
 #[cycle(nest)]
 fn stmt_nesting(statement: &Stmt) -> u32

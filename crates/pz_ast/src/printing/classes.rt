@@ -1,8 +1,8 @@
 ghost use Rattle.std.specs.Prelude.{◌≡◌, List, [], ◌∷◌, ◌++◌, map, option_map, if◌then◌else◌, OnOk};
-ghost use Rattle.pz_ast.specs.declared.tokens.Mark.{Mark};
-ghost use Rattle.pz_ast.specs.Marks.{symbol, word, head, optional, each_text};
-ghost use Rattle.pz_ast.specs.ClassText.{group_names, group_text, variables_text, formal_text, locals_text, data_method_text, data_class_text, message_text, messages_text, start_text, process_method_text, process_class_text};
-ghost use Rattle.pz_ast.specs.ClassView.{data_method_view, data_class_view, start_view, process_method_view, process_class_view};
+ghost use Rattle.pz_syntax.specs.declared.tokens.Mark.{Mark};
+ghost use Rattle.pz_syntax.specs.Marks.{symbol, word, head, optional, each_text};
+ghost use Rattle.pz_syntax.specs.ClassText.{group_names, group_text, variables_text, formal_text, locals_text, data_method_text, data_class_text, message_text, messages_text, start_text, process_method_text, process_class_text};
+ghost use Rattle.pz_syntax.specs.ClassView.{data_method_view, data_class_view, start_view, process_method_view, process_class_view};
 
 use super::exprs::{put_bracketed, put_exprs};
 use super::marks::{
@@ -10,11 +10,11 @@ use super::marks::{
     put_symbol, put_word,
 };
 use super::stmts::put_stmts;
-use crate::{
+use pz_items::Items;
+use pz_syntax::{
     DataClass, DataMethod, Id, Keyword, Mark, Message, ProcessClass, ProcessMethod, Start, Symbol,
     VarGroup,
 };
-use pz_items::Items;
 use std::alloc::AllocError;
 
 impl Print for VarGroup {

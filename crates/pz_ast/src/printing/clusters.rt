@@ -1,19 +1,19 @@
 ghost use Rattle.std.specs.Prelude.{◌≡◌, List, [], ◌∷◌, ◌++◌, OnOk};
-ghost use Rattle.pz_ast.specs.declared.tokens.Mark.{Mark};
-ghost use Rattle.pz_ast.specs.Marks.{each_text};
-ghost use Rattle.pz_ast.specs.ModelText.{arg_text, given_text, givens_text, instance_text, end_text, channel_text, cluster_class_text, system_text, decl_text};
-ghost use Rattle.pz_ast.specs.ClassView.{decl_view};
+ghost use Rattle.pz_syntax.specs.declared.tokens.Mark.{Mark};
+ghost use Rattle.pz_syntax.specs.Marks.{each_text};
+ghost use Rattle.pz_syntax.specs.ModelText.{arg_text, given_text, givens_text, instance_text, end_text, channel_text, cluster_class_text, system_text, decl_text};
+ghost use Rattle.pz_syntax.specs.ClassView.{decl_view};
 
 use super::classes::put_written_formal;
 use super::exprs::put_literal;
 use super::marks::{
     Print, put, put_each, put_head, put_keyword, put_section, put_separated, put_symbol, put_word,
 };
-use crate::{
+use pz_items::Items;
+use pz_syntax::{
     Arg, Channel, ChannelEnd, ClusterClass, Decl, Given, Instance, Keyword, Mark, Symbol,
     SystemDecl, TokenKind,
 };
-use pz_items::Items;
 use std::alloc::AllocError;
 
 impl Print for Decl {

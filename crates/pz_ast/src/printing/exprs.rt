@@ -1,11 +1,11 @@
 ghost use Rattle.std.specs.Prelude.{◌≡◌, [], ◌∷◌, ◌++◌, map, OnOk};
-ghost use Rattle.pz_ast.specs.Marks.{mark, keyword, word, in_parentheses};
-ghost use Rattle.pz_ast.specs.ExpressionText.{literal_kind, text, texts, links_text, sendings_text, arguments_text};
-ghost use Rattle.pz_ast.specs.ExpressionView.{view, list_view, part_view, link_view, sending_view, links_of, sendings_of};
+ghost use Rattle.pz_syntax.specs.Marks.{mark, keyword, word, in_parentheses};
+ghost use Rattle.pz_syntax.specs.ExpressionText.{literal_kind, text, texts, links_text, sendings_text, arguments_text};
+ghost use Rattle.pz_syntax.specs.ExpressionView.{view, list_view, part_view, link_view, sending_view, links_of, sendings_of};
 
 use super::marks::{put, put_keyword, put_selector, put_symbol, put_word};
-use crate::{Expr, ExprForm, Id, Keyword, Link, Literal, Mark, Sending, Symbol, TokenKind};
 use pz_items::Items;
+use pz_syntax::{Expr, ExprForm, Id, Keyword, Link, Literal, Mark, Sending, Symbol, TokenKind};
 use std::alloc::AllocError;
 
 pub(crate) fn put_literal(out: &mut Items<Mark>, literal: &Literal) -> Result<(), AllocError>

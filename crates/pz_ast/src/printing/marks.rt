@@ -1,10 +1,10 @@
 ghost use Rattle.std.specs.Prelude.{◌≡◌, List, [], ◌∷◌, ◌++◌, Option, OnOk, IfOk};
-ghost use Rattle.pz_ast.specs.Marks;
-ghost use Rattle.pz_ast.specs.declared.tokens.Mark.{Mark};
-ghost use Rattle.pz_ast.specs.Marks.{mark, symbol, keyword, word, head, selector, selector_head, separated, each_text, section, word_text, names_text};
+ghost use Rattle.pz_syntax.specs.Marks;
+ghost use Rattle.pz_syntax.specs.declared.tokens.Mark.{Mark};
+ghost use Rattle.pz_syntax.specs.Marks.{mark, symbol, keyword, word, head, selector, selector_head, separated, each_text, section, word_text, names_text};
 
-use crate::{Id, Keyword, Mark, Symbol, TokenKind};
 use pz_items::Items;
+use pz_syntax::{Id, Keyword, Mark, Symbol, TokenKind};
 use std::alloc::AllocError;
 
 /// What has a text.

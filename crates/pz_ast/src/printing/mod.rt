@@ -1,6 +1,6 @@
 ghost use Rattle.std.specs.Prelude.{◌≡◌, IfOk};
-ghost use Rattle.pz_ast.specs.ClassView.{model_view};
-ghost use Rattle.pz_ast.specs.ModelText.{text};
+ghost use Rattle.pz_syntax.specs.ClassView.{model_view};
+ghost use Rattle.pz_syntax.specs.ModelText.{text};
 
 mod classes;
 mod clusters;
@@ -8,9 +8,9 @@ mod exprs;
 mod marks;
 mod stmts;
 
-use crate::{Mark, Model};
 use marks::put_each;
 use pz_items::Items;
+use pz_syntax::{Mark, Model};
 use std::alloc::{AllocError, Global};
 
 /// The tokens of a model, with their heads marked. The only error is want of memory.

@@ -1,16 +1,16 @@
 ghost use Rattle.std.specs.Prelude.{◌≡◌, [], ◌∷◌, ◌++◌, map, option_map, OnOk};
-ghost use Rattle.pz_ast.specs.Marks.{symbol, keyword, word, head, in_parentheses, names_text};
-ghost use Rattle.pz_ast.specs.ExpressionText.{arguments_text};
-ghost use Rattle.pz_ast.specs.ExpressionText as expression;
-ghost use Rattle.pz_ast.specs.ExpressionView.{list_view, part_view};
-ghost use Rattle.pz_ast.specs.ExpressionView as expression_view;
-ghost use Rattle.pz_ast.specs.StatementText.{block_text, after_text, condition_text, reception_text, text, texts, branches_text};
-ghost use Rattle.pz_ast.specs.StatementView.{view, sequence_view, sequence_of, branches_of};
+ghost use Rattle.pz_syntax.specs.Marks.{symbol, keyword, word, head, in_parentheses, names_text};
+ghost use Rattle.pz_syntax.specs.ExpressionText.{arguments_text};
+ghost use Rattle.pz_syntax.specs.ExpressionText as expression;
+ghost use Rattle.pz_syntax.specs.ExpressionView.{list_view, part_view};
+ghost use Rattle.pz_syntax.specs.ExpressionView as expression_view;
+ghost use Rattle.pz_syntax.specs.StatementText.{block_text, after_text, condition_text, reception_text, text, texts, branches_text};
+ghost use Rattle.pz_syntax.specs.StatementView.{view, sequence_view, sequence_of, branches_of};
 
 use super::exprs::{put_arguments, put_bracketed, put_expr, put_exprs, put_test};
 use super::marks::{Print, put_head, put_keyword, put_symbol, put_word};
-use crate::{Expr, Id, Keyword, Mark, Stmt, StmtForm, Symbol};
 use pz_items::Items;
+use pz_syntax::{Expr, Id, Keyword, Mark, Stmt, StmtForm, Symbol};
 use std::alloc::AllocError;
 
 #[cycle(put)]

@@ -1,13 +1,13 @@
 ghost use Rattle.std.specs.Prelude.{◌≡◌, map, IfOk};
-ghost use Rattle.pz_ast.specs.ExpressionView as tree;
+ghost use Rattle.pz_syntax.specs.ExpressionView as tree;
 ghost use Rattle.pz_code.specs.CodeView as code;
 ghost use Rattle.pz_code.specs.Resolution.{resolved, resolved_all, resolved_part, resolved_links, resolved_sendings};
 ghost use Rattle.pz_code.specs.ScopeView.{scope_view};
 
 use crate::scope::Scope;
 use crate::{Code, CodeForm, CodeLink, CodeSending};
-use pz_ast::{Expr, ExprForm, Link, Pos, Sending};
 use pz_items::{Boxed, Items};
+use pz_syntax::{Expr, ExprForm, Link, Pos, Sending};
 use std::alloc::{AllocError, Global};
 
 #[cycle(resolve_expr)]

@@ -1,7 +1,7 @@
 ghost use Rattle.std.specs.Prelude.{◌≡◌, map, option_map, IfOk};
-ghost use Rattle.pz_ast.specs.StatementView as tree;
+ghost use Rattle.pz_syntax.specs.StatementView as tree;
 ghost use Rattle.pz_code.specs.StepView as step;
-ghost use Rattle.pz_ast.specs.ExpressionView as expression;
+ghost use Rattle.pz_syntax.specs.ExpressionView as expression;
 ghost use Rattle.pz_code.specs.CodeView as code;
 ghost use Rattle.pz_code.specs.Resolution.{resolved, slots_of, resolved_statement, resolved_statements, resolved_branches};
 ghost use Rattle.pz_code.specs.ScopeView.{scope_view};
@@ -9,8 +9,8 @@ ghost use Rattle.pz_code.specs.ScopeView.{scope_view};
 use crate::resolving::expressions::{resolve, resolve_list, resolve_part};
 use crate::scope::Scope;
 use crate::{Code, CodeForm, Slot, Step, StepForm};
-use pz_ast::{Expr, Id, Pos, Stmt, StmtForm};
 use pz_items::{Boxed, Items};
+use pz_syntax::{Expr, Id, Pos, Stmt, StmtForm};
 use std::alloc::{AllocError, Global};
 
 #[cycle(resolve_stmt)]

@@ -1,5 +1,5 @@
 use Rattle.std.proofs.Common.{◌≡◌, max, drop}
-use Rattle.pz_ast.specs.ModelNesting.{greatest}
+use Rattle.pz_syntax.specs.ModelNesting.{greatest}
 use Rattle.pz_ast.proofs.depth.greatest.Given as goal
 
 abbrev pub invariant-loop-part : goal.invariant-loop-part

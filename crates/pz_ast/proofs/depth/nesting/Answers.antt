@@ -1,6 +1,6 @@
 use Rattle.std.proofs.Common.{arith}
-use Rattle.pz_ast.specs.ClassView.{decl_view, model_view}
-use Rattle.pz_ast.specs.ModelNesting.{decl_nesting}
+use Rattle.pz_syntax.specs.ClassView.{decl_view, model_view}
+use Rattle.pz_syntax.specs.ModelNesting.{decl_nesting}
 use Rattle.pz_ast.proofs.Nestings.{greatest_map}
 use Rattle.pz_ast.proofs.ModelBounds.{model_bound}
 use Rattle.pz_ast.proofs.depth.nesting.Goals as goal

@@ -1,6 +1,6 @@
 use Rattle.std.proofs.Common.{arith}
-use Rattle.pz_ast.specs.ModelNesting.{process_method_nesting}
-use Rattle.pz_ast.specs.ClassView.{process_method_view}
+use Rattle.pz_syntax.specs.ModelNesting.{process_method_nesting}
+use Rattle.pz_syntax.specs.ClassView.{process_method_view}
 use Rattle.pz_ast.proofs.Nestings.{methods_map}
 use Rattle.pz_ast.proofs.depth.process_nesting.Goals as goal
 

@@ -1,6 +1,6 @@
 use Rattle.std.proofs.Common.{refl}
-use Rattle.pz_ast.specs.ModelText.{decl_text}
-use Rattle.pz_ast.specs.ClassView.{decl_view}
+use Rattle.pz_syntax.specs.ModelText.{decl_text}
+use Rattle.pz_syntax.specs.ClassView.{decl_view}
 use Rattle.pz_ast.proofs.Texts.{each_text_map}
 use Rattle.pz_ast.proofs.printing.tokens_of.Goals as goal
 

@@ -1,5 +1,5 @@
 use Rattle.std.proofs.Common.{◌≡◌, None, ◌∷◌, map, take}
-use Rattle.pz_ast.specs.ClassView.{decl_view, model_view}
+use Rattle.pz_syntax.specs.ClassView.{decl_view, model_view}
 use Rattle.pz_classes.specs.Ancestors.{parent_of}
 use Rattle.pz_classes.proofs.ancestry.parents_of.Given as goal
 

@@ -1,8 +1,8 @@
 use Rattle.std.proofs.Common.{map, ◌+◌, refl, subst, arith}
 use Rattle.pz_classes.specs.declared.entry.Entry.{Entry}
 use Rattle.pz_classes.specs.Ancestors.{ancestors}
-use Rattle.pz_classes.specs.Inherited.{HasMembers}
-use Rattle.pz_ast.specs.ClassView.{model_view}
+use Rattle.pz_classes.specs.devices.Inherited.{HasMembers}
+use Rattle.pz_syntax.specs.ClassView.{model_view}
 use Rattle.pz_classes.specs.Bodies.{bodies}
 use Rattle.pz_classes.specs.BodyView.{body_view}
 use Rattle.pz_classes.proofs.Counting.{bodies_step, has_members, is_entry}

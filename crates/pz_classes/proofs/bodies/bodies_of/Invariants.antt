@@ -1,5 +1,5 @@
 use Rattle.std.proofs.Common.{◌≡◌, ◌++◌, suc, map, drop}
-use Rattle.pz_ast.specs.ClassView.{decl_view, model_view}
+use Rattle.pz_syntax.specs.ClassView.{decl_view, model_view}
 use Rattle.pz_classes.specs.Bodies.{bodies_from, bodies}
 use Rattle.pz_classes.specs.BodyView.{body_view}
 use Rattle.pz_classes.proofs.bodies.bodies_of.Given as goal

@@ -1,8 +1,8 @@
 use Rattle.std.proofs.Common.{◌≡◌, ◌++◌, map, drop}
-use Rattle.pz_ast.specs.ClassView.{process_method_view}
+use Rattle.pz_syntax.specs.ClassView.{process_method_view}
 use Rattle.pz_classes.specs.Bodies.{process_body_in}
 use Rattle.pz_classes.specs.BodyView.{body_view}
-use Rattle.pz_classes.specs.Surrounding.{scope_around}
+use Rattle.pz_classes.specs.devices.Surrounding.{scope_around}
 use Rattle.pz_classes.proofs.bodies.push_process_bodies.Given as goal
 
 abbrev pub invariant-loop-method : goal.invariant-loop-method

@@ -1,5 +1,5 @@
 use Rattle.std.proofs.Common.{◌≡◌, ◌∷◌, codes, map, take}
-use Rattle.pz_ast.specs.ClassView.{decl_view}
+use Rattle.pz_syntax.specs.ClassView.{decl_view}
 use Rattle.pz_classes.specs.Numbers.{spelling}
 use Rattle.pz_classes.proofs.classes.names_of.Given as goal
 

@@ -1,5 +1,5 @@
 use Rattle.std.proofs.Common.{◌∙◌}
-use Rattle.pz_ast.specs.ClassView.{model_view}
+use Rattle.pz_syntax.specs.ClassView.{model_view}
 use Rattle.pz_classes.proofs.Entries.{row_is}
 use Rattle.pz_classes.proofs.entry.entry_of.Goals as goal
 

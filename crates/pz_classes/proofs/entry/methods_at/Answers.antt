@@ -1,11 +1,11 @@
 use Rattle.std.proofs.Common.{◌≡◌, ap, subst, ℕ, [], Option, arith}
 use Rattle.std.specs.Option.{option_map_or}
 use Rattle.std.proofs.lemmas.Result.{IfOk-weaker}
-use Rattle.pz_ast.specs.Classes.{DeclTree}
-use Rattle.pz_ast.specs.ClassView.{decl_view, model_view}
+use Rattle.pz_syntax.specs.Classes.{DeclTree}
+use Rattle.pz_syntax.specs.ClassView.{decl_view, model_view}
 use Rattle.pz_classes.specs.Numbers.{declaration}
 use Rattle.pz_classes.specs.Methods.{signatures}
-use Rattle.pz_classes.specs.MethodIn.{HasMethods, HasMethodsOf}
+use Rattle.pz_classes.specs.devices.MethodIn.{HasMethods, HasMethodsOf}
 use Rattle.pz_classes.proofs.Numbered.{declares}
 use Rattle.pz_classes.proofs.entry.methods_at.Goals as goal
 

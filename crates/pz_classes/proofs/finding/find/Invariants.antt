@@ -3,7 +3,7 @@ use Rattle.std.specs.Option.{option_map_or}
 use Rattle.pz_classes.specs.Ancestors.{followed}
 use Rattle.pz_classes.specs.Methods.{nearest}
 use Rattle.pz_classes.specs.Tables.{row_view}
-use Rattle.pz_classes.specs.Found.{up_in, own_in, found_in}
+use Rattle.pz_classes.specs.devices.Found.{up_in, own_in, found_in}
 use Rattle.pz_classes.proofs.finding.find.Given as goal
 
 abbrev pub invariant-loop-left : goal.invariant-loop-left

@@ -1,6 +1,6 @@
 use Rattle.std.proofs.Common.{◌≡◌, ◌∙◌, sym, subst, None, Some, ℕ, List}
 use Rattle.std.specs.Option.{option_map}
-use Rattle.pz_ast.specs.ClassView.{model_view}
+use Rattle.pz_syntax.specs.ClassView.{model_view}
 use Rattle.pz_classes.specs.Numbers.{class}
 use Rattle.pz_classes.specs.Tables.{class_id}
 use Rattle.pz_classes.proofs.InstanceClasses.{unknown_has_none, known_has, known_has_none}

@@ -1,6 +1,6 @@
 use Rattle.std.proofs.Common.{◌+◌, ap, ◌∙◌, length, arith}
 use Rattle.std.proofs.lemmas.List.{get_or_default, length-set}
-use Rattle.pz_ast.specs.ClassView.{model_view}
+use Rattle.pz_syntax.specs.ClassView.{model_view}
 use Rattle.pz_classes.proofs.Filling.{is_class, parent_below, filled_step, all_filled, counted_with, fits_in}
 use Rattle.pz_classes.proofs.members.members_of_classes.Goals as goal
 

@@ -1,6 +1,6 @@
 use Rattle.std.proofs.Common.{◌≡◌, ℕ, length, take}
 use Rattle.std.specs.List.{Contains}
-use Rattle.pz_ast.specs.ClassView.{model_view}
+use Rattle.pz_syntax.specs.ClassView.{model_view}
 use Rattle.pz_lineage.specs.Preorder.{visited}
 use Rattle.pz_classes.proofs.Inheriting.{HasAt}
 use Rattle.pz_classes.proofs.members.members_of_classes.Given as goal

@@ -1,5 +1,5 @@
 use Rattle.std.proofs.Common.{◌≡◌, drop}
-use Rattle.pz_classes.specs.MethodIn.{first_with_counts}
+use Rattle.pz_classes.specs.devices.MethodIn.{first_with_counts}
 use Rattle.pz_classes.proofs.method_index.with_counts.Given as goal
 
 abbrev pub invariant-loop-overload : goal.invariant-loop-overload

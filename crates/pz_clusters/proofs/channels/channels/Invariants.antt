@@ -1,8 +1,8 @@
 use Rattle.std.proofs.Common.{◌≡◌, ◌-◌}
 use Rattle.pz_cursor.specs.declared.ahead.Next.TheVariants as n
-use Rattle.pz_cursor.specs.Input.{sees}
-use Rattle.pz_cursor.specs.Lists.{repeat, with_front}
-use Rattle.pz_clusters.specs.Clusters.{channels, one_channel}
+use Rattle.pz_cursor.specs.devices.Input.{sees}
+use Rattle.pz_cursor.specs.devices.Lists.{repeat, with_front}
+use Rattle.pz_clusters.specs.devices.Clusters.{channels, one_channel}
 use Rattle.pz_clusters.proofs.channels.channels.Given as goal
 
 abbrev pub invariant-loop-turn : goal.invariant-loop-turn

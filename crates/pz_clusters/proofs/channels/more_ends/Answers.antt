@@ -1,9 +1,9 @@
 use Rattle.std.proofs.Common.{◌≡◌, suc, ◌+◌, ◌-◌, true, Ok, sym, ap, ◌∙◌, arith}
 use Rattle.pz_cursor.specs.declared.ahead.Next.TheVariants as n
-use Rattle.pz_cursor.specs.Input.{sees, after}
-use Rattle.pz_cursor.specs.Lists.{tail_of, with_front}
+use Rattle.pz_cursor.specs.devices.Input.{sees, after}
+use Rattle.pz_cursor.specs.devices.Lists.{tail_of, with_front}
 use Rattle.pz_cursor.proofs.Loops.{tail_more, past_is}
-use Rattle.pz_clusters.specs.Clusters.{one_end}
+use Rattle.pz_clusters.specs.devices.Clusters.{one_end}
 use Rattle.pz_clusters.proofs.channels.more_ends.Goals as goal
 
 pub loop-turn-preserved : goal.loop-turn-preserved

@@ -1,9 +1,9 @@
 use Rattle.std.proofs.Common.{◌≡◌, suc, ◌+◌, ◌-◌, true, sym, ap, ◌∙◌, arith}
 use Rattle.pz_cursor.specs.declared.ahead.Next.TheVariants as n
-use Rattle.pz_cursor.specs.Input.{sees}
-use Rattle.pz_cursor.specs.Lists.{repeat, with_front}
+use Rattle.pz_cursor.specs.devices.Input.{sees}
+use Rattle.pz_cursor.specs.devices.Lists.{repeat, with_front}
 use Rattle.pz_cursor.proofs.Loops.{repeat_more}
-use Rattle.pz_clusters.specs.Clusters.{one_instance}
+use Rattle.pz_clusters.specs.devices.Clusters.{one_instance}
 use Rattle.pz_clusters.proofs.instances.instances.Goals as goal
 
 pub loop-turn-preserved : goal.loop-turn-preserved

@@ -1,7 +1,7 @@
 use Rattle.std.proofs.Common.{◌≡◌, ◌-◌}
 use Rattle.pz_cursor.specs.declared.ahead.Next.TheVariants as n
-use Rattle.pz_cursor.specs.Lists.{more_of, tail_of, with_front}
-use Rattle.pz_clusters.specs.Clusters.{given}
+use Rattle.pz_cursor.specs.devices.Lists.{more_of, tail_of, with_front}
+use Rattle.pz_clusters.specs.devices.Clusters.{given}
 use Rattle.pz_clusters.proofs.instances.more_givens.Given as goal
 
 abbrev pub invariant-loop-turn : goal.invariant-loop-turn

@@ -1,6 +1,6 @@
 use Rattle.std.proofs.Common.{◌≡◌, true, sym, ◌∙◌}
 use Rattle.std.proofs.lemmas.Result.{IfOk-weaker}
-use Rattle.pz_components.specs.Walking.{walk_view, is_at_end}
+use Rattle.pz_components.specs.devices.Walking.{walk_view, is_at_end}
 use Rattle.pz_components.proofs.Ends.{begins, numbers_tell}
 use Rattle.pz_components.proofs.numbering.components.Goals as goal
 

@@ -1,5 +1,5 @@
-use Rattle.pz_components.specs.Walking.{walk_view, left}
-use Rattle.pz_components.specs.IsWalk.{IsWalk}
+use Rattle.pz_components.specs.devices.Walking.{walk_view, left}
+use Rattle.pz_components.specs.devices.IsWalk.{IsWalk}
 use Rattle.pz_components.proofs.numbering.components.Given as goal
 
 abbrev pub invariant-loop-walk : goal.invariant-loop-walk

@@ -1,5 +1,5 @@
 use Rattle.std.proofs.Common.{◌≡◌, map, take}
-use Rattle.pz_components.specs.Walking.{number}
+use Rattle.pz_components.specs.devices.Walking.{number}
 use Rattle.pz_components.proofs.numbering.numbers_of.Given as goal
 
 abbrev pub invariant-loop-state : goal.invariant-loop-state

@@ -1,5 +1,5 @@
 use Rattle.std.proofs.Common.{length}
-use Rattle.pz_components.specs.IsWalk.{AreJoined}
+use Rattle.pz_components.specs.devices.IsWalk.{AreJoined}
 use Rattle.pz_components.proofs.walk.join.Given as goal
 
 abbrev pub invariant-loop-group : goal.invariant-loop-group

@@ -1,5 +1,5 @@
 use Rattle.std.proofs.Common.{◌≡◌, drop}
-use Rattle.pz_components.specs.Walking.{done_all}
+use Rattle.pz_components.specs.devices.Walking.{done_all}
 use Rattle.pz_components.proofs.walk.mark_done.Given as goal
 
 abbrev pub invariant-loop-vertex : goal.invariant-loop-vertex

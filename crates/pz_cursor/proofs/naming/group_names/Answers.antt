@@ -1,10 +1,10 @@
 use Rattle.std.proofs.Common.{◌≡◌, suc, ◌+◌, ◌-◌, ◌∷◌, [], ◌++◌, Ok, Err, sym, ap, ◌∙◌, arith}
 use Rattle.pz_cursor.specs.declared.ahead.Next.TheVariants as n
-use Rattle.pz_cursor.specs.LookAhead.{next}
-use Rattle.pz_cursor.specs.Input.{after, identifier}
-use Rattle.pz_cursor.specs.Device.{expect}
-use Rattle.pz_cursor.specs.Names.{names_of_group}
-use Rattle.pz_cursor.specs.Lists.{with_front}
+use Rattle.pz_cursor.specs.devices.LookAhead.{next}
+use Rattle.pz_cursor.specs.devices.Input.{after, identifier}
+use Rattle.pz_cursor.specs.devices.Device.{expect}
+use Rattle.pz_cursor.specs.devices.Names.{names_of_group}
+use Rattle.pz_cursor.specs.devices.Lists.{with_front}
 use Rattle.pz_cursor.proofs.GroupLoop.{ok_is, names_more, names_refused}
 use Rattle.pz_cursor.proofs.naming.group_names.Goals as goal
 

@@ -1,6 +1,6 @@
 use Rattle.std.proofs.Common.{◌≡◌, ◌-◌}
-use Rattle.pz_cursor.specs.Lists.{with_front}
-use Rattle.pz_cursor.specs.Names.{group_names, names_of_group}
+use Rattle.pz_cursor.specs.devices.Lists.{with_front}
+use Rattle.pz_cursor.specs.devices.Names.{group_names, names_of_group}
 use Rattle.pz_cursor.proofs.naming.group_names.Given as goal
 
 abbrev pub invariant-loop-turn : goal.invariant-loop-turn

@@ -1,8 +1,8 @@
 use Rattle.std.proofs.Common.{◌≡◌, suc, ◌+◌, ◌-◌, true, Ok, sym, ap, ◌∙◌, arith}
 use Rattle.pz_cursor.specs.declared.ahead.Next.TheVariants as n
-use Rattle.pz_cursor.specs.Input.{sees, after}
-use Rattle.pz_cursor.specs.Names.{word}
-use Rattle.pz_cursor.specs.Lists.{tail_of, with_front}
+use Rattle.pz_cursor.specs.devices.Input.{sees, after}
+use Rattle.pz_cursor.specs.devices.Names.{word}
+use Rattle.pz_cursor.specs.devices.Lists.{tail_of, with_front}
 use Rattle.pz_cursor.proofs.Loops.{tail_more, past_is}
 use Rattle.pz_cursor.proofs.naming.more_names.Goals as goal
 

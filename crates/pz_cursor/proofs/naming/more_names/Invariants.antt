@@ -1,7 +1,7 @@
 use Rattle.std.proofs.Common.{◌≡◌, ◌-◌}
 use Rattle.pz_cursor.specs.declared.ahead.Next.TheVariants as n
-use Rattle.pz_cursor.specs.Lists.{more_of, tail_of, with_front}
-use Rattle.pz_cursor.specs.Names.{word}
+use Rattle.pz_cursor.specs.devices.Lists.{more_of, tail_of, with_front}
+use Rattle.pz_cursor.specs.devices.Names.{word}
 use Rattle.pz_cursor.proofs.naming.more_names.Given as goal
 
 abbrev pub invariant-loop-turn : goal.invariant-loop-turn

@@ -1,9 +1,9 @@
 use Rattle.std.proofs.Common.{◌≡◌, suc, ◌+◌, ◌-◌, true, map, ap, ◌∙◌, arith}
-use Rattle.pz_ast.specs.ClassView.{data_method_view}
-use Rattle.pz_cursor.specs.Input.{selects_head}
-use Rattle.pz_cursor.specs.Lists.{with_front, repeat}
+use Rattle.pz_syntax.specs.ClassView.{data_method_view}
+use Rattle.pz_cursor.specs.devices.Input.{selects_head}
+use Rattle.pz_cursor.specs.devices.Lists.{with_front, repeat}
 use Rattle.pz_cursor.proofs.Loops.{repeat_more, map_more}
-use Rattle.pz_declarations.specs.DataClasses.{data_method}
+use Rattle.pz_declarations.specs.devices.DataClasses.{data_method}
 use Rattle.pz_declarations.proofs.data_classes.data_methods.Goals as goal
 
 pub loop-turn-preserved : goal.loop-turn-preserved

@@ -1,8 +1,8 @@
 use Rattle.std.proofs.Common.{◌≡◌, ◌-◌, map}
-use Rattle.pz_ast.specs.ClassView.{data_method_view}
-use Rattle.pz_cursor.specs.Input.{selects_head}
-use Rattle.pz_cursor.specs.Lists.{with_front, repeat}
-use Rattle.pz_declarations.specs.DataClasses.{data_methods, data_method}
+use Rattle.pz_syntax.specs.ClassView.{data_method_view}
+use Rattle.pz_cursor.specs.devices.Input.{selects_head}
+use Rattle.pz_cursor.specs.devices.Lists.{with_front, repeat}
+use Rattle.pz_declarations.specs.devices.DataClasses.{data_methods, data_method}
 use Rattle.pz_declarations.proofs.data_classes.data_methods.Given as goal
 
 abbrev pub invariant-loop-turn : goal.invariant-loop-turn

@@ -1,4 +1,4 @@
-use Rattle.pz_ast.specs.ClassView.{model_view}
+use Rattle.pz_syntax.specs.ClassView.{model_view}
 use Rattle.pz_expansion.proofs.SelfHolding.{found_holding}
 use Rattle.pz_expansion.proofs.holding.least_holding.Goals as goal
 

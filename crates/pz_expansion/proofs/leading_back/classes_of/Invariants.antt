@@ -1,5 +1,5 @@
 use Rattle.std.proofs.Common.{◌≡◌, take}
-use Rattle.pz_expansion.specs.LeadingBack.{classes_of}
+use Rattle.pz_expansion.specs.devices.LeadingBack.{classes_of}
 use Rattle.pz_expansion.proofs.leading_back.classes_of.Given as goal
 
 abbrev pub invariant-loop-instance : goal.invariant-loop-instance

@@ -1,5 +1,5 @@
 use Rattle.std.proofs.Common.{◌≡◌, take}
-use Rattle.pz_expansion.specs.LeadingBack.{edges}
+use Rattle.pz_expansion.specs.devices.LeadingBack.{edges}
 use Rattle.pz_expansion.proofs.leading_back.edges_of.Given as goal
 
 abbrev pub invariant-loop-node : goal.invariant-loop-node

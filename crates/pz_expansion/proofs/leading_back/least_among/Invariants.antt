@@ -1,6 +1,6 @@
 use Rattle.std.proofs.Common.{◌≡◌, None, drop}
 use Rattle.pz_violation.specs.Least.{least_from}
-use Rattle.pz_expansion.specs.LeadingBack.{back_among}
+use Rattle.pz_expansion.specs.devices.LeadingBack.{back_among}
 use Rattle.pz_expansion.proofs.leading_back.least_among.Given as goal
 
 abbrev pub invariant-loop-class : goal.invariant-loop-class

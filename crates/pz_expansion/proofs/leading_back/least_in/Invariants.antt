@@ -1,6 +1,6 @@
 use Rattle.std.proofs.Common.{◌≡◌, drop}
 use Rattle.pz_violation.specs.Least.{least_from}
-use Rattle.pz_expansion.specs.LeadingBack.{back_in}
+use Rattle.pz_expansion.specs.devices.LeadingBack.{back_in}
 use Rattle.pz_expansion.proofs.leading_back.least_in.Given as goal
 
 abbrev pub invariant-loop-instance : goal.invariant-loop-instance

@@ -1,6 +1,6 @@
 use Rattle.std.proofs.Common.{◌≡◌, take}
-use Rattle.pz_ast.specs.ClassView.{model_view}
-use Rattle.pz_expansion.specs.Nodes.{all_held}
+use Rattle.pz_syntax.specs.ClassView.{model_view}
+use Rattle.pz_expansion.specs.devices.Nodes.{all_held}
 use Rattle.pz_expansion.proofs.nodes.held_of.Given as goal
 
 abbrev pub invariant-loop-instance : goal.invariant-loop-instance

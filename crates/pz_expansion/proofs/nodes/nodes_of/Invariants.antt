@@ -1,6 +1,6 @@
 use Rattle.std.proofs.Common.{◌≡◌, ◌++◌, map, drop}
-use Rattle.pz_ast.specs.ClassView.{decl_view, model_view}
-use Rattle.pz_expansion.specs.Nodes.{node_of, nodes}
+use Rattle.pz_syntax.specs.ClassView.{decl_view, model_view}
+use Rattle.pz_expansion.specs.devices.Nodes.{node_of, nodes}
 use Rattle.pz_expansion.proofs.nodes.nodes_of.Given as goal
 
 abbrev pub invariant-loop-decl : goal.invariant-loop-decl

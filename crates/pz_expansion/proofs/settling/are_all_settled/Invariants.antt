@@ -1,5 +1,5 @@
 use Rattle.std.proofs.Common.{◌≡◌, drop}
-use Rattle.pz_expansion.specs.Settling.{all_settled}
+use Rattle.pz_expansion.specs.devices.Settling.{all_settled}
 use Rattle.pz_expansion.proofs.settling.are_all_settled.Given as goal
 
 abbrev pub invariant-loop-instance : goal.invariant-loop-instance

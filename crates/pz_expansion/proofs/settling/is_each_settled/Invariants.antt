@@ -1,5 +1,5 @@
 use Rattle.std.proofs.Common.{ℕ, ◌<◌, IsTrue}
-use Rattle.pz_expansion.specs.Settling.{is_settled}
+use Rattle.pz_expansion.specs.devices.Settling.{is_settled}
 use Rattle.pz_expansion.proofs.settling.is_each_settled.Given as goal
 
 abbrev pub invariant-loop-class : goal.invariant-loop-class

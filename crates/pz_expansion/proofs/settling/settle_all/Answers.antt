@@ -1,5 +1,5 @@
 use Rattle.std.proofs.Common.{◌≡◌, ◌+◌, suc, subst, arith}
-use Rattle.pz_expansion.specs.Settling.{AreCounted}
+use Rattle.pz_expansion.specs.devices.Settling.{AreCounted}
 use Rattle.pz_expansion.proofs.Counted.{counted_later}
 use Rattle.pz_expansion.proofs.settling.settle_all.Goals.{in-Some+in_ok-settled, in_default}
 use Rattle.pz_expansion.proofs.settling.settle_all.Goals as goal

@@ -1,4 +1,4 @@
-use Rattle.pz_expansion.specs.Settling.{AreCounted}
+use Rattle.pz_expansion.specs.devices.Settling.{AreCounted}
 use Rattle.pz_expansion.proofs.settling.settle_all.Given as goal
 
 abbrev pub invariant-loop-place : goal.invariant-loop-place

@@ -1,7 +1,7 @@
 use Rattle.std.proofs.Common.{◌≡◌, suc, None, map, drop}
-use Rattle.pz_ast.specs.ClassView.{decl_view, model_view}
+use Rattle.pz_syntax.specs.ClassView.{decl_view, model_view}
 use Rattle.pz_violation.specs.Least.{least_from}
-use Rattle.pz_expansion.specs.Oversized.{oversized_among}
+use Rattle.pz_expansion.specs.devices.Oversized.{oversized_among}
 use Rattle.pz_expansion.proofs.size.least_oversized.Given as goal
 
 abbrev pub invariant-loop-decl : goal.invariant-loop-decl

@@ -1,4 +1,4 @@
-use Rattle.pz_ast.specs.ClassView.{model_view}
+use Rattle.pz_syntax.specs.ClassView.{model_view}
 use Rattle.pz_expansion.proofs.Sizes.{found_oversized}
 use Rattle.pz_expansion.proofs.size.oversized.Goals as goal
 

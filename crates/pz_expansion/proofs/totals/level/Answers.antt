@@ -1,6 +1,6 @@
 use Rattle.std.proofs.Common.{◌≡◌, ◌∙◌, sym, arith}
 use Rattle.std.proofs.lemmas.Bool.Decides.{nat_tests}
-use Rattle.pz_expansion.specs.Levels.{level, next_level}
+use Rattle.pz_expansion.specs.devices.Levels.{level, next_level}
 use Rattle.pz_expansion.proofs.Levels.{level_stays, all_equal, unchanged}
 use Rattle.pz_expansion.proofs.totals.level.Goals as goal
 

@@ -1,5 +1,5 @@
 use Rattle.std.proofs.Common.{◌≡◌}
-use Rattle.pz_expansion.specs.Levels.{level}
+use Rattle.pz_expansion.specs.devices.Levels.{level}
 use Rattle.pz_expansion.proofs.totals.level.Given as goal
 
 abbrev pub invariant-loop-level : goal.invariant-loop-level

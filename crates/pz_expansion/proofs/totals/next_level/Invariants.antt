@@ -1,5 +1,5 @@
 use Rattle.std.proofs.Common.{◌≡◌, map, take}
-use Rattle.pz_expansion.specs.Levels.{total_with}
+use Rattle.pz_expansion.specs.devices.Levels.{total_with}
 use Rattle.pz_expansion.proofs.totals.next_level.Given as goal
 
 abbrev pub invariant-loop-node : goal.invariant-loop-node

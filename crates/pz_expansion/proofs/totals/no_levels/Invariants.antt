@@ -1,5 +1,5 @@
 use Rattle.std.proofs.Common.{◌≡◌, map, take}
-use Rattle.pz_expansion.specs.Levels.{none_yet}
+use Rattle.pz_expansion.specs.devices.Levels.{none_yet}
 use Rattle.pz_expansion.proofs.totals.no_levels.Given as goal
 
 abbrev pub invariant-loop-node : goal.invariant-loop-node

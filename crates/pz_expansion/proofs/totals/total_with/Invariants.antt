@@ -1,5 +1,5 @@
 use Rattle.std.proofs.Common.{◌≡◌, drop}
-use Rattle.pz_expansion.specs.Levels.{with_all, total_with}
+use Rattle.pz_expansion.specs.devices.Levels.{with_all, total_with}
 use Rattle.pz_expansion.proofs.totals.total_with.Given as goal
 
 abbrev pub invariant-loop-held : goal.invariant-loop-held

@@ -1,5 +1,5 @@
 use Rattle.std.proofs.Common.{◌≡◌, true, false, sym, ◌∙◌}
-use Rattle.pz_first.specs.Steps.{is_end}
+use Rattle.pz_first.specs.devices.Steps.{is_end}
 use Rattle.pz_first.proofs.Walked.{reached_more, refused_here, accepted_here, refused_behind}
 use Rattle.pz_first.proofs.grammar.check_grammar.Goals as goal
 

@@ -3,7 +3,7 @@ use Rattle.std.specs.List.{flat_map}
 use Rattle.std.proofs.lemmas.Grind.{common_steps}
 use Rattle.std.proofs.lemmas.List.{length-map}
 use Rattle.std.proofs.lemmas.Option.{slice_get-get_or, get_or_from_slice_get}
-use Rattle.pz_ast.specs.ClassView.{decl_view, model_view}
+use Rattle.pz_syntax.specs.ClassView.{decl_view, model_view}
 use Rattle.pz_lineage.specs.declared.visit.Visit.{Visit}
 use Rattle.pz_violation.specs.declared.violation.Violation.{Violation}
 use Rattle.pz_violation.specs.Least.{LeastOf, least_from}
@@ -11,8 +11,8 @@ use Rattle.pz_violation.proofs.Leasts.{least_from_append}
 use Rattle.pz_classes.specs.Members.{spelled, own_ports}
 use Rattle.pz_classes.specs.ChannelRules.{BreaksC16}
 use Rattle.pz_instances.specs.declared.channel_ends.Asked.{Asked}
-use Rattle.pz_instances.specs.Ends.{over, missing_at, absent_in, missing_ends}
-use Rattle.pz_instances.specs.Search.{wanted}
+use Rattle.pz_instances.specs.devices.Ends.{over, missing_at, absent_in, missing_ends}
+use Rattle.pz_instances.specs.devices.Search.{wanted}
 use Rattle.pz_instances.proofs.Line.{line_after, scopes_of}
 use Rattle.pz_instances.proofs.Numbered.{visit_within}
 use Rattle.pz_instances.proofs.Steps.{least_step}

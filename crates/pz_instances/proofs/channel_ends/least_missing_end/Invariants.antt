@@ -1,10 +1,10 @@
 use Rattle.std.proofs.Common.{◌≡◌, None, drop}
 use Rattle.std.specs.List.{flat_map}
-use Rattle.pz_ast.specs.ClassView.{model_view}
+use Rattle.pz_syntax.specs.ClassView.{model_view}
 use Rattle.pz_violation.specs.Least.{least_from}
 use Rattle.pz_classes.specs.Members.{own_ports}
-use Rattle.pz_instances.specs.Open.{HasOpen}
-use Rattle.pz_instances.specs.Ends.{absent_in, missing_ends}
+use Rattle.pz_instances.specs.devices.Open.{HasOpen}
+use Rattle.pz_instances.specs.devices.Ends.{absent_in, missing_ends}
 use Rattle.pz_instances.proofs.Line.{line_after, scopes_of}
 use Rattle.pz_instances.proofs.channel_ends.least_missing_end.Given as goal
 

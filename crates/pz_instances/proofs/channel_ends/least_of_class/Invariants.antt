@@ -1,9 +1,9 @@
 use Rattle.std.proofs.Common.{◌≡◌, drop}
 use Rattle.std.specs.List.{flat_map}
 use Rattle.pz_violation.specs.Least.{least_from}
-use Rattle.pz_instances.specs.NameSets.{names_in}
-use Rattle.pz_instances.specs.Ends.{absent}
-use Rattle.pz_instances.specs.Search.{wanted}
+use Rattle.pz_instances.specs.devices.NameSets.{names_in}
+use Rattle.pz_instances.specs.devices.Ends.{absent}
+use Rattle.pz_instances.specs.devices.Search.{wanted}
 use Rattle.pz_instances.proofs.channel_ends.least_of_class.Given as goal
 
 abbrev pub invariant-loop-one : goal.invariant-loop-one

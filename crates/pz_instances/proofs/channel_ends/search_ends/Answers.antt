@@ -1,7 +1,7 @@
 use Rattle.std.proofs.Common.{◌∙◌, arith}
-use Rattle.pz_ast.specs.ClassView.{model_view}
-use Rattle.pz_instances.specs.Ends.{missing_at, wanted_at}
-use Rattle.pz_instances.specs.Search.{wanted_of}
+use Rattle.pz_syntax.specs.ClassView.{model_view}
+use Rattle.pz_instances.specs.devices.Ends.{missing_at, wanted_at}
+use Rattle.pz_instances.specs.devices.Search.{wanted_of}
 use Rattle.pz_instances.proofs.Steps.{over_step, over_least_step}
 use Rattle.pz_instances.proofs.channel_ends.search_ends.Goals as goal
 

@@ -1,8 +1,8 @@
 use Rattle.std.proofs.Common.{◌≡◌, ◌++◌, ℕ, suc, None, length, map, drop}
-use Rattle.pz_ast.specs.ClassView.{decl_view, model_view}
+use Rattle.pz_syntax.specs.ClassView.{decl_view, model_view}
 use Rattle.pz_violation.specs.Least.{least_from}
-use Rattle.pz_instances.specs.Ends.{missing_at, wanted_at, over}
-use Rattle.pz_instances.specs.Search.{wanted_of, search_count}
+use Rattle.pz_instances.specs.devices.Ends.{missing_at, wanted_at, over}
+use Rattle.pz_instances.specs.devices.Search.{wanted_of, search_count}
 use Rattle.pz_instances.proofs.channel_ends.search_ends.Given as goal
 
 abbrev pub invariant-loop-decl : goal.invariant-loop-decl

@@ -1,7 +1,7 @@
 use Rattle.std.proofs.Common.{◌≡◌, ◌++◌, ℕ, map, drop}
-use Rattle.pz_ast.specs.ClassView.{model_view}
-use Rattle.pz_instances.specs.ClassRows.{row, row_count}
-use Rattle.pz_instances.specs.Given.{of_class}
+use Rattle.pz_syntax.specs.ClassView.{model_view}
+use Rattle.pz_instances.specs.devices.ClassRows.{row, row_count}
+use Rattle.pz_instances.specs.devices.Given.{of_class}
 use Rattle.pz_instances.proofs.given.add_instances.Given as goal
 
 abbrev pub invariant-loop-instance : goal.invariant-loop-instance

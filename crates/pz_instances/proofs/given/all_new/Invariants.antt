@@ -1,6 +1,6 @@
 use Rattle.std.proofs.Common.{◌≡◌, [], map, drop}
-use Rattle.pz_instances.specs.NameSets.{names_in}
-use Rattle.pz_instances.specs.Given as spec
+use Rattle.pz_instances.specs.devices.NameSets.{names_in}
+use Rattle.pz_instances.specs.devices.Given as spec
 use Rattle.pz_instances.proofs.given.all_new.Given as goal
 
 abbrev pub invariant-loop-item : goal.invariant-loop-item

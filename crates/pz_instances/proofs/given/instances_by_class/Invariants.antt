@@ -1,9 +1,9 @@
 use Rattle.std.proofs.Common.{◌≡◌, ◌++◌, ℕ, suc, length, map, drop}
 use Rattle.std.specs.List.{flat_map}
-use Rattle.pz_ast.specs.ClassView.{decl_view, model_view}
+use Rattle.pz_syntax.specs.ClassView.{decl_view, model_view}
 use Rattle.pz_classes.specs.Instances.{instances}
-use Rattle.pz_instances.specs.ClassRows.{row, row_count}
-use Rattle.pz_instances.specs.Given.{of_class, all_instances}
+use Rattle.pz_instances.specs.devices.ClassRows.{row, row_count}
+use Rattle.pz_instances.specs.devices.Given.{of_class, all_instances}
 use Rattle.pz_instances.proofs.given.instances_by_class.Given as goal
 
 abbrev pub invariant-loop-decl : goal.invariant-loop-decl

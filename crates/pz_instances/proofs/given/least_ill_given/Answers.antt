@@ -2,15 +2,15 @@ use Rattle.std.proofs.Common.{◌≡◌, ◌∙◌, sym, ap, subst, ◌≤◌, L
 use Rattle.std.proofs.lemmas.Grind.{common_steps}
 use Rattle.std.proofs.lemmas.List.{length-map}
 use Rattle.std.proofs.lemmas.Option.{slice_get-get_or, get_or_from_slice_get}
-use Rattle.pz_ast.specs.declared.clusters.Instance.{Instance}
-use Rattle.pz_ast.specs.ClassView.{decl_view, model_view}
+use Rattle.pz_syntax.specs.declared.clusters.Instance.{Instance}
+use Rattle.pz_syntax.specs.ClassView.{decl_view, model_view}
 use Rattle.pz_lineage.specs.declared.visit.Visit.{Visit}
 use Rattle.pz_violation.specs.declared.violation.Violation.{Violation}
 use Rattle.pz_violation.specs.Least.{LeastOf, least_from}
 use Rattle.pz_classes.specs.Members.{spelled}
 use Rattle.pz_classes.specs.Instances.{own_parameters}
 use Rattle.pz_classes.specs.InstanceRules.{BreaksC14}
-use Rattle.pz_instances.specs.Given.{ill_given_in, all_given}
+use Rattle.pz_instances.specs.devices.Given.{ill_given_in, all_given}
 use Rattle.pz_instances.proofs.Line.{line_after, scopes_of}
 use Rattle.pz_instances.proofs.Numbered.{visit_within}
 use Rattle.pz_instances.proofs.Steps.{least_step}

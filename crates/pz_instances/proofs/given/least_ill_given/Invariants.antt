@@ -1,10 +1,10 @@
 use Rattle.std.proofs.Common.{◌≡◌, None, drop}
 use Rattle.std.specs.List.{flat_map}
-use Rattle.pz_ast.specs.ClassView.{model_view}
+use Rattle.pz_syntax.specs.ClassView.{model_view}
 use Rattle.pz_violation.specs.Least.{least_from}
 use Rattle.pz_classes.specs.Instances.{own_parameters}
-use Rattle.pz_instances.specs.Open.{HasOpen}
-use Rattle.pz_instances.specs.Given.{ill_given_in, all_given}
+use Rattle.pz_instances.specs.devices.Open.{HasOpen}
+use Rattle.pz_instances.specs.devices.Given.{ill_given_in, all_given}
 use Rattle.pz_instances.proofs.Line.{line_after, scopes_of}
 use Rattle.pz_instances.proofs.given.least_ill_given.Given as goal
 

@@ -1,8 +1,8 @@
 use Rattle.std.proofs.Common.{◌≡◌, drop}
 use Rattle.std.specs.List.{flat_map}
 use Rattle.pz_violation.specs.Least.{least_from}
-use Rattle.pz_instances.specs.NameSets.{names_in}
-use Rattle.pz_instances.specs.Given.{lacking}
+use Rattle.pz_instances.specs.devices.NameSets.{names_in}
+use Rattle.pz_instances.specs.devices.Given.{lacking}
 use Rattle.pz_instances.proofs.given.least_of_class.Given as goal
 
 abbrev pub invariant-loop-instance : goal.invariant-loop-instance

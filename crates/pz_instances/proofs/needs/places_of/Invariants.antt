@@ -1,7 +1,7 @@
 use Rattle.std.proofs.Common.{◌≡◌, ℕ, List, drop}
 use Rattle.std.specs.Option.{option_or}
-use Rattle.pz_names.specs.NumberIn.{number_in}
-use Rattle.pz_instances.specs.Ends.{place_named}
+use Rattle.pz_code.specs.NumberIn.{number_in}
+use Rattle.pz_instances.specs.devices.Ends.{place_named}
 use Rattle.pz_instances.proofs.needs.places_of.Given as goal
 
 abbrev pub invariant-loop-instance : goal.invariant-loop-instance

@@ -1,6 +1,6 @@
 use Rattle.std.proofs.Common.{◌≡◌, ◌-◌, ◌∙◌, ap, arith, get_or}
 use Rattle.std.proofs.lemmas.List.{get_or_default}
-use Rattle.pz_ast.specs.Heads.{role}
+use Rattle.pz_syntax.specs.Heads.{role}
 use Rattle.pz_lexer.proofs.HeadMarks.{marked_more, marked_all}
 use Rattle.pz_lexer.proofs.heads.mark_heads.Goals as goal
 

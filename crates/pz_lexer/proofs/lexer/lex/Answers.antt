@@ -2,7 +2,7 @@ use Rattle.std.proofs.Common.{◌≡◌, length, drop, ◌∙◌, ap, arith}
 use Rattle.std.proofs.lemmas.List.{take_at}
 use Rattle.std.proofs.lemmas.Result.{err_from_is_err_and}
 use Rattle.pz_lexer.specs.Tokens.{AreTokens}
-use Rattle.pz_lexer.specs.Marking.{with_heads, heads_of}
+use Rattle.pz_lexer.specs.devices.Marking.{with_heads, heads_of}
 use Rattle.pz_lexer.proofs.Cuts.{answers_tokens, answers_refusal}
 use Rattle.pz_lexer.proofs.CutReads.{tokens_marked}
 use Rattle.pz_lexer.proofs.lexer.lex.Goals as goal

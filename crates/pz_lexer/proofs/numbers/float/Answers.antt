@@ -1,7 +1,7 @@
 use Rattle.std.proofs.Common.{◌∙◌, sym, ap, arith, ◌++◌, ◌∷◌, refl, length-append}
-use Rattle.pz_ast.specs.declared.tokens.TokenKind.{TokenKind}
+use Rattle.pz_syntax.specs.declared.tokens.TokenKind.{TokenKind}
 use Rattle.pz_lexer.specs.Bytes.{is_digit, is_letter, begins}
-use Rattle.pz_lexer.specs.Step.{front, back}
+use Rattle.pz_lexer.specs.devices.Step.{front, back}
 use Rattle.pz_lexer.proofs.RunCounts.{run_cut}
 use Rattle.pz_lexer.proofs.NumberReads.{bad_gives, number_gives}
 use Rattle.pz_lexer.proofs.numbers.float.Goals as goal

@@ -1,7 +1,7 @@
 use Rattle.std.proofs.Common.{◌≡◌, sym, ◌∙◌, ap, drop, true, false}
 use Rattle.std.specs.Prelude.{◌==◌}
 use Rattle.pz_lexer.specs.Bytes.{begins}
-use Rattle.pz_lexer.specs.QuotedStep.{inside_at}
+use Rattle.pz_lexer.specs.devices.QuotedStep.{inside_at}
 use Rattle.pz_lexer.proofs.QuotedSteps.{inside_is}
 use Rattle.pz_lexer.proofs.QuotedReads.{seen_is, character_closed, character_not_closed, character_bad_escape, character_empty, character_reads}
 use Rattle.pz_lexer.proofs.quoted.character.Goals as goal

@@ -1,7 +1,7 @@
 use Rattle.std.proofs.Common.{◌+◌, length, drop, sym, ap, subst, arith, length-drop}
 use Rattle.pz_lexer.specs.declared.items.Inside.{Inside as Seen}
-use Rattle.pz_lexer.specs.QuotedStep.{inside_at}
-use Rattle.pz_lexer.specs.Gives.{Sees}
+use Rattle.pz_lexer.specs.devices.QuotedStep.{inside_at}
+use Rattle.pz_lexer.specs.devices.Gives.{Sees}
 use Rattle.pz_lexer.proofs.QuotedReads.{seen_is, ItemsTo, items_first, items_on, string_closed, string_bad_escape, string_cut_off}
 use Rattle.pz_lexer.proofs.quoted.string.Goals as goal
 

@@ -1,6 +1,6 @@
 use Rattle.std.proofs.Common.{◌≡◌, length}
 use Rattle.pz_lineage.specs.Parents.{parent_in}
-use Rattle.pz_lineage.specs.Walks.{AreWalked, AreFound}
+use Rattle.pz_lineage.specs.devices.Walks.{AreWalked, AreFound}
 use Rattle.pz_lineage.proofs.cycles.go_round.Given as goal
 
 abbrev pub invariant-loop-class : goal.invariant-loop-class

@@ -1,7 +1,7 @@
 use Rattle.std.proofs.Common.{◌≡◌, ◌∙◌, ◌<◌, true, None, Some, length, arith}
 use Rattle.std.proofs.lemmas.List.{length-set}
 use Rattle.pz_lineage.specs.Parents.{parent_in}
-use Rattle.pz_lineage.specs.Walks.{IsMarked}
+use Rattle.pz_lineage.specs.devices.Walks.{IsMarked}
 use Rattle.pz_lineage.proofs.CycleMarks.{begins, goes_on, marked_to_root, marked_to_known}
 use Rattle.pz_lineage.proofs.cycles.mark_up.Goals as goal
 

@@ -1,7 +1,7 @@
 use Rattle.std.proofs.Common.{◌≡◌, ◌<◌, ◌≢◌, ◌+◌, ◌∙◌, None, Some, length, get_or, arith}
 use Rattle.std.proofs.lemmas.List.{length-set}
 use Rattle.pz_lineage.specs.Parents.{parent_in}
-use Rattle.pz_lineage.specs.Walks.{IsWalked}
+use Rattle.pz_lineage.specs.devices.Walks.{IsWalked}
 use Rattle.pz_lineage.proofs.CycleWalks.{goes_on, none_to_root, comes_back, comes_to_older}
 use Rattle.pz_lineage.proofs.cycles.walk_up.Goals as goal
 

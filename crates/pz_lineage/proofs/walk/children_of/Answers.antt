@@ -1,5 +1,5 @@
 use Rattle.std.proofs.Common.{◌-◌, ◌∙◌, refl, ap, subst, None, get_or, IfSome, ℕ, ◌<◌, arith, sym}
-use Rattle.pz_lineage.specs.Rows.{times, row, is_child_of, as_child, among_children}
+use Rattle.pz_lineage.specs.devices.Rows.{times, row, is_child_of, as_child, among_children}
 use Rattle.pz_lineage.proofs.Filling.{fill, at_last, parent_within}
 use Rattle.pz_lineage.proofs.walk.children_of.Goals as goal
 

@@ -1,5 +1,5 @@
 use Rattle.std.proofs.Common.{◌≡◌, ℕ, length}
-use Rattle.pz_lineage.specs.Rows.{times, row, as_child}
+use Rattle.pz_lineage.specs.devices.Rows.{times, row, as_child}
 use Rattle.pz_lineage.proofs.Filling.{FilledFrom}
 use Rattle.pz_lineage.proofs.walk.children_of.Given as goal
 

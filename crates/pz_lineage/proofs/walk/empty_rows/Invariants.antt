@@ -1,5 +1,5 @@
 use Rattle.std.proofs.Common.{◌≡◌, ℕ, [], length}
-use Rattle.pz_lineage.specs.Rows.{row}
+use Rattle.pz_lineage.specs.devices.Rows.{row}
 use Rattle.pz_lineage.proofs.walk.empty_rows.Given as goal
 
 abbrev pub invariant-loop-row : goal.invariant-loop-row

@@ -1,7 +1,7 @@
 use Rattle.std.proofs.Common.{◌≡◌, ◌<◌, ◌≤◌, ◌+◌, [], ◌∙◌, sym, subst, ap, List, length, arith}
 use Rattle.std.proofs.lemmas.List.{nil_from_length, length_push}
 use Rattle.pz_lineage.specs.declared.visit.Visit.{Visit}
-use Rattle.pz_lineage.specs.Rows.{times, row}
+use Rattle.pz_lineage.specs.devices.Rows.{times, row}
 use Rattle.pz_lineage.proofs.RowCounts.{read_row}
 use Rattle.pz_lineage.proofs.Going.{Walked, begun, next_within, depth_of_next, goes_on, few, ended}
 use Rattle.pz_lineage.proofs.walk.preorder.Goals as goal

@@ -1,5 +1,5 @@
 use Rattle.std.proofs.Common.{◌≡◌, ◌++◌, map, take}
-use Rattle.pz_lineage.specs.Rows.{at_depth}
+use Rattle.pz_lineage.specs.devices.Rows.{at_depth}
 use Rattle.pz_lineage.proofs.walk.push_visits.Given as goal
 
 abbrev pub invariant-loop-class : goal.invariant-loop-class

@@ -2,7 +2,7 @@ use Rattle.std.proofs.Common.{◌≡◌, ◌-◌, ◌∙◌, refl, sym, ap, subs
 use Rattle.std.specs.Option.{is_none}
 use Rattle.pz_lineage.specs.declared.visit.Visit.{Visit}
 use Rattle.pz_lineage.specs.Preorder.{visited}
-use Rattle.pz_lineage.specs.Rows.{times, as_root, among_roots, at_depth}
+use Rattle.pz_lineage.specs.devices.Rows.{times, as_root, among_roots, at_depth}
 use Rattle.pz_lineage.proofs.Filling.{fill, at_last, root_put, root_wanted, outermost_put}
 use Rattle.pz_lineage.proofs.walk.roots_of.Goals as goal
 

@@ -1,6 +1,6 @@
 use Rattle.std.proofs.Common.{◌≡◌, map}
 use Rattle.pz_lineage.specs.Preorder.{visited}
-use Rattle.pz_lineage.specs.Rows.{times, as_root, at_depth}
+use Rattle.pz_lineage.specs.devices.Rows.{times, as_root, at_depth}
 use Rattle.pz_lineage.proofs.Filling.{FilledFrom}
 use Rattle.pz_lineage.proofs.walk.roots_of.Given as goal
 

@@ -1,5 +1,5 @@
 use Rattle.std.proofs.Common.{◌≡◌, ◌++◌, map, take}
-use Rattle.pz_ast.specs.ClassView.{process_method_view}
+use Rattle.pz_syntax.specs.ClassView.{process_method_view}
 use Rattle.pz_mentions.specs.Declarations.{process_method}
 use Rattle.pz_mentions.proofs.classes.push_process_methods.Given as goal
 

@@ -1,5 +1,5 @@
 use Rattle.std.proofs.Common.{◌≡◌, ◌++◌, map, drop}
-use Rattle.pz_ast.specs.ExpressionView.{list_view, link_view, sending_view, links_of, sendings_of}
+use Rattle.pz_syntax.specs.ExpressionView.{list_view, link_view, sending_view, links_of, sendings_of}
 use Rattle.pz_mentions.specs.Expressions.{mentioned_all, mentioned_links, mentioned_sendings}
 use Rattle.pz_mentions.proofs.expressions.+add.Given as goal
 

@@ -1,6 +1,6 @@
 use Rattle.std.proofs.Common.{arith, ◌≤◌}
 use denote.Param.Weighed.{most, at_most}
-use Rattle.pz_ast.proofs.stmts.Stmt.TheLaws.{the_size}
+use Rattle.pz_syntax.proofs.stmts.Stmt.TheLaws.{the_size}
 use Rattle.pz_mentions.proofs.statements.+add.Goals as goal
 
 pub add_branches-add_statements-requires : goal.add_branches-add_statements-requires

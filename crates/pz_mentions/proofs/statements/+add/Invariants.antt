@@ -1,5 +1,5 @@
 use Rattle.std.proofs.Common.{◌≡◌, ◌+◌, ◌*◌, ◌++◌, map, drop}
-use Rattle.pz_ast.specs.StatementView.{view, sequence_view, branches_of}
+use Rattle.pz_syntax.specs.StatementView.{view, sequence_view, branches_of}
 use Rattle.pz_mentions.specs.Statements.{mentioned_statements, mentioned_branches}
 use Rattle.pz_mentions.proofs.statements.+add.Given as goal
 

@@ -1,6 +1,6 @@
 use Rattle.std.proofs.Common.{◌≡◌, Ok, Err, sym, ap, ◌∙◌, subst}
-use Rattle.pz_ast.specs.ClassView.{model_view}
-use Rattle.pz_parser.specs.Models as models
+use Rattle.pz_syntax.specs.ClassView.{model_view}
+use Rattle.pz_parser.specs.devices.Models as models
 use Rattle.pz_parser.specs.Parsing.{MayRefuse}
 use Rattle.pz_parser.proofs.Parses as parses
 use Rattle.pz_parser.proofs.parser.parse_within.Goals as goal

@@ -1,11 +1,18 @@
-use Rattle.std.proofs.Common.{arith}
-use Rattle.pz_repeats.specs.Again.{same_key, thing_place}
-use Rattle.pz_repeats.proofs.Earliest.{again_found}
-use Rattle.pz_repeats.proofs.Steps.{repeated_step}
+use Rattle.std.proofs.Common.{◌∙◌, sym, ap, refl, Option, if◌then◌else◌}
+use Rattle.pz_syntax.specs.declared.tokens.Pos.{Pos}
+use Rattle.pz_repeats.specs.devices.Earlier.{earlier}
+use Rattle.pz_repeats.specs.devices.Again.{same_key, thing_place}
+use Rattle.pz_repeats.proofs.Steps.{found_step, earliest_step}
 use Rattle.pz_repeats.proofs.again.least_again.Goals as goal
 
 pub loop-thing-preserved : goal.loop-thing-preserved
 loop-thing-preserved g c =
     let y = c.thing-item.result in
-    let again = again_found g.K.PartialEq.eq g.met.K.Eq.laws c.args.things.now y _ _ (c.in_ok-places.ensures y.key) c.has_earlier-again.ensures in
-    repeated_step (same_key g.K.PartialEq.eq) thing_place c.args.rule c.args.things.now y _ _ _ _ _ _ c.loop-thing-test.true c.thing-item.is (omega arith) again c.least_if-least.ensures c.loop-thing.invariant
+    record {
+      noted = λ key.
+          c.in_ok-first.ensures.noted key
+          ∙ (ap (λ (o : Option Pos). if g.K.PartialEq.eq key y.key then earlier o y.place else o) (c.loop-thing.invariant.noted key)
+          ∙ sym (earliest_step thing_place (λ x. g.K.PartialEq.eq key x.key) c.args.things.now y _ _ c.loop-thing-test.true c.thing-item.is refl));
+      found = found_step (same_key g.K.PartialEq.eq) thing_place c.args.rule c.args.things.now y _ _ c.in_ok-first.first c.loop-thing.least _ _ c.loop-thing-test.true c.thing-item.is refl
+          (c.in_ok-first.ensures.first ∙ c.loop-thing.invariant.noted y.key) c.least_later-least.ensures c.loop-thing.invariant.found;
+    }

@@ -1,8 +1,8 @@
 use Rattle.std.proofs.Common.{refl, ap, ◌∙◌, ◌∷◌, Option}
-use Rattle.pz_ast.specs.declared.tokens.Pos.{Pos}
+use Rattle.pz_syntax.specs.declared.tokens.Pos.{Pos}
 use Rattle.pz_violation.specs.Least.{least_from}
-use Rattle.pz_repeats.specs.Names.{id_of}
-use Rattle.pz_repeats.specs.Inheriting.{later_of}
+use Rattle.pz_repeats.specs.devices.Names.{id_of}
+use Rattle.pz_repeats.specs.devices.Again.{later_of}
 use Rattle.pz_repeats.proofs.Known.{known_first, knows_noted}
 use Rattle.pz_repeats.proofs.declaring.declare.Goals as goal
 
@@ -14,4 +14,4 @@ returns-clause-known c = λ own outer kept.
 pub returns-clause-found : goal.returns-clause-found
 returns-clause-found c = λ names kept.
     let first = known_first names c.args.known.now c.args.name.now.key c.get-first.result kept c.get-first.ensures.value in
-    c.least_later.ensures ∙ ap (λ (place : Option Pos). least_from c.args.before (later_of place c.args.name.now.place)) first
+    c.least_later.ensures ∙ ap (λ (place : Option Pos). least_from c.args.before (later_of 4 place c.args.name.now.place)) first

@@ -1,6 +1,6 @@
 use Rattle.std.proofs.Common.{sym, subst, List, ◌∷◌}
-use Rattle.pz_ast.specs.declared.names.Id.{Id}
-use Rattle.pz_repeats.specs.Knowing.{spread, Knows}
+use Rattle.pz_syntax.specs.declared.names.Id.{Id}
+use Rattle.pz_repeats.specs.devices.Knowing.{spread, Knows}
 use Rattle.pz_repeats.proofs.NameSteps.{so_far, one_longer, found_further}
 use Rattle.pz_repeats.proofs.declaring.declare_all.Goals as goal
 

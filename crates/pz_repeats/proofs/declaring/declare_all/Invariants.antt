@@ -1,9 +1,9 @@
 use Rattle.std.proofs.Common.{◌≡◌, List, ◌∷◌, ◌++◌, map, take, drop}
-use Rattle.pz_ast.specs.declared.names.Id.{Id}
+use Rattle.pz_syntax.specs.declared.names.Id.{Id}
 use Rattle.pz_violation.specs.Least.{least_from}
-use Rattle.pz_repeats.specs.Names.{id_of}
-use Rattle.pz_repeats.specs.Inheriting.{found_in}
-use Rattle.pz_repeats.specs.Knowing.{spread, Knows}
+use Rattle.pz_repeats.specs.devices.Names.{id_of}
+use Rattle.pz_repeats.specs.devices.Inheriting.{found_in}
+use Rattle.pz_repeats.specs.devices.Knowing.{spread, Knows}
 use Rattle.pz_repeats.proofs.declaring.declare_all.Given as goal
 
 abbrev pub invariant-loop-name : goal.invariant-loop-name

@@ -1,10 +1,10 @@
 use Rattle.std.proofs.Common.{◌≡◌, ◌∙◌, sym, ap, subst, arith, None}
 use Rattle.std.specs.List.{flat_map}
 use Rattle.std.proofs.lemmas.Grind.{common_steps}
-use Rattle.pz_ast.specs.ClassView.{decl_view, model_view}
+use Rattle.pz_syntax.specs.ClassView.{decl_view, model_view}
 use Rattle.pz_violation.specs.Least.{LeastOf, least_from}
 use Rattle.pz_classes.specs.ChannelRules.{BreaksC17}
-use Rattle.pz_repeats.specs.EndList.{of_decl, double_ends}
+use Rattle.pz_repeats.specs.devices.EndList.{of_decl, double_ends}
 use Rattle.pz_repeats.proofs.Steps.{flat_step, flat_view}
 use Rattle.pz_repeats.proofs.EndsFound.{least_found}
 use Rattle.pz_repeats.proofs.ends.least_double_end.Goals as goal

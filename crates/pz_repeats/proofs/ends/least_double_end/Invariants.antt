@@ -1,8 +1,8 @@
 use Rattle.std.proofs.Common.{◌≡◌, None, drop}
 use Rattle.std.specs.List.{flat_map}
-use Rattle.pz_ast.specs.ClassView.{decl_view}
+use Rattle.pz_syntax.specs.ClassView.{decl_view}
 use Rattle.pz_violation.specs.Least.{least_from}
-use Rattle.pz_repeats.specs.EndList.{of_decl}
+use Rattle.pz_repeats.specs.devices.EndList.{of_decl}
 use Rattle.pz_repeats.proofs.ends.least_double_end.Given as goal
 
 abbrev pub invariant-loop-decl : goal.invariant-loop-decl

@@ -2,10 +2,10 @@ use Rattle.std.proofs.Common.{◌≡◌, refl, subst, List, map, arith}
 use Rattle.std.specs.List.{flat_map}
 use Rattle.std.specs.Result.{IfOk}
 use Rattle.std.proofs.lemmas.Grind.{common_steps}
-use Rattle.pz_ast.specs.declared.clusters.Channel.{Channel}
+use Rattle.pz_syntax.specs.declared.clusters.Channel.{Channel}
 use Rattle.pz_violation.specs.declared.violation.Violation.{Violation}
 use Rattle.pz_violation.specs.Least.{least_from}
-use Rattle.pz_repeats.specs.Tips.{tip, tip_of}
+use Rattle.pz_repeats.specs.devices.Tips.{tip, tip_of}
 use Rattle.pz_repeats.proofs.EndKeys.{ends_repeat}
 use Rattle.pz_repeats.proofs.ends.least_end.Goals as goal
 

@@ -1,7 +1,7 @@
 use Rattle.std.proofs.Common.{◌≡◌, map, take}
 use Rattle.std.specs.List.{flat_map}
-use Rattle.pz_ast.specs.declared.clusters.Channel.{Channel}
-use Rattle.pz_repeats.specs.Tips.{tip, tip_of}
+use Rattle.pz_syntax.specs.declared.clusters.Channel.{Channel}
+use Rattle.pz_repeats.specs.devices.Tips.{tip, tip_of}
 use Rattle.pz_repeats.proofs.ends.least_end.Given as goal
 
 abbrev pub invariant-loop-channel : goal.invariant-loop-channel

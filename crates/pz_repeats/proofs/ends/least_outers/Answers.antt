@@ -1,5 +1,5 @@
 use Rattle.std.proofs.Common.{arith}
-use Rattle.pz_repeats.specs.EndList.{outers}
+use Rattle.pz_repeats.specs.devices.EndList.{outers}
 use Rattle.pz_repeats.proofs.Steps.{flat_step}
 use Rattle.pz_repeats.proofs.ends.least_outers.Goals as goal
 

@@ -1,7 +1,7 @@
 use Rattle.std.proofs.Common.{◌≡◌, drop}
 use Rattle.std.specs.List.{flat_map}
 use Rattle.pz_violation.specs.Least.{least_from}
-use Rattle.pz_repeats.specs.EndList.{outers}
+use Rattle.pz_repeats.specs.devices.EndList.{outers}
 use Rattle.pz_repeats.proofs.ends.least_outers.Given as goal
 
 abbrev pub invariant-loop-channel : goal.invariant-loop-channel

@@ -1,6 +1,6 @@
 use Rattle.std.proofs.Common.{◌≡◌, map, take}
-use Rattle.pz_repeats.specs.Again.{thing_place}
-use Rattle.pz_repeats.specs.Outers.{outer_places}
+use Rattle.pz_repeats.specs.devices.Again.{thing_place}
+use Rattle.pz_repeats.specs.devices.Outers.{outer_places}
 use Rattle.pz_repeats.proofs.ends.outer_things.Given as goal
 
 abbrev pub invariant-loop-end : goal.invariant-loop-end

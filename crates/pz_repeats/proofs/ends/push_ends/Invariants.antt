@@ -1,5 +1,5 @@
 use Rattle.std.proofs.Common.{◌≡◌, ◌++◌, map, take}
-use Rattle.pz_repeats.specs.Tips.{tip, tip_of}
+use Rattle.pz_repeats.specs.devices.Tips.{tip, tip_of}
 use Rattle.pz_repeats.proofs.ends.push_ends.Given as goal
 
 abbrev pub invariant-loop-end : goal.invariant-loop-end

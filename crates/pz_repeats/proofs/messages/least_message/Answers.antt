@@ -1,10 +1,10 @@
 use Rattle.std.proofs.Common.{◌≡◌, subst, List, map, rules}
 use Rattle.std.specs.Result.{IfOk}
-use Rattle.pz_ast.specs.ClassView.{decl_view}
+use Rattle.pz_syntax.specs.ClassView.{decl_view}
 use Rattle.pz_violation.specs.declared.violation.Violation.{Violation}
 use Rattle.pz_violation.specs.Least.{least_from}
 use Rattle.pz_classes.specs.CallRules.{own_messages}
-use Rattle.pz_repeats.specs.Signals.{signal, signal_of}
+use Rattle.pz_repeats.specs.devices.Signals.{signal, signal_of}
 use Rattle.pz_repeats.proofs.MessageKeys.{messages_repeat}
 use Rattle.pz_repeats.proofs.messages.least_message.Goals as goal
 

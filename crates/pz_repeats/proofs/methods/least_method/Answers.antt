@@ -1,10 +1,10 @@
 use Rattle.std.proofs.Common.{◌≡◌, refl, subst, List, map, rules}
 use Rattle.std.specs.Result.{IfOk}
-use Rattle.pz_ast.specs.ClassView.{decl_view}
+use Rattle.pz_syntax.specs.ClassView.{decl_view}
 use Rattle.pz_violation.specs.declared.violation.Violation.{Violation}
 use Rattle.pz_violation.specs.Least.{least_from}
 use Rattle.pz_classes.specs.RepeatRules.{headings}
-use Rattle.pz_repeats.specs.Headings.{heading_of}
+use Rattle.pz_repeats.specs.devices.Headings.{heading_of}
 use Rattle.pz_repeats.proofs.MethodKeys.{methods_repeat}
 use Rattle.pz_repeats.proofs.methods.least_method.Goals as goal
 

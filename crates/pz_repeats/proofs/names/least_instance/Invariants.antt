@@ -1,6 +1,6 @@
 use Rattle.std.proofs.Common.{◌≡◌, map, take}
-use Rattle.pz_ast.specs.declared.clusters.Instance.{Instance}
-use Rattle.pz_repeats.specs.Names.{id_of}
+use Rattle.pz_syntax.specs.declared.clusters.Instance.{Instance}
+use Rattle.pz_repeats.specs.devices.Names.{id_of}
 use Rattle.pz_repeats.proofs.names.least_instance.Given as goal
 
 abbrev pub invariant-loop-instance : goal.invariant-loop-instance

@@ -1,6 +1,6 @@
 use Rattle.std.proofs.Common.{◌≡◌, ◌++◌, map, take}
 use Rattle.pz_classes.specs.Members.{grouped}
-use Rattle.pz_repeats.specs.Names.{id_of}
+use Rattle.pz_repeats.specs.devices.Names.{id_of}
 use Rattle.pz_repeats.proofs.names.push_groups.Given as goal
 
 abbrev pub invariant-loop-group : goal.invariant-loop-group

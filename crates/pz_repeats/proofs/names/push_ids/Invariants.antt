@@ -1,5 +1,5 @@
 use Rattle.std.proofs.Common.{◌≡◌, ◌++◌, map, take}
-use Rattle.pz_repeats.specs.Names.{id_of}
+use Rattle.pz_repeats.specs.devices.Names.{id_of}
 use Rattle.pz_repeats.proofs.names.push_ids.Given as goal
 
 abbrev pub invariant-loop-id : goal.invariant-loop-id

@@ -1,7 +1,7 @@
 use Rattle.std.proofs.Common.{◌∙◌, ap, List, arith}
-use Rattle.pz_ast.specs.declared.names.Id.{Id}
+use Rattle.pz_syntax.specs.declared.names.Id.{Id}
 use Rattle.pz_violation.specs.Least.{least_from}
-use Rattle.pz_repeats.specs.RepeatList.{of_names, of_part}
+use Rattle.pz_repeats.specs.devices.RepeatList.{of_names, of_part}
 use Rattle.pz_repeats.proofs.Steps.{flat_step}
 use Rattle.pz_repeats.proofs.repeats.least_local.Goals as goal
 

@@ -1,6 +1,6 @@
 use Rattle.std.proofs.Common.{◌≡◌, drop}
 use Rattle.pz_violation.specs.Least.{least_from}
-use Rattle.pz_repeats.specs.RepeatList.{of_parts}
+use Rattle.pz_repeats.specs.devices.RepeatList.{of_parts}
 use Rattle.pz_repeats.proofs.repeats.least_local.Given as goal
 
 abbrev pub invariant-loop-part : goal.invariant-loop-part

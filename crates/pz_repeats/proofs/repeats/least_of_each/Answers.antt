@@ -1,6 +1,6 @@
 use Rattle.std.proofs.Common.{arith}
-use Rattle.pz_ast.specs.ClassView.{decl_view}
-use Rattle.pz_repeats.specs.RepeatList.{of_own}
+use Rattle.pz_syntax.specs.ClassView.{decl_view}
+use Rattle.pz_repeats.specs.devices.RepeatList.{of_own}
 use Rattle.pz_repeats.proofs.Steps.{flat_step}
 use Rattle.pz_repeats.proofs.repeats.least_of_each.Goals as goal
 

@@ -1,18 +1,18 @@
 use Rattle.std.proofs.Common.{◌≡◌, ◌∙◌, ap, subst, List, map, Option}
 use Rattle.std.specs.Result.{IfOk}
-use Rattle.pz_ast.specs.declared.clusters.Instance.{Instance}
-use Rattle.pz_ast.specs.Classes.{DeclTree}
-use Rattle.pz_ast.specs.ClassView.{decl_view}
+use Rattle.pz_syntax.specs.declared.clusters.Instance.{Instance}
+use Rattle.pz_syntax.specs.Classes.{DeclTree}
+use Rattle.pz_syntax.specs.ClassView.{decl_view}
 use Rattle.pz_mentions.specs.Declarations.{parts}
 use Rattle.pz_violation.specs.declared.violation.Violation.{Violation}
 use Rattle.pz_violation.specs.Least.{least_from}
 use Rattle.pz_classes.specs.CallRules.{own_messages}
 use Rattle.pz_classes.specs.Instances.{instances}
 use Rattle.pz_classes.specs.RepeatRules.{headings, same_heading, same_message}
-use Rattle.pz_repeats.specs.Again.{repeats}
-use Rattle.pz_repeats.specs.Headings.{heading_place}
-use Rattle.pz_repeats.specs.Signals.{message_place}
-use Rattle.pz_repeats.specs.RepeatList.{of_names, of_parts}
+use Rattle.pz_repeats.specs.devices.Again.{repeats}
+use Rattle.pz_repeats.specs.devices.Headings.{heading_place}
+use Rattle.pz_repeats.specs.devices.Signals.{message_place}
+use Rattle.pz_repeats.specs.devices.RepeatList.{of_names, of_parts}
 use Rattle.pz_repeats.proofs.Steps.{searched}
 use Rattle.pz_repeats.proofs.repeats.least_own.Goals as goal
 

@@ -1,12 +1,12 @@
 use Rattle.std.proofs.Common.{◌≡◌, sym, subst, ap, ◌∙◌, None}
 use Rattle.std.specs.List.{flat_map}
 use Rattle.std.proofs.lemmas.Result.{IfOk-weaker}
-use Rattle.pz_ast.specs.declared.clusters.Decl.{Decl}
-use Rattle.pz_ast.specs.ClassView.{decl_view, model_view}
+use Rattle.pz_syntax.specs.declared.clusters.Decl.{Decl}
+use Rattle.pz_syntax.specs.ClassView.{decl_view, model_view}
 use Rattle.pz_violation.specs.Least.{LeastOf, least_from}
 use Rattle.pz_classes.specs.RepeatRules.{BreaksC4}
 use Rattle.pz_repeats.specs.declared.inherited.Inherited.TheVariants.{Fields, Variables, Ports}
-use Rattle.pz_repeats.specs.RepeatList.{of_own, of_visits, all_repeats}
+use Rattle.pz_repeats.specs.devices.RepeatList.{of_own, of_visits, all_repeats}
 use Rattle.pz_repeats.proofs.Steps.{flat_view, searched}
 use Rattle.pz_repeats.proofs.RepeatsFound.{least_found}
 use Rattle.pz_repeats.proofs.repeats.least_repeat.Goals as goal

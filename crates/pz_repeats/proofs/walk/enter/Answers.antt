@@ -1,14 +1,14 @@
 use Rattle.std.proofs.Common.{◌≡◌, ap, ap₂, subst, ◌∙◌, List, [], ◌∷◌, append-nil, map}
 use Rattle.std.specs.Result.{IfOk}
 use Rattle.std.proofs.lemmas.Result.{on_ok_weaker}
-use Rattle.pz_ast.specs.declared.names.Id.{Id}
-use Rattle.pz_ast.specs.ClassView.{model_view}
+use Rattle.pz_syntax.specs.declared.names.Id.{Id}
+use Rattle.pz_syntax.specs.ClassView.{model_view}
 use Rattle.pz_violation.specs.declared.violation.Violation.{Violation}
 use Rattle.pz_violation.specs.Least.{least_from}
-use Rattle.pz_repeats.specs.Names.{id_of}
-use Rattle.pz_repeats.specs.Inheriting.{found_in}
-use Rattle.pz_repeats.specs.Knowing.{spread, Knows}
-use Rattle.pz_repeats.specs.RepeatList.{own_at}
+use Rattle.pz_repeats.specs.devices.Names.{id_of}
+use Rattle.pz_repeats.specs.devices.Inheriting.{found_in}
+use Rattle.pz_repeats.specs.devices.Knowing.{spread, Knows}
+use Rattle.pz_repeats.specs.devices.RepeatList.{own_at}
 use Rattle.pz_repeats.proofs.Known.{knows_opened}
 use Rattle.pz_repeats.proofs.walk.enter.Goals as goal
 

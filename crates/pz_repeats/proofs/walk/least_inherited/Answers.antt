@@ -1,9 +1,9 @@
 use Rattle.std.proofs.Common.{◌≡◌, ◌+◌, suc, get_or, arith}
 use Rattle.std.proofs.lemmas.List.{get_or_default}
-use Rattle.pz_ast.specs.ClassView.{model_view}
+use Rattle.pz_syntax.specs.ClassView.{model_view}
 use Rattle.pz_classes.specs.Ancestors.{ancestors}
 use Rattle.pz_lineage.specs.declared.visit.Visit.{Visit}
-use Rattle.pz_repeats.specs.RepeatList.{of_line}
+use Rattle.pz_repeats.specs.devices.RepeatList.{of_line}
 use Rattle.pz_repeats.proofs.Known.{knows_closed}
 use Rattle.pz_repeats.proofs.Openings.{entered}
 use Rattle.pz_repeats.proofs.Steps.{flat_step}

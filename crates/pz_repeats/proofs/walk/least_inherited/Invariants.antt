@@ -1,7 +1,7 @@
 use Rattle.std.proofs.Common.{◌≡◌, drop}
-use Rattle.pz_ast.specs.ClassView.{model_view}
+use Rattle.pz_syntax.specs.ClassView.{model_view}
 use Rattle.pz_violation.specs.Least.{least_from}
-use Rattle.pz_repeats.specs.RepeatList.{of_visits}
+use Rattle.pz_repeats.specs.devices.RepeatList.{of_visits}
 use Rattle.pz_repeats.proofs.Openings.{Walks}
 use Rattle.pz_repeats.proofs.walk.least_inherited.Given as goal
 

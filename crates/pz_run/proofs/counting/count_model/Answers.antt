@@ -1,4 +1,4 @@
-use Rattle.pz_ast.specs.ClassView.{model_view}
+use Rattle.pz_syntax.specs.ClassView.{model_view}
 use Rattle.pz_run.specs.Accepted.{uncounted}
 use Rattle.pz_run.proofs.Counted.{first_is, accepted}
 use Rattle.pz_run.proofs.counting.count_model.Goals as goal

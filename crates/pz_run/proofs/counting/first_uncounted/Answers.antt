@@ -1,5 +1,5 @@
 use Rattle.std.proofs.Common.{◌∙◌, sym, arith}
-use Rattle.pz_ast.specs.ClassView.{decl_view}
+use Rattle.pz_syntax.specs.ClassView.{decl_view}
 use Rattle.pz_run.specs.Accepted.{uncounted_in}
 use Rattle.pz_run.proofs.Counted.{piece_found, piece_behind, none_first}
 use Rattle.pz_run.proofs.counting.first_uncounted.Goals as goal

@@ -1,6 +1,6 @@
 use Rattle.std.proofs.Common.{◌≡◌, map, drop}
 use Rattle.std.specs.List.{flat_map}
-use Rattle.pz_ast.specs.ClassView.{decl_view, model_view}
+use Rattle.pz_syntax.specs.ClassView.{decl_view, model_view}
 use Rattle.pz_run.specs.Accepted.{uncounted, uncounted_in}
 use Rattle.pz_run.proofs.counting.first_uncounted.Given as goal
 

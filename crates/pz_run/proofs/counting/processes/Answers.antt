@@ -1,4 +1,4 @@
-use Rattle.pz_ast.specs.ClassView.{model_view}
+use Rattle.pz_syntax.specs.ClassView.{model_view}
 use Rattle.pz_run.proofs.Counted.{none_left, some_system}
 use Rattle.pz_classes.specs.SizeRules.{system_of}
 use Rattle.pz_run.proofs.counting.processes.Goals as goal

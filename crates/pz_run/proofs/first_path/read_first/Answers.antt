@@ -1,5 +1,5 @@
 use Rattle.std.proofs.Common.{inr, refl, subst, List}
-use Rattle.pz_ast.specs.declared.tokens.Token.{Token}
+use Rattle.pz_syntax.specs.declared.tokens.Token.{Token}
 use Rattle.pz_classes.specs.CheckedView.{checked_model}
 use Rattle.pz_first.specs.Grammar.{kinds, IsFirst, IsRefusedAt}
 use Rattle.pz_run.specs.Refusals.{grammar}

@@ -1,6 +1,7 @@
-use Rattle.std.proofs.Common.{◌∙◌, ap, Err, string_bytes, map}
+use Rattle.std.proofs.Common.{◌∙◌, ap, refl, Err, string_bytes, map}
 use Rattle.pz_run.specs.Lines.{too_long_line, read_fault_line}
-use Rattle.pz_run.proofs.Keeps.{keeps_usage, keeps_fault, keeps_long, keeps_text}
+use Rattle.pz_run.proofs.Keeps.{keeps_usage, keeps_nothing, keeps_fault, keeps_long, keeps_text}
+use Rattle.pz_run.specs.declared.status.Status.TheVariants.{NoMemory}
 use Rattle.pz_run.proofs.program.run_words.Goals as goal
 
 pub returns-in_default : goal.returns-in_default
@@ -10,6 +11,10 @@ pub returns-in-Ok : goal.returns-in-Ok
 returns-in-Ok g c =
     keeps_text (map string_bytes c.args.words.now) c.in-Some.job c.in-Some.name.now c.in-Some.ensures _ _ c.in-Ok.ensures.opens _ _ c.deref.result.now c.do_job.result
     (rw c.deref.ensures.value c.in-Ok.ensures.limit) (λ told. c.in-Ok.ensures.content told ∙ rw c.deref.ensures.value) c.do_job.ensures
+
+pub returns-in-Err-NoMemory : goal.returns-in-Err-NoMemory
+returns-in-Err-NoMemory g c =
+    keeps_nothing (map string_bytes c.args.words.now) c.in-Some.job c.in-Some.name.now c.in-Some.ensures _ _ c.in-Err-NoMemory.ensures.opens _ _ NoMemory refl refl
 
 pub returns-in-Err-TooLong : goal.returns-in-Err-TooLong
 returns-in-Err-TooLong g c =

@@ -1,6 +1,6 @@
 use Rattle.std.proofs.Common.{subst}
 use Rattle.pz_run.specs.Lines.{refusal_line}
-use Rattle.pz_run.specs.Reading.{IsErrorOf}
+use Rattle.pz_run.specs.devices.Reading.{IsErrorOf}
 use Rattle.pz_run.specs.Refusals.{IsRefused}
 use Rattle.pz_run.proofs.Causes.{refused_is}
 use Rattle.pz_run.proofs.SaidRuns.{says_nothing, says_refused}

@@ -1,7 +1,7 @@
 use Rattle.std.proofs.Common.{sym, subst}
-use Rattle.pz_ast.specs.ClassView.{model_view}
-use Rattle.pz_run.specs.Errors.{of_checker}
-use Rattle.pz_run.specs.Reading.{IsErrorOf, IsViolationOf}
+use Rattle.pz_syntax.specs.ClassView.{model_view}
+use Rattle.pz_run.specs.devices.Errors.{of_checker}
+use Rattle.pz_run.specs.devices.Reading.{IsErrorOf, IsViolationOf}
 use Rattle.pz_run.proofs.Causes.{error_on, classes_cause, checker_cause}
 use Rattle.pz_run.proofs.reading.check_model.Goals as goal
 

@@ -1,6 +1,6 @@
 use Rattle.std.proofs.Common.{sym, subst}
-use Rattle.pz_ast.specs.ClassView.{model_view}
-use Rattle.pz_ast.specs.declared.tokens.Pos.{Pos}
+use Rattle.pz_syntax.specs.ClassView.{model_view}
+use Rattle.pz_syntax.specs.declared.tokens.Pos.{Pos}
 use Rattle.pz_lexer.specs.Tokens.{AreTokens}
 use Rattle.pz_parser.specs.Parsing.{MayRefuse}
 use Rattle.pz_run.proofs.Causes.{without_tokens, without_tree, with_violation}

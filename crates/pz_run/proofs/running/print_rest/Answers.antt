@@ -1,15 +1,15 @@
-use Rattle.std.proofs.Common.{◌≡◌, ◌-◌, ℕ, suc, List, sym, subst, refl, arith}
+use Rattle.std.proofs.Common.{◌≡◌, ◌-◌, ℕ, suc, List, sym, subst, arith}
 use Rattle.pz_term.specs.declared.plain.Plain.{Plain}
 use Rattle.pz_term.specs.Plains.{simulation_of}
-use Rattle.pz_term.specs.Runs.{Event, Ending, ended, deadlocked, stopped, IsFirstRun}
-use Rattle.pz_run.specs.Output.{action_limit}
+use Rattle.pz_term.specs.Runs.{Event, Ending, IsFirstRun}
+use Rattle.pz_run.specs.declared.limits.TheConstants.{ACTION_LIMIT}
 use Rattle.pz_run.proofs.Goings.{passes_on, passing_fails, acts_on, acting_fails, finishes, deadlocks_now, stops_now}
 use Rattle.pz_run.proofs.running.print_rest.Goals as goal
 use Rattle.pz_run.proofs.running.print_rest.Goals.{in-Time+in_ok-print_passing-in-Time, in-Actions+else-left-eq0+in_ok-print_action-in-Actions}
 
 -- the run from the call on is the run from the loop on
-from_here : (p q : Plain) (es : List Event) (t : ℕ) (x : Ending) → q ≡ p → IsFirstRun (simulation_of p).bodies action_limit (simulation_of p).config es t x → IsFirstRun (simulation_of q).bodies action_limit (simulation_of q).config es t x
-from_here p q es t x same whole = subst (λ (r : Plain). IsFirstRun (simulation_of r).bodies action_limit (simulation_of r).config es t x) (sym same) whole
+from_here : (p q : Plain) (es : List Event) (t : ℕ) (x : Ending) → q ≡ p → IsFirstRun (simulation_of p).bodies ACTION_LIMIT (simulation_of p).config es t x → IsFirstRun (simulation_of q).bodies ACTION_LIMIT (simulation_of q).config es t x
+from_here p q es t x same whole = subst (λ (r : Plain). IsFirstRun (simulation_of r).bodies ACTION_LIMIT (simulation_of r).config es t x) (sym same) whole
 
 pub returns-in_err-print_passing-in-Time : goal.returns-in_err-print_passing-in-Time
 returns-in_err-print_passing-in-Time g c es t x whole =
@@ -20,17 +20,17 @@ returns-in_err-print_passing-in-Time g c es t x whole =
 pub returns-then-left-eq0 : goal.returns-then-left-eq0
 returns-then-left-eq0 g c es t x whole =
     stops_now c.args.path.now _ _ _ c.moments.left _ _ es t x (from_here c.args.plain.now c.moment-moment.new.self es t x c.moment-moment.ensures.unchanged whole)
-    c.print_ending.result c.in-Actions.offers (rw c.in-Actions.is at c.moments.invariant) c.if-left-eq0.true (rw c.clock.ensures at (c.print_ending.ensures.wrote stopped refl)) c.print_ending.ensures.status
+    c.print_ending.result c.in-Actions.offers (rw c.in-Actions.is at c.moments.invariant) c.if-left-eq0.true (rw c.clock.ensures at c.print_ending.ensures.wrote) c.print_ending.ensures.status
 
 pub returns-in-Finished : goal.returns-in-Finished
 returns-in-Finished g c es t x whole =
     finishes c.args.path.now _ _ _ c.moments.left _ _ es t x (from_here c.args.plain.now c.moment-moment.new.self es t x c.moment-moment.ensures.unchanged whole)
-    c.print_ending-in-Finished.result (rw c.in-Finished.is at c.moments.invariant) (rw c.clock-in-Finished.ensures at (c.print_ending-in-Finished.ensures.wrote ended refl)) c.print_ending-in-Finished.ensures.status
+    c.print_ending-in-Finished.result (rw c.in-Finished.is at c.moments.invariant) (rw c.clock-in-Finished.ensures at c.print_ending-in-Finished.ensures.wrote) c.print_ending-in-Finished.ensures.status
 
 pub returns-in-Deadlock : goal.returns-in-Deadlock
 returns-in-Deadlock g c es t x whole =
     deadlocks_now c.args.path.now _ _ _ c.moments.left _ _ es t x (from_here c.args.plain.now c.moment-moment.new.self es t x c.moment-moment.ensures.unchanged whole)
-    c.print_ending-in-Deadlock.result (rw c.in-Deadlock.is at c.moments.invariant) (rw c.clock-in-Deadlock.ensures at (c.print_ending-in-Deadlock.ensures.wrote deadlocked refl)) c.print_ending-in-Deadlock.ensures.status
+    c.print_ending-in-Deadlock.result (rw c.in-Deadlock.is at c.moments.invariant) (rw c.clock-in-Deadlock.ensures at c.print_ending-in-Deadlock.ensures.wrote) c.print_ending-in-Deadlock.ensures.status
 
 pub returns-in_err-print_action-in-Actions : goal.returns-in_err-print_action-in-Actions
 returns-in_err-print_action-in-Actions g c es t x whole =

@@ -6,10 +6,7 @@ use Rattle.pz_run.proofs.running.print_rest.Given as goal
 
 abbrev pub invariant-moments : goal.invariant-moments
 invariant-moments g l =
-    Going l.path (simulation_of l.initial.plain)
-    (record { told = g.W.Sink.told l.initial.out; faults = g.W.Sink.faults l.initial.out; taken = g.W.Sink.taken l.initial.out })
-    (simulation_of l.plain) l.moment l.left
-    (record { told = g.W.Sink.told l.out; faults = g.W.Sink.faults l.out; taken = g.W.Sink.taken l.out })
+    Going l.path (simulation_of l.initial.plain) (g.W.Sink.state l.initial.out) (simulation_of l.plain) l.moment l.left (g.W.Sink.state l.out)
 
 abbrev pub decreases-moments : goal.decreases-moments
 decreases-moments g l = l.left * 2 + weight l.moment

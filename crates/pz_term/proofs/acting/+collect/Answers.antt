@@ -1,6 +1,6 @@
 use Rattle.std.proofs.Common.{◌∙◌, ap}
 use Rattle.pz_term.specs.declared.term.Term.{Term}
-use Rattle.pz_term.specs.Twins.{local_actions}
+use Rattle.pz_term.specs.devices.Twins.{local_actions}
 use Rattle.pz_term.specs.View.{term_view}
 use Rattle.pz_term.proofs.Collected.{collected}
 use Rattle.pz_term.proofs.Views.{view-Seq, view-Frame}

@@ -1,6 +1,6 @@
 use Rattle.std.proofs.Common.{sym, ◌∙◌, ap, List}
-use Rattle.pz_ast.specs.StatementView.{sequence_view}
-use Rattle.pz_ast.specs.declared.stmts.Stmt.{Stmt}
+use Rattle.pz_syntax.specs.StatementView.{sequence_view}
+use Rattle.pz_syntax.specs.declared.stmts.Stmt.{Stmt}
 use Rattle.pz_term.specs.Terms.{sequence}
 use Rattle.pz_term.specs.Opening.{open_statements}
 use Rattle.pz_term.specs.View.{term_view}

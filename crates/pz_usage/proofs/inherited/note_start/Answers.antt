@@ -1,5 +1,5 @@
 use Rattle.std.proofs.Common.{refl, []}
-use Rattle.pz_ast.specs.ClassView.{start_view}
+use Rattle.pz_syntax.specs.ClassView.{start_view}
 use Rattle.pz_usage.proofs.Shown.{noted_shown}
 use Rattle.pz_usage.proofs.inherited.note_start.Goals as goal
 

@@ -1,9 +1,9 @@
 use Rattle.std.proofs.Common.{◌≡◌, None, sym, subst}
-use Rattle.pz_ast.specs.ClassView.{model_view}
+use Rattle.pz_syntax.specs.ClassView.{model_view}
 use Rattle.pz_lineage.specs.Preorder.{visited}
 use Rattle.pz_violation.specs.Least.{LeastOf, least_from}
 use Rattle.pz_classes.specs.WordRules.{BreaksWord}
-use Rattle.pz_usage.specs.Misuses.{misuses}
+use Rattle.pz_usage.specs.devices.Misuses.{misuses}
 use Rattle.pz_usage.proofs.Found.{least_found}
 use Rattle.pz_usage.proofs.Sets.{if_ok}
 use Rattle.pz_usage.proofs.least.least_misuse.Goals as goal

@@ -1,8 +1,8 @@
 use Rattle.std.proofs.Common.{◌≡◌, arith, subst}
 use Rattle.pz_mentions.specs.declared.part.Part.{Part}
 use Rattle.pz_violation.specs.Least.{least_from}
-use Rattle.pz_usage.specs.Scopes.{model_of, decl_of}
-use Rattle.pz_usage.specs.Misuses.{at_word}
+use Rattle.pz_usage.specs.devices.Scopes.{model_of, decl_of}
+use Rattle.pz_usage.specs.devices.Misuses.{at_word}
 use Rattle.pz_usage.proofs.Lists.{flat_step}
 use Rattle.pz_usage.proofs.least.least_of_part.Goals as goal
 

@@ -1,8 +1,8 @@
 use Rattle.std.proofs.Common.{◌≡◌, drop}
 use Rattle.std.specs.List.{flat_map}
 use Rattle.pz_violation.specs.Least.{least_from}
-use Rattle.pz_usage.specs.Scopes.{model_of, decl_of}
-use Rattle.pz_usage.specs.Misuses.{at_word, of_part}
+use Rattle.pz_usage.specs.devices.Scopes.{model_of, decl_of}
+use Rattle.pz_usage.specs.devices.Misuses.{at_word, of_part}
 use Rattle.pz_usage.proofs.least.least_of_part.Given as goal
 
 abbrev pub invariant-loop-word : goal.invariant-loop-word

@@ -1,6 +1,6 @@
 use Rattle.std.proofs.Common.{arith}
-use Rattle.pz_usage.specs.Scopes.{model_of, decl_of}
-use Rattle.pz_usage.specs.Misuses.{of_part}
+use Rattle.pz_usage.specs.devices.Scopes.{model_of, decl_of}
+use Rattle.pz_usage.specs.devices.Misuses.{of_part}
 use Rattle.pz_usage.proofs.Lists.{flat_step}
 use Rattle.pz_usage.proofs.least.least_of_parts.Goals as goal
 

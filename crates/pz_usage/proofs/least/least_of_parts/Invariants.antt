@@ -1,7 +1,7 @@
 use Rattle.std.proofs.Common.{◌≡◌, drop}
 use Rattle.pz_violation.specs.Least.{least_from}
-use Rattle.pz_usage.specs.Scopes.{model_of, decl_of}
-use Rattle.pz_usage.specs.Misuses.{of_parts}
+use Rattle.pz_usage.specs.devices.Scopes.{model_of, decl_of}
+use Rattle.pz_usage.specs.devices.Misuses.{of_parts}
 use Rattle.pz_usage.proofs.least.least_of_parts.Given as goal
 
 abbrev pub invariant-loop-part : goal.invariant-loop-part

@@ -3,8 +3,8 @@ use Rattle.std.proofs.lemmas.List.{append-nil}
 use Rattle.std.specs.Bool.{beq}
 use Rattle.std.specs.Option.{unwrap_or}
 use Rattle.std.specs.Str.{bytes_eq}
-use Rattle.pz_ast.specs.declared.classes.Message.{Message}
-use Rattle.pz_usage.specs.Shown.{ShowsMessages}
+use Rattle.pz_syntax.specs.declared.classes.Message.{Message}
+use Rattle.pz_usage.specs.devices.Shown.{ShowsMessages}
 use Rattle.pz_usage.proofs.Shown.{next_shown, all_taken}
 use Rattle.pz_usage.proofs.Sets.{and_assoc}
 use Rattle.pz_usage.proofs.messages.note_each.Goals as goal

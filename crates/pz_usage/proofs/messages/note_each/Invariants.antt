@@ -1,6 +1,6 @@
 use Rattle.std.proofs.Common.{List, ◌∷◌, ◌++◌, take}
-use Rattle.pz_ast.specs.declared.classes.Message.{Message}
-use Rattle.pz_usage.specs.Shown.{ShowsMessages}
+use Rattle.pz_syntax.specs.declared.classes.Message.{Message}
+use Rattle.pz_usage.specs.devices.Shown.{ShowsMessages}
 use Rattle.pz_usage.proofs.messages.note_each.Given as goal
 
 abbrev pub invariant-loop-message : goal.invariant-loop-message

@@ -1,9 +1,9 @@
 use Rattle.std.proofs.Common.{sym, subst, List, ◌∷◌, ◌++◌, map, take, arith}
 use Rattle.std.proofs.lemmas.List.{append-nil, take_all}
-use Rattle.pz_ast.specs.declared.classes.ProcessMethod.{ProcessMethod}
-use Rattle.pz_ast.specs.Classes.{ProcessMethodTree}
-use Rattle.pz_ast.specs.ClassView.{process_method_view}
-use Rattle.pz_usage.specs.Shown.{ShowsMethods}
+use Rattle.pz_syntax.specs.declared.classes.ProcessMethod.{ProcessMethod}
+use Rattle.pz_syntax.specs.Classes.{ProcessMethodTree}
+use Rattle.pz_syntax.specs.ClassView.{process_method_view}
+use Rattle.pz_usage.specs.devices.Shown.{ShowsMethods}
 use Rattle.pz_usage.proofs.Shown.{noted_shown, mapped_after}
 use Rattle.pz_usage.proofs.Calls.{call_alike}
 use Rattle.pz_usage.proofs.methods.note_each.Goals as goal

@@ -1,7 +1,7 @@
 use Rattle.std.proofs.Common.{List, ◌∷◌, ◌++◌, map, take}
-use Rattle.pz_ast.specs.Classes.{ProcessMethodTree}
-use Rattle.pz_ast.specs.ClassView.{process_method_view}
-use Rattle.pz_usage.specs.Shown.{ShowsMethods}
+use Rattle.pz_syntax.specs.Classes.{ProcessMethodTree}
+use Rattle.pz_syntax.specs.ClassView.{process_method_view}
+use Rattle.pz_usage.specs.devices.Shown.{ShowsMethods}
 use Rattle.pz_usage.proofs.methods.note_each.Given as goal
 
 abbrev pub invariant-loop-method : goal.invariant-loop-method

@@ -1,9 +1,9 @@
 use Rattle.std.proofs.Common.{◌≡◌, sym, subst, List, ◌∷◌, ◌++◌, take, arith, rules}
 use Rattle.std.proofs.lemmas.List.{append-nil, take_all}
-use Rattle.pz_ast.specs.declared.names.Id.{Id}
-use Rattle.pz_ast.specs.declared.classes.VarGroup.{VarGroup}
+use Rattle.pz_syntax.specs.declared.names.Id.{Id}
+use Rattle.pz_syntax.specs.declared.classes.VarGroup.{VarGroup}
 use Rattle.pz_classes.specs.Members.{grouped}
-use Rattle.pz_usage.specs.Shown.{ShowsNames}
+use Rattle.pz_usage.specs.devices.Shown.{ShowsNames}
 use Rattle.pz_usage.proofs.Shown.{flat_after}
 use Rattle.pz_usage.proofs.names.note_groups.Goals as goal
 

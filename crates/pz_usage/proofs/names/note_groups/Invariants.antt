@@ -1,7 +1,7 @@
 use Rattle.std.proofs.Common.{List, ◌∷◌, ◌++◌, take}
-use Rattle.pz_ast.specs.declared.names.Id.{Id}
+use Rattle.pz_syntax.specs.declared.names.Id.{Id}
 use Rattle.pz_classes.specs.Members.{grouped}
-use Rattle.pz_usage.specs.Shown.{ShowsNames}
+use Rattle.pz_usage.specs.devices.Shown.{ShowsNames}
 use Rattle.pz_usage.proofs.names.note_groups.Given as goal
 
 abbrev pub invariant-loop-group : goal.invariant-loop-group

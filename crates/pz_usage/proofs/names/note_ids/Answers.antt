@@ -1,7 +1,7 @@
 use Rattle.std.proofs.Common.{◌≡◌, refl, sym, subst, List, ◌∷◌, arith, rules}
 use Rattle.std.proofs.lemmas.List.{append-nil}
-use Rattle.pz_ast.specs.declared.names.Id.{Id}
-use Rattle.pz_usage.specs.Shown.{ShowsNames}
+use Rattle.pz_syntax.specs.declared.names.Id.{Id}
+use Rattle.pz_usage.specs.devices.Shown.{ShowsNames}
 use Rattle.pz_usage.proofs.Shown.{next_shown, all_taken}
 use Rattle.pz_usage.proofs.names.note_ids.Goals as goal
 

@@ -1,6 +1,6 @@
 use Rattle.std.proofs.Common.{List, ◌∷◌, ◌++◌, take}
-use Rattle.pz_ast.specs.declared.names.Id.{Id}
-use Rattle.pz_usage.specs.Shown.{ShowsNames}
+use Rattle.pz_syntax.specs.declared.names.Id.{Id}
+use Rattle.pz_usage.specs.devices.Shown.{ShowsNames}
 use Rattle.pz_usage.proofs.names.note_ids.Given as goal
 
 abbrev pub invariant-loop-id : goal.invariant-loop-id

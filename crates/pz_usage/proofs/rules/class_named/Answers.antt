@@ -1,6 +1,6 @@
 use Rattle.std.proofs.Common.{sym, option_map}
 use Rattle.std.specs.Option.{option_copied}
-use Rattle.pz_ast.specs.ClassView.{decl_view, model_view}
+use Rattle.pz_syntax.specs.ClassView.{decl_view, model_view}
 use Rattle.pz_usage.proofs.Classes.{named_found, none_named}
 use Rattle.pz_usage.proofs.rules.class_named.Goals as goal
 

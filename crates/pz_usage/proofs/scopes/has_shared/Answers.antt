@@ -1,5 +1,5 @@
 use Rattle.pz_classes.specs.Ancestors.{ancestors}
-use Rattle.pz_usage.specs.Scopes.{model_of}
+use Rattle.pz_usage.specs.devices.Scopes.{model_of}
 use Rattle.pz_usage.proofs.scopes.has_shared.Goals as goal
 
 pub returns-in-Data : goal.returns-in-Data

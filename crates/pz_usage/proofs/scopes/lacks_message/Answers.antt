@@ -1,6 +1,6 @@
 use Rattle.std.proofs.Common.{ap, Bool, not}
 use Rattle.pz_classes.specs.Ancestors.{ancestors}
-use Rattle.pz_usage.specs.Scopes.{model_of}
+use Rattle.pz_usage.specs.devices.Scopes.{model_of}
 use Rattle.pz_usage.proofs.scopes.lacks_message.Goals as goal
 
 pub returns : goal.returns

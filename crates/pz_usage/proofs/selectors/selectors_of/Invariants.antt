@@ -1,10 +1,10 @@
 use Rattle.std.proofs.Common.{◌≡◌, List, ℕ, ◌||◌, map, drop}
 use Rattle.std.specs.List.{list_any}
-use Rattle.pz_ast.specs.ClassView.{decl_view, model_view}
+use Rattle.pz_syntax.specs.ClassView.{decl_view, model_view}
 use Rattle.pz_classes.specs.Methods.{signatures}
 use Rattle.pz_classes.specs.CallRules.{is_declared}
-use Rattle.pz_usage.specs.Sets.{has_selector}
-use Rattle.pz_usage.specs.Scopes.{is_one_of, asked}
+use Rattle.pz_usage.specs.devices.Sets.{has_selector}
+use Rattle.pz_usage.specs.devices.Scopes.{is_one_of, asked}
 use Rattle.pz_usage.proofs.selectors.selectors_of.Given as goal
 
 abbrev pub invariant-loop-decl : goal.invariant-loop-decl

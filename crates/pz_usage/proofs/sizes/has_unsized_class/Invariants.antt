@@ -1,7 +1,7 @@
 use Rattle.std.proofs.Common.{◌≡◌, map, drop}
 use Rattle.std.specs.List.{list_any}
-use Rattle.pz_ast.specs.ClassView.{decl_view, model_view}
-use Rattle.pz_usage.specs.Unsized.{is_unsized_class, is_unsized_model}
+use Rattle.pz_syntax.specs.ClassView.{decl_view, model_view}
+use Rattle.pz_usage.specs.devices.Unsized.{is_unsized_class, is_unsized_model}
 use Rattle.pz_usage.proofs.sizes.has_unsized_class.Given as goal
 
 abbrev pub invariant-loop-decl : goal.invariant-loop-decl

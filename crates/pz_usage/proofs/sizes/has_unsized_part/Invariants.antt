@@ -1,7 +1,7 @@
 use Rattle.std.proofs.Common.{◌≡◌, drop}
 use Rattle.std.specs.List.{list_any}
-use Rattle.pz_ast.specs.ClassView.{model_view}
-use Rattle.pz_usage.specs.Unsized.{is_unsized_part}
+use Rattle.pz_syntax.specs.ClassView.{model_view}
+use Rattle.pz_usage.specs.devices.Unsized.{is_unsized_part}
 use Rattle.pz_usage.proofs.sizes.has_unsized_part.Given as goal
 
 abbrev pub invariant-loop-part : goal.invariant-loop-part

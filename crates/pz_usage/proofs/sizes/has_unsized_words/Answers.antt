@@ -1,9 +1,9 @@
 use Rattle.std.proofs.Common.{◌≡◌, ◌⊎◌, true, false}
-use Rattle.pz_ast.specs.declared.tokens.Pos.{Pos}
-use Rattle.pz_ast.specs.ClassView.{model_view}
+use Rattle.pz_syntax.specs.declared.tokens.Pos.{Pos}
+use Rattle.pz_syntax.specs.ClassView.{model_view}
 use Rattle.pz_violation.specs.Order.{violation}
 use Rattle.pz_classes.specs.WordRules.{BreaksWord}
-use Rattle.pz_usage.specs.Unsized.{is_unsized_model}
+use Rattle.pz_usage.specs.devices.Unsized.{is_unsized_model}
 use Rattle.pz_usage.proofs.Sets.{if_ok}
 use Rattle.pz_usage.proofs.Unsized.{some_broken, none_broken}
 use Rattle.pz_usage.proofs.sizes.has_unsized_words.Goals as goal

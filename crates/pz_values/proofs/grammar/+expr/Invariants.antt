@@ -1,5 +1,5 @@
 use Rattle.std.proofs.Common.{◌+◌, ◌*◌, ◌-◌}
-use Rattle.pz_values.specs.Rules.{rank}
+use Rattle.pz_values.specs.devices.Rules.{rank}
 use Rattle.pz_values.proofs.grammar.+expr.Given as goal
 
 abbrev pub decreases-expr : goal.decreases-expr

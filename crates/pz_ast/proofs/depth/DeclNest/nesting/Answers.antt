@@ -1,6 +1,6 @@
 use Rattle.std.proofs.Common.{arith}
-use Rattle.pz_ast.specs.ModelNesting.{data_method_nesting}
-use Rattle.pz_ast.specs.ClassView.{data_method_view}
+use Rattle.pz_syntax.specs.ModelNesting.{data_method_nesting}
+use Rattle.pz_syntax.specs.ClassView.{data_method_view}
 use Rattle.pz_ast.proofs.Nestings.{methods_map}
 use Rattle.pz_ast.proofs.depth.DeclNest.nesting.Goals as goal
 

@@ -1,6 +1,6 @@
 use Rattle.std.proofs.Common.{◌≡◌, max, map, drop}
-use Rattle.pz_ast.specs.ExpressionView.{list_view, link_view, sending_view, links_of, sendings_of}
-use Rattle.pz_ast.specs.ExpressionNesting.{nestings, links_nesting, sendings_nesting}
+use Rattle.pz_syntax.specs.ExpressionView.{list_view, link_view, sending_view, links_of, sendings_of}
+use Rattle.pz_syntax.specs.ExpressionNesting.{nestings, links_nesting, sendings_nesting}
 use Rattle.pz_ast.proofs.depth.exprs.+nest.Given as goal
 
 abbrev pub invariant-exprs_nesting-loop-e : goal.invariant-exprs_nesting-loop-e

@@ -1,6 +1,6 @@
 use Rattle.std.proofs.Common.{◌≡◌, ◌+◌, ◌*◌, max, map, drop}
-use Rattle.pz_ast.specs.StatementView.{view, sequence_view, branches_of}
-use Rattle.pz_ast.specs.StatementNesting.{nestings, branches_nesting}
+use Rattle.pz_syntax.specs.StatementView.{view, sequence_view, branches_of}
+use Rattle.pz_syntax.specs.StatementNesting.{nestings, branches_nesting}
 use Rattle.pz_ast.proofs.depth.stmts.+nest.Given as goal
 
 abbrev pub invariant-stmts_nesting-loop-statement : goal.invariant-stmts_nesting-loop-statement

@@ -1,5 +1,5 @@
 use Rattle.std.proofs.Common.{◌≡◌, ◌++◌, drop}
-use Rattle.pz_ast.specs.ClassText.{group_names}
+use Rattle.pz_syntax.specs.ClassText.{group_names}
 use Rattle.pz_ast.proofs.printing.classes.put_group_names.Given as goal
 
 abbrev pub invariant-loop-i : goal.invariant-loop-i

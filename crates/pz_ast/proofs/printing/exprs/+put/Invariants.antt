@@ -1,6 +1,6 @@
 use Rattle.std.proofs.Common.{◌≡◌, ◌++◌, map, drop}
-use Rattle.pz_ast.specs.ExpressionText.{texts, links_text, sendings_text}
-use Rattle.pz_ast.specs.ExpressionView.{list_view, link_view, sending_view, links_of, sendings_of}
+use Rattle.pz_syntax.specs.ExpressionText.{texts, links_text, sendings_text}
+use Rattle.pz_syntax.specs.ExpressionView.{list_view, link_view, sending_view, links_of, sendings_of}
 use Rattle.pz_ast.proofs.Rests.{rest_texts}
 use Rattle.pz_ast.proofs.printing.exprs.+put.Given as goal
 

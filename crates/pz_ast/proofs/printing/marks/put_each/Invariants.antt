@@ -1,5 +1,5 @@
 use Rattle.std.proofs.Common.{◌≡◌, ◌++◌, drop}
-use Rattle.pz_ast.specs.Marks.{each_text}
+use Rattle.pz_syntax.specs.Marks.{each_text}
 use Rattle.pz_ast.proofs.printing.marks.put_each.Given as goal
 
 abbrev pub invariant-loop-part : goal.invariant-loop-part

@@ -1,5 +1,5 @@
 use Rattle.std.proofs.Common.{◌≡◌, ◌++◌, drop}
-use Rattle.pz_ast.specs.Marks.{separated}
+use Rattle.pz_syntax.specs.Marks.{separated}
 use Rattle.pz_ast.proofs.Rests.{rest_separated}
 use Rattle.pz_ast.proofs.printing.marks.put_separated.Given as goal
 

@@ -1,6 +1,6 @@
 use Rattle.std.proofs.Common.{arith, ◌≤◌}
 use denote.Param.Weighed.{most, at_most}
-use Rattle.pz_ast.proofs.stmts.Stmt.TheLaws.{the_size}
+use Rattle.pz_syntax.proofs.stmts.Stmt.TheLaws.{the_size}
 use Rattle.pz_ast.proofs.printing.stmts.+put.Goals as goal
 
 pub put_branches-put_stmts-requires : goal.put_branches-put_stmts-requires

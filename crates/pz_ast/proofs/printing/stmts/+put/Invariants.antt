@@ -1,6 +1,6 @@
 use Rattle.std.proofs.Common.{◌≡◌, ◌+◌, ◌*◌, ◌++◌, map, drop}
-use Rattle.pz_ast.specs.StatementText.{texts, branches_text}
-use Rattle.pz_ast.specs.StatementView.{view, sequence_view, branches_of}
+use Rattle.pz_syntax.specs.StatementText.{texts, branches_text}
+use Rattle.pz_syntax.specs.StatementView.{view, sequence_view, branches_of}
 use Rattle.pz_ast.proofs.Rests.{rest_statements, rest_branches}
 use Rattle.pz_ast.proofs.printing.stmts.+put.Given as goal
 

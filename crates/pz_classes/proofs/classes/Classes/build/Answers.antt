@@ -1,5 +1,5 @@
 use Rattle.std.proofs.Common.{◌∙◌, sym}
-use Rattle.pz_ast.specs.ClassView.{model_view}
+use Rattle.pz_syntax.specs.ClassView.{model_view}
 use Rattle.pz_violation.proofs.Leasts.{least_at_some, least_at_none}
 use Rattle.pz_classes.specs.Violations.{Violates}
 use Rattle.pz_classes.proofs.Building.{each_is_within, rounds_are, nobody_seen, walk_is, walk_of}

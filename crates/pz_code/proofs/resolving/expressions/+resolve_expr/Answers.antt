@@ -1,7 +1,7 @@
 use Rattle.std.proofs.Common.{◌≡◌, ap, ◌∙◌, rules, None, Some, Option, List}
-use Rattle.pz_ast.specs.declared.exprs.Expr.{Expr}
-use Rattle.pz_ast.specs.declared.exprs.ExprForm.TheVariants.{If}
-use Rattle.pz_ast.specs.ExpressionView as tree
+use Rattle.pz_syntax.specs.declared.exprs.Expr.{Expr}
+use Rattle.pz_syntax.specs.declared.exprs.ExprForm.TheVariants.{If}
+use Rattle.pz_syntax.specs.ExpressionView as tree
 use Rattle.pz_code.specs.CodeView as code
 use Rattle.pz_code.specs.Resolution.{resolved, resolved_all}
 use Rattle.pz_code.specs.ScopeView.{scope_view}

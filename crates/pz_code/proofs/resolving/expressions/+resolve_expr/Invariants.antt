@@ -1,5 +1,5 @@
 use Rattle.std.proofs.Common.{◌≡◌, map, take}
-use Rattle.pz_ast.specs.ExpressionView as tree
+use Rattle.pz_syntax.specs.ExpressionView as tree
 use Rattle.pz_code.specs.CodeView as code
 use Rattle.pz_code.specs.Resolution.{resolved}
 use Rattle.pz_code.specs.ScopeView.{scope_view}

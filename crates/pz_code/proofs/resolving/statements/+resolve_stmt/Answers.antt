@@ -1,8 +1,8 @@
 use Rattle.std.proofs.Common.{◌≡◌, ap, ◌∙◌, rules, Some, Option, List, arith}
-use Rattle.pz_ast.specs.declared.stmts.Stmt.{Stmt}
-use Rattle.pz_ast.specs.declared.stmts.StmtForm.TheVariants.{If}
-use Rattle.pz_ast.specs.ExpressionView as expression
-use Rattle.pz_ast.specs.StatementView as tree
+use Rattle.pz_syntax.specs.declared.stmts.Stmt.{Stmt}
+use Rattle.pz_syntax.specs.declared.stmts.StmtForm.TheVariants.{If}
+use Rattle.pz_syntax.specs.ExpressionView as expression
+use Rattle.pz_syntax.specs.StatementView as tree
 use Rattle.pz_code.specs.CodeView as code
 use Rattle.pz_code.specs.StepView as step
 use Rattle.pz_code.specs.Resolution.{resolved, resolved_statement, resolved_statements}

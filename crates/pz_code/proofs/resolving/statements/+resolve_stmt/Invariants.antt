@@ -1,5 +1,5 @@
 use Rattle.std.proofs.Common.{◌≡◌, map, take}
-use Rattle.pz_ast.specs.StatementView as tree
+use Rattle.pz_syntax.specs.StatementView as tree
 use Rattle.pz_code.specs.StepView as step
 use Rattle.pz_code.specs.Resolution.{resolved_statement}
 use Rattle.pz_code.specs.ScopeView.{scope_view}

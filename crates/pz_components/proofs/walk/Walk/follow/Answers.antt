@@ -1,4 +1,4 @@
-use Rattle.pz_components.specs.Walking.{walk_view}
+use Rattle.pz_components.specs.devices.Walking.{walk_view}
 use Rattle.pz_components.proofs.Steps.{to_new, to_path, to_done}
 use Rattle.pz_components.proofs.walk.Walk.follow.Goals as goal
 

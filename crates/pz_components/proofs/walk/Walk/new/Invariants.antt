@@ -1,5 +1,5 @@
 use Rattle.std.proofs.Common.{◌≡◌}
-use Rattle.pz_components.specs.Walking.{below, unseen}
+use Rattle.pz_components.specs.devices.Walking.{below, unseen}
 use Rattle.pz_components.proofs.walk.Walk.new.Given as goal
 
 abbrev pub invariant-loop-vertex : goal.invariant-loop-vertex

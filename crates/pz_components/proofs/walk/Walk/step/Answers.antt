@@ -1,6 +1,6 @@
 use Rattle.std.proofs.Common.{arith}
 use Rattle.std.proofs.lemmas.Result.{on_ok_weaker}
-use Rattle.pz_components.specs.Walking.{walk_view}
+use Rattle.pz_components.specs.devices.Walking.{walk_view}
 use Rattle.pz_components.proofs.Steps.{to_closed, open_ended}
 use Rattle.pz_components.proofs.walk.Walk.step.Goals as goal
 

@@ -1,13 +1,13 @@
 use Rattle.std.proofs.Common.{◌∙◌, ◌++◌, refl, ap, List, arith}
 use Rattle.std.specs.List.{flat_map}
-use Rattle.pz_ast.specs.declared.clusters.Channel.{Channel}
-use Rattle.pz_ast.specs.declared.clusters.ChannelEnd.{ChannelEnd}
-use Rattle.pz_ast.specs.ClassView.{decl_view, model_view}
+use Rattle.pz_syntax.specs.declared.clusters.Channel.{Channel}
+use Rattle.pz_syntax.specs.declared.clusters.ChannelEnd.{ChannelEnd}
+use Rattle.pz_syntax.specs.ClassView.{decl_view, model_view}
 use Rattle.pz_violation.specs.declared.violation.Violation.{Violation}
 use Rattle.pz_violation.specs.Least.{least_from}
 use Rattle.pz_classes.specs.Instances.{channels}
-use Rattle.pz_instances.specs.Ends.{Wanted, missing_at, wanted_at}
-use Rattle.pz_instances.specs.Search.{wanted_of}
+use Rattle.pz_instances.specs.devices.Ends.{Wanted, missing_at, wanted_at}
+use Rattle.pz_instances.specs.devices.Search.{wanted_of}
 use Rattle.pz_instances.proofs.Steps.{joined_each, list_step, least_step, list_done}
 use Rattle.pz_instances.proofs.channel_ends.Search.add_decl.Goals as goal
 

@@ -1,9 +1,9 @@
 use Rattle.std.proofs.Common.{◌≡◌, ◌++◌, ℕ, drop}
 use Rattle.std.specs.List.{flat_map}
-use Rattle.pz_ast.specs.ClassView.{decl_view, model_view}
+use Rattle.pz_syntax.specs.ClassView.{decl_view, model_view}
 use Rattle.pz_violation.specs.Least.{least_from}
-use Rattle.pz_instances.specs.Ends.{missing_at, wanted_at}
-use Rattle.pz_instances.specs.Search.{wanted_of, search_count}
+use Rattle.pz_instances.specs.devices.Ends.{missing_at, wanted_at}
+use Rattle.pz_instances.specs.devices.Search.{wanted_of, search_count}
 use Rattle.pz_instances.proofs.channel_ends.Search.add_ends.Given as goal
 
 abbrev pub invariant-loop-end : goal.invariant-loop-end

@@ -1,7 +1,7 @@
 use Rattle.std.proofs.Common.{◌≡◌, ◌∙◌, ap, arith, List}
-use Rattle.pz_ast.specs.declared.names.Id.{Id}
+use Rattle.pz_syntax.specs.declared.names.Id.{Id}
 use Rattle.pz_classes.specs.Members.{spelled}
-use Rattle.pz_instances.specs.NameSets.{names_in, with_all}
+use Rattle.pz_instances.specs.devices.NameSets.{names_in, with_all}
 use Rattle.pz_instances.proofs.NameLists.{groups_step}
 use Rattle.pz_instances.proofs.name_set.NameSet.add_groups.Goals as goal
 

@@ -1,8 +1,8 @@
 use Rattle.std.proofs.Common.{◌≡◌, ◌∙◌, None, rules}
 use Rattle.std.specs.Option.{option_copied}
-use Rattle.pz_ast.specs.ClassView.{decl_view}
+use Rattle.pz_syntax.specs.ClassView.{decl_view}
 use Rattle.pz_classes.specs.Instances.{instances}
-use Rattle.pz_instances.specs.Ends.{place_named}
+use Rattle.pz_instances.specs.devices.Ends.{place_named}
 use Rattle.pz_instances.proofs.Instances.{named_is, named_none}
 use Rattle.pz_instances.proofs.needs.Inside.instance.Goals as goal
 

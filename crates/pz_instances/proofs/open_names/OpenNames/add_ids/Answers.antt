@@ -1,7 +1,7 @@
 use Rattle.std.proofs.Common.{sym, ap, ◌∙◌, ℕ, List}
 use Rattle.pz_classes.specs.Members.{spelled}
-use Rattle.pz_instances.specs.NameSets.{with_all}
-use Rattle.pz_instances.specs.Open.{kept}
+use Rattle.pz_instances.specs.devices.NameSets.{with_all}
+use Rattle.pz_instances.specs.devices.Open.{kept}
 use Rattle.pz_instances.proofs.NameLists.{with_all_append}
 use Rattle.pz_instances.proofs.open_names.OpenNames.add_ids.Goals as goal
 

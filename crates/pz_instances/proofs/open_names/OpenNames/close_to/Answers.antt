@@ -1,6 +1,6 @@
 use Rattle.std.proofs.Common.{◌≡◌, ◌∙◌, ap, ℕ, ◌<◌, List, length, take, get_or, arith}
 use Rattle.pz_lineage.specs.Preorder.{outermost}
-use Rattle.pz_instances.specs.Open.{kept}
+use Rattle.pz_instances.specs.devices.Open.{kept}
 use Rattle.pz_instances.proofs.Kept.{outermost_all, outermost_names, length_starts, start_of, outermost_starts}
 use Rattle.pz_instances.proofs.open_names.OpenNames.close_to.Goals as goal
 

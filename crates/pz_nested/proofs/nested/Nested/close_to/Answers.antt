@@ -1,6 +1,6 @@
 use Rattle.std.proofs.Common.{◌≡◌, ◌∙◌, ap, subst, ◌<◌, length, get_or, arith}
 use Rattle.pz_nested.specs.Scopes.{notes_of, outermost}
-use Rattle.pz_nested.specs.Holding.{Keeps}
+use Rattle.pz_nested.specs.devices.Holding.{Keeps}
 use Rattle.pz_nested.proofs.Outermost.{outermost_all}
 use Rattle.pz_nested.proofs.Closing.{length_starts, start_of, outermost_starts, outermost_notes}
 use Rattle.pz_nested.proofs.nested.Nested.close_to.Goals as goal

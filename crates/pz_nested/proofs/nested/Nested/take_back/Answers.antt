@@ -2,7 +2,7 @@ use Rattle.std.proofs.Common.{◌≡◌, ap, ◌∙◌, sym, IsSome, Some, cond,
 use Rattle.std.proofs.lemmas.List.{same_from_push}
 use Rattle.indexmap.specs.IndexMap.{get}
 use Rattle.pz_nested.specs.Scopes.{latest}
-use Rattle.pz_nested.specs.Holding.{changes_of}
+use Rattle.pz_nested.specs.devices.Holding.{changes_of}
 use Rattle.pz_nested.proofs.Keeping.{taken_back}
 use Rattle.pz_nested.proofs.nested.Nested.take_back.Goals as goal
 

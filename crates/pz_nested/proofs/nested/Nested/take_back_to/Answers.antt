@@ -1,6 +1,6 @@
 use Rattle.std.proofs.Common.{◌≡◌, ◌∙◌, ◌+◌, refl, sym, subst, max, vec_len, arith}
 use Rattle.pz_nested.specs.Scopes.{outermost}
-use Rattle.pz_nested.specs.Holding.{Keeps}
+use Rattle.pz_nested.specs.devices.Holding.{Keeps}
 use Rattle.pz_nested.proofs.Closing.{keeps_all, keeps_fewer}
 use Rattle.pz_nested.proofs.nested.Nested.take_back_to.Goals as goal
 

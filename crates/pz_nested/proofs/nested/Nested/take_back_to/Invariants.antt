@@ -1,6 +1,6 @@
 use Rattle.std.proofs.Common.{◌≡◌, List, max, vec_len}
 use Rattle.pz_nested.specs.Scopes.{Note, outermost}
-use Rattle.pz_nested.specs.Holding.{Keeps}
+use Rattle.pz_nested.specs.devices.Holding.{Keeps}
 use Rattle.pz_nested.proofs.nested.Nested.take_back_to.Given as goal
 
 abbrev pub invariant-loop-self : goal.invariant-loop-self

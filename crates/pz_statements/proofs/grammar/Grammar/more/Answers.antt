@@ -1,10 +1,10 @@
 use Rattle.std.proofs.Common.{◌≡◌, suc, ◌+◌, ◌-◌, true, map, Ok, sym, ap, ◌∙◌, arith, rules}
-use Rattle.pz_ast.specs.StatementView.{view}
+use Rattle.pz_syntax.specs.StatementView.{view}
 use Rattle.pz_cursor.specs.declared.ahead.Next.TheVariants as n
-use Rattle.pz_cursor.specs.Input.{sees, after}
-use Rattle.pz_cursor.specs.Lists.{tail_of, with_front}
+use Rattle.pz_cursor.specs.devices.Input.{sees, after}
+use Rattle.pz_cursor.specs.devices.Lists.{tail_of, with_front}
 use Rattle.pz_cursor.proofs.Loops.{tail_more, map_more, past_is}
-use Rattle.pz_statements.specs.Statements.{below_stmt}
+use Rattle.pz_statements.specs.devices.Statements.{below_stmt}
 use Rattle.pz_statements.proofs.grammar.Grammar.more.Goals as goal
 
 pub loop-turn-preserved : goal.loop-turn-preserved

@@ -1,8 +1,8 @@
 use Rattle.std.proofs.Common.{◌≡◌, ◌-◌, map}
-use Rattle.pz_ast.specs.StatementView.{view}
+use Rattle.pz_syntax.specs.StatementView.{view}
 use Rattle.pz_cursor.specs.declared.ahead.Next.TheVariants as n
-use Rattle.pz_cursor.specs.Lists.{more_of, tail_of, with_front}
-use Rattle.pz_statements.specs.Statements.{below_stmt}
+use Rattle.pz_cursor.specs.devices.Lists.{more_of, tail_of, with_front}
+use Rattle.pz_statements.specs.devices.Statements.{below_stmt}
 use Rattle.pz_statements.proofs.grammar.Grammar.more.Given as goal
 
 abbrev pub invariant-loop-turn : goal.invariant-loop-turn

@@ -1,7 +1,7 @@
 use Rattle.std.proofs.Common.{◌≡◌, ◌-◌, map}
-use Rattle.pz_ast.specs.StatementView.{view}
-use Rattle.pz_cursor.specs.Lists.{more_of, tail_of, with_front}
-use Rattle.pz_statements.specs.Statements.{below_stmt, sequence}
+use Rattle.pz_syntax.specs.StatementView.{view}
+use Rattle.pz_cursor.specs.devices.Lists.{more_of, tail_of, with_front}
+use Rattle.pz_statements.specs.devices.Statements.{below_stmt, sequence}
 use Rattle.pz_statements.proofs.grammar.Grammar.more_branches.Given as goal
 
 abbrev pub invariant-loop-turn : goal.invariant-loop-turn

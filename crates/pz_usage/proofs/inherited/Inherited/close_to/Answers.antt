@@ -1,6 +1,6 @@
 use Rattle.pz_classes.specs.Members.{own_fields, own_variables, own_ports}
 use Rattle.pz_classes.specs.CallRules.{own_messages}
-use Rattle.pz_usage.specs.Inherited.{own_methods, own_starts}
+use Rattle.pz_usage.specs.devices.Inherited.{own_methods, own_starts}
 use Rattle.pz_usage.proofs.Along.{each_closed}
 use Rattle.pz_usage.proofs.inherited.Inherited.close_to.Goals as goal
 

@@ -1,10 +1,10 @@
 use Rattle.std.proofs.Common.{List, map, Option, ◌∷◌, subst}
 use Rattle.std.specs.Result.{OnOk}
-use Rattle.pz_ast.specs.Classes.{DeclTree}
-use Rattle.pz_ast.specs.ClassView.{model_view}
+use Rattle.pz_syntax.specs.Classes.{DeclTree}
+use Rattle.pz_syntax.specs.ClassView.{model_view}
 use Rattle.pz_classes.specs.Numbers.{declaration}
 use Rattle.pz_lineage.specs.Preorder.{outermost}
-use Rattle.pz_usage.specs.Inherited.{AreOpen}
+use Rattle.pz_usage.specs.devices.Inherited.{AreOpen}
 use Rattle.pz_usage.proofs.Shown.{map_outermost}
 use Rattle.pz_usage.proofs.inherited.Inherited.enter.Goals as goal
 

@@ -1,7 +1,7 @@
 use Rattle.std.proofs.Common.{◌∙◌, map}
 use Rattle.pz_classes.specs.Numbers.{declaration}
 use Rattle.pz_classes.specs.CallRules.{is_message, own_messages}
-use Rattle.pz_usage.specs.Inherited.{of_each}
+use Rattle.pz_usage.specs.devices.Inherited.{of_each}
 use Rattle.pz_usage.proofs.Shown.{value_shown}
 use Rattle.pz_usage.proofs.Along.{things_along}
 use Rattle.pz_usage.proofs.inherited.Inherited.has_message.Goals as goal

@@ -2,7 +2,7 @@ use Rattle.std.proofs.Common.{◌≡◌, ◌∙◌, subst, map}
 use Rattle.std.specs.List.{list_any}
 use Rattle.pz_classes.specs.Numbers.{declaration}
 use Rattle.pz_classes.specs.Methods.{Signature, same_signature, process_signature}
-use Rattle.pz_usage.specs.Inherited.{of_each, own_methods}
+use Rattle.pz_usage.specs.devices.Inherited.{of_each, own_methods}
 use Rattle.pz_usage.proofs.Shown.{value_shown}
 use Rattle.pz_usage.proofs.Calls.{methods_along}
 use Rattle.pz_usage.proofs.inherited.Inherited.has_method.Goals as goal

@@ -1,7 +1,7 @@
 use Rattle.std.proofs.Common.{◌∙◌, map}
 use Rattle.pz_classes.specs.Numbers.{declaration}
 use Rattle.pz_classes.specs.Members.{own_ports}
-use Rattle.pz_usage.specs.Inherited.{of_each}
+use Rattle.pz_usage.specs.devices.Inherited.{of_each}
 use Rattle.pz_usage.proofs.Along.{names_along}
 use Rattle.pz_usage.proofs.inherited.Inherited.has_port.Goals as goal
 

@@ -1,6 +1,6 @@
 use Rattle.std.proofs.Common.{◌∙◌, map}
 use Rattle.pz_classes.specs.Numbers.{declaration}
-use Rattle.pz_usage.specs.Inherited.{of_each, own_starts}
+use Rattle.pz_usage.specs.devices.Inherited.{of_each, own_starts}
 use Rattle.pz_usage.proofs.Shown.{value_shown}
 use Rattle.pz_usage.proofs.Along.{starts_along}
 use Rattle.pz_usage.proofs.inherited.Inherited.has_start.Goals as goal

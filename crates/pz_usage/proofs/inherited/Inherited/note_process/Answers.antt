@@ -1,7 +1,7 @@
 use Rattle.std.proofs.Common.{[]}
 use Rattle.pz_classes.specs.Members.{own_variables, own_ports, section}
 use Rattle.pz_classes.specs.CallRules.{own_messages}
-use Rattle.pz_usage.specs.Inherited.{of_each, own_methods, own_starts}
+use Rattle.pz_usage.specs.devices.Inherited.{of_each, own_methods, own_starts}
 use Rattle.pz_usage.proofs.inherited.Inherited.note_process.Goals as goal
 
 pub returns : goal.returns

@@ -1,8 +1,8 @@
 use Rattle.std.proofs.Common.{◌≡◌, List, ℕ, ◌||◌, map, drop}
-use Rattle.pz_ast.specs.ClassView.{data_method_view}
+use Rattle.pz_syntax.specs.ClassView.{data_method_view}
 use Rattle.pz_classes.specs.Methods.{data_signature}
-use Rattle.pz_usage.specs.Sets.{has_selector}
-use Rattle.pz_usage.specs.Scopes.{is_one_of, asked}
+use Rattle.pz_usage.specs.devices.Sets.{has_selector}
+use Rattle.pz_usage.specs.devices.Scopes.{is_one_of, asked}
 use Rattle.pz_usage.proofs.selectors.Selectors.add_methods.Given as goal
 
 abbrev pub invariant-loop-method : goal.invariant-loop-method

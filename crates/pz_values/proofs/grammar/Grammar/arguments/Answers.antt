@@ -1,5 +1,5 @@
 use Rattle.std.proofs.Common.{refl}
-use Rattle.pz_values.specs.Values.{arguments}
+use Rattle.pz_values.specs.devices.Values.{arguments}
 use Rattle.pz_values.proofs.grammar.Grammar.arguments.Goals as goal
 
 pub returns-in_ok-enclosed-in-LeftParen : goal.returns-in_ok-enclosed-in-LeftParen

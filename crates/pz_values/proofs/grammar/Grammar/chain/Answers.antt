@@ -1,6 +1,6 @@
 use Rattle.std.proofs.Common.{map, refl}
-use Rattle.pz_ast.specs.ExpressionView.{view, link_view}
-use Rattle.pz_values.specs.Values.{chained, chain_of}
+use Rattle.pz_syntax.specs.ExpressionView.{view, link_view}
+use Rattle.pz_values.specs.devices.Values.{chained, chain_of}
 use Rattle.pz_values.proofs.Loops.{made}
 use Rattle.pz_values.proofs.grammar.Grammar.chain.Goals as goal
 

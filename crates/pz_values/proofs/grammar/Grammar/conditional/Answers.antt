@@ -1,5 +1,5 @@
 use Rattle.std.proofs.Common.{refl}
-use Rattle.pz_values.specs.Values.{conditional}
+use Rattle.pz_values.specs.devices.Values.{conditional}
 use Rattle.pz_values.proofs.grammar.Grammar.conditional.Goals as goal
 
 pub returns : goal.returns

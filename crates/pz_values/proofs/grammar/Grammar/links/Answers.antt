@@ -1,9 +1,9 @@
 use Rattle.std.proofs.Common.{◌≡◌, suc, ◌+◌, ◌-◌, map, Some, None, sym, ap, ◌∙◌, arith, rules}
-use Rattle.pz_ast.specs.ExpressionView.{link_view}
-use Rattle.pz_cursor.specs.LookAhead.{next}
-use Rattle.pz_cursor.specs.Lists.{with_front}
-use Rattle.pz_values.specs.Rules.{operator}
-use Rattle.pz_values.specs.Values.{expr, links_by}
+use Rattle.pz_syntax.specs.ExpressionView.{link_view}
+use Rattle.pz_cursor.specs.devices.LookAhead.{next}
+use Rattle.pz_cursor.specs.devices.Lists.{with_front}
+use Rattle.pz_values.specs.devices.Rules.{operator}
+use Rattle.pz_values.specs.devices.Values.{expr, links_by}
 use Rattle.pz_values.proofs.Loops.{links_more, links_stop}
 use Rattle.pz_cursor.proofs.Loops.{map_more}
 use Rattle.pz_values.proofs.grammar.Grammar.links.Goals as goal

@@ -1,8 +1,8 @@
 use Rattle.std.proofs.Common.{◌≡◌, ◌-◌, map}
-use Rattle.pz_ast.specs.ExpressionView.{link_view}
-use Rattle.pz_cursor.specs.Lists.{with_front}
-use Rattle.pz_values.specs.Rules.{operator}
-use Rattle.pz_values.specs.Values.{expr, all_links, links_by}
+use Rattle.pz_syntax.specs.ExpressionView.{link_view}
+use Rattle.pz_cursor.specs.devices.Lists.{with_front}
+use Rattle.pz_values.specs.devices.Rules.{operator}
+use Rattle.pz_values.specs.devices.Values.{expr, all_links, links_by}
 use Rattle.pz_values.proofs.grammar.Grammar.links.Given as goal
 
 abbrev pub invariant-loop-turn : goal.invariant-loop-turn

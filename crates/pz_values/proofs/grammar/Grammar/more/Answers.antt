@@ -1,9 +1,9 @@
 use Rattle.std.proofs.Common.{◌≡◌, suc, ◌+◌, ◌-◌, true, map, Ok, sym, ap, ◌∙◌, arith, rules}
-use Rattle.pz_ast.specs.ExpressionView.{view}
-use Rattle.pz_cursor.specs.Input.{sees, after}
-use Rattle.pz_cursor.specs.Lists.{tail_of, with_front}
+use Rattle.pz_syntax.specs.ExpressionView.{view}
+use Rattle.pz_cursor.specs.devices.Input.{sees, after}
+use Rattle.pz_cursor.specs.devices.Lists.{tail_of, with_front}
 use Rattle.pz_values.specs.declared.rule.Rule.TheVariants as rule
-use Rattle.pz_values.specs.Values.{below}
+use Rattle.pz_values.specs.devices.Values.{below}
 use Rattle.pz_cursor.proofs.Loops.{tail_more, map_more, past_is}
 use Rattle.pz_values.proofs.grammar.Grammar.more.Goals as goal
 

@@ -1,8 +1,8 @@
 use Rattle.std.proofs.Common.{◌≡◌, ◌-◌, map}
-use Rattle.pz_ast.specs.ExpressionView.{view}
-use Rattle.pz_cursor.specs.Lists.{more_of, tail_of, with_front}
+use Rattle.pz_syntax.specs.ExpressionView.{view}
+use Rattle.pz_cursor.specs.devices.Lists.{more_of, tail_of, with_front}
 use Rattle.pz_values.specs.declared.rule.Rule.TheVariants as rule
-use Rattle.pz_values.specs.Values.{below}
+use Rattle.pz_values.specs.devices.Values.{below}
 use Rattle.pz_values.proofs.grammar.Grammar.more.Given as goal
 
 abbrev pub invariant-loop-turn : goal.invariant-loop-turn

@@ -1,7 +1,7 @@
 use Rattle.std.proofs.Common.{◌∙◌, subst}
-use Rattle.pz_ast.specs.ExpressionView.{view}
-use Rattle.pz_cursor.specs.Device.{Reads}
-use Rattle.pz_values.specs.Values.{operand}
+use Rattle.pz_syntax.specs.ExpressionView.{view}
+use Rattle.pz_cursor.specs.devices.Device.{Reads}
+use Rattle.pz_values.specs.devices.Values.{operand}
 use Rattle.pz_values.proofs.Loops.{operand_default}
 use Rattle.pz_values.proofs.grammar.Grammar.operand.Goals as goal
 

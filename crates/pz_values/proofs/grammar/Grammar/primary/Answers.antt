@@ -1,4 +1,4 @@
-use Rattle.pz_values.specs.Values.{primary}
+use Rattle.pz_values.specs.devices.Values.{primary}
 use Rattle.pz_values.proofs.grammar.Grammar.primary.Goals as goal
 
 pub returns-in-LeftParen : goal.returns-in-LeftParen

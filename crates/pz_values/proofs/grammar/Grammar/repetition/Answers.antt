@@ -1,5 +1,5 @@
 use Rattle.std.proofs.Common.{refl}
-use Rattle.pz_values.specs.Values.{repetition}
+use Rattle.pz_values.specs.devices.Values.{repetition}
 use Rattle.pz_values.proofs.grammar.Grammar.repetition.Goals as goal
 
 pub returns : goal.returns

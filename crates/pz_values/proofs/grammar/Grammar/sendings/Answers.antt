@@ -1,9 +1,9 @@
 use Rattle.std.proofs.Common.{◌≡◌, suc, ◌+◌, ◌-◌, true, map, ap, ◌∙◌, arith}
-use Rattle.pz_ast.specs.ExpressionView.{sending_view}
-use Rattle.pz_cursor.specs.Input.{selects}
-use Rattle.pz_cursor.specs.Lists.{with_front, repeat}
+use Rattle.pz_syntax.specs.ExpressionView.{sending_view}
+use Rattle.pz_cursor.specs.devices.Input.{selects}
+use Rattle.pz_cursor.specs.devices.Lists.{with_front, repeat}
 use Rattle.pz_cursor.proofs.Loops.{repeat_more, map_more}
-use Rattle.pz_values.specs.Values.{below, one_sending}
+use Rattle.pz_values.specs.devices.Values.{below, one_sending}
 use Rattle.pz_values.proofs.grammar.Grammar.sendings.Goals as goal
 
 pub loop-turn-preserved : goal.loop-turn-preserved

@@ -1,8 +1,8 @@
 use Rattle.std.proofs.Common.{◌≡◌, ◌-◌, map}
-use Rattle.pz_ast.specs.ExpressionView.{sending_view}
-use Rattle.pz_cursor.specs.Input.{selects}
-use Rattle.pz_cursor.specs.Lists.{with_front, repeat}
-use Rattle.pz_values.specs.Values.{below, all_sendings, one_sending}
+use Rattle.pz_syntax.specs.ExpressionView.{sending_view}
+use Rattle.pz_cursor.specs.devices.Input.{selects}
+use Rattle.pz_cursor.specs.devices.Lists.{with_front, repeat}
+use Rattle.pz_values.specs.devices.Values.{below, all_sendings, one_sending}
 use Rattle.pz_values.proofs.grammar.Grammar.sendings.Given as goal
 
 abbrev pub invariant-loop-turn : goal.invariant-loop-turn

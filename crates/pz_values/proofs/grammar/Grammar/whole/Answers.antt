@@ -1,8 +1,8 @@
 use Rattle.std.proofs.Common.{refl, sym, subst}
-use Rattle.pz_ast.specs.ExpressionView.{view}
-use Rattle.pz_cursor.specs.Device.{Reads}
+use Rattle.pz_syntax.specs.ExpressionView.{view}
+use Rattle.pz_cursor.specs.devices.Device.{Reads}
 use Rattle.pz_values.specs.declared.rule.Rule.TheVariants as rule
-use Rattle.pz_values.specs.Values.{below, by_rule}
+use Rattle.pz_values.specs.devices.Values.{below, by_rule}
 use Rattle.pz_values.proofs.Loops.{chain_whole, expression_whole}
 use Rattle.pz_values.proofs.grammar.Grammar.whole.Goals as goal
 

@@ -1,5 +1,5 @@
-use Rattle.pz_ast.specs.ClassText.{data_method_text}
-use Rattle.pz_ast.specs.ClassView.{data_method_view}
+use Rattle.pz_syntax.specs.ClassText.{data_method_text}
+use Rattle.pz_syntax.specs.ClassView.{data_method_view}
 use Rattle.pz_ast.proofs.Texts.{each_text_map}
 use Rattle.pz_ast.proofs.printing.classes.ItemsDataMethodPrint.print.Goals as goal
 

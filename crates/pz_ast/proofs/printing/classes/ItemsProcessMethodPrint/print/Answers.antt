@@ -1,5 +1,5 @@
-use Rattle.pz_ast.specs.ClassText.{process_method_text}
-use Rattle.pz_ast.specs.ClassView.{process_method_view}
+use Rattle.pz_syntax.specs.ClassText.{process_method_text}
+use Rattle.pz_syntax.specs.ClassView.{process_method_view}
 use Rattle.pz_ast.proofs.Texts.{each_text_map}
 use Rattle.pz_ast.proofs.printing.classes.ItemsProcessMethodPrint.print.Goals as goal
 

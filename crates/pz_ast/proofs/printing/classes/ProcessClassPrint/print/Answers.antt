@@ -1,8 +1,8 @@
 use Rattle.std.proofs.Common.{append_assoc, map}
-use Rattle.pz_ast.specs.declared.tokens.Keyword.TheVariants as k
-use Rattle.pz_ast.specs.Marks.{each_text}
-use Rattle.pz_ast.specs.ClassText.{start_text, process_method_text}
-use Rattle.pz_ast.specs.ClassView.{start_view, process_method_view}
+use Rattle.pz_syntax.specs.declared.tokens.Keyword.TheVariants as k
+use Rattle.pz_syntax.specs.Marks.{each_text}
+use Rattle.pz_syntax.specs.ClassText.{start_text, process_method_text}
+use Rattle.pz_syntax.specs.ClassView.{start_view, process_method_view}
 use Rattle.pz_ast.proofs.Texts.{section_map}
 use Rattle.pz_ast.proofs.printing.classes.ProcessClassPrint.print.Goals as goal
 

@@ -1,0 +1,6 @@
+pub mod MethodIn
+pub mod Surrounding
+pub mod ViolationList
+pub mod Inherited
+pub mod Rounds
+pub mod Found

@@ -1,0 +1,44 @@
+-- What the code keeps of fields, variables and ports.
+use Rattle.std.specs.Prelude.{◌≡◌, ℕ, suc, List, [], ◌++◌, length, Option, Some, slice_get}
+use Rattle.std.specs.Option.{option_and_then, option_map_or, unwrap_or}
+use Rattle.pz_syntax.specs.Classes.{DeclTree, ModelTree}
+use Rattle.pz_classes.specs.Numbers.{declaration}
+use Rattle.pz_classes.specs.Ancestors.{ancestors}
+use Rattle.pz_classes.specs.Members.{own_fields, own_variables, own_ports, from_root, spelled}
+use Rattle.pz_classes.specs.declared.members.Members.{Members}
+
+-- the own ones come last
+pub record Adds (d : DeclTree) (old new : Members) : Type 0 where
+  pub fields : new.fields ≡ old.fields ++ spelled (own_fields d)
+  pub variables : new.variables ≡ old.variables ++ spelled (own_variables d)
+  pub ports : new.ports ≡ old.ports ++ spelled (own_ports d)
+
+-- those of these classes, of which the last is the root
+pub record HasMembers (m : ModelTree) (line : List ℕ) (members : Members) : Type 0 where
+  pub fields : members.fields ≡ spelled (from_root own_fields m line)
+  pub variables : members.variables ≡ spelled (from_root own_variables m line)
+  pub ports : members.ports ≡ spelled (from_root own_ports m line)
+
+abbrev pub none_yet : Members
+none_yet = record { fields = []; variables = []; ports = [] }
+
+-- what a class inherits that extends this one, where the table has what that one has
+abbrev pub inherited_in : List Members → Option ℕ → Members
+inherited_in table parent = unwrap_or (option_and_then (slice_get table) parent) none_yet
+
+-- these come behind what is there
+pub record Joins (more old new : Members) : Type 0 where
+  pub fields : new.fields ≡ old.fields ++ more.fields
+  pub variables : new.variables ≡ old.variables ++ more.variables
+  pub ports : new.ports ≡ old.ports ++ more.ports
+
+-- what the class of this number has of its own comes last
+pub record AddsAt (m : ModelTree) (c : ℕ) (old new : Members) : Type 0 where
+  pub fields : new.fields ≡ old.fields ++ spelled (option_map_or own_fields (declaration m c) [])
+  pub variables : new.variables ≡ old.variables ++ spelled (option_map_or own_variables (declaration m c) [])
+  pub ports : new.ports ≡ old.ports ++ spelled (option_map_or own_ports (declaration m c) [])
+
+-- at the number of each class of the model, Array included, what it has
+pub record AreMembers (m : ModelTree) (table : List Members) : Type 0 where
+  pub counted : length table ≡ suc (length m.decls)
+  pub each : (c : ℕ) (members : Members) → slice_get table c ≡ Some members → HasMembers m (ancestors m c) members

@@ -1,0 +1,5 @@
+pub mod LookAhead
+pub mod Input
+pub mod Device
+pub mod Lists
+pub mod Names

@@ -1,0 +1,5 @@
+pub mod Nodes
+pub mod Levels
+pub mod LeadingBack
+pub mod Oversized
+pub mod Settling

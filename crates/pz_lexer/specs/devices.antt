@@ -1,0 +1,10 @@
+pub mod Reading
+pub mod Cutting
+pub mod Marking
+pub mod Step
+pub mod NumberStep
+pub mod QuotedStep
+pub mod SymbolStep
+pub mod CommentStep
+pub mod Twin
+pub mod Gives

@@ -1,2 +1,0 @@
-pub mod ReservedNames
-pub mod NumberIn

@@ -1,0 +1,4 @@
+pub mod Errors
+pub mod Reading
+pub mod Writing
+pub mod Keeping

@@ -1,0 +1,4 @@
+pub mod Messages
+pub mod Statements
+pub mod Views
+pub mod Nests

@@ -1,0 +1,48 @@
+use crate::{Expr, Id, Pos};
+use pz_items::{Boxed, Items};
+
+/// A statement, at the place of its first token.
+#[cycle(stmt)]
+#[derive(Drop)]
+pub struct Stmt {
+    pub pos: Pos,
+    pub form: StmtForm,
+}
+
+/// The forms of statements. What is optional is kept as written or not written.
+#[cycle(stmt)]
+#[derive(Drop)]
+pub enum StmtForm {
+    Skip,
+    Delay(Expr),
+    Group(Items<Stmt>),
+    Block(Items<Expr>),
+    Guard(Expr, Boxed<Stmt>),
+    Par(Items<Items<Stmt>>),
+    Sel(Items<Items<Stmt>>),
+    If(Expr, Items<Stmt>, Option<Items<Stmt>>),
+    While(Expr, Items<Stmt>),
+    Abort(Items<Stmt>, Boxed<Stmt>),
+    Interrupt(Items<Stmt>, Boxed<Stmt>),
+    Send {
+        port: Id,
+        name: Id,
+        args: Option<Items<Expr>>,
+        block: Option<Items<Expr>>,
+    },
+    /// Where there is a condition, `into` is there, and may be empty.
+    Receive {
+        port: Id,
+        name: Id,
+        into: Option<Items<Id>>,
+        condition: Option<Expr>,
+        block: Option<Items<Expr>>,
+    },
+    Call {
+        method: Id,
+        args: Items<Expr>,
+        results: Items<Id>,
+    },
+    Assign(Id, Expr),
+    Value(Expr),
+}
