@@ -1,0 +1,2 @@
+pub mod FrameTables
+pub mod Fields
