@@ -1,6 +1,6 @@
 //! The state of a process.
 
-ghost use Rattle.std.specs.Prelude.{◌≡◌, ◌<◌, ◌≤◌, ◌↔◌, length, IfOk, OnOk, OnErr};
+ghost use Rattle.std.specs.Prelude.{◌≡◌, ◌<◌, ◌≤◌, ◌^◌, ◌↔◌, length, All, IfOk, OnOk, OnErr};
 ghost use Rattle.pz_value.specs.States.{initial, variable, local, object, HasVariable, HasFrame, HasLocal, HasObject, HasItem, IsLeastFree, set_variable, set_local, set_item, resized, opened, closed, made};
 ghost use Rattle.pz_value.specs.References.{RefersWithin, IsSelfContained};
 ghost use Rattle.pz_value.specs.Marks.{IsLatest, changed, marked, undone, kept};
@@ -109,6 +109,7 @@ impl State {
         requires { HasObject self.now.held r }
         ensures value { result.now.object ≡ object self.now.held r }
         ensures within { All (RefersWithin (length self.now.held.objects)) result.now.object.items }
+        ensures counted { length result.now.object.items < 2 ^ 32 }
     {
         unreachable!()
     }

@@ -1,0 +1,17 @@
+-- A state while a parcel is unpacked: first the objects without values, then one object after the
+-- other with its items.
+use Rattle.std.specs.Prelude.{ℕ, List, ◌++◌, length, map}
+use Rattle.pz_value.specs.declared.value.Value.{Value}
+use Rattle.pz_value.specs.Objects.{ObjectView}
+use Rattle.pz_value.specs.States.{StateView, nils, at_object}
+
+-- an object like this one, all of whose items are nil
+abbrev pub blank_of : ObjectView → ObjectView
+blank_of o = record { class = o.class; items = nils (length o.items) }
+
+abbrev pub with_blanks : StateView → List ObjectView → StateView
+with_blanks s objects = record s { objects = s.objects ++ map blank_of objects }
+
+-- one object has these items
+abbrev pub filled : ℕ → List Value → StateView → StateView
+filled r items s = record s { objects = at_object r (λ _. items) s.objects }

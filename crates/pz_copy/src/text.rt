@@ -1,0 +1,105 @@
+//! The text of values and of parcels, byte by byte at the end of a buffer.
+
+ghost use Rattle.std.specs.Prelude.{◌≡◌, ◌<◌, ◌++◌, ◌∷◌, [], length, map, All, IfOk, OnOk};
+ghost use Rattle.std.specs.Fmt.{decimal};
+ghost use Rattle.std.specs.List.{flat_map};
+ghost use Rattle.pz_copy.specs.Parcels.{plain_objects};
+ghost use Rattle.pz_copy.specs.ParcelText.{hex_digit, item_text, quoted, value_text, values_text, object_text, object_texts, objects_text, separated, parcel_text};
+
+use crate::parcel::Parcel;
+use pz_value::{Object, Text, Value};
+use std::alloc::AllocError;
+
+fn hex_digit(digit: u8) -> u8
+    requires { digit < 16 }
+    ensures { result ≡ hex_digit digit }
+{
+    if digit < 10 { b'0' + digit } else { b'a' - 10 + digit }
+}
+
+/// An item between these quotes.
+fn put_item(out: &mut Vec<u8>, quote: u8, byte: u8) -> Result<(), AllocError>
+    ensures { OnOk result (out.new.items ≡ out.old.items ++ item_text quote byte) }
+{
+    if byte == b'\\' || byte == quote {
+        out.extend_from_slice(&[b'\\', byte])
+    } else if byte >= b' ' && byte <= b'~' {
+        out.extend_from_slice(&[byte])
+    } else {
+        out.extend_from_slice(&[b'\\', b'x', hex_digit(byte / 16), hex_digit(byte % 16)])
+    }
+}
+
+/// Items and the quotes around them.
+fn put_quoted(out: &mut Vec<u8>, quote: u8, bytes: &[u8]) -> Result<(), AllocError>
+    ensures { OnOk result (out.new.items ≡ out.old.items ++ quoted quote bytes.now) }
+{
+    out.push(quote)?;
+    for byte in bytes {
+        put_item(out, quote, *byte)?;
+    }
+    out.push(quote)?;
+    Ok(())
+}
+
+fn put_integer(out: &mut Vec<u8>, n: i64) -> Result<(), AllocError>
+    ensures { OnOk result (out.new.items ≡ out.old.items ++ signed_decimal n) }
+{
+    let digits = format!(in *out.allocator(); "{n}")?;
+    out.extend_from_slice(digits.as_bytes())
+}
+
+fn put_number(out: &mut Vec<u8>, n: u32) -> Result<(), AllocError>
+    ensures { OnOk result (out.new.items ≡ out.old.items ++ 35 ∷ decimal n) }
+{
+    let digits = format!(in *out.allocator(); "#{n}")?;
+    out.extend_from_slice(digits.as_bytes())
+}
+
+fn put_value(out: &mut Vec<u8>, value: &Value) -> Result<(), AllocError>
+    ensures { OnOk result (out.new.items ≡ out.old.items ++ value_text value.now) }
+{
+    match value {
+        Value::Nil => out.extend_from_slice(b"nil"),
+        Value::Bool(true) => out.extend_from_slice(b"true"),
+        Value::Bool(false) => out.extend_from_slice(b"false"),
+        Value::Int(n) => put_integer(out, *n),
+        Value::Char(byte) => put_quoted(out, b'\'', &[*byte]),
+        Value::Str(text) => put_quoted(out, b'"', text.as_bytes()),
+        Value::Ref(r) => put_number(out, *r),
+    }
+}
+
+/// The values, separated by commas.
+fn put_values(out: &mut Vec<u8>, values: &[Value]) -> Result<(), AllocError>
+    ensures { OnOk result (out.new.items ≡ out.old.items ++ values_text values.now) }
+{
+    let Some((first, rest)) = values.split_first() else {
+        return Ok(());
+    };
+    put_value(out, first)?;
+    for value in rest {
+        out.push(b',')?;
+        put_value(out, value)?;
+    }
+    Ok(())
+}
+
+/// The object of this number, with the names of classes by number.
+fn put_object(
+    out: &mut Vec<u8>,
+    names: &[Text],
+    number: u32,
+    object: &Object,
+) -> Result<(), AllocError>
+    requires { object.now.object.class.0 < length names.now }
+    ensures { OnOk result (out.new.items ≡ out.old.items ++ object_text names.now number object.now.object) }
+{
+    put_number(out, number)?;
+    out.push(b'=')?;
+    out.extend_from_slice(names[object.class().0 as usize].as_bytes())?;
+    out.push(b'[')?;
+    put_values(out, object.items())?;
+    out.push(b']')?;
+    Ok(())
+}
