@@ -37,8 +37,8 @@ abbrev pub packed_objects : StateView → List ℕ → List ObjectView
 packed_objects s listed = map (λ r. renumbered_object (place_in listed) (object s r)) listed
 
 -- the values and the listed objects, with the place in the list for each reference
-pub record IsParcelOf (s : StateView) (values : List Value) (p : ParcelView) : Type 0 where
+pub record IsParcelOf (s : StateView) (originals : List Value) (p : ParcelView) : Type 0 where
   pub listed : List ℕ
-  pub listing : IsListing s values listed
-  pub values : p.values ≡ map (renumbered (place_in listed)) values
+  pub listing : IsListing s originals listed
+  pub values : p.values ≡ map (renumbered (place_in listed)) originals
   pub objects : p.objects ≡ packed_objects s listed

@@ -1,13 +1,13 @@
 //! The text of values and of parcels, byte by byte at the end of a buffer.
 
-ghost use Rattle.std.specs.Prelude.{◌≡◌, ◌<◌, ◌++◌, ◌∷◌, [], length, map, All, IfOk, OnOk};
-ghost use Rattle.std.specs.Fmt.{decimal};
+ghost use Rattle.std.specs.Prelude.{◌≡◌, ◌<◌, ◌≤◌, ◌++◌, ◌∷◌, [], length, map, All, IfOk, OnOk};
+ghost use Rattle.std.specs.Fmt.{decimal, signed_decimal};
 ghost use Rattle.std.specs.List.{flat_map};
 ghost use Rattle.pz_copy.specs.Parcels.{plain_objects};
 ghost use Rattle.pz_copy.specs.ParcelText.{hex_digit, item_text, quoted, value_text, values_text, object_text, object_texts, objects_text, separated, parcel_text};
 
 use crate::parcel::Parcel;
-use pz_value::{Object, Text, Value};
+use pz_value::{OBJECT_LIMIT, Object, Text, Value};
 use std::alloc::AllocError;
 
 fn hex_digit(digit: u8) -> u8
@@ -102,4 +102,41 @@ fn put_object(
     put_values(out, object.items())?;
     out.push(b']')?;
     Ok(())
+}
+
+/// The objects in braces, separated by semicolons; nothing where there is none.
+fn put_objects(out: &mut Vec<u8>, names: &[Text], objects: &[Object]) -> Result<(), AllocError>
+    requires named { All (λ o. o.class.0 < length names.now) (plain_objects objects.now) }
+    requires few { length objects.now ≤ OBJECT_LIMIT }
+    ensures { OnOk result (out.new.items ≡ out.old.items ++ objects_text names.now (plain_objects objects.now)) }
+{
+    let Some((first, rest)) = objects.split_first() else {
+        return Ok(());
+    };
+    out.push(b'{')?;
+    put_object(out, names, 0, first)?;
+    for (place, object) in rest.iter().enumerate() {
+        out.push(b';')?;
+        put_object(out, names, place as u32 + 1, object)?;
+    }
+    out.push(b'}')?;
+    Ok(())
+}
+
+impl Parcel {
+    /// The values in parentheses and the objects in braces, with the names of classes by number. The
+    /// only error is want of memory.
+    ///
+    /// The class of each object has a name.
+    pub fn text(&self, names: &[Text]) -> Result<Vec<u8>, AllocError>
+        requires { All (λ o. o.class.0 < length names.now) self.now.objects }
+        ensures { IfOk result (λ text. text.items ≡ parcel_text names.now self.now) }
+    {
+        let mut out = Vec::new(self.allocator());
+        out.push(b'(')?;
+        put_values(&mut out, self.values())?;
+        out.push(b')')?;
+        put_objects(&mut out, names, self.objects())?;
+        Ok(out)
+    }
 }

@@ -1,9 +1,8 @@
 //! From a parcel into a state.
 
-ghost use Rattle.std.specs.Prelude.{◌≡◌, ◌<◌, ◌≤◌, ◌+◌, ◌-◌, ◌^◌, ◌↔◌, ◌++◌, ℕ, List, length, map, All, Err, IfOk, OnOk, OnErr};
+ghost use Rattle.std.specs.Prelude.{◌≡◌, ◌<◌, ◌≤◌, ◌+◌, ◌-◌, ◌^◌, ◌↔◌, ◌++◌, ℕ, List, length, take, map, All, Err, IfOk, OnOk, OnErr};
 ghost use Rattle.pz_value.specs.declared.value.Value.{Value};
-ghost use Rattle.pz_value.specs.Objects.{ObjectView};
-ghost use Rattle.pz_value.specs.References.{RefersWithin, IsSelfContained};
+ghost use Rattle.pz_value.specs.References.{RefersWithin};
 ghost use Rattle.pz_value.specs.States.{StateView, object, nils};
 ghost use Rattle.pz_value.specs.Marks.{changed};
 ghost use Rattle.pz_copy.specs.References.{renumbered};
@@ -101,13 +100,12 @@ fn fill_object(state: &mut State, r: u32, items: &[Value], count: u32) -> Result
 /// Gives the last objects, of which the first has this number, the items of these, with references
 /// that are so much greater. The only error is want of memory.
 fn fill_objects(state: &mut State, objects: &[Object], count: u32) -> Result<(), AllocError>
-    ghost before: { List ObjectView }
-    requires blank { state.old.held.objects ≡ before ++ map blank_of (plain_objects objects.now) }
-    requires number { count ≡ length before }
+    requires blank { state.old.held.objects ≡ take count state.old.held.objects ++ map blank_of (plain_objects objects.now) }
+    requires number { length (take count state.old.held.objects) ≡ count }
     requires room { length state.old.held.objects ≤ OBJECT_LIMIT }
     requires within { All (λ o. All (RefersWithin (length objects.now)) o.items) (plain_objects objects.now) }
     requires sizes { All (λ o. length o.items < 2 ^ 32) (plain_objects objects.now) }
-    ensures ok { OnOk result (state.new ≡ changed state.old (record state.old.held { objects = before ++ shifted_objects count (plain_objects objects.now) })) }
+    ensures ok { OnOk result (state.new ≡ changed state.old (record state.old.held { objects = take count state.old.held.objects ++ shifted_objects count (plain_objects objects.now) })) }
     ensures marks { state.new.marks ≡ state.old.marks }
 {
     for (place, object) in objects.iter().enumerate() {
@@ -142,7 +140,7 @@ pub fn unpack(
     ensures ok { OnOk result (state.new ≡ changed state.old (unpacked state.old.held parcel.now)) }
     ensures err { OnErr result (state.new ≡ state.old) }
     ensures full { result ≡ Err UnpackError.StoreFull ↔ OBJECT_LIMIT < length state.old.held.objects + length parcel.now.objects }
-    ensures sharing { IfOk result (λ values. (s : StateView) (packed : List Value) → IsSelfContained s → All (RefersWithin (length s.objects)) packed → IsParcelOf s packed parcel.now → SameUpToNumbers s packed state.new.held values.items) }
+    ensures sharing { IfOk result (λ values. (s : StateView) (packed : List Value) → IsParcelOf s packed parcel.now → SameUpToNumbers s packed state.new.held values.items) }
 {
     let count = state.objects();
     if parcel.objects().len() > (OBJECT_LIMIT - count) as usize {

@@ -1,0 +1,70 @@
+-- Values whose references have other numbers.
+use Rattle.std.proofs.Common.{◌≡◌, refl, sym, ◌∙◌, ap, subst, ℕ, zero, suc, ◌+◌, ◌-◌, ◌<◌, ◌≤◌, ◌⊎◌, inl, inr, Bool, true, false, not, List, [], ◌∷◌, ◌++◌, length, map, get_or, Option, Some, None, arith}
+use Rattle.std.specs.Prelude.{nat_eq, slice_get, All, unwrap_or}
+use Rattle.std.specs.List.{list_any, flat_map, position_or_len}
+use Rattle.std.proofs.lemmas.Bool.{eqb-true, eq-eqb}
+use Rattle.pz_value.specs.declared.value.Value.{Value}
+use Rattle.pz_value.specs.declared.value.Value.TheVariants as value
+use Rattle.pz_value.specs.Objects.{ObjectView}
+use Rattle.pz_value.specs.States.{StateView, object}
+use Rattle.pz_value.specs.References.{RefersWithin}
+use Rattle.pz_copy.specs.References.{reference_of, references, IsIn, renumbered, renumbered_object}
+use Rattle.pz_copy.specs.Packing.{place_in, packed_objects}
+use Rattle.pz_copy.proofs.Gathered.{in_cases, in_left, in_right}
+
+-- the place of a number is one of the list, and the number stands there
+pub place_within : (listed : List ℕ) (r : ℕ) → IsIn r listed → place_in listed r < length listed
+place_within [] r h = cc
+place_within (x ∷ xs) r h = by (nat_eq r x) refl h (place_within xs r)
+  where
+    by : (b : Bool) → nat_eq r x ≡ b → IsIn r (x ∷ xs) → (IsIn r xs → place_in xs r < length xs) → place_in (x ∷ xs) r < suc (length xs)
+    by true e h rest = rw e (omega arith)
+    by false e h rest = let later : IsIn r xs = rw e at h in let below : place_in xs r < length xs = rest later in rw e (omega arith)
+
+pub at_place : (listed : List ℕ) (r : ℕ) → IsIn r listed → slice_get listed (place_in listed r) ≡ Some r
+at_place [] r h = cc
+at_place (x ∷ xs) r h = by (nat_eq r x) refl h (at_place xs r)
+  where
+    by : (b : Bool) → nat_eq r x ≡ b → IsIn r (x ∷ xs) → (IsIn r xs → slice_get xs (place_in xs r) ≡ Some r) → slice_get (x ∷ xs) (place_in (x ∷ xs) r) ≡ Some r
+    by true e h rest = rw e (ap (λ y. Some y) (sym (eqb-true r x e)))
+    by false e h rest = let later : IsIn r xs = rw e at h in let further : place_in (x ∷ xs) r ≡ suc (place_in xs r) = rw e (omega arith) in ap (slice_get (x ∷ xs)) further ∙ rest later
+
+-- where two numbers have one place they are one
+pub place_once : (listed : List ℕ) (q r : ℕ) → IsIn q listed → IsIn r listed → place_in listed q ≡ place_in listed r → q ≡ r
+place_once listed q r hq hr e =
+    let left : slice_get listed (place_in listed q) ≡ Some q = at_place listed q hq in
+    let right : slice_get listed (place_in listed r) ≡ Some r = at_place listed r hr in
+    let same : slice_get listed (place_in listed q) ≡ slice_get listed (place_in listed r) = ap (slice_get listed) e in
+    cc
+
+only_one : (r q : ℕ) → IsIn r (q ∷ []) → r ≡ q
+only_one r q h = by (nat_eq r q) refl h
+  where
+    by : (b : Bool) → nat_eq r q ≡ b → IsIn r (q ∷ []) → r ≡ q
+    by true e h = eqb-true r q e
+    by false e h = let none : false ≡ true = rw e at h in cc
+
+-- the references of renumbered values are the numbers of theirs
+pub renumbered_in : (number : ℕ → ℕ) (vs : List Value) (r : ℕ) → IsIn r (references vs) → IsIn (number r) (references (map (renumbered number) vs))
+renumbered_in number [] r h = cc
+renumbered_in number (v ∷ vs) r h =
+    elim (in_cases r (reference_of v) (references vs) h) [
+      inl here ↦ in_left (number r) (reference_of (renumbered number v)) (references (map (renumbered number) vs)) (one v here)
+      | inr later ↦ in_right (number r) (reference_of (renumbered number v)) (references (map (renumbered number) vs)) (renumbered_in number vs r later)
+    ]
+  where
+    one : (w : Value) → IsIn r (reference_of w) → IsIn (number r) (reference_of (renumbered number w))
+    one (value.Ref q) h = let same : r ≡ q = only_one r q h in rw (eq-eqb (number r) (number q) (ap number same)) refl
+    one _ h = cc
+
+pub in_renumbered : (number : ℕ → ℕ) (vs : List Value) (k : ℕ) → IsIn k (references (map (renumbered number) vs)) → (r : ℕ) × IsIn r (references vs) × (number r ≡ k)
+in_renumbered number [] k h = cc
+in_renumbered number (v ∷ vs) k h =
+    elim (in_cases k (reference_of (renumbered number v)) (references (map (renumbered number) vs)) h) [
+      inl here ↦ let found = one v here in (found.0, in_left found.0 (reference_of v) (references vs) found.1, found.2)
+      | inr later ↦ let found = in_renumbered number vs k later in (found.0, in_right found.0 (reference_of v) (references vs) found.1, found.2)
+    ]
+  where
+    one : (w : Value) → IsIn k (reference_of (renumbered number w)) → (r : ℕ) × IsIn r (reference_of w) × (number r ≡ k)
+    one (value.Ref q) h = (q, rw (eq-eqb q q refl) refl, sym (only_one k (number q) h))
+    one _ h = cc
