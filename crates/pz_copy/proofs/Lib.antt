@@ -4,4 +4,6 @@ pub mod Renaming
 pub mod Objects
 pub mod Unpacked
 pub mod Texts
+pub mod Parcelled
+pub mod Steps
 pub mod Rows

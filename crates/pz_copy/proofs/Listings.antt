@@ -40,7 +40,7 @@ at_seam : (xs : List ℕ) (r : ℕ) (ys : List ℕ) → slice_get (xs ++ r ∷ y
 at_seam [] r ys = refl
 at_seam (x ∷ xs) r ys = at_seam xs r ys
 
-take_next : (xs : List ℕ) (i r : ℕ) → slice_get xs i ≡ Some r → take (suc i) xs ≡ take i xs ++ r ∷ []
+pub take_next : (xs : List ℕ) (i r : ℕ) → slice_get xs i ≡ Some r → take (suc i) xs ≡ take i xs ++ r ∷ []
 take_next [] i r h = cc
 take_next (x ∷ xs) zero r h = let same : x ≡ r = cc in ap (λ y. y ∷ []) same
 take_next (x ∷ xs) (suc i) r h = ap (λ l. x ∷ l) (take_next xs i r h)

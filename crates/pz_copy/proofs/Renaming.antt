@@ -1,8 +1,9 @@
 -- Values whose references have other numbers.
 use Rattle.std.proofs.Common.{◌≡◌, refl, sym, ◌∙◌, ap, subst, ℕ, zero, suc, ◌+◌, ◌-◌, ◌<◌, ◌≤◌, ◌⊎◌, inl, inr, Bool, true, false, not, List, [], ◌∷◌, ◌++◌, length, map, get_or, Option, Some, None, arith}
-use Rattle.std.specs.Prelude.{nat_eq, slice_get, All, unwrap_or}
+use Rattle.std.specs.Prelude.{nat_eq, nat_lt, slice_get, All, unwrap_or, position, if◌then◌else◌}
 use Rattle.std.specs.List.{list_any, flat_map, position_or_len}
-use Rattle.std.proofs.lemmas.Bool.{eqb-true, eq-eqb}
+use Rattle.std.proofs.lemmas.Bool.{eqb-true, eq-eqb, ltb-false}
+use Rattle.std.proofs.lemmas.List.Sums.{prefix_len-le-length}
 use Rattle.pz_value.specs.declared.value.Value.{Value}
 use Rattle.pz_value.specs.declared.value.Value.TheVariants as value
 use Rattle.pz_value.specs.Objects.{ObjectView}
@@ -68,3 +69,19 @@ in_renumbered number (v ∷ vs) k h =
     one : (w : Value) → IsIn k (reference_of (renumbered number w)) → (r : ℕ) × IsIn r (reference_of w) × (number r ≡ k)
     one (value.Ref q) h = (q, rw (eq-eqb q q refl) refl, sym (only_one k (number q) h))
     one _ h = cc
+
+-- the place, as a look-up gives it
+pub place_or_length : (listed : List ℕ) (r : ℕ) → unwrap_or (position (nat_eq r) listed) (length listed) ≡ place_in listed r
+place_or_length listed r = by (nat_lt (place_in listed r) (length listed)) refl
+  where
+    by : (b : Bool) → nat_lt (place_in listed r) (length listed) ≡ b → unwrap_or (if b then Some (place_in listed r) else None) (length listed) ≡ place_in listed r
+    by true e = refl
+    by false e = let few : place_in listed r ≤ length listed = prefix_len-le-length (λ x. not (nat_eq r x)) listed in let far : length listed ≤ place_in listed r = ltb-false (place_in listed r) (length listed) e in omega (arith, few, far)
+
+pub place_few : (listed : List ℕ) (r : ℕ) → place_in listed r ≤ length listed
+place_few listed r = prefix_len-le-length (λ x. not (nat_eq r x)) listed
+
+-- every value that is no reference stays
+pub others_stay : (number : ℕ → ℕ) (v : Value) → ((r : ℕ) → v ≡ value.Ref r → ⊥) → renumbered number v ≡ v
+others_stay number (value.Ref r) other = absurd (other r refl)
+others_stay number _ other = refl

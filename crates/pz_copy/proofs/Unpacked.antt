@@ -47,10 +47,16 @@ module _ (s : StateView) (vs : List Value) where
   listed_all : (listed : List ℕ) → IsListing s vs listed → (r : ℕ) → IsIn r (mentioned s vs listed) → IsIn r listed
   listed_all listed is_one r h = subst (IsIn r) (gathered_firsts (mentioned s vs listed) ∙ sym is_one.equation) (gathers (mentioned s vs listed) [] r h)
 
+  pub listed_values : (listed : List ℕ) → IsListing s vs listed → (r : ℕ) → IsIn r (references vs) → IsIn r listed
+  listed_values listed is_one r h = listed_all listed is_one r (in_left r (references vs) (flat_map (inside s) listed) h)
+
+  pub listed_items : (listed : List ℕ) → IsListing s vs listed → (q r : ℕ) → IsIn q listed → IsIn r (inside s q) → IsIn r listed
+  listed_items listed is_one q r hq h = listed_all listed is_one r (in_right r (references vs) (flat_map (inside s) listed) (in_flat s listed q r hq h))
+
   -- every object that is reached is listed
   pub reached_listed : (listed : List ℕ) → IsListing s vs listed → (r : ℕ) → Reachable s vs r → IsIn r listed
-  reached_listed listed is_one _ (named r h) = listed_all listed is_one r (in_left r (references vs) (flat_map (inside s) listed) h)
-  reached_listed listed is_one _ (further q r reach h) = listed_all listed is_one r (in_right r (references vs) (flat_map (inside s) listed) (in_flat s listed q r (reached_listed listed is_one q reach) h))
+  reached_listed listed is_one _ (named r h) = listed_values listed is_one r h
+  reached_listed listed is_one _ (further q r reach h) = listed_items listed is_one q r (reached_listed listed is_one q reach) h
 
 module _ (s : StateView) (vs : List Value) (p : ParcelView) (t : StateView) (made : IsParcelOf s vs p) where
   abbrev number : ℕ → ℕ
@@ -94,3 +100,9 @@ module _ (s : StateView) (vs : List Value) (p : ParcelView) (t : StateView) (mad
     into = go_in;
     onto = come_from;
   }
+
+-- the same, wherever what is unpacked is at hand by other names
+pub same_for : (s : StateView) (vs : List Value) (p : ParcelView) (t u : StateView) (copies : List Value) → u ≡ unpacked t p → copies ≡ unpacked_values t p → IsParcelOf s vs p → SameUpToNumbers s vs u copies
+same_for s vs p t u copies u_is copies_are made =
+    subst (λ (w : StateView). SameUpToNumbers s vs w copies) (sym u_is)
+    (subst (λ (l : List Value). SameUpToNumbers s vs (unpacked t p) l) (sym copies_are) (unpacked_same s vs p t made))

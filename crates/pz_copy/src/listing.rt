@@ -1,9 +1,9 @@
 //! The objects that values lead to.
 
-ghost use Rattle.std.specs.Prelude.{◌≡◌, ◌≤◌, ◌<◌, ℕ, length, map, All, IfOk, OnOk};
+ghost use Rattle.std.specs.Prelude.{◌≡◌, ◌≤◌, ◌<◌, length, All, IfOk, OnOk};
 ghost use Rattle.pz_value.specs.References.{RefersWithin};
-ghost use Rattle.pz_copy.specs.References.{references, renumbered};
-ghost use Rattle.pz_copy.specs.Packing.{IsListing, place_in};
+ghost use Rattle.pz_copy.specs.References.{references};
+ghost use Rattle.pz_copy.specs.Packing.{IsListing, HasOneListing};
 ghost use Rattle.pz_copy.specs.devices.Gathering.{gathered};
 
 use indexmap::IndexSet;
@@ -30,13 +30,15 @@ pub fn list_reached(
     values: &[Value],
 ) -> Result<IndexSet<u32>, AllocError>
     requires { All (RefersWithin (length state.now.held.objects)) values.now }
+    ensures one { HasOneListing state.now.held values.now }
     ensures listing { IfOk result (λ listed. IsListing state.now.held values.now listed.keys) }
     ensures few { IfOk result (λ listed. length listed.keys ≤ OBJECT_LIMIT) }
     ensures there { IfOk result (λ listed. All (λ r. r < length state.now.held.objects) listed.keys) }
 {
+    // Each reference in a state names an object, so the list is never longer than this.
+    let _count = state.objects();
     let mut listed = IndexSet::new(alloc);
     list_references(values, &mut listed)?;
-    let count = state.objects() as usize;
     let mut next = 0;
     while next < listed.len() {
         let r = listed[next];

@@ -64,7 +64,7 @@ fn shift_values(alloc: Global, values: &[Value], count: u32) -> Result<Vec<Value
 /// Makes an object without values for each of these. The only error is want of memory.
 fn make_objects(state: &mut State, objects: &[Object]) -> Result<(), AllocError>
     requires sizes { All (λ o. length o.items < 2 ^ 32) (plain_objects objects.now) }
-    requires room { length state.old.held.objects + length objects.now ≤ OBJECT_LIMIT }
+    requires room { length state.old.held.objects + length (plain_objects objects.now) ≤ OBJECT_LIMIT }
     ensures ok { OnOk result (state.new ≡ changed state.old (with_blanks state.old.held (plain_objects objects.now))) }
     ensures marks { state.new.marks ≡ state.old.marks }
 {
@@ -103,7 +103,7 @@ fn fill_objects(state: &mut State, objects: &[Object], count: u32) -> Result<(),
     requires blank { state.old.held.objects ≡ take count state.old.held.objects ++ map blank_of (plain_objects objects.now) }
     requires number { length (take count state.old.held.objects) ≡ count }
     requires room { length state.old.held.objects ≤ OBJECT_LIMIT }
-    requires within { All (λ o. All (RefersWithin (length objects.now)) o.items) (plain_objects objects.now) }
+    requires within { All (λ o. All (RefersWithin (length (plain_objects objects.now))) o.items) (plain_objects objects.now) }
     requires sizes { All (λ o. length o.items < 2 ^ 32) (plain_objects objects.now) }
     ensures ok { OnOk result (state.new ≡ changed state.old (record state.old.held { objects = take count state.old.held.objects ++ shifted_objects count (plain_objects objects.now) })) }
     ensures marks { state.new.marks ≡ state.old.marks }

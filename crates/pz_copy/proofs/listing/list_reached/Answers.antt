@@ -19,11 +19,11 @@ loop-next-init c =
     subst (λ (l : List ℕ). IsGathered c.args.state.now.held c.args.values.now 0 l) (sym start) (begun c.args.state.now.held c.args.values.now)
 
 pub object-requires : goal.object-requires
-object-requires c = next_there c.args.state.now.held c.objects-count.ensures.contained c.args.values.now c.requires c.loop-next.next c.loop-next.listed.keys c.index-r.result.now c.loop-next.invariant c.index-r.ensures
+object-requires c = next_there c.args.state.now.held c.objects-_count.ensures.contained c.args.values.now c.requires c.loop-next.next c.loop-next.listed.keys c.index-r.result.now c.loop-next.invariant c.index-r.ensures
 
 pub loop-next-smaller : goal.loop-next-smaller
 loop-next-smaller c =
-    let few : length c.loop-next.listed.keys ≤ length c.args.state.now.held.objects = gathered_few c.args.state.now.held c.objects-count.ensures.contained c.args.values.now c.requires c.loop-next.next c.loop-next.listed.keys c.loop-next.invariant in
+    let few : length c.loop-next.listed.keys ≤ length c.args.state.now.held.objects = gathered_few c.args.state.now.held c.objects-_count.ensures.contained c.args.values.now c.requires c.loop-next.next c.loop-next.listed.keys c.loop-next.invariant in
     omega (arith, few, c.loop-next-test.true, c.len.ensures.len)
 
 pub loop-next-preserved : goal.loop-next-preserved
@@ -41,8 +41,8 @@ returns-clause-listing c = gathered_whole c.args.state.now.held c.args.values.no
 
 pub returns-clause-few : goal.returns-clause-few
 returns-clause-few c =
-    let few : length c.loop-next.listed.keys ≤ length c.args.state.now.held.objects = gathered_few c.args.state.now.held c.objects-count.ensures.contained c.args.values.now c.requires c.loop-next.next c.loop-next.listed.keys c.loop-next.invariant in
-    omega (arith, few, c.objects-count.ensures.count, c.objects-count.ensures.limit)
+    let few : length c.loop-next.listed.keys ≤ length c.args.state.now.held.objects = gathered_few c.args.state.now.held c.objects-_count.ensures.contained c.args.values.now c.requires c.loop-next.next c.loop-next.listed.keys c.loop-next.invariant in
+    omega (arith, few, c.objects-_count.ensures.count, c.objects-_count.ensures.limit)
 
 pub returns-clause-there : goal.returns-clause-there
-returns-clause-there c = gathered_all c.args.state.now.held c.objects-count.ensures.contained c.args.values.now c.requires c.loop-next.next c.loop-next.listed.keys c.loop-next.invariant
+returns-clause-there c = gathered_all c.args.state.now.held c.objects-_count.ensures.contained c.args.values.now c.requires c.loop-next.next c.loop-next.listed.keys c.loop-next.invariant
