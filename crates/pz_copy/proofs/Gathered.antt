@@ -131,7 +131,7 @@ pub gathers : (xs listed : List ℕ) (r : ℕ) → IsIn r xs → IsIn r (gathere
 gathers [] listed r h = cc
 gathers (x ∷ xs) listed r h =
     elim (in_head_cases r x xs h) [
-      inl e ↦ stays_in (insert_key nat_eq listed x) xs r (subst (λ (y : ℕ). IsIn y (insert_key nat_eq listed x)) (sym e) (inserted_in listed x))
+      | inl e ↦ stays_in (insert_key nat_eq listed x) xs r (subst (λ (y : ℕ). IsIn y (insert_key nat_eq listed x)) (sym e) (inserted_in listed x))
       | inr rest ↦ gathers xs (insert_key nat_eq listed x) r rest
     ]
 
@@ -146,7 +146,7 @@ pub gathers_only : (xs listed : List ℕ) (r : ℕ) → IsIn r (gathered listed 
 gathers_only [] listed r h = inl h
 gathers_only (x ∷ xs) listed r h =
     elim (gathers_only xs (insert_key nat_eq listed x) r h) [
-      inl before ↦ elim (inserted_only listed x r before) [ inl old ↦ inl old | inr e ↦ inr (subst (λ (y : ℕ). IsIn r (y ∷ xs)) e (in_here r xs)) ]
+      | inl before ↦ elim (inserted_only listed x r before) [ inl old ↦ inl old | inr e ↦ inr (subst (λ (y : ℕ). IsIn r (y ∷ xs)) e (in_here r xs)) ]
       | inr rest ↦ inr (or_right (nat_eq r x) (list_any (nat_eq r) xs) rest)
     ]
 
@@ -172,6 +172,6 @@ unfolding IsDistinct
 seam_distinct [] r ys d h = cc
 seam_distinct (x ∷ xs) r ys d h =
     elim (in_head_cases r x xs h) [
-      inl e ↦ let differ : nat_eq x r ≡ false = all_differ x r xs ys d.0 in let same : nat_eq x r ≡ true = eq-eqb x r (sym e) in cc
+      | inl e ↦ let differ : nat_eq x r ≡ false = all_differ x r xs ys d.0 in let same : nat_eq x r ≡ true = eq-eqb x r (sym e) in cc
       | inr later ↦ seam_distinct xs r ys d.1 later
     ]

@@ -104,9 +104,9 @@ module _ (s : StateView) (values : List Value) where
       far =
           sym
           (ap (λ l. gathered [] (mentioned s values l)) (front (suc next) (omega (arith, below)) ∙ take_next listed next r at)
-           ∙ ap (gathered []) (mentioned_push (take next listed) r)
-           ∙ gathered_append [] (mentioned s values (take next listed)) (inside s r)
-           ∙ ap (λ l. gathered l (inside s r)) (sym g.so_far))
+          ∙ ap (gathered []) (mentioned_push (take next listed) r)
+          ∙ gathered_append [] (mentioned s values (take next listed)) (inside s r)
+          ∙ ap (λ l. gathered l (inside s r)) (sym g.so_far))
 
       order : (i : ℕ) → (i < length listed) ⊎ (length listed ≤ i)
       order i = grind arith
@@ -133,8 +133,8 @@ module _ (s : StateView) (values : List Value) where
       let whole : other ≡ gathered [] (mentioned s values other) = is_one.equation ∙ sym (gathered_firsts (mentioned s values other)) in
       let parts : mentioned s values other ≡ mentioned s values (take next other) ++ rest = ap (mentioned s values) (sym (take-append-drop next other)) ∙ mentioned_append (take next other) (drop next other) in
       let step : other ≡ gathered listed rest =
-          whole ∙ ap (gathered []) parts ∙ gathered_append [] (mentioned s values (take next other)) rest
-          ∙ ap (λ l. gathered l rest) (ap (λ l. gathered [] (mentioned s values l)) same ∙ sym so_far) in
+      whole ∙ ap (gathered []) parts ∙ gathered_append [] (mentioned s values (take next other)) rest
+      ∙ ap (λ l. gathered l rest) (ap (λ l. gathered [] (mentioned s values l)) same ∙ sym so_far) in
       ((gathered_more listed rest).0, step ∙ (gathered_more listed rest).1)
 
   no_more : (listed other more : List ℕ) → IsListing s values listed → IsListing s values other → other ≡ listed ++ more → other ≡ listed
@@ -153,7 +153,7 @@ refers : (n : ℕ) (vs : List Value) → All (RefersWithin n) vs → (r : ℕ) �
 refers n [] all r h = cc
 refers n (v ∷ vs) all r h =
     elim (in_cases r (reference_of v) (references vs) h) [
-      inl here ↦ one v (all 0 v (omega arith)) here
+      | inl here ↦ one v (all 0 v (omega arith)) here
       | inr later ↦ refers n vs (λ k d within. all (suc k) d (omega (arith, within))) r later
     ]
   where
@@ -180,14 +180,14 @@ module _ (s : StateView) (contained : IsSelfContained s) (values : List Value) (
   inside_refers [] r h = cc
   inside_refers (q ∷ qs) r h =
       elim (in_cases r (inside s q) (flat_map (inside s) qs) h) [
-        inl here ↦ refers (length s.objects) (object s q).items (object_refers s contained q) r here
+        | inl here ↦ refers (length s.objects) (object s q).items (object_refers s contained q) r here
         | inr later ↦ inside_refers qs r later
       ]
 
   pub mentioned_there : (listed : List ℕ) (r : ℕ) → IsIn r (mentioned s values listed) → r < length s.objects
   mentioned_there listed r h =
       elim (in_cases r (references values) (flat_map (inside s) listed) h) [
-        inl here ↦ refers (length s.objects) values within r here
+        | inl here ↦ refers (length s.objects) values within r here
         | inr later ↦ inside_refers listed r later
       ]
 

@@ -194,16 +194,16 @@ module _ (s : StateView) (count : ℕ) (objects : List ObjectView) (long : lengt
       let place : length (done given) ≡ count + given = length_done given (omega (arith, below)) in
       ap (λ (os : List ObjectView). let t : StateView = record s { objects = os } in t)
       (ap (at_object (count + given) (λ _. shifted_values count o.items)) (parts_next_objects given o at)
-       ∙ ap (λ (n : ℕ). at_object n (λ _. shifted_values count o.items) (done given ++ blank_of o ∷ map blank_of (drop (suc given) objects))) (sym place)
-       ∙ at_object_seam (done given) (blank_of o) (map blank_of (drop (suc given) objects)) (λ _. shifted_values count o.items)
-       ∙ sym (append_assoc (done given) (renumbered_object (λ r. count + r) o ∷ []) (map blank_of (drop (suc given) objects)))
-       ∙ ap (λ l. l ++ map blank_of (drop (suc given) objects)) (sym (done_next given o at))
-       ∙ append_assoc (take count s.objects) (shifted_objects count (take (suc given) objects)) (map blank_of (drop (suc given) objects)))
+      ∙ ap (λ (n : ℕ). at_object n (λ _. shifted_values count o.items) (done given ++ blank_of o ∷ map blank_of (drop (suc given) objects))) (sym place)
+      ∙ at_object_seam (done given) (blank_of o) (map blank_of (drop (suc given) objects)) (λ _. shifted_values count o.items)
+      ∙ sym (append_assoc (done given) (renumbered_object (λ r. count + r) o ∷ []) (map blank_of (drop (suc given) objects)))
+      ∙ ap (λ l. l ++ map blank_of (drop (suc given) objects)) (sym (done_next given o at))
+      ∙ append_assoc (take count s.objects) (shifted_objects count (take (suc given) objects)) (map blank_of (drop (suc given) objects)))
 
   pub parts_whole : (given : ℕ) → length objects ≤ given → with_parts s count given objects ≡ record s { objects = take count s.objects ++ shifted_objects count objects }
   parts_whole given all =
       ap (λ (os : List ObjectView). let t : StateView = record s { objects = os } in t)
       (ap (λ l. take count s.objects ++ l)
-       (ap (λ l. shifted_objects count (take given objects) ++ map blank_of l) (drop_of_length-le objects all)
-        ∙ append-nil (shifted_objects count (take given objects))
-        ∙ ap (shifted_objects count) (take_whole given objects all)))
+      (ap (λ l. shifted_objects count (take given objects) ++ map blank_of l) (drop_of_length-le objects all)
+      ∙ append-nil (shifted_objects count (take given objects))
+      ∙ ap (shifted_objects count) (take_whole given objects all)))

@@ -73,7 +73,7 @@ blanks_next s objects i o below is =
     let more : i + 1 ≡ suc i = omega arith in
     let taken : take (i + 1) objects ≡ take i objects ++ o ∷ [] = ap (λ n. take n objects) more ∙ take-suc objects i o below ∙ ap (λ (p : StoredObject). take i objects ++ p ∷ []) (sym is) in
     let all : map blank_of (plain_objects (take (i + 1) objects)) ≡ map blank_of (plain_objects (take i objects)) ++ blank_of o.object ∷ [] =
-        ap (λ (l : List StoredObject). map blank_of (plain_objects l)) taken ∙ ap (map blank_of) (map-append (λ (p : StoredObject). p.object) (take i objects) (o ∷ [])) ∙ map-append blank_of (plain_objects (take i objects)) (o.object ∷ []) in
+    ap (λ (l : List StoredObject). map blank_of (plain_objects l)) taken ∙ ap (map blank_of) (map-append (λ (p : StoredObject). p.object) (take i objects) (o ∷ [])) ∙ map-append blank_of (plain_objects (take i objects)) (o.object ∷ []) in
     ap (λ (os : List ObjectView). let t : StateView = record s { objects = os } in t)
     (append_assoc s.objects (map blank_of (plain_objects (take i objects))) (blank_of o.object ∷ []) ∙ ap (λ l. s.objects ++ l) (sym all))
 

@@ -50,7 +50,7 @@ pub renumbered_in : (number : ℕ → ℕ) (vs : List Value) (r : ℕ) → IsIn 
 renumbered_in number [] r h = cc
 renumbered_in number (v ∷ vs) r h =
     elim (in_cases r (reference_of v) (references vs) h) [
-      inl here ↦ in_left (number r) (reference_of (renumbered number v)) (references (map (renumbered number) vs)) (one v here)
+      | inl here ↦ in_left (number r) (reference_of (renumbered number v)) (references (map (renumbered number) vs)) (one v here)
       | inr later ↦ in_right (number r) (reference_of (renumbered number v)) (references (map (renumbered number) vs)) (renumbered_in number vs r later)
     ]
   where
@@ -62,7 +62,7 @@ pub in_renumbered : (number : ℕ → ℕ) (vs : List Value) (k : ℕ) → IsIn 
 in_renumbered number [] k h = cc
 in_renumbered number (v ∷ vs) k h =
     elim (in_cases k (reference_of (renumbered number v)) (references (map (renumbered number) vs)) h) [
-      inl here ↦ let found = one v here in (found.0, in_left found.0 (reference_of v) (references vs) found.1, found.2)
+      | inl here ↦ let found = one v here in (found.0, in_left found.0 (reference_of v) (references vs) found.1, found.2)
       | inr later ↦ let found = in_renumbered number vs k later in (found.0, in_right found.0 (reference_of v) (references vs) found.1, found.2)
     ]
   where

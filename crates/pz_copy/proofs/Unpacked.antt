@@ -39,7 +39,7 @@ in_flat : (s : StateView) (qs : List ℕ) (q r : ℕ) → IsIn q qs → IsIn r (
 in_flat s [] q r hq hr = cc
 in_flat s (x ∷ xs) q r hq hr =
     elim (in_head_cases q x xs hq) [
-      inl e ↦ in_left r (inside s x) (flat_map (inside s) xs) (subst (λ (y : ℕ). IsIn r (inside s y)) e hr)
+      | inl e ↦ in_left r (inside s x) (flat_map (inside s) xs) (subst (λ (y : ℕ). IsIn r (inside s y)) e hr)
       | inr later ↦ in_right r (inside s x) (flat_map (inside s) xs) (in_flat s xs q r later hr)
     ]
 

@@ -130,11 +130,7 @@ fn append(state: &mut State, parcel: &Parcel, count: u32) -> Result<(), AllocErr
 
 /// Puts a parcel into a state: its objects behind those that are there, with references to them there,
 /// and gives its values in order, likewise. At a refusal all is as before.
-pub fn unpack(
-    alloc: Global,
-    state: &mut State,
-    parcel: &Parcel,
-) -> Result<Vec<Value>, UnpackError>
+pub fn unpack(alloc: Global, state: &mut State, parcel: &Parcel) -> Result<Vec<Value>, UnpackError>
     ensures values { IfOk result (λ values. values.items ≡ unpacked_values state.old.held parcel.now) }
     ensures within { IfOk result (λ values. All (RefersWithin (length state.new.held.objects)) values.items) }
     ensures ok { OnOk result (state.new ≡ changed state.old (unpacked state.old.held parcel.now)) }

@@ -4,11 +4,7 @@ use Rattle.pz_value.specs.Objects.{ObjectView}
 use Rattle.pz_value.specs.States.{object}
 use Rattle.pz_copy.specs.References.{references}
 use Rattle.pz_copy.specs.devices.Gathering.{gathered, IsGathered}
-use Rattle.pz_copy.proofs.Listings.{begun, gathered_on, gathered_whole, gathered_few, gathered_all, next_there, inside}
-use Rattle.pz_copy.proofs.Unpacked.{unpacked_same}
-use Rattle.pz_copy.proofs.Rows.{pair_packed}
-use Rattle.pz_copy.proofs.Texts.{object_texts_push}
-use Rattle.pz_copy.proofs.Objects.{partly_whole}
+use Rattle.pz_copy.proofs.Listings.{begun, gathered_on, gathered_whole, gathered_few, gathered_all, next_there, one_listing, inside}
 use Rattle.pz_copy.proofs.listing.list_reached.Goals as goal
 
 pub loop-next-init : goal.loop-next-init
@@ -19,11 +15,11 @@ loop-next-init c =
     subst (λ (l : List ℕ). IsGathered c.args.state.now.held c.args.values.now 0 l) (sym start) (begun c.args.state.now.held c.args.values.now)
 
 pub object-requires : goal.object-requires
-object-requires c = next_there c.args.state.now.held c.objects-_count.ensures.contained c.args.values.now c.requires c.loop-next.next c.loop-next.listed.keys c.index-r.result.now c.loop-next.invariant c.index-r.ensures
+object-requires c = next_there c.args.state.now.held c.objects-count.ensures.contained c.args.values.now c.requires c.loop-next.next c.loop-next.listed.keys c.index-r.result.now c.loop-next.invariant c.index-r.ensures
 
 pub loop-next-smaller : goal.loop-next-smaller
 loop-next-smaller c =
-    let few : length c.loop-next.listed.keys ≤ length c.args.state.now.held.objects = gathered_few c.args.state.now.held c.objects-_count.ensures.contained c.args.values.now c.requires c.loop-next.next c.loop-next.listed.keys c.loop-next.invariant in
+    let few : length c.loop-next.listed.keys ≤ length c.args.state.now.held.objects = gathered_few c.args.state.now.held c.objects-count.ensures.contained c.args.values.now c.requires c.loop-next.next c.loop-next.listed.keys c.loop-next.invariant in
     omega (arith, few, c.loop-next-test.true, c.len.ensures.len)
 
 pub loop-next-preserved : goal.loop-next-preserved
@@ -41,8 +37,17 @@ returns-clause-listing c = gathered_whole c.args.state.now.held c.args.values.no
 
 pub returns-clause-few : goal.returns-clause-few
 returns-clause-few c =
-    let few : length c.loop-next.listed.keys ≤ length c.args.state.now.held.objects = gathered_few c.args.state.now.held c.objects-_count.ensures.contained c.args.values.now c.requires c.loop-next.next c.loop-next.listed.keys c.loop-next.invariant in
-    omega (arith, few, c.objects-_count.ensures.count, c.objects-_count.ensures.limit)
+    let few : length c.loop-next.listed.keys ≤ length c.args.state.now.held.objects = gathered_few c.args.state.now.held c.objects-count.ensures.contained c.args.values.now c.requires c.loop-next.next c.loop-next.listed.keys c.loop-next.invariant in
+    omega (arith, few, c.objects-count.ensures.count, c.objects-count.ensures.limit)
 
 pub returns-clause-there : goal.returns-clause-there
-returns-clause-there c = gathered_all c.args.state.now.held c.objects-_count.ensures.contained c.args.values.now c.requires c.loop-next.next c.loop-next.listed.keys c.loop-next.invariant
+returns-clause-there c = gathered_all c.args.state.now.held c.objects-count.ensures.contained c.args.values.now c.requires c.loop-next.next c.loop-next.listed.keys c.loop-next.invariant
+
+pub returns-in_err-list_references-clause-one : goal.returns-in_err-list_references-clause-one
+returns-in_err-list_references-clause-one c = one_listing c.args.state.now.held c.objects-count.ensures.contained c.args.values.now c.requires
+
+pub returns-in_err-list_references-2-clause-one : goal.returns-in_err-list_references-2-clause-one
+returns-in_err-list_references-2-clause-one c = one_listing c.args.state.now.held c.objects-count.ensures.contained c.args.values.now c.requires
+
+pub returns-clause-one : goal.returns-clause-one
+returns-clause-one c = one_listing c.args.state.now.held c.objects-count.ensures.contained c.args.values.now c.requires
