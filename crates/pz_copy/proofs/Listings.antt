@@ -1,12 +1,12 @@
 -- The list of the objects that values lead to: it is gathered step by step, and there is just one.
-use Rattle.std.proofs.Common.{◌≡◌, refl, sym, ◌∙◌, ap, subst, ℕ, zero, suc, ◌+◌, ◌-◌, ◌<◌, ◌≤◌, ◌⊎◌, inl, inr, Bool, true, false, List, [], ◌∷◌, ◌++◌, length, take, drop, get_or, Option, Some, None, arith}
+use Rattle.std.proofs.Common.{◌≡◌, refl, sym, ◌∙◌, ap, subst, ℕ, zero, suc, ◌+◌, ◌<◌, ◌≤◌, ◌⊎◌, inl, inr, Bool, true, false, List, [], ◌∷◌, ◌++◌, length, take, drop, get_or, Option, Some, None, arith}
 use Rattle.std.specs.Prelude.{nat_eq, slice_get, All, unwrap_or}
-use Rattle.std.specs.List.{list_any, flat_map, IsDistinct}
+use Rattle.std.specs.List.{flat_map, IsDistinct}
 use Rattle.std.proofs.Math.Seq.{take-suc, take-append_seam}
 use Rattle.std.proofs.lemmas.Bool.{eqb-true}
 use Rattle.std.proofs.lemmas.Grind.{flat_map-append}
 use Rattle.std.proofs.lemmas.List.{append-nil, append_assoc, take-append-le, take-append-drop, length-append}
-use Rattle.std.proofs.lemmas.Option.{slice_get_within, slice_get_past, get_or_from_slice_get, slice_get-get_or}
+use Rattle.std.proofs.lemmas.Option.{slice_get_within, get_or_from_slice_get, slice_get-get_or}
 use Rattle.std.proofs.lemmas.Map.Steps.{length-le_from_distinct_below}
 use Rattle.pz_value.specs.declared.value.Value.{Value}
 use Rattle.pz_value.specs.declared.value.Value.TheVariants as value
@@ -14,9 +14,9 @@ use Rattle.pz_value.specs.Objects.{ObjectView}
 use Rattle.pz_value.specs.States.{StateView, object}
 use Rattle.pz_value.specs.References.{RefersWithin, IsSelfContained}
 use Rattle.pz_copy.specs.References.{reference_of, references, IsIn}
-use Rattle.pz_copy.specs.Packing.{firsts, mentioned, IsListing, HasOneListing}
+use Rattle.pz_copy.specs.Packing.{mentioned, IsListing, HasOneListing}
 use Rattle.pz_copy.specs.devices.Gathering.{gathered, IsGathered}
-use Rattle.pz_copy.proofs.Gathered.{in_left, in_right, in_cases, in_at, gathered_firsts, gathered_more, gathered_append, gathers, gathers_only, gathered_distinct, nothing_distinct, seam_distinct}
+use Rattle.pz_copy.proofs.Gathered.{in_left, in_cases, in_at, gathered_firsts, gathered_more, gathered_append, gathers, gathers_only, gathered_distinct, nothing_distinct, seam_distinct}
 
 -- Lists
 

@@ -1,23 +1,22 @@
 -- References in parcels are numbers of their objects, and stay so.
-use Rattle.std.proofs.Common.{◌≡◌, refl, sym, ◌∙◌, ap, subst, ℕ, zero, suc, ◌+◌, ◌-◌, ◌^◌, ◌<◌, ◌≤◌, inl, inr, List, [], ◌∷◌, ◌++◌, length, map, take, get_or, Some, arith}
-use Rattle.std.specs.Prelude.{nat_eq, All, slice_get}
+use Rattle.std.proofs.Common.{◌≡◌, sym, ◌∙◌, ap, subst, ℕ, suc, ◌+◌, ◌-◌, ◌^◌, ◌<◌, ◌≤◌, List, [], ◌∷◌, ◌++◌, length, map, take, get_or, Some, arith}
+use Rattle.std.specs.Prelude.{All, slice_get}
 use Rattle.std.proofs.Math.Seq.{take-suc, take-append_seam}
-use Rattle.std.proofs.lemmas.Bool.{eq-eqb}
-use Rattle.std.proofs.lemmas.List.{append-nil, append_assoc, length-append, length-map, map-append}
+use Rattle.std.proofs.lemmas.List.{append_assoc, length-append, length-map, map-append}
 use Rattle.std.proofs.lemmas.List.Elements.{All-cons, All-append}
 use Rattle.pz_value.specs.declared.state.TheConstants.{OBJECT_LIMIT}
 use Rattle.pz_value.specs.declared.value.ClassId.{ClassId}
 use Rattle.pz_value.specs.declared.value.Value.{Value}
 use Rattle.pz_value.specs.declared.value.Value.TheVariants as value
 use Rattle.pz_value.specs.Objects.{ObjectView, StoredObject}
-use Rattle.pz_value.specs.States.{StateView, object, nils, made}
+use Rattle.pz_value.specs.States.{StateView, object, made}
 use Rattle.pz_value.specs.References.{RefersWithin}
 use Rattle.pz_copy.specs.References.{reference_of, references, IsIn, renumbered, renumbered_object}
 use Rattle.pz_copy.specs.Parcels.{ParcelView, IsParcel, plain_objects}
-use Rattle.pz_copy.specs.Packing.{mentioned, place_in, packed_objects, IsListing}
+use Rattle.pz_copy.specs.Packing.{place_in, packed_objects, IsListing}
 use Rattle.pz_copy.specs.Unpacking.{shifted_values, shifted_objects, unpacked, unpacked_values}
 use Rattle.pz_copy.specs.devices.Filling.{blank_of, with_blanks}
-use Rattle.pz_copy.proofs.Gathered.{in_left, in_right, in_head_cases, in_here}
+use Rattle.pz_copy.proofs.Gathered.{in_left, in_right, in_here}
 use Rattle.pz_copy.proofs.Listings.{inside, take_next}
 use Rattle.pz_copy.proofs.Renaming.{place_within}
 use Rattle.pz_copy.proofs.Unpacked.{listed_values, listed_items}

@@ -1,16 +1,12 @@
 -- Values whose references have other numbers.
-use Rattle.std.proofs.Common.{◌≡◌, refl, sym, ◌∙◌, ap, subst, ℕ, zero, suc, ◌+◌, ◌-◌, ◌<◌, ◌≤◌, ◌⊎◌, inl, inr, Bool, true, false, not, List, [], ◌∷◌, ◌++◌, length, map, get_or, Option, Some, None, arith}
-use Rattle.std.specs.Prelude.{nat_eq, nat_lt, slice_get, All, unwrap_or, position, if◌then◌else◌}
-use Rattle.std.specs.List.{list_any, flat_map, position_or_len}
+use Rattle.std.proofs.Common.{◌≡◌, refl, sym, ◌∙◌, ap, ℕ, suc, ◌<◌, ◌≤◌, inl, inr, Bool, true, false, not, List, [], ◌∷◌, length, map, Some, None, arith}
+use Rattle.std.specs.Prelude.{nat_eq, nat_lt, slice_get, unwrap_or, position, if◌then◌else◌}
 use Rattle.std.proofs.lemmas.Bool.{eqb-true, eq-eqb, ltb-false}
 use Rattle.std.proofs.lemmas.List.Sums.{prefix_len-le-length}
 use Rattle.pz_value.specs.declared.value.Value.{Value}
 use Rattle.pz_value.specs.declared.value.Value.TheVariants as value
-use Rattle.pz_value.specs.Objects.{ObjectView}
-use Rattle.pz_value.specs.States.{StateView, object}
-use Rattle.pz_value.specs.References.{RefersWithin}
-use Rattle.pz_copy.specs.References.{reference_of, references, IsIn, renumbered, renumbered_object}
-use Rattle.pz_copy.specs.Packing.{place_in, packed_objects}
+use Rattle.pz_copy.specs.References.{reference_of, references, IsIn, renumbered}
+use Rattle.pz_copy.specs.Packing.{place_in}
 use Rattle.pz_copy.proofs.Gathered.{in_cases, in_left, in_right}
 
 -- the place of a number is one of the list, and the number stands there

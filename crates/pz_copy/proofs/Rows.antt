@@ -1,17 +1,16 @@
 -- Parcels of small states, computed from the definitions.
-use Rattle.std.proofs.Common.{◌≡◌, refl, subst, lit<, ℕ, zero, suc, true, false, List, [], ◌∷◌, Option, Some, None}
+use Rattle.std.proofs.Common.{◌≡◌, refl, subst, lit<, ℕ, zero, suc, true, false, List, [], ◌∷◌, Some}
 use Rattle.std.specs.Prelude.{pos, negsuc, slice_get, codes}
 use Rattle.std.proofs.lemmas.Fmt.{decimal_digit}
-use Rattle.pz_value.specs.declared.value.ClassId.{ClassId}
 use Rattle.pz_value.specs.declared.value.Value.{Value}
 use Rattle.pz_value.specs.declared.value.Value.TheVariants as value
 use Rattle.pz_value.specs.Objects.{ObjectView}
 use Rattle.pz_value.specs.States.{StateView}
 use Rattle.pz_copy.specs.References.{IsIn}
 use Rattle.pz_copy.specs.Parcels.{ParcelView}
-use Rattle.pz_copy.specs.Packing.{mentioned, IsListing, IsParcelOf}
+use Rattle.pz_copy.specs.Packing.{mentioned, IsParcelOf}
 use Rattle.std.specs.Prelude.{take}
-use Rattle.pz_copy.specs.Unpacking.{unpacked, unpacked_values}
+use Rattle.pz_copy.specs.Unpacking.{unpacked_values}
 use Rattle.pz_copy.specs.ParcelText.{parcel_text}
 
 abbrev node : List Value → ObjectView

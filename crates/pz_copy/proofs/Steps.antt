@@ -1,7 +1,6 @@
 -- The steps by which a parcel gets into a state.
-use Rattle.std.proofs.Common.{◌≡◌, refl, sym, ◌∙◌, ap, subst, ℕ, zero, suc, ◌+◌, ◌-◌, ◌^◌, ◌<◌, ◌≤◌, List, [], ◌∷◌, ◌++◌, length, map, take, get_or, Option, Some, arith}
+use Rattle.std.proofs.Common.{◌≡◌, refl, sym, ◌∙◌, ap, subst, ℕ, zero, suc, ◌+◌, ◌-◌, ◌<◌, ◌≤◌, List, [], ◌∷◌, length, take, get_or, Some, arith}
 use Rattle.std.specs.Prelude.{All, slice_get}
-use Rattle.std.proofs.lemmas.Option.{slice_get-get_or}
 use Rattle.std.proofs.lemmas.List.{length-map}
 use Rattle.pz_value.specs.declared.value.Value.{Value}
 use Rattle.pz_value.specs.Objects.{ObjectView, StoredObject}
@@ -10,8 +9,8 @@ use Rattle.pz_value.specs.References.{RefersWithin}
 use Rattle.pz_value.specs.Marks.{Seen, changed}
 use Rattle.pz_copy.specs.References.{renumbered}
 use Rattle.pz_copy.specs.Parcels.{plain_objects}
-use Rattle.pz_copy.specs.Unpacking.{shifted_values, shifted_objects}
-use Rattle.pz_copy.specs.devices.Filling.{blank_of, with_blanks, filled, with_parts}
+use Rattle.pz_copy.specs.Unpacking.{shifted_values}
+use Rattle.pz_copy.specs.devices.Filling.{with_blanks, filled, with_parts}
 use Rattle.pz_copy.proofs.Objects.{partly, shifted_within, fill_next, fill_has, fill_long, parts_next, parts_blank, parts_length}
 use Rattle.pz_copy.proofs.Parcelled.{blanks_next, blanks_length}
 

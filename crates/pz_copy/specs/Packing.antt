@@ -1,6 +1,6 @@
 -- What a parcel of values has: the objects that the values lead to, each once, and references that
 -- are numbers in that list.
-use Rattle.std.specs.Prelude.{◌≡◌, ℕ, not, nat_eq, List, [], ◌∷◌, ◌++◌, take, map, filter, Option, Some, slice_get}
+use Rattle.std.specs.Prelude.{◌≡◌, ℕ, not, nat_eq, List, [], ◌∷◌, ◌++◌, take, map, filter, Some, slice_get}
 use Rattle.std.specs.List.{flat_map, position_or_len}
 use Rattle.pz_value.specs.declared.value.Value.{Value}
 use Rattle.pz_value.specs.Objects.{ObjectView}

@@ -1,6 +1,5 @@
 -- What a parcel is seen as, and what its type keeps.
-use Rattle.std.specs.Prelude.{◌<◌, ◌≤◌, ◌^◌, ℕ, List, length, All, map}
-use Rattle.std.specs.declared.alloc.Global.{Global}
+use Rattle.std.specs.Prelude.{◌<◌, ◌≤◌, ◌^◌, List, length, All, map}
 use Rattle.pz_value.specs.declared.state.TheConstants.{OBJECT_LIMIT}
 use Rattle.pz_value.specs.declared.value.Value.{Value}
 use Rattle.pz_value.specs.Objects.{ObjectView, StoredObject}

@@ -1,5 +1,5 @@
 -- A list that is gathered: numbers go to its end, each unless it is there.
-use Rattle.std.specs.Prelude.{◌≡◌, ◌<◌, ◌≤◌, ℕ, nat_eq, List, [], ◌∷◌, Option, Some, length, take, slice_get}
+use Rattle.std.specs.Prelude.{◌≡◌, ◌≤◌, ℕ, nat_eq, List, [], ◌∷◌, Some, length, take, slice_get}
 use Rattle.indexmap.specs.IndexSet.{insert_key}
 use Rattle.pz_value.specs.declared.value.Value.{Value}
 use Rattle.pz_value.specs.States.{StateView}

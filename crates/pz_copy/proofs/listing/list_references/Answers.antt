@@ -1,5 +1,4 @@
-use Rattle.std.proofs.Common.{◌≡◌, refl, sym, ◌∙◌, ap, ℕ, List, [], ◌∷◌, ◌++◌, take, length, get_or, ◌+◌, ◌<◌, arith}
-use Rattle.std.proofs.Math.Seq.{take-suc}
+use Rattle.std.proofs.Common.{◌≡◌, refl, sym, ◌∙◌, ap, ℕ, List, [], ◌∷◌, take, length, get_or, ◌+◌, ◌<◌}
 use Rattle.pz_value.specs.declared.value.Value.{Value}
 use Rattle.pz_copy.specs.References.{reference_of, references}
 use Rattle.pz_copy.specs.devices.Gathering.{gathered}

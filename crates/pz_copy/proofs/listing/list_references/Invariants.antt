@@ -1,4 +1,4 @@
-use Rattle.std.proofs.Common.{◌≡◌, [], take}
+use Rattle.std.proofs.Common.{◌≡◌, take}
 use Rattle.pz_copy.specs.References.{references}
 use Rattle.pz_copy.specs.devices.Gathering.{gathered}
 use Rattle.pz_copy.proofs.listing.list_references.Given as goal

@@ -1,5 +1,4 @@
-use Rattle.std.proofs.Common.{◌≡◌, ◌∙◌, ap, ◌<◌, ◌^◌, List, length, arith}
-use Rattle.pz_value.specs.declared.value.Value.{Value}
+use Rattle.std.proofs.Common.{◌≡◌, ◌∙◌, ap, ◌<◌, ◌^◌, length, arith}
 use Rattle.pz_value.specs.Objects.{ObjectView}
 use Rattle.pz_value.specs.States.{object}
 use Rattle.pz_copy.specs.References.{renumbered_object}

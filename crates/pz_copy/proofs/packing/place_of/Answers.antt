@@ -1,4 +1,4 @@
-use Rattle.std.proofs.Common.{◌≡◌, ◌∙◌, ap, Option, ℕ, length}
+use Rattle.std.proofs.Common.{◌∙◌, ap, Option, ℕ}
 use Rattle.std.specs.Prelude.{nat_eq, unwrap_or, position}
 use Rattle.pz_copy.proofs.Renaming.{place_or_length}
 use Rattle.pz_copy.proofs.packing.place_of.Goals as goal

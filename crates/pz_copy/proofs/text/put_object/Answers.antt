@@ -1,4 +1,3 @@
-use Rattle.std.proofs.Common.{◌≡◌}
 use Rattle.pz_copy.proofs.Texts.{object_done, name_at}
 use Rattle.pz_copy.proofs.text.put_object.Goals as goal
 

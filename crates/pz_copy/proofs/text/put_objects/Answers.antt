@@ -1,4 +1,4 @@
-use Rattle.std.proofs.Common.{◌≡◌, ◌<◌, length, arith}
+use Rattle.std.proofs.Common.{◌<◌, length}
 use Rattle.pz_copy.proofs.Texts.{objects_next, rest_all}
 use Rattle.pz_copy.proofs.Steps.{plain_all}
 use Rattle.pz_copy.proofs.text.put_objects.Goals as goal

@@ -1,4 +1,4 @@
-use Rattle.std.proofs.Common.{◌≡◌, ◌∙◌, ap, ◌++◌, ◌∷◌, ℕ, List, take, length, arith}
+use Rattle.std.proofs.Common.{◌≡◌, ◌∙◌, ap, ◌++◌, ◌∷◌, List, take, arith}
 use Rattle.std.specs.List.{flat_map}
 use Rattle.pz_value.specs.declared.value.Value.{Value}
 use Rattle.pz_copy.specs.ParcelText.{value_text}

@@ -1,7 +1,7 @@
-use Rattle.std.proofs.Common.{◌≡◌, ap, arith}
+use Rattle.std.proofs.Common.{ap}
 use Rattle.pz_value.specs.States.{StateView}
 use Rattle.pz_value.specs.Marks.{changed}
-use Rattle.pz_copy.proofs.Objects.{fill_start, fill_whole}
+use Rattle.pz_copy.proofs.Objects.{fill_start}
 use Rattle.pz_copy.proofs.Steps.{item_there, item_within, item_step}
 use Rattle.pz_copy.proofs.unpacking.fill_object.Goals as goal
 

@@ -1,7 +1,7 @@
-use Rattle.std.proofs.Common.{◌≡◌, sym, ◌∙◌, ap, subst, ◌+◌, ◌-◌, ◌<◌, ◌^◌, ℕ, List, length, map, arith}
+use Rattle.std.proofs.Common.{◌≡◌, sym, ◌∙◌, ap, subst, ◌+◌, ◌-◌, ◌<◌, ◌^◌, ℕ, List, length, arith}
 use Rattle.std.specs.Prelude.{All}
 use Rattle.pz_value.specs.declared.value.Value.{Value}
-use Rattle.pz_value.specs.Marks.{Seen, changed}
+use Rattle.pz_value.specs.Marks.{changed}
 use Rattle.pz_value.specs.States.{nils}
 use Rattle.pz_value.specs.References.{RefersWithin}
 use Rattle.pz_copy.specs.Parcels.{plain_objects}

@@ -1,11 +1,6 @@
-use Rattle.std.proofs.Common.{◌≡◌, sym, ◌∙◌, ap, subst, ◌+◌, ℕ, List, length, arith}
-use Rattle.std.specs.Prelude.{All}
-use Rattle.pz_value.specs.declared.value.Value.{Value}
-use Rattle.pz_value.specs.References.{RefersWithin}
-use Rattle.pz_value.specs.States.{StateView}
-use Rattle.pz_value.specs.Marks.{Seen, changed}
+use Rattle.std.proofs.Common.{◌≡◌, ◌∙◌, ap, ℕ}
+use Rattle.pz_value.specs.Marks.{Seen}
 use Rattle.pz_copy.specs.Unpacking.{shifted_values, unpacked, unpacked_values}
-use Rattle.pz_copy.specs.Sharing.{SameUpToNumbers}
 use Rattle.pz_copy.proofs.Unpacked.{same_for}
 use Rattle.pz_copy.proofs.Parcelled.{unpacked_within}
 use Rattle.pz_copy.proofs.unpacking.unpack.Goals as goal
