@@ -1,12 +1,12 @@
 -- What a table of frames has at a number, and what a change of the table changes.
-use Rattle.std.proofs.Common.{◌≡◌, ℕ, zero, suc, Bool, true, false, nat_lt, nat_eq, ◌+◌, ◌-◌, ◌≤◌, ◌<◌, List, [], ◌∷◌, length, slice_set, slice_index_or, Option, Some, None, IsSome, Vec, option_map, unwrap_or, inl, inr, refl, ap, subst, sym, ◌∙◌, arith, rules}
+use Rattle.std.proofs.Common.{◌≡◌, ℕ, zero, suc, Bool, true, false, nat_lt, nat_eq, ◌+◌, ◌-◌, ◌≤◌, ◌<◌, List, [], ◌∷◌, ◌++◌, length, slice_set, slice_index_or, Option, Some, None, is_some, IsSome, Vec, option_map, unwrap_or, inl, inr, refl, ap, subst, sym, ◌∙◌, arith, rules}
 use Rattle.std.proofs.lemmas.Bool.{cases_lt}
 use Rattle.std.specs.declared.alloc.Global.{Global}
-use Rattle.std.proofs.lemmas.List.{get_or-set_same, length-set}
+use Rattle.std.proofs.lemmas.List.{get_or-set_same, get_or_default, length-set}
 use Rattle.pz_value.specs.declared.value.Value.{Value}
-use Rattle.pz_value.specs.States.{Frames, locals_in, locals_of, at_frame, with_frame, without_frame}
+use Rattle.pz_value.specs.States.{Frames, locals_in, locals_of, at_frame, with_frame, without_frame, IsLeastFree}
 use Rattle.pz_value.proofs.Reading.{set_read}
-use Rattle.pz_value.specs.devices.FrameTables.{Table, StoredFrames, frames_from, stored}
+use Rattle.pz_value.specs.devices.FrameTables.{Table, StoredFrames, IsFirstClosed, frames_from, stored}
 
 below : {a b : ℕ} → a < b → nat_lt a b ≡ true
 below q = search rules
@@ -75,7 +75,7 @@ opens n (suc i) (None ∷ rest) new lt e = let k : suc n + i ≡ n + suc i = ome
 opens n (suc i) (Some values ∷ rest) new lt e = let k : suc n + i ≡ n + suc i = omega arith in let b : n < n + suc i = omega arith in let a : n ≤ n + suc i = omega arith in
     let absent_after : locals_in (frames_from (suc n) rest) (n + suc i) ≡ None = rw (other b) at e in
     rw (not_below a) (ap (λ (fs : Frames). (n, values.items) ∷ fs)
-        (opens (suc n) i rest new (omega arith) (ap (λ (m : ℕ). locals_in (frames_from (suc n) rest) m) k ∙ absent_after) ∙ ap (λ (m : ℕ). with_frame m new.items (frames_from (suc n) rest)) k))
+    (opens (suc n) i rest new (omega arith) (ap (λ (m : ℕ). locals_in (frames_from (suc n) rest) m) k ∙ absent_after) ∙ ap (λ (m : ℕ). with_frame m new.items (frames_from (suc n) rest)) k))
 
 -- no frame where one was
 pub closes : (n i : ℕ) (table : Table) (old : Vec Value Global) → i < length table → Some old ≡ slice_index_or table i (Some old)
@@ -97,9 +97,9 @@ empty_has_none (Some values) e has = absurd cc
 pub has_place : (table : Table) (number : ℕ) → IsSome (locals_in (frames_from 1 table) number) → (1 ≤ number) × (number - 1 < length table)
 has_place table zero has = absurd (empty_has_none _ (absent 1 0 table (omega arith)) has)
 has_place table (suc i) has = elim (cases_lt i (length table)) [
-    inl lt ↦ (omega arith, omega arith)
+  | inl lt ↦ (omega arith, omega arith)
   | inr ge ↦ absurd (empty_has_none _ (past 1 (suc i) table (omega arith)) has)
-  ]
+]
 
 pub has_frame : (o : Option (List Value)) (slot : ℕ) → slot < length (unwrap_or o []) → IsSome o
 has_frame None slot lt = absurd (omega arith)
@@ -138,16 +138,16 @@ pub record Replaced (table : Table) (frames : Frames) (number : ℕ) (old new : 
 
 replaced_in : (table : Table) (number : ℕ) (old new : Vec Value Global) → 1 ≤ number → number - 1 < length table → Some old ≡ slice_index_or table (number - 1) (Some old) → Replaced table (frames_from 1 table) number old new
 replaced_in table number old new ge lt e = let k : 1 + (number - 1) ≡ number = omega arith in
-  let i = number - 1 in
-  let after = slice_set table (number - 1) (Some new) in
-  let after_lt : number - 1 < length after = rw length-set lt in
-  let there : Some new ≡ slice_index_or after (number - 1) (Some new) = sym (get_or-set_same table (number - 1) (Some new) (Some new) lt) in
-  record {
-    changes = λ change f. updated 1 i table old new change lt e f ∙ ap (λ (m : ℕ). at_frame m change (frames_from 1 table)) k;
-    back = λ change f. sym (updated 1 i after new old change after_lt there f ∙ ap (λ (m : ℕ). at_frame m change (frames_from 1 after)) k)
-        ∙ ap (λ (t : Table). frames_from 1 t) (set_read table (number - 1) (Some old) (Some new) e);
-    locals = ap (λ (o : Option (List Value)). unwrap_or o []) (at_number after number (Some new) ge after_lt there);
-  }
+    let i = number - 1 in
+    let after = slice_set table (number - 1) (Some new) in
+    let after_lt : number - 1 < length after = rw length-set lt in
+    let there : Some new ≡ slice_index_or after (number - 1) (Some new) = sym (get_or-set_same table (number - 1) (Some new) (Some new) lt) in
+    record {
+      changes = λ change f. updated 1 i table old new change lt e f ∙ ap (λ (m : ℕ). at_frame m change (frames_from 1 table)) k;
+      back = λ change f. sym (updated 1 i after new old change after_lt there f ∙ ap (λ (m : ℕ). at_frame m change (frames_from 1 after)) k)
+          ∙ ap (λ (t : Table). frames_from 1 t) (set_read table (number - 1) (Some old) (Some new) e);
+      locals = ap (λ (o : Option (List Value)). unwrap_or o []) (at_number after number (Some new) ge after_lt there);
+    }
 
 pub replaced : {seen : StoredFrames} (table : Table) → stored table ≡ seen → (number : ℕ) (x : Option (Vec Value Global)) (old new : Vec Value Global) → 1 ≤ number → number - 1 < length table → x ≡ slice_index_or table (number - 1) x → x ≡ Some old
     → Replaced table seen.frames number old new
@@ -162,23 +162,23 @@ pub record Closed (table : Table) (frames : Frames) (number : ℕ) (old : Vec Va
 
 closed_in : (table : Table) (number : ℕ) (old : Vec Value Global) → 1 ≤ number → number - 1 < length table → Some old ≡ slice_index_or table (number - 1) (Some old) → Closed table (frames_from 1 table) number old None
 closed_in table number old ge lt e = let k : 1 + (number - 1) ≡ number = omega arith in
-  let i = number - 1 in
-  let after = slice_set table (number - 1) None in
-  let after_lt : number - 1 < length after = rw length-set lt in
-  let gone : None ≡ slice_index_or after (number - 1) None = sym (get_or-set_same table (number - 1) None None lt) in
-  let free_after : locals_in (frames_from 1 after) number ≡ None = at_number after number None ge after_lt gone in
-  record {
-    changes = closes 1 i table old lt e ∙ ap (λ (m : ℕ). without_frame m (frames_from 1 table)) k;
-    back = sym (opens 1 i after old after_lt (ap (λ (m : ℕ). locals_in (frames_from 1 after) m) k ∙ free_after) ∙ ap (λ (m : ℕ). with_frame m old.items (frames_from 1 after)) k)
-        ∙ ap (λ (t : Table). frames_from 1 t) (set_read table (number - 1) (Some old) None e);
-    free = free_after;
-  }
+    let i = number - 1 in
+    let after = slice_set table (number - 1) None in
+    let after_lt : number - 1 < length after = rw length-set lt in
+    let gone : None ≡ slice_index_or after (number - 1) None = sym (get_or-set_same table (number - 1) None None lt) in
+    let free_after : locals_in (frames_from 1 after) number ≡ None = at_number after number None ge after_lt gone in
+    record {
+      changes = closes 1 i table old lt e ∙ ap (λ (m : ℕ). without_frame m (frames_from 1 table)) k;
+      back = sym (opens 1 i after old after_lt (ap (λ (m : ℕ). locals_in (frames_from 1 after) m) k ∙ free_after) ∙ ap (λ (m : ℕ). with_frame m old.items (frames_from 1 after)) k)
+          ∙ ap (λ (t : Table). frames_from 1 t) (set_read table (number - 1) (Some old) None e);
+      free = free_after;
+    }
 
 pub closed : {seen : StoredFrames} (table : Table) → stored table ≡ seen → (number : ℕ) (x now : Option (Vec Value Global)) (old : Vec Value Global) → 1 ≤ number → number - 1 < length table → x ≡ slice_index_or table (number - 1) x → x ≡ Some old → now ≡ None
     → Closed table seen.frames number old now
 closed {seen} table v number x now old ge lt e some none = subst (λ (s : StoredFrames). Closed table s.frames number old now) v
     (subst (λ (y : Option (Vec Value Global)). Closed table (frames_from 1 table) number old y) (sym none)
-        (closed_in table number old ge lt (subst (λ (y : Option (Vec Value Global)). y ≡ slice_index_or table (number - 1) y) some e)))
+    (closed_in table number old ge lt (subst (λ (y : Option (Vec Value Global)). y ≡ slice_index_or table (number - 1) y) some e)))
 
 pub has_place_seen : {seen : StoredFrames} (table : Table) → stored table ≡ seen → (number : ℕ) → IsSome (locals_in seen.frames number) → (1 ≤ number) × (number - 1 < length table)
 has_place_seen {seen} table v number = subst (λ (s : StoredFrames). IsSome (locals_in s.frames number) → (1 ≤ number) × (number - 1 < length table)) v (has_place table number)
@@ -191,4 +191,60 @@ pub opened : {seen : StoredFrames} (table : Table) → stored table ≡ seen →
     → frames_from 1 (slice_set table (number - 1) (Some new)) ≡ with_frame number new.items seen.frames
 opened {seen} table v number new ge = subst (λ (s : StoredFrames). number ≤ s.room → locals_in s.frames number ≡ None → frames_from 1 (slice_set table (number - 1) (Some new)) ≡ with_frame number new.items s.frames) v
     (λ le free. let k : 1 + (number - 1) ≡ number = omega arith in
-        opens 1 (number - 1) table new (omega arith) (ap (λ (m : ℕ). locals_in (frames_from 1 table) m) k ∙ free) ∙ ap (λ (m : ℕ). with_frame m new.items (frames_from 1 table)) k)
+    opens 1 (number - 1) table new (omega arith) (ap (λ (m : ℕ). locals_in (frames_from 1 table) m) k ∙ free) ∙ ap (λ (m : ℕ). with_frame m new.items (frames_from 1 table)) k)
+
+-- The least number that no open frame has.
+
+is_some_items : (x : Option (Vec Value Global)) → is_some x ≡ true → is_some (items_of x) ≡ true
+is_some_items None e = absurd cc
+is_some_items (Some values) e = refl
+
+least_in : (table : Table) (place : ℕ) → IsFirstClosed table place → IsLeastFree (frames_from 1 table) (place + 1)
+least_in table place first_closed = record {
+  positive = omega arith;
+  free = elim (cases_lt place (length table)) [
+    | inl lt ↦ ap (λ k. locals_in (frames_from 1 table) k) (omega arith) ∙ found 1 place table None lt (sym (first_closed.closed lt))
+    | inr ge ↦ past 1 (place + 1) table (omega arith)
+  ];
+  below = λ n positive lt. let i = n - 1 in let within : i < length table = let w = first_closed.within in omega arith in let x = slice_index_or table i None in
+      ap is_some (ap (λ k. locals_in (frames_from 1 table) k) (omega arith) ∙ found 1 i table x within (get_or_default table i None x within))
+      ∙ is_some_items x (first_closed.below i (omega arith));
+}
+
+pub least : {seen : StoredFrames} (table : Table) → stored table ≡ seen → (place : ℕ) → IsFirstClosed table place → IsLeastFree seen.frames (place + 1)
+least {seen} table v place first_closed = subst (λ (s : StoredFrames). IsLeastFree s.frames (place + 1)) v (least_in table place first_closed)
+
+-- one more place without a frame
+pub frames_from-widened : (n : ℕ) (table : Table) → frames_from n (table ++ None ∷ []) ≡ frames_from n table
+frames_from-widened n [] = refl
+frames_from-widened n (None ∷ rest) = frames_from-widened (suc n) rest
+frames_from-widened n (Some values ∷ rest) = ap (λ (fs : Frames). (n, values.items) ∷ fs) (frames_from-widened (suc n) rest)
+
+-- A frame opened under a free number.
+
+with_first : (number : ℕ) (values : List Value) (f : ℕ × List Value) (fs : Frames) → nat_eq f.0 number ≡ false → (b : Bool) → nat_lt number f.0 ≡ b
+    → (without_frame number (with_frame number values fs) ≡ fs) → without_frame number (with_frame number values (f ∷ fs)) ≡ f ∷ fs
+with_first number values f fs ne true lt ih = rw (lt, same number) refl
+with_first number values f fs ne false ge ih = rw (ge, ne) (ap (λ (gs : Frames). f ∷ gs) ih)
+
+found_first : (number : ℕ) (values : List Value) (f : ℕ × List Value) (fs : Frames) → nat_eq f.0 number ≡ false → (b : Bool) → nat_lt number f.0 ≡ b
+    → (locals_in (with_frame number values fs) number ≡ Some values) → locals_in (with_frame number values (f ∷ fs)) number ≡ Some values
+found_first number values f fs ne true lt ih = rw (lt, same number) refl
+found_first number values f fs ne false ge ih = rw (ge, ne) ih
+
+tail_has_none : (number : ℕ) (f : ℕ × List Value) (fs : Frames) (b : Bool) → nat_eq f.0 number ≡ b → locals_in (f ∷ fs) number ≡ None → (b ≡ false) × (locals_in fs number ≡ None)
+tail_has_none number f fs true eq e = absurd (not_none f.1 (rw eq at e))
+  where
+    not_none : (values : List Value) → Some values ≡ None → ⊥
+    not_none values q = cc
+tail_has_none number f fs false ne e = (refl, rw ne at e)
+
+pub without_frame-with_frame : (number : ℕ) (values : List Value) (fs : Frames) → locals_in fs number ≡ None → without_frame number (with_frame number values fs) ≡ fs
+without_frame-with_frame number values [] e = rw (same number) refl
+without_frame-with_frame number values (f ∷ fs) e = let t = tail_has_none number f fs (nat_eq f.0 number) refl e in
+    with_first number values f fs t.0 (nat_lt number f.0) refl (without_frame-with_frame number values fs t.1)
+
+pub locals_in-with_frame : (number : ℕ) (values : List Value) (fs : Frames) → locals_in fs number ≡ None → locals_in (with_frame number values fs) number ≡ Some values
+locals_in-with_frame number values [] e = rw (same number) refl
+locals_in-with_frame number values (f ∷ fs) e = let t = tail_has_none number f fs (nat_eq f.0 number) refl e in
+    found_first number values f fs t.0 (nat_lt number f.0) refl (locals_in-with_frame number values fs t.1)

@@ -46,8 +46,11 @@ abbrev pub local : StateView → ℕ → ℕ → Value
 local s number slot = value_at (locals s number) slot
 
 -- an Array without items stands for an object that is not there
+abbrev pub no_object : ObjectView
+no_object = record { class = record { 0 = 0 }; items = [] }
+
 abbrev pub object : StateView → ℕ → ObjectView
-object s r = unwrap_or (slice_get s.objects r) (record { class = record { 0 = 0 }; items = [] })
+object s r = unwrap_or (slice_get s.objects r) no_object
 
 abbrev pub item : StateView → ℕ → ℕ → Value
 item s r place = value_at (object s r).items place

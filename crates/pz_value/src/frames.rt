@@ -1,7 +1,8 @@
 //! The open frames by their numbers.
 
-ghost use Rattle.std.specs.Prelude.{◌≡◌, ◌<◌, ◌≤◌, [], length, slice_set, Some, None, IsSome, IfOk, OnErr};
+ghost use Rattle.std.specs.Prelude.{◌≡◌, ◌<◌, ◌≤◌, ◌+◌, ◌^◌, [], length, slice_set, Some, None, IsSome, IfOk, OnOk, OnErr};
 ghost use Rattle.pz_value.specs.States.{value_at, locals_in, locals_of, at_frame, with_frame, without_frame, IsLeastFree};
+ghost use Rattle.pz_value.specs.devices.FrameTables.{IsFirstClosed};
 
 use crate::Value;
 use crate::values::replace;
@@ -25,6 +26,18 @@ impl Model for FrameTable {
     ghost view = { λ frames. stored frames.table.items };
 }
 
+/// The first place where no frame is open, or the length where each is.
+fn first_closed(table: &Vec<Option<Vec<Value>>>) -> usize
+    ensures { IsFirstClosed table.now.items result }
+{
+    for (place, frame) in table.iter().enumerate() {
+        if frame.is_none() {
+            return place;
+        }
+    }
+    table.len()
+}
+
 impl FrameTable {
     /// No open frame. Takes no memory.
     pub fn new(alloc: Global) -> FrameTable
@@ -33,6 +46,13 @@ impl FrameTable {
         FrameTable {
             table: Vec::new(alloc),
         }
+    }
+
+    /// Up to which number there is room.
+    fn room(&self) -> usize
+        ensures { result ≡ self.now.room }
+    {
+        self.table.len()
     }
 
     /// A local of an open frame.
@@ -73,6 +93,55 @@ impl FrameTable {
             Some(locals) => locals,
             None => unreachable!(),
         }
+    }
+
+    /// The place of the least number from 1 that no open frame has.
+    fn free_place(&self) -> usize
+        ensures least { IsLeastFree self.now.frames (result + 1) }
+        ensures within { result ≤ self.now.room }
+        ensures small { result < 2 ^ 63 }
+    {
+        first_closed(&self.table)
+    }
+
+    /// Makes room for one more number. The only error is want of memory, and then all stays.
+    fn widen(&mut self) -> Result<(), AllocError>
+        ensures frames { self.new.frames ≡ self.old.frames }
+        ensures ok { OnOk result (self.new.room ≡ self.old.room + 1) }
+        ensures err { OnErr result (self.new.room ≡ self.old.room) }
+    {
+        self.table.push(None)?;
+        Ok(())
+    }
+
+    /// The least number from 1 that no open frame has, for which there is room then. The only error is
+    /// want of memory.
+    fn free_number(&mut self) -> Result<u64, AllocError>
+        ensures least { IfOk result (λ number. IsLeastFree self.old.frames number) }
+        ensures within { IfOk result (λ number. number ≤ self.new.room) }
+        ensures frames { self.new.frames ≡ self.old.frames }
+        ensures room { self.old.room ≤ self.new.room }
+    {
+        let place = self.free_place();
+        if place == self.room() {
+            self.widen()?;
+        }
+        Ok(place as u64 + 1)
+    }
+
+    /// Opens a frame with these locals under the least number from 1 that no open frame has. The only
+    /// error is want of memory, and then the frames stay.
+    pub fn open(&mut self, locals: Vec<Value>) -> Result<u64, AllocError>
+        ensures least { IfOk result (λ number. IsLeastFree self.old.frames number) }
+        ensures frames { IfOk result (λ number. self.new.frames ≡ with_frame number locals.items self.old.frames) }
+        ensures back { IfOk result (λ number. without_frame number self.new.frames ≡ self.old.frames) }
+        ensures there { IfOk result (λ number. IsSome (locals_in self.new.frames number)) }
+        ensures err { OnErr result (self.new.frames ≡ self.old.frames) }
+        ensures room { self.old.room ≤ self.new.room }
+    {
+        let number = self.free_number()?;
+        self.open_at(number, locals);
+        Ok(number)
     }
 
     /// Opens a frame under a number for which there is room. Takes no memory.

@@ -2,6 +2,7 @@
 //! and the numbers of its classes and faults.
 #![tactic(auto)]
 
+mod contents;
 mod fault;
 mod frames;
 mod journal;

@@ -96,6 +96,7 @@ impl Object {
         requires { count ≤ length self.old.object.items }
         ensures ok { IfOk result (λ cut. self.new.object ≡ record { class = self.old.object.class; items = take count self.old.object.items }) }
         ensures back { IfOk result (λ cut. self.new.object.items ++ reverse cut.items ≡ self.old.object.items) }
+        ensures fits { IfOk result (λ cut. length self.new.object.items + length cut.items ≤ self.new.room) }
         ensures err { OnErr result (self.new.object ≡ self.old.object) }
         ensures room { self.new.room ≡ self.old.room }
     {

@@ -1,11 +1,12 @@
 //! The state of a process.
 
-ghost use Rattle.std.specs.Prelude.{◌≡◌, ◌<◌, ◌≤◌, ◌^◌, ◌↔◌, length, All, IfOk, OnOk, OnErr};
+ghost use Rattle.std.specs.Prelude.{◌≡◌, ◌<◌, ◌≤◌, ◌^◌, ◌↔◌, [], length, All, Err, IfOk, OnOk, OnErr};
 ghost use Rattle.pz_value.specs.States.{initial, variable, local, object, HasVariable, HasFrame, HasLocal, HasObject, HasItem, IsLeastFree, set_variable, set_local, set_item, resized, opened, closed, made};
 ghost use Rattle.pz_value.specs.References.{RefersWithin, IsSelfContained};
 ghost use Rattle.pz_value.specs.Marks.{IsLatest, changed, marked, undone, kept};
 
-use crate::journal::Entry;
+use crate::contents::Contents;
+use crate::journal::{Change, Journal, undo_last};
 use crate::{ClassId, Object, Value};
 use std::alloc::{AllocError, Global};
 use std::marker::Model;
@@ -55,16 +56,12 @@ impl From<AllocError> for MakeError {
 }
 
 /// The state of a process: its variables, the locals of its open frames, and its objects. References
-/// in it name its objects. While marks are open it keeps what leads back to each of them.
+/// in it name its objects. Marks nest; while one is open, what leads back to it is kept, and a change
+/// costs no more than without. Undoing costs as much as the changes since the mark.
 #[derive(Debug, Drop)]
 pub struct State {
-    vars: Vec<Value>,
-    frames: Vec<Option<Vec<Value>>>,
-    objects: Vec<Object>,
-    // what the changes since the oldest open mark replaced, the latest last
-    journal: Vec<Entry>,
-    // how many marks are open
-    marks: usize,
+    contents: Contents,
+    journal: Journal,
 }
 
 impl Model for State {
@@ -72,9 +69,11 @@ impl Model for State {
 
     ghost Value = { Seen };
 
-    ghost use Rattle.pz_value.specs.devices.Fields.{seen};
+    ghost use Rattle.pz_value.specs.devices.Fields.{seen, IsKept};
 
     ghost view = { seen };
+
+    ghost invariant = { IsKept };
 }
 
 impl State {
@@ -83,7 +82,11 @@ impl State {
     pub fn new(alloc: Global, variables: u32) -> Result<State, AllocError>
         ensures { IfOk result (λ state. state ≡ record { held = initial variables; marks = [] }) }
     {
-        unreachable!()
+        let contents = Contents::new(alloc, variables)?;
+        Ok(State {
+            contents,
+            journal: Journal::new(alloc),
+        })
     }
 
     /// A variable. Takes no memory.
@@ -92,7 +95,7 @@ impl State {
         ensures value { result.now ≡ variable self.now.held slot }
         ensures within { RefersWithin (length self.now.held.objects) result.now }
     {
-        unreachable!()
+        self.contents.var(slot)
     }
 
     /// A local of an open frame. Takes no memory.
@@ -101,7 +104,7 @@ impl State {
         ensures value { result.now ≡ local self.now.held frame.0 slot }
         ensures within { RefersWithin (length self.now.held.objects) result.now }
     {
-        unreachable!()
+        self.contents.local(frame.0, slot)
     }
 
     /// An object by its number. Takes no memory.
@@ -111,7 +114,7 @@ impl State {
         ensures within { All (RefersWithin (length self.now.held.objects)) result.now.object.items }
         ensures counted { length result.now.object.items < 2 ^ 32 }
     {
-        unreachable!()
+        self.contents.object(r)
     }
 
     /// How many objects there are. Takes no memory.
@@ -120,7 +123,7 @@ impl State {
         ensures limit { result ≤ OBJECT_LIMIT }
         ensures contained { IsSelfContained self.now.held }
     {
-        unreachable!()
+        self.contents.objects() as u32
     }
 
     /// Gives a variable a value. The only error is want of memory, and then all is as before.
@@ -130,7 +133,10 @@ impl State {
         ensures ok { OnOk result (self.new ≡ changed self.old (set_variable self.old.held slot value)) }
         ensures err { OnErr result (self.new ≡ self.old) }
     {
-        unreachable!()
+        self.journal.reserve()?;
+        let change = self.contents.set_var(slot, value);
+        self.journal.note(change);
+        Ok(())
     }
 
     /// Gives a local of an open frame a value. The only error is want of memory, and then all is as
@@ -141,7 +147,10 @@ impl State {
         ensures ok { OnOk result (self.new ≡ changed self.old (set_local self.old.held frame.0 slot value)) }
         ensures err { OnErr result (self.new ≡ self.old) }
     {
-        unreachable!()
+        self.journal.reserve()?;
+        let change = self.contents.set_local(frame.0, slot, value);
+        self.journal.note(change);
+        Ok(())
     }
 
     /// Gives an item of an object a value. The only error is want of memory, and then all is as
@@ -152,7 +161,10 @@ impl State {
         ensures ok { OnOk result (self.new ≡ changed self.old (set_item self.old.held r item value)) }
         ensures err { OnErr result (self.new ≡ self.old) }
     {
-        unreachable!()
+        self.journal.reserve()?;
+        let change = self.contents.set_item(r, item, value);
+        self.journal.note(change);
+        Ok(())
     }
 
     /// Gives an object so many items: it is cut, or filled with nil. The only error is want of
@@ -162,7 +174,10 @@ impl State {
         ensures ok { OnOk result (self.new ≡ changed self.old (resized self.old.held r items)) }
         ensures err { OnErr result (self.new ≡ self.old) }
     {
-        unreachable!()
+        self.journal.reserve()?;
+        let change = self.contents.resize(r, items)?;
+        self.journal.note(change);
+        Ok(())
     }
 
     /// Opens a frame with so many locals, all nil, under the least number from 1 that no open frame
@@ -172,7 +187,10 @@ impl State {
         ensures ok { IfOk result (λ frame. self.new ≡ changed self.old (opened self.old.held frame.0 locals)) }
         ensures err { OnErr result (self.new ≡ self.old) }
     {
-        unreachable!()
+        self.journal.reserve()?;
+        let frame = self.contents.open_frame(locals)?;
+        self.journal.note(Change::Opened { frame });
+        Ok(FrameId(frame))
     }
 
     /// Closes a frame. The only error is want of memory, and then all is as before.
@@ -181,7 +199,10 @@ impl State {
         ensures ok { OnOk result (self.new ≡ changed self.old (closed self.old.held frame.0)) }
         ensures err { OnErr result (self.new ≡ self.old) }
     {
-        unreachable!()
+        self.journal.reserve()?;
+        let change = self.contents.close_frame(frame.0);
+        self.journal.note(change);
+        Ok(())
     }
 
     /// Makes an object with so many items, all nil, and gives its number. At a refusal all is as
@@ -192,7 +213,14 @@ impl State {
         ensures err { OnErr result (self.new ≡ self.old) }
         ensures full { result ≡ Err MakeError.StoreFull ↔ (length self.old.held.objects ≡ OBJECT_LIMIT) }
     {
-        unreachable!()
+        let count = self.objects();
+        if count == OBJECT_LIMIT {
+            return Err(MakeError::StoreFull);
+        }
+        self.journal.reserve()?;
+        self.contents.make(class, items)?;
+        self.journal.note(Change::Made);
+        Ok(count)
     }
 
     /// Marks the state as it is. The only error is want of memory, and then all is as before.
@@ -200,22 +228,25 @@ impl State {
         ensures ok { IfOk result (λ point. self.new ≡ marked self.old point) }
         ensures err { OnErr result (self.new ≡ self.old) }
     {
-        unreachable!()
+        let place = self.journal.mark()?;
+        Ok(Point { place })
     }
 
-    /// Undoes the changes since the latest open mark, and the mark. Takes no memory.
+    /// Undoes the changes since the latest open mark, and leaves the mark. Takes no memory.
     pub fn undo_to(&mut self, point: Point)
         requires { IsLatest self.old point }
         ensures { self.new ≡ undone self.old }
     {
-        unreachable!()
+        let _latest = point;
+        undo_last(&mut self.contents, &mut self.journal.entries);
+        self.journal.close_mark();
     }
 
-    /// Leaves the latest open mark, and the changes since it stay. Takes no memory.
+    /// Leaves the latest open mark; the changes since it stay. Takes no memory.
     pub fn keep(&mut self, point: Point)
         requires { IsLatest self.old point }
         ensures { self.new ≡ kept self.old }
     {
-        unreachable!()
+        self.journal.keep(point.place);
     }
 }

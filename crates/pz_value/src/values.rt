@@ -74,6 +74,7 @@ pub fn cut(values: &mut Vec<Value>, count: usize) -> Result<Vec<Value>, AllocErr
     requires { count ≤ length values.old.items }
     ensures items { IfOk result (λ cut. values.new.items ≡ take count values.old.items) }
     ensures back { IfOk result (λ cut. values.new.items ++ reverse cut.items ≡ values.old.items) }
+    ensures fits { IfOk result (λ cut. length values.new.items + length cut.items ≤ vec_capacity values.new) }
     ensures err { OnErr result (values.new.items ≡ values.old.items) }
     ensures room { vec_capacity values.new ≡ vec_capacity values.old }
 {

@@ -1,5 +1,5 @@
 -- The open frames as a table of all numbers up to some: the locals of an open frame, or nothing.
-use Rattle.std.specs.Prelude.{ℕ, suc, List, [], ◌∷◌, length, Option, Some, None, Vec}
+use Rattle.std.specs.Prelude.{◌≡◌, ◌<◌, ◌≤◌, ℕ, suc, List, [], ◌∷◌, length, slice_index_or, is_some, true, Option, Some, None, Vec}
 use Rattle.std.specs.declared.alloc.Global.{Global}
 use Rattle.pz_value.specs.declared.value.Value.{Value}
 use Rattle.pz_value.specs.States.{Frames}
@@ -20,3 +20,9 @@ pub record StoredFrames : Type 0 where
 
 abbrev pub stored : Table → StoredFrames
 stored table = record { frames = frames_from 1 table; room = length table }
+
+-- the first place that has no open frame, or the end
+pub record IsFirstClosed (table : Table) (place : ℕ) : Type 0 where
+  pub within : place ≤ length table
+  pub closed : place < length table → slice_index_or table place None ≡ None
+  pub below : (i : ℕ) → i < place → is_some (slice_index_or table i None) ≡ true

@@ -24,7 +24,7 @@ returns-clause-frames c = let p = local_at c.self.inside.table.items c.self.view
 pub returns-clause-back : goal.returns-clause-back
 returns-clause-back c = let p = local_at c.self.inside.table.items c.self.view_is c.args.number c.args.slot c.requires in
     (replaced c.self.inside.table.items c.self.view_is c.args.number _ c.in-Some.locals c.replace.new.values p.positive p.within c.index_mut.ensures.value c.in-Some.is).back (λ locals. slice_set locals c.args.slot c.replace.result)
-        (sym (ap (λ (locals : List Value). slice_set locals c.args.slot c.replace.result) c.replace.ensures.new ∙ set_back c.in-Some.locals.items c.args.slot c.replace.result c.args.value c.replace.ensures.old))
+    (sym (ap (λ (locals : List Value). slice_set locals c.args.slot c.replace.result) c.replace.ensures.new ∙ set_back c.in-Some.locals.items c.args.slot c.replace.result c.args.value c.replace.ensures.old))
 
 pub returns-clause-there : goal.returns-clause-there
 returns-clause-there c = let p = local_at c.self.inside.table.items c.self.view_is c.args.number c.args.slot c.requires in
