@@ -3,12 +3,13 @@
 #![tactic(auto)]
 
 ghost use Rattle.std.specs.Prelude.{◌≡◌, ◌<◌, ◌≤◌, length, All, IsTrue};
-ghost use Rattle.pz_value.specs.References.{RefersWithin};
-ghost use Rattle.pz_value.specs.Objects.{StoredObject};
+ghost use Rattle.pz_state.specs.References.{RefersWithin};
+ghost use Rattle.pz_state.specs.Objects.{StoredObject};
 ghost use Rattle.pz_copy.specs.Parcels.{plain_objects};
 
 use pz_copy::{Parcel, pack, unpack};
-use pz_value::{ClassId, Object, State, Text, Value};
+use pz_state::{Object, State};
+use pz_value::{ClassId, Text, Value};
 use std::alloc::{AllocError, Global};
 use std::io;
 

@@ -3,12 +3,13 @@
 #![tactic(auto)]
 
 ghost use Rattle.std.specs.Prelude.{◌≡◌, IfOk, All, length};
-ghost use Rattle.pz_value.specs.References.{RefersWithin};
+ghost use Rattle.pz_state.specs.References.{RefersWithin};
 
 mod show;
 
 use pz_prims::{Prim, prim};
-use pz_value::{ClassId, State, Text, Value};
+use pz_state::State;
+use pz_value::{ClassId, Text, Value};
 use std::alloc::{AllocError, Global};
 use std::io;
 use std::str::SplitWhitespace;

@@ -10,9 +10,9 @@ use Rattle.std.proofs.lemmas.Option.{slice_get_within, get_or_from_slice_get, sl
 use Rattle.std.proofs.lemmas.Map.Steps.{length-le_from_distinct_below}
 use Rattle.pz_value.specs.declared.value.Value.{Value}
 use Rattle.pz_value.specs.declared.value.Value.TheVariants as value
-use Rattle.pz_value.specs.Objects.{ObjectView}
-use Rattle.pz_value.specs.States.{StateView, object}
-use Rattle.pz_value.specs.References.{RefersWithin, IsSelfContained}
+use Rattle.pz_state.specs.Objects.{ObjectView}
+use Rattle.pz_state.specs.States.{StateView, object}
+use Rattle.pz_state.specs.References.{RefersWithin, IsSelfContained}
 use Rattle.pz_copy.specs.References.{reference_of, references, IsIn}
 use Rattle.pz_copy.specs.Packing.{mentioned, IsListing, HasOneListing}
 use Rattle.pz_copy.specs.devices.Gathering.{gathered, IsGathered}

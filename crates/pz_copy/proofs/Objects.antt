@@ -6,9 +6,9 @@ use Rattle.std.proofs.lemmas.List.{append-nil, append_assoc, length-append, leng
 use Rattle.std.proofs.lemmas.Option.{slice_get_within, slice_get-get_or}
 use Rattle.pz_value.specs.declared.value.Value.{Value}
 use Rattle.pz_value.specs.declared.value.Value.TheVariants as value
-use Rattle.pz_value.specs.Objects.{ObjectView}
-use Rattle.pz_value.specs.States.{StateView, object, nils, at_object, set_item}
-use Rattle.pz_value.specs.References.{RefersWithin}
+use Rattle.pz_state.specs.Objects.{ObjectView}
+use Rattle.pz_state.specs.States.{StateView, object, nils, at_object, set_item}
+use Rattle.pz_state.specs.References.{RefersWithin}
 use Rattle.pz_copy.specs.References.{renumbered, renumbered_object}
 use Rattle.pz_copy.specs.Unpacking.{shifted_values, shifted_objects}
 use Rattle.pz_copy.specs.devices.Filling.{blank_of, filled, with_parts}

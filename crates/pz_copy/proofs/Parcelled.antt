@@ -4,13 +4,13 @@ use Rattle.std.specs.Prelude.{All, slice_get}
 use Rattle.std.proofs.Math.Seq.{take-suc, take-append_seam}
 use Rattle.std.proofs.lemmas.List.{append_assoc, length-append, length-map, map-append}
 use Rattle.std.proofs.lemmas.List.Elements.{All-cons, All-append}
-use Rattle.pz_value.specs.declared.state.TheConstants.{OBJECT_LIMIT}
+use Rattle.pz_state.specs.declared.state.TheConstants.{OBJECT_LIMIT}
 use Rattle.pz_value.specs.declared.value.ClassId.{ClassId}
 use Rattle.pz_value.specs.declared.value.Value.{Value}
 use Rattle.pz_value.specs.declared.value.Value.TheVariants as value
-use Rattle.pz_value.specs.Objects.{ObjectView, StoredObject}
-use Rattle.pz_value.specs.States.{StateView, object, made}
-use Rattle.pz_value.specs.References.{RefersWithin}
+use Rattle.pz_state.specs.Objects.{ObjectView, StoredObject}
+use Rattle.pz_state.specs.States.{StateView, object, made}
+use Rattle.pz_state.specs.References.{RefersWithin}
 use Rattle.pz_copy.specs.References.{reference_of, references, IsIn, renumbered, renumbered_object}
 use Rattle.pz_copy.specs.Parcels.{ParcelView, IsParcel, plain_objects}
 use Rattle.pz_copy.specs.Packing.{place_in, packed_objects, IsListing}

@@ -4,8 +4,8 @@ use Rattle.std.specs.Prelude.{pos, negsuc, slice_get, codes}
 use Rattle.std.proofs.lemmas.Fmt.{decimal_digit}
 use Rattle.pz_value.specs.declared.value.Value.{Value}
 use Rattle.pz_value.specs.declared.value.Value.TheVariants as value
-use Rattle.pz_value.specs.Objects.{ObjectView}
-use Rattle.pz_value.specs.States.{StateView}
+use Rattle.pz_state.specs.Objects.{ObjectView}
+use Rattle.pz_state.specs.States.{StateView}
 use Rattle.pz_copy.specs.References.{IsIn}
 use Rattle.pz_copy.specs.Parcels.{ParcelView}
 use Rattle.pz_copy.specs.Packing.{mentioned, IsParcelOf}

@@ -3,10 +3,10 @@ use Rattle.std.proofs.Common.{◌≡◌, refl, sym, ◌∙◌, ap, subst, ℕ, z
 use Rattle.std.specs.Prelude.{All, slice_get}
 use Rattle.std.proofs.lemmas.List.{length-map}
 use Rattle.pz_value.specs.declared.value.Value.{Value}
-use Rattle.pz_value.specs.Objects.{ObjectView, StoredObject}
-use Rattle.pz_value.specs.States.{StateView, object, nils, made, set_item, HasItem}
-use Rattle.pz_value.specs.References.{RefersWithin}
-use Rattle.pz_value.specs.Marks.{Seen, changed}
+use Rattle.pz_state.specs.Objects.{ObjectView, StoredObject}
+use Rattle.pz_state.specs.States.{StateView, object, nils, made, set_item, HasItem}
+use Rattle.pz_state.specs.References.{RefersWithin}
+use Rattle.pz_state.specs.Marks.{Seen, changed}
 use Rattle.pz_copy.specs.References.{renumbered}
 use Rattle.pz_copy.specs.Parcels.{plain_objects}
 use Rattle.pz_copy.specs.Unpacking.{shifted_values}

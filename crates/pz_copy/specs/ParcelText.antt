@@ -5,7 +5,7 @@ use Rattle.std.specs.Fmt.{decimal, signed_decimal}
 use Rattle.pz_value.specs.declared.value.ClassId.{ClassId}
 use Rattle.pz_value.specs.declared.value.Value.{Value}
 use Rattle.pz_value.specs.declared.value.Value.TheVariants as value
-use Rattle.pz_value.specs.Objects.{ObjectView}
+use Rattle.pz_state.specs.Objects.{ObjectView}
 use Rattle.pz_copy.specs.Parcels.{ParcelView}
 
 -- lower case hexadecimal

@@ -1,9 +1,9 @@
 -- What a parcel is seen as, and what its type keeps.
 use Rattle.std.specs.Prelude.{◌<◌, ◌≤◌, ◌^◌, List, length, All, map}
-use Rattle.pz_value.specs.declared.state.TheConstants.{OBJECT_LIMIT}
+use Rattle.pz_state.specs.declared.state.TheConstants.{OBJECT_LIMIT}
 use Rattle.pz_value.specs.declared.value.Value.{Value}
-use Rattle.pz_value.specs.Objects.{ObjectView, StoredObject}
-use Rattle.pz_value.specs.References.{RefersWithin}
+use Rattle.pz_state.specs.Objects.{ObjectView, StoredObject}
+use Rattle.pz_state.specs.References.{RefersWithin}
 
 -- values, and the objects that their references name by their places in the list
 pub record ParcelView : Type 0 where

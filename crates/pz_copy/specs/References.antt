@@ -3,7 +3,7 @@ use Rattle.std.specs.Prelude.{◌≡◌, ℕ, true, nat_eq, List, [], ◌∷◌,
 use Rattle.std.specs.List.{list_any, flat_map}
 use Rattle.pz_value.specs.declared.value.Value.{Value}
 use Rattle.pz_value.specs.declared.value.Value.TheVariants as value
-use Rattle.pz_value.specs.Objects.{ObjectView}
+use Rattle.pz_state.specs.Objects.{ObjectView}
 
 abbrev pub reference_of : Value → List ℕ
 reference_of (value.Ref r) = r ∷ []

@@ -2,8 +2,8 @@
 -- as much greater as there were objects.
 use Rattle.std.specs.Prelude.{ℕ, ◌+◌, List, ◌++◌, length, map}
 use Rattle.pz_value.specs.declared.value.Value.{Value}
-use Rattle.pz_value.specs.Objects.{ObjectView}
-use Rattle.pz_value.specs.States.{StateView}
+use Rattle.pz_state.specs.Objects.{ObjectView}
+use Rattle.pz_state.specs.States.{StateView}
 use Rattle.pz_copy.specs.References.{renumbered, renumbered_object}
 use Rattle.pz_copy.specs.Parcels.{ParcelView}
 

@@ -1,13 +1,14 @@
 //! The objects that values lead to.
 
 ghost use Rattle.std.specs.Prelude.{◌≡◌, ◌≤◌, ◌<◌, length, All, IfOk, OnOk};
-ghost use Rattle.pz_value.specs.References.{RefersWithin};
+ghost use Rattle.pz_state.specs.References.{RefersWithin};
 ghost use Rattle.pz_copy.specs.References.{references};
 ghost use Rattle.pz_copy.specs.Packing.{IsListing, HasOneListing};
 ghost use Rattle.pz_copy.specs.devices.Gathering.{gathered};
 
 use indexmap::IndexSet;
-use pz_value::{OBJECT_LIMIT, State, Value};
+use pz_state::{OBJECT_LIMIT, State};
+use pz_value::Value;
 use std::alloc::{AllocError, Global};
 
 /// Lists the references of the values that are not in the list. The only error is want of memory.

@@ -1,8 +1,8 @@
 //! From a state into a parcel.
 
 ghost use Rattle.std.specs.Prelude.{◌≡◌, ◌≤◌, ◌<◌, ◌^◌, ℕ, length, map, All, IfOk};
-ghost use Rattle.pz_value.specs.States.{object};
-ghost use Rattle.pz_value.specs.References.{RefersWithin};
+ghost use Rattle.pz_state.specs.States.{object};
+ghost use Rattle.pz_state.specs.References.{RefersWithin};
 ghost use Rattle.pz_copy.specs.References.{renumbered, renumbered_object};
 ghost use Rattle.pz_copy.specs.Packing.{IsParcelOf, HasOneListing, place_in, packed_objects};
 ghost use Rattle.pz_copy.specs.Parcels.{plain_objects};
@@ -10,7 +10,8 @@ ghost use Rattle.pz_copy.specs.Parcels.{plain_objects};
 use crate::listing::list_reached;
 use crate::parcel::Parcel;
 use indexmap::IndexSet;
-use pz_value::{OBJECT_LIMIT, Object, State, Value};
+use pz_state::{OBJECT_LIMIT, Object, State};
+use pz_value::Value;
 use std::alloc::{AllocError, Global};
 
 /// The place of a number in the list; how long the list is where it is not there.

@@ -1,7 +1,8 @@
 ghost use Rattle.std.specs.Prelude.{◌≡◌, ◌<◌, ◌^◌, length, All, IfOk};
 ghost use Rattle.pz_copy.specs.Parcels.{plain_objects, IsParcel};
 
-use pz_value::{Object, Value};
+use pz_state::Object;
+use pz_value::Value;
 use std::alloc::{AllocError, Global};
 use std::marker::Model;
 

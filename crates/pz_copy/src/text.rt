@@ -7,7 +7,8 @@ ghost use Rattle.pz_copy.specs.Parcels.{plain_objects};
 ghost use Rattle.pz_copy.specs.ParcelText.{hex_digit, item_text, quoted, value_text, values_text, object_text, object_texts, objects_text, separated, parcel_text};
 
 use crate::parcel::Parcel;
-use pz_value::{OBJECT_LIMIT, Object, Text, Value};
+use pz_state::{OBJECT_LIMIT, Object};
+use pz_value::{Text, Value};
 use std::alloc::AllocError;
 
 fn hex_digit(digit: u8) -> u8

@@ -2,9 +2,9 @@
 
 ghost use Rattle.std.specs.Prelude.{◌≡◌, ◌<◌, ◌≤◌, ◌+◌, ◌-◌, ◌^◌, ◌↔◌, ◌++◌, ℕ, List, length, take, map, All, Err, IfOk, OnOk, OnErr};
 ghost use Rattle.pz_value.specs.declared.value.Value.{Value};
-ghost use Rattle.pz_value.specs.References.{RefersWithin};
-ghost use Rattle.pz_value.specs.States.{StateView, object, nils};
-ghost use Rattle.pz_value.specs.Marks.{changed};
+ghost use Rattle.pz_state.specs.References.{RefersWithin};
+ghost use Rattle.pz_state.specs.States.{StateView, object, nils};
+ghost use Rattle.pz_state.specs.Marks.{changed};
 ghost use Rattle.pz_copy.specs.References.{renumbered};
 ghost use Rattle.pz_copy.specs.Parcels.{plain_objects, IsParcel};
 ghost use Rattle.pz_copy.specs.Packing.{IsParcelOf};
@@ -13,7 +13,8 @@ ghost use Rattle.pz_copy.specs.Sharing.{SameUpToNumbers};
 ghost use Rattle.pz_copy.specs.devices.Filling.{blank_of, with_blanks, filled};
 
 use crate::parcel::Parcel;
-use pz_value::{MakeError, OBJECT_LIMIT, Object, State, Value};
+use pz_state::{MakeError, OBJECT_LIMIT, Object, State};
+use pz_value::Value;
 use std::alloc::{AllocError, Global};
 
 /// Why [`unpack`] copied nothing.

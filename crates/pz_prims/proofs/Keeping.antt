@@ -3,8 +3,8 @@ use Rattle.std.proofs.Common.{◌≡◌, ℕ, List, Bool, true, false, Option, N
 use Rattle.std.specs.Prelude.{◌↔◌, if◌then◌else◌, IfOk, OnOk}
 use Rattle.pz_value.specs.declared.value.Value.{Value}
 use Rattle.pz_value.specs.declared.value.Value.TheVariants as value
-use Rattle.pz_value.specs.States.{StateView, object}
-use Rattle.pz_value.specs.Marks.{Seen, changed}
+use Rattle.pz_state.specs.States.{StateView, object}
+use Rattle.pz_state.specs.Marks.{Seen, changed}
 use Rattle.pz_prims.specs.declared.answer.Prim.{Prim}
 use Rattle.pz_prims.specs.declared.answer.Prim.TheVariants as prim
 use Rattle.pz_prims.specs.Rows.{Answer, answered}

@@ -2,7 +2,7 @@
 use Rattle.std.proofs.Common.{◌≡◌, ℕ, ℤ, Bool, List, [], ◌∷◌, map, Option, refl}
 use Rattle.std.specs.Prelude.{option_map}
 use Rattle.pz_value.specs.declared.value.Value.{Value}
-use Rattle.pz_value.specs.States.{StateView}
+use Rattle.pz_state.specs.States.{StateView}
 use Rattle.pz_prims.specs.declared.every_value.Equality.{Equality}
 use Rattle.pz_prims.specs.declared.integers.Operator.{Operator}
 use Rattle.pz_prims.specs.declared.booleans.Connective.{Connective}

@@ -4,7 +4,7 @@ use Rattle.std.specs.Prelude.{OnOk}
 use Rattle.std.specs.Option.{option_map_or}
 use Rattle.pz_value.specs.declared.value.Value.{Value}
 use Rattle.pz_value.specs.declared.value.Value.TheVariants as value
-use Rattle.pz_value.specs.States.{StateView}
+use Rattle.pz_state.specs.States.{StateView}
 use Rattle.pz_prims.specs.Rows.{Answer, answered}
 use Rattle.pz_prims.specs.EveryValue.{every_value}
 use Rattle.pz_prims.specs.Table.{Outcome, outcome, of_itself, by_sort, told, understood}

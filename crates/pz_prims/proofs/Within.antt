@@ -4,11 +4,11 @@ use Rattle.std.specs.Prelude.{if◌then◌else◌, IfOk, IfSome, OnOk, OnErr, Al
 use Rattle.std.specs.Option.{option_map_or}
 use Rattle.pz_value.specs.declared.value.Value.{Value}
 use Rattle.pz_value.specs.declared.value.Value.TheVariants as value
-use Rattle.pz_value.specs.declared.fault.FaultKind.TheVariants as fault
-use Rattle.pz_value.specs.Objects.{ObjectView}
-use Rattle.pz_value.specs.References.{RefersWithin}
-use Rattle.pz_value.specs.States.{StateView, object, at_object, fitted, set_item, resized, HasObject}
-use Rattle.pz_value.specs.Marks.{Seen, changed}
+use Rattle.pz_state.specs.declared.fault.FaultKind.TheVariants as fault
+use Rattle.pz_state.specs.Objects.{ObjectView}
+use Rattle.pz_state.specs.References.{RefersWithin}
+use Rattle.pz_state.specs.States.{StateView, object, at_object, fitted, set_item, resized, HasObject}
+use Rattle.pz_state.specs.Marks.{Seen, changed}
 use Rattle.pz_prims.specs.declared.answer.Prim.{Prim}
 use Rattle.pz_prims.specs.Rows.{Rows, Answer, beside, answered}
 use Rattle.pz_prims.specs.EveryValue.{every_value}

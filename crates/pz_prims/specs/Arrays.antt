@@ -3,8 +3,8 @@ use Rattle.std.specs.Prelude.{ℕ, zero, suc, nat_le, ℤ, pos, negsuc, [], ◌�
 use Rattle.std.specs.Option.{option_map_or}
 use Rattle.pz_value.specs.declared.value.Value.{Value}
 use Rattle.pz_value.specs.declared.value.Value.TheVariants.{Int, Ref}
-use Rattle.pz_value.specs.declared.fault.FaultKind.TheVariants.{Index}
-use Rattle.pz_value.specs.States.{StateView, object, set_item, resized}
+use Rattle.pz_state.specs.declared.fault.FaultKind.TheVariants.{Index}
+use Rattle.pz_state.specs.States.{StateView, object, set_item, resized}
 use Rattle.pz_prims.specs.Rows.{Rows, Answer}
 use Rattle.pz_prims.specs.Integers.{of_integer}
 use Rattle.pz_prims.specs.Strings.{at_place}

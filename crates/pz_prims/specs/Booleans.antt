@@ -3,7 +3,7 @@ use Rattle.std.specs.Prelude.{Bool, not, ◌&&◌, ◌||◌, if◌then◌else◌
 use Rattle.std.specs.Bool.{beq}
 use Rattle.pz_value.specs.declared.value.Value.{Value}
 use Rattle.pz_value.specs.declared.value.Value.TheVariants.{Bool as Boolean, Str}
-use Rattle.pz_value.specs.declared.fault.FaultKind.TheVariants.{NotBoolean}
+use Rattle.pz_state.specs.declared.fault.FaultKind.TheVariants.{NotBoolean}
 use Rattle.pz_prims.specs.Rows.{Rows, Answer}
 
 -- an argument that has to be a Boolean

@@ -4,7 +4,7 @@ use Rattle.std.specs.Int.{int_min, int_max}
 use Rattle.std.specs.Fmt.{signed_decimal}
 use Rattle.pz_value.specs.declared.value.Value.{Value}
 use Rattle.pz_value.specs.declared.value.Value.TheVariants.{Bool as Boolean, Int, Str}
-use Rattle.pz_value.specs.declared.fault.FaultKind.TheVariants.{Overflow, DivideByZero, NotInteger}
+use Rattle.pz_state.specs.declared.fault.FaultKind.TheVariants.{Overflow, DivideByZero, NotInteger}
 use Rattle.pz_prims.specs.Rows.{Rows, Answer}
 
 -- from -2^63 to 2^63 - 1, where negsuc n is -(n + 1)

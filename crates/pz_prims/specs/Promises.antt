@@ -2,8 +2,8 @@
 use Rattle.std.specs.Prelude.{◌≡◌, ℕ, false, List, None}
 use Rattle.pz_value.specs.declared.value.Value.{Value}
 use Rattle.pz_value.specs.declared.value.Value.TheVariants.{Ref}
-use Rattle.pz_value.specs.References.{RefersWithin}
-use Rattle.pz_value.specs.States.{StateView, object}
+use Rattle.pz_state.specs.References.{RefersWithin}
+use Rattle.pz_state.specs.States.{StateView, object}
 use Rattle.pz_prims.specs.declared.answer.Prim.{Prim}
 use Rattle.pz_prims.specs.Rows.{answered}
 use Rattle.pz_prims.specs.EveryValue.{every_value}

@@ -3,7 +3,7 @@ use Rattle.std.specs.Prelude.{ℕ, zero, suc, nat_le, ℤ, pos, negsuc, List, []
 use Rattle.std.specs.Option.{option_map_or}
 use Rattle.pz_value.specs.declared.value.Value.{Value}
 use Rattle.pz_value.specs.declared.value.Value.TheVariants.{Int, Char, Str}
-use Rattle.pz_value.specs.declared.fault.FaultKind.TheVariants.{NotUnderstood, StoreFull, Index}
+use Rattle.pz_state.specs.declared.fault.FaultKind.TheVariants.{NotUnderstood, StoreFull, Index}
 use Rattle.pz_prims.specs.Rows.{Rows, Answer}
 use Rattle.pz_prims.specs.Integers.{of_integer}
 

@@ -4,8 +4,8 @@ use Rattle.std.specs.Option.{option_map_or}
 use Rattle.pz_value.specs.declared.value.ClassId.{ClassId}
 use Rattle.pz_value.specs.declared.value.Value.{Value}
 use Rattle.pz_value.specs.declared.value.Value.TheVariants.{Nil, Bool as Boolean, Int, Char, Str, Ref}
-use Rattle.pz_value.specs.declared.fault.FaultKind.TheVariants.{NotUnderstood}
-use Rattle.pz_value.specs.States.{StateView, object}
+use Rattle.pz_state.specs.declared.fault.FaultKind.TheVariants.{NotUnderstood}
+use Rattle.pz_state.specs.States.{StateView, object}
 use Rattle.pz_prims.specs.declared.answer.Prim.{Prim}
 use Rattle.pz_prims.specs.Rows.{Answer, answered}
 use Rattle.pz_prims.specs.EveryValue.{every_value}

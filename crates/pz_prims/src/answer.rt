@@ -1,4 +1,5 @@
-use pz_value::{FaultKind, Value};
+use pz_state::FaultKind;
+use pz_value::Value;
 
 /// What a value answers to a selector.
 #[derive(Drop)]

@@ -1,7 +1,7 @@
 ghost use Rattle.std.specs.Prelude.{◌≡◌, ◌∷◌, [], IfOk, OnOk, OnErr, All, length, Some, None, option_map};
-ghost use Rattle.pz_value.specs.Marks.{changed};
-ghost use Rattle.pz_value.specs.States.{HasObject};
-ghost use Rattle.pz_value.specs.References.{RefersWithin};
+ghost use Rattle.pz_state.specs.Marks.{changed};
+ghost use Rattle.pz_state.specs.States.{HasObject};
+ghost use Rattle.pz_state.specs.References.{RefersWithin};
 ghost use Rattle.pz_prims.specs.Rows.{answered, beside};
 ghost use Rattle.pz_prims.specs.Integers.{of_integer};
 ghost use Rattle.pz_prims.specs.Arrays.{arrays, item_at, resize, put, value_of, state_after};
@@ -10,7 +10,8 @@ ghost use Rattle.pz_prims.specs.devices.Operators.{requests, request_row};
 use crate::answer::Answer;
 use crate::places::at_place;
 use crate::spellings::find;
-use pz_value::{ARRAY_LIMIT, FaultKind, State, Value};
+use pz_state::{ARRAY_LIMIT, FaultKind, State};
+use pz_value::Value;
 use std::alloc::AllocError;
 
 #[derive(Clone, Copy)]

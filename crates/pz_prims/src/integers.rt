@@ -7,7 +7,8 @@ ghost use Rattle.pz_prims.specs.devices.Operators.{operators, operator_row, comp
 
 use crate::answer::Answer;
 use crate::spellings::find;
-use pz_value::{FaultKind, Text, Value};
+use pz_state::FaultKind;
+use pz_value::{Text, Value};
 use std::alloc::{AllocError, Global};
 
 /// What an Integer computes with another one.

@@ -7,7 +7,8 @@ ghost use Rattle.pz_prims.specs.devices.Operators.{operations, operation_row};
 use crate::answer::Answer;
 use crate::places::at_place;
 use crate::spellings::find;
-use pz_value::{FaultKind, Text, Value};
+use pz_state::FaultKind;
+use pz_value::{Text, Value};
 use std::alloc::{AllocError, Global};
 
 /// The most bytes of a String.

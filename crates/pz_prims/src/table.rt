@@ -1,14 +1,15 @@
 ghost use Rattle.std.specs.Prelude.{◌≡◌, ◌↔◌, IfOk, OnOk, OnErr, All, length};
-ghost use Rattle.pz_value.specs.Marks.{changed};
-ghost use Rattle.pz_value.specs.References.{RefersWithin};
-ghost use Rattle.pz_value.specs.States.{HasObject, object};
+ghost use Rattle.pz_state.specs.Marks.{changed};
+ghost use Rattle.pz_state.specs.References.{RefersWithin};
+ghost use Rattle.pz_state.specs.States.{HasObject, object};
 ghost use Rattle.pz_prims.specs.Table.{outcome, of_itself, by_sort, told, understood};
 ghost use Rattle.pz_prims.specs.Promises.{UnlessValue, IsOther, AnswersWithin};
 ghost use Rattle.pz_prims.specs.devices.Staying.{StaysWithin};
 
 use crate::answer::{Answer, Prim};
 use crate::{arrays, booleans, chars, every_value, integers, strings};
-use pz_value::{FaultKind, State, Value};
+use pz_state::{FaultKind, State};
+use pz_value::Value;
 use std::alloc::{AllocError, Global};
 
 /// The class of Arrays.

@@ -2,8 +2,8 @@
 -- other with its items.
 use Rattle.std.specs.Prelude.{ℕ, List, ◌++◌, length, map, take, drop}
 use Rattle.pz_value.specs.declared.value.Value.{Value}
-use Rattle.pz_value.specs.Objects.{ObjectView}
-use Rattle.pz_value.specs.States.{StateView, nils, at_object}
+use Rattle.pz_state.specs.Objects.{ObjectView}
+use Rattle.pz_state.specs.States.{StateView, nils, at_object}
 use Rattle.pz_copy.specs.Unpacking.{shifted_objects}
 
 -- an object like this one, all of whose items are nil

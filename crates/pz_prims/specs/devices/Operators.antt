@@ -4,7 +4,7 @@ use Rattle.std.specs.Bool.{beq}
 use Rattle.std.specs.Int.{int_min, int_max}
 use Rattle.pz_value.specs.declared.value.Value.{Value}
 use Rattle.pz_value.specs.declared.value.Value.TheVariants.{Bool as Boolean, Int}
-use Rattle.pz_value.specs.States.{StateView}
+use Rattle.pz_state.specs.States.{StateView}
 use Rattle.pz_prims.specs.declared.every_value.Equality.{Equality}
 use Rattle.pz_prims.specs.declared.integers.Operator.{Operator}
 use Rattle.pz_prims.specs.declared.booleans.Connective.{Connective}

@@ -1,6 +1,6 @@
 -- What every outcome keeps.
 use Rattle.std.specs.Prelude.{◌≡◌, length}
-use Rattle.pz_value.specs.States.{StateView}
+use Rattle.pz_state.specs.States.{StateView}
 use Rattle.pz_prims.specs.Table.{Outcome}
 use Rattle.pz_prims.specs.Promises.{AnswersWithin}
 

@@ -1,7 +1,7 @@
 use Rattle.std.proofs.Common.{◌≡◌, sym, ◌∙◌, ap, subst, ℕ, suc, ◌+◌, ◌≤◌, List, [], length, arith}
 use Rattle.pz_value.specs.declared.value.Value.{Value}
-use Rattle.pz_value.specs.Objects.{ObjectView}
-use Rattle.pz_value.specs.States.{object}
+use Rattle.pz_state.specs.Objects.{ObjectView}
+use Rattle.pz_state.specs.States.{object}
 use Rattle.pz_copy.specs.References.{references}
 use Rattle.pz_copy.specs.devices.Gathering.{gathered, IsGathered}
 use Rattle.pz_copy.proofs.Listings.{begun, gathered_on, gathered_whole, gathered_few, gathered_all, next_there, one_listing, inside}

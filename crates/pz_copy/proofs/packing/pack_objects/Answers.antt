@@ -1,6 +1,6 @@
 use Rattle.std.proofs.Common.{◌≡◌, ◌∙◌, ap, ◌<◌, ◌^◌, length, arith}
-use Rattle.pz_value.specs.Objects.{ObjectView}
-use Rattle.pz_value.specs.States.{object}
+use Rattle.pz_state.specs.Objects.{ObjectView}
+use Rattle.pz_state.specs.States.{object}
 use Rattle.pz_copy.specs.References.{renumbered_object}
 use Rattle.pz_copy.specs.Packing.{place_in}
 use Rattle.pz_copy.proofs.Parcelled.{packed_is, packed_next, packed_length, plain_push}

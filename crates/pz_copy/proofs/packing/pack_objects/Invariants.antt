@@ -1,6 +1,6 @@
 use Rattle.std.proofs.Common.{◌≡◌, ◌<◌, ◌^◌, map, take, length}
 use Rattle.std.specs.Prelude.{All}
-use Rattle.pz_value.specs.States.{object}
+use Rattle.pz_state.specs.States.{object}
 use Rattle.pz_copy.specs.References.{renumbered_object}
 use Rattle.pz_copy.specs.Packing.{place_in}
 use Rattle.pz_copy.specs.Parcels.{plain_objects}

@@ -1,6 +1,6 @@
 use Rattle.std.proofs.Common.{ap}
-use Rattle.pz_value.specs.States.{StateView}
-use Rattle.pz_value.specs.Marks.{changed}
+use Rattle.pz_state.specs.States.{StateView}
+use Rattle.pz_state.specs.Marks.{changed}
 use Rattle.pz_copy.proofs.Objects.{fill_start}
 use Rattle.pz_copy.proofs.Steps.{item_there, item_within, item_step}
 use Rattle.pz_copy.proofs.unpacking.fill_object.Goals as goal

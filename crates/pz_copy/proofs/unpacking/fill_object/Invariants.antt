@@ -1,5 +1,5 @@
 use Rattle.std.proofs.Common.{◌≡◌}
-use Rattle.pz_value.specs.Marks.{changed}
+use Rattle.pz_state.specs.Marks.{changed}
 use Rattle.pz_copy.specs.devices.Filling.{filled}
 use Rattle.pz_copy.proofs.Objects.{partly}
 use Rattle.pz_copy.proofs.unpacking.fill_object.Given as goal

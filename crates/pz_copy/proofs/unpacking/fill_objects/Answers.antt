@@ -1,9 +1,9 @@
 use Rattle.std.proofs.Common.{◌≡◌, sym, ◌∙◌, ap, subst, ◌+◌, ◌-◌, ◌<◌, ◌^◌, ℕ, List, length, arith}
 use Rattle.std.specs.Prelude.{All}
 use Rattle.pz_value.specs.declared.value.Value.{Value}
-use Rattle.pz_value.specs.Marks.{changed}
-use Rattle.pz_value.specs.States.{nils}
-use Rattle.pz_value.specs.References.{RefersWithin}
+use Rattle.pz_state.specs.Marks.{changed}
+use Rattle.pz_state.specs.States.{nils}
+use Rattle.pz_state.specs.References.{RefersWithin}
 use Rattle.pz_copy.specs.Parcels.{plain_objects}
 use Rattle.pz_copy.specs.Unpacking.{shifted_values}
 use Rattle.pz_copy.specs.devices.Filling.{filled}

@@ -1,5 +1,5 @@
 use Rattle.std.proofs.Common.{◌≡◌}
-use Rattle.pz_value.specs.Marks.{changed}
+use Rattle.pz_state.specs.Marks.{changed}
 use Rattle.pz_copy.specs.Parcels.{plain_objects}
 use Rattle.pz_copy.specs.devices.Filling.{with_parts}
 use Rattle.pz_copy.proofs.unpacking.fill_objects.Given as goal

@@ -1,5 +1,5 @@
 use Rattle.std.proofs.Common.{◌≡◌, take}
-use Rattle.pz_value.specs.Marks.{changed}
+use Rattle.pz_state.specs.Marks.{changed}
 use Rattle.pz_copy.specs.Parcels.{plain_objects}
 use Rattle.pz_copy.specs.devices.Filling.{with_blanks}
 use Rattle.pz_copy.proofs.unpacking.make_objects.Given as goal

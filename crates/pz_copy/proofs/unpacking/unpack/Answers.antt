@@ -1,5 +1,5 @@
 use Rattle.std.proofs.Common.{◌≡◌, ◌∙◌, ap, ℕ}
-use Rattle.pz_value.specs.Marks.{Seen}
+use Rattle.pz_state.specs.Marks.{Seen}
 use Rattle.pz_copy.specs.Unpacking.{shifted_values, unpacked, unpacked_values}
 use Rattle.pz_copy.proofs.Unpacked.{same_for}
 use Rattle.pz_copy.proofs.Parcelled.{unpacked_within}

@@ -1,5 +1,5 @@
 use Rattle.std.proofs.Common.{ℕ, Ok, Some, None, ap, sym, ◌∙◌}
-use Rattle.pz_value.specs.Marks.{changed}
+use Rattle.pz_state.specs.Marks.{changed}
 use Rattle.pz_prims.specs.Table.{outcome}
 use Rattle.pz_prims.proofs.Outcomes.{outcome-by_found}
 use Rattle.pz_prims.proofs.Keeping.{kept_by, other_by}
