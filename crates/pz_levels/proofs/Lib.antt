@@ -1,0 +1,12 @@
+mod Linking
+mod OwnWires
+mod Each
+mod Left
+mod Wired
+mod Kept
+mod Walked
+mod Pairs
+mod Places
+mod Connected
+mod Reading
+mod Rows

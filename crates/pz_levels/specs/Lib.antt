@@ -1,0 +1,6 @@
+pub mod Layouts
+pub mod Places
+pub mod Wires
+pub mod Connections
+pub mod Expanded
+pub mod devices

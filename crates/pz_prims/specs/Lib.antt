@@ -1,0 +1,10 @@
+pub mod Rows
+pub mod EveryValue
+pub mod Integers
+pub mod Booleans
+pub mod Chars
+pub mod Strings
+pub mod Arrays
+pub mod Table
+pub mod Promises
+pub mod devices

@@ -1,0 +1,6 @@
+pub mod Reading
+pub mod FrameTables
+pub mod ObjectLists
+pub mod Journals
+pub mod SelfContained
+pub mod Keeping

@@ -1,0 +1,23 @@
+use Rattle.std.proofs.Common.{◌≡◌, ◌+◌, ◌<◌, ◌≤◌, ℕ, List, length, slice_set, refl, ap, sym, subst, ◌∙◌, ◌^◌, arith, rules}
+use Rattle.pz_state.specs.declared.state.State.TheInside.{Inside}
+use Rattle.pz_state.specs.States.{StateView, set_variable, set_local, set_item, resized, opened, closed, made, fitted}
+use Rattle.pz_state.specs.Marks.{Seen}
+use Rattle.pz_state.proofs.ObjectLists.{same_room, length-at_object}
+use Rattle.pz_state.proofs.SelfContained.{contained-made, length-made}
+use Rattle.pz_state.proofs.Keeping.{stays, changes_by, within_held}
+use Rattle.pz_state.specs.declared.journal.Change.TheVariants as change
+use Rattle.pz_state.proofs.state.State.make.Goals as goal
+
+pub invariant_of-self : goal.invariant_of-self
+invariant_of-self c = (stays c.self.inside c.self.view_is c.self.invariant c.self.inside.contents c.reserve.new.self refl (same_room _) c.reserve.ensures.entries c.reserve.ensures.marks).kept
+
+pub invariant_of-self-in_err-make : goal.invariant_of-self-in_err-make
+invariant_of-self-in_err-make c = (stays c.self.inside c.self.view_is c.self.invariant c.make.new.self c.reserve.new.self c.in_err-make.ensures.err c.make.ensures.room c.reserve.ensures.entries c.reserve.ensures.marks).kept
+
+pub invariant_of-self-2 : goal.invariant_of-self-2
+invariant_of-self-2 c = (changes_by c.self.inside c.self.view_is c.self.invariant c.make.new.self change.Made c.reserve.new.self c.note.new.self (λ (z : StateView). made z c.args.class c.args.items) c.in_ok-make.ensures.state c.in_ok-make.ensures.back c.reserve.ensures.entries c.reserve.ensures.marks c.note.ensures.entries c.note.ensures.marks
+    (contained-made c.self.inside.contents.state c.args.class c.args.items (let few : c.args.items < 2 ^ 32 = search rules in few) c.self.invariant.contained) (let n = length-made c.self.inside.contents.state c.args.class c.args.items in let held = ap (λ (z : Seen). length z.held.objects) c.self.view_is in let count = c.objects-count.ensures.count in let limit = c.objects-count.ensures.limit in let other = c.if-count-eq-OBJECT_LIMIT.false in omega arith)).kept
+
+pub returns-clause-ok : goal.returns-clause-ok
+returns-clause-ok c = (changes_by c.self.inside c.self.view_is c.self.invariant c.make.new.self change.Made c.reserve.new.self c.note.new.self (λ (z : StateView). made z c.args.class c.args.items) c.in_ok-make.ensures.state c.in_ok-make.ensures.back c.reserve.ensures.entries c.reserve.ensures.marks c.note.ensures.entries c.note.ensures.marks
+    (contained-made c.self.inside.contents.state c.args.class c.args.items (let few : c.args.items < 2 ^ 32 = search rules in few) c.self.invariant.contained) (let n = length-made c.self.inside.contents.state c.args.class c.args.items in let held = ap (λ (z : Seen). length z.held.objects) c.self.view_is in let count = c.objects-count.ensures.count in let limit = c.objects-count.ensures.limit in let other = c.if-count-eq-OBJECT_LIMIT.false in omega arith)).is

@@ -1,0 +1,22 @@
+use Rattle.std.proofs.Common.{◌≡◌, ◌+◌, ◌<◌, ◌≤◌, ℕ, List, length, slice_set, refl, ap, sym, subst, ◌∙◌, ◌^◌, arith, rules}
+use Rattle.pz_state.specs.declared.state.State.TheInside.{Inside}
+use Rattle.pz_state.specs.States.{StateView, set_variable, set_local, set_item, resized, opened, closed, made, fitted}
+use Rattle.pz_state.proofs.ObjectLists.{same_room, length-at_object}
+use Rattle.pz_state.proofs.SelfContained.{contained-resized}
+use Rattle.pz_state.proofs.Keeping.{stays, changes_by, within_held}
+use Rattle.pz_state.specs.declared.journal.Change.TheVariants as change
+use Rattle.pz_state.proofs.state.State.resize.Goals as goal
+
+pub invariant_of-self : goal.invariant_of-self
+invariant_of-self c = (stays c.self.inside c.self.view_is c.self.invariant c.self.inside.contents c.reserve.new.self refl (same_room _) c.reserve.ensures.entries c.reserve.ensures.marks).kept
+
+pub invariant_of-self-in_err-change : goal.invariant_of-self-in_err-change
+invariant_of-self-in_err-change c = (stays c.self.inside c.self.view_is c.self.invariant c.resize.new.self c.reserve.new.self c.in_err-change.ensures.err c.resize.ensures.room c.reserve.ensures.entries c.reserve.ensures.marks).kept
+
+pub invariant_of-self-2 : goal.invariant_of-self-2
+invariant_of-self-2 c = (changes_by c.self.inside c.self.view_is c.self.invariant c.resize.new.self c.in_ok-change.change c.reserve.new.self c.note.new.self (λ (z : StateView). resized z c.args.r c.args.items) c.in_ok-change.ensures.state c.in_ok-change.ensures.back c.reserve.ensures.entries c.reserve.ensures.marks c.note.ensures.entries c.note.ensures.marks
+    (contained-resized c.self.inside.contents.state c.args.r c.args.items (let few : c.args.items < 2 ^ 32 = search rules in few) c.self.invariant.contained) (rw length-at_object c.self.invariant.limit)).kept
+
+pub returns-clause-ok : goal.returns-clause-ok
+returns-clause-ok c = (changes_by c.self.inside c.self.view_is c.self.invariant c.resize.new.self c.in_ok-change.change c.reserve.new.self c.note.new.self (λ (z : StateView). resized z c.args.r c.args.items) c.in_ok-change.ensures.state c.in_ok-change.ensures.back c.reserve.ensures.entries c.reserve.ensures.marks c.note.ensures.entries c.note.ensures.marks
+    (contained-resized c.self.inside.contents.state c.args.r c.args.items (let few : c.args.items < 2 ^ 32 = search rules in few) c.self.invariant.contained) (rw length-at_object c.self.invariant.limit)).is

@@ -1,0 +1,5 @@
+pub mod FrameTables
+pub mod StoredStates
+pub mod Changes
+pub mod Journals
+pub mod Fields

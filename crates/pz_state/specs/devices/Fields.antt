@@ -1,0 +1,21 @@
+-- What the fields of a `State` stand for, and what they keep.
+use Rattle.std.specs.Prelude.{◌≡◌, ◌≤◌, ℕ, [], length, All}
+use Rattle.pz_state.specs.declared.state.TheConstants.{OBJECT_LIMIT}
+use Rattle.pz_state.specs.declared.state.State.TheInside.{Inside}
+use Rattle.pz_state.specs.References.{IsSelfContained}
+use Rattle.pz_state.specs.Marks.{Seen}
+use Rattle.pz_state.specs.devices.Journals.{marks_from, count_of_marks, AreReady}
+
+abbrev pub seen : Inside → Seen
+seen s = record { held = s.contents.state; marks = marks_from 0 s.journal.entries.items s.contents.state }
+
+pub record IsKept (s : Inside) : Type 0 where
+  -- the open marks are counted, and without any nothing is in the journal
+  pub counted : s.journal.marks ≡ count_of_marks s.journal.entries.items
+  pub settled : s.journal.marks ≡ 0 → s.journal.entries.items ≡ []
+  -- undoing takes no memory
+  pub ready : AreReady s.contents.room s.journal.entries.items s.contents.state
+  -- references name objects that are there, also in the marked states
+  pub contained : IsSelfContained s.contents.state
+  pub marked : All (λ m. IsSelfContained m.1) (marks_from 0 s.journal.entries.items s.contents.state)
+  pub limit : length s.contents.state.objects ≤ OBJECT_LIMIT

@@ -1,0 +1,15 @@
+//! The state of a process: variables, the locals of open frames, and objects, with a journal that
+//! leads back to each open mark; and the kinds of faults.
+#![tactic(auto)]
+
+mod contents;
+mod fault;
+mod frames;
+mod journal;
+mod object;
+mod state;
+mod values;
+
+pub use fault::FaultKind;
+pub use object::{ARRAY_LIMIT, Object};
+pub use state::{FrameId, MakeError, OBJECT_LIMIT, Point, State};

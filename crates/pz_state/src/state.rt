@@ -1,0 +1,253 @@
+//! The state of a process.
+
+ghost use Rattle.std.specs.Prelude.{◌≡◌, ◌<◌, ◌≤◌, ◌↔◌, ◌^◌, [], length, All, Err, IfOk, OnOk, OnErr};
+ghost use Rattle.pz_state.specs.States.{initial, variable, local, object, HasVariable, HasFrame, HasLocal, HasObject, HasItem, IsLeastFree, set_variable, set_local, set_item, resized, opened, closed, made};
+ghost use Rattle.pz_state.specs.References.{RefersWithin, IsSelfContained};
+ghost use Rattle.pz_state.specs.Marks.{IsLatest, changed, marked, undone, kept};
+
+use crate::Object;
+use crate::contents::Contents;
+use crate::journal::{Change, Journal, undo_last};
+use pz_value::{ClassId, Value};
+use std::alloc::{AllocError, Global};
+use std::marker::Model;
+
+/// The most objects of a state.
+pub const OBJECT_LIMIT: u32 = 16_777_216;
+
+/// The number of a frame, from 1.
+#[derive(Clone, Copy, Debug, PartialEq, Eq)]
+pub struct FrameId(pub u64);
+
+/// A mark of a state, to which its changes can be undone.
+#[derive(Clone, Copy, Debug)]
+pub struct Point {
+    // where the mark stands in the journal
+    place: usize,
+}
+
+impl Model for Point {
+    ghost use Rattle.std.specs.Prelude.{ℕ};
+
+    ghost Value = { ℕ };
+
+    ghost view = { λ p. p.place };
+
+    ghost inverse = { λ n. record { place = n } };
+}
+
+/// Why [`State::make`] made no object.
+#[derive(Clone, Copy, Debug, PartialEq, Eq)]
+pub enum MakeError {
+    /// Memory was wanting.
+    NoMemory,
+    /// As many objects as may be are there.
+    StoreFull,
+}
+
+impl From<AllocError> for MakeError {
+    ghost use Rattle.std.specs.Prelude.{◌≡◌};
+    ghost use Rattle.pz_state.specs.declared.state.MakeError.TheVariants.{NoMemory};
+
+    ghost from_gives = { λ _ error. error ≡ NoMemory };
+
+    fn from(_: AllocError) -> MakeError {
+        MakeError::NoMemory
+    }
+}
+
+/// The state of a process: its variables, the locals of its open frames, and its objects. References
+/// in it name its objects. Marks nest; while one is open, what leads back to it is kept, and a change
+/// costs no more than without. Undoing costs as much as the changes since the mark.
+#[derive(Debug, Drop)]
+pub struct State {
+    contents: Contents,
+    journal: Journal,
+}
+
+impl Model for State {
+    ghost use Rattle.pz_state.specs.Marks.{Seen};
+
+    ghost Value = { Seen };
+
+    ghost use Rattle.pz_state.specs.devices.Fields.{seen, IsKept};
+
+    ghost view = { seen };
+
+    ghost invariant = { IsKept };
+}
+
+impl State {
+    /// The state of a process with so many variables, all of them nil. The only error is want of
+    /// memory.
+    pub fn new(alloc: Global, variables: u32) -> Result<State, AllocError>
+        ensures { IfOk result (λ state. state ≡ record { held = initial variables; marks = [] }) }
+    {
+        let contents = Contents::new(alloc, variables)?;
+        Ok(State {
+            contents,
+            journal: Journal::new(alloc),
+        })
+    }
+
+    /// A variable. Takes no memory.
+    pub fn var(&self, slot: u32) -> &Value
+        requires { HasVariable self.now.held slot }
+        ensures value { result.now ≡ variable self.now.held slot }
+        ensures within { RefersWithin (length self.now.held.objects) result.now }
+    {
+        self.contents.var(slot)
+    }
+
+    /// A local of an open frame. Takes no memory.
+    pub fn local(&self, frame: FrameId, slot: u32) -> &Value
+        requires { HasLocal self.now.held frame.0 slot }
+        ensures value { result.now ≡ local self.now.held frame.0 slot }
+        ensures within { RefersWithin (length self.now.held.objects) result.now }
+    {
+        self.contents.local(frame.0, slot)
+    }
+
+    /// An object by its number. Takes no memory.
+    pub fn object(&self, r: u32) -> &Object
+        requires { HasObject self.now.held r }
+        ensures value { result.now.object ≡ object self.now.held r }
+        ensures within { All (RefersWithin (length self.now.held.objects)) result.now.object.items }
+        ensures counted { length result.now.object.items < 2 ^ 32 }
+    {
+        self.contents.object(r)
+    }
+
+    /// How many objects there are. Takes no memory.
+    pub fn objects(&self) -> u32
+        ensures count { result ≡ length self.now.held.objects }
+        ensures limit { result ≤ OBJECT_LIMIT }
+        ensures contained { IsSelfContained self.now.held }
+    {
+        self.contents.objects() as u32
+    }
+
+    /// Gives a variable a value. The only error is want of memory, and then all is as before.
+    pub fn set_var(&mut self, slot: u32, value: Value) -> Result<(), AllocError>
+        requires there { HasVariable self.old.held slot }
+        requires within { RefersWithin (length self.old.held.objects) value }
+        ensures ok { OnOk result (self.new ≡ changed self.old (set_variable self.old.held slot value)) }
+        ensures err { OnErr result (self.new ≡ self.old) }
+    {
+        self.journal.reserve()?;
+        let change = self.contents.set_var(slot, value);
+        self.journal.note(change);
+        Ok(())
+    }
+
+    /// Gives a local of an open frame a value. The only error is want of memory, and then all is as
+    /// before.
+    pub fn set_local(&mut self, frame: FrameId, slot: u32, value: Value) -> Result<(), AllocError>
+        requires there { HasLocal self.old.held frame.0 slot }
+        requires within { RefersWithin (length self.old.held.objects) value }
+        ensures ok { OnOk result (self.new ≡ changed self.old (set_local self.old.held frame.0 slot value)) }
+        ensures err { OnErr result (self.new ≡ self.old) }
+    {
+        self.journal.reserve()?;
+        let change = self.contents.set_local(frame.0, slot, value);
+        self.journal.note(change);
+        Ok(())
+    }
+
+    /// Gives an item of an object a value. The only error is want of memory, and then all is as
+    /// before.
+    pub fn set_item(&mut self, r: u32, item: u32, value: Value) -> Result<(), AllocError>
+        requires there { HasItem self.old.held r item }
+        requires within { RefersWithin (length self.old.held.objects) value }
+        ensures ok { OnOk result (self.new ≡ changed self.old (set_item self.old.held r item value)) }
+        ensures err { OnErr result (self.new ≡ self.old) }
+    {
+        self.journal.reserve()?;
+        let change = self.contents.set_item(r, item, value);
+        self.journal.note(change);
+        Ok(())
+    }
+
+    /// Gives an object so many items: it is cut, or filled with nil. The only error is want of
+    /// memory, and then all is as before.
+    pub fn resize(&mut self, r: u32, items: u32) -> Result<(), AllocError>
+        requires { HasObject self.old.held r }
+        ensures ok { OnOk result (self.new ≡ changed self.old (resized self.old.held r items)) }
+        ensures err { OnErr result (self.new ≡ self.old) }
+    {
+        self.journal.reserve()?;
+        let change = self.contents.resize(r, items)?;
+        self.journal.note(change);
+        Ok(())
+    }
+
+    /// Opens a frame with so many locals, all nil, under the least number from 1 that no open frame
+    /// has. The only error is want of memory, and then all is as before.
+    pub fn open_frame(&mut self, locals: u32) -> Result<FrameId, AllocError>
+        ensures least { IfOk result (λ frame. IsLeastFree self.old.held.frames frame.0) }
+        ensures ok { IfOk result (λ frame. self.new ≡ changed self.old (opened self.old.held frame.0 locals)) }
+        ensures err { OnErr result (self.new ≡ self.old) }
+    {
+        self.journal.reserve()?;
+        let frame = self.contents.open_frame(locals)?;
+        self.journal.note(Change::Opened { frame });
+        Ok(FrameId(frame))
+    }
+
+    /// Closes a frame. The only error is want of memory, and then all is as before.
+    pub fn close_frame(&mut self, frame: FrameId) -> Result<(), AllocError>
+        requires { HasFrame self.old.held frame.0 }
+        ensures ok { OnOk result (self.new ≡ changed self.old (closed self.old.held frame.0)) }
+        ensures err { OnErr result (self.new ≡ self.old) }
+    {
+        self.journal.reserve()?;
+        let change = self.contents.close_frame(frame.0);
+        self.journal.note(change);
+        Ok(())
+    }
+
+    /// Makes an object with so many items, all nil, and gives its number. At a refusal all is as
+    /// before.
+    pub fn make(&mut self, class: ClassId, items: u32) -> Result<u32, MakeError>
+        ensures number { IfOk result (λ r. r ≡ length self.old.held.objects) }
+        ensures ok { OnOk result (self.new ≡ changed self.old (made self.old.held class items)) }
+        ensures err { OnErr result (self.new ≡ self.old) }
+        ensures full { result ≡ Err MakeError.StoreFull ↔ (length self.old.held.objects ≡ OBJECT_LIMIT) }
+    {
+        let count = self.objects();
+        if count == OBJECT_LIMIT {
+            return Err(MakeError::StoreFull);
+        }
+        self.journal.reserve()?;
+        self.contents.make(class, items)?;
+        self.journal.note(Change::Made);
+        Ok(count)
+    }
+
+    /// Marks the state as it is. The only error is want of memory, and then all is as before.
+    pub fn mark(&mut self) -> Result<Point, AllocError>
+        ensures ok { IfOk result (λ point. self.new ≡ marked self.old point) }
+        ensures err { OnErr result (self.new ≡ self.old) }
+    {
+        let place = self.journal.mark()?;
+        Ok(Point { place })
+    }
+
+    /// Undoes the changes since the latest open mark, and leaves the mark. Takes no memory.
+    pub fn undo_to(&mut self, point: Point)
+        requires { IsLatest self.old point }
+        ensures { self.new ≡ undone self.old }
+    {
+        let _latest = point;
+        undo_last(&mut self.contents, &mut self.journal.entries);
+        self.journal.close_mark();
+    }
+
+    /// Leaves the latest open mark; the changes since it stay. Takes no memory.
+    pub fn keep(&mut self, point: Point)
+        requires { IsLatest self.old point }
+        ensures { self.new ≡ kept self.old }
+    {
+        self.journal.keep(point.place);
+    }
+}
