@@ -31,43 +31,43 @@ abbrev pub raised_by : ℕ → ℕ → ℕ
 raised_by zero count = count
 raised_by (suc n) count = raised_by n (raised count)
 
--- how many files were opened: none where the job reads none or there is no job, else one or more,
--- and no more than it reads
+-- the files of a job were opened in their order, each once at most, and the first for certain;
+-- without a file nothing was opened
 pub record OpensFiles (files : List JobFile) (before now : FilesState) : Type 0 where
   pub count : ℕ
   pub within : count ≤ length files
   pub first : 0 < length files → 0 < count
   pub opened : now.opens ≡ raised_by count before.opens
 
--- as many files were opened as stand up to this one
+-- so many files were opened that this one is the last of them
 pub record OpensLast (files : List JobFile) (before now : FilesState) (file : JobFile) : Type 0 where
   pub place : ℕ
   pub is : slice_get files place ≡ Some file
   pub opened : now.opens ≡ raised_by (suc place) before.opens
 
--- the bytes taken since are the line of a read fault; the number of opens tells which file it names
-pub record SaysFault (files : List JobFile) (files_before files_now : FilesState) (before now : SinkState) : Type 0 where
+-- the bytes taken since are the line of a read fault, which names the last file that was opened
+pub record SaysFault (files : List JobFile) (f g : FilesState) (before now : SinkState) : Type 0 where
   pub file : JobFile
-  pub last : OpensLast files files_before files_now file
+  pub last : OpensLast files f g file
   pub taken : before.told ≡ true → TookAll before now (read_fault_line file.name)
 
 -- the same of a front of that line
-pub record SaysFaultFront (files : List JobFile) (files_before files_now : FilesState) (before now : SinkState) : Type 0 where
+pub record SaysFaultFront (files : List JobFile) (f g : FilesState) (before now : SinkState) : Type 0 where
   pub file : JobFile
-  pub last : OpensLast files files_before files_now file
+  pub last : OpensLast files f g file
   pub front : TookFront before now (read_fault_line file.name)
 
 -- nothing was taken yet, or a front of what is to be printed, or a front of the line of a read
 -- fault where the count of the files rose
 abbrev pub PrintsFront : List (List ℕ) → FilesState → FilesState → SinkState → SinkState → Type 0
-PrintsFront words files_before files_now before now =
+PrintsFront words f g before now =
     (now.taken ≡ before.taken)
-    ⊎ (PrintsSome words files_before.held before now
-    ⊎ (Rose files_before.faults files_now.faults × SaysFaultFront (files_for words) files_before files_now before now))
+    ⊎ (PrintsSome words f.held before now
+    ⊎ (Rose f.faults g.faults × SaysFaultFront (files_for words) f g before now))
 
--- more bytes were handed out than the limit of the file that the number of opens tells
+-- more bytes of the last file that was opened were handed out than its limit
 abbrev pub IsPastLimit : List JobFile → FilesState → FilesState → Type 0
-IsPastLimit files before now = (file : JobFile) × OpensLast files before now file × (file.limit < now.handed)
+IsPastLimit files f g = (file : JobFile) × OpensLast files f g file × (file.limit < g.handed)
 
 -- the files lack one that the job reads
 abbrev pub Lacks : List JobFile → Entries → Type 0

@@ -47,10 +47,10 @@ pub fn run_program<F: Files, W: Sink>(
     ensures output { (F.state files.old).told ≡ true → result ≢ Status.WriteFault → result ≢ Status.NoMemory →
         ¬ ((result ≡ Status.ReadFault) × Rose (F.state files.old).faults (F.state files.new).faults) →
         PrintsAll (map string_bytes words.now) (F.state files.old).held (W.state out.old) (W.state out.new) result }
-    // Where the files failed, the line that says so names the file that the number of opens tells.
+    // Where the files failed, the line that says so names the last file that was opened.
     ensures read_fault { result ≡ Status.ReadFault → Rose (F.state files.old).faults (F.state files.new).faults →
         SaysFault (files_for (map string_bytes words.now)) (F.state files.old) (F.state files.new) (W.state out.old) (W.state out.new) }
-    // Of a job the model is opened once; without a job nothing is opened, also not before the usage line.
+    // Without a job nothing is opened, also not before the usage line.
     ensures opens { OpensFiles (files_for (map string_bytes words.now)) (F.state files.old) (F.state files.new) }
     // What is printed before a write fails, or memory is wanting, is a front of what is to be printed.
     ensures write_fault { (F.state files.old).told ≡ true → (W.state out.old).told ≡ true → result ≡ Status.WriteFault →
