@@ -24,7 +24,7 @@ use Rattle.pz_cursor.proofs.Steps.{sees_is}
 use Rattle.pz_cursor.proofs.Budget.{BudgetAt, Budget, pure_budget, ask_budget, take_budget, refuse_budget, bind_at, bind_budget, expect_budget, expect_id_budget, opened_at, if_at, optional_budget, list_budget}
 use Rattle.pz_cursor.proofs.NameBudgets.{optional_names_budget}
 use Rattle.pz_values.specs.declared.rule.Rule.TheVariants as rule
-use Rattle.pz_values.specs.devices.Values.{expr, below, enclosed, arguments, test}
+use Rattle.pz_values.specs.devices.Values.{expr, below, enclosed, arguments, tested}
 use Rattle.pz_values.proofs.Budgets.{enclosed_at, arguments_budget, test_budget, expr_budget, below_budget}
 use Rattle.pz_statements.specs.devices.Messages.{ReceptionTree, call_results, after_by, after_message, sent, condition, enclosed_reception, reception_by, reception, received, call_arguments, called}
 use Rattle.pz_statements.specs.devices.Statements.{delayed, block, assigned, valued, worded, sequence, bracketed, guarded, branched, parallel, selection, otherwise_by, otherwise, conditional, repeated, handled, aborted, interrupted, statement_by, statement, stmt, stmts}
@@ -121,7 +121,7 @@ module _ (depth : ℕ) where
     sequence_budget : Budget depth (sequence depth inner)
     sequence_budget = list_budget depth inner n.Semicolon b
 
-    closed_budget : (close : Next) → Budget depth (test (below depth) close)
+    closed_budget : (close : Next) → Budget depth (tested (below depth) close)
     closed_budget close = test_budget depth (below depth) (below_budget depth) close
 
     bracketed_at : (i : Tokens) → next i ≡ n.LeftParen → BudgetAt m (bracketed depth inner) i
@@ -134,8 +134,8 @@ module _ (depth : ℕ) where
     guarded_at : (i : Tokens) → next i ≡ n.LeftBracket → BudgetAt m (guarded depth inner) i
     unfolding guarded
     guarded_at i h =
-        let c = opened_at depth (λ u. test (below depth) n.RightBracket >>= (λ e. inner >>= (λ t. pure (tree.guarded (position i) e t)))) i (kind.Sym s.LeftBracket) (ap token_of h) (omega arith)
-        (bind_budget depth (test (below depth) n.RightBracket) _ (closed_budget n.RightBracket) (λ e. bind_budget depth inner _ b (λ t. pure_budget depth (tree.guarded (position i) e t)))) in
+        let c = opened_at depth (λ u. tested (below depth) n.RightBracket >>= (λ e. inner >>= (λ t. pure (tree.guarded (position i) e t)))) i (kind.Sym s.LeftBracket) (ap token_of h) (omega arith)
+        (bind_budget depth (tested (below depth) n.RightBracket) _ (closed_budget n.RightBracket) (λ e. bind_budget depth inner _ b (λ t. pure_budget depth (tree.guarded (position i) e t)))) in
         record { fails = c.fails; shrinks = c.shrinks }
 
     branched_at : (sep close : Next) (y : TokenKind) (i : Tokens) → token_of (next i) ≡ Some y → 1 ≤ opens y → BudgetAt m (branched depth inner sep close) i
@@ -165,15 +165,15 @@ module _ (depth : ℕ) where
     conditional_at : (i : Tokens) → next i ≡ n.If → BudgetAt m (conditional depth inner) i
     unfolding conditional
     conditional_at i h =
-        let c = opened_at depth (λ u. test (below depth) n.Then >>= (λ e. sequence depth inner >>= (λ ts. otherwise depth inner >>= (λ o. expect n.Fi >>= (λ v. pure (tree.conditional (position i) e (sequence_of ts) o)))))) i (kind.Key k.If) (ap token_of h) (omega arith)
-        (bind_budget depth (test (below depth) n.Then) _ (closed_budget n.Then) (λ e. bind_budget depth (sequence depth inner) _ sequence_budget (λ ts. bind_budget depth (otherwise depth inner) _ otherwise_budget (λ o. bind_budget depth (expect n.Fi) _ (expect_budget depth n.Fi) (λ v. pure_budget depth (tree.conditional (position i) e (sequence_of ts) o)))))) in
+        let c = opened_at depth (λ u. tested (below depth) n.Then >>= (λ e. sequence depth inner >>= (λ ts. otherwise depth inner >>= (λ o. expect n.Fi >>= (λ v. pure (tree.conditional (position i) e (sequence_of ts) o)))))) i (kind.Key k.If) (ap token_of h) (omega arith)
+        (bind_budget depth (tested (below depth) n.Then) _ (closed_budget n.Then) (λ e. bind_budget depth (sequence depth inner) _ sequence_budget (λ ts. bind_budget depth (otherwise depth inner) _ otherwise_budget (λ o. bind_budget depth (expect n.Fi) _ (expect_budget depth n.Fi) (λ v. pure_budget depth (tree.conditional (position i) e (sequence_of ts) o)))))) in
         record { fails = c.fails; shrinks = c.shrinks }
 
     repeated_at : (i : Tokens) → next i ≡ n.While → BudgetAt m (repeated depth inner) i
     unfolding repeated
     repeated_at i h =
-        let c = opened_at depth (λ u. test (below depth) n.Do >>= (λ e. sequence depth inner >>= (λ ts. expect n.Od >>= (λ v. pure (tree.repeated (position i) e (sequence_of ts)))))) i (kind.Key k.While) (ap token_of h) (omega arith)
-        (bind_budget depth (test (below depth) n.Do) _ (closed_budget n.Do) (λ e. bind_budget depth (sequence depth inner) _ sequence_budget (λ ts. bind_budget depth (expect n.Od) _ (expect_budget depth n.Od) (λ v. pure_budget depth (tree.repeated (position i) e (sequence_of ts)))))) in
+        let c = opened_at depth (λ u. tested (below depth) n.Do >>= (λ e. sequence depth inner >>= (λ ts. expect n.Od >>= (λ v. pure (tree.repeated (position i) e (sequence_of ts)))))) i (kind.Key k.While) (ap token_of h) (omega arith)
+        (bind_budget depth (tested (below depth) n.Do) _ (closed_budget n.Do) (λ e. bind_budget depth (sequence depth inner) _ sequence_budget (λ ts. bind_budget depth (expect n.Od) _ (expect_budget depth n.Od) (λ v. pure_budget depth (tree.repeated (position i) e (sequence_of ts)))))) in
         record { fails = c.fails; shrinks = c.shrinks }
 
     handled_at : (word : Keyword) (i : Tokens) → token_of (next i) ≡ Some (kind.Key word) → 1 ≤ opens (kind.Key word) → BudgetAt m (handled depth inner) i

@@ -28,7 +28,7 @@ use Rattle.pz_cursor.proofs.Steps.{deepen_is, expect_is, not_seen}
 use Rattle.pz_cursor.proofs.Reading.{Complete, split_located}
 use Rattle.pz_cursor.proofs.Joined.{joined_complete, Filled, token}
 use Rattle.pz_values.specs.declared.rule.Rule.TheVariants as rule
-use Rattle.pz_values.specs.devices.Values.{below, test}
+use Rattle.pz_values.specs.devices.Values.{below, tested}
 use Rattle.pz_values.specs.ExpressionPlaces as expression_places
 use Rattle.pz_values.proofs.Texts.{stands, list_back as expressions_back}
 use Rattle.pz_values.proofs.Texts as value_texts
@@ -90,7 +90,7 @@ module _ (depth : ℕ) where
         ) refl
 
     guarded_given : (at : ℕ → Pos) (m : ℕ) (pos : Pos) (e : Expression Id Id) (t : Tree) (j : Tokens) → value_texts.Fits depth 1 e → Fits depth t → EndsStatement (next j) → guarded depth inner (located at m (text (guard pos e t)) ++ j) ≡ Ok (place at m (guard pos e t), j)
-    unfolding guarded test next after position sees same
+    unfolding guarded tested next after position sees same
     guarded_given at m pos e t j f g stop =
         let a = suc m + length (expression_text.text e) in
         let right = token (kind.Sym s.RightBracket) (at a) ∷ (located at (suc a) (text t) ++ j) in
@@ -152,7 +152,7 @@ module _ (depth : ℕ) where
     other_ends at m (written_else ts) p j = ends_body n.Else refl
 
     conditional_given : (at : ℕ → Pos) (m : ℕ) (pos : Pos) (e : Expression Id Id) (ts : Statements Id Id Id) (o : StatementPart Id Id Id) (j : Tokens) → value_texts.Fits depth 1 e → AreStatements ts → nestings ts < depth → IsOtherwise o → otherwise_nesting o < depth → conditional depth inner (located at m (text (choice pos e ts o)) ++ j) ≡ Ok (place at m (choice pos e ts o), j)
-    unfolding conditional test next after position sees same
+    unfolding conditional tested next after position sees same
     conditional_given at m pos e ts o j f body lt h ne =
         let a = suc m + length (expression_text.text e) in
         let b = suc a + length (texts ts) in
@@ -174,7 +174,7 @@ module _ (depth : ℕ) where
         ) refl
 
     repeated_given : (at : ℕ → Pos) (m : ℕ) (pos : Pos) (e : Expression Id Id) (ts : Statements Id Id Id) (j : Tokens) → value_texts.Fits depth 1 e → AreStatements ts → nestings ts < depth → repeated depth inner (located at m (text (loop pos e ts)) ++ j) ≡ Ok (place at m (loop pos e ts), j)
-    unfolding repeated test next after position sees same
+    unfolding repeated tested next after position sees same
     repeated_given at m pos e ts j f body lt =
         let a = suc m + length (expression_text.text e) in
         let b = suc a + length (texts ts) in

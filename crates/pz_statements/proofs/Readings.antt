@@ -30,7 +30,7 @@ use Rattle.pz_cursor.proofs.Words.{word_is}
 use Rattle.pz_cursor.proofs.Reading.{Took, Sound, ok_took}
 use Rattle.pz_cursor.proofs.Joined.{joined_sound, Filled}
 use Rattle.pz_values.specs.declared.rule.Rule.TheVariants as rule
-use Rattle.pz_values.specs.devices.Values.{expr, below, enclosed, test}
+use Rattle.pz_values.specs.devices.Values.{expr, below, enclosed, tested}
 use Rattle.pz_values.proofs.Texts as value
 use Rattle.pz_values.proofs.Readings.{enclosed_sound, test_sound, expr_sound, below_sound}
 use Rattle.pz_statements.specs.devices.Messages.{sent, received}
@@ -119,7 +119,7 @@ module _ (depth : ℕ) where
     guarded_sound i y h e =
         let a = bind_ok (deepen depth i) _ y e in
         let d = opened depth (kind.Sym s.LeftBracket) i a.0 (ap token_of h) a.1 in
-        let b = bind_ok (test (below depth) n.RightBracket a.0.1) _ y a.2 in
+        let b = bind_ok (tested (below depth) n.RightBracket a.0.1) _ y a.2 in
         let t = (test_sound depth (below depth) (below_sound depth) n.RightBracket (kind.Sym s.RightBracket) refl).reads a.0.1 b.0 b.1 in
         let c = bind_ok (inner b.0.1) _ y b.2 in
         let u = inner_sound.reads b.0.1 c.0 c.1 in
@@ -186,7 +186,7 @@ module _ (depth : ℕ) where
     conditional_sound i y h e =
         let a = bind_ok (deepen depth i) _ y e in
         let d = opened depth (kind.Key k.If) i a.0 (ap token_of h) a.1 in
-        let b = bind_ok (test (below depth) n.Then a.0.1) _ y a.2 in
+        let b = bind_ok (tested (below depth) n.Then a.0.1) _ y a.2 in
         let t = (test_sound depth (below depth) (below_sound depth) n.Then (kind.Key k.Then) refl).reads a.0.1 b.0 b.1 in
         let f = bind_ok (sequence depth inner b.0.1) _ y b.2 in
         let ts = sequence_sound.reads b.0.1 f.0 f.1 in
@@ -209,7 +209,7 @@ module _ (depth : ℕ) where
     repeated_sound i y h e =
         let a = bind_ok (deepen depth i) _ y e in
         let d = opened depth (kind.Key k.While) i a.0 (ap token_of h) a.1 in
-        let b = bind_ok (test (below depth) n.Do a.0.1) _ y a.2 in
+        let b = bind_ok (tested (below depth) n.Do a.0.1) _ y a.2 in
         let t = (test_sound depth (below depth) (below_sound depth) n.Do (kind.Key k.Do) refl).reads a.0.1 b.0 b.1 in
         let f = bind_ok (sequence depth inner b.0.1) _ y b.2 in
         let ts = sequence_sound.reads b.0.1 f.0 f.1 in

@@ -130,9 +130,9 @@ impl<F: Fn(Global, &mut Cursor<'_>, usize) -> Result<Stmt, Refusal>> Grammar<F> 
     }
 
     /// A value one construct further in, and this token behind it.
-    #[tactic(auto, unfolding(pz_values::specs::devices::Values::test))]
+    #[tactic(auto, unfolding(pz_values::specs::devices::Values::tested))]
     fn test(&self, cursor: &mut Cursor<'_>, close: Next) -> Result<Expr, Refusal>
-        ensures reads { Reads expression.view (values.test (below self.now.depth) close cursor.old) result cursor.new }
+        ensures reads { Reads expression.view (values.tested (below self.now.depth) close cursor.old) result cursor.new }
     {
         let test = inner_value(self.alloc, cursor, self.depth)?;
         cursor.expect(close)?;

@@ -22,7 +22,7 @@ use Rattle.pz_cursor.proofs.Budget.{BudgetAt, Budget, pure_budget, ask_budget, t
 use Rattle.pz_values.specs.declared.rule.Rule.{Rule}
 use Rattle.pz_values.specs.declared.rule.Rule.TheVariants as rule
 use Rattle.pz_values.specs.devices.Rules.{operator}
-use Rattle.pz_values.specs.devices.Values.{expr, below, by_rule, chained, one_link, link_at, links_by, all_links, chain_of, assignment, returned, named, expression, expression_by, created, test, otherwise, otherwise_by, exprs_before, enclosed, grouped, conditional, repetition, primary, primary_by, arguments, arguments_by, one_sending, all_sendings, sent, sent_to, signed, operand, operand_by, products, sums, comparisons, conjunctions, values}
+use Rattle.pz_values.specs.devices.Values.{expr, below, by_rule, chained, one_link, link_at, links_by, all_links, chain_of, assignment, returned, named, expression, expression_by, created, tested, otherwise, otherwise_by, exprs_before, enclosed, grouped, conditional, repetition, primary, primary_by, arguments, arguments_by, one_sending, all_sendings, sent, sent_to, signed, operand, operand_by, products, sums, comparisons, conjunctions, values}
 
 -- ---- chains
 
@@ -78,8 +78,8 @@ module _ (depth : ℕ) (inner : Rule → Parser Tree) (b : (r : Rule) → Budget
   body_budget : (sep : Next) → Budget depth (list_of (inner rule.Expression) sep)
   body_budget sep = list_budget depth (inner rule.Expression) sep (b rule.Expression)
 
-  pub test_budget : (word : Next) → Budget depth (test inner word)
-  unfolding test
+  pub test_budget : (word : Next) → Budget depth (tested inner word)
+  unfolding tested
   test_budget word = bind_budget depth (inner rule.Value) _ (b rule.Value) (λ t. bind_budget depth (expect word) _ (expect_budget depth word) (λ u. pure_budget depth t))
 
   otherwise_budget : Budget depth (otherwise inner)
@@ -109,23 +109,23 @@ module _ (depth : ℕ) (inner : Rule → Parser Tree) (b : (r : Rule) → Budget
       record { fails = c.fails; shrinks = c.shrinks }
 
   abbrev conditional_rest : Pos → Parser Tree
-  conditional_rest pos = test inner n.Then >>= (λ t. list_of (inner rule.Expression) n.Semicolon >>= (λ ts. otherwise inner >>= (λ o. expect n.Fi >>= (λ u. pure (choice pos t (expressions ts) o)))))
+  conditional_rest pos = tested inner n.Then >>= (λ t. list_of (inner rule.Expression) n.Semicolon >>= (λ ts. otherwise inner >>= (λ o. expect n.Fi >>= (λ u. pure (choice pos t (expressions ts) o)))))
 
   conditional_at : (i : Tokens) → next i ≡ n.If → BudgetAt (suc depth) (conditional depth inner) i
   unfolding conditional
   conditional_at i h =
       let c = opened_at depth (λ u. conditional_rest (position i)) i (kind.Key k.If) (ap token_of h) (omega arith)
-      (bind_budget depth (test inner n.Then) _ (test_budget n.Then) (λ t. bind_budget depth (list_of (inner rule.Expression) n.Semicolon) _ (body_budget n.Semicolon) (λ ts. bind_budget depth (otherwise inner) _ otherwise_budget (λ o. bind_budget depth (expect n.Fi) _ (expect_budget depth n.Fi) (λ u. pure_budget depth (choice (position i) t (expressions ts) o)))))) in
+      (bind_budget depth (tested inner n.Then) _ (test_budget n.Then) (λ t. bind_budget depth (list_of (inner rule.Expression) n.Semicolon) _ (body_budget n.Semicolon) (λ ts. bind_budget depth (otherwise inner) _ otherwise_budget (λ o. bind_budget depth (expect n.Fi) _ (expect_budget depth n.Fi) (λ u. pure_budget depth (choice (position i) t (expressions ts) o)))))) in
       record { fails = c.fails; shrinks = c.shrinks }
 
   abbrev repetition_rest : Pos → Parser Tree
-  repetition_rest pos = test inner n.Do >>= (λ t. list_of (inner rule.Expression) n.Semicolon >>= (λ ts. expect n.Od >>= (λ u. pure (loop pos t (expressions ts)))))
+  repetition_rest pos = tested inner n.Do >>= (λ t. list_of (inner rule.Expression) n.Semicolon >>= (λ ts. expect n.Od >>= (λ u. pure (loop pos t (expressions ts)))))
 
   repetition_at : (i : Tokens) → next i ≡ n.While → BudgetAt (suc depth) (repetition depth inner) i
   unfolding repetition
   repetition_at i h =
       let c = opened_at depth (λ u. repetition_rest (position i)) i (kind.Key k.While) (ap token_of h) (omega arith)
-      (bind_budget depth (test inner n.Do) _ (test_budget n.Do) (λ t. bind_budget depth (list_of (inner rule.Expression) n.Semicolon) _ (body_budget n.Semicolon) (λ ts. bind_budget depth (expect n.Od) _ (expect_budget depth n.Od) (λ u. pure_budget depth (loop (position i) t (expressions ts)))))) in
+      (bind_budget depth (tested inner n.Do) _ (test_budget n.Do) (λ t. bind_budget depth (list_of (inner rule.Expression) n.Semicolon) _ (body_budget n.Semicolon) (λ ts. bind_budget depth (expect n.Od) _ (expect_budget depth n.Od) (λ u. pure_budget depth (loop (position i) t (expressions ts)))))) in
       record { fails = c.fails; shrinks = c.shrinks }
 
   abbrev m : ℕ

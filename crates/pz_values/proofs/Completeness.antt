@@ -31,7 +31,7 @@ use Rattle.pz_cursor.proofs.Each.{each_complete}
 use Rattle.pz_values.specs.declared.rule.Rule.{Rule}
 use Rattle.pz_values.specs.declared.rule.Rule.TheVariants as rule
 use Rattle.pz_values.specs.devices.Rules.{rank}
-use Rattle.pz_values.specs.devices.Values.{expr, below, by_rule, assignment, returned, named, expression, expression_by, created, test, otherwise, otherwise_by, exprs_before, enclosed, grouped, conditional, repetition, primary, arguments, arguments_by, one_sending, all_sendings, sent_to, signed, operand, products, sums, comparisons, conjunctions, values}
+use Rattle.pz_values.specs.devices.Values.{expr, below, by_rule, assignment, returned, named, expression, expression_by, created, tested, otherwise, otherwise_by, exprs_before, enclosed, grouped, conditional, repetition, primary, arguments, arguments_by, one_sending, all_sendings, sent_to, signed, operand, products, sums, comparisons, conjunctions, values}
 use Rattle.pz_values.specs.ExpressionPlaces.{place, place_all, place_part, place_sendings}
 use Rattle.pz_values.proofs.Loops.{operand_default}
 use Rattle.pz_values.proofs.Texts.{Fits, starts, begins, stands, to_list, list_back, texts_of, places_are, filled_of_body}
@@ -171,7 +171,7 @@ module _ (depth : ℕ) (inner : Rule → Parser Tree) (inner_complete : (r : Rul
   other_stops at m (written ts) p j = (omega arith, λ e. absurd cc)
 
   conditional_given : (at : ℕ → Pos) (m : ℕ) (pos : Pos) (t : Tree) (ts : Expressions Id Id) (o : Part Id Id) (j : Tokens) → Fits depth 1 t → IsBody ts → nestings ts < depth → IsOtherwise o → otherwise_nesting o < depth → conditional depth inner (located at m (text (choice pos t ts o)) ++ j) ≡ Ok (place at m (choice pos t ts o), j)
-  unfolding conditional test next after position sees same
+  unfolding conditional tested next after position sees same
   conditional_given at m pos t ts o j f body lt h ne =
       let a = suc m + length (text t) in
       let b = suc a + length (texts s.Semicolon ts) in
@@ -194,7 +194,7 @@ module _ (depth : ℕ) (inner : Rule → Parser Tree) (inner_complete : (r : Rul
       ) refl
 
   repetition_given : (at : ℕ → Pos) (m : ℕ) (pos : Pos) (t : Tree) (ts : Expressions Id Id) (j : Tokens) → Fits depth 1 t → IsBody ts → nestings ts < depth → repetition depth inner (located at m (text (loop pos t ts)) ++ j) ≡ Ok (place at m (loop pos t ts), j)
-  unfolding repetition test next after position sees same
+  unfolding repetition tested next after position sees same
   repetition_given at m pos t ts j f body lt =
       let a = suc m + length (text t) in
       let b = suc a + length (texts s.Semicolon ts) in

@@ -32,7 +32,7 @@ use Rattle.pz_cursor.proofs.Named.{word_sound}
 use Rattle.pz_values.specs.declared.rule.Rule.{Rule}
 use Rattle.pz_values.specs.declared.rule.Rule.TheVariants as rule
 use Rattle.pz_values.specs.devices.Rules.{rank}
-use Rattle.pz_values.specs.devices.Values.{expr, below, by_rule, assignment, returned, named, expression, expression_by, created, test, otherwise, otherwise_by, exprs_before, enclosed, grouped, conditional, repetition, primary, primary_by, arguments, arguments_by, one_sending, all_sendings, sent, sent_to, signed, operand, operand_by, products, sums, comparisons, conjunctions, values}
+use Rattle.pz_values.specs.devices.Values.{expr, below, by_rule, assignment, returned, named, expression, expression_by, created, tested, otherwise, otherwise_by, exprs_before, enclosed, grouped, conditional, repetition, primary, primary_by, arguments, arguments_by, one_sending, all_sendings, sent, sent_to, signed, operand, operand_by, products, sums, comparisons, conjunctions, values}
 use Rattle.pz_values.proofs.Texts.{Fits, texts_are, are, nested, body, body_nested}
 use Rattle.pz_values.proofs.Linked.{chain_sound}
 
@@ -94,8 +94,8 @@ module _ (depth : ℕ) where
           meets = (body depth b.0.0 ts.meets, omega arith, omega (arith, body_nested depth b.0.0 ts.meets));
         })
 
-    pub test_sound : (x : Next) (w : TokenKind) → token_of x ≡ Some w → Sound (λ t. text t ++ mark w ∷ []) (test inner x) (Fits depth 1)
-    unfolding test
+    pub test_sound : (x : Next) (w : TokenKind) → token_of x ≡ Some w → Sound (λ t. text t ++ mark w ∷ []) (tested inner x) (Fits depth 1)
+    unfolding tested
     test_sound x w shows = record {
       reads = λ i y e.
           let a = bind_ok (inner rule.Value i) _ y e in
@@ -127,7 +127,7 @@ module _ (depth : ℕ) where
     conditional_sound i y h e =
         let a = bind_ok (deepen depth i) _ y e in
         let d = opened depth (kind.Key k.If) i a.0 (ap token_of h) a.1 in
-        let b = bind_ok (test inner n.Then a.0.1) _ y a.2 in
+        let b = bind_ok (tested inner n.Then a.0.1) _ y a.2 in
         let t = (test_sound n.Then (kind.Key k.Then) refl).reads a.0.1 b.0 b.1 in
         let f = bind_ok (list_of (inner rule.Expression) n.Semicolon b.0.1) _ y b.2 in
         let ts = (exprs_sound n.Semicolon s.Semicolon refl).reads b.0.1 f.0 f.1 in
@@ -150,7 +150,7 @@ module _ (depth : ℕ) where
     repetition_sound i y h e =
         let a = bind_ok (deepen depth i) _ y e in
         let d = opened depth (kind.Key k.While) i a.0 (ap token_of h) a.1 in
-        let b = bind_ok (test inner n.Do a.0.1) _ y a.2 in
+        let b = bind_ok (tested inner n.Do a.0.1) _ y a.2 in
         let t = (test_sound n.Do (kind.Key k.Do) refl).reads a.0.1 b.0 b.1 in
         let f = bind_ok (list_of (inner rule.Expression) n.Semicolon b.0.1) _ y b.2 in
         let ts = (exprs_sound n.Semicolon s.Semicolon refl).reads b.0.1 f.0 f.1 in

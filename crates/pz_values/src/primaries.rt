@@ -65,10 +65,10 @@ impl<F: Fn(Global, &mut Cursor<'_>, usize, Rule) -> Result<Expr, Refusal>> Gramm
     }
 
     /// A value and this word behind it.
-    #[tactic(auto, unfolding(crate::specs::devices::Values::test))]
+    #[tactic(auto, unfolding(crate::specs::devices::Values::tested))]
     fn test(&self, cursor: &mut Cursor<'_>, word: Next) -> Result<Boxed<Expr>, Refusal>
         requires parts { Nests self.now.depth self.now.rule (F.pre self.now.expr) (F.post self.now.expr) }
-        ensures reads { Reads view (spec.test (below self.now.depth) word cursor.old) result cursor.new }
+        ensures reads { Reads view (spec.tested (below self.now.depth) word cursor.old) result cursor.new }
     {
         let test = Boxed::new(self.alloc, self.inner(cursor, Rule::Value)?)?;
         cursor.expect(word)?;

@@ -11,7 +11,7 @@ use Rattle.pz_cursor.specs.devices.Input.{position, after, sees}
 use Rattle.pz_cursor.specs.devices.Device.{Parser, ◌>>=◌, ◌>>◌, ◌<$>◌, pure, refuse, peek, ask, skip, take_id, expect, deepen}
 use Rattle.pz_cursor.specs.devices.Lists.{list_of}
 use Rattle.pz_values.specs.declared.rule.Rule.TheVariants as rule
-use Rattle.pz_values.specs.devices.Values.{expr, below, enclosed, test}
+use Rattle.pz_values.specs.devices.Values.{expr, below, enclosed, tested}
 use Rattle.pz_statements.specs.devices.Messages.{sent, received, called}
 
 -- ---- what no other statement stands in
@@ -72,7 +72,7 @@ module _ (depth : ℕ) (inner : Parser Tree) where
   guarded = do
     pos ← ask position
     deepen depth
-    e ← test (below depth) n.RightBracket
+    e ← tested (below depth) n.RightBracket
     t ← inner
     pure (tree.guarded pos e t)
 
@@ -108,7 +108,7 @@ module _ (depth : ℕ) (inner : Parser Tree) where
   conditional = do
     pos ← ask position
     deepen depth
-    e ← test (below depth) n.Then
+    e ← tested (below depth) n.Then
     ts ← sequence
     other ← otherwise
     expect n.Fi
@@ -118,7 +118,7 @@ module _ (depth : ℕ) (inner : Parser Tree) where
   repeated = do
     pos ← ask position
     deepen depth
-    e ← test (below depth) n.Do
+    e ← tested (below depth) n.Do
     ts ← sequence
     expect n.Od
     pure (tree.repeated pos e (sequence_of ts))

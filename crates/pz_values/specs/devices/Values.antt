@@ -122,8 +122,8 @@ created = do
 
 module _ (inner : Rule → Parser Tree) where
   -- a value and a word behind it
-  unfoldable pub test : Next → Parser Tree
-  test word = do
+  unfoldable pub tested : Next → Parser Tree
+  tested word = do
     t ← inner rule.Value
     expect word
     pure t
@@ -161,7 +161,7 @@ module _ (depth : ℕ) (inner : Rule → Parser Tree) where
   conditional = do
     pos ← ask position
     deepen depth
-    t ← test inner n.Then
+    t ← tested inner n.Then
     ts ← list_of (inner rule.Expression) n.Semicolon
     other ← otherwise inner
     expect n.Fi
@@ -171,7 +171,7 @@ module _ (depth : ℕ) (inner : Rule → Parser Tree) where
   repetition = do
     pos ← ask position
     deepen depth
-    t ← test inner n.Do
+    t ← tested inner n.Do
     ts ← list_of (inner rule.Expression) n.Semicolon
     expect n.Od
     pure (loop pos t (expressions ts))
