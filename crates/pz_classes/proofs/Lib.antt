@@ -30,3 +30,4 @@ mod SoundEnds
 mod SoundSystem
 mod Heirs
 mod SoundClasses
+mod MethodBodies

@@ -25,4 +25,5 @@ pub mod Reached
 pub mod Apart
 pub mod SoundSystem
 pub mod SoundClasses
+pub mod MethodBodies
 pub mod devices
