@@ -31,3 +31,6 @@ mod SoundSystem
 mod Heirs
 mod SoundClasses
 mod MethodBodies
+mod Mentioned
+mod SoundBodies
+mod WorkedBodies

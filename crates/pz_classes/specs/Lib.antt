@@ -26,4 +26,6 @@ pub mod Apart
 pub mod SoundSystem
 pub mod SoundClasses
 pub mod MethodBodies
+pub mod FitBodies
+pub mod SoundBodies
 pub mod devices
