@@ -66,7 +66,7 @@ module _ (model : ModelTree) (now frame : ℕ) (s : StateView) (t : Tree) (allow
   pub found : Finds model now frame s t allowed (outcome_of (reached_value model now frame s t allowed)) (state_after s (reached_value model now frame s t allowed))
   found = let exact = value_exact model now frame s t allowed in found_by exact exact.sound
 
-  value_only : {x : Reached Value} (a : Answer Value) (r : ℕ) (y : Value) (m : Memory) → x ≡ done a r → ended (outside s) a ≡ gives y m → (outcome.Value y ≡ outcome_of x) × (m.state ≡ state_after s x)
+  value_only : {x : Reached Value} (a : Answer Value) (r : ℕ) (y : Value) (m : Memory) → x ≡ done a r → ended [] a ≡ gives y m → (outcome.Value y ≡ outcome_of x) × (m.state ≡ state_after s x)
   value_only (gives z m1) r y m e q = (cc, cc)
   value_only (stops (ends z m1)) r y m e q = (cc, cc)
   value_only (stops (fault kind at)) r y m e q = absurd cc

@@ -14,7 +14,7 @@ use Rattle.pz_evaluation.specs.Memories.{Memory, Place, in_object, read, write, 
 use Rattle.pz_evaluation.specs.Answers.{Stop, ends, fault, Answer, gives, stops, ended}
 use Rattle.pz_evaluation.specs.Steps.{Codes, constant, time, created, truth, chosen, applied, applied_alone, Reply, answers, runs, reply}
 use Rattle.pz_evaluation.specs.Evaluation.{arguments_of, Evaluates, a_constant, a_variable, itself, the_time, a_new, in_brackets, a_chain, a_chain_stops, some_sends, some_sends_stop, a_unary, a_unary_stops, an_assignment, an_assignment_stops, a_return, a_return_stops, an_if, an_if_wrong, an_if_stops, a_while, InSequence, no_more, one_more, one_stops, Arguments, no_argument, an_argument, an_argument_stops, Operators, no_operator, an_operator, an_operator_wrong, an_operand_stops, Selectors, no_selector, an_answer, an_answer_wrong, a_method, a_method_wrong, arguments_stop, Turns, a_turn, a_turn_stops, over, a_test_wrong, a_test_stops}
-use Rattle.pz_evaluation.specs.devices.Computed.{Reached, done, spent, Computation, follow, and_then, seen_by, tick, tested, sequence, arguments, operators, replied, selectors, turns, again, step, evaluated}
+use Rattle.pz_evaluation.specs.devices.Computed.{Reached, done, spent, Computation, follow, and_then, seen_by, tick, tested, sequence, arguments, operators, replied, selectors, going, turns, step, evaluated}
 
 -- a derivation of this depth at most, for the units that are gone
 pub record Derived (D B r : ℕ) (J : ℕ → ℕ → Type 0) : Type 0 where
@@ -117,10 +117,10 @@ module _ (model : ModelTree) (now D : ℕ) where
 
       body_sound : (o count : ℕ) (body : Codes) → reply model y selector ws m1 ≡ runs o count body
           → {x : Reached Value} → Each (IsSequence (in_object o) Nil body (started count ws m1) r2) x
-          → Each (AreSelectors p y (sending selector args ss) m B) (and_then (seen_by (ended m1) x) (λ z. selectors model now inner p z ss))
+          → Each (AreSelectors p y (sending selector args ss) m B) (and_then (seen_by (ended m1.locals) x) (λ z. selectors model now inner p z ss))
       body_sound o count body q nothing = nothing
       body_sound o count body q (reached {a = b} {r = r3} k) =
-          at_follow (ended m1 b) r3 (λ z. selectors model now inner p z ss)
+          at_follow (ended m1.locals b) r3 (λ z. selectors model now inner p z ss)
               (λ z m2 w. at_same (rest z m2 r3)
                   (λ a r4 n. record { units = h.units + suc (k.units + n.units); depth = max h.depth (max k.depth n.depth); proof = a_method h.proof q k.proof w n.proof; deep = omega arith; paid = omega arith }))
               (λ e w. record { units = h.units + suc k.units; depth = max h.depth k.depth; proof = a_method_wrong h.proof q k.proof w; deep = omega arith; paid = omega arith })
@@ -140,26 +140,26 @@ module _ (model : ModelTree) (now D : ℕ) where
                 (λ r2 g. reply_sound p y selector args ss m B (λ z. selectors_sound p z ss) ws m1 r1 r2 h g (reply model y selector ws m1) refl))
             (λ e r1 h. record { units = h.units; depth = h.depth; proof = arguments_stop h.proof; deep = h.deep; paid = h.paid })
 
-    again_sound : (n : ℕ) (p : Place) (at : Pos) (t : Tree) (ts : Codes) (m : Memory) (B B1 : ℕ)
+    going_sound : (n : ℕ) (p : Place) (at : Pos) (t : Tree) (ts : Codes) (m : Memory) (B B1 : ℕ)
         → ((m1 : Memory) (r1 : ℕ) → Each (AreTurns p at t ts m1 r1) (turns model now inner n p at t ts m1 r1)) → B ≡ suc B1
         → (y : Value) (m1 : Memory) (r1 : ℕ) → IsEvaluation p t m B1 (gives y m1) r1 → (b : Bool) → truth y ≡ Some b
-        → Each (AreTurns p at t ts m B) (again model now inner n p at t ts b m1 r1)
-    unfolding again
-    again_sound n p at t ts m B B1 rest g y m1 r1 h true q = at_then (λ _. turns model now inner n p at t ts) (sequence_sound p Nil ts m1 r1)
+        → Each (AreTurns p at t ts m B) (going model now inner p ts (turns model now inner n p at t ts) b m1 r1)
+    unfolding going
+    going_sound n p at t ts m B B1 rest g y m1 r1 h true q = at_then (λ _. turns model now inner n p at t ts) (sequence_sound p Nil ts m1 r1)
         (λ z m2 r2 k. at_same (rest m2 r2)
             (λ a r3 w. record { units = suc (h.units + (k.units + w.units)); depth = max h.depth (max k.depth w.depth); proof = a_turn h.proof q k.proof w.proof; deep = omega arith; paid = omega arith }))
         (λ e r2 k. record { units = suc (h.units + k.units); depth = max h.depth k.depth; proof = a_turn_stops h.proof q k.proof; deep = omega arith; paid = omega arith })
-    again_sound n p at t ts m B B1 rest g y m1 r1 h false q =
+    going_sound n p at t ts m B B1 rest g y m1 r1 h false q =
         reached (record { units = suc h.units; depth = h.depth; proof = over h.proof q; deep = h.deep; paid = omega arith })
 
     turns_sound : (n : ℕ) (p : Place) (at : Pos) (t : Tree) (ts : Codes) (m : Memory) (B : ℕ) → Each (AreTurns p at t ts m B) (turns model now inner n p at t ts m B)
     unfolding turns
     turns_sound zero p at t ts m B = nothing
     turns_sound (suc n) p at t ts m B =
-        at_tick (λ m1 r1. and_then (inner p t m1 r1) (λ y. tested at (truth y) (again model now inner n p at t ts))) m B
-            (λ B1 g. at_then (λ y. tested at (truth y) (again model now inner n p at t ts)) (below p t m B1)
-                (λ y m1 r1 h. at_test at (truth y) (again model now inner n p at t ts) m1 r1
-                    (λ b q. again_sound n p at t ts m B B1 (turns_sound n p at t ts) g y m1 r1 h b q)
+        at_tick (λ m1 r1. and_then (inner p t m1 r1) (λ y. tested at (truth y) (going model now inner p ts (turns model now inner n p at t ts)))) m B
+            (λ B1 g. at_then (λ y. tested at (truth y) (going model now inner p ts (turns model now inner n p at t ts))) (below p t m B1)
+                (λ y m1 r1 h. at_test at (truth y) (going model now inner p ts (turns model now inner n p at t ts)) m1 r1
+                    (λ b q. going_sound n p at t ts m B B1 (turns_sound n p at t ts) g y m1 r1 h b q)
                     (λ q. record { units = suc h.units; depth = h.depth; proof = a_test_wrong h.proof q; deep = h.deep; paid = omega arith }))
                 (λ e r1 h. record { units = suc h.units; depth = h.depth; proof = a_test_stops h.proof; deep = h.deep; paid = omega arith }))
 

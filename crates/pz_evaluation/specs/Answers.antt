@@ -16,11 +16,11 @@ pub data Answer (A : Type 0) : Type 0 where
   gives : A → Memory → Answer A
   stops : Stop → Answer A
 
--- what the body of a method comes to is what its caller goes on with
-abbrev pub ended : Memory → Answer Value → Answer Value
-ended caller (gives y m) = gives y (left caller m)
-ended caller (stops (ends y m)) = gives y (left caller m)
-ended caller (stops (fault kind at)) = stops (fault kind at)
+-- what the caller, which has these locals, goes on with once the body of a method came to an answer
+abbrev pub ended : List Value → Answer Value → Answer Value
+ended locals (gives y m) = gives y (left locals m)
+ended locals (stops (ends y m)) = gives y (left locals m)
+ended locals (stops (fault kind at)) = stops (fault kind at)
 
 -- of a list that no method has, a `return`, which no sound model has there, leaves its value alone
 abbrev pub ended_list : Answer (List Value) → Answer (List Value)

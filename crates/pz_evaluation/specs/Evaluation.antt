@@ -146,13 +146,13 @@ mutual
         → Arguments model now p m [] (arguments_of args) (gives ws m1) u1 d1
         → reply model y selector ws m1 ≡ runs r count body
         → InSequence model now (in_object r) (started count ws m1) Nil body b u2 d2
-        → ended m1 b ≡ gives z m2 → Selectors model now p m2 z ss a u3 d3
+        → ended m1.locals b ≡ gives z m2 → Selectors model now p m2 z ss a u3 d3
         → Selectors model now p m y (sending selector args ss) a (u1 + suc (u2 + u3)) (max d1 (max d2 d3))
     a_method_wrong : {p : Place} {m m1 : Memory} {y : Value} {selector : Id} {args : Part Slot ClassId} {ss : Sendings Slot ClassId} {ws : List Value} {r count : ℕ} {body : Codes} {b : Answer Value} {e : Stop} {u1 d1 u2 d2 : ℕ}
         → Arguments model now p m [] (arguments_of args) (gives ws m1) u1 d1
         → reply model y selector ws m1 ≡ runs r count body
         → InSequence model now (in_object r) (started count ws m1) Nil body b u2 d2
-        → ended m1 b ≡ stops e
+        → ended m1.locals b ≡ stops e
         → Selectors model now p m y (sending selector args ss) (stops e) (u1 + suc u2) (max d1 d2)
     arguments_stop : {p : Place} {m : Memory} {y : Value} {selector : Id} {args : Part Slot ClassId} {ss : Sendings Slot ClassId} {e : Stop} {u d : ℕ}
         → Arguments model now p m [] (arguments_of args) (stops e) u d

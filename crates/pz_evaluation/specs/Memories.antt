@@ -45,6 +45,6 @@ self_at (in_process frame) = Nil
 abbrev pub started : ℕ → List Value → Memory → Memory
 started count arguments m = record { state = m.state; locals = arguments ++ nils (count - length arguments) }
 
--- the caller goes on: the state is that which the method left
-abbrev pub left : Memory → Memory → Memory
-left caller m = record { state = m.state; locals = caller.locals }
+-- the caller, which has these locals, goes on with the state that the method left
+abbrev pub left : List Value → Memory → Memory
+left locals m = record { state = m.state; locals = locals }

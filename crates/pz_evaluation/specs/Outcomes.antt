@@ -35,7 +35,7 @@ ComesTo model now frame s t = Evaluates model now (in_process frame) (outside s)
 -- Effects stay after a value alone. Spent comes where no derivation is within the allowance.
 pub data Finds (model : ModelTree) (now frame : ℕ) (s : StateView) (t : Tree) (allowed : Allowance) : Outcome → StateView → Type 0 where
   a_value : {a : Answer Value} {y : Value} {m : Memory}
-      → Within (ComesTo model now frame s t) allowed a → ended (outside s) a ≡ gives y m
+      → Within (ComesTo model now frame s t) allowed a → ended [] a ≡ gives y m
       → Finds model now frame s t allowed (outcome.Value y) m.state
   a_fault : {kind : FaultKind} {at : Pos}
       → Within (ComesTo model now frame s t) allowed (stops (fault kind at))

@@ -64,23 +64,23 @@ module _ (model : ModelTree) (now : ℕ) (below : Place → Tree → Computation
   -- what a reply comes to
   unfoldable pub replied : Reply → List Value → Computation Value
   replied (answers a) ws m r = done a r
-  replied (runs o count body) ws m r = seen_by (ended m) (sequence (in_object o) Nil body (started count ws m) r)
+  replied (runs o count body) ws m r = seen_by (ended m.locals) (sequence (in_object o) Nil body (started count ws m) r)
 
   unfoldable pub selectors : Place → Value → Sendings Slot ClassId → Computation Value
   selectors p y no_sendings m r = done (gives y m) r
   selectors p y (sending selector args ss) m r =
       and_then (arguments p [] (arguments_of args) m r) (λ ws. tick (λ m1 r1. and_then (replied (reply model y selector ws m1) ws m1 r1) (λ z. selectors p z ss)))
 
-  -- at most so many turns
-  mutual
-    unfoldable pub turns : ℕ → Place → Pos → Tree → Codes → Computation Value
-    turns zero p at t ts m r = spent
-    turns (suc n) p at t ts m r =
-        tick (λ m1 r1. and_then (below p t m1 r1) (λ y. tested at (truth y) (again n p at t ts))) m r
+  -- after a test, the body and what follows it, or nothing
+  unfoldable pub going : Place → Codes → Computation Value → Bool → Computation Value
+  going p ts next true m r = and_then (sequence p Nil ts m r) (λ _. next)
+  going p ts next false m r = done (gives Nil m) r
 
-    unfoldable pub again : ℕ → Place → Pos → Tree → Codes → Bool → Computation Value
-    again n p at t ts true m r = and_then (sequence p Nil ts m r) (λ _. turns n p at t ts)
-    again n p at t ts false m r = done (gives Nil m) r
+  -- at most so many turns
+  unfoldable pub turns : ℕ → Place → Pos → Tree → Codes → Computation Value
+  turns zero p at t ts m r = spent
+  turns (suc n) p at t ts m r =
+      tick (λ m1 r1. and_then (below p t m1 r1) (λ y. tested at (truth y) (going p ts (turns n p at t ts)))) m r
 
   unfoldable pub step : Place → Tree → Computation Value
   step p (literal at x) m r = tick (λ m1 r1. done (gives (constant x) m1) r1) m r
