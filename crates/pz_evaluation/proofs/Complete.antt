@@ -1,5 +1,5 @@
 -- What is derivable within the allowance is reached.
-use Rattle.std.proofs.Common.{◌≡◌, ℕ, zero, suc, ◌+◌, max, ◌≤◌, Bool, true, false, List, [], ◌∷◌, ◌++◌, Option, Some, None, refl, ap, sym, ◌∙◌, arith}
+use Rattle.std.proofs.Common.{◌≡◌, ℕ, zero, suc, ◌+◌, ◌≤◌, List, refl, ap, arith}
 use Rattle.pz_syntax.specs.declared.tokens.Pos.{Pos}
 use Rattle.pz_syntax.specs.Expressions.{Links, Sendings}
 use Rattle.pz_syntax.specs.Classes.{ModelTree}
@@ -8,10 +8,10 @@ use Rattle.pz_value.specs.declared.value.Value.{Value}
 use Rattle.pz_code.specs.declared.slot.Slot.{Slot}
 use Rattle.pz_code.specs.CodeView.{Tree}
 use Rattle.pz_evaluation.specs.Memories.{Memory, Place}
-use Rattle.pz_evaluation.specs.Answers.{Answer, gives, stops}
+use Rattle.pz_evaluation.specs.Answers.{Answer, gives}
 use Rattle.pz_evaluation.specs.Steps.{Codes}
 use Rattle.pz_evaluation.specs.Evaluation.{Evaluates, a_constant, a_variable, itself, the_time, a_new, in_brackets, a_chain, a_chain_stops, some_sends, some_sends_stop, a_unary, a_unary_stops, an_assignment, an_assignment_stops, a_return, a_return_stops, an_if, an_if_wrong, an_if_stops, a_while, InSequence, no_more, one_more, one_stops, Arguments, no_argument, an_argument, an_argument_stops, Operators, no_operator, an_operator, an_operator_wrong, an_operand_stops, Selectors, no_selector, an_answer, an_answer_wrong, a_method, a_method_wrong, arguments_stop, Turns, a_turn, a_turn_stops, over, a_test_wrong, a_test_stops}
-use Rattle.pz_evaluation.specs.devices.Computed.{Reached, done, spent, sequence, arguments, operators, replied, selectors, going, turns, step, evaluated}
+use Rattle.pz_evaluation.specs.devices.Computed.{done, sequence, arguments, operators, replied, selectors, going, turns, step, evaluated}
 
 deep : {model : ModelTree} {now : ℕ} {p : Place} {m : Memory} {t : Tree} {a : Answer Value} {u d : ℕ} → Evaluates model now p m t a u d → 1 ≤ d
 deep a_constant = omega arith
@@ -44,6 +44,7 @@ costs (a_test_stops h) = omega arith
 
 mutual
   unfolding evaluated step sequence arguments operators replied selectors going turns
+
   pub evaluates_done : {model : ModelTree} {now : ℕ} {p : Place} {m : Memory} {t : Tree} {a : Answer Value} {u d : ℕ}
       → Evaluates model now p m t a u d → (D B r : ℕ) → d ≤ D → B ≡ u + r → evaluated model now D p t m B ≡ done a r
   evaluates_done h zero B r le e = let k = deep h in absurd (omega arith)

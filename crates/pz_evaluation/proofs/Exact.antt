@@ -1,6 +1,5 @@
 -- What is computed is what is found, and nothing else is.
-use Rattle.std.proofs.Common.{◌≡◌, ℕ, ◌+◌, ◌≤◌, ◌-◌, List, [], ◌∷◌, refl, ap, sym, ◌∙◌, arith}
-use Rattle.pz_syntax.specs.declared.tokens.Pos.{Pos}
+use Rattle.std.proofs.Common.{◌≡◌, ℕ, ◌≤◌, ◌-◌, List, [], refl, sym, ◌∙◌, arith}
 use Rattle.pz_syntax.specs.Classes.{ModelTree}
 use Rattle.pz_value.specs.declared.value.Value.{Value}
 use Rattle.pz_code.specs.CodeView.{Tree}
@@ -10,13 +9,12 @@ use Rattle.pz_evaluation.specs.declared.outcome.Outcome.{Outcome}
 use Rattle.pz_evaluation.specs.declared.outcome.Outcome.TheVariants as outcome
 use Rattle.pz_evaluation.specs.declared.outcome.Listed.{Listed}
 use Rattle.pz_evaluation.specs.declared.outcome.Listed.TheVariants as listed
-use Rattle.pz_evaluation.specs.Memories.{Memory, Place, in_process}
-use Rattle.pz_evaluation.specs.Answers.{Stop, ends, fault, Answer, gives, stops, ended, ended_list}
+use Rattle.pz_evaluation.specs.Memories.{Memory, in_process}
+use Rattle.pz_evaluation.specs.Answers.{ends, fault, Answer, gives, stops, ended, ended_list}
 use Rattle.pz_evaluation.specs.Steps.{Codes}
-use Rattle.pz_evaluation.specs.Evaluation.{Evaluates, Arguments}
 use Rattle.pz_evaluation.specs.Laws.{SomeOutcome, SomeListed}
 use Rattle.pz_evaluation.specs.Outcomes.{Within, outside, ComesTo, AllComeTo, Finds, a_value, a_fault, too_much, FindsAll, all_values, one_fault, all_too_much}
-use Rattle.pz_evaluation.specs.devices.Computed.{Reached, done, spent, arguments, evaluated}
+use Rattle.pz_evaluation.specs.devices.Computed.{Reached, done, spent}
 use Rattle.pz_evaluation.specs.devices.Outcomes.{reached_value, reached_list, outcome_of, listed_of, state_after}
 use Rattle.pz_evaluation.proofs.Complete.{evaluates_done, arguments_done}
 use Rattle.pz_evaluation.proofs.Sound.{Derived, Each, reached, nothing, evaluated_sound, list_sound}

@@ -1,5 +1,5 @@
 -- What is reached is derivable, within the allowance.
-use Rattle.std.proofs.Common.{◌≡◌, ℕ, zero, suc, ◌+◌, max, ◌≤◌, Bool, true, false, List, [], ◌∷◌, ◌++◌, Option, Some, None, refl, ap, sym, ◌∙◌, arith}
+use Rattle.std.proofs.Common.{◌≡◌, ℕ, zero, suc, ◌+◌, max, ◌≤◌, Bool, true, false, List, [], ◌∷◌, ◌++◌, Option, Some, None, refl, arith}
 use Rattle.pz_syntax.specs.declared.tokens.Pos.{Pos}
 use Rattle.pz_syntax.specs.declared.names.Id.{Id}
 use Rattle.pz_syntax.specs.Expressions.{literal, variable, me, clock, creation, group, chain, sends, unary, assign, returned, choice, loop, none, more, Part, Links, no_links, link, Sendings, no_sendings, sending}
@@ -82,7 +82,7 @@ module _ (model : ModelTree) (now D : ℕ) where
     sequence_sound p y none m B = reached (record { units = 0; depth = 0; proof = no_more; deep = omega arith; paid = omega arith })
     sequence_sound p y (more t ts) m B = at_then (λ z. sequence model now inner p z ts) (below p t m B)
         (λ z m1 r1 h. at_same (sequence_sound p z ts m1 r1)
-            (λ a r2 k. record { units = h.units + k.units; depth = max h.depth k.depth; proof = one_more h.proof k.proof; deep = omega arith; paid = omega arith }))
+        (λ a r2 k. record { units = h.units + k.units; depth = max h.depth k.depth; proof = one_more h.proof k.proof; deep = omega arith; paid = omega arith }))
         (λ e r1 h. record { units = h.units; depth = h.depth; proof = one_stops h.proof; deep = h.deep; paid = h.paid })
 
     pub arguments_sound : (p : Place) (ys : List Value) (ts : Codes) (m : Memory) (B : ℕ) → Each (AreArguments p ys ts m B) (arguments model now inner p ys ts m B)
@@ -90,7 +90,7 @@ module _ (model : ModelTree) (now D : ℕ) where
     arguments_sound p ys none m B = reached (record { units = 0; depth = 0; proof = no_argument; deep = omega arith; paid = omega arith })
     arguments_sound p ys (more t ts) m B = at_then (λ y. arguments model now inner p (ys ++ y ∷ []) ts) (below p t m B)
         (λ y m1 r1 h. at_same (arguments_sound p (ys ++ y ∷ []) ts m1 r1)
-            (λ a r2 k. record { units = h.units + k.units; depth = max h.depth k.depth; proof = an_argument h.proof k.proof; deep = omega arith; paid = omega arith }))
+        (λ a r2 k. record { units = h.units + k.units; depth = max h.depth k.depth; proof = an_argument h.proof k.proof; deep = omega arith; paid = omega arith }))
         (λ e r1 h. record { units = h.units; depth = h.depth; proof = an_argument_stops h.proof; deep = h.deep; paid = h.paid })
 
     operators_sound : (p : Place) (y : Value) (ls : Links Slot ClassId) (m : Memory) (B : ℕ) → Each (AreOperators p y ls m B) (operators model now inner p y ls m B)
@@ -98,12 +98,12 @@ module _ (model : ModelTree) (now D : ℕ) where
     operators_sound p y no_links m B = reached (record { units = 0; depth = 0; proof = no_operator; deep = omega arith; paid = omega arith })
     operators_sound p y (link op at t ls) m B =
         at_then (λ w. tick (λ m1 r1. follow (applied op at y w m1) r1 (λ z. operators model now inner p z ls))) (below p t m B)
-            (λ w m1 r1 h. at_tick (λ m2 r2. follow (applied op at y w m2) r2 (λ z. operators model now inner p z ls)) m1 r1
-                (λ r2 g. at_follow (applied op at y w m1) r2 (λ z. operators model now inner p z ls)
-                    (λ z m2 q. at_same (operators_sound p z ls m2 r2)
-                        (λ a r3 k. record { units = h.units + suc k.units; depth = max h.depth k.depth; proof = an_operator h.proof q k.proof; deep = omega arith; paid = omega arith }))
-                    (λ e q. record { units = suc h.units; depth = h.depth; proof = an_operator_wrong h.proof q; deep = h.deep; paid = omega arith })))
-            (λ e r1 h. record { units = h.units; depth = h.depth; proof = an_operand_stops h.proof; deep = h.deep; paid = h.paid })
+        (λ w m1 r1 h. at_tick (λ m2 r2. follow (applied op at y w m2) r2 (λ z. operators model now inner p z ls)) m1 r1
+        (λ r2 g. at_follow (applied op at y w m1) r2 (λ z. operators model now inner p z ls)
+        (λ z m2 q. at_same (operators_sound p z ls m2 r2)
+        (λ a r3 k. record { units = h.units + suc k.units; depth = max h.depth k.depth; proof = an_operator h.proof q k.proof; deep = omega arith; paid = omega arith }))
+        (λ e q. record { units = suc h.units; depth = h.depth; proof = an_operator_wrong h.proof q; deep = h.deep; paid = omega arith })))
+        (λ e r1 h. record { units = h.units; depth = h.depth; proof = an_operand_stops h.proof; deep = h.deep; paid = h.paid })
 
     -- what comes after the arguments
     module _ (p : Place) (y : Value) (selector : Id) (args : Part Slot ClassId) (ss : Sendings Slot ClassId) (m : Memory) (B : ℕ)
@@ -121,9 +121,9 @@ module _ (model : ModelTree) (now D : ℕ) where
       body_sound o count body q nothing = nothing
       body_sound o count body q (reached {a = b} {r = r3} k) =
           at_follow (ended m1.locals b) r3 (λ z. selectors model now inner p z ss)
-              (λ z m2 w. at_same (rest z m2 r3)
-                  (λ a r4 n. record { units = h.units + suc (k.units + n.units); depth = max h.depth (max k.depth n.depth); proof = a_method h.proof q k.proof w n.proof; deep = omega arith; paid = omega arith }))
-              (λ e w. record { units = h.units + suc k.units; depth = max h.depth k.depth; proof = a_method_wrong h.proof q k.proof w; deep = omega arith; paid = omega arith })
+          (λ z m2 w. at_same (rest z m2 r3)
+          (λ a r4 n. record { units = h.units + suc (k.units + n.units); depth = max h.depth (max k.depth n.depth); proof = a_method h.proof q k.proof w n.proof; deep = omega arith; paid = omega arith }))
+          (λ e w. record { units = h.units + suc k.units; depth = max h.depth k.depth; proof = a_method_wrong h.proof q k.proof w; deep = omega arith; paid = omega arith })
 
       reply_sound : (x : Reply) → reply model y selector ws m1 ≡ x
           → Each (AreSelectors p y (sending selector args ss) m B) (and_then (replied model now inner x ws m1 r2) (λ z. selectors model now inner p z ss))
@@ -136,9 +136,9 @@ module _ (model : ModelTree) (now D : ℕ) where
     selectors_sound p y no_sendings m B = reached (record { units = 0; depth = 0; proof = no_selector; deep = omega arith; paid = omega arith })
     selectors_sound p y (sending selector args ss) m B =
         at_then (λ ws. tick (λ m1 r1. and_then (replied model now inner (reply model y selector ws m1) ws m1 r1) (λ z. selectors model now inner p z ss))) (arguments_sound p [] (arguments_of args) m B)
-            (λ ws m1 r1 h. at_tick (λ m2 r2. and_then (replied model now inner (reply model y selector ws m2) ws m2 r2) (λ z. selectors model now inner p z ss)) m1 r1
-                (λ r2 g. reply_sound p y selector args ss m B (λ z. selectors_sound p z ss) ws m1 r1 r2 h g (reply model y selector ws m1) refl))
-            (λ e r1 h. record { units = h.units; depth = h.depth; proof = arguments_stop h.proof; deep = h.deep; paid = h.paid })
+        (λ ws m1 r1 h. at_tick (λ m2 r2. and_then (replied model now inner (reply model y selector ws m2) ws m2 r2) (λ z. selectors model now inner p z ss)) m1 r1
+        (λ r2 g. reply_sound p y selector args ss m B (λ z. selectors_sound p z ss) ws m1 r1 r2 h g (reply model y selector ws m1) refl))
+        (λ e r1 h. record { units = h.units; depth = h.depth; proof = arguments_stop h.proof; deep = h.deep; paid = h.paid })
 
     going_sound : (n : ℕ) (p : Place) (at : Pos) (t : Tree) (ts : Codes) (m : Memory) (B B1 : ℕ)
         → ((m1 : Memory) (r1 : ℕ) → Each (AreTurns p at t ts m1 r1) (turns model now inner n p at t ts m1 r1)) → B ≡ suc B1
@@ -147,7 +147,7 @@ module _ (model : ModelTree) (now D : ℕ) where
     unfolding going
     going_sound n p at t ts m B B1 rest g y m1 r1 h true q = at_then (λ _. turns model now inner n p at t ts) (sequence_sound p Nil ts m1 r1)
         (λ z m2 r2 k. at_same (rest m2 r2)
-            (λ a r3 w. record { units = suc (h.units + (k.units + w.units)); depth = max h.depth (max k.depth w.depth); proof = a_turn h.proof q k.proof w.proof; deep = omega arith; paid = omega arith }))
+        (λ a r3 w. record { units = suc (h.units + (k.units + w.units)); depth = max h.depth (max k.depth w.depth); proof = a_turn h.proof q k.proof w.proof; deep = omega arith; paid = omega arith }))
         (λ e r2 k. record { units = suc (h.units + k.units); depth = max h.depth k.depth; proof = a_turn_stops h.proof q k.proof; deep = omega arith; paid = omega arith })
     going_sound n p at t ts m B B1 rest g y m1 r1 h false q =
         reached (record { units = suc h.units; depth = h.depth; proof = over h.proof q; deep = h.deep; paid = omega arith })
@@ -157,11 +157,11 @@ module _ (model : ModelTree) (now D : ℕ) where
     turns_sound zero p at t ts m B = nothing
     turns_sound (suc n) p at t ts m B =
         at_tick (λ m1 r1. and_then (inner p t m1 r1) (λ y. tested at (truth y) (going model now inner p ts (turns model now inner n p at t ts)))) m B
-            (λ B1 g. at_then (λ y. tested at (truth y) (going model now inner p ts (turns model now inner n p at t ts))) (below p t m B1)
-                (λ y m1 r1 h. at_test at (truth y) (going model now inner p ts (turns model now inner n p at t ts)) m1 r1
-                    (λ b q. going_sound n p at t ts m B B1 (turns_sound n p at t ts) g y m1 r1 h b q)
-                    (λ q. record { units = suc h.units; depth = h.depth; proof = a_test_wrong h.proof q; deep = h.deep; paid = omega arith }))
-                (λ e r1 h. record { units = suc h.units; depth = h.depth; proof = a_test_stops h.proof; deep = h.deep; paid = omega arith }))
+        (λ B1 g. at_then (λ y. tested at (truth y) (going model now inner p ts (turns model now inner n p at t ts))) (below p t m B1)
+        (λ y m1 r1 h. at_test at (truth y) (going model now inner p ts (turns model now inner n p at t ts)) m1 r1
+        (λ b q. going_sound n p at t ts m B B1 (turns_sound n p at t ts) g y m1 r1 h b q)
+        (λ q. record { units = suc h.units; depth = h.depth; proof = a_test_wrong h.proof q; deep = h.deep; paid = omega arith }))
+        (λ e r1 h. record { units = suc h.units; depth = h.depth; proof = a_test_stops h.proof; deep = h.deep; paid = omega arith }))
 
   -- one step further out
   abbrev IsOuter : Place → Tree → Memory → ℕ → Answer Value → ℕ → Type 0
@@ -177,35 +177,35 @@ module _ (model : ModelTree) (now D : ℕ) where
     step_sound p (creation at class) m B = at_tick (λ m1 r1. done (created model class at m1) r1) m B (λ r g. reached (record { units = 1; depth = 1; proof = a_new; deep = omega arith; paid = omega arith }))
     step_sound p (group at ts) m B = at_tick (sequence model now inner p Nil ts) m B
         (λ r g. at_same (sequence_sound below p Nil ts m r)
-            (λ a r1 h. record { units = suc h.units; depth = suc h.depth; proof = in_brackets h.proof; deep = omega arith; paid = omega arith }))
+        (λ a r1 h. record { units = suc h.units; depth = suc h.depth; proof = in_brackets h.proof; deep = omega arith; paid = omega arith }))
     step_sound p (chain at t ls) m B = at_then (λ y. operators model now inner p y ls) (below p t m B)
         (λ y m1 r1 h. at_same (operators_sound below p y ls m1 r1)
-            (λ a r2 k. record { units = h.units + k.units; depth = suc (max h.depth k.depth); proof = a_chain h.proof k.proof; deep = omega arith; paid = omega arith }))
+        (λ a r2 k. record { units = h.units + k.units; depth = suc (max h.depth k.depth); proof = a_chain h.proof k.proof; deep = omega arith; paid = omega arith }))
         (λ e r1 h. record { units = h.units; depth = suc h.depth; proof = a_chain_stops h.proof; deep = omega arith; paid = h.paid })
     step_sound p (sends at t ss) m B = at_then (λ y. selectors model now inner p y ss) (below p t m B)
         (λ y m1 r1 h. at_same (selectors_sound below p y ss m1 r1)
-            (λ a r2 k. record { units = h.units + k.units; depth = suc (max h.depth k.depth); proof = some_sends h.proof k.proof; deep = omega arith; paid = omega arith }))
+        (λ a r2 k. record { units = h.units + k.units; depth = suc (max h.depth k.depth); proof = some_sends h.proof k.proof; deep = omega arith; paid = omega arith }))
         (λ e r1 h. record { units = h.units; depth = suc h.depth; proof = some_sends_stop h.proof; deep = omega arith; paid = h.paid })
     step_sound p (unary at op t) m B = at_tick (λ m1 r1. and_then (inner p t m1 r1) (λ y m2 r2. done (applied_alone op at y m2) r2)) m B
         (λ r g. at_then (λ y m2 r2. done (applied_alone op at y m2) r2) (below p t m r)
-            (λ y m1 r1 h. reached (record { units = suc h.units; depth = suc h.depth; proof = a_unary h.proof; deep = omega arith; paid = omega arith }))
-            (λ e r1 h. record { units = suc h.units; depth = suc h.depth; proof = a_unary_stops h.proof; deep = omega arith; paid = omega arith }))
+        (λ y m1 r1 h. reached (record { units = suc h.units; depth = suc h.depth; proof = a_unary h.proof; deep = omega arith; paid = omega arith }))
+        (λ e r1 h. record { units = suc h.units; depth = suc h.depth; proof = a_unary_stops h.proof; deep = omega arith; paid = omega arith }))
     step_sound p (assign at x t) m B = at_tick (λ m1 r1. and_then (inner p t m1 r1) (λ y m2 r2. done (gives y (write p x y m2)) r2)) m B
         (λ r g. at_then (λ y m2 r2. done (gives y (write p x y m2)) r2) (below p t m r)
-            (λ y m1 r1 h. reached (record { units = suc h.units; depth = suc h.depth; proof = an_assignment h.proof; deep = omega arith; paid = omega arith }))
-            (λ e r1 h. record { units = suc h.units; depth = suc h.depth; proof = an_assignment_stops h.proof; deep = omega arith; paid = omega arith }))
+        (λ y m1 r1 h. reached (record { units = suc h.units; depth = suc h.depth; proof = an_assignment h.proof; deep = omega arith; paid = omega arith }))
+        (λ e r1 h. record { units = suc h.units; depth = suc h.depth; proof = an_assignment_stops h.proof; deep = omega arith; paid = omega arith }))
     step_sound p (returned at t) m B = at_tick (λ m1 r1. and_then (inner p t m1 r1) (λ y m2 r2. done (stops (ends y m2)) r2)) m B
         (λ r g. at_then (λ y m2 r2. done (stops (ends y m2)) r2) (below p t m r)
-            (λ y m1 r1 h. reached (record { units = suc h.units; depth = suc h.depth; proof = a_return h.proof; deep = omega arith; paid = omega arith }))
-            (λ e r1 h. record { units = suc h.units; depth = suc h.depth; proof = a_return_stops h.proof; deep = omega arith; paid = omega arith }))
+        (λ y m1 r1 h. reached (record { units = suc h.units; depth = suc h.depth; proof = a_return h.proof; deep = omega arith; paid = omega arith }))
+        (λ e r1 h. record { units = suc h.units; depth = suc h.depth; proof = a_return_stops h.proof; deep = omega arith; paid = omega arith }))
     step_sound p (choice at t ts other) m B =
         at_tick (λ m1 r1. and_then (inner p t m1 r1) (λ y. tested at (truth y) (λ b. sequence model now inner p Nil (chosen b ts other)))) m B
-            (λ r g. at_then (λ y. tested at (truth y) (λ b. sequence model now inner p Nil (chosen b ts other))) (below p t m r)
-                (λ y m1 r1 h. at_test at (truth y) (λ b. sequence model now inner p Nil (chosen b ts other)) m1 r1
-                    (λ b q. at_same (sequence_sound below p Nil (chosen b ts other) m1 r1)
-                        (λ a r2 k. record { units = suc (h.units + k.units); depth = suc (max h.depth k.depth); proof = an_if h.proof q k.proof; deep = omega arith; paid = omega arith }))
-                    (λ q. record { units = suc h.units; depth = suc h.depth; proof = an_if_wrong h.proof q; deep = omega arith; paid = omega arith }))
-                (λ e r1 h. record { units = suc h.units; depth = suc h.depth; proof = an_if_stops h.proof; deep = omega arith; paid = omega arith }))
+        (λ r g. at_then (λ y. tested at (truth y) (λ b. sequence model now inner p Nil (chosen b ts other))) (below p t m r)
+        (λ y m1 r1 h. at_test at (truth y) (λ b. sequence model now inner p Nil (chosen b ts other)) m1 r1
+        (λ b q. at_same (sequence_sound below p Nil (chosen b ts other) m1 r1)
+        (λ a r2 k. record { units = suc (h.units + k.units); depth = suc (max h.depth k.depth); proof = an_if h.proof q k.proof; deep = omega arith; paid = omega arith }))
+        (λ q. record { units = suc h.units; depth = suc h.depth; proof = an_if_wrong h.proof q; deep = omega arith; paid = omega arith }))
+        (λ e r1 h. record { units = suc h.units; depth = suc h.depth; proof = an_if_stops h.proof; deep = omega arith; paid = omega arith }))
     step_sound p (loop at t ts) m B = at_same (turns_sound below B p at t ts m B)
         (λ a r1 h. record { units = h.units; depth = suc h.depth; proof = a_while h.proof; deep = omega arith; paid = h.paid })
 

@@ -6,7 +6,7 @@
 -- `while` begins, and when an operator or a selector has its operands or arguments. So what ends in a
 -- fault has counted the unit of what is wrong. The parts of an expression are one deeper than it, and
 -- so are the expressions of the body of each method that it calls.
-use Rattle.std.specs.Prelude.{◌≡◌, ℕ, suc, ◌+◌, max, Bool, true, false, List, [], ◌∷◌, ◌++◌, Option, Some, None}
+use Rattle.std.specs.Prelude.{◌≡◌, ℕ, suc, ◌+◌, max, Bool, true, false, List, [], ◌∷◌, ◌++◌, Some, None}
 use Rattle.pz_syntax.specs.declared.tokens.Pos.{Pos}
 use Rattle.pz_syntax.specs.declared.tokens.Symbol.{Symbol}
 use Rattle.pz_syntax.specs.declared.names.Id.{Id}
@@ -21,7 +21,7 @@ use Rattle.pz_code.specs.CodeView.{Tree}
 use Rattle.pz_state.specs.declared.fault.FaultKind.TheVariants.{NotBoolean}
 use Rattle.pz_evaluation.specs.Memories.{Memory, Place, in_object, read, write, self_at, started}
 use Rattle.pz_evaluation.specs.Answers.{Stop, ends, fault, Answer, gives, stops, ended}
-use Rattle.pz_evaluation.specs.Steps.{Codes, constant, time, created, truth, chosen, applied, applied_alone, Reply, answers, runs, reply}
+use Rattle.pz_evaluation.specs.Steps.{Codes, constant, time, created, truth, chosen, applied, applied_alone, answers, runs, reply}
 
 -- the arguments that are written; none without brackets
 abbrev pub arguments_of : Part Slot ClassId → Codes

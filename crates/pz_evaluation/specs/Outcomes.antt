@@ -11,7 +11,7 @@ use Rattle.pz_evaluation.specs.declared.outcome.Outcome.{Outcome}
 use Rattle.pz_evaluation.specs.declared.outcome.Outcome.TheVariants as outcome
 use Rattle.pz_evaluation.specs.declared.outcome.Listed.{Listed}
 use Rattle.pz_evaluation.specs.declared.outcome.Listed.TheVariants as listed
-use Rattle.pz_evaluation.specs.Memories.{Memory, Place, in_process}
+use Rattle.pz_evaluation.specs.Memories.{Memory, in_process}
 use Rattle.pz_evaluation.specs.Answers.{Answer, gives, stops, fault, ended, ended_list}
 use Rattle.pz_evaluation.specs.Steps.{Codes}
 use Rattle.pz_evaluation.specs.Evaluation.{Evaluates, Arguments}

@@ -1,5 +1,5 @@
 -- The steps of evaluation that evaluate nothing further.
-use Rattle.std.specs.Prelude.{ℕ, ◌^◌, nat_lt, pos, Bool, true, false, if◌then◌else◌, List, [], ◌∷◌, length, Option, Some, None, slice_get, codes}
+use Rattle.std.specs.Prelude.{ℕ, ◌^◌, nat_lt, pos, Bool, true, false, if◌then◌else◌, List, [], ◌∷◌, length, Option, Some, None, codes}
 use Rattle.std.specs.Option.{option_and_then}
 use Rattle.pz_syntax.specs.declared.tokens.Pos.{Pos}
 use Rattle.pz_syntax.specs.declared.tokens.Symbol.{Symbol}
@@ -15,12 +15,12 @@ use Rattle.pz_value.specs.declared.value.Value.TheVariants.{Nil, Bool as Boolean
 use Rattle.pz_code.specs.declared.slot.Slot.{Slot}
 use Rattle.pz_state.specs.declared.fault.FaultKind.TheVariants.{NotUnderstood, StoreFull, ClockTooLarge}
 use Rattle.pz_state.specs.declared.state.TheConstants.{OBJECT_LIMIT}
-use Rattle.pz_state.specs.States.{StateView, object, made}
+use Rattle.pz_state.specs.States.{object, made}
 use Rattle.pz_prims.specs.declared.answer.Prim.{Prim}
 use Rattle.pz_prims.specs.Table.{Outcome, outcome}
 use Rattle.pz_classes.specs.Members.{fields}
-use Rattle.pz_classes.specs.Methods.{method}
-use Rattle.pz_classes.specs.Bodies.{BodyTree, data_body, process_body, bodies}
+use Rattle.pz_classes.specs.Bodies.{BodyTree, data_body, process_body}
+use Rattle.pz_classes.specs.MethodBodies.{method_body}
 use Rattle.pz_evaluation.specs.Memories.{Memory, with_state}
 use Rattle.pz_evaluation.specs.Answers.{Answer, gives, stops, fault}
 
@@ -111,11 +111,10 @@ abbrev pub data_part : BodyTree → Option (ℕ × Codes)
 data_part (data_body locals body) = Some (locals, body)
 data_part (process_body locals body) = None
 
--- The body of the method of a class for a selector with so many arguments: that of the nearest of the
+-- The same of the method of a class for a selector with so many arguments: that of the nearest of the
 -- class and its ancestors which has one.
-abbrev pub method_body : ModelTree → ClassId → List ℕ → ℕ → Option (ℕ × Codes)
-method_body model class name count =
-    option_and_then (λ id. option_and_then data_part (slice_get (bodies model) id.0)) (method model class.0 name count)
+abbrev pub data_method : ModelTree → ClassId → List ℕ → ℕ → Option (ℕ × Codes)
+data_method model class name count = option_and_then data_part (method_body model class.0 name count)
 
 abbrev pub method_reply : ℕ → Pos → Option (ℕ × Codes) → Reply
 method_reply r at None = answers (stops (fault NotUnderstood at))
@@ -123,7 +122,7 @@ method_reply r at (Some body) = runs r body.0 body.1
 
 -- a method of the receiver's class, where no primitive row has the selector
 abbrev pub class_reply : ModelTree → Memory → Value → Id → ℕ → Reply
-class_reply model m (Ref r) selector count = method_reply r selector.pos (method_body model (object m.state r).class selector.name count)
+class_reply model m (Ref r) selector count = method_reply r selector.pos (data_method model (object m.state r).class selector.name count)
 class_reply model m y selector count = answers (stops (fault NotUnderstood selector.pos))
 
 abbrev pub reply_by : ModelTree → Memory → Value → Id → ℕ → Memory → Prim → Reply

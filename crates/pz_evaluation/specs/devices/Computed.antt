@@ -11,7 +11,7 @@ use Rattle.pz_code.specs.declared.slot.Slot.{Slot}
 use Rattle.pz_code.specs.CodeView.{Tree}
 use Rattle.pz_state.specs.declared.fault.FaultKind.TheVariants.{NotBoolean}
 use Rattle.pz_evaluation.specs.Memories.{Memory, Place, in_object, read, write, self_at, started}
-use Rattle.pz_evaluation.specs.Answers.{Stop, ends, fault, Answer, gives, stops, ended}
+use Rattle.pz_evaluation.specs.Answers.{ends, fault, Answer, gives, stops, ended}
 use Rattle.pz_evaluation.specs.Steps.{Codes, constant, time, created, truth, chosen, applied, applied_alone, Reply, answers, runs, reply}
 use Rattle.pz_evaluation.specs.Evaluation.{arguments_of}
 

@@ -10,7 +10,7 @@ use Rattle.pz_evaluation.specs.declared.outcome.Outcome.TheVariants as outcome
 use Rattle.pz_evaluation.specs.declared.outcome.Listed.{Listed}
 use Rattle.pz_evaluation.specs.declared.outcome.Listed.TheVariants as listed
 use Rattle.pz_evaluation.specs.Memories.{in_process}
-use Rattle.pz_evaluation.specs.Answers.{Stop, ends, fault, Answer, gives, stops}
+use Rattle.pz_evaluation.specs.Answers.{ends, fault, gives, stops}
 use Rattle.pz_evaluation.specs.Steps.{Codes}
 use Rattle.pz_evaluation.specs.Outcomes.{outside}
 use Rattle.pz_evaluation.specs.devices.Computed.{Reached, done, spent, arguments, evaluated}
