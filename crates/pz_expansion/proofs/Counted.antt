@@ -1,5 +1,5 @@
 -- The totals of classes that are counted in order.
-use Rattle.std.proofs.Common.{◌≡◌, ◌≢◌, refl, sym, ap, subst, ◌∙◌, ℕ, zero, suc, ◌+◌, ◌<◌, ◌≤◌, ◌⊎◌, inl, inr, List, [], ◌∷◌, map, length, get_or, Some, slice_get, arith, get_or-set_same, get_or-set_other}
+use Rattle.std.proofs.Common.{◌≡◌, ◌≢◌, refl, sym, ap, subst, ◌∙◌, ℕ, zero, suc, ◌+◌, ◌<◌, ◌≤◌, ◌⊎◌, inl, inr, List, [], ◌∷◌, length, get_or, Some, slice_get, arith, get_or-set_same, get_or-set_other}
 use Rattle.std.specs.List.{Contains}
 use Rattle.std.proofs.Math.ListN.{set, length-set}
 use Rattle.std.proofs.lemmas.List.{length-map, ext_get_or, get_or_past}
@@ -88,18 +88,10 @@ module _ (nodes : List Node) (order : List ℕ) (is_order : IsCountingOrder node
     one_counted = record { sized = length-set ts c total ∙ before.sized; counted = counted }
 
   -- what the code counts
-  pub counts : (ts seen : List Totals) (count c : ℕ) (t : Totals) → count < length order → c ≡ get_or order count c → seen ≡ ts → t ≡ total_in (next_level nodes seen) c → AreCounted nodes order ts count → AreCounted nodes order (set ts c t) (count + 1)
-  counts ts seen count c t within is seen_is counted_is before =
-      let at : slice_get order count ≡ Some c = slice_get-get_or order count c within ∙ ap (λ (k : ℕ). Some k) (sym is) in
-      let same : total_in (next_level nodes ts) c ≡ t = sym (counted_is ∙ ap (λ (x : List Totals). total_in (next_level nodes x) c) seen_is) in
-      subst (λ (x : Totals). AreCounted nodes order (set ts c x) (count + 1)) same (one_counted ts count before c at)
-
-  -- a class of the order has totals
-  pub has_total : (ts : List Totals) (count c : ℕ) → count < length order → c ≡ get_or order count c → length ts ≡ length nodes → c < length ts
-  has_total ts count c within is size =
-      let at : slice_get order count ≡ Some c = slice_get-get_or order count c within ∙ ap (λ (k : ℕ). Some k) (sym is) in
-      let inside : c < length nodes = is_order.within count c at in
-      omega arith
+  pub counts : (ts seen : List Totals) (count : ℕ) (t : Totals) → count < length order → seen ≡ ts → t ≡ total_in (next_level nodes seen) (get_or order count 0) → AreCounted nodes order ts count → AreCounted nodes order (set ts (get_or order count 0) t) (count + 1)
+  counts ts seen count t within seen_is counted_is before =
+      let same : total_in (next_level nodes ts) (get_or order count 0) ≡ t = sym (counted_is ∙ ap (λ (x : List Totals). total_in (next_level nodes x) (get_or order count 0)) seen_is) in
+      subst (λ (x : Totals). AreCounted nodes order (set ts (get_or order count 0) x) (count + 1)) same (one_counted ts count before (get_or order count 0) (slice_get-get_or order count 0 within))
 
   -- where all are counted, the totals are those of the last level
   pub all_counted : (ts : List Totals) (count : ℕ) → length order ≤ count → count ≤ length order → AreCounted nodes order ts count → ts ≡ level nodes (length nodes)

@@ -1,9 +1,8 @@
 -- Numbers of which each is another one, and less than there are: each number is one of them.
-use Rattle.std.proofs.Common.{◌≡◌, ◌≢◌, refl, sym, ap, subst, ◌∙◌, ℕ, zero, suc, ◌-◌, ◌+◌, ◌<◌, ◌≤◌, ◌⊎◌, inl, inr, Bool, true, false, nat_eq, List, length, get_or, Option, Some, slice_get, if◌then◌else◌, arith, get_or-set_same, get_or-set_other}
-use Rattle.std.specs.Option.{unwrap_or}
+use Rattle.std.proofs.Common.{◌≡◌, ◌≢◌, refl, sym, ap, subst, ◌∙◌, ℕ, zero, suc, ◌+◌, ◌<◌, ◌≤◌, ◌⊎◌, inl, inr, Bool, true, false, nat_eq, List, length, get_or, Some, slice_get, if◌then◌else◌, arith, get_or-set_same, get_or-set_other}
 use Rattle.std.proofs.Math.ListN.{set, length-set}
 use Rattle.std.proofs.lemmas.Bool.Decides.{nat_tests}
-use Rattle.std.proofs.lemmas.Option.{slice_get-get_or, get_or_from_slice_get, slice_get_within}
+use Rattle.std.proofs.lemmas.Option.{unwrap_or-slice_get, slice_get-get_or, get_or_from_slice_get, slice_get_within}
 use Rattle.indexmap.proofs.IndexTableLemmas.Probe.{Into, OneToOne, pigeonhole}
 use Rattle.pz_components.specs.Graph.{number_of}
 use Rattle.pz_expansion.specs.devices.Counting.{IsNumbering, ArePlaced}
@@ -75,21 +74,14 @@ module _ {A : Type 0} (xs : List A) (k : ℕ) (x : A) where
       slice_get-get_or (set xs k x) k x (omega arith) ∙ ap (λ (y : A). Some y) (get_or-set_same xs k x x below)
 
   set_elsewhere : (j : ℕ) (y : A) → j ≢ k → slice_get xs j ≡ Some y → slice_get (set xs k x) j ≡ Some y
-  set_elsewhere j y other at =
+  set_elsewhere j y apart at =
       let size : length (set xs k x) ≡ length xs = length-set xs k x in
       let inside : j < length xs = slice_get_within xs j y at in
-      slice_get-get_or (set xs k x) j y (omega arith) ∙ ap (λ (z : A). Some z) (get_or-set_other xs k j x y other ∙ get_or_from_slice_get xs j y y at)
+      slice_get-get_or (set xs k x) j y (omega arith) ∙ ap (λ (z : A). Some z) (get_or-set_other xs k j x y apart ∙ get_or_from_slice_get xs j y y at)
 
 module _ (numbers : List ℕ) (are : IsNumbering numbers) where
-  number_at : (c number : ℕ) → c < length numbers → number ≡ get_or numbers c number → number ≡ number_of numbers c
-  number_at c number within is = is ∙ sym (ap (λ (o : Option ℕ). unwrap_or o 0) (slice_get-get_or numbers c number within))
-
-  -- there is a place for each
-  pub has_place : (order : List ℕ) (c number : ℕ) → c < length numbers → number ≡ get_or numbers c number → ArePlaced numbers order c → number < length order
-  has_place order c number within is before =
-      let size : length order ≡ length numbers = before.sized in
-      let less : number_of numbers c < length numbers = are.bounded c within in
-      omega (arith, number_at c number within is)
+  number_at : (c : ℕ) → number_of numbers c ≡ get_or numbers c 0
+  number_at c = unwrap_or-slice_get numbers c 0
 
   -- one more at its place
   module _ (order : List ℕ) (c : ℕ) (within : c < length numbers) (before : ArePlaced numbers order c) where
@@ -112,8 +104,8 @@ module _ (numbers : List ℕ) (are : IsNumbering numbers) where
     at_number : ArePlaced numbers (set order k c) (c + 1)
     at_number = record { sized = length-set order k c ∙ before.sized; placed = placed }
 
-  pub one_placed : (order : List ℕ) (c number : ℕ) → c < length numbers → number ≡ get_or numbers c number → ArePlaced numbers order c → ArePlaced numbers (set order number c) (c + 1)
-  one_placed order c number within is before = subst (λ (x : ℕ). ArePlaced numbers (set order x c) (c + 1)) (sym (number_at c number within is)) (at_number order c within before)
+  pub one_placed : (order : List ℕ) (c : ℕ) → c < length numbers → ArePlaced numbers order c → ArePlaced numbers (set order (get_or numbers c 0) c) (c + 1)
+  one_placed order c within before = subst (λ (x : ℕ). ArePlaced numbers (set order x c) (c + 1)) (number_at c) (at_number order c within before)
 
   -- where all are placed, each place has a class
   pub placed_at : (order : List ℕ) → ArePlaced numbers order (length numbers) → (i : ℕ) → i < length numbers → (c : ℕ) × (c < length numbers) × (number_of numbers c ≡ i) × (slice_get order i ≡ Some c)

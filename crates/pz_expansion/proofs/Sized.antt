@@ -11,11 +11,8 @@ use Rattle.pz_classes.specs.Kinds.{is_process, is_cluster}
 use Rattle.pz_classes.specs.Instances.{instances, instance_class}
 use Rattle.pz_classes.specs.InstanceRules.{Holds, directly, through, holds_itself}
 use Rattle.pz_classes.specs.SizeRules.{HasNoSize, by_holding}
-use Rattle.pz_components.specs.Graph.{Reaches}
-use Rattle.pz_expansion.specs.declared.nodes.Held.{Held}
 use Rattle.pz_expansion.specs.declared.nodes.Node.{Node}
-use Rattle.pz_expansion.specs.devices.Nodes.{held_by, nodes}
-use Rattle.pz_expansion.specs.devices.LeadingBack.{edges}
+use Rattle.pz_expansion.specs.devices.Nodes.{nodes}
 use Rattle.pz_expansion.specs.devices.Counting.{NoneHoldsItself}
 use Rattle.pz_expansion.proofs.ModelNodes.{HeldAs, as_instance, Declared, declared}
 use Rattle.pz_expansion.proofs.SelfHolding.{stands, reaches_held}
