@@ -1,18 +1,26 @@
-//! Asks what values answer: a line of the input has a receiver, a selector and the arguments. Object
-//! 0 is an Array of three items, object 1 is none. Nothing is promised here: the output is the test.
+//! Changes states and asks what values answer, line by line of the input, and times changes of a
+//! state. Nothing is promised here: the output is the test.
+//!
+//! A line `state N` begins a state of N variables, and the lines behind it change it, one call each;
+//! any other line has a receiver, a selector and the arguments. Object 0 is an Array of three items
+//! then, object 1 is none. `data_rows mixed N CHANGES` and `data_rows frames N CHANGES` are benches.
 #![tactic(auto)]
 
 ghost use Rattle.std.specs.Prelude.{◌≡◌, IfOk, All, length};
 ghost use Rattle.pz_state.specs.References.{RefersWithin};
 
+mod benches;
+mod changes;
 mod show;
+mod subject;
 
 use pz_prims::{Prim, prim};
 use pz_state::State;
 use pz_value::{ClassId, Text, Value};
 use std::alloc::{AllocError, Global};
-use std::io;
 use std::str::SplitWhitespace;
+use std::{env, io};
+use subject::Subject;
 
 /// A String with the most bytes that one may have.
 fn longest(alloc: Global) -> Result<Value, AllocError>
@@ -84,19 +92,37 @@ fn ask(rt: &HostRuntime, state: &mut State, line: &str) -> io::Result<()> {
     let selector = selector.as_bytes();
     print!(rt; "{line} -> ")?;
     match prim(rt.alloc(), state, &receiver, selector, args.as_slice())? {
-        Prim::Value(value) => show::value(rt, &value),
-        Prim::Fault(fault) => println!(rt; "{fault:?}"),
-        Prim::Other => println!(rt; "other"),
+        Prim::Value(value) => show::value(rt, &value)?,
+        Prim::Fault(fault) => print!(rt; "{fault:?}")?,
+        Prim::Other => print!(rt; "other")?,
     }
+    println!(rt;)
 }
 
-fn main(rt: HostRuntime) -> io::Result<()> {
+/// Does what each line says.
+fn show_rows(rt: &HostRuntime) -> io::Result<()> {
     let mut state = State::new(rt.alloc(), 0)?;
     let (Ok(_), Ok(_)) = (state.make(ClassId(0), 3), state.make(ClassId(1), 0)) else {
         return println!(rt; "no objects");
     };
+    let mut subject = Subject::new(rt.alloc(), 0)?;
     for line in rt.lines(rt.alloc()) {
-        ask(&rt, &mut state, line?.as_str())?;
+        let line = line?;
+        match changes::change_in(line.as_str()) {
+            Some(change) => changes::make_change(rt, &mut subject, line.as_str(), change)?,
+            None => ask(rt, &mut state, line.as_str())?,
+        }
     }
     Ok(())
+}
+
+fn main(rt: HostRuntime) -> io::Result<()> {
+    let words = env::args(&rt)?.collect::<Vec<String>>(rt.alloc())?;
+    match words.as_slice() {
+        [_] => show_rows(&rt),
+        [_, bench, size, changes] => {
+            benches::show_bench(&rt, bench.as_str(), size.as_str(), changes.as_str())
+        }
+        _ => println!(rt; "data_rows; data_rows mixed N CHANGES; data_rows frames N CHANGES"),
+    }
 }

@@ -7,25 +7,25 @@ const SHOWN: usize = 100;
 fn show_text(rt: &HostRuntime, bytes: &[u8]) -> io::Result<()> {
     let len = bytes.len();
     if len > SHOWN {
-        return println!(rt; "{len} bytes");
+        return print!(rt; "{len} bytes");
     }
     match str::from_utf8(bytes) {
-        Ok(text) => println!(rt; "\"{text}\""),
-        Err(_) => println!(rt; "{len} bytes"),
+        Ok(text) => print!(rt; "\"{text}\""),
+        Err(_) => print!(rt; "{len} bytes"),
     }
 }
 
-/// Shows a value on a line of its own.
+/// Shows a value.
 pub fn value(rt: &HostRuntime, value: &Value) -> io::Result<()> {
     match value {
-        Value::Nil => println!(rt; "nil"),
-        Value::Bool(b) => println!(rt; "{b}"),
-        Value::Int(n) => println!(rt; "{n}"),
+        Value::Nil => print!(rt; "nil"),
+        Value::Bool(b) => print!(rt; "{b}"),
+        Value::Int(n) => print!(rt; "{n}"),
         Value::Char(c) => {
             let c = char::from(*c);
-            println!(rt; "'{c}'")
+            print!(rt; "'{c}'")
         }
         Value::Str(text) => show_text(rt, text.as_bytes()),
-        Value::Ref(r) => println!(rt; "@{r}"),
+        Value::Ref(r) => print!(rt; "@{r}"),
     }
 }
