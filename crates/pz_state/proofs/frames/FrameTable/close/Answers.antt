@@ -1,4 +1,4 @@
-use Rattle.std.proofs.Common.{◌≡◌, ◌<◌, ◌≤◌, ◌-◌, ap, sym, ◌∙◌, arith}
+use Rattle.std.proofs.Common.{sym, ◌∙◌, arith}
 use Rattle.std.proofs.lemmas.List.{length-set}
 use Rattle.pz_state.proofs.FrameTables.{has_place_seen, not_empty_seen, closed}
 use Rattle.pz_state.proofs.frames.FrameTable.close.Goals as goal

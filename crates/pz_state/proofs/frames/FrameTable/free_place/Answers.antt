@@ -1,4 +1,3 @@
-use Rattle.std.proofs.Common.{◌<◌, ◌≤◌, arith}
 use Rattle.pz_state.proofs.FrameTables.{least, least_fits}
 use Rattle.pz_state.proofs.frames.FrameTable.free_place.Goals as goal
 
