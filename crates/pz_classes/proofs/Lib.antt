@@ -14,6 +14,7 @@ mod Overloads
 mod Numbered
 mod OwnBodies
 mod Reaching
+mod Merely
 mod InstanceClasses
 mod Acyclic
 mod Walked
