@@ -1,3 +1,6 @@
 mod Rows
 mod Lists
 mod Linked
+mod Layouts
+mod Sorts
+mod Spots

@@ -1,6 +1,7 @@
 -- A system of two clusters of one class, computed: in each cluster one channel is joined with one
 -- outside, and one is not.
 use Rattle.std.proofs.Common.{◌≡◌, refl, ℕ, List, [], ◌∷◌, map, Option, Some, None, codes}
+use Rattle.std.specs.Fmt.{digits}
 use Rattle.pz_syntax.specs.declared.names.Id.{Id}
 use Rattle.pz_syntax.specs.declared.clusters.Instance.{Instance}
 use Rattle.pz_syntax.specs.declared.clusters.Channel.{Channel}
@@ -63,6 +64,7 @@ three_levels : map (path nested) (levels nested) ≡ [] ∷ codes "c" ∷ codes 
 three_levels = refl
 
 four_wires : map (wire_name nested) (wires nested) ≡ codes "#1" ∷ codes "#2" ∷ codes "c#1" ∷ codes "d#1" ∷ []
+unfolding digits
 four_wires = refl
 
 -- c.t and q meet in #1
