@@ -4,3 +4,6 @@ mod Linked
 mod Layouts
 mod Sorts
 mod Spots
+mod LevelFits
+mod Named
+mod Ends
