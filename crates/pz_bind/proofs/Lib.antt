@@ -7,3 +7,4 @@ mod Spots
 mod LevelFits
 mod Named
 mod Ends
+mod Wired
