@@ -30,3 +30,7 @@ mod SoundEnds
 mod SoundSystem
 mod Heirs
 mod SoundClasses
+mod MethodBodies
+mod Mentioned
+mod SoundBodies
+mod WorkedBodies
