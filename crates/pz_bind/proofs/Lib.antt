@@ -8,3 +8,4 @@ mod LevelFits
 mod Named
 mod Ends
 mod Wired
+mod Gets
