@@ -9,3 +9,4 @@ mod Named
 mod Ends
 mod Wired
 mod Gets
+mod PlanSteps

@@ -26,11 +26,11 @@ or_cases : {A : Type 0} (a b : Option A) (x : A) → option_or a b ≡ Some x �
 or_cases None b x is = inr is
 or_cases (Some y) b x is = inl is
 
-or_assoc : {A : Type 0} (a b c : Option A) → option_or a (option_or b c) ≡ option_or (option_or a b) c
+pub or_assoc : {A : Type 0} (a b c : Option A) → option_or a (option_or b c) ≡ option_or (option_or a b) c
 or_assoc None b c = refl
 or_assoc (Some x) b c = refl
 
-linked_append : (ls more : List Link) (i p : ℕ) → linked_by (ls ++ more) i p ≡ option_or (linked_by ls i p) (linked_by more i p)
+pub linked_append : (ls more : List Link) (i p : ℕ) → linked_by (ls ++ more) i p ≡ option_or (linked_by ls i p) (linked_by more i p)
 linked_append [] more i p = refl
 linked_append (l ∷ ls) more i p =
     let this : Option ℕ = if nat_eq i l.part && nat_eq p l.port then Some l.channel else None in

@@ -7,4 +7,4 @@ use Rattle.pz_bind.proofs.Wired.{share}
 use Rattle.pz_bind.proofs.laws.ends_share_wires.Goals as goal
 
 pub returns : goal.returns
-returns c = λ m sound. share m (c.sound_systems_fit.ensures.law m sound) (λ k. ids_once (ports m k) ((c.sound_classes_fit.ensures.law m sound).ports_apart k)) (c.ends_share_wires.ensures.law (layouts m) (system_class m))
+returns c = record { law = λ m sound. share m (c.sound_systems_fit.ensures.law m sound) (λ k. ids_once (ports m k) ((c.sound_classes_fit.ensures.law m sound).ports_apart k)) (c.ends_share_wires.ensures.law (layouts m) (system_class m)) }

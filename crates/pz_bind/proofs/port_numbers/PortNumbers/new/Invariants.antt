@@ -6,5 +6,5 @@ use Rattle.pz_bind.specs.devices.Layouts.{port_number}
 use Rattle.pz_bind.specs.devices.Numberings.{ByClass}
 use Rattle.pz_bind.proofs.port_numbers.PortNumbers.new.Given as goal
 
-abbrev pub invariant-loop-_decl : goal.invariant-loop-_decl
-invariant-loop-_decl l = ByClass (checked_model l.checked) l.class (suc l._decl-index) l.by_class
+abbrev pub invariant-loop-decl : goal.invariant-loop-decl
+invariant-loop-decl l = ByClass (checked_model l.checked) l.class (suc l._decl-index) l.by_class
