@@ -4,12 +4,14 @@ use Rattle.std.proofs.Math.Logic.{∥∥₁_elim}
 use Rattle.std.specs.Coded.{coded_ℕ, coded_list}
 use base.Stored.{Coded-set}
 use Rattle.std.specs.List.{HoldsAt}
+use Rattle.std.proofs.lemmas.List.{length-map}
 use Rattle.std.specs.Option.{option_map, option_copied, MatchOption, IfSome}
 use Rattle.std.proofs.lemmas.Option.{slice_get_past, slice_get-get_or, slice_get-map}
 use Rattle.pz_syntax.specs.declared.names.Id.{Id}
 use Rattle.pz_syntax.specs.declared.clusters.Decl.{Decl}
 use Rattle.pz_syntax.specs.Classes.{DeclTree, ModelTree}
-use Rattle.pz_syntax.specs.ClassView.{decl_view}
+use Rattle.pz_syntax.specs.declared.clusters.Model.{Model}
+use Rattle.pz_syntax.specs.ClassView.{decl_view, model_view}
 use Rattle.pz_classes.specs.Numbers.{declaration}
 use Rattle.pz_classes.specs.Ancestors.{ancestors}
 use Rattle.pz_classes.specs.Members.{from_root}
@@ -24,6 +26,9 @@ declared_at ds zero some = absurd (some refl)
 declared_at ds (suc i) some =
     let i_is : suc i - 1 ≡ i = omega arith in
     subst (λ (k : ℕ). option_map decl_view (slice_get ds k) ≡ slice_get (map decl_view ds) i) (sym i_is) (sym (slice_get-map decl_view ds i))
+
+pub decls_count : (ds : List Decl) (model : Model) (m : ModelTree) → ds ≡ model.decls → model_view model ≡ m → length ds ≡ length m.decls
+decls_count ds model m is view = ap (λ (xs : List Decl). length xs) is ∙ (sym (length-map model.decls decl_view) ∙ ap (λ (t : ModelTree). length t.decls) view)
 
 -- a list of names is a set's
 pub names_merely : {A : Type 0} (xs ys : List (List ℕ)) → ∥ A ∥₁ → (A → xs ≡ ys) → xs ≡ ys

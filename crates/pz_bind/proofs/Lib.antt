@@ -10,3 +10,5 @@ mod Ends
 mod Wired
 mod Gets
 mod PlanSteps
+mod Placed
+mod SiteSteps

@@ -90,25 +90,46 @@ module _ (m : ModelTree) where
   pub levels_are : by_number.levels (layouts m) (system_class m) ≡ map spot_at (levels m)
   levels_are = ap (filter (λ (s : Spot). s.is_level)) spots_are ∙ filtered (λ s. s.is_level) (is_level m) (places m) (λ n p at. refl)
 
+  -- ---- what holds of each instance that stands somewhere
+
+  module _ (P : Place → Type 0) where
+    abbrev pub All : List Place → Type 0
+    All ps = (n : ℕ) (p : Place) → slice_get ps n ≡ Some p → P p
+
+    pub more_stand : (p : Place) (ps : List Place) → P p → All ps → All (p ∷ ps)
+    more_stand p ps is all zero q at = let same : p ≡ q = cc in subst P same is
+    more_stand p ps is all (suc n) q at = all n q at
+
+    none_stand : All []
+    none_stand n p at = cc
+
+    all_append : (ps qs : List Place) → All ps → All qs → All (ps ++ qs)
+    all_append [] qs all more = more
+    all_append (p ∷ ps) qs all more = more_stand p (ps ++ qs) (all 0 p refl) (all_append ps qs (λ n q at. all (suc n) q at) more)
+
+    module _ (each : (up : Place) (n : ℕ) (x : Instance) → instance_at m up n ≡ Some x → P (n ∷ up)) where
+      parts_stand : (depth : ℕ) → ((c : ℕ) (up : Place) → class_at m up ≡ c → All (inside m depth c up)) → (up : Place) (before : List Instance) (n : ℕ) (xs : List Instance) → n ≡ length before → instances_at m up ≡ before ++ xs
+          → All (each_instance (with_inside m (inside m depth) up) n xs)
+      parts_stand depth within up before n [] size all = none_stand
+      parts_stand depth within up before n (x ∷ xs) size all =
+          let here = comes_next up before n x xs size all in
+          let class_is : class_at m (n ∷ up) ≡ class_of m x = ap (λ (o : Option Instance). option_map_or (class_of m) o 0) here in
+          more_stand (n ∷ up) (inside m depth (class_of m x) (n ∷ up) ++ each_instance (with_inside m (inside m depth) up) (suc n) xs) (each up n x here)
+          (all_append (inside m depth (class_of m x) (n ∷ up)) (each_instance (with_inside m (inside m depth) up) (suc n) xs) (within (class_of m x) (n ∷ up) class_is)
+          (parts_stand depth within up (before ++ x ∷ []) (suc n) xs (one_longer before n x size) (moved_on up before x xs all)))
+
+      pub all_stand : (depth c : ℕ) (up : Place) → class_at m up ≡ c → All (inside m depth c up)
+      all_stand zero c up is = none_stand
+      all_stand (suc depth) c up is = parts_stand depth (all_stand depth) up [] 0 (instances_in m c) refl (ap (instances_in m) is)
+
   -- ---- in a sound model all that is no level is a process
 
   module _ (fits : SystemFits m) where
     abbrev IsSorted : Place → Type 0
     IsSorted p = is_process_at m p ≡ not (is_level m p)
 
-    abbrev AllSorted : List Place → Type 0
-    AllSorted ps = (n : ℕ) (p : Place) → slice_get ps n ≡ Some p → IsSorted p
-
-    all_more : (p : Place) (ps : List Place) → IsSorted p → AllSorted ps → AllSorted (p ∷ ps)
-    all_more p ps is all zero q at = let same : p ≡ q = cc in subst IsSorted same is
-    all_more p ps is all (suc n) q at = all n q at
-
-    all_append : (ps qs : List Place) → AllSorted ps → AllSorted qs → AllSorted (ps ++ qs)
-    all_append [] qs all more = more
-    all_append (p ∷ ps) qs all more = all_more p (ps ++ qs) (all 0 p refl) (all_append ps qs (λ n q at. all (suc n) q at) more)
-
     -- an instance has its class
-    pub has_class : (c n : ℕ) (x : Instance) → slice_get (instances_in m c) n ≡ Some x → InstanceFits m x
+    has_class : (c n : ℕ) (x : Instance) → slice_get (instances_in m c) n ≡ Some x → InstanceFits m x
     has_class c n x at = by_decl (declaration m c) refl
       where
         by_decl : (o : Option DeclTree) → declaration m c ≡ o → InstanceFits m x
@@ -121,19 +142,6 @@ module _ (m : ModelTree) where
         let class_is : class_at m (n ∷ up) ≡ class_of m x = ap (λ (o : Option Instance). option_map_or (class_of m) o 0) at in
         subst (λ c. option_map_or is_process (declaration m c) false ≡ not (option_map_or is_cluster (declaration m c) false)) (sym class_is) (one_or_other m x known.class known.is_class)
 
-    parts_sorted : (depth : ℕ) → ((c : ℕ) (up : Place) → class_at m up ≡ c → AllSorted (inside m depth c up)) → (up : Place) (before : List Instance) (n : ℕ) (xs : List Instance) → n ≡ length before → instances_at m up ≡ before ++ xs
-        → AllSorted (each_instance (with_inside m (inside m depth) up) n xs)
-    parts_sorted depth within up before n [] size all = λ k p at. let wrong : None ≡ Some p = at in cc
-    parts_sorted depth within up before n (x ∷ xs) size all =
-        let here = comes_next up before n x xs size all in
-        let class_is : class_at m (n ∷ up) ≡ class_of m x = ap (λ (o : Option Instance). option_map_or (class_of m) o 0) here in
-        all_more (n ∷ up) (inside m depth (class_of m x) (n ∷ up) ++ each_instance (with_inside m (inside m depth) up) (suc n) xs) (instance_sorted up n x here)
-        (all_append (inside m depth (class_of m x) (n ∷ up)) (each_instance (with_inside m (inside m depth) up) (suc n) xs) (within (class_of m x) (n ∷ up) class_is)
-        (parts_sorted depth within up (before ++ x ∷ []) (suc n) xs (one_longer before n x size) (moved_on up before x xs all)))
-
-    inside_sorted : (depth c : ℕ) (up : Place) → class_at m up ≡ c → AllSorted (inside m depth c up)
-    inside_sorted zero c up is = λ k p at. let wrong : None ≡ Some p = at in cc
-    inside_sorted (suc depth) c up is = parts_sorted depth (inside_sorted depth) up [] 0 (instances_in m c) refl (ap (instances_in m) is)
-
     pub processes_are : by_number.processes (layouts m) (system_class m) ≡ map spot_at (processes m)
-    processes_are = ap (filter (λ (s : Spot). not s.is_level)) spots_are ∙ filtered (λ s. not s.is_level) (is_process_at m) (places m) (all_more [] (inside m (length m.decls) (system_class m) []) refl (inside_sorted (length m.decls) (system_class m) [] refl))
+    processes_are = ap (filter (λ (s : Spot). not s.is_level)) spots_are ∙ filtered (λ s. not s.is_level) (is_process_at m) (places m)
+        (more_stand IsSorted [] (inside m (length m.decls) (system_class m) []) refl (all_stand IsSorted instance_sorted (length m.decls) (system_class m) [] refl))

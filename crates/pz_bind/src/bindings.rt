@@ -39,7 +39,7 @@ fn literal_value(alloc: Global, literal: &Literal) -> Result<Value, AllocError>
 impl<'a> Meaning<'a> {
     /// The value itself. The only error is want of memory.
     pub(crate) fn value(self, alloc: Global) -> Result<Value, AllocError>
-        ensures { IfOk result (λ value. value ≡ meaning_value self) }
+        ensures { IfOk result (λ value. value ≡ meaning_value self.entry) }
     {
         match self {
             Meaning::Nothing => Ok(Value::Nil),
@@ -77,7 +77,7 @@ impl<'a> Bindings<'a> {
 
     /// Gives a parameter this, unless it is given something. The only error is want of memory.
     fn add(&mut self, name: &'a [u8], meaning: Meaning<'a>) -> Result<(), AllocError>
-        ensures { OnOk result ((q : List ℕ) → bound_in self.new q ≡ option_or (bound_in self.old q) (if bytes_eq q name.now then Some (meaning_value meaning) else None)) }
+        ensures { OnOk result ((q : List ℕ) → bound_in self.new q ≡ option_or (bound_in self.old q) (if bytes_eq q name.now then Some (meaning_value meaning.entry) else None)) }
     {
         if self.map.get(name).is_none() {
             self.map.insert(name, meaning)?;
@@ -106,7 +106,8 @@ impl<'a> Bindings<'a> {
         ensures { IfOk result (λ inner. (q : List ℕ) → value_in inner q ≡ spec.given_value (value_in self.now) (unwrap_or instance.now.given []) q) }
     {
         let mut inner = Bindings::new(alloc);
-        for given in given_to(instance) {
+        let all = given_to(instance);
+        for given in all {
             let meaning = self.meaning_of(&given.arg);
             inner.add(given.name.name.as_str().as_bytes(), meaning)?;
         }

@@ -11,7 +11,6 @@ ghost use Rattle.pz_bind.specs.Values as values;
 ghost use Rattle.pz_bind.specs.Connections.{end, IsInNone};
 ghost use Rattle.pz_bind.specs.Wires as wires;
 ghost use Rattle.pz_bind.specs.Wires.{HasWire};
-ghost use Rattle.pz_bind.specs.NetView.{IsNet, HasProcess, IsWireOf};
 
 use crate::declared::system_class;
 use crate::nodes::{nodes_of, wire_names_of};
@@ -47,6 +46,8 @@ pub struct Net {
 }
 
 impl Net {
+    ghost use Rattle.pz_bind.specs.NetView.{IsNet, HasProcess, IsWireOf};
+
     /// The net of a checked model. The time is linear in what stands in the system and in the names
     /// in full. The only error is want of memory.
     pub fn flatten(alloc: Global, checked: &Checked) -> Result<Net, AllocError>

@@ -6,7 +6,7 @@ ghost use Rattle.pz_levels.specs.Places.{Place};
 ghost use Rattle.pz_bind.specs.Nest as nest;
 ghost use Rattle.pz_bind.specs.Nest.{class_at};
 ghost use Rattle.pz_bind.specs.devices.Sites.{IsSite, IsPlaced, StandsIn, below};
-ghost use Rattle.pz_bind.specs.devices.Sites as sites;
+ghost use Rattle.pz_bind.specs.devices.Sites as spec;
 
 use crate::bindings::Bindings;
 use crate::declared::instances_in;
@@ -28,7 +28,7 @@ pub(crate) struct Site<'a> {
 impl<'a> Site<'a> {
     /// The system, which is of this class. Takes no memory.
     fn system(alloc: Global, class: usize) -> Site<'a>
-        ensures { sites.IsSystem class result }
+        ensures { spec.IsSystem class result }
     {
         Site {
             class,
@@ -89,7 +89,7 @@ fn site_of<'a>(
     sites: &[Site<'a>],
     level: &Level,
 ) -> Result<Site<'a>, AllocError>
-    requires { sites.MayStand (checked_model checked.now) sites.now level.now.standing }
+    requires { spec.MayStand (checked_model checked.now) sites.now level.now.standing }
     ensures { IfOk result (λ site. (place : Place) → StandsIn (checked_model checked.now) sites.now level.now.standing place → level.now.class ≡ class_at (checked_model checked.now) place → IsSite (checked_model checked.now) place site) }
 {
     match level.standing {
@@ -104,8 +104,8 @@ pub(crate) fn sites_of<'a>(
     checked: &'a Checked,
     levels: &[Level],
 ) -> Result<Items<Site<'a>>, AllocError>
-    requires { sites.AreLevels (checked_model checked.now) levels.now }
-    ensures { IfOk result (sites.AreSites (checked_model checked.now) (nest.levels (checked_model checked.now))) }
+    requires { spec.AreLevels (checked_model checked.now) levels.now }
+    ensures { IfOk result (spec.AreSites (checked_model checked.now) (nest.levels (checked_model checked.now))) }
 {
     let mut sites = Items::new(alloc);
     for level in levels {
