@@ -11,4 +11,5 @@ mod Wired
 mod Gets
 mod PlanSteps
 mod Placed
+mod Bound
 mod SiteSteps
