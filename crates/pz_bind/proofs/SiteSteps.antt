@@ -1,8 +1,10 @@
 -- What is known of the levels, one further, and of what stands in them.
-use Rattle.std.proofs.Common.{◌≡◌, refl, sym, ap, ◌∙◌, subst, ℕ, suc, ◌<◌, Bool, true, false, List, [], ◌∷◌, ◌++◌, codes, map, take, take-suc, length, get_or, Option, Some, None, slice_get, if◌then◌else◌, arith}
+use Rattle.std.proofs.Common.{◌≡◌, refl, sym, ap, ◌∙◌, subst, ℕ, zero, suc, ◌<◌, Bool, true, false, List, [], ◌∷◌, ◌++◌, codes, map, take, take-suc, length, get_or, Option, Some, None, slice_get, if◌then◌else◌, arith}
 use Rattle.std.proofs.Math.Path.{fun_ext}
+use Rattle.std.specs.Fmt.{decimal}
 use Rattle.std.specs.Option.{option_map_or, unwrap_or}
-use Rattle.std.proofs.lemmas.Option.{slice_get_within, slice_get-get_or}
+use Rattle.std.proofs.lemmas.List.{map-append}
+use Rattle.std.proofs.lemmas.Option.{slice_get_within, slice_get-get_or, get_or_from_slice_get}
 use Rattle.pz_syntax.specs.declared.names.Id.{Id}
 use Rattle.pz_syntax.specs.declared.clusters.Instance.{Instance}
 use Rattle.pz_syntax.specs.Classes.{ModelTree}
@@ -27,8 +29,8 @@ use Rattle.pz_bind.specs.declared.bindings.Bindings.{Bindings}
 use Rattle.pz_bind.specs.declared.sites.Site.{Site}
 use Rattle.pz_bind.specs.declared.net.Node.{Node}
 use Rattle.pz_bind.specs.devices.Bindings.{value_in}
-use Rattle.pz_bind.specs.devices.Sites.{is_top, IsSite, IsSystem, below, IsPlaced, MayStand, StandsIn, at_top, in_level, LevelAt, the_system, a_cluster, AreLevels, AreSites}
-use Rattle.pz_bind.specs.devices.Processes.{AreProcesses, IsProcessAt, AreWires}
+use Rattle.pz_bind.specs.devices.Sites.{is_top, IsSite, IsSystem, below, IsPlaced, MayStand, StandsIn, at_top, in_level, LevelAt, the_system, a_cluster, IsLevelAt, AreLevels, AreSites}
+use Rattle.pz_bind.specs.devices.Processes.{AreProcesses, IsProcessAt, IsWireAt, AreWires}
 
 module _ (m : ModelTree) where
   -- the path of an instance, by that of its level
@@ -102,8 +104,8 @@ module _ (m : ModelTree) where
     where
       by_list : (ps : List Place) (n k : ℕ) → k < n → slice_get ps k ≡ Some place → slice_get (take n ps) k ≡ Some place
       by_list [] n k before at = cc
-      by_list (p ∷ ps) Rattle.std.proofs.Common.zero k before at = absurd (omega arith)
-      by_list (p ∷ ps) (suc n) Rattle.std.proofs.Common.zero before at = at
+      by_list (p ∷ ps) zero k before at = absurd (omega arith)
+      by_list (p ∷ ps) (suc n) zero before at = at
       by_list (p ∷ ps) (suc n) (suc k) before at = by_list ps n k (omega arith) at
 
   pub may_stand : (n : ℕ) (sites : List Site) (o : Option Standing) (place : Place) → First n sites → LevelAt m n o place → MayStand m sites o
@@ -126,7 +128,7 @@ module _ (m : ModelTree) where
       in_level s up site.0 site.1 site.2
 
   -- the level of this number, and its place
-  pub level_place : (ls : List Level) (l : Level) (n : ℕ) → AreLevels m ls → n < length ls → l ≡ get_or ls n l → (place : Place) × (slice_get (levels m) n ≡ Some place) × Rattle.pz_bind.specs.devices.Sites.IsLevelAt m n l place
+  pub level_place : (ls : List Level) (l : Level) (n : ℕ) → AreLevels m ls → n < length ls → l ≡ get_or ls n l → (place : Place) × (slice_get (levels m) n ≡ Some place) × IsLevelAt m n l place
   level_place ls l n are within here =
       let at : slice_get ls n ≡ Some l = slice_get-get_or ls n l within ∙ ap Some (sym here) in
       let found = there (levels m) n (let counts = are.counted in omega (arith, counts, within)) in
@@ -134,7 +136,7 @@ module _ (m : ModelTree) where
 
   pub one_known : (n next : ℕ) (sites new : List Site) (site : Site) (place : Place) → First n sites → next ≡ suc n → slice_get (levels m) n ≡ Some place → IsSite m place site → new ≡ sites ++ site ∷ [] → First next new
   one_known n next sites new site place first after at is pushed_one =
-      let grown : take next (levels m) ≡ take n (levels m) ++ place ∷ [] = ap (λ k. take k (levels m)) after ∙ (take-suc (levels m) n place (slice_get_within (levels m) n place at) ∙ ap (λ q. take n (levels m) ++ q ∷ []) (Rattle.std.proofs.lemmas.Option.get_or_from_slice_get (levels m) n place place at)) in
+      let grown : take next (levels m) ≡ take n (levels m) ++ place ∷ [] = ap (λ k. take k (levels m)) after ∙ (take-suc (levels m) n place (slice_get_within (levels m) n place at) ∙ ap (λ q. take n (levels m) ++ q ∷ []) (get_or_from_slice_get (levels m) n place place at)) in
       subst (λ (ss : List Site). AreSites m (take next (levels m)) ss) (sym pushed_one)
       (subst (λ (ps : List Place). AreSites m ps (sites ++ site ∷ [])) (sym grown) (pushed (λ t q. IsSite m q t) sites (take n (levels m)) site place first is))
 
@@ -164,20 +166,28 @@ module _ (m : ModelTree) where
       ∙ ap (λ (ws : List Value). record { path = path m place; class = class_id (class_at m place); values = ws }) values)
 
   -- the process of this number, and its place
-  pub process_place : (ps : List Process) (p : Process) (n : ℕ) → AreProcesses m ps → n < length ps → p ≡ get_or ps n p → (place : Place) × (slice_get (processes m) n ≡ Some place) × IsProcessAt m p place
-  process_place ps p n are within here =
-      let at : slice_get ps n ≡ Some p = slice_get-get_or ps n p within ∙ ap Some (sym here) in
+  pub process_place : (ps : List Process) (d : Process) (n : ℕ) → AreProcesses m ps → n < length ps → (place : Place) × (slice_get (processes m) n ≡ Some place) × IsProcessAt m (get_or ps n d) place
+  process_place ps d n are within =
       let found = there (processes m) n (let counts = are.counted in omega (arith, counts, within)) in
-      (found.0, found.1, are.each n p found.0 at found.1)
+      (found.0, found.1, are.each n (get_or ps n d) found.0 (slice_get-get_or ps n d within) found.1)
 
-  pub wire_place : (ws : List Wire) (w : Wire) (n : ℕ) → AreWires m ws → n < length ws → w ≡ get_or ws n w → (c : Channel) × (slice_get (wires m) n ≡ Some c) × Rattle.pz_bind.specs.devices.Processes.IsWireAt m w c
-  wire_place ws w n are within here =
-      let at : slice_get ws n ≡ Some w = slice_get-get_or ws n w within ∙ ap Some (sym here) in
+  pub wire_place : (ws : List Wire) (d : Wire) (n : ℕ) → AreWires m ws → n < length ws → (c : Channel) × (slice_get (wires m) n ≡ Some c) × IsWireAt m (get_or ws n d) c
+  wire_place ws d n are within =
       let found = there (wires m) n (let counts = are.counted in omega (arith, counts, within)) in
-      (found.0, found.1, are.each n w found.0 at found.1)
+      (found.0, found.1, are.each n (get_or ws n d) found.0 (slice_get-get_or ws n d within) found.1)
+
+  pub wire_within : (sites : List Site) (w : Wire) (c : Channel) → AreSites m (levels m) sites → IsWireAt m w c → w.level < length sites
+  wire_within sites w c are is =
+      let site = partner (λ t q. IsSite m q t) sites (levels m) are w.level c.place is.level in
+      slice_get_within sites w.level site.0 site.1
+
+  pub wire_named : (sites : List Site) (w : Wire) (c : Channel) (name : List ℕ) → AreSites m (levels m) sites → IsWireAt m w c → ((site : Site) → slice_get sites w.level ≡ Some site → name ≡ site.path ++ (codes "#" ++ decimal (suc w.channel))) → name ≡ wire_name m c
+  wire_named sites w c name are is named =
+      let known = partner (λ t q. IsSite m q t) sites (levels m) are w.level c.place is.level in
+      named known.0 known.1 ∙ (ap (λ (p : List ℕ). p ++ (codes "#" ++ decimal (suc w.channel))) known.2.path_is ∙ ap (λ n. path m c.place ++ (codes "#" ++ decimal (suc n))) is.number)
 
 -- one more of a list that is mapped, where it is known by its place
 pub mapped_step : {A B : Type 0} (f : A → B) (xs : List A) (x : A) (at next : ℕ) (old new : List B) (y : B) → slice_get xs at ≡ Some x → next ≡ suc at → new ≡ old ++ y ∷ [] → y ≡ f x → old ≡ map f (take at xs) → new ≡ map f (take next xs)
 mapped_step f xs x at next old new y here after pushed_one is before =
-    let grown : take next xs ≡ take at xs ++ x ∷ [] = ap (λ n. take n xs) after ∙ (take-suc xs at x (slice_get_within xs at x here) ∙ ap (λ z. take at xs ++ z ∷ []) (Rattle.std.proofs.lemmas.Option.get_or_from_slice_get xs at x x here)) in
-    pushed_one ∙ (ap (λ z. old ++ z ∷ []) is ∙ (ap (λ zs. zs ++ f x ∷ []) before ∙ (sym (Rattle.std.proofs.lemmas.List.map-append f (take at xs) (x ∷ [])) ∙ ap (map f) (sym grown))))
+    let grown : take next xs ≡ take at xs ++ x ∷ [] = ap (λ n. take n xs) after ∙ (take-suc xs at x (slice_get_within xs at x here) ∙ ap (λ z. take at xs ++ z ∷ []) (get_or_from_slice_get xs at x x here)) in
+    pushed_one ∙ (ap (λ z. old ++ z ∷ []) is ∙ (ap (λ zs. zs ++ f x ∷ []) before ∙ (sym (map-append f (take at xs) (x ∷ [])) ∙ ap (map f) (sym grown))))

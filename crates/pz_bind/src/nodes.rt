@@ -1,15 +1,16 @@
 // The processes and the names of the wires, from what is known of the levels.
 
-ghost use Rattle.std.specs.Prelude.{◌≡◌, ◌<◌, ◌++◌, suc, codes, length, map, IfOk, Some};
+ghost use Rattle.std.specs.Prelude.{◌≡◌, ◌<◌, ◌++◌, suc, codes, length, map, IfOk, Some, slice_get};
 ghost use Rattle.std.specs.Fmt.{decimal};
 ghost use Rattle.pz_classes.specs.CheckedView.{checked_model};
 ghost use Rattle.pz_levels.specs.Places.{Place};
 ghost use Rattle.pz_bind.specs.Nest.{class_at, levels};
 ghost use Rattle.pz_bind.specs.Nest as nest;
-ghost use Rattle.pz_bind.specs.Names as names;
+ghost use Rattle.pz_bind.specs.Names as spec_names;
 ghost use Rattle.pz_bind.specs.Wires as spec_wires;
 ghost use Rattle.pz_bind.specs.NetView.{node_at};
 ghost use Rattle.pz_bind.specs.devices.Sites.{AreSites, IsPlaced, StandsIn};
+ghost use Rattle.pz_bind.specs.declared.sites.Site.{Site as Known};
 ghost use Rattle.pz_bind.specs.devices.Processes.{AreProcesses, AreWires};
 
 use crate::declared::variables_of;
@@ -62,13 +63,14 @@ pub(crate) fn nodes_of<'a>(
     Ok(nodes)
 }
 
-/// The name of the channel of this number, from 0, in a level. The only error is want of memory.
-fn wire_name(alloc: Global, site: &Site, channel: usize) -> Result<Name, AllocError>
-    ensures { IfOk result (λ name. name ≡ site.now.path ++ (codes "#" ++ decimal (suc channel))) }
+/// The name of a wire. The only error is want of memory.
+fn wire_name(alloc: Global, sites: &[Site], wire: Wire) -> Result<Name, AllocError>
+    requires { wire.level < length sites.now }
+    ensures { IfOk result (λ name. (site : Known) → slice_get sites.now wire.level ≡ Some site → name ≡ site.path ++ (codes "#" ++ decimal (suc wire.channel))) }
 {
-    let path = site.path.as_str();
+    let path = sites[wire.level].path.as_str();
     // Wide enough for one more.
-    let number = channel as u128 + 1;
+    let number = wire.channel as u128 + 1;
     let name = format!(in alloc; "{path}#{number}")?;
     Ok(Name::new(name))
 }
@@ -82,11 +84,11 @@ pub(crate) fn wire_names_of(
 ) -> Result<Items<Name>, AllocError>
     requires known { AreSites (checked_model checked.now) (levels (checked_model checked.now)) sites.now }
     requires expanded { AreWires (checked_model checked.now) wires.now }
-    ensures { IfOk result (λ names. names ≡ map (names.wire_name (checked_model checked.now)) (spec_wires.wires (checked_model checked.now))) }
+    ensures { IfOk result (λ names. names ≡ map (spec_names.wire_name (checked_model checked.now)) (spec_wires.wires (checked_model checked.now))) }
 {
     let mut names = Items::new(alloc);
     for wire in wires {
-        names.push(wire_name(alloc, &sites[wire.level], wire.channel)?)?;
+        names.push(wire_name(alloc, sites, *wire)?)?;
     }
     Ok(names)
 }
