@@ -13,3 +13,5 @@ mod PlanSteps
 mod Placed
 mod Bound
 mod SiteSteps
+mod Counts
+mod NetFits
