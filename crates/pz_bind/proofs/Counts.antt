@@ -64,24 +64,24 @@ module _ (m : ModelTree) (f : Totals → ℕ) (g : Place → ℕ) (f_plus : (a b
       class_is : class_at m (i ∷ up) ≡ class_of m x
       class_is = ap (λ (o : Option Instance). option_map_or (class_of m) o 0) at
 
-      as : (d : Option DeclTree) → declaration m (class_of m x) ≡ d → declaration m (class_at m (i ∷ up)) ≡ d
-      as d is = ap (declaration m) class_is ∙ is
+      also : (d : Option DeclTree) → declaration m (class_of m x) ≡ d → declaration m (class_at m (i ∷ up)) ≡ d
+      also d is = ap (declaration m) class_is ∙ is
 
       by_sort : Sort m x → g (i ∷ up) + total g (inside m depth (class_of m x) (i ∷ up)) ≡ f (expanded m (suc depth) (class_of m x))
       by_sort (of_none is) =
           let zero_class : class_of m x ≡ 0 = ap (λ (o : Option ℕ). unwrap_or o 0) is in
           let none : declaration m (class_of m x) ≡ None = ap (declaration m) zero_class in
-          let own : g (i ∷ up) ≡ 0 = g_none i up (as None none) in
+          let own : g (i ∷ up) ≡ 0 = g_none i up (also None none) in
           let inner : total g (inside m depth (class_of m x) (i ∷ up)) ≡ 0 = none_inside depth (class_of m x) (i ∷ up) (ap (λ (o : Option DeclTree). option_map_or instances o []) none) in
           let all : f (expanded m (suc depth) (class_of m x)) ≡ 0 = ap (λ (o : Option DeclTree). f (option_map_or (one_of m (expanded m depth)) o nothing)) none ∙ f_none in
           omega (arith, own, inner, all)
       by_sort (a_process p is) =
-          let own : g (i ∷ up) ≡ f (a_totals 1 0 0) = g_process i up p (as (Some (process_class p)) is) in
+          let own : g (i ∷ up) ≡ f (a_totals 1 0 0) = g_process i up p (also (Some (process_class p)) is) in
           let inner : total g (inside m depth (class_of m x) (i ∷ up)) ≡ 0 = none_inside depth (class_of m x) (i ∷ up) (ap (λ (o : Option DeclTree). option_map_or instances o []) is) in
           let all : f (expanded m (suc depth) (class_of m x)) ≡ f (a_totals 1 0 0) = ap (λ (o : Option DeclTree). f (option_map_or (one_of m (expanded m depth)) o nothing)) is in
           omega (arith, own, inner, all)
       by_sort (a_cluster c is) =
-          let own : g (i ∷ up) ≡ f (a_totals 0 1 (length (channels (cluster_class c)))) = g_cluster i up c (as (Some (cluster_class c)) is) in
+          let own : g (i ∷ up) ≡ f (a_totals 0 1 (length (channels (cluster_class c)))) = g_cluster i up c (also (Some (cluster_class c)) is) in
           let its : instances_in m (class_of m x) ≡ instances (cluster_class c) = ap (λ (o : Option DeclTree). option_map_or instances o []) is in
           let inner : total g (inside m depth (class_of m x) (i ∷ up)) ≡ f (all_of m (expanded m depth) (instances (cluster_class c))) = within ∙ ap (λ (xs : List Instance). f (all_of m (expanded m depth) xs)) its in
           let all : f (expanded m (suc depth) (class_of m x)) ≡ f (plus (a_totals 0 1 (length (channels (cluster_class c)))) (all_of m (expanded m depth) (instances (cluster_class c)))) = ap (λ (o : Option DeclTree). f (option_map_or (one_of m (expanded m depth)) o nothing)) is in
@@ -139,14 +139,11 @@ module _ (m : ModelTree) (fits : SystemFits m) where
 
   filtered_count : (ps : List Place) → length (filter (is_process_at m) ps) ≡ total is_one ps
   filtered_count [] = refl
-  filtered_count (p ∷ ps) = by_test (is_process_at m p) refl
+  filtered_count (p ∷ ps) = by_test (is_process_at m p) refl (filtered_count ps)
     where
-      rest : length (filter (is_process_at m) ps) ≡ total is_one ps
-      rest = filtered_count ps
-
-      by_test : (b : Bool) → is_process_at m p ≡ b → length (filter (is_process_at m) (p ∷ ps)) ≡ is_one p + total is_one ps
-      by_test true is = rw is (let r = rest in omega (arith, r))
-      by_test false is = rw is (let r = rest in omega (arith, r))
+      by_test : (b : Bool) → is_process_at m p ≡ b → length (filter (is_process_at m) ps) ≡ total is_one ps → length (filter (is_process_at m) (p ∷ ps)) ≡ is_one p + total is_one ps
+      by_test true is rest = rw is (omega (arith, rest))
+      by_test false is rest = rw is (omega (arith, rest))
 
   pub few_processes : length (processes m) ≤ 10000
   few_processes =

@@ -1,12 +1,13 @@
 -- What a net says of its wires and processes.
-use Rattle.std.proofs.Common.{◌≡◌, refl, sym, ap, ◌∙◌, subst, ℕ, ◌<◌, ◌≤◌, List, map, length, Option, Some, None, slice_get, get_or, arith}
-use Rattle.std.specs.Option.{MatchOption}
+use Rattle.std.proofs.Common.{◌≡◌, refl, sym, ap, ◌∙◌, subst, ℕ, ◌<◌, ◌≤◌, ◌^◌, List, map, length, Option, Some, None, slice_get, get_or, arith}
+use Rattle.std.specs.Option.{MatchOption, IfSome}
 use Rattle.std.proofs.lemmas.List.{length-map}
 use Rattle.std.proofs.lemmas.Option.{slice_get_within, slice_get-get_or}
 use Rattle.pz_syntax.specs.Classes.{ModelTree}
 use Rattle.pz_classes.specs.Members.{ports, spelled}
 use Rattle.pz_classes.specs.SoundClasses.{ClassesFit}
 use Rattle.pz_levels.specs.declared.expansion.Process.{Process}
+use Rattle.pz_levels.specs.declared.expansion.Expansion.{Expansion}
 use Rattle.pz_levels.specs.Layouts.{Layout, AreLinked}
 use Rattle.pz_levels.specs.Places.{Place, Spot}
 use Rattle.pz_levels.specs.Places as by_number
@@ -31,6 +32,11 @@ use Rattle.pz_bind.proofs.Wired.{has_wire, in_none}
 pub ports_once : (m : ModelTree) → ClassesFit m → (k : ℕ) → AreOnce (spelled (ports m k))
 ports_once m fits k = ids_once (ports m k) (fits.ports_apart k)
 
+-- what an expansion says of a port of the process of this number
+abbrev pub Said : Expansion → ℕ → ℕ → Process → Option ℕ → List Layout → List Process → Type 0
+Said e n port d result ls ps = (system : ℕ) (at : Place) → AreLinked ls → IsExpansion ls system e → StandsAt (by_number.levels ls system) (Some (get_or ps n d).standing) at
+    → MatchOption result (numbers.IsInNone ls system (numbered at port)) (numbers.HasWire ls system (numbered at port))
+
 module _ (m : ModelTree) (net : Net) (is : IsNet m net) where
   -- the node of a process
   pub node_there : (n : ℕ) (place : Place) (node : Node) → slice_get (processes m) n ≡ Some place → n < length net.nodes → node ≡ get_or net.nodes n node → node ≡ node_at m place
@@ -53,15 +59,10 @@ module _ (m : ModelTree) (net : Net) (is : IsNet m net) where
 
   -- the wire that the levels give is that of the end
   pub wire_says : (n port : ℕ) (place : Place) (name : List ℕ) (d : Process) (result : Option ℕ) → slice_get (processes m) n ≡ Some place → slice_get (spelled (ports m (class_at m place))) port ≡ Some name → n < length net.expansion.processes
-      → ((system : ℕ) (at : Place) → AreLinked (layouts_of net.plans) → IsExpansion (layouts_of net.plans) system net.expansion → StandsAt (by_number.levels (layouts_of net.plans) system) (Some (get_or net.expansion.processes n d).standing) at
-          → MatchOption result (numbers.IsInNone (layouts_of net.plans) system (numbered at port)) (numbers.HasWire (layouts_of net.plans) system (numbered at port)))
+      → Said net.expansion n port d result (layouts_of net.plans) net.expansion.processes
       → MatchOption result (IsInNone m (end place name)) (HasWire m (end place name))
-  wire_says n port place name d result there port_at within says = by_result result (subst Said is.plans says (system_class m) place (are_linked m) is.expansion stands)
+  wire_says n port place name d result there port_at within says = by_result result (subst (λ (ls : List Layout). Said net.expansion n port d result ls net.expansion.processes) is.plans says (system_class m) place (are_linked m) is.expansion stands)
     where
-      Said : List Layout → Type 0
-      Said ls = (system : ℕ) (at : Place) → AreLinked ls → IsExpansion ls system net.expansion → StandsAt (by_number.levels ls system) (Some (get_or net.expansion.processes n d).standing) at
-          → MatchOption result (numbers.IsInNone ls system (numbered at port)) (numbers.HasWire ls system (numbered at port))
-
       stands : StandsAt (by_number.levels (layouts m) (system_class m)) (Some (get_or net.expansion.processes n d).standing) place
       stands =
           let spot_there : slice_get (by_number.processes (layouts m) (system_class m)) n ≡ Some (spot_at m place) = ap (λ (xs : List Spot). slice_get xs n) (processes_are m is.system_fits) ∙ map_at (spot_at m) (processes m) n place there in
@@ -74,3 +75,15 @@ module _ (m : ModelTree) (net : Net) (is : IsNet m net) where
   -- a wire of an end is one of these
   pub wire_below : (place : Place) (name : List ℕ) (w : ℕ) → HasWire m (end place name) w → w < length net.wire_names
   wire_below place name w has = subst (λ n. w < n) (sym names_count) (slice_get_within (wires m) w has.last has.there)
+
+  -- wires are few enough to have numbers of 32 bits
+  pub narrowed_says : (place : Place) (name : List ℕ) (o r : Option ℕ) → (IfSome o (λ w. w < 2 ^ 32) → r ≡ o) → MatchOption o (IsInNone m (end place name)) (HasWire m (end place name)) → MatchOption r (IsInNone m (end place name)) (HasWire m (end place name))
+  narrowed_says place name o r same says = subst (λ x. MatchOption x (IsInNone m (end place name)) (HasWire m (end place name))) (sym (same (small o says))) says
+    where
+      small : (x : Option ℕ) → MatchOption x (IsInNone m (end place name)) (HasWire m (end place name)) → IfSome x (λ w. w < 2 ^ 32)
+      small None none = tt
+      small (Some w) has = let below = wire_below place name w has in let few = net.few_wires in omega (arith, below, few)
+
+-- the same expansion, where the levels are the model's
+pub expansion_is : (m : ModelTree) (ls : List Layout) (system : ℕ) (e : Expansion) → ls ≡ layouts m → system ≡ system_class m → IsExpansion ls system e → IsExpansion (layouts m) (system_class m) e
+expansion_is m ls system e plans class is = subst (λ c. IsExpansion (layouts m) c e) class (subst (λ (l : List Layout). IsExpansion l system e) plans is)

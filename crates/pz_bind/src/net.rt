@@ -1,4 +1,4 @@
-ghost use Rattle.std.specs.Prelude.{◌≡◌, ◌<◌, ◌≤◌, ℕ, List, length, IfOk, MatchOption, Some, slice_get};
+ghost use Rattle.std.specs.Prelude.{◌≡◌, ◌<◌, ◌≤◌, ◌^◌, ℕ, List, length, IfOk, IfSome, MatchOption, Some, slice_get};
 ghost use Rattle.pz_syntax.specs.Classes.{ModelTree};
 ghost use Rattle.pz_classes.specs.CheckedView.{checked_model};
 ghost use Rattle.pz_classes.specs.Members.{ports, spelled};
@@ -12,11 +12,11 @@ ghost use Rattle.pz_bind.specs.Connections.{end, IsInNone};
 ghost use Rattle.pz_bind.specs.Wires as wires;
 ghost use Rattle.pz_bind.specs.Wires.{HasWire};
 
-use crate::declared::system_class;
+use crate::declared::{is_sound, system_class};
 use crate::nodes::{nodes_of, wire_names_of};
 use crate::plans::plans_of;
 use crate::sites::sites_of;
-use pz_classes::{Checked, sound_classes_fit, sound_systems_fit};
+use pz_classes::Checked;
 use pz_items::Items;
 use pz_levels::{Expansion, Plan, expand};
 use pz_syntax::Name;
@@ -45,6 +45,16 @@ pub struct Net {
     ghost paired: { length expansion.processes ≡ length nodes },
 }
 
+/// A number of 32 bits.
+fn narrowed(wire: Option<usize>) -> Option<u32>
+    ensures { IfSome wire (λ w. w < 2 ^ 32) → result ≡ wire }
+{
+    match wire {
+        Some(wire) => u32::try_from(wire).ok(),
+        None => None,
+    }
+}
+
 impl Net {
     ghost use Rattle.pz_bind.specs.NetView.{IsNet, HasProcess, IsWireOf};
 
@@ -53,9 +63,7 @@ impl Net {
     pub fn flatten(alloc: Global, checked: &Checked) -> Result<Net, AllocError>
         ensures { IfOk result (IsNet (checked_model checked.now)) }
     {
-        // What a sound model says.
-        sound_systems_fit();
-        sound_classes_fit();
+        is_sound(checked);
         let plans = plans_of(alloc, checked)?;
         let expansion = expand(alloc, plans.as_slice(), system_class(checked))?;
         let sites = sites_of(alloc, checked, expansion.levels.as_slice())?;
@@ -139,11 +147,6 @@ impl Net {
             → MatchOption result (IsInNone m (end place name)) (HasWire m (end place name)) }
     {
         let standing = self.expansion.processes.as_slice()[process as usize].standing;
-        let wire = self.expansion.wire(self.plans.as_slice(), standing, port as usize)?;
-        if wire < self.wire_names.len() {
-            Some(wire as u32)
-        } else {
-            None
-        }
+        narrowed(self.expansion.wire(self.plans.as_slice(), standing, port as usize))
     }
 }
