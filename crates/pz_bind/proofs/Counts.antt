@@ -148,8 +148,8 @@ module _ (m : ModelTree) (fits : SystemFits m) where
   pub few_processes : length (processes m) ≤ 10000
   few_processes =
       let inner : total is_one (inside m (length m.decls) (system_class m) []) ≡ (all_of m (expanded m (length m.decls)) (instances_in m (system_class m))).processes =
-          inside_counted m (λ t. t.processes) is_one (λ a b. refl) refl
-          (λ i up none. rw none refl) (λ i up p is. rw is refl) (λ i up c is. rw is refl) (length m.decls) (system_class m) [] refl in
+      inside_counted m (λ t. t.processes) is_one (λ a b. refl) refl
+      (λ i up none. rw none refl) (λ i up p is. rw is refl) (λ i up c is. rw is refl) (length m.decls) (system_class m) [] refl in
       let counted : length (processes m) ≡ total is_one (inside m (length m.decls) (system_class m) []) = filtered_count (inside m (length m.decls) (system_class m) []) in
       let its : (all_of m (expanded m (length m.decls)) (instances_in m (system_class m))).processes ≡ (all_of m (expanded m (length m.decls)) (instances (system s))).processes = ap (λ (xs : List Instance). (all_of m (expanded m (length m.decls)) xs).processes) instances_are in
       let limit : 0 + (all_of m (expanded m (length m.decls)) (instances (system s))).processes ≤ 10000 = limited.processes in
@@ -182,8 +182,8 @@ module _ (m : ModelTree) (fits : SystemFits m) where
   pub few_wires : length (wires m) ≤ 1000000
   few_wires =
       let inner : total channel_count (inside m (length m.decls) (system_class m) []) ≡ (all_of m (expanded m (length m.decls)) (instances_in m (system_class m))).channels =
-          inside_counted m (λ t. t.channels) channel_count (λ a b. refl) refl
-          (λ i up none. rw none refl) (λ i up p is. rw is refl) (λ i up c is. rw is refl) (length m.decls) (system_class m) [] refl in
+      inside_counted m (λ t. t.channels) channel_count (λ a b. refl) refl
+      (λ i up none. rw none refl) (λ i up p is. rw is refl) (λ i up c is. rw is refl) (length m.decls) (system_class m) [] refl in
       let counted : length (wires m) ≤ length (channels_in m (system_class m)) + total channel_count (inside m (length m.decls) (system_class m) []) = few_in (places m) in
       let its : (all_of m (expanded m (length m.decls)) (instances_in m (system_class m))).channels ≡ (all_of m (expanded m (length m.decls)) (instances (system s))).channels = ap (λ (xs : List Instance). (all_of m (expanded m (length m.decls)) xs).channels) instances_are in
       let own : length (channels_in m (system_class m)) ≡ length (channels (system s)) = ap (λ (o : Option DeclTree). length (option_map_or channels o [])) the_declaration in

@@ -187,7 +187,7 @@ module _ (m : ModelTree) where
         by_back : JoinedBack c d → by_number.Leads (layouts m) (system_class m) d e → by_number.Leads (layouts m) (system_class m) c e
         by_back b more =
             let there : by_number.Leads (layouts m) (system_class m) (channel (b.i ∷ b.up) c.number) e =
-                by_number.outwards b.i c.number b.j b.up e (subst (λ q. joined_to (layouts m) (system_class m) q c.number ≡ Some b.j) b.place b.joins) (subst (λ (x : Channel). by_number.Leads (layouts m) (system_class m) x e) b.is more) in
+            by_number.outwards b.i c.number b.j b.up e (subst (λ q. joined_to (layouts m) (system_class m) q c.number ≡ Some b.j) b.place b.joins) (subst (λ (x : Channel). by_number.Leads (layouts m) (system_class m) x e) b.is more) in
             subst (λ q. by_number.Leads (layouts m) (system_class m) (channel q c.number) e) (sym b.place) there
 
     pub reaches_numbered : (e : End) (c : Channel) (p : ℕ) → IsPort e.place e.port p → Reaches m e c → by_number.Reaches (layouts m) (system_class m) (numbered e.place p) c

@@ -139,9 +139,10 @@ module _ (m : ModelTree) where
     -- in a sound model each end stands once
     module _ (c : ℕ) (fits : LevelFits m c xs hs) (ports_once : (k : ℕ) → AreOnce (spelled (ports m k))) where
       is_end : (i p : ℕ) (y : Instance) (x q : Id) → slice_get xs i ≡ Some y → y.name.name ≡ x.name → slice_get (spelled (ports m (class_of m y))) p ≡ Some q.name → IsEnd m xs i p (Inner x q)
-      is_end i p y x q stands named there =
-          (place_of (map (λ (z : Instance). z.name.name) xs) x.name i fits.names_once (map_at (λ (z : Instance). z.name.name) xs i y stands ∙ ap Some named),
-          ap (option_and_then (λ (z : Instance). port_number m (class_of m z) q.name)) stands ∙ place_of (spelled (ports m (class_of m y))) q.name p (ports_once (class_of m y)) there)
+      is_end i p y x q stands named there = (
+        place_of (map (λ (z : Instance). z.name.name) xs) x.name i fits.names_once (map_at (λ (z : Instance). z.name.name) xs i y stands ∙ ap Some named),
+        ap (option_and_then (λ (z : Instance). port_number m (class_of m z) q.name)) stands ∙ place_of (spelled (ports m (class_of m y))) q.name p (ports_once (class_of m y)) there,
+      )
 
       -- two ends that are one port are the same end
       same_ends : (i p : ℕ) (e f : ChannelEnd) → IsEnd m xs i p e → IsEnd m xs i p f → IsTrue (same_end e f)
@@ -168,7 +169,7 @@ module _ (m : ModelTree) where
           let some = channels_link m xs 0 hs k h e.at (Inner e.x e.q) i p there e.there is in
           let r = of_channels m xs 0 hs i p some.0 some.1 in
           let one : k ≡ r.at = one_channel hs k r.at h r.channel e.at r.in_ends.at (Inner e.x e.q) r.in_ends.one there r.there e.there r.in_ends.there
-              (λ a b first second. fits.ends_apart a b (Inner e.x e.q) r.in_ends.one first second (same_ends i p (Inner e.x e.q) r.in_ends.one is r.in_ends.is_end)) in
+          (λ a b first second. fits.ends_apart a b (Inner e.x e.q) r.in_ends.one first second (same_ends i p (Inner e.x e.q) r.in_ends.one is r.in_ends.is_end)) in
           let number : some.0 ≡ r.at + 0 = r.is in
           let same : some.0 ≡ k = omega arith in
           some.1 ∙ ap Some same

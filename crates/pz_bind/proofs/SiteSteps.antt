@@ -144,16 +144,17 @@ module _ (m : ModelTree) where
 
   pub process_placed : (sites : List Site) (p : Process) (place : Place) → AreSites m (levels m) sites → IsProcessAt m p place → IsPlaced m sites p.standing × StandsIn m sites (Some p.standing) place
   process_placed sites p place are is =
-      let site = partner (λ t q. IsSite m q t) sites (levels m) are p.standing.level is.up is.level in
-      (record {
-        within = slice_get_within sites p.standing.level site.0 site.1;
-        part = λ other here.
-            let both : Some site.0 ≡ Some other = sym site.1 ∙ here in
-            let same : site.0 ≡ other = cc in
-            let class : class_at m is.up ≡ other.class = sym site.2.class ∙ ap (λ (t : Site). t.class) same in
-            subst (λ c. p.standing.part < length (instances_in m c)) class is.part;
-      },
-      subst (StandsIn m sites (Some p.standing)) (sym is.place_is) (in_level p.standing is.up site.0 site.1 site.2))
+      let site = partner (λ t q. IsSite m q t) sites (levels m) are p.standing.level is.up is.level in (
+        record {
+          within = slice_get_within sites p.standing.level site.0 site.1;
+          part = λ other here.
+              let both : Some site.0 ≡ Some other = sym site.1 ∙ here in
+              let same : site.0 ≡ other = cc in
+              let class : class_at m is.up ≡ other.class = sym site.2.class ∙ ap (λ (t : Site). t.class) same in
+              subst (λ c. p.standing.part < length (instances_in m c)) class is.part;
+        },
+        subst (StandsIn m sites (Some p.standing)) (sym is.place_is) (in_level p.standing is.up site.0 site.1 site.2),
+      )
 
   pub node_is : (sites : List Site) (s : Standing) (place : Place) (site : Site) (x : Instance) (class : ℕ) (p : List ℕ) (b : Bindings) (vs : List Value) → Known sites s place site x → class ≡ class_at m place → p ≡ below site x.name.name
       → ((q : List ℕ) → value_in b q ≡ given_value (value_in site.bindings) (unwrap_or x.given []) q) → vs ≡ map (value_in b) (spelled (variables m class)) → record { path = p; class = class_id class; values = vs } ≡ node_at m place

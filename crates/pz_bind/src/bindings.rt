@@ -115,11 +115,7 @@ impl<'a> Bindings<'a> {
     }
 
     /// The values of these parameters and variables. The only error is want of memory.
-    pub(crate) fn values(
-        &self,
-        alloc: Global,
-        names: &[Name],
-    ) -> Result<Items<Value>, AllocError>
+    pub(crate) fn values(&self, alloc: Global, names: &[Name]) -> Result<Items<Value>, AllocError>
         ensures { IfOk result (λ values. values ≡ map (value_in self.now) names.now) }
     {
         let mut values = Items::new(alloc);

@@ -110,7 +110,10 @@ impl Net {
         requires { HasProcess self.now process }
         ensures { (m : ModelTree) (place : Place) → IsNet m self.now → slice_get (nest.processes m) process ≡ Some place → result.now ≡ names.path m place }
     {
-        self.nodes.as_slice()[process as usize].path.as_str().as_bytes()
+        self.nodes.as_slice()[process as usize]
+            .path
+            .as_str()
+            .as_bytes()
     }
 
     /// The class of a process.
@@ -136,7 +139,9 @@ impl Net {
         requires { IsWireOf self.now wire }
         ensures { (m : ModelTree) (channel : Channel) → IsNet m self.now → slice_get (wires.wires m) wire ≡ Some channel → result.now ≡ names.wire_name m channel }
     {
-        self.wire_names.as_slice()[wire as usize].as_str().as_bytes()
+        self.wire_names.as_slice()[wire as usize]
+            .as_str()
+            .as_bytes()
     }
 
     /// The wire of a port of a process, by the port's number in the class of the process: the last
@@ -147,6 +152,9 @@ impl Net {
             → MatchOption result (IsInNone m (end place name)) (HasWire m (end place name)) }
     {
         let standing = self.expansion.processes.as_slice()[process as usize].standing;
-        narrowed(self.expansion.wire(self.plans.as_slice(), standing, port as usize))
+        narrowed(
+            self.expansion
+                .wire(self.plans.as_slice(), standing, port as usize),
+        )
     }
 }

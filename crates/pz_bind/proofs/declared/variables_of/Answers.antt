@@ -15,6 +15,6 @@ pub returns-else-class-count : goal.returns-else-class-count
 returns-else-class-count c =
     let m = checked_model c.args.checked.now in
     names_merely _ _ c.classes-classes.ensures.tabled (λ known.
-        let count : c.count.result ≡ length m.decls + 1 = c.count.ensures.count m known in
-        let past : length m.decls < c.args.class = let beyond = c.if-class-count.false in omega arith in
-        sym (ap spelled (none_inherited own_variables m c.args.class (none_declared m c.args.class past))))
+    let count : c.count.result ≡ length m.decls + 1 = c.count.ensures.count m known in
+    let past : length m.decls < c.args.class = let beyond = c.if-class-count.false in omega arith in
+    sym (ap spelled (none_inherited own_variables m c.args.class (none_declared m c.args.class past))))
