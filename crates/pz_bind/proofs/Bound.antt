@@ -1,17 +1,12 @@
 -- What a parameter is given, once one more is.
-use Rattle.std.proofs.Common.{◌≡◌, refl, sym, ap, ◌∙◌, ℕ, suc, ◌<◌, ◌≤◌, Bool, true, false, List, [], ◌∷◌, ◌++◌, drop, length, get_or, Option, Some, None, Bor, if◌then◌else◌}
+use Rattle.std.proofs.Common.{◌≡◌, refl, ℕ, Bool, true, false, List, [], ◌∷◌, Option, Some, None, Bor, if◌then◌else◌}
 use Rattle.std.specs.Map.{lookup}
-use Rattle.std.specs.Option.{option_map, option_or, unwrap_or}
+use Rattle.std.specs.Option.{option_map, option_or}
 use Rattle.std.specs.Str.{bytes_eq}
-use Rattle.std.proofs.lemmas.List.{drop_all}
 use Rattle.indexmap.specs.IndexMap.{insert_entry}
-use Rattle.pz_syntax.specs.declared.clusters.Given.{Given}
 use Rattle.pz_value.specs.declared.value.Value.{Value}
-use Rattle.pz_value.specs.declared.value.Value.TheVariants.{Nil}
-use Rattle.pz_bind.specs.Values.{argument_value, given_value}
 use Rattle.pz_bind.specs.declared.bindings.Meaning.{Meaning}
 use Rattle.pz_bind.specs.devices.Bindings.{meaning_value}
-use Rattle.pz_bind.proofs.Gets.{one_more}
 
 abbrev Key : Type 0
 Key = Bor (List ℕ)

@@ -1,7 +1,6 @@
 -- Ends and channels, by names and by numbers.
-use Rattle.std.proofs.Common.{◌≡◌, refl, sym, ap, ◌∙◌, subst, ℕ, IsTrue, List, [], ◌∷◌, map, Option, Some, None, slice_get}
+use Rattle.std.proofs.Common.{◌≡◌, refl, sym, ap, ◌∙◌, subst, ℕ, IsTrue, List, ◌∷◌, Option, Some, None, slice_get}
 use Rattle.std.specs.Option.{option_map, option_map_or, option_and_then, unwrap_or}
-use Rattle.std.specs.Str.{bytes_eq}
 use Rattle.std.proofs.lemmas.Option.{slice_get-map}
 use Rattle.std.proofs.lemmas.Slice.Eq.{bytes_eq-Decides}
 use Rattle.pz_syntax.specs.declared.clusters.Instance.{Instance}
@@ -15,7 +14,7 @@ use Rattle.pz_levels.specs.Places.{Place, layout_at}
 use Rattle.pz_levels.specs.Wires.{Channel, channel, joined as joined_to}
 use Rattle.pz_levels.specs.Connections as by_number
 use Rattle.pz_bind.specs.Nest.{system_class, class_of, class_at, instance_at, instances_at, channels_at}
-use Rattle.pz_bind.specs.Connections.{End, end, is_outer, names_inner, names_outer, IsIn, is_in, Joined, joined, Leads, itself, outwards, Reaches, IsInNone}
+use Rattle.pz_bind.specs.Connections.{End, end, is_outer, names_inner, IsIn, is_in, Joined, joined, Leads, itself, outwards, Reaches}
 use Rattle.pz_bind.specs.devices.Layouts.{outer_from, layouts}
 use Rattle.pz_bind.proofs.Lists.{any_at, AreOnce, name_there}
 use Rattle.pz_bind.proofs.Layouts.{planned}

@@ -1,5 +1,5 @@
 -- What the code reads of lists, and of classes that are not there.
-use Rattle.std.proofs.Common.{◌≡◌, refl, sym, ap, subst, ◌∙◌, ℕ, zero, suc, ◌-◌, ◌+◌, ◌<◌, ◌≤◌, List, [], ◌∷◌, map, length, drop, drop-cons, Option, Some, None, get_or, slice_get, Bor, arith}
+use Rattle.std.proofs.Common.{◌≡◌, refl, sym, ap, subst, ◌∙◌, ℕ, zero, suc, ◌-◌, ◌<◌, ◌≤◌, List, [], ◌∷◌, map, length, drop, drop-cons, Option, Some, None, get_or, slice_get, Bor, arith}
 use Rattle.std.proofs.Math.Logic.{∥∥₁_elim}
 use Rattle.std.specs.Coded.{coded_ℕ, coded_list}
 use base.Stored.{Coded-set}

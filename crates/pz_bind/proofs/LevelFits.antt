@@ -11,11 +11,11 @@ use Rattle.pz_syntax.specs.declared.clusters.ChannelEnd.{ChannelEnd}
 use Rattle.pz_syntax.specs.declared.clusters.ChannelEnd.TheVariants.{Inner, Outer}
 use Rattle.pz_syntax.specs.Classes.{DeclTree, ModelTree}
 use Rattle.pz_classes.specs.Numbers.{declaration}
-use Rattle.pz_classes.specs.Members.{ports, spelled}
-use Rattle.pz_classes.specs.Instances.{instances, channels, instance_class}
-use Rattle.pz_classes.specs.ChannelRules.{ends, instance_named, same_end, both_outer}
+use Rattle.pz_classes.specs.Members.{spelled}
+use Rattle.pz_classes.specs.Instances.{instances, channels}
+use Rattle.pz_classes.specs.ChannelRules.{ends, same_end, both_outer}
 use Rattle.pz_classes.specs.Apart.{AreApart}
-use Rattle.pz_classes.specs.SoundSystem.{SystemFits, PartsFit, HasPort, InnerFits, OuterFits, EndFits}
+use Rattle.pz_classes.specs.SoundSystem.{SystemFits, PartsFit, HasPort, InnerFits, OuterFits}
 use Rattle.pz_classes.proofs.Elements.{at_place, in_flat}
 use Rattle.pz_bind.specs.Nest.{instances_in, channels_in, class_of}
 use Rattle.pz_bind.proofs.Lists.{map_at, AreOnce, ids_once}

@@ -1,5 +1,5 @@
 -- The links of a level are what its channels name.
-use Rattle.std.proofs.Common.{◌≡◌, refl, sym, ap, ◌∙◌, subst, ℕ, zero, suc, ◌+◌, Bool, true, false, ◌&&◌, IsTrue, List, [], ◌∷◌, map, Option, Some, None, slice_get, arith}
+use Rattle.std.proofs.Common.{◌≡◌, refl, sym, ap, ◌∙◌, subst, ℕ, zero, suc, ◌+◌, Bool, ◌&&◌, IsTrue, List, [], ◌∷◌, map, Option, Some, None, slice_get, arith}
 use Rattle.std.specs.Option.{option_and_then}
 use Rattle.std.specs.Str.{bytes_eq}
 use Rattle.std.proofs.lemmas.Slice.Eq.{bytes_eq-Decides}
@@ -15,9 +15,9 @@ use Rattle.pz_classes.specs.Apart.{AreApart}
 use Rattle.pz_classes.proofs.Elements.{both_true}
 use Rattle.pz_bind.specs.Nest.{class_of}
 use Rattle.pz_bind.specs.Connections.{is_inner, is_outer, names_inner, names_outer}
-use Rattle.pz_bind.specs.devices.Layouts.{linked_by, instance_number, port_number, port_of, outer_from, links_from}
+use Rattle.pz_bind.specs.devices.Layouts.{linked_by, port_number, outer_from, links_from}
 use Rattle.pz_bind.proofs.Lists.{Passing, any_found, any_at, map_at, AreOnce, name_there, place_of}
-use Rattle.pz_bind.proofs.Linked.{IsEnd, InEnds, InChannels, of_channels, channels_link, one_channel}
+use Rattle.pz_bind.proofs.Linked.{IsEnd, InChannels, of_channels, channels_link, one_channel}
 use Rattle.pz_bind.proofs.LevelFits.{LevelFits}
 
 same_bytes : (x y : List ℕ) → IsTrue (bytes_eq x y) → x ≡ y

@@ -5,12 +5,11 @@ use Rattle.std.proofs.lemmas.Bool.{cases_lt}
 use Rattle.std.specs.Option.{option_or, option_and_then}
 use Rattle.std.specs.List.{flat_map}
 use Rattle.std.proofs.lemmas.List.{length_push, drop_all, map-append}
-use Rattle.std.proofs.lemmas.Option.{slice_get_within}
 use Rattle.pz_syntax.specs.declared.clusters.Instance.{Instance}
 use Rattle.pz_syntax.specs.declared.clusters.Channel.{Channel as Written}
 use Rattle.pz_syntax.specs.declared.clusters.ChannelEnd.{ChannelEnd}
 use Rattle.pz_syntax.specs.declared.clusters.Decl.{Decl}
-use Rattle.pz_syntax.specs.Classes.{DeclTree, ModelTree}
+use Rattle.pz_syntax.specs.Classes.{ModelTree}
 use Rattle.pz_syntax.specs.ClassView.{decl_view}
 use Rattle.pz_code.specs.declared.numbering.Numbering.{Numbering}
 use Rattle.pz_code.specs.NumberIn.{number_in}
@@ -18,7 +17,6 @@ use Rattle.pz_classes.specs.Bodies.{place_in}
 use Rattle.pz_classes.specs.Members.{own_ports, ports, spelled}
 use Rattle.pz_levels.specs.Layouts.{Layout}
 use Rattle.pz_levels.proofs.Each.{pushed_at, there}
-use Rattle.pz_bind.specs.declared.port_numbers.PortNumbers.{PortNumbers}
 use Rattle.pz_bind.specs.devices.Layouts.{linked_by, link_of, links_from, port_number, class_layout, layouts_from}
 use Rattle.pz_bind.specs.devices.Numberings.{AreNumbers, ByClass}
 use Rattle.pz_bind.proofs.Gets.{none_declared, none_inherited, one_more}

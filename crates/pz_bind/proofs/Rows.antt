@@ -1,6 +1,6 @@
 -- A system of two clusters of one class, computed: in each cluster one channel is joined with one
 -- outside, and one is not.
-use Rattle.std.proofs.Common.{◌≡◌, refl, ℕ, List, [], ◌∷◌, map, Option, Some, None, codes}
+use Rattle.std.proofs.Common.{◌≡◌, refl, ℕ, List, [], ◌∷◌, map, Some, None, codes}
 use Rattle.std.specs.Fmt.{digits}
 use Rattle.pz_syntax.specs.declared.names.Id.{Id}
 use Rattle.pz_syntax.specs.declared.clusters.Instance.{Instance}
@@ -12,7 +12,7 @@ use Rattle.pz_levels.specs.Places.{Place}
 use Rattle.pz_levels.specs.Wires.{channel}
 use Rattle.pz_bind.specs.Nest.{levels, processes}
 use Rattle.pz_bind.specs.Names.{path, wire_name}
-use Rattle.pz_bind.specs.Connections.{End, end, is_in, joined, itself, outwards, Connected}
+use Rattle.pz_bind.specs.Connections.{end, is_in, joined, itself, outwards, Connected}
 use Rattle.pz_bind.specs.Wires.{wires}
 
 abbrev id : List ℕ → Id

@@ -1,11 +1,10 @@
 -- What is known of the levels, one further, and of what stands in them.
-use Rattle.std.proofs.Common.{◌≡◌, refl, sym, ap, ◌∙◌, subst, ℕ, zero, suc, ◌<◌, Bool, true, false, List, [], ◌∷◌, ◌++◌, codes, map, take, take-suc, length, get_or, Option, Some, None, slice_get, if◌then◌else◌, arith}
+use Rattle.std.proofs.Common.{◌≡◌, refl, sym, ap, ◌∙◌, subst, ℕ, zero, suc, ◌<◌, false, List, [], ◌∷◌, ◌++◌, codes, map, take, take-suc, length, get_or, Option, Some, None, slice_get, if◌then◌else◌, arith}
 use Rattle.std.proofs.Math.Path.{fun_ext}
 use Rattle.std.specs.Fmt.{decimal}
 use Rattle.std.specs.Option.{option_map_or, unwrap_or}
 use Rattle.std.proofs.lemmas.List.{map-append}
 use Rattle.std.proofs.lemmas.Option.{slice_get_within, slice_get-get_or, get_or_from_slice_get}
-use Rattle.pz_syntax.specs.declared.names.Id.{Id}
 use Rattle.pz_syntax.specs.declared.clusters.Instance.{Instance}
 use Rattle.pz_syntax.specs.Classes.{ModelTree}
 use Rattle.pz_value.specs.declared.value.Value.{Value}
@@ -18,18 +17,16 @@ use Rattle.pz_levels.specs.declared.expansion.Process.{Process}
 use Rattle.pz_levels.specs.declared.expansion.Wire.{Wire}
 use Rattle.pz_levels.specs.Places.{Place}
 use Rattle.pz_levels.specs.Wires.{Channel}
-use Rattle.pz_levels.specs.Expanded.{EachOf}
-use Rattle.pz_levels.proofs.Each.{in_first, there, pushed, partner}
-use Rattle.pz_bind.specs.Nest.{instances_in, class_at, instance_at, instances_at, levels, processes}
-use Rattle.pz_bind.specs.Names.{name_at, path, wire_name}
+use Rattle.pz_levels.proofs.Each.{there, pushed, partner}
+use Rattle.pz_bind.specs.Nest.{instances_in, class_at, instance_at, levels, processes}
+use Rattle.pz_bind.specs.Names.{path, wire_name}
 use Rattle.pz_bind.specs.Values.{given_value, parameter_at, values_at}
 use Rattle.pz_bind.specs.Wires.{wires}
 use Rattle.pz_bind.specs.NetView.{node_at}
 use Rattle.pz_bind.specs.declared.bindings.Bindings.{Bindings}
 use Rattle.pz_bind.specs.declared.sites.Site.{Site}
-use Rattle.pz_bind.specs.declared.net.Node.{Node}
 use Rattle.pz_bind.specs.devices.Bindings.{value_in}
-use Rattle.pz_bind.specs.devices.Sites.{is_top, IsSite, IsSystem, below, IsPlaced, MayStand, StandsIn, at_top, in_level, LevelAt, the_system, a_cluster, IsLevelAt, AreLevels, AreSites}
+use Rattle.pz_bind.specs.devices.Sites.{IsSite, IsSystem, below, IsPlaced, MayStand, StandsIn, at_top, in_level, LevelAt, the_system, a_cluster, IsLevelAt, AreLevels, AreSites}
 use Rattle.pz_bind.specs.devices.Processes.{AreProcesses, IsProcessAt, IsWireAt, AreWires}
 
 module _ (m : ModelTree) where

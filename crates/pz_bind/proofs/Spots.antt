@@ -10,7 +10,6 @@ use Rattle.pz_classes.specs.Kinds.{is_process, is_cluster}
 use Rattle.pz_classes.specs.Instances.{instances}
 use Rattle.pz_classes.specs.SoundSystem.{SystemFits, InstanceFits}
 use Rattle.pz_classes.proofs.Elements.{at_place}
-use Rattle.pz_levels.specs.declared.plan.Part.{Part}
 use Rattle.pz_levels.specs.Layouts.{Layout}
 use Rattle.pz_levels.specs.Places.{Place, Spot, spot, the_system, each_part}
 use Rattle.pz_levels.specs.Places as by_number

@@ -1,11 +1,9 @@
 -- The wires of a system, and which ends have them.
 use Rattle.std.proofs.Common.{◌≡◌, ◌↔◌, refl, sym, ap, ◌∙◌, subst, ℕ, suc, Bool, true, false, IsTrue, List, [], ◌∷◌, ◌++◌, append_assoc, map, length, Option, Some, None, slice_get, if◌then◌else◌, arith}
-use Rattle.std.specs.Option.{option_map_or, is_some, MatchOption}
-use Rattle.std.specs.List.{list_any, flat_map}
-use Rattle.std.specs.Str.{bytes_eq}
+use Rattle.std.specs.Option.{option_map_or, is_some}
+use Rattle.std.specs.List.{flat_map}
 use Rattle.std.proofs.lemmas.List.{length_push}
 use Rattle.std.proofs.lemmas.Slice.Eq.{bytes_eq-Decides}
-use Rattle.pz_syntax.specs.declared.names.Id.{Id}
 use Rattle.pz_syntax.specs.declared.clusters.Instance.{Instance}
 use Rattle.pz_syntax.specs.declared.clusters.Channel.{Channel as Written}
 use Rattle.pz_syntax.specs.declared.clusters.ChannelEnd.{ChannelEnd}
@@ -14,7 +12,7 @@ use Rattle.pz_syntax.specs.Classes.{ModelTree}
 use Rattle.pz_classes.specs.Members.{ports, spelled}
 use Rattle.pz_classes.specs.SoundSystem.{SystemFits}
 use Rattle.pz_levels.specs.Layouts.{Layout}
-use Rattle.pz_levels.specs.Places.{Place, Spot, layout_at}
+use Rattle.pz_levels.specs.Places.{Place}
 use Rattle.pz_levels.specs.Wires.{Channel, channel, joined_by, joined as joined_to}
 use Rattle.pz_levels.specs.Wires as by_number
 use Rattle.pz_levels.specs.Connections as numbers
@@ -28,7 +26,7 @@ use Rattle.pz_bind.proofs.Lists.{any_found, any_at, AreOnce, name_there}
 use Rattle.pz_bind.proofs.Layouts.{planned}
 use Rattle.pz_bind.proofs.Spots.{spot_at, levels_are}
 use Rattle.pz_bind.proofs.Named.{outer_end}
-use Rattle.pz_bind.proofs.Ends.{numbered, IsPort, InBack, in_back, port_is, joined_named, reaches_named, in_numbered, has_port, JoinedBack, joined_back, reaches_numbered}
+use Rattle.pz_bind.proofs.Ends.{numbered, IsPort, InBack, in_back, port_is, joined_named, reaches_named, in_numbered, has_port, joined_back, reaches_numbered}
 
 module _ (m : ModelTree) (fits : SystemFits m) (ports_once : (k : ℕ) → AreOnce (spelled (ports m k))) where
   -- ---- which channels are joined

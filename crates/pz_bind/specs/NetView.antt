@@ -1,5 +1,5 @@
 -- What is kept of the net of a model.
-use Rattle.std.specs.Prelude.{◌≡◌, ◌<◌, ℕ, List, length, map}
+use Rattle.std.specs.Prelude.{◌≡◌, ◌<◌, ℕ, length, map}
 use Rattle.pz_syntax.specs.Classes.{ModelTree}
 use Rattle.pz_classes.specs.Tables.{class_id}
 use Rattle.pz_classes.specs.SoundSystem.{SystemFits}

@@ -1,5 +1,4 @@
 use Rattle.std.proofs.Common.{subst}
-use Rattle.pz_syntax.specs.Classes.{ModelTree}
 use Rattle.pz_classes.specs.CheckedView.{checked_model}
 use Rattle.pz_classes.specs.Soundness.{IsSound}
 use Rattle.pz_bind.proofs.declared.is_sound.Goals as goal

@@ -1,5 +1,4 @@
-use Rattle.std.proofs.Common.{◌≡◌, sym, ap, ◌+◌, ◌<◌, List, [], map, length, ℕ, arith}
-use Rattle.pz_syntax.specs.declared.names.Id.{Id}
+use Rattle.std.proofs.Common.{◌≡◌, sym, ap, ◌+◌, ◌<◌, length, arith}
 use Rattle.pz_classes.specs.CheckedView.{checked_model}
 use Rattle.pz_classes.specs.Members.{own_variables, spelled}
 use Rattle.pz_bind.proofs.Gets.{names_merely, none_declared, none_inherited}

@@ -1,4 +1,3 @@
-use Rattle.std.proofs.Common.{ℕ}
 use Rattle.pz_classes.specs.Members.{ports}
 use Rattle.pz_bind.specs.Nest.{system_class}
 use Rattle.pz_bind.specs.devices.Layouts.{layouts}

@@ -1,4 +1,4 @@
-use Rattle.std.proofs.Common.{◌≡◌, ◌∙◌, ap, map, List, take, arith}
+use Rattle.std.proofs.Common.{◌∙◌, ap, map, List, arith}
 use Rattle.std.proofs.lemmas.List.{take_all}
 use Rattle.pz_syntax.specs.declared.clusters.Channel.{Channel}
 use Rattle.pz_syntax.specs.declared.clusters.ChannelEnd.{ChannelEnd}

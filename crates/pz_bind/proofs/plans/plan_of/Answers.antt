@@ -2,7 +2,6 @@ use Rattle.std.proofs.Common.{◌≡◌, ◌∙◌, ap, map, List, ℕ}
 use Rattle.pz_syntax.specs.declared.clusters.Instance.{Instance}
 use Rattle.pz_syntax.specs.declared.clusters.Channel.{Channel}
 use Rattle.pz_classes.specs.CheckedView.{checked_model}
-use Rattle.pz_levels.specs.declared.plan.Part.{Part}
 use Rattle.pz_bind.specs.Nest.{instances_in, channels_in}
 use Rattle.pz_bind.specs.devices.Layouts.{part_of, outer_from, linked_by, links_from}
 use Rattle.pz_bind.proofs.PlanSteps.{same_layout}

@@ -1,4 +1,4 @@
-use Rattle.std.proofs.Common.{◌≡◌, sym, subst, List, arith}
+use Rattle.std.proofs.Common.{sym, subst, List, arith}
 use Rattle.pz_classes.specs.CheckedView.{checked_model}
 use Rattle.pz_bind.specs.declared.sites.Site.{Site}
 use Rattle.pz_bind.specs.devices.Sites.{MayStand, StandsIn}

@@ -1,10 +1,6 @@
-use Rattle.std.proofs.Common.{◌≡◌, sym, ap, ◌∙◌, subst, ℕ, ◌≤◌, List, length, map}
+use Rattle.std.proofs.Common.{◌≡◌, sym, ap, ◌∙◌, subst, ℕ, ◌≤◌, List, length}
 use Rattle.std.proofs.lemmas.List.{length-map}
 use Rattle.pz_classes.specs.CheckedView.{checked_model}
-use Rattle.pz_levels.specs.declared.plan.Plan.{Plan}
-use Rattle.pz_levels.specs.declared.expansion.Level.{Level}
-use Rattle.pz_levels.specs.declared.expansion.Process.{Process}
-use Rattle.pz_levels.specs.declared.expansion.Wire.{Wire}
 use Rattle.pz_levels.specs.Layouts.{AreLinked}
 use Rattle.pz_levels.specs.devices.Walking.{layouts_of}
 use Rattle.pz_bind.specs.Nest.{processes}

@@ -1,4 +1,4 @@
-use Rattle.std.proofs.Common.{◌≡◌, sym, subst, ℕ, ◌<◌, length, List}
+use Rattle.std.proofs.Common.{sym, subst, ◌<◌, length, List}
 use Rattle.pz_levels.specs.declared.expansion.Process.{Process}
 use Rattle.pz_levels.specs.declared.plan.Plan.{Plan}
 use Rattle.pz_levels.specs.devices.Walking.{layouts_of}
