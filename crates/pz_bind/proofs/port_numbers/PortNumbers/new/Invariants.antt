@@ -1,0 +1,10 @@
+use Rattle.std.proofs.Common.{◌≡◌, suc, ℕ, List, length, Some, slice_get}
+use Rattle.pz_code.specs.NumberIn.{number_in}
+use Rattle.pz_code.specs.declared.numbering.Numbering.{Numbering}
+use Rattle.pz_classes.specs.CheckedView.{checked_model}
+use Rattle.pz_bind.specs.devices.Layouts.{port_number}
+use Rattle.pz_bind.specs.devices.Numberings.{ByClass}
+use Rattle.pz_bind.proofs.port_numbers.PortNumbers.new.Given as goal
+
+abbrev pub invariant-loop-decl : goal.invariant-loop-decl
+invariant-loop-decl l = ByClass (checked_model l.checked) l.class (suc l._decl-index) l.by_class
