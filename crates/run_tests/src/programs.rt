@@ -139,13 +139,13 @@ fn a_check_counts_the_processes_of_a_model(rt: HostRuntime) -> Result<(), Fail> 
         ),
         (
             "process class P\nports out\ninit a()()\nmethods a()() skip\nsystem instances p : P q : P\nchannels { p.out, q.out }\n",
-            3,
-            "model refused: Unbuilt 6:10\n",
+            0,
+            "accepted 2 processes 1 wires\n",
         ),
         (
             "process class P\ninit a()()\nmethods a()() skip\ncluster class C\ninstances p : P\nsystem instances c : C\n",
-            3,
-            "model refused: Unbuilt 4:15\n",
+            0,
+            "accepted 1 processes 0 wires\n",
         ),
         (
             "process class P\ninit a()()\nmethods a()() skip\ncluster class C\ninstances p : P\nsystem instances c : D\n",
