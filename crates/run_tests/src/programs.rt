@@ -129,7 +129,7 @@ fn a_text_is_refused_with_its_kind_and_place(rt: HostRuntime) -> Result<(), Fail
 }
 
 #[test]
-fn a_check_counts_the_processes_of_a_model(rt: HostRuntime) -> Result<(), Fail> {
+fn a_check_counts_the_processes_and_wires_of_a_model(rt: HostRuntime) -> Result<(), Fail> {
     let rows = [
         (MODEL, 0, "accepted 1 processes 0 wires\n"),
         (
