@@ -1,0 +1,84 @@
+-- The next configuration by an action, or the trouble of it; and that after the passing of time.
+use Rattle.std.specs.Prelude.{◌≡◌, ℕ, ◌+◌, List, length, Some, Result, Ok, Err, slice_get, slice_set}
+use Rattle.pz_syntax.specs.declared.tokens.Pos.{Pos}
+use Rattle.pz_copy.specs.Parcels.{ParcelView}
+use Rattle.pz_offer.specs.declared.end.End.{End}
+use Rattle.pz_offer.specs.declared.trouble.Trouble.{Trouble}
+use Rattle.pz_rules.specs.declared.action.Kind.{Kind}
+use Rattle.pz_rules.specs.declared.action.Action.{Action}
+use Rattle.pz_rules.specs.declared.action.Action.TheVariants.{Internal, Comm}
+use Rattle.pz_rules.specs.Terms.{Term}
+use Rattle.pz_rules.specs.Settings.{Setting, Process, At}
+use Rattle.pz_rules.specs.Active.{IsActive}
+use Rattle.pz_rules.specs.InternalActions.{Can, Performs}
+use Rattle.pz_rules.specs.Leaving.{settled}
+use Rattle.pz_rules.specs.Messages.{Sends, Receives, Hands, Takes}
+use Rattle.pz_rules.specs.Meanings.{and_then}
+use Rattle.pz_rules.specs.Delays.{Passes}
+use Rattle.pz_rules.specs.Configurations.{Config, Stands}
+
+-- what an internal action at this end leaves of its process
+pub record Acts (setting : Setting) (c : Config) (at : End) (pos : Pos) (result : Result Process Trouble) : Type 0 where
+  pub process : Process
+  pub seen : At
+  pub stands : Stands setting c at.process process seen
+  pub frame : ℕ
+  pub part : Term
+  pub active : IsActive seen process.term at.place frame part
+  pub left : Result Process Trouble
+  pub performs : Performs seen frame part left
+  pub leaves : result ≡ and_then left (settled seen pos process.term at.place)
+
+-- what a communication leaves of its sender
+pub record SenderActs (setting : Setting) (c : Config) (at : End) (parcel : ParcelView) (result : Result Process Trouble) : Type 0 where
+  pub process : Process
+  pub seen : At
+  pub stands : Stands setting c at.process process seen
+  pub frame : ℕ
+  pub part : Term
+  pub active : IsActive seen process.term at.place frame part
+  pub pos : Pos
+  pub port : ℕ
+  pub message : List ℕ
+  pub sends : Sends seen frame part pos port message parcel
+  pub left : Result Process Trouble
+  pub hands : Hands seen frame part parcel left
+  pub leaves : result ≡ and_then left (settled seen pos process.term at.place)
+
+-- what a communication leaves of its receiver
+pub record ReceiverActs (setting : Setting) (c : Config) (at : End) (parcel : ParcelView) (result : Result Process Trouble) : Type 0 where
+  pub process : Process
+  pub seen : At
+  pub stands : Stands setting c at.process process seen
+  pub frame : ℕ
+  pub part : Term
+  pub active : IsActive seen process.term at.place frame part
+  pub pos : Pos
+  pub port : ℕ
+  pub message : List ℕ
+  pub receives : Receives part pos port message (length parcel.values)
+  pub left : Result Process Trouble
+  pub takes : Takes seen frame parcel part left
+  pub leaves : result ≡ and_then left (settled seen pos process.term at.place)
+
+-- process i has become this, the others and the clock stay
+abbrev pub with_process : Config → ℕ → Process → Config
+with_process c i p = record c { processes = slice_set c.processes i p }
+
+abbrev pub with_both : Config → End → End → Process → Process → Config
+with_both c sender receiver p q = with_process (with_process c sender.process p) receiver.process q
+
+-- the next configuration; or a trouble, that of a sender before any of the receiver
+pub data Next (setting : Setting) (c : Config) : Action → Result Config Trouble → Type 0 where
+  internal : (at : End) (kind : Kind) (pos : Pos) (result : Result Process Trouble)
+      → Acts setting c at pos result → Next setting c (Internal at kind pos) (and_then result (λ p. Ok (with_process c at.process p)))
+  communication : (number : ℕ) (sender receiver : End) (message : List ℕ) (parcel : ParcelView) (sent taken : Result Process Trouble)
+      → SenderActs setting c sender parcel sent → ReceiverActs setting c receiver parcel taken
+      → Next setting c (Comm number sender receiver message parcel) (and_then sent (λ p. and_then taken (λ q. Ok (with_both c sender receiver p q))))
+
+-- time d has passed, for all processes alike; what is active is decided before
+pub record PassesTo (setting : Setting) (c : Config) (d : ℕ) (next : Config) : Type 0 where
+  pub clock : next.clock ≡ c.clock + d
+  pub all : length next.processes ≡ length c.processes
+  pub each : (i : ℕ) (p : Process) (a : At) → Stands setting c i p a
+      → (x : Term) × Passes a d 0 p.term x × (slice_get next.processes i ≡ Some (record { term = x; state = p.state }))
