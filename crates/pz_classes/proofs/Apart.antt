@@ -1,5 +1,5 @@
 -- What does not repeat is apart.
-use Rattle.std.proofs.Common.{◌≡◌, ◌≢◌, refl, sym, ℕ, Bool, true, false, ◌&&◌, ◌||◌, IsTrue, List, Some, slice_get, nat_eq, nat_lt, arith, ◌⊎◌, inl, inr}
+use Rattle.std.proofs.Common.{◌≡◌, ◌≢◌, refl, sym, ℕ, Bool, true, false, ◌&&◌, ◌||◌, IsTrue, List, nat_eq, nat_lt, arith, ◌⊎◌, inl, inr}
 use Rattle.std.proofs.lemmas.Bool.Decides.{nat_tests}
 use Rattle.pz_syntax.specs.declared.tokens.Pos.{Pos}
 use Rattle.pz_violation.specs.Order.{pos_before}

@@ -88,7 +88,7 @@ abbrev pub methods : DeclTree → ℕ
 methods d = length (signatures d)
 
 module _ (m : ModelTree) where
-  own_length : (c : ℕ) (d : DeclTree) → length (own_bodies m c d) ≡ methods d
+  pub own_length : (c : ℕ) (d : DeclTree) → length (own_bodies m c d) ≡ methods d
   own_length c (data_class d) = length-map (unwrap_or d.methods []) (data_body_in (data_scope m c)) ∙ sym (length-map (unwrap_or d.methods []) _)
   own_length c (process_class d) = length-map (unwrap_or d.methods []) (process_body_in (process_scope m c)) ∙ sym (length-map (unwrap_or d.methods []) _)
   own_length c (cluster_class d) = refl

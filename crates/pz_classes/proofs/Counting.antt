@@ -18,7 +18,7 @@ rows_step m es e c below is before =
     let within : c < length (rows m) = (let count = rows_length m in omega arith) in
     map-append row_view es (e ∷ []) ∙ ap (λ (rs : List Row). rs ++ row_view e ∷ []) before ∙ ap (λ (r : Row). take c (rows m) ++ r ∷ []) (is ∙ sym (row_at m c below)) ∙ sym (take_more (rows m) c (row m c) within)
 
-further : {X : Type 0} (xs : List X) (n : ℕ) (x : X) (rest : List X) → drop n xs ≡ x ∷ rest → (slice_get xs n ≡ Some x) × (drop (suc n) xs ≡ rest)
+pub further : {X : Type 0} (xs : List X) (n : ℕ) (x : X) (rest : List X) → drop n xs ≡ x ∷ rest → (slice_get xs n ≡ Some x) × (drop (suc n) xs ≡ rest)
 further [] zero x rest is = cc
 further [] (suc n) x rest is = cc
 further (y ∷ ys) zero x rest is = (cc, cc)

@@ -14,6 +14,7 @@ mod Overloads
 mod Numbered
 mod OwnBodies
 mod Reaching
+mod Merely
 mod InstanceClasses
 mod Acyclic
 mod Walked
@@ -29,3 +30,7 @@ mod SoundEnds
 mod SoundSystem
 mod Heirs
 mod SoundClasses
+mod MethodBodies
+mod Mentioned
+mod SoundBodies
+mod WorkedBodies

@@ -1,32 +1,29 @@
 -- The classes of a sound model.
-use Rattle.std.proofs.Common.{◌≡◌, refl, sym, ap, ◌∙◌, subst, ℕ, zero, suc, ◌<◌, Bool, true, false, not, ◌&&◌, IsTrue, List, [], ◌∷◌, ◌++◌, length, Option, Some, None, is_none, is_some, IsSome, arith}
+use Rattle.std.proofs.Common.{◌≡◌, refl, sym, ◌∙◌, subst, ℕ, Bool, true, false, IsTrue, List, [], ◌∷◌, Option, Some, None, is_none, IsSome}
 use Rattle.std.specs.List.{Contains}
 use Rattle.std.specs.Option.{option_and_then, option_map, option_or, unwrap_or}
 use Rattle.std.proofs.lemmas.List.Elements.{Contains-append_right}
 use Rattle.pz_syntax.specs.declared.names.Id.{Id}
 use Rattle.pz_syntax.specs.Classes.{ProcessClassTree, DeclTree, data_class, process_class, cluster_class, system, StartTree, ModelTree}
-use Rattle.pz_violation.specs.declared.violation.Violation.{Violation}
 use Rattle.pz_violation.specs.Order.{violation}
 use Rattle.pz_mentions.specs.declared.mention.Mention.{Mention}
 use Rattle.pz_mentions.specs.declared.mention.Mention.TheVariants.{Declared, Called}
 use Rattle.pz_mentions.specs.declared.part.Part.{Part}
-use Rattle.pz_mentions.specs.Declarations.{parts, process_head, process_method as method_part, section_types, extended, mentioned_messages, mentioned_start}
+use Rattle.pz_mentions.specs.Declarations.{parts, process_head, section_types, extended, mentioned_messages, mentioned_start}
 use Rattle.pz_mentions.specs.Expressions.{count, mentioned_all}
 use Rattle.pz_lineage.specs.Reached.{GoesRound}
-use Rattle.pz_code.specs.StepView.{Tree}
 use Rattle.pz_code.specs.ReservedNames.{is_unsupported}
 use Rattle.pz_classes.specs.Numbers.{declaration}
 use Rattle.pz_classes.specs.Ancestors.{parent, ancestors}
 use Rattle.pz_classes.specs.Members.{own_fields, own_variables, own_ports, fields, variables, ports, from_root}
 use Rattle.pz_classes.specs.Methods.{process_method, own_method, nearest}
-use Rattle.pz_classes.specs.Starts.{own_start, own_call, start_call, init}
-use Rattle.pz_classes.specs.CallRules.{start, breaks_c7, breaks_c11}
+use Rattle.pz_classes.specs.Starts.{own_start, start_call}
+use Rattle.pz_classes.specs.CallRules.{start}
 use Rattle.pz_classes.specs.Kinds.{is_process}
 use Rattle.pz_classes.specs.Words.{Mentions}
 use Rattle.pz_classes.specs.WordRules.{c7, c11, c18}
 use Rattle.pz_classes.specs.RepeatRules.{same_name, again_field, again_variable, again_port}
 use Rattle.pz_classes.specs.Soundness.{IsSound, a_word, a_repeat}
-use Rattle.pz_classes.specs.Apart.{AreApart}
 use Rattle.pz_classes.specs.SoundClasses.{BeginsWith, Inherits, StartsWell, ClassesFit, SoundClassesFit}
 use Rattle.pz_classes.proofs.Apart.{apart}
 use Rattle.pz_classes.proofs.Turned.{names_turned}
@@ -37,12 +34,12 @@ use Rattle.pz_classes.proofs.Rounds.{nobody_goes_round}
 -- ---- what the nearest of some classes has
 
 -- the class that has it
-record Nearest {A : Type 0} (f : ℕ → Option A) (line : List ℕ) (x : A) : Type 0 where
-  class : ℕ
-  class_in : Contains line class
-  has : f class ≡ Some x
+pub record Nearest {A : Type 0} (f : ℕ → Option A) (line : List ℕ) (x : A) : Type 0 where
+  pub class : ℕ
+  pub class_in : Contains line class
+  pub has : f class ≡ Some x
 
-nearest_has : {A : Type 0} (f : ℕ → Option A) (line : List ℕ) (x : A) → nearest f line ≡ Some x → Nearest f line x
+pub nearest_has : {A : Type 0} (f : ℕ → Option A) (line : List ℕ) (x : A) → nearest f line ≡ Some x → Nearest f line x
 nearest_has f [] x is = cc
 nearest_has {A} f (c ∷ line) x is = by_first (f c) refl (nearest_has f line x)
   where
@@ -112,20 +109,24 @@ module _ (m : ModelTree) (sound : IsSound m) where
   name_mentioned : (a : ℕ) (p : ProcessClassTree) → declaration m a ≡ Some (process_class p) → Mentions m a (process_class p) (process_head p) (Declared p.name)
   name_mentioned a p here = record { declared = here; part_of = head_in p; mentioned = first_in (Declared p.name) _ }
 
-  start_mentioned : (a : ℕ) (p : ProcessClassTree) (s : StartTree) → declaration m a ≡ Some (process_class p) → p.start ≡ Some s
-      → Mentions m a (process_class p) (process_head p) (Called s.method (count s.args) 0)
-  start_mentioned a p s here is =
-      let call : Mention = Called s.method (count s.args) 0 in
-      let last : Contains (mentioned_start p.start) call = rw is (first_in call (mentioned_all s.args)) in
+  -- the words of an `init`
+  pub start_words : (a : ℕ) (p : ProcessClassTree) (s : StartTree) → declaration m a ≡ Some (process_class p) → p.start ≡ Some s
+      → (x : Mention) → Contains (mentioned_start (Some s)) x → Mentions m a (process_class p) (process_head p) x
+  start_words a p s here is x among =
+      let last : Contains (mentioned_start p.start) x = rw is among in
       record {
         declared = here;
         part_of = head_in p;
-        mentioned = later_in (Declared p.name) _ call
-            (Contains-append_right (section_types p.parameters) _ call
-            (Contains-append_right (extended p.parent) _ call
-            (Contains-append_right (mentioned_messages (unwrap_or p.messages [])) _ call
-            (Contains-append_right (section_types p.variables) (mentioned_start p.start) call last))));
+        mentioned = later_in (Declared p.name) _ x
+            (Contains-append_right (section_types p.parameters) _ x
+            (Contains-append_right (extended p.parent) _ x
+            (Contains-append_right (mentioned_messages (unwrap_or p.messages [])) _ x
+            (Contains-append_right (section_types p.variables) (mentioned_start p.start) x last))));
       }
+
+  start_mentioned : (a : ℕ) (p : ProcessClassTree) (s : StartTree) → declaration m a ≡ Some (process_class p) → p.start ≡ Some s
+      → Mentions m a (process_class p) (process_head p) (Called s.method (count s.args) 0)
+  start_mentioned a p s here is = start_words a p s here is (Called s.method (count s.args) 0) (first_in (Called s.method (count s.args) 0) (mentioned_all s.args))
 
   -- the class that declares an `init`
   own_start_called : (a : ℕ) (s : StartTree) → option_and_then own_start (declaration m a) ≡ Some s

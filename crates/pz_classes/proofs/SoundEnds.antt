@@ -1,6 +1,6 @@
 -- The channels of a sound model.
-use Rattle.std.proofs.Common.{◌≡◌, refl, ℕ, zero, suc, Bool, true, false, ◌&&◌, not, IsTrue, List, [], ◌∷◌, map, Option, Some, None, slice_get}
-use Rattle.std.specs.List.{Contains, list_any, flat_map}
+use Rattle.std.proofs.Common.{◌≡◌, refl, ℕ, suc, Bool, true, false, ◌&&◌, not, IsTrue, List, [], ◌∷◌, Option, Some, None}
+use Rattle.std.specs.List.{Contains}
 use Rattle.std.specs.Option.{option_map_or}
 use Rattle.std.specs.Str.{bytes_eq}
 use Rattle.pz_syntax.specs.declared.names.Id.{Id}
@@ -12,10 +12,10 @@ use Rattle.pz_syntax.specs.Classes.{DeclTree, ModelTree}
 use Rattle.pz_violation.specs.Order.{violation}
 use Rattle.pz_classes.specs.Numbers.{declaration}
 use Rattle.pz_classes.specs.Members.{ports, spelled}
-use Rattle.pz_classes.specs.Bodies.{place_from, place_in}
+use Rattle.pz_classes.specs.Bodies.{place_from}
 use Rattle.pz_classes.specs.Kinds.{is_cluster}
 use Rattle.pz_classes.specs.Words.{is_among}
-use Rattle.pz_classes.specs.Instances.{instances, channels, instance_class}
+use Rattle.pz_classes.specs.Instances.{instances, channels}
 use Rattle.pz_classes.specs.ChannelRules.{end_place, ends, instance_named, has_port, breaks_c16, no_end, same_end, both_outer, again_end, again_outer}
 use Rattle.pz_classes.specs.Soundness.{IsSound, an_end, two_ends}
 use Rattle.pz_classes.specs.Apart.{AreApart}

@@ -1,26 +1,24 @@
 -- The instances of a sound model.
-use Rattle.std.proofs.Common.{◌≡◌, refl, sym, ap, ◌∙◌, ℕ, Bool, true, false, ◌&&◌, ◌||◌, not, nat_eq, IsTrue, List, [], ◌∷◌, ◌++◌, map, Option, Some, None, ◌⊎◌, inl, inr, arith}
-use Rattle.std.specs.List.{Contains, flat_map, list_all, list_any, count_by}
+use Rattle.std.proofs.Common.{◌≡◌, refl, sym, ap, ◌∙◌, ℕ, Bool, true, false, ◌&&◌, nat_eq, IsTrue, List, [], ◌++◌, Option, Some, None, ◌⊎◌, inl, inr}
+use Rattle.std.specs.List.{Contains, list_all, list_any, count_by}
 use Rattle.std.specs.Option.{unwrap_or}
 use Rattle.std.specs.Str.{bytes_eq}
 use Rattle.std.proofs.lemmas.Bool.{eqb-true}
 use Rattle.std.proofs.lemmas.List.Elements.{Contains-append_right}
 use Rattle.pz_syntax.specs.declared.clusters.Instance.{Instance}
 use Rattle.pz_syntax.specs.Classes.{DeclTree, data_class, process_class, cluster_class, system, ModelTree}
-use Rattle.pz_violation.specs.declared.violation.Violation.{Violation}
 use Rattle.pz_violation.specs.Order.{violation}
-use Rattle.pz_mentions.specs.declared.mention.Mention.{Mention}
 use Rattle.pz_mentions.specs.declared.mention.Mention.TheVariants.{Declared, Instantiated}
 use Rattle.pz_mentions.specs.declared.part.Part.{Part}
 use Rattle.pz_mentions.specs.Declarations.{parts, cluster_part, system_part, section_types, mentioned_instance, mentioned_givens, mentioned_instances}
 use Rattle.pz_code.specs.ReservedNames.{is_unsupported}
 use Rattle.pz_classes.specs.Numbers.{declaration, class}
 use Rattle.pz_classes.specs.Members.{spelled}
-use Rattle.pz_classes.specs.NameRules.{has_instances, breaks_c13, breaks_c18}
+use Rattle.pz_classes.specs.NameRules.{has_instances}
 use Rattle.pz_classes.specs.Words.{Mentions}
-use Rattle.pz_classes.specs.WordRules.{BreaksWord, c13, c18}
+use Rattle.pz_classes.specs.WordRules.{c13, c18}
 use Rattle.pz_classes.specs.Instances.{instances, instance_class, parameters}
-use Rattle.pz_classes.specs.InstanceRules.{given_names, gives_each, BreaksC14, ill_given, Holds, directly, through, holds_itself}
+use Rattle.pz_classes.specs.InstanceRules.{given_names, gives_each, ill_given, Holds, directly, through, holds_itself}
 use Rattle.pz_classes.specs.Soundness.{IsSound, a_word, given, holding}
 use Rattle.pz_classes.specs.SoundSystem.{InstanceFits}
 use Rattle.pz_classes.specs.Kinds.{is_cluster}

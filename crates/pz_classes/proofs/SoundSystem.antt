@@ -1,22 +1,17 @@
 -- The system of a sound model.
-use Rattle.std.proofs.Common.{◌≡◌, refl, ℕ, ◌≤◌, Bool, true, false, ◌||◌, IsTrue, List, [], ◌∷◌, map, nat_lt, Some, arith}
+use Rattle.std.proofs.Common.{◌≡◌, refl, ℕ, ◌≤◌, Bool, true, false, ◌||◌, List, [], ◌∷◌, map, nat_lt, Some, arith}
 use Rattle.std.proofs.lemmas.Bool.Decides.{nat_tests}
 use Rattle.std.specs.List.{Contains}
-use Rattle.pz_syntax.specs.declared.tokens.Pos.{Pos}
-use Rattle.pz_syntax.specs.declared.names.Id.{Id}
 use Rattle.pz_syntax.specs.declared.clusters.SystemDecl.{SystemDecl}
 use Rattle.pz_syntax.specs.Classes.{DeclTree, ModelTree}
-use Rattle.pz_violation.specs.declared.violation.Violation.{Violation}
 use Rattle.pz_violation.specs.Order.{violation}
 use Rattle.pz_classes.specs.Numbers.{declaration}
 use Rattle.pz_classes.specs.Instances.{instances}
-use Rattle.pz_classes.specs.WordRules.{BreaksWord}
-use Rattle.pz_classes.specs.InstanceRules.{BreaksC15}
 use Rattle.pz_classes.specs.RepeatRules.{same_name, again_instance}
-use Rattle.pz_classes.specs.SizeRules.{systems, text_start, Totals, system_size, is_too_large, HasNoSize, by_class, by_name, by_holding, by_system, BreaksC20, again_system, no_system, too_large}
+use Rattle.pz_classes.specs.SizeRules.{systems, text_start, system_size, HasNoSize, by_class, by_name, by_holding, by_system, again_system, no_system, too_large}
 use Rattle.pz_classes.specs.Soundness.{IsSound, a_word, a_repeat, holding, size, the_system}
 use Rattle.pz_classes.specs.Apart.{AreApart}
-use Rattle.pz_classes.specs.SoundSystem.{HasOneSystem, PartsFit, IsLimited, SystemFits, SoundSystemsFit}
+use Rattle.pz_classes.specs.SoundSystem.{HasOneSystem, PartsFit, IsLimited, SoundSystemsFit}
 use Rattle.pz_classes.proofs.Turned.{names_turned}
 use Rattle.pz_classes.proofs.Apart.{apart}
 use Rattle.pz_classes.proofs.SoundInstances.{instance_fits, unheld}

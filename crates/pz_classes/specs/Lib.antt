@@ -25,4 +25,7 @@ pub mod Reached
 pub mod Apart
 pub mod SoundSystem
 pub mod SoundClasses
+pub mod MethodBodies
+pub mod FitBodies
+pub mod SoundBodies
 pub mod devices

@@ -1,6 +1,6 @@
 ghost use Rattle.std.specs.Prelude.{◌≡◌, ◌<◌, ◌+◌, List, ℕ, length, IfOk, OnOk, IfErr, IfSome};
 ghost use Rattle.std.specs.Prelude.{Some, slice_get};
-ghost use Rattle.std.specs.Option.{option_map, option_copied};
+ghost use Rattle.std.specs.Option.{option_map, option_and_then, option_copied};
 ghost use Rattle.pz_code.specs.StepView as step;
 ghost use Rattle.pz_classes.specs.Bodies.{bodies};
 ghost use Rattle.pz_classes.specs.BodyView.{body_view};
@@ -14,6 +14,7 @@ ghost use Rattle.pz_classes.specs.Ancestors as ancestors;
 ghost use Rattle.pz_classes.specs.Members as members;
 ghost use Rattle.pz_classes.specs.Members.{spelled};
 ghost use Rattle.pz_classes.specs.Methods as methods;
+ghost use Rattle.pz_classes.specs.MethodBodies.{method_body, process_method_body};
 ghost use Rattle.pz_classes.specs.Violations.{Violates};
 ghost use Rattle.pz_violation.specs.Order.{IsLeast};
 ghost use Rattle.pz_classes.specs.Preorder.{IsPreorderOf};
@@ -176,6 +177,7 @@ impl Classes {
     pub fn method(&self, class: ClassId, name: &[u8], inputs: u32) -> Option<MethodId>
         requires { HasClass self.now class }
         ensures method { (m : ModelTree) → AreClasses m self.now → result ≡ methods.method m class.0 name.now inputs }
+        ensures body { (m : ModelTree) → AreClasses m self.now → option_and_then (λ n. slice_get (bodies m) n.0) result ≡ method_body m class.0 name.now inputs }
         ensures belongs { (m : ModelTree) → AreClasses m self.now → IfSome result (HasMethod self.now) }
     {
         find(
@@ -197,6 +199,7 @@ impl Classes {
     ) -> Option<MethodId>
         requires { HasClass self.now class }
         ensures method { (m : ModelTree) → AreClasses m self.now → result ≡ methods.process_method m class.0 name.now inputs outputs }
+        ensures body { (m : ModelTree) → AreClasses m self.now → option_and_then (λ n. slice_get (bodies m) n.0) result ≡ process_method_body m class.0 name.now inputs outputs }
         ensures belongs { (m : ModelTree) → AreClasses m self.now → IfSome result (HasMethod self.now) }
     {
         find(

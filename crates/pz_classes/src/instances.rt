@@ -75,7 +75,7 @@ fn may_have_instances(model: &Model, class: ClassId) -> bool
 
 /// The class of this name, if it may have instances: a process class or a cluster class.
 pub fn class_of_instance(model: &Model, classes: &Classes, name: &Name) -> Option<ClassId>
-    requires { AreClasses (model_view model.now) classes.now }
+    requires { ∥ AreClasses (model_view model.now) classes.now ∥₁ }
     ensures class { result ≡ option_map class_id (spec.instance_class (model_view model.now) name.now) }
     ensures belongs { IfSome result (HasClass classes.now) }
 {

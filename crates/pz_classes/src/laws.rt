@@ -1,6 +1,7 @@
 // Laws of the definitions, each the contract of a function that does nothing.
 
 ghost use Rattle.pz_classes.specs.Reached.{AncestorsAreReached};
+ghost use Rattle.pz_classes.specs.SoundBodies.{SoundBodiesFit};
 ghost use Rattle.pz_classes.specs.SoundClasses.{SoundClassesFit};
 ghost use Rattle.pz_classes.specs.SoundSystem.{SoundSystemsFit};
 
@@ -22,4 +23,14 @@ pub fn sound_systems_fit()
 /// method that is called in a class is one of the class and of all that descend from it.
 pub fn sound_classes_fit()
     ensures law { SoundClassesFit }
+{}
+
+/// In a sound model all that a body names is there, in the class that has the method as in each that
+/// inherits it: each variable is an input, output or local of the method, or a field or variable of
+/// the class, each port one of the class, each class that is created Array or a data class, and each
+/// method that is called is one of the class, with its body at its number. No body has a float, and
+/// each has room for what its method is handed and hands out. The call with which a process starts is
+/// of this kind too.
+pub fn sound_bodies_fit()
+    ensures law { SoundBodiesFit }
 {}

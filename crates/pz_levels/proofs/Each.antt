@@ -1,5 +1,5 @@
 -- Lists whose elements fit each other, place by place.
-use Rattle.std.proofs.Common.{◌≡◌, refl, ap, subst, ℕ, zero, suc, ◌<◌, List, [], ◌∷◌, ◌++◌, length, get_or, Some, slice_get, arith}
+use Rattle.std.proofs.Common.{◌≡◌, refl, ap, subst, ℕ, zero, suc, ◌<◌, List, [], ◌∷◌, ◌++◌, length, get_or, Some, slice_get, arith, ◌⊎◌, inl, inr}
 use Rattle.std.proofs.lemmas.Option.{slice_get_within, slice_get-get_or}
 use Rattle.pz_levels.specs.Expanded.{EachOf}
 
@@ -12,6 +12,12 @@ module _ {A : Type 0} where
   pub at_end : (xs : List A) (y : A) (ys : List A) → slice_get (xs ++ y ∷ ys) (length xs) ≡ Some y
   at_end [] y ys = refl
   at_end (x ∷ xs) y ys = at_end xs y ys
+
+  pub pushed_at : (xs : List A) (x y : A) (n : ℕ) → slice_get (xs ++ x ∷ []) n ≡ Some y → (slice_get xs n ≡ Some y) ⊎ ((n ≡ length xs) × (x ≡ y))
+  pushed_at [] x y zero at = let same : x ≡ y = cc in inr (refl, same)
+  pushed_at [] x y (suc n) at = cc
+  pushed_at (z ∷ xs) x y zero at = inl at
+  pushed_at (z ∷ xs) x y (suc n) at = elim (pushed_at xs x y n at) [ inl found ↦ inl found | inr (is, same) ↦ inr (ap suc is, same) ]
 
   pub there : (xs : List A) (n : ℕ) → n < length xs → (x : A) × (slice_get xs n ≡ Some x)
   there [] n below = absurd (omega arith)

@@ -1,6 +1,7 @@
 -- What is kept once one more is visited.
-use Rattle.std.proofs.Common.{◌≡◌, refl, sym, ap, ◌∙◌, subst, ℕ, ◌+◌, ◌<◌, true, false, not, List, [], ◌∷◌, ◌++◌, append-nil, length, Option, Some, None, slice_get, arith}
+use Rattle.std.proofs.Common.{◌≡◌, refl, sym, ap, ◌∙◌, subst, ℕ, ◌+◌, ◌<◌, true, false, not, List, [], ◌∷◌, ◌++◌, append-nil, length, Option, Some, None, slice_get, arith, ◌⊎◌, inl, inr}
 use Rattle.std.specs.List.{flat_map}
+use Rattle.std.proofs.lemmas.Option.{slice_get_within}
 use Rattle.std.proofs.lemmas.List.Elements.{filter-append}
 use Rattle.std.proofs.lemmas.List.Concat.{flat_map-append}
 use Rattle.pz_levels.specs.declared.expansion.Standing.{Standing}
@@ -10,10 +11,10 @@ use Rattle.pz_levels.specs.declared.walk.Walk.{Walk}
 use Rattle.pz_levels.specs.Layouts.{Layout, layout, AreLinked}
 use Rattle.pz_levels.specs.Places.{Place, Spot, layout_at}
 use Rattle.pz_levels.specs.Wires.{Channel, joined_by, ending, wires_of}
-use Rattle.pz_levels.specs.Expanded.{EachOf, StandsAt, at_top, in_level, IsLevel, IsProcess, IsWire}
+use Rattle.pz_levels.specs.Expanded.{EachOf, StandsAt, at_top, in_level, IsLevel, IsProcess, IsWire, AreInwards}
 use Rattle.pz_levels.specs.devices.Tops.{top}
 use Rattle.pz_levels.specs.devices.Walking.{wire_at, wire_above, new_wires, own_wires, levels_among, processes_among, wires_among, IsKept, Enters, Meets}
-use Rattle.pz_levels.proofs.Each.{in_first, at_end, there, both, pushed, implied, partner}
+use Rattle.pz_levels.proofs.Each.{in_first, at_end, pushed_at, there, both, pushed, implied, partner}
 use Rattle.pz_levels.proofs.Wired.{top_by, top_by_port, Fits, ends, goes_on, new_are, Have, own_have}
 
 -- a level comes to the levels, and a process does not
@@ -32,6 +33,18 @@ processes_same visited s is = filter-append (λ t. not t.is_level) visited (s �
 pub stands_still : (ss more : List Spot) (o : Option Standing) (place : Place) → StandsAt ss o place → StandsAt (ss ++ more) o place
 stands_still ss more _ _ at_top = at_top
 stands_still ss more _ _ (in_level s up at) = in_level s up (in_first ss more s.level up at)
+
+-- a level comes behind those that it stands in
+inwards_more : (ls : List Level) (l : Level) → AreInwards ls → ((s : Standing) → l.standing ≡ Some s → s.level < length ls) → AreInwards (ls ++ l ∷ [])
+inwards_more ls l all within n k s at is = by_place (pushed_at ls l k n at)
+  where
+    by_place : (slice_get ls n ≡ Some k) ⊎ ((n ≡ length ls) × (l ≡ k)) → s.level < n
+    by_place (inl found) = all n k s found is
+    by_place (inr (last, same)) = rw last (within s (ap (λ (x : Level). x.standing) same ∙ is))
+
+stands_within : (ss : List Spot) (o : Option Standing) (place : Place) (s : Standing) → StandsAt ss o place → o ≡ Some s → s.level < length ss
+stands_within ss _ _ s at_top is = cc
+stands_within ss _ _ s (in_level t up at) is = let same : t ≡ s = cc in subst (λ (x : Standing). x.level < length ss) same (slice_get_within ss t.level up at)
 
 module _ (layouts : List Layout) (system : ℕ) where
   still_level : (ss more : List Spot) (cs later : List Channel) (l : Level) (s : Spot) → IsLevel layouts system ss cs l s → IsLevel layouts system (ss ++ more) (cs ++ later) l s
@@ -56,6 +69,7 @@ module _ (layouts : List Layout) (system : ℕ) where
         levels = rw (same, met.levels) kept.levels;
         processes = rw (same, more, met.processes) (pushed (IsProcess ss) old.processes (processes_among visited) (record { class = s.class; standing = standing }) s kept.processes (record { class = refl; stands = stands }));
         wires = rw (same, met.wires) kept.wires;
+        inwards = rw met.levels kept.inwards;
       }
 
   -- what is known of the wires outside fits
@@ -111,7 +125,7 @@ module _ (layouts : List Layout) (system : ℕ) where
       have = own_have layouts system above s.place cs (length old.wires) (sym kept.wires.counted) fit 0 outs
 
       wired : (k w : ℕ) → slice_get own k ≡ Some w → slice_get (cs ++ more) w ≡ Some (top layouts system s.place k)
-      wired k w at = by_port (there outs k (let below : k < length own = Rattle.std.proofs.lemmas.Option.slice_get_within own k w at in let counts : length own ≡ length outs = have.counted in omega arith))
+      wired k w at = by_port (there outs k (let below : k < length own = slice_get_within own k w at in let counts : length own ≡ length outs = have.counted in omega arith))
         where
           by_port : (port : Option ℕ) × (slice_get outs k ≡ Some port) → slice_get (cs ++ more) w ≡ Some (top layouts system s.place k)
           by_port (port, found) =
@@ -141,4 +155,5 @@ module _ (layouts : List Layout) (system : ℕ) where
                 (both (IsWire (ss ++ s ∷ [])) old.wires (new_wires above (length old.levels) 0 outs) cs more
                 (implied (IsWire ss) (IsWire (ss ++ s ∷ [])) old.wires cs (λ w c was. record { level = was.level; stands = in_first ss (s ∷ []) w.level was.level was.stands; place = was.place; number = was.number }) kept.wires)
                 (new_are layouts system above s.place (ss ++ s ∷ []) s (length old.levels) stands_there refl cs fit 0 outs));
+            inwards = rw entered.levels (inwards_more old.levels new_level kept.inwards (λ t is_there. rw kept.levels.counted (stands_within ss standing s.place t stands is_there)));
           }

@@ -1,6 +1,6 @@
 mod Linking
 mod OwnWires
-mod Each
+pub mod Each
 mod Left
 mod Wired
 mod Kept

@@ -12,16 +12,19 @@ use Rattle.pz_levels.specs.declared.walk.Open.{Open}
 use Rattle.pz_levels.specs.declared.walk.Walk.{Walk}
 use Rattle.pz_levels.specs.Layouts.{Layout, layout, AreLinked}
 use Rattle.pz_levels.specs.Places.{Spot, spot, the_system, with_inside, inside, spots, layout_at}
-use Rattle.pz_levels.specs.Expanded.{at_top, in_level, IsLevel, IsProcess, IsWire, IsExpansion}
+use Rattle.pz_levels.specs.Expanded.{at_top, in_level, IsLevel, IsProcess, IsWire, AreInwards, IsExpansion}
 use Rattle.pz_levels.specs.devices.Walking.{still_in, IsLeft, part_at, next_of, standing_of, after, opened, levels_among, processes_among, wires_among, IsKept, Enters, Meets, Visits, Steps, IsWalk, Goes}
 use Rattle.pz_levels.proofs.Each.{at_end, none, partner}
 use Rattle.pz_levels.proofs.Left.{next_first, none_next, First, first, one_more, grown, opens_inside}
 use Rattle.pz_levels.proofs.Kept.{levels_more, levels_same, meets, enters}
 
 module _ (layouts : List Layout) (system : ℕ) (linked : AreLinked layouts) where
+  none_inwards : AreInwards []
+  none_inwards n l s at is = cc
+
   -- nothing is kept at first
   nothing : (w : Walk) → w.levels ≡ [] → w.processes ≡ [] → w.wires ≡ [] → IsKept layouts system [] w
-  nothing w levels processes wires = record { levels = rw levels (none (IsLevel layouts system [] [])); processes = rw processes (none (IsProcess [])); wires = rw wires (none (IsWire [])) }
+  nothing w levels processes wires = record { levels = rw levels (none (IsLevel layouts system [] [])); processes = rw processes (none (IsProcess [])); wires = rw wires (none (IsWire [])); inwards = rw levels none_inwards }
 
   pub begun : (old new : Walk) (below : ℕ) → below ≡ length layouts - 1 → old.levels ≡ [] → old.processes ≡ [] → old.wires ≡ [] → old.path.items ≡ [] → Enters layouts system None below old.path.items old new → Goes layouts system new
   begun old new below size levels processes wires opens entered =
@@ -124,6 +127,7 @@ module _ (layouts : List Layout) (system : ℕ) (linked : AreLinked layouts) whe
     levels = rw levels kept.levels;
     processes = rw processes kept.processes;
     wires = rw wires kept.wires;
+    inwards = rw levels kept.inwards;
   }
     where
       no_rest : goes.rest ≡ []

@@ -1,5 +1,5 @@
 -- What is kept of an expanded system.
-use Rattle.std.specs.Prelude.{◌≡◌, ℕ, List, [], ◌∷◌, length, Option, None, Some, slice_get}
+use Rattle.std.specs.Prelude.{◌≡◌, ◌<◌, ℕ, List, [], ◌∷◌, length, Option, None, Some, slice_get}
 use Rattle.pz_levels.specs.declared.expansion.Standing.{Standing}
 use Rattle.pz_levels.specs.declared.expansion.Level.{Level}
 use Rattle.pz_levels.specs.declared.expansion.Process.{Process}
@@ -41,8 +41,13 @@ pub record IsWire (ss : List Spot) (w : Wire) (c : Channel) : Type 0 where
   pub place : c.place ≡ level.place
   pub number : w.channel ≡ c.number
 
+-- each level stands behind the one that it stands in
+abbrev pub AreInwards : List Level → Type 0
+AreInwards ls = (n : ℕ) (l : Level) (s : Standing) → slice_get ls n ≡ Some l → l.standing ≡ Some s → s.level < n
+
 -- these are the levels, the processes and the wires of the system, in order
 pub record IsExpansion (layouts : List Layout) (system : ℕ) (e : Expansion) : Type 0 where
   pub levels : EachOf (IsLevel layouts system (places.levels layouts system) (channels.wires layouts system)) e.levels (places.levels layouts system)
   pub processes : EachOf (IsProcess (places.levels layouts system)) e.processes (places.processes layouts system)
   pub wires : EachOf (IsWire (places.levels layouts system)) e.wires (channels.wires layouts system)
+  pub inwards : AreInwards e.levels

@@ -170,11 +170,7 @@ fn copy_branches(alloc: Global, branches: &[Items<Stmt>]) -> Result<Items<Items<
 {
     let mut copy = Items::new(alloc);
     for branch in branches {
-        let mut part = Items::new(alloc);
-        for stmt in branch.as_slice() {
-            part.push(copy_statement(alloc, stmt)?)?;
-        }
-        copy.push(part)?;
+        copy.push(copy_statements(alloc, branch.as_slice())?)?;
     }
     Ok(copy)
 }

@@ -15,7 +15,7 @@ use Rattle.pz_levels.specs.declared.walk.Walk.{Walk}
 use Rattle.pz_levels.specs.Layouts.{Layout, layout}
 use Rattle.pz_levels.specs.Places.{Spot, with_inside, each_part, inside, spots}
 use Rattle.pz_levels.specs.Wires.{Channel, wires_of}
-use Rattle.pz_levels.specs.Expanded.{EachOf, IsLevel, IsProcess, IsWire}
+use Rattle.pz_levels.specs.Expanded.{EachOf, IsLevel, IsProcess, IsWire, AreInwards}
 
 abbrev pub linked_in : Links → ℕ → ℕ → Option ℕ
 linked_in links part port = get_by (λ k. nat_eq part k.part && nat_eq port k.port) links.map
@@ -113,6 +113,7 @@ pub record IsKept (layouts : List Layout) (system : ℕ) (visited : List Spot) (
   pub levels : EachOf (IsLevel layouts system (levels_among visited) (wires_among layouts system visited)) w.levels (levels_among visited)
   pub processes : EachOf (IsProcess (levels_among visited)) w.processes (processes_among visited)
   pub wires : EachOf (IsWire (levels_among visited)) w.wires (wires_among layouts system visited)
+  pub inwards : AreInwards w.levels
 
 -- these are still to be visited
 pub record IsWalk (layouts : List Layout) (system : ℕ) (visited rest : List Spot) (w : Walk) : Type 0 where

@@ -13,7 +13,7 @@ loop-current-preserved c =
     let walk = c.loop-current.invariant.walk in
     let popped : Walk = record { levels = before.levels; processes = before.processes; wires = before.wires; path = c.pop.new.self } in
     stepped (layouts_of c.args.plans.now) c.args.system c.requires c.loop-current.invariant.visited c.loop-current.invariant.rest before popped c.step.new.self c.in-Some.current walk
-    (record { levels = walk.kept.levels; processes = walk.kept.processes; wires = walk.kept.wires }) c.in-Some.ensures.items c.in_ok-step.ensures
+    (record { levels = walk.kept.levels; processes = walk.kept.processes; wires = walk.kept.wires; inwards = walk.kept.inwards }) c.in-Some.ensures.items c.in_ok-step.ensures
 
 pub loop-current-smaller : goal.loop-current-smaller
 loop-current-smaller c =

@@ -1,6 +1,11 @@
-use Rattle.std.proofs.Common.{◌≡◌, map, ◌∙◌}
+use Rattle.std.proofs.Common.{◌≡◌, ap, map, ◌∙◌, Option, slice_get}
+use Rattle.std.specs.Option.{option_and_then}
 use Rattle.pz_classes.specs.declared.method_id.Counts.TheVariants.{Process}
+use Rattle.pz_classes.specs.declared.method_id.MethodId.{MethodId}
+use Rattle.pz_classes.specs.Methods.{Signature}
+use Rattle.pz_classes.specs.Bodies.{bodies}
 use Rattle.pz_classes.specs.Tables.{row_view, rows}
+use Rattle.pz_classes.proofs.MethodBodies.{body_is}
 use Rattle.pz_classes.proofs.RowLookups.{found_is}
 use Rattle.pz_classes.proofs.Belongs.{method_belongs}
 use Rattle.pz_classes.proofs.classes.Classes.process_method.Goals as goal
@@ -15,3 +20,10 @@ returns-clause-belongs c = λ m are.
     let listed : map row_view c.as_slice.result.now ≡ rows m = rw c.as_slice.ensures are.rows in
     method_belongs m c.args.self.now are (record { name = c.args.name.now; counts = Process c.args.inputs c.args.outputs }) c.args.class.0 c.find.result
     (c.find.ensures ∙ found_is m (map row_view c.as_slice.result.now) listed (record { name = c.args.name.now; counts = Process c.args.inputs c.args.outputs }) c.args.class.0)
+
+pub returns-clause-body : goal.returns-clause-body
+returns-clause-body c = λ m are.
+    let listed : map row_view c.as_slice.result.now ≡ rows m = rw c.as_slice.ensures are.rows in
+    let s : Signature = record { name = c.args.name.now; counts = Process c.args.inputs c.args.outputs } in
+    ap (λ (o : Option MethodId). option_and_then (λ (n : MethodId). slice_get (bodies m) n.0) o) (c.find.ensures ∙ found_is m (map row_view c.as_slice.result.now) listed s c.args.class.0)
+    ∙ body_is m s c.args.class.0
