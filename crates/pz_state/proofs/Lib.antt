@@ -1,5 +1,6 @@
 pub mod Reading
 pub mod FrameTables
+pub mod FrameCounts
 pub mod ObjectLists
 pub mod Journals
 pub mod SelfContained

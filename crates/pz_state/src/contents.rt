@@ -1,7 +1,7 @@
 //! What a state holds, and how it changes.
 
 ghost use Rattle.std.specs.Prelude.{◌≡◌, ◌≤◌, ◌<◌, ◌+◌, ◌++◌, length, take, reverse, get_or, IfOk, OnOk, OnErr};
-ghost use Rattle.pz_state.specs.States.{initial, variable, local, object, HasVariable, HasFrame, HasLocal, HasObject, HasItem, IsLeastFree, at_object, set_variable, set_local, set_item, resized, opened, closed, made};
+ghost use Rattle.pz_state.specs.States.{initial, variable, locals, local, object, HasVariable, HasFrame, HasLocal, HasObject, HasItem, IsLeastFree, at_object, set_variable, set_local, set_item, resized, opened, closed, made};
 ghost use Rattle.pz_state.specs.devices.StoredStates.{IsWider, KeepsRoom};
 ghost use Rattle.pz_state.specs.devices.Changes.{taken_back, without_last, IsReady, LeadsBack};
 
@@ -40,6 +40,20 @@ impl Contents {
             frames: FrameTable::new(alloc),
             objects: Vec::new(alloc),
         })
+    }
+
+    /// How many variables there are.
+    pub fn variables(&self) -> usize
+        ensures { result ≡ length self.now.state.vars }
+    {
+        self.vars.len()
+    }
+
+    /// How many locals the frame of this number has, none where no such frame is open.
+    pub fn locals(&self, frame: u64) -> usize
+        ensures { result ≡ length (locals self.now.state frame) }
+    {
+        self.frames.count(frame)
     }
 
     pub fn var(&self, slot: u32) -> &Value

@@ -66,6 +66,23 @@ impl FrameTable {
         }
     }
 
+    /// How many locals the frame of this number has, none where no such frame is open.
+    pub fn count(&self, number: u64) -> usize
+        ensures { result ≡ length (locals_of self.now.frames number) }
+    {
+        let last = self.table.len() as u64;
+        if number == 0 {
+            return 0;
+        }
+        if number > last {
+            return 0;
+        }
+        match &self.table[(number - 1) as usize] {
+            Some(locals) => locals.len(),
+            None => 0,
+        }
+    }
+
     /// Gives a local another value, and hands out the one before.
     pub fn replace(&mut self, number: u64, slot: usize, value: Value) -> Value
         requires { slot < length (locals_of self.old.frames number) }

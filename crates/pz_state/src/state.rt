@@ -1,7 +1,7 @@
 //! The state of a process.
 
 ghost use Rattle.std.specs.Prelude.{◌≡◌, ◌<◌, ◌≤◌, ◌↔◌, ◌^◌, [], length, All, Err, IfOk, OnOk, OnErr};
-ghost use Rattle.pz_state.specs.States.{initial, variable, local, object, HasVariable, HasFrame, HasLocal, HasObject, HasItem, IsLeastFree, set_variable, set_local, set_item, resized, opened, closed, made};
+ghost use Rattle.pz_state.specs.States.{initial, variable, locals, local, object, HasVariable, HasFrame, HasLocal, HasObject, HasItem, IsLeastFree, set_variable, set_local, set_item, resized, opened, closed, made};
 ghost use Rattle.pz_state.specs.References.{RefersWithin, IsSelfContained};
 ghost use Rattle.pz_state.specs.Marks.{IsLatest, changed, marked, undone, kept};
 
@@ -88,6 +88,20 @@ impl State {
             contents,
             journal: Journal::new(alloc),
         })
+    }
+
+    /// How many variables there are. Takes no memory.
+    pub fn variables(&self) -> usize
+        ensures { result ≡ length self.now.held.vars }
+    {
+        self.contents.variables()
+    }
+
+    /// How many locals the frame of this number has, none where no such frame is open. Takes no memory.
+    pub fn locals(&self, frame: FrameId) -> usize
+        ensures { result ≡ length (locals self.now.held frame.0) }
+    {
+        self.contents.locals(frame.0)
     }
 
     /// A variable. Takes no memory.

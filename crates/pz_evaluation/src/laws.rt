@@ -1,0 +1,33 @@
+// Laws of evaluation, each the contract of a function that does nothing.
+
+ghost use Rattle.pz_evaluation.specs.Laws.{EachHasAnOutcome, HasOneOutcome, MoreFindsTheSame, EachListHasAnOutcome, ListHasOneOutcome, MoreFindsTheSameList};
+
+/// Each evaluation has an outcome and a state afterwards.
+pub fn each_evaluation_has_an_outcome()
+    ensures law { EachHasAnOutcome }
+{}
+
+/// No evaluation has two outcomes, or two states afterwards.
+pub fn evaluation_has_one_outcome()
+    ensures law { HasOneOutcome }
+{}
+
+/// A greater allowance finds the same, unless the smaller one was spent.
+pub fn more_allowance_finds_the_same()
+    ensures law { MoreFindsTheSame }
+{}
+
+/// Each evaluation of a list has an outcome and a state afterwards.
+pub fn each_list_has_an_outcome()
+    ensures law { EachListHasAnOutcome }
+{}
+
+/// No evaluation of a list has two outcomes, or two states afterwards.
+pub fn list_has_one_outcome()
+    ensures law { ListHasOneOutcome }
+{}
+
+/// A greater allowance finds the same of a list, unless the smaller one was spent.
+pub fn more_allowance_finds_the_same_list()
+    ensures law { MoreFindsTheSameList }
+{}
