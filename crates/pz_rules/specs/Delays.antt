@@ -24,16 +24,16 @@ mutual
     stays : (f : ℕ) (s : Step) → is_timeless s ≡ true → Passes a d f (leaf s) (leaf s)
     begins : (f : ℕ) (at : Pos) (e : Code) (left : ℕ) → Lasts a f at e (Ok left) → Passes a d f (leaf (delay at e)) (wait (left - d) at)
     goes_on : (f left : ℕ) (at : Pos) → Passes a d f (wait left at) (wait (left - d) at)
-    sequence : (f : ℕ) (t x : Term) (rest : Steps) → Passes a d f t x → Passes a d f (sequence t rest) (sequence x rest)
-    parallel : (f : ℕ) (ts xs : Terms) → PassesAll a d f ts xs → Passes a d f (parallel ts) (parallel xs)
-    select : (f : ℕ) (ts xs : Terms) → PassesAll a d f ts xs → Passes a d f (select ts) (select xs)
-    guarded_true : (f : ℕ) (test : Code) (at : Pos) (t x : Term) → Tests a f at test (Ok true) → Passes a d f t x → Passes a d f (guarded test at t) (guarded test at x)
-    guarded_false : (f : ℕ) (test : Code) (at : Pos) (t : Term) → Tests a f at test (Ok false) → Passes a d f (guarded test at t) (guarded test at t)
-    frame : (f number inputs : ℕ) (results : List Slot) (t x : Term) → Passes a d number t x → Passes a d f (frame number inputs results t) (frame number inputs results x)
-    abort : (f : ℕ) (t x u y : Term) → Passes a d f t x → Passes a d f u y → Passes a d f (abort t u) (abort x y)
-    idle : (f : ℕ) (t x u y : Term) (again : Step) → Passes a d f t x → Passes a d f u y → Passes a d f (idle t u again) (idle x y again)
+    in_sequence : (f : ℕ) (t x : Term) (rest : Steps) → Passes a d f t x → Passes a d f (sequence t rest) (sequence x rest)
+    in_parallel : (f : ℕ) (ts xs : Terms) → PassesAll a d f ts xs → Passes a d f (parallel ts) (parallel xs)
+    in_select : (f : ℕ) (ts xs : Terms) → PassesAll a d f ts xs → Passes a d f (select ts) (select xs)
+    behind_true : (f : ℕ) (test : Code) (at : Pos) (t x : Term) → Tests a f at test (Ok true) → Passes a d f t x → Passes a d f (guarded test at t) (guarded test at x)
+    behind_false : (f : ℕ) (test : Code) (at : Pos) (t : Term) → Tests a f at test (Ok false) → Passes a d f (guarded test at t) (guarded test at t)
+    in_frame : (f number inputs : ℕ) (results : List Slot) (t x : Term) → Passes a d number t x → Passes a d f (frame number inputs results t) (frame number inputs results x)
+    in_abort : (f : ℕ) (t x u y : Term) → Passes a d f t x → Passes a d f u y → Passes a d f (abort t u) (abort x y)
+    in_idle : (f : ℕ) (t x u y : Term) (again : Step) → Passes a d f t x → Passes a d f u y → Passes a d f (idle t u again) (idle x y again)
     -- what is interrupted stands still
-    handling : (f : ℕ) (t u y : Term) (again : Step) → Passes a d f u y → Passes a d f (handling t u again) (handling t y again)
+    in_handling : (f : ℕ) (t u y : Term) (again : Step) → Passes a d f u y → Passes a d f (handling t u again) (handling t y again)
 
   pub data PassesAll (a : At) (d : ℕ) : ℕ → Terms → Terms → Type 0 where
     none : (f : ℕ) → PassesAll a d f no_terms no_terms

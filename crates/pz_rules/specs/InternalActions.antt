@@ -40,7 +40,7 @@ chosen s ts other b = record { term = if b then opened_all ts else opened_part o
 
 -- the body, and then the same loop
 abbrev pub turned : StateView → Step → Steps → Bool → Process
-turned s loop ts b = record { term = if b then sequence (opened_all ts) (then loop no_statements) else done; state = s }
+turned s loop ts b = record { term = if b then sequence (opened_all ts) ((then) loop no_statements) else done; state = s }
 
 -- a further frame, whose first locals have these values and whose others are nil, round the body
 abbrev pub entered : StateView → ℕ → ℕ → List Slot → Steps → List Value → Process
