@@ -1,5 +1,5 @@
 -- Where a model stands: the clock, and each process in the order of the text.
-use Rattle.std.specs.Prelude.{◌≡◌, ℕ, List, Some, slice_get}
+use Rattle.std.specs.Prelude.{◌≡◌, ℕ, List, length, Some, slice_get}
 use Rattle.pz_levels.specs.Places.{Place}
 use Rattle.pz_bind.specs.Nest.{processes, class_at}
 use Rattle.pz_rules.specs.Settings.{Setting, Process, At}
@@ -14,3 +14,7 @@ pub record Stands (setting : Setting) (c : Config) (i : ℕ) (p : Process) (a : 
   pub is_process : slice_get (processes setting.model) i ≡ Some place
   pub is_here : slice_get c.processes i ≡ Some p
   pub seen : a ≡ record { setting = setting; process = i; class = class_at setting.model place; clock = c.clock; state = p.state }
+
+-- as many processes stand here as the model has
+abbrev pub IsWhole : Setting → Config → Type 0
+IsWhole setting c = length c.processes ≡ length (processes setting.model)

@@ -49,20 +49,21 @@ entered s number locals results body inputs = record {
   state = set_slots number (first_slots 0 inputs) inputs (with_frame s number locals);
 }
 
--- What the acting part becomes, and the state afterwards; or the trouble of its evaluation.
-pub data Performs (a : At) (f : ℕ) : Term → Result Process Trouble → Type 0 where
-  skips : (at : Pos) → Performs a f (leaf (skip at)) (Ok (done_in a.state))
+-- What the acting part becomes, and the state afterwards; or the trouble of its evaluation. Each action
+-- has the place of its statement.
+pub data Performs (a : At) (f : ℕ) : Term → Pos → Result Process Trouble → Type 0 where
+  skips : (at : Pos) → Performs a f (leaf (skip at)) at (Ok (done_in a.state))
   evaluates : (at : Pos) (e : Code) (r : Result Value Trouble) (s : StateView) → Gives a f at e r s
-      → Performs a f (leaf (value at e)) (and_then r (λ _. Ok (done_in s)))
+      → Performs a f (leaf (value at e)) at (and_then r (λ _. Ok (done_in s)))
   evaluates_block : (at : Pos) (es : Codes) (r : Result (List Value) Trouble) (s : StateView) → GivesAll a f at es r s
-      → Performs a f (leaf (block at es)) (and_then r (λ _. Ok (done_in s)))
+      → Performs a f (leaf (block at es)) at (and_then r (λ _. Ok (done_in s)))
   tests : (at : Pos) (e : Code) (ts : Steps) (other : StatementPart Slot ClassId ℕ) (r : Result Value Trouble) (s : StateView) → Gives a f at e r s
-      → Performs a f (leaf (conditional at e ts other)) (and_then r (λ v. and_then (truth a.process at v) (λ b. Ok (chosen s ts other b))))
+      → Performs a f (leaf (conditional at e ts other)) at (and_then r (λ v. and_then (truth a.process at v) (λ b. Ok (chosen s ts other b))))
   repeats : (at : Pos) (e : Code) (ts : Steps) (r : Result Value Trouble) (s : StateView) → Gives a f at e r s
-      → Performs a f (leaf (repeated at e ts)) (and_then r (λ v. and_then (truth a.process at v) (λ b. Ok (turned s (repeated at e ts) ts b))))
+      → Performs a f (leaf (repeated at e ts)) at (and_then r (λ v. and_then (truth a.process at v) (λ b. Ok (turned s (repeated at e ts) ts b))))
   -- the evaluation of a delay leaves nothing
-  elapses : (at : Pos) (e : Code) → Performs a f (leaf (delay at e)) (Ok (done_in a.state))
-  expires : (left : ℕ) (at : Pos) → Performs a f (wait left at) (Ok (done_in a.state))
+  elapses : (at : Pos) (e : Code) → Performs a f (leaf (delay at e)) at (Ok (done_in a.state))
+  expires : (left : ℕ) (at : Pos) → Performs a f (wait left at) at (Ok (done_in a.state))
   calls : (at : Pos) (method : Id) (args : Codes) (results : List Slot) (r : Result (List Value) Trouble) (s : StateView) (locals number : ℕ) (body : Steps)
       → GivesAll a f at args r s → IsMethod a.setting.model a.class method.name (count_of args) (length results) locals body → IsLeastFree s.frames number
-      → Performs a f (leaf (call at method args results)) (and_then r (λ vs. Ok (entered s number locals results body vs)))
+      → Performs a f (leaf (call at method args results)) at (and_then r (λ vs. Ok (entered s number locals results body vs)))

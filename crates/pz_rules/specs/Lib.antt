@@ -1,3 +1,4 @@
+pub mod devices
 pub mod Terms
 pub mod Opening
 pub mod Settings
@@ -19,4 +20,5 @@ pub mod Moments
 pub mod Runs
 pub mod ChosenRuns
 pub mod Starting
+pub mod Laws
 pub mod View

@@ -49,20 +49,20 @@ pub data Judges (a : At) (f : ℕ) (parcel : ParcelView) : Term → Result Bool 
       → Judges a f parcel (leaf (receive at port name into None block)) (Ok true)
   asks : (at : Pos) (port : ℕ) (name : Id) (into : Option (List Slot)) (condition : Code) (block : Part Slot ClassId) (r : Result Bool Trouble)
       → Fits a parcel → Tests (in_state a (bound a f into parcel)) f at condition r → Judges a f parcel (leaf (receive at port name into (Some condition) block)) r
-  full : (at : Pos) (port : ℕ) (name : Id) (into : Option (List Slot)) (condition : Code) (block : Part Slot ClassId)
+  unfit : (at : Pos) (port : ℕ) (name : Id) (into : Option (List Slot)) (condition : Code) (block : Part Slot ClassId)
       → ¬ Fits a parcel → Judges a f parcel (leaf (receive at port name into (Some condition) block)) (fault StoreFull a.process at)
 
--- what a send leaves of the part, with its parcel: the arguments are evaluated and packed, then the
--- block is evaluated
-pub data Hands (a : At) (f : ℕ) : Term → ParcelView → Result Process Trouble → Type 0 where
-  hands : (at : Pos) (port : ℕ) (name : Id) (args block : Part Slot ClassId) (values : List Value) (s : StateView) (parcel : ParcelView) (r : Result (List Value) Trouble) (left : StateView)
+-- What a send leaves of the part, with its parcel and the place of its statement: the arguments are
+-- evaluated and packed, then the block is evaluated.
+pub data Hands (a : At) (f : ℕ) (parcel : ParcelView) : Term → Pos → Result Process Trouble → Type 0 where
+  hands : (at : Pos) (port : ℕ) (name : Id) (args block : Part Slot ClassId) (values : List Value) (s : StateView) (r : Result (List Value) Trouble) (left : StateView)
       → GivesPart a f at args (Ok values) s → IsParcelOf s values parcel → GivesPart (in_state a s) f at block r left
-      → Hands a f (leaf (send at port name args block)) parcel (and_then r (λ _. Ok (done_in left)))
+      → Hands a f parcel (leaf (send at port name args block)) at (and_then r (λ _. Ok (done_in left)))
 
--- what a receive leaves of the part: the parcel is unpacked and bound, then the block is evaluated
-pub data Takes (a : At) (f : ℕ) (parcel : ParcelView) : Term → Result Process Trouble → Type 0 where
+-- What a receive leaves of the part: the parcel is unpacked and bound, then the block is evaluated.
+pub data Takes (a : At) (f : ℕ) (parcel : ParcelView) : Term → Pos → Result Process Trouble → Type 0 where
   takes : (at : Pos) (port : ℕ) (name : Id) (into : Option (List Slot)) (condition : Option Code) (block : Part Slot ClassId) (r : Result (List Value) Trouble) (left : StateView)
       → Fits a parcel → GivesPart (in_state a (bound a f into parcel)) f at block r left
-      → Takes a f parcel (leaf (receive at port name into condition block)) (and_then r (λ _. Ok (done_in left)))
+      → Takes a f parcel (leaf (receive at port name into condition block)) at (and_then r (λ _. Ok (done_in left)))
   full : (at : Pos) (port : ℕ) (name : Id) (into : Option (List Slot)) (condition : Option Code) (block : Part Slot ClassId)
-      → ¬ Fits a parcel → Takes a f parcel (leaf (receive at port name into condition block)) (fault StoreFull a.process at)
+      → ¬ Fits a parcel → Takes a f parcel (leaf (receive at port name into condition block)) at (fault StoreFull a.process at)

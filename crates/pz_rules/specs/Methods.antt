@@ -7,7 +7,7 @@ use Rattle.pz_classes.specs.Bodies.{bodies, process_body}
 use Rattle.pz_rules.specs.Terms.{Steps}
 
 -- that of the nearest ancestor that has a method of this name with so many inputs and outputs; it has
--- so many inputs, outputs and locals
+-- so many locals, the inputs and outputs among them
 pub record IsMethod (m : ModelTree) (class : ℕ) (name : List ℕ) (inputs outputs locals : ℕ) (body : Steps) : Type 0 where
   pub number : MethodId
   pub nearest : process_method m class name inputs outputs ≡ Some number

@@ -10,27 +10,19 @@ use Rattle.pz_rules.specs.declared.action.Action.TheVariants.{Internal, Comm}
 use Rattle.pz_rules.specs.Terms.{Term}
 use Rattle.pz_rules.specs.Settings.{Setting, Process, At}
 use Rattle.pz_rules.specs.Active.{IsActive}
-use Rattle.pz_rules.specs.InternalActions.{Can, Performs}
+use Rattle.pz_rules.specs.InternalActions.{Performs}
 use Rattle.pz_rules.specs.Leaving.{settled}
-use Rattle.pz_rules.specs.Messages.{Sends, Receives, Hands, Takes}
+use Rattle.pz_rules.specs.Messages.{Hands, Takes}
 use Rattle.pz_rules.specs.Meanings.{and_then}
 use Rattle.pz_rules.specs.Delays.{Passes}
 use Rattle.pz_rules.specs.Configurations.{Config, Stands}
 
--- what an internal action at this end leaves of its process
-pub record Acts (setting : Setting) (c : Config) (at : End) (pos : Pos) (result : Result Process Trouble) : Type 0 where
-  pub process : Process
-  pub seen : At
-  pub stands : Stands setting c at.process process seen
-  pub frame : ℕ
-  pub part : Term
-  pub active : IsActive seen process.term at.place frame part
-  pub left : Result Process Trouble
-  pub performs : Performs seen frame part left
-  pub leaves : result ≡ and_then left (settled seen pos process.term at.place)
+-- what parts of some kind leave of themselves, in a frame, with the place of their statement
+abbrev pub Deed : Type 1
+Deed = At → ℕ → Term → Pos → Result Process Trouble → Type 0
 
--- what a communication leaves of its sender
-pub record SenderActs (setting : Setting) (c : Config) (at : End) (parcel : ParcelView) (result : Result Process Trouble) : Type 0 where
+-- what the part at this end leaves of its process by a deed
+pub record Acts (setting : Setting) (c : Config) (does : Deed) (at : End) (result : Result Process Trouble) : Type 0 where
   pub process : Process
   pub seen : At
   pub stands : Stands setting c at.process process seen
@@ -38,27 +30,8 @@ pub record SenderActs (setting : Setting) (c : Config) (at : End) (parcel : Parc
   pub part : Term
   pub active : IsActive seen process.term at.place frame part
   pub pos : Pos
-  pub port : ℕ
-  pub message : List ℕ
-  pub sends : Sends seen frame part pos port message parcel
   pub left : Result Process Trouble
-  pub hands : Hands seen frame part parcel left
-  pub leaves : result ≡ and_then left (settled seen pos process.term at.place)
-
--- what a communication leaves of its receiver
-pub record ReceiverActs (setting : Setting) (c : Config) (at : End) (parcel : ParcelView) (result : Result Process Trouble) : Type 0 where
-  pub process : Process
-  pub seen : At
-  pub stands : Stands setting c at.process process seen
-  pub frame : ℕ
-  pub part : Term
-  pub active : IsActive seen process.term at.place frame part
-  pub pos : Pos
-  pub port : ℕ
-  pub message : List ℕ
-  pub receives : Receives part pos port message (length parcel.values)
-  pub left : Result Process Trouble
-  pub takes : Takes seen frame parcel part left
+  pub acts : does seen frame part pos left
   pub leaves : result ≡ and_then left (settled seen pos process.term at.place)
 
 -- process i has become this, the others and the clock stay
@@ -71,9 +44,9 @@ with_both c sender receiver p q = with_process (with_process c sender.process p)
 -- the next configuration; or a trouble, that of a sender before any of the receiver
 pub data Next (setting : Setting) (c : Config) : Action → Result Config Trouble → Type 0 where
   internal : (at : End) (kind : Kind) (pos : Pos) (result : Result Process Trouble)
-      → Acts setting c at pos result → Next setting c (Internal at kind pos) (and_then result (λ p. Ok (with_process c at.process p)))
+      → Acts setting c Performs at result → Next setting c (Internal at kind pos) (and_then result (λ p. Ok (with_process c at.process p)))
   communication : (number : ℕ) (sender receiver : End) (message : List ℕ) (parcel : ParcelView) (sent taken : Result Process Trouble)
-      → SenderActs setting c sender parcel sent → ReceiverActs setting c receiver parcel taken
+      → Acts setting c (λ a f. Hands a f parcel) sender sent → Acts setting c (λ a f. Takes a f parcel) receiver taken
       → Next setting c (Comm number sender receiver message parcel) (and_then sent (λ p. and_then taken (λ q. Ok (with_both c sender receiver p q))))
 
 -- time d has passed, for all processes alike; what is active is decided before

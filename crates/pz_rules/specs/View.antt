@@ -1,5 +1,9 @@
 -- What the code's terms stand for.
-use Rattle.std.specs.Prelude.{List, [], ◌∷◌, map}
+use Rattle.std.specs.Prelude.{ℕ, List, [], ◌∷◌, map}
+use Rattle.pz_syntax.specs.Statements.{Branches}
+use Rattle.pz_value.specs.declared.value.ClassId.{ClassId}
+use Rattle.pz_code.specs.declared.slot.Slot.{Slot}
+use Rattle.pz_code.specs.declared.step.Step.{Step}
 use Rattle.pz_code.specs.CodeView as code
 use Rattle.pz_code.specs.StepView as step
 use Rattle.pz_rules.specs.declared.term.Term.{Term, fold-Term}
@@ -28,3 +32,7 @@ term_view = fold-Term terms.Term term_step
 
 abbrev pub terms_view : List Term → terms.Terms
 terms_view ts = terms_of (map term_view ts)
+
+-- the alternatives of a `par` or a `sel`
+abbrev pub branches_view : List (List Step) → Branches Slot ClassId ℕ
+branches_view bs = step.branches_of (map (map step.view) bs)

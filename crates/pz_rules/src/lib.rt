@@ -3,6 +3,7 @@
 #![tactic(auto)]
 
 mod action;
+mod laws;
 mod limits;
 mod moment;
 mod opening;
@@ -10,6 +11,7 @@ mod rest;
 mod term;
 
 pub use action::{Action, Kind};
+pub use laws::{one_chosen_run, one_list_of_offers, one_moment, one_next};
 pub use limits::Limits;
 pub use moment::Moment;
 pub use opening::{open_rest, open_step, open_term};

@@ -1,15 +1,14 @@
 // How statements become terms, without an action.
 
 ghost use Rattle.std.specs.Prelude.{◌≡◌, IfOk};
-ghost use Rattle.pz_code.specs.StepView.{view, sequence_view, branches_view};
+ghost use Rattle.pz_code.specs.StepView.{view, sequence_view};
 ghost use Rattle.pz_rules.specs.Opening.{opened, opened_all, opened_branches};
-ghost use Rattle.pz_rules.specs.View.{term_view, terms_view};
+ghost use Rattle.pz_rules.specs.View.{term_view, terms_view, branches_view};
 
 use crate::{Rest, Term};
 use pz_bodies::{copy_code, copy_step};
-use pz_code::{Code, Step, StepForm};
+use pz_code::{Step, StepForm};
 use pz_items::{Boxed, Items};
-use pz_syntax::Pos;
 use std::alloc::{AllocError, Global};
 
 /// The term of a statement. The only error is want of memory.

@@ -1,4 +1,4 @@
-ghost use Rattle.std.specs.Prelude.{◌≡◌, [], length, IfOk, MatchOption, ◌==◌};
+ghost use Rattle.std.specs.Prelude.{◌≡◌, [], ◌∷◌, length, IfOk, MatchOption, ◌==◌};
 
 use pz_bodies::copy_step;
 use pz_code::Step;

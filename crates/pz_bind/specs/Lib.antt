@@ -1,0 +1,5 @@
+pub mod Nest
+pub mod Names
+pub mod Values
+pub mod Connections
+pub mod Wires

@@ -1,0 +1,2 @@
+//! The processes of a checked model's system, and the wires between them.
+#![tactic(auto)]

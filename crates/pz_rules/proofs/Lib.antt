@@ -1,0 +1,15 @@
+mod Lists
+mod Openings
+mod Found
+mod Walked
+mod Locals
+mod Noted
+mod Once
+mod Orders
+mod Nexts
+mod Parcels
+mod OneMoment
+mod Passings
+mod Elapsed
+mod Chosen
+mod Finite
