@@ -104,6 +104,12 @@ pub record Sorted {X : Type 0} (R : X → X → Type 0) (P : X → Type 0) : Typ
   pub sound : All P list
   pub every : (x : X) → P x → Contains list x
 
+-- one before all others
+pub record Least {X : Type 0} (R : X → X → Type 0) (P : X → Type 0) : Type 0 where
+  pub one : X
+  pub is_one : P one
+  pub first : (x : X) → P x → (x ≡ one) ⊎ R one x
+
 module _ {X : Type 0} (R : X → X → Type 0) (P : X → Type 0) (transitive : (x y z : X) → R x y → R y z → R x z) (three : (x y : X) → P x → P y → Either R x y) where
   -- a list with one more
   record With (a : X) (xs : List X) : Type 0 where
@@ -205,16 +211,10 @@ module _ {X : Type 0} (R : X → X → Type 0) (P : X → Type 0) (transitive : 
   pub sorted : Finite P → Sorted R P
   sorted f = let r = in_order f.list f.sound in record { list = r.list; ordered = r.ordered; sound = r.sound; every = λ x p. r.has x (f.every x p) }
 
-  -- the least, if there is one
-  pub record Least : Type 0 where
-    pub one : X
-    pub is_one : P one
-    pub first : (x : X) → P x → (x ≡ one) ⊎ R one x
-
-  pub least : Finite P → Least ⊎ ((x : X) → P x → ⊥)
+  pub least : Finite P → Least R P ⊎ ((x : X) → P x → ⊥)
   least f = by (sorted f).list (sorted f).ordered (sorted f).sound (sorted f).every
     where
-      by : (xs : List X) → AllPairs R xs → All P xs → ((x : X) → P x → Contains xs x) → Least ⊎ ((x : X) → P x → ⊥)
+      by : (xs : List X) → AllPairs R xs → All P xs → ((x : X) → P x → Contains xs x) → Least R P ⊎ ((x : X) → P x → ⊥)
       by [] ordered all every = inr (λ x p. absurd (omega (arith, (every x p).1)))
       by (y ∷ ys) ordered all every = inl (record { one = y; is_one = all 0 y (omega arith); first = λ x p. of_both x (Contains-cases y ys x (every x p)) })
         where

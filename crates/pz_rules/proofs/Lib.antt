@@ -13,3 +13,8 @@ mod Passings
 mod Elapsed
 mod Chosen
 mod Finite
+mod Derived
+mod Moments
+mod Waiting
+mod WalksAre
+mod Rows

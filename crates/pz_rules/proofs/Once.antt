@@ -243,7 +243,7 @@ module _ (a : At) (f : ℕ) where
   Judged parcel (leaf s) q = StepJudged parcel s q
   Judged parcel t q = ⊥
 
-  judged : (parcel : ParcelView) (t : Term) (q : Result Bool Trouble) → Judges a f parcel t q → Judged parcel t q
+  pub judged : (parcel : ParcelView) (t : Term) (q : Result Bool Trouble) → Judges a f parcel t q → Judged parcel t q
   judged parcel _ _ (messages.free at port name into after) = refl
   judged parcel _ _ (messages.asks at port name into condition after r fits tests) = inl (fits, tests_only (in_state a (bound a f into parcel)) f at condition r tests)
   judged parcel _ _ (messages.unfit at port name into condition after not_fits) = inr (not_fits, refl)

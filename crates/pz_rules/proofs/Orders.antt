@@ -47,7 +47,7 @@ module _ {A B : Type 0} (R : A → A → Type 0) (S : B → B → Type 0)
   both_transitive a b c x y z (inr (e, h)) (inl k) = inl (subst (λ (w : A). R w c) (sym e) k)
   both_transitive a b c x y z (inr (e, h)) (inr (f, k)) = inr (e ∙ f, s_transitive x y z h k)
 
-number_transitive : (a b c : ℕ) → a < b → b < c → a < c
+pub number_transitive : (a b c : ℕ) → a < b → b < c → a < c
 number_transitive a b c h k = omega (arith, h, k)
 
 -- of two ends, by the first and then the second
@@ -69,7 +69,7 @@ irreflexive : (a : Action) → Before a a → ⊥
 irreflexive (Internal at kind pos) h = end_irreflexive at h
 irreflexive (Comm w s r message parcel) h = pair_irreflexive w s r h
 
-transitive : (a b c : Action) → Before a b → Before b c → Before a c
+pub transitive : (a b c : Action) → Before a b → Before b c → Before a c
 transitive (Internal x k p) (Internal y l q) (Internal z m r) h i = end_transitive x y z h i
 transitive (Internal x k p) (Internal y l q) (Comm w s r message parcel) h i = tt
 transitive (Internal x k p) (Comm w s r message parcel) (Internal z m q) h i = absurd i
@@ -132,10 +132,10 @@ end_order a b =
     seen_as (First (λ (m n : ℕ). m < n) PlaceBefore) EndBefore (λ (x : ℕ × Place). let e : End = record { process = x.0; place = x.1 } in e) (a.process, a.place) (b.process, b.place) (λ x y h. h)
     (both_order (λ (m n : ℕ). m < n) PlaceBefore a.process b.process a.place b.place (number_order a.process b.process) (place_order a.place b.place))
 
-abbrev ThreeBefore : ℕ × (End × End) → ℕ × (End × End) → Type 0
+abbrev pub ThreeBefore : ℕ × (End × End) → ℕ × (End × End) → Type 0
 ThreeBefore x y = PairBefore x.0 x.1.0 x.1.1 y.0 y.1.0 y.1.1
 
-three_order : (w : ℕ) (s r : End) (w' : ℕ) (s' r' : End) → Either ThreeBefore (w, (s, r)) (w', (s', r'))
+pub three_order : (w : ℕ) (s r : End) (w' : ℕ) (s' r' : End) → Either ThreeBefore (w, (s, r)) (w', (s', r'))
 three_order w s r w' s' r' =
     both_order (λ (a b : ℕ). a < b) (First EndBefore EndBefore) w w' (s, r) (s', r') (number_order w w')
     (both_order EndBefore EndBefore s s' r r' (end_order s s') (end_order r r'))
@@ -146,3 +146,12 @@ source_order (part a) (pair w s r) = inl tt
 source_order (pair w s r) (part b) = inr (inr tt)
 source_order (pair w s r) (pair w' s' r') =
     seen_as ThreeBefore SourceBefore (λ (x : ℕ × (End × End)). pair x.0 x.1.0 x.1.1) (w, (s, r)) (w', (s', r')) (λ x y h. h) (three_order w s r w' s' r')
+
+pub source_transitive : (x y z : Source) → SourceBefore x y → SourceBefore y z → SourceBefore x z
+source_transitive (part a) (part b) (part d) h k = end_transitive a b d h k
+source_transitive (part a) (part b) (pair w s r) h k = tt
+source_transitive (part a) (pair w s r) (part d) h k = absurd k
+source_transitive (part a) (pair w s r) (pair w' s' r') h k = tt
+source_transitive (pair w s r) (part b) z h k = absurd h
+source_transitive (pair w s r) (pair w' s' r') (part d) h k = absurd k
+source_transitive (pair w s r) (pair w' s' r') (pair w'' s'' r'') h k = pair_transitive w w' w'' s s' s'' r r' r'' h k

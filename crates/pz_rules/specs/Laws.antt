@@ -1,13 +1,19 @@
 -- Laws of execution.
-use Rattle.std.specs.Prelude.{◌≡◌, ℕ, List, Result, Ok}
+use Rattle.std.specs.Prelude.{◌≡◌, ◌≤◌, ℕ, List, [], ◌∷◌, Some, Result, Ok, slice_get}
+use Rattle.pz_syntax.specs.declared.tokens.Pos.{Pos}
+use Rattle.pz_offer.specs.declared.end.End.{End}
+use Rattle.pz_offer.specs.PlaceOrder.{Place}
 use Rattle.pz_offer.specs.declared.trouble.Trouble.{Trouble}
 use Rattle.pz_rules.specs.declared.action.Action.{Action}
 use Rattle.pz_rules.specs.declared.moment.Moment.{Moment}
-use Rattle.pz_rules.specs.Settings.{Setting}
+use Rattle.pz_rules.specs.declared.moment.Moment.TheVariants.{Time}
+use Rattle.pz_rules.specs.Terms.{Term, wait, child}
+use Rattle.pz_rules.specs.Settings.{Setting, Process}
+use Rattle.pz_rules.specs.Ports.{HasWires}
 use Rattle.pz_rules.specs.Configurations.{Config, IsWhole}
-use Rattle.pz_rules.specs.Offers.{IsOffers}
+use Rattle.pz_rules.specs.Offers.{Offers, IsOffers}
 use Rattle.pz_rules.specs.Steps.{Next, PassesTo}
-use Rattle.pz_rules.specs.Moments.{IsMoment}
+use Rattle.pz_rules.specs.Moments.{IsLeast, IsMoment}
 use Rattle.pz_rules.specs.Runs.{Event, Standing, whole, Reaches, Ending, ended, deadlocked, troubled, halted, refused, Ends}
 use Rattle.pz_rules.specs.ChosenRuns.{Policy, IsChosenRun}
 
@@ -15,9 +21,49 @@ use Rattle.pz_rules.specs.ChosenRuns.{Policy, IsChosenRun}
 abbrev pub OneListOfOffers : Type 0
 OneListOfOffers = (setting : Setting) (c : Config) (xs ys : List Action) → IsOffers setting c xs → IsOffers setting c ys → xs ≡ ys
 
--- and no more than one moment
+-- and has one, where the wires of the model are known
+abbrev pub EveryListOfOffers : Type 0
+EveryListOfOffers = (setting : Setting) (c : Config) → HasWires setting.model → (xs : List Action) × IsOffers setting c xs
+
+-- a configuration has no more than one moment
 abbrev pub OneMoment : Type 0
 OneMoment = (setting : Setting) (c : Config) (m n : Moment) → IsMoment setting c m → IsMoment setting c n → m ≡ n
+
+-- and has one
+abbrev pub EveryMoment : Type 0
+EveryMoment = (setting : Setting) (c : Config) → HasWires setting.model → (m : Moment) × IsMoment setting c m
+
+-- time never passes while an action is possible
+abbrev pub TimeWaits : Type 0
+TimeWaits = (setting : Setting) (c : Config) (d : ℕ) (a : Action) → HasWires setting.model → IsMoment setting c (Time d) → Offers setting c a → ⊥
+
+-- a passing is by the least that is left of an active delay
+abbrev pub LeastPasses : Type 0
+LeastPasses = (setting : Setting) (c : Config) (d : ℕ) → IsMoment setting c (Time d) → IsLeast setting c d
+
+-- and by one unit or more
+abbrev pub TimeIsPositive : Type 0
+TimeIsPositive = (setting : Setting) (c : Config) (d : ℕ) → HasWires setting.model → IsMoment setting c (Time d) → 1 ≤ d
+
+-- where time passes, there is a configuration afterwards
+abbrev pub EveryPassing : Type 0
+EveryPassing = (setting : Setting) (c : Config) (d : ℕ) → HasWires setting.model → IsMoment setting c (Time d) → (next : Config) × PassesTo setting c d next
+
+-- the part at a place
+abbrev pub part_of : Term → Place → Term
+part_of t [] = t
+part_of t (i ∷ place) = part_of (child t i) place
+
+-- the passing of time leaves a delay of which nothing is left
+pub record HasElapsed (c : Config) : Type 0 where
+  pub process : Process
+  pub at : End
+  pub stands : slice_get c.processes at.process ≡ Some process
+  pub pos : Pos
+  pub elapsed : part_of process.term at.place ≡ wait 0 pos
+
+abbrev pub BringsToZero : Type 0
+BringsToZero = (setting : Setting) (c next : Config) (d : ℕ) → IsMoment setting c (Time d) → PassesTo setting c d next → HasElapsed next
 
 -- an action leads to one configuration, or to one trouble
 abbrev pub OneNext : Type 0

@@ -11,7 +11,10 @@ mod rest;
 mod term;
 
 pub use action::{Action, Kind};
-pub use laws::{one_chosen_run, one_list_of_offers, one_moment, one_next};
+pub use laws::{
+    least_passes, one_chosen_run, one_list_of_offers, one_moment, one_next, time_waits,
+    walks_list_what_is_active,
+};
 pub use limits::Limits;
 pub use moment::Moment;
 pub use opening::{open_rest, open_step, open_term};
