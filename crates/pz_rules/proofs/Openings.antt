@@ -1,0 +1,48 @@
+-- How statements in a sequence open, and alternatives one by one.
+use Rattle.std.proofs.Common.{◌≡◌, ℕ, ◌<◌, ◌+◌, true, false, List, [], ◌∷◌, ◌++◌, take, length, get_or, refl, sym, ap, ◌∙◌}
+use Rattle.std.specs.Prelude.{◌==◌}
+use Rattle.std.proofs.lemmas.List.{take_more}
+use Rattle.pz_code.specs.declared.step.Step.{Step}
+use Rattle.pz_code.specs.StepView as step
+use Rattle.pz_rules.specs.declared.term.Term.{Term, fold-roll-Term}
+use Rattle.pz_rules.specs.declared.term.Term.TheOpen.{Term-F}
+use Rattle.pz_rules.specs.declared.term.Term.TheVariants.{Seq, rolls-Seq}
+use Rattle.pz_rules.specs.Terms as terms
+use Rattle.pz_rules.specs.Terms.{Terms, no_terms, and}
+use Rattle.pz_rules.specs.Opening.{opened, opened_all, opened_branches}
+use Rattle.pz_rules.specs.View.{term_view, term_step, terms_view, branches_view}
+
+pub term_seq : (t : Term) (rest : List Step) → term_view (Seq t rest) ≡ terms.sequence (term_view t) (step.sequence_view rest)
+term_seq t rest = ap term_view (sym (rolls-Seq t rest)) ∙ fold-roll-Term terms.Term term_step (Term-F.Seq t rest)
+
+-- the first statement stands open before the others
+pub open_before : (first : Step) (rest : List Step) → (length rest == 0) ≡ false → opened_all (step.sequence_view (first ∷ rest)) ≡ terms.sequence (opened (step.view first)) (step.sequence_view rest)
+open_before first [] some = absurd (differ some)
+  where
+    differ : true ≡ false → ⊥
+    differ e = cc
+open_before first (next ∷ rest) some = refl
+
+-- a further one at the end
+abbrev with_last : Terms → terms.Term → Terms
+with_last no_terms x = and x no_terms
+with_last (and t ts) x = and t (with_last ts x)
+
+terms_push : (ts : List Term) (t : Term) → terms_view (ts ++ t ∷ []) ≡ with_last (terms_view ts) (term_view t)
+terms_push [] t = refl
+terms_push (u ∷ ts) t = ap (and (term_view u)) (terms_push ts t)
+
+branches_push : (bs : List (List Step)) (b : List Step) → opened_branches (branches_view (bs ++ b ∷ [])) ≡ with_last (opened_branches (branches_view bs)) (opened_all (step.sequence_view b))
+branches_push [] b = refl
+branches_push (c ∷ bs) b = ap (and (opened_all (step.sequence_view c))) (branches_push bs b)
+
+pub branch_opened : (ts new : List Term) (t : Term) (bs : List (List Step)) (i : ℕ) (b : List Step) → i < length bs → b ≡ get_or bs i b
+    → new ≡ ts ++ t ∷ [] → term_view t ≡ opened_all (step.sequence_view b) → terms_view ts ≡ opened_branches (branches_view (take i bs))
+    → terms_view new ≡ opened_branches (branches_view (take (i + 1) bs))
+branch_opened ts new t bs i b within is grown opens so_far =
+    ap terms_view grown ∙ terms_push ts t
+    ∙ ap (λ (x : terms.Term). with_last (terms_view ts) x) opens
+    ∙ ap (λ (xs : Terms). with_last xs (opened_all (step.sequence_view b))) so_far
+    ∙ sym (branches_push (take i bs) b)
+    ∙ ap (λ (c : List Step). opened_branches (branches_view (take i bs ++ c ∷ []))) is
+    ∙ ap (λ (cs : List (List Step)). opened_branches (branches_view cs)) (sym (take_more bs i b within))

@@ -1,0 +1,17 @@
+use Rattle.std.proofs.Common.{◌≡◌, ◌+◌, ◌*◌, take}
+use Rattle.pz_rules.specs.Opening.{opened_branches}
+use Rattle.pz_rules.specs.View.{terms_view, branches_view}
+use Rattle.pz_rules.proofs.opening.+opening.Given as goal
+
+abbrev pub invariant-open_branches-loop-branch : goal.invariant-open_branches-loop-branch
+invariant-open_branches-loop-branch l = terms_view l.terms ≡ opened_branches (branches_view (take l.branch-index l.branches))
+
+-- the depth comes first; at the same depth, branches come before their statements, and these before one statement
+abbrev pub decreases-open_step : goal.decreases-open_step
+decreases-open_step l = 3 * goal.size-open_step l
+
+abbrev pub decreases-open_term : goal.decreases-open_term
+decreases-open_term l = 3 * goal.size-open_term l + 1
+
+abbrev pub decreases-open_branches : goal.decreases-open_branches
+decreases-open_branches l = 3 * goal.size-open_branches l + 2

@@ -1,0 +1,69 @@
+-- The internal actions of a process: which an active part can do, and what it then becomes.
+use Rattle.std.specs.Prelude.{◌≡◌, ℕ, Bool, if◌then◌else◌, List, length, Result, Ok, Err}
+use Rattle.pz_syntax.specs.declared.tokens.Pos.{Pos}
+use Rattle.pz_syntax.specs.declared.names.Id.{Id}
+use Rattle.pz_syntax.specs.Expressions.{Expressions}
+use Rattle.pz_syntax.specs.Statements.{skip, delay, block, conditional, repeated, call, value, no_statements, then, StatementPart}
+use Rattle.pz_value.specs.declared.value.ClassId.{ClassId}
+use Rattle.pz_value.specs.declared.value.Value.{Value}
+use Rattle.pz_code.specs.declared.slot.Slot.{Slot}
+use Rattle.pz_state.specs.States.{StateView, IsLeastFree, opened as with_frame}
+use Rattle.pz_offer.specs.declared.trouble.Trouble.{Trouble}
+use Rattle.pz_rules.specs.declared.action.Kind.{Kind}
+use Rattle.pz_rules.specs.declared.action.Kind.TheVariants.{Skip, Eval, Test, Expire, Call}
+use Rattle.pz_rules.specs.Terms.{Code, Codes, Step, Steps, Term, done, leaf, wait, sequence, frame}
+use Rattle.pz_rules.specs.Opening.{opened_all, opened_part}
+use Rattle.pz_rules.specs.Settings.{At, Process}
+use Rattle.pz_rules.specs.Slots.{set_slots, first_slots}
+use Rattle.pz_rules.specs.Meanings.{and_then, truth}
+use Rattle.pz_rules.specs.Evaluations.{Gives, GivesAll, Lasts, count_of}
+use Rattle.pz_rules.specs.Methods.{IsMethod}
+
+-- in frame f this part can act, by an action of this kind, at this place of the text
+pub data Can (a : At) (f : ℕ) : Term → Kind → Pos → Type 0 where
+  skips : (at : Pos) → Can a f (leaf (skip at)) Skip at
+  evaluates : (at : Pos) (e : Code) → Can a f (leaf (value at e)) Eval at
+  evaluates_block : (at : Pos) (es : Codes) → Can a f (leaf (block at es)) Eval at
+  tests : (at : Pos) (e : Code) (ts : Steps) (other : StatementPart Slot ClassId ℕ) → Can a f (leaf (conditional at e ts other)) Test at
+  repeats : (at : Pos) (e : Code) (ts : Steps) → Can a f (leaf (repeated at e ts)) Test at
+  -- a delay of no time, and one of which nothing is left
+  elapses : (at : Pos) (e : Code) → Lasts a f at e (Ok 0) → Can a f (leaf (delay at e)) Expire at
+  expires : (at : Pos) → Can a f (wait 0 at) Expire at
+  calls : (at : Pos) (method : Id) (args : Codes) (results : List Slot) → Can a f (leaf (call at method args results)) Call at
+
+abbrev pub done_in : StateView → Process
+done_in s = record { term = done; state = s }
+
+-- the chosen part
+abbrev pub chosen : StateView → Steps → StatementPart Slot ClassId ℕ → Bool → Process
+chosen s ts other b = record { term = if b then opened_all ts else opened_part other; state = s }
+
+-- the body, and then the same loop
+abbrev pub turned : StateView → Step → Steps → Bool → Process
+turned s loop ts b = record { term = if b then sequence (opened_all ts) ((then) loop no_statements) else done; state = s }
+
+-- a further frame, whose first locals have these values and whose others are nil, round the body
+abbrev pub entered : StateView → ℕ → ℕ → List Slot → Steps → List Value → Process
+entered s number locals results body inputs = record {
+  term = frame number (length inputs) results (opened_all body);
+  state = set_slots number (first_slots 0 inputs) inputs (with_frame s number locals);
+}
+
+-- What the acting part becomes, and the state afterwards; or the trouble of its evaluation. Each action
+-- has the place of its statement.
+pub data Performs (a : At) (f : ℕ) : Term → Pos → Result Process Trouble → Type 0 where
+  skips : (at : Pos) → Performs a f (leaf (skip at)) at (Ok (done_in a.state))
+  evaluates : (at : Pos) (e : Code) (r : Result Value Trouble) (s : StateView) → Gives a f at e r s
+      → Performs a f (leaf (value at e)) at (and_then r (λ _. Ok (done_in s)))
+  evaluates_block : (at : Pos) (es : Codes) (r : Result (List Value) Trouble) (s : StateView) → GivesAll a f at es r s
+      → Performs a f (leaf (block at es)) at (and_then r (λ _. Ok (done_in s)))
+  tests : (at : Pos) (e : Code) (ts : Steps) (other : StatementPart Slot ClassId ℕ) (r : Result Value Trouble) (s : StateView) → Gives a f at e r s
+      → Performs a f (leaf (conditional at e ts other)) at (and_then r (λ v. and_then (truth a.process at v) (λ b. Ok (chosen s ts other b))))
+  repeats : (at : Pos) (e : Code) (ts : Steps) (r : Result Value Trouble) (s : StateView) → Gives a f at e r s
+      → Performs a f (leaf (repeated at e ts)) at (and_then r (λ v. and_then (truth a.process at v) (λ b. Ok (turned s (repeated at e ts) ts b))))
+  -- the evaluation of a delay leaves nothing
+  elapses : (at : Pos) (e : Code) → Performs a f (leaf (delay at e)) at (Ok (done_in a.state))
+  expires : (left : ℕ) (at : Pos) → Performs a f (wait left at) at (Ok (done_in a.state))
+  calls : (at : Pos) (method : Id) (args : Codes) (results : List Slot) (r : Result (List Value) Trouble) (s : StateView) (locals number : ℕ) (body : Steps)
+      → GivesAll a f at args r s → IsMethod a.setting.model a.class method.name (count_of args) (length results) locals body → IsLeastFree s.frames number
+      → Performs a f (leaf (call at method args results)) at (and_then r (λ vs. Ok (entered s number locals results body vs)))

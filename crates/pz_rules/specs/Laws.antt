@@ -1,0 +1,101 @@
+-- Laws of execution.
+use Rattle.std.specs.Prelude.{◌≡◌, ◌≤◌, ℕ, List, [], ◌∷◌, Some, Result, Ok, slice_get}
+use Rattle.pz_syntax.specs.declared.tokens.Pos.{Pos}
+use Rattle.pz_offer.specs.declared.end.End.{End}
+use Rattle.pz_offer.specs.PlaceOrder.{Place}
+use Rattle.pz_offer.specs.declared.trouble.Trouble.{Trouble}
+use Rattle.pz_rules.specs.declared.action.Action.{Action}
+use Rattle.pz_rules.specs.declared.moment.Moment.{Moment}
+use Rattle.pz_rules.specs.declared.moment.Moment.TheVariants.{Time}
+use Rattle.pz_rules.specs.Terms.{Term, wait, child}
+use Rattle.pz_rules.specs.Settings.{Setting, Process}
+use Rattle.pz_rules.specs.Ports.{HasWires}
+use Rattle.pz_rules.specs.Configurations.{Config, IsWhole}
+use Rattle.pz_rules.specs.Offers.{Offers, IsOffers}
+use Rattle.pz_rules.specs.Steps.{Next, PassesTo}
+use Rattle.pz_rules.specs.Moments.{IsLeast, IsMoment}
+use Rattle.pz_rules.specs.Runs.{Event, Standing, whole, Reaches, Ending, ended, deadlocked, troubled, halted, refused, Ends}
+use Rattle.pz_rules.specs.ChosenRuns.{Policy, IsChosenRun}
+
+-- a configuration has no more than one list of offers
+abbrev pub OneListOfOffers : Type 0
+OneListOfOffers = (setting : Setting) (c : Config) (xs ys : List Action) → IsOffers setting c xs → IsOffers setting c ys → xs ≡ ys
+
+-- and has one, where the wires of the model are known
+abbrev pub EveryListOfOffers : Type 0
+EveryListOfOffers = (setting : Setting) (c : Config) → HasWires setting.model → (xs : List Action) × IsOffers setting c xs
+
+-- a configuration has no more than one moment
+abbrev pub OneMoment : Type 0
+OneMoment = (setting : Setting) (c : Config) (m n : Moment) → IsMoment setting c m → IsMoment setting c n → m ≡ n
+
+-- and has one
+abbrev pub EveryMoment : Type 0
+EveryMoment = (setting : Setting) (c : Config) → HasWires setting.model → (m : Moment) × IsMoment setting c m
+
+-- time never passes while an action is possible
+abbrev pub TimeWaits : Type 0
+TimeWaits = (setting : Setting) (c : Config) (d : ℕ) (a : Action) → HasWires setting.model → IsMoment setting c (Time d) → Offers setting c a → ⊥
+
+-- a passing is by the least that is left of an active delay
+abbrev pub LeastPasses : Type 0
+LeastPasses = (setting : Setting) (c : Config) (d : ℕ) → IsMoment setting c (Time d) → IsLeast setting c d
+
+-- and by one unit or more
+abbrev pub TimeIsPositive : Type 0
+TimeIsPositive = (setting : Setting) (c : Config) (d : ℕ) → HasWires setting.model → IsMoment setting c (Time d) → 1 ≤ d
+
+-- where time passes, there is a configuration afterwards
+abbrev pub EveryPassing : Type 0
+EveryPassing = (setting : Setting) (c : Config) (d : ℕ) → HasWires setting.model → IsMoment setting c (Time d) → (next : Config) × PassesTo setting c d next
+
+-- the part at a place
+abbrev pub part_of : Term → Place → Term
+part_of t [] = t
+part_of t (i ∷ place) = part_of (child t i) place
+
+-- the passing of time leaves a delay of which nothing is left
+pub record HasElapsed (c : Config) : Type 0 where
+  pub process : Process
+  pub at : End
+  pub stands : slice_get c.processes at.process ≡ Some process
+  pub pos : Pos
+  pub elapsed : part_of process.term at.place ≡ wait 0 pos
+
+abbrev pub BringsToZero : Type 0
+BringsToZero = (setting : Setting) (c next : Config) (d : ℕ) → IsMoment setting c (Time d) → PassesTo setting c d next → HasElapsed next
+
+-- an action leads to one configuration, or to one trouble
+abbrev pub OneNext : Type 0
+OneNext = (setting : Setting) (c : Config) (a : Action) (x y : Result Config Trouble) → Next setting c a x → Next setting c a y → x ≡ y
+
+-- the passing of time leads to one configuration
+abbrev pub OnePassing : Type 0
+OnePassing = (setting : Setting) (c : Config) (d : ℕ) (x y : Config) → IsWhole setting c → PassesTo setting c d x → PassesTo setting c d y → x ≡ y
+
+-- neither makes or ends a process
+abbrev pub StaysWhole : Type 0
+StaysWhole = (setting : Setting) (c next : Config) (a : Action) (d : ℕ) → IsWhole setting c
+    → (Next setting c a (Ok next) → IsWhole setting next) × (PassesTo setting c d next → IsWhole setting next)
+
+-- a policy chooses one run
+abbrev pub OneChosenRun : Type 0
+OneChosenRun = (setting : Setting) (policy : Policy) (j : ℕ) (c : Config) (es fs : List Event) (x y : Config) (e f : Ending)
+    → IsWhole setting c → IsChosenRun setting policy j c es x e → IsChosenRun setting policy j c fs y f → (es ≡ fs) × (x ≡ y) × (e ≡ f)
+
+-- the policy has no entry that is no offer, or left over
+abbrev pub IsOwn : Ending → Type 0
+IsOwn (refused entry count) = ⊥
+IsOwn ending = Unit {0}
+
+-- events of the rules, after which a run may end so
+pub record IsRun (setting : Setting) (c : Config) (events : List Event) (end : Config) (ending : Ending) : Type 0 where
+  pub standing : Standing
+  pub reaches : Reaches setting c events end standing
+  pub ends : Ends setting end standing ending
+
+-- a chosen run is a run of the rules; also up to an entry that is refused
+abbrev pub ChosenRunsAreRuns : Type 0
+ChosenRunsAreRuns = (setting : Setting) (policy : Policy) (j : ℕ) (c : Config) (events : List Event) (end : Config) (ending : Ending)
+    → IsChosenRun setting policy j c events end ending
+    → (IsOwn ending → IsRun setting c events end ending) × ((entry count : ℕ) → ending ≡ refused entry count → Reaches setting c events end whole)

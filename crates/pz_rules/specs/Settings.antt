@@ -1,0 +1,28 @@
+-- What a run stands on, and a process at a moment of it.
+use Rattle.std.specs.Prelude.{ℕ}
+use Rattle.pz_syntax.specs.Classes.{ModelTree}
+use Rattle.pz_state.specs.States.{StateView}
+use Rattle.pz_rules.specs.declared.limits.Limits.{Limits}
+use Rattle.pz_rules.specs.Terms.{Term}
+
+-- a sound model, and what an evaluation and a term may take
+pub record Setting : Type 0 where
+  pub model : ModelTree
+  pub limits : Limits
+
+-- what is left of a process, and its state
+pub record Process : Type 0 where
+  pub term : Term
+  pub state : StateView
+
+-- A process as its statements see it: its number, the number of its class, the clock and its state.
+pub record At : Type 0 where
+  pub setting : Setting
+  pub process : ℕ
+  pub class : ℕ
+  pub clock : ℕ
+  pub state : StateView
+
+-- the process in another state
+abbrev pub in_state : At → StateView → At
+in_state a s = record a { state = s }

@@ -1,0 +1,23 @@
+-- Values that are bound to variables, from left to right.
+use Rattle.std.specs.Prelude.{ℕ, suc, List, [], ◌∷◌}
+use Rattle.pz_value.specs.declared.value.Value.{Value}
+use Rattle.pz_code.specs.declared.slot.Slot.{Slot}
+use Rattle.pz_code.specs.declared.slot.Slot.TheVariants.{Local, Shared, Unknown}
+use Rattle.pz_state.specs.States.{StateView, set_variable, set_local}
+
+-- a variable of the process, or a local of frame f
+abbrev pub set_slot : ℕ → Slot → Value → StateView → StateView
+set_slot f (Local i) v s = set_local s f i v
+set_slot f (Shared i) v s = set_variable s i v
+set_slot f Unknown v s = s
+
+-- each variable to the value at its place
+abbrev pub set_slots : ℕ → List Slot → List Value → StateView → StateView
+set_slots f [] vs s = s
+set_slots f (x ∷ xs) [] s = s
+set_slots f (x ∷ xs) (v ∷ vs) s = set_slots f xs vs (set_slot f x v s)
+
+-- the locals from number n on, as many as there are values
+abbrev pub first_slots : ℕ → List Value → List Slot
+first_slots n [] = []
+first_slots n (v ∷ vs) = Local n ∷ first_slots (suc n) vs

@@ -1,0 +1,4 @@
+pub mod Found
+pub mod Walk
+pub mod Walks
+pub mod Passing

@@ -1,0 +1,55 @@
+// Laws of execution, each the contract of a function that does nothing.
+
+ghost use Rattle.pz_rules.specs.Laws.{OneListOfOffers, EveryListOfOffers, OneMoment, EveryMoment, TimeWaits, LeastPasses, TimeIsPositive, EveryPassing, BringsToZero, OneNext, OnePassing, StaysWhole, OneChosenRun, ChosenRunsAreRuns};
+ghost use Rattle.pz_rules.specs.devices.Walks.{InternalActionsAreListed, SendsAreListed, SendsHaveParcels, ReceivesAreListed, DelaysAreListed, TroublesAreListed};
+
+/// A configuration has one list of offers.
+pub fn one_list_of_offers()
+    ensures one { OneListOfOffers }
+    ensures some { EveryListOfOffers }
+{}
+
+/// A configuration has one moment.
+pub fn one_moment()
+    ensures one { OneMoment }
+    ensures some { EveryMoment }
+{}
+
+/// Time never passes while an action is possible.
+pub fn time_waits()
+    ensures law { TimeWaits }
+{}
+
+/// A passing is by the least that is left of an active delay, and by one clock unit or more. It
+/// leads to a configuration, in which nothing is left of some delay.
+pub fn least_passes()
+    ensures least { LeastPasses }
+    ensures positive { TimeIsPositive }
+    ensures some { EveryPassing }
+    ensures elapsed { BringsToZero }
+{}
+
+/// An action leads to one configuration or to one trouble, and the passing of time to one
+/// configuration. Neither makes or ends a process.
+pub fn one_next()
+    ensures action { OneNext }
+    ensures passing { OnePassing }
+    ensures whole { StaysWhole }
+{}
+
+/// A policy chooses one run, and that is a run of the rules.
+pub fn one_chosen_run()
+    ensures one { OneChosenRun }
+    ensures is_run { ChosenRunsAreRuns }
+{}
+
+/// One walk of a term lists the internal actions, sends, receives, delays and troubles of its active
+/// parts, exactly those that the rules derive, strictly by place. A send has one parcel.
+pub fn walks_list_what_is_active()
+    ensures internal { InternalActionsAreListed }
+    ensures sends { SendsAreListed }
+    ensures parcels { SendsHaveParcels }
+    ensures receives { ReceivesAreListed }
+    ensures delays { DelaysAreListed }
+    ensures troubles { TroublesAreListed }
+{}

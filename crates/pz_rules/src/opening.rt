@@ -1,0 +1,84 @@
+// How statements become terms, without an action.
+
+ghost use Rattle.std.specs.Prelude.{◌≡◌, IfOk};
+ghost use Rattle.pz_code.specs.StepView.{view, sequence_view};
+ghost use Rattle.pz_rules.specs.Opening.{opened, opened_all, opened_branches};
+ghost use Rattle.pz_rules.specs.View.{term_view, terms_view, branches_view};
+
+use crate::{Rest, Term};
+use pz_bodies::{copy_code, copy_step};
+use pz_code::{Step, StepForm};
+use pz_items::{Boxed, Items};
+use std::alloc::{AllocError, Global};
+
+/// The term of a statement. The only error is want of memory.
+#[cycle(opening)]
+pub fn open_step(alloc: Global, step: &Step) -> Result<Term, AllocError>
+    ensures { IfOk result (λ term. term_view term ≡ opened (view step.now)) }
+{
+    match &step.form {
+        StepForm::Group(steps) => open_term(alloc, steps.as_slice()),
+        StepForm::Guard(test, guarded) => {
+            let body = Boxed::new(alloc, open_step(alloc, guarded.get())?)?;
+            Ok(Term::Guard {
+                test: copy_code(alloc, test)?,
+                pos: step.pos,
+                body,
+            })
+        }
+        StepForm::Par(branches) => Ok(Term::Par(open_branches(alloc, branches.as_slice())?)),
+        StepForm::Sel(branches) => Ok(Term::Sel(open_branches(alloc, branches.as_slice())?)),
+        StepForm::Abort(first, second) => {
+            let second = Boxed::new(alloc, open_step(alloc, second.get())?)?;
+            let first = Boxed::new(alloc, open_term(alloc, first.as_slice())?)?;
+            Ok(Term::Abort(first, second))
+        }
+        StepForm::Interrupt(first, again) => {
+            let second = Boxed::new(alloc, open_step(alloc, again.get())?)?;
+            let first = Boxed::new(alloc, open_term(alloc, first.as_slice())?)?;
+            Ok(Term::Idle(first, second, copy_step(alloc, again.get())?))
+        }
+        _ => Ok(Term::Leaf(copy_step(alloc, step)?)),
+    }
+}
+
+/// The term of statements in a sequence: the first stands open, and the others wait behind it. The
+/// only error is want of memory.
+#[cycle(opening)]
+pub fn open_term(alloc: Global, steps: &[Step]) -> Result<Term, AllocError>
+    ensures { IfOk result (λ term. term_view term ≡ opened_all (sequence_view steps.now)) }
+{
+    match steps {
+        [] => Ok(Term::Done),
+        [step] => open_step(alloc, step),
+        [step, rest @ ..] => {
+            let first = Boxed::new(alloc, open_step(alloc, step)?)?;
+            Ok(Term::Seq(first, Rest::copy_of(alloc, rest)?))
+        }
+    }
+}
+
+#[cycle(opening)]
+fn open_branches(alloc: Global, branches: &[Items<Step>]) -> Result<Items<Term>, AllocError>
+    ensures { IfOk result (λ terms. terms_view terms ≡ opened_branches (branches_view branches.now)) }
+{
+    let mut terms = Items::new(alloc);
+    for branch in branches {
+        terms.push(open_term(alloc, branch.as_slice())?)?;
+    }
+    Ok(terms)
+}
+
+/// The term of statements that are taken one by one. The only error is want of memory.
+pub fn open_rest(alloc: Global, mut rest: Rest) -> Result<Term, AllocError>
+    ensures { IfOk result (λ term. term_view term ≡ opened_all (sequence_view rest)) }
+{
+    let Some(step) = rest.next() else {
+        return Ok(Term::Done);
+    };
+    if rest.is_empty() {
+        return open_step(alloc, &step);
+    }
+    let first = Boxed::new(alloc, open_step(alloc, &step)?)?;
+    Ok(Term::Seq(first, rest))
+}
