@@ -42,13 +42,23 @@ fn number(word: &str) -> u32 {
     word.parse::<u32>().unwrap_or(0)
 }
 
-/// Packs the last of a chain of so many objects so many times, out of a state that has so many others,
-/// and shows how many objects that copied and how many the state has.
-pub fn show_bench(rt: &HostRuntime, reached: &str, others: &str, times: &str) -> io::Result<()> {
-    let mut state = State::new(rt.alloc(), 0)?;
-    let last = make_chain(&mut state, number(reached))?;
-    make_nodes(&mut state, number(others))?;
-    let packed = pack_times(rt.alloc(), &state, &[Value::Ref(last)], number(times))?;
+/// Makes a chain of so many objects, and then so many others. Gives the number of the chain's last.
+fn fill(state: &mut State, reached: u32, others: u32) -> Result<u32, AllocError> {
+    let last = make_chain(state, reached)?;
+    make_nodes(state, others)?;
+    Ok(last)
+}
+
+/// Packs the object so many times, and shows how many objects that copied and how many the state has.
+fn show_packing(rt: &HostRuntime, state: &State, last: u32, times: u32) -> io::Result<()> {
+    let packed = pack_times(rt.alloc(), state, &[Value::Ref(last)], times)?;
     let objects = state.objects();
     println!(rt; "{packed} objects packed, out of a state of {objects}")
+}
+
+/// Packs the last of a chain of so many objects so many times, out of a state that has so many others.
+pub fn show_bench(rt: &HostRuntime, reached: &str, others: &str, times: &str) -> io::Result<()> {
+    let mut state = State::new(rt.alloc(), 0)?;
+    let last = fill(&mut state, number(reached), number(others))?;
+    show_packing(rt, &state, last, number(times))
 }

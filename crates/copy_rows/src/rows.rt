@@ -5,6 +5,7 @@ use crate::nodes::{class_names, nodes, set};
 use pz_copy::{Parcel, pack, unpack};
 use pz_state::State;
 use pz_value::{Text, Value};
+use std::alloc::AllocError;
 use std::io;
 
 fn show_parcel(rt: &HostRuntime, what: &str, parcel: &Parcel) -> io::Result<()> {
@@ -27,45 +28,57 @@ fn show_packed(rt: &HostRuntime, what: &str, state: &State, values: &[Value]) ->
     show_parcel(rt, what, &pack(rt.alloc(), state, values)?)
 }
 
-/// Moves the values behind five other objects, and shows them and what is packed there.
+/// Unpacks the parcel, and shows the values and what is packed there.
+fn show_unpacked(rt: &HostRuntime, state: &mut State, parcel: &Parcel) -> io::Result<()> {
+    let Ok(copies) = unpack(rt.alloc(), state, parcel) else {
+        return println!(rt; "not unpacked");
+    };
+    let objects = state.objects();
+    println!(rt; "unpacked: {copies:?}, {objects} objects")?;
+    show_packed(rt, "packed again", state, copies.as_slice())
+}
+
+/// Moves the values behind five other objects.
 fn show_moved(rt: &HostRuntime, state: &State, values: &[Value]) -> io::Result<()> {
     if !refer_within(values, state.objects()) {
         return println!(rt; "no such object");
     }
-    let parcel = pack(rt.alloc(), state, values)?;
     let mut other = nodes(rt.alloc(), 5)?;
-    let Ok(copies) = unpack(rt.alloc(), &mut other, &parcel) else {
-        return println!(rt; "not unpacked");
-    };
-    let objects = other.objects();
-    println!(rt; "unpacked: {copies:?}, {objects} objects")?;
-    show_packed(rt, "packed again", &other, copies.as_slice())
+    show_unpacked(rt, &mut other, &pack(rt.alloc(), state, values)?)
 }
 
-/// Two objects that name each other, with an Integer each.
-fn show_pair(rt: &HostRuntime) -> io::Result<()> {
-    let mut state = nodes(rt.alloc(), 3)?;
-    set(&mut state, 2, 0, Value::Ref(1))?;
-    set(&mut state, 2, 1, Value::Int(1))?;
-    set(&mut state, 1, 0, Value::Ref(2))?;
-    set(&mut state, 1, 1, Value::Int(2))?;
+/// Lets two objects name each other, with an Integer each.
+fn join_pair(state: &mut State) -> Result<(), AllocError> {
+    set(state, 2, 0, Value::Ref(1))?;
+    set(state, 2, 1, Value::Int(1))?;
+    set(state, 1, 0, Value::Ref(2))?;
+    set(state, 1, 1, Value::Int(2))
+}
+
+fn show_pair(rt: &HostRuntime, state: &State) -> io::Result<()> {
     let pair = [Value::Ref(2), Value::Ref(1)];
-    show_packed(rt, "pair", &state, &pair)?;
-    show_moved(rt, &state, &pair)
+    show_packed(rt, "pair", state, &pair)?;
+    show_moved(rt, state, &pair)
 }
 
-/// An object that two others and a value name, and one that holds itself.
-fn show_shared(rt: &HostRuntime) -> io::Result<()> {
-    let mut state = nodes(rt.alloc(), 4)?;
-    set(&mut state, 0, 0, Value::Ref(3))?;
-    set(&mut state, 1, 1, Value::Ref(3))?;
-    set(&mut state, 3, 0, Value::Int(7))?;
-    set(&mut state, 2, 1, Value::Ref(2))?;
+/// Lets two objects name a third one, and one name itself.
+fn share(state: &mut State) -> Result<(), AllocError> {
+    set(state, 0, 0, Value::Ref(3))?;
+    set(state, 1, 1, Value::Ref(3))?;
+    set(state, 3, 0, Value::Int(7))?;
+    set(state, 2, 1, Value::Ref(2))
+}
+
+fn show_shared(rt: &HostRuntime, state: &State) -> io::Result<()> {
     let all = [Value::Ref(0), Value::Ref(1), Value::Ref(3)];
-    show_packed(rt, "shared", &state, &all)?;
-    show_packed(rt, "twice", &state, &[Value::Ref(3), Value::Ref(3)])?;
-    show_packed(rt, "itself", &state, &[Value::Ref(2)])?;
-    show_packed(rt, "nothing", &state, &[])
+    show_packed(rt, "shared", state, &all)
+}
+
+/// The shared object as two values, the one that names itself, and no value.
+fn show_single(rt: &HostRuntime, state: &State) -> io::Result<()> {
+    show_packed(rt, "twice", state, &[Value::Ref(3), Value::Ref(3)])?;
+    show_packed(rt, "itself", state, &[Value::Ref(2)])?;
+    show_packed(rt, "nothing", state, &[])
 }
 
 /// Each sort of value but references.
@@ -95,11 +108,28 @@ fn show_escapes(rt: &HostRuntime, state: &State) -> io::Result<()> {
     show_packed(rt, "escapes", state, &values)
 }
 
-/// The rows, a line each.
-pub fn show_rows(rt: &HostRuntime) -> io::Result<()> {
-    show_pair(rt)?;
-    show_shared(rt)?;
+fn show_cycle(rt: &HostRuntime) -> io::Result<()> {
+    let mut state = nodes(rt.alloc(), 3)?;
+    join_pair(&mut state)?;
+    show_pair(rt, &state)
+}
+
+fn show_sharing(rt: &HostRuntime) -> io::Result<()> {
+    let mut state = nodes(rt.alloc(), 4)?;
+    share(&mut state)?;
+    show_shared(rt, &state)?;
+    show_single(rt, &state)
+}
+
+fn show_texts(rt: &HostRuntime) -> io::Result<()> {
     let empty = nodes(rt.alloc(), 0)?;
     show_values(rt, &empty)?;
     show_escapes(rt, &empty)
+}
+
+/// The rows, a line each.
+pub fn show_rows(rt: &HostRuntime) -> io::Result<()> {
+    show_cycle(rt)?;
+    show_sharing(rt)?;
+    show_texts(rt)
 }
