@@ -19,36 +19,59 @@ fn change_all(subject: &mut Subject, round: u32, object: u32) -> Result<(), Allo
     subject.close()
 }
 
-/// Changes of a state with so many objects, and their undoing.
-fn mixed(rt: &HostRuntime, size: u32, changes: u32) -> io::Result<()>
-    requires { 0 < size }
-{
-    let mut subject = Subject::new(rt.alloc(), 1)?;
+/// So many objects.
+fn make_all(subject: &mut Subject, size: u32) {
     for _ in 0..size {
         let _made = subject.make(1, 2);
     }
-    subject.mark()?;
+}
+
+/// So many changes, each in the next of so many objects.
+fn change_often(subject: &mut Subject, size: u32, changes: u32) -> Result<(), AllocError>
+    requires { 0 < size }
+{
     for round in 0..changes / 8 {
-        change_all(&mut subject, round, round % size)?;
+        change_all(subject, round, round % size)?;
     }
+    Ok(())
+}
+
+/// Changes of a state with so many objects, and their undoing.
+fn mixed(rt: &HostRuntime, subject: &mut Subject, size: u32, changes: u32) -> io::Result<()>
+    requires { 0 < size }
+{
+    make_all(subject, size);
+    subject.mark()?;
+    change_often(subject, size, changes)?;
     let most = subject.objects();
     subject.undo();
     let left = subject.objects();
     println!(rt; "{most} objects, and {left} once all is undone")
 }
 
-/// The least frame of so many is closed and opened again and again, and all is undone.
-fn frames(rt: &HostRuntime, size: u32, changes: u32) -> io::Result<()> {
-    let mut subject = Subject::new(rt.alloc(), 1)?;
-    let _least = subject.enter(1)?;
+/// So many frames.
+fn open_all(subject: &mut Subject, size: u32) -> Result<(), AllocError> {
     for _ in 0..size {
         let _other = subject.open(1)?;
     }
-    subject.mark()?;
+    Ok(())
+}
+
+/// The named frame is closed and another one opened, again and again.
+fn reopen_often(subject: &mut Subject, changes: u32) -> Result<(), AllocError> {
     for _ in 0..changes / 2 {
         subject.close()?;
         let _least = subject.enter(1)?;
     }
+    Ok(())
+}
+
+/// The least frame of so many is closed and opened again and again, and all is undone.
+fn frames(rt: &HostRuntime, subject: &mut Subject, size: u32, changes: u32) -> io::Result<()> {
+    let _least = subject.enter(1)?;
+    open_all(subject, size)?;
+    subject.mark()?;
+    reopen_often(subject, changes)?;
     let next = subject.open(1)?.0;
     subject.undo();
     println!(rt; "the next frame was {next}")
@@ -58,9 +81,10 @@ fn frames(rt: &HostRuntime, size: u32, changes: u32) -> io::Result<()> {
 pub fn show_bench(rt: &HostRuntime, bench: &str, size: &str, changes: &str) -> io::Result<()> {
     let size = size.parse::<u32>().unwrap_or(1).max(1);
     let changes = changes.parse::<u32>().unwrap_or(0);
+    let mut subject = Subject::new(rt.alloc(), 1)?;
     match bench {
-        "mixed" => mixed(rt, size, changes),
-        "frames" => frames(rt, size, changes),
+        "mixed" => mixed(rt, &mut subject, size, changes),
+        "frames" => frames(rt, &mut subject, size, changes),
         _ => println!(rt; "no bench"),
     }
 }

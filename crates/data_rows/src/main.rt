@@ -15,7 +15,7 @@ mod show;
 mod subject;
 
 use pz_prims::{Prim, prim};
-use pz_state::State;
+use pz_state::{MakeError, State};
 use pz_value::{ClassId, Text, Value};
 use std::alloc::{AllocError, Global};
 use std::str::SplitWhitespace;
@@ -99,21 +99,41 @@ fn ask(rt: &HostRuntime, state: &mut State, line: &str) -> io::Result<()> {
     println!(rt;)
 }
 
+/// Does what a line says.
+fn show_row(
+    rt: &HostRuntime,
+    state: &mut State,
+    subject: &mut Subject,
+    line: &str,
+) -> io::Result<()> {
+    match changes::change_in(line) {
+        Some(change) => changes::make_change(rt, subject, line, change),
+        None => ask(rt, state, line),
+    }
+}
+
 /// Does what each line says.
-fn show_rows(rt: &HostRuntime) -> io::Result<()> {
-    let mut state = State::new(rt.alloc(), 0)?;
-    let (Ok(_), Ok(_)) = (state.make(ClassId(0), 3), state.make(ClassId(1), 0)) else {
-        return println!(rt; "no objects");
-    };
-    let mut subject = Subject::new(rt.alloc(), 0)?;
+fn show_lines(rt: &HostRuntime, state: &mut State, subject: &mut Subject) -> io::Result<()> {
     for line in rt.lines(rt.alloc()) {
-        let line = line?;
-        match changes::change_in(line.as_str()) {
-            Some(change) => changes::make_change(rt, &mut subject, line.as_str(), change)?,
-            None => ask(rt, &mut state, line.as_str())?,
-        }
+        show_row(rt, state, subject, line?.as_str())?;
     }
     Ok(())
+}
+
+/// An Array of three items and an object that is none.
+fn make_objects(state: &mut State) -> Result<(), MakeError> {
+    state.make(ClassId(0), 3)?;
+    state.make(ClassId(1), 0)?;
+    Ok(())
+}
+
+fn show_rows(rt: &HostRuntime) -> io::Result<()> {
+    let mut state = State::new(rt.alloc(), 0)?;
+    let mut subject = Subject::new(rt.alloc(), 0)?;
+    match make_objects(&mut state) {
+        Ok(()) => show_lines(rt, &mut state, &mut subject),
+        Err(error) => println!(rt; "{error:?}"),
+    }
 }
 
 fn main(rt: HostRuntime) -> io::Result<()> {
