@@ -18,3 +18,4 @@ mod Moments
 mod Waiting
 mod WalksAre
 mod Rows
+mod Fits
