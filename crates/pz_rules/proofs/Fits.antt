@@ -20,6 +20,8 @@ use Rattle.pz_rules.specs.Terms.{Step, Steps, Term, done, leaf, wait, sequence, 
 use Rattle.pz_rules.specs.Opening.{opened, opened_all, opened_branches, opened_part}
 use Rattle.pz_rules.specs.Settings.{Process, At}
 use Rattle.pz_rules.specs.Leaving.{replaced, joined, all_done, handled, aborted, interrupted, framed, around, residual}
+use Rattle.pz_rules.specs.Active as active
+use Rattle.pz_rules.specs.Active.{Active}
 use Rattle.pz_rules.specs.Fitting.{TermFits, TermsFit}
 
 module _ (m : ModelTree) (c : ℕ) where
@@ -110,11 +112,6 @@ module _ (m : ModelTree) (c : ℕ) where
   frame_fits l s f number inputs results t i done n h k = tt
   frame_fits l s f number inputs results t i x n h k = framed_fits l number inputs results x n h k
 
-  -- the locals around a part at a place, where the part fits
-  record Spot (l : ℕ) (t : Term) (place : Place) : Type 0 where
-    pub locals : ℕ
-    pub left : (x : Process) (f : ℕ) → Fits locals x.term → Fits l (residual f t place x).term
-
   abbrev Grown : ℕ → ℕ → Term → ℕ → Type 0
   Grown l n t i = (f : ℕ) (s : StateView) (x : Term) → Fits n x → Fits l (around f s t i x).term
 
@@ -153,3 +150,20 @@ module _ (m : ModelTree) (c : ℕ) where
   child_of l (handling t u again) zero h = record { locals = l; fits = h.0; around_fits = λ f s x k. handled_fits l t again x h.0 h.2 k }
   child_of l (handling t u again) (suc zero) h = record { locals = l; fits = h.1; around_fits = λ f s x k. handled_fits l t again x h.0 h.2 k }
   child_of l (handling t u again) (suc (suc i)) h = record { locals = l; fits = tt; around_fits = λ f s x k. handled_fits l t again x h.0 h.2 k }
+
+-- an active part, the locals around it, and what it leaves of the whole
+pub record Fitted (m : ModelTree) (c : ℕ) (l : ℕ) (t : Term) (place : Place) (x : Term) : Type 0 where
+  pub locals : ℕ
+  pub fits : TermFits m c locals x
+  pub leaves : (f : ℕ) (y : Process) → TermFits m c locals y.term → TermFits m c l (residual f t place y).term
+
+pub fitted : (m : ModelTree) (c : ℕ) {a : At} {f : ℕ} {t : Term} {place : Place} {g : ℕ} {x : Term} (l : ℕ) → Active a f t place g x → TermFits m c l t → Fitted m c l t place x
+fitted m c l (active.here f t) h = record { locals = l; fits = h; leaves = λ f y k. k }
+fitted m c l (active.inside f t i place g x r k) h =
+    let below = child_of m c l t i h in
+    let inner = fitted m c below.locals k below.fits in
+    record {
+      locals = inner.locals;
+      fits = inner.fits;
+      leaves = λ f' y q. below.around_fits f' (residual (frame_in t f') (child t i) place y).state (residual (frame_in t f') (child t i) place y).term (inner.leaves (frame_in t f') y q);
+    }

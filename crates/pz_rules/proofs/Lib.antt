@@ -19,3 +19,7 @@ mod Waiting
 mod WalksAre
 mod Rows
 mod Fits
+mod Possible
+mod Kept
+mod Pending
+mod Existing

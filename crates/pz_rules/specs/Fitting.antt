@@ -1,11 +1,13 @@
 -- Configurations whose terms fit the classes of their processes: all that their statements name is
 -- there. Those of a sound model are so from the start, and stay so.
-use Rattle.std.specs.Prelude.{◌≡◌, ℕ, List, All}
+use Rattle.std.specs.Prelude.{◌≡◌, ℕ, List, All, Some, slice_get}
 use Rattle.pz_syntax.specs.Classes.{ModelTree}
 use Rattle.pz_classes.specs.FitBodies.{process_code, SlotFits, ExpressionFits, StatementFits, StatementsFit}
+use Rattle.pz_levels.specs.Places.{Place}
+use Rattle.pz_bind.specs.Nest.{processes, class_at}
 use Rattle.pz_rules.specs.Terms.{Term, done, leaf, wait, sequence, parallel, select, guarded, frame, abort, idle, handling, Terms, no_terms, and}
-use Rattle.pz_rules.specs.Settings.{Setting, Process, At}
-use Rattle.pz_rules.specs.Configurations.{Config, Stands}
+use Rattle.pz_rules.specs.Settings.{Setting, Process}
+use Rattle.pz_rules.specs.Configurations.{Config}
 
 -- Of the process class c. A frame has so many locals, and its outputs go to variables around it.
 module _ (m : ModelTree) (c : ℕ) where
@@ -29,4 +31,4 @@ module _ (m : ModelTree) (c : ℕ) where
 
 -- the term of each process stands in no frame
 abbrev pub IsFit : Setting → Config → Type 0
-IsFit setting c = (i : ℕ) (p : Process) (a : At) → Stands setting c i p a → TermFits setting.model a.class 0 p.term
+IsFit setting c = (i : ℕ) (place : Place) (p : Process) → slice_get (processes setting.model) i ≡ Some place → slice_get c.processes i ≡ Some p → TermFits setting.model (class_at setting.model place) 0 p.term
