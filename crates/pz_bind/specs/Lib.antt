@@ -3,3 +3,5 @@ pub mod Names
 pub mod Values
 pub mod Connections
 pub mod Wires
+pub mod NetView
+pub mod devices

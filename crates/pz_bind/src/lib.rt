@@ -1,2 +1,16 @@
 //! The processes of a checked model's system, and the wires between them.
 #![tactic(auto)]
+
+mod bindings;
+mod declared;
+mod laws;
+mod naming;
+mod net;
+mod nodes;
+mod plans;
+mod port_numbers;
+mod sites;
+
+pub use laws::ends_share_wires;
+pub use net::Net;
+pub use pz_value::{ClassId, Value};

@@ -1,5 +1,6 @@
 ghost use Rattle.std.specs.Prelude.{◌≡◌, IfOk};
 
+use crate::both::both;
 use pz_code::{Code, CodeForm, CodeLink, CodeSending, Slot};
 use pz_items::{Boxed, Items};
 use std::alloc::{AllocError, Global};
@@ -38,41 +39,48 @@ fn copy_form(alloc: Global, form: &CodeForm) -> Result<CodeForm, AllocError>
         CodeForm::New(class) => Ok(CodeForm::New(*class)),
         CodeForm::Group(list) => Ok(CodeForm::Group(copy_codes(alloc, list.as_slice())?)),
         CodeForm::Chain(first, links) => {
-            let first = Boxed::new(alloc, copy_code(alloc, first.get())?)?;
-            Ok(CodeForm::Chain(first, copy_links(alloc, links.as_slice())?))
+            let links = copy_links(alloc, links.as_slice());
+            let (first, links) = both(copy_boxed(alloc, first.get()), links)?;
+            Ok(CodeForm::Chain(first, links))
         }
         CodeForm::Sends(first, sendings) => {
-            let first = Boxed::new(alloc, copy_code(alloc, first.get())?)?;
-            Ok(CodeForm::Sends(first, copy_sendings(alloc, sendings.as_slice())?))
+            let sendings = copy_sendings(alloc, sendings.as_slice());
+            let (first, sendings) = both(copy_boxed(alloc, first.get()), sendings)?;
+            Ok(CodeForm::Sends(first, sendings))
         }
-        CodeForm::Unary(op, operand) => {
-            let operand = Boxed::new(alloc, copy_code(alloc, operand.get())?)?;
-            Ok(CodeForm::Unary(*op, operand))
-        }
+        CodeForm::Unary(op, operand) => Ok(CodeForm::Unary(*op, copy_boxed(alloc, operand.get())?)),
         CodeForm::Assign(target, value) => {
-            let value = Boxed::new(alloc, copy_code(alloc, value.get())?)?;
-            Ok(CodeForm::Assign(*target, value))
+            Ok(CodeForm::Assign(*target, copy_boxed(alloc, value.get())?))
         }
-        CodeForm::Return(value) => {
-            let value = Boxed::new(alloc, copy_code(alloc, value.get())?)?;
-            Ok(CodeForm::Return(value))
-        }
+        CodeForm::Return(value) => Ok(CodeForm::Return(copy_boxed(alloc, value.get())?)),
         CodeForm::If(test, part, rest) => {
-            let test = Boxed::new(alloc, copy_code(alloc, test.get())?)?;
-            let part = copy_codes(alloc, part.as_slice())?;
+            let test = copy_boxed(alloc, test.get());
+            let head = both(test, copy_codes(alloc, part.as_slice()));
             match rest {
-                None => Ok(CodeForm::If(test, part, None)),
+                None => {
+                    let (test, part) = head?;
+                    Ok(CodeForm::If(test, part, None))
+                }
                 Some(rest) => {
-                    let rest = copy_codes(alloc, rest.as_slice())?;
+                    let ((test, part), rest) = both(head, copy_codes(alloc, rest.as_slice()))?;
                     Ok(CodeForm::If(test, part, Some(rest)))
                 }
             }
         }
         CodeForm::While(test, body) => {
-            let test = Boxed::new(alloc, copy_code(alloc, test.get())?)?;
-            Ok(CodeForm::While(test, copy_codes(alloc, body.as_slice())?))
+            let test = copy_boxed(alloc, test.get());
+            let (test, body) = both(test, copy_codes(alloc, body.as_slice()))?;
+            Ok(CodeForm::While(test, body))
         }
     }
+}
+
+/// The same in a box.
+#[cycle(code_copies)]
+fn copy_boxed(alloc: Global, code: &Code) -> Result<Boxed<Code>, AllocError>
+    ensures { IfOk result (λ copy. copy ≡ code.now) }
+{
+    Boxed::new(alloc, copy_code(alloc, code)?)
 }
 
 /// Equal code in the same order. The only error is want of memory.

@@ -1,6 +1,7 @@
 //! Copies of the code and the steps of bodies.
 #![tactic(auto)]
 
+mod both;
 mod code;
 mod steps;
 

@@ -1,5 +1,6 @@
 ghost use Rattle.std.specs.Prelude.{◌≡◌, IfOk};
 
+use crate::both::both;
 use crate::code::{copy_code, copy_codes, copy_part, copy_slots};
 use pz_code::{Code, Slot, Step, StepForm};
 use pz_items::{Boxed, Items};
@@ -27,32 +28,40 @@ fn copy_form(alloc: Global, form: &StepForm) -> Result<StepForm, AllocError>
         StepForm::Group(list) => Ok(StepForm::Group(copy_steps(alloc, list.as_slice())?)),
         StepForm::Block(list) => Ok(StepForm::Block(copy_codes(alloc, list.as_slice())?)),
         StepForm::Guard(test, guarded) => {
-            let guarded = Boxed::new(alloc, copy_step(alloc, guarded.get())?)?;
-            Ok(StepForm::Guard(copy_code(alloc, test)?, guarded))
+            let guarded = copy_boxed(alloc, guarded.get());
+            let (test, guarded) = both(copy_code(alloc, test), guarded)?;
+            Ok(StepForm::Guard(test, guarded))
         }
         StepForm::Par(branches) => Ok(StepForm::Par(copy_branches(alloc, branches.as_slice())?)),
         StepForm::Sel(branches) => Ok(StepForm::Sel(copy_branches(alloc, branches.as_slice())?)),
         StepForm::If(test, part, rest) => {
-            let part = copy_steps(alloc, part.as_slice())?;
+            let part = copy_steps(alloc, part.as_slice());
+            let head = both(copy_code(alloc, test), part);
             match rest {
-                None => Ok(StepForm::If(copy_code(alloc, test)?, part, None)),
+                None => {
+                    let (test, part) = head?;
+                    Ok(StepForm::If(test, part, None))
+                }
                 Some(rest) => {
-                    let rest = copy_steps(alloc, rest.as_slice())?;
-                    Ok(StepForm::If(copy_code(alloc, test)?, part, Some(rest)))
+                    let ((test, part), rest) = both(head, copy_steps(alloc, rest.as_slice()))?;
+                    Ok(StepForm::If(test, part, Some(rest)))
                 }
             }
         }
         StepForm::While(test, body) => {
-            let body = copy_steps(alloc, body.as_slice())?;
-            Ok(StepForm::While(copy_code(alloc, test)?, body))
+            let body = copy_steps(alloc, body.as_slice());
+            let (test, body) = both(copy_code(alloc, test), body)?;
+            Ok(StepForm::While(test, body))
         }
         StepForm::Abort(first, second) => {
-            let second = Boxed::new(alloc, copy_step(alloc, second.get())?)?;
-            Ok(StepForm::Abort(copy_steps(alloc, first.as_slice())?, second))
+            let second = copy_boxed(alloc, second.get());
+            let (first, second) = both(copy_steps(alloc, first.as_slice()), second)?;
+            Ok(StepForm::Abort(first, second))
         }
         StepForm::Interrupt(first, second) => {
-            let second = Boxed::new(alloc, copy_step(alloc, second.get())?)?;
-            Ok(StepForm::Interrupt(copy_steps(alloc, first.as_slice())?, second))
+            let second = copy_boxed(alloc, second.get());
+            let (first, second) = both(copy_steps(alloc, first.as_slice()), second)?;
+            Ok(StepForm::Interrupt(first, second))
         }
         StepForm::Send {
             port,
@@ -71,13 +80,17 @@ fn copy_form(alloc: Global, form: &StepForm) -> Result<StepForm, AllocError>
             method,
             args,
             results,
-        } => Ok(StepForm::Call {
-            method: method.copy()?,
-            args: copy_codes(alloc, args.as_slice())?,
-            results: copy_slots(alloc, results.as_slice())?,
-        }),
+        } => copy_call(alloc, method, args.as_slice(), results.as_slice()),
         StepForm::Eval(value) => Ok(StepForm::Eval(copy_code(alloc, value)?)),
     }
+}
+
+/// The same in a box.
+#[cycle(step_copies)]
+fn copy_boxed(alloc: Global, step: &Step) -> Result<Boxed<Step>, AllocError>
+    ensures { IfOk result (λ copy. copy ≡ step.now) }
+{
+    Boxed::new(alloc, copy_step(alloc, step)?)
 }
 
 fn copy_send(
@@ -89,11 +102,13 @@ fn copy_send(
 ) -> Result<StepForm, AllocError>
     ensures { IfOk result (λ copy. copy ≡ StepForm.Send port name.now args.now block.now) }
 {
+    let parts = both(copy_part(alloc, args), copy_part(alloc, block));
+    let (name, (args, block)) = both(name.copy(), parts)?;
     Ok(StepForm::Send {
         port,
-        name: name.copy()?,
-        args: copy_part(alloc, args)?,
-        block: copy_part(alloc, block)?,
+        name,
+        args,
+        block,
     })
 }
 
@@ -107,8 +122,9 @@ fn copy_receive(
 ) -> Result<StepForm, AllocError>
     ensures { IfOk result (λ copy. copy ≡ StepForm.Receive port name.now into.now condition.now block.now) }
 {
-    let name = name.copy()?;
-    let (into, condition, block) = copy_optional(alloc, into, condition, block)?;
+    let head = both(name.copy(), copy_into(alloc, into));
+    let parts = both(copy_condition(alloc, condition), copy_part(alloc, block));
+    let ((name, into), (condition, block)) = both(head, parts)?;
     Ok(StepForm::Receive {
         port,
         name,
@@ -118,17 +134,21 @@ fn copy_receive(
     })
 }
 
-fn copy_optional(
+fn copy_call(
     alloc: Global,
-    into: &Option<Items<Slot>>,
-    condition: &Option<Code>,
-    block: &Option<Items<Code>>,
-) -> Result<(Option<Items<Slot>>, Option<Code>, Option<Items<Code>>), AllocError>
-    ensures { IfOk result (λ copy. copy ≡ (into.now, condition.now, block.now)) }
+    method: &Id,
+    args: &[Code],
+    results: &[Slot],
+) -> Result<StepForm, AllocError>
+    ensures { IfOk result (λ copy. copy ≡ StepForm.Call method.now args.now results.now) }
 {
-    let into = copy_into(alloc, into)?;
-    let condition = copy_condition(alloc, condition)?;
-    Ok((into, condition, copy_part(alloc, block)?))
+    let lists = both(copy_codes(alloc, args), copy_slots(alloc, results));
+    let (method, (args, results)) = both(method.copy(), lists)?;
+    Ok(StepForm::Call {
+        method,
+        args,
+        results,
+    })
 }
 
 fn copy_into(alloc: Global, into: &Option<Items<Slot>>) -> Result<Option<Items<Slot>>, AllocError>

@@ -11,7 +11,7 @@ use Rattle.pz_components.specs.devices.Walking as walking
 use Rattle.pz_components.specs.devices.IsWalk.{At, NoStart, IsFollowed, to_done, to_open, WaitsFor, IsWaiting, HasSource, IsWalk, Advances}
 use Rattle.pz_components.proofs.Places.{within, Pushed, before, last, pushed, at_last, in_first, of_taken, is_taken, of_dropped, is_dropped}
 use Rattle.pz_components.proofs.States.{two_ways, at_state, is_at, past, open_within, length-done_all, done_other, done_same}
-use Rattle.pz_components.proofs.Costs.{to_open-done_all}
+use Rattle.pz_components.proofs.Costs.{to_open-done_all, count_unseen-done_all}
 
 module _ (edges : List (List ℕ)) (w : Walked) (walk : IsWalk edges w) (gs : List Group) (g : Group) (here : w.groups ≡ gs ++ g ∷ []) (all : length w.pending ≤ g.pending) where
   abbrev c : ℕ
@@ -226,6 +226,12 @@ module _ (edges : List (List ℕ)) (w : Walked) (walk : IsWalk edges w) (gs : Li
   walks : IsWalk edges new
   walks = record {
     sized = length-done_all w.states (drop g.start w.path) c ∙ walk.sized;
+    few =
+        let one : length (w.found ++ g ∷ []) ≡ c + 1 = length_push w.found g in
+        let count : length w.groups ≡ length gs + 1 = ap (λ (x : List Group). length x) here ∙ length_push gs g in
+        let less : walking.count_unseen states ≤ walking.count_unseen w.states = count_unseen-done_all w.states (drop g.start w.path) c in
+        let before : c + (length w.groups + walking.count_unseen w.states) ≤ length edges = walk.few in
+        omega arith;
     path = record { placed = placed; on_path = on_path; grouped = grouped };
     groups = record { ordered = λ a b h k at there less. walk.groups.ordered a b h k (from a h at) (from b k there) less; bounded = bounded };
     done = record { downward = downward; together = together; numbered = numbered };

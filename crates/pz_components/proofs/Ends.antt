@@ -1,5 +1,5 @@
 -- How a walk begins, and what is known at its end.
-use Rattle.std.proofs.Common.{◌≡◌, ◌↔◌, refl, sym, ap, subst, ◌∙◌, ℕ, zero, suc, ◌<◌, ◌≤◌, ◌⊎◌, inl, inr, true, List, [], ◌∷◌, ◌++◌, map, length, Option, arith}
+use Rattle.std.proofs.Common.{◌≡◌, ◌↔◌, refl, sym, ap, subst, ◌∙◌, ℕ, zero, suc, ◌+◌, ◌<◌, ◌≤◌, ◌⊎◌, inl, inr, true, List, [], ◌∷◌, ◌++◌, map, length, Option, arith}
 use Rattle.std.specs.List.{Contains}
 use Rattle.std.specs.Option.{unwrap_or, option_map}
 use Rattle.std.proofs.lemmas.Bool.Decides.{nat_tests}
@@ -9,10 +9,11 @@ use Rattle.pz_components.specs.declared.walk.State.{State}
 use Rattle.pz_components.specs.declared.walk.State.TheVariants.{Unseen, Open, Done}
 use Rattle.pz_components.specs.declared.walk.Group.{Group}
 use Rattle.pz_components.specs.Graph.{targets, Reaches, itself, further, number_of, AreComponents}
-use Rattle.pz_components.specs.devices.Walking.{Walked, state_of, number, below, unseen, nothing_seen, is_at_end}
+use Rattle.pz_components.specs.devices.Walking.{Walked, state_of, number, below, unseen, count_unseen, nothing_seen, is_at_end}
 use Rattle.pz_components.specs.devices.IsWalk.{At, IsWalk}
 use Rattle.pz_components.proofs.Places.{within, no_place, Pushed, before, last, pushed, at_last, in_first}
 use Rattle.pz_components.proofs.States.{two_ways, at_state, is_at, unseen_within, past}
+use Rattle.pz_components.proofs.Costs.{count_unseen-all}
 
 -- at first nothing is seen
 length-unseen : (n : ℕ) → length (unseen n) ≡ n
@@ -69,6 +70,7 @@ module _ (edges : List (List ℕ)) where
   pub begins : IsWalk edges (nothing_seen edges)
   begins = record {
     sized = length-unseen (length edges);
+    few = let all : count_unseen (unseen (length edges)) ≡ length edges = count_unseen-all (length edges) in omega arith;
     path = record {
       placed = λ i v at. absurd (no_place i v at);
       on_path = λ i v is. absurd (never_open v i is);
@@ -137,6 +139,12 @@ module _ (edges : List (List ℕ)) (w : Walked) (walk : IsWalk edges w) (end : i
             let at : At w.states v (Done c) = is_at w.states v (Done c) (omega arith) is in
             record { its_number = c; at = at; is = numbered v c at }
 
+    bounded : (v : ℕ) → Numbered v → number_of numbers v < length edges
+    bounded v one =
+        let less : one.its_number < length w.found = walk.done.numbered v one.its_number one.at in
+        let few : length w.found + (length w.groups + count_unseen w.states) ≤ length edges = walk.few in
+        omega (arith, one.is)
+
     same_reach : (v u : ℕ) → Numbered v → Numbered u → number_of numbers v ≡ number_of numbers u → Reaches edges v u
     same_reach v u one two same =
         let equal : two.its_number ≡ one.its_number = sym two.is ∙ (sym same ∙ one.is) in
@@ -157,5 +165,7 @@ module _ (edges : List (List ℕ)) (w : Walked) (walk : IsWalk edges w) (end : i
     pub numbers_tell : AreComponents edges numbers
     numbers_tell = record {
       sized = ap (λ (ns : List ℕ). length ns) numbers_are ∙ (length-map w.states number ∙ walk.sized);
+      bounded = λ v inside. bounded v (as_numbered v inside);
+      ordered = λ v u inside within_too. no_more v u (as_numbered v inside) (as_numbered u within_too);
       same = λ v u inside within_too. same_numbers v u (as_numbered v inside) (as_numbered u within_too);
     }

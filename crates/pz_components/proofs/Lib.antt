@@ -1,6 +1,6 @@
 mod Places
 mod States
-mod Walks
+pub mod Walks
 mod Passing
 mod Costs
 mod Opening

@@ -7,12 +7,12 @@ use Rattle.pz_components.specs.declared.walk.State.{State}
 use Rattle.pz_components.specs.declared.walk.State.TheVariants.{Unseen, Open, Done}
 use Rattle.pz_components.specs.declared.walk.Group.{Group}
 use Rattle.pz_components.specs.Graph.{targets, Reaches, itself}
-use Rattle.pz_components.specs.devices.Walking.{Walked, state_of, opened, to_open}
+use Rattle.pz_components.specs.devices.Walking.{Walked, state_of, opened, to_open, count_unseen}
 use Rattle.pz_components.specs.devices.IsWalk.{At, NoStart, IsFollowed, to_done, to_open as known_open, WaitsFor, IsWaiting, HasSource, IsWalk, IsOpenEnded, Advances}
 use Rattle.pz_components.proofs.Places.{within, Pushed, before, last, pushed, at_last, in_first, in_second, Part, first, second, part, is_member, place}
 use Rattle.pz_components.proofs.States.{same_number, set_same, set_other, at_state, is_at, unseen_within}
 use Rattle.pz_components.proofs.Walks.{size, earlier, waits, room, reaches_next}
-use Rattle.pz_components.proofs.Costs.{to_open-opened}
+use Rattle.pz_components.proofs.Costs.{to_open-opened, count_unseen-opened}
 
 module _ (edges : List (List ℕ)) (w : Walked) (walk : IsWalk edges w) (p : List ℕ) (v : ℕ) (here : w.pending ≡ p ++ v ∷ []) (ended : IsOpenEnded w) (unseen : state_of w.states v ≡ Unseen) where
   abbrev n : ℕ
@@ -228,6 +228,11 @@ module _ (edges : List (List ℕ)) (w : Walked) (walk : IsWalk edges w) (p : Lis
   walks : IsWalk edges new
   walks = record {
     sized = length-set w.states v (Open n) ∙ walk.sized;
+    few =
+        let group : length gs ≡ length w.groups + 1 = length_push w.groups top in
+        let one : count_unseen states + 1 ≡ count_unseen w.states = count_unseen-opened w.states v n unseen in
+        let before : length w.found + (length w.groups + count_unseen w.states) ≤ length edges = walk.few in
+        omega arith;
     path = record { placed = placed; on_path = on_path; grouped = grouped };
     groups = record { ordered = ordered; bounded = bounded };
     done = record {

@@ -4,7 +4,7 @@ use Rattle.std.specs.List.{Contains}
 use Rattle.pz_components.specs.declared.walk.State.TheVariants.{Unseen, Open, Done}
 use Rattle.pz_components.specs.declared.walk.Group.{Group}
 use Rattle.pz_components.specs.Graph.{targets, Reaches}
-use Rattle.pz_components.specs.devices.Walking.{Walked, state_of}
+use Rattle.pz_components.specs.devices.Walking.{Walked, state_of, count_unseen}
 use Rattle.pz_components.specs.devices.IsWalk.{At, NoStart, IsFollowed, to_done, to_open, WaitsFor, IsWaiting, HasSource, IsWalk, IsOpenEnded, AreJoined, Advances}
 use Rattle.pz_components.proofs.Places.{Pushed, before, last}
 use Rattle.pz_components.proofs.States.{two_ways}
@@ -51,9 +51,10 @@ module _ (edges : List (List ℕ)) (w : Walked) (walk : IsWalk edges w) (p : Lis
         by_place : (k : ℕ) × At w.pending k x → (k : ℕ) × At p k x
         by_place (k, at) = by_pushed k (waits edges w walk p v here ended k x at)
 
-    pub passed : IsWalk edges (passed_to gs)
-    passed = record {
+    pub passed : length gs ≤ length w.groups → IsWalk edges (passed_to gs)
+    passed fewer = record {
       sized = walk.sized;
+      few = let before : length w.found + (length w.groups + count_unseen w.states) ≤ length edges = walk.few in omega arith;
       path = record { placed = walk.path.placed; on_path = walk.path.on_path; grouped = grouped };
       groups = record {
         ordered = λ a b g h at there less. walk.groups.ordered a b g h (from a g at) (from b h there) less;
@@ -67,7 +68,7 @@ module _ (edges : List (List ℕ)) (w : Walked) (walk : IsWalk edges w) (p : Lis
     }
 
     pub advances : length gs ≤ length w.groups → Advances edges w (passed_to gs)
-    advances fewer = record { walks = passed; nearer = let one : length w.pending ≡ length p + 1 = size edges w walk p v here ended in omega arith }
+    advances fewer = record { walks = passed fewer; nearer = let one : length w.pending ≡ length p + 1 = size edges w walk p v here ended in omega arith }
 
   -- to what is done
   pub to_component : (c : ℕ) → state_of w.states v ≡ Done c → Advances edges w (passed_to w.groups)

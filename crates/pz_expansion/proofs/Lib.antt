@@ -1,7 +1,9 @@
-mod Levels
 mod Backs
 mod ModelNodes
 mod SelfHolding
 mod Sizes
+mod Sized
+mod Numberings
+mod Orders
 mod Counted
 mod Rows

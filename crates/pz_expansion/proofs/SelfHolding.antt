@@ -19,6 +19,7 @@ use Rattle.pz_classes.specs.Kinds.{is_cluster}
 use Rattle.pz_classes.specs.Instances.{instances}
 use Rattle.pz_classes.specs.InstanceRules.{Holds, directly, through, BreaksC15, holds_itself}
 use Rattle.pz_components.specs.Graph.{targets, Reaches, itself, further, number_of, AreComponents}
+use Rattle.pz_components.proofs.Walks.{reaches_on}
 use Rattle.pz_expansion.specs.declared.nodes.Held.{Held}
 use Rattle.pz_expansion.specs.declared.nodes.Node.{Node}
 use Rattle.pz_expansion.specs.devices.Nodes.{held_by, node_of, nodes as nodes_in}
@@ -201,21 +202,21 @@ found_back nodes es seen_edges numbers seen found es_are edges_are are seen_are 
 
 module _ (m : ModelTree) where
   -- what stands in a class
-  stands : (c : ℕ) (h : Held) → Contains (held_by (nodes_in m) c) h → (n : Node) × (slice_get (nodes_in m) c ≡ Some n) × Contains n.held h
+  pub stands : (c : ℕ) (h : Held) → Contains (held_by (nodes_in m) c) h → (n : Node) × (slice_get (nodes_in m) c ≡ Some n) × Contains n.held h
   stands c h among = by_node (slice_get (nodes_in m) c) refl among
     where
       by_node : (o : Option Node) → slice_get (nodes_in m) c ≡ o → Contains (option_map_or (λ n. n.held) o []) h → (n : Node) × (slice_get (nodes_in m) c ≡ Some n) × Contains n.held h
       by_node None is at = absurd (no_held h at)
       by_node (Some n) is at = (n, is, at)
 
-  holds : (c : ℕ) (h : Held) → Contains (held_by (nodes_in m) c) h → Holds m c h.class
+  pub holds : (c : ℕ) (h : Held) → Contains (held_by (nodes_in m) c) h → Holds m c h.class
   holds c h among =
       let s = stands c h among in
       let d = declared m c s.0 h s.1 s.2 in
       let i : HeldAs m (instances d.decl) h = as_instance m (instances d.decl) h (subst (λ (n : Node). Contains n.held h) d.node s.2) in
       directly c h.class d.decl i.instance d.declared i.among i.class
 
-  reaches_held : (k c : ℕ) → Reaches (edges (nodes_in m)) k c → (c ≡ k) ⊎ Holds m k c
+  pub reaches_held : (k c : ℕ) → Reaches (edges (nodes_in m)) k c → (c ≡ k) ⊎ Holds m k c
   reaches_held k _ itself = inl refl
   reaches_held k _ (further c b before edge) = by_case (reaches_held k c before) (edge_by (nodes_in m) c b edge)
     where
@@ -223,16 +224,12 @@ module _ (m : ModelTree) where
       by_case (inl same) (h, among, class) = inr (subst (Holds m k) class (subst (λ (x : ℕ). Holds m x h.class) same (holds c h among)))
       by_case (inr before_it) (h, among, class) = inr (subst (Holds m k) class (through k c h.class before_it (holds c h among)))
 
-  in_turn : (k b c : ℕ) → Reaches (edges (nodes_in m)) k b → Reaches (edges (nodes_in m)) b c → Reaches (edges (nodes_in m)) k c
-  in_turn k b _ first itself = first
-  in_turn k b _ first (further a c before edge) = further a c (in_turn k b a first before) edge
-
   held_reaches : (k c : ℕ) → Holds m k c → Reaches (edges (nodes_in m)) k c
   held_reaches k c (directly _ _ d i here among class) =
       let h : Held = record { class = c; pos = i.class.pos } in
       let there : Contains (held_by (nodes_in m) k) h = rw (node_here m k d here) (is_held m (instances d) i c among class) in
       further k c itself (edge_to (nodes_in m) k h there)
-  held_reaches k c (through _ b _ first second) = in_turn k b c (held_reaches k b first) (held_reaches b c second)
+  held_reaches k c (through _ b _ first second) = reaches_on (edges (nodes_in m)) k b c (held_reaches k b first) (held_reaches b c second)
 
   back_is_c15 : (v : Violation) → LeadsBack (nodes_in m) v → BreaksC15 m v
   back_is_c15 _ (leads_back c n h here cluster among reaches) =

@@ -2,4 +2,4 @@ pub mod Nodes
 pub mod Levels
 pub mod LeadingBack
 pub mod Oversized
-pub mod Settling
+pub mod Counting

@@ -28,7 +28,7 @@ fn classes_of(alloc: Global, held: &[Held]) -> Result<Items<u32>, AllocError>
 }
 
 /// For each class the numbers of the classes of its instances. The only error is want of memory.
-fn edges_of(alloc: Global, nodes: &[Node]) -> Result<Items<Items<u32>>, AllocError>
+pub(crate) fn edges_of(alloc: Global, nodes: &[Node]) -> Result<Items<Items<u32>>, AllocError>
     ensures { IfOk result (λ es. es ≡ spec.edges nodes.now) }
 {
     let mut edges = Items::new(alloc);

@@ -28,16 +28,6 @@ pub(crate) struct Node {
     pub(crate) held: Items<Held>,
 }
 
-/// The instances in the class of this number; none where there is no such class.
-pub(crate) fn held_by(nodes: &[Node], class: usize) -> &[Held]
-    ensures { result.now ≡ spec.held_by nodes.now class }
-{
-    match nodes.get(class) {
-        Some(node) => node.held.as_slice(),
-        None => &[],
-    }
-}
-
 /// Adds the instance, if its class may have instances. The only error is want of memory.
 fn push_held(
     held: &mut Items<Held>,

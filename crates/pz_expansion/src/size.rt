@@ -8,8 +8,8 @@ ghost use Rattle.pz_classes.specs.SizeRules.{BreaksC19, HasNoSize};
 ghost use Rattle.pz_classes.specs.Tables.{AreClasses};
 ghost use Rattle.pz_expansion.specs.devices.Oversized as spec;
 
+use crate::counting::all_totals;
 use crate::nodes::nodes_of;
-use crate::settling::all_totals;
 use crate::totals::{Totals, total_in};
 use pz_classes::Classes;
 use pz_syntax::{Decl, Model};

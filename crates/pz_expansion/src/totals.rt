@@ -1,12 +1,11 @@
 // What stands in a system once every cluster is replaced by what it holds, counted as far as just
 // above the limits.
 
-ghost use Rattle.std.specs.Prelude.{◌≡◌, length, IfOk};
+ghost use Rattle.std.specs.Prelude.{◌≡◌, length};
 ghost use Rattle.pz_expansion.specs.devices.Levels as spec;
 
 use crate::nodes::Node;
 use pz_syntax::Channel;
-use std::alloc::{AllocError, Global};
 
 /// One more than the most processes, or the most clusters, that a system may have.
 const MANY: u32 = 10_001;
@@ -15,7 +14,7 @@ const MANY_CHANNELS: u32 = 1_000_001;
 
 /// How many processes, clusters and channels there are. A count that reaches the first number that
 /// is too many stands still there.
-#[derive(Clone, Copy, Debug, PartialEq, Eq)]
+#[derive(Clone, Copy)]
 pub(crate) struct Totals {
     pub(crate) processes: u32,
     pub(crate) clusters: u32,
@@ -92,43 +91,4 @@ pub(crate) fn total_of(nodes: &[Node], class: usize, totals: &[Totals]) -> Total
         Some(node) => total_with(node, totals),
         None => Totals::nothing(),
     }
-}
-
-/// Each class with its instances, each of them counted by these totals. The only error is want of
-/// memory.
-fn next_level(alloc: Global, nodes: &[Node], totals: &[Totals]) -> Result<Vec<Totals>, AllocError>
-    ensures { IfOk result (λ ts. ts.items ≡ spec.next_level nodes.now totals.now) }
-{
-    let mut next = Vec::new(alloc);
-    for node in nodes {
-        next.push(total_with(node, totals))?;
-    }
-    Ok(next)
-}
-
-/// Nothing for each class. The only error is want of memory.
-fn no_levels(alloc: Global, nodes: &[Node]) -> Result<Vec<Totals>, AllocError>
-    ensures { IfOk result (λ ts. ts.items ≡ spec.level nodes.now 0) }
-{
-    let mut totals = Vec::new(alloc);
-    for _node in nodes {
-        totals.push(Totals::nothing())?;
-    }
-    Ok(totals)
-}
-
-/// The totals of each class, down to so many levels. The only error is want of memory.
-#[tactic(auto, using(crate::proofs::Levels::level_stays))]
-pub(crate) fn level(alloc: Global, nodes: &[Node], levels: usize) -> Result<Vec<Totals>, AllocError>
-    ensures { IfOk result (λ ts. ts.items ≡ spec.level nodes.now levels) }
-{
-    let mut totals = no_levels(alloc, nodes)?;
-    for _level in 0..levels {
-        let next = next_level(alloc, nodes, totals.as_slice())?;
-        if next.as_slice() == totals.as_slice() {
-            return Ok(totals);
-        }
-        totals = next;
-    }
-    Ok(totals)
 }

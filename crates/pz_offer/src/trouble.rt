@@ -12,7 +12,13 @@ pub enum Trouble {
         pos: Pos,
     },
     /// An evaluation is not over within its allowance.
-    Spent { process: u32, pos: Pos },
+    Spent {
+        process: u32,
+        pos: Pos,
+    },
     /// A term is higher than its limit.
-    High { process: u32, pos: Pos },
+    High {
+        process: u32,
+        pos: Pos,
+    },
 }

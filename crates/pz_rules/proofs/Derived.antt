@@ -417,10 +417,31 @@ module _ (setting : Setting) (c : Config) where
         let packs = sends_complete x.sends_at x.sends_frame x.sends_part x.sends_pos x.sends_port p.message p.parcel x.sends in
         let s : Sender = record { at = record { end = p.sender; seen = x.sends_at; frame = x.sends_frame; part = x.sends_part }; sending = record { pos = x.sends_pos; port = x.sends_port; message = p.message; values = packs.values; state = packs.state } } in
         let r : Receiver = record { at = record { end = p.receiver; seen = x.receives_at; frame = x.receives_frame; part = x.receives_part }; receiving = record { pos = x.receives_pos; port = x.receives_port; message = p.message; count = length p.parcel.values } } in
-        let same : p.parcel ≡ the_parcel packs.state packs.values = parcel_once packs.state packs.values p.parcel packs.packed in
-        (s, (x.sender_active, packs.is), (r, (x.receiver_active, receives_complete x.receives_part x.receives_pos x.receives_port p.message (length p.parcel.values) x.receives),
-        (x.two, (p.number, wires.only p.sender.process x.sends_port p.number x.sender_wire, (wires.only p.receiver.process x.receives_port p.number x.receiver_wire, (refl, (ap (λ (q : ParcelView). length q.values) (sym same),
-        ap (λ (q : ParcelView). let z : Pair = record { number = p.number; sender = p.sender; receiver = p.receiver; message = p.message; parcel = q } in z) same)))))))
+        let same : p.parcel ≡ the_parcel packs.state packs.values = parcel_once packs.state packs.values p.parcel packs.packed in (
+          s,
+          (x.sender_active, packs.is),
+          (
+            r,
+            (x.receiver_active, receives_complete x.receives_part x.receives_pos x.receives_port p.message (length p.parcel.values) x.receives),
+            (
+              x.two,
+              (
+                p.number,
+                wires.only p.sender.process x.sends_port p.number x.sender_wire,
+                (
+                  wires.only p.receiver.process x.receives_port p.number x.receiver_wire,
+                  (
+                    refl,
+                    (
+                      ap (λ (q : ParcelView). length q.values) (sym same),
+                      ap (λ (q : ParcelView). let z : Pair = record { number = p.number; sender = p.sender; receiver = p.receiver; message = p.message; parcel = q } in z) same,
+                    ),
+                  ),
+                ),
+              ),
+            ),
+          ),
+        )
 
     pairs : Finite IsPairOf
     pairs = alike pairs_by by_pair (bind {P = IsSender} {Q = FittingOf} senders fitting_of)

@@ -42,9 +42,10 @@ module _ (setting : Setting) (c : Config) where
   -- what stands at a number
   pub stands_there : (i : ℕ) (p : Process) → IsWhole setting c → slice_get c.processes i ≡ Some p → i < length c.processes → (a : At) × Stands setting c i p a
   stands_there i p all is within =
-      let place = there (processes setting.model) i (omega (arith, all, within)) in
-      (record { setting = setting; process = i; class = class_at setting.model place.0; clock = c.clock; state = p.state },
-      record { place = place.0; is_process = place.1; is_here = is; seen = refl })
+      let place = there (processes setting.model) i (omega (arith, all, within)) in (
+        record { setting = setting; process = i; class = class_at setting.model place.0; clock = c.clock; state = p.state },
+        record { place = place.0; is_process = place.1; is_here = is; seen = refl },
+      )
 
   module _ (d : ℕ) (x y : Config) (all : IsWhole setting c) (one : PassesTo setting c d x) (other : PassesTo setting c d y) where
     same_at : (i : ℕ) → i < length x.processes → slice_get x.processes i ≡ slice_get y.processes i

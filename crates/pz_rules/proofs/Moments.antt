@@ -39,7 +39,7 @@ module _ (setting : Setting) (c : Config) where
   at_one_end e e' a a' f f' p p' k k' o o' at can at' can' same =
       let here : PartAt setting c e' a f p = subst (λ (x : End). PartAt setting c x a f p) same at in
       let one : (let d : Doing = record { kind = k; pos = o } in d) ≡ record { kind = k'; pos = o' } =
-          some_is (sym (does_complete a f p k o can) ∙ computed_once setting c does (part_at_once setting c e' a a' f f' p p' here at') ∙ does_complete a' f' p' k' o' can') in
+      some_is (sym (does_complete a f p k o can) ∙ computed_once setting c does (part_at_once setting c e' a a' f f' p p' here at') ∙ does_complete a' f' p' k' o' can') in
       ap (λ (x : End). Internal x k o) same ∙ ap (λ (d : Doing). Internal e' d.kind d.pos) one
 
   one_comm : (w w' : ℕ) (s s' r r' : End) (m m' : List ℕ) (p p' : ParcelView) → IsPair setting c w s r m p → IsPair setting c w' s' r' m' p' → (let x : ℕ × (End × End) = (w, (s, r)) in x) ≡ (w', (s', r')) → Comm w s r m p ≡ Comm w' s' r' m' p'

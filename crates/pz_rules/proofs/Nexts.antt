@@ -44,11 +44,11 @@ module _ (setting : Setting) (c : Config) where
   acts_once does once at q p x y =
       let same = stands_once at.process x.process y.process x.seen y.seen x.stands y.stands in
       let active : IsActive y.seen y.process.term at.place x.frame x.part =
-          subst (λ (b : At). IsActive b y.process.term at.place x.frame x.part) same.seen (subst (λ (z : Process). IsActive x.seen z.term at.place x.frame x.part) same.process x.active) in
+      subst (λ (b : At). IsActive b y.process.term at.place x.frame x.part) same.seen (subst (λ (z : Process). IsActive x.seen z.term at.place x.frame x.part) same.process x.active) in
       let part = active_once active y.active in
       let acts : does y.seen y.frame y.part x.pos x.left =
-          subst (λ (t : Term). does y.seen y.frame t x.pos x.left) part.part
-          (subst (λ (f : ℕ). does y.seen f x.part x.pos x.left) part.frame (subst (λ (b : At). does b x.frame x.part x.pos x.left) same.seen x.acts)) in
+      subst (λ (t : Term). does y.seen y.frame t x.pos x.left) part.part
+      (subst (λ (f : ℕ). does y.seen f x.part x.pos x.left) part.frame (subst (λ (b : At). does b x.frame x.part x.pos x.left) same.seen x.acts)) in
       let outcome = once y.seen y.frame y.part x.pos y.pos x.left y.left acts y.acts in
       x.leaves
       ∙ ap (λ (l : Result Process Trouble). and_then l (settled x.seen x.pos x.process.term at.place)) outcome.1

@@ -126,26 +126,32 @@ module _ (a : At) (f : ℕ) where
       let only = gives_all_only a f at es r s gives in
       (refl, ap (λ (x : Result (List Value) Trouble). and_then x (λ _. Ok (done_in s))) only.0 ∙ ap (λ (x : StateView). and_then (found_all a f at es) (λ _. Ok (done_in x))) only.1)
   performed _ _ _ (actions.tests at e ts other r s gives) =
-      let only = gives_only a f at e r s gives in
-      (refl, ap (λ (x : Result Value Trouble). and_then x (λ v. and_then (truth a.process at v) (λ b. Ok (chosen s ts other b)))) only.0
-      ∙ ap (λ (x : StateView). and_then (found a f at e) (λ v. and_then (truth a.process at v) (λ b. Ok (chosen x ts other b)))) only.1)
+      let only = gives_only a f at e r s gives in (
+        refl,
+        ap (λ (x : Result Value Trouble). and_then x (λ v. and_then (truth a.process at v) (λ b. Ok (chosen s ts other b)))) only.0
+            ∙ ap (λ (x : StateView). and_then (found a f at e) (λ v. and_then (truth a.process at v) (λ b. Ok (chosen x ts other b)))) only.1,
+      )
   performed _ _ _ (actions.repeats at e ts r s gives) =
-      let only = gives_only a f at e r s gives in
-      (refl, ap (λ (x : Result Value Trouble). and_then x (λ v. and_then (truth a.process at v) (λ b. Ok (turned s (repeated at e ts) ts b)))) only.0
-      ∙ ap (λ (x : StateView). and_then (found a f at e) (λ v. and_then (truth a.process at v) (λ b. Ok (turned x (repeated at e ts) ts b)))) only.1)
+      let only = gives_only a f at e r s gives in (
+        refl,
+        ap (λ (x : Result Value Trouble). and_then x (λ v. and_then (truth a.process at v) (λ b. Ok (turned s (repeated at e ts) ts b)))) only.0
+            ∙ ap (λ (x : StateView). and_then (found a f at e) (λ v. and_then (truth a.process at v) (λ b. Ok (turned x (repeated at e ts) ts b)))) only.1,
+      )
   performed _ _ _ (actions.elapses at e) = (refl, refl)
   performed _ _ _ (actions.expires n at) = (refl, refl)
   performed _ _ _ (actions.calls at method args results r s locals number body gives is_method is_free) =
-      let only = gives_all_only a f at args r s gives in
-      (refl, record {
-        locals = locals;
-        number = number;
-        body = body;
-        is_method = is_method;
-        is_free = subst (λ (x : StateView). IsLeastFree x.frames number) only.1 is_free;
-        is = ap (λ (x : Result (List Value) Trouble). and_then x (λ vs. Ok (entered s number locals results body vs))) only.0
-            ∙ ap (λ (x : StateView). and_then (found_all a f at args) (λ vs. Ok (entered x number locals results body vs))) only.1;
-      })
+      let only = gives_all_only a f at args r s gives in (
+        refl,
+        record {
+          locals = locals;
+          number = number;
+          body = body;
+          is_method = is_method;
+          is_free = subst (λ (x : StateView). IsLeastFree x.frames number) only.1 is_free;
+          is = ap (λ (x : Result (List Value) Trouble). and_then x (λ vs. Ok (entered s number locals results body vs))) only.0
+              ∙ ap (λ (x : StateView). and_then (found_all a f at args) (λ vs. Ok (entered x number locals results body vs))) only.1;
+        },
+      )
 
   step_once : (s : Step) (pos pos' : Pos) (q p : Result Process Trouble) → StepPerformed s pos q → StepPerformed s pos' p → (pos ≡ pos') × (q ≡ p)
   step_once (skip at) pos pos' q p x y = (x.0 ∙ sym y.0, x.1 ∙ sym y.1)
@@ -179,10 +185,12 @@ module _ (a : At) (f : ℕ) where
   handed : (parcel : ParcelView) (t : Term) (pos : Pos) (q : Result Process Trouble) → Hands a f parcel t pos q → Handed t pos q
   handed parcel _ _ _ (messages.hands at port name args after values s r end gives packed gives_block) =
       let state : s ≡ left_part a f args = (gives_part_only a f at args (Ok values) s gives).1 in
-      let only = gives_part_only (in_state a s) f at after r end gives_block in
-      (refl, ap (λ (x : Result (List Value) Trouble). and_then x (λ _. Ok (done_in end))) only.0
-      ∙ ap (λ (x : StateView). and_then (found_part (in_state a s) f at after) (λ _. Ok (done_in x))) only.1
-      ∙ ap (λ (x : StateView). and_then (found_part (in_state a x) f at after) (λ _. Ok (done_in (left_part (in_state a x) f after)))) state)
+      let only = gives_part_only (in_state a s) f at after r end gives_block in (
+        refl,
+        ap (λ (x : Result (List Value) Trouble). and_then x (λ _. Ok (done_in end))) only.0
+            ∙ ap (λ (x : StateView). and_then (found_part (in_state a s) f at after) (λ _. Ok (done_in x))) only.1
+            ∙ ap (λ (x : StateView). and_then (found_part (in_state a x) f at after) (λ _. Ok (done_in (left_part (in_state a x) f after)))) state,
+      )
 
   step_handed_once : (s : Step) (pos pos' : Pos) (q p : Result Process Trouble) → StepHanded s pos q → StepHanded s pos' p → (pos ≡ pos') × (q ≡ p)
   step_handed_once (send at port name args after) pos pos' q p x y = (x.0 ∙ sym y.0, x.1 ∙ sym y.1)
@@ -208,9 +216,14 @@ module _ (a : At) (f : ℕ) where
 
   taken : (parcel : ParcelView) (t : Term) (pos : Pos) (q : Result Process Trouble) → Takes a f parcel t pos q → Taken parcel t pos q
   taken parcel _ _ _ (messages.takes at port name into condition after r end fits gives) =
-      let only = gives_part_only (in_state a (bound a f into parcel)) f at after r end gives in
-      (refl, inl (fits, ap (λ (x : Result (List Value) Trouble). and_then x (λ _. Ok (done_in end))) only.0
-      ∙ ap (λ (x : StateView). and_then (found_part (in_state a (bound a f into parcel)) f at after) (λ _. Ok (done_in x))) only.1))
+      let only = gives_part_only (in_state a (bound a f into parcel)) f at after r end gives in (
+        refl,
+        inl (
+          fits,
+          ap (λ (x : Result (List Value) Trouble). and_then x (λ _. Ok (done_in end))) only.0
+              ∙ ap (λ (x : StateView). and_then (found_part (in_state a (bound a f into parcel)) f at after) (λ _. Ok (done_in x))) only.1,
+        ),
+      )
   taken parcel _ _ _ (messages.full at port name into condition after not_fits) = (refl, inr (not_fits, refl))
 
   pub either_once : {F R : Type 0} {x y q p : R} → (F × (q ≡ x)) ⊎ ((¬ F) × (q ≡ y)) → (F × (p ≡ x)) ⊎ ((¬ F) × (p ≡ y)) → q ≡ p

@@ -65,8 +65,8 @@ module _ (setting : Setting) (c : Config) where
   judgement_once receiver parcel v w x y =
       let same = part_at_once receiver x.seen y.seen x.frame y.frame x.part y.part x.active y.active in
       let here : Judges y.seen y.frame parcel y.part v =
-          subst (λ (t : Term). Judges y.seen y.frame parcel t v) same.part
-          (subst (λ (f : ℕ). Judges y.seen f parcel x.part v) same.frame (subst (λ (a : At). Judges a x.frame parcel x.part v) same.seen x.judges)) in
+      subst (λ (t : Term). Judges y.seen y.frame parcel t v) same.part
+      (subst (λ (f : ℕ). Judges y.seen f parcel x.part v) same.frame (subst (λ (a : At). Judges a x.frame parcel x.part v) same.seen x.judges)) in
       judges_once y.seen y.frame parcel y.part v w here y.judges
 
   err_is : {A : Type 0} {t u : Trouble} → (let r : Result A Trouble = Err t in r) ≡ Err u → t ≡ u

@@ -71,11 +71,13 @@ module _ (setting : Setting) (c : Config) (d : ℕ) where
 
     each_passes : (i : ℕ) (p : Process) (a : At) → Stands setting c i p a → (x : Term) × Passes a d 0 p.term x × (slice_get next_config.processes i ≡ Some (record { term = x; state = p.state }))
     each_passes i p a stands =
-        let n : 0 + i ≡ i = omega arith in
-        (passed a d 0 p.term, passes_some a d 0 p.term (calm i p a stands),
-        later_at 0 i (processes setting.model) c.processes stands.place p stands.is_process stands.is_here
-        ∙ ap (λ (k : ℕ). Some (later k stands.place p)) n
-        ∙ ap (λ (b : At). let q : Process = record { term = passed b d 0 p.term; state = p.state } in Some q) (sym stands.seen))
+        let n : 0 + i ≡ i = omega arith in (
+          passed a d 0 p.term,
+          passes_some a d 0 p.term (calm i p a stands),
+          later_at 0 i (processes setting.model) c.processes stands.place p stands.is_process stands.is_here
+              ∙ ap (λ (k : ℕ). Some (later k stands.place p)) n
+              ∙ ap (λ (b : At). let q : Process = record { term = passed b d 0 p.term; state = p.state } in Some q) (sym stands.seen),
+        )
 
     passing_there : PassesTo setting c d next_config
     passing_there = record { clock = refl; all = as_many 0 (processes setting.model) c.processes; each = each_passes }

@@ -60,14 +60,16 @@ sends_are_listed a t = lists a t _ (sent_by a) (λ f part x is. offering_sound a
 
 pub sends_have_parcels : SendsHaveParcels
 sends_have_parcels a f part x h =
-    let is = offering_complete a f part x h in
-    (the_parcel x.state x.values, record {
-      sends = sends_sound a f part x (the_parcel x.state x.values) is (parcel_is x.state x.values);
-      packed = parcel_is x.state x.values;
-      only = λ other sends.
-          let packs = sends_complete a f part x.pos x.port x.message other sends in
-          parcel_once packs.state packs.values other packs.packed ∙ ap (λ (z : Sending). the_parcel z.state z.values) (some_is (sym packs.is ∙ is));
-    })
+    let is = offering_complete a f part x h in (
+      the_parcel x.state x.values,
+      record {
+        sends = sends_sound a f part x (the_parcel x.state x.values) is (parcel_is x.state x.values);
+        packed = parcel_is x.state x.values;
+        only = λ other sends.
+            let packs = sends_complete a f part x.pos x.port x.message other sends in
+            parcel_once packs.state packs.values other packs.packed ∙ ap (λ (z : Sending). the_parcel z.state z.values) (some_is (sym packs.is ∙ is));
+      },
+    )
 
 pub receives_are_listed : ReceivesAreListed
 receives_are_listed a t = lists a t _ (λ f. received_by) (λ f part x is. receives_sound part x is) (λ f part x h. receives_complete part x.pos x.port x.message x.count h)

@@ -33,7 +33,6 @@ left_by s t = record { term = t; state = s }
 abbrev pub joined : Terms → Term
 joined ts = if all_done ts then done else parallel ts
 
-
 -- the values of the outputs of a frame, which are its locals behind its inputs, go to the variables
 -- of the frame f around it
 abbrev pub returned : ℕ → ℕ → ℕ → List Slot → StateView → StateView

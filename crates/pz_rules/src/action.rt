@@ -21,7 +21,11 @@ pub enum Kind {
 #[derive(Drop)]
 pub enum Action {
     /// An internal step of one process, at the place of the first token of its statement.
-    Internal { at: End, kind: Kind, pos: Pos },
+    Internal {
+        at: End,
+        kind: Kind,
+        pos: Pos,
+    },
     /// A communication of two processes over a wire, which has its number from 0.
     Comm {
         wire: u32,

@@ -100,9 +100,9 @@ module _ (tree : ModelTree) where
 
 module _ (text : List ℕ) (ts : List Token) (end : Pos) (tree : ModelTree) (read : AreRead text ts end tree) where
   -- the job is not built for the tree
-  pub unbuilt_cause : (job : Job) (e : ReadModelError) → IsErrorOf (IsUnbuiltFor job ts end tree) e → IsErrorOf (IsRefused job text) e
-  unbuilt_cause job e found = error_as (IsUnbuiltFor job ts end tree) (IsRefused job text) refuses e found
+  pub unbuilt_cause : (job : Job) (e : ReadModelError) → IsErrorOf (IsUnbuiltFor job ts end) e → IsErrorOf (IsRefused job text) e
+  unbuilt_cause job e found = error_as (IsUnbuiltFor job ts end) (IsRefused job text) refuses e found
     where
-      refuses : (r : Refusal) → IsUnbuiltFor job ts end tree r → IsRefused job text r
+      refuses : (r : Refusal) → IsUnbuiltFor job ts end r → IsRefused job text r
       refuses r is = subst (λ (x : Refusal). IsRefused job text x) (sym is.1)
-          (unbuilt ts tree is.0 read.are_tokens read.is_tree read.sound (subst (λ (p : Pos). IsUnbuilt ts p tree job is.0) read.is_end is.2))
+          (unbuilt ts tree is.0 read.are_tokens read.is_tree read.sound (subst (λ (p : Pos). IsUnbuilt ts p job is.0) read.is_end is.2))

@@ -19,7 +19,8 @@ use Rattle.pz_first.proofs.InGrammar.{in_grammar}
 use Rattle.pz_term.specs.FirstPath.{skips, delays, system_of, tree_of, IsBody, HasBodies, reserved, IsKnown}
 use Rattle.pz_term.specs.Runs.{Event, acted, passed, ended}
 use Rattle.pz_term.proofs.Rows.{at, method_a, delaying_body, delaying, calling, skipping, expiring, last_skip, delaying_run}
-use Rattle.pz_run.specs.Accepted.{uncounted, HasProcesses}
+use Rattle.pz_bind.specs.Nest as nest
+use Rattle.pz_bind.specs.Wires as wiring
 use Rattle.pz_run.specs.Lines.{usage_line, accepted_line, refusal_line}
 use Rattle.pz_run.specs.Models.{IsTreeOf, IsModelOf}
 use Rattle.pz_run.specs.Output.{PrintsRun, run, runs, lacks, reads, Prints, usage, does}
@@ -123,7 +124,7 @@ no_choice : asked (codes "run" ∷ codes "m" ∷ []) ≡ None
 no_choice = refl
 
 -- what is printed of a check
-accepted_row : accepted_line 1 ≡ codes "accepted 1 processes 0 wires\n"
+accepted_row : accepted_line 7 4 ≡ codes "accepted 7 processes 4 wires\n"
 unfolding digits
 accepted_row = refl
 
@@ -131,9 +132,9 @@ violation_row : refusal_line (Violates (violation 13 (at 7 22))) ≡ codes "mode
 unfolding digits
 violation_row = refl
 
--- all of the row is counted: its one process
-all_counted : uncounted (tree_of delaying) ≡ []
-all_counted = refl
+-- one process and no wire
+one_process : length (nest.processes (tree_of delaying)) ≡ 1
+one_process = refl
 
-one_process : HasProcesses (tree_of delaying) 1
-one_process = record { system_of = system_of delaying; is_system = (0, omega arith, refl); counted = refl }
+no_wire : length (wiring.wires (tree_of delaying)) ≡ 0
+no_wire = refl

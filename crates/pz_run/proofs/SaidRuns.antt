@@ -62,8 +62,8 @@ module _ (text : List ℕ) (before now : SinkState) (given : Status) where
   pub says_model : (m : FirstModel) → IsModelOf text m → IsSound (tree_of m) → SaysRun m before now given → AnswersModel Run text before now given
   says_model m is sound says = inr (record { bytes = says.bytes; wanted = says.wanted; prints = runs m says.bytes says.wanted is sound says.prints; said = says.said })
 
-  pub says_accepted : (ts : List Token) (t : ModelTree) (count : ℕ) → AreTokens text ts → IsTreeOf ts t → IsAccepted t count → Said before now (accepted_line count) Done given → AnswersModel Check text before now given
-  says_accepted ts t count are of is said = inr (record { bytes = accepted_line count; wanted = Done; prints = accepts ts t count are of is; said = said })
+  pub says_accepted : (ts : List Token) (t : ModelTree) (processes wires : ℕ) → AreTokens text ts → IsTreeOf ts t → IsAccepted t processes wires → Said before now (accepted_line processes wires) Done given → AnswersModel Check text before now given
+  says_accepted ts t processes wires are of is said = inr (record { bytes = accepted_line processes wires; wanted = Done; prints = accepts ts t processes wires are of is; said = said })
 
   pub says_refused : (job : Job) (r : Refusal) → IsRefused job text r → Said before now (refusal_line r) ModelRefused given → AnswersModel job text before now given
   says_refused job r is said = inr (record { bytes = refusal_line r; wanted = ModelRefused; prints = refuses job r is; said = said })

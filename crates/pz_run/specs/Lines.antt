@@ -52,9 +52,9 @@ read_fault_line name = codes "read fault: " ++ (name ++ newline)
 abbrev pub too_long_line : List ℕ → List ℕ
 too_long_line name = codes "too long: " ++ (name ++ newline)
 
--- the wires between processes are not counted yet: there are none where a model has no channel
-abbrev pub accepted_line : ℕ → List ℕ
-accepted_line processes = codes "accepted " ++ (decimal processes ++ codes " processes 0 wires\n")
+-- how many processes and how many wires
+abbrev pub accepted_line : ℕ → ℕ → List ℕ
+accepted_line processes wires = codes "accepted " ++ (decimal processes ++ (codes " processes " ++ (decimal wires ++ codes " wires\n")))
 
 abbrev pub refused_line : List ℕ → Pos → List ℕ
 refused_line kind at = codes "model refused: " ++ (kind ++ (codes " " ++ (decimal at.line ++ (codes ":" ++ (decimal at.column ++ newline)))))

@@ -31,7 +31,7 @@ pub data PrintsRun (m : FirstModel) : List ℕ → Status → Type 0 where
 pub data PrintsModel (text : List ℕ) : Job → List ℕ → Status → Type 0 where
   refuses : (job : Job) (r : Refusal) → IsRefused job text r → PrintsModel text job (refusal_line r) ModelRefused
   runs : (m : FirstModel) (bytes : List ℕ) (status : Status) → IsModelOf text m → IsSound (tree_of m) → PrintsRun m bytes status → PrintsModel text Run bytes status
-  accepts : (ts : List Token) (t : ModelTree) (processes : ℕ) → AreTokens text ts → IsTreeOf ts t → IsAccepted t processes → PrintsModel text Check (accepted_line processes) Done
+  accepts : (ts : List Token) (t : ModelTree) (processes wires : ℕ) → AreTokens text ts → IsTreeOf ts t → IsAccepted t processes wires → PrintsModel text Check (accepted_line processes wires) Done
 
 pub data PrintsFile (job : Job) (name : List ℕ) : Option (List ℕ) → List ℕ → Status → Type 0 where
   lacks : PrintsFile job name None (read_fault_line name) ReadFault

@@ -1,6 +1,6 @@
 -- When a text is refused, as what, and at which place: first its tokens, then its tree, then the
 -- rules on models, then whether the job is built for such a model.
-use Rattle.std.specs.Prelude.{◌≡◌, ℕ, List, ◌∷◌}
+use Rattle.std.specs.Prelude.{ℕ, List}
 use Rattle.pz_syntax.specs.declared.tokens.Pos.{Pos}
 use Rattle.pz_syntax.specs.declared.tokens.Token.{Token}
 use Rattle.pz_syntax.specs.Classes.{ModelTree}
@@ -18,10 +18,9 @@ use Rattle.pz_classes.specs.Violations.{Violates}
 use Rattle.pz_classes.specs.Soundness.{Breaks, IsSound}
 use Rattle.pz_first.specs.Grammar.{IsRefusedAt}
 use Rattle.pz_run.specs.declared.job.Job.{Job}
-use Rattle.pz_run.specs.declared.job.Job.TheVariants.{Run, Check}
+use Rattle.pz_run.specs.declared.job.Job.TheVariants.{Run}
 use Rattle.pz_run.specs.declared.refusal.Refusal.{Refusal}
 use Rattle.pz_run.specs.declared.refusal.Refusal.TheVariants as refusal
-use Rattle.pz_run.specs.Accepted.{uncounted}
 use Rattle.pz_run.specs.Models.{IsTreeOf, nesting_limit}
 
 -- the place behind the last byte
@@ -45,12 +44,10 @@ pub data IsViolation (t : ModelTree) : Violation → Type 0 where
   in_classes : (v : Violation) → IsLeast (Violates t) v → IsViolation t v
   in_rules : (v : Violation) → ((w : Violation) → Violates t w → ⊥) → IsLeast (Breaks t) v → IsViolation t v
 
--- the first place for which a job is not built
-pub data IsUnbuilt (ts : List Token) (end : Pos) (t : ModelTree) : Job → Pos → Type 0 where
+-- the first place for which a job is not built: a check is, for every model
+pub data IsUnbuilt (ts : List Token) (end : Pos) : Job → Pos → Type 0 where
   -- the tree is none of the first path
-  grammar : (at : Pos) → IsRefusedAt ts end at → IsUnbuilt ts end t Run at
-  -- a cluster class or a channel
-  count : (at : Pos) (later : List Pos) → uncounted t ≡ at ∷ later → IsUnbuilt ts end t Check at
+  grammar : (at : Pos) → IsRefusedAt ts end at → IsUnbuilt ts end Run at
 
 pub data IsRefused (job : Job) (text : List ℕ) : Refusal → Type 0 where
   -- the text has no tokens
@@ -60,4 +57,4 @@ pub data IsRefused (job : Job) (text : List ℕ) : Refusal → Type 0 where
   -- the model violates a rule
   violates : (ts : List Token) (t : ModelTree) (v : Violation) → AreTokens text ts → IsTreeOf ts t → IsViolation t v → IsRefused job text (refusal.Violates v)
   -- it violates none, and the job is not built for it
-  unbuilt : (ts : List Token) (t : ModelTree) (at : Pos) → AreTokens text ts → IsTreeOf ts t → IsSound t → IsUnbuilt ts (end_of text) t job at → IsRefused job text (refusal.Unbuilt at)
+  unbuilt : (ts : List Token) (t : ModelTree) (at : Pos) → AreTokens text ts → IsTreeOf ts t → IsSound t → IsUnbuilt ts (end_of text) job at → IsRefused job text (refusal.Unbuilt at)

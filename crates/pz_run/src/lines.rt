@@ -3,6 +3,7 @@ ghost use Rattle.std.specs.Prelude.{◌≡◌, ◌++◌, IfOk, string_bytes, cod
 ghost use Rattle.pz_run.specs.Lines as lines;
 ghost use Rattle.pz_run.specs.Status.{ending_of};
 
+use crate::counting::Size;
 use crate::ending::Ending;
 use crate::refusal::Refusal;
 use pz_syntax::Pos;
@@ -87,11 +88,12 @@ pub fn too_long_line(alloc: Global, name: &str) -> Result<String, AllocError>
     format!(in alloc; "too long: {name}\n")
 }
 
-/// The line of a model that is accepted, with the number of its processes.
-pub fn accepted_line(alloc: Global, processes: usize) -> Result<String, AllocError>
-    ensures { IfOk result (λ line. string_bytes line ≡ lines.accepted_line processes) }
+/// The line of a model that is accepted, with the numbers of its processes and its wires.
+pub fn accepted_line(alloc: Global, size: Size) -> Result<String, AllocError>
+    ensures { IfOk result (λ line. string_bytes line ≡ lines.accepted_line size.processes size.wires) }
 {
-    format!(in alloc; "accepted {processes} processes 0 wires\n")
+    let Size { processes, wires } = size;
+    format!(in alloc; "accepted {processes} processes {wires} wires\n")
 }
 
 /// The line of a refused model: what kind of refusal, and where.

@@ -11,7 +11,7 @@ ghost use Rattle.pz_run.specs.devices.Reading.{IsErrorOf};
 ghost use Rattle.pz_run.specs.declared.job.Job.{Job as TheJob};
 
 use crate::Status;
-use crate::counting::count_processes;
+use crate::counting::measure;
 use crate::first_path::read_first;
 use crate::job::Job;
 use crate::limits::MODEL_LIMIT;
@@ -30,7 +30,7 @@ use std::mem::drop;
 ///
 /// The words are those of the command line after the program's name. `run MODEL --first` reads the
 /// named model, runs it from offer 0 to offer 0, and prints the trace; `check MODEL` reads it, and
-/// prints how many processes it has. Both refuse a model that violates a rule of the checker.
+/// prints how many processes and wires it has. Both refuse a model that violates a rule of the checker.
 ///
 /// What is promised of the bytes that are printed holds over a sink that tells what it took, and what
 /// is promised of the contents of files over files that tell; the rest holds always. Want of memory,
@@ -42,8 +42,7 @@ pub fn run_program<F: Files, W: Sink>(
     out: &mut W,
 ) -> Status
     // The status, and what is printed, are those of the definitions: the text of a run of the rules,
-    // for a sound model of the first path; the number of the processes of a sound model without
-    // cluster classes and channels.
+    // for a sound model of the first path; the numbers of the processes and wires of a sound model.
     ensures output { (F.state files.old).told ≡ true → result ≢ Status.WriteFault → result ≢ Status.NoMemory →
         ¬ ((result ≡ Status.ReadFault) × Rose (F.state files.old).faults (F.state files.new).faults) →
         PrintsAll (map string_bytes words.now) (F.state files.old).held (W.state out.old) (W.state out.new) result }
@@ -127,8 +126,8 @@ fn check_text<W: Sink>(alloc: Global, text: &[u8], out: &mut W) -> Status
     requires { length text.now ≤ MODEL_LIMIT }
     ensures { AnswersModel Job.Check text.now (W.state out.old) (W.state out.new) result }
 {
-    match count_processes(alloc, text) {
-        Ok(processes) => say_line(out, accepted_line(alloc, processes), Status::Done),
+    match measure(alloc, text) {
+        Ok(size) => say_line(out, accepted_line(alloc, size), Status::Done),
         Err(error) => say_refused(alloc, error, out),
     }
 }

@@ -1,12 +1,13 @@
 -- What a table of frames has at a number, and what a change of the table changes.
-use Rattle.std.proofs.Common.{◌≡◌, ℕ, zero, suc, Bool, true, false, nat_lt, nat_eq, ◌+◌, ◌-◌, ◌≤◌, ◌<◌, List, [], ◌∷◌, ◌++◌, length, slice_set, slice_index_or, Option, Some, None, is_some, IsSome, Vec, option_map, unwrap_or, inl, inr, refl, ap, subst, sym, ◌∙◌, arith, rules}
+use Rattle.std.proofs.Common.{◌≡◌, ℕ, zero, suc, Bool, true, false, nat_lt, nat_eq, ◌+◌, ◌-◌, ◌≤◌, ◌<◌, List, [], ◌∷◌, ◌++◌, length, slice_set, slice_index_or, Option, Some, None, is_some, IsSome, Vec, unwrap_or, inl, inr, refl, ap, subst, sym, ◌∙◌, arith, rules}
 use Rattle.std.proofs.lemmas.Bool.{cases_lt}
 use Rattle.std.specs.declared.alloc.Global.{Global}
-use Rattle.std.proofs.lemmas.List.{get_or-set_same, get_or_default, length-set}
+use Rattle.std.proofs.lemmas.List.{get_or-set_same, get_or_default, get_or_past, length-set}
 use Rattle.pz_value.specs.declared.value.Value.{Value}
+use Rattle.pz_flags.specs.Flags.{is_set, IsFirstClear}
 use Rattle.pz_state.specs.States.{Frames, locals_in, locals_of, at_frame, with_frame, without_frame, IsLeastFree}
 use Rattle.pz_state.proofs.Reading.{set_read}
-use Rattle.pz_state.specs.devices.FrameTables.{Table, StoredFrames, IsFirstClosed, frames_from, stored}
+use Rattle.pz_state.specs.devices.FrameTables.{Table, StoredFrames, frames_from, stored}
 
 below : {a b : ℕ} → a < b → nat_lt a b ≡ true
 below q = search rules
@@ -199,20 +200,38 @@ is_some_items : (x : Option (Vec Value Global)) → is_some x ≡ true → is_so
 is_some_items None e = absurd cc
 is_some_items (Some values) e = refl
 
-least_in : (table : Table) (place : ℕ) → IsFirstClosed table place → IsLeastFree (frames_from 1 table) (place + 1)
-least_in table place first_closed = record {
+not_some : (x : Option (Vec Value Global)) → is_some x ≡ false → x ≡ None
+not_some None e = refl
+not_some (Some values) e = absurd cc
+
+-- these flags are set for the open frames of a table
+abbrev Flagged : List ℕ → Table → Type 0
+Flagged words table = (i : ℕ) → is_set words i ≡ is_some (slice_index_or table i None)
+
+first_within : (table : Table) (words : List ℕ) (place : ℕ) → Flagged words table → IsFirstClear words place → place ≤ length table
+first_within table words place flags first_clear = elim (cases_lt (length table) place) [
+  | inl lt ↦ let none : slice_index_or table (length table) None ≡ None = get_or_past table (length table) None (omega arith) in
+      let some : is_some (slice_index_or table (length table) None) ≡ true = sym (flags (length table)) ∙ first_clear.below (length table) lt in absurd cc
+  | inr ge ↦ ge
+]
+
+least_in : (table : Table) (words : List ℕ) (place : ℕ) → Flagged words table → IsFirstClear words place → IsLeastFree (frames_from 1 table) (place + 1)
+least_in table words place flags first_clear = record {
   positive = omega arith;
   free = elim (cases_lt place (length table)) [
-    | inl lt ↦ ap (λ k. locals_in (frames_from 1 table) k) (omega arith) ∙ found 1 place table None lt (sym (first_closed.closed lt))
+    | inl lt ↦ ap (λ k. locals_in (frames_from 1 table) k) (omega arith) ∙ found 1 place table None lt (sym (not_some _ (sym (flags place) ∙ first_clear.clear)))
     | inr ge ↦ past 1 (place + 1) table (omega arith)
   ];
-  below = λ n positive lt. let i = n - 1 in let within : i < length table = let w = first_closed.within in omega arith in let x = slice_index_or table i None in
+  below = λ n positive lt. let i = n - 1 in let within : i < length table = let w = first_within table words place flags first_clear in omega arith in let x = slice_index_or table i None in
       ap is_some (ap (λ k. locals_in (frames_from 1 table) k) (omega arith) ∙ found 1 i table x within (get_or_default table i None x within))
-      ∙ is_some_items x (first_closed.below i (omega arith));
+      ∙ is_some_items x (sym (flags i) ∙ first_clear.below i (omega arith));
 }
 
-pub least : {seen : StoredFrames} (table : Table) → stored table ≡ seen → (place : ℕ) → IsFirstClosed table place → IsLeastFree seen.frames (place + 1)
-least {seen} table v place first_closed = subst (λ (s : StoredFrames). IsLeastFree s.frames (place + 1)) v (least_in table place first_closed)
+pub least : {seen : StoredFrames} (table : Table) → stored table ≡ seen → (words : List ℕ) (place : ℕ) → Flagged words table → IsFirstClear words place → IsLeastFree seen.frames (place + 1)
+least {seen} table v words place flags first_clear = subst (λ (s : StoredFrames). IsLeastFree s.frames (place + 1)) v (least_in table words place flags first_clear)
+
+pub least_fits : {seen : StoredFrames} (table : Table) → stored table ≡ seen → (words : List ℕ) (place : ℕ) → Flagged words table → IsFirstClear words place → place ≤ seen.room
+least_fits {seen} table v words place flags first_clear = subst (λ (s : StoredFrames). place ≤ s.room) v (first_within table words place flags first_clear)
 
 -- one more place without a frame
 pub frames_from-widened : (n : ℕ) (table : Table) → frames_from n (table ++ None ∷ []) ≡ frames_from n table

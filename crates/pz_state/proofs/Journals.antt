@@ -1,5 +1,5 @@
 -- What one more entry of a journal does to the marks, and what taking one back leaves.
-use Rattle.std.proofs.Common.{◌≡◌, ℕ, zero, suc, Bool, true, false, ◌+◌, ◌-◌, ◌≤◌, ◌<◌, List, [], ◌∷◌, ◌++◌, length, take, reverse, get_or, slice_set, Option, Some, None, refl, ap, subst, sym, ◌∙◌, arith, append_assoc, append-nil}
+use Rattle.std.proofs.Common.{◌≡◌, ℕ, suc, Bool, true, false, ◌+◌, ◌-◌, ◌≤◌, ◌<◌, List, [], ◌∷◌, ◌++◌, length, take, reverse, get_or, slice_set, refl, ap, subst, sym, ◌∙◌, arith, append_assoc, append-nil}
 use Rattle.std.proofs.lemmas.List.{length-take}
 use Rattle.pz_state.specs.declared.journal.Change.{Change}
 use Rattle.pz_state.specs.declared.journal.Change.TheVariants as change

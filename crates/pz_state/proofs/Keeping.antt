@@ -1,5 +1,5 @@
 -- What a `State` keeps at each call, and what is seen of it then.
-use Rattle.std.proofs.Common.{◌≡◌, ℕ, zero, suc, Bool, true, false, ◌+◌, ◌-◌, ◌≤◌, ◌<◌, List, [], ◌∷◌, ◌++◌, length, slice_set, Option, Some, None, refl, ap, subst, sym, ◌∙◌, arith}
+use Rattle.std.proofs.Common.{◌≡◌, ℕ, zero, suc, ◌+◌, ◌-◌, ◌≤◌, ◌<◌, List, [], ◌∷◌, ◌++◌, length, slice_set, Some, refl, ap, subst, sym, ◌∙◌, arith}
 use Rattle.std.specs.Prelude.{All}
 use Rattle.pz_state.specs.declared.state.TheConstants.{OBJECT_LIMIT}
 use Rattle.pz_state.specs.declared.journal.Change.{Change}
@@ -12,10 +12,10 @@ use Rattle.pz_state.specs.States.{StateView}
 use Rattle.pz_state.specs.References.{RefersWithin, IsSelfContained}
 use Rattle.pz_state.specs.Marks.{Seen, IsLatest, point_of_first, changed, marked, undone, undone_from, kept, older}
 use Rattle.pz_state.specs.devices.StoredStates.{Room, StoredState, IsWider}
-use Rattle.pz_state.specs.devices.Changes.{taken_back, IsReady, LeadsBack}
+use Rattle.pz_state.specs.devices.Changes.{LeadsBack}
 use Rattle.pz_state.specs.devices.Journals.{marks_from, count_of_marks, noted, while_marked, AreReady, Undoes}
 use Rattle.pz_state.specs.devices.Fields.{seen, IsKept}
-use Rattle.pz_state.proofs.Journals.{count_push, count_le, no_marks, marks_silent, marks_marked, ready_push, are_still_ready, wider_suffices, Settles, settles}
+use Rattle.pz_state.proofs.Journals.{count_push, no_marks, marks_silent, marks_marked, ready_push, are_still_ready, wider_suffices, settles}
 
 abbrev pub inside : StoredState → Journal → Inside
 inside c j = record { contents = c; journal = j }

@@ -1,12 +1,12 @@
 -- The objects of a state, and the one at a place.
-use Rattle.std.proofs.Common.{◌≡◌, ℕ, zero, suc, ◌+◌, ◌-◌, ◌≤◌, ◌<◌, List, [], ◌∷◌, ◌++◌, length, map, take, get_or, slice_set, slice_index_or, slice_get, Option, Some, None, unwrap_or, refl, ap, sym, subst, ◌∙◌, arith, length-append}
+use Rattle.std.proofs.Common.{◌≡◌, ℕ, zero, suc, ◌-◌, ◌≤◌, ◌<◌, List, [], ◌∷◌, length, map, take, get_or, slice_set, slice_index_or, slice_get, unwrap_or, refl, ap, sym, subst, ◌∙◌, arith}
 use Rattle.std.proofs.Math.Seq.{map-set_same}
 use Rattle.std.proofs.lemmas.List.{get_or-set_same, length-map, length-set, take-map}
 use Rattle.std.specs.Prelude.{Result, OnErr, Ok, Err}
 use Rattle.pz_value.specs.declared.value.Value.{Value}
 use Rattle.pz_state.specs.Objects.{ObjectView, StoredObject}
-use Rattle.pz_state.specs.States.{StateView, no_object, at_object}
-use Rattle.pz_state.specs.devices.StoredStates.{StoredState, Room, IsWider, KeepsRoom, stored_state}
+use Rattle.pz_state.specs.States.{no_object, at_object}
+use Rattle.pz_state.specs.devices.StoredStates.{StoredState, Room, IsWider, stored_state}
 use Rattle.pz_state.specs.devices.Changes.{without_last}
 use Rattle.pz_state.specs.declared.contents.Contents.TheInside.{Inside}
 

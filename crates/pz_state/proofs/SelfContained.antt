@@ -1,14 +1,13 @@
 -- References of a state name objects that are there, whatever a call changes.
-use Rattle.std.proofs.Common.{◌≡◌, ℕ, zero, suc, Bool, true, false, nat_eq, nat_lt, ◌+◌, ◌-◌, ◌≤◌, ◌<◌, ◌^◌, List, [], ◌∷◌, ◌++◌, length, take, replicate, get_or, slice_set, slice_index_or, slice_get, Option, Some, None, unwrap_or, refl, ap, subst, sym, ◌∙◌, arith, length-append}
+use Rattle.std.proofs.Common.{◌≡◌, ℕ, zero, suc, Bool, true, false, nat_eq, nat_lt, ◌+◌, ◌-◌, ◌≤◌, ◌<◌, ◌^◌, List, [], ◌∷◌, length, take, slice_set, slice_get, unwrap_or, refl, subst, sym, ◌∙◌, arith, length-append}
 use Rattle.std.specs.Prelude.{All}
 use Rattle.std.proofs.lemmas.List.Elements.{All-append, All-set, All-replicate}
-use Rattle.std.proofs.lemmas.List.{get_or-take, length-take, length-set, length-replicate}
-use Rattle.std.proofs.lemmas.Option.{unwrap_or-slice_get}
+use Rattle.std.proofs.lemmas.List.{length-take, length-set, length-replicate}
 use Rattle.pz_value.specs.declared.value.ClassId.{ClassId}
 use Rattle.pz_value.specs.declared.value.Value.{Value}
 use Rattle.pz_value.specs.declared.value.Value.TheVariants as value
 use Rattle.pz_state.specs.Objects.{ObjectView}
-use Rattle.pz_state.specs.States.{StateView, Frames, value_at, variable, local, object, no_object, locals_in, locals_of, HasVariable, HasLocal, HasObject, at_frame, at_object, with_frame, without_frame, nils, fitted, initial, set_variable, set_local, set_item, resized, opened, closed, made}
+use Rattle.pz_state.specs.States.{StateView, Frames, value_at, variable, local, object, no_object, locals_of, at_frame, at_object, with_frame, without_frame, nils, fitted, initial, set_variable, set_local, set_item, resized, opened, closed, made}
 use Rattle.pz_state.specs.References.{RefersWithin, IsSelfContained}
 use Rattle.pz_state.proofs.ObjectLists.{length-at_object}
 

@@ -1,5 +1,5 @@
 -- References name objects that are there, and the items of an object have numbers of 32 bits.
-use Rattle.std.specs.Prelude.{◌<◌, ◌^◌, ℕ, List, length, All}
+use Rattle.std.specs.Prelude.{◌<◌, ◌^◌, ℕ, length, All}
 use Rattle.pz_value.specs.declared.value.Value.{Value}
 use Rattle.pz_value.specs.declared.value.Value.TheVariants as value
 use Rattle.pz_state.specs.States.{StateView}

@@ -2,9 +2,9 @@
 
 ghost use Rattle.std.specs.Prelude.{◌≡◌, ◌<◌, ◌≤◌, ◌+◌, ◌^◌, [], length, slice_set, Some, None, IsSome, IfOk, OnOk, OnErr};
 ghost use Rattle.pz_state.specs.States.{value_at, locals_in, locals_of, at_frame, with_frame, without_frame, IsLeastFree};
-ghost use Rattle.pz_state.specs.devices.FrameTables.{IsFirstClosed};
 
 use crate::values::replace;
+use pz_flags::Flags;
 use pz_value::Value;
 use std::alloc::{AllocError, Global};
 use std::marker::Model;
@@ -16,26 +16,18 @@ use std::mem;
 pub struct FrameTable {
     // the locals of each open frame, at the place before its number
     table: Vec<Option<Vec<Value>>>,
+    // for each place whether a frame is open there
+    flags: Flags,
 }
 
 impl Model for FrameTable {
-    ghost use Rattle.pz_state.specs.devices.FrameTables.{StoredFrames, stored};
+    ghost use Rattle.pz_state.specs.devices.FrameTables.{StoredFrames, stored, IsFlagged};
 
     ghost Value = { StoredFrames };
 
     ghost view = { λ frames. stored frames.table.items };
-}
 
-/// The first place where no frame is open, or the length where each is.
-fn first_closed(table: &Vec<Option<Vec<Value>>>) -> usize
-    ensures { IsFirstClosed table.now.items result }
-{
-    for (place, frame) in table.iter().enumerate() {
-        if frame.is_none() {
-            return place;
-        }
-    }
-    table.len()
+    ghost invariant = { IsFlagged };
 }
 
 impl FrameTable {
@@ -45,6 +37,7 @@ impl FrameTable {
     {
         FrameTable {
             table: Vec::new(alloc),
+            flags: Flags::new(alloc),
         }
     }
 
@@ -106,7 +99,9 @@ impl FrameTable {
         ensures within { (0 < number) × (number ≤ self.new.room) }
         ensures room { self.new.room ≡ self.old.room }
     {
-        match mem::replace(&mut self.table[(number - 1) as usize], None) {
+        let frame = mem::replace(&mut self.table[(number - 1) as usize], None);
+        self.flags.set((number - 1) as usize, false);
+        match frame {
             Some(locals) => locals,
             None => unreachable!(),
         }
@@ -118,7 +113,7 @@ impl FrameTable {
         ensures within { result ≤ self.now.room }
         ensures small { result < 2 ^ 63 }
     {
-        first_closed(&self.table)
+        self.flags.first_clear()
     }
 
     /// Makes room for one more number. The only error is want of memory, and then all stays.
@@ -127,6 +122,7 @@ impl FrameTable {
         ensures ok { OnOk result (self.new.room ≡ self.old.room + 1) }
         ensures err { OnErr result (self.new.room ≡ self.old.room) }
     {
+        self.flags.reserve(self.table.len())?;
         self.table.push(None)?;
         Ok(())
     }
@@ -168,6 +164,8 @@ impl FrameTable {
         ensures frames { self.new.frames ≡ with_frame number locals.items self.old.frames }
         ensures room { self.new.room ≡ self.old.room }
     {
-        self.table[(number - 1) as usize] = Some(locals);
+        let place = (number - 1) as usize;
+        self.flags.set(place, true);
+        self.table[place] = Some(locals);
     }
 }

@@ -3,6 +3,7 @@
 
 mod branches;
 mod grammar;
+mod kept;
 mod messages;
 mod nested;
 mod single;

@@ -1,6 +1,6 @@
 //! Sends, receptions and calls.
 
-ghost use Rattle.std.specs.Prelude.{◌≡◌, map, option_map};
+ghost use Rattle.std.specs.Prelude.{◌≡◌, IfOk, map, option_map};
 ghost use Rattle.pz_syntax.specs.ExpressionView.{part_view};
 ghost use Rattle.pz_syntax.specs.ExpressionView as expression;
 ghost use Rattle.pz_syntax.specs.StatementView.{view};
@@ -8,6 +8,7 @@ ghost use Rattle.pz_cursor.specs.devices.Device.{Reads};
 ghost use Rattle.pz_statements.specs.devices.Messages as spec;
 ghost use Rattle.pz_statements.specs.devices.Views.{reception_view};
 
+use crate::kept::up_to;
 use crate::single::inner_value;
 use pz_cursor::{Cursor, Next, Refusal, optional_names};
 use pz_items::Items;
@@ -51,8 +52,9 @@ pub fn receive(alloc: Global, cursor: &mut Cursor<'_>, depth: usize) -> Result<S
     let port = cursor.take_id(alloc)?;
     cursor.skip();
     let name = cursor.expect_id(alloc, Next::Word)?;
-    let Reception { into, condition } = optional_reception(alloc, cursor, depth)?;
-    let block = optional_block(alloc, cursor, depth)?;
+    let reception = optional_reception(alloc, cursor, depth)?;
+    let (reception, block) = with_block(alloc, cursor, depth, reception)?;
+    let Reception { into, condition } = reception;
     let form = StmtForm::Receive {
         port,
         name,
@@ -120,6 +122,20 @@ fn optional_block(
     }
 }
 
+/// The value, and the block behind the message, where there is one.
+fn with_block<T: Drop>(
+    alloc: Global,
+    cursor: &mut Cursor<'_>,
+    depth: usize,
+    value: T,
+) -> Result<(T, Option<Items<Expr>>), Refusal>
+    ensures kept { IfOk result (λ read. read.0 ≡ value) }
+    ensures reads { Reads (λ read. part_view read.1) (spec.after_message depth cursor.old) result cursor.new }
+{
+    let block = optional_block(alloc, cursor, depth)?;
+    Ok((value, block))
+}
+
 /// The variables and the condition, if a `(` stands next.
 #[tactic(auto, unfolding(crate::specs::devices::Messages::reception))]
 fn optional_reception(
@@ -150,7 +166,7 @@ fn enclosed_reception(
     cursor.deepen(depth)?;
     let names = optional_names(alloc, cursor)?;
     let condition = condition(alloc, cursor, depth)?;
-    cursor.expect(Next::RightParen)?;
+    let condition = up_to(cursor, condition, Next::RightParen)?;
     Ok(Reception {
         into: Some(names),
         condition,

@@ -1,6 +1,6 @@
 //! Brackets, guards, `if`, `while`, `abort` and `interrupt`.
 
-ghost use Rattle.std.specs.Prelude.{◌≡◌, map};
+ghost use Rattle.std.specs.Prelude.{◌≡◌, IfOk, map};
 ghost use Rattle.pz_syntax.specs.ExpressionView as expression;
 ghost use Rattle.pz_syntax.specs.StatementView.{view, sequence_view};
 ghost use Rattle.pz_cursor.specs.devices.Device.{Reads};
@@ -12,6 +12,7 @@ ghost use Rattle.pz_statements.specs.devices.Statements.{below_stmt};
 ghost use Rattle.pz_statements.specs.devices.Nests.{Nests};
 
 use crate::grammar::Grammar;
+use crate::kept::up_to;
 use crate::single::inner_value;
 use pz_cursor::{Cursor, Next, Refusal};
 use pz_items::{Boxed, Items};
@@ -42,7 +43,7 @@ impl<F: Fn(Global, &mut Cursor<'_>, usize) -> Result<Stmt, Refusal>> Grammar<F> 
         let pos = cursor.pos();
         cursor.deepen(self.depth)?;
         let guard = self.test(cursor, Next::RightBracket)?;
-        let stmt = Boxed::new(self.alloc, self.inner(cursor)?)?;
+        let (guard, stmt) = self.with_inner(cursor, guard)?;
         let form = StmtForm::Guard(guard, stmt);
         Ok(Stmt { pos, form })
     }
@@ -56,9 +57,9 @@ impl<F: Fn(Global, &mut Cursor<'_>, usize) -> Result<Stmt, Refusal>> Grammar<F> 
         let pos = cursor.pos();
         cursor.deepen(self.depth)?;
         let test = self.test(cursor, Next::Then)?;
-        let body = self.sequence(cursor)?;
-        let other = self.otherwise(cursor)?;
-        cursor.expect(Next::Fi)?;
+        let (test, body) = self.with_sequence(cursor, test)?;
+        let ((test, body), other) = self.with_otherwise(cursor, (test, body))?;
+        let (test, body, other) = up_to(cursor, (test, body, other), Next::Fi)?;
         let form = StmtForm::If(test, body, other);
         Ok(Stmt { pos, form })
     }
@@ -86,8 +87,8 @@ impl<F: Fn(Global, &mut Cursor<'_>, usize) -> Result<Stmt, Refusal>> Grammar<F> 
         let pos = cursor.pos();
         cursor.deepen(self.depth)?;
         let test = self.test(cursor, Next::Do)?;
-        let body = self.sequence(cursor)?;
-        cursor.expect(Next::Od)?;
+        let (test, body) = self.with_sequence(cursor, test)?;
+        let (test, body) = up_to(cursor, (test, body), Next::Od)?;
         let form = StmtForm::While(test, body);
         Ok(Stmt { pos, form })
     }
@@ -125,8 +126,49 @@ impl<F: Fn(Global, &mut Cursor<'_>, usize) -> Result<Stmt, Refusal>> Grammar<F> 
         cursor.deepen(self.depth)?;
         let body = self.sequence(cursor)?;
         cursor.expect(Next::With)?;
-        let handler = Boxed::new(self.alloc, self.inner(cursor)?)?;
-        Ok((body, handler))
+        self.with_inner(cursor, body)
+    }
+
+    /// The value, and the statement one construct further in behind it.
+    fn with_inner<T: Drop>(
+        &self,
+        cursor: &mut Cursor<'_>,
+        value: T,
+    ) -> Result<(T, Boxed<Stmt>), Refusal>
+        requires parts { Nests self.now.depth (F.pre self.now.stmt) (F.post self.now.stmt) }
+        ensures kept { IfOk result (λ read. read.0 ≡ value) }
+        ensures reads { Reads (λ read. view read.1) (below_stmt self.now.depth cursor.old) result cursor.new }
+    {
+        let stmt = Boxed::new(self.alloc, self.inner(cursor)?)?;
+        Ok((value, stmt))
+    }
+
+    /// The value, and the statements behind it.
+    fn with_sequence<T: Drop>(
+        &self,
+        cursor: &mut Cursor<'_>,
+        value: T,
+    ) -> Result<(T, Items<Stmt>), Refusal>
+        requires parts { Nests self.now.depth (F.pre self.now.stmt) (F.post self.now.stmt) }
+        ensures kept { IfOk result (λ read. read.0 ≡ value) }
+        ensures reads { Reads (λ read. map view read.1) (spec.sequence self.now.depth (below_stmt self.now.depth) cursor.old) result cursor.new }
+    {
+        let body = self.sequence(cursor)?;
+        Ok((value, body))
+    }
+
+    /// The value, and the part behind `else`, where there is one.
+    fn with_otherwise<T: Drop>(
+        &self,
+        cursor: &mut Cursor<'_>,
+        value: T,
+    ) -> Result<(T, Option<Items<Stmt>>), Refusal>
+        requires parts { Nests self.now.depth (F.pre self.now.stmt) (F.post self.now.stmt) }
+        ensures kept { IfOk result (λ read. read.0 ≡ value) }
+        ensures reads { Reads (λ read. otherwise_view read.1) (spec.otherwise self.now.depth (below_stmt self.now.depth) cursor.old) result cursor.new }
+    {
+        let other = self.otherwise(cursor)?;
+        Ok((value, other))
     }
 
     /// A value one construct further in, and this token behind it.
@@ -135,7 +177,6 @@ impl<F: Fn(Global, &mut Cursor<'_>, usize) -> Result<Stmt, Refusal>> Grammar<F> 
         ensures reads { Reads expression.view (values.tested (below self.now.depth) close cursor.old) result cursor.new }
     {
         let test = inner_value(self.alloc, cursor, self.depth)?;
-        cursor.expect(close)?;
-        Ok(test)
+        Ok(up_to(cursor, test, close)?)
     }
 }

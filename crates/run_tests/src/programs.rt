@@ -129,7 +129,7 @@ fn a_text_is_refused_with_its_kind_and_place(rt: HostRuntime) -> Result<(), Fail
 }
 
 #[test]
-fn a_check_counts_the_processes_of_a_model(rt: HostRuntime) -> Result<(), Fail> {
+fn a_check_counts_the_processes_and_wires_of_a_model(rt: HostRuntime) -> Result<(), Fail> {
     let rows = [
         (MODEL, 0, "accepted 1 processes 0 wires\n"),
         (
@@ -139,13 +139,13 @@ fn a_check_counts_the_processes_of_a_model(rt: HostRuntime) -> Result<(), Fail> 
         ),
         (
             "process class P\nports out\ninit a()()\nmethods a()() skip\nsystem instances p : P q : P\nchannels { p.out, q.out }\n",
-            3,
-            "model refused: Unbuilt 6:10\n",
+            0,
+            "accepted 2 processes 1 wires\n",
         ),
         (
             "process class P\ninit a()()\nmethods a()() skip\ncluster class C\ninstances p : P\nsystem instances c : C\n",
-            3,
-            "model refused: Unbuilt 4:15\n",
+            0,
+            "accepted 1 processes 0 wires\n",
         ),
         (
             "process class P\ninit a()()\nmethods a()() skip\ncluster class C\ninstances p : P\nsystem instances c : D\n",

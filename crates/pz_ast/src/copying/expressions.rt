@@ -38,27 +38,20 @@ fn copy_form(alloc: Global, form: &ExprForm) -> Result<ExprForm, AllocError>
         ExprForm::New(class) => Ok(ExprForm::New(class.copy()?)),
         ExprForm::Group(list) => Ok(ExprForm::Group(copy_list(alloc, list.as_slice())?)),
         ExprForm::Chain(first, links) => {
-            let first = Boxed::new(alloc, copy_expression(alloc, first.get())?)?;
+            let first = copy_boxed(alloc, first.get())?;
             Ok(ExprForm::Chain(first, copy_links(alloc, links.as_slice())?))
         }
         ExprForm::Sends(first, sendings) => {
-            let first = Boxed::new(alloc, copy_expression(alloc, first.get())?)?;
+            let first = copy_boxed(alloc, first.get())?;
             Ok(ExprForm::Sends(first, copy_sendings(alloc, sendings.as_slice())?))
         }
-        ExprForm::Unary(op, operand) => {
-            let operand = Boxed::new(alloc, copy_expression(alloc, operand.get())?)?;
-            Ok(ExprForm::Unary(*op, operand))
-        }
+        ExprForm::Unary(op, operand) => Ok(ExprForm::Unary(*op, copy_boxed(alloc, operand.get())?)),
         ExprForm::Assign(target, value) => {
-            let value = Boxed::new(alloc, copy_expression(alloc, value.get())?)?;
-            Ok(ExprForm::Assign(target.copy()?, value))
+            Ok(ExprForm::Assign(target.copy()?, copy_boxed(alloc, value.get())?))
         }
-        ExprForm::Return(value) => {
-            let value = Boxed::new(alloc, copy_expression(alloc, value.get())?)?;
-            Ok(ExprForm::Return(value))
-        }
+        ExprForm::Return(value) => Ok(ExprForm::Return(copy_boxed(alloc, value.get())?)),
         ExprForm::If(test, part, rest) => {
-            let test = Boxed::new(alloc, copy_expression(alloc, test.get())?)?;
+            let test = copy_boxed(alloc, test.get())?;
             let part = copy_list(alloc, part.as_slice())?;
             match rest {
                 None => Ok(ExprForm::If(test, part, None)),
@@ -69,10 +62,18 @@ fn copy_form(alloc: Global, form: &ExprForm) -> Result<ExprForm, AllocError>
             }
         }
         ExprForm::While(test, body) => {
-            let test = Boxed::new(alloc, copy_expression(alloc, test.get())?)?;
+            let test = copy_boxed(alloc, test.get())?;
             Ok(ExprForm::While(test, copy_list(alloc, body.as_slice())?))
         }
     }
+}
+
+/// The same in a box.
+#[cycle(copy_expr)]
+fn copy_boxed(alloc: Global, expr: &Expr) -> Result<Boxed<Expr>, AllocError>
+    ensures { IfOk result (λ copy. copy ≡ expr.now) }
+{
+    Boxed::new(alloc, copy_expression(alloc, expr)?)
 }
 
 #[cycle(copy_expr)]

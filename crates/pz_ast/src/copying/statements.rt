@@ -26,7 +26,7 @@ fn copy_form(alloc: Global, form: &StmtForm) -> Result<StmtForm, AllocError>
         StmtForm::Group(list) => Ok(StmtForm::Group(copy_statements(alloc, list.as_slice())?)),
         StmtForm::Block(list) => Ok(StmtForm::Block(copy_exprs(alloc, list.as_slice())?)),
         StmtForm::Guard(test, guarded) => {
-            let guarded = Boxed::new(alloc, copy_statement(alloc, guarded.get())?)?;
+            let guarded = copy_boxed(alloc, guarded.get())?;
             Ok(StmtForm::Guard(copy_expression(alloc, test)?, guarded))
         }
         StmtForm::Par(branches) => Ok(StmtForm::Par(copy_branches(alloc, branches.as_slice())?)),
@@ -46,11 +46,11 @@ fn copy_form(alloc: Global, form: &StmtForm) -> Result<StmtForm, AllocError>
             Ok(StmtForm::While(copy_expression(alloc, test)?, body))
         }
         StmtForm::Abort(first, second) => {
-            let second = Boxed::new(alloc, copy_statement(alloc, second.get())?)?;
+            let second = copy_boxed(alloc, second.get())?;
             Ok(StmtForm::Abort(copy_statements(alloc, first.as_slice())?, second))
         }
         StmtForm::Interrupt(first, second) => {
-            let second = Boxed::new(alloc, copy_statement(alloc, second.get())?)?;
+            let second = copy_boxed(alloc, second.get())?;
             Ok(StmtForm::Interrupt(copy_statements(alloc, first.as_slice())?, second))
         }
         StmtForm::Send {
@@ -70,16 +70,39 @@ fn copy_form(alloc: Global, form: &StmtForm) -> Result<StmtForm, AllocError>
             method,
             args,
             results,
-        } => Ok(StmtForm::Call {
-            method: method.copy()?,
-            args: copy_exprs(alloc, args.as_slice())?,
-            results: copy_ids(alloc, results.as_slice())?,
-        }),
-        StmtForm::Assign(target, value) => {
-            Ok(StmtForm::Assign(target.copy()?, copy_expression(alloc, value)?))
-        }
+        } => copy_call(alloc, method, args.as_slice(), results.as_slice()),
+        StmtForm::Assign(target, value) => copy_assignment(alloc, target, value),
         StmtForm::Value(value) => Ok(StmtForm::Value(copy_expression(alloc, value)?)),
     }
+}
+
+/// The same in a box.
+#[cycle(copy_stmt)]
+fn copy_boxed(alloc: Global, stmt: &Stmt) -> Result<Boxed<Stmt>, AllocError>
+    ensures { IfOk result (λ copy. copy ≡ stmt.now) }
+{
+    Boxed::new(alloc, copy_statement(alloc, stmt)?)
+}
+
+fn copy_call(
+    alloc: Global,
+    method: &Id,
+    args: &[Expr],
+    results: &[Id],
+) -> Result<StmtForm, AllocError>
+    ensures { IfOk result (λ copy. copy ≡ StmtForm.Call method.now args.now results.now) }
+{
+    Ok(StmtForm::Call {
+        method: method.copy()?,
+        args: copy_exprs(alloc, args)?,
+        results: copy_ids(alloc, results)?,
+    })
+}
+
+fn copy_assignment(alloc: Global, target: &Id, value: &Expr) -> Result<StmtForm, AllocError>
+    ensures { IfOk result (λ copy. copy ≡ StmtForm.Assign target.now value.now) }
+{
+    Ok(StmtForm::Assign(target.copy()?, copy_expression(alloc, value)?))
 }
 
 fn copy_send(

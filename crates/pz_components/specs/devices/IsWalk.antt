@@ -1,9 +1,9 @@
 -- What holds of a walk over a graph all the time, as a device of the proofs.
-use Rattle.std.specs.Prelude.{◌≡◌, ◌≢◌, ◌≤◌, ◌<◌, ◌⊎◌, ℕ, List, length, slice_get, Some, None, Contains}
+use Rattle.std.specs.Prelude.{◌≡◌, ◌≢◌, ◌≤◌, ◌<◌, ◌+◌, ◌⊎◌, ℕ, List, length, slice_get, Some, None, Contains}
 use Rattle.pz_components.specs.declared.walk.State.TheVariants.{Unseen, Open, Done}
 use Rattle.pz_components.specs.declared.walk.Group.{Group}
 use Rattle.pz_components.specs.Graph.{targets, Reaches}
-use Rattle.pz_components.specs.devices.Walking.{Walked, state_of, followed_group, left}
+use Rattle.pz_components.specs.devices.Walking.{Walked, state_of, followed_group, count_unseen, left}
 
 -- this element stands at this place
 abbrev pub At : {A : Type 0} → List A → ℕ → A → Type 0
@@ -56,6 +56,7 @@ pub record AreDone (edges : List (List ℕ)) (w : Walked) : Type 0 where
 
 pub record IsWalk (edges : List (List ℕ)) (w : Walked) : Type 0 where
   pub sized : length w.states ≡ length edges
+  pub few : length w.found + (length w.groups + count_unseen w.states) ≤ length edges
   pub path : IsPath w
   pub groups : AreGroups w
   pub done : AreDone edges w

@@ -82,6 +82,16 @@ to_open [] ss = 0
 to_open (e ∷ es) [] = 0
 to_open (e ∷ es) (s ∷ ss) = cost e s + to_open es ss
 
+abbrev pub one_unseen : State → ℕ
+one_unseen Unseen = 1
+one_unseen (Open i) = 0
+one_unseen (Done c) = 0
+
+-- how many vertices the walk has not come to
+abbrev pub count_unseen : List State → ℕ
+count_unseen [] = 0
+count_unseen (s ∷ ss) = one_unseen s + count_unseen ss
+
 -- how many steps are left at most
 abbrev pub left : List (List ℕ) → Walked → ℕ
 left edges w = length w.pending + (length w.groups + to_open edges w.states)

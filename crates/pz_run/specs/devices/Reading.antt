@@ -50,6 +50,6 @@ IsRefusedAlways text r = (job : Job) → IsRefused job text r
 abbrev pub IsViolationOf : ModelTree → Refusal → Type 0
 IsViolationOf tree r = (v : Violation) × (r ≡ refusal.Violates v) × IsViolation tree v
 
--- the job is not built for the tree of these tokens
-abbrev pub IsUnbuiltFor : Job → List Token → Pos → ModelTree → Refusal → Type 0
-IsUnbuiltFor job tokens end tree r = (at : Pos) × (r ≡ refusal.Unbuilt at) × IsUnbuilt tokens end tree job at
+-- the job is not built for these tokens
+abbrev pub IsUnbuiltFor : Job → List Token → Pos → Refusal → Type 0
+IsUnbuiltFor job tokens end r = (at : Pos) × (r ≡ refusal.Unbuilt at) × IsUnbuilt tokens end job at

@@ -1,6 +1,5 @@
 -- What takes a change of a state back.
-use Rattle.std.specs.Prelude.{◌≡◌, ◌<◌, ◌≤◌, ◌+◌, ◌-◌, ◌++◌, ℕ, List, length, take, reverse, get_or, None}
-use Rattle.pz_value.specs.declared.value.Value.{Value}
+use Rattle.std.specs.Prelude.{◌≡◌, ◌<◌, ◌≤◌, ◌+◌, ◌-◌, ◌++◌, List, length, take, reverse, get_or, None}
 use Rattle.pz_state.specs.declared.journal.Change.{Change}
 use Rattle.pz_state.specs.declared.journal.Change.TheVariants as change
 use Rattle.pz_state.specs.States.{StateView, HasVariable, HasFrame, HasLocal, HasObject, HasItem, locals_in, object, set_variable, set_local, set_item, at_object, with_frame, without_frame}

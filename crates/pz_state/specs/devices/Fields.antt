@@ -1,5 +1,5 @@
 -- What the fields of a `State` stand for, and what they keep.
-use Rattle.std.specs.Prelude.{◌≡◌, ◌≤◌, ℕ, [], length, All}
+use Rattle.std.specs.Prelude.{◌≡◌, ◌≤◌, [], length, All}
 use Rattle.pz_state.specs.declared.state.TheConstants.{OBJECT_LIMIT}
 use Rattle.pz_state.specs.declared.state.State.TheInside.{Inside}
 use Rattle.pz_state.specs.References.{IsSelfContained}

@@ -1,7 +1,9 @@
 -- The open frames as a table of all numbers up to some: the locals of an open frame, or nothing.
-use Rattle.std.specs.Prelude.{◌≡◌, ◌<◌, ◌≤◌, ℕ, suc, List, [], ◌∷◌, length, slice_index_or, is_some, true, Option, Some, None, Vec}
+use Rattle.std.specs.Prelude.{◌≡◌, ◌≤◌, ℕ, suc, List, [], ◌∷◌, length, slice_index_or, is_some, Option, Some, None, Vec}
 use Rattle.std.specs.declared.alloc.Global.{Global}
 use Rattle.pz_value.specs.declared.value.Value.{Value}
+use Rattle.pz_flags.specs.Flags.{is_set, room}
+use Rattle.pz_state.specs.declared.frames.FrameTable.TheInside.{Inside}
 use Rattle.pz_state.specs.States.{Frames}
 
 abbrev pub Table : Type 0
@@ -21,8 +23,7 @@ pub record StoredFrames : Type 0 where
 abbrev pub stored : Table → StoredFrames
 stored table = record { frames = frames_from 1 table; room = length table }
 
--- the first place that has no open frame, or the end
-pub record IsFirstClosed (table : Table) (place : ℕ) : Type 0 where
-  pub within : place ≤ length table
-  pub closed : place < length table → slice_index_or table place None ≡ None
-  pub below : (i : ℕ) → i < place → is_some (slice_index_or table i None) ≡ true
+-- the flag of each place is set where a frame is open, and there is room for the flags of all places
+pub record IsFlagged (f : Inside) : Type 0 where
+  pub flags : (i : ℕ) → is_set f.flags i ≡ is_some (slice_index_or f.table.items i None)
+  pub fits : length f.table.items ≤ room f.flags

@@ -1,7 +1,6 @@
 -- A state, and how far it can change without taking memory.
-use Rattle.std.specs.Prelude.{◌≡◌, ◌<◌, ◌≤◌, ◌+◌, ℕ, List, length, map, get_or, None}
-use Rattle.pz_state.specs.States.{StateView, HasVariable, HasFrame, HasLocal, HasObject, HasItem, locals_in, object}
-use Rattle.pz_state.specs.Objects.{StoredObject}
+use Rattle.std.specs.Prelude.{◌<◌, ◌≤◌, ℕ, List, length, map, get_or}
+use Rattle.pz_state.specs.States.{StateView}
 use Rattle.pz_state.specs.declared.contents.Contents.TheInside.{Inside}
 
 -- up to which number there is room for frames, and for how many items of each object

@@ -14,6 +14,9 @@ decreases-copy_step l = 3 * goal.size-copy_step l
 abbrev pub decreases-copy_form : goal.decreases-copy_form
 decreases-copy_form l = 3 * goal.size-copy_form l
 
+abbrev pub decreases-copy_boxed : goal.decreases-copy_boxed
+decreases-copy_boxed l = 3 * goal.size-copy_boxed l + 1
+
 abbrev pub decreases-copy_steps : goal.decreases-copy_steps
 decreases-copy_steps l = 3 * goal.size-copy_steps l + 1
 

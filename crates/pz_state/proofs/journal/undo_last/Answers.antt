@@ -1,4 +1,4 @@
-use Rattle.std.proofs.Common.{◌≡◌, List, ap, sym, subst, ◌∙◌, arith}
+use Rattle.std.proofs.Common.{List, sym, subst, arith}
 use Rattle.pz_state.specs.declared.journal.Entry.{Entry}
 use Rattle.pz_state.specs.devices.Journals.{AreReady}
 use Rattle.pz_state.proofs.Journals.{ends, goes_back, ready_pop, ready_after, fewer_after}

@@ -1,4 +1,4 @@
-use Rattle.std.proofs.Common.{ℕ, ◌≤◌, List, length}
+use Rattle.std.proofs.Common.{◌≤◌, List, length}
 use Rattle.pz_state.specs.declared.journal.Entry.{Entry}
 use Rattle.pz_state.specs.States.{StateView}
 use Rattle.pz_state.specs.devices.Journals.{Undoes, AreReady}

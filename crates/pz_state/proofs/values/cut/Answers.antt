@@ -1,4 +1,4 @@
-use Rattle.std.proofs.Common.{◌≡◌, ◌≤◌, ◌+◌, ◌++◌, List, length, reverse, ap, sym, ◌∙◌, arith, length-append}
+use Rattle.std.proofs.Common.{length, reverse, ap, arith, length-append}
 use Rattle.std.proofs.lemmas.List.{length-reverse}
 use Rattle.pz_state.proofs.values.cut.Goals as goal
 

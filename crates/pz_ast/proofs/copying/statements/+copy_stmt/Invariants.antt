@@ -14,6 +14,9 @@ decreases-copy_statement l = 3 * goal.size-copy_statement l
 abbrev pub decreases-copy_form : goal.decreases-copy_form
 decreases-copy_form l = 3 * goal.size-copy_form l
 
+abbrev pub decreases-copy_boxed : goal.decreases-copy_boxed
+decreases-copy_boxed l = 3 * goal.size-copy_boxed l + 1
+
 abbrev pub decreases-copy_statements : goal.decreases-copy_statements
 decreases-copy_statements l = 3 * goal.size-copy_statements l + 1
 

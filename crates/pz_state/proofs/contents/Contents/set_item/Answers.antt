@@ -1,11 +1,9 @@
-use Rattle.std.proofs.Common.{◌≡◌, ◌≤◌, ◌<◌, ◌+◌, ◌-◌, ◌++◌, List, length, take, reverse, slice_set, get_or, refl, ap, sym, subst, ◌∙◌, arith, append-nil, length-append}
+use Rattle.std.proofs.Common.{◌<◌, length, slice_set, sym, subst, arith}
 use Rattle.std.proofs.lemmas.List.{length-set}
-use Rattle.pz_value.specs.declared.value.Value.{Value}
-use Rattle.pz_state.specs.States.{no_object, nils, fitted}
+use Rattle.pz_state.specs.States.{no_object}
 use Rattle.pz_state.specs.Objects.{ObjectView}
-use Rattle.pz_state.specs.devices.StoredStates.{StoredState, IsWider}
 use Rattle.pz_state.proofs.Reading.{set_back}
-use Rattle.pz_state.proofs.ObjectLists.{at_error, object_seen, room_seen, place_seen, item_seen, changes_object, keeps_object, widens, new_there, new_room, still_there, object_back}
+use Rattle.pz_state.proofs.ObjectLists.{object_seen, item_seen, changes_object, widens, new_there, object_back}
 use Rattle.pz_state.proofs.contents.Contents.set_item.Goals as goal
 
 pub returns-clause-state : goal.returns-clause-state

@@ -1,4 +1,4 @@
-use Rattle.std.proofs.Common.{◌≡◌, ◌<◌, List, length, slice_set, ap, sym, subst, ◌∙◌}
+use Rattle.std.proofs.Common.{◌<◌, List, length, slice_set, ap, sym, subst, ◌∙◌}
 use Rattle.std.proofs.lemmas.List.{length-set}
 use Rattle.pz_value.specs.declared.value.Value.{Value}
 use Rattle.pz_state.specs.devices.StoredStates.{StoredState, IsWider, stored_state}

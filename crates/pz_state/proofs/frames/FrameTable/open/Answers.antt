@@ -1,4 +1,4 @@
-use Rattle.std.proofs.Common.{◌≡◌, is_some, ap, sym, ◌∙◌}
+use Rattle.std.proofs.Common.{is_some, ap, ◌∙◌}
 use Rattle.pz_state.specs.States.{Frames, locals_in, with_frame, without_frame}
 use Rattle.pz_state.proofs.FrameTables.{without_frame-with_frame, locals_in-with_frame}
 use Rattle.pz_state.proofs.frames.FrameTable.open.Goals as goal

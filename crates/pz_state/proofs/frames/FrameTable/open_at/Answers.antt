@@ -1,4 +1,3 @@
-use Rattle.std.proofs.Common.{◌≡◌}
 use Rattle.pz_state.proofs.FrameTables.{opened}
 use Rattle.pz_state.proofs.frames.FrameTable.open_at.Goals as goal
 

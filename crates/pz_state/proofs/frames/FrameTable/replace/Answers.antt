@@ -1,4 +1,4 @@
-use Rattle.std.proofs.Common.{◌≡◌, ◌<◌, ◌≤◌, ◌-◌, List, slice_set, ap, sym, ◌∙◌, arith}
+use Rattle.std.proofs.Common.{List, slice_set, ap, sym, ◌∙◌, arith}
 use Rattle.std.proofs.lemmas.List.{length-set}
 use Rattle.pz_value.specs.declared.value.Value.{Value}
 use Rattle.pz_state.proofs.Reading.{set_back}

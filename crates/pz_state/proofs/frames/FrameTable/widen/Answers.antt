@@ -1,4 +1,4 @@
-use Rattle.std.proofs.Common.{◌≡◌, ap, ◌∙◌}
+use Rattle.std.proofs.Common.{ap, ◌∙◌}
 use Rattle.pz_state.specs.devices.FrameTables.{StoredFrames, Table, frames_from}
 use Rattle.pz_state.proofs.FrameTables.{frames_from-widened}
 use Rattle.pz_state.proofs.frames.FrameTable.widen.Goals as goal

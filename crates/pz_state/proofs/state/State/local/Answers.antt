@@ -1,7 +1,5 @@
-use Rattle.std.proofs.Common.{◌≡◌, ◌+◌, ◌<◌, ◌≤◌, ℕ, List, length, slice_set, refl, ap, sym, subst, ◌∙◌, arith}
-use Rattle.pz_state.specs.declared.state.State.TheInside.{Inside}
-use Rattle.pz_state.specs.States.{StateView, set_variable, set_local, set_item, resized, opened, closed, made, fitted, local}
-use Rattle.pz_state.proofs.ObjectLists.{same_room, length-at_object}
+use Rattle.std.proofs.Common.{length, ap, sym, subst, ◌∙◌}
+use Rattle.pz_state.specs.States.{local}
 use Rattle.pz_value.specs.declared.value.Value.{Value}
 use Rattle.pz_state.specs.Marks.{Seen}
 use Rattle.pz_state.specs.References.{RefersWithin}

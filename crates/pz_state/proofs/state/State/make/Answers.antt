@@ -1,10 +1,9 @@
-use Rattle.std.proofs.Common.{◌≡◌, ◌+◌, ◌<◌, ◌≤◌, ℕ, List, length, slice_set, refl, ap, sym, subst, ◌∙◌, ◌^◌, arith, rules}
-use Rattle.pz_state.specs.declared.state.State.TheInside.{Inside}
-use Rattle.pz_state.specs.States.{StateView, set_variable, set_local, set_item, resized, opened, closed, made, fitted}
+use Rattle.std.proofs.Common.{◌<◌, length, refl, ap, ◌^◌, arith, rules}
+use Rattle.pz_state.specs.States.{StateView, made}
 use Rattle.pz_state.specs.Marks.{Seen}
-use Rattle.pz_state.proofs.ObjectLists.{same_room, length-at_object}
+use Rattle.pz_state.proofs.ObjectLists.{same_room}
 use Rattle.pz_state.proofs.SelfContained.{contained-made, length-made}
-use Rattle.pz_state.proofs.Keeping.{stays, changes_by, within_held}
+use Rattle.pz_state.proofs.Keeping.{stays, changes_by}
 use Rattle.pz_state.specs.declared.journal.Change.TheVariants as change
 use Rattle.pz_state.proofs.state.State.make.Goals as goal
 

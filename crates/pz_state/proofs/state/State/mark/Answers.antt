@@ -1,7 +1,5 @@
-use Rattle.std.proofs.Common.{◌≡◌, ◌+◌, ◌<◌, ◌≤◌, ℕ, List, length, slice_set, refl, ap, sym, subst, ◌∙◌, arith}
-use Rattle.pz_state.specs.declared.state.State.TheInside.{Inside}
-use Rattle.pz_state.specs.States.{StateView, set_variable, set_local, set_item, resized, opened, closed, made, fitted}
-use Rattle.pz_state.proofs.ObjectLists.{same_room, length-at_object}
+use Rattle.std.proofs.Common.{refl, arith}
+use Rattle.pz_state.proofs.ObjectLists.{same_room}
 use Rattle.pz_state.proofs.Journals.{count_le}
 use Rattle.pz_state.proofs.Keeping.{stays, marks}
 use Rattle.pz_state.proofs.state.State.mark.Goals as goal

@@ -1,9 +1,8 @@
-use Rattle.std.proofs.Common.{◌≡◌, ◌+◌, ◌<◌, ◌≤◌, ℕ, List, length, slice_set, refl, ap, sym, subst, ◌∙◌, arith}
-use Rattle.pz_state.specs.declared.state.State.TheInside.{Inside}
-use Rattle.pz_state.specs.States.{StateView, set_variable, set_local, set_item, resized, opened, closed, made, fitted}
-use Rattle.pz_state.proofs.ObjectLists.{same_room, length-at_object}
+use Rattle.std.proofs.Common.{refl}
+use Rattle.pz_state.specs.States.{StateView, opened}
+use Rattle.pz_state.proofs.ObjectLists.{same_room}
 use Rattle.pz_state.proofs.SelfContained.{contained-opened}
-use Rattle.pz_state.proofs.Keeping.{stays, changes_by, within_held}
+use Rattle.pz_state.proofs.Keeping.{stays, changes_by}
 use Rattle.pz_state.specs.declared.journal.Change.TheVariants as change
 use Rattle.pz_state.proofs.state.State.open_frame.Goals as goal
 

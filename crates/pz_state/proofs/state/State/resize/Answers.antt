@@ -1,10 +1,8 @@
-use Rattle.std.proofs.Common.{◌≡◌, ◌+◌, ◌<◌, ◌≤◌, ℕ, List, length, slice_set, refl, ap, sym, subst, ◌∙◌, ◌^◌, arith, rules}
-use Rattle.pz_state.specs.declared.state.State.TheInside.{Inside}
-use Rattle.pz_state.specs.States.{StateView, set_variable, set_local, set_item, resized, opened, closed, made, fitted}
+use Rattle.std.proofs.Common.{◌<◌, refl, ◌^◌, rules}
+use Rattle.pz_state.specs.States.{StateView, resized}
 use Rattle.pz_state.proofs.ObjectLists.{same_room, length-at_object}
 use Rattle.pz_state.proofs.SelfContained.{contained-resized}
-use Rattle.pz_state.proofs.Keeping.{stays, changes_by, within_held}
-use Rattle.pz_state.specs.declared.journal.Change.TheVariants as change
+use Rattle.pz_state.proofs.Keeping.{stays, changes_by}
 use Rattle.pz_state.proofs.state.State.resize.Goals as goal
 
 pub invariant_of-self : goal.invariant_of-self

@@ -1,8 +1,4 @@
-use Rattle.std.proofs.Common.{◌≡◌, ◌+◌, ◌<◌, ◌≤◌, ℕ, List, length, slice_set, refl, ap, sym, subst, ◌∙◌, arith}
-use Rattle.pz_state.specs.declared.state.State.TheInside.{Inside}
-use Rattle.pz_state.specs.States.{StateView, set_variable, set_local, set_item, resized, opened, closed, made, fitted}
-use Rattle.pz_state.proofs.ObjectLists.{same_room, length-at_object}
-use Rattle.pz_state.proofs.Keeping.{undoes, marked_open}
+use Rattle.pz_state.proofs.Keeping.{undoes}
 use Rattle.pz_state.proofs.state.State.undo_to.Goals as goal
 
 pub invariant_of-self : goal.invariant_of-self

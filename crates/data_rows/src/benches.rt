@@ -1,0 +1,66 @@
+//! Changes of a state under a mark, to be timed.
+
+ghost use Rattle.std.specs.Prelude.{◌<◌};
+
+use crate::subject::Subject;
+use std::alloc::AllocError;
+use std::io;
+
+/// Eight changes of eight sorts.
+fn change_all(subject: &mut Subject, round: u32, object: u32) -> Result<(), AllocError> {
+    let number = i64::from(round);
+    subject.set_variable(0, number)?;
+    subject.set_item(object, 0, number)?;
+    subject.resize(object, 4)?;
+    subject.resize(object, 2)?;
+    let _made = subject.make(1, 2);
+    let _frame = subject.enter(2)?;
+    subject.set_local(0, number)?;
+    subject.close()
+}
+
+/// Changes of a state with so many objects, and their undoing.
+fn mixed(rt: &HostRuntime, size: u32, changes: u32) -> io::Result<()>
+    requires { 0 < size }
+{
+    let mut subject = Subject::new(rt.alloc(), 1)?;
+    for _ in 0..size {
+        let _made = subject.make(1, 2);
+    }
+    subject.mark()?;
+    for round in 0..changes / 8 {
+        change_all(&mut subject, round, round % size)?;
+    }
+    let most = subject.objects();
+    subject.undo();
+    let left = subject.objects();
+    println!(rt; "{most} objects, and {left} once all is undone")
+}
+
+/// The least frame of so many is closed and opened again and again, and all is undone.
+fn frames(rt: &HostRuntime, size: u32, changes: u32) -> io::Result<()> {
+    let mut subject = Subject::new(rt.alloc(), 1)?;
+    let _least = subject.enter(1)?;
+    for _ in 0..size {
+        let _other = subject.open(1)?;
+    }
+    subject.mark()?;
+    for _ in 0..changes / 2 {
+        subject.close()?;
+        let _least = subject.enter(1)?;
+    }
+    let next = subject.open(1)?.0;
+    subject.undo();
+    println!(rt; "the next frame was {next}")
+}
+
+/// One of the benches: how much there is before, and how many changes are made.
+pub fn show_bench(rt: &HostRuntime, bench: &str, size: &str, changes: &str) -> io::Result<()> {
+    let size = size.parse::<u32>().unwrap_or(1).max(1);
+    let changes = changes.parse::<u32>().unwrap_or(0);
+    match bench {
+        "mixed" => mixed(rt, size, changes),
+        "frames" => frames(rt, size, changes),
+        _ => println!(rt; "no bench"),
+    }
+}

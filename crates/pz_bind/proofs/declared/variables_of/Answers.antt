@@ -1,0 +1,19 @@
+use Rattle.std.proofs.Common.{◌≡◌, sym, ap, ◌+◌, ◌<◌, length, arith}
+use Rattle.pz_classes.specs.CheckedView.{checked_model}
+use Rattle.pz_classes.specs.Members.{own_variables, spelled}
+use Rattle.pz_bind.proofs.Gets.{names_merely, none_declared, none_inherited}
+use Rattle.pz_bind.proofs.declared.variables_of.Goals as goal
+
+pub variables-requires : goal.variables-requires
+variables-requires c = c.count.ensures.belongs (record { 0 = c.args.class }) c.if-class-count.true
+
+pub returns-then-class-count : goal.returns-then-class-count
+returns-then-class-count c = names_merely _ _ c.classes-classes.ensures.tabled (λ known. c.variables.ensures (checked_model c.args.checked.now) known)
+
+pub returns-else-class-count : goal.returns-else-class-count
+returns-else-class-count c =
+    let m = checked_model c.args.checked.now in
+    names_merely _ _ c.classes-classes.ensures.tabled (λ known.
+    let count : c.count.result ≡ length m.decls + 1 = c.count.ensures.count m known in
+    let past : length m.decls < c.args.class = let beyond = c.if-class-count.false in omega arith in
+    sym (ap spelled (none_inherited own_variables m c.args.class (none_declared m c.args.class past))))

@@ -1,0 +1,5 @@
+pub mod Layouts
+pub mod Numberings
+pub mod Bindings
+pub mod Sites
+pub mod Processes

@@ -1,0 +1,129 @@
+// What stands in a level of each class, by numbers.
+
+ghost use Rattle.std.specs.Prelude.{◌≡◌, ℕ, map, IfOk};
+ghost use Rattle.pz_syntax.specs.declared.clusters.Channel.{Channel as Written};
+ghost use Rattle.pz_syntax.specs.Classes.{ModelTree};
+ghost use Rattle.pz_classes.specs.CheckedView.{checked_model};
+ghost use Rattle.pz_levels.specs.devices.Walking.{layout_of, layouts_of, linked_in};
+ghost use Rattle.pz_bind.specs.devices.Layouts as spec;
+ghost use Rattle.pz_bind.specs.devices.Layouts.{class_layout, layouts, linked_by, links_from};
+ghost use Rattle.pz_bind.specs.devices.Numberings.{AreNumbers};
+
+use crate::declared::{channels_in, class_of, instances_in, is_cluster_class};
+use crate::naming::Naming;
+use crate::port_numbers::{PortNumbers, number_instances};
+use pz_classes::Checked;
+use pz_items::Items;
+use pz_levels::{Links, Part, Plan};
+use pz_syntax::{Channel, ChannelEnd, Instance};
+use std::alloc::{AllocError, Global};
+
+/// An instance by the number of its class.
+fn part_of(checked: &Checked, instance: &Instance) -> Part
+    ensures { result ≡ spec.part_of (checked_model checked.now) instance.now }
+{
+    let class = class_of(checked, instance);
+    Part {
+        class,
+        is_level: is_cluster_class(checked, class as usize),
+    }
+}
+
+/// The only error is want of memory.
+fn parts_of(
+    alloc: Global,
+    checked: &Checked,
+    instances: &[Instance],
+) -> Result<Items<Part>, AllocError>
+    ensures { IfOk result (λ parts. parts ≡ map (spec.part_of (checked_model checked.now)) instances.now) }
+{
+    let mut parts = Items::new(alloc);
+    for instance in instances {
+        parts.push(part_of(checked, instance))?;
+    }
+    Ok(parts)
+}
+
+/// The number of the port of its own class that a channel with these ends has.
+fn outer_of(ports: &PortNumbers, class: usize, ends: &[ChannelEnd]) -> Option<usize>
+    ensures { (m : ModelTree) → AreNumbers m ports.now → result ≡ spec.outer_from m class ends.now }
+{
+    for end in ends {
+        if let ChannelEnd::Outer(port) = end {
+            return ports.get(class, port.name.as_str().as_bytes());
+        }
+    }
+    None
+}
+
+/// The same for each of these channels. The only error is want of memory.
+fn outers_of(
+    alloc: Global,
+    ports: &PortNumbers,
+    class: usize,
+    channels: &[Channel],
+) -> Result<Items<Option<usize>>, AllocError>
+    ensures { IfOk result (λ outers. (m : ModelTree) → AreNumbers m ports.now → outers ≡ map (λ (h : Written). spec.outer_from m class h.ends) channels.now) }
+{
+    let mut outers = Items::new(alloc);
+    for channel in channels {
+        outers.push(outer_of(ports, class, channel.ends.as_slice()))?;
+    }
+    Ok(outers)
+}
+
+/// In which channel the ports of these instances are, by their numbers. The only error is want of
+/// memory.
+fn links_of(
+    alloc: Global,
+    ports: &PortNumbers,
+    instances: &[Instance],
+    parts: &[Part],
+    channels: &[Channel],
+) -> Result<Links, AllocError>
+    ensures { IfOk result (λ links. (m : ModelTree) → AreNumbers m ports.now → parts.now ≡ map (spec.part_of m) instances.now
+        → (i p : ℕ) → linked_in links i p ≡ linked_by (links_from m instances.now 0 channels.now) i p) }
+{
+    let naming = Naming {
+        parts,
+        numbers: number_instances(alloc, instances)?,
+        ports,
+    };
+    naming.links(alloc, channels)
+}
+
+/// What stands in a level of this class. The only error is want of memory.
+fn plan_of(
+    alloc: Global,
+    checked: &Checked,
+    ports: &PortNumbers,
+    class: usize,
+) -> Result<Plan, AllocError>
+    requires { AreNumbers (checked_model checked.now) ports.now }
+    ensures { IfOk result (λ plan. layout_of plan ≡ class_layout (checked_model checked.now) class) }
+{
+    let instances = instances_in(checked, class);
+    let channels = channels_in(checked, class);
+    let parts = parts_of(alloc, checked, instances)?;
+    let links = links_of(alloc, ports, instances, parts.as_slice(), channels)?;
+    let outer = outers_of(alloc, ports, class, channels)?;
+    Ok(Plan {
+        parts,
+        outer,
+        links,
+    })
+}
+
+/// What stands in a level of each class, by the classes' numbers. The only error is want of memory.
+pub(crate) fn plans_of(alloc: Global, checked: &Checked) -> Result<Items<Plan>, AllocError>
+    ensures { IfOk result (λ plans. layouts_of plans ≡ layouts (checked_model checked.now)) }
+{
+    let ports = PortNumbers::new(alloc, checked)?;
+    let mut plans = Items::new(alloc);
+    plans.push(plan_of(alloc, checked, &ports, 0)?)?;
+    let decls = checked.model().decls.as_slice();
+    for (index, _decl) in decls.iter().enumerate() {
+        plans.push(plan_of(alloc, checked, &ports, index + 1)?)?;
+    }
+    Ok(plans)
+}
