@@ -102,7 +102,6 @@ module _ (m : ModelTree) (c : ℕ) where
   inner_fits l number inputs [] inner inner_inputs (x ∷ xs) t n h k = (h, (n, k))
   inner_fits l number inputs (y ∷ ys) inner inner_inputs xs t n h k = (h, (n, k))
 
-
   framed_fits : (l number inputs : ℕ) (results : List Slot) (x : Term) (n : ℕ) → Outputs l results → Fits n x → Fits l (framed number inputs results x)
   framed_fits l number inputs results (frame inner inner_inputs inner_results t) n h k = inner_fits l number inputs results inner inner_inputs inner_results t n h k
   framed_fits l number inputs [] x n h k = (h, (n, k))

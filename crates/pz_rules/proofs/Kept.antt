@@ -82,19 +82,21 @@ module _ (setting : Setting) (c : Config) (sound : BodiesFit setting.model) (fit
   -- Each action leads somewhere
 
   acts_some : (does : Deed) (end : End) (a : At) (f : ℕ) (t : Term) → PartAt setting c end a f t → SomeDeed (does a f t) → (q : Result Process Trouble) × Acts setting c does end q
-  acts_some does end a f t at deed =
-      (and_then deed.left (settled a deed.pos at.process.term end.place), record {
-        process = at.process;
-        seen = a;
-        stands = at.stands;
-        frame = f;
-        part = t;
-        active = at.active;
-        pos = deed.pos;
-        left = deed.left;
-        acts = deed.is;
-        leaves = refl;
-      })
+  acts_some does end a f t at deed = (
+    and_then deed.left (settled a deed.pos at.process.term end.place),
+    record {
+      process = at.process;
+      seen = a;
+      stands = at.stands;
+      frame = f;
+      part = t;
+      active = at.active;
+      pos = deed.pos;
+      left = deed.left;
+      acts = deed.is;
+      leaves = refl;
+    },
+  )
 
   pub next_some : (action : Action) → Offers setting c action → (q : Result Config Trouble) × Next setting c action q
   next_some _ (offers.internal end a f t kind pos at can) =
@@ -124,8 +126,8 @@ module _ (setting : Setting) (c : Config) (sound : BodiesFit setting.model) (fit
   to_place i a p (Err t) stands h = tt
   to_place i a p (Ok r) stands h =
       λ place at.
-          subst (λ (z : Standing). TermFits setting.model (class_at setting.model z) 0 r.term) (some_is (sym stands.is_process ∙ at))
-          (subst (λ (b : At). TermFits b.setting.model b.class 0 r.term) stands.seen h)
+      subst (λ (z : Standing). TermFits setting.model (class_at setting.model z) 0 r.term) (some_is (sym stands.is_process ∙ at))
+      (subst (λ (b : At). TermFits b.setting.model b.class 0 r.term) stands.seen h)
 
   acts_fit : (does : Deed) → KeepsFit does → (end : End) (q : Result Process Trouble) → Acts setting c does end q → LeftFits setting end.process q
   acts_fit does keeps end q x =

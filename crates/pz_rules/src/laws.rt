@@ -1,6 +1,6 @@
 // Laws of execution, each the contract of a function that does nothing.
 
-ghost use Rattle.pz_rules.specs.Laws.{OneListOfOffers, EveryListOfOffers, OneMoment, EveryMoment, TimeWaits, LeastPasses, TimeIsPositive, EveryPassing, BringsToZero, OneNext, OnePassing, StaysWhole, StartFits, StaysFit, EveryNext, OneChosenRun, EveryChosenRun, ChosenRunsAreRuns};
+ghost use Rattle.pz_rules.specs.Laws.{OneListOfOffers, EveryListOfOffers, OneMoment, EveryMoment, TimeWaits, LeastPasses, TimeIsPositive, EveryPassing, PassingTakes, BringsToZero, OneNext, OnePassing, StaysWhole, StartFits, StaysFit, EveryNext, OneChosenRun, EveryChosenRun, ChosenRunsAreRuns};
 ghost use Rattle.pz_rules.specs.devices.Walks.{InternalActionsAreListed, SendsAreListed, SendsHaveParcels, ReceivesAreListed, DelaysAreListed, TroublesAreListed};
 
 use pz_classes::sound_bodies_fit;
@@ -23,11 +23,13 @@ pub fn time_waits()
 {}
 
 /// A passing is by the least that is left of an active delay, and by one clock unit or more. It
-/// leads to a configuration, in which nothing is left of some delay.
+/// leads to a configuration, in which so much less is left of each of these delays, and nothing of
+/// some.
 pub fn least_passes()
     ensures least { LeastPasses }
     ensures positive { TimeIsPositive }
     ensures some { EveryPassing }
+    ensures takes { PassingTakes }
     ensures elapsed { BringsToZero }
 {}
 
