@@ -1,6 +1,7 @@
 -- A policy chooses one run, which is a run of the rules.
-use Rattle.std.proofs.Common.{◌≡◌, ◌≤◌, ◌⊎◌, inl, inr, ℕ, suc, ◌+◌, Bool, true, false, List, [], ◌∷◌, length, Option, Some, None, Result, Ok, Err, refl, sym, subst, ap, ◌∙◌, arith}
+use Rattle.std.proofs.Common.{◌≡◌, ◌≤◌, ◌<◌, ◌⊎◌, inl, inr, ℕ, suc, ◌+◌, Bool, true, false, List, [], ◌∷◌, length, Option, Some, None, Result, Ok, Err, refl, sym, subst, ap, ◌∙◌, arith}
 use Rattle.std.specs.Prelude.{slice_get, nat_le, nat_lt, if◌then◌else◌}
+use Rattle.std.proofs.lemmas.Bool.{leb-false, ltb-true}
 use Rattle.pz_offer.specs.declared.trouble.Trouble.{Trouble}
 use Rattle.pz_rules.specs.declared.action.Action.{Action}
 use Rattle.pz_rules.specs.declared.moment.Moment.{Moment}
@@ -165,6 +166,32 @@ module _ (setting : Setting) (policy : Policy) where
   takes_at j clock (Stopped t) n k h = stops_takes h
   takes_at j clock Broken n k h = stops_takes h
 
+  entry_within : (m n k : ℕ) (o : Option ℕ) → entry_of m o ≡ takes n k → k < n
+  entry_within m n k None h = stops_takes h
+  entry_within m n k (Some l) h = by (stopped_by (nat_lt l m) (takes m l) (stops_with (refused l m)) (takes n k) h)
+    where
+      by : ((nat_lt l m ≡ true) × (takes m l ≡ takes n k)) ⊎ ((nat_lt l m ≡ false) × (stops_with (refused l m) ≡ takes n k)) → k < n
+      by (inl is_so) = let same = takes_is is_so.1 in omega (arith, same.count, same.number, ltb-true l m is_so.0)
+      by (inr not_so) = stops_takes not_so.1
+
+  -- what is taken is an offer, and there may be a further action
+  pub takes_within : (j clock : ℕ) (m : Moment) (n k : ℕ) → decided policy j clock m ≡ takes n k → (j < policy.steps) × (k < n)
+  takes_within j clock (Actions m) n k h = by (stopped_by (nat_le policy.steps j) (stops_with halted) (entry_of m (policy.choose j m)) (takes n k) h)
+    where
+      by : ((nat_le policy.steps j ≡ true) × (stops_with halted ≡ takes n k)) ⊎ ((nat_le policy.steps j ≡ false) × (entry_of m (policy.choose j m) ≡ takes n k)) → (j < policy.steps) × (k < n)
+      by (inl is_so) = stops_takes is_so.1
+      by (inr not_so) = (leb-false policy.steps j not_so.0, entry_within m n k (policy.choose j m) not_so.1)
+  takes_within j clock (Time d) n k h = by (stopped_by (is_beyond policy.until clock d) (stops_with halted) (waits d) (takes n k) h)
+    where
+      by : ((is_beyond policy.until clock d ≡ true) × (stops_with halted ≡ takes n k)) ⊎ ((is_beyond policy.until clock d ≡ false) × (waits d ≡ takes n k)) → (j < policy.steps) × (k < n)
+      by (inl is_so) = stops_takes is_so.1
+      by (inr not_so) = takes_waits (sym not_so.1)
+  takes_within j clock Finished n k h = used_takes ended (policy.ahead j) n k h
+  takes_within j clock Deadlock n k h = used_takes deadlocked (policy.ahead j) n k h
+  takes_within j clock (Faulty t) n k h = stops_takes h
+  takes_within j clock (Stopped t) n k h = stops_takes h
+  takes_within j clock Broken n k h = stops_takes h
+
   entry_waits : {P : Type 0} (m d : ℕ) (o : Option ℕ) → entry_of m o ≡ waits d → P
   entry_waits m d None h = stops_waits h
   entry_waits {P} m d (Some l) h = by (stopped_by (nat_lt l m) (takes m l) (stops_with (refused l m)) (waits d) h)
@@ -242,10 +269,10 @@ module _ (setting : Setting) (policy : Policy) where
   ends_at j c (Stopped t) f is h own = absurd (omega (arith, (said c (Stopped t) is.applies).0))
   ends_at j c Broken f is h own = absurd (omega (arith, (said c Broken is.applies).1))
 
-  acting_at : (j : ℕ) (c : Config) (m : Moment) (n k : ℕ) → IsMoment setting c m → decided policy j c.clock m ≡ takes n k → IsMoment setting c (Actions n)
+  pub acting_at : (j : ℕ) (c : Config) (m : Moment) (n k : ℕ) → IsMoment setting c m → decided policy j c.clock m ≡ takes n k → IsMoment setting c (Actions n)
   acting_at j c m n k is h = subst (IsMoment setting c) (takes_at j c.clock m n k h) is
 
-  passing_at : (j : ℕ) (c : Config) (m : Moment) (d : ℕ) → IsMoment setting c m → decided policy j c.clock m ≡ waits d → IsMoment setting c (Time d)
+  pub passing_at : (j : ℕ) (c : Config) (m : Moment) (d : ℕ) → IsMoment setting c m → decided policy j c.clock m ≡ waits d → IsMoment setting c (Time d)
   passing_at j c m d is h = subst (IsMoment setting c) (waits_at j c.clock m d h) is
 
   is_run : (j : ℕ) (c end : Config) (events : List Event) (f : Ending) → IsChosenRun setting policy j c events end f → IsOwn f → IsRun setting c events end f

@@ -54,7 +54,7 @@ number_known m n = by (cases_lt m n) (cases_lt n m)
     by (inr more) (inl after) = inr (λ e. omega (arith, after, e))
     by (inr more) (inr less) = inl (omega (arith, more, less))
 
-at_most_known : (m n : ℕ) → Known (m ≤ n)
+pub at_most_known : (m n : ℕ) → Known (m ≤ n)
 at_most_known m n = by (cases_lt n m)
   where
     by : (n < m) ⊎ (m ≤ n) → Known (m ≤ n)

@@ -18,3 +18,8 @@ mod Moments
 mod Waiting
 mod WalksAre
 mod Rows
+mod Fits
+mod Possible
+mod Kept
+mod Pending
+mod Existing

@@ -258,3 +258,18 @@ module _ (setting : Setting) (c : Config) where
   time_positive wires d is =
       let h = (least_passes d is).is_left in
       positive d (λ e. let x = expires h.seen h.frame h.part d e h.delays in time_waits wires d (Internal h.at Expire x.0) is (internal h.at h.seen h.frame h.part Expire x.0 h.active x.1))
+
+  -- How many offers there are
+
+  counted : (n : ℕ) (m : Moment) → m ≡ Actions n → Says setting c m → (xs : List Action) → IsOffers setting c xs → n ≡ length xs
+  counted n _ e (acting ys is some) xs h = sym (count_is e) ∙ ap length (one_list setting c ys xs is h)
+    where
+      count_is : {k l : ℕ} → Actions k ≡ Actions l → k ≡ l
+      count_is d = cc
+  counted n _ e (faulty t x) xs h = absurd (omega (arith, ap rank e))
+  counted n _ e (passing d x) xs h = absurd (omega (arith, ap rank e))
+  counted n _ e (finished x) xs h = absurd (omega (arith, ap rank e))
+  counted n _ e deadlock xs h = absurd (omega (arith, ap rank e))
+
+  pub action_count : (n : ℕ) → IsMoment setting c (Actions n) → (xs : List Action) → IsOffers setting c xs → n ≡ length xs
+  action_count n is xs h = counted n (Actions n) refl is.applies xs h

@@ -14,6 +14,7 @@ use Rattle.pz_code.specs.declared.slot.Slot.{Slot}
 use Rattle.pz_state.specs.States.{StateView, Frames, locals_in, IsLeastFree}
 use Rattle.pz_state.specs.declared.fault.FaultKind.TheVariants.{StoreFull}
 use Rattle.pz_classes.specs.Bodies.{BodyTree, process_body, bodies}
+use Rattle.pz_classes.specs.FitBodies.{how_many}
 use Rattle.pz_classes.specs.Methods.{process_method}
 use Rattle.pz_classes.specs.declared.method_id.MethodId.{MethodId}
 use Rattle.pz_copy.specs.Parcels.{ParcelView}
@@ -23,7 +24,7 @@ use Rattle.pz_offer.specs.declared.trouble.Trouble.{Trouble}
 use Rattle.pz_rules.specs.Terms.{Code, Codes, Step, Steps, Term, leaf, wait, child, frame_in}
 use Rattle.pz_rules.specs.Settings.{At, Process, in_state}
 use Rattle.pz_rules.specs.Meanings.{and_then, truth, fault}
-use Rattle.pz_rules.specs.Evaluations.{count_of, GivesPart, Tests}
+use Rattle.pz_rules.specs.Evaluations.{GivesPart, Tests}
 use Rattle.pz_rules.specs.Active as active
 use Rattle.pz_rules.specs.Active.{Active}
 use Rattle.pz_rules.specs.Methods.{IsMethod}
@@ -108,7 +109,7 @@ module _ (a : At) (f : ℕ) where
   StepPerformed (conditional at e ts other) pos q = (pos ≡ at) × (q ≡ and_then (found a f at e) (λ v. and_then (truth a.process at v) (λ b. Ok (chosen (left a f e) ts other b))))
   StepPerformed (repeated at e ts) pos q = (pos ≡ at) × (q ≡ and_then (found a f at e) (λ v. and_then (truth a.process at v) (λ b. Ok (turned (left a f e) (repeated at e ts) ts b))))
   StepPerformed (delay at e) pos q = (pos ≡ at) × (q ≡ Ok (done_in a.state))
-  StepPerformed (call at method args results) pos q = (pos ≡ at) × Called a method (count_of args) results (found_all a f at args) (left_all a f args) q
+  StepPerformed (call at method args results) pos q = (pos ≡ at) × Called a method (how_many args) results (found_all a f at args) (left_all a f args) q
   StepPerformed s pos q = ⊥
 
   abbrev pub Performed : Term → Pos → Result Process Trouble → Type 0

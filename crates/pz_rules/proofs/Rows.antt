@@ -57,8 +57,10 @@ greater n = chain (at 2) (variable (at 2) (Shared 0)) (link Greater (at 4) (expr
 abbrev s : StateView
 s = state_with value.Nil
 
-abbrev x y : Term
+abbrev x : Term
 x = wait 1 (at 1)
+
+abbrev y : Term
 y = wait 2 (at 2)
 
 abbrev again : Step

@@ -21,7 +21,7 @@ use Rattle.pz_rules.specs.Configurations.{Config, Stands}
 use Rattle.pz_rules.specs.Steps.{PassesTo}
 use Rattle.pz_rules.specs.Offers.{PartAt}
 use Rattle.pz_rules.specs.Moments.{IsMoment, asked, part}
-use Rattle.pz_rules.specs.Laws.{EveryPassing, BringsToZero, HasElapsed, part_of}
+use Rattle.pz_rules.specs.Laws.{EveryPassing, PassingTakes, BringsToZero, HasLeft, part_of}
 use Rattle.pz_rules.specs.devices.Found.{tested, lasting}
 use Rattle.pz_rules.specs.devices.Passing.{begun, if_open, passed, passed_all}
 use Rattle.pz_rules.proofs.Found.{tests_only, lasts_only}
@@ -126,17 +126,27 @@ module _ (a : At) (d : ℕ) where
       let inner = part_passed (frame_in t f) (child t i) place g x left k h in
       (inner.0, ap (λ (y : Term). part_of y place) (child_passed f t i r) ∙ inner.1)
 
+pub passing_takes : PassingTakes
+passing_takes setting c next d at a f x left passes active h =
+    let one = passes.each at.process active.process a active.stands in
+    let inner = part_passed a d 0 active.process.term at.place f x left active.active h in
+    record {
+      process = record { term = one.0; state = active.process.state };
+      stands = one.2;
+      pos = inner.0;
+      waits = ap (λ (t : Term). part_of t at.place) (passes_only a d 0 active.process.term one.0 one.1) ∙ inner.1;
+    }
+
 pub brings_to_zero : BringsToZero
 brings_to_zero setting c next d is passes =
     let h = (least_passes setting c d is).is_left in
-    let stands = h.active.stands in
-    let one = passes.each h.at.process h.active.process h.seen stands in
-    let inner = part_passed h.seen d 0 h.active.process.term h.at.place h.frame h.part d h.active.active h.delays in
     let nothing : d - d ≡ 0 = omega arith in
     record {
-      process = record { term = one.0; state = h.active.process.state };
       at = h.at;
-      stands = one.2;
-      pos = inner.0;
-      elapsed = ap (λ (t : Term). part_of t h.at.place) (passes_only h.seen d 0 h.active.process.term one.0 one.1) ∙ inner.1 ∙ ap (λ (n : ℕ). wait n inner.0) nothing;
+      seen = h.seen;
+      frame = h.frame;
+      part = h.part;
+      active = h.active;
+      delays = h.delays;
+      elapsed = subst (HasLeft next h.at) nothing (passing_takes setting c next d h.at h.seen h.frame h.part d passes h.active h.delays);
     }

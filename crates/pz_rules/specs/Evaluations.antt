@@ -1,8 +1,8 @@
 -- Evaluations of the statements of a process: what they give, or the trouble that they are. A
 -- tentative one is the same with the state afterwards dropped.
-use Rattle.std.specs.Prelude.{◌≡◌, ℕ, suc, Bool, List, [], Result, Ok, Err}
+use Rattle.std.specs.Prelude.{◌≡◌, ℕ, Bool, List, [], Result, Ok, Err}
 use Rattle.pz_syntax.specs.declared.tokens.Pos.{Pos}
-use Rattle.pz_syntax.specs.Expressions.{none, more, Part, left_out, written}
+use Rattle.pz_syntax.specs.Expressions.{Part, left_out, written}
 use Rattle.pz_value.specs.declared.value.ClassId.{ClassId}
 use Rattle.pz_value.specs.declared.value.Value.{Value}
 use Rattle.pz_code.specs.declared.slot.Slot.{Slot}
@@ -51,10 +51,6 @@ pub record GivesAll (a : At) (f : ℕ) (at : Pos) (es : Codes) (r : Result (List
 abbrev pub GivesPart : At → ℕ → Pos → Part Slot ClassId → Result (List Value) Trouble → StateView → Type 0
 GivesPart a f at left_out r s = (r ≡ Ok []) × (s ≡ a.state)
 GivesPart a f at (written es) r s = GivesAll a f at es r s
-
-abbrev pub count_of : Codes → ℕ
-count_of none = 0
-count_of (more e es) = suc (count_of es)
 
 -- a test, which is true or false
 pub record Tests (a : At) (f : ℕ) (at : Pos) (e : Code) (r : Result Bool Trouble) : Type 0 where

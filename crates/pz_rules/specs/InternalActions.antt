@@ -7,6 +7,7 @@ use Rattle.pz_syntax.specs.Statements.{skip, delay, block, conditional, repeated
 use Rattle.pz_value.specs.declared.value.ClassId.{ClassId}
 use Rattle.pz_value.specs.declared.value.Value.{Value}
 use Rattle.pz_code.specs.declared.slot.Slot.{Slot}
+use Rattle.pz_classes.specs.FitBodies.{how_many}
 use Rattle.pz_state.specs.States.{StateView, IsLeastFree, opened as with_frame}
 use Rattle.pz_offer.specs.declared.trouble.Trouble.{Trouble}
 use Rattle.pz_rules.specs.declared.action.Kind.{Kind}
@@ -16,7 +17,7 @@ use Rattle.pz_rules.specs.Opening.{opened_all, opened_part}
 use Rattle.pz_rules.specs.Settings.{At, Process}
 use Rattle.pz_rules.specs.Slots.{set_slots, first_slots}
 use Rattle.pz_rules.specs.Meanings.{and_then, truth}
-use Rattle.pz_rules.specs.Evaluations.{Gives, GivesAll, Lasts, count_of}
+use Rattle.pz_rules.specs.Evaluations.{Gives, GivesAll, Lasts}
 use Rattle.pz_rules.specs.Methods.{IsMethod}
 
 -- in frame f this part can act, by an action of this kind, at this place of the text
@@ -65,5 +66,5 @@ pub data Performs (a : At) (f : ℕ) : Term → Pos → Result Process Trouble �
   elapses : (at : Pos) (e : Code) → Performs a f (leaf (delay at e)) at (Ok (done_in a.state))
   expires : (left : ℕ) (at : Pos) → Performs a f (wait left at) at (Ok (done_in a.state))
   calls : (at : Pos) (method : Id) (args : Codes) (results : List Slot) (r : Result (List Value) Trouble) (s : StateView) (locals number : ℕ) (body : Steps)
-      → GivesAll a f at args r s → IsMethod a.setting.model a.class method.name (count_of args) (length results) locals body → IsLeastFree s.frames number
+      → GivesAll a f at args r s → IsMethod a.setting.model a.class method.name (how_many args) (length results) locals body → IsLeastFree s.frames number
       → Performs a f (leaf (call at method args results)) at (and_then r (λ vs. Ok (entered s number locals results body vs)))

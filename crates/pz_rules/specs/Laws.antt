@@ -1,6 +1,7 @@
 -- Laws of execution.
-use Rattle.std.specs.Prelude.{◌≡◌, ◌≤◌, ℕ, List, [], ◌∷◌, Some, Result, Ok, slice_get}
+use Rattle.std.specs.Prelude.{◌≡◌, ◌≤◌, ℕ, ◌-◌, List, [], ◌∷◌, Some, Result, Ok, slice_get}
 use Rattle.pz_syntax.specs.declared.tokens.Pos.{Pos}
+use Rattle.pz_classes.specs.Soundness.{IsSound}
 use Rattle.pz_offer.specs.declared.end.End.{End}
 use Rattle.pz_offer.specs.PlaceOrder.{Place}
 use Rattle.pz_offer.specs.declared.trouble.Trouble.{Trouble}
@@ -8,10 +9,13 @@ use Rattle.pz_rules.specs.declared.action.Action.{Action}
 use Rattle.pz_rules.specs.declared.moment.Moment.{Moment}
 use Rattle.pz_rules.specs.declared.moment.Moment.TheVariants.{Time}
 use Rattle.pz_rules.specs.Terms.{Term, wait, child}
-use Rattle.pz_rules.specs.Settings.{Setting, Process}
+use Rattle.pz_rules.specs.Settings.{Setting, Process, At}
+use Rattle.pz_rules.specs.Delays.{Delays}
 use Rattle.pz_rules.specs.Ports.{HasWires}
+use Rattle.pz_rules.specs.Starting.{IsStart}
+use Rattle.pz_rules.specs.Fitting.{IsFit}
 use Rattle.pz_rules.specs.Configurations.{Config, IsWhole}
-use Rattle.pz_rules.specs.Offers.{Offers, IsOffers}
+use Rattle.pz_rules.specs.Offers.{PartAt, Offers, IsOffers}
 use Rattle.pz_rules.specs.Steps.{Next, PassesTo}
 use Rattle.pz_rules.specs.Moments.{IsLeast, IsMoment}
 use Rattle.pz_rules.specs.Runs.{Event, Standing, whole, Reaches, Ending, ended, deadlocked, troubled, halted, refused, Ends}
@@ -54,16 +58,30 @@ abbrev pub part_of : Term → Place → Term
 part_of t [] = t
 part_of t (i ∷ place) = part_of (child t i) place
 
--- the passing of time leaves a delay of which nothing is left
-pub record HasElapsed (c : Config) : Type 0 where
+-- at this end stands a delay that has begun, with so much left
+pub record HasLeft (c : Config) (at : End) (left : ℕ) : Type 0 where
   pub process : Process
-  pub at : End
   pub stands : slice_get c.processes at.process ≡ Some process
   pub pos : Pos
-  pub elapsed : part_of process.term at.place ≡ wait 0 pos
+  pub waits : part_of process.term at.place ≡ wait left pos
+
+-- the passing of time takes so much from each active delay
+abbrev pub PassingTakes : Type 0
+PassingTakes = (setting : Setting) (c next : Config) (d : ℕ) (at : End) (a : At) (frame : ℕ) (part : Term) (left : ℕ)
+    → PassesTo setting c d next → PartAt setting c at a frame part → Delays a frame part left → HasLeft next at (left - d)
+
+-- and leaves nothing of some active delay, of which the least was left
+pub record Elapses (setting : Setting) (c next : Config) (d : ℕ) : Type 0 where
+  pub at : End
+  pub seen : At
+  pub frame : ℕ
+  pub part : Term
+  pub active : PartAt setting c at seen frame part
+  pub delays : Delays seen frame part d
+  pub elapsed : HasLeft next at 0
 
 abbrev pub BringsToZero : Type 0
-BringsToZero = (setting : Setting) (c next : Config) (d : ℕ) → IsMoment setting c (Time d) → PassesTo setting c d next → HasElapsed next
+BringsToZero = (setting : Setting) (c next : Config) (d : ℕ) → IsMoment setting c (Time d) → PassesTo setting c d next → Elapses setting c next d
 
 -- an action leads to one configuration, or to one trouble
 abbrev pub OneNext : Type 0
@@ -82,6 +100,28 @@ StaysWhole = (setting : Setting) (c next : Config) (a : Action) (d : ℕ) → Is
 abbrev pub OneChosenRun : Type 0
 OneChosenRun = (setting : Setting) (policy : Policy) (j : ℕ) (c : Config) (es fs : List Event) (x y : Config) (e f : Ending)
     → IsWhole setting c → IsChosenRun setting policy j c es x e → IsChosenRun setting policy j c fs y f → (es ≡ fs) × (x ≡ y) × (e ≡ f)
+
+-- In a sound model, where the wires are known: what stands at the start fits, and what fits stays so;
+-- each action that is offered leads somewhere; and a policy chooses some run.
+
+abbrev pub StartFits : Type 0
+StartFits = (setting : Setting) (c : Config) → IsSound setting.model → IsStart setting c → IsWhole setting c × IsFit setting c
+
+abbrev pub StaysFit : Type 0
+StaysFit = (setting : Setting) (c next : Config) (a : Action) (d : ℕ) → IsSound setting.model → IsWhole setting c → IsFit setting c
+    → (Next setting c a (Ok next) → IsFit setting next) × (PassesTo setting c d next → IsFit setting next)
+
+abbrev pub EveryNext : Type 0
+EveryNext = (setting : Setting) (c : Config) (a : Action) → IsSound setting.model → IsFit setting c → Offers setting c a → (x : Result Config Trouble) × Next setting c a x
+
+pub record HasChosenRun (setting : Setting) (policy : Policy) (j : ℕ) (c : Config) : Type 0 where
+  pub events : List Event
+  pub end : Config
+  pub ending : Ending
+  pub run : IsChosenRun setting policy j c events end ending
+
+abbrev pub EveryChosenRun : Type 0
+EveryChosenRun = (setting : Setting) (policy : Policy) (j : ℕ) (c : Config) → IsSound setting.model → HasWires setting.model → IsWhole setting c → IsFit setting c → HasChosenRun setting policy j c
 
 -- the policy has no entry that is no offer, or left over
 abbrev pub IsOwn : Ending → Type 0

@@ -20,5 +20,6 @@ pub mod Moments
 pub mod Runs
 pub mod ChosenRuns
 pub mod Starting
+pub mod Fitting
 pub mod Laws
 pub mod View
