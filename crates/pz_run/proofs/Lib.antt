@@ -6,7 +6,7 @@ pub mod InOrder
 pub mod Fitting
 pub mod Built
 pub mod Runs
-pub pub mod Writes
+pub mod Writes
 pub mod Now
 pub mod Lined
 pub mod Rests
