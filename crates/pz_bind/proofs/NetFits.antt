@@ -1,9 +1,13 @@
 -- What a net says of its wires and processes.
-use Rattle.std.proofs.Common.{◌≡◌, sym, ap, ◌∙◌, subst, ℕ, ◌<◌, ◌^◌, List, length, Option, Some, None, slice_get, get_or, arith}
-use Rattle.std.specs.Option.{MatchOption, IfSome}
+use Rattle.std.proofs.Common.{◌≡◌, refl, sym, ap, ◌∙◌, subst, ℕ, zero, suc, ◌<◌, ◌^◌, true, false, IsTrue, List, [], ◌∷◌, length, Option, Some, None, slice_get, get_or, arith}
+use Rattle.std.specs.Option.{MatchOption, IfSome, option_map_or}
 use Rattle.std.proofs.lemmas.List.{length-map}
 use Rattle.std.proofs.lemmas.Option.{slice_get_within, slice_get-get_or}
-use Rattle.pz_syntax.specs.Classes.{ModelTree}
+use Rattle.pz_syntax.specs.Classes.{DeclTree, ModelTree}
+use Rattle.pz_classes.specs.Numbers.{declaration}
+use Rattle.pz_classes.specs.Kinds.{is_process}
+use Rattle.pz_classes.specs.declared.classes.Classes.{Classes}
+use Rattle.pz_classes.specs.Tables.{Row, rows_from, row_view, AreClasses}
 use Rattle.pz_classes.specs.Members.{ports, spelled}
 use Rattle.pz_classes.specs.SoundClasses.{ClassesFit}
 use Rattle.pz_levels.specs.declared.expansion.Process.{Process}
@@ -14,8 +18,9 @@ use Rattle.pz_levels.specs.Places as by_number
 use Rattle.pz_levels.specs.Wires.{Channel}
 use Rattle.pz_levels.specs.Connections as numbers
 use Rattle.pz_levels.specs.Expanded.{StandsAt, IsExpansion}
+use Rattle.pz_levels.proofs.Each.{there}
 use Rattle.pz_levels.specs.devices.Walking.{layouts_of}
-use Rattle.pz_bind.specs.Nest.{system_class, class_at, processes}
+use Rattle.pz_bind.specs.Nest.{system_class, class_at, is_process_at, places, processes}
 use Rattle.pz_bind.specs.Connections.{end, IsInNone}
 use Rattle.pz_bind.specs.Wires.{wires, HasWire}
 use Rattle.pz_bind.specs.Names.{wire_name}
@@ -25,6 +30,7 @@ use Rattle.pz_bind.specs.declared.net.Node.{Node}
 use Rattle.pz_bind.specs.devices.Layouts.{layouts}
 use Rattle.pz_bind.proofs.Lists.{AreOnce, ids_once, map_at}
 use Rattle.pz_bind.proofs.Spots.{spot_at, processes_are}
+use Rattle.pz_bind.proofs.Placed.{filtered_passes}
 use Rattle.pz_bind.proofs.Layouts.{are_linked}
 use Rattle.pz_bind.proofs.Ends.{numbered}
 use Rattle.pz_bind.proofs.Wired.{has_wire, in_none}
@@ -44,6 +50,17 @@ module _ (m : ModelTree) (net : Net) (is : IsNet m net) where
       let at : slice_get net.nodes n ≡ Some node = slice_get-get_or net.nodes n node within ∙ ap Some (sym here) in
       let both : Some node ≡ Some (node_at m place) = sym at ∙ (ap (λ (ns : List Node). slice_get ns n) is.nodes ∙ map_at (node_at m) (processes m) n place there) in
       cc
+
+  -- the class of a process is a process class
+  pub process_class : (n : ℕ) (node : Node) → n < length net.nodes → node ≡ get_or net.nodes n node → IsTrue (option_map_or is_process (declaration m node.class.0) false)
+  process_class n node within here = by_place found.0 (node_there n found.0 node found.1 within here) (filtered_passes (is_process_at m) (places m) n found.0 found.1)
+    where
+      found : (place : Place) × (slice_get (processes m) n ≡ Some place)
+      found = there (processes m) n (let counts = ap (λ (ns : List Node). length ns) is.nodes ∙ length-map (processes m) (node_at m) in omega (arith, counts, within))
+
+      by_place : (place : Place) → node ≡ node_at m place → is_process_at m place ≡ true → IsTrue (option_map_or is_process (declaration m node.class.0) false)
+      by_place [] same passes = let wrong : false ≡ true = passes in cc
+      by_place (i ∷ up) same passes = ap (λ (x : Node). option_map_or is_process (declaration m x.class.0) false) same ∙ passes
 
   pub name_there : (n : ℕ) (c : Channel) (name : List ℕ) → slice_get (wires m) n ≡ Some c → n < length net.wire_names → name ≡ get_or net.wire_names n name → name ≡ wire_name m c
   name_there n c name there within here =
@@ -83,6 +100,25 @@ module _ (m : ModelTree) (net : Net) (is : IsNet m net) where
       small : (x : Option ℕ) → MatchOption x (IsInNone m (end place name)) (HasWire m (end place name)) → IfSome x (λ w. w < 2 ^ 32)
       small None none = tt
       small (Some w) has = let below = wire_below place name w has in let few = net.few_wires in omega (arith, below, few)
+
+-- a class that is declared is one of the model's table
+pub declared_in : (m : ModelTree) (classes : Classes) (c : ℕ) → AreClasses m classes → IsTrue (option_map_or is_process (declaration m c) false) → c < length classes.entries
+declared_in m classes c are is = by_number c is
+  where
+    rows_count : (n : ℕ) (ds : List DeclTree) → length (rows_from m n ds) ≡ length ds
+    rows_count n [] = refl
+    rows_count n (d ∷ ds) = ap suc (rows_count (suc n) ds)
+
+    entries : length classes.entries ≡ suc (length m.decls)
+    entries = sym (length-map classes.entries row_view) ∙ (ap (λ (xs : List Row). length xs) are.rows ∙ ap suc (rows_count 1 m.decls))
+
+    by_number : (k : ℕ) → IsTrue (option_map_or is_process (declaration m k) false) → k < length classes.entries
+    by_number zero wrong = let not : false ≡ true = wrong in cc
+    by_number (suc i) passes = by_decl (slice_get m.decls i) refl passes
+      where
+        by_decl : (o : Option DeclTree) → slice_get m.decls i ≡ o → IsTrue (option_map_or is_process o false) → suc i < length classes.entries
+        by_decl None at wrong = let not : false ≡ true = wrong in cc
+        by_decl (Some d) at passes = let within : i < length m.decls = slice_get_within m.decls i d at in let count = entries in omega (arith, within, count)
 
 -- the same expansion, where the levels are the model's
 pub expansion_is : (m : ModelTree) (ls : List Layout) (system : ℕ) (e : Expansion) → ls ≡ layouts m → system ≡ system_class m → IsExpansion ls system e → IsExpansion (layouts m) (system_class m) e

@@ -31,6 +31,16 @@ filtered_there {A} f (y ∷ ys) n x at = by_test (f y) refl n at (λ k here. fil
     by_test true does (suc k) here rest = let r = rest k (rw does at here) in (suc r.0, r.1)
     by_test false does k here rest = let r = rest k (rw does at here) in (suc r.0, r.1)
 
+-- what is left passes
+pub filtered_passes : {A : Type 0} (f : A → Bool) (xs : List A) (n : ℕ) (x : A) → slice_get (filter f xs) n ≡ Some x → f x ≡ true
+filtered_passes f [] n x at = cc
+filtered_passes {A} f (y ∷ ys) n x at = by_test (f y) refl n at (λ k here. filtered_passes f ys k x here)
+  where
+    by_test : (b : Bool) → f y ≡ b → (n : ℕ) → slice_get (filter f (y ∷ ys)) n ≡ Some x → ((k : ℕ) → slice_get (filter f ys) k ≡ Some x → f x ≡ true) → f x ≡ true
+    by_test true does zero here rest = let chosen : Some y ≡ Some x = rw does at here in let same : y ≡ x = cc in subst (λ (z : A). f z ≡ true) same does
+    by_test true does (suc k) here rest = rest k (rw does at here)
+    by_test false does k here rest = rest k (rw does at here)
+
 module _ (m : ModelTree) where
   -- an instance stands there
   abbrev Exists : Place → Type 0

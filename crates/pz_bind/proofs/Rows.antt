@@ -1,17 +1,24 @@
 -- A system of two clusters of one class, computed: in each cluster one channel is joined with one
 -- outside, and one is not.
-use Rattle.std.proofs.Common.{◌≡◌, refl, ℕ, List, [], ◌∷◌, map, Some, None, codes}
+use Rattle.std.proofs.Common.{◌≡◌, refl, ℕ, pos, negsuc, List, [], ◌∷◌, map, Some, None, codes, Option}
 use Rattle.std.specs.Fmt.{digits}
 use Rattle.pz_syntax.specs.declared.names.Id.{Id}
 use Rattle.pz_syntax.specs.declared.clusters.Instance.{Instance}
 use Rattle.pz_syntax.specs.declared.clusters.Channel.{Channel}
 use Rattle.pz_syntax.specs.declared.clusters.ChannelEnd.{ChannelEnd}
 use Rattle.pz_syntax.specs.declared.clusters.ChannelEnd.TheVariants.{Inner, Outer}
+use Rattle.pz_syntax.specs.declared.classes.VarGroup.{VarGroup}
+use Rattle.pz_syntax.specs.declared.clusters.Given.{Given}
+use Rattle.pz_syntax.specs.declared.clusters.Arg.{Arg}
+use Rattle.pz_syntax.specs.declared.clusters.Arg.TheVariants.{Plain, Negated, Parameter}
+use Rattle.pz_syntax.specs.declared.exprs.Literal.TheVariants as literal
+use Rattle.pz_value.specs.declared.value.Value.TheVariants.{Nil, Int}
 use Rattle.pz_syntax.specs.Classes.{DeclTree, process_class, cluster_class, system, ModelTree}
 use Rattle.pz_levels.specs.Places.{Place}
 use Rattle.pz_levels.specs.Wires.{channel}
 use Rattle.pz_bind.specs.Nest.{levels, processes}
 use Rattle.pz_bind.specs.Names.{path, wire_name}
+use Rattle.pz_bind.specs.Values.{values_at}
 use Rattle.pz_bind.specs.Connections.{end, is_in, joined, itself, outwards, Connected}
 use Rattle.pz_bind.specs.Wires.{wires}
 
@@ -81,3 +88,34 @@ joined_through = record {
   };
   other = record { first = channel [] 0; starts = is_in [] 2 0 _ _ (codes "i") refl refl refl; leads = itself (channel [] 0) };
 }
+
+-- process class P(v, w : Integer) variables z : Integer
+-- cluster class D(k : Integer) instances p : P(w := k, v := -7)
+-- cluster class C(k : Integer) instances d : D(k := k)
+-- system instances c : C(k := 5)
+abbrev group : List (List ℕ) → Option (List VarGroup)
+group names = Some (record { names = map id names; kind = id (codes "Integer") } ∷ [])
+
+abbrev given_to : List ℕ → List ℕ → List Given → Instance
+given_to name class given = record { name = id name; class = id class; given = Some given }
+
+abbrev gives : List ℕ → Arg → Given
+gives name arg = record { name = id name; arg = arg }
+
+abbrev holding : List ℕ → Instance → DeclTree
+holding name x = cluster_class (record { name = id name; parameters = group (codes "k" ∷ []); ports = None; instances = Some (x ∷ []); channels = None })
+
+abbrev handed_down : ModelTree
+handed_down = record {
+  decls =
+      process_class (record { name = id (codes "P"); parameters = group (codes "v" ∷ codes "w" ∷ []); parent = None; ports = None; messages = None; variables = group (codes "z" ∷ []); start = None; methods = None }) ∷
+      holding (codes "D") (given_to (codes "p") (codes "P") (gives (codes "w") (Parameter (id (codes "k"))) ∷ gives (codes "v") (Negated (pos 7) (record { line = 1; column = 1 })) ∷ [])) ∷
+      holding (codes "C") (given_to (codes "d") (codes "D") (gives (codes "k") (Parameter (id (codes "k"))) ∷ [])) ∷
+      system (record { pos = record { line = 1; column = 1 }; instances = Some (given_to (codes "c") (codes "C") (gives (codes "k") (Plain (literal.Int (pos 5)) (record { line = 1; column = 1 })) ∷ []) ∷ []); channels = None }) ∷ [];
+}
+
+one_process : map (path handed_down) (processes handed_down) ≡ codes "c.d.p" ∷ []
+one_process = refl
+
+its_values : map (values_at handed_down) (processes handed_down) ≡ (Int (negsuc 6) ∷ Int (pos 5) ∷ Nil ∷ []) ∷ []
+its_values = refl

@@ -1,8 +1,12 @@
-ghost use Rattle.std.specs.Prelude.{◌≡◌, ◌<◌, ◌≤◌, ◌^◌, ℕ, List, length, IfOk, IfSome, MatchOption, Some, slice_get};
+ghost use Rattle.std.specs.Prelude.{◌≡◌, ◌<◌, ◌≤◌, ◌^◌, ℕ, List, length, IfOk, IfSome, IsTrue, MatchOption, Some, false, slice_get};
+ghost use Rattle.std.specs.Option.{option_map_or};
 ghost use Rattle.pz_syntax.specs.Classes.{ModelTree};
 ghost use Rattle.pz_classes.specs.CheckedView.{checked_model};
 ghost use Rattle.pz_classes.specs.Members.{ports, spelled};
-ghost use Rattle.pz_classes.specs.Tables.{class_id};
+ghost use Rattle.pz_classes.specs.Kinds.{is_process};
+ghost use Rattle.pz_classes.specs.Numbers.{declaration};
+ghost use Rattle.pz_classes.specs.declared.classes.Classes.{Classes as Table};
+ghost use Rattle.pz_classes.specs.Tables.{AreClasses, HasClass, class_id};
 ghost use Rattle.pz_levels.specs.Places.{Place};
 ghost use Rattle.pz_levels.specs.Wires.{Channel};
 ghost use Rattle.pz_bind.specs.Nest as nest;
@@ -116,10 +120,12 @@ impl Net {
             .as_bytes()
     }
 
-    /// The class of a process.
+    /// The class of a process: a process class of the model.
     pub fn class(&self, process: u32) -> ClassId
         requires { HasProcess self.now process }
-        ensures { (m : ModelTree) (place : Place) → IsNet m self.now → slice_get (nest.processes m) process ≡ Some place → result ≡ class_id (nest.class_at m place) }
+        ensures is { (m : ModelTree) (place : Place) → IsNet m self.now → slice_get (nest.processes m) process ≡ Some place → result ≡ class_id (nest.class_at m place) }
+        ensures process { (m : ModelTree) → IsNet m self.now → IsTrue (option_map_or is_process (declaration m result.0) false) }
+        ensures belongs { (m : ModelTree) (classes : Table) → IsNet m self.now → AreClasses m classes → HasClass classes result }
     {
         self.nodes.as_slice()[process as usize].class
     }
