@@ -10,6 +10,7 @@ mod bodies;
 mod classes;
 mod declarations;
 mod models;
+mod nets;
 mod reading;
 mod rules;
 mod tokens;
@@ -26,6 +27,8 @@ fn show_text(rt: &HostRuntime, topic: Topic, text: &[u8]) -> io::Result<()> {
     match topic {
         Topic::Model => models::show_model(rt, text),
         Topic::Classes => classes::show_family(rt, text),
+        Topic::Net => nets::show_net(rt, text, true),
+        Topic::NetSize => nets::show_net(rt, text, false),
         _ => show_lines(rt, topic, text),
     }
 }

@@ -19,6 +19,10 @@ pub enum Topic {
     Rules,
     /// What the checker says of each line.
     Violations,
+    /// The processes and the wires of the whole file.
+    Net,
+    /// How many processes and wires the whole file has.
+    NetSize,
 }
 
 impl Topic {
@@ -34,6 +38,8 @@ impl Topic {
             "families" => Some(Topic::Families),
             "rules" => Some(Topic::Rules),
             "violations" => Some(Topic::Violations),
+            "net" => Some(Topic::Net),
+            "net_size" => Some(Topic::NetSize),
             _ => None,
         }
     }
