@@ -237,7 +237,7 @@ module _ (words : List (List ℕ)) (job : Job) (name : List ℕ) (is_job : asked
       → ((wanted ≡ ModelRefused) × ((r : Refusal) × IsRefused j text r)) ⊎ ((wanted ≡ Done) ⊎ ((wanted ≡ Deadlock) × (j ≡ Run)))
   ends_text _ text _ _ (refuses j r is) = inl (refl, (r, is))
   ends_text _ text _ _ (runs m bytes wanted is sound prints) = inr (⊎_elim (λ done. inl done) (λ dead. inr (dead, refl)) (ends_run m bytes wanted prints))
-  ends_text _ text _ _ (accepts ts t count are of is) = inr (inl refl)
+  ends_text _ text _ _ (accepts ts t processes wires are of is) = inr (inl refl)
 
   keeps_model : (text : List ℕ) (given : Status) → length text ≤ MODEL_LIMIT → (f.told ≡ true → lookup f.held name ≡ Some text) → SaysModel job text before now given → KeepsPromises words f g before now given
   keeps_model text given short held says = keeps words f g before now says.bytes says.wanted given (⊎_elim refused (⊎_elim done dead) (ends_text job text says.bytes says.wanted says.prints)) says.said
