@@ -18,7 +18,7 @@ use Rattle.pz_rules.specs.Configurations.{Config, IsWhole}
 use Rattle.pz_rules.specs.Offers.{PartAt, Offers, IsOffers}
 use Rattle.pz_rules.specs.Steps.{Next, PassesTo}
 use Rattle.pz_rules.specs.Moments.{IsLeast, IsMoment}
-use Rattle.pz_rules.specs.Runs.{Event, Standing, whole, Reaches, Ending, ended, deadlocked, troubled, halted, refused, Ends}
+use Rattle.pz_rules.specs.Runs.{Event, Standing, whole, Reaches, Ending, refused, Ends}
 use Rattle.pz_rules.specs.ChosenRuns.{Policy, IsChosenRun}
 
 -- a configuration has no more than one list of offers

@@ -12,8 +12,8 @@ mod term;
 
 pub use action::{Action, Kind};
 pub use laws::{
-    least_passes, one_chosen_run, one_list_of_offers, one_moment, one_next,
-    time_waits, walks_list_what_is_active, what_fits_goes_on,
+    least_passes, one_chosen_run, one_list_of_offers, one_moment, one_next, time_waits,
+    walks_list_what_is_active, what_fits_goes_on,
 };
 pub use limits::Limits;
 pub use moment::Moment;
