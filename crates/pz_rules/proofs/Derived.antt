@@ -40,7 +40,7 @@ use Rattle.pz_rules.proofs.Finite.{Known, Finite, alike, nothing, just, from_opt
 
 -- What is known
 
-number_known : (m n : ℕ) → Known (m ≡ n)
+pub number_known : (m n : ℕ) → Known (m ≡ n)
 number_known m n = by (cases_lt m n) (cases_lt n m)
   where
     by : (m < n) ⊎ (n ≤ m) → (n < m) ⊎ (m ≤ n) → Known (m ≡ n)
@@ -55,7 +55,7 @@ at_most_known m n = by (cases_lt n m)
     by (inl less) = inr (λ h. omega (arith, less, h))
     by (inr within) = inl within
 
-not_known : {A : Type 0} → Known A → Known (A → ⊥)
+pub not_known : {A : Type 0} → Known A → Known (A → ⊥)
 not_known (inl a) = inr (λ n. n a)
 not_known (inr n) = inl n
 
@@ -68,7 +68,7 @@ no_cons {P} {x} {xs} e = absurd (differ e)
     differ : [] ≡ x ∷ xs → ⊥
     differ d = cc
 
-name_known : (xs ys : List ℕ) → Known (xs ≡ ys)
+pub name_known : (xs ys : List ℕ) → Known (xs ≡ ys)
 name_known [] [] = inl refl
 name_known [] (y ∷ ys) = inr (λ e. no_cons e)
 name_known (x ∷ xs) [] = inr (λ e. no_cons (sym e))
