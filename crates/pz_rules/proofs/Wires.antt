@@ -1,8 +1,7 @@
 -- In a sound model it is known of each port which wire it has: all that the definition of wires asks
 -- can be decided.
-use Rattle.std.proofs.Common.{◌≡◌, ◌<◌, ◌⊎◌, inl, inr, ℕ, zero, suc, Bool, true, false, ◌||◌, IsTrue, List, [], ◌∷◌, length, Option, Some, None, refl, sym, subst, ap, ◌∙◌, slice_get, arith}
+use Rattle.std.proofs.Common.{◌≡◌, ◌<◌, ◌⊎◌, inl, inr, ℕ, suc, Bool, true, false, ◌||◌, IsTrue, List, [], ◌∷◌, length, Option, Some, None, refl, sym, subst, ap, ◌∙◌, slice_get, arith}
 use Rattle.std.specs.List.{list_any, All, Contains}
-use Rattle.std.specs.Str.{bytes_eq}
 use Rattle.std.proofs.lemmas.Option.{slice_get_within}
 use Rattle.std.proofs.lemmas.Slice.Eq.{bytes_eq-Decides}
 use Rattle.pz_syntax.specs.declared.clusters.Instance.{Instance}
@@ -15,13 +14,13 @@ use Rattle.pz_classes.specs.Soundness.{IsSound}
 use Rattle.pz_levels.specs.Places.{Place}
 use Rattle.pz_levels.specs.Wires.{Channel, channel}
 use Rattle.pz_bind.specs.Nest.{processes, class_at, instance_at, channels_at}
-use Rattle.pz_bind.specs.Connections.{End, end, is_outer, names_inner, names_outer, IsIn, is_in, Joined, joined, Leads, itself, outwards, Reaches}
+use Rattle.pz_bind.specs.Connections.{End, end, is_outer, names_inner, IsIn, is_in, Joined, joined, Leads, itself, outwards, Reaches}
 use Rattle.pz_bind.specs.Wires.{wires, HasWire, EndsShareWires}
 use Rattle.pz_rules.specs.Ports.{IsWire, HasWires}
 use Rattle.pz_rules.proofs.Locals.{some_is, no_some}
-use Rattle.pz_rules.proofs.Lists.{Contains-first, Contains-later, Contains-cases}
+use Rattle.pz_rules.proofs.Lists.{Contains-cases}
 use Rattle.pz_rules.proofs.Finite.{Known, Finite, alike, nothing, just, from_option, where_known, either, bind, below}
-use Rattle.pz_rules.proofs.Derived.{number_known, not_known, name_known}
+use Rattle.pz_rules.proofs.Derived.{number_known, name_known}
 
 -- What can be decided
 
