@@ -1,6 +1,6 @@
 -- All that the rules derive of a configuration can be listed.
-use Rattle.std.proofs.Common.{◌≡◌, ◌≢◌, ◌<◌, ◌≤◌, ◌+◌, ◌⊎◌, inl, inr, ℕ, zero, suc, Bool, true, false, List, [], ◌∷◌, length, Option, Some, None, Result, Ok, Err, refl, sym, subst, ap, ◌∙◌, arith}
-use Rattle.std.specs.Prelude.{slice_get, ◌↔◌}
+use Rattle.std.proofs.Common.{◌≡◌, ◌<◌, ◌≤◌, ◌+◌, ◌⊎◌, inl, inr, ℕ, Bool, true, false, List, [], ◌∷◌, length, Option, Some, None, Result, Ok, Err, refl, sym, subst, ap, ◌∙◌, arith}
+use Rattle.std.specs.Prelude.{slice_get}
 use Rattle.std.proofs.lemmas.Bool.{cases_lt}
 use Rattle.std.proofs.lemmas.Option.{slice_get_within}
 use Rattle.pz_syntax.specs.declared.tokens.Pos.{Pos}
@@ -17,20 +17,14 @@ use Rattle.pz_bind.specs.Nest.{processes, class_at}
 use Rattle.pz_offer.specs.declared.end.End.{End}
 use Rattle.pz_offer.specs.PlaceOrder.{EndBefore}
 use Rattle.pz_offer.specs.declared.trouble.Trouble.{Trouble}
-use Rattle.pz_rules.specs.declared.action.Kind.{Kind}
 use Rattle.pz_rules.specs.declared.action.Action.{Action}
 use Rattle.pz_rules.specs.declared.action.Action.TheVariants.{Internal, Comm}
 use Rattle.pz_rules.specs.Terms.{Code, Step, Term, leaf}
 use Rattle.pz_rules.specs.Settings.{Setting, Process, At, in_state}
 use Rattle.pz_rules.specs.Meanings.{fault}
-use Rattle.pz_rules.specs.Evaluations.{Tests}
-use Rattle.pz_rules.specs.Active.{Active, IsActive}
-use Rattle.pz_rules.specs.InternalActions.{Can}
 use Rattle.pz_rules.specs.Messages as messages
 use Rattle.pz_rules.specs.Messages.{Sends, Receives, Fits, bound, Judges}
-use Rattle.pz_rules.specs.Asking.{Asks}
-use Rattle.pz_rules.specs.Delays.{Delays}
-use Rattle.pz_rules.specs.Ports.{IsWire, HasWires}
+use Rattle.pz_rules.specs.Ports.{HasWires}
 use Rattle.pz_rules.specs.Configurations.{Config, Stands}
 use Rattle.pz_rules.specs.Offers.{PartAt, IsPair, IsJudged, Offers, internal, communication}
 use Rattle.pz_rules.specs.Moments.{Source, part, pair, Troubles, asked, judged, IsLeft}
@@ -46,7 +40,7 @@ use Rattle.pz_rules.proofs.Finite.{Known, Finite, alike, nothing, just, from_opt
 
 -- What is known
 
-number_known : (m n : ℕ) → Known (m ≡ n)
+pub number_known : (m n : ℕ) → Known (m ≡ n)
 number_known m n = by (cases_lt m n) (cases_lt n m)
   where
     by : (m < n) ⊎ (n ≤ m) → (n < m) ⊎ (m ≤ n) → Known (m ≡ n)
@@ -61,7 +55,7 @@ at_most_known m n = by (cases_lt n m)
     by (inl less) = inr (λ h. omega (arith, less, h))
     by (inr within) = inl within
 
-not_known : {A : Type 0} → Known A → Known (A → ⊥)
+pub not_known : {A : Type 0} → Known A → Known (A → ⊥)
 not_known (inl a) = inr (λ n. n a)
 not_known (inr n) = inl n
 
@@ -74,7 +68,7 @@ no_cons {P} {x} {xs} e = absurd (differ e)
     differ : [] ≡ x ∷ xs → ⊥
     differ d = cc
 
-name_known : (xs ys : List ℕ) → Known (xs ≡ ys)
+pub name_known : (xs ys : List ℕ) → Known (xs ≡ ys)
 name_known [] [] = inl refl
 name_known [] (y ∷ ys) = inr (λ e. no_cons e)
 name_known (x ∷ xs) [] = inr (λ e. no_cons (sym e))

@@ -1,9 +1,8 @@
 -- Time passes to one configuration, and neither an action nor the passing of time makes or ends a
 -- process.
-use Rattle.std.proofs.Common.{◌≡◌, ◌<◌, ◌+◌, ℕ, zero, suc, List, [], ◌∷◌, length, Option, Some, None, Result, Ok, Err, refl, sym, subst, ap, ◌∙◌, arith}
+use Rattle.std.proofs.Common.{◌≡◌, ◌<◌, ℕ, zero, suc, List, [], ◌∷◌, length, Some, Result, Ok, Err, refl, sym, ap, ◌∙◌, arith}
 use Rattle.std.specs.Prelude.{slice_get, slice_set}
 use Rattle.pz_bind.specs.Nest.{processes, class_at}
-use Rattle.pz_levels.specs.Places.{Place}
 use Rattle.pz_offer.specs.declared.trouble.Trouble.{Trouble}
 use Rattle.pz_rules.specs.declared.action.Action.{Action}
 use Rattle.pz_rules.specs.Terms.{Term}
@@ -11,7 +10,6 @@ use Rattle.pz_rules.specs.Settings.{Setting, Process, At}
 use Rattle.pz_rules.specs.Meanings.{and_then}
 use Rattle.pz_rules.specs.Configurations.{Config, Stands, IsWhole}
 use Rattle.pz_rules.specs.Steps.{with_process, with_both, Next, internal, communication, PassesTo}
-use Rattle.pz_rules.proofs.Locals.{no_some}
 use Rattle.pz_rules.proofs.Passings.{passes_once}
 
 -- Lists by their elements

@@ -1,20 +1,20 @@
 -- A policy chooses some run, wherever the bodies of the model fit and its wires are known.
-use Rattle.std.proofs.Common.{◌≡◌, ◌≤◌, ◌<◌, ◌+◌, ◌⊎◌, inl, inr, ℕ, zero, suc, Bool, true, false, List, [], ◌∷◌, length, Option, Some, None, Result, Ok, Err, refl, sym, subst, ap, ◌∙◌, arith}
-use Rattle.std.specs.Prelude.{slice_get, nat_le, nat_lt, if◌then◌else◌}
-use Rattle.std.specs.List.{All, Contains}
+use Rattle.std.proofs.Common.{◌≡◌, ◌≤◌, ◌<◌, ◌+◌, ℕ, zero, suc, List, [], ◌∷◌, length, Some, Result, Ok, Err, refl, arith}
+use Rattle.std.specs.Prelude.{slice_get}
+use Rattle.std.specs.List.{Contains}
 use Rattle.std.proofs.lemmas.List.Elements.{All-contains}
 use Rattle.pz_classes.specs.SoundBodies.{BodiesFit}
 use Rattle.pz_offer.specs.declared.trouble.Trouble.{Trouble}
 use Rattle.pz_rules.specs.declared.action.Action.{Action}
 use Rattle.pz_rules.specs.declared.moment.Moment.{Moment}
-use Rattle.pz_rules.specs.declared.moment.Moment.TheVariants.{Actions, Time}
+use Rattle.pz_rules.specs.declared.moment.Moment.TheVariants.{Time}
 use Rattle.pz_rules.specs.Settings.{Setting}
 use Rattle.pz_rules.specs.Ports.{HasWires}
 use Rattle.pz_rules.specs.Configurations.{Config, IsWhole}
-use Rattle.pz_rules.specs.Offers.{Offers, IsOffers}
-use Rattle.pz_rules.specs.Steps.{Next, PassesTo}
+use Rattle.pz_rules.specs.Offers.{Offers}
+use Rattle.pz_rules.specs.Steps.{Next}
 use Rattle.pz_rules.specs.Moments.{IsMoment}
-use Rattle.pz_rules.specs.Runs.{Event, acted, passed, IsChoice, Ending, troubled}
+use Rattle.pz_rules.specs.Runs.{acted, passed, IsChoice, troubled}
 use Rattle.pz_rules.specs.ChosenRuns as chosen
 use Rattle.pz_rules.specs.ChosenRuns.{Policy, Decision, stops_with, takes, waits, entry_of, decided, IsChosenRun}
 use Rattle.pz_rules.specs.Fitting.{IsFit}

@@ -1,21 +1,14 @@
 -- Terms that fit their class stay so.
-use Rattle.std.proofs.Common.{◌≡◌, ◌≤◌, ◌+◌, ℕ, zero, suc, Bool, true, false, List, [], ◌∷◌, length, Option, Some, None, Result, Ok, Err, refl, sym, subst, ap, ◌∙◌}
-use Rattle.std.specs.Prelude.{if◌then◌else◌, slice_get}
+use Rattle.std.proofs.Common.{ℕ, zero, suc, Bool, true, false, List, [], ◌∷◌}
+use Rattle.std.specs.Prelude.{if◌then◌else◌}
 use Rattle.std.specs.List.{All}
-use Rattle.pz_syntax.specs.declared.tokens.Pos.{Pos}
 use Rattle.pz_syntax.specs.Statements.{skip, delay, bracketed, block, guarded as guarded_step, parallel as parallel_step, select as select_step, conditional, repeated, abort as abort_step, interrupt, send, receive, call, assignment, value, no_statements, then, StatementPart, not_written, otherwise, Branches, no_branches, branch}
 use Rattle.pz_syntax.specs.Classes.{ModelTree}
 use Rattle.pz_value.specs.declared.value.ClassId.{ClassId}
-use Rattle.pz_value.specs.declared.value.Value.{Value}
 use Rattle.pz_code.specs.declared.slot.Slot.{Slot}
 use Rattle.pz_state.specs.States.{StateView}
-use Rattle.pz_classes.specs.declared.method_id.Counts.TheVariants.{Data, Process as process_counts}
-use Rattle.pz_classes.specs.Bodies.{BodyTree, data_body, process_body, bodies}
-use Rattle.pz_classes.specs.FitBodies.{process_code, SlotFits, StatementFits, StatementsFit, OtherwiseFits, BranchesFit, BodyFits}
-use Rattle.pz_classes.specs.MethodBodies.{HasBody}
-use Rattle.pz_classes.specs.SoundBodies.{BodiesFit}
+use Rattle.pz_classes.specs.FitBodies.{process_code, SlotFits, StatementFits, StatementsFit, OtherwiseFits, BranchesFit}
 use Rattle.pz_offer.specs.PlaceOrder.{Place}
-use Rattle.pz_offer.specs.declared.trouble.Trouble.{Trouble}
 use Rattle.pz_rules.specs.Terms.{Step, Steps, Term, done, leaf, wait, sequence, parallel, select, guarded, frame, abort, idle, handling, Terms, no_terms, and, term_at, child, frame_in}
 use Rattle.pz_rules.specs.Opening.{opened, opened_all, opened_branches, opened_part}
 use Rattle.pz_rules.specs.Settings.{Process, At}

@@ -1,21 +1,19 @@
 -- Configurations that fit are so from the start and stay so, and each action that is offered leads
 -- somewhere.
-use Rattle.std.proofs.Common.{◌≡◌, ◌⊎◌, ◌<◌, inl, inr, ℕ, zero, suc, Bool, true, false, List, [], ◌∷◌, Option, Some, None, Result, Ok, Err, refl, sym, subst, ap, ◌∙◌}
+use Rattle.std.proofs.Common.{◌≡◌, ◌⊎◌, ◌<◌, inl, inr, ℕ, zero, suc, Bool, true, false, List, [], ◌∷◌, Some, Result, Ok, Err, refl, sym, subst, ap, ◌∙◌}
 use Rattle.std.proofs.lemmas.Option.{slice_get_within}
 use Rattle.std.specs.Prelude.{slice_get, slice_set, if◌then◌else◌, nat_le}
 use Rattle.pz_syntax.specs.declared.tokens.Pos.{Pos}
 use Rattle.pz_syntax.specs.Classes.{ModelTree}
 use Rattle.pz_classes.specs.SoundBodies.{BodiesFit}
-use Rattle.pz_classes.specs.FitBodies.{StatementFits}
 use Rattle.pz_levels.specs.Places.{Place as Standing}
 use Rattle.pz_bind.specs.Nest.{processes, class_at}
-use Rattle.pz_copy.specs.Parcels.{ParcelView}
 use Rattle.pz_offer.specs.declared.end.End.{End}
 use Rattle.pz_offer.specs.PlaceOrder.{Place}
 use Rattle.pz_offer.specs.declared.trouble.Trouble.{Trouble}
 use Rattle.pz_offer.specs.declared.trouble.Trouble.TheVariants.{High}
 use Rattle.pz_rules.specs.declared.action.Action.{Action}
-use Rattle.pz_rules.specs.Terms.{Step, Term, done, leaf, wait, sequence, parallel, select, guarded, frame, abort, idle, handling, Terms, no_terms, and, height}
+use Rattle.pz_rules.specs.Terms.{Term, Terms, height}
 use Rattle.pz_rules.specs.Settings.{Setting, Process, At}
 use Rattle.pz_rules.specs.Meanings.{and_then}
 use Rattle.pz_rules.specs.InternalActions.{Performs}
@@ -29,8 +27,8 @@ use Rattle.pz_rules.specs.Offers as offers
 use Rattle.pz_rules.specs.Offers.{PartAt, IsPair, Offers}
 use Rattle.pz_rules.specs.Starting.{IsStart}
 use Rattle.pz_rules.specs.Fitting.{TermFits, TermsFit, IsFit}
-use Rattle.pz_rules.proofs.Locals.{some_is, no_some}
-use Rattle.pz_rules.proofs.Fits.{Fitted, fitted}
+use Rattle.pz_rules.proofs.Locals.{some_is}
+use Rattle.pz_rules.proofs.Fits.{fitted}
 use Rattle.pz_rules.proofs.Possible.{SomeDeed, LeavesFit, performs_some, performs_fit, hands_some, hands_fit, takes_some, takes_fit}
 use Rattle.pz_rules.proofs.Elapsed.{there}
 

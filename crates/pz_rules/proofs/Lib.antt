@@ -23,3 +23,4 @@ mod Possible
 mod Kept
 mod Pending
 mod Existing
+mod Wires

@@ -1,7 +1,7 @@
 -- Every configuration has a list of offers and a moment, and time passes only where nothing else can
 -- happen.
-use Rattle.std.proofs.Common.{◌≡◌, ◌≤◌, ◌<◌, ◌+◌, ◌⊎◌, inl, inr, ℕ, zero, suc, List, [], ◌∷◌, length, Some, Ok, refl, sym, subst, ap, ◌∙◌, arith}
-use Rattle.std.specs.List.{All, Contains}
+use Rattle.std.proofs.Common.{◌≡◌, ◌≤◌, ◌<◌, ◌⊎◌, inl, inr, ℕ, zero, suc, List, [], ◌∷◌, length, Ok, refl, sym, subst, ap, ◌∙◌, arith}
+use Rattle.std.specs.List.{All}
 use Rattle.std.proofs.lemmas.List.Elements.{All-nil, All-cons}
 use Rattle.pz_syntax.specs.declared.tokens.Pos.{Pos}
 use Rattle.pz_copy.specs.Parcels.{ParcelView}
@@ -29,7 +29,7 @@ use Rattle.pz_rules.specs.devices.Walk.{Doing, does}
 use Rattle.pz_rules.proofs.Locals.{some_is, does_complete}
 use Rattle.pz_rules.proofs.Orders.{Either, end_order, ThreeBefore, three_order, transitive, number_transitive, number_order, source_order, source_transitive, source_irreflexive, one_list}
 use Rattle.pz_rules.proofs.OneMoment.{part_at_once, computed_once, pair_once, trouble_once}
-use Rattle.pz_rules.proofs.Finite.{Known, Sorted, sorted, Least, least}
+use Rattle.pz_rules.proofs.Finite.{Known, sorted, Least, least}
 use Rattle.pz_rules.proofs.Derived.{Blame, IsBlame, offers, troubles, lefts}
 
 module _ (setting : Setting) (c : Config) where

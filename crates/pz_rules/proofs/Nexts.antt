@@ -1,9 +1,8 @@
 -- An action leaves one configuration or one trouble.
-use Rattle.std.proofs.Common.{◌≡◌, ℕ, List, Some, Result, Ok, Err, refl, sym, subst, ap, ◌∙◌}
-use Rattle.std.specs.Prelude.{slice_get}
+use Rattle.std.proofs.Common.{◌≡◌, ℕ, Result, Ok, sym, subst, ap, ◌∙◌}
 use Rattle.pz_syntax.specs.declared.tokens.Pos.{Pos}
 use Rattle.pz_levels.specs.Places.{Place}
-use Rattle.pz_bind.specs.Nest.{processes, class_at}
+use Rattle.pz_bind.specs.Nest.{class_at}
 use Rattle.pz_offer.specs.declared.end.End.{End}
 use Rattle.pz_offer.specs.declared.trouble.Trouble.{Trouble}
 use Rattle.pz_rules.specs.declared.action.Action.{Action}

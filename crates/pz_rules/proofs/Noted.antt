@@ -1,5 +1,5 @@
 -- What is noted in a walk: exactly what the rules derive of the active parts, by place.
-use Rattle.std.proofs.Common.{◌≡◌, ℕ, List, Option, Some, None, refl, sym, subst, ap, ◌∙◌}
+use Rattle.std.proofs.Common.{◌≡◌, ℕ, Option, Some, None, sym, subst, ap}
 use Rattle.std.specs.List.{AllPairs, Contains}
 use Rattle.std.proofs.lemmas.List.Elements.{All-contains}
 use Rattle.pz_offer.specs.PlaceOrder.{Place, PlaceBefore}

@@ -1,20 +1,20 @@
 -- A configuration has no more than one moment.
-use Rattle.std.proofs.Common.{◌≡◌, ◌≤◌, ◌⊎◌, inl, inr, ℕ, List, length, Some, Result, Ok, Err, refl, sym, subst, ap, ◌∙◌, arith}
+use Rattle.std.proofs.Common.{◌≡◌, inl, inr, ℕ, List, length, Result, Err, refl, sym, subst, ap, ◌∙◌, arith}
 use Rattle.std.specs.Prelude.{Bool}
 use Rattle.pz_copy.specs.Parcels.{ParcelView}
 use Rattle.pz_offer.specs.declared.end.End.{End}
 use Rattle.pz_offer.specs.declared.trouble.Trouble.{Trouble}
 use Rattle.pz_rules.specs.declared.action.Action.{Action}
 use Rattle.pz_rules.specs.declared.moment.Moment.{Moment}
-use Rattle.pz_rules.specs.declared.moment.Moment.TheVariants.{Actions, Time, Finished, Deadlock, Faulty}
+use Rattle.pz_rules.specs.declared.moment.Moment.TheVariants.{Actions, Time, Faulty}
 use Rattle.pz_rules.specs.Terms.{Term}
 use Rattle.pz_rules.specs.Settings.{Setting, Process, At}
 use Rattle.pz_rules.specs.Active.{IsActive}
 use Rattle.pz_rules.specs.Messages.{Judges}
 use Rattle.pz_rules.specs.Asking.{Asks}
 use Rattle.pz_rules.specs.Configurations.{Config}
-use Rattle.pz_rules.specs.Offers.{PartAt, IsPair, IsJudged, IsOffers}
-use Rattle.pz_rules.specs.Moments.{Source, part, pair, SourceBefore, Troubles, asked, judged, IsLeastTrouble, IsLeast, Says, faulty, acting, passing, finished, deadlock, rank, IsMoment}
+use Rattle.pz_rules.specs.Offers.{PartAt, IsPair, IsJudged}
+use Rattle.pz_rules.specs.Moments.{Source, SourceBefore, Troubles, asked, judged, IsLeastTrouble, IsLeast, Says, faulty, acting, passing, finished, deadlock, rank, IsMoment}
 use Rattle.pz_rules.specs.devices.Walk.{Sending, sent_by, troubled_by}
 use Rattle.pz_rules.proofs.Locals.{some_is, sends_complete, asks_complete}
 use Rattle.pz_rules.proofs.Once.{active_once, judges_once}

@@ -1,21 +1,20 @@
 -- In every state, values have one parcel.
-use Rattle.std.proofs.Common.{◌≡◌, refl, sym, ◌∙◌, ap, subst, ℕ, zero, suc, ◌+◌, ◌<◌, ◌≤◌, ◌⊎◌, inl, inr, max, Bool, true, false, List, [], ◌∷◌, ◌++◌, length, map, take, drop, Option, Some, None, arith}
+use Rattle.std.proofs.Common.{◌≡◌, refl, sym, ◌∙◌, ap, subst, ℕ, zero, suc, ◌+◌, ◌<◌, ◌≤◌, inl, inr, max, List, [], ◌∷◌, ◌++◌, length, map, take, drop, Option, Some, None, arith}
 use Rattle.std.specs.Prelude.{nat_eq, slice_get, unwrap_or}
 use Rattle.std.specs.List.{flat_map, IsDistinct}
 use Rattle.std.proofs.Math.Seq.{take-append_seam}
-use Rattle.std.proofs.lemmas.Bool.{eqb-true}
 use Rattle.std.proofs.lemmas.Grind.{flat_map-append}
 use Rattle.std.proofs.lemmas.List.{append-nil, append_assoc, take-append-le, take-append-drop}
 use Rattle.std.proofs.lemmas.Option.{slice_get_within}
 use Rattle.std.proofs.lemmas.Map.Steps.{length-le_from_distinct_below}
 use Rattle.pz_value.specs.declared.value.Value.{Value}
 use Rattle.pz_state.specs.Objects.{ObjectView}
-use Rattle.pz_state.specs.States.{StateView, object, no_object}
+use Rattle.pz_state.specs.States.{StateView, no_object}
 use Rattle.pz_copy.specs.References.{references, IsIn, renumbered}
 use Rattle.pz_copy.specs.Parcels.{ParcelView}
 use Rattle.pz_copy.specs.Packing.{mentioned, IsListing, HasOneListing, place_in, packed_objects, IsParcelOf}
 use Rattle.pz_copy.specs.devices.Gathering.{gathered, IsGathered}
-use Rattle.pz_copy.proofs.Gathered.{in_left, in_right, in_cases, in_head_cases, in_at, gathered_firsts, gathered_more, gathered_append, gathers, gathers_only, gathered_distinct, nothing_distinct, seam_distinct}
+use Rattle.pz_copy.proofs.Gathered.{in_left, in_right, in_cases, in_head_cases, gathered_firsts, gathered_more, gathered_append, gathers, gathers_only, gathered_distinct, nothing_distinct, seam_distinct}
 use Rattle.pz_copy.proofs.Listings.{inside, begun, gathered_on, gathered_whole}
 
 at_seam : (xs : List ℕ) (r : ℕ) (ys : List ℕ) → slice_get (xs ++ r ∷ ys) (length xs) ≡ Some r

@@ -1,6 +1,6 @@
 -- Each passing of time brings a delay of which something is left to nothing, so that only so many
 -- passings follow each other.
-use Rattle.std.proofs.Common.{◌≡◌, ◌≤◌, ◌<◌, ◌+◌, ◌-◌, ℕ, zero, suc, Bool, true, false, List, [], ◌∷◌, length, Option, Some, None, Result, Ok, Err, refl, sym, subst, ap, ◌∙◌, arith}
+use Rattle.std.proofs.Common.{◌≡◌, ◌≤◌, ◌<◌, ◌+◌, ◌-◌, ℕ, zero, suc, Bool, true, false, List, [], ◌∷◌, length, Some, Result, Ok, Err, refl, sym, ap, ◌∙◌, arith}
 use Rattle.std.specs.Prelude.{slice_get}
 use Rattle.std.proofs.lemmas.Option.{slice_get_within}
 use Rattle.pz_syntax.specs.declared.tokens.Pos.{Pos}
@@ -24,7 +24,7 @@ use Rattle.pz_rules.proofs.Found.{tests_only, lasts_only}
 use Rattle.pz_rules.proofs.Locals.{some_is, no_some}
 use Rattle.pz_rules.proofs.Passings.{passes_only}
 use Rattle.pz_rules.proofs.Moments.{least_passes, time_positive}
-use Rattle.pz_rules.proofs.Elapsed.{there, stands_there}
+use Rattle.pz_rules.proofs.Elapsed.{stands_there}
 
 -- how many delays in a term may have something left
 abbrev waits_on : ℕ → ℕ

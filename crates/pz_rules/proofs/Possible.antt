@@ -1,13 +1,12 @@
 -- In a model whose bodies fit, each action that is offered leads somewhere, and what fits stays so.
 use Rattle.std.proofs.Common.{◌≡◌, ◌≤◌, ◌<◌, ◌+◌, ◌⊎◌, inl, inr, max, ℕ, zero, suc, Bool, true, false, List, [], ◌∷◌, length, Option, Some, None, Result, Ok, Err, refl, sym, subst, ap, ◌∙◌, arith}
-use Rattle.std.specs.Prelude.{slice_get, slice_set, if◌then◌else◌, nat_eq, nat_le}
+use Rattle.std.specs.Prelude.{slice_get, if◌then◌else◌, nat_eq}
 use Rattle.std.specs.Option.{IsSome}
-use Rattle.std.specs.List.{All}
 use Rattle.std.proofs.lemmas.Bool.{cases_lt, eqb-true}
 use Rattle.pz_syntax.specs.declared.tokens.Pos.{Pos}
 use Rattle.pz_syntax.specs.declared.names.Id.{Id}
 use Rattle.pz_syntax.specs.Expressions as ours
-use Rattle.pz_syntax.specs.Statements.{skip, delay, block, conditional, repeated, call, value, send, receive, StatementPart}
+use Rattle.pz_syntax.specs.Statements.{repeated, call, receive, StatementPart}
 use Rattle.pz_syntax.specs.Classes.{ModelTree}
 use Rattle.pz_value.specs.declared.value.ClassId.{ClassId}
 use Rattle.pz_value.specs.declared.value.Value.{Value}
@@ -19,37 +18,26 @@ use Rattle.pz_classes.specs.declared.method_id.Counts.TheVariants.{Process as pr
 use Rattle.pz_classes.specs.declared.method_id.MethodId.{MethodId}
 use Rattle.pz_classes.specs.Bodies.{BodyTree, data_body, process_body, bodies}
 use Rattle.pz_classes.specs.FitBodies.{StatementFits, StatementsFit, CallFits, BodyFits, how_many}
-use Rattle.pz_classes.specs.MethodBodies.{HasBody}
 use Rattle.pz_classes.specs.SoundBodies.{BodiesFit}
-use Rattle.pz_levels.specs.Places.{Place as Standing}
-use Rattle.pz_bind.specs.Nest.{processes, class_at}
 use Rattle.pz_copy.specs.Parcels.{ParcelView}
-use Rattle.pz_offer.specs.declared.end.End.{End}
 use Rattle.pz_offer.specs.declared.trouble.Trouble.{Trouble}
 use Rattle.pz_rules.specs.declared.action.Kind.{Kind}
-use Rattle.pz_rules.specs.declared.action.Action.{Action}
-use Rattle.pz_rules.specs.Terms.{Code, Codes, Step, Steps, Term, done, leaf, wait, sequence, frame, height}
+use Rattle.pz_rules.specs.Terms.{Code, Codes, Step, Steps, Term, leaf, frame}
 use Rattle.pz_rules.specs.Opening.{opened_all, opened_part}
-use Rattle.pz_rules.specs.Settings.{Setting, Process, At, in_state}
+use Rattle.pz_rules.specs.Settings.{Process, At, in_state}
 use Rattle.pz_rules.specs.Meanings.{and_then, truth, fault}
-use Rattle.pz_rules.specs.Evaluations.{GivesPart}
 use Rattle.pz_rules.specs.Methods.{IsMethod}
 use Rattle.pz_rules.specs.InternalActions as actions
 use Rattle.pz_rules.specs.InternalActions.{Can, Performs, done_in, chosen, turned, entered}
-use Rattle.pz_rules.specs.Leaving.{residual, swept, not_too_high, settled}
 use Rattle.pz_rules.specs.Messages as messages
 use Rattle.pz_rules.specs.Messages.{Sends, Receives, Fits, bound, Hands, Takes}
-use Rattle.pz_rules.specs.Configurations.{Config, Stands}
-use Rattle.pz_rules.specs.Steps.{Deed, Acts, with_process, with_both, Next, internal, communication}
-use Rattle.pz_rules.specs.Offers as offers
-use Rattle.pz_rules.specs.Offers.{PartAt, IsPair, Offers}
-use Rattle.pz_rules.specs.Fitting.{TermFits, IsFit}
+use Rattle.pz_rules.specs.Fitting.{TermFits}
 use Rattle.pz_rules.specs.devices.Found.{found, left, found_all, left_all, found_part, left_part}
 use Rattle.pz_rules.proofs.Found.{gives_found, gives_all_found, gives_part_found}
-use Rattle.pz_rules.proofs.Locals.{some_is, no_some}
+use Rattle.pz_rules.proofs.Locals.{some_is}
 use Rattle.pz_rules.proofs.Finite.{Known}
 use Rattle.pz_rules.proofs.Derived.{at_most_known}
-use Rattle.pz_rules.proofs.Fits.{opened_all_fits, opened_part_fits, Fitted, fitted}
+use Rattle.pz_rules.proofs.Fits.{opened_all_fits, opened_part_fits}
 
 -- There is a least free number.
 

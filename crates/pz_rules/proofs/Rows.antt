@@ -1,16 +1,15 @@
 -- Worked terms, which the checker works out.
-use Rattle.std.proofs.Common.{◌≡◌, ℕ, pos, true, false, List, [], ◌∷◌, Some, None, Ok, Err, codes, refl}
+use Rattle.std.proofs.Common.{◌≡◌, ℕ, pos, true, false, [], ◌∷◌, Some, Ok, refl}
 use Rattle.pz_syntax.specs.declared.tokens.Pos.{Pos}
 use Rattle.pz_syntax.specs.declared.tokens.Symbol.TheVariants.{Greater}
 use Rattle.pz_syntax.specs.declared.exprs.Literal.TheVariants as literal
-use Rattle.pz_syntax.specs.declared.names.Id.{Id}
 use Rattle.pz_syntax.specs.Expressions.{variable, chain, none, left_out, link, no_links}
 use Rattle.pz_syntax.specs.Expressions as expression
-use Rattle.pz_syntax.specs.Statements.{skip, delay, receive, call, interrupt, no_statements, then}
+use Rattle.pz_syntax.specs.Statements.{skip, delay, no_statements, then}
 use Rattle.pz_syntax.specs.Classes.{ModelTree}
 use Rattle.pz_value.specs.declared.value.Value.{Value}
 use Rattle.pz_value.specs.declared.value.Value.TheVariants as value
-use Rattle.pz_code.specs.declared.slot.Slot.TheVariants.{Local, Shared}
+use Rattle.pz_code.specs.declared.slot.Slot.TheVariants.{Shared}
 use Rattle.pz_state.specs.States.{StateView}
 use Rattle.pz_prims.specs.Rows.{answered}
 use Rattle.pz_prims.specs.EveryValue.{every_value}
@@ -19,14 +18,14 @@ use Rattle.pz_prims.specs.Booleans.{booleans}
 use Rattle.pz_prims.specs.Table.{outcome}
 use Rattle.pz_copy.specs.Parcels.{ParcelView}
 use Rattle.pz_evaluation.specs.devices.Computed.{sequence, arguments, operators, replied, selectors, going, turns, step, evaluated}
-use Rattle.pz_rules.specs.declared.action.Kind.TheVariants.{Skip, Expire}
+use Rattle.pz_rules.specs.declared.action.Kind.TheVariants.{Expire}
 use Rattle.pz_rules.specs.Terms as terms
 use Rattle.pz_rules.specs.Terms.{Code, Step, Term, done, leaf, wait, parallel, select, guarded, frame, abort, idle, handling, Terms, no_terms, and}
-use Rattle.pz_rules.specs.Settings.{Setting, Process, At, in_state}
+use Rattle.pz_rules.specs.Settings.{Setting, At, in_state}
 use Rattle.pz_rules.specs.Leaving.{around, left_by, residual, swept}
 use Rattle.pz_rules.specs.Messages.{bound}
 use Rattle.pz_rules.specs.devices.Found.{tested}
-use Rattle.pz_rules.specs.devices.Walk.{internal_actions, active_delays, active_receives}
+use Rattle.pz_rules.specs.devices.Walk.{internal_actions, active_delays}
 use Rattle.pz_rules.specs.devices.Passing.{passed}
 
 abbrev nothing : ModelTree

@@ -1,5 +1,5 @@
 -- Where time passes there is a configuration afterwards, in which nothing is left of some delay.
-use Rattle.std.proofs.Common.{◌≡◌, ◌≤◌, ◌<◌, ◌+◌, ◌-◌, ℕ, zero, suc, Bool, true, false, List, [], ◌∷◌, length, Option, Some, None, Result, Ok, Err, refl, sym, subst, ap, ◌∙◌, arith}
+use Rattle.std.proofs.Common.{◌≡◌, ◌<◌, ◌+◌, ◌-◌, ℕ, zero, suc, Bool, true, List, [], ◌∷◌, length, Some, Result, Ok, refl, sym, subst, ap, ◌∙◌, arith}
 use Rattle.std.specs.Prelude.{slice_get}
 use Rattle.pz_syntax.specs.declared.tokens.Pos.{Pos}
 use Rattle.pz_levels.specs.Places.{Place as Standing}
@@ -10,19 +10,15 @@ use Rattle.pz_offer.specs.declared.trouble.Trouble.{Trouble}
 use Rattle.pz_rules.specs.declared.moment.Moment.TheVariants.{Time}
 use Rattle.pz_rules.specs.Terms.{Term, done, leaf, wait, sequence, parallel, select, guarded, frame, abort, idle, handling, Terms, no_terms, and, term_at, child, count, frame_in}
 use Rattle.pz_rules.specs.Settings.{Setting, Process, At}
-use Rattle.pz_rules.specs.Evaluations.{Tests, Lasts}
 use Rattle.pz_rules.specs.Active as active
 use Rattle.pz_rules.specs.Active.{Active, Reached}
-use Rattle.pz_rules.specs.Asking.{Asks}
 use Rattle.pz_rules.specs.Delays as delays
 use Rattle.pz_rules.specs.Delays.{Delays, Passes}
 use Rattle.pz_rules.specs.Ports.{HasWires}
 use Rattle.pz_rules.specs.Configurations.{Config, Stands}
 use Rattle.pz_rules.specs.Steps.{PassesTo}
-use Rattle.pz_rules.specs.Offers.{PartAt}
 use Rattle.pz_rules.specs.Moments.{IsMoment, asked, part}
 use Rattle.pz_rules.specs.Laws.{EveryPassing, PassingTakes, BringsToZero, HasLeft, part_of}
-use Rattle.pz_rules.specs.devices.Found.{tested, lasting}
 use Rattle.pz_rules.specs.devices.Passing.{begun, if_open, passed, passed_all}
 use Rattle.pz_rules.proofs.Found.{tests_only, lasts_only}
 use Rattle.pz_rules.proofs.Locals.{some_is, no_some}

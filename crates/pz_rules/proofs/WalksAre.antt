@@ -1,19 +1,17 @@
 -- The walk of a term is what it is to be.
-use Rattle.std.proofs.Common.{◌≡◌, ℕ, List, Option, Some, None, Result, Ok, Err, refl, sym, subst, ap, ◌∙◌}
-use Rattle.std.specs.List.{All, Contains}
+use Rattle.std.proofs.Common.{◌≡◌, ℕ, List, Option, Some, Result, Ok, Err, refl, sym, subst, ap, ◌∙◌}
+use Rattle.std.specs.List.{Contains}
 use Rattle.std.proofs.lemmas.List.Elements.{All-weaker, All-contains_itself}
-use Rattle.pz_syntax.specs.declared.tokens.Pos.{Pos}
 use Rattle.pz_syntax.specs.Statements.{send}
 use Rattle.pz_value.specs.declared.value.Value.{Value}
 use Rattle.pz_state.specs.States.{StateView}
-use Rattle.pz_copy.specs.Parcels.{ParcelView}
 use Rattle.pz_offer.specs.declared.trouble.Trouble.{Trouble}
 use Rattle.pz_rules.specs.Terms.{Step, Term, leaf}
 use Rattle.pz_rules.specs.Settings.{At}
 use Rattle.pz_rules.specs.Evaluations.{GivesPart}
 use Rattle.pz_rules.specs.devices.Found.{found_part, left_part}
-use Rattle.pz_rules.specs.devices.Walk.{Noted, noted, active_parts, Doing, does, Sending, sending, sent_by, statement_sends, Receiving, received_by, waiting, troubled_by}
-use Rattle.pz_rules.specs.devices.Walks.{IsThere, Lists, Offering, offering, IsPacked, InternalActionsAreListed, SendsAreListed, SendsHaveParcels, ReceivesAreListed, DelaysAreListed, TroublesAreListed}
+use Rattle.pz_rules.specs.devices.Walk.{Noted, noted, active_parts, does, Sending, sending, sent_by, statement_sends, received_by, waiting, troubled_by}
+use Rattle.pz_rules.specs.devices.Walks.{IsThere, Lists, Offering, offering, InternalActionsAreListed, SendsAreListed, SendsHaveParcels, ReceivesAreListed, DelaysAreListed, TroublesAreListed}
 use Rattle.pz_rules.proofs.Found.{gives_part_found, gives_part_only}
 use Rattle.pz_rules.proofs.Locals.{some_is, no_some, does_complete, does_sound, sends_complete, sends_sound, receives_complete, receives_sound, delays_complete, delays_sound, asks_complete, asks_sound}
 use Rattle.pz_rules.proofs.Noted.{noted_complete, noted_sound, noted_ordered}

@@ -1,7 +1,7 @@
 -- The active parts of a term. Only they act, and only the delays among them count.
-use Rattle.std.specs.Prelude.{◌≡◌, ◌<◌, ℕ, true, List, [], ◌∷◌, Ok}
+use Rattle.std.specs.Prelude.{◌≡◌, ◌<◌, ℕ, true, [], ◌∷◌, Ok}
 use Rattle.pz_offer.specs.PlaceOrder.{Place}
-use Rattle.pz_rules.specs.Terms.{Term, done, leaf, wait, sequence, parallel, select, guarded, frame, abort, idle, handling, count, child, frame_in}
+use Rattle.pz_rules.specs.Terms.{Term, sequence, parallel, select, guarded, frame, abort, idle, handling, count, child, frame_in}
 use Rattle.pz_rules.specs.Settings.{At}
 use Rattle.pz_rules.specs.Evaluations.{Tests}
 

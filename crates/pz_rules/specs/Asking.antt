@@ -1,6 +1,6 @@
 -- The troubles of what an active part is asked at every moment: the test of a guard, the time of a
 -- delay that has not begun, and the arguments of a send.
-use Rattle.std.specs.Prelude.{ℕ, Bool, List, Result, Err}
+use Rattle.std.specs.Prelude.{ℕ, Err}
 use Rattle.pz_syntax.specs.declared.tokens.Pos.{Pos}
 use Rattle.pz_syntax.specs.declared.names.Id.{Id}
 use Rattle.pz_syntax.specs.Expressions.{Part}

@@ -1,6 +1,6 @@
 -- Configurations whose terms fit the classes of their processes: all that their statements name is
 -- there. Those of a sound model are so from the start, and stay so.
-use Rattle.std.specs.Prelude.{◌≡◌, ℕ, List, All, Some, slice_get}
+use Rattle.std.specs.Prelude.{◌≡◌, ℕ, All, Some, slice_get}
 use Rattle.pz_syntax.specs.Classes.{ModelTree}
 use Rattle.pz_classes.specs.FitBodies.{process_code, SlotFits, ExpressionFits, StatementFits, StatementsFit}
 use Rattle.pz_levels.specs.Places.{Place}

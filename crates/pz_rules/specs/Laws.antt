@@ -1,6 +1,7 @@
 -- Laws of execution.
 use Rattle.std.specs.Prelude.{◌≡◌, ◌≤◌, ℕ, ◌-◌, List, [], ◌∷◌, Some, Result, Ok, slice_get}
 use Rattle.pz_syntax.specs.declared.tokens.Pos.{Pos}
+use Rattle.pz_syntax.specs.Classes.{ModelTree}
 use Rattle.pz_classes.specs.Soundness.{IsSound}
 use Rattle.pz_offer.specs.declared.end.End.{End}
 use Rattle.pz_offer.specs.PlaceOrder.{Place}
@@ -18,7 +19,7 @@ use Rattle.pz_rules.specs.Configurations.{Config, IsWhole}
 use Rattle.pz_rules.specs.Offers.{PartAt, Offers, IsOffers}
 use Rattle.pz_rules.specs.Steps.{Next, PassesTo}
 use Rattle.pz_rules.specs.Moments.{IsLeast, IsMoment}
-use Rattle.pz_rules.specs.Runs.{Event, Standing, whole, Reaches, Ending, ended, deadlocked, troubled, halted, refused, Ends}
+use Rattle.pz_rules.specs.Runs.{Event, Standing, whole, Reaches, Ending, refused, Ends}
 use Rattle.pz_rules.specs.ChosenRuns.{Policy, IsChosenRun}
 
 -- a configuration has no more than one list of offers
@@ -28,6 +29,10 @@ OneListOfOffers = (setting : Setting) (c : Config) (xs ys : List Action) → IsO
 -- and has one, where the wires of the model are known
 abbrev pub EveryListOfOffers : Type 0
 EveryListOfOffers = (setting : Setting) (c : Config) → HasWires setting.model → (xs : List Action) × IsOffers setting c xs
+
+-- the wires of a sound model are known
+abbrev pub WiresAreKnown : Type 0
+WiresAreKnown = (m : ModelTree) → IsSound m → HasWires m
 
 -- a configuration has no more than one moment
 abbrev pub OneMoment : Type 0

@@ -8,7 +8,7 @@ use Rattle.pz_state.specs.States.{StateView, locals}
 use Rattle.pz_offer.specs.PlaceOrder.{Place}
 use Rattle.pz_offer.specs.declared.trouble.Trouble.{Trouble}
 use Rattle.pz_offer.specs.declared.trouble.Trouble.TheVariants.{High}
-use Rattle.pz_rules.specs.Terms.{Step, Term, done, leaf, wait, sequence, parallel, select, guarded, frame, abort, idle, handling, Terms, no_terms, and, child, height, frames_in, frame_in}
+use Rattle.pz_rules.specs.Terms.{Step, Term, done, sequence, parallel, select, guarded, frame, abort, idle, handling, Terms, no_terms, and, child, height, frames_in, frame_in}
 use Rattle.pz_rules.specs.Opening.{opened, opened_all}
 use Rattle.pz_rules.specs.Settings.{At, Process}
 use Rattle.pz_rules.specs.Slots.{set_slots}

@@ -1,10 +1,10 @@
 -- The actions that a configuration offers, in their order.
-use Rattle.std.specs.Prelude.{◌≡◌, ◌≢◌, ◌<◌, ◌⊎◌, ℕ, Bool, true, List, length, All, AllPairs, Contains, Some, Result, Ok}
+use Rattle.std.specs.Prelude.{◌≡◌, ◌≢◌, ◌<◌, ◌⊎◌, ℕ, Bool, true, List, length, All, AllPairs, Contains, Result, Ok}
 use Rattle.pz_syntax.specs.declared.tokens.Pos.{Pos}
 use Rattle.pz_copy.specs.Parcels.{ParcelView}
 use Rattle.pz_offer.specs.declared.end.End.{End}
 use Rattle.pz_offer.specs.declared.trouble.Trouble.{Trouble}
-use Rattle.pz_offer.specs.PlaceOrder.{Place, EndBefore}
+use Rattle.pz_offer.specs.PlaceOrder.{EndBefore}
 use Rattle.pz_rules.specs.declared.action.Kind.{Kind}
 use Rattle.pz_rules.specs.declared.action.Action.{Action}
 use Rattle.pz_rules.specs.declared.action.Action.TheVariants.{Internal, Comm}

@@ -1,6 +1,6 @@
 -- Where a model starts: at clock 0, each process before the call that its `init` names, with the
 -- given parameters and all other variables nil.
-use Rattle.std.specs.Prelude.{◌≡◌, ℕ, List, [], length, Some, slice_get}
+use Rattle.std.specs.Prelude.{◌≡◌, ℕ, [], length, Some, slice_get}
 use Rattle.pz_classes.specs.Starts.{init}
 use Rattle.pz_levels.specs.Places.{Place}
 use Rattle.pz_bind.specs.Nest.{processes, class_at}

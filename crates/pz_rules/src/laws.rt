@@ -1,8 +1,9 @@
 // Laws of execution, each the contract of a function that does nothing.
 
-ghost use Rattle.pz_rules.specs.Laws.{OneListOfOffers, EveryListOfOffers, OneMoment, EveryMoment, TimeWaits, LeastPasses, TimeIsPositive, EveryPassing, PassingTakes, BringsToZero, OneNext, OnePassing, StaysWhole, StartFits, StaysFit, EveryNext, OneChosenRun, EveryChosenRun, ChosenRunsAreRuns};
+ghost use Rattle.pz_rules.specs.Laws.{OneListOfOffers, EveryListOfOffers, WiresAreKnown, OneMoment, EveryMoment, TimeWaits, LeastPasses, TimeIsPositive, EveryPassing, PassingTakes, BringsToZero, OneNext, OnePassing, StaysWhole, StartFits, StaysFit, EveryNext, OneChosenRun, EveryChosenRun, ChosenRunsAreRuns};
 ghost use Rattle.pz_rules.specs.devices.Walks.{InternalActionsAreListed, SendsAreListed, SendsHaveParcels, ReceivesAreListed, DelaysAreListed, TroublesAreListed};
 
+use pz_bind::ends_share_wires;
 use pz_classes::sound_bodies_fit;
 
 /// A configuration has one list of offers.
@@ -10,6 +11,14 @@ pub fn one_list_of_offers()
     ensures one { OneListOfOffers }
     ensures some { EveryListOfOffers }
 {}
+
+/// The wires of a sound model are known: of each port of each process, which wire it has, and where
+/// it has none.
+pub fn wires_are_known()
+    ensures law { WiresAreKnown }
+{
+    ends_share_wires();
+}
 
 /// A configuration has one moment.
 pub fn one_moment()

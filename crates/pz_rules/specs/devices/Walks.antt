@@ -20,7 +20,7 @@ use Rattle.pz_rules.specs.InternalActions.{Can}
 use Rattle.pz_rules.specs.Messages.{Sends, Receives}
 use Rattle.pz_rules.specs.Delays.{Delays}
 use Rattle.pz_rules.specs.Asking.{Asks}
-use Rattle.pz_rules.specs.devices.Walk.{Noted, Doing, Sending, Receiving, internal_actions, active_sends, active_receives, active_delays, active_troubles}
+use Rattle.pz_rules.specs.devices.Walk.{Noted, Sending, internal_actions, active_sends, active_receives, active_delays, active_troubles}
 
 -- at this place stands an active part, in a frame, of which this holds
 pub record IsThere (a : At) (t : Term) (place : Place) (holds : ℕ → Term → Type 0) : Type 0 where
