@@ -3,17 +3,9 @@
 # a chain of ten thousand data classes, one of ten thousand process classes that call, receive and
 # send what they inherit, many methods, many methods that call one another, many variables of one
 # class, many instances, many ends of one channel, and clusters in a chain and in a ring.
-cd "$(dirname "${BASH_SOURCE[0]}")/../crates/front" || exit 2
-rt run >/dev/null 2>&1 || exit 2
-trap 'rm -f out/*.bench' EXIT
+# shellcheck source=bench/shapes.sh
+. "$(dirname "${BASH_SOURCE[0]}")/shapes.sh"
 process='process class P(x : Integer) ports p messages p!m init s()() methods s()() p!m system'
-
-# so many pieces, each with its number for % and the number before it for @
-pieces() {
-  awk -v count="$1" -v piece="$2" 'BEGIN {
-    for (i = 1; i <= count; i++) { line = piece; gsub(/%/, i, line); gsub(/@/, i - 1, line); printf "%s", line }
-  }'
-}
 
 { pieces 19000 'data class A% variables x : A% methods m : Integer x m '; echo 'system'; } >out/classes.bench
 { echo -n 'data class A0 '; pieces 10000 'data class A% extends A@ methods m% : Integer self m1 '; echo 'system'; } >out/chain.bench
@@ -26,6 +18,5 @@ pieces() {
 { echo -n 'cluster class C0 instances c : C25000 '; pieces 25000 'cluster class C% instances c : C@ '; echo 'system instances c : C25000'; } >out/ring.bench
 { echo -n 'process class C0 init s()() methods s()() skip '; pieces 10000 'cluster class C% instances c : C@ '; echo 'system instances c : C10000'; } >out/clusters.bench
 for shape in classes chain processes methods calls variables instances ends clusters ring; do
-  printf '%s, %s bytes: ' "$shape" "$(wc -c <"out/$shape.bench")"
-  (cd out && time ./front rows violations "$shape.bench" | tail -n +2 | cut -c1-60)
+  measure violations "$shape"
 done

@@ -2,17 +2,9 @@
 # Times the front end with the net on models of up to a mebibyte, one shape each: clusters in a chain
 # of ten thousand, clusters side by side, a million wires in a thousand clusters, and one channel of
 # ten thousand ends.
-cd "$(dirname "${BASH_SOURCE[0]}")/../crates/front" || exit 2
-rt run >/dev/null 2>&1 || exit 2
-trap 'rm -f out/*.bench' EXIT
+# shellcheck source=bench/shapes.sh
+. "$(dirname "${BASH_SOURCE[0]}")/shapes.sh"
 process='process class P(x : Integer) ports p messages p!m init s()() methods s()() p!m '
-
-# so many pieces, each with its number for % and the number before it for @
-pieces() {
-  awk -v count="$1" -v piece="$2" 'BEGIN {
-    for (i = 1; i <= count; i++) { line = piece; gsub(/%/, i, line); gsub(/@/, i - 1, line); printf "%s", line }
-  }'
-}
 
 { echo -n "$process cluster class C0 ports o instances p : P(x := 1) channels {p.p, o} "; pieces 10000 'cluster class C% ports o instances c : C@ channels {c.o, o} '; echo 'system instances c : C9999'; } >out/chain.bench
 { echo -n "$process cluster class C(x : Integer) ports o instances p : P(x := x) channels {p.p, o} system instances"; pieces 10000 ' c% : C(x := %)'; echo -n ' channels {'; pieces 10000 ', c%.o' | sed 's/^, //'; echo '}'; } >out/wide.bench
@@ -23,6 +15,5 @@ pieces() {
 } >out/wires.bench
 { echo -n "$process system instances"; pieces 10000 ' p% : P(x := %)'; echo -n ' channels {'; pieces 10000 ', p%.p' | sed 's/^, //'; echo '}'; } >out/ends.bench
 for shape in chain wide wires ends; do
-  printf '%s, %s bytes: ' "$shape" "$(wc -c <"out/$shape.bench")"
-  (cd out && time ./front rows net_size "$shape.bench" | tail -n +2)
+  measure net_size "$shape"
 done
