@@ -2,6 +2,7 @@
 
 ghost use Rattle.std.specs.Prelude.{IfSome};
 ghost use Rattle.pz_syntax.specs.ClassView.{model_view};
+ghost use Rattle.pz_syntax.specs.ModelText.{HasFewMarks};
 ghost use Rattle.pz_classes.specs.Tables.{AreClasses, HasClass, HasMethod};
 
 use crate::bodies::{show_body, show_step};
@@ -111,7 +112,9 @@ fn show_answers(rt: &HostRuntime, model: &Model, classes: &Classes, text: &str) 
     Ok(())
 }
 
-fn show_built(rt: &HostRuntime, model: &Model, text: &str) -> io::Result<()> {
+fn show_built(rt: &HostRuntime, model: &Model, text: &str) -> io::Result<()>
+    requires { HasFewMarks (model_view model.now) }
+{
     match Classes::build(rt.alloc(), model) {
         Ok(classes) => {
             show_classes(rt, &classes)?;
@@ -133,7 +136,9 @@ pub fn show_family(rt: &HostRuntime, text: &[u8]) -> io::Result<()> {
 }
 
 /// Which of the rules on classes and their parents the model of a line violates.
-fn show_violated(rt: &HostRuntime, model: &Model, line: &str) -> io::Result<()> {
+fn show_violated(rt: &HostRuntime, model: &Model, line: &str) -> io::Result<()>
+    requires { HasFewMarks (model_view model.now) }
+{
     match Classes::build(rt.alloc(), model) {
         Ok(_) => println!(rt; "accepted: {line}"),
         Err(error) => println!(rt; "{error:?}: {line}"),

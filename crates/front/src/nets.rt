@@ -1,5 +1,7 @@
 //! The processes and the wires of a model's system.
 
+ghost use Rattle.pz_syntax.specs.ClassView.{model_view};
+ghost use Rattle.pz_syntax.specs.ModelText.{HasFewMarks};
 ghost use Rattle.pz_bind.specs.NetView.{HasProcess, IsWireOf};
 
 use crate::reading::model_in;
@@ -17,7 +19,9 @@ enum Found {
     Violates(Violation),
 }
 
-fn check_model(alloc: Global, model: Model) -> Found {
+fn check_model(alloc: Global, model: Model) -> Found
+    requires { HasFewMarks (model_view model) }
+{
     let classes = match Classes::build(alloc, &model) {
         Ok(classes) => classes,
         Err(error) => {
@@ -137,7 +141,9 @@ fn show_checked(rt: &HostRuntime, checked: &Checked, whole: bool) -> io::Result<
     println!(rt; "{} processes, {} wires", net.processes(), net.wires())
 }
 
-fn show_found(rt: &HostRuntime, model: Model, whole: bool) -> io::Result<()> {
+fn show_found(rt: &HostRuntime, model: Model, whole: bool) -> io::Result<()>
+    requires { HasFewMarks (model_view model) }
+{
     match check_model(rt.alloc(), model) {
         Found::NoMemory => println!(rt; "no memory"),
         Found::Sound(checked) => show_checked(rt, &checked, whole),

@@ -1,5 +1,10 @@
 //! From a text to its tokens and its model.
 
+ghost use Rattle.std.specs.Prelude.{◌≡◌, ◌≤◌, true, length, IfOk};
+ghost use Rattle.pz_syntax.specs.ClassView.{model_view};
+ghost use Rattle.pz_syntax.specs.ModelText.{HasFewMarks, text as text_of};
+
+use pz_ast::tokens_of;
 use pz_items::Items;
 use pz_lexer::{LexError, end_of, lex};
 use pz_parser::{ParseError, parse};
@@ -29,15 +34,22 @@ impl fmt::Display for NoModel {
 }
 
 /// The tokens of a text of at most `LIMIT` bytes.
-pub fn tokens_in(alloc: Global, text: &[u8]) -> Result<Items<Token>, NoModel> {
+pub fn tokens_in(alloc: Global, text: &[u8]) -> Result<Items<Token>, NoModel>
+    ensures { IfOk result (λ tokens. length tokens ≤ LIMIT) }
+{
     if text.len() > LIMIT {
         return Err(NoModel::TooLong);
     }
-    lex(alloc, text).map_err(NoModel::Tokens)
+    match lex(alloc, text) {
+        Ok(tokens) => Ok(tokens),
+        Err(error) => Err(NoModel::Tokens(error)),
+    }
 }
 
 /// The model of these tokens of a text.
-pub fn tree_of(alloc: Global, text: &[u8], tokens: &[Token]) -> Result<Model, NoModel> {
+pub fn tree_of(alloc: Global, text: &[u8], tokens: &[Token]) -> Result<Model, NoModel>
+    ensures { IfOk result (λ model. length (text_of (model_view model)) ≡ length tokens.now) }
+{
     if text.len() > LIMIT {
         return Err(NoModel::TooLong);
     }
@@ -48,9 +60,21 @@ pub fn tree_of(alloc: Global, text: &[u8], tokens: &[Token]) -> Result<Model, No
 }
 
 /// The model of a text.
-pub fn model_in(alloc: Global, text: &[u8]) -> Result<Model, NoModel> {
+pub fn model_in(alloc: Global, text: &[u8]) -> Result<Model, NoModel>
+    ensures { IfOk result (λ model. HasFewMarks (model_view model)) }
+{
     match tokens_in(alloc, text) {
         Ok(tokens) => tree_of(alloc, text, tokens.as_slice()),
         Err(refusal) => Err(refusal),
+    }
+}
+
+/// Whether the text of a model has at most `LIMIT` tokens; no where memory is wanting.
+pub fn is_short(alloc: Global, model: &Model) -> bool
+    ensures { result ≡ true → HasFewMarks (model_view model.now) }
+{
+    match tokens_of(alloc, model) {
+        Ok(marks) => marks.len() <= LIMIT,
+        Err(_) => false,
     }
 }

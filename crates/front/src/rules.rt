@@ -2,9 +2,10 @@
 //! stand in the order of their places.
 
 ghost use Rattle.pz_syntax.specs.ClassView.{model_view};
+ghost use Rattle.pz_syntax.specs.ModelText.{HasFewMarks};
 ghost use Rattle.pz_classes.specs.Tables.{AreClasses};
 
-use crate::reading::model_in;
+use crate::reading::{is_short, model_in};
 use pz_classes::{BuildError, Classes, Violation};
 use pz_expansion::least_holding;
 use pz_instances::{least_ill_given, least_missing_end};
@@ -31,7 +32,8 @@ impl fmt::Display for Answer {
 
 /// What is found at words, and what is declared again.
 fn show_words(rt: &HostRuntime, model: &Model, classes: &Classes) -> io::Result<()>
-    requires { AreClasses (model_view model.now) classes.now }
+    requires few { HasFewMarks (model_view model.now) }
+    requires classes { AreClasses (model_view model.now) classes.now }
 {
     let misuse = Answer(least_misuse(rt.alloc(), model, classes));
     let has_unsized = has_unsized_words(rt.alloc(), model, classes).unwrap_or(false);
@@ -41,7 +43,8 @@ fn show_words(rt: &HostRuntime, model: &Model, classes: &Classes) -> io::Result<
 
 /// What is found at instances and channels.
 fn show_instances(rt: &HostRuntime, model: &Model, classes: &Classes) -> io::Result<()>
-    requires { AreClasses (model_view model.now) classes.now }
+    requires few { HasFewMarks (model_view model.now) }
+    requires classes { AreClasses (model_view model.now) classes.now }
 {
     let given = Answer(least_ill_given(rt.alloc(), model, classes));
     let missing = Answer(least_missing_end(rt.alloc(), model, classes));
@@ -59,7 +62,8 @@ fn show_systems(rt: &HostRuntime, model: &Model, classes: &Classes) -> io::Resul
 }
 
 fn show_found(rt: &HostRuntime, model: &Model, classes: &Classes) -> io::Result<()>
-    requires { AreClasses (model_view model.now) classes.now }
+    requires few { HasFewMarks (model_view model.now) }
+    requires classes { AreClasses (model_view model.now) classes.now }
 {
     show_words(rt, model, classes)?;
     show_instances(rt, model, classes)?;
@@ -77,6 +81,9 @@ fn refusal_of(error: BuildError) -> Answer {
 /// The answers of all calls on a model, or its violation of the rules on classes and parents.
 fn show_answers(rt: &HostRuntime, order: &str, model: &Model) -> io::Result<()> {
     print!(rt; "  {order}: ")?;
+    if !is_short(rt.alloc(), model) {
+        return println!(rt; "too long");
+    }
     match Classes::build(rt.alloc(), model) {
         Ok(classes) => show_found(rt, model, &classes),
         Err(error) => println!(rt; "{}", refusal_of(error)),
@@ -117,7 +124,7 @@ fn turned_within(decl: Decl) -> Decl {
 /// The model with its declarations turned round, and the channels of its systems.
 fn turned_model(alloc: Global, model: Model) -> Result<Model, AllocError> {
     let mut decls = Items::new(alloc);
-    for decl in model.decls.into_vec() {
+    for decl in model.into_decls().into_vec() {
         decls.push(turned_within(decl))?;
     }
     Ok(Model {

@@ -1,5 +1,8 @@
 //! What the checker finds.
 
+ghost use Rattle.pz_syntax.specs.ClassView.{model_view};
+ghost use Rattle.pz_syntax.specs.ModelText.{HasFewMarks};
+
 use crate::reading::model_in;
 use pz_check::{CheckError, check};
 use pz_classes::{BuildError, Classes, Violation};
@@ -14,7 +17,9 @@ enum Finding {
     Violates(Violation),
 }
 
-fn find(alloc: Global, model: Model) -> Finding {
+fn find(alloc: Global, model: Model) -> Finding
+    requires { HasFewMarks (model_view model) }
+{
     let classes = match Classes::build(alloc, &model) {
         Ok(classes) => classes,
         Err(error) => {
@@ -35,7 +40,9 @@ fn find(alloc: Global, model: Model) -> Finding {
     }
 }
 
-fn show_finding(rt: &HostRuntime, model: Model, line: &str) -> io::Result<()> {
+fn show_finding(rt: &HostRuntime, model: Model, line: &str) -> io::Result<()>
+    requires { HasFewMarks (model_view model) }
+{
     match find(rt.alloc(), model) {
         Finding::NoMemory => println!(rt; "no memory: {line}"),
         Finding::Sound => println!(rt; "sound: {line}"),

@@ -1,22 +1,26 @@
 -- Plans, one step further.
-use Rattle.std.proofs.Common.{◌≡◌, refl, sym, ap, ◌∙◌, subst, ℕ, zero, suc, ◌+◌, ◌<◌, ◌≤◌, List, [], ◌∷◌, ◌++◌, append_assoc, append-nil, map, take, take-suc, drop, length, get_or, Option, Some, None, slice_get, ◌⊎◌, inl, inr, arith}
+use Rattle.std.proofs.Common.{◌≡◌, refl, sym, ap, ◌∙◌, subst, ℕ, zero, suc, ◌+◌, ◌<◌, ◌≤◌, ◌^◌, List, [], ◌∷◌, ◌++◌, append_assoc, append-nil, map, take, take-suc, drop, length, get_or, Option, Some, None, slice_get, ◌⊎◌, inl, inr, arith}
 use Rattle.std.proofs.Math.Path.{fun_ext}
 use Rattle.std.proofs.lemmas.Bool.{cases_lt}
-use Rattle.std.specs.Option.{option_or, option_and_then}
+use Rattle.std.specs.Option.{option_or, option_and_then, option_map_or}
 use Rattle.std.specs.List.{flat_map}
 use Rattle.std.proofs.lemmas.List.{length_push, drop_all, map-append}
 use Rattle.pz_syntax.specs.declared.clusters.Instance.{Instance}
 use Rattle.pz_syntax.specs.declared.clusters.Channel.{Channel as Written}
 use Rattle.pz_syntax.specs.declared.clusters.ChannelEnd.{ChannelEnd}
 use Rattle.pz_syntax.specs.declared.clusters.Decl.{Decl}
-use Rattle.pz_syntax.specs.Classes.{ModelTree}
+use Rattle.pz_syntax.specs.Classes.{DeclTree, ModelTree}
 use Rattle.pz_syntax.specs.ClassView.{decl_view}
 use Rattle.pz_code.specs.declared.numbering.Numbering.{Numbering}
 use Rattle.pz_code.specs.NumberIn.{number_in}
 use Rattle.pz_classes.specs.Bodies.{place_in}
+use Rattle.pz_classes.specs.Instances.{instances}
 use Rattle.pz_classes.specs.Members.{own_ports, ports, spelled}
+use Rattle.pz_classes.specs.Numbers.{declaration}
+use Rattle.pz_classes.specs.SoundNumbers.{NumbersFit}
 use Rattle.pz_levels.specs.Layouts.{Layout}
 use Rattle.pz_levels.proofs.Each.{pushed_at, there}
+use Rattle.pz_bind.specs.Nest.{instances_in}
 use Rattle.pz_bind.specs.devices.Layouts.{linked_by, link_of, links_from, port_number, class_layout, layouts_from}
 use Rattle.pz_bind.specs.devices.Numberings.{AreNumbers, ByClass}
 use Rattle.pz_bind.proofs.Gets.{none_declared, none_inherited, one_more}
@@ -67,6 +71,14 @@ module _ (m : ModelTree) where
     pub channels_done : (hs : List Written) (at : ℕ) (now whole : Option ℕ) → length hs ≤ at → option_or now (linked_by (links_from m xs at (drop at hs)) i p) ≡ whole → now ≡ whole
     channels_done hs at now whole past before =
         sym (or_none now) ∙ (ap (λ (gs : List Written). option_or now (linked_by (links_from m xs at gs) i p)) (sym (drop_all at hs past)) ∙ before)
+
+  -- 32 bits number the instances in a class
+  pub instances_fit : NumbersFit m → (c : ℕ) → length (instances_in m c) < 2 ^ 32
+  instances_fit fit c = by_declaration (declaration m c) refl
+    where
+      by_declaration : (o : Option DeclTree) → declaration m c ≡ o → length (option_map_or instances o []) < 2 ^ 32
+      by_declaration None is = omega arith
+      by_declaration (Some d) is = fit.instances c d is
 
   -- ---- the numbers of ports
 

@@ -9,24 +9,28 @@ ghost use Rattle.pz_classes.specs.Members as members;
 ghost use Rattle.pz_classes.specs.Members.{spelled};
 ghost use Rattle.pz_classes.specs.Numbers as numbers;
 ghost use Rattle.pz_classes.specs.SoundClasses.{ClassesFit};
+ghost use Rattle.pz_classes.specs.SoundNumbers.{NumbersFit};
 ghost use Rattle.pz_classes.specs.SoundSystem.{SystemFits};
 ghost use Rattle.pz_bind.specs.Nest as spec;
 ghost use Rattle.pz_bind.specs.devices.Layouts as layouts;
 
 use pz_classes::{
     Checked, channels_of, class_of_instance, instances_of, is_cluster, sound_classes_fit,
-    sound_systems_fit,
+    sound_numbers_fit, sound_systems_fit,
 };
 use pz_syntax::{Channel, Decl, Instance, Name};
 use pz_value::ClassId;
 
-/// A checked model is sound: what that says of its system and its classes. Does nothing when it runs.
+/// A checked model is sound, and its text has few marks: what that says of its system, its classes and
+/// the numbers in it. Does nothing when it runs.
 pub(crate) fn is_sound(checked: &Checked)
     ensures system { SystemFits (checked_model checked.now) }
     ensures classes { ClassesFit (checked_model checked.now) }
+    ensures numbers { NumbersFit (checked_model checked.now) }
 {
     sound_systems_fit();
     sound_classes_fit();
+    sound_numbers_fit();
     let _model = checked.model();
 }
 

@@ -1,15 +1,16 @@
 // What stands in a level of each class, by numbers.
 
-ghost use Rattle.std.specs.Prelude.{◌≡◌, ℕ, map, IfOk};
+ghost use Rattle.std.specs.Prelude.{◌≡◌, ◌<◌, ◌^◌, ℕ, length, map, IfOk};
 ghost use Rattle.pz_syntax.specs.declared.clusters.Channel.{Channel as Written};
 ghost use Rattle.pz_syntax.specs.Classes.{ModelTree};
 ghost use Rattle.pz_classes.specs.CheckedView.{checked_model};
+ghost use Rattle.pz_classes.specs.SoundNumbers.{NumbersFit};
 ghost use Rattle.pz_levels.specs.devices.Walking.{layout_of, layouts_of, linked_in};
 ghost use Rattle.pz_bind.specs.devices.Layouts as spec;
 ghost use Rattle.pz_bind.specs.devices.Layouts.{class_layout, layouts, linked_by, links_from};
 ghost use Rattle.pz_bind.specs.devices.Numberings.{AreNumbers};
 
-use crate::declared::{channels_in, class_of, instances_in, is_cluster_class};
+use crate::declared::{channels_in, class_of, instances_in, is_cluster_class, is_sound};
 use crate::naming::Naming;
 use crate::port_numbers::{PortNumbers, number_instances};
 use pz_classes::Checked;
@@ -81,6 +82,7 @@ fn links_of(
     parts: &[Part],
     channels: &[Channel],
 ) -> Result<Links, AllocError>
+    requires { length instances.now < 2 ^ 32 }
     ensures { IfOk result (λ links. (m : ModelTree) → AreNumbers m ports.now → parts.now ≡ map (spec.part_of m) instances.now
         → (i p : ℕ) → linked_in links i p ≡ linked_by (links_from m instances.now 0 channels.now) i p) }
 {
@@ -99,7 +101,8 @@ fn plan_of(
     ports: &PortNumbers,
     class: usize,
 ) -> Result<Plan, AllocError>
-    requires { AreNumbers (checked_model checked.now) ports.now }
+    requires ports { AreNumbers (checked_model checked.now) ports.now }
+    requires numbers { NumbersFit (checked_model checked.now) }
     ensures { IfOk result (λ plan. layout_of plan ≡ class_layout (checked_model checked.now) class) }
 {
     let instances = instances_in(checked, class);
@@ -118,6 +121,7 @@ fn plan_of(
 pub(crate) fn plans_of(alloc: Global, checked: &Checked) -> Result<Items<Plan>, AllocError>
     ensures { IfOk result (λ plans. layouts_of plans ≡ layouts (checked_model checked.now)) }
 {
+    is_sound(checked);
     let ports = PortNumbers::new(alloc, checked)?;
     let mut plans = Items::new(alloc);
     plans.push(plan_of(alloc, checked, &ports, 0)?)?;

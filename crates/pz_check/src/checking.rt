@@ -2,6 +2,7 @@
 
 ghost use Rattle.std.specs.Prelude.{◌≡◌, IfOk, IfErr};
 ghost use Rattle.pz_syntax.specs.ClassView.{model_view};
+ghost use Rattle.pz_syntax.specs.ModelText.{HasFewMarks};
 ghost use Rattle.pz_violation.specs.declared.violation.Violation.{Violation as Found};
 ghost use Rattle.pz_violation.specs.Order.{IsLeast};
 ghost use Rattle.pz_violation.specs.Least.{LeastOf};
@@ -28,7 +29,8 @@ fn least_violation(
     model: &Model,
     classes: &Classes,
 ) -> Result<Option<Violation>, AllocError>
-    requires { AreClasses (model_view model.now) classes.now }
+    requires few { HasFewMarks (model_view model.now) }
+    requires classes { AreClasses (model_view model.now) classes.now }
     ensures { IfOk result (LeastOf (Breaks (model_view model.now))) }
 {
     let words = least_misuse(alloc, model, classes)?;
@@ -45,6 +47,7 @@ fn least_violation(
 /// The model as a sound one, or the least violation of the rules C4 to C22, by place and then by
 /// rule. The model and its classes are given up at an error.
 pub fn check(alloc: Global, model: Model, classes: Classes) -> Result<Checked, CheckError>
+    requires few { HasFewMarks (model_view model) }
     requires tabled { AreClasses (model_view model) classes }
     requires built { (v : Found) → Violates (model_view model) v → ⊥ }
     ensures model { IfOk result (λ checked. checked_model checked ≡ model_view model) }

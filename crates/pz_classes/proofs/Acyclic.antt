@@ -26,7 +26,7 @@ module _ (m : ModelTree) (flat : (c : ℕ) → GoesRound (parent m) c → ⊥) w
           none true is = absurd (flat c (round c p up (followed_from m n p c is)))
           none false is = is
 
-  inside : (n c q : ℕ) → c < suc (length m.decls) → list_any (eqb q) (followed (parent m) n c) ≡ true → q < suc (length m.decls)
+  pub inside : (n c q : ℕ) → c < suc (length m.decls) → list_any (eqb q) (followed (parent m) n c) ≡ true → q < suc (length m.decls)
   inside zero c q below is = cc
   inside (suc n) c q below is = by_test (eqb q c) refl (inside n)
     where

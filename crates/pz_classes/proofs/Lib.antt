@@ -34,3 +34,6 @@ mod MethodBodies
 mod Mentioned
 mod SoundBodies
 mod WorkedBodies
+mod Weights
+pub mod FewMarks
+mod SoundNumbers

@@ -28,4 +28,5 @@ pub mod SoundClasses
 pub mod MethodBodies
 pub mod FitBodies
 pub mod SoundBodies
+pub mod SoundNumbers
 pub mod devices

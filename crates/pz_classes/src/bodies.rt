@@ -1,13 +1,15 @@
 // The bodies of methods, with slots and numbers in place of names. The only error is want of memory.
 
-ghost use Rattle.std.specs.Prelude.{◌≡◌, ◌<◌, ◌+◌, ◌^◌, ◌++◌, ℕ, List, length, map, IfOk, OnOk};
+ghost use Rattle.std.specs.Prelude.{◌≡◌, ◌<◌, ◌+◌, ◌^◌, ◌++◌, ℕ, List, length, map, All, IfOk, OnOk};
 ghost use Rattle.pz_syntax.specs.Classes.{ModelTree};
 ghost use Rattle.pz_syntax.specs.ClassView.{decl_view, model_view, data_method_view, process_method_view};
 ghost use Rattle.pz_code.specs.NumberIn.{number_in};
 ghost use Rattle.pz_classes.specs.Numbers.{class};
-ghost use Rattle.pz_classes.specs.Ancestors.{ancestors};
+ghost use Rattle.pz_classes.specs.Ancestors.{ancestors, parent};
+ghost use Rattle.pz_lineage.specs.Reached.{GoesRound};
+ghost use Rattle.pz_syntax.specs.ModelText.{decl_text, HasFewMarks};
 ghost use Rattle.pz_classes.specs.Members.{spelled};
-ghost use Rattle.pz_classes.specs.devices.Inherited.{HasMembers};
+ghost use Rattle.pz_classes.specs.devices.Inherited.{HasMembers, AreFew};
 ghost use Rattle.pz_classes.specs.Bodies as spec;
 ghost use Rattle.pz_classes.specs.BodyView.{body_view};
 ghost use Rattle.pz_classes.specs.devices.Surrounding.{scope_around, Numbers};
@@ -49,6 +51,7 @@ fn data_body(
     classes: &Numbering,
     method: &DataMethod,
 ) -> Result<Body, AllocError>
+    requires { length (spec.data_locals (data_method_view method.now)) < 2 ^ 32 }
     ensures { IfOk result (λ b. body_view b ≡ spec.data_body_in (scope_around around.now classes.now) (data_method_view method.now)) }
 {
     let names = data_names(alloc, method)?;
@@ -60,7 +63,7 @@ fn data_body(
         classes,
     };
     let code = resolve_list(alloc, &scope, method.body.as_slice())?;
-    let locals = count(names.as_slice())?;
+    let locals = count(names.as_slice());
     Ok(Body::Data { locals, code })
 }
 
@@ -70,6 +73,7 @@ fn process_body(
     classes: &Numbering,
     method: &ProcessMethod,
 ) -> Result<Body, AllocError>
+    requires { length (spec.process_locals (process_method_view method.now)) < 2 ^ 32 }
     ensures { IfOk result (λ b. body_view b ≡ spec.process_body_in (scope_around around.now classes.now) (process_method_view method.now)) }
 {
     let names = process_names(alloc, method)?;
@@ -81,7 +85,7 @@ fn process_body(
         classes,
     };
     let stmts = resolve_statements(alloc, &scope, method.body.as_slice())?;
-    let locals = count(names.as_slice())?;
+    let locals = count(names.as_slice());
     Ok(Body::Process { locals, stmts })
 }
 
@@ -92,6 +96,7 @@ fn push_data_bodies(
     methods: &[DataMethod],
     bodies: &mut Items<Body>,
 ) -> Result<(), AllocError>
+    requires { All (λ r. length (spec.data_locals (data_method_view r)) < 2 ^ 32) methods.now }
     ensures { OnOk result (map body_view bodies.new ≡ map body_view bodies.old ++ map (spec.data_body_in (scope_around around.now classes.now)) (map data_method_view methods.now)) }
 {
     for method in methods {
@@ -107,6 +112,7 @@ fn push_process_bodies(
     methods: &[ProcessMethod],
     bodies: &mut Items<Body>,
 ) -> Result<(), AllocError>
+    requires { All (λ r. length (spec.process_locals (process_method_view r)) < 2 ^ 32) methods.now }
     ensures { OnOk result (map body_view bodies.new ≡ map body_view bodies.old ++ map (spec.process_body_in (scope_around around.now classes.now)) (map process_method_view methods.now)) }
 {
     for method in methods {
@@ -123,6 +129,8 @@ fn push_bodies(
     decl: &Decl,
     bodies: &mut Items<Body>,
 ) -> Result<(), AllocError>
+    requires members { AreFew members.now }
+    requires marks { length (decl_text (decl_view decl.now)) < 2 ^ 32 }
     ensures { OnOk result ((m : ModelTree) (c : ℕ) → Numbers m classes.now → HasMembers m (ancestors m c) members.now → map body_view bodies.new ≡ map body_view bodies.old ++ spec.own_bodies m c (decl_view decl.now)) }
 {
     let ports = members.ports.as_slice();
@@ -155,6 +163,8 @@ pub(crate) fn bodies_of(
 ) -> Result<Items<Body>, AllocError>
     requires numbered { Numbers (model_view model.now) numbering.now }
     requires listed { map row_view entries.now ≡ rows (model_view model.now) }
+    requires few { HasFewMarks (model_view model.now) }
+    requires acyclic { (c : ℕ) → GoesRound (parent (model_view model.now)) c → ⊥ }
     requires room { length model.now.decls + 1 < 2 ^ 32 }
     ensures { IfOk result (λ bodies. map body_view bodies ≡ spec.bodies (model_view model.now)) }
 {

@@ -7,6 +7,7 @@ ghost use Rattle.pz_classes.specs.BodyView.{body_view};
 ghost use Rattle.pz_classes.specs.Starts.{init};
 ghost use Rattle.pz_syntax.specs.Classes.{ModelTree};
 ghost use Rattle.pz_syntax.specs.ClassView.{decl_view, model_view};
+ghost use Rattle.pz_syntax.specs.ModelText.{HasFewMarks};
 ghost use Rattle.pz_violation.specs.declared.violation.Violation.{Violation as Found};
 ghost use Rattle.pz_value.specs.declared.value.ClassId.{ClassId as Number};
 ghost use Rattle.pz_classes.specs.Numbers as numbers;
@@ -38,13 +39,30 @@ use std::alloc::{AllocError, Global};
 
 /// The classes of a model, by their numbers: 0 is Array, and the class of the first declaration is
 /// number 1.
-#[derive(Drop)]
 pub struct Classes {
     names: Items<Text>,
     numbering: Numbering,
     entries: Items<Entry>,
     bodies: Items<Body>,
     preorder: Items<Visit>,
+}
+
+// Written out, so that it is proved once, here, and not in each function that drops one.
+impl Drop for Classes {
+    fn drop(self) {
+        let Classes {
+            names,
+            numbering,
+            entries,
+            bodies,
+            preorder,
+        } = self;
+        std::mem::drop(names);
+        std::mem::drop(numbering);
+        std::mem::drop(entries);
+        std::mem::drop(bodies);
+        std::mem::drop(preorder);
+    }
 }
 
 /// The name of the class that is declared, empty for a system. The only error is want of memory.
@@ -70,16 +88,14 @@ fn names_of(alloc: Global, model: &Model) -> Result<Items<Text>, AllocError>
 }
 
 impl Classes {
-    /// The classes of the model, or the least violation of the rules C1 to C3. Too many classes,
-    /// inputs or methods to number are taken for want of memory.
+    /// The classes of the model, or the least violation of the rules C1 to C3. The only other error
+    /// is want of memory.
     pub fn build(alloc: Global, model: &Model) -> Result<Classes, BuildError>
+        requires { HasFewMarks (model_view model.now) }
         ensures classes { IfOk result (AreClasses (model_view model.now)) }
         ensures sound { OnOk result ((v : Found) → ¬ Violates (model_view model.now) v) }
         ensures refused { IfErr result (OnRefused (IsLeast (Violates (model_view model.now)))) }
     {
-        if model.decls.len() >= u32::MAX as usize {
-            return Err(BuildError::NoMemory);
-        }
         let numbering = number_classes(alloc, model)?;
         let parents = parents_of(alloc, model, &numbering)?;
         let round = go_round(alloc, parents.as_slice())?;

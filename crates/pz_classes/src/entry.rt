@@ -2,6 +2,7 @@
 
 ghost use Rattle.std.specs.Prelude.{◌≡◌, ◌<◌, ◌+◌, ◌-◌, ◌^◌, ℕ, List, length, map, IfOk};
 ghost use Rattle.pz_syntax.specs.ClassView.{model_view};
+ghost use Rattle.pz_syntax.specs.ModelText.{HasFewMarks};
 ghost use Rattle.pz_code.specs.NumberIn.{number_in};
 ghost use Rattle.pz_classes.specs.Numbers.{class as numbered};
 ghost use Rattle.pz_classes.specs.Ancestors.{ancestors, parent};
@@ -9,6 +10,7 @@ ghost use Rattle.pz_classes.specs.devices.Inherited.{HasMembers, AreMembers};
 ghost use Rattle.pz_classes.specs.Methods.{methods_before};
 ghost use Rattle.pz_classes.specs.devices.MethodIn.{HasMethodsOf};
 ghost use Rattle.pz_lineage.specs.Parents.{parent_in};
+ghost use Rattle.pz_lineage.specs.Reached.{GoesRound};
 ghost use Rattle.pz_classes.specs.devices.Surrounding.{Numbers};
 ghost use Rattle.pz_classes.specs.Tables.{row, rows, row_view};
 
@@ -25,7 +27,6 @@ use pz_syntax::Model;
 use std::alloc::{AllocError, Global};
 
 /// A class: what it inherits and has of its own, and the `init` and the methods that it declares.
-#[derive(Drop)]
 pub(crate) struct Entry {
     pub(crate) parent: Option<u32>,
     pub(crate) members: Members,
@@ -33,10 +34,26 @@ pub(crate) struct Entry {
     pub(crate) methods: Methods,
 }
 
+// Written out, so that it is proved once, here, and not in each function that drops one.
+impl Drop for Entry {
+    fn drop(self) {
+        let Entry {
+            parent: _,
+            members,
+            start,
+            methods,
+        } = self;
+        std::mem::drop(members);
+        std::mem::drop(start);
+        std::mem::drop(methods);
+    }
+}
+
 /// The methods that the class of this number itself declares, of which the first has the number
 /// `first`. The only error is want of memory.
 fn methods_at(alloc: Global, model: &Model, class: u32, first: u32) -> Result<Methods, AllocError>
-    requires { first ≡ methods_before (model_view model.now) class }
+    requires few { HasFewMarks (model_view model.now) }
+    requires counted { first ≡ methods_before (model_view model.now) class }
     ensures { IfOk result (HasMethodsOf (model_view model.now) class) }
 {
     match declaration(model, class) {
@@ -58,6 +75,9 @@ fn entry_of(
 ) -> Result<Entry, AllocError>
     requires numbered { Numbers (model_view model.now) numbering.now }
     requires extending { (c : ℕ) → parent_in parents.now c ≡ parent (model_view model.now) c }
+    requires few { HasFewMarks (model_view model.now) }
+    requires acyclic { (c : ℕ) → GoesRound (parent (model_view model.now)) c → ⊥ }
+    requires within { class < length model.now.decls + 1 }
     requires counted { first ≡ methods_before (model_view model.now) class }
     requires inherited { HasMembers (model_view model.now) (ancestors (model_view model.now) class) members }
     ensures row { IfOk result (λ e. row_view e ≡ row (model_view model.now) class) }
@@ -86,6 +106,8 @@ pub(crate) fn entries_of(
     requires numbered { Numbers (model_view model.now) numbering.now }
     requires extending { (c : ℕ) → parent_in parents.now c ≡ parent (model_view model.now) c }
     requires inherited { AreMembers (model_view model.now) table.items }
+    requires few { HasFewMarks (model_view model.now) }
+    requires acyclic { (c : ℕ) → GoesRound (parent (model_view model.now)) c → ⊥ }
     requires room { length model.now.decls + 1 < 2 ^ 32 }
     ensures { IfOk result (λ es. map row_view es ≡ rows (model_view model.now)) }
 {

@@ -3,6 +3,7 @@
 ghost use Rattle.pz_classes.specs.Reached.{AncestorsAreReached};
 ghost use Rattle.pz_classes.specs.SoundBodies.{SoundBodiesFit};
 ghost use Rattle.pz_classes.specs.SoundClasses.{SoundClassesFit};
+ghost use Rattle.pz_classes.specs.SoundNumbers.{SoundNumbersFit};
 ghost use Rattle.pz_classes.specs.SoundSystem.{SoundSystemsFit};
 
 /// The ancestors of a class that is declared are the classes that one comes to by its parent, that
@@ -33,4 +34,10 @@ pub fn sound_classes_fit()
 /// of this kind too.
 pub fn sound_bodies_fit()
     ensures law { SoundBodiesFit }
+{}
+
+/// Where the text of a sound model has fewer than 2^32 - 1 marks, 32 bits number its classes, the ports
+/// of each class with those that it inherits, and the instances that stand in a class or system.
+pub fn sound_numbers_fit()
+    ensures law { SoundNumbersFit }
 {}

@@ -18,11 +18,24 @@ use pz_syntax::{Decl, Id, Model, Name, VarGroup};
 use std::alloc::{AllocError, Global};
 
 /// The names of what a class has, those of its ancestors first.
-#[derive(Drop)]
 pub(crate) struct Members {
     pub(crate) fields: Items<Name>,
     pub(crate) variables: Items<Name>,
     pub(crate) ports: Items<Name>,
+}
+
+// Written out, so that it is proved once, here, and not in each function that drops one.
+impl Drop for Members {
+    fn drop(self) {
+        let Members {
+            fields,
+            variables,
+            ports,
+        } = self;
+        std::mem::drop(fields);
+        std::mem::drop(variables);
+        std::mem::drop(ports);
+    }
 }
 
 /// The only error is want of memory.

@@ -1,13 +1,12 @@
 // The methods that a class itself declares, to be found by name.
 
-ghost use Rattle.std.specs.Prelude.{◌≡◌, suc, None, Some, List, ℕ, [], ◌∷◌, ◌++◌, OnOk, if◌then◌else◌};
+ghost use Rattle.std.specs.Prelude.{◌≡◌, ◌<◌, ◌+◌, ◌^◌, suc, None, Some, List, ℕ, [], ◌∷◌, ◌++◌, OnOk, if◌then◌else◌};
 ghost use Rattle.std.specs.Option.{option_or};
 ghost use Rattle.std.specs.Str.{bytes_eq};
 ghost use Rattle.pz_classes.specs.Methods as spec;
 ghost use Rattle.pz_classes.specs.Methods.{Signature, same_signature, method_id};
 ghost use Rattle.pz_classes.specs.devices.MethodIn.{first_with_counts, overloads_in, method_in};
 
-use crate::methods::next;
 use crate::{Counts, MethodId};
 use indexmap::IndexMap;
 use pz_items::Items;
@@ -22,11 +21,18 @@ struct Overload {
 }
 
 /// The methods that a class itself declares, by their names.
-#[derive(Drop)]
 pub(crate) struct Methods {
     by_name: IndexMap<Vec<u8>, Items<Overload>>,
     /// The number after theirs.
     pub(crate) next: u32,
+}
+
+// Written out, so that it is proved once, here, and not in each function that drops one.
+impl Drop for Methods {
+    fn drop(self) {
+        let Methods { by_name, next: _ } = self;
+        std::mem::drop(by_name);
+    }
 }
 
 fn same_counts(a: Counts, b: Counts) -> bool
@@ -92,18 +98,19 @@ impl Methods {
     }
 
     /// Adds a method behind the others; it gets the number `next`. Where one before it has its name
-    /// and its counts, that one is found. Too many methods are taken for want of memory.
+    /// and its counts, that one is found. The only error is want of memory.
     pub(crate) fn add(
         &mut self,
         alloc: Global,
         name: &Name,
         counts: Counts,
     ) -> Result<(), AllocError>
+        requires { self.now.next + 1 < 2 ^ 32 }
         ensures added { OnOk result ((s : Signature) → method_in self.new s ≡ option_or (method_in self.old s) (if same_signature s (record { name = name.now; counts = counts }) then Some (method_id self.old.next) else None)) }
         ensures next { OnOk result (self.new.next ≡ suc self.old.next) }
     {
         let id = MethodId(self.next);
-        self.next = next(self.next)?;
+        self.next += 1;
         let bytes = name.as_str().as_bytes();
         if self.get(bytes, counts).is_some() {
             return Ok(());

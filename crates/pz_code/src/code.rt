@@ -6,10 +6,19 @@ use pz_value::ClassId;
 /// An expression of a method's body, at the place of its first token. Variables are slots, and
 /// classes are numbers.
 #[cycle(code)]
-#[derive(Drop)]
 pub struct Code {
     pub pos: Pos,
     pub form: CodeForm,
+}
+
+// Written out, so that it is proved once, here: a derived one is proved again in each crate that
+// drops such a value, and there in each function that has one.
+impl Drop for Code {
+    #[cycle(drop_code)]
+    fn drop(self) {
+        let Code { pos: _, form } = self;
+        std::mem::drop(form);
+    }
 }
 
 /// The forms of expressions, as in the syntax.

@@ -8,9 +8,16 @@ use pz_syntax::Name;
 use std::alloc::{AllocError, Global};
 
 /// Numbers of names. A name keeps the first number that it is given.
-#[derive(Drop)]
 pub struct Numbering {
     map: IndexMap<Vec<u8>, u32>,
+}
+
+// Written out, so that it is proved once, here, and not in each function that drops one.
+impl Drop for Numbering {
+    fn drop(self) {
+        let Numbering { map } = self;
+        std::mem::drop(map);
+    }
 }
 
 impl Numbering {

@@ -5,10 +5,18 @@ use pz_syntax::{Id, Pos};
 /// A statement of a method's body, at the place of its first token. Variables are slots, and ports
 /// are their numbers in the class.
 #[cycle(step)]
-#[derive(Drop)]
 pub struct Step {
     pub pos: Pos,
     pub form: StepForm,
+}
+
+// Written out for the same reason as that of `Code`.
+impl Drop for Step {
+    #[cycle(drop_step)]
+    fn drop(self) {
+        let Step { pos: _, form } = self;
+        std::mem::drop(form);
+    }
 }
 
 /// The forms of statements, as in the syntax, but for `Eval`: an assignment, or an expression that

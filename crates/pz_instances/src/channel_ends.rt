@@ -1,8 +1,9 @@
 // C16: the ends of channels are there.
 
-ghost use Rattle.std.specs.Prelude.{◌≡◌, ◌≤◌, ◌++◌, ℕ, suc, length, map, None, IfOk, OnOk};
+ghost use Rattle.std.specs.Prelude.{◌≡◌, ◌<◌, ◌≤◌, ◌^◌, ◌++◌, ℕ, suc, length, map, None, IfOk, OnOk};
 ghost use Rattle.std.specs.List.{flat_map};
 ghost use Rattle.pz_syntax.specs.ClassView.{decl_view, model_view};
+ghost use Rattle.pz_syntax.specs.ModelText.{HasFewMarks, decl_text};
 ghost use Rattle.pz_violation.specs.Least.{LeastOf, least_from};
 ghost use Rattle.pz_classes.specs.ChannelRules as rules;
 ghost use Rattle.pz_classes.specs.Tables.{AreClasses};
@@ -16,7 +17,7 @@ use crate::by_class::ByClass;
 use crate::name_set::NameSet;
 use crate::needs::{Inside, Need, places_of};
 use crate::open_names::OpenNames;
-use crate::parts::{next, ports_at};
+use crate::parts::ports_at;
 use pz_classes::{Classes, channels_of, instances_of};
 use pz_syntax::{ChannelEnd, Decl, Model, Pos};
 use pz_violation::{Violation, lesser};
@@ -125,6 +126,7 @@ impl<'a> Search<'a> {
         requires known { AreClasses (model_view model.now) classes.now }
         requires rows { search_count self.old ≡ suc (length model.now.decls) }
         requires within { number ≤ length model.now.decls }
+        requires marks { length (decl_text (decl_view decl.now)) < 2 ^ 32 }
         ensures counted { OnOk result (search_count self.new ≡ search_count self.old) }
         ensures asked { OnOk result ((k : ℕ) → wanted_of self.new k ≡ wanted_of self.old k ++ flat_map (wanted_at (model_view model.now) k number (decl_view decl.now)) (rules.ends (decl_view decl.now))) }
         ensures least { OnOk result (self.new.least ≡ least_from self.old.least (flat_map (missing_at (model_view model.now) number (decl_view decl.now)) (rules.ends (decl_view decl.now)))) }
@@ -143,13 +145,14 @@ impl<'a> Search<'a> {
 }
 
 /// What the ends of all channels ask, and the least of those that lack what they need in any case.
-/// Too many classes or instances to number are taken for want of memory, the only error.
+/// The only error is want of memory.
 fn search_ends<'a>(
     alloc: Global,
     model: &'a Model,
     classes: &Classes,
 ) -> Result<Search<'a>, AllocError>
-    requires { AreClasses (model_view model.now) classes.now }
+    requires few { HasFewMarks (model_view model.now) }
+    requires classes { AreClasses (model_view model.now) classes.now }
     ensures counted { IfOk result (λ found. search_count found ≡ suc (length model.now.decls)) }
     ensures asked { IfOk result (λ found. (k : ℕ) → wanted_of found k ≡ over (wanted_at (model_view model.now) k) 1 (map decl_view model.now.decls)) }
     ensures least { IfOk result (λ found. found.least ≡ least_from None (over (missing_at (model_view model.now)) 1 (map decl_view model.now.decls))) }
@@ -160,7 +163,7 @@ fn search_ends<'a>(
     };
     let mut number = 0u32;
     for decl in model.decls.as_slice() {
-        number = next(number)?;
+        number += 1;
         found.add_decl(alloc, model, classes, number, decl)?;
     }
     Ok(found)
@@ -194,13 +197,14 @@ fn least_of_class(ports: &NameSet, asked: &[Asked], before: Option<Violation>) -
 }
 
 /// The least violation of C16, if there is one: an end of a channel whose instance or port is not
-/// there. Too many classes or instances to number are taken for want of memory, the only error.
+/// there. The only error is want of memory.
 pub fn least_missing_end(
     alloc: Global,
     model: &Model,
     classes: &Classes,
 ) -> Result<Option<Violation>, AllocError>
-    requires { AreClasses (model_view model.now) classes.now }
+    requires few { HasFewMarks (model_view model.now) }
+    requires classes { AreClasses (model_view model.now) classes.now }
     ensures { IfOk result (LeastOf (rules.BreaksC16 (model_view model.now))) }
 {
     let found = search_ends(alloc, model, classes)?;

@@ -1,6 +1,6 @@
 // What the ends of channels need.
 
-ghost use Rattle.std.specs.Prelude.{◌≡◌, ℕ, List, slice_get, IfOk};
+ghost use Rattle.std.specs.Prelude.{◌≡◌, ◌<◌, ◌^◌, ℕ, List, length, slice_get, IfOk};
 ghost use Rattle.std.specs.Option.{option_copied};
 ghost use Rattle.pz_syntax.specs.ClassView.{decl_view, model_view};
 ghost use Rattle.pz_code.specs.NumberIn.{number_in};
@@ -10,7 +10,6 @@ ghost use Rattle.pz_instances.specs.devices.Ends.{place_named};
 ghost use Rattle.pz_instances.specs.devices.Needs as spec;
 ghost use Rattle.pz_instances.specs.devices.Inside.{IsInside};
 
-use crate::parts::next;
 use pz_classes::{Classes, class_of_instance, instances_of};
 use pz_code::Numbering;
 use pz_syntax::{ChannelEnd, Decl, Instance, Model, Name};
@@ -35,16 +34,17 @@ pub(crate) struct Inside<'a> {
     pub(crate) places: &'a Numbering,
 }
 
-/// The place of each instance by its name, from 0; the first of a name counts. Too many to number
-/// are taken for want of memory, the only error.
+/// The place of each instance by its name, from 0; the first of a name counts. The only error is
+/// want of memory.
 pub(crate) fn places_of(alloc: Global, instances: &[Instance]) -> Result<Numbering, AllocError>
+    requires { length instances.now < 2 ^ 32 }
     ensures { IfOk result (λ places. (q : List ℕ) → number_in places q ≡ place_named 0 instances.now q) }
 {
     let mut places = Numbering::new(alloc);
     let mut place = 0u32;
     for instance in instances {
         places.add(alloc, &instance.name.name, place)?;
-        place = next(place)?;
+        place += 1;
     }
     Ok(places)
 }

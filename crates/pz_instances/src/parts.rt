@@ -1,6 +1,6 @@
 // The parts of a declaration that rules on instances speak of.
 
-ghost use Rattle.std.specs.Prelude.{◌≡◌, [], suc, IfOk};
+ghost use Rattle.std.specs.Prelude.{◌≡◌, []};
 ghost use Rattle.std.specs.Option.{unwrap_or, option_map_or};
 ghost use Rattle.pz_syntax.specs.ClassView.{decl_view, model_view};
 ghost use Rattle.pz_classes.specs.Numbers.{declaration as declared};
@@ -11,7 +11,6 @@ ghost use Rattle.pz_classes.specs.Instances as spec;
 use pz_classes::declaration;
 use pz_items::Items;
 use pz_syntax::{Decl, Given, Id, Instance, Model, VarGroup};
-use std::alloc::AllocError;
 
 /// What a section has, nothing where it is not written.
 fn written<T>(section: &Option<Items<T>>) -> &[T]
@@ -72,14 +71,4 @@ pub(crate) fn given_of(instance: &Instance) -> &[Given]
     ensures { result.now ≡ unwrap_or instance.now.given [] }
 {
     written(&instance.given)
-}
-
-/// The number after this one. One too many is taken for want of memory.
-pub(crate) fn next(number: u32) -> Result<u32, AllocError>
-    ensures { IfOk result (λ n. n ≡ suc number) }
-{
-    match number.checked_add(1) {
-        Some(next) => Ok(next),
-        None => Err(AllocError),
-    }
 }

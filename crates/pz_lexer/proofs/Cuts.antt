@@ -14,7 +14,7 @@ use Rattle.pz_lexer.proofs.Steps.{HasByte, some_length, IsRight}
 use Rattle.pz_lexer.proofs.FirstStep.{piece_found, stop_found, step_right}
 
 -- a piece has at least one byte
-piece_some : (text : List ℕ) (sort : Sort) (rest : List ℕ) → IsPiece text sort rest → HasByte text
+pub piece_some : (text : List ℕ) (sort : Sort) (rest : List ℕ) → IsPiece text sort rest → HasByte text
 piece_some (b ∷ bs) sort rest is = tt
 piece_some [] sort [] is = let found : stop [] [] Reason.BadByte ≡ piece [] sort [] = piece_found [] sort [] is in cc
 piece_some [] sort (b ∷ bs) is = (subst (IsRight (b ∷ bs)) (piece_found [] sort (b ∷ bs) is) (step_right b bs)).1

@@ -8,6 +8,7 @@ pub mod QuotedSteps
 pub mod SymbolSteps
 pub mod FirstStep
 pub mod Cuts
+mod TokenCounts
 pub mod RunCounts
 pub mod Spelled
 pub mod ReadSteps

@@ -1,4 +1,4 @@
-ghost use Rattle.std.specs.Prelude.{◌≡◌, ◌⊎◌, ◌<◌, ◌-◌, ◌+◌, ◌^◌, ◌++◌, ◌↔◌, ℕ, List, length, map, IfOk, OnOk, IfErr, Ok, Err};
+ghost use Rattle.std.specs.Prelude.{◌≡◌, ◌⊎◌, ◌<◌, ◌≤◌, ◌-◌, ◌+◌, ◌^◌, ◌++◌, ◌↔◌, ℕ, List, length, map, IfOk, OnOk, IfErr, Ok, Err};
 ghost use Rattle.pz_syntax.specs.declared.tokens.Token.{Token};
 ghost use Rattle.pz_lexer.specs.declared.error.LexError.{LexError};
 ghost use Rattle.pz_lexer.specs.devices.Reading.{StopsAt};
@@ -20,6 +20,7 @@ use std::alloc::{AllocError, Global};
 pub fn lex(alloc: Global, text: &[u8]) -> Result<Items<Token>, LexError>
     requires { length text.now < 2 ^ 32 - 1 }
     ensures tokens { IfOk result (λ tokens. AreTokens text.now tokens) }
+    ensures counted { IfOk result (λ tokens. length tokens ≤ length text.now) }
     ensures refusal { IfErr result (λ error. (error ≡ LexError.NoMemory) ⊎ IsRefused text.now error) }
     // The definition computes: this is the answer that it gives.
     ensures computed { Answers result (lexed text.now) }

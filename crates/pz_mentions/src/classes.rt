@@ -79,7 +79,7 @@ fn add_start(out: &mut Items<Mention>, start: &Option<Start>) -> Result<(), Allo
     };
     out.push(Mention::Called {
         name: start.method.copy()?,
-        inputs: count_exprs(start.args.as_slice())?,
+        inputs: count_exprs(start.args.as_slice()),
         outputs: 0,
     })?;
     add_exprs(out, start.args.as_slice())

@@ -42,7 +42,7 @@ fn only(alloc: Global, part: Part) -> Result<Items<Part>, AllocError>
 }
 
 /// The parts of a declaration, in the order of the text: what stands before its methods, then each
-/// method. The only error is want of memory; a list too long to count in 32 bits is taken for that.
+/// method. The only error is want of memory.
 pub fn parts_of(alloc: Global, decl: &Decl) -> Result<Items<Part>, AllocError>
     ensures { IfOk result (λ ps. ps ≡ parts (decl_view decl.now)) }
 {

@@ -4,25 +4,25 @@ ghost use Rattle.pz_mentions.specs.declared.mention.Mention.TheVariants as m;
 ghost use Rattle.pz_mentions.specs.Expressions.{count, count_written, mentioned, mentioned_all, mentioned_literal, mentioned_part, mentioned_links, mentioned_sendings};
 
 use crate::Mention;
-use crate::adding::{add_variable, count_of};
+use crate::adding::add_variable;
 use pz_items::Items;
 use pz_syntax::{Expr, ExprForm, Id, Link, Literal, Name, Pos, Sending};
 use std::alloc::AllocError;
 
-/// How many expressions these are. Too many to count in 32 bits are taken for want of memory.
+/// How many expressions these are.
 #[tactic(auto, using(crate::proofs::Counts::count_length))]
-pub(crate) fn count_exprs(es: &[Expr]) -> Result<u32, AllocError>
-    ensures { IfOk result (λ n. n ≡ count (list_view es.now)) }
+pub(crate) fn count_exprs(es: &[Expr]) -> usize
+    ensures { result ≡ count (list_view es.now) }
 {
-    count_of(es)
+    es.len()
 }
 
 /// How many arguments are written.
-pub(crate) fn count_args(args: &Option<Items<Expr>>) -> Result<u32, AllocError>
-    ensures { IfOk result (λ n. n ≡ count_written (part_view args.now)) }
+pub(crate) fn count_args(args: &Option<Items<Expr>>) -> usize
+    ensures { result ≡ count_written (part_view args.now) }
 {
     match args {
-        None => Ok(0),
+        None => 0,
         Some(args) => count_exprs(args.as_slice()),
     }
 }
@@ -124,7 +124,7 @@ fn add_selector(
     ensures { OnOk result (out.new ≡ out.old ++ m.Selector selector.now (count_written (part_view args.now)) ∷ []) }
 {
     let name = selector.copy()?;
-    let count = count_args(args)?;
+    let count = count_args(args);
     out.push(Mention::Selector { name, count })
 }
 

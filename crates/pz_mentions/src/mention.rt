@@ -15,15 +15,30 @@ pub enum Mention {
     /// The class of a `new`.
     Created(Id),
     /// A selector that is sent, and how many arguments it has: none if no brackets are written.
-    Selector { name: Id, count: u32 },
+    Selector {
+        name: Id,
+        count: usize,
+    },
     /// A process method, in a call or behind `init`, and how many arguments and results it has.
-    Called { name: Id, inputs: u32, outputs: u32 },
+    Called {
+        name: Id,
+        inputs: usize,
+        outputs: usize,
+    },
     /// The port of a message, where it is declared, sent or received.
     Port(Id),
     /// A message that is sent, and how many arguments it has: none if no brackets are written.
-    Sent { port: Id, name: Id, count: u32 },
+    Sent {
+        port: Id,
+        name: Id,
+        count: usize,
+    },
     /// A message that is received, and into how many variables: none if no brackets are written.
-    Received { port: Id, name: Id, count: u32 },
+    Received {
+        port: Id,
+        name: Id,
+        count: usize,
+    },
     /// The class of an instance.
     Instantiated(Id),
     /// `currentTime`, at its place.

@@ -8,7 +8,7 @@ ghost use Rattle.pz_mentions.specs.Expressions as expression;
 ghost use Rattle.pz_mentions.specs.Statements.{variables, received, mentioned_condition, mentioned, mentioned_statements, mentioned_branches};
 
 use crate::Mention;
-use crate::adding::{add_port, add_variable, add_variables, count_of};
+use crate::adding::{add_port, add_variable, add_variables};
 use crate::expressions::{add_expr, add_exprs, add_part, count_args, count_exprs};
 use pz_items::Items;
 use pz_syntax::{Expr, Id, Stmt, StmtForm};
@@ -112,19 +112,19 @@ fn add_send(
     out.push(Mention::Sent {
         port: port.copy()?,
         name: name.copy()?,
-        count: count_args(args)?,
+        count: count_args(args),
     })?;
     add_part(out, args)?;
     add_part(out, block)
 }
 
 /// Into how many variables a message is received.
-fn count_received(into: &Option<Items<Id>>) -> Result<u32, AllocError>
-    ensures { IfOk result (λ n. n ≡ length (received into.now)) }
+fn count_received(into: &Option<Items<Id>>) -> usize
+    ensures { result ≡ length (received into.now) }
 {
     match into {
-        None => Ok(0),
-        Some(into) => count_of(into.as_slice()),
+        None => 0,
+        Some(into) => into.len(),
     }
 }
 
@@ -160,7 +160,7 @@ fn add_receive(
     out.push(Mention::Received {
         port: port.copy()?,
         name: name.copy()?,
-        count: count_received(into)?,
+        count: count_received(into),
     })?;
     add_received(out, into)?;
     add_condition(out, condition)?;
@@ -177,8 +177,8 @@ fn add_call(
 {
     out.push(Mention::Called {
         name: method.copy()?,
-        inputs: count_exprs(args)?,
-        outputs: count_of(results)?,
+        inputs: count_exprs(args),
+        outputs: results.len(),
     })?;
     add_exprs(out, args)?;
     add_variables(out, results)

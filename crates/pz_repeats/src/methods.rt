@@ -1,8 +1,10 @@
 // Methods that repeat one another.
 
-ghost use Rattle.std.specs.Prelude.{◌≡◌, map, IfOk};
+ghost use Rattle.std.specs.Prelude.{◌≡◌, ◌<◌, ◌^◌, length, map, All, IfOk};
 ghost use Rattle.pz_syntax.specs.ClassView.{decl_view, data_method_view, process_method_view};
+ghost use Rattle.pz_syntax.specs.ModelText.{decl_text};
 ghost use Rattle.pz_violation.specs.Least.{least_from};
+ghost use Rattle.pz_classes.specs.Members.{grouped, section};
 ghost use Rattle.pz_classes.specs.RepeatRules.{data_heading, process_heading, headings, same_heading};
 ghost use Rattle.pz_repeats.specs.devices.Again.{repeats};
 ghost use Rattle.pz_repeats.specs.devices.Headings.{heading_of, heading_place};
@@ -33,6 +35,7 @@ fn data_things<'a>(
     alloc: Global,
     methods: &'a [DataMethod],
 ) -> Result<Items<Thing<MethodKey<'a>>>, AllocError>
+    requires { All (λ r. length (section r.inputs) < 2 ^ 32) methods.now }
     ensures { IfOk result (λ things. map heading_of things ≡ map data_heading (map data_method_view methods.now)) }
 {
     let mut things = Items::new(alloc);
@@ -40,7 +43,7 @@ fn data_things<'a>(
         things.push(Thing {
             key: MethodKey::Data {
                 name: method.name.name.as_str().as_bytes(),
-                inputs: count_section(&method.inputs)?,
+                inputs: count_section(&method.inputs),
             },
             place: method.name.pos,
         })?;
@@ -52,6 +55,8 @@ fn process_things<'a>(
     alloc: Global,
     methods: &'a [ProcessMethod],
 ) -> Result<Items<Thing<MethodKey<'a>>>, AllocError>
+    requires inputs { All (λ r. length (grouped r.inputs) < 2 ^ 32) methods.now }
+    requires outputs { All (λ r. length (grouped r.outputs) < 2 ^ 32) methods.now }
     ensures { IfOk result (λ things. map heading_of things ≡ map process_heading (map process_method_view methods.now)) }
 {
     let mut things = Items::new(alloc);
@@ -59,8 +64,8 @@ fn process_things<'a>(
         things.push(Thing {
             key: MethodKey::Process {
                 name: method.name.name.as_str().as_bytes(),
-                inputs: count_names(method.inputs.as_slice())?,
-                outputs: count_names(method.outputs.as_slice())?,
+                inputs: count_names(method.inputs.as_slice()),
+                outputs: count_names(method.outputs.as_slice()),
             },
             place: method.name.pos,
         })?;
@@ -68,8 +73,9 @@ fn process_things<'a>(
     Ok(things)
 }
 
-/// The methods of a class.
+/// The methods of a class. The only error is want of memory.
 fn method_things(alloc: Global, decl: &Decl) -> Result<Items<Thing<MethodKey>>, AllocError>
+    requires { length (decl_text (decl_view decl.now)) < 2 ^ 32 }
     ensures { IfOk result (λ things. map heading_of things ≡ headings (decl_view decl.now)) }
 {
     match decl {
@@ -85,13 +91,14 @@ fn method_things(alloc: Global, decl: &Decl) -> Result<Items<Thing<MethodKey>>, 
     }
 }
 
-/// The least of what was found before and the methods that repeat one of the same class. Too many
-/// names to number are taken for want of memory.
+/// The least of what was found before and the methods that repeat one of the same class. The only
+/// error is want of memory.
 pub(crate) fn least_method(
     alloc: Global,
     decl: &Decl,
     before: Option<Violation>,
 ) -> Result<Option<Violation>, AllocError>
+    requires { length (decl_text (decl_view decl.now)) < 2 ^ 32 }
     ensures { IfOk result (λ least. least ≡ least_from before (repeats same_heading heading_place 4 (headings (decl_view decl.now)))) }
 {
     let things = method_things(alloc, decl)?;

@@ -1,8 +1,9 @@
 // Names, methods and messages that are declared twice: the rule C4.
 
-ghost use Rattle.std.specs.Prelude.{◌≡◌, IfOk};
+ghost use Rattle.std.specs.Prelude.{◌≡◌, ◌<◌, ◌^◌, length, map, IfOk};
 ghost use Rattle.std.specs.List.{flat_map};
 ghost use Rattle.pz_syntax.specs.ClassView.{decl_view, model_view};
+ghost use Rattle.pz_syntax.specs.ModelText.{HasFewMarks, decl_text};
 ghost use Rattle.pz_mentions.specs.Declarations.{parts};
 ghost use Rattle.pz_violation.specs.Least.{LeastOf, least_from};
 ghost use Rattle.pz_classes.specs.RepeatRules.{BreaksC4};
@@ -43,6 +44,7 @@ fn least_own(
     decl: &Decl,
     before: Option<Violation>,
 ) -> Result<Option<Violation>, AllocError>
+    requires { length (decl_text (decl_view decl.now)) < 2 ^ 32 }
     ensures { IfOk result (λ least. least ≡ least_from before (of_own (decl_view decl.now))) }
 {
     let local = least_local(alloc, decl, before)?;
@@ -57,6 +59,7 @@ fn least_of_each(
     decls: &[Decl],
     before: Option<Violation>,
 ) -> Result<Option<Violation>, AllocError>
+    requires { HasFewMarks (record { decls = map decl_view decls.now }) }
     ensures { IfOk result (λ least. least ≡ least_from before (flat_map (λ d. of_own (decl_view d)) decls.now)) }
 {
     let mut least = before;
@@ -67,13 +70,14 @@ fn least_of_each(
 }
 
 /// The least place where a name, a method or a message is declared again, if there is one. The only
-/// error is want of memory; what is too much to number in 32 bits is taken for that.
+/// error is want of memory.
 pub fn least_repeat(
     alloc: Global,
     model: &Model,
     classes: &Classes,
 ) -> Result<Option<Violation>, AllocError>
-    requires { AreClasses (model_view model.now) classes.now }
+    requires few { HasFewMarks (model_view model.now) }
+    requires classes { AreClasses (model_view model.now) classes.now }
     ensures { IfOk result (LeastOf (BreaksC4 (model_view model.now))) }
 {
     let visits = classes.preorder();

@@ -1,6 +1,7 @@
 pub mod Placed
 pub mod Heads
 pub mod Causes
+pub mod FewMarks
 pub mod Rising
 pub mod InOrder
 pub mod Fitting

@@ -1,6 +1,7 @@
 //! Reading a model: its tokens, its tree, and whether that violates a rule.
 ghost use Rattle.std.specs.Prelude.{◌≡◌, ◌-◌, ◌<◌, ◌^◌, IfOk, IfErr, length};
 ghost use Rattle.pz_syntax.specs.ClassView.{model_view};
+ghost use Rattle.pz_syntax.specs.ModelText.{HasFewMarks};
 ghost use Rattle.pz_classes.specs.CheckedView.{checked_model};
 ghost use Rattle.pz_classes.specs.Soundness.{IsSound};
 ghost use Rattle.pz_run.specs.devices.Reading.{AreRead, IsErrorOf, IsRefusedAlways, IsViolationOf};
@@ -44,6 +45,7 @@ pub fn read_model(alloc: Global, text: &[u8]) -> Result<ReadModel, ReadModelErro
 /// The model with its classes. The error is want of memory, or the least violation of the first
 /// rules that are violated: C1 to C3 are asked before the others.
 fn check_model(alloc: Global, model: Model) -> Result<Checked, ReadModelError>
+    requires { HasFewMarks (model_view model) }
     ensures model { IfOk result (λ checked. checked_model checked ≡ model_view model) }
     ensures sound { IfOk result (λ checked. IsSound (model_view model)) }
     ensures refused { IfErr result (IsErrorOf (IsViolationOf (model_view model))) }

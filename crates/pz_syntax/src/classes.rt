@@ -9,7 +9,6 @@ pub struct VarGroup {
 }
 
 /// A data class. A section is there if its keyword is written.
-#[derive(Drop)]
 pub struct DataClass {
     pub name: Id,
     pub parent: Option<Id>,
@@ -17,8 +16,23 @@ pub struct DataClass {
     pub methods: Option<Items<DataMethod>>,
 }
 
+// Written out for the same reason as that of `Expr`.
+impl Drop for DataClass {
+    fn drop(self) {
+        let DataClass {
+            name,
+            parent,
+            variables,
+            methods,
+        } = self;
+        std::mem::drop(name);
+        std::mem::drop(parent);
+        std::mem::drop(variables);
+        std::mem::drop(methods);
+    }
+}
+
 /// A method of a data class. `init` may name one too.
-#[derive(Drop)]
 pub struct DataMethod {
     pub name: Id,
     pub inputs: Option<Items<VarGroup>>,
@@ -27,9 +41,26 @@ pub struct DataMethod {
     pub body: Items<Expr>,
 }
 
+// Written out for the same reason as that of `Expr`.
+impl Drop for DataMethod {
+    fn drop(self) {
+        let DataMethod {
+            name,
+            inputs,
+            result,
+            locals,
+            body,
+        } = self;
+        std::mem::drop(name);
+        std::mem::drop(inputs);
+        std::mem::drop(result);
+        std::mem::drop(locals);
+        std::mem::drop(body);
+    }
+}
+
 /// A process class. A section is there if its keyword is written, and the parameters if their
 /// brackets are.
-#[derive(Drop)]
 pub struct ProcessClass {
     pub name: Id,
     pub parameters: Option<Items<VarGroup>>,
@@ -39,6 +70,30 @@ pub struct ProcessClass {
     pub variables: Option<Items<VarGroup>>,
     pub start: Option<Start>,
     pub methods: Option<Items<ProcessMethod>>,
+}
+
+// Written out for the same reason as that of `Expr`.
+impl Drop for ProcessClass {
+    fn drop(self) {
+        let ProcessClass {
+            name,
+            parameters,
+            parent,
+            ports,
+            messages,
+            variables,
+            start,
+            methods,
+        } = self;
+        std::mem::drop(name);
+        std::mem::drop(parameters);
+        std::mem::drop(parent);
+        std::mem::drop(ports);
+        std::mem::drop(messages);
+        std::mem::drop(variables);
+        std::mem::drop(start);
+        std::mem::drop(methods);
+    }
 }
 
 /// A message that may go out of a port, or come in at it.
@@ -51,18 +106,43 @@ pub struct Message {
 }
 
 /// The call with which a process starts.
-#[derive(Drop)]
 pub struct Start {
     pub method: Id,
     pub args: Items<Expr>,
 }
 
+// Written out for the same reason as that of `Expr`.
+impl Drop for Start {
+    fn drop(self) {
+        let Start { method, args } = self;
+        std::mem::drop(method);
+        std::mem::drop(args);
+    }
+}
+
 /// A method of a process class.
-#[derive(Drop)]
 pub struct ProcessMethod {
     pub name: Id,
     pub inputs: Items<VarGroup>,
     pub outputs: Items<VarGroup>,
     pub locals: Option<Items<VarGroup>>,
     pub body: Items<Stmt>,
+}
+
+// Written out for the same reason as that of `Expr`.
+impl Drop for ProcessMethod {
+    fn drop(self) {
+        let ProcessMethod {
+            name,
+            inputs,
+            outputs,
+            locals,
+            body,
+        } = self;
+        std::mem::drop(name);
+        std::mem::drop(inputs);
+        std::mem::drop(outputs);
+        std::mem::drop(locals);
+        std::mem::drop(body);
+    }
 }

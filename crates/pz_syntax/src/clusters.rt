@@ -1,10 +1,29 @@
+ghost use Rattle.std.specs.Prelude.{◌≡◌};
+
 use crate::{DataClass, Id, Literal, Pos, ProcessClass, VarGroup};
 use pz_items::Items;
 
 /// A whole model.
-#[derive(Drop)]
 pub struct Model {
     pub decls: Items<Decl>,
+}
+
+// Written out for the same reason as that of `Expr`.
+impl Drop for Model {
+    fn drop(self) {
+        let Model { decls } = self;
+        std::mem::drop(decls);
+    }
+}
+
+impl Model {
+    /// Its declarations in order.
+    pub fn into_decls(self) -> Items<Decl>
+        ensures { result ≡ self.decls }
+    {
+        let Model { decls } = self;
+        decls
+    }
 }
 
 /// A declaration at the top of a model.
@@ -18,13 +37,30 @@ pub enum Decl {
 
 /// A cluster class. A section is there if its keyword is written, and the parameters if their
 /// brackets are.
-#[derive(Drop)]
 pub struct ClusterClass {
     pub name: Id,
     pub parameters: Option<Items<VarGroup>>,
     pub ports: Option<Items<Id>>,
     pub instances: Option<Items<Instance>>,
     pub channels: Option<Items<Channel>>,
+}
+
+// Written out for the same reason as that of `Expr`.
+impl Drop for ClusterClass {
+    fn drop(self) {
+        let ClusterClass {
+            name,
+            parameters,
+            ports,
+            instances,
+            channels,
+        } = self;
+        std::mem::drop(name);
+        std::mem::drop(parameters);
+        std::mem::drop(ports);
+        std::mem::drop(instances);
+        std::mem::drop(channels);
+    }
 }
 
 /// The system, at the place of its keyword.

@@ -35,10 +35,19 @@ impl Literal {
 
 /// An expression, at the place of its first token.
 #[cycle(expr)]
-#[derive(Drop)]
 pub struct Expr {
     pub pos: Pos,
     pub form: ExprForm,
+}
+
+// Written out, so that it is proved once, here: a derived one is proved again in each crate that
+// drops an expression, and there in each function that has one.
+impl Drop for Expr {
+    #[cycle(drop_expr)]
+    fn drop(self) {
+        let Expr { pos: _, form } = self;
+        std::mem::drop(form);
+    }
 }
 
 /// The forms of expressions. `Me` is `self` and `Clock` is `currentTime`.

@@ -3,10 +3,18 @@ use pz_items::{Boxed, Items};
 
 /// A statement, at the place of its first token.
 #[cycle(stmt)]
-#[derive(Drop)]
 pub struct Stmt {
     pub pos: Pos,
     pub form: StmtForm,
+}
+
+// Written out for the same reason as that of `Expr`.
+impl Drop for Stmt {
+    #[cycle(drop_stmt)]
+    fn drop(self) {
+        let Stmt { pos: _, form } = self;
+        std::mem::drop(form);
+    }
 }
 
 /// The forms of statements. What is optional is kept as written or not written.

@@ -4,6 +4,7 @@ mod Classes
 mod Shown
 mod Along
 mod Calls
+mod Counted
 mod Walks
 mod Found
 mod Unsized

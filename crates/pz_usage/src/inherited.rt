@@ -1,11 +1,12 @@
 // What a class and its ancestors declare, as a walk goes from each class to those that extend it.
 
-ghost use Rattle.std.specs.Prelude.{◌≡◌, [], ◌∷◌, List, ℕ, Bool, Option, None, Some, OnOk};
+ghost use Rattle.std.specs.Prelude.{◌≡◌, ◌<◌, ◌^◌, [], ◌∷◌, List, ℕ, Bool, Option, None, Some, length, All, OnOk};
 ghost use Rattle.std.specs.List.{list_any};
-ghost use Rattle.std.specs.Option.{is_some, option_map, option_to_list};
+ghost use Rattle.std.specs.Option.{is_some, option_map, option_to_list, unwrap_or};
 ghost use Rattle.pz_syntax.specs.Classes.{DeclTree as Tree, process_class, StartTree, ModelTree};
 ghost use Rattle.pz_syntax.specs.ClassView.{decl_view, process_class_view, start_view, model_view};
-ghost use Rattle.pz_classes.specs.Members.{from_root, own_fields, own_variables, own_ports};
+ghost use Rattle.pz_syntax.specs.ModelText.{HasFewMarks, decl_text};
+ghost use Rattle.pz_classes.specs.Members.{from_root, grouped, own_fields, own_variables, own_ports};
 ghost use Rattle.pz_classes.specs.CallRules.{is_message};
 ghost use Rattle.pz_classes.specs.Words.{is_among};
 ghost use Rattle.pz_lineage.specs.Preorder.{outermost};
@@ -86,9 +87,10 @@ impl<'a> Inherited<'a> {
         Ok(())
     }
 
-    /// Notes what a process class declares itself. The only error is want of memory; too many inputs
-    /// or outputs of a method to count in 32 bits are taken for that.
+    /// Notes what a process class declares itself. The only error is want of memory.
     fn note_process(&mut self, class: &'a ProcessClass) -> Result<(), AllocError>
+        requires inputs { All (λ r. length (grouped r.inputs) < 2 ^ 32) (unwrap_or class.now.methods []) }
+        requires outputs { All (λ r. length (grouped r.outputs) < 2 ^ 32) (unwrap_or class.now.methods []) }
         ensures { (outer : List (Option Tree)) → AreOpen (None ∷ outer) self.old → OnOk result (AreOpen (Some (process_class (process_class_view class.now)) ∷ outer) self.new) }
     {
         note_section(&mut self.variables, &class.parameters)?;
@@ -100,9 +102,9 @@ impl<'a> Inherited<'a> {
         Ok(())
     }
 
-    /// Notes what a class declares itself. The only error is want of memory; too many inputs or
-    /// outputs of a method to count in 32 bits are taken for that.
+    /// Notes what a class declares itself. The only error is want of memory.
     fn note_own(&mut self, decl: &'a Decl) -> Result<(), AllocError>
+        requires { length (decl_text (decl_view decl.now)) < 2 ^ 32 }
         ensures { (outer : List (Option Tree)) → AreOpen (None ∷ outer) self.old → OnOk result (AreOpen (Some (decl_view decl.now) ∷ outer) self.new) }
     {
         match decl {
@@ -114,8 +116,9 @@ impl<'a> Inherited<'a> {
     }
 
     /// Leaves all classes but the ancestors of this one, and opens it. The only error is want of
-    /// memory; too many inputs or outputs of a method to count in 32 bits are taken for that.
+    /// memory.
     pub(crate) fn enter(&mut self, model: &'a Model, visit: Visit) -> Result<(), AllocError>
+        requires { HasFewMarks (model_view model.now) }
         ensures { (line : List ℕ) → IsOpen (model_view model.now) line self.old → OnOk result (IsOpen (model_view model.now) (visit.class ∷ outermost visit.depth line) self.new) }
     {
         self.close_to(visit.depth);
@@ -149,15 +152,15 @@ impl<'a> Inherited<'a> {
 
     /// Whether the class has a message on this port, of this direction and name, with so many
     /// parameters.
-    pub(crate) fn has_message(&self, port: &Name, out: bool, name: &Name, count: u32) -> bool
+    pub(crate) fn has_message(&self, port: &Name, out: bool, name: &Name, count: usize) -> bool
         ensures { (m : ModelTree) (line : List ℕ) → IsOpen m line self.now → result ≡ list_any (is_message port.now out name.now count) (messages_along m line) }
     {
-        let sought = Signal::new(port, out, name, count as usize);
+        let sought = Signal::new(port, out, name, count);
         self.messages.get(sought).is_some()
     }
 
     /// Whether a process class has a method of this name, with so many inputs and outputs.
-    pub(crate) fn has_method(&self, name: &Name, inputs: u32, outputs: u32) -> bool
+    pub(crate) fn has_method(&self, name: &Name, inputs: usize, outputs: usize) -> bool
         ensures { (m : ModelTree) (line : List ℕ) → IsOpen m line self.now → result ≡ is_some (method_along m (called name.now inputs outputs) line) }
     {
         self.methods.get(Call::new(name, inputs, outputs)).is_some()

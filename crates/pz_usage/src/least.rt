@@ -2,6 +2,7 @@
 
 ghost use Rattle.std.specs.Prelude.{◌≡◌, [], None, IfOk};
 ghost use Rattle.pz_syntax.specs.ClassView.{model_view};
+ghost use Rattle.pz_syntax.specs.ModelText.{HasFewMarks};
 ghost use Rattle.pz_classes.specs.Ancestors.{ancestors};
 ghost use Rattle.pz_classes.specs.Preorder.{Opens};
 ghost use Rattle.pz_classes.specs.Tables.{AreClasses};
@@ -98,6 +99,7 @@ fn least_of_visits(
     declared: &Declared,
     visits: &[Visit],
 ) -> Result<Option<Violation>, AllocError>
+    requires few { HasFewMarks (model_of declared.now) }
     requires declares { AreDeclared declared.now }
     requires opens { Opens (model_of declared.now) [] visits.now }
     ensures { IfOk result (λ least. least ≡ least_from None (misuses (model_of declared.now) (visited visits.now))) }
@@ -115,6 +117,7 @@ fn least_of_each<'a>(
     visits: &[Visit],
     inherited: &mut Inherited<'a>,
 ) -> Result<Option<Violation>, AllocError>
+    requires few { HasFewMarks (model_of declared.now) }
     requires declares { AreDeclared declared.now }
     requires opens { Opens (model_of declared.now) [] visits.now }
     requires empty { IsOpen (model_of declared.now) [] inherited.old }
@@ -129,14 +132,14 @@ fn least_of_each<'a>(
 }
 
 /// The least violation of the rules C5 to C13, C18, C21 and C22, which are broken at a word, if
-/// there is one. The only error is want of memory; a list too long to count in 32 bits is taken for
-/// that.
+/// there is one. The only error is want of memory.
 pub fn least_misuse(
     alloc: Global,
     model: &Model,
     classes: &Classes,
 ) -> Result<Option<Violation>, AllocError>
-    requires { AreClasses (model_view model.now) classes.now }
+    requires few { HasFewMarks (model_view model.now) }
+    requires classes { AreClasses (model_view model.now) classes.now }
     ensures { IfOk result (LeastOf (BreaksWord (model_view model.now))) }
 {
     let selectors = selectors_of(alloc, model)?;

@@ -104,7 +104,7 @@ fn is_primitive_with_one(name: &str) -> bool
 }
 
 /// Whether primitive values have this selector with so many arguments.
-pub(crate) fn is_primitive_selector(name: &Name, count: u32) -> bool
+pub(crate) fn is_primitive_selector(name: &Name, count: usize) -> bool
     ensures { result ≡ calls.is_primitive_selector name.now count }
 {
     let name = name.as_str();

@@ -68,8 +68,8 @@ pub(crate) fn lacks_method(
     declared: &Declared,
     scope: &ClassScope,
     name: &Name,
-    inputs: u32,
-    outputs: u32,
+    inputs: usize,
+    outputs: usize,
 ) -> bool
     requires { IsScope declared.now scope.now }
     ensures { result ≡ is_none (methods.process_method (model_of declared.now) scope.now.class.0 name.now inputs outputs) }
@@ -79,7 +79,7 @@ pub(crate) fn lacks_method(
 
 /// Whether neither primitive values nor a data class of the model have this selector with so many
 /// arguments.
-pub(crate) fn lacks_selector(declared: &Declared, name: &Name, count: u32) -> bool
+pub(crate) fn lacks_selector(declared: &Declared, name: &Name, count: usize) -> bool
     requires { AreDeclared declared.now }
     ensures { result ≡ (not (calls.is_primitive_selector name.now count) && not (calls.is_declared (model_of declared.now) (asked name.now count))) }
 {
@@ -102,7 +102,7 @@ pub(crate) fn lacks_message(
     port: &Name,
     out: bool,
     name: &Name,
-    count: u32,
+    count: usize,
 ) -> bool
     requires { IsScope declared.now scope.now }
     ensures { result ≡ not (list_any (calls.is_message port.now out name.now count) (calls.messages (model_of declared.now) scope.now.class.0)) }

@@ -72,8 +72,7 @@ fn has_unsized_class(alloc: Global, model: &Model, classes: &Classes) -> Result<
     Ok(false)
 }
 
-/// Whether the model violates C13 or C18. The only error is want of memory; a list too long to
-/// count in 32 bits is taken for that.
+/// Whether the model violates C13 or C18. The only error is want of memory.
 pub fn has_unsized_words(
     alloc: Global,
     model: &Model,

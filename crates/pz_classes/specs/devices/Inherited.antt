@@ -1,5 +1,5 @@
 -- What the code keeps of fields, variables and ports.
-use Rattle.std.specs.Prelude.{◌≡◌, ℕ, suc, List, [], ◌++◌, length, Option, Some, slice_get}
+use Rattle.std.specs.Prelude.{◌≡◌, ◌<◌, ◌^◌, ℕ, suc, List, [], ◌++◌, length, Option, Some, slice_get}
 use Rattle.std.specs.Option.{option_and_then, option_map_or, unwrap_or}
 use Rattle.pz_syntax.specs.Classes.{DeclTree, ModelTree}
 use Rattle.pz_classes.specs.Numbers.{declaration}
@@ -42,3 +42,9 @@ pub record AddsAt (m : ModelTree) (c : ℕ) (old new : Members) : Type 0 where
 pub record AreMembers (m : ModelTree) (table : List Members) : Type 0 where
   pub counted : length table ≡ suc (length m.decls)
   pub each : (c : ℕ) (members : Members) → slice_get table c ≡ Some members → HasMembers m (ancestors m c) members
+
+-- 32 bits number them
+pub record AreFew (members : Members) : Type 0 where
+  pub fields : length members.fields < 2 ^ 32
+  pub variables : length members.variables < 2 ^ 32
+  pub ports : length members.ports < 2 ^ 32

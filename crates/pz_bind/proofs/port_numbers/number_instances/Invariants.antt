@@ -6,4 +6,7 @@ use Rattle.pz_bind.specs.devices.Layouts.{instance_number}
 use Rattle.pz_bind.proofs.port_numbers.number_instances.Given as goal
 
 abbrev pub invariant-loop-instance : goal.invariant-loop-instance
-invariant-loop-instance l = (q : List ℕ) → option_or (number_in l.numbers q) (place_from l.number (map (λ x. x.name.name) (drop l.instance-index l.instances)) q) ≡ instance_number l.instances q
+invariant-loop-instance l = record {
+  counted : l.number ≡ l.instance-index;
+  placed : (q : List ℕ) → option_or (number_in l.numbers q) (place_from l.number (map (λ x. x.name.name) (drop l.instance-index l.instances)) q) ≡ instance_number l.instances q;
+}

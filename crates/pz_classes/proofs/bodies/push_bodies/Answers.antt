@@ -1,6 +1,7 @@
 use Rattle.std.proofs.Common.{refl, ◌∙◌, map}
 use Rattle.std.proofs.lemmas.Result.{on_ok_weaker}
 use Rattle.pz_classes.specs.BodyView.{body_view}
+use Rattle.pz_classes.proofs.FewMarks.{data_methods_fit, process_methods_fit}
 use Rattle.pz_classes.proofs.OwnBodies.{data_bodies_are, process_bodies_are}
 use Rattle.pz_classes.proofs.bodies.push_bodies.Goals as goal
 
@@ -15,3 +16,9 @@ returns-in_ok-around-in-Some-methods c = on_ok_weaker c.push_process_bodies.resu
     process_bodies_are m n c.args.decl.now c.in_ok-around-in-Some-methods.around c.args.classes.now c.as_slice-in-Some-methods.result.now c.as_slice-ports.result.now (map body_view c.args.bodies.now) (map body_view c.push_process_bodies.new.bodies)
     c.in-Process.class c.in-Some-methods.methods c.in-Process.is c.in-Some-methods.is (c.in_ok-around-in-Some-methods.ensures m c.args.classes.now numbers) (c.as_slice-in-Some-methods.ensures ∙ has.variables) (c.as_slice-ports.ensures ∙ has.ports)
     (pushed ∙ rw c.as_slice-in-Some-methods-2.ensures refl)) c.push_process_bodies.ensures
+
+pub push_data_bodies-requires : goal.push_data_bodies-requires
+push_data_bodies-requires c = rw c.as_slice-in-Some.ensures (data_methods_fit c.args.decl.now c.in-Data.class c.in-Some.methods c.in-Data.is c.in-Some.is c.requires.marks)
+
+pub push_process_bodies-requires : goal.push_process_bodies-requires
+push_process_bodies-requires c = rw c.as_slice-in-Some-methods-2.ensures (process_methods_fit c.args.decl.now c.in-Process.class c.in-Some-methods.methods c.in-Process.is c.in-Some-methods.is c.requires.marks)

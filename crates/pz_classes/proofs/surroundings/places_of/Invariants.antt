@@ -5,4 +5,7 @@ use Rattle.pz_classes.specs.Bodies.{place_from, place_in}
 use Rattle.pz_classes.proofs.surroundings.places_of.Given as goal
 
 abbrev pub invariant-loop-name : goal.invariant-loop-name
-invariant-loop-name l = (q : List ℕ) → option_or (number_in l.numbering q) (place_from l.place (drop l.name-index l.names) q) ≡ place_in l.names q
+invariant-loop-name l = record {
+  counted : l.place ≡ l.name-index;
+  placed : (q : List ℕ) → option_or (number_in l.numbering q) (place_from l.place (drop l.name-index l.names) q) ≡ place_in l.names q;
+}

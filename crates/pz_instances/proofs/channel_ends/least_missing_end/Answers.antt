@@ -37,7 +37,7 @@ of-requires c =
     let i = c.loop-visit.visit-index in
     let v : Visit = get_or visits i (record { class = 0; depth = 0 }) in
     let at : slice_get visits i ≡ Some v = slice_get-get_or visits i (record { class = 0; depth = 0 }) c.loop-visit-test.true in
-    let within : v.class ≤ length m.decls = visit_within m visits i v (c.preorder-visit-items.ensures.preorder m c.requires) at in
+    let within : v.class ≤ length m.decls = visit_within m visits i v (c.preorder-visit-items.ensures.preorder m c.requires.classes) at in
     omega (arith, within, c.in_ok-found.ensures.counted, length-map c.args.model.now.decls decl_view)
 
 pub loop-visit-preserved : goal.loop-visit-preserved
@@ -50,7 +50,7 @@ loop-visit-preserved c =
     let here : v ≡ get_or visits i v = sym (get_or_from_slice_get visits i v v at) in
     let scopes = scopes_of m own_ports (line_after m visits i) in
     let opens = opened_next m own_ports visits i _ v _ c.add_ids.new.self
-    (c.preorder-visit-items.ensures.preorder m c.requires) at (omega arith) (ap spelled c.ports_at.ensures)
+    (c.preorder-visit-items.ensures.preorder m c.requires.classes) at (omega arith) (ap spelled c.ports_at.ensures)
     (c.in_ok-add_ids.ensures _ _ (c.in_ok-enter.ensures scopes c.loop-visit.invariant.opened)) in
     let names = names_at m own_ports visits i _ v _ at (omega arith) (c.names.ensures _ opens) in
     let asked = ap (λ (list : List Asked). map wanted list) c.of.ensures ∙ c.in_ok-found.ensures.asked v.class in
@@ -66,4 +66,4 @@ returns c =
     let m = model_view c.args.model.now in
     let visits = c.preorder-visit-items.result.now in
     let all : c.loop-visit.least ≡ least_from None (missing_ends m visits) = grind (arith, common_steps, c.loop-visit.invariant.found) in
-    subst (LeastOf (BreaksC16 m)) (sym all) (found.least_missing_end m visits (c.preorder-visit-items.ensures.preorder m c.requires))
+    subst (LeastOf (BreaksC16 m)) (sym all) (found.least_missing_end m visits (c.preorder-visit-items.ensures.preorder m c.requires.classes))

@@ -5,6 +5,7 @@ use Rattle.pz_lexer.specs.Tokens.{AreTokens}
 use Rattle.pz_lexer.specs.devices.Marking.{with_heads, heads_of}
 use Rattle.pz_lexer.proofs.Cuts.{answers_tokens, answers_refusal}
 use Rattle.pz_lexer.proofs.CutReads.{tokens_marked}
+use Rattle.pz_lexer.proofs.TokenCounts.{no_more_tokens}
 use Rattle.pz_lexer.proofs.lexer.lex.Goals as goal
 use Rattle.pz_lexer.proofs.lexer.lex.Goals.{After-from_vec}
 
@@ -18,6 +19,9 @@ are_tokens c =
 
 pub returns-clause-tokens : goal.returns-clause-tokens
 returns-clause-tokens c = are_tokens c
+
+pub returns-clause-counted : goal.returns-clause-counted
+returns-clause-counted c = no_more_tokens c.args.text.now c.from_vec.result (are_tokens c)
 
 pub returns-clause-computed : goal.returns-clause-computed
 returns-clause-computed c = answers_tokens c.args.text.now c.from_vec.result (are_tokens c)

@@ -11,6 +11,9 @@ use Rattle.pz_repeats.proofs.Steps.{flat_view, searched}
 use Rattle.pz_repeats.proofs.RepeatsFound.{least_found}
 use Rattle.pz_repeats.proofs.repeats.least_repeat.Goals as goal
 
+pub least_of_each-requires : goal.least_of_each-requires
+least_of_each-requires c = rw c.as_slice.ensures c.requires.few
+
 pub returns : goal.returns
 returns c =
     let m = model_view c.args.model.now in
@@ -21,5 +24,5 @@ returns c =
     = ap (least_from c.in_ok-port.port) each
     ∙ searched (of_visits m Fields visits) (of_visits m Variables visits) (of_visits m Ports visits) (flat_map of_own m.decls) None c.in_ok-field.field c.in_ok-variable.variable c.in_ok-port.port
     c.in_ok-field.ensures c.in_ok-variable.ensures c.in_ok-port.ensures in
-    let found : LeastOf (BreaksC4 m) (least_from None (all_repeats m visits)) = least_found m visits (c.preorder-visits.ensures.preorder m c.requires) in
+    let found : LeastOf (BreaksC4 m) (least_from None (all_repeats m visits)) = least_found m visits (c.preorder-visits.ensures.preorder m c.requires.classes) in
     IfOk-weaker c.least_of_each.result _ (LeastOf (BreaksC4 m)) (λ least is. subst (LeastOf (BreaksC4 m)) (sym (is ∙ all)) found) c.least_of_each.ensures

@@ -3,8 +3,13 @@ use Rattle.pz_syntax.specs.ClassView.{model_view}
 use Rattle.pz_syntax.specs.declared.tokens.Pos.{Pos}
 use Rattle.pz_lexer.specs.Tokens.{AreTokens}
 use Rattle.pz_parser.specs.Parsing.{MayRefuse}
+use Rattle.pz_run.proofs.FewMarks.{few_marks}
 use Rattle.pz_run.proofs.Causes.{without_tokens, without_tree, with_violation}
 use Rattle.pz_run.proofs.reading.read_model.Goals as goal
+
+pub check_model-requires : goal.check_model-requires
+check_model-requires c =
+    few_marks c.args.text.now c.in_ok-tokens.tokens c.as_slice.result.now (model_view c.in_ok-model.model) c.requires c.in_ok-tokens.ensures.counted c.as_slice.ensures c.in_ok-model.ensures.found.2
 
 pub returns-in_err-tokens-clause-refused : goal.returns-in_err-tokens-clause-refused
 returns-in_err-tokens-clause-refused c =

@@ -16,7 +16,7 @@ loop-method-preserved c = λ own outer shown.
     let methods = c.args.methods.now in
     let x = c.method-item.result in
     let before : List ProcessMethodTree = own ++ map process_method_view (take c.loop-method.method-index methods) in
-    let so_far = noted_shown _ _ before outer c.in_ok-call.call (process_method_view x) _ _ _ (λ k. call_alike k c.in_ok-call.call (process_method_view x) c.in_ok-call.ensures)
+    let so_far = noted_shown _ _ before outer c.call_of.result (process_method_view x) _ _ _ (λ k. call_alike k c.call_of.result (process_method_view x) c.call_of.ensures)
     c.in_ok-note.ensures.noted (c.loop-method.invariant own outer shown) in
     subst (λ (rs : List ProcessMethodTree). ShowsMethods (rs ∷ outer) c.note.new.self)
     (mapped_after process_method_view own methods x c.loop-method.method-index _ c.loop-method-test.true c.method-item.is (omega arith)) so_far

@@ -1,8 +1,9 @@
-use Rattle.std.proofs.Common.{◌∙◌, sym}
+use Rattle.std.proofs.Common.{◌≡◌, ◌∙◌, ap, sym, ℕ, List, Option, length, arith}
 use Rattle.pz_syntax.specs.ClassView.{model_view}
 use Rattle.pz_violation.proofs.Leasts.{least_at_some, least_at_none}
 use Rattle.pz_classes.specs.Violations.{Violates}
 use Rattle.pz_classes.proofs.Building.{each_is_within, rounds_are, nobody_seen, walk_is, walk_of}
+use Rattle.pz_classes.proofs.FewMarks.{room}
 use Rattle.pz_classes.proofs.Found.{least_found}
 use Rattle.pz_classes.proofs.Rounds.{nobody_goes_round}
 use Rattle.pz_classes.proofs.classes.Classes.build.Goals as goal
@@ -49,3 +50,30 @@ returns-clause-classes c = record {
       (walk_is c.args.model.now c.in_ok-parents.parents.items c.as_slice-3.result.now c.as_slice-3.ensures.value c.in_ok-parents.ensures.each
       c.in_ok-visits.visits.items c.from_vec.result c.from_vec.ensures c.in_ok-parents.ensures.counted c.in_ok-visits.ensures);
 }
+
+pub number_classes-requires : goal.number_classes-requires
+number_classes-requires c = room c.args.model.now.decls c.requires
+
+pub least_violation-requires-clause-room : goal.least_violation-requires-clause-room
+least_violation-requires-clause-room c = room c.args.model.now.decls c.requires
+
+pub preorder-requires-clause-room : goal.preorder-requires-clause-room
+preorder-requires-clause-room c =
+    let fits = room c.args.model.now.decls c.requires in
+    let same : length c.as_slice-3.result.now ≡ length c.in_ok-parents.parents.items = ap (λ (ps : List (Option ℕ)). length ps) c.as_slice-3.ensures.value in
+    let counted = c.in_ok-parents.ensures.counted in
+    omega (arith, fits, same, counted)
+
+pub entries_of-requires-clause-room : goal.entries_of-requires-clause-room
+entries_of-requires-clause-room c = room c.args.model.now.decls c.requires
+
+pub bodies_of-requires-clause-room : goal.bodies_of-requires-clause-room
+bodies_of-requires-clause-room c = room c.args.model.now.decls c.requires
+
+pub entries_of-requires-clause-acyclic : goal.entries_of-requires-clause-acyclic
+entries_of-requires-clause-acyclic c =
+    nobody_goes_round (model_view c.args.model.now) (least_at_none (Violates (model_view c.args.model.now)) _ (sym c.least_violation.ensures ∙ c.in_default.is) (least_found (model_view c.args.model.now)))
+
+pub bodies_of-requires-clause-acyclic : goal.bodies_of-requires-clause-acyclic
+bodies_of-requires-clause-acyclic c =
+    nobody_goes_round (model_view c.args.model.now) (least_at_none (Violates (model_view c.args.model.now)) _ (sym c.least_violation.ensures ∙ c.in_default.is) (least_found (model_view c.args.model.now)))

@@ -6,10 +6,14 @@ use Rattle.pz_syntax.specs.ClassView.{decl_view, model_view}
 use Rattle.pz_violation.specs.declared.violation.Violation.{Violation}
 use Rattle.pz_violation.specs.Least.{least_from}
 use Rattle.pz_classes.specs.Instances.{channels}
+use Rattle.pz_classes.proofs.FewMarks.{instances_few}
 use Rattle.pz_instances.specs.devices.Ends.{Wanted, missing_at, wanted_at}
 use Rattle.pz_instances.specs.devices.Search.{wanted_of}
 use Rattle.pz_instances.proofs.Steps.{joined_each, list_step, least_step, list_done}
 use Rattle.pz_instances.proofs.channel_ends.Search.add_decl.Goals as goal
+
+pub places_of-requires : goal.places_of-requires
+places_of-requires c = rw c.instances_of.ensures (omega (arith, instances_few (decl_view c.args.decl.now), c.requires.marks))
 
 pub loop-channel-init : goal.loop-channel-init
 loop-channel-init c =

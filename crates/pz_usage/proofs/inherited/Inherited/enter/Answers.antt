@@ -1,12 +1,16 @@
-use Rattle.std.proofs.Common.{List, map, Option, ◌∷◌, subst}
+use Rattle.std.proofs.Common.{List, map, Option, ◌∷◌, sym, subst}
 use Rattle.std.specs.Result.{OnOk}
 use Rattle.pz_syntax.specs.Classes.{DeclTree}
-use Rattle.pz_syntax.specs.ClassView.{model_view}
+use Rattle.pz_syntax.specs.ClassView.{decl_view, model_view}
 use Rattle.pz_classes.specs.Numbers.{declaration}
+use Rattle.pz_classes.proofs.FewMarks.{decl_fits}
 use Rattle.pz_lineage.specs.Preorder.{outermost}
 use Rattle.pz_usage.specs.devices.Inherited.{AreOpen}
 use Rattle.pz_usage.proofs.Shown.{map_outermost}
 use Rattle.pz_usage.proofs.inherited.Inherited.enter.Goals as goal
+
+pub note_own-requires : goal.note_own-requires
+note_own-requires c = decl_fits (model_view c.args.model.now) c.requires c.args.visit.class (decl_view c.in-Some.decl.now) (sym c.in-Some.ensures)
 
 pub returns-in-Some : goal.returns-in-Some
 returns-in-Some c = λ line shown.
