@@ -10,7 +10,7 @@ ghost use Rattle.pz_bind.specs.devices.Layouts as spec;
 ghost use Rattle.pz_bind.specs.devices.Layouts.{class_layout, layouts, linked_by, links_from};
 ghost use Rattle.pz_bind.specs.devices.Numberings.{AreNumbers};
 
-use crate::declared::{channels_in, class_of, instances_in, is_cluster_class, is_sound};
+use crate::declared::{channels_in, class_of, instances_in, is_cluster_class, is_numbered};
 use crate::naming::Naming;
 use crate::port_numbers::{PortNumbers, number_instances};
 use pz_classes::Checked;
@@ -121,7 +121,7 @@ fn plan_of(
 pub(crate) fn plans_of(alloc: Global, checked: &Checked) -> Result<Items<Plan>, AllocError>
     ensures { IfOk result (λ plans. layouts_of plans ≡ layouts (checked_model checked.now)) }
 {
-    is_sound(checked);
+    is_numbered(checked);
     let ports = PortNumbers::new(alloc, checked)?;
     let mut plans = Items::new(alloc);
     plans.push(plan_of(alloc, checked, &ports, 0)?)?;

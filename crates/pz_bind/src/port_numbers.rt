@@ -7,7 +7,7 @@ ghost use Rattle.pz_classes.specs.CheckedView.{checked_model};
 ghost use Rattle.pz_bind.specs.devices.Layouts.{instance_number};
 ghost use Rattle.pz_bind.specs.devices.Numberings.{port_in, AreNumbers};
 
-use crate::declared::{is_sound, ports_of};
+use crate::declared::{is_numbered, ports_of};
 use pz_classes::Checked;
 use pz_code::Numbering;
 use pz_items::Items;
@@ -58,7 +58,7 @@ impl PortNumbers {
     pub(crate) fn new(alloc: Global, checked: &Checked) -> Result<PortNumbers, AllocError>
         ensures { IfOk result (AreNumbers (checked_model checked.now)) }
     {
-        is_sound(checked);
+        is_numbered(checked);
         let mut by_class = Items::new(alloc);
         by_class.push(Numbering::new(alloc))?;
         let mut class = 1u32;

@@ -1,3 +1,4 @@
+use Rattle.std.proofs.lemmas.List.{length-map}
 use Rattle.std.proofs.Common.{◌≡◌, ◌∙◌, ◌+◌, ap, suc, subst, ℕ, List, length, arith}
 use Rattle.pz_classes.specs.CheckedView.{checked_model}
 use Rattle.pz_classes.specs.Bodies.{place_in}
@@ -13,8 +14,8 @@ loop-decl-preserved c =
     record {
       counted = let now = c.loop-decl.invariant.counted in omega arith;
       listed = subst (λ n. ByClass m (c.loop-decl.class + 1) n c.push-in-loop-decl.new.self) one
-    (next_numbered m c.loop-decl.class (suc c.loop-decl._decl-index) (c.loop-decl.class + 1) c.loop-decl.by_class c.push-in-loop-decl.new.self c.in_ok-number_names.field-0 c.loop-decl.invariant.listed
-    (λ q. c.in_ok-number_names.ensures q ∙ ap (λ (names : List (List ℕ)). place_in names q) c.ports_of.ensures) c.in_ok-push-2.ensures.ok (omega arith));
+          (next_numbered m c.loop-decl.class (suc c.loop-decl._decl-index) (c.loop-decl.class + 1) c.loop-decl.by_class c.push-in-loop-decl.new.self c.in_ok-number_names.field-0 c.loop-decl.invariant.listed
+          (λ q. c.in_ok-number_names.ensures q ∙ ap (λ (names : List (List ℕ)). place_in names q) c.ports_of.ensures) c.in_ok-push-2.ensures.ok (omega arith));
     }
 
 pub returns : goal.returns
@@ -32,5 +33,5 @@ number_names-requires c =
     let count : length c.as_slice-decls.result.now ≡ length m.decls = decls_count c.as_slice-decls.result.now c.model.result.now m c.as_slice-decls.ensures c.model.ensures.is in
     let within = c.loop-decl-test.true in
     let here = c.loop-decl.invariant.counted in
-    let fits = c.is_sound.ensures.numbers.ports c.loop-decl.class (omega (arith, count, within, here)) in
+    let fits = c.is_numbered.ensures.ports c.loop-decl.class (omega (arith, count, within, here)) in
     rw c.ports_of.ensures (simp length-map fits)

@@ -1,0 +1,11 @@
+use Rattle.std.proofs.Common.{subst}
+use Rattle.pz_syntax.specs.ModelText.{HasFewMarks}
+use Rattle.pz_classes.specs.CheckedView.{checked_model}
+use Rattle.pz_classes.specs.Soundness.{IsSound}
+use Rattle.pz_bind.proofs.declared.is_numbered.Goals as goal
+
+pub returns : goal.returns
+returns c =
+    c.sound_numbers_fit.ensures.law (checked_model c.args.checked.now)
+    (subst HasFewMarks c.model-model.ensures.is c.model-model.ensures.few)
+    (subst IsSound c.model-model.ensures.is c.model-model.ensures.sound)
