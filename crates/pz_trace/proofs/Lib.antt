@@ -1,0 +1,4 @@
+pub mod Naming
+pub mod Joining
+pub mod Rows
+pub mod Unbroken

@@ -1,0 +1,14 @@
+//! The lines of a trace.
+#![tactic(auto)]
+
+mod ending;
+mod label;
+mod laws;
+mod lines;
+mod names;
+mod words;
+
+pub use ending::Ending;
+pub use label::label;
+pub use laws::lines_stand_apart;
+pub use lines::{action_line, end_line, header, time_line};
