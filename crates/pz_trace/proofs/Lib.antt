@@ -1,4 +1,3 @@
 pub mod Naming
-pub mod Joining
-pub mod Rows
 pub mod Unbroken
+pub mod Rows

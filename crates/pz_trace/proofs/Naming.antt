@@ -1,15 +1,13 @@
 -- What a net and a checked model say of what is named and there.
-use Rattle.std.proofs.Common.{◌≡◌, sym, ap, subst, ◌∙◌, ℕ, suc, ◌<◌, List, [], length, Some, get_or, arith}
+use Rattle.std.proofs.Common.{◌≡◌, sym, ap, subst, ◌∙◌, ℕ, ◌<◌, List, [], length, Some, get_or}
 use Rattle.std.proofs.Math.Logic.{∥∥₁_elim}
 use Rattle.std.specs.Coded.{coded_ℕ, coded_list}
 use base.Stored.{Coded-set}
-use Rattle.std.specs.Prelude.{All, slice_get}
+use Rattle.std.specs.Prelude.{slice_get}
 use Rattle.std.specs.Option.{option_map_or}
 use Rattle.std.proofs.lemmas.List.{length-map}
 use Rattle.std.proofs.lemmas.Option.{slice_get-get_or}
 use Rattle.pz_syntax.specs.Classes.{ModelTree}
-use Rattle.pz_classes.specs.Numbers.{spelling}
-use Rattle.pz_classes.specs.Tables.{class_names}
 use Rattle.pz_levels.specs.Places.{Place}
 use Rattle.pz_levels.specs.Wires.{Channel, channel}
 use Rattle.pz_bind.specs.declared.net.Net.{Net}
@@ -17,9 +15,7 @@ use Rattle.pz_bind.specs.Nest.{processes}
 use Rattle.pz_bind.specs.Names.{path, wire_name}
 use Rattle.pz_bind.specs.Wires.{wires}
 use Rattle.pz_bind.specs.NetView.{IsNet, HasProcess, IsWireOf, node_at}
-use Rattle.pz_copy.specs.Parcels.{ParcelView}
 use Rattle.pz_trace.specs.Labels.{path_of, wire_of}
-use Rattle.pz_trace.specs.Named.{AreClassesOf}
 
 -- a text and a list of names are those of a set
 pub text_merely : {A : Type 0} (s t : List ℕ) → ∥ A ∥₁ → (A → s ≡ t) → s ≡ t
@@ -47,9 +43,3 @@ pub wire_is : (m : ModelTree) (net : Net) (w : ℕ) (text : List ℕ) → IsWire
 wire_is m net w text below says is = text_merely text (wire_of m w) is (λ known.
     let there = wire_there m net known w below in
     says m (get_or (wires m) w (channel [] 0)) known there ∙ sym (ap (λ o. option_map_or (wire_name m) o []) there))
-
--- each class has its name
-pub classes_have_names : (m : ModelTree) (names : List (List ℕ)) (parcel : ParcelView) → names ≡ class_names m → AreClassesOf m parcel → All (λ o. o.class.0 < length names) parcel.objects
-classes_have_names m names parcel are known = λ k d h.
-    let count : length names ≡ suc (length m.decls) = ap (λ xs. length xs) are ∙ ap suc (length-map m.decls spelling) in
-    omega (arith, count, known k d h)

@@ -2,13 +2,13 @@
 #![tactic(auto)]
 
 mod ending;
-mod label;
+mod labels;
 mod laws;
 mod lines;
 mod names;
 mod words;
 
 pub use ending::Ending;
-pub use label::label;
+pub use labels::label;
 pub use laws::lines_stand_apart;
 pub use lines::{action_line, end_line, header, time_line};

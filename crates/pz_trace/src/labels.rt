@@ -1,11 +1,11 @@
 // What an action is, as its line tells it. The only error is want of memory.
 
-ghost use Rattle.std.specs.Prelude.{◌≡◌, ◌++◌, ℕ, List, IfOk, OnOk};
+ghost use Rattle.std.specs.Prelude.{◌≡◌, ◌≤◌, ◌++◌, length, All, IfOk, OnOk};
 ghost use Rattle.pz_syntax.specs.Classes.{ModelTree};
 ghost use Rattle.pz_classes.specs.CheckedView.{checked_model};
 ghost use Rattle.pz_bind.specs.NetView.{IsNet, HasProcess, IsWireOf};
-ghost use Rattle.pz_trace.specs.Labels as labels;
-ghost use Rattle.pz_trace.specs.Named.{IsNamed, AreClassesOf};
+ghost use Rattle.pz_trace.specs.Labels as spec;
+ghost use Rattle.pz_trace.specs.Named.{IsNamed, HasClasses};
 
 use crate::names::{class_names, path, wire_name};
 use crate::words::kind_word;
@@ -25,7 +25,7 @@ fn put_internal(
     pos: Pos,
 ) -> Result<(), AllocError>
     requires { HasProcess net.now process }
-    ensures { (m : ModelTree) → ∥ IsNet m net.now ∥₁ → OnOk result (out.new.items ≡ out.old.items ++ labels.internal_label m process kind pos) }
+    ensures { (m : ModelTree) → ∥ IsNet m net.now ∥₁ → OnOk result (out.new.items ≡ out.old.items ++ spec.internal_label m process kind pos) }
 {
     let kind = kind_word(kind);
     let (line, column) = (pos.line, pos.column);
@@ -45,8 +45,8 @@ fn put_sending(
 ) -> Result<(), AllocError>
     requires of_model { ∥ IsNet (checked_model checked.now) net.now ∥₁ }
     requires sender { HasProcess net.now sender }
-    requires classes { AreClassesOf (checked_model checked.now) parcel.now }
-    ensures { OnOk result (out.new.items ≡ out.old.items ++ labels.sending (checked_model checked.now) sender message.now parcel.now) }
+    requires classes { All (λ o. o.class.0 ≤ length (checked_model checked.now).decls) parcel.now.objects }
+    ensures { OnOk result (out.new.items ≡ out.old.items ++ spec.sending (checked_model checked.now) sender message.now parcel.now) }
 {
     let parcel = parcel.text(class_names(checked))?;
     out.extend_from_slice(path(net, sender))?;
@@ -63,8 +63,9 @@ pub(crate) fn put_label(
     action: &Action,
 ) -> Result<(), AllocError>
     requires of_model { ∥ IsNet (checked_model checked.now) net.now ∥₁ }
-    requires named { IsNamed (checked_model checked.now) net.now action.now }
-    ensures { OnOk result (out.new.items ≡ out.old.items ++ labels.label (checked_model checked.now) action.now) }
+    requires named { IsNamed net.now action.now }
+    requires classes { HasClasses (checked_model checked.now) action.now }
+    ensures { OnOk result (out.new.items ≡ out.old.items ++ spec.label (checked_model checked.now) action.now) }
 {
     match action {
         Action::Internal { at, kind, pos } => put_internal(out, net, at.process, *kind, *pos),
@@ -97,8 +98,9 @@ pub fn label(
     action: &Action,
 ) -> Result<Vec<u8>, AllocError>
     requires of_model { ∥ IsNet (checked_model checked.now) net.now ∥₁ }
-    requires named { IsNamed (checked_model checked.now) net.now action.now }
-    ensures { IfOk result (λ text. text.items ≡ labels.label (checked_model checked.now) action.now) }
+    requires named { IsNamed net.now action.now }
+    requires classes { HasClasses (checked_model checked.now) action.now }
+    ensures { IfOk result (λ text. text.items ≡ spec.label (checked_model checked.now) action.now) }
 {
     let mut text = Vec::new(alloc);
     put_label(&mut text, checked, net, action)?;
