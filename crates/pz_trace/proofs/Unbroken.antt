@@ -1,7 +1,7 @@
 -- No LF stands within a line.
-use Rattle.std.proofs.Common.{◌≡◌, ◌<◌, subst, ℤ, refl, sym, ap, ◌∙◌, ℕ, zero, suc, pos, negsuc, ◌+◌, ◌/◌, ◌%◌, Bool, true, false, if◌then◌else◌, List, [], ◌∷◌, ◌++◌, map, Option, Some, None, arith, codes, append_assoc}
+use Rattle.std.proofs.Common.{◌≡◌, ◌<◌, subst, ℤ, refl, sym, ◌∙◌, ℕ, zero, suc, pos, negsuc, ◌+◌, ◌/◌, ◌%◌, Bool, true, false, if◌then◌else◌, List, [], ◌∷◌, ◌++◌, map, Option, Some, None, arith, codes, append_assoc}
 use Rattle.std.specs.Prelude.{nat_eq, nat_lt, nat_le, ◌||◌, ◌&&◌, ◌==◌, slice_get}
-use Rattle.std.specs.List.{list_any, flat_map}
+use Rattle.std.specs.List.{flat_map}
 use Rattle.std.specs.Option.{option_map_or}
 use Rattle.std.specs.Fmt.{digits, digits_onto, digit_glyph, decimal, signed_decimal}
 use Rattle.std.proofs.lemmas.List.Folds.{list_any-append}
@@ -20,7 +20,7 @@ use Rattle.pz_bind.specs.Nest.{processes}
 use Rattle.pz_bind.specs.Names.{path, wire_name, name_at}
 use Rattle.pz_bind.specs.Wires.{wires}
 use Rattle.pz_copy.specs.Parcels.{ParcelView}
-use Rattle.pz_copy.specs.ParcelText.{name_of, hex_digit, item_text, quoted, value_text, separated, values_text, object_text, object_texts, objects_text, parcel_text}
+use Rattle.pz_copy.specs.ParcelText.{name_of, hex_digit, item_text, quoted, value_text, values_text, object_text, object_texts, objects_text, parcel_text}
 use Rattle.pz_offer.specs.declared.trouble.Trouble.{Trouble}
 use Rattle.pz_offer.specs.declared.trouble.Trouble.TheVariants as trouble
 use Rattle.pz_rules.specs.declared.action.Kind.{Kind}
@@ -30,7 +30,7 @@ use Rattle.pz_rules.specs.declared.action.Action.TheVariants.{Internal, Comm}
 use Rattle.pz_trace.specs.declared.ending.Ending.{Ending}
 use Rattle.pz_trace.specs.declared.ending.Ending.TheVariants as ending
 use Rattle.pz_trace.specs.Words.{kind_word, fault_word, pos_text}
-use Rattle.pz_trace.specs.Labels.{path_of, wire_of, spot, internal_label, sending, label}
+use Rattle.pz_trace.specs.Labels.{path_of, wire_of, spot, sending, label}
 use Rattle.pz_trace.specs.Lines.{newline, header, time_line, action_line, trouble_line, end_line}
 use Rattle.pz_trace.specs.Laws.{Unbroken, IsLine, HasUnbrokenNames, HasUnbrokenMessage}
 
@@ -198,11 +198,11 @@ spot_unbroken m whole i at =
     (joined (codes " ") (pos_text at) refl (pos_unbroken at))
 
 label_unbroken : (m : ModelTree) → HasUnbrokenNames m → (a : Action) → HasUnbrokenMessage a → Unbroken (label m a)
-label_unbroken m whole (Internal at k pos) message =
-    joined (path_of m at.process) (codes " " ++ (kind_word k ++ (codes " " ++ pos_text pos))) (path_unbroken m whole at.process)
-    (joined (codes " ") (kind_word k ++ (codes " " ++ pos_text pos)) refl
-    (joined (kind_word k) (codes " " ++ pos_text pos) (kind_unbroken k)
-    (joined (codes " ") (pos_text pos) refl (pos_unbroken pos))))
+label_unbroken m whole (Internal end k at) message =
+    joined (path_of m end.process) (codes " " ++ (kind_word k ++ (codes " " ++ pos_text at))) (path_unbroken m whole end.process)
+    (joined (codes " ") (kind_word k ++ (codes " " ++ pos_text at)) refl
+    (joined (kind_word k) (codes " " ++ pos_text at) (kind_unbroken k)
+    (joined (codes " ") (pos_text at) refl (pos_unbroken at))))
 label_unbroken m whole (Comm wire sender receiver name parcel) message =
     let receiving = codes " -> " ++ path_of m receiver.process in
     let sends : Unbroken (sending m sender.process name parcel) =
