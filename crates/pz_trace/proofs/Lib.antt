@@ -1,3 +1,4 @@
 pub mod Naming
 pub mod Unbroken
+pub mod Happening
 pub mod Rows

@@ -10,5 +10,5 @@ mod words;
 
 pub use ending::Ending;
 pub use labels::label;
-pub use laws::lines_stand_apart;
+pub use laws::{lines_stand_apart, what_happens_is_named};
 pub use lines::{action_line, end_line, header, time_line};
