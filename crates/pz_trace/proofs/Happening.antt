@@ -1,8 +1,8 @@
 -- What happens in a run names processes and wires that are there.
-use Rattle.std.proofs.Common.{◌≡◌, refl, sym, ap, subst, ◌∙◌, ℕ, ◌<◌, Bool, true, false, if◌then◌else◌, List, [], length, Option, Some, None, Result, Ok, Err, pos, negsuc}
+use Rattle.std.proofs.Common.{◌≡◌, refl, sym, ap, subst, ◌∙◌, ℕ, ◌<◌, Bool, true, false, if◌then◌else◌, List, [], length, Some, Result, Ok, Err, pos, negsuc}
 use Rattle.std.proofs.Math.Logic.{∥∥₁_elim}
 use Rattle.std.specs.Coded.{le_prop}
-use Rattle.std.specs.Prelude.{nat_le, slice_get}
+use Rattle.std.specs.Prelude.{slice_get}
 use Rattle.std.proofs.lemmas.List.{length-map}
 use Rattle.std.proofs.lemmas.Option.{slice_get_within}
 use Rattle.pz_syntax.specs.declared.tokens.Pos.{Pos}
@@ -29,10 +29,9 @@ use Rattle.pz_offer.specs.declared.end.End.{End}
 use Rattle.pz_offer.specs.declared.trouble.Trouble.{Trouble}
 use Rattle.pz_offer.specs.declared.trouble.Trouble.TheVariants.{Fault, Spent, High}
 use Rattle.pz_rules.specs.declared.action.Action.{Action}
-use Rattle.pz_rules.specs.declared.action.Action.TheVariants.{Internal, Comm}
 use Rattle.pz_rules.specs.declared.moment.Moment.{Moment}
 use Rattle.pz_rules.specs.declared.moment.Moment.TheVariants.{Faulty}
-use Rattle.pz_rules.specs.Terms.{Code, Codes, Term, height}
+use Rattle.pz_rules.specs.Terms.{Code, Codes, Term}
 use Rattle.pz_rules.specs.Settings.{Setting, Process, At}
 use Rattle.pz_rules.specs.Meanings.{and_then, truth, duration}
 use Rattle.pz_rules.specs.Evaluations.{value_or_trouble, values_or_trouble, Gives, GivesAll, GivesPart, Tests, Lasts}
@@ -42,7 +41,7 @@ use Rattle.pz_rules.specs.InternalActions as internals
 use Rattle.pz_rules.specs.InternalActions.{Performs}
 use Rattle.pz_rules.specs.Messages as messages
 use Rattle.pz_rules.specs.Messages.{Judges, Hands, Takes}
-use Rattle.pz_rules.specs.Leaving.{not_too_high, settled}
+use Rattle.pz_rules.specs.Leaving.{settled}
 use Rattle.pz_rules.specs.Configurations.{Config, Stands}
 use Rattle.pz_rules.specs.Offers as offers
 use Rattle.pz_rules.specs.Offers.{PartAt, Offers}
