@@ -179,10 +179,11 @@ module _ (setting : Setting) (c : Config) (net : Net) (is : ∥ IsNet setting.mo
 
   offer_named : (a : Action) → Offers setting c a → IsNamed net a
   offer_named _ (offers.internal at a f part kind place x can) = part_named at a f part x
-  offer_named _ (offers.communication number sender receiver message parcel pair judged) =
-      (wire_stands setting.model net number pair.sender_wire.has_wire.last is pair.sender_wire.has_wire.there,
-      part_named sender pair.sends_at pair.sends_frame pair.sends_part pair.sender_active,
-      part_named receiver pair.receives_at pair.receives_frame pair.receives_part pair.receiver_active)
+  offer_named _ (offers.communication number sender receiver message parcel pair judged) = (
+    wire_stands setting.model net number pair.sender_wire.has_wire.last is pair.sender_wire.has_wire.there,
+    part_named sender pair.sends_at pair.sends_frame pair.sends_part pair.sender_active,
+    part_named receiver pair.receives_at pair.receives_frame pair.receives_part pair.receiver_active,
+  )
 
   named_trouble : (t : Trouble) (i : ℕ) → troubled t ≡ i → HasProcess net i → HasTroubled net t
   named_trouble (Fault kind j at) i same there = subst (HasProcess net) (sym same) there

@@ -109,7 +109,7 @@ handing_on = record {
       data_class (record { name = id (codes "N"); parent = None; variables = None; methods = None }) ∷
       process (codes "S") (id (codes "c") ∷ []) ∷ process (codes "F") (id (codes "c") ∷ id (codes "d") ∷ []) ∷ process (codes "E") (id (codes "d") ∷ []) ∷
       system_of (instance (codes "s") (codes "S") ∷ instance (codes "f") (codes "F") ∷ instance (codes "e") (codes "E") ∷ [])
-          (channel_of (inner (codes "s") (codes "c") ∷ inner (codes "f") (codes "c") ∷ []) ∷ channel_of (inner (codes "f") (codes "d") ∷ inner (codes "e") (codes "d") ∷ []) ∷ []) ∷ [];
+      (channel_of (inner (codes "s") (codes "c") ∷ inner (codes "f") (codes "c") ∷ []) ∷ channel_of (inner (codes "f") (codes "d") ∷ inner (codes "e") (codes "d") ∷ []) ∷ []) ∷ [];
 }
 
 -- two objects that name each other
@@ -153,7 +153,7 @@ nested = record {
         channels = Some (channel_of (inner (codes "s") (codes "o") ∷ inner (codes "r") (codes "i") ∷ []) ∷ channel_of (inner (codes "t") (codes "o") ∷ Outer (id (codes "x")) ∷ []) ∷ []);
       }) ∷
       system_of (instance (codes "c") (codes "C") ∷ instance (codes "d") (codes "C") ∷ instance (codes "q") (codes "R") ∷ [])
-          (channel_of (inner (codes "c") (codes "x") ∷ inner (codes "q") (codes "i") ∷ []) ∷ channel_of (inner (codes "d") (codes "x") ∷ []) ∷ []) ∷ [];
+      (channel_of (inner (codes "c") (codes "x") ∷ inner (codes "q") (codes "i") ∷ []) ∷ channel_of (inner (codes "d") (codes "x") ∷ []) ∷ []) ∷ [];
 }
 
 calls_and_meetings : trace_text nested

@@ -206,9 +206,9 @@ label_unbroken m whole (Internal end k at) message =
 label_unbroken m whole (Comm wire sender receiver name parcel) message =
     let receiving = codes " -> " ++ path_of m receiver.process in
     let sends : Unbroken (sending m sender.process name parcel) =
-        joined (path_of m sender.process) (codes " ! " ++ (name ++ parcel_text (class_names m) parcel)) (path_unbroken m whole sender.process)
-        (joined (codes " ! ") (name ++ parcel_text (class_names m) parcel) refl
-        (joined name (parcel_text (class_names m) parcel) message (parcel_unbroken m whole parcel))) in
+    joined (path_of m sender.process) (codes " ! " ++ (name ++ parcel_text (class_names m) parcel)) (path_unbroken m whole sender.process)
+    (joined (codes " ! ") (name ++ parcel_text (class_names m) parcel) refl
+    (joined name (parcel_text (class_names m) parcel) message (parcel_unbroken m whole parcel))) in
     joined (wire_of m wire) (codes " " ++ (sending m sender.process name parcel ++ receiving)) (wire_unbroken m whole wire)
     (joined (codes " ") (sending m sender.process name parcel ++ receiving) refl
     (joined (sending m sender.process name parcel) receiving sends

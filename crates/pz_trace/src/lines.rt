@@ -63,12 +63,7 @@ pub fn time_line(alloc: Global, clock: u128, time: u128) -> Result<Vec<u8>, Allo
 /// path of the process and the place in the text of the model.
 ///
 /// A trouble names a process of the net. The only error is want of memory.
-pub fn end_line(
-    alloc: Global,
-    net: &Net,
-    clock: u128,
-    end: &Ending,
-) -> Result<Vec<u8>, AllocError>
+pub fn end_line(alloc: Global, net: &Net, clock: u128, end: &Ending) -> Result<Vec<u8>, AllocError>
     requires { IsNamedAtEnd net.now end.now }
     ensures { (m : ModelTree) → ∥ IsNet m net.now ∥₁ → IfOk result (λ line. line.items ≡ lines.end_line m clock end.now) }
 {
@@ -113,12 +108,7 @@ fn trouble_line(
 }
 
 // The line that begins so and ends with the path of a process and a place of the text.
-fn spot_line(
-    mut begun: Vec<u8>,
-    net: &Net,
-    process: u32,
-    pos: Pos,
-) -> Result<Vec<u8>, AllocError>
+fn spot_line(mut begun: Vec<u8>, net: &Net, process: u32, pos: Pos) -> Result<Vec<u8>, AllocError>
     requires { HasProcess net.now process }
     ensures { (m : ModelTree) → ∥ IsNet m net.now ∥₁ → IfOk result (λ line. line.items ≡ begun.items ++ (spot m process pos ++ lines.newline)) }
 {

@@ -18,8 +18,8 @@ returns-in_ok-begun-in-Fault c = λ m is.
     let begun : c.into_bytes.result.items ≡ clock ++ (codes " fault " ++ (c.fault_word-kind.result.now ++ codes " ")) = rw c.into_bytes.ensures.value c.in_ok-begun-in-Fault.ensures.ok in
     let word : c.fault_word-kind.result.now ≡ fault_word c.in-Fault.kind = c.fault_word-kind.ensures in
     let whole : c.into_bytes.result.items ++ there ≡ trouble_line m c.args.clock c.args.trouble.now =
-        ap (λ (t : List ℕ). t ++ there) begun
-        ∙ (ap (λ (w : List ℕ). (clock ++ (codes " fault " ++ (w ++ codes " "))) ++ there) word
-        ∙ (regrouped clock (codes " fault ") (fault_word c.in-Fault.kind) (codes " ") there
-        ∙ sym (ap (trouble_line m c.args.clock) c.in-Fault.is))) in
+    ap (λ (t : List ℕ). t ++ there) begun
+    ∙ (ap (λ (w : List ℕ). (clock ++ (codes " fault " ++ (w ++ codes " "))) ++ there) word
+    ∙ (regrouped clock (codes " fault ") (fault_word c.in-Fault.kind) (codes " ") there
+    ∙ sym (ap (trouble_line m c.args.clock) c.in-Fault.is))) in
     subst (λ (t : List ℕ). IfOk c.spot_line.result (λ line. line.items ≡ t)) whole (c.spot_line.ensures m is)
