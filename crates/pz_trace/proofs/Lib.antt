@@ -1,0 +1,4 @@
+pub mod Naming
+pub mod Unbroken
+pub mod Happening
+pub mod Rows

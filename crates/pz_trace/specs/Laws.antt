@@ -1,0 +1,66 @@
+-- Laws of lines. They stand apart: LF stands at the end of each and nowhere else, where no name of the
+-- model has one. And what they have to name in a run is there.
+use Rattle.std.specs.Prelude.{◌≡◌, ℕ, nat_eq, false, List, ◌++◌, Err}
+use Rattle.std.specs.List.{list_any}
+use Rattle.pz_syntax.specs.Classes.{ModelTree}
+use Rattle.pz_value.specs.declared.value.ClassId.{ClassId}
+use Rattle.pz_classes.specs.Tables.{class_names}
+use Rattle.pz_levels.specs.Places.{Place}
+use Rattle.pz_bind.specs.declared.net.Net.{Net}
+use Rattle.pz_bind.specs.Names.{name_at}
+use Rattle.pz_bind.specs.NetView.{IsNet}
+use Rattle.pz_copy.specs.ParcelText.{name_of}
+use Rattle.pz_offer.specs.declared.trouble.Trouble.{Trouble}
+use Rattle.pz_rules.specs.declared.action.Action.{Action}
+use Rattle.pz_rules.specs.declared.action.Action.TheVariants.{Internal, Comm}
+use Rattle.pz_rules.specs.declared.moment.Moment.TheVariants.{Faulty}
+use Rattle.pz_rules.specs.Settings.{Setting}
+use Rattle.pz_rules.specs.Configurations.{Config}
+use Rattle.pz_rules.specs.Offers.{Offers}
+use Rattle.pz_rules.specs.Steps.{Next}
+use Rattle.pz_rules.specs.Moments.{IsMoment}
+use Rattle.pz_trace.specs.declared.ending.Ending.{Ending}
+use Rattle.pz_trace.specs.Lines.{newline, header, time_line, action_line, end_line}
+use Rattle.pz_trace.specs.Named.{IsNamed, HasTroubled}
+
+-- no LF stands in the text
+abbrev pub Unbroken : List ℕ → Type 0
+Unbroken text = list_any (nat_eq 10) text ≡ false
+
+pub record IsLine (text : List ℕ) : Type 0 where
+  pub front : List ℕ
+  pub unbroken : Unbroken front
+  pub ends : text ≡ front ++ newline
+
+-- the names of instances and of classes
+pub record HasUnbrokenNames (m : ModelTree) : Type 0 where
+  pub instances : (up : Place) (i : ℕ) → Unbroken (name_at m up i)
+  pub classes : (class : ClassId) → Unbroken (name_of (class_names m) class)
+
+-- the name of the message
+abbrev pub HasUnbrokenMessage : Action → Type 0
+HasUnbrokenMessage (Internal at kind pos) = Unit {0}
+HasUnbrokenMessage (Comm wire sender receiver message parcel) = Unbroken message
+
+abbrev pub HeaderIsLine : Type 0
+HeaderIsLine = IsLine header
+
+abbrev pub TimeLinesAreLines : Type 0
+TimeLinesAreLines = (clock d : ℕ) → IsLine (time_line clock d)
+
+abbrev pub ActionLinesAreLines : Type 0
+ActionLinesAreLines = (m : ModelTree) (clock n k : ℕ) (a : Action) → HasUnbrokenNames m → HasUnbrokenMessage a → IsLine (action_line m clock n k a)
+
+abbrev pub EndLinesAreLines : Type 0
+EndLinesAreLines = (m : ModelTree) (clock : ℕ) (end : Ending) → HasUnbrokenNames m → IsLine (end_line m clock end)
+
+-- What is offered in a configuration names processes, and a wire, of the net.
+abbrev pub OffersAreNamed : Type 0
+OffersAreNamed = (setting : Setting) (c : Config) (net : Net) (a : Action) → ∥ IsNet setting.model net ∥₁ → Offers setting c a → IsNamed net a
+
+-- So do the troubles that come before any action, and those in which actions end.
+abbrev pub FaultsAreNamed : Type 0
+FaultsAreNamed = (setting : Setting) (c : Config) (net : Net) (trouble : Trouble) → ∥ IsNet setting.model net ∥₁ → IsMoment setting c (Faulty trouble) → HasTroubled net trouble
+
+abbrev pub StopsAreNamed : Type 0
+StopsAreNamed = (setting : Setting) (c : Config) (net : Net) (a : Action) (trouble : Trouble) → ∥ IsNet setting.model net ∥₁ → Next setting c a (Err trouble) → HasTroubled net trouble

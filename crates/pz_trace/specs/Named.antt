@@ -1,0 +1,35 @@
+-- What a line names is there: processes and wires in a net, classes in a model.
+use Rattle.std.specs.Prelude.{◌≤◌, length, All}
+use Rattle.pz_syntax.specs.Classes.{ModelTree}
+use Rattle.pz_bind.specs.declared.net.Net.{Net}
+use Rattle.pz_bind.specs.NetView.{HasProcess, IsWireOf}
+use Rattle.pz_offer.specs.declared.trouble.Trouble.{Trouble}
+use Rattle.pz_offer.specs.declared.trouble.Trouble.TheVariants.{Fault, Spent, High}
+use Rattle.pz_rules.specs.declared.action.Action.{Action}
+use Rattle.pz_rules.specs.declared.action.Action.TheVariants.{Internal, Comm}
+use Rattle.pz_trace.specs.declared.ending.Ending.{Ending}
+use Rattle.pz_trace.specs.declared.ending.Ending.TheVariants as ending
+
+-- the processes and the wire of the action
+abbrev pub IsNamed : Net → Action → Type 0
+IsNamed net (Internal at kind pos) = HasProcess net at.process
+IsNamed net (Comm wire sender receiver message parcel) = IsWireOf net wire × HasProcess net sender.process × HasProcess net receiver.process
+
+-- each object of its parcel is an Array, which is class number 0, or of a class of the model, which are
+-- numbered from 1
+abbrev pub HasClasses : ModelTree → Action → Type 0
+HasClasses m (Internal at kind pos) = Unit {0}
+HasClasses m (Comm wire sender receiver message parcel) = All (λ o. o.class.0 ≤ length m.decls) parcel.objects
+
+-- the process of the trouble
+abbrev pub HasTroubled : Net → Trouble → Type 0
+HasTroubled net (Fault kind process at) = HasProcess net process
+HasTroubled net (Spent process at) = HasProcess net process
+HasTroubled net (High process at) = HasProcess net process
+
+-- the process of the trouble in which a trace ends, if it does
+abbrev pub IsNamedAtEnd : Net → Ending → Type 0
+IsNamedAtEnd net ending.End = Unit {0}
+IsNamedAtEnd net ending.Deadlock = Unit {0}
+IsNamedAtEnd net ending.Stop = Unit {0}
+IsNamedAtEnd net (ending.Trouble trouble) = HasTroubled net trouble

@@ -1,0 +1,20 @@
+// Laws of lines, each the contract of a function that does nothing.
+
+ghost use Rattle.pz_trace.specs.Laws.{HeaderIsLine, TimeLinesAreLines, ActionLinesAreLines, EndLinesAreLines, OffersAreNamed, FaultsAreNamed, StopsAreNamed};
+
+/// Each line ends with LF and has none before it, whatever a parcel holds, where no name of an
+/// instance, a class or a message has one. So a trace is cut into its lines at each LF.
+pub fn lines_stand_apart()
+    ensures header { HeaderIsLine }
+    ensures time { TimeLinesAreLines }
+    ensures action { ActionLinesAreLines }
+    ensures end { EndLinesAreLines }
+{}
+
+/// What a line has to name is there: an action that is offered names processes, and a wire, of the
+/// net of the model, and a trouble before or in an action names a process of it.
+pub fn what_happens_is_named()
+    ensures offers { OffersAreNamed }
+    ensures faults { FaultsAreNamed }
+    ensures stops { StopsAreNamed }
+{}

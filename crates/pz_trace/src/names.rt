@@ -1,0 +1,35 @@
+// The names of what lines speak of. Takes no memory.
+
+ghost use Rattle.std.specs.Prelude.{◌≡◌};
+ghost use Rattle.pz_syntax.specs.Classes.{ModelTree};
+ghost use Rattle.pz_classes.specs.CheckedView.{checked_model};
+ghost use Rattle.pz_classes.specs.Tables as tables;
+ghost use Rattle.pz_bind.specs.NetView.{IsNet, HasProcess, IsWireOf};
+ghost use Rattle.pz_trace.specs.Labels.{path_of, wire_of};
+
+use pz_bind::Net;
+use pz_classes::Checked;
+use pz_value::Text;
+
+/// The path of a process.
+pub(crate) fn path(net: &Net, process: u32) -> &[u8]
+    requires { HasProcess net.now process }
+    ensures { (m : ModelTree) → ∥ IsNet m net.now ∥₁ → result.now ≡ path_of m process }
+{
+    net.path(process)
+}
+
+/// The name of a wire.
+pub(crate) fn wire_name(net: &Net, wire: u32) -> &[u8]
+    requires { IsWireOf net.now wire }
+    ensures { (m : ModelTree) → ∥ IsNet m net.now ∥₁ → result.now ≡ wire_of m wire }
+{
+    net.wire_name(wire)
+}
+
+/// The names of the classes, each at its number.
+pub(crate) fn class_names(checked: &Checked) -> &[Text]
+    ensures { result.now ≡ tables.class_names (checked_model checked.now) }
+{
+    checked.classes().names()
+}
