@@ -1,8 +1,9 @@
 -- The job that is read is the one that is asked for.
-use Rattle.std.proofs.Common.{◌≡◌, refl, sym, ◌∙◌, ap, subst, ℕ, ◌≤◌, Bool, true, false, not, List, [], ◌∷◌, length, map, drop, get_or, Option, Some, None, Ok, Err, Result, inl, inr, arith}
+use Rattle.std.proofs.Common.{◌≡◌, refl, sym, ◌∙◌, ap, subst, ℕ, ◌≤◌, Bool, true, false, not, List, [], ◌∷◌, length, map, take, drop, get_or, ◌-◌, Option, Some, None, Ok, Err, Result, inl, inr, arith}
 use Rattle.std.specs.Prelude.{◌⊎◌, ◌↔◌, ◌&&◌, IsTrue, IfOk, if◌then◌else◌, bytes_eq, codes, option_map}
 use Rattle.std.specs.Fmt.{decimal}
 use Rattle.std.proofs.lemmas.Bool.{cond-false}
+use Rattle.std.proofs.lemmas.List.{take_all}
 use Rattle.pz_words.specs.declared.jobs.Choice.TheVariants as choice
 use Rattle.pz_words.specs.declared.jobs.Job.{Job}
 use Rattle.pz_words.specs.declared.jobs.Job.TheVariants.{Run, Menu, Replay, Check, Make, Ring}
@@ -168,9 +169,9 @@ module _ where
   answered words (Ok o) is = reads words o is
   answered words (Err e) is = tt
 
-  pub job_first : {W : Type 0} (text : W → List ℕ) (words : List W) (w : W) → 1 ≤ length words → w ≡ get_or words 0 w → job_of (text w) (map text (drop 1 words)) ≡ job_in (map text words)
+  pub job_first : {W : Type 0} (text : W → List ℕ) (words : List W) (w : W) → 1 ≤ length words → w ≡ get_or words 0 w → job_of (text w) (map text (take (length words - 1) (drop 1 words))) ≡ job_in (map text words)
   job_first text [] w some is = absurd (omega (arith, some))
-  job_first text (v ∷ vs) w some is = ap (λ x. job_of (text x) (map text vs)) is
+  job_first text (v ∷ vs) w some is = ap (λ us. job_of (text w) (map text us)) (take_all (length (v ∷ vs) - 1) vs (omega arith)) ∙ ap (λ x. job_of (text x) (map text vs)) is
 
   pub one_job : (words : List (List ℕ)) (a b : Job) → Asks words a → Asks words b → a ≡ b
   one_job words a b asks also = some_same a b (sym (job_read words a asks) ∙ job_read words b also)

@@ -1,6 +1,6 @@
 -- What an answer of a part of the reading says of the parts that it is made of.
-use Rattle.std.proofs.Common.{◌≡◌, refl, ap, ℕ, ◌<◌, ◌≤◌, Bool, true, false, ◌&&◌, not, List, Option, Some, None, ◌⊎◌, inl, inr}
-use Rattle.std.specs.Prelude.{if◌then◌else◌, bytes_eq, option_map}
+use Rattle.std.proofs.Common.{◌≡◌, refl, ap, subst, ℕ, ◌<◌, ◌≤◌, Bool, true, false, ◌&&◌, not, List, Option, Some, None, Ok, Result, ◌⊎◌, inl, inr}
+use Rattle.std.specs.Prelude.{if◌then◌else◌, bytes_eq, option_map, IfOk}
 use Rattle.std.proofs.lemmas.Slice.Eq.{bytes_eq-Decides}
 use Rattle.pz_words.specs.Jobs.{or_else}
 use Rattle.pz_words.specs.devices.Reading.{only_if, then_maybe, is_none}
@@ -65,3 +65,6 @@ by_word w k x other y e = by_case (bytes_eq w k) (w ≡ k) (bytes_eq-Decides w k
 pub none_is : {A : Type 0} (o : Option A) → is_none o ≡ true → o ≡ None
 none_is None e = refl
 none_is (Some x) e = absurd (false_true e)
+
+pub ok_told : {A E : Type 0} (r : Result A E) (x : A) (P : A → Type 0) → r ≡ Ok x → IfOk r P → P x
+ok_told r x P e told = subst (λ s. IfOk s P) e told
