@@ -1,5 +1,5 @@
 -- The job that is read is the one that is asked for.
-use Rattle.std.proofs.Common.{◌≡◌, refl, sym, ◌∙◌, ap, subst, ℕ, ◌≤◌, Bool, true, false, not, List, [], ◌∷◌, length, map, take, drop, get_or, ◌-◌, Option, Some, None, Ok, Err, Result, inl, inr, arith}
+use Rattle.std.proofs.Common.{◌≡◌, refl, sym, ◌∙◌, ap, subst, ℕ, ◌≤◌, true, not, List, [], ◌∷◌, length, map, take, drop, get_or, ◌-◌, Option, Some, None, Ok, Err, Result, inl, inr, arith}
 use Rattle.std.specs.Prelude.{◌⊎◌, ◌↔◌, ◌&&◌, IsTrue, IfOk, if◌then◌else◌, bytes_eq, codes, option_map}
 use Rattle.std.specs.Fmt.{decimal}
 use Rattle.std.proofs.lemmas.Bool.{cond-false}
@@ -9,11 +9,10 @@ use Rattle.pz_words.specs.declared.jobs.Job.{Job}
 use Rattle.pz_words.specs.declared.jobs.Job.TheVariants.{Run, Menu, Replay, Check, Make, Ring}
 use Rattle.pz_words.specs.declared.jobs.TheConstants.{MOST_STATIONS}
 use Rattle.pz_words.specs.declared.options.Options.{Options}
-use Rattle.pz_words.specs.Numbers.{IsNumber}
-use Rattle.pz_words.specs.Options.{nothing_said, AreOptions}
+use Rattle.pz_words.specs.Options.{nothing_said}
 use Rattle.pz_words.specs.Jobs.{choice_or, units_of, limits_of, is_name, IsRingSize, OnlyUnits, Asks, run, menu, replay, check, make, ring}
 use Rattle.pz_words.specs.devices.Reading.{only_if, then_maybe, is_none, name_of, stations_of, read_on, says_only_units, units_in, run_of, menu_of, replay_of, check_of, make_of, ring_of, job_of, job_in}
-use Rattle.pz_words.proofs.Outcomes.{some_same, none_some, false_true, only_if_some, only_if_true, then_some, map_some, both_true, not_true, unless_some, by_word, none_is}
+use Rattle.pz_words.proofs.Outcomes.{some_same, none_some, only_if_some, only_if_true, then_some, map_some, both_true, not_true, unless_some, by_word, none_is}
 use Rattle.pz_words.proofs.Numerals.{between_found, is_between}
 use Rattle.pz_words.proofs.Settings.{options_read, are_options}
 

@@ -1,5 +1,5 @@
 -- What a word says is an option that is written so, and the words of an option say it.
-use Rattle.std.proofs.Common.{◌≡◌, refl, sym, ◌∙◌, ap, subst, ℕ, ◌≤◌, Bool, true, false, List, [], ◌∷◌, ◌++◌, Option, Some, None, inl, inr, arith}
+use Rattle.std.proofs.Common.{◌≡◌, refl, sym, ◌∙◌, ap, subst, ℕ, ◌≤◌, List, [], ◌∷◌, ◌++◌, Option, Some, None, inl, inr, arith}
 use Rattle.std.specs.Prelude.{◌⊎◌, if◌then◌else◌, bytes_eq, eqb, codes, option_map}
 use Rattle.std.specs.List.{slice_split}
 use Rattle.std.specs.Fmt.{decimal}

@@ -4,5 +4,4 @@ pub mod Lists
 pub mod Subjects
 pub mod Heard
 pub mod Settings
-pub mod OptionWords
 pub mod Asked

@@ -1,7 +1,7 @@
 -- The numbers that a word lists.
-use Rattle.std.proofs.Common.{◌≡◌, refl, sym, ◌∙◌, ap, subst, ℕ, ◌+◌, ◌<◌, ◌≤◌, ◌^◌, Bool, true, false, List, [], ◌∷◌, ◌++◌, length, map, Option, Some, None, arith}
+use Rattle.std.proofs.Common.{◌≡◌, refl, sym, ◌∙◌, ap, subst, ℕ, ◌≤◌, Bool, true, false, List, [], ◌∷◌, length, map, Option, Some, arith}
 use Rattle.std.specs.Prelude.{eqb, option_map, All}
-use Rattle.std.specs.List.{AllByRecursion, slice_split, join_with_byte, count_by}
+use Rattle.std.specs.List.{AllByRecursion, slice_split, join_with_byte}
 use Rattle.std.specs.Fmt.{decimal}
 use Rattle.std.specs.Str.Parse.{AllDigits}
 use Rattle.std.proofs.lemmas.Bool.{eqb-true}
@@ -10,9 +10,9 @@ use Rattle.std.proofs.lemmas.List.Splits.{slice_split_none, slice_split_at, leng
 use Rattle.std.proofs.lemmas.Str.Parse.{digit_from_value}
 use Rattle.std.proofs.lemmas.Fmt.{decimal_is_IsNumeral}
 use Rattle.std.proofs.lemmas.List.{length-map}
-use Rattle.pz_words.specs.Numbers.{IsShort, IsNumber, listed, AreEntries}
+use Rattle.pz_words.specs.Numbers.{IsShort, listed, AreEntries}
 use Rattle.pz_words.specs.devices.Reading.{number_of, numbers_of, then_maybe}
-use Rattle.pz_words.proofs.Outcomes.{some_same, none_some, then_some, map_some}
+use Rattle.pz_words.proofs.Outcomes.{some_same, then_some, map_some}
 use Rattle.pz_words.proofs.Numerals.{found, is_number}
 
 comma : ℕ → Bool

@@ -1,7 +1,7 @@
 -- What is read from the words behind the names is what their options say.
-use Rattle.std.proofs.Common.{◌≡◌, refl, sym, ◌∙◌, ap, subst, ℕ, Bool, true, false, List, [], ◌∷◌, ◌++◌, append_assoc, Option, Some, None}
-use Rattle.std.specs.Prelude.{⊤, if◌then◌else◌, codes, All}
-use Rattle.std.specs.List.{flat_map, AllByRecursion, AllPairs}
+use Rattle.std.proofs.Common.{◌≡◌, refl, sym, ◌∙◌, ap, subst, ℕ, true, List, [], ◌∷◌, ◌++◌, append_assoc, Option, Some, None}
+use Rattle.std.specs.Prelude.{if◌then◌else◌, All}
+use Rattle.std.specs.List.{flat_map}
 use Rattle.std.specs.Fmt.{decimal}
 use Rattle.std.proofs.lemmas.Bool.{cond-true}
 use Rattle.std.proofs.lemmas.List.Elements.{All-nil, All-cons, All-head, All-tail}

@@ -1,5 +1,5 @@
 -- Options none of which speaks of what another speaks of are each free when they are read.
-use Rattle.std.proofs.Common.{◌≡◌, ◌≢◌, refl, sym, ◌∙◌, ℕ, zero, suc, ◌+◌, ◌<◌, Bool, true, false, List, [], ◌∷◌, length, arith}
+use Rattle.std.proofs.Common.{◌≡◌, refl, suc, true, List, [], ◌∷◌, arith}
 use Rattle.std.specs.Prelude.{⊤, All}
 use Rattle.std.specs.List.{AllPairs, slice_index_or}
 use Rattle.std.proofs.lemmas.List.Elements.{All-nil, All-cons, All-head, All-tail}
@@ -7,7 +7,7 @@ use Rattle.std.proofs.lemmas.List.Kept.{AllPairs-cons}
 use Rattle.pz_words.specs.declared.options.Setting.{Setting}
 use Rattle.pz_words.specs.declared.options.Setting.TheVariants.{Chooses, Steps, Until, Units, Summary}
 use Rattle.pz_words.specs.declared.options.Options.{Options}
-use Rattle.pz_words.specs.Options.{Subject, choosing, most_steps, last_clock, units_each, printing, subject_of, with_setting, nothing_said, DifferInSubject}
+use Rattle.pz_words.specs.Options.{with_setting, nothing_said, DifferInSubject}
 use Rattle.pz_words.specs.devices.Reading.{is_free}
 use Rattle.pz_words.proofs.Outcomes.{false_true}
 

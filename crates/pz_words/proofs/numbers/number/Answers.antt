@@ -1,5 +1,5 @@
-use Rattle.std.proofs.Common.{◌≡◌, sym, ◌∙◌, ap, true, false, None}
-use Rattle.pz_words.specs.devices.Reading.{number_of, is_plain}
+use Rattle.std.proofs.Common.{◌≡◌, sym, ◌∙◌, ap, true, false}
+use Rattle.pz_words.specs.devices.Reading.{is_plain}
 use Rattle.pz_words.proofs.Numerals.{parsed, no_number}
 use Rattle.pz_words.proofs.numbers.number.Goals as goal
 

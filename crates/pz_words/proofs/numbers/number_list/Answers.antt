@@ -10,6 +10,6 @@ use Rattle.pz_words.proofs.numbers.number_list.Goals as goal
 pub returns : goal.returns
 returns c =
     let parts : map (λ p. p.now) c.in_ok-parts.parts.items ≡ slice_split (λ b. eqb b 44) c.args.word.now =
-        ok_told c.collect.result c.in_ok-parts.parts _ c.in_ok-parts.was
-        (map_from_collect c.collect.result c.collect.ensures.ran (YieldsList-from_str_split 44 c.args.word.now (lit< tt) c.split.ensures.text c.split.ensures.has_more c.split.ensures.pattern)) in
+    ok_told c.collect.result c.in_ok-parts.parts _ c.in_ok-parts.was
+    (map_from_collect c.collect.result c.collect.ensures.ran (YieldsList-from_str_split 44 c.args.word.now (lit< tt) c.split.ensures.text c.split.ensures.has_more c.split.ensures.pattern)) in
     subst (λ (ws : List (List ℕ)). IfOk c.numbers_in.result (λ found. found ≡ numbers_of ws)) (ap (map (λ p. p.now)) c.as_slice.ensures.value ∙ parts) c.numbers_in.ensures
