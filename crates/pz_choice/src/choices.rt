@@ -26,8 +26,10 @@ impl Choices {
         ensures list { self.new.list ≡ self.old.list }
         ensures next { self.new.next ≡ min (self.old.next + 1) (length self.old.list) }
     {
-        let entry = self.ahead()?;
-        self.next += 1;
-        Some(entry)
+        let entry = self.ahead();
+        if self.next < self.list.len() as u64 {
+            self.next += 1;
+        }
+        entry
     }
 }

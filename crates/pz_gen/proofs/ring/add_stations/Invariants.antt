@@ -3,4 +3,4 @@ use Rattle.pz_gen.specs.Ring.{each, station, channel, halted_end}
 use Rattle.pz_gen.proofs.ring.add_stations.Given as goal
 
 abbrev pub invariant-loop-i : goal.invariant-loop-i
-invariant-loop-i l = string_bytes l.text ≡ string_bytes l.initial.text ++ each l.i station
+invariant-loop-i l = string_bytes l.text ≡ string_bytes l.initial.text ++ each l.i-counter station
