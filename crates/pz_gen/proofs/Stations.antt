@@ -22,8 +22,18 @@ module _ where
       ∙ ap (λ (l : List ℕ). each i text ++ l) (append-nil (text i))
 
   -- the text of one more behind what was begun with
-  pub added : (begun : List ℕ) (text : ℕ → List ℕ) (i : ℕ) → (begun ++ each i text) ++ text i ≡ begun ++ each (i + 1) text
-  added begun text i = append_assoc begun (each i text) (text i) ∙ ap (λ (l : List ℕ). begun ++ l) (sym (each-more text i))
+  pub goes_on : (text : ℕ → List ℕ) (i : ℕ) (begun now later line : List ℕ) → now ≡ begun ++ each i text → later ≡ now ++ line → line ≡ text i → later ≡ begun ++ each (i + 1) text
+  goes_on text i begun now later line so_far more is =
+      more ∙ ap (λ (l : List ℕ). l ++ line) so_far
+      ∙ append_assoc begun (each i text) line
+      ∙ ap (λ (l : List ℕ). begun ++ (each i text ++ l)) is
+      ∙ ap (λ (l : List ℕ). begun ++ l) (sym (each-more text i))
 
-  pub none_added : (begun : List ℕ) (text : ℕ → List ℕ) → begun ≡ begun ++ each 0 text
-  none_added begun text = sym (append-nil begun)
+  -- parts that were added one after another
+  pub all_parts : (a b c d e first second third fourth whole : List ℕ) → first ≡ a → second ≡ first ++ b → third ≡ second ++ c → fourth ≡ third ++ d → whole ≡ fourth ++ e → whole ≡ a ++ (b ++ (c ++ (d ++ e)))
+  all_parts a b c d e first second third fourth whole is_first is_second is_third is_fourth is_whole =
+      let two : second ≡ a ++ b = is_second ∙ ap (λ (l : List ℕ). l ++ b) is_first in
+      let three : third ≡ (a ++ b) ++ c = is_third ∙ ap (λ (l : List ℕ). l ++ c) two in
+      let four : fourth ≡ ((a ++ b) ++ c) ++ d = is_fourth ∙ ap (λ (l : List ℕ). l ++ d) three in
+      is_whole ∙ ap (λ (l : List ℕ). l ++ e) four
+      ∙ append_assoc ((a ++ b) ++ c) d e ∙ append_assoc (a ++ b) c (d ++ e) ∙ append_assoc a b (c ++ (d ++ e))

@@ -3,11 +3,11 @@ use Rattle.std.specs.Prelude.{ℕ, ◌+◌, ◌==◌, if◌then◌else◌, List,
 use Rattle.std.specs.List.{flat_map, range_with_len}
 use Rattle.std.specs.Fmt.{decimal}
 
-abbrev pub line : List ℕ → List ℕ
-line text = text ++ codes "\n"
+abbrev pub lines : List (List ℕ) → List ℕ
+lines texts = flat_map (λ t. t ++ codes "\n") texts
 
 abbrev pub classes : List ℕ
-classes = flat_map line (
+classes = lines (
     codes "process class Station(first : Boolean)" ∷
     codes "ports left, right, sup" ∷
     codes "messages left?token(Integer), right!token(Integer), sup?halt" ∷
@@ -34,14 +34,14 @@ abbrev pub is_first : ℕ → List ℕ
 is_first i = if i == 0 then codes "true" else codes "false"
 
 abbrev pub station : ℕ → List ℕ
-station i = line (name i ++ (codes " : Station(first := " ++ (is_first i ++ codes ")")))
+station i = name i ++ (codes " : Station(first := " ++ (is_first i ++ codes ")\n"))
 
 -- of so many stations, the one behind this one; behind the last one comes the first
 abbrev pub next : ℕ → ℕ → ℕ
 next n i = if i + 1 == n then 0 else i + 1
 
 abbrev pub channel : ℕ → ℕ → List ℕ
-channel n i = line (codes "{" ++ (name i ++ (codes ".right, " ++ (name (next n i) ++ codes ".left}"))))
+channel n i = codes "{" ++ (name i ++ (codes ".right, " ++ (name (next n i) ++ codes ".left}\n")))
 
 abbrev pub halted_end : ℕ → List ℕ
 halted_end i = codes ", " ++ (name i ++ codes ".sup")
@@ -52,7 +52,7 @@ each n text = flat_map text (range_with_len 0 n)
 
 -- the channel of the supervisor and all stations
 abbrev pub halting : ℕ → List ℕ
-halting n = line (codes "{v.sup" ++ (each n halted_end ++ codes "}"))
+halting n = codes "{v.sup" ++ (each n halted_end ++ codes "}\n")
 
 abbrev pub model : ℕ → List ℕ
-model n = classes ++ (each n station ++ (line (codes "v : Supervisor") ++ (line (codes "channels") ++ (each n (channel n) ++ halting n))))
+model n = classes ++ (each n station ++ (lines (codes "v : Supervisor" ∷ codes "channels" ∷ []) ++ (each n (channel n) ++ halting n)))

@@ -49,12 +49,20 @@ fn add_stations(alloc: Global, text: &mut String, n: u32) -> Result<(), AllocErr
     Ok(())
 }
 
+/// Of so many stations, the one behind this one.
+fn station_behind(n: u32, i: u32) -> u32
+    requires { i < n }
+    ensures { result ≡ ring.next n i }
+{
+    if i + 1 == n { 0 } else { i + 1 }
+}
+
 /// Adds the channels from each station to the next. The only error is want of memory.
 fn add_channels(alloc: Global, text: &mut String, n: u32) -> Result<(), AllocError>
     ensures { OnOk result (string_bytes text.new ≡ string_bytes text.old ++ ring.each n (ring.channel n)) }
 {
     for i in 0..n {
-        let next = if i + 1 == n { 0 } else { i + 1 };
+        let next = station_behind(n, i);
         let line = format!(in alloc; "{{s{i}.right, s{next}.left}}\n")?;
         text.push_str(line.as_str())?;
     }
