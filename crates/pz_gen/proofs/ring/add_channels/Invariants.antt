@@ -1,5 +1,5 @@
 use Rattle.std.proofs.Common.{◌≡◌, ◌++◌, string_bytes}
-use Rattle.pz_gen.specs.Ring.{each, station, channel, halted_end}
+use Rattle.pz_gen.specs.Ring.{each, channel}
 use Rattle.pz_gen.proofs.ring.add_channels.Given as goal
 
 abbrev pub invariant-loop-i : goal.invariant-loop-i

@@ -1,4 +1,4 @@
-use Rattle.std.proofs.Common.{◌≡◌, ◌∙◌, ap, refl, string_bytes, codes}
+use Rattle.std.proofs.Common.{◌≡◌, ◌∙◌, ap, string_bytes, codes}
 use Rattle.pz_gen.specs.Ring.{classes, each, station, channel, halting, model}
 use Rattle.pz_gen.proofs.Stations.{all_parts}
 use Rattle.pz_gen.proofs.ring.make.Goals as goal
