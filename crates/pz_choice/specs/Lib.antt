@@ -1,0 +1,3 @@
+pub mod SeededWords
+pub mod Resolvers
+pub mod Choosers
