@@ -1,0 +1,99 @@
+-- A guard that closes at the very moment at which nothing is left of the delay behind it: the delay does
+-- not end, and so the process never does.
+--
+--   process class P
+--   variables n : Integer
+--   init a()()
+--   methods a()()
+--   n := 1;
+--   par
+--   [currentTime < 5] delay 5
+--   and
+--   delay 8
+--   rap
+--   system instances p : P
+use Rattle.std.proofs.Common.{◌≡◌, ℕ, pos, true, false, List, [], ◌∷◌, map, Some, None, codes, refl}
+use Rattle.pz_syntax.specs.declared.tokens.Symbol.TheVariants.{Greater, Less}
+use Rattle.pz_syntax.specs.declared.clusters.ChannelEnd.TheVariants.{Inner}
+use Rattle.pz_syntax.specs.declared.exprs.Literal.TheVariants as literal
+use Rattle.pz_syntax.specs.Expressions.{variable, me, clock, creation, chain, sends, assign, returned, none, left_out, written, no_links, link, no_sendings, sending}
+use Rattle.pz_syntax.specs.Expressions as expression
+use Rattle.pz_syntax.specs.Statements.{skip, delay, bracketed, send, receive, call, assignment, value}
+use Rattle.pz_syntax.specs.Statements as statement
+use Rattle.pz_syntax.specs.Classes.{data_class, process_class, ModelTree}
+use Rattle.pz_value.specs.declared.value.Value.{Value}
+use Rattle.pz_value.specs.declared.value.Value.TheVariants.{Nil, Ref}
+use Rattle.pz_code.specs.declared.slot.Slot.TheVariants.{Shared}
+use Rattle.pz_copy.specs.Parcels.{ParcelView}
+use Rattle.pz_state.specs.Objects.{ObjectView}
+use Rattle.pz_state.specs.States.{Frames}
+use Rattle.pz_rules.specs.declared.action.Kind.TheVariants.{Skip, Eval, Expire, Call}
+use Rattle.pz_rules.specs.declared.action.Action.{Action}
+use Rattle.pz_rules.specs.declared.action.Action.TheVariants.{Comm}
+use Rattle.pz_rules.specs.declared.moment.Moment.TheVariants.{Finished, Deadlock}
+use Rattle.pz_rules.specs.Terms.{Code, Step, Term, done, leaf, wait, sequence, parallel, guarded, frame, abort, idle, handling}
+use Rattle.pz_rules.specs.Settings.{Setting, Process}
+use Rattle.pz_rules.specs.Configurations.{Config}
+use Rattle.pz_rules.proofs.worked.Models.{at, id, integer, expressions, steps, branches, group_of, message_of, begins_by, method_of, instance_of, gives, channel_of, system_of, class, evaluations, of_model, at_clock, before, within, terms, number, object_of, end, nothing, internal}
+use Rattle.pz_rules.proofs.worked.Shown.{Trace, takes, waits, traced}
+
+abbrev model : ModelTree
+model = record {
+  decls =
+      process_class (record {
+          name = (id (codes "P") 1 15);
+          parameters = None;
+          parent = None;
+          ports = None;
+          messages = None;
+          variables = (Some (group_of ((id (codes "n") 2 11) ∷ []) (id (codes "Integer") 2 15) ∷ []));
+          start = begins_by (id (codes "a") 3 6);
+          methods = (Some (method_of (id (codes "a") 4 9) (steps ((assignment (at 5 1) (id (codes "n") 5 1) (integer (at 5 6) 1)) ∷ (statement.parallel (at 6 1) (branches ((steps ((statement.guarded (at 7 1) (chain (at 7 2) (clock (at 7 2)) (link Less (at 7 14) (integer (at 7 16) 5) no_links)) (delay (at 7 19) (integer (at 7 25) 5))) ∷ [])) ∷ (steps ((delay (at 9 1) (integer (at 9 7) 8)) ∷ [])) ∷ []))) ∷ [])) ∷ []));
+        }) ∷
+      system_of (at 11 1) (instance_of (id (codes "p") 11 18) (id (codes "P") 11 22) None ∷ []) None ∷ [];
+}
+
+abbrev setting : Setting
+setting = of_model model
+
+-- Its statements
+
+abbrev begins : Step
+begins = call (at 3 6) (id (codes "a") 3 6) none []
+
+abbrev opens_it : Step
+opens_it = value (at 5 1) (assign (at 5 1) (Shared 0) (integer (at 5 6) 1))
+
+abbrev both : Step
+both = statement.parallel (at 6 1) (branches ((steps ((statement.guarded (at 7 1) (chain (at 7 2) (clock (at 7 2)) (link Less (at 7 14) (integer (at 7 16) 5) no_links)) (delay (at 7 19) (integer (at 7 25) 5))) ∷ [])) ∷ (steps ((delay (at 9 1) (integer (at 9 7) 8)) ∷ [])) ∷ []))
+
+abbrev works : Step
+works = delay (at 7 19) (integer (at 7 25) 5)
+
+abbrev delays : Step
+delays = delay (at 9 1) (integer (at 9 7) 8)
+
+abbrev test : Code
+test = chain (at 7 2) (clock (at 7 2)) (link Less (at 7 14) (integer (at 7 16) 5) no_links)
+
+-- Where it stands: before its first step, and with one variable
+
+pub trace : Trace setting
+    (
+      takes (internal 0 [] Call (at 3 6) ∷ []) 0 (at_clock 0 (within (sequence (leaf opens_it) (steps (both ∷ []))) (Nil ∷ []) ∷ [])) ∷
+      takes (internal 0 (0 ∷ 0 ∷ []) Eval (at 5 1) ∷ []) 0 (at_clock 0 (within (parallel (terms (guarded test (at 7 1) (leaf works) ∷ leaf delays ∷ []))) (number 1 ∷ []) ∷ [])) ∷
+      waits 5 (at_clock 5 (within (parallel (terms (guarded test (at 7 1) (wait 0 (at 7 19)) ∷ wait 3 (at 9 1) ∷ []))) (number 1 ∷ []) ∷ [])) ∷
+      waits 3 (at_clock 8 (within (parallel (terms (guarded test (at 7 1) (wait 0 (at 7 19)) ∷ wait 0 (at 9 1) ∷ []))) (number 1 ∷ []) ∷ [])) ∷
+      takes (internal 0 (0 ∷ 1 ∷ []) Expire (at 9 1) ∷ []) 0 (at_clock 8 (within (parallel (terms (guarded test (at 7 1) (wait 0 (at 7 19)) ∷ done ∷ []))) (number 1 ∷ []) ∷ [])) ∷
+      []
+    )
+    Deadlock
+unfolding evaluations
+trace = traced setting refl (before (leaf begins) (Nil ∷ []) ∷ []) _ _ refl
+    (
+      (refl, refl, refl, tt, refl, 
+      (refl, refl, refl, tt, refl, 
+      (refl, refl, refl, refl, 
+      (refl, refl, refl, refl, 
+      (refl, refl, refl, tt, refl, (refl, refl, refl, refl))))))
+    )

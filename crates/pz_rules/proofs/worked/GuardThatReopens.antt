@@ -1,0 +1,118 @@
+-- A guard that another part of the same process closes and opens again: meanwhile the delay behind it
+-- stands still.
+--
+--   process class P
+--   variables n : Integer
+--   init a()()
+--   methods a()()
+--   n := 1;
+--   par
+--   [n > 0] delay 5
+--   and
+--   delay 2; n := 0; delay 3; n := 1
+--   rap
+--   system instances p : P
+use Rattle.std.proofs.Common.{◌≡◌, ℕ, pos, true, false, List, [], ◌∷◌, map, Some, None, codes, refl}
+use Rattle.pz_syntax.specs.declared.tokens.Symbol.TheVariants.{Greater, Less}
+use Rattle.pz_syntax.specs.declared.clusters.ChannelEnd.TheVariants.{Inner}
+use Rattle.pz_syntax.specs.declared.exprs.Literal.TheVariants as literal
+use Rattle.pz_syntax.specs.Expressions.{variable, me, clock, creation, chain, sends, assign, returned, none, left_out, written, no_links, link, no_sendings, sending}
+use Rattle.pz_syntax.specs.Expressions as expression
+use Rattle.pz_syntax.specs.Statements.{skip, delay, bracketed, send, receive, call, assignment, value}
+use Rattle.pz_syntax.specs.Statements as statement
+use Rattle.pz_syntax.specs.Classes.{data_class, process_class, ModelTree}
+use Rattle.pz_value.specs.declared.value.Value.{Value}
+use Rattle.pz_value.specs.declared.value.Value.TheVariants.{Nil, Ref}
+use Rattle.pz_code.specs.declared.slot.Slot.TheVariants.{Shared}
+use Rattle.pz_copy.specs.Parcels.{ParcelView}
+use Rattle.pz_state.specs.Objects.{ObjectView}
+use Rattle.pz_state.specs.States.{Frames}
+use Rattle.pz_rules.specs.declared.action.Kind.TheVariants.{Skip, Eval, Expire, Call}
+use Rattle.pz_rules.specs.declared.action.Action.{Action}
+use Rattle.pz_rules.specs.declared.action.Action.TheVariants.{Comm}
+use Rattle.pz_rules.specs.declared.moment.Moment.TheVariants.{Finished, Deadlock}
+use Rattle.pz_rules.specs.Terms.{Code, Step, Term, done, leaf, wait, sequence, parallel, guarded, frame, abort, idle, handling}
+use Rattle.pz_rules.specs.Settings.{Setting, Process}
+use Rattle.pz_rules.specs.Configurations.{Config}
+use Rattle.pz_rules.proofs.worked.Models.{at, id, integer, expressions, steps, branches, group_of, message_of, begins_by, method_of, instance_of, gives, channel_of, system_of, class, evaluations, of_model, at_clock, before, within, terms, number, object_of, end, nothing, internal}
+use Rattle.pz_rules.proofs.worked.Shown.{Trace, takes, waits, traced}
+
+abbrev model : ModelTree
+model = record {
+  decls =
+      process_class (record {
+          name = (id (codes "P") 1 15);
+          parameters = None;
+          parent = None;
+          ports = None;
+          messages = None;
+          variables = (Some (group_of ((id (codes "n") 2 11) ∷ []) (id (codes "Integer") 2 15) ∷ []));
+          start = begins_by (id (codes "a") 3 6);
+          methods = (Some (method_of (id (codes "a") 4 9) (steps ((assignment (at 5 1) (id (codes "n") 5 1) (integer (at 5 6) 1)) ∷ (statement.parallel (at 6 1) (branches ((steps ((statement.guarded (at 7 1) (chain (at 7 2) (variable (at 7 2) (id (codes "n") 7 2)) (link Greater (at 7 4) (integer (at 7 6) 0) no_links)) (delay (at 7 9) (integer (at 7 15) 5))) ∷ [])) ∷ (steps ((delay (at 9 1) (integer (at 9 7) 2)) ∷ (assignment (at 9 10) (id (codes "n") 9 10) (integer (at 9 15) 0)) ∷ (delay (at 9 18) (integer (at 9 24) 3)) ∷ (assignment (at 9 27) (id (codes "n") 9 27) (integer (at 9 32) 1)) ∷ [])) ∷ []))) ∷ [])) ∷ []));
+        }) ∷
+      system_of (at 11 1) (instance_of (id (codes "p") 11 18) (id (codes "P") 11 22) None ∷ []) None ∷ [];
+}
+
+abbrev setting : Setting
+setting = of_model model
+
+-- Its statements
+
+abbrev begins : Step
+begins = call (at 3 6) (id (codes "a") 3 6) none []
+
+abbrev opens_it : Step
+opens_it = value (at 5 1) (assign (at 5 1) (Shared 0) (integer (at 5 6) 1))
+
+abbrev both : Step
+both = statement.parallel (at 6 1) (branches ((steps ((statement.guarded (at 7 1) (chain (at 7 2) (variable (at 7 2) (Shared 0)) (link Greater (at 7 4) (integer (at 7 6) 0) no_links)) (delay (at 7 9) (integer (at 7 15) 5))) ∷ [])) ∷ (steps ((delay (at 9 1) (integer (at 9 7) 2)) ∷ (value (at 9 10) (assign (at 9 10) (Shared 0) (integer (at 9 15) 0))) ∷ (delay (at 9 18) (integer (at 9 24) 3)) ∷ (value (at 9 27) (assign (at 9 27) (Shared 0) (integer (at 9 32) 1))) ∷ [])) ∷ []))
+
+abbrev works : Step
+works = delay (at 7 9) (integer (at 7 15) 5)
+
+abbrev delays : Step
+delays = delay (at 9 1) (integer (at 9 7) 2)
+
+abbrev closes : Step
+closes = value (at 9 10) (assign (at 9 10) (Shared 0) (integer (at 9 15) 0))
+
+abbrev delays_again : Step
+delays_again = delay (at 9 18) (integer (at 9 24) 3)
+
+abbrev reopens : Step
+reopens = value (at 9 27) (assign (at 9 27) (Shared 0) (integer (at 9 32) 1))
+
+abbrev test : Code
+test = chain (at 7 2) (variable (at 7 2) (Shared 0)) (link Greater (at 7 4) (integer (at 7 6) 0) no_links)
+
+-- Where it stands: before its first step, and with one variable
+
+pub trace : Trace setting
+    (
+      takes (internal 0 [] Call (at 3 6) ∷ []) 0 (at_clock 0 (within (sequence (leaf opens_it) (steps (both ∷ []))) (Nil ∷ []) ∷ [])) ∷
+      takes (internal 0 (0 ∷ 0 ∷ []) Eval (at 5 1) ∷ []) 0 (at_clock 0 (within (parallel (terms (guarded test (at 7 1) (leaf works) ∷ sequence (leaf delays) (steps (closes ∷ delays_again ∷ reopens ∷ [])) ∷ []))) (number 1 ∷ []) ∷ [])) ∷
+      waits 2 (at_clock 2 (within (parallel (terms (guarded test (at 7 1) (wait 3 (at 7 9)) ∷ sequence (wait 0 (at 9 1)) (steps (closes ∷ delays_again ∷ reopens ∷ [])) ∷ []))) (number 1 ∷ []) ∷ [])) ∷
+      takes (internal 0 (0 ∷ 1 ∷ 0 ∷ []) Expire (at 9 1) ∷ []) 0 (at_clock 2 (within (parallel (terms (guarded test (at 7 1) (wait 3 (at 7 9)) ∷ sequence (leaf closes) (steps (delays_again ∷ reopens ∷ [])) ∷ []))) (number 1 ∷ []) ∷ [])) ∷
+      takes (internal 0 (0 ∷ 1 ∷ 0 ∷ []) Eval (at 9 10) ∷ []) 0 (at_clock 2 (within (parallel (terms (guarded test (at 7 1) (wait 3 (at 7 9)) ∷ sequence (leaf delays_again) (steps (reopens ∷ [])) ∷ []))) (number 0 ∷ []) ∷ [])) ∷
+      waits 3 (at_clock 5 (within (parallel (terms (guarded test (at 7 1) (wait 3 (at 7 9)) ∷ sequence (wait 0 (at 9 18)) (steps (reopens ∷ [])) ∷ []))) (number 0 ∷ []) ∷ [])) ∷
+      takes (internal 0 (0 ∷ 1 ∷ 0 ∷ []) Expire (at 9 18) ∷ []) 0 (at_clock 5 (within (parallel (terms (guarded test (at 7 1) (wait 3 (at 7 9)) ∷ leaf reopens ∷ []))) (number 0 ∷ []) ∷ [])) ∷
+      takes (internal 0 (0 ∷ 1 ∷ []) Eval (at 9 27) ∷ []) 0 (at_clock 5 (within (parallel (terms (guarded test (at 7 1) (wait 3 (at 7 9)) ∷ done ∷ []))) (number 1 ∷ []) ∷ [])) ∷
+      waits 3 (at_clock 8 (within (parallel (terms (guarded test (at 7 1) (wait 0 (at 7 9)) ∷ done ∷ []))) (number 1 ∷ []) ∷ [])) ∷
+      takes (internal 0 (0 ∷ 0 ∷ 0 ∷ []) Expire (at 7 9) ∷ []) 0 (at_clock 8 (before done (number 1 ∷ []) ∷ [])) ∷
+      []
+    )
+    Finished
+unfolding evaluations
+trace = traced setting refl (before (leaf begins) (Nil ∷ []) ∷ []) _ _ refl
+    (
+      (refl, refl, refl, tt, refl, 
+      (refl, refl, refl, tt, refl, 
+      (refl, refl, refl, refl, 
+      (refl, refl, refl, tt, refl, 
+      (refl, refl, refl, tt, refl, 
+      (refl, refl, refl, refl, 
+      (refl, refl, refl, tt, refl, 
+      (refl, refl, refl, tt, refl, 
+      (refl, refl, refl, refl, 
+      (refl, refl, refl, tt, refl, (refl, refl, refl, refl)))))))))))
+    )

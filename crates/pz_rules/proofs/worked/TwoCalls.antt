@@ -1,0 +1,96 @@
+-- Two calls of one method side by side: their skips look alike, and are two offers.
+--
+--   process class P
+--   init a()()
+--   methods a()()
+--   par b()() and b()() rap
+--   b()() skip
+--   system instances p : P
+use Rattle.std.proofs.Common.{◌≡◌, ℕ, pos, true, false, List, [], ◌∷◌, map, Some, None, codes, refl}
+use Rattle.pz_syntax.specs.declared.tokens.Symbol.TheVariants.{Greater, Less}
+use Rattle.pz_syntax.specs.declared.clusters.ChannelEnd.TheVariants.{Inner}
+use Rattle.pz_syntax.specs.declared.exprs.Literal.TheVariants as literal
+use Rattle.pz_syntax.specs.Expressions.{variable, me, clock, creation, chain, sends, assign, returned, none, left_out, written, no_links, link, no_sendings, sending}
+use Rattle.pz_syntax.specs.Expressions as expression
+use Rattle.pz_syntax.specs.Statements.{skip, delay, bracketed, send, receive, call, assignment, value}
+use Rattle.pz_syntax.specs.Statements as statement
+use Rattle.pz_syntax.specs.Classes.{data_class, process_class, ModelTree}
+use Rattle.pz_value.specs.declared.value.Value.{Value}
+use Rattle.pz_value.specs.declared.value.Value.TheVariants.{Nil, Ref}
+use Rattle.pz_code.specs.declared.slot.Slot.TheVariants.{Shared}
+use Rattle.pz_copy.specs.Parcels.{ParcelView}
+use Rattle.pz_state.specs.Objects.{ObjectView}
+use Rattle.pz_state.specs.States.{Frames}
+use Rattle.pz_rules.specs.declared.action.Kind.TheVariants.{Skip, Eval, Expire, Call}
+use Rattle.pz_rules.specs.declared.action.Action.{Action}
+use Rattle.pz_rules.specs.declared.action.Action.TheVariants.{Comm}
+use Rattle.pz_rules.specs.declared.moment.Moment.TheVariants.{Finished, Deadlock}
+use Rattle.pz_rules.specs.Terms.{Code, Step, Term, done, leaf, wait, sequence, parallel, guarded, frame, abort, idle, handling}
+use Rattle.pz_rules.specs.Settings.{Setting, Process}
+use Rattle.pz_rules.specs.Configurations.{Config}
+use Rattle.pz_rules.proofs.worked.Models.{at, id, integer, expressions, steps, branches, group_of, message_of, begins_by, method_of, instance_of, gives, channel_of, system_of, class, evaluations, of_model, at_clock, before, within, terms, number, object_of, end, nothing, internal}
+use Rattle.pz_rules.proofs.worked.Shown.{Trace, takes, waits, traced}
+
+abbrev model : ModelTree
+model = record {
+  decls =
+      process_class (record {
+          name = (id (codes "P") 1 15);
+          parameters = None;
+          parent = None;
+          ports = None;
+          messages = None;
+          variables = None;
+          start = begins_by (id (codes "a") 2 6);
+          methods = (Some (method_of (id (codes "a") 3 9) (steps ((statement.parallel (at 4 1) (branches ((steps ((call (at 4 5) (id (codes "b") 4 5) none []) ∷ [])) ∷ (steps ((call (at 4 15) (id (codes "b") 4 15) none []) ∷ [])) ∷ []))) ∷ [])) ∷ method_of (id (codes "b") 5 1) (steps ((skip (at 5 7)) ∷ [])) ∷ []));
+        }) ∷
+      system_of (at 6 1) (instance_of (id (codes "p") 6 18) (id (codes "P") 6 22) None ∷ []) None ∷ [];
+}
+
+abbrev setting : Setting
+setting = of_model model
+
+-- Its statements
+
+abbrev begins : Step
+begins = call (at 2 6) (id (codes "a") 2 6) none []
+
+abbrev calls_b : Step
+calls_b = call (at 4 5) (id (codes "b") 4 5) none []
+
+abbrev calls_b_too : Step
+calls_b_too = call (at 4 15) (id (codes "b") 4 15) none []
+
+abbrev rests : Step
+rests = skip (at 5 7)
+
+-- Where it stands: with the frames of these numbers, which have no locals
+
+abbrev numbered : List ℕ → Frames
+numbered numbers = map (λ n. (n, [])) numbers
+
+abbrev with_frames : List ℕ → Term → Term → Process
+with_frames numbers t u = record { term = frame 1 0 [] (parallel (terms (t ∷ u ∷ []))); state = record { vars = []; frames = numbered numbers; objects = [] } }
+
+abbrev in_b : ℕ → Term
+in_b n = frame n 0 [] (leaf rests)
+
+pub trace : Trace setting
+    (
+      takes (internal 0 [] Call (at 2 6) ∷ []) 0 (at_clock 0 (with_frames (1 ∷ []) (leaf calls_b) (leaf calls_b_too) ∷ [])) ∷
+      takes (internal 0 (0 ∷ 0 ∷ []) Call (at 4 5) ∷ internal 0 (0 ∷ 1 ∷ []) Call (at 4 15) ∷ []) 0 (at_clock 0 (with_frames (1 ∷ 2 ∷ []) (in_b 2) (leaf calls_b_too) ∷ [])) ∷
+      takes (internal 0 (0 ∷ 0 ∷ 0 ∷ []) Skip (at 5 7) ∷ internal 0 (0 ∷ 1 ∷ []) Call (at 4 15) ∷ []) 1 (at_clock 0 (with_frames (1 ∷ 2 ∷ 3 ∷ []) (in_b 2) (in_b 3) ∷ [])) ∷
+      takes (internal 0 (0 ∷ 0 ∷ 0 ∷ []) Skip (at 5 7) ∷ internal 0 (0 ∷ 1 ∷ 0 ∷ []) Skip (at 5 7) ∷ []) 1 (at_clock 0 (with_frames (1 ∷ 2 ∷ []) (in_b 2) done ∷ [])) ∷
+      takes (internal 0 (0 ∷ 0 ∷ 0 ∷ []) Skip (at 5 7) ∷ []) 0 (at_clock 0 (before done [] ∷ [])) ∷
+      []
+    )
+    Finished
+unfolding evaluations
+trace = traced setting refl (before (leaf begins) [] ∷ []) _ _ refl
+    (
+      (refl, refl, refl, tt, refl, 
+      (refl, refl, refl, tt, refl, 
+      (refl, refl, refl, tt, refl, 
+      (refl, refl, refl, tt, refl, 
+      (refl, refl, refl, tt, refl, (refl, refl, refl, refl))))))
+    )
