@@ -14,3 +14,4 @@ mod GuardThatReopens
 mod GuardThatCloses
 mod TwoCalls
 mod ObjectsInMessages
+mod NoTalkToItself

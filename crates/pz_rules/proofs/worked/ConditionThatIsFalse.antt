@@ -38,31 +38,31 @@ use Rattle.pz_rules.specs.Terms.{Code, Step, Term, done, leaf, wait, sequence, p
 use Rattle.pz_rules.specs.Settings.{Setting, Process}
 use Rattle.pz_rules.specs.Configurations.{Config}
 use Rattle.pz_rules.proofs.worked.Models.{at, id, integer, expressions, steps, branches, group_of, message_of, begins_by, method_of, instance_of, gives, channel_of, system_of, class, evaluations, of_model, at_clock, before, within, terms, number, object_of, end, nothing, internal}
-use Rattle.pz_rules.proofs.worked.Shown.{Trace, takes, waits, traced}
+use Rattle.pz_rules.proofs.worked.Shown.{Shown, takes, waits, Trace, acts, passes, ends, locks, traced}
 
 abbrev model : ModelTree
 model = record {
   decls =
       process_class (record {
-          name = (id (codes "S") 1 15);
-          parameters = (Some (group_of ((id (codes "v") 1 17) ∷ []) (id (codes "Integer") 1 21) ∷ []));
-          parent = None;
-          ports = (Some ((id (codes "o") 2 7) ∷ []));
-          messages = (Some (message_of (id (codes "o") 3 10) true (id (codes "m") 3 12) (Some ((id (codes "Integer") 3 14) ∷ [])) ∷ []));
-          variables = None;
-          start = begins_by (id (codes "a") 4 6);
-          methods = (Some (method_of (id (codes "a") 5 9) (steps ((send (at 5 15) (id (codes "o") 5 15) (id (codes "m") 5 17) (written (expressions ((variable (at 5 19) (id (codes "v") 5 19)) ∷ []))) left_out) ∷ [])) ∷ []));
-        }) ∷
+        name = (id (codes "S") 1 15);
+        parameters = (Some (group_of ((id (codes "v") 1 17) ∷ []) (id (codes "Integer") 1 21) ∷ []));
+        parent = None;
+        ports = (Some ((id (codes "o") 2 7) ∷ []));
+        messages = (Some (message_of (id (codes "o") 3 10) true (id (codes "m") 3 12) (Some ((id (codes "Integer") 3 14) ∷ [])) ∷ []));
+        variables = None;
+        start = begins_by (id (codes "a") 4 6);
+        methods = (Some (method_of (id (codes "a") 5 9) (steps ((send (at 5 15) (id (codes "o") 5 15) (id (codes "m") 5 17) (written (expressions ((variable (at 5 19) (id (codes "v") 5 19)) ∷ []))) left_out) ∷ [])) ∷ []));
+      }) ∷
       process_class (record {
-          name = (id (codes "R") 6 15);
-          parameters = None;
-          parent = None;
-          ports = (Some ((id (codes "i") 7 7) ∷ []));
-          messages = (Some (message_of (id (codes "i") 8 10) false (id (codes "m") 8 12) (Some ((id (codes "Integer") 8 14) ∷ [])) ∷ []));
-          variables = (Some (group_of ((id (codes "x") 9 11) ∷ []) (id (codes "Integer") 9 15) ∷ []));
-          start = begins_by (id (codes "a") 10 6);
-          methods = (Some (method_of (id (codes "a") 11 9) (steps ((receive (at 11 15) (id (codes "i") 11 15) (id (codes "m") 11 17) (Some ((id (codes "x") 11 19) ∷ [])) (Some ((chain (at 11 23) (variable (at 11 23) (id (codes "x") 11 23)) (link Greater (at 11 25) (integer (at 11 27) 9) no_links)))) left_out) ∷ [])) ∷ []));
-        }) ∷
+        name = (id (codes "R") 6 15);
+        parameters = None;
+        parent = None;
+        ports = (Some ((id (codes "i") 7 7) ∷ []));
+        messages = (Some (message_of (id (codes "i") 8 10) false (id (codes "m") 8 12) (Some ((id (codes "Integer") 8 14) ∷ [])) ∷ []));
+        variables = (Some (group_of ((id (codes "x") 9 11) ∷ []) (id (codes "Integer") 9 15) ∷ []));
+        start = begins_by (id (codes "a") 10 6);
+        methods = (Some (method_of (id (codes "a") 11 9) (steps ((receive (at 11 15) (id (codes "i") 11 15) (id (codes "m") 11 17) (Some ((id (codes "x") 11 19) ∷ [])) (Some ((chain (at 11 23) (variable (at 11 23) (id (codes "x") 11 23)) (link Greater (at 11 25) (integer (at 11 27) 9) no_links)))) left_out) ∷ [])) ∷ []));
+      }) ∷
       system_of (at 12 1) (instance_of (id (codes "a") 13 11) (id (codes "S") 13 15) (Some (gives (id (codes "v") 13 17) 2 (at 13 22) ∷ [])) ∷ instance_of (id (codes "b") 13 25) (id (codes "S") 13 29) (Some (gives (id (codes "v") 13 31) 3 (at 13 36) ∷ [])) ∷ instance_of (id (codes "r") 13 39) (id (codes "R") 13 43) None ∷ []) (Some (channel_of (at 14 10) (Inner (id (codes "a") 14 11) (id (codes "o") 14 13) ∷ Inner (id (codes "b") 14 16) (id (codes "o") 14 18) ∷ Inner (id (codes "r") 14 21) (id (codes "i") 14 23) ∷ []) ∷ [])) ∷ [];
 }
 
@@ -85,18 +85,13 @@ hears = receive (at 11 15) 0 (id (codes "m") 11 17) (Some ((Shared 0) ∷ [])) (
 
 -- Where it stands: senders with the numbers 2 and 3, and a receiver with one variable
 
-pub trace : Trace setting
-    (
-      takes (internal 0 [] Call (at 4 6) ∷ internal 1 [] Call (at 4 6) ∷ internal 2 [] Call (at 10 6) ∷ []) 0 (at_clock 0 (within (leaf sends_it) (number 2 ∷ []) ∷ before (leaf begins) (number 3 ∷ []) ∷ before (leaf listens) (Nil ∷ []) ∷ [])) ∷
-      takes (internal 1 [] Call (at 4 6) ∷ internal 2 [] Call (at 10 6) ∷ []) 0 (at_clock 0 (within (leaf sends_it) (number 2 ∷ []) ∷ within (leaf sends_it) (number 3 ∷ []) ∷ before (leaf listens) (Nil ∷ []) ∷ [])) ∷
-      takes (internal 2 [] Call (at 10 6) ∷ []) 0 (at_clock 0 (within (leaf sends_it) (number 2 ∷ []) ∷ within (leaf sends_it) (number 3 ∷ []) ∷ within (leaf hears) (Nil ∷ []) ∷ [])) ∷
-      []
-    )
-    Deadlock
+abbrev events : List Shown
+events =
+    takes (internal 0 [] Call (at 4 6) ∷ internal 1 [] Call (at 4 6) ∷ internal 2 [] Call (at 10 6) ∷ []) 0 (at_clock 0 (within (leaf sends_it) (number 2 ∷ []) ∷ before (leaf begins) (number 3 ∷ []) ∷ before (leaf listens) (Nil ∷ []) ∷ [])) ∷
+    takes (internal 1 [] Call (at 4 6) ∷ internal 2 [] Call (at 10 6) ∷ []) 0 (at_clock 0 (within (leaf sends_it) (number 2 ∷ []) ∷ within (leaf sends_it) (number 3 ∷ []) ∷ before (leaf listens) (Nil ∷ []) ∷ [])) ∷
+    takes (internal 2 [] Call (at 10 6) ∷ []) 0 (at_clock 0 (within (leaf sends_it) (number 2 ∷ []) ∷ within (leaf sends_it) (number 3 ∷ []) ∷ within (leaf hears) (Nil ∷ []) ∷ [])) ∷
+    []
+
+pub trace : Trace setting events Deadlock
 unfolding evaluations
-trace = traced setting refl (before (leaf begins) (number 2 ∷ []) ∷ before (leaf begins) (number 3 ∷ []) ∷ before (leaf listens) (Nil ∷ []) ∷ []) _ _ refl
-    (
-      (refl, refl, refl, tt, refl, 
-      (refl, refl, refl, tt, refl, 
-      (refl, refl, refl, tt, refl, (refl, refl, refl, refl))))
-    )
+trace = traced setting refl (before (leaf begins) (number 2 ∷ []) ∷ before (leaf begins) (number 3 ∷ []) ∷ before (leaf listens) (Nil ∷ []) ∷ []) events Deadlock refl (acts refl (acts refl (acts refl (locks refl))))

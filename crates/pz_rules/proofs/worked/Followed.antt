@@ -54,6 +54,11 @@ pub record Outcome : Type 0 where
   pub pos : Pos
   pub left : Result Process Trouble
 
+-- and what a send hands over
+pub record Handing : Type 0 where
+  pub parcel : ParcelView
+  pub outcome : Outcome
+
 module _ (a : At) (f : ℕ) where
   abbrev called : Pos → Codes → List Slot → Option BodyTree → Option Outcome
   called at args results None = None
@@ -101,11 +106,7 @@ module _ (a : At) (f : ℕ) where
   performed_is (wait n at) d e = subst (Does (wait n at)) (some_is e) (actions.expires n at)
   performed_is t d e = no_some e
 
-  -- Of a send, with its parcel
-
-  pub record Handing : Type 0 where
-    pub parcel : ParcelView
-    pub outcome : Outcome
+  -- Of a send
 
   abbrev handed_by : Pos → ours.Part Slot ClassId → ours.Part Slot ClassId → Result (List Value) Trouble → Option Handing
   handed_by at args after (Err t) = None
@@ -270,7 +271,7 @@ module _ (setting : Setting) (c : Config) where
   sends_is at q e =
       let s = via (sends_of at.place) (process_at at.process) q e in
       let p = via (sends_in s.from at.place) (part_at s.from at.place) q s.leads in
-      let h = via (λ (h : Handing s.from.seen p.from.frame). let r : Sent = record { parcel = h.parcel; result = settles s.from at.place h.outcome } in Some r) (handed s.from.seen p.from.frame p.from.part) q p.leads in
+      let h = via (λ (h : Handing). let r : Sent = record { parcel = h.parcel; result = settles s.from at.place h.outcome } in Some r) (handed s.from.seen p.from.frame p.from.part) q p.leads in
       subst (IsSent at) (some_is h.leads) (acts_by (λ a f. Hands a f h.from.parcel) at s.from p.from h.from.outcome s.is p.is (handed_is s.from.seen p.from.frame p.from.part h.from h.is))
 
   abbrev takes_in : ParcelView → Standing → Place → Part → Option (Result Process Trouble)
@@ -291,10 +292,14 @@ module _ (setting : Setting) (c : Config) where
 
   -- What follows
 
-  -- the parcel that the sender hands over is that of the action
-  abbrev pub Agrees : Action → Type 0
-  Agrees (Internal at kind pos) = Unit {0}
-  Agrees (Comm w sender receiver message parcel) = option_and_then (λ s. Some s.parcel) (sends sender) ≡ Some parcel
+  -- the parcel that the sender of a communication hands over, and that of the action
+  abbrev pub parcel_sent : Action → Option ParcelView
+  parcel_sent (Internal at kind pos) = None
+  parcel_sent (Comm w sender receiver message parcel) = option_and_then (λ s. Some s.parcel) (sends sender)
+
+  abbrev pub parcel_named : Action → Option ParcelView
+  parcel_named (Internal at kind pos) = None
+  parcel_named (Comm w sender receiver message parcel) = Some parcel
 
   abbrev both : End → End → Result Process Trouble → Result Process Trouble → Result Config Trouble
   both sender receiver sent received = and_then sent (λ p. and_then received (λ q. Ok (with_both c sender receiver p q)))
@@ -303,7 +308,7 @@ module _ (setting : Setting) (c : Config) where
   follows (Internal at kind pos) = option_and_then (λ q. Some (and_then q (λ p. Ok (with_process c at.process p)))) (performs at)
   follows (Comm w sender receiver message parcel) = option_and_then (λ s. option_and_then (λ q. Some (both sender receiver s.result q)) (takes parcel receiver)) (sends sender)
 
-  pub follows_is : (a : Action) (next : Result Config Trouble) → Agrees a → follows a ≡ Some next → Next setting c a next
+  pub follows_is : (a : Action) (next : Result Config Trouble) → parcel_sent a ≡ parcel_named a → follows a ≡ Some next → Next setting c a next
   follows_is (Internal at kind pos) next agrees e =
       let q = via (λ (q : Result Process Trouble). let r : Result Config Trouble = and_then q (λ p. Ok (with_process c at.process p)) in Some r) (performs at) next e in
       subst (Next setting c (Internal at kind pos)) (some_is q.leads) (steps.internal at kind pos q.from (performs_is at q.from q.is))

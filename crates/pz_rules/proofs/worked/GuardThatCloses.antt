@@ -35,21 +35,21 @@ use Rattle.pz_rules.specs.Terms.{Code, Step, Term, done, leaf, wait, sequence, p
 use Rattle.pz_rules.specs.Settings.{Setting, Process}
 use Rattle.pz_rules.specs.Configurations.{Config}
 use Rattle.pz_rules.proofs.worked.Models.{at, id, integer, expressions, steps, branches, group_of, message_of, begins_by, method_of, instance_of, gives, channel_of, system_of, class, evaluations, of_model, at_clock, before, within, terms, number, object_of, end, nothing, internal}
-use Rattle.pz_rules.proofs.worked.Shown.{Trace, takes, waits, traced}
+use Rattle.pz_rules.proofs.worked.Shown.{Shown, takes, waits, Trace, acts, passes, ends, locks, traced}
 
 abbrev model : ModelTree
 model = record {
   decls =
       process_class (record {
-          name = (id (codes "P") 1 15);
-          parameters = None;
-          parent = None;
-          ports = None;
-          messages = None;
-          variables = (Some (group_of ((id (codes "n") 2 11) ∷ []) (id (codes "Integer") 2 15) ∷ []));
-          start = begins_by (id (codes "a") 3 6);
-          methods = (Some (method_of (id (codes "a") 4 9) (steps ((assignment (at 5 1) (id (codes "n") 5 1) (integer (at 5 6) 1)) ∷ (statement.parallel (at 6 1) (branches ((steps ((statement.guarded (at 7 1) (chain (at 7 2) (clock (at 7 2)) (link Less (at 7 14) (integer (at 7 16) 5) no_links)) (delay (at 7 19) (integer (at 7 25) 5))) ∷ [])) ∷ (steps ((delay (at 9 1) (integer (at 9 7) 8)) ∷ [])) ∷ []))) ∷ [])) ∷ []));
-        }) ∷
+        name = (id (codes "P") 1 15);
+        parameters = None;
+        parent = None;
+        ports = None;
+        messages = None;
+        variables = (Some (group_of ((id (codes "n") 2 11) ∷ []) (id (codes "Integer") 2 15) ∷ []));
+        start = begins_by (id (codes "a") 3 6);
+        methods = (Some (method_of (id (codes "a") 4 9) (steps ((assignment (at 5 1) (id (codes "n") 5 1) (integer (at 5 6) 1)) ∷ (statement.parallel (at 6 1) (branches ((steps ((statement.guarded (at 7 1) (chain (at 7 2) (clock (at 7 2)) (link Less (at 7 14) (integer (at 7 16) 5) no_links)) (delay (at 7 19) (integer (at 7 25) 5))) ∷ [])) ∷ (steps ((delay (at 9 1) (integer (at 9 7) 8)) ∷ [])) ∷ []))) ∷ [])) ∷ []));
+      }) ∷
       system_of (at 11 1) (instance_of (id (codes "p") 11 18) (id (codes "P") 11 22) None ∷ []) None ∷ [];
 }
 
@@ -78,22 +78,15 @@ test = chain (at 7 2) (clock (at 7 2)) (link Less (at 7 14) (integer (at 7 16) 5
 
 -- Where it stands: before its first step, and with one variable
 
-pub trace : Trace setting
-    (
-      takes (internal 0 [] Call (at 3 6) ∷ []) 0 (at_clock 0 (within (sequence (leaf opens_it) (steps (both ∷ []))) (Nil ∷ []) ∷ [])) ∷
-      takes (internal 0 (0 ∷ 0 ∷ []) Eval (at 5 1) ∷ []) 0 (at_clock 0 (within (parallel (terms (guarded test (at 7 1) (leaf works) ∷ leaf delays ∷ []))) (number 1 ∷ []) ∷ [])) ∷
-      waits 5 (at_clock 5 (within (parallel (terms (guarded test (at 7 1) (wait 0 (at 7 19)) ∷ wait 3 (at 9 1) ∷ []))) (number 1 ∷ []) ∷ [])) ∷
-      waits 3 (at_clock 8 (within (parallel (terms (guarded test (at 7 1) (wait 0 (at 7 19)) ∷ wait 0 (at 9 1) ∷ []))) (number 1 ∷ []) ∷ [])) ∷
-      takes (internal 0 (0 ∷ 1 ∷ []) Expire (at 9 1) ∷ []) 0 (at_clock 8 (within (parallel (terms (guarded test (at 7 1) (wait 0 (at 7 19)) ∷ done ∷ []))) (number 1 ∷ []) ∷ [])) ∷
-      []
-    )
-    Deadlock
+abbrev events : List Shown
+events =
+    takes (internal 0 [] Call (at 3 6) ∷ []) 0 (at_clock 0 (within (sequence (leaf opens_it) (steps (both ∷ []))) (Nil ∷ []) ∷ [])) ∷
+    takes (internal 0 (0 ∷ 0 ∷ []) Eval (at 5 1) ∷ []) 0 (at_clock 0 (within (parallel (terms (guarded test (at 7 1) (leaf works) ∷ leaf delays ∷ []))) (number 1 ∷ []) ∷ [])) ∷
+    waits 5 (at_clock 5 (within (parallel (terms (guarded test (at 7 1) (wait 0 (at 7 19)) ∷ wait 3 (at 9 1) ∷ []))) (number 1 ∷ []) ∷ [])) ∷
+    waits 3 (at_clock 8 (within (parallel (terms (guarded test (at 7 1) (wait 0 (at 7 19)) ∷ wait 0 (at 9 1) ∷ []))) (number 1 ∷ []) ∷ [])) ∷
+    takes (internal 0 (0 ∷ 1 ∷ []) Expire (at 9 1) ∷ []) 0 (at_clock 8 (within (parallel (terms (guarded test (at 7 1) (wait 0 (at 7 19)) ∷ done ∷ []))) (number 1 ∷ []) ∷ [])) ∷
+    []
+
+pub trace : Trace setting events Deadlock
 unfolding evaluations
-trace = traced setting refl (before (leaf begins) (Nil ∷ []) ∷ []) _ _ refl
-    (
-      (refl, refl, refl, tt, refl, 
-      (refl, refl, refl, tt, refl, 
-      (refl, refl, refl, refl, 
-      (refl, refl, refl, refl, 
-      (refl, refl, refl, tt, refl, (refl, refl, refl, refl))))))
-    )
+trace = traced setting refl (before (leaf begins) (Nil ∷ []) ∷ []) events Deadlock refl (acts refl (acts refl (passes refl (passes refl (acts refl (locks refl))))))

@@ -37,31 +37,31 @@ use Rattle.pz_rules.specs.Terms.{Code, Step, Term, done, leaf, wait, sequence, p
 use Rattle.pz_rules.specs.Settings.{Setting, Process}
 use Rattle.pz_rules.specs.Configurations.{Config}
 use Rattle.pz_rules.proofs.worked.Models.{at, id, integer, expressions, steps, branches, group_of, message_of, begins_by, method_of, instance_of, gives, channel_of, system_of, class, evaluations, of_model, at_clock, before, within, terms, number, object_of, end, nothing, internal}
-use Rattle.pz_rules.proofs.worked.Shown.{Trace, takes, waits, traced}
+use Rattle.pz_rules.proofs.worked.Shown.{Shown, takes, waits, Trace, acts, passes, ends, locks, traced}
 
 abbrev model : ModelTree
 model = record {
   decls =
       process_class (record {
-          name = (id (codes "S") 1 15);
-          parameters = (Some (group_of ((id (codes "d") 1 17) ∷ []) (id (codes "Integer") 1 21) ∷ []));
-          parent = None;
-          ports = (Some ((id (codes "o") 2 7) ∷ []));
-          messages = (Some (message_of (id (codes "o") 3 10) true (id (codes "m") 3 12) None ∷ []));
-          variables = None;
-          start = begins_by (id (codes "a") 4 6);
-          methods = (Some (method_of (id (codes "a") 5 9) (steps ((delay (at 5 15) (variable (at 5 21) (id (codes "d") 5 21))) ∷ (send (at 5 24) (id (codes "o") 5 24) (id (codes "m") 5 26) left_out left_out) ∷ [])) ∷ []));
-        }) ∷
+        name = (id (codes "S") 1 15);
+        parameters = (Some (group_of ((id (codes "d") 1 17) ∷ []) (id (codes "Integer") 1 21) ∷ []));
+        parent = None;
+        ports = (Some ((id (codes "o") 2 7) ∷ []));
+        messages = (Some (message_of (id (codes "o") 3 10) true (id (codes "m") 3 12) None ∷ []));
+        variables = None;
+        start = begins_by (id (codes "a") 4 6);
+        methods = (Some (method_of (id (codes "a") 5 9) (steps ((delay (at 5 15) (variable (at 5 21) (id (codes "d") 5 21))) ∷ (send (at 5 24) (id (codes "o") 5 24) (id (codes "m") 5 26) left_out left_out) ∷ [])) ∷ []));
+      }) ∷
       process_class (record {
-          name = (id (codes "R") 6 15);
-          parameters = None;
-          parent = None;
-          ports = (Some ((id (codes "i") 7 7) ∷ []));
-          messages = (Some (message_of (id (codes "i") 8 10) false (id (codes "m") 8 12) None ∷ []));
-          variables = None;
-          start = begins_by (id (codes "a") 9 6);
-          methods = (Some (method_of (id (codes "a") 10 9) (steps ((delay (at 10 15) (integer (at 10 21) 10)) ∷ (statement.abort (at 10 25) (steps ((skip (at 10 31)) ∷ [])) (receive (at 10 41) (id (codes "i") 10 41) (id (codes "m") 10 43) None None left_out)) ∷ [])) ∷ []));
-        }) ∷
+        name = (id (codes "R") 6 15);
+        parameters = None;
+        parent = None;
+        ports = (Some ((id (codes "i") 7 7) ∷ []));
+        messages = (Some (message_of (id (codes "i") 8 10) false (id (codes "m") 8 12) None ∷ []));
+        variables = None;
+        start = begins_by (id (codes "a") 9 6);
+        methods = (Some (method_of (id (codes "a") 10 9) (steps ((delay (at 10 15) (integer (at 10 21) 10)) ∷ (statement.abort (at 10 25) (steps ((skip (at 10 31)) ∷ [])) (receive (at 10 41) (id (codes "i") 10 41) (id (codes "m") 10 43) None None left_out)) ∷ [])) ∷ []));
+      }) ∷
       system_of (at 11 1) (instance_of (id (codes "s") 12 11) (id (codes "S") 12 15) (Some (gives (id (codes "d") 12 17) 4 (at 12 22) ∷ [])) ∷ instance_of (id (codes "r") 12 25) (id (codes "R") 12 29) None ∷ []) (Some (channel_of (at 13 10) (Inner (id (codes "s") 13 11) (id (codes "o") 13 13) ∷ Inner (id (codes "r") 13 16) (id (codes "i") 13 18) ∷ []) ∷ [])) ∷ [];
 }
 
@@ -108,26 +108,17 @@ ended vars = before done vars
 abbrev message : Action
 message = Comm 0 (end 0 (0 ∷ [])) (end 1 (0 ∷ 1 ∷ [])) (codes "m") nothing
 
-pub trace : Trace setting
-    (
-      takes (internal 0 [] Call (at 4 6) ∷ internal 1 [] Call (at 9 6) ∷ []) 0 (at_clock 0 (sender (sequence (leaf delays) (steps (sends_it ∷ []))) ∷ before (leaf listens) [] ∷ [])) ∷
-      takes (internal 1 [] Call (at 9 6) ∷ []) 0 (at_clock 0 (sender (sequence (leaf delays) (steps (sends_it ∷ []))) ∷ receiver (sequence (leaf works) (steps (aborts ∷ []))) ∷ [])) ∷
-      waits 4 (at_clock 4 (sender (sequence (wait 0 (at 5 15)) (steps (sends_it ∷ []))) ∷ receiver (sequence (wait 6 (at 10 15)) (steps (aborts ∷ []))) ∷ [])) ∷
-      takes (internal 0 (0 ∷ 0 ∷ []) Expire (at 5 15) ∷ []) 0 (at_clock 4 (sender (leaf sends_it) ∷ receiver (sequence (wait 6 (at 10 15)) (steps (aborts ∷ []))) ∷ [])) ∷
-      waits 6 (at_clock 10 (sender (leaf sends_it) ∷ receiver (sequence (wait 0 (at 10 15)) (steps (aborts ∷ []))) ∷ [])) ∷
-      takes (internal 1 (0 ∷ 0 ∷ []) Expire (at 10 15) ∷ []) 0 (at_clock 10 (sender (leaf sends_it) ∷ receiver (abort (leaf rests) (leaf hears)) ∷ [])) ∷
-      takes (internal 1 (0 ∷ 0 ∷ []) Skip (at 10 31) ∷ message ∷ []) 0 (at_clock 10 (sender (leaf sends_it) ∷ ended [] ∷ [])) ∷
-      []
-    )
-    Deadlock
+abbrev events : List Shown
+events =
+    takes (internal 0 [] Call (at 4 6) ∷ internal 1 [] Call (at 9 6) ∷ []) 0 (at_clock 0 (sender (sequence (leaf delays) (steps (sends_it ∷ []))) ∷ before (leaf listens) [] ∷ [])) ∷
+    takes (internal 1 [] Call (at 9 6) ∷ []) 0 (at_clock 0 (sender (sequence (leaf delays) (steps (sends_it ∷ []))) ∷ receiver (sequence (leaf works) (steps (aborts ∷ []))) ∷ [])) ∷
+    waits 4 (at_clock 4 (sender (sequence (wait 0 (at 5 15)) (steps (sends_it ∷ []))) ∷ receiver (sequence (wait 6 (at 10 15)) (steps (aborts ∷ []))) ∷ [])) ∷
+    takes (internal 0 (0 ∷ 0 ∷ []) Expire (at 5 15) ∷ []) 0 (at_clock 4 (sender (leaf sends_it) ∷ receiver (sequence (wait 6 (at 10 15)) (steps (aborts ∷ []))) ∷ [])) ∷
+    waits 6 (at_clock 10 (sender (leaf sends_it) ∷ receiver (sequence (wait 0 (at 10 15)) (steps (aborts ∷ []))) ∷ [])) ∷
+    takes (internal 1 (0 ∷ 0 ∷ []) Expire (at 10 15) ∷ []) 0 (at_clock 10 (sender (leaf sends_it) ∷ receiver (abort (leaf rests) (leaf hears)) ∷ [])) ∷
+    takes (internal 1 (0 ∷ 0 ∷ []) Skip (at 10 31) ∷ message ∷ []) 0 (at_clock 10 (sender (leaf sends_it) ∷ ended [] ∷ [])) ∷
+    []
+
+pub trace : Trace setting events Deadlock
 unfolding evaluations
-trace = traced setting refl (before (leaf begins) (number 4 ∷ []) ∷ before (leaf listens) [] ∷ []) _ _ refl
-    (
-      (refl, refl, refl, tt, refl, 
-      (refl, refl, refl, tt, refl, 
-      (refl, refl, refl, refl, 
-      (refl, refl, refl, tt, refl, 
-      (refl, refl, refl, refl, 
-      (refl, refl, refl, tt, refl, 
-      (refl, refl, refl, tt, refl, (refl, refl, refl, refl))))))))
-    )
+trace = traced setting refl (before (leaf begins) (number 4 ∷ []) ∷ before (leaf listens) [] ∷ []) events Deadlock refl (acts refl (acts refl (passes refl (acts refl (passes refl (acts refl (acts refl (locks refl))))))))

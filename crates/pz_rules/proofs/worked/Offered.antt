@@ -1,7 +1,7 @@
 -- What the rules derive of a configuration, computed, where no process stands in a cluster: the actions
 -- that it offers, the troubles, and what is left of its active delays.
-use Rattle.std.proofs.Common.{◌≡◌, ◌<◌, ◌+◌, ◌⊎◌, inl, inr, ℕ, zero, suc, Bool, true, false, ◌&&◌, not, List, [], ◌∷◌, ◌++◌, map, length, Option, Some, None, Result, Ok, Err, refl, sym, subst, ap, ◌∙◌, arith}
-use Rattle.std.specs.Prelude.{slice_get, nat_eq, nat_le, if◌then◌else◌}
+use Rattle.std.proofs.Common.{◌≡◌, ◌<◌, ◌+◌, ◌⊎◌, inl, inr, ℕ, zero, suc, Bool, true, false, List, [], ◌∷◌, ◌++◌, map, length, Option, Some, None, Result, Ok, Err, refl, sym, subst, ap, ◌∙◌, arith}
+use Rattle.std.specs.Prelude.{slice_get, nat_eq, nat_le, not, ◌&&◌, if◌then◌else◌}
 use Rattle.std.specs.Str.{bytes_eq}
 use Rattle.std.specs.List.{All, Contains, filter_map, flat_map}
 use Rattle.std.proofs.lemmas.Bool.{and_parts, and_from, not-true, not_from_false, eqb-true, eq-eqb, eqb-false, ne_eqb, leb-true, leb-false}
@@ -301,7 +301,7 @@ module _ (setting : Setting) (c : Config) where
   pub record IsMeeting (m : Meeting) : Type 0 where
     pub sender : IsSender setting c m.sender
     pub receiver : IsReceiver setting c m.receiver
-    pub meets : Meets m.sender m.receiver m.wire
+    pub they_meet : Meets m.sender m.receiver m.wire
 
   abbrev meeting_by : Sender → Receiver → ℕ → Option Meeting
   meeting_by s r w = met (meets s r w) s r w
@@ -320,7 +320,7 @@ module _ (setting : Setting) (c : Config) where
 
   meeting_sound : (s : Sender) (r : Receiver) (w : ℕ) (m : Meeting) (b : Bool) → IsSender setting c s → IsReceiver setting c r → meets s r w ≡ b → met b s r w ≡ Some m → IsMeeting m
   meeting_sound s r w m false hs hr is e = no_some e
-  meeting_sound s r w m true hs hr is e = subst IsMeeting (some_is e) (record { sender = hs; receiver = hr; meets = meets_sound s r w is })
+  meeting_sound s r w m true hs hr is e = subst IsMeeting (some_is e) (record { sender = hs; receiver = hr; they_meet = meets_sound s r w is })
 
   all_meetings : All IsMeeting meetings
   all_meetings =
@@ -331,11 +331,11 @@ module _ (setting : Setting) (c : Config) where
 
   every_meeting : IsFlat setting.model → (m : Meeting) → IsMeeting m → Contains meetings m
   every_meeting flat m h =
-      let wire = h.meets.sent_on.has_wire in
+      let wire = h.they_meet.sent_on.has_wire in
       let number : Contains numbers m.wire = below_every (length (wires setting.model)) m.wire (slice_get_within (wires setting.model) m.wire wire.last wire.there) in
       is_in meetings_with senders m.sender m (every_sender m.sender h.sender)
       (is_in (meetings_of m.sender) receivers m.receiver m (every_receiver m.receiver h.receiver)
-      (Contains-filter_map (meeting_by m.sender m.receiver) numbers m.wire m number (ap (λ (b : Bool). met b m.sender m.receiver m.wire) (meets_complete flat m.sender m.receiver m.wire h.meets))))
+      (Contains-filter_map (meeting_by m.sender m.receiver) numbers m.wire m number (ap (λ (b : Bool). met b m.sender m.receiver m.wire) (meets_complete flat m.sender m.receiver m.wire h.they_meet))))
 
   pub pair_is : (m : Meeting) → IsMeeting m → IsPair setting c m.wire m.sender.at.end m.receiver.at.end m.sender.sending.message (parcel_of m.sender)
   pair_is m h =
@@ -356,11 +356,11 @@ module _ (setting : Setting) (c : Config) where
         receives_pos = r.receiving.pos;
         receives_port = r.receiving.port;
         receives =
-            subst (λ (n : ℕ). Receives r.at.part r.receiving.pos r.receiving.port s.sending.message n) (sym h.meets.count)
-            (subst (λ (name : List ℕ). Receives r.at.part r.receiving.pos r.receiving.port name r.receiving.count) (sym h.meets.message) (receives_sound r.at.part r.receiving h.receiver.1));
-        two = h.meets.two;
-        sender_wire = h.meets.sent_on;
-        receiver_wire = h.meets.received_on;
+            subst (λ (n : ℕ). Receives r.at.part r.receiving.pos r.receiving.port s.sending.message n) (sym h.they_meet.count)
+            (subst (λ (name : List ℕ). Receives r.at.part r.receiving.pos r.receiving.port name r.receiving.count) (sym h.they_meet.message) (receives_sound r.at.part r.receiving h.receiver.1));
+        two = h.they_meet.two;
+        sender_wire = h.they_meet.sent_on;
+        receiver_wire = h.they_meet.received_on;
       }
 
   abbrev verdict : Meeting → Result Bool Trouble
@@ -398,7 +398,7 @@ module _ (setting : Setting) (c : Config) where
         is_meeting = record {
           sender = (x.sender_active, packs.is);
           receiver = (x.receiver_active, receives_complete x.receives_part x.receives_pos x.receives_port message (length p.values) x.receives);
-          meets = record { two = x.two; message = refl; count = ap (λ (q : ParcelView). length q.values) (sym same); sent_on = x.sender_wire; received_on = x.receiver_wire };
+          they_meet = record { two = x.two; message = refl; count = ap (λ (q : ParcelView). length q.values) (sym same); sent_on = x.sender_wire; received_on = x.receiver_wire };
         };
         wire = refl;
         sent_at = refl;
@@ -473,7 +473,7 @@ module _ (setting : Setting) (c : Config) where
       record {
         ordered = is_ordered actions in_order;
         derivable = subst (All (Offers setting c)) is all_offered;
-        every = λ a offer. subst (λ (as : List Action). Contains as a) is (every_offered flat a offer);
+        every = λ a offer. subst (λ (all : List Action). Contains all a) is (every_offered flat a offer);
       }
 
   -- Troubles

@@ -1,6 +1,6 @@
 -- What a model shows event by event, and how the checker works it out.
-use Rattle.std.proofs.Common.{◌≡◌, ◌≤◌, ℕ, zero, suc, true, List, [], ◌∷◌, length, Option, Some, None, Result, Ok, refl, sym, subst, ap, ◌∙◌, arith}
-use Rattle.std.specs.Prelude.{slice_get, nat_eq, nat_le, option_map}
+use Rattle.std.proofs.Common.{◌≡◌, ◌≤◌, ◌⊎◌, inl, inr, ℕ, zero, suc, Bool, true, false, List, [], ◌∷◌, length, Option, Some, None, Result, Ok, refl, sym, subst, ap, ◌∙◌, arith}
+use Rattle.std.specs.Prelude.{slice_get, nat_eq, nat_le, ◌&&◌}
 use Rattle.std.specs.List.{All, Contains, list_any, list_all}
 use Rattle.std.proofs.lemmas.Bool.{and_parts, and_cases}
 use Rattle.std.proofs.lemmas.List.Elements.{All-nil, All-cons, All-contains}
@@ -9,6 +9,7 @@ use Rattle.pz_classes.specs.Starts.{init}
 use Rattle.pz_levels.specs.Places.{Place}
 use Rattle.pz_bind.specs.Nest.{processes, class_at}
 use Rattle.pz_bind.specs.Values.{values_at}
+use Rattle.pz_copy.specs.Parcels.{ParcelView}
 use Rattle.pz_offer.specs.declared.trouble.Trouble.{Trouble}
 use Rattle.pz_rules.specs.declared.action.Action.{Action}
 use Rattle.pz_rules.specs.declared.moment.Moment.{Moment}
@@ -27,7 +28,7 @@ use Rattle.pz_rules.proofs.Waiting.{next_config, passing_there}
 use Rattle.pz_rules.proofs.worked.Wiring.{no_true, IsFlat}
 use Rattle.pz_rules.proofs.worked.Ordered.{ordered, is_least, contains_number, at_least}
 use Rattle.pz_rules.proofs.worked.Offered.{offered, offers_are, troubles, no_troubles, lefts, all_lefts, every_left}
-use Rattle.pz_rules.proofs.worked.Followed.{Agrees, follows, follows_is}
+use Rattle.pz_rules.proofs.worked.Followed.{parcel_sent, parcel_named, follows, follows_is}
 
 -- What is shown
 
@@ -109,8 +110,8 @@ module _ (setting : Setting) where
   abbrev pub IsFirst : List Process → Type 0
   IsFirst ps = first_processes (processes setting.model) ≡ Some ps
 
-  pub starts : (ps : List Process) → IsFirst ps → IsStart setting (record { clock = 0; processes = ps })
-  starts ps is = let all = all_start (processes setting.model) ps is in record { clock = refl; all = all.all; each = all.each }
+  pub starts_there : (ps : List Process) → IsFirst ps → IsStart setting (record { clock = 0; processes = ps })
+  starts_there ps is = let all = all_start (processes setting.model) ps is in record { clock = refl; all = all.all; each = all.each }
 
 -- Moments, computed
 
@@ -119,53 +120,88 @@ done_is done is = refl
 done_is t is = no_true is
 
 module _ (setting : Setting) where
-  abbrev Calm : Config → Type 0
-  Calm c = troubles setting c ≡ []
-
-  abbrev NoOffer : Config → Type 0
-  NoOffer c = offered setting c ≡ []
-
   -- whether all processes are done
   abbrev are_done : List Process → Bool
   are_done [] = true
   are_done (p ∷ ps) = is_done p.term && are_done ps
 
-  abbrev taken_from : Config → Option Action → Option (Result Config Trouble)
-  taken_from c None = None
-  taken_from c (Some a) = follows setting c a
+  abbrev next_by : Config → Option Action → Option (Result Config Trouble)
+  next_by c None = None
+  next_by c (Some a) = follows setting c a
 
-  abbrev agrees_from : Config → Option Action → Type 0
-  agrees_from c None = Unit {0}
-  agrees_from c (Some a) = Agrees setting c a
+  abbrev sent_by : Config → Option Action → Option ParcelView
+  sent_by c None = None
+  sent_by c (Some a) = parcel_sent setting c a
 
-  -- what is computed at each event: no trouble, the offers in order, the configuration after it
-  abbrev pub Computed : Config → List Shown → Moment → Type 0
-  Computed c (takes offers number next ∷ events) moment =
-      Calm c × (offered setting c ≡ offers) × (ordered offers ≡ true) × agrees_from c (slice_get offers number) × (taken_from c (slice_get offers number) ≡ Some (Ok next)) × Computed next events moment
-  Computed c (waits time next ∷ events) moment =
-      Calm c × NoOffer c × (is_least time (lefts setting c) ≡ true) × (next_config setting c time ≡ next) × Computed next events moment
-  Computed c [] Finished = Calm c × NoOffer c × (lefts setting c ≡ []) × (are_done c.processes ≡ true)
-  Computed c [] Deadlock = Calm c × NoOffer c × (lefts setting c ≡ []) × (are_done c.processes ≡ false)
-  Computed c [] moment = ⊥
+  abbrev named_by : Config → Option Action → Option ParcelView
+  named_by c None = None
+  named_by c (Some a) = parcel_named setting c a
+
+  -- What is computed where an action is taken: the troubles, the offers and whether they stand in order,
+  -- the parcel that is sent, and what the action leads to.
+  pub record Choice : Type 0 where
+    pub troubles : List Trouble
+    pub offers : List Action
+    pub in_order : Bool
+    pub parcel : Option ParcelView
+    pub next : Option (Result Config Trouble)
+
+  abbrev choice_of : Config → ℕ → List Action → Choice
+  choice_of c number os = record { troubles = troubles setting c; offers = os; in_order = ordered os; parcel = sent_by c (slice_get os number); next = next_by c (slice_get os number) }
+
+  abbrev choice : Config → ℕ → Choice
+  choice c number = choice_of c number (offered setting c)
+
+  abbrev wanted_choice : Config → List Action → ℕ → Config → Choice
+  wanted_choice c offers number next = record { troubles = []; offers = offers; in_order = true; parcel = named_by c (slice_get offers number); next = Some (Ok next) }
+
+  -- where time passes: whether so much is the least that is left of a delay
+  pub record Passing : Type 0 where
+    pub troubles : List Trouble
+    pub offers : List Action
+    pub least : Bool
+    pub next : Config
+
+  abbrev passing_by : Config → ℕ → Passing
+  passing_by c time = record { troubles = troubles setting c; offers = offered setting c; least = is_least time (lefts setting c); next = next_config setting c time }
+
+  -- at the end: whether all processes are done
+  pub record Rest : Type 0 where
+    pub troubles : List Trouble
+    pub offers : List Action
+    pub lefts : List ℕ
+    pub all_done : Bool
+
+  abbrev rest_at : Config → Rest
+  rest_at c = record { troubles = troubles setting c; offers = offered setting c; lefts = lefts setting c; all_done = are_done c.processes }
+
+  -- all of it, as it is to be
+  pub data Computed : Config → List Shown → Moment → Type 0 where
+    acts : {c next : Config} {offers : List Action} {number : ℕ} {events : List Shown} {moment : Moment}
+        → choice c number ≡ wanted_choice c offers number next → Computed next events moment → Computed c (takes offers number next ∷ events) moment
+    passes : {c next : Config} {time : ℕ} {events : List Shown} {moment : Moment}
+        → passing_by c time ≡ record { troubles = []; offers = []; least = true; next = next } → Computed next events moment → Computed c (waits time next ∷ events) moment
+    ends : {c : Config} → rest_at c ≡ record { troubles = []; offers = []; lefts = []; all_done = true } → Computed c [] Finished
+    locks : {c : Config} → rest_at c ≡ record { troubles = []; offers = []; lefts = []; all_done = false } → Computed c [] Deadlock
 
   module _ (flat : IsFlat setting.model) where
-    no_offers : (c : Config) → NoOffer c → IsOffers setting c []
+    no_offers : (c : Config) → offered setting c ≡ [] → IsOffers setting c []
     no_offers c none = offers_are setting c flat [] none refl
 
     no_delays : (c : Config) → lefts setting c ≡ [] → NoDelay setting c
     no_delays c none d h = let k = (subst (λ (ds : List ℕ). Contains ds d) none (every_left setting c d h)).1 in omega (arith, k)
 
-    all_done : (ps : List Process) → are_done ps ≡ true → All (λ p. p.term ≡ done) ps
-    all_done [] is = All-nil (λ p. p.term ≡ done)
-    all_done (p ∷ ps) is = let parts = and_parts (is_done p.term) (are_done ps) is in All-cons (λ q. q.term ≡ done) p ps (done_is p.term parts.0) (all_done ps parts.1)
+    all_are_done : (ps : List Process) → are_done ps ≡ true → All (λ p. p.term ≡ done) ps
+    all_are_done [] is = All-nil (λ p. p.term ≡ done)
+    all_are_done (p ∷ ps) is = let parts = and_parts (is_done p.term) (are_done ps) is in All-cons (λ q. q.term ≡ done) p ps (done_is p.term parts.0) (all_are_done ps parts.1)
 
     not_done : (ps : List Process) → are_done ps ≡ false → All (λ p. p.term ≡ done) ps → ⊥
     not_done [] is all = no_true (sym is)
-    not_done (p ∷ ps) is all = by (and_cases (is_done p.term) (are_done ps) is)
+    not_done (p ∷ ps) is all = by (and_cases (is_done p.term) (are_done ps) is) (λ others. not_done ps others (λ k d within. all (suc k) d (omega (arith, within))))
       where
-        by : (is_done p.term ≡ false) ⊎ (are_done ps ≡ false) → ⊥
-        by (inl first) = let e : p.term ≡ done = all 0 p (omega arith) in no_true (sym first ∙ ap is_done e)
-        by (inr others) = not_done ps others (λ k d within. all (suc k) d (omega (arith, within)))
+        by : (is_done p.term ≡ false) ⊎ (are_done ps ≡ false) → (are_done ps ≡ false → ⊥) → ⊥
+        by (inl first) go = let e : p.term ≡ done = all 0 p (omega arith) in no_true (sym first ∙ ap is_done e)
+        by (inr others) go = go others
 
     least : (c : Config) (d : ℕ) → is_least d (lefts setting c) ≡ true → IsLeast setting c d
     least c d is =
@@ -175,34 +211,50 @@ module _ (setting : Setting) where
           least = λ n h. All-contains (λ k. d ≤ k) (lefts setting c) n (at_least d (lefts setting c) parts.1) (every_left setting c n h);
         }
 
-    taken_is : (c : Config) (offers : List Action) (number : ℕ) (next : Config) → Calm c → offered setting c ≡ offers → ordered offers ≡ true → (o : Option Action) → slice_get offers number ≡ o → agrees_from c o → taken_from c o ≡ Some (Ok next) → Taken setting c offers number next
-    taken_is c offers number next calm are in_order None chosen agrees leads = no_some leads
-    taken_is c [] number next calm are in_order (Some a) chosen agrees leads = no_some chosen
-    taken_is c (x ∷ xs) number next calm are in_order (Some a) chosen agrees leads =
+    taken_is : (c : Config) (offers : List Action) (number : ℕ) (next : Config) → troubles setting c ≡ [] → offered setting c ≡ offers → ordered offers ≡ true
+        → (o : Option Action) → slice_get offers number ≡ o → sent_by c o ≡ named_by c o → next_by c o ≡ Some (Ok next) → Taken setting c offers number next
+    taken_is c offers number next calm are in_order None chosen sent leads = no_some leads
+    taken_is c [] number next calm are in_order (Some a) chosen sent leads = no_some chosen
+    taken_is c (x ∷ xs) number next calm are in_order (Some a) chosen sent leads =
         let is = offers_are setting c flat (x ∷ xs) are in_order in
         record {
           moment = record { applies = acting (x ∷ xs) is (omega arith); first = rank_two setting c (no_troubles setting c flat calm) };
           offered = is;
           action = a;
           chosen = chosen;
-          leads = follows_is setting c a (Ok next) agrees leads;
+          leads = follows_is setting c a (Ok next) sent leads;
         }
 
-    waited_is : (c : Config) (time : ℕ) (next : Config) → Calm c → NoOffer c → is_least time (lefts setting c) ≡ true → next_config setting c time ≡ next → Waited setting c time next
-    waited_is c time next calm none is leads = record {
-      moment = record { applies = passing time (least c time is); first = rank_three setting c (no_troubles setting c flat calm) (no_offers c none) };
-      leads = subst (PassesTo setting c time) leads (passing_there setting c time (no_troubles setting c flat calm));
-    }
+    chosen_is : (c : Config) (offers : List Action) (number : ℕ) (next : Config) → choice c number ≡ wanted_choice c offers number next → Taken setting c offers number next
+    chosen_is c offers number next e =
+        let are : offered setting c ≡ offers = ap (λ (x : Choice). x.offers) e in
+        taken_is c offers number next (ap (λ (x : Choice). x.troubles) e) are
+        (subst (λ (os : List Action). ordered os ≡ true) are (ap (λ (x : Choice). x.in_order) e))
+        (slice_get offers number) refl
+        (subst (λ (os : List Action). sent_by c (slice_get os number) ≡ named_by c (slice_get offers number)) are (ap (λ (x : Choice). x.parcel) e))
+        (subst (λ (os : List Action). next_by c (slice_get os number) ≡ Some (Ok next)) are (ap (λ (x : Choice). x.next) e))
+
+    waited_is : (c : Config) (time : ℕ) (next : Config) → passing_by c time ≡ record { troubles = []; offers = []; least = true; next = next } → Waited setting c time next
+    waited_is c time next e =
+        let calm = no_troubles setting c flat (ap (λ (x : Passing). x.troubles) e) in
+        record {
+          moment = record { applies = passing time (least c time (ap (λ (x : Passing). x.least) e)); first = rank_three setting c calm (no_offers c (ap (λ (x : Passing). x.offers) e)) };
+          leads = subst (PassesTo setting c time) (ap (λ (x : Passing). x.next) e) (passing_there setting c time calm);
+        }
 
     pub shown : (c : Config) (events : List Shown) (moment : Moment) → Computed c events moment → Shows setting c events moment
-    shown c (takes offers number next ∷ events) moment h =
-        (taken_is c offers number next h.0 h.1 h.2 (slice_get offers number) refl h.3 h.4, shown next events moment h.5)
-    shown c (waits time next ∷ events) moment h = (waited_is c time next h.0 h.1 h.2 h.3, shown next events moment h.4)
-    shown c [] Finished h =
-        record { applies = finished (all_done c.processes h.3); first = rank_four setting c (no_troubles setting c flat h.0) (no_offers c h.1) (no_delays c h.2) }
-    shown c [] Deadlock h =
-        record { applies = deadlock; first = rank_five setting c (no_troubles setting c flat h.0) (no_offers c h.1) (no_delays c h.2) (not_done c.processes h.3) }
-    shown c [] moment h = absurd h
+    shown _ _ _ (acts {c} {next} {offers} {number} {events} {moment} e rest) = (chosen_is c offers number next e, shown next events moment rest)
+    shown _ _ _ (passes {c} {next} {time} {events} {moment} e rest) = (waited_is c time next e, shown next events moment rest)
+    shown _ _ _ (ends {c} e) =
+        record {
+          applies = finished (all_are_done c.processes (ap (λ (x : Rest). x.all_done) e));
+          first = rank_four setting c (no_troubles setting c flat (ap (λ (x : Rest). x.troubles) e)) (no_offers c (ap (λ (x : Rest). x.offers) e)) (no_delays c (ap (λ (x : Rest). x.lefts) e));
+        }
+    shown _ _ _ (locks {c} e) =
+        record {
+          applies = deadlock;
+          first = rank_five setting c (no_troubles setting c flat (ap (λ (x : Rest). x.troubles) e)) (no_offers c (ap (λ (x : Rest). x.offers) e)) (no_delays c (ap (λ (x : Rest). x.lefts) e)) (not_done c.processes (ap (λ (x : Rest). x.all_done) e));
+        }
 
   pub traced : IsFlat setting.model → (ps : List Process) (events : List Shown) (moment : Moment) → IsFirst setting ps → Computed (record { clock = 0; processes = ps }) events moment → Trace setting events moment
-  traced flat ps events moment first h = record { start = record { clock = 0; processes = ps }; starts = starts setting ps first; shows = shown flat (record { clock = 0; processes = ps }) events moment h }
+  traced flat ps events moment first h = record { start = record { clock = 0; processes = ps }; starts = starts_there setting ps first; shows = shown flat (record { clock = 0; processes = ps }) events moment h }

@@ -29,21 +29,21 @@ use Rattle.pz_rules.specs.Terms.{Code, Step, Term, done, leaf, wait, sequence, p
 use Rattle.pz_rules.specs.Settings.{Setting, Process}
 use Rattle.pz_rules.specs.Configurations.{Config}
 use Rattle.pz_rules.proofs.worked.Models.{at, id, integer, expressions, steps, branches, group_of, message_of, begins_by, method_of, instance_of, gives, channel_of, system_of, class, evaluations, of_model, at_clock, before, within, terms, number, object_of, end, nothing, internal}
-use Rattle.pz_rules.proofs.worked.Shown.{Trace, takes, waits, traced}
+use Rattle.pz_rules.proofs.worked.Shown.{Shown, takes, waits, Trace, acts, passes, ends, locks, traced}
 
 abbrev model : ModelTree
 model = record {
   decls =
       process_class (record {
-          name = (id (codes "P") 1 15);
-          parameters = None;
-          parent = None;
-          ports = None;
-          messages = None;
-          variables = None;
-          start = begins_by (id (codes "a") 2 6);
-          methods = (Some (method_of (id (codes "a") 3 9) (steps ((statement.parallel (at 4 1) (branches ((steps ((call (at 4 5) (id (codes "b") 4 5) none []) ∷ [])) ∷ (steps ((call (at 4 15) (id (codes "b") 4 15) none []) ∷ [])) ∷ []))) ∷ [])) ∷ method_of (id (codes "b") 5 1) (steps ((skip (at 5 7)) ∷ [])) ∷ []));
-        }) ∷
+        name = (id (codes "P") 1 15);
+        parameters = None;
+        parent = None;
+        ports = None;
+        messages = None;
+        variables = None;
+        start = begins_by (id (codes "a") 2 6);
+        methods = (Some (method_of (id (codes "a") 3 9) (steps ((statement.parallel (at 4 1) (branches ((steps ((call (at 4 5) (id (codes "b") 4 5) none []) ∷ [])) ∷ (steps ((call (at 4 15) (id (codes "b") 4 15) none []) ∷ [])) ∷ []))) ∷ [])) ∷ method_of (id (codes "b") 5 1) (steps ((skip (at 5 7)) ∷ [])) ∷ []));
+      }) ∷
       system_of (at 6 1) (instance_of (id (codes "p") 6 18) (id (codes "P") 6 22) None ∷ []) None ∷ [];
 }
 
@@ -75,22 +75,15 @@ with_frames numbers t u = record { term = frame 1 0 [] (parallel (terms (t ∷ u
 abbrev in_b : ℕ → Term
 in_b n = frame n 0 [] (leaf rests)
 
-pub trace : Trace setting
-    (
-      takes (internal 0 [] Call (at 2 6) ∷ []) 0 (at_clock 0 (with_frames (1 ∷ []) (leaf calls_b) (leaf calls_b_too) ∷ [])) ∷
-      takes (internal 0 (0 ∷ 0 ∷ []) Call (at 4 5) ∷ internal 0 (0 ∷ 1 ∷ []) Call (at 4 15) ∷ []) 0 (at_clock 0 (with_frames (1 ∷ 2 ∷ []) (in_b 2) (leaf calls_b_too) ∷ [])) ∷
-      takes (internal 0 (0 ∷ 0 ∷ 0 ∷ []) Skip (at 5 7) ∷ internal 0 (0 ∷ 1 ∷ []) Call (at 4 15) ∷ []) 1 (at_clock 0 (with_frames (1 ∷ 2 ∷ 3 ∷ []) (in_b 2) (in_b 3) ∷ [])) ∷
-      takes (internal 0 (0 ∷ 0 ∷ 0 ∷ []) Skip (at 5 7) ∷ internal 0 (0 ∷ 1 ∷ 0 ∷ []) Skip (at 5 7) ∷ []) 1 (at_clock 0 (with_frames (1 ∷ 2 ∷ []) (in_b 2) done ∷ [])) ∷
-      takes (internal 0 (0 ∷ 0 ∷ 0 ∷ []) Skip (at 5 7) ∷ []) 0 (at_clock 0 (before done [] ∷ [])) ∷
-      []
-    )
-    Finished
+abbrev events : List Shown
+events =
+    takes (internal 0 [] Call (at 2 6) ∷ []) 0 (at_clock 0 (with_frames (1 ∷ []) (leaf calls_b) (leaf calls_b_too) ∷ [])) ∷
+    takes (internal 0 (0 ∷ 0 ∷ []) Call (at 4 5) ∷ internal 0 (0 ∷ 1 ∷ []) Call (at 4 15) ∷ []) 0 (at_clock 0 (with_frames (1 ∷ 2 ∷ []) (in_b 2) (leaf calls_b_too) ∷ [])) ∷
+    takes (internal 0 (0 ∷ 0 ∷ 0 ∷ []) Skip (at 5 7) ∷ internal 0 (0 ∷ 1 ∷ []) Call (at 4 15) ∷ []) 1 (at_clock 0 (with_frames (1 ∷ 2 ∷ 3 ∷ []) (in_b 2) (in_b 3) ∷ [])) ∷
+    takes (internal 0 (0 ∷ 0 ∷ 0 ∷ []) Skip (at 5 7) ∷ internal 0 (0 ∷ 1 ∷ 0 ∷ []) Skip (at 5 7) ∷ []) 1 (at_clock 0 (with_frames (1 ∷ 2 ∷ []) (in_b 2) done ∷ [])) ∷
+    takes (internal 0 (0 ∷ 0 ∷ 0 ∷ []) Skip (at 5 7) ∷ []) 0 (at_clock 0 (before done [] ∷ [])) ∷
+    []
+
+pub trace : Trace setting events Finished
 unfolding evaluations
-trace = traced setting refl (before (leaf begins) [] ∷ []) _ _ refl
-    (
-      (refl, refl, refl, tt, refl, 
-      (refl, refl, refl, tt, refl, 
-      (refl, refl, refl, tt, refl, 
-      (refl, refl, refl, tt, refl, 
-      (refl, refl, refl, tt, refl, (refl, refl, refl, refl))))))
-    )
+trace = traced setting refl (before (leaf begins) [] ∷ []) events Finished refl (acts refl (acts refl (acts refl (acts refl (acts refl (ends refl))))))
