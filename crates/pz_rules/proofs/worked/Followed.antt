@@ -211,10 +211,10 @@ via h (Some x) y e = record { from = x; is = refl; leads = e }
 
 module _ (setting : Setting) (c : Config) where
   abbrev process_at : ℕ → Option Standing
-  process_at i = first_that (λ s. nat_eq s.number i) (here setting c)
+  process_at i = first_that (λ (s : Standing). nat_eq s.number i) (here setting c)
 
   abbrev part_at : Standing → Place → Option Part
-  part_at s place = first_that (λ p. bytes_eq p.place place) (active_parts s.seen 0 s.process.term)
+  part_at s place = first_that (λ (p : Part). bytes_eq p.place place) (active_parts s.seen 0 s.process.term)
 
   -- what the part at an end leaves of its process
   abbrev settles : Standing → Place → Outcome → Result Process Trouble
@@ -234,7 +234,7 @@ module _ (setting : Setting) (c : Config) where
   -- Internal actions
 
   abbrev performs_in : Standing → Place → Part → Option (Result Process Trouble)
-  performs_in s place p = option_and_then (λ d. Some (settles s place d)) (performed s.seen p.frame p.part)
+  performs_in s place p = option_and_then (λ (d : Outcome). Some (settles s place d)) (performed s.seen p.frame p.part)
 
   abbrev performs_of : Place → Standing → Option (Result Process Trouble)
   performs_of place s = option_and_then (performs_in s place) (part_at s place)
@@ -256,7 +256,7 @@ module _ (setting : Setting) (c : Config) where
     pub result : Result Process Trouble
 
   abbrev sends_in : Standing → Place → Part → Option Sent
-  sends_in s place p = option_and_then (λ h. Some (record { parcel = h.parcel; result = settles s place h.outcome })) (handed s.seen p.frame p.part)
+  sends_in s place p = option_and_then (λ (h : Handing). let r : Sent = record { parcel = h.parcel; result = settles s place h.outcome } in Some r) (handed s.seen p.frame p.part)
 
   abbrev sends_of : Place → Standing → Option Sent
   sends_of place s = option_and_then (sends_in s place) (part_at s place)
@@ -272,10 +272,10 @@ module _ (setting : Setting) (c : Config) where
       let s = via (sends_of at.place) (process_at at.process) q e in
       let p = via (sends_in s.from at.place) (part_at s.from at.place) q s.leads in
       let h = via (λ (h : Handing). let r : Sent = record { parcel = h.parcel; result = settles s.from at.place h.outcome } in Some r) (handed s.from.seen p.from.frame p.from.part) q p.leads in
-      subst (IsSent at) (some_is h.leads) (acts_by (λ a f. Hands a f h.from.parcel) at s.from p.from h.from.outcome s.is p.is (handed_is s.from.seen p.from.frame p.from.part h.from h.is))
+      subst (IsSent at) {x = record { parcel = h.from.parcel; result = settles s.from at.place h.from.outcome }} (some_is h.leads) (acts_by (λ a f. Hands a f h.from.parcel) at s.from p.from h.from.outcome s.is p.is (handed_is s.from.seen p.from.frame p.from.part h.from h.is))
 
   abbrev takes_in : ParcelView → Standing → Place → Part → Option (Result Process Trouble)
-  takes_in q s place p = option_and_then (λ d. Some (settles s place d)) (taken s.seen p.frame q p.part)
+  takes_in q s place p = option_and_then (λ (d : Outcome). Some (settles s place d)) (taken s.seen p.frame q p.part)
 
   abbrev takes_of : ParcelView → Place → Standing → Option (Result Process Trouble)
   takes_of q place s = option_and_then (takes_in q s place) (part_at s place)
@@ -283,39 +283,39 @@ module _ (setting : Setting) (c : Config) where
   abbrev takes : ParcelView → End → Option (Result Process Trouble)
   takes q at = option_and_then (takes_of q at.place) (process_at at.process)
 
-  takes_is : (parcel : ParcelView) (at : End) (q : Result Process Trouble) → takes parcel at ≡ Some q → Acts setting c (λ a f. Takes a f parcel) at q
-  takes_is parcel at q e =
-      let s = via (takes_of parcel at.place) (process_at at.process) q e in
-      let p = via (takes_in parcel s.from at.place) (part_at s.from at.place) q s.leads in
-      let d = via (λ (d : Outcome). Some (settles s.from at.place d)) (taken s.from.seen p.from.frame parcel p.from.part) q p.leads in
-      subst (Acts setting c (λ a f. Takes a f parcel) at) (some_is d.leads) (acts_by (λ a f. Takes a f parcel) at s.from p.from d.from s.is p.is (taken_is s.from.seen p.from.frame parcel p.from.part d.from d.is))
+  takes_is : (sent : ParcelView) (at : End) (q : Result Process Trouble) → takes sent at ≡ Some q → Acts setting c (λ a f. Takes a f sent) at q
+  takes_is sent at q e =
+      let s = via (takes_of sent at.place) (process_at at.process) q e in
+      let p = via (takes_in sent s.from at.place) (part_at s.from at.place) q s.leads in
+      let d = via (λ (d : Outcome). Some (settles s.from at.place d)) (taken s.from.seen p.from.frame sent p.from.part) q p.leads in
+      subst (Acts setting c (λ a f. Takes a f sent) at) (some_is d.leads) (acts_by (λ a f. Takes a f sent) at s.from p.from d.from s.is p.is (taken_is s.from.seen p.from.frame sent p.from.part d.from d.is))
 
   -- What follows
 
   -- the parcel that the sender of a communication hands over, and that of the action
   abbrev pub parcel_sent : Action → Option ParcelView
   parcel_sent (Internal at kind pos) = None
-  parcel_sent (Comm w sender receiver message parcel) = option_and_then (λ s. Some s.parcel) (sends sender)
+  parcel_sent (Comm w sender receiver message p) = option_and_then (λ (s : Sent). Some s.parcel) (sends sender)
 
   abbrev pub parcel_named : Action → Option ParcelView
   parcel_named (Internal at kind pos) = None
-  parcel_named (Comm w sender receiver message parcel) = Some parcel
+  parcel_named (Comm w sender receiver message p) = Some p
 
   abbrev both : End → End → Result Process Trouble → Result Process Trouble → Result Config Trouble
   both sender receiver sent received = and_then sent (λ p. and_then received (λ q. Ok (with_both c sender receiver p q)))
 
   abbrev pub follows : Action → Option (Result Config Trouble)
-  follows (Internal at kind pos) = option_and_then (λ q. Some (and_then q (λ p. Ok (with_process c at.process p)))) (performs at)
-  follows (Comm w sender receiver message parcel) = option_and_then (λ s. option_and_then (λ q. Some (both sender receiver s.result q)) (takes parcel receiver)) (sends sender)
+  follows (Internal at kind pos) = option_and_then (λ (q : Result Process Trouble). let r : Result Config Trouble = and_then q (λ p. Ok (with_process c at.process p)) in Some r) (performs at)
+  follows (Comm w sender receiver message p) = option_and_then (λ (s : Sent). option_and_then (λ (q : Result Process Trouble). Some (both sender receiver s.result q)) (takes p receiver)) (sends sender)
 
   pub follows_is : (a : Action) (next : Result Config Trouble) → parcel_sent a ≡ parcel_named a → follows a ≡ Some next → Next setting c a next
   follows_is (Internal at kind pos) next agrees e =
       let q = via (λ (q : Result Process Trouble). let r : Result Config Trouble = and_then q (λ p. Ok (with_process c at.process p)) in Some r) (performs at) next e in
       subst (Next setting c (Internal at kind pos)) (some_is q.leads) (steps.internal at kind pos q.from (performs_is at q.from q.is))
-  follows_is (Comm w sender receiver message parcel) next agrees e =
-      let s = via (λ (s : Sent). option_and_then (λ q. Some (both sender receiver s.result q)) (takes parcel receiver)) (sends sender) next e in
-      let q = via (λ (q : Result Process Trouble). Some (both sender receiver s.from.result q)) (takes parcel receiver) next s.leads in
-      let same : s.from.parcel ≡ parcel = some_is (sym (ap (λ (o : Option Sent). option_and_then (λ z. Some z.parcel) o) s.is) ∙ agrees) in
-      subst (Next setting c (Comm w sender receiver message parcel)) (some_is q.leads)
-      (steps.communication w sender receiver message parcel s.from.result q.from
-      (subst (λ (p : ParcelView). Acts setting c (λ a f. Hands a f p) sender s.from.result) same (sends_is sender s.from s.is)) (takes_is parcel receiver q.from q.is))
+  follows_is (Comm w sender receiver message p) next agrees e =
+      let s = via (λ (s : Sent). option_and_then (λ (q : Result Process Trouble). Some (both sender receiver s.result q)) (takes p receiver)) (sends sender) next e in
+      let q = via (λ (q : Result Process Trouble). Some (both sender receiver s.from.result q)) (takes p receiver) next s.leads in
+      let same : s.from.parcel ≡ p = some_is (sym (ap (λ (o : Option Sent). option_and_then (λ (z : Sent). Some z.parcel) o) s.is) ∙ agrees) in
+      subst (Next setting c (Comm w sender receiver message p)) (some_is q.leads)
+      (steps.communication w sender receiver message p s.from.result q.from
+      (subst (λ (x : ParcelView). Acts setting c (λ a f. Hands a f x) sender s.from.result) same (sends_is sender s.from s.is)) (takes_is p receiver q.from q.is))

@@ -41,11 +41,11 @@ place_is_before : (p q : Place) → place_before p q ≡ true → PlaceBefore p 
 place_is_before [] [] is = no_true is
 place_is_before (i ∷ p) [] is = no_true is
 place_is_before [] (j ∷ q) is = tt
-place_is_before (i ∷ p) (j ∷ q) is = by (or_cases (nat_lt i j) (nat_eq i j && place_before p q) is)
+place_is_before (i ∷ p) (j ∷ q) is = by (or_cases (nat_lt i j) (nat_eq i j && place_before p q) is) (λ later. place_is_before p q later)
   where
-    by : (nat_lt i j ≡ true) ⊎ ((nat_eq i j && place_before p q) ≡ true) → (i < j) ⊎ ((i ≡ j) × PlaceBefore p q)
-    by (inl less) = inl (ltb-true i j less)
-    by (inr same) = let parts = and_parts (nat_eq i j) (place_before p q) same in inr (eqb-true i j parts.0, place_is_before p q parts.1)
+    by : (nat_lt i j ≡ true) ⊎ ((nat_eq i j && place_before p q) ≡ true) → (place_before p q ≡ true → PlaceBefore p q) → (i < j) ⊎ ((i ≡ j) × PlaceBefore p q)
+    by (inl less) further = inl (ltb-true i j less)
+    by (inr same) further = let parts = and_parts (nat_eq i j) (place_before p q) same in inr (eqb-true i j parts.0, further parts.1)
 
 abbrev end_before : End → End → Bool
 end_before a b = nat_lt a.process b.process || (nat_eq a.process b.process && place_before a.place b.place)
@@ -82,11 +82,11 @@ is_ordered actions is = pairs_of before Before is_before actions is
 
 pub contains_number : (n : ℕ) (ns : List ℕ) → list_any (nat_eq n) ns ≡ true → Contains ns n
 contains_number n [] is = no_true is
-contains_number n (k ∷ ns) is = by (or_cases (nat_eq n k) (list_any (nat_eq n) ns) is)
+contains_number n (k ∷ ns) is = by (or_cases (nat_eq n k) (list_any (nat_eq n) ns) is) (λ later. contains_number n ns later)
   where
-    by : (nat_eq n k ≡ true) ⊎ (list_any (nat_eq n) ns ≡ true) → Contains (k ∷ ns) n
-    by (inl same) = let e : n ≡ k = eqb-true n k same in rw e (Contains-first k ns)
-    by (inr later) = Contains-later k ns n (contains_number n ns later)
+    by : (nat_eq n k ≡ true) ⊎ (list_any (nat_eq n) ns ≡ true) → (list_any (nat_eq n) ns ≡ true → Contains ns n) → Contains (k ∷ ns) n
+    by (inl same) go = let e : n ≡ k = eqb-true n k same in rw e (Contains-first k ns)
+    by (inr later) go = Contains-later k ns n (go later)
 
 -- it is one of these numbers, and none is less
 abbrev pub is_least : ℕ → List ℕ → Bool

@@ -119,6 +119,29 @@ done_is : (t : Term) → is_done t ≡ true → t ≡ done
 done_is done is = refl
 done_is t is = no_true is
 
+-- What is computed where an action is taken: the troubles, the offers and whether they stand in order,
+-- the parcel that is sent, and what the action leads to.
+pub record Choice : Type 0 where
+  pub troubles : List Trouble
+  pub offers : List Action
+  pub in_order : Bool
+  pub parcel : Option ParcelView
+  pub next : Option (Result Config Trouble)
+
+-- where time passes: whether so much is the least that is left of a delay
+pub record Passing : Type 0 where
+  pub troubles : List Trouble
+  pub offers : List Action
+  pub least : Bool
+  pub next : Config
+
+-- at the end: whether all processes are done
+pub record Rest : Type 0 where
+  pub troubles : List Trouble
+  pub offers : List Action
+  pub lefts : List ℕ
+  pub all_done : Bool
+
 module _ (setting : Setting) where
   -- whether all processes are done
   abbrev are_done : List Process → Bool
@@ -137,15 +160,6 @@ module _ (setting : Setting) where
   named_by c None = None
   named_by c (Some a) = parcel_named setting c a
 
-  -- What is computed where an action is taken: the troubles, the offers and whether they stand in order,
-  -- the parcel that is sent, and what the action leads to.
-  pub record Choice : Type 0 where
-    pub troubles : List Trouble
-    pub offers : List Action
-    pub in_order : Bool
-    pub parcel : Option ParcelView
-    pub next : Option (Result Config Trouble)
-
   abbrev choice_of : Config → ℕ → List Action → Choice
   choice_of c number os = record { troubles = troubles setting c; offers = os; in_order = ordered os; parcel = sent_by c (slice_get os number); next = next_by c (slice_get os number) }
 
@@ -155,22 +169,8 @@ module _ (setting : Setting) where
   abbrev wanted_choice : Config → List Action → ℕ → Config → Choice
   wanted_choice c offers number next = record { troubles = []; offers = offers; in_order = true; parcel = named_by c (slice_get offers number); next = Some (Ok next) }
 
-  -- where time passes: whether so much is the least that is left of a delay
-  pub record Passing : Type 0 where
-    pub troubles : List Trouble
-    pub offers : List Action
-    pub least : Bool
-    pub next : Config
-
   abbrev passing_by : Config → ℕ → Passing
   passing_by c time = record { troubles = troubles setting c; offers = offered setting c; least = is_least time (lefts setting c); next = next_config setting c time }
-
-  -- at the end: whether all processes are done
-  pub record Rest : Type 0 where
-    pub troubles : List Trouble
-    pub offers : List Action
-    pub lefts : List ℕ
-    pub all_done : Bool
 
   abbrev rest_at : Config → Rest
   rest_at c = record { troubles = troubles setting c; offers = offered setting c; lefts = lefts setting c; all_done = are_done c.processes }
