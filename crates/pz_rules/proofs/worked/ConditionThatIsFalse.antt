@@ -38,7 +38,7 @@ use Rattle.pz_rules.specs.Terms.{Code, Step, Term, done, leaf, wait, sequence, p
 use Rattle.pz_rules.specs.Settings.{Setting, Process}
 use Rattle.pz_rules.specs.Configurations.{Config}
 use Rattle.pz_rules.proofs.worked.Models.{at, id, integer, expressions, steps, branches, group_of, message_of, begins_by, method_of, instance_of, gives, channel_of, system_of, class, evaluations, of_model, at_clock, before, within, terms, number, object_of, end, nothing, internal}
-use Rattle.pz_rules.proofs.worked.Shown.{Shown, takes, waits, Trace, acts, passes, ends, locks, traced}
+use Rattle.pz_rules.proofs.worked.Shown.{Shown, takes, waits, Trace, Computed, acts, passes, ends, locks, traced}
 
 abbrev model : ModelTree
 model = record {
@@ -94,4 +94,4 @@ events =
 
 pub trace : Trace setting events Deadlock
 unfolding evaluations
-trace = traced setting refl (before (leaf begins) (number 2 ∷ []) ∷ before (leaf begins) (number 3 ∷ []) ∷ before (leaf listens) (Nil ∷ []) ∷ []) events Deadlock refl (acts refl (acts refl (acts refl (locks refl))))
+trace = traced setting refl (before (leaf begins) (number 2 ∷ []) ∷ before (leaf begins) (number 3 ∷ []) ∷ before (leaf listens) (Nil ∷ []) ∷ []) events Deadlock refl (acts refl refl refl refl refl (acts refl refl refl refl refl (acts refl refl refl refl refl (locks refl refl refl refl))))

@@ -267,12 +267,16 @@ module _ (setting : Setting) (c : Config) where
   abbrev IsSent : End → Sent → Type 0
   IsSent at q = Acts setting c (λ a f. Hands a f q.parcel) at q.result
 
+  sent_as : (at : End) (sent q : Sent) → Some sent ≡ Some q → IsSent at sent → IsSent at q
+  sent_as at sent q e is = subst (IsSent at) (some_is e) is
+
   sends_is : (at : End) (q : Sent) → sends at ≡ Some q → IsSent at q
   sends_is at q e =
       let s = via (sends_of at.place) (process_at at.process) q e in
       let p = via (sends_in s.from at.place) (part_at s.from at.place) q s.leads in
       let h = via (λ (h : Handing). let r : Sent = record { parcel = h.parcel; result = settles s.from at.place h.outcome } in Some r) (handed s.from.seen p.from.frame p.from.part) q p.leads in
-      subst (IsSent at) {x = record { parcel = h.from.parcel; result = settles s.from at.place h.from.outcome }} (some_is h.leads) (acts_by (λ a f. Hands a f h.from.parcel) at s.from p.from h.from.outcome s.is p.is (handed_is s.from.seen p.from.frame p.from.part h.from h.is))
+      sent_as at (record { parcel = h.from.parcel; result = settles s.from at.place h.from.outcome }) q h.leads
+      (acts_by (λ a f. Hands a f h.from.parcel) at s.from p.from h.from.outcome s.is p.is (handed_is s.from.seen p.from.frame p.from.part h.from h.is))
 
   abbrev takes_in : ParcelView → Standing → Place → Part → Option (Result Process Trouble)
   takes_in q s place p = option_and_then (λ (d : Outcome). Some (settles s place d)) (taken s.seen p.frame q p.part)

@@ -35,7 +35,7 @@ use Rattle.pz_rules.specs.Terms.{Code, Step, Term, done, leaf, wait, sequence, p
 use Rattle.pz_rules.specs.Settings.{Setting, Process}
 use Rattle.pz_rules.specs.Configurations.{Config}
 use Rattle.pz_rules.proofs.worked.Models.{at, id, integer, expressions, steps, branches, group_of, message_of, begins_by, method_of, instance_of, gives, channel_of, system_of, class, evaluations, of_model, at_clock, before, within, terms, number, object_of, end, nothing, internal}
-use Rattle.pz_rules.proofs.worked.Shown.{Shown, takes, waits, Trace, acts, passes, ends, locks, traced}
+use Rattle.pz_rules.proofs.worked.Shown.{Shown, takes, waits, Trace, Computed, acts, passes, ends, locks, traced}
 
 abbrev model : ModelTree
 model = record {
@@ -87,13 +87,8 @@ test = chain (at 7 2) (variable (at 7 2) (Shared 0)) (link Greater (at 7 4) (int
 
 -- Where it stands: before its first step, and with one variable
 
-abbrev events : List Shown
-events =
-    takes (internal 0 [] Call (at 3 6) ∷ []) 0 (at_clock 0 (within (sequence (leaf opens_it) (steps (both ∷ []))) (Nil ∷ []) ∷ [])) ∷
-    takes (internal 0 (0 ∷ 0 ∷ []) Eval (at 5 1) ∷ []) 0 (at_clock 0 (within (parallel (terms (guarded test (at 7 1) (leaf works) ∷ sequence (leaf delays) (steps (closes ∷ delays_again ∷ reopens ∷ [])) ∷ []))) (number 1 ∷ []) ∷ [])) ∷
-    waits 2 (at_clock 2 (within (parallel (terms (guarded test (at 7 1) (wait 3 (at 7 9)) ∷ sequence (wait 0 (at 9 1)) (steps (closes ∷ delays_again ∷ reopens ∷ [])) ∷ []))) (number 1 ∷ []) ∷ [])) ∷
-    takes (internal 0 (0 ∷ 1 ∷ 0 ∷ []) Expire (at 9 1) ∷ []) 0 (at_clock 2 (within (parallel (terms (guarded test (at 7 1) (wait 3 (at 7 9)) ∷ sequence (leaf closes) (steps (delays_again ∷ reopens ∷ [])) ∷ []))) (number 1 ∷ []) ∷ [])) ∷
-    takes (internal 0 (0 ∷ 1 ∷ 0 ∷ []) Eval (at 9 10) ∷ []) 0 (at_clock 2 (within (parallel (terms (guarded test (at 7 1) (wait 3 (at 7 9)) ∷ sequence (leaf delays_again) (steps (reopens ∷ [])) ∷ []))) (number 0 ∷ []) ∷ [])) ∷
+abbrev later : List Shown
+later =
     waits 3 (at_clock 5 (within (parallel (terms (guarded test (at 7 1) (wait 3 (at 7 9)) ∷ sequence (wait 0 (at 9 18)) (steps (reopens ∷ [])) ∷ []))) (number 0 ∷ []) ∷ [])) ∷
     takes (internal 0 (0 ∷ 1 ∷ 0 ∷ []) Expire (at 9 18) ∷ []) 0 (at_clock 5 (within (parallel (terms (guarded test (at 7 1) (wait 3 (at 7 9)) ∷ leaf reopens ∷ []))) (number 0 ∷ []) ∷ [])) ∷
     takes (internal 0 (0 ∷ 1 ∷ []) Eval (at 9 27) ∷ []) 0 (at_clock 5 (within (parallel (terms (guarded test (at 7 1) (wait 3 (at 7 9)) ∷ done ∷ []))) (number 1 ∷ []) ∷ [])) ∷
@@ -101,6 +96,19 @@ events =
     takes (internal 0 (0 ∷ 0 ∷ 0 ∷ []) Expire (at 7 9) ∷ []) 0 (at_clock 8 (before done (number 1 ∷ []) ∷ [])) ∷
     []
 
+works_out_later : Computed setting (at_clock 2 (within (parallel (terms (guarded test (at 7 1) (wait 3 (at 7 9)) ∷ sequence (leaf delays_again) (steps (reopens ∷ [])) ∷ []))) (number 0 ∷ []) ∷ [])) later Finished
+unfolding evaluations
+works_out_later = passes refl refl refl refl (acts refl refl refl refl refl (acts refl refl refl refl refl (passes refl refl refl refl (acts refl refl refl refl refl (ends refl refl refl refl)))))
+
+abbrev events : List Shown
+events =
+    takes (internal 0 [] Call (at 3 6) ∷ []) 0 (at_clock 0 (within (sequence (leaf opens_it) (steps (both ∷ []))) (Nil ∷ []) ∷ [])) ∷
+    takes (internal 0 (0 ∷ 0 ∷ []) Eval (at 5 1) ∷ []) 0 (at_clock 0 (within (parallel (terms (guarded test (at 7 1) (leaf works) ∷ sequence (leaf delays) (steps (closes ∷ delays_again ∷ reopens ∷ [])) ∷ []))) (number 1 ∷ []) ∷ [])) ∷
+    waits 2 (at_clock 2 (within (parallel (terms (guarded test (at 7 1) (wait 3 (at 7 9)) ∷ sequence (wait 0 (at 9 1)) (steps (closes ∷ delays_again ∷ reopens ∷ [])) ∷ []))) (number 1 ∷ []) ∷ [])) ∷
+    takes (internal 0 (0 ∷ 1 ∷ 0 ∷ []) Expire (at 9 1) ∷ []) 0 (at_clock 2 (within (parallel (terms (guarded test (at 7 1) (wait 3 (at 7 9)) ∷ sequence (leaf closes) (steps (delays_again ∷ reopens ∷ [])) ∷ []))) (number 1 ∷ []) ∷ [])) ∷
+    takes (internal 0 (0 ∷ 1 ∷ 0 ∷ []) Eval (at 9 10) ∷ []) 0 (at_clock 2 (within (parallel (terms (guarded test (at 7 1) (wait 3 (at 7 9)) ∷ sequence (leaf delays_again) (steps (reopens ∷ [])) ∷ []))) (number 0 ∷ []) ∷ [])) ∷
+    later
+
 pub trace : Trace setting events Finished
 unfolding evaluations
-trace = traced setting refl (before (leaf begins) (Nil ∷ []) ∷ []) events Finished refl (acts refl (acts refl (passes refl (acts refl (acts refl (passes refl (acts refl (acts refl (passes refl (acts refl (ends refl)))))))))))
+trace = traced setting refl (before (leaf begins) (Nil ∷ []) ∷ []) events Finished refl (acts refl refl refl refl refl (acts refl refl refl refl refl (passes refl refl refl refl (acts refl refl refl refl refl (acts refl refl refl refl refl (works_out_later))))))

@@ -37,7 +37,7 @@ use Rattle.pz_rules.specs.Terms.{Code, Step, Term, done, leaf, wait, sequence, p
 use Rattle.pz_rules.specs.Settings.{Setting, Process}
 use Rattle.pz_rules.specs.Configurations.{Config}
 use Rattle.pz_rules.proofs.worked.Models.{at, id, integer, expressions, steps, branches, group_of, message_of, begins_by, method_of, instance_of, gives, channel_of, system_of, class, evaluations, of_model, at_clock, before, within, terms, number, object_of, end, nothing, internal}
-use Rattle.pz_rules.proofs.worked.Shown.{Shown, takes, waits, Trace, acts, passes, ends, locks, traced}
+use Rattle.pz_rules.proofs.worked.Shown.{Shown, takes, waits, Trace, Computed, acts, passes, ends, locks, traced}
 
 abbrev model : ModelTree
 model = record {
@@ -119,15 +119,8 @@ interrupted t u = within (handling t u handler) []
 abbrev message : List ℕ → Action
 message place = Comm 0 (end 0 place) (end 1 (0 ∷ 1 ∷ 0 ∷ [])) (codes "m") nothing
 
-abbrev events : List Shown
-events =
-    takes (internal 0 [] Call (at 4 6) ∷ internal 1 [] Call (at 9 6) ∷ []) 0 (at_clock 0 (sender (sequence (leaf delays) (steps (sends_it ∷ delays_again ∷ sends_again ∷ []))) ∷ before (leaf listens) [] ∷ [])) ∷
-    takes (internal 1 [] Call (at 9 6) ∷ []) 0 (at_clock 0 (sender (sequence (leaf delays) (steps (sends_it ∷ delays_again ∷ sends_again ∷ []))) ∷ at_work (leaf works) ∷ [])) ∷
-    waits 4 (at_clock 4 (sender (sequence (wait 0 (at 5 15)) (steps (sends_it ∷ delays_again ∷ sends_again ∷ []))) ∷ at_work (wait 6 (at 10 25)) ∷ [])) ∷
-    takes (internal 0 (0 ∷ 0 ∷ []) Expire (at 5 15) ∷ []) 0 (at_clock 4 (sender (sequence (leaf sends_it) (steps (delays_again ∷ sends_again ∷ []))) ∷ at_work (wait 6 (at 10 25)) ∷ [])) ∷
-    takes (message (0 ∷ 0 ∷ []) ∷ []) 0 (at_clock 4 (sender (sequence (leaf delays_again) (steps (sends_again ∷ []))) ∷ interrupted (wait 6 (at 10 25)) (leaf handles) ∷ [])) ∷
-    waits 7 (at_clock 11 (sender (sequence (wait 1 (at 5 29)) (steps (sends_again ∷ []))) ∷ interrupted (wait 6 (at 10 25)) (wait 0 (at 10 45)) ∷ [])) ∷
-    takes (internal 1 (0 ∷ 1 ∷ []) Expire (at 10 45) ∷ []) 0 (at_clock 11 (sender (sequence (wait 1 (at 5 29)) (steps (sends_again ∷ []))) ∷ at_work (wait 6 (at 10 25)) ∷ [])) ∷
+abbrev later : List Shown
+later =
     waits 1 (at_clock 12 (sender (sequence (wait 0 (at 5 29)) (steps (sends_again ∷ []))) ∷ at_work (wait 5 (at 10 25)) ∷ [])) ∷
     takes (internal 0 (0 ∷ 0 ∷ []) Expire (at 5 29) ∷ []) 0 (at_clock 12 (sender (leaf sends_again) ∷ at_work (wait 5 (at 10 25)) ∷ [])) ∷
     takes (message (0 ∷ []) ∷ []) 0 (at_clock 12 (ended (number 4 ∷ []) ∷ interrupted (wait 5 (at 10 25)) (leaf handles) ∷ [])) ∷
@@ -137,6 +130,21 @@ events =
     takes (internal 1 (0 ∷ 0 ∷ []) Expire (at 10 25) ∷ []) 0 (at_clock 24 (ended (number 4 ∷ []) ∷ ended [] ∷ [])) ∷
     []
 
+works_out_later : Computed setting (at_clock 11 (sender (sequence (wait 1 (at 5 29)) (steps (sends_again ∷ []))) ∷ at_work (wait 6 (at 10 25)) ∷ [])) later Finished
+unfolding evaluations
+works_out_later = passes refl refl refl refl (acts refl refl refl refl refl (acts refl refl refl refl refl (passes refl refl refl refl (acts refl refl refl refl refl (passes refl refl refl refl (acts refl refl refl refl refl (ends refl refl refl refl)))))))
+
+abbrev events : List Shown
+events =
+    takes (internal 0 [] Call (at 4 6) ∷ internal 1 [] Call (at 9 6) ∷ []) 0 (at_clock 0 (sender (sequence (leaf delays) (steps (sends_it ∷ delays_again ∷ sends_again ∷ []))) ∷ before (leaf listens) [] ∷ [])) ∷
+    takes (internal 1 [] Call (at 9 6) ∷ []) 0 (at_clock 0 (sender (sequence (leaf delays) (steps (sends_it ∷ delays_again ∷ sends_again ∷ []))) ∷ at_work (leaf works) ∷ [])) ∷
+    waits 4 (at_clock 4 (sender (sequence (wait 0 (at 5 15)) (steps (sends_it ∷ delays_again ∷ sends_again ∷ []))) ∷ at_work (wait 6 (at 10 25)) ∷ [])) ∷
+    takes (internal 0 (0 ∷ 0 ∷ []) Expire (at 5 15) ∷ []) 0 (at_clock 4 (sender (sequence (leaf sends_it) (steps (delays_again ∷ sends_again ∷ []))) ∷ at_work (wait 6 (at 10 25)) ∷ [])) ∷
+    takes (message (0 ∷ 0 ∷ []) ∷ []) 0 (at_clock 4 (sender (sequence (leaf delays_again) (steps (sends_again ∷ []))) ∷ interrupted (wait 6 (at 10 25)) (leaf handles) ∷ [])) ∷
+    waits 7 (at_clock 11 (sender (sequence (wait 1 (at 5 29)) (steps (sends_again ∷ []))) ∷ interrupted (wait 6 (at 10 25)) (wait 0 (at 10 45)) ∷ [])) ∷
+    takes (internal 1 (0 ∷ 1 ∷ []) Expire (at 10 45) ∷ []) 0 (at_clock 11 (sender (sequence (wait 1 (at 5 29)) (steps (sends_again ∷ []))) ∷ at_work (wait 6 (at 10 25)) ∷ [])) ∷
+    later
+
 pub trace : Trace setting events Finished
 unfolding evaluations
-trace = traced setting refl (before (leaf begins) (number 4 ∷ []) ∷ before (leaf listens) [] ∷ []) events Finished refl (acts refl (acts refl (passes refl (acts refl (acts refl (passes refl (acts refl (passes refl (acts refl (acts refl (passes refl (acts refl (passes refl (acts refl (ends refl)))))))))))))))
+trace = traced setting refl (before (leaf begins) (number 4 ∷ []) ∷ before (leaf listens) [] ∷ []) events Finished refl (acts refl refl refl refl refl (acts refl refl refl refl refl (passes refl refl refl refl (acts refl refl refl refl refl (acts refl refl refl refl refl (passes refl refl refl refl (acts refl refl refl refl refl (works_out_later))))))))

@@ -51,7 +51,7 @@ use Rattle.pz_rules.specs.Terms.{Code, Step, Term, done, leaf, wait, sequence, p
 use Rattle.pz_rules.specs.Settings.{Setting, Process}
 use Rattle.pz_rules.specs.Configurations.{Config}
 use Rattle.pz_rules.proofs.worked.Models.{at, id, integer, expressions, steps, branches, group_of, message_of, begins_by, method_of, instance_of, gives, channel_of, system_of, class, evaluations, of_model, at_clock, before, within, terms, number, object_of, end, nothing, internal}
-use Rattle.pz_rules.proofs.worked.Shown.{Shown, takes, waits, Trace, acts, passes, ends, locks, traced}
+use Rattle.pz_rules.proofs.worked.Shown.{Shown, takes, waits, Trace, Computed, acts, passes, ends, locks, traced}
 
 abbrev model : ModelTree
 model = record {
@@ -162,6 +162,26 @@ message_one = Comm 0 (end 0 (0 ∷ [])) (end 1 (0 ∷ 0 ∷ [])) (codes "m") (re
 abbrev message_two : Action
 message_two = Comm 1 (end 1 (0 ∷ [])) (end 2 (0 ∷ [])) (codes "m") (record { values = refs 0 0; objects = cycle })
 
+abbrev last : List Shown
+last =
+    takes (message_one ∷ []) 0 (at_clock 0 (ended (refs 0 1) (n_of Nil (number 9) ∷ n_of (Ref 0) (number 2) ∷ []) ∷ with_objects (leaf sends_one) (refs 0 1) cycle ∷ within (leaf hears_last) nils ∷ [])) ∷
+    takes (message_two ∷ []) 0 (at_clock 0 (ended (refs 0 1) (n_of Nil (number 9) ∷ n_of (Ref 0) (number 2) ∷ []) ∷ ended (refs 0 1) cycle ∷ ended (refs 0 0) cycle ∷ [])) ∷
+    []
+
+works_out_last : Computed setting (at_clock 0 (with_objects (leaf sends_both) (refs 0 1) cycle ∷ within (sequence (leaf hears) (steps (sends_one ∷ []))) nils ∷ within (leaf hears_last) nils ∷ [])) last Finished
+unfolding evaluations
+works_out_last = acts refl refl refl refl refl (acts refl refl refl refl refl (ends refl refl refl refl))
+
+abbrev later : List Shown
+later =
+    takes (internal 1 [] Call (at 18 6) ∷ internal 2 [] Call (at 24 6) ∷ []) 0 (at_clock 0 (with_objects (leaf sends_both) (refs 0 1) cycle ∷ within (sequence (leaf hears) (steps (sends_one ∷ []))) nils ∷ before (leaf ends_it) nils ∷ [])) ∷
+    takes (internal 2 [] Call (at 24 6) ∷ message_one ∷ []) 0 (at_clock 0 (with_objects (leaf sends_both) (refs 0 1) cycle ∷ within (sequence (leaf hears) (steps (sends_one ∷ []))) nils ∷ within (leaf hears_last) nils ∷ [])) ∷
+    last
+
+works_out_later : Computed setting (at_clock 0 (with_objects (leaf sends_both) (refs 0 1) cycle ∷ before (leaf forwards) nils ∷ before (leaf ends_it) nils ∷ [])) later Finished
+unfolding evaluations
+works_out_later = acts refl refl refl refl refl (acts refl refl refl refl refl (works_out_last))
+
 abbrev events : List Shown
 events =
     takes (internal 0 [] Call (at 9 6) ∷ internal 1 [] Call (at 18 6) ∷ internal 2 [] Call (at 24 6) ∷ []) 0 (at_clock 0 (with_objects (sequence (leaf makes_a) (steps (makes_b ∷ sets_a ∷ sets_b ∷ sends_both ∷ []))) nils [] ∷ before (leaf forwards) nils ∷ before (leaf ends_it) nils ∷ [])) ∷
@@ -169,12 +189,8 @@ events =
     takes (internal 0 (0 ∷ 0 ∷ []) Eval (at 11 14) ∷ internal 1 [] Call (at 18 6) ∷ internal 2 [] Call (at 24 6) ∷ []) 0 (at_clock 0 (with_objects (sequence (leaf sets_a) (steps (sets_b ∷ sends_both ∷ []))) (refs 0 1) (n_of Nil Nil ∷ n_of Nil Nil ∷ []) ∷ before (leaf forwards) nils ∷ before (leaf ends_it) nils ∷ [])) ∷
     takes (internal 0 (0 ∷ 0 ∷ []) Eval (at 12 1) ∷ internal 1 [] Call (at 18 6) ∷ internal 2 [] Call (at 24 6) ∷ []) 0 (at_clock 0 (with_objects (sequence (leaf sets_b) (steps (sends_both ∷ []))) (refs 0 1) (n_of (Ref 1) (number 1) ∷ n_of Nil Nil ∷ []) ∷ before (leaf forwards) nils ∷ before (leaf ends_it) nils ∷ [])) ∷
     takes (internal 0 (0 ∷ 0 ∷ []) Eval (at 12 14) ∷ internal 1 [] Call (at 18 6) ∷ internal 2 [] Call (at 24 6) ∷ []) 0 (at_clock 0 (with_objects (leaf sends_both) (refs 0 1) cycle ∷ before (leaf forwards) nils ∷ before (leaf ends_it) nils ∷ [])) ∷
-    takes (internal 1 [] Call (at 18 6) ∷ internal 2 [] Call (at 24 6) ∷ []) 0 (at_clock 0 (with_objects (leaf sends_both) (refs 0 1) cycle ∷ within (sequence (leaf hears) (steps (sends_one ∷ []))) nils ∷ before (leaf ends_it) nils ∷ [])) ∷
-    takes (internal 2 [] Call (at 24 6) ∷ message_one ∷ []) 0 (at_clock 0 (with_objects (leaf sends_both) (refs 0 1) cycle ∷ within (sequence (leaf hears) (steps (sends_one ∷ []))) nils ∷ within (leaf hears_last) nils ∷ [])) ∷
-    takes (message_one ∷ []) 0 (at_clock 0 (ended (refs 0 1) (n_of Nil (number 9) ∷ n_of (Ref 0) (number 2) ∷ []) ∷ with_objects (leaf sends_one) (refs 0 1) cycle ∷ within (leaf hears_last) nils ∷ [])) ∷
-    takes (message_two ∷ []) 0 (at_clock 0 (ended (refs 0 1) (n_of Nil (number 9) ∷ n_of (Ref 0) (number 2) ∷ []) ∷ ended (refs 0 1) cycle ∷ ended (refs 0 0) cycle ∷ [])) ∷
-    []
+    later
 
 pub trace : Trace setting events Finished
 unfolding evaluations
-trace = traced setting refl (before (leaf begins) nils ∷ before (leaf forwards) nils ∷ before (leaf ends_it) nils ∷ []) events Finished refl (acts refl (acts refl (acts refl (acts refl (acts refl (acts refl (acts refl (acts refl (acts refl (ends refl))))))))))
+trace = traced setting refl (before (leaf begins) nils ∷ before (leaf forwards) nils ∷ before (leaf ends_it) nils ∷ []) events Finished refl (acts refl refl refl refl refl (acts refl refl refl refl refl (acts refl refl refl refl refl (acts refl refl refl refl refl (acts refl refl refl refl refl (works_out_later))))))

@@ -119,29 +119,6 @@ done_is : (t : Term) → is_done t ≡ true → t ≡ done
 done_is done is = refl
 done_is t is = no_true is
 
--- What is computed where an action is taken: the troubles, the offers and whether they stand in order,
--- the parcel that is sent, and what the action leads to.
-pub record Choice : Type 0 where
-  pub troubles : List Trouble
-  pub offers : List Action
-  pub in_order : Bool
-  pub parcel : Option ParcelView
-  pub next : Option (Result Config Trouble)
-
--- where time passes: whether so much is the least that is left of a delay
-pub record Passing : Type 0 where
-  pub troubles : List Trouble
-  pub offers : List Action
-  pub least : Bool
-  pub next : Config
-
--- at the end: whether all processes are done
-pub record Rest : Type 0 where
-  pub troubles : List Trouble
-  pub offers : List Action
-  pub lefts : List ℕ
-  pub all_done : Bool
-
 module _ (setting : Setting) where
   -- whether all processes are done
   abbrev are_done : List Process → Bool
@@ -160,29 +137,17 @@ module _ (setting : Setting) where
   named_by c None = None
   named_by c (Some a) = parcel_named setting c a
 
-  abbrev choice_of : Config → ℕ → List Action → Choice
-  choice_of c number os = record { troubles = troubles setting c; offers = os; in_order = ordered os; parcel = sent_by c (slice_get os number); next = next_by c (slice_get os number) }
-
-  abbrev choice : Config → ℕ → Choice
-  choice c number = choice_of c number (offered setting c)
-
-  abbrev wanted_choice : Config → List Action → ℕ → Config → Choice
-  wanted_choice c offers number next = record { troubles = []; offers = offers; in_order = true; parcel = named_by c (slice_get offers number); next = Some (Ok next) }
-
-  abbrev passing_by : Config → ℕ → Passing
-  passing_by c time = record { troubles = troubles setting c; offers = offered setting c; least = is_least time (lefts setting c); next = next_config setting c time }
-
-  abbrev rest_at : Config → Rest
-  rest_at c = record { troubles = troubles setting c; offers = offered setting c; lefts = lefts setting c; all_done = are_done c.processes }
-
-  -- all of it, as it is to be
+  -- All that is computed, as it is to be: no trouble; the offers, in order; the parcel of the action; and
+  -- what the action leads to. Where time passes, there is no offer, and so much is the least that is left.
   pub data Computed : Config → List Shown → Moment → Type 0 where
     acts : {c next : Config} {offers : List Action} {number : ℕ} {events : List Shown} {moment : Moment}
-        → choice c number ≡ wanted_choice c offers number next → Computed next events moment → Computed c (takes offers number next ∷ events) moment
+        → troubles setting c ≡ [] → offered setting c ≡ offers → ordered offers ≡ true → sent_by c (slice_get offers number) ≡ named_by c (slice_get offers number)
+        → next_by c (slice_get offers number) ≡ Some (Ok next) → Computed next events moment → Computed c (takes offers number next ∷ events) moment
     passes : {c next : Config} {time : ℕ} {events : List Shown} {moment : Moment}
-        → passing_by c time ≡ record { troubles = []; offers = []; least = true; next = next } → Computed next events moment → Computed c (waits time next ∷ events) moment
-    ends : {c : Config} → rest_at c ≡ record { troubles = []; offers = []; lefts = []; all_done = true } → Computed c [] Finished
-    locks : {c : Config} → rest_at c ≡ record { troubles = []; offers = []; lefts = []; all_done = false } → Computed c [] Deadlock
+        → troubles setting c ≡ [] → offered setting c ≡ [] → is_least time (lefts setting c) ≡ true → next_config setting c time ≡ next
+        → Computed next events moment → Computed c (waits time next ∷ events) moment
+    ends : {c : Config} → troubles setting c ≡ [] → offered setting c ≡ [] → lefts setting c ≡ [] → are_done c.processes ≡ true → Computed c [] Finished
+    locks : {c : Config} → troubles setting c ≡ [] → offered setting c ≡ [] → lefts setting c ≡ [] → are_done c.processes ≡ false → Computed c [] Deadlock
 
   module _ (flat : IsFlat setting.model) where
     no_offers : (c : Config) → offered setting c ≡ [] → IsOffers setting c []
@@ -225,36 +190,20 @@ module _ (setting : Setting) where
           leads = follows_is setting c a (Ok next) sent leads;
         }
 
-    chosen_is : (c : Config) (offers : List Action) (number : ℕ) (next : Config) → choice c number ≡ wanted_choice c offers number next → Taken setting c offers number next
-    chosen_is c offers number next e =
-        let are : offered setting c ≡ offers = ap (λ (x : Choice). x.offers) e in
-        taken_is c offers number next (ap (λ (x : Choice). x.troubles) e) are
-        (subst (λ (os : List Action). ordered os ≡ true) are (ap (λ (x : Choice). x.in_order) e))
-        (slice_get offers number) refl
-        (subst (λ (os : List Action). sent_by c (slice_get os number) ≡ named_by c (slice_get offers number)) are (ap (λ (x : Choice). x.parcel) e))
-        (subst (λ (os : List Action). next_by c (slice_get os number) ≡ Some (Ok next)) are (ap (λ (x : Choice). x.next) e))
-
-    waited_is : (c : Config) (time : ℕ) (next : Config) → passing_by c time ≡ record { troubles = []; offers = []; least = true; next = next } → Waited setting c time next
-    waited_is c time next e =
-        let calm = no_troubles setting c flat (ap (λ (x : Passing). x.troubles) e) in
-        record {
-          moment = record { applies = passing time (least c time (ap (λ (x : Passing). x.least) e)); first = rank_three setting c calm (no_offers c (ap (λ (x : Passing). x.offers) e)) };
-          leads = subst (PassesTo setting c time) (ap (λ (x : Passing). x.next) e) (passing_there setting c time calm);
-        }
+    waited_is : (c : Config) (time : ℕ) (next : Config) → troubles setting c ≡ [] → offered setting c ≡ [] → is_least time (lefts setting c) ≡ true → next_config setting c time ≡ next → Waited setting c time next
+    waited_is c time next calm none is leads = record {
+      moment = record { applies = passing time (least c time is); first = rank_three setting c (no_troubles setting c flat calm) (no_offers c none) };
+      leads = subst (PassesTo setting c time) leads (passing_there setting c time (no_troubles setting c flat calm));
+    }
 
     pub shown : (c : Config) (events : List Shown) (moment : Moment) → Computed c events moment → Shows setting c events moment
-    shown _ _ _ (acts {c} {next} {offers} {number} {events} {moment} e rest) = (chosen_is c offers number next e, shown next events moment rest)
-    shown _ _ _ (passes {c} {next} {time} {events} {moment} e rest) = (waited_is c time next e, shown next events moment rest)
-    shown _ _ _ (ends {c} e) =
-        record {
-          applies = finished (all_are_done c.processes (ap (λ (x : Rest). x.all_done) e));
-          first = rank_four setting c (no_troubles setting c flat (ap (λ (x : Rest). x.troubles) e)) (no_offers c (ap (λ (x : Rest). x.offers) e)) (no_delays c (ap (λ (x : Rest). x.lefts) e));
-        }
-    shown _ _ _ (locks {c} e) =
-        record {
-          applies = deadlock;
-          first = rank_five setting c (no_troubles setting c flat (ap (λ (x : Rest). x.troubles) e)) (no_offers c (ap (λ (x : Rest). x.offers) e)) (no_delays c (ap (λ (x : Rest). x.lefts) e)) (not_done c.processes (ap (λ (x : Rest). x.all_done) e));
-        }
+    shown _ _ _ (acts {c} {next} {offers} {number} {events} {moment} calm are in_order sent leads rest) =
+        (taken_is c offers number next calm are in_order (slice_get offers number) refl sent leads, shown next events moment rest)
+    shown _ _ _ (passes {c} {next} {time} {events} {moment} calm none is leads rest) = (waited_is c time next calm none is leads, shown next events moment rest)
+    shown _ _ _ (ends {c} calm none still all) =
+        record { applies = finished (all_are_done c.processes all); first = rank_four setting c (no_troubles setting c flat calm) (no_offers c none) (no_delays c still) }
+    shown _ _ _ (locks {c} calm none still more) =
+        record { applies = deadlock; first = rank_five setting c (no_troubles setting c flat calm) (no_offers c none) (no_delays c still) (not_done c.processes more) }
 
   pub traced : IsFlat setting.model → (ps : List Process) (events : List Shown) (moment : Moment) → IsFirst setting ps → Computed (record { clock = 0; processes = ps }) events moment → Trace setting events moment
   traced flat ps events moment first h = record { start = record { clock = 0; processes = ps }; starts = starts_there setting ps first; shows = shown flat (record { clock = 0; processes = ps }) events moment h }
