@@ -1,5 +1,5 @@
 -- Which statements of a process may be opened, and in which frame.
-use Rattle.std.specs.Prelude.{◌≡◌, ℕ, Bool, false, List, [], ◌∷◌, length, Contains, Some, IsTrue}
+use Rattle.std.specs.Prelude.{◌≡◌, ℕ, false, List, [], ◌∷◌, length, Contains, Some, IsTrue}
 use Rattle.std.specs.Option.{option_map_or}
 use Rattle.pz_syntax.specs.Statements.{bracketed, guarded, parallel, select, conditional, repeated, abort, interrupt, no_statements, then, StatementPart, not_written, otherwise, Branches, no_branches, branch}
 use Rattle.pz_syntax.specs.Classes.{ModelTree}

@@ -14,30 +14,22 @@
 --   system
 --   instances s : S(d := 4) r : R
 --   channels {s.o, r.i}
-use Rattle.std.proofs.Common.{◌≡◌, ℕ, pos, true, false, List, [], ◌∷◌, map, Some, None, codes, refl}
-use Rattle.pz_syntax.specs.declared.tokens.Symbol.TheVariants.{Greater, Less}
+use Rattle.std.proofs.Common.{true, false, List, [], ◌∷◌, Some, None, codes, refl}
 use Rattle.pz_syntax.specs.declared.clusters.ChannelEnd.TheVariants.{Inner}
-use Rattle.pz_syntax.specs.declared.exprs.Literal.TheVariants as literal
-use Rattle.pz_syntax.specs.Expressions.{variable, me, clock, creation, chain, sends, assign, returned, none, left_out, written, no_links, link, no_sendings, sending}
-use Rattle.pz_syntax.specs.Expressions as expression
+use Rattle.pz_syntax.specs.Expressions.{variable, none, left_out}
 use Rattle.pz_syntax.specs.Statements.{skip, delay, bracketed, send, receive, call, assignment, value}
 use Rattle.pz_syntax.specs.Statements as statement
-use Rattle.pz_syntax.specs.Classes.{data_class, process_class, ModelTree}
+use Rattle.pz_syntax.specs.Classes.{process_class, ModelTree}
 use Rattle.pz_value.specs.declared.value.Value.{Value}
-use Rattle.pz_value.specs.declared.value.Value.TheVariants.{Nil, Ref}
 use Rattle.pz_code.specs.declared.slot.Slot.TheVariants.{Shared}
-use Rattle.pz_copy.specs.Parcels.{ParcelView}
-use Rattle.pz_state.specs.Objects.{ObjectView}
-use Rattle.pz_state.specs.States.{Frames}
-use Rattle.pz_rules.specs.declared.action.Kind.TheVariants.{Skip, Eval, Expire, Call}
+use Rattle.pz_rules.specs.declared.action.Kind.TheVariants.{Skip, Expire, Call}
 use Rattle.pz_rules.specs.declared.action.Action.{Action}
 use Rattle.pz_rules.specs.declared.action.Action.TheVariants.{Comm}
-use Rattle.pz_rules.specs.declared.moment.Moment.TheVariants.{Finished, Deadlock}
-use Rattle.pz_rules.specs.Terms.{Code, Step, Term, done, leaf, wait, sequence, parallel, guarded, frame, abort, idle, handling}
+use Rattle.pz_rules.specs.declared.moment.Moment.TheVariants.{Deadlock}
+use Rattle.pz_rules.specs.Terms.{Step, Term, done, leaf, wait, sequence, abort}
 use Rattle.pz_rules.specs.Settings.{Setting, Process}
-use Rattle.pz_rules.specs.Configurations.{Config}
-use Rattle.pz_rules.proofs.worked.Models.{at, id, integer, expressions, steps, branches, group_of, message_of, begins_by, method_of, instance_of, gives, channel_of, system_of, class, evaluations, of_model, at_clock, before, within, terms, number, object_of, end, nothing, internal}
-use Rattle.pz_rules.proofs.worked.Shown.{Shown, takes, waits, Trace, Computed, acts, passes, ends, locks, traced}
+use Rattle.pz_rules.proofs.worked.Models.{at, id, integer, steps, group_of, message_of, begins_by, method_of, instance_of, gives, channel_of, system_of, evaluations, of_model, at_clock, before, within, number, end, nothing, internal}
+use Rattle.pz_rules.proofs.worked.Shown.{Shown, takes, waits, Trace, acts, passes, locks, traced}
 
 abbrev model : ModelTree
 model = record {

@@ -1,6 +1,6 @@
 -- What the rules derive of a configuration, computed, where no process stands in a cluster: the actions
 -- that it offers, the troubles, and what is left of its active delays.
-use Rattle.std.proofs.Common.{◌≡◌, ◌<◌, ◌+◌, ◌⊎◌, inl, inr, ℕ, zero, suc, Bool, true, false, List, [], ◌∷◌, ◌++◌, map, length, Option, Some, None, Result, Ok, Err, refl, sym, subst, ap, ◌∙◌, arith}
+use Rattle.std.proofs.Common.{◌≡◌, ◌+◌, ℕ, zero, suc, Bool, true, false, List, [], ◌∷◌, ◌++◌, map, length, Option, Some, None, Result, Ok, Err, refl, sym, subst, ap, ◌∙◌, arith}
 use Rattle.std.specs.Prelude.{slice_get, nat_eq, nat_le, not, ◌&&◌, if◌then◌else◌}
 use Rattle.std.specs.Str.{bytes_eq}
 use Rattle.std.specs.List.{All, Contains, filter_map, flat_map}
@@ -36,7 +36,7 @@ use Rattle.pz_rules.specs.Moments.{Source, Troubles, asked, judged, IsLeft}
 use Rattle.pz_rules.specs.devices.Found.{tested}
 use Rattle.pz_rules.specs.devices.Walk.{Part, active_parts, Doing, does, Sending, sent_by, Receiving, received_by, waiting, trouble_of, troubled_by}
 use Rattle.pz_rules.proofs.Found.{tests_found}
-use Rattle.pz_rules.proofs.Lists.{Contains-first, Contains-later, Contains-map, Contains-filter_map, All-filter_map}
+use Rattle.pz_rules.proofs.Lists.{Contains-later, Contains-map, Contains-filter_map, All-filter_map}
 use Rattle.pz_rules.proofs.Locals.{some_is, no_some, does_complete, does_sound, sends_complete, sends_sound, delays_complete, delays_sound, asks_complete, receives_complete, receives_sound}
 use Rattle.pz_rules.proofs.Walked.{IsPart, part_at, listed, sound}
 use Rattle.pz_rules.proofs.Finite.{all_in, is_in, up_to, below_every}

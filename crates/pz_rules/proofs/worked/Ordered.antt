@@ -1,5 +1,5 @@
 -- Tests of lists: that actions stand in their order, and which number is the least.
-use Rattle.std.proofs.Common.{◌≡◌, ◌<◌, ◌≤◌, ◌⊎◌, inl, inr, ℕ, Bool, true, false, List, [], ◌∷◌, refl, arith}
+use Rattle.std.proofs.Common.{◌≡◌, ◌<◌, ◌≤◌, ◌⊎◌, inl, inr, ℕ, Bool, true, false, List, [], ◌∷◌}
 use Rattle.std.specs.Prelude.{nat_eq, nat_lt, nat_le, ◌&&◌, ◌||◌}
 use Rattle.std.specs.List.{All, AllPairs, Contains, list_all, list_any}
 use Rattle.std.proofs.lemmas.Bool.{and_parts, or_cases, eqb-true, ltb-true, leb-true}
@@ -9,7 +9,7 @@ use Rattle.pz_offer.specs.declared.end.End.{End}
 use Rattle.pz_offer.specs.PlaceOrder.{Place, PlaceBefore, EndBefore}
 use Rattle.pz_rules.specs.declared.action.Action.{Action}
 use Rattle.pz_rules.specs.declared.action.Action.TheVariants.{Internal, Comm}
-use Rattle.pz_rules.specs.Offers.{Before, PairBefore}
+use Rattle.pz_rules.specs.Offers.{Before}
 use Rattle.pz_rules.proofs.Lists.{AllPairs-nil, Contains-first, Contains-later}
 use Rattle.pz_rules.proofs.worked.Wiring.{no_true}
 

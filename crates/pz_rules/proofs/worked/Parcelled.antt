@@ -1,5 +1,5 @@
 -- The parcel of values, computed.
-use Rattle.std.proofs.Common.{◌≡◌, ℕ, zero, suc, List, [], map, length, Option, Some, None, refl, subst, ap, sym, ◌∙◌}
+use Rattle.std.proofs.Common.{◌≡◌, ℕ, zero, suc, List, [], map, length, Option, Some, None, refl, subst, sym, ◌∙◌}
 use Rattle.std.specs.Prelude.{slice_get}
 use Rattle.pz_value.specs.declared.value.Value.{Value}
 use Rattle.pz_state.specs.States.{StateView}

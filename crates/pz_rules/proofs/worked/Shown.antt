@@ -4,7 +4,6 @@ use Rattle.std.specs.Prelude.{slice_get, nat_eq, nat_le, ◌&&◌}
 use Rattle.std.specs.List.{All, Contains, list_any, list_all}
 use Rattle.std.proofs.lemmas.Bool.{and_parts, and_cases}
 use Rattle.std.proofs.lemmas.List.Elements.{All-nil, All-cons, All-contains}
-use Rattle.pz_syntax.specs.Classes.{ModelTree}
 use Rattle.pz_classes.specs.Starts.{init}
 use Rattle.pz_levels.specs.Places.{Place}
 use Rattle.pz_bind.specs.Nest.{processes, class_at}
@@ -20,10 +19,10 @@ use Rattle.pz_rules.specs.Leaving.{is_done}
 use Rattle.pz_rules.specs.Configurations.{Config}
 use Rattle.pz_rules.specs.Offers.{IsOffers}
 use Rattle.pz_rules.specs.Steps.{Next, PassesTo}
-use Rattle.pz_rules.specs.Moments.{IsLeft, IsLeast, AllDone, acting, passing, finished, deadlock, IsMoment}
+use Rattle.pz_rules.specs.Moments.{IsLeft, IsLeast, acting, passing, finished, deadlock, IsMoment}
 use Rattle.pz_rules.specs.Starting.{StartsAs, IsStart}
 use Rattle.pz_rules.proofs.Locals.{some_is, no_some}
-use Rattle.pz_rules.proofs.Moments.{NoTrouble, NoDelay, rank_two, rank_three, rank_four, rank_five}
+use Rattle.pz_rules.proofs.Moments.{NoDelay, rank_two, rank_three, rank_four, rank_five}
 use Rattle.pz_rules.proofs.Waiting.{next_config, passing_there}
 use Rattle.pz_rules.proofs.worked.Wiring.{no_true, IsFlat}
 use Rattle.pz_rules.proofs.worked.Ordered.{ordered, is_least, contains_number, at_least}
