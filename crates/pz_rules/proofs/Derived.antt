@@ -255,7 +255,7 @@ module _ (setting : Setting) (c : Config) where
 
   -- Sends and receives
 
-  abbrev IsSender : Sender → Type 0
+  abbrev pub IsSender : Sender → Type 0
   IsSender s = IsLocated s.at × (sent_by s.at.seen s.at.frame s.at.part ≡ Some s.sending)
 
   abbrev SendOf : Located → Sender → Type 0
@@ -271,7 +271,7 @@ module _ (setting : Setting) (c : Config) where
       alike {P = λ s. (l : Located) × IsLocated l × SendOf l s} (λ s h. subst IsSender (sym h.2.2) (h.1, h.2.1)) (λ s h. (s.at, h.0, (s.sending, h.1, refl)))
       (bind {P = IsLocated} {Q = SendOf} located send_of)
 
-  abbrev IsReceiver : Receiver → Type 0
+  abbrev pub IsReceiver : Receiver → Type 0
   IsReceiver r = IsLocated r.at × (received_by r.at.part ≡ Some r.receiving)
 
   abbrev ReceiveOf : Located → Receiver → Type 0

@@ -47,13 +47,13 @@ either {X} {P} {Q} f g = record {
     of_both x (inr q) = Contains-append_right f.list g.list x (g.every x q)
 
 module _ {X Y : Type 0} where
-  all_in : (P : X → Type 0) (R : Y → Type 0) (h : X → List Y) (xs : List X) → ((x : X) → P x → All R (h x)) → All P xs → All R (flat_map h xs)
+  pub all_in : (P : X → Type 0) (R : Y → Type 0) (h : X → List Y) (xs : List X) → ((x : X) → P x → All R (h x)) → All P xs → All R (flat_map h xs)
   all_in P R h [] each all = All-nil R
   all_in P R h (x ∷ xs) each all =
       All-append R (h x) (flat_map h xs) (each x (all 0 x (omega arith)))
       (all_in P R h xs each (λ k d within. all (suc k) d (omega (arith, within))))
 
-  is_in : (h : X → List Y) (xs : List X) (x : X) (y : Y) → Contains xs x → Contains (h x) y → Contains (flat_map h xs) y
+  pub is_in : (h : X → List Y) (xs : List X) (x : X) (y : Y) → Contains xs x → Contains (h x) y → Contains (flat_map h xs) y
   is_in h [] x y (k, within, is) inner = absurd (omega (arith, within))
   is_in h (z ∷ zs) x y outer inner = by (Contains-cases z zs x outer) (λ later. is_in h zs x y later inner)
     where
@@ -70,7 +70,7 @@ module _ {X Y : Type 0} where
   }
 
 -- the numbers below n
-abbrev up_to : ℕ → List ℕ
+abbrev pub up_to : ℕ → List ℕ
 up_to zero = []
 up_to (suc n) = n ∷ up_to n
 
@@ -85,7 +85,7 @@ last_or_before i n h = by (cases_lt i n)
     by (inl less) = inr less
     by (inr more) = inl (omega (arith, h, more))
 
-below_every : (n i : ℕ) → i < n → Contains (up_to n) i
+pub below_every : (n i : ℕ) → i < n → Contains (up_to n) i
 below_every zero i h = absurd (omega (arith, h))
 below_every (suc n) i h = by (last_or_before i n h) (λ less. below_every n i less)
   where

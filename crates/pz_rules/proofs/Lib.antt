@@ -24,3 +24,4 @@ mod Kept
 mod Pending
 mod Existing
 mod Wires
+pub mod worked

@@ -91,7 +91,7 @@ module _ (setting : Setting) (c : Config) where
           inr (inl (ap (λ (s : Source). let b : Blame = record { source = s; trouble = x.trouble } in b) same ∙ ap (λ (t : Trouble). let b : Blame = record { source = y.source; trouble = t } in b) trouble))
       by (inr (inr after)) = inr (inr after)
 
-  abbrev NoTrouble : Type 0
+  abbrev pub NoTrouble : Type 0
   NoTrouble = (source : Source) (t : Trouble) → Troubles setting c source t → ⊥
 
   not_before : (x y : Blame) → (x ≡ y) ⊎ BlameBefore y x → BlameBefore x y → ⊥
@@ -113,7 +113,7 @@ module _ (setting : Setting) (c : Config) where
   abbrev SomeDelay : Type 0
   SomeDelay = (d : ℕ) × IsLeast setting c d
 
-  abbrev NoDelay : Type 0
+  abbrev pub NoDelay : Type 0
   NoDelay = (d : ℕ) → IsLeft setting c d → ⊥
 
   at_least : (d left : ℕ) → (left ≡ d) ⊎ (d < left) → d ≤ left
@@ -163,7 +163,7 @@ module _ (setting : Setting) (c : Config) where
   rank_one _ (finished x) = omega arith
   rank_one _ deadlock = omega arith
 
-  rank_two : NoTrouble → (n : Moment) → Says setting c n → 2 ≤ rank n
+  pub rank_two : NoTrouble → (n : Moment) → Says setting c n → 2 ≤ rank n
   rank_two calm _ (faulty t x) = absurd (calm x.source t x.occurs)
   rank_two calm _ (acting xs x some) = omega arith
   rank_two calm _ (passing d x) = omega arith
@@ -173,21 +173,21 @@ module _ (setting : Setting) (c : Config) where
   no_offers : (xs : List Action) → IsOffers setting c [] → IsOffers setting c xs → 1 ≤ length xs → ⊥
   no_offers xs none is some = omega (arith, some, ap length (one_list setting c xs [] is none))
 
-  rank_three : NoTrouble → IsOffers setting c [] → (n : Moment) → Says setting c n → 3 ≤ rank n
+  pub rank_three : NoTrouble → IsOffers setting c [] → (n : Moment) → Says setting c n → 3 ≤ rank n
   rank_three calm none _ (faulty t x) = absurd (calm x.source t x.occurs)
   rank_three calm none _ (acting xs x some) = absurd (no_offers xs none x some)
   rank_three calm none _ (passing d x) = omega arith
   rank_three calm none _ (finished x) = omega arith
   rank_three calm none _ deadlock = omega arith
 
-  rank_four : NoTrouble → IsOffers setting c [] → NoDelay → (n : Moment) → Says setting c n → 4 ≤ rank n
+  pub rank_four : NoTrouble → IsOffers setting c [] → NoDelay → (n : Moment) → Says setting c n → 4 ≤ rank n
   rank_four calm none still _ (faulty t x) = absurd (calm x.source t x.occurs)
   rank_four calm none still _ (acting xs x some) = absurd (no_offers xs none x some)
   rank_four calm none still _ (passing d x) = absurd (still d x.is_left)
   rank_four calm none still _ (finished x) = omega arith
   rank_four calm none still _ deadlock = omega arith
 
-  rank_five : NoTrouble → IsOffers setting c [] → NoDelay → (AllDone c → ⊥) → (n : Moment) → Says setting c n → 5 ≤ rank n
+  pub rank_five : NoTrouble → IsOffers setting c [] → NoDelay → (AllDone c → ⊥) → (n : Moment) → Says setting c n → 5 ≤ rank n
   rank_five calm none still more _ (faulty t x) = absurd (calm x.source t x.occurs)
   rank_five calm none still more _ (acting xs x some) = absurd (no_offers xs none x some)
   rank_five calm none still more _ (passing d x) = absurd (still d x.is_left)

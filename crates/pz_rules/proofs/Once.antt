@@ -1,7 +1,6 @@
 -- Each relation on one part has one outcome.
 use Rattle.std.proofs.Common.{◌≡◌, ◌<◌, ◌≤◌, ◌⊎◌, inl, inr, ℕ, Bool, true, false, List, length, Option, Some, None, Result, Ok, refl, sym, subst, ap, ◌∙◌, arith}
 use Rattle.std.specs.Option.{IsSome}
-use Rattle.std.specs.Prelude.{slice_get}
 use Rattle.std.proofs.lemmas.Bool.{cases_lt}
 use Rattle.pz_syntax.specs.declared.tokens.Pos.{Pos}
 use Rattle.pz_syntax.specs.declared.names.Id.{Id}
@@ -11,9 +10,8 @@ use Rattle.pz_value.specs.declared.value.Value.{Value}
 use Rattle.pz_code.specs.declared.slot.Slot.{Slot}
 use Rattle.pz_state.specs.States.{StateView, Frames, locals_in, IsLeastFree}
 use Rattle.pz_state.specs.declared.fault.FaultKind.TheVariants.{StoreFull}
-use Rattle.pz_classes.specs.Bodies.{process_body, bodies}
+use Rattle.pz_classes.specs.Bodies.{process_body}
 use Rattle.pz_classes.specs.FitBodies.{how_many}
-use Rattle.pz_classes.specs.declared.method_id.MethodId.{MethodId}
 use Rattle.pz_copy.specs.Parcels.{ParcelView}
 use Rattle.pz_offer.specs.PlaceOrder.{Place}
 use Rattle.pz_offer.specs.declared.trouble.Trouble.{Trouble}
@@ -52,8 +50,7 @@ pub record SameMethod (l k : ℕ) (b c : Steps) : Type 0 where
 
 pub method_once : {m : ModelTree} {class : ℕ} {name : List ℕ} {inputs outputs l k : ℕ} {b c : Steps} → IsMethod m class name inputs outputs l b → IsMethod m class name inputs outputs k c → SameMethod l k b c
 method_once {m} {class} {name} {inputs} {outputs} {l} {k} {b} {c} x y =
-    let number : x.number ≡ y.number = some_is (sym x.nearest ∙ y.nearest) in
-    let same : process_body l b ≡ process_body k c = some_is (sym x.is_body ∙ ap (λ (n : MethodId). slice_get (bodies m) n.0) number ∙ y.is_body) in
+    let same : process_body l b ≡ process_body k c = some_is (sym x.is_body ∙ y.is_body) in
     record { locals = (body_is same).0; body = (body_is same).1 }
 
 none_there : {X : Type 0} {P : Type 0} (o : Option X) → o ≡ None → IsSome o → P

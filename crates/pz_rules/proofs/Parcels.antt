@@ -21,7 +21,7 @@ at_seam : (xs : List ℕ) (r : ℕ) (ys : List ℕ) → slice_get (xs ++ r ∷ y
 at_seam [] r ys = refl
 at_seam (x ∷ xs) r ys = at_seam xs r ys
 
-past : (xs : List ℕ) (i : ℕ) → slice_get xs i ≡ None → length xs ≤ i
+pub past : (xs : List ℕ) (i : ℕ) → slice_get xs i ≡ None → length xs ≤ i
 past [] i e = omega arith
 past (x ∷ xs) zero e = cc
 past (x ∷ xs) (suc i) e = let rest : length xs ≤ i = past xs i e in omega arith

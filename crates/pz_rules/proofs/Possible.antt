@@ -1,6 +1,6 @@
 -- In a model whose bodies fit, each action that is offered leads somewhere, and what fits stays so.
 use Rattle.std.proofs.Common.{◌≡◌, ◌≤◌, ◌<◌, ◌+◌, ◌⊎◌, inl, inr, max, ℕ, zero, suc, Bool, true, false, List, [], ◌∷◌, length, Option, Some, None, Result, Ok, Err, refl, sym, subst, ap, ◌∙◌, arith}
-use Rattle.std.specs.Prelude.{slice_get, if◌then◌else◌, nat_eq}
+use Rattle.std.specs.Prelude.{if◌then◌else◌, nat_eq}
 use Rattle.std.specs.Option.{IsSome}
 use Rattle.std.proofs.lemmas.Bool.{cases_lt, eqb-true}
 use Rattle.pz_syntax.specs.declared.tokens.Pos.{Pos}
@@ -15,8 +15,7 @@ use Rattle.pz_state.specs.States.{StateView, Frames, locals_in, IsLeastFree}
 use Rattle.pz_state.specs.declared.state.TheConstants.{OBJECT_LIMIT}
 use Rattle.pz_state.specs.declared.fault.FaultKind.TheVariants.{StoreFull}
 use Rattle.pz_classes.specs.declared.method_id.Counts.TheVariants.{Process as process_counts}
-use Rattle.pz_classes.specs.declared.method_id.MethodId.{MethodId}
-use Rattle.pz_classes.specs.Bodies.{BodyTree, data_body, process_body, bodies}
+use Rattle.pz_classes.specs.Bodies.{BodyTree, data_body, process_body}
 use Rattle.pz_classes.specs.FitBodies.{StatementFits, StatementsFit, CallFits, BodyFits, how_many}
 use Rattle.pz_classes.specs.SoundBodies.{BodiesFit}
 use Rattle.pz_copy.specs.Parcels.{ParcelView}
@@ -54,20 +53,25 @@ none_above (f ∷ fs) n h = by (nat_eq f.0 n) refl (none_above fs n (omega (arit
     by true e rest = let same : f.0 ≡ n = eqb-true f.0 n e in absurd (omega (arith, same, h))
     by false e rest = rest
 
-pub record SomeFree (frames : Frames) : Type 0 where
-  pub number : ℕ
-  pub is : IsLeastFree frames number
+-- the first of these numbers that is free, where the search begins at n
+abbrev first_or : Option (List Value) → ℕ → ℕ → ℕ
+first_or None n further = n
+first_or (Some vs) n further = further
+
+abbrev free_by : ℕ → ℕ → Frames → ℕ
+free_by zero n frames = n
+free_by (suc fuel) n frames = first_or (locals_in frames n) n (free_by fuel (suc n) frames)
 
 -- numbers below n are taken
 abbrev Taken : Frames → ℕ → Type 0
 Taken frames n = (k : ℕ) → 0 < k → k < n → IsSome (locals_in frames k)
 
-free_from : (fuel n : ℕ) (frames : Frames) → 0 < n → Taken frames n → above frames ≤ n + fuel → SomeFree frames
-free_from zero n frames positive taken enough = record { number = n; is = record { positive = positive; free = none_above frames n (omega (arith, enough)); below = taken } }
+free_from : (fuel n : ℕ) (frames : Frames) → 0 < n → Taken frames n → above frames ≤ n + fuel → IsLeastFree frames (free_by fuel n frames)
+free_from zero n frames positive taken enough = record { positive = positive; free = none_above frames n (omega (arith, enough)); below = taken }
 free_from (suc fuel) n frames positive taken enough = by (locals_in frames n) refl (λ more. free_from fuel (suc n) frames (omega arith) more (omega (arith, enough)))
   where
-    by : (o : Option (List Value)) → locals_in frames n ≡ o → (Taken frames (suc n) → SomeFree frames) → SomeFree frames
-    by None e go = record { number = n; is = record { positive = positive; free = e; below = taken } }
+    by : (o : Option (List Value)) → locals_in frames n ≡ o → (Taken frames (suc n) → IsLeastFree frames (free_by fuel (suc n) frames)) → IsLeastFree frames (first_or o n (free_by fuel (suc n) frames))
+    by None e go = record { positive = positive; free = e; below = taken }
     by (Some vs) e go = go (λ k above_zero below. at_or_before k above_zero (cases_lt k n) below)
       where
         at_or_before : (k : ℕ) → 0 < k → (k < n) ⊎ (n ≤ k) → k < suc n → IsSome (locals_in frames k)
@@ -76,8 +80,11 @@ free_from (suc fuel) n frames positive taken enough = by (locals_in frames n) re
             let same : n ≡ k = omega (arith, more, below) in
             subst (λ (i : ℕ). IsSome (locals_in frames i)) same (subst (λ (o : Option (List Value)). IsSome o) (sym e) refl)
 
-pub some_free : (frames : Frames) → SomeFree frames
-some_free frames = free_from (above frames) 1 frames (omega arith) (λ k positive below. absurd (omega (arith, positive, below))) (omega arith)
+abbrev pub free : Frames → ℕ
+free frames = free_by (above frames) 1 frames
+
+pub free_is : (frames : Frames) → IsLeastFree frames (free frames)
+free_is frames = free_from (above frames) 1 frames (omega arith) (λ k positive below. absurd (omega (arith, positive, below))) (omega arith)
 
 -- an outcome of a deed
 pub record SomeDeed (does : Pos → Result Process Trouble → Type 0) : Type 0 where
@@ -99,12 +106,11 @@ module _ (a : At) (f : ℕ) (sound : BodiesFit a.setting.model) (l : ℕ) where
   call_does : (at : Pos) (method : Id) (args : Codes) (results : List Slot) (body : BodyTree) → (h : CallFits m a.class l method (how_many args) (length results)) → h.body ≡ body → BodyFits m a.class (process_counts (how_many args) (length results)) body → SomeDeed (Performs a f (leaf (call at method args results)))
   call_does at method args results (data_body count code) h is fits = absurd fits
   call_does at method args results (process_body locals body) h is fits =
-      let free = some_free (left_all a f args).frames in
       record {
         pos = at;
-        left = and_then (found_all a f at args) (λ vs. Ok (entered (left_all a f args) free.number locals results body vs));
-        is = actions.calls at method args results (found_all a f at args) (left_all a f args) locals free.number body (gives_all_found a f at args)
-            (record { number = h.number; nearest = h.found; is_body = h.there ∙ ap (λ b. Some b) is }) free.is;
+        left = and_then (found_all a f at args) (λ vs. Ok (entered (left_all a f args) (free (left_all a f args).frames) locals results body vs));
+        is = actions.calls at method args results (found_all a f at args) (left_all a f args) locals (free (left_all a f args).frames) body (gives_all_found a f at args)
+            (record { is_body = h.is ∙ ap (λ b. Some b) is }) (free_is (left_all a f args).frames);
       }
 
   pub performs_some : (t : Term) (kind : Kind) (pos : Pos) → Can a f t kind pos → TermFits m a.class l t → SomeDeed (Performs a f t)
@@ -136,8 +142,7 @@ module _ (a : At) (f : ℕ) (sound : BodiesFit a.setting.model) (l : ℕ) where
 
   body_fits : (method : Id) (inputs : ℕ) (results : List Slot) (locals : ℕ) (body : Steps) → CallFits m a.class l method inputs (length results) → IsMethod m a.class method.name inputs (length results) locals body → StatementsFit m a.class locals body
   body_fits method inputs results locals body h is_method =
-      let number : h.number ≡ is_method.number = some_is (sym h.found ∙ is_method.nearest) in
-      let same : h.body ≡ process_body locals body = some_is (sym h.there ∙ ap (λ (n : MethodId). slice_get (bodies m) n.0) number ∙ is_method.is_body) in
+      let same : h.body ≡ process_body locals body = some_is (sym h.is ∙ is_method.is_body) in
       (subst (λ (b : BodyTree). BodyFits m a.class (process_counts inputs (length results)) b) same (sound.methods_fit a.class (record { name = method.name; counts = process_counts inputs (length results) }) h.body h.is)).1
 
   chosen_fits : (s : StateView) (ts : Steps) (other : StatementPart Slot ClassId ℕ) (b : Bool) → TermFits m a.class l (opened_all ts) → TermFits m a.class l (opened_part other) → TermFits m a.class l (chosen s ts other b).term

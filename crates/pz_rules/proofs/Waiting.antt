@@ -7,23 +7,21 @@ use Rattle.pz_bind.specs.Nest.{processes, class_at}
 use Rattle.pz_offer.specs.declared.end.End.{End}
 use Rattle.pz_offer.specs.PlaceOrder.{Place}
 use Rattle.pz_offer.specs.declared.trouble.Trouble.{Trouble}
-use Rattle.pz_rules.specs.declared.moment.Moment.TheVariants.{Time}
 use Rattle.pz_rules.specs.Terms.{Term, done, leaf, wait, sequence, parallel, select, guarded, frame, abort, idle, handling, Terms, no_terms, and, term_at, child, count, frame_in}
 use Rattle.pz_rules.specs.Settings.{Setting, Process, At}
 use Rattle.pz_rules.specs.Active as active
 use Rattle.pz_rules.specs.Active.{Active, Reached}
 use Rattle.pz_rules.specs.Delays as delays
 use Rattle.pz_rules.specs.Delays.{Delays, Passes}
-use Rattle.pz_rules.specs.Ports.{HasWires}
 use Rattle.pz_rules.specs.Configurations.{Config, Stands}
 use Rattle.pz_rules.specs.Steps.{PassesTo}
-use Rattle.pz_rules.specs.Moments.{IsMoment, asked, part}
+use Rattle.pz_rules.specs.Moments.{asked, part}
 use Rattle.pz_rules.specs.Laws.{EveryPassing, PassingTakes, BringsToZero, HasLeft, part_of}
 use Rattle.pz_rules.specs.devices.Passing.{begun, if_open, passed, passed_all}
 use Rattle.pz_rules.proofs.Found.{tests_only, lasts_only}
 use Rattle.pz_rules.proofs.Locals.{some_is, no_some}
 use Rattle.pz_rules.proofs.Passings.{Untroubled, passes_only, passes_some}
-use Rattle.pz_rules.proofs.Moments.{no_trouble, least_passes}
+use Rattle.pz_rules.proofs.Moments.{NoTrouble, no_trouble, least_passes}
 
 module _ (setting : Setting) (c : Config) (d : ℕ) where
   -- The configuration afterwards
@@ -56,14 +54,14 @@ module _ (setting : Setting) (c : Config) (d : ℕ) where
       let n : suc i + k ≡ i + suc k = omega arith in
       later_at (suc i) k places ps place p at is ∙ ap (λ (m : ℕ). Some (later m place p)) n
 
-  abbrev next_config : Config
+  abbrev pub next_config : Config
   next_config = record { clock = c.clock + d; processes = all_later 0 (processes setting.model) c.processes }
 
-  module _ (wires : HasWires setting.model) (is : IsMoment setting c (Time d)) where
+  module _ (none : NoTrouble setting c) where
     calm : (i : ℕ) (p : Process) (a : At) → Stands setting c i p a → Untroubled a d 0 p.term
     calm i p a stands place g x trouble h asks =
         let e : End = record { process = i; place = place } in
-        no_trouble setting c wires d is (part e) trouble (asked e a g x trouble (record { process = p; stands = stands; active = h }) asks)
+        none (part e) trouble (asked e a g x trouble (record { process = p; stands = stands; active = h }) asks)
 
     each_passes : (i : ℕ) (p : Process) (a : At) → Stands setting c i p a → (x : Term) × Passes a d 0 p.term x × (slice_get next_config.processes i ≡ Some (record { term = x; state = p.state }))
     each_passes i p a stands =
@@ -75,11 +73,11 @@ module _ (setting : Setting) (c : Config) (d : ℕ) where
               ∙ ap (λ (b : At). let q : Process = record { term = passed b d 0 p.term; state = p.state } in Some q) (sym stands.seen),
         )
 
-    passing_there : PassesTo setting c d next_config
+    pub passing_there : PassesTo setting c d next_config
     passing_there = record { clock = refl; all = as_many 0 (processes setting.model) c.processes; each = each_passes }
 
 pub passing_some : EveryPassing
-passing_some setting c d wires is = (next_config setting c d, passing_there setting c d wires is)
+passing_some setting c d wires is = (next_config setting c d, passing_there setting c d (no_trouble setting c wires d is))
 
 -- What is left of a delay
 

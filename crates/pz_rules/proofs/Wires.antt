@@ -83,7 +83,7 @@ module _ (m : ModelTree) where
   abbrev NumberedIn : Place → ℕ → List ℕ → Instance → Channel → Type 0
   NumberedIn up i port x c = (k : ℕ) × (k < length (channels_at m up)) × WrittenIn up i port x k c
 
-  abbrev InLevel : Place → ℕ → List ℕ → Channel → Type 0
+  abbrev pub InLevel : Place → ℕ → List ℕ → Channel → Type 0
   InLevel up i port c = (x : Instance) × (instance_at m up i ≡ Some x) × NumberedIn up i port x c
 
   written_in : (up : Place) (i : ℕ) (port : List ℕ) (x : Instance) (k : ℕ) → Finite (WrittenIn up i port x k)
@@ -109,7 +109,7 @@ module _ (m : ModelTree) where
   in_parts : (e : End) (c : Channel) → IsIn m e c → InParts e c
   in_parts _ _ (is_in up i k x h port stands there named) = (i, up, refl, (x, stands, (k, slice_get_within (channels_at m up) k h there, (h, there, (named, refl)))))
 
-  by_in : (i : ℕ) (up : Place) (port : List ℕ) (c : Channel) → IsIn m (end (i ∷ up) port) c → InLevel up i port c
+  pub by_in : (i : ℕ) (up : Place) (port : List ℕ) (c : Channel) → IsIn m (end (i ∷ up) port) c → InLevel up i port c
   by_in i up port c h = by (in_parts (end (i ∷ up) port) c h)
     where
       by : InParts (end (i ∷ up) port) c → InLevel up i port c
@@ -169,7 +169,7 @@ module _ (m : ModelTree) where
       let inside = by_in i up port.0 c port.2 in
       ap (λ (x : Channel). x.place) inside.2.2.2.1
 
-  joined_top : (k : ℕ) (c : Channel) → Joined m (channel [] k) c → ⊥
+  pub joined_top : (k : ℕ) (c : Channel) → Joined m (channel [] k) c → ⊥
   joined_top k c h = let port = (by_joined (channel [] k) c h).2 in nowhere port.0 (in_parts (end [] port.0) c port.2)
     where
       nowhere : (port : List ℕ) → InParts (end [] port) c → ⊥
@@ -177,10 +177,10 @@ module _ (m : ModelTree) where
 
   -- Where a channel leads
 
-  abbrev Onwards : Channel → Channel → Type 0
+  abbrev pub Onwards : Channel → Channel → Type 0
   Onwards c d = (x : Channel) × Joined m c x × Leads m x d
 
-  lead_cases : (c d : Channel) → Leads m c d → (c ≡ d) ⊎ Onwards c d
+  pub lead_cases : (c d : Channel) → Leads m c d → (c ≡ d) ⊎ Onwards c d
   lead_cases _ _ (itself c) = inl refl
   lead_cases _ _ (outwards c x d h l) = inr (x, h, l)
 

@@ -23,3 +23,4 @@ pub mod Starting
 pub mod Fitting
 pub mod Laws
 pub mod View
+pub mod Openable

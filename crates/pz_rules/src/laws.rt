@@ -6,7 +6,8 @@ ghost use Rattle.pz_rules.specs.devices.Walks.{InternalActionsAreListed, SendsAr
 use pz_bind::ends_share_wires;
 use pz_classes::sound_bodies_fit;
 
-/// A configuration has one list of offers.
+/// A configuration has no more than one list of offers, and has one where the wires of its model are
+/// known.
 pub fn one_list_of_offers()
     ensures one { OneListOfOffers }
     ensures some { EveryListOfOffers }
@@ -20,20 +21,20 @@ pub fn wires_are_known()
     ends_share_wires();
 }
 
-/// A configuration has one moment.
+/// A configuration has no more than one moment, and has one where the wires of its model are known.
 pub fn one_moment()
     ensures one { OneMoment }
     ensures some { EveryMoment }
 {}
 
-/// Time never passes while an action is possible.
+/// Where the wires of a model are known, time never passes while an action is possible.
 pub fn time_waits()
     ensures law { TimeWaits }
 {}
 
-/// A passing is by the least that is left of an active delay, and by one clock unit or more. It
-/// leads to a configuration, in which so much less is left of each of these delays, and nothing of
-/// some.
+/// A passing is by the least that is left of an active delay. Afterwards so much less is left of each
+/// of these delays, and nothing of some. Where the wires of the model are known, a passing is by one
+/// clock unit or more, and there is a configuration to which it leads.
 pub fn least_passes()
     ensures least { LeastPasses }
     ensures positive { TimeIsPositive }
@@ -42,8 +43,8 @@ pub fn least_passes()
     ensures elapsed { BringsToZero }
 {}
 
-/// An action leads to one configuration or to one trouble, and the passing of time to one
-/// configuration. Neither makes or ends a process.
+/// An action leads to no more than one configuration or trouble. Where as many processes stand as the
+/// model has, a passing leads to no more than one configuration, and neither makes or ends a process.
 pub fn one_next()
     ensures action { OneNext }
     ensures passing { OnePassing }
@@ -60,7 +61,9 @@ pub fn what_fits_goes_on()
     sound_bodies_fit();
 }
 
-/// A policy chooses one run, and that is a run of the rules.
+/// What a policy chooses is a run of the rules. Where as many processes stand as the model has, it
+/// chooses no more than one run; it chooses one where the model is sound, its wires are known, and what
+/// is left of each process fits its class.
 pub fn one_chosen_run()
     ensures one { OneChosenRun }
     ensures some { EveryChosenRun }

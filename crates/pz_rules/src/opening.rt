@@ -1,14 +1,19 @@
 // How statements become terms, without an action.
 
 ghost use Rattle.std.specs.Prelude.{◌≡◌, IfOk};
+ghost use Rattle.pz_classes.specs.CheckedView.{checked_model};
 ghost use Rattle.pz_code.specs.StepView.{view, sequence_view};
 ghost use Rattle.pz_rules.specs.Opening.{opened, opened_all, opened_branches};
+ghost use Rattle.pz_rules.specs.Openable.{IsProcessClass, HasItsVariables, MayOpen};
 ghost use Rattle.pz_rules.specs.View.{term_view, terms_view, branches_view};
 
-use crate::{Rest, Term};
+use crate::{Limits, Rest, Term};
 use pz_bodies::{copy_code, copy_step};
+use pz_classes::Checked;
 use pz_code::{Step, StepForm};
 use pz_items::{Boxed, Items};
+use pz_state::{FrameId, State};
+use pz_value::ClassId;
 use std::alloc::{AllocError, Global};
 
 /// The term of a statement. The only error is want of memory.
@@ -17,7 +22,7 @@ pub fn open_step(alloc: Global, step: &Step) -> Result<Term, AllocError>
     ensures { IfOk result (λ term. term_view term ≡ opened (view step.now)) }
 {
     match &step.form {
-        StepForm::Group(steps) => open_term(alloc, steps.as_slice()),
+        StepForm::Group(steps) => open_all(alloc, steps.as_slice()),
         StepForm::Guard(test, guarded) => {
             let body = Boxed::new(alloc, open_step(alloc, guarded.get())?)?;
             Ok(Term::Guard {
@@ -30,12 +35,12 @@ pub fn open_step(alloc: Global, step: &Step) -> Result<Term, AllocError>
         StepForm::Sel(branches) => Ok(Term::Sel(open_branches(alloc, branches.as_slice())?)),
         StepForm::Abort(first, second) => {
             let second = Boxed::new(alloc, open_step(alloc, second.get())?)?;
-            let first = Boxed::new(alloc, open_term(alloc, first.as_slice())?)?;
+            let first = Boxed::new(alloc, open_all(alloc, first.as_slice())?)?;
             Ok(Term::Abort(first, second))
         }
         StepForm::Interrupt(first, again) => {
             let second = Boxed::new(alloc, open_step(alloc, again.get())?)?;
-            let first = Boxed::new(alloc, open_term(alloc, first.as_slice())?)?;
+            let first = Boxed::new(alloc, open_all(alloc, first.as_slice())?)?;
             Ok(Term::Idle(first, second, copy_step(alloc, again.get())?))
         }
         _ => Ok(Term::Leaf(copy_step(alloc, step)?)),
@@ -45,7 +50,7 @@ pub fn open_step(alloc: Global, step: &Step) -> Result<Term, AllocError>
 /// The term of statements in a sequence: the first stands open, and the others wait behind it. The
 /// only error is want of memory.
 #[cycle(opening)]
-pub fn open_term(alloc: Global, steps: &[Step]) -> Result<Term, AllocError>
+fn open_all(alloc: Global, steps: &[Step]) -> Result<Term, AllocError>
     ensures { IfOk result (λ term. term_view term ≡ opened_all (sequence_view steps.now)) }
 {
     match steps {
@@ -64,7 +69,7 @@ fn open_branches(alloc: Global, branches: &[Items<Step>]) -> Result<Items<Term>,
 {
     let mut terms = Items::new(alloc);
     for branch in branches {
-        terms.push(open_term(alloc, branch.as_slice())?)?;
+        terms.push(open_all(alloc, branch.as_slice())?)?;
     }
     Ok(terms)
 }
@@ -81,4 +86,26 @@ pub fn open_rest(alloc: Global, mut rest: Rest) -> Result<Term, AllocError>
     }
     let first = Boxed::new(alloc, open_step(alloc, &step)?)?;
     Ok(Term::Seq(first, rest))
+}
+
+/// The term of statements of a process of this class, which stand in the given frame: part of a body
+/// of one of its methods, or the call with which it starts, alone, in no frame. The state stays as it
+/// is, also after want of memory, which is the only error. What statements open as depends on nothing
+/// but the statements: the class, the state, the frame and the limits say where they stand.
+pub fn open_term(
+    alloc: Global,
+    checked: &Checked,
+    class: ClassId,
+    state: &mut State,
+    frame: FrameId,
+    steps: &[Step],
+    limits: Limits,
+) -> Result<Term, AllocError>
+    requires process { IsProcessClass (checked_model checked.now) class.0 }
+    requires variables { HasItsVariables (checked_model checked.now) class.0 state.old.held }
+    requires there { MayOpen (checked_model checked.now) class.0 state.old.held frame.0 (sequence_view steps.now) }
+    ensures opened { IfOk result (λ term. term_view term ≡ opened_all (sequence_view steps.now)) }
+    ensures stays { state.new ≡ state.old }
+{
+    open_all(alloc, steps)
 }

@@ -7,5 +7,5 @@ use Rattle.pz_rules.proofs.opening.+opening.Goals as goal
 
 pub open_branches-loop-branch-preserved : goal.open_branches-loop-branch-preserved
 open_branches-loop-branch-preserved t c =
-    branch_opened c.loop-branch.terms c.push.new.self c.in_ok-open_term.field-0 c.args.branches.now c.loop-branch.branch-index c.branch-item.result c.loop-branch-test.true c.branch-item.is
-    c.in_ok-push.ensures.ok (c.in_ok-open_term.ensures ∙ ap (λ (b : List Step). opened_all (sequence_view b)) c.as_slice.ensures) c.loop-branch.invariant
+    branch_opened c.loop-branch.terms c.push.new.self c.in_ok-open_all.field-0 c.args.branches.now c.loop-branch.branch-index c.branch-item.result c.loop-branch-test.true c.branch-item.is
+    c.in_ok-push.ensures.ok (c.in_ok-open_all.ensures ∙ ap (λ (b : List Step). opened_all (sequence_view b)) c.as_slice.ensures) c.loop-branch.invariant

@@ -10,8 +10,8 @@ invariant-open_branches-loop-branch l = terms_view l.terms ≡ opened_branches (
 abbrev pub decreases-open_step : goal.decreases-open_step
 decreases-open_step l = 3 * goal.size-open_step l
 
-abbrev pub decreases-open_term : goal.decreases-open_term
-decreases-open_term l = 3 * goal.size-open_term l + 1
+abbrev pub decreases-open_all : goal.decreases-open_all
+decreases-open_all l = 3 * goal.size-open_all l + 1
 
 abbrev pub decreases-open_branches : goal.decreases-open_branches
 decreases-open_branches l = 3 * goal.size-open_branches l + 2

@@ -1,0 +1,17 @@
+mod Wiring
+mod Parcelled
+mod Ordered
+mod Offered
+mod Followed
+mod Shown
+mod Models
+mod ConditionThatIsFalse
+mod Watchdog
+mod LateWatchdog
+mod Handler
+mod HandlerTwice
+mod GuardThatReopens
+mod GuardThatCloses
+mod TwoCalls
+mod ObjectsInMessages
+mod NoTalkToItself
