@@ -2,3 +2,4 @@ pub mod Found
 pub mod Walk
 pub mod Walks
 pub mod Passing
+pub mod Computed

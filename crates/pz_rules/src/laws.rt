@@ -1,6 +1,7 @@
 // Laws of execution, each the contract of a function that does nothing.
 
 ghost use Rattle.pz_rules.specs.Laws.{OneListOfOffers, EveryListOfOffers, WiresAreKnown, OneMoment, EveryMoment, TimeWaits, LeastPasses, TimeIsPositive, EveryPassing, PassingTakes, BringsToZero, OneNext, OnePassing, StaysWhole, StartFits, StaysFit, EveryNext, OneChosenRun, EveryChosenRun, ChosenRunsAreRuns};
+ghost use Rattle.pz_rules.specs.devices.Computed.{TestsAreComputed, TimesAreComputed, PartsAreComputed, PassingIsComputed, OnePassingIsComputed};
 ghost use Rattle.pz_rules.specs.devices.Walks.{InternalActionsAreListed, SendsAreListed, SendsHaveParcels, ReceivesAreListed, DelaysAreListed, TroublesAreListed};
 
 use pz_bind::ends_share_wires;
@@ -81,4 +82,18 @@ pub fn walks_list_what_is_active()
     ensures receives { ReceivesAreListed }
     ensures delays { DelaysAreListed }
     ensures troubles { TroublesAreListed }
+{}
+
+/// What evaluations of statements give is what is computed of them.
+pub fn evaluations_are_computed()
+    ensures tests { TestsAreComputed }
+    ensures times { TimesAreComputed }
+    ensures parts { PartsAreComputed }
+{}
+
+/// What the passing of time leaves of a term is what is computed of it, and where nothing that its
+/// active parts are asked has a trouble, it leaves that.
+pub fn passing_is_computed()
+    ensures only { OnePassingIsComputed }
+    ensures some { PassingIsComputed }
 {}

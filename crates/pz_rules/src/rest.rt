@@ -1,4 +1,5 @@
-ghost use Rattle.std.specs.Prelude.{◌≡◌, [], ◌∷◌, length, IfOk, MatchOption, ◌==◌};
+ghost use Rattle.std.specs.Prelude.{◌≡◌, [], ◌∷◌, length, IfOk, MatchOption, ◌==◌, slice_get};
+ghost use Rattle.std.specs.Option.{option_copied};
 
 use pz_bodies::copy_step;
 use pz_code::Step;
@@ -43,6 +44,20 @@ impl Rest {
         ensures { MatchOption result ((self.old ≡ []) × (self.new ≡ [])) (λ next. self.old ≡ next ∷ self.new) }
     {
         self.reversed.pop()
+    }
+
+    /// The next statement, if there is one.
+    pub fn first(&self) -> Option<&Step>
+        ensures { option_copied result ≡ slice_get self.now 0 }
+    {
+        self.reversed.last()
+    }
+
+    /// How many statements there are.
+    pub fn len(&self) -> usize
+        ensures { result ≡ length self.now }
+    {
+        self.reversed.len()
     }
 
     /// Whether there is no statement.

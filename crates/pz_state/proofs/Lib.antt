@@ -1,6 +1,7 @@
 pub mod Reading
 pub mod FrameTables
 pub mod FrameCounts
+pub mod FrameNumbers
 pub mod ObjectLists
 pub mod Journals
 pub mod SelfContained

@@ -1,14 +1,14 @@
 //! What a state holds, and how it changes.
 
-ghost use Rattle.std.specs.Prelude.{◌≡◌, ◌≤◌, ◌<◌, ◌+◌, ◌++◌, length, take, reverse, get_or, IfOk, OnOk, OnErr};
+ghost use Rattle.std.specs.Prelude.{◌≡◌, ◌≤◌, ◌<◌, ◌+◌, ◌++◌, length, map, take, reverse, get_or, AllPairs, IfOk, OnOk, OnErr};
 ghost use Rattle.pz_state.specs.States.{initial, variable, locals, local, object, HasVariable, HasFrame, HasLocal, HasObject, HasItem, IsLeastFree, at_object, set_variable, set_local, set_item, resized, opened, closed, made};
 ghost use Rattle.pz_state.specs.devices.StoredStates.{IsWider, KeepsRoom};
 ghost use Rattle.pz_state.specs.devices.Changes.{taken_back, without_last, IsReady, LeadsBack};
 
-use crate::Object;
 use crate::frames::FrameTable;
 use crate::journal::Change;
 use crate::values::nil_values;
+use crate::{FrameId, Object};
 use pz_value::{ClassId, Value};
 use std::alloc::{AllocError, Global};
 use std::marker::Model;
@@ -54,6 +54,14 @@ impl Contents {
         ensures { result ≡ length (locals self.now.state frame) }
     {
         self.frames.count(frame)
+    }
+
+    /// The numbers of the open frames, in increasing order. The only error is want of memory.
+    pub fn frames(&self) -> Result<Vec<FrameId>, AllocError>
+        ensures frames { IfOk result (λ frames. map (λ n. n.0) frames.items ≡ map (λ f. f.0) self.now.state.frames) }
+        ensures ordered { AllPairs (λ m n. m < n) (map (λ f. f.0) self.now.state.frames) }
+    {
+        self.frames.numbers()
     }
 
     pub fn var(&self, slot: u32) -> &Value

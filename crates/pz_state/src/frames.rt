@@ -1,8 +1,10 @@
 //! The open frames by their numbers.
 
-ghost use Rattle.std.specs.Prelude.{◌≡◌, ◌<◌, ◌≤◌, ◌+◌, ◌^◌, [], length, slice_set, Some, None, IsSome, IfOk, OnOk, OnErr};
+ghost use Rattle.std.specs.Prelude.{◌≡◌, ◌<◌, ◌≤◌, ◌+◌, ◌^◌, [], length, map, slice_set, AllPairs, Some, None, IsSome, IfOk, OnOk, OnErr};
+ghost use Rattle.pz_state.specs.devices.FrameTables.{frames_from};
 ghost use Rattle.pz_state.specs.States.{value_at, locals_in, locals_of, at_frame, with_frame, without_frame, IsLeastFree};
 
+use crate::FrameId;
 use crate::values::replace;
 use pz_flags::Flags;
 use pz_value::Value;
@@ -18,6 +20,19 @@ pub struct FrameTable {
     table: Vec<Option<Vec<Value>>>,
     // for each place whether a frame is open there
     flags: Flags,
+}
+
+/// The numbers of the open frames of a table, in increasing order.
+fn numbers_of(alloc: Global, table: &[Option<Vec<Value>>]) -> Result<Vec<FrameId>, AllocError>
+    ensures { IfOk result (λ numbers. map (λ n. n.0) numbers.items ≡ map (λ f. f.0) (frames_from 1 table.now)) }
+{
+    let mut numbers = Vec::new(alloc);
+    for (place, locals) in table.iter().enumerate() {
+        if locals.is_some() {
+            numbers.push(FrameId(place as u64 + 1))?;
+        }
+    }
+    Ok(numbers)
 }
 
 impl Model for FrameTable {
@@ -74,6 +89,14 @@ impl FrameTable {
             Some(locals) => locals.len(),
             None => 0,
         }
+    }
+
+    /// The numbers of the open frames, in increasing order. The only error is want of memory.
+    pub fn numbers(&self) -> Result<Vec<FrameId>, AllocError>
+        ensures numbers { IfOk result (λ numbers. map (λ n. n.0) numbers.items ≡ map (λ f. f.0) self.now.frames) }
+        ensures ordered { AllPairs (λ m n. m < n) (map (λ f. f.0) self.now.frames) }
+    {
+        numbers_of(*self.table.allocator(), self.table.as_slice())
     }
 
     /// Gives a local another value, and hands out the one before.

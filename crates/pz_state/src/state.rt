@@ -1,6 +1,6 @@
 //! The state of a process.
 
-ghost use Rattle.std.specs.Prelude.{◌≡◌, ◌<◌, ◌≤◌, ◌↔◌, ◌^◌, [], length, All, Err, IfOk, OnOk, OnErr};
+ghost use Rattle.std.specs.Prelude.{◌≡◌, ◌<◌, ◌≤◌, ◌↔◌, ◌^◌, [], length, map, All, AllPairs, Err, IfOk, OnOk, OnErr};
 ghost use Rattle.pz_state.specs.States.{initial, variable, locals, local, object, HasVariable, HasFrame, HasLocal, HasObject, HasItem, IsLeastFree, set_variable, set_local, set_item, resized, opened, closed, made};
 ghost use Rattle.pz_state.specs.References.{RefersWithin, IsSelfContained};
 ghost use Rattle.pz_state.specs.Marks.{IsLatest, changed, marked, undone, kept};
@@ -102,6 +102,14 @@ impl State {
         ensures { result ≡ length (locals self.now.held frame.0) }
     {
         self.contents.locals(frame.0)
+    }
+
+    /// The numbers of the open frames, in increasing order. The only error is want of memory.
+    pub fn frames(&self) -> Result<Vec<FrameId>, AllocError>
+        ensures frames { IfOk result (λ frames. map (λ n. n.0) frames.items ≡ map (λ f. f.0) self.now.held.frames) }
+        ensures ordered { AllPairs (λ m n. m < n) (map (λ f. f.0) self.now.held.frames) }
+    {
+        self.contents.frames()
     }
 
     /// A variable. Takes no memory.
