@@ -1,7 +1,6 @@
 //! Choices, one after another.
 
 use pz_choice::Chooser;
-use pz_items::Items;
 use std::alloc::{AllocError, Global};
 use std::io;
 use std::str::Split;
@@ -44,8 +43,8 @@ pub fn show_seed(rt: &HostRuntime, words: Split<'_, char>) -> io::Result<()> {
     show_choices(rt, &mut chooser, offers, times)
 }
 
-fn entries(alloc: Global, list: &str) -> Result<Items<u64>, AllocError> {
-    let mut entries = Items::new(alloc);
+fn entries(alloc: Global, list: &str) -> Result<Vec<u64>, AllocError> {
+    let mut entries = Vec::new(alloc);
     for word in list.split(',') {
         entries.push(number(Some(word)))?;
     }

@@ -33,11 +33,11 @@ impl Chooser {
     }
 
     /// Chooses by these entries, one after another.
-    pub fn list(choices: Items<u64>) -> Chooser
-        ensures { Stands result (listed choices) 0 }
+    pub fn list(choices: Vec<u64>) -> Chooser
+        ensures { Stands result (listed choices.items) 0 }
     {
         Chooser::List(Choices {
-            list: choices,
+            list: Items::from_vec(choices),
             next: 0,
         })
     }

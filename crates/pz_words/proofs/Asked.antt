@@ -1,6 +1,6 @@
 -- The job that is read is the one that is asked for.
 use Rattle.std.proofs.Common.{◌≡◌, refl, sym, ◌∙◌, ap, subst, ℕ, ◌≤◌, true, not, List, [], ◌∷◌, length, map, take, drop, get_or, ◌-◌, Option, Some, None, Ok, Err, Result, inl, inr, arith}
-use Rattle.std.specs.Prelude.{◌⊎◌, ◌↔◌, ◌&&◌, IsTrue, IfOk, if◌then◌else◌, bytes_eq, codes, option_map}
+use Rattle.std.specs.Prelude.{◌⊎◌, ◌&&◌, IsTrue, IfOk, if◌then◌else◌, bytes_eq, codes, option_map}
 use Rattle.std.specs.Fmt.{decimal}
 use Rattle.std.proofs.lemmas.Bool.{cond-false}
 use Rattle.std.proofs.lemmas.List.{take_all}
@@ -10,7 +10,7 @@ use Rattle.pz_words.specs.declared.jobs.Job.TheVariants.{Run, Menu, Replay, Chec
 use Rattle.pz_words.specs.declared.jobs.TheConstants.{MOST_STATIONS}
 use Rattle.pz_words.specs.declared.options.Options.{Options}
 use Rattle.pz_words.specs.Options.{nothing_said}
-use Rattle.pz_words.specs.Jobs.{choice_or, units_of, limits_of, is_name, IsRingSize, OnlyUnits, Asks, run, menu, replay, check, make, ring}
+use Rattle.pz_words.specs.Jobs.{choice_or, units_of, limits_of, is_name, IsRingSize, OnlyUnits, Asks, IsAsked, run, menu, replay, check, make, ring}
 use Rattle.pz_words.specs.devices.Reading.{only_if, then_maybe, is_none, name_of, stations_of, read_on, says_only_units, units_in, run_of, menu_of, replay_of, check_of, make_of, ring_of, job_of, job_in}
 use Rattle.pz_words.proofs.Outcomes.{some_same, none_some, only_if_some, only_if_true, then_some, map_some, both_true, not_true, unless_some, by_word, none_is}
 use Rattle.pz_words.proofs.Numerals.{between_found, is_between}
@@ -161,10 +161,10 @@ module _ where
   job_asked [] j e = absurd (none_some j e)
   job_asked (command ∷ words) j e = asked command words j e
 
-  pub reads : (words : List (List ℕ)) (o : Option Job) → o ≡ job_in words → (j : Job) → (o ≡ Some j) ↔ Asks words j
-  reads words o is j = ((λ e. job_asked words j (sym is ∙ e)), (λ asks. is ∙ job_read words j asks))
+  pub reads : (words : List (List ℕ)) (o : Option Job) → o ≡ job_in words → IsAsked words o
+  reads words o is = λ j. ((λ e. job_asked words j (sym is ∙ e)), (λ asks. is ∙ job_read words j asks))
 
-  pub answered : {E : Type 0} (words : List (List ℕ)) (r : Result (Option Job) E) → IfOk r (λ found. found ≡ job_in words) → IfOk r (λ found. (j : Job) → (found ≡ Some j) ↔ Asks words j)
+  pub answered : {E : Type 0} (words : List (List ℕ)) (r : Result (Option Job) E) → IfOk r (λ found. found ≡ job_in words) → IfOk r (λ found. IsAsked words found)
   answered words (Ok o) is = reads words o is
   answered words (Err e) is = tt
 

@@ -1,6 +1,6 @@
 -- The jobs, and the command lines that ask for them: the name of the job, what it is done with, and
 -- the options that it has.
-use Rattle.std.specs.Prelude.{◌≡◌, ◌≤◌, ℕ, Bool, false, ◌==◌, not, IsTrue, List, [], ◌∷◌, Option, Some, None, codes}
+use Rattle.std.specs.Prelude.{◌≡◌, ◌↔◌, ◌≤◌, ℕ, Bool, false, ◌==◌, not, IsTrue, List, [], ◌∷◌, Option, Some, None, codes}
 use Rattle.std.specs.Fmt.{decimal}
 use Rattle.pz_words.specs.declared.jobs.Choice.{Choice}
 use Rattle.pz_words.specs.declared.jobs.Choice.TheVariants as choice
@@ -62,3 +62,7 @@ pub data Asks : List (List ℕ) → Job → Type 0 where
   ring : (n : ℕ) (options : List (List ℕ)) (o : Options)
       → IsRingSize n → AreOptions options o → o.summary ≡ false
       → Asks (codes "ring" ∷ decimal n ∷ options) (Ring n (choice_or choice.First o) (limits_of o))
+
+-- this is what the words ask for: a job, or none
+abbrev pub IsAsked : List (List ℕ) → Option Job → Type 0
+IsAsked words found = (j : Job) → (found ≡ Some j) ↔ Asks words j

@@ -14,27 +14,27 @@ pub const MOST_STATIONS: u64 = 1_000;
 
 /// The name of a file, as it stands in a word of the command line. Contracts see its bytes.
 #[derive(Debug, Drop)]
-pub struct Word {
+pub struct FileName {
     text: String,
 }
 
-impl Model for Word {
+impl Model for FileName {
     ghost use Rattle.std.specs.Prelude.{List, ℕ, string_bytes};
 
     ghost Value = { List ℕ };
 
-    ghost view = { λ w. string_bytes w.text };
+    ghost view = { λ n. string_bytes n.text };
 }
 
-impl Word {
-    /// The word that is spelled so.
-    pub fn new(text: String) -> Word
+impl FileName {
+    /// The name that is spelled so.
+    pub fn new(text: String) -> FileName
         ensures { result ≡ string_bytes text }
     {
-        Word { text }
+        FileName { text }
     }
 
-    /// How the word is spelled.
+    /// How the name is spelled.
     pub fn as_str(&self) -> &str
         ensures { result.now ≡ self.now }
     {
@@ -69,26 +69,26 @@ pub struct RunLimits {
 pub enum Job {
     /// To run a model and to print the trace, or only its summary.
     Run {
-        model: Word,
+        model: FileName,
         choice: Choice,
         limits: RunLimits,
         summary: bool,
     },
     /// To run a model, and to print the offers at the end too.
     Menu {
-        model: Word,
+        model: FileName,
         choice: Choice,
         limits: RunLimits,
     },
     /// To run a model as a trace says.
     Replay {
-        model: Word,
-        trace: Word,
+        model: FileName,
+        trace: FileName,
         units: u64,
     },
     /// To check a model and to say how large it is.
     Check {
-        model: Word,
+        model: FileName,
     },
     /// To print the model of a ring with this many stations.
     Make {

@@ -9,6 +9,6 @@ mod reading;
 mod values;
 mod words;
 
-pub use jobs::{Choice, DEFAULT_STEPS, DEFAULT_UNITS, Job, MOST_STATIONS, RunLimits, Word};
-pub use options::{MOST_STEPS, MOST_UNITS, Options, Setting};
-pub use words::{one_job, read_words};
+pub use jobs::{Choice, DEFAULT_STEPS, DEFAULT_UNITS, FileName, Job, MOST_STATIONS, RunLimits};
+pub use options::{MOST_STEPS, MOST_UNITS};
+pub use words::{job_is_computed, one_job, read_words};

@@ -1,9 +1,9 @@
-ghost use Rattle.std.specs.Prelude.{◌≡◌, ◌↔◌, IfOk, Some, List, ℕ, map, string_bytes};
+ghost use Rattle.std.specs.Prelude.{◌≡◌, IfOk, List, ℕ, map, string_bytes};
 ghost use Rattle.pz_words.specs.declared.jobs.Job.{Job as AnyJob};
-ghost use Rattle.pz_words.specs.Jobs.{Asks, is_name as names};
+ghost use Rattle.pz_words.specs.Jobs.{Asks, IsAsked, is_name as names};
 ghost use Rattle.pz_words.specs.devices.Reading as device;
 
-use crate::jobs::{Choice, Job, MOST_STATIONS, Word};
+use crate::jobs::{Choice, FileName, Job, MOST_STATIONS};
 use crate::numbers::number_within;
 use crate::options::Options;
 use crate::reading::read_options;
@@ -13,7 +13,7 @@ use std::alloc::{AllocError, Global};
 /// The job that the words of a command line ask for, if they ask for one. The only error is want of
 /// memory.
 pub fn read_words(alloc: Global, words: &[String]) -> Result<Option<Job>, AllocError>
-    ensures reads { IfOk result (λ found. (j : AnyJob) → (found ≡ Some j) ↔ Asks (map string_bytes words.now) j) }
+    ensures reads { IfOk result (λ found. IsAsked (map string_bytes words.now) found) }
 {
     let [command, words @ ..] = words else {
         return Ok(None);
@@ -24,6 +24,11 @@ pub fn read_words(alloc: Global, words: &[String]) -> Result<Option<Job>, AllocE
 /// Words ask for one job at most.
 pub fn one_job()
     ensures { (words : List (List ℕ)) (a b : AnyJob) → Asks words a → Asks words b → a ≡ b }
+{}
+
+/// What words ask for can be computed.
+pub fn job_is_computed()
+    ensures { (words : List (List ℕ)) → IsAsked words (device.job_in words) }
 {}
 
 fn read_job(alloc: Global, command: &str, words: &[String]) -> Result<Option<Job>, AllocError>
@@ -60,11 +65,11 @@ fn is_name(word: &str) -> bool
 }
 
 /// The name of a file, if the word is one. The only error is want of memory.
-fn file_name(word: &String) -> Result<Option<Word>, AllocError>
+fn file_name(word: &String) -> Result<Option<FileName>, AllocError>
     ensures { IfOk result (λ name. name ≡ device.name_of (string_bytes word.now)) }
 {
     if is_name(word.as_str()) {
-        Ok(Some(Word::new(word.clone()?)))
+        Ok(Some(FileName::new(word.clone()?)))
     } else {
         Ok(None)
     }

@@ -1,5 +1,4 @@
--- The command line read word by word: functions that the code computes and that find what is asked
--- for. An option that is given again is found where it stands.
+-- The command line read word by word, as the code reads it: functions that find what is asked for.
 use Rattle.std.specs.Prelude.{ℕ, ◌^◌, nat_lt, nat_le, Bool, true, false, ◌&&◌, ◌||◌, ◌==◌, not, if◌then◌else◌, bytes_eq, eqb, List, [], ◌∷◌, Option, Some, None, option_map, codes}
 use Rattle.std.specs.List.{slice_split}
 use Rattle.std.specs.Fmt.{decimal}
