@@ -1,7 +1,5 @@
-//! Tests of the top call and of the plain simulator, over their public calls.
+//! Tests of the top call.
 #![tactic(auto)]
 
 #[cfg(test)]
 mod programs;
-#[cfg(test)]
-mod simulators;

@@ -4,7 +4,7 @@ use Rattle.pz_syntax.specs.declared.clusters.Decl.TheVariants.{Process, System}
 use Rattle.pz_syntax.specs.StatementView.{sequence_view}
 use Rattle.pz_term.specs.FirstPath.{skips, delays, statement_of, statements_of}
 use Rattle.pz_term.proofs.Rows.{at, delaying, delaying_body, delaying_is_first, delaying_statements, pushed_two, pushed_three, tree_is}
-use Rattle.run_tests.proofs.simulators.delaying_model.Goals as goal
+use Rattle.term_tests.proofs.simulators.delaying_model.Goals as goal
 
 pub returns : goal.returns
 returns c =

@@ -5,7 +5,7 @@ use Rattle.pz_syntax.specs.declared.clusters.Decl.TheVariants.{Process, System}
 use Rattle.pz_syntax.specs.StatementView.{sequence_view}
 use Rattle.pz_term.specs.FirstPath.{skips, calls, statement_of, statements_of}
 use Rattle.pz_term.proofs.Rows.{named, repeating, repeating_body, repeating_is_first, repeating_statements, pushed_two, tree_is}
-use Rattle.run_tests.proofs.simulators.repeating_model.Goals as goal
+use Rattle.term_tests.proofs.simulators.repeating_model.Goals as goal
 
 pub returns : goal.returns
 returns c =
