@@ -1,6 +1,6 @@
 //! Parcels of small states, and their texts.
 
-use crate::conditions::{are_named, refer_within};
+use crate::conditions::refer_within;
 use crate::nodes::{class_names, nodes, set};
 use pz_copy::{Parcel, pack, unpack};
 use pz_state::State;
@@ -10,9 +10,6 @@ use std::io;
 
 fn show_parcel(rt: &HostRuntime, what: &str, parcel: &Parcel) -> io::Result<()> {
     let names = class_names(rt.alloc())?;
-    if !are_named(parcel.objects(), names.len()) {
-        return println!(rt; "{what}: no name");
-    }
     let text = parcel.text(names.as_slice())?;
     match str::from_utf8(text.as_slice()) {
         Ok(text) => println!(rt; "{what}: {text}"),

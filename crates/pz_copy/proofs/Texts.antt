@@ -1,10 +1,7 @@
 -- Texts that grow at their end.
-use Rattle.std.proofs.Common.{◌≡◌, refl, sym, ◌∙◌, ap, ℕ, suc, ◌+◌, List, [], ◌∷◌, ◌++◌, ◌<◌, ◌≤◌, length, map, take, get_or, zero, Option, Some, subst, arith}
+use Rattle.std.proofs.Common.{◌≡◌, refl, sym, ◌∙◌, ap, ℕ, suc, ◌+◌, List, [], ◌∷◌, ◌++◌, ◌<◌, ◌≤◌, length, map, take, get_or, zero, arith}
 use Rattle.std.specs.List.{flat_map}
 use Rattle.std.specs.Fmt.{decimal}
-use Rattle.std.specs.Prelude.{All, slice_get, unwrap_or}
-use Rattle.std.proofs.lemmas.Option.{slice_get-get_or}
-use Rattle.pz_value.specs.declared.value.ClassId.{ClassId}
 use Rattle.std.proofs.Math.Seq.{take-suc}
 use Rattle.std.proofs.lemmas.Grind.{flat_map-append}
 use Rattle.std.proofs.lemmas.List.{append-nil, append_assoc, map-append}
@@ -70,15 +67,3 @@ values_whole zero [] h = refl
 values_whole (suc n) [] h = refl
 values_whole zero (v ∷ vs) h = absurd (omega arith)
 values_whole (suc n) (v ∷ vs) h = ap (λ l. v ∷ l) (values_whole n vs (omega arith))
-
--- the name at the class's number
-pub name_at : (names : List (List ℕ)) (class k : ClassId) (name text : List ℕ) → class.0 < length names → k ≡ class → text ≡ get_or names k.0 text → name ≡ text → name ≡ name_of names class
-name_at names class k name text below k_is text_is name_is =
-    let there : slice_get names class.0 ≡ Some (get_or names class.0 text) = slice_get-get_or names class.0 text below in
-    name_is ∙ text_is ∙ ap (λ (j : ClassId). get_or names j.0 text) k_is ∙ sym (ap (λ (o : Option (List ℕ)). unwrap_or o []) there)
-
--- what holds of each object holds of those behind the first
-pub rest_all : (P : ObjectView → Type 0) (objects : List StoredObject) (first : StoredObject) (rest : List StoredObject) → objects ≡ first ∷ rest → All P (plain_objects objects) → All P (plain_objects rest)
-rest_all P objects first rest is all =
-    let parts : All P (plain_objects (first ∷ rest)) = subst (λ (os : List StoredObject). All P (plain_objects os)) is all in
-    λ k d h. parts (suc k) d (omega (arith, h))

@@ -38,6 +38,7 @@ separated mark (t ∷ ts) = t ++ flat_map (λ u. mark ∷ u) ts
 abbrev pub values_text : List Value → List ℕ
 values_text values = separated 44 (map value_text values)
 
+-- the name of a class by its number; nothing where it has none
 abbrev pub name_of : List (List ℕ) → ClassId → List ℕ
 name_of names class = unwrap_or (slice_get names class.0) []
 

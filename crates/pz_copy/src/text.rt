@@ -1,14 +1,15 @@
 //! The text of values and of parcels, byte by byte at the end of a buffer.
 
-ghost use Rattle.std.specs.Prelude.{◌≡◌, ◌<◌, ◌≤◌, ◌++◌, ◌∷◌, [], length, map, All, IfOk, OnOk};
+ghost use Rattle.std.specs.Prelude.{◌≡◌, ◌<◌, ◌≤◌, ◌++◌, ◌∷◌, [], length, map, IfOk, OnOk};
 ghost use Rattle.std.specs.Fmt.{decimal, signed_decimal};
 ghost use Rattle.std.specs.List.{flat_map};
 ghost use Rattle.pz_copy.specs.Parcels.{plain_objects};
+ghost use Rattle.pz_copy.specs.ParcelText as spec;
 ghost use Rattle.pz_copy.specs.ParcelText.{hex_digit, item_text, quoted, value_text, values_text, object_text, object_texts, objects_text, separated, parcel_text};
 
 use crate::parcel::Parcel;
 use pz_state::{OBJECT_LIMIT, Object};
-use pz_value::{Text, Value};
+use pz_value::{ClassId, Text, Value};
 use std::alloc::AllocError;
 
 fn hex_digit(digit: u8) -> u8
@@ -90,6 +91,16 @@ fn put_values(out: &mut Vec<u8>, values: &[Value]) -> Result<(), AllocError>
     Ok(())
 }
 
+/// The name of a class among the names by number; nothing where it has none.
+fn name_of(names: &[Text], class: ClassId) -> &[u8]
+    ensures { result.now ≡ spec.name_of names.now class }
+{
+    match names.get(class.0 as usize) {
+        Some(name) => name.as_bytes(),
+        None => &[],
+    }
+}
+
 /// The object of this number, with the names of classes by number.
 fn put_object(
     out: &mut Vec<u8>,
@@ -97,12 +108,11 @@ fn put_object(
     number: u32,
     object: &Object,
 ) -> Result<(), AllocError>
-    requires { object.now.object.class.0 < length names.now }
     ensures { OnOk result (out.new.items ≡ out.old.items ++ object_text names.now number object.now.object) }
 {
     put_number(out, number)?;
     out.push(b'=')?;
-    out.extend_from_slice(names[object.class().0 as usize].as_bytes())?;
+    out.extend_from_slice(name_of(names, object.class()))?;
     out.push(b'[')?;
     put_values(out, object.items())?;
     out.push(b']')?;
@@ -111,8 +121,7 @@ fn put_object(
 
 /// The objects in braces, separated by semicolons; nothing where there is none.
 fn put_objects(out: &mut Vec<u8>, names: &[Text], objects: &[Object]) -> Result<(), AllocError>
-    requires named { All (λ o. o.class.0 < length names.now) (plain_objects objects.now) }
-    requires few { length objects.now ≤ OBJECT_LIMIT }
+    requires { length objects.now ≤ OBJECT_LIMIT }
     ensures { OnOk result (out.new.items ≡ out.old.items ++ objects_text names.now (plain_objects objects.now)) }
 {
     let Some((first, rest)) = objects.split_first() else {
@@ -129,12 +138,9 @@ fn put_objects(out: &mut Vec<u8>, names: &[Text], objects: &[Object]) -> Result<
 }
 
 impl Parcel {
-    /// The values in parentheses and the objects in braces, with the names of classes by number. The
-    /// only error is want of memory.
-    ///
-    /// The class of each object has a name.
+    /// The values in parentheses and the objects in braces, with the names of classes by number; a
+    /// class that has none is told by nothing. The only error is want of memory.
     pub fn text(&self, names: &[Text]) -> Result<Vec<u8>, AllocError>
-        requires { All (λ o. o.class.0 < length names.now) self.now.objects }
         ensures { IfOk result (λ text. text.items ≡ parcel_text names.now self.now) }
     {
         let mut out = Vec::new(self.allocator());

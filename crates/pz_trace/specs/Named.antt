@@ -1,6 +1,4 @@
--- What a line names is there: processes and wires in a net, classes in a model.
-use Rattle.std.specs.Prelude.{◌≤◌, length, All}
-use Rattle.pz_syntax.specs.Classes.{ModelTree}
+-- What a line names is there: the processes and the wire are those of a net.
 use Rattle.pz_bind.specs.declared.net.Net.{Net}
 use Rattle.pz_bind.specs.NetView.{HasProcess, IsWireOf}
 use Rattle.pz_offer.specs.declared.trouble.Trouble.{Trouble}
@@ -14,12 +12,6 @@ use Rattle.pz_trace.specs.declared.ending.Ending.TheVariants as ending
 abbrev pub IsNamed : Net → Action → Type 0
 IsNamed net (Internal at kind pos) = HasProcess net at.process
 IsNamed net (Comm wire sender receiver message parcel) = IsWireOf net wire × HasProcess net sender.process × HasProcess net receiver.process
-
--- each object of its parcel is an Array, which is class number 0, or of a class of the model, which are
--- numbered from 1
-abbrev pub HasClasses : ModelTree → Action → Type 0
-HasClasses m (Internal at kind pos) = Unit {0}
-HasClasses m (Comm wire sender receiver message parcel) = All (λ o. o.class.0 ≤ length m.decls) parcel.objects
 
 -- the process of the trouble
 abbrev pub HasTroubled : Net → Trouble → Type 0

@@ -1,11 +1,11 @@
 // What an action is, as its line tells it. The only error is want of memory.
 
-ghost use Rattle.std.specs.Prelude.{◌≡◌, ◌≤◌, ◌++◌, length, All, IfOk, OnOk};
+ghost use Rattle.std.specs.Prelude.{◌≡◌, ◌++◌, IfOk, OnOk};
 ghost use Rattle.pz_syntax.specs.Classes.{ModelTree};
 ghost use Rattle.pz_classes.specs.CheckedView.{checked_model};
 ghost use Rattle.pz_bind.specs.NetView.{IsNet, HasProcess, IsWireOf};
 ghost use Rattle.pz_trace.specs.Labels as spec;
-ghost use Rattle.pz_trace.specs.Named.{IsNamed, HasClasses};
+ghost use Rattle.pz_trace.specs.Named.{IsNamed};
 
 use crate::names::{class_names, path, wire_name};
 use crate::words::kind_word;
@@ -45,7 +45,6 @@ fn put_sending(
 ) -> Result<(), AllocError>
     requires of_model { ∥ IsNet (checked_model checked.now) net.now ∥₁ }
     requires sender { HasProcess net.now sender }
-    requires classes { All (λ o. o.class.0 ≤ length (checked_model checked.now).decls) parcel.now.objects }
     ensures { OnOk result (out.new.items ≡ out.old.items ++ spec.sending (checked_model checked.now) sender message.now parcel.now) }
 {
     let parcel = parcel.text(class_names(checked))?;
@@ -64,7 +63,6 @@ pub(crate) fn put_label(
 ) -> Result<(), AllocError>
     requires of_model { ∥ IsNet (checked_model checked.now) net.now ∥₁ }
     requires named { IsNamed net.now action.now }
-    requires classes { HasClasses (checked_model checked.now) action.now }
     ensures { OnOk result (out.new.items ≡ out.old.items ++ spec.label (checked_model checked.now) action.now) }
 {
     match action {
@@ -89,8 +87,8 @@ pub(crate) fn put_label(
 /// its statement. Of a communication: the name of the wire, the path of the sender, the message with
 /// its parcel, and the path of the receiver.
 ///
-/// The net is that of the model, the action names its processes and its wire, and the objects of
-/// its parcel are Arrays or of classes of the model. The only error is want of memory.
+/// The net is that of the model, and the action names its processes and its wire. The only error is
+/// want of memory.
 pub fn label(
     alloc: Global,
     checked: &Checked,
@@ -99,7 +97,6 @@ pub fn label(
 ) -> Result<Vec<u8>, AllocError>
     requires of_model { ∥ IsNet (checked_model checked.now) net.now ∥₁ }
     requires named { IsNamed net.now action.now }
-    requires classes { HasClasses (checked_model checked.now) action.now }
     ensures { IfOk result (λ text. text.items ≡ spec.label (checked_model checked.now) action.now) }
 {
     let mut text = Vec::new(alloc);

@@ -7,7 +7,7 @@ ghost use Rattle.pz_classes.specs.CheckedView.{checked_model};
 ghost use Rattle.pz_bind.specs.NetView.{IsNet, HasProcess};
 ghost use Rattle.pz_trace.specs.Labels.{spot};
 ghost use Rattle.pz_trace.specs.Lines as lines;
-ghost use Rattle.pz_trace.specs.Named.{IsNamed, HasClasses, IsNamedAtEnd, HasTroubled};
+ghost use Rattle.pz_trace.specs.Named.{IsNamed, IsNamedAtEnd, HasTroubled};
 
 use crate::Ending;
 use crate::labels::put_label;
@@ -42,7 +42,6 @@ pub fn action_line(
 ) -> Result<Vec<u8>, AllocError>
     requires of_model { ∥ IsNet (checked_model checked.now) net.now ∥₁ }
     requires named { IsNamed net.now action.now }
-    requires classes { HasClasses (checked_model checked.now) action.now }
     ensures { IfOk result (λ line. line.items ≡ lines.action_line (checked_model checked.now) clock offers number action.now) }
 {
     let mut line = format!(in alloc; "{clock} {offers} {number} ")?.into_bytes();
