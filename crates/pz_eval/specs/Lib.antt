@@ -1,0 +1,5 @@
+pub mod Promises
+pub mod Tentative
+pub mod Parcels
+pub mod Binding
+pub mod Conditions

@@ -1,0 +1,12 @@
+//! Evaluation within an allowance: expressions and lists of expressions of the methods of a process,
+//! with their effects or without.
+#![tactic(auto)]
+
+mod conditions;
+mod eval;
+mod parcels;
+
+pub use conditions::try_condition;
+pub use eval::{eval, eval_list, try_eval};
+pub use parcels::{Parceled, try_parcel};
+pub use pz_evaluation::{Allowance, Listed, Outcome};

