@@ -3,3 +3,4 @@ pub mod Tentative
 pub mod Parcels
 pub mod Binding
 pub mod Conditions
+pub mod devices

@@ -2,9 +2,24 @@
 //! with their effects or without.
 #![tactic(auto)]
 
+mod beginning;
+mod calling;
+mod choosing;
 mod conditions;
+mod continuing;
+mod creating;
 mod eval;
+mod machine;
+mod operating;
 mod parcels;
+mod reading;
+mod replying;
+mod resuming;
+mod setting;
+mod stop;
+mod task;
+mod units;
+mod writing;
 
 pub use conditions::try_condition;
 pub use eval::{eval, eval_list, try_eval};

@@ -77,7 +77,7 @@ module _ (model : ModelTree) (now D : ℕ) where
   inner = evaluated model now D
 
   module _ (below : (p : Place) (t : Tree) (m : Memory) (B : ℕ) → Each (IsEvaluation p t m B) (inner p t m B)) where
-    sequence_sound : (p : Place) (y : Value) (ts : Codes) (m : Memory) (B : ℕ) → Each (IsSequence p y ts m B) (sequence model now inner p y ts m B)
+    pub sequence_sound : (p : Place) (y : Value) (ts : Codes) (m : Memory) (B : ℕ) → Each (IsSequence p y ts m B) (sequence model now inner p y ts m B)
     unfolding sequence
     sequence_sound p y none m B = reached (record { units = 0; depth = 0; proof = no_more; deep = omega arith; paid = omega arith })
     sequence_sound p y (more t ts) m B = at_then (λ z. sequence model now inner p z ts) (below p t m B)

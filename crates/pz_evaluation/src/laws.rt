@@ -1,6 +1,7 @@
 // Laws of evaluation, each the contract of a function that does nothing.
 
 ghost use Rattle.pz_evaluation.specs.Laws.{EachHasAnOutcome, HasOneOutcome, MoreFindsTheSame, EachListHasAnOutcome, ListHasOneOutcome, MoreFindsTheSameList};
+ghost use Rattle.pz_evaluation.specs.devices.Laws.{ComputedIsFound, ComputedListIsFound, TurnsGoOn};
 
 /// Each evaluation has an outcome and a state afterwards.
 pub fn each_evaluation_has_an_outcome()
@@ -30,4 +31,15 @@ pub fn list_has_one_outcome()
 /// A greater allowance finds the same of a list, unless the smaller one was spent.
 pub fn more_allowance_finds_the_same_list()
     ensures law { MoreFindsTheSameList }
+{}
+
+/// What is computed is found, of an expression and of a list.
+pub fn computed_is_found()
+    ensures value { ComputedIsFound }
+    ensures list { ComputedListIsFound }
+{}
+
+/// A turn of a `while`, and then those after it, are computed.
+pub fn turns_go_on()
+    ensures law { TurnsGoOn }
 {}

@@ -8,7 +8,8 @@ mod outcome;
 
 pub use allowance::Allowance;
 pub use laws::{
-    each_evaluation_has_an_outcome, each_list_has_an_outcome, evaluation_has_one_outcome,
-    list_has_one_outcome, more_allowance_finds_the_same, more_allowance_finds_the_same_list,
+    computed_is_found, each_evaluation_has_an_outcome, each_list_has_an_outcome,
+    evaluation_has_one_outcome, list_has_one_outcome, more_allowance_finds_the_same,
+    more_allowance_finds_the_same_list, turns_go_on,
 };
 pub use outcome::{Listed, Outcome};

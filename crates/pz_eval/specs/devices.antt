@@ -1,0 +1,5 @@
+pub mod Sites
+pub mod Tasks
+pub mod Steps
+pub mod Within
+pub mod Replies
