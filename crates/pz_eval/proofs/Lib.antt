@@ -1,0 +1,4 @@
+pub mod Going
+pub mod Unwinding
+pub mod Absent
+pub mod Within

@@ -3,3 +3,5 @@ pub mod Tasks
 pub mod Steps
 pub mod Within
 pub mod Replies
+pub mod Lists
+pub mod Found

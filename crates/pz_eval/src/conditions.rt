@@ -1,18 +1,64 @@
 //! The condition of a receive.
 
-ghost use Rattle.std.specs.Prelude.{◌≡◌, IfOk};
+ghost use Rattle.std.specs.Prelude.{◌≡◌, length, Err, IfOk, OnOk, All};
 ghost use Rattle.pz_syntax.specs.Classes.{ModelTree};
 ghost use Rattle.pz_code.specs.CodeView.{view};
 ghost use Rattle.pz_classes.specs.Tables.{AreClasses};
-ghost use Rattle.pz_eval.specs.Conditions.{FindsCondition};
+ghost use Rattle.pz_state.specs.References.{RefersWithin};
+ghost use Rattle.pz_state.specs.Marks.{changed};
+ghost use Rattle.pz_eval.specs.Binding.{set_slots, bound};
+ghost use Rattle.pz_eval.specs.Conditions.{Fits, FindsCondition};
 
+use crate::eval::try_eval;
+use crate::writing::{write_local, write_variable};
 use pz_classes::Classes;
 use pz_code::{Code, Slot};
-use pz_copy::Parcel;
+use pz_copy::{Parcel, UnpackError, unpack};
 use pz_evaluation::{Allowance, Outcome};
-use pz_state::{FrameId, State};
+use pz_state::{FaultKind, FrameId, State};
 use pz_syntax::Pos;
+use pz_value::Value;
 use std::alloc::{AllocError, Global};
+
+/// Gives variables of the process these values from left to right, as far as there are both. The only
+/// error is want of memory.
+fn set_slots(
+    state: &mut State,
+    frame: FrameId,
+    into: &[Slot],
+    values: &[Value],
+) -> Result<(), AllocError>
+    requires { All (RefersWithin (length state.old.held.objects)) values.now }
+    ensures ok { OnOk result (state.new ≡ changed state.old (set_slots frame.0 into.now values.now state.old.held)) }
+    ensures marks { state.new.marks ≡ state.old.marks }
+{
+    for (slot, value) in into.iter().zip(values) {
+        match slot {
+            Slot::Local(i) => write_local(state, frame, *i, value.copy()?)?,
+            Slot::Shared(i) => write_variable(state, *i, value.copy()?)?,
+            Slot::Unknown => {}
+        }
+    }
+    Ok(())
+}
+
+/// Unpacks a parcel and binds its values to these variables. At a refusal the open marks are as before.
+fn bind(
+    alloc: Global,
+    state: &mut State,
+    frame: FrameId,
+    parcel: &Parcel,
+    into: &[Slot],
+) -> Result<(), UnpackError>
+    ensures ok { OnOk result (state.new ≡ changed state.old (bound frame.0 into.now parcel.now state.old.held)) }
+    ensures fits { OnOk result (Fits state.old.held parcel.now) }
+    ensures full { result ≡ Err UnpackError.StoreFull → ¬ Fits state.old.held parcel.now }
+    ensures marks { state.new.marks ≡ state.old.marks }
+{
+    let values = unpack(alloc, state, parcel)?;
+    set_slots(state, frame, into, values.as_slice())?;
+    Ok(())
+}
 
 /// What an expression comes to once a parcel is unpacked and its values are bound to these variables
 /// from left to right, with no effect: the state is as before, always. Where the parcel finds no room,
@@ -32,5 +78,12 @@ pub fn try_condition(
     ensures finds { (m : ModelTree) → ∥ AreClasses m classes.now ∥₁ → IfOk result (FindsCondition m clock frame.0 state.old.held parcel.now into.now receive (view code.now) allowance) }
     ensures state { state.new ≡ state.old }
 {
-    Err(AllocError)
+    let point = state.mark()?;
+    let found = match bind(alloc, state, frame, parcel, into) {
+        Ok(()) => try_eval(alloc, classes, state, frame, clock, code, allowance),
+        Err(UnpackError::StoreFull) => Ok(Outcome::Fault(FaultKind::StoreFull, receive)),
+        Err(UnpackError::NoMemory) => Err(AllocError),
+    };
+    state.undo_to(point);
+    found
 }

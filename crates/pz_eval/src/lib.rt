@@ -9,6 +9,7 @@ mod conditions;
 mod continuing;
 mod creating;
 mod eval;
+mod listing;
 mod machine;
 mod operating;
 mod parcels;

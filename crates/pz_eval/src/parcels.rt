@@ -6,10 +6,11 @@ ghost use Rattle.pz_code.specs.CodeView.{list_view};
 ghost use Rattle.pz_classes.specs.Tables.{AreClasses};
 ghost use Rattle.pz_eval.specs.Parcels.{FindsParcel};
 
+use crate::eval::eval_list;
 use pz_classes::Classes;
 use pz_code::Code;
-use pz_copy::Parcel;
-use pz_evaluation::Allowance;
+use pz_copy::{Parcel, pack};
+use pz_evaluation::{Allowance, Listed};
 use pz_state::{FaultKind, FrameId, State};
 use pz_syntax::Pos;
 use std::alloc::{AllocError, Global};
@@ -22,6 +23,26 @@ pub enum Parceled {
     Fault(FaultKind, Pos),
     /// More units, or a greater depth, are needed than are allowed.
     Spent,
+}
+
+/// The values that expressions come to in a parcel. Effects stay where there are values.
+fn parcel_of(
+    alloc: Global,
+    classes: &Classes,
+    state: &mut State,
+    frame: FrameId,
+    clock: u128,
+    codes: &[Code],
+    allowance: Allowance,
+) -> Result<Parceled, AllocError>
+    ensures finds { (m : ModelTree) → ∥ AreClasses m classes.now ∥₁ → IfOk result (FindsParcel m clock frame.0 state.old.held (list_view codes.now) allowance) }
+    ensures marks { state.new.marks ≡ state.old.marks }
+{
+    match eval_list(alloc, classes, state, frame, clock, codes, allowance)? {
+        Listed::Values(values) => Ok(Parceled::Parcel(pack(alloc, state, values.as_slice())?)),
+        Listed::Fault(kind, at) => Ok(Parceled::Fault(kind, at)),
+        Listed::Spent => Ok(Parceled::Spent),
+    }
 }
 
 /// The parcel of the values that expressions come to, with no effect: the state is as before, always.
@@ -38,5 +59,8 @@ pub fn try_parcel(
     ensures finds { (m : ModelTree) → ∥ AreClasses m classes.now ∥₁ → IfOk result (FindsParcel m clock frame.0 state.old.held (list_view codes.now) allowance) }
     ensures state { state.new ≡ state.old }
 {
-    Err(AllocError)
+    let point = state.mark()?;
+    let found = parcel_of(alloc, classes, state, frame, clock, codes, allowance);
+    state.undo_to(point);
+    found
 }

@@ -1,0 +1,80 @@
+-- What is to come in the method that runs.
+use Rattle.std.proofs.Common.{◌≡◌, ℕ, zero, suc, ◌-◌, ◌<◌, List, [], ◌∷◌, ◌++◌, length, Result, Ok, Err, Bool, true, false, Option, Some, None, refl, sym, ap, ◌∙◌, subst, arith}
+use Rattle.pz_syntax.specs.declared.tokens.Pos.{Pos}
+use Rattle.pz_syntax.specs.declared.tokens.Symbol.{Symbol}
+use Rattle.pz_syntax.specs.declared.names.Id.{Id}
+use Rattle.pz_syntax.specs.Classes.{ModelTree}
+use Rattle.pz_value.specs.declared.value.Value.{Value}
+use Rattle.pz_value.specs.declared.value.Value.TheVariants.{Nil}
+use Rattle.pz_code.specs.declared.code.Code.{Code}
+use Rattle.pz_code.specs.CodeView.{Tree, view, list_view}
+use Rattle.pz_evaluation.specs.Memories.{Memory, Place}
+use Rattle.pz_evaluation.specs.Answers.{Answer, ends, fault, gives, stops}
+use Rattle.pz_evaluation.specs.devices.Computed.{Reached, done, spent, Computation, follow, and_then, tick, evaluated, step}
+use Rattle.pz_eval.specs.declared.stop.Stop.{Stop}
+use Rattle.pz_eval.specs.declared.stop.Stop.TheVariants as stop
+use Rattle.pz_eval.specs.declared.task.Control.{Control}
+use Rattle.pz_eval.specs.declared.task.Task.{Task}
+use Rattle.pz_eval.specs.devices.Tasks.{resumed, pending_before, pending, meant}
+use Rattle.pz_eval.specs.devices.Steps.{Stops, Ticks, Tells, Goes}
+
+pub then_assoc : {A B C : Type 0} (x : Reached A) (f : A → Computation B) (g : B → Computation C) → and_then (and_then x f) g ≡ and_then x (λ y m r. and_then (f y m r) g)
+then_assoc (done (gives y m) r) f g = refl
+then_assoc (done (stops e) r) f g = refl
+then_assoc spent f g = refl
+
+pub then_gives : (x : Reached Value) → and_then x (λ y m r. done (gives y m) r) ≡ x
+then_gives (done (gives y m) r) = refl
+then_gives (done (stops e) r) = refl
+then_gives spent = refl
+
+-- what stops a computation stops what begins with it
+pub stops_then : (e : Stop) {x : Reached Value} {r : ℕ} (f : Value → Computation Value) → Stops e x r → Stops e (and_then x f) r
+stops_then stop.NoMemory f h = tt
+stops_then stop.Spent f h = ap (λ z. and_then z f) h
+stops_then (stop.Fault kind at) f h = ap (λ z. and_then z f) h
+
+pub goes_same : (after : Control → Reached Value) (result : Result Control Stop) (r : ℕ) {x y : Reached Value} → x ≡ y → Goes after result r x → Goes after result r y
+goes_same after result r e = subst (λ (z : Reached Value). Goes after result r z) e
+
+pub nothing_left : {A : Type 0} (xs : List A) → length xs ≡ 0 → xs ≡ []
+nothing_left [] e = refl
+nothing_left (x ∷ xs) e = absurd (omega arith)
+
+pub evaluated_is : (model : ModelTree) (now d : ℕ) → 0 < d → evaluated model now d ≡ step model now (evaluated model now (d - 1))
+unfolding evaluated
+evaluated_is model now zero lt = absurd (omega arith)
+evaluated_is model now (suc d) lt = ap (λ (k : ℕ). step model now (evaluated model now k)) (omega arith)
+
+module _ (model : ModelTree) (now : ℕ) (p : Place) where
+  pub pending_push : (next : Value → Computation Value) (ks : List Task) (k : Task)
+      → pending_before model now p next (ks ++ k ∷ []) ≡ (λ y m r. and_then (resumed model now p k y m r) (pending_before model now p next ks))
+  unfolding pending_before
+  pending_push next [] k = refl
+  pending_push next (j ∷ ks) k = pending_push (λ y m r. and_then (resumed model now p j y m r) next) ks k
+
+  pub pending_none : pending model now p [] ≡ (λ y m r. done (gives y m) r)
+  unfolding pending_before
+  pending_none = refl
+
+  -- a computation, then a task, and then those before it
+  pub then_pending : (x : Reached Value) (k : Task) (ks ks1 : List Task) → ks1 ≡ ks ++ k ∷ []
+      → and_then x (pending model now p ks1) ≡ and_then (and_then x (resumed model now p k)) (pending model now p ks)
+  then_pending x k ks ks1 e =
+      ap (λ (js : List Task). and_then x (pending model now p js)) e
+      ∙ ap (λ (f : Value → Computation Value). and_then x f) (pending_push (λ y m r. done (gives y m) r) ks k)
+      ∙ sym (then_assoc x (resumed model now p k) (pending model now p ks))
+
+  -- the latest task is given a value
+  pub pending_pop : (y : Value) (m : Memory) (r : ℕ) (k : Task) (ks ks1 : List Task) → ks1 ≡ ks ++ k ∷ []
+      → pending model now p ks1 y m r ≡ and_then (resumed model now p k y m r) (pending model now p ks)
+  pending_pop y m r k ks ks1 e =
+      ap (λ (js : List Task). pending model now p js y m r) e
+      ∙ ap (λ (f : Value → Computation Value). f y m r) (pending_push (λ z m1 r1. done (gives z m1) r1) ks k)
+
+  -- no unit is left
+  pub none_left : {f : Computation Value} {m : Memory} {r : ℕ} (g : Value → Computation Value) → r ≡ 0 → and_then (tick f m r) g ≡ spent
+  none_left {f} {m} g e = ap (λ (n : ℕ). and_then (tick f m n) g) e
+
+  pub one_left : {f : Computation Value} {m : Memory} {r r1 : ℕ} → r ≡ suc r1 → tick f m r ≡ f m r1
+  one_left {f} {m} e = ap (λ (n : ℕ). tick f m n) e

@@ -1,0 +1,58 @@
+-- References stay within what grows.
+use Rattle.std.proofs.Common.{◌≡◌, ℕ, ◌<◌, ◌≤◌, List, [], ◌∷◌, ◌++◌, arith}
+use Rattle.std.specs.Prelude.{All}
+use Rattle.std.specs.List.{slice_index_or}
+use Rattle.pz_value.specs.declared.value.Value.{Value}
+use Rattle.pz_value.specs.declared.value.Value.TheVariants as value
+use Rattle.pz_state.specs.References.{RefersWithin}
+use Rattle.pz_eval.specs.declared.task.Request.{Request}
+use Rattle.pz_eval.specs.declared.task.Task.{Task}
+use Rattle.pz_eval.specs.declared.task.Task.TheVariants as task
+use Rattle.pz_eval.specs.declared.task.Site.{Site}
+use Rattle.pz_eval.specs.declared.task.Site.TheVariants as site
+use Rattle.pz_eval.specs.declared.task.Activation.{Activation}
+use Rattle.pz_eval.specs.devices.Within.{RequestWithin, TaskWithin, SiteWithin, ActivationWithin}
+
+pub all_wider : {X : Type 0} (P Q : X → Type 0) (xs : List X) → ((x : X) → P x → Q x) → All P xs → All Q xs
+all_wider P Q xs wider all i d below = wider (slice_index_or xs i d) (all i d below)
+
+module _ (m n : ℕ) (wider : m ≤ n) where
+  pub value_wider : (y : Value) → RefersWithin m y → RefersWithin n y
+  value_wider value.Nil h = tt
+  value_wider (value.Bool b) h = tt
+  value_wider (value.Int k) h = tt
+  value_wider (value.Char k) h = tt
+  value_wider (value.Str text) h = tt
+  value_wider (value.Ref r) h = omega arith
+
+  pub values_wider : (ys : List Value) → All (RefersWithin m) ys → All (RefersWithin n) ys
+  values_wider ys = all_wider (RefersWithin m) (RefersWithin n) ys value_wider
+
+  request_wider : (q : Request) → RequestWithin m q → RequestWithin n q
+  request_wider q h = record { receiver = value_wider q.receiver h.receiver; arguments = values_wider q.arguments.items h.arguments }
+
+  task_wider : (k : Task) → TaskWithin m k → TaskWithin n k
+  task_wider (task.Sequence d rest) h = tt
+  task_wider (task.Operators d links) h = tt
+  task_wider (task.Operand d left op at rest) h = value_wider left h
+  task_wider (task.Selectors d sendings) h = tt
+  task_wider (task.Argument q rest) h = request_wider q h
+  task_wider (task.Unary op at) h = tt
+  task_wider (task.Assign x) h = tt
+  task_wider task.Return h = tt
+  task_wider (task.If d at part other) h = tt
+  task_wider (task.Test d at test body) h = tt
+  task_wider (task.Turn d at test body) h = tt
+
+  pub tasks_wider : (ks : List Task) → All (TaskWithin m) ks → All (TaskWithin n) ks
+  tasks_wider ks = all_wider (TaskWithin m) (TaskWithin n) ks task_wider
+
+  site_wider : (s : Site) → SiteWithin m s → SiteWithin n s
+  site_wider (site.Process frame) h = tt
+  site_wider (site.Object r) h = omega arith
+
+  pub activation_wider : (a : Activation) → ActivationWithin m a → ActivationWithin n a
+  activation_wider a h = record { site = site_wider a.site h.site; locals = values_wider a.locals.items h.locals; tasks = tasks_wider a.tasks.items h.tasks }
+
+  pub activations_wider : (as_ : List Activation) → All (ActivationWithin m) as_ → All (ActivationWithin n) as_
+  activations_wider as_ = all_wider (ActivationWithin m) (ActivationWithin n) as_ activation_wider
