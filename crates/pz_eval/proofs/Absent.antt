@@ -1,6 +1,6 @@
 -- What is not there: nil is read, and a write changes nothing.
 use Rattle.std.proofs.Common.{◌≡◌, ℕ, zero, suc, ◌<◌, ◌≤◌, List, [], ◌∷◌, length, nat_eq, Option, Some, None, slice_get, refl, sym, ap, ◌∙◌, arith}
-use Rattle.std.specs.Prelude.{slice_set, unwrap_or, cond}
+use Rattle.std.specs.Prelude.{slice_set, unwrap_or, if◌then◌else◌, Bool, true, false}
 use Rattle.std.proofs.lemmas.Option.{slice_get_past}
 use Rattle.pz_syntax.specs.declared.names.Id.{Id}
 use Rattle.pz_syntax.specs.Classes.{DeclTree, ModelTree}
@@ -8,7 +8,7 @@ use Rattle.pz_value.specs.declared.value.ClassId.{ClassId}
 use Rattle.pz_value.specs.declared.value.Value.{Value}
 use Rattle.pz_value.specs.declared.value.Value.TheVariants.{Nil}
 use Rattle.pz_state.specs.Objects.{ObjectView}
-use Rattle.pz_state.specs.States.{StateView, Frames, value_at, locals_of, at_frame, at_object, object, set_variable, set_local, set_item}
+use Rattle.pz_state.specs.States.{StateView, Frames, value_at, locals_in, locals_of, at_frame, at_object, object, set_variable, set_local, set_item}
 use Rattle.pz_classes.specs.Numbers.{declaration}
 use Rattle.pz_classes.specs.Ancestors.{ancestors}
 use Rattle.pz_classes.specs.Members.{fields}
@@ -39,3 +39,37 @@ no_fields m c past = rw (none_declared m c past) refl
 
 pub no_method : (m : ModelTree) (class : ClassId) (name : List ℕ) (count : ℕ) → length m.decls < class.0 → data_method m class name count ≡ None
 no_method m class name count past = rw (none_declared m class.0 past) refl
+
+no_local_in : (fs : Frames) (number i : ℕ) (y : Value) → length (locals_of fs number) ≤ i → at_frame number (λ vs. slice_set vs i y) fs ≡ fs
+no_local_in [] number i y past = refl
+no_local_in (f ∷ fs) number i y past = by (nat_eq f.0 number) past (no_local_in fs number i y)
+  where
+    by : (b : Bool) → length (unwrap_or (if b then Some f.1 else locals_in fs number) []) ≤ i → (length (locals_of fs number) ≤ i → at_frame number (λ vs. slice_set vs i y) fs ≡ fs)
+        → (if b then (f.0, slice_set f.1 i y) ∷ fs else f ∷ at_frame number (λ vs. slice_set vs i y) fs) ≡ f ∷ fs
+    by true past later = ap (λ (vs : List Value). (f.0, vs) ∷ fs) (set_past f.1 i y past)
+    by false past later = ap (λ (gs : Frames). f ∷ gs) (later past)
+
+pub no_local : (s : StateView) (number i : ℕ) (y : Value) → length (locals_of s.frames number) ≤ i → s ≡ set_local s number i y
+no_local s number i y past = ap (λ (fs : Frames). record s { frames = fs }) (sym (no_local_in s.frames number i y past))
+
+no_object_in : (os : List ObjectView) (r : ℕ) (change : List Value → List Value) → length os ≤ r → at_object r change os ≡ os
+no_object_in [] r change past = refl
+no_object_in (o ∷ os) zero change past = absurd (omega arith)
+no_object_in (o ∷ os) (suc r) change past = ap (λ (xs : List ObjectView). o ∷ xs) (no_object_in os r change (omega arith))
+
+same_object_in : (os : List ObjectView) (r i : ℕ) (y : Value) → length (object (record { vars = []; frames = []; objects = os }) r).items ≤ i → at_object r (λ vs. slice_set vs i y) os ≡ os
+same_object_in [] r i y past = refl
+same_object_in (o ∷ os) zero i y past = ap (λ (vs : List Value). record { class = o.class; items = vs } ∷ os) (set_past o.items i y past)
+same_object_in (o ∷ os) (suc r) i y past = ap (λ (xs : List ObjectView). o ∷ xs) (same_object_in os r i y past)
+
+pub no_field_past : (s : StateView) (r i : ℕ) (y : Value) → length s.objects ≤ r → s ≡ set_item s r i y
+no_field_past s r i y past = ap (λ (xs : List ObjectView). record s { objects = xs }) (sym (no_object_in s.objects r (λ vs. slice_set vs i y) past))
+
+pub no_field : (s : StateView) (r i : ℕ) (y : Value) → length (object s r).items ≤ i → s ≡ set_item s r i y
+no_field s r i y past = ap (λ (xs : List ObjectView). record s { objects = xs }) (sym (same_object_in s.objects r i y past))
+
+-- no object goes by a write
+pub as_many : (r : ℕ) (change : List Value → List Value) (os : List ObjectView) → length (at_object r change os) ≡ length os
+as_many r change [] = refl
+as_many zero change (o ∷ os) = refl
+as_many (suc r) change (o ∷ os) = ap suc (as_many r change os)

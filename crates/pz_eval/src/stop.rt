@@ -1,6 +1,6 @@
 use pz_state::FaultKind;
 use pz_syntax::Pos;
-use std::alloc::AllocError;
+use std::alloc::{AllocError, AllocFailed};
 
 /// Why an evaluation has no value.
 #[derive(Clone, Copy, Debug)]
@@ -20,6 +20,17 @@ impl From<AllocError> for Stop {
     ghost from_gives = { λ _ stop. stop ≡ NoMemory };
 
     fn from(_: AllocError) -> Stop {
+        Stop::NoMemory
+    }
+}
+
+impl<T: Drop> From<AllocFailed<T>> for Stop {
+    ghost use Rattle.std.specs.Prelude.{◌≡◌};
+    ghost use Rattle.pz_eval.specs.declared.stop.Stop.TheVariants.{NoMemory};
+
+    ghost from_gives = { λ _ stop. stop ≡ NoMemory };
+
+    fn from(_: AllocFailed<T>) -> Stop {
         Stop::NoMemory
     }
 }
