@@ -8,7 +8,7 @@ use Rattle.pz_code.specs.CodeView.{Tree}
 use Rattle.pz_evaluation.specs.Memories.{Memory, Place}
 use Rattle.pz_evaluation.specs.Answers.{Answer, gives, stops}
 use Rattle.pz_evaluation.specs.Steps.{Codes, truth}
-use Rattle.pz_evaluation.specs.devices.Computed.{Reached, done, spent, Computation, and_then, tested, sequence, going, turns, evaluated}
+use Rattle.pz_evaluation.specs.devices.Computed.{Reached, Computation, and_then, tested, going, turns, evaluated}
 use Rattle.pz_evaluation.proofs.Sound.{Derived, Each, reached, nothing, sequence_sound, evaluated_sound}
 
 -- units only fall
