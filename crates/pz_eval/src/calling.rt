@@ -15,7 +15,7 @@ ghost use Rattle.pz_eval.specs.devices.Within.{RequestWithin, ControlWithin, Act
 ghost use Rattle.pz_eval.specs.declared.task.Control.TheVariants.{Send};
 
 use crate::continuing::{go_on_list, go_on_selectors};
-use crate::replying::{Method, Reply, reply};
+use crate::replying::{Method, Reply, ask};
 use crate::setting::Setting;
 use crate::stop::Stop;
 use crate::task::{Activation, Control, Request, Site, Task};
@@ -103,7 +103,7 @@ pub(crate) fn send<'a>(
     ensures within { IfOk result (λ c. All (ActivationWithin (length state.old.held.objects)) callers.old.items → ActivationWithin (length state.old.held.objects) activation.old → All (ActivationWithin (length state.new.held.objects)) callers.new.items × ActivationWithin (length state.new.held.objects) activation.new × ControlWithin (length state.new.held.objects) c) }
 {
     tick(units)?;
-    match reply(setting.alloc, setting.classes, state, &request)? {
+    match ask(setting.alloc, setting.classes, state, &request)? {
         Reply::Answers(value) => go_on_selectors(
             setting.alloc,
             &mut activation.tasks,

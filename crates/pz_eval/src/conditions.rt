@@ -9,7 +9,7 @@ ghost use Rattle.pz_state.specs.Marks.{changed};
 ghost use Rattle.pz_eval.specs.Binding.{set_slots, bound};
 ghost use Rattle.pz_eval.specs.Conditions.{Fits, FindsCondition};
 
-use crate::eval::try_eval;
+use crate::evaluating::try_eval;
 use crate::writing::{write_local, write_variable};
 use pz_classes::Classes;
 use pz_code::{Code, Slot};

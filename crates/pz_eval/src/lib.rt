@@ -8,7 +8,7 @@ mod choosing;
 mod conditions;
 mod continuing;
 mod creating;
-mod eval;
+mod evaluating;
 mod listing;
 mod machine;
 mod operating;
@@ -23,6 +23,6 @@ mod units;
 mod writing;
 
 pub use conditions::try_condition;
-pub use eval::{eval, eval_list, try_eval};
+pub use evaluating::{eval, eval_list, try_eval};
 pub use parcels::{Parceled, try_parcel};
 pub use pz_evaluation::{Allowance, Listed, Outcome};

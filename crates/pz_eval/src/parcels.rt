@@ -6,7 +6,7 @@ ghost use Rattle.pz_code.specs.CodeView.{list_view};
 ghost use Rattle.pz_classes.specs.Tables.{AreClasses};
 ghost use Rattle.pz_eval.specs.Parcels.{FindsParcel};
 
-use crate::eval::eval_list;
+use crate::evaluating::eval_list;
 use pz_classes::Classes;
 use pz_code::Code;
 use pz_copy::{Parcel, pack};

@@ -83,7 +83,7 @@ fn class_reply<'a>(
 
 /// What a receiver does with a selector: what the table of primitive values says, or else what its class
 /// does. More arguments than 32 bits number are taken for want of memory.
-pub(crate) fn reply<'a>(
+pub(crate) fn ask<'a>(
     alloc: Global,
     classes: &'a Classes,
     state: &mut State,
