@@ -1,19 +1,21 @@
 -- What is not there: nil is read, and a write changes nothing.
-use Rattle.std.proofs.Common.{◌≡◌, ℕ, zero, suc, ◌<◌, ◌≤◌, List, [], ◌∷◌, length, nat_eq, Option, Some, None, slice_get, refl, sym, ap, ◌∙◌, arith}
-use Rattle.std.specs.Prelude.{slice_set, unwrap_or, if◌then◌else◌, Bool, true, false}
+use Rattle.std.proofs.Common.{◌≡◌, ℕ, zero, suc, ◌+◌, ◌-◌, ◌<◌, ◌≤◌, List, [], ◌∷◌, ◌++◌, length, length-append, append_assoc, nat_eq, lt-ltb, Option, Some, None, Result, Ok, Err, slice_get, refl, sym, ap, ◌∙◌, arith}
+use Rattle.std.specs.Prelude.{OnOk, OnErr, slice_set, unwrap_or, if◌then◌else◌, Bool, true, false}
 use Rattle.std.proofs.lemmas.Option.{slice_get_past}
-use Rattle.pz_syntax.specs.declared.names.Id.{Id}
-use Rattle.pz_syntax.specs.Classes.{DeclTree, ModelTree}
+use Rattle.pz_syntax.specs.declared.tokens.Pos.{Pos}
+use Rattle.pz_syntax.specs.Classes.{ModelTree}
 use Rattle.pz_value.specs.declared.value.ClassId.{ClassId}
 use Rattle.pz_value.specs.declared.value.Value.{Value}
-use Rattle.pz_value.specs.declared.value.Value.TheVariants.{Nil}
+use Rattle.pz_value.specs.declared.value.Value.TheVariants.{Nil, Ref}
 use Rattle.pz_state.specs.Objects.{ObjectView}
-use Rattle.pz_state.specs.States.{StateView, Frames, value_at, locals_in, locals_of, at_frame, at_object, object, set_variable, set_local, set_item}
+use Rattle.pz_state.specs.States.{StateView, Frames, nils, value_at, locals_in, locals_of, at_frame, at_object, object, made, set_variable, set_local, set_item}
+use Rattle.pz_state.specs.declared.state.TheConstants.{OBJECT_LIMIT}
+use Rattle.pz_state.specs.Marks.{Seen, changed}
 use Rattle.pz_classes.specs.Numbers.{declaration}
-use Rattle.pz_classes.specs.Ancestors.{ancestors}
 use Rattle.pz_classes.specs.Members.{fields}
 use Rattle.pz_classes.specs.MethodBodies.{method_body}
-use Rattle.pz_evaluation.specs.Steps.{data_method}
+use Rattle.pz_evaluation.specs.Answers.{gives}
+use Rattle.pz_evaluation.specs.Steps.{created, data_method}
 
 pub nil_past : (values : List Value) (i : ℕ) → length values ≤ i → value_at values i ≡ Nil
 nil_past values i past = ap (λ (o : Option Value). unwrap_or o Nil) (slice_get_past values i past)
@@ -73,3 +75,19 @@ pub as_many : (r : ℕ) (change : List Value → List Value) (os : List ObjectVi
 as_many r change [] = refl
 as_many zero change (o ∷ os) = refl
 as_many (suc r) change (o ∷ os) = ap suc (as_many r change os)
+
+pub count_kept : {E : Type 0} (result : Result Unit E) (s s1 : Seen) (h : StateView) → OnOk result (s1 ≡ changed s h) → OnErr result (s1 ≡ s)
+    → length h.objects ≡ length s.held.objects → length s1.held.objects ≡ length s.held.objects
+count_kept (Ok x) s s1 h ok err same = ap (λ (t : Seen). length t.held.objects) ok ∙ same
+count_kept (Err e) s s1 h ok err same = ap (λ (t : Seen). length t.held.objects) err
+
+pub created_as : (m : ModelTree) (class : ClassId) (at : Pos) (s s1 : Seen) (locals : List Value) (r n : ℕ) → length s.held.objects < OBJECT_LIMIT → r ≡ length s.held.objects
+    → n ≡ length (fields m class.0) → s1 ≡ changed s (made s.held class n)
+    → created m class at (record { state = s.held; locals = locals }) ≡ gives (Ref r) (record { state = s1.held; locals = locals })
+created_as m class at s s1 locals r n below r_is n_is s1_is = rw (lt-ltb (length s.held.objects) OBJECT_LIMIT below, s1_is, r_is, n_is) refl
+
+pub pad_more : (vs ws : List Value) (n : ℕ) → ws ≡ vs ++ Nil ∷ [] → length vs < n → ws ++ nils (n - length ws) ≡ vs ++ nils (n - length vs)
+pad_more vs ws n e below =
+    let l : length ws ≡ length vs + 1 = omega (arith, ap (λ (xs : List Value). length xs) e, length-append vs (Nil ∷ [])) in
+    let k : n - length vs ≡ suc (n - length ws) = omega arith in
+    rw k (ap (λ (xs : List Value). xs ++ nils (n - length ws)) e ∙ append_assoc vs (Nil ∷ []) (nils (n - length ws)))

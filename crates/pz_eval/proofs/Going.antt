@@ -28,12 +28,6 @@ then_gives (done (gives y m) r) = refl
 then_gives (done (stops e) r) = refl
 then_gives spent = refl
 
--- what stops a computation stops what begins with it
-pub stops_then : (e : Stop) {x : Reached Value} {r : ℕ} (f : Value → Computation Value) → Stops e x r → Stops e (and_then x f) r
-stops_then stop.NoMemory f h = tt
-stops_then stop.Spent f h = ap (λ z. and_then z f) h
-stops_then (stop.Fault kind at) f h = ap (λ z. and_then z f) h
-
 pub goes_same : (after : Control → Reached Value) (result : Result Control Stop) (r : ℕ) {x y : Reached Value} → x ≡ y → Goes after result r x → Goes after result r y
 goes_same after result r e = subst (λ (z : Reached Value). Goes after result r z) e
 
@@ -71,10 +65,3 @@ module _ (model : ModelTree) (now : ℕ) (p : Place) where
   pending_pop y m r k ks ks1 e =
       ap (λ (js : List Task). pending model now p js y m r) e
       ∙ ap (λ (f : Value → Computation Value). f y m r) (pending_push (λ z m1 r1. done (gives z m1) r1) ks k)
-
-  -- no unit is left
-  pub none_left : {f : Computation Value} {m : Memory} {r : ℕ} (g : Value → Computation Value) → r ≡ 0 → and_then (tick f m r) g ≡ spent
-  none_left {f} {m} g e = ap (λ (n : ℕ). and_then (tick f m n) g) e
-
-  pub one_left : {f : Computation Value} {m : Memory} {r r1 : ℕ} → r ≡ suc r1 → tick f m r ≡ f m r1
-  one_left {f} {m} e = ap (λ (n : ℕ). tick f m n) e

@@ -1,4 +1,7 @@
 pub mod Going
+pub mod Onward
+pub mod Forms
+pub mod Replied
 pub mod Unwinding
 pub mod Absent
 pub mod Within

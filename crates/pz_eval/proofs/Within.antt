@@ -1,7 +1,8 @@
 -- References stay within what grows.
-use Rattle.std.proofs.Common.{◌≡◌, ℕ, ◌<◌, ◌≤◌, List, [], ◌∷◌, ◌++◌, arith}
+use Rattle.std.proofs.Common.{◌≡◌, ℕ, ◌<◌, ◌≤◌, List, [], ◌∷◌, ◌++◌, sym, subst, arith}
 use Rattle.std.specs.Prelude.{All}
 use Rattle.std.specs.List.{slice_index_or}
+use Rattle.std.proofs.lemmas.List.Elements.{All-nil, All-cons, All-append}
 use Rattle.pz_value.specs.declared.value.Value.{Value}
 use Rattle.pz_value.specs.declared.value.Value.TheVariants as value
 use Rattle.pz_state.specs.References.{RefersWithin}
@@ -15,6 +16,9 @@ use Rattle.pz_eval.specs.devices.Within.{RequestWithin, TaskWithin, SiteWithin, 
 
 pub all_wider : {X : Type 0} (P Q : X → Type 0) (xs : List X) → ((x : X) → P x → Q x) → All P xs → All Q xs
 all_wider P Q xs wider all i d below = wider (slice_index_or xs i d) (all i d below)
+
+pub all_push : {X : Type 0} (P : X → Type 0) (xs xs1 : List X) (x : X) → xs1 ≡ xs ++ x ∷ [] → All P xs → P x → All P xs1
+all_push P xs xs1 x e all here = subst (λ ys. All P ys) (sym e) (All-append P xs (x ∷ []) all (All-cons P x [] here (All-nil P)))
 
 module _ (m n : ℕ) (wider : m ≤ n) where
   pub value_wider : (y : Value) → RefersWithin m y → RefersWithin n y

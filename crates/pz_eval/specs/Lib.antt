@@ -1,3 +1,4 @@
+pub mod Known
 pub mod Promises
 pub mod Tentative
 pub mod Parcels

@@ -1,18 +1,19 @@
 //! Methods begin, and go back to their callers.
 
-ghost use Rattle.std.specs.Prelude.{◌≡◌, ◌≤◌, ◌-◌, ◌++◌, ◌∷◌, [], ℕ, length, false, IsTrue, IfOk, OnOk, All};
+ghost use Rattle.std.specs.Prelude.{◌≡◌, ◌<◌, ◌-◌, ◌++◌, ◌∷◌, [], ℕ, length, false, IsTrue, IfOk, OnOk, All};
 ghost use Rattle.pz_syntax.specs.Classes.{ModelTree};
 ghost use Rattle.pz_code.specs.CodeView.{list_view};
 ghost use Rattle.pz_state.specs.States.{StateView, nils};
 ghost use Rattle.pz_classes.specs.Tables.{AreClasses};
-ghost use Rattle.pz_evaluation.specs.Memories.{in_object};
 ghost use Rattle.pz_evaluation.specs.Steps.{runs};
 ghost use Rattle.pz_evaluation.specs.devices.Computed.{and_then, replied, selectors, evaluated};
+ghost use Rattle.pz_eval.specs.Known.{AreKnown};
 ghost use Rattle.pz_eval.specs.devices.Sites.{place_of, memory_at};
 ghost use Rattle.pz_eval.specs.devices.Tasks.{sendings_view, pending, meant, unwound};
 ghost use Rattle.pz_eval.specs.devices.Steps.{Goes, root};
 ghost use Rattle.pz_eval.specs.devices.Within.{RequestWithin, ControlWithin, ActivationWithin};
 ghost use Rattle.pz_eval.specs.declared.task.Control.TheVariants.{Send};
+ghost use Rattle.pz_eval.specs.declared.task.Site.TheVariants.{Object};
 
 use crate::continuing::{go_on_list, go_on_selectors};
 use crate::replying::{Method, Reply, ask};
@@ -43,7 +44,7 @@ fn start_method<'a>(
     arguments: Vec<Value>,
     count: u32,
 ) -> Result<Activation<'a>, AllocError>
-    ensures site { IfOk result (λ a. place_of a.site ≡ in_object object) }
+    ensures site { IfOk result (λ a. a.site ≡ Object object) }
     ensures locals { IfOk result (λ a. a.locals.items ≡ arguments.items ++ nils (count - length arguments.items)) }
     ensures tasks { IfOk result (λ a. a.tasks.items ≡ []) }
 {
@@ -58,6 +59,7 @@ fn start_method<'a>(
 
 /// The method of an object that was found begins. Its caller waits with the selectors behind the one
 /// that was sent.
+#[tactic(none)]
 fn call<'a>(
     alloc: Global,
     activation: &mut Activation<'a>,
@@ -68,7 +70,7 @@ fn call<'a>(
 ) -> Result<Control<'a>, Stop>
     ensures goes { (model : ModelTree) (now : ℕ) (s : StateView) (r : ℕ) → Goes (λ c. unwound model now callers.new.items (meant model now (place_of activation.new.site) activation.new.tasks.items c (memory_at activation.new.site s activation.new.locals.items) r)) result r (unwound model now callers.old.items (and_then (and_then (replied model now (evaluated model now request.entry.depth) (runs object method.entry.locals (list_view method.entry.code.now)) request.entry.arguments.items (memory_at activation.old.site s activation.old.locals.items) r) (λ z. selectors model now (evaluated model now request.entry.depth) (place_of activation.old.site) z (sendings_view request.entry.more.now))) (pending model now (place_of activation.old.site) activation.old.tasks.items))) }
     ensures root { OnOk result (root callers.new.items (place_of activation.new.site) ≡ root callers.old.items (place_of activation.old.site)) }
-    ensures within { IfOk result (λ c. (count : ℕ) → All (ActivationWithin count) callers.old.items → ActivationWithin count activation.old → RequestWithin count request.entry → All (ActivationWithin count) callers.new.items × ActivationWithin count activation.new × ControlWithin count c) }
+    ensures within { IfOk result (λ c. (count : ℕ) → object < count → All (ActivationWithin count) callers.old.items → ActivationWithin count activation.old → RequestWithin count request.entry → All (ActivationWithin count) callers.new.items × ActivationWithin count activation.new × ControlWithin count c) }
 {
     let Request {
         depth,
@@ -87,6 +89,7 @@ fn call<'a>(
 }
 
 /// A selector is sent to its receiver, which counts one unit.
+#[tactic(none)]
 pub(crate) fn send<'a>(
     setting: Setting<'a>,
     state: &mut State,
@@ -95,7 +98,8 @@ pub(crate) fn send<'a>(
     callers: &mut Vec<Activation<'a>>,
     request: Request<'a>,
 ) -> Result<Control<'a>, Stop>
-    requires { RequestWithin (length state.old.held.objects) request }
+    requires known { AreKnown setting.classes.now }
+    requires within { RequestWithin (length state.old.held.objects) request }
     ensures goes { (model : ModelTree) → AreClasses model setting.entry.classes.now → Goes (λ c. unwound model setting.entry.clock callers.new.items (meant model setting.entry.clock (place_of activation.new.site) activation.new.tasks.items c (memory_at activation.new.site state.new.held activation.new.locals.items) units.new)) result units.new (unwound model setting.entry.clock callers.old.items (meant model setting.entry.clock (place_of activation.old.site) activation.old.tasks.items (Send request.entry) (memory_at activation.old.site state.old.held activation.old.locals.items) units.old)) }
     ensures marks { state.new.marks ≡ state.old.marks }
     ensures count { length state.new.held.objects ≡ length state.old.held.objects }
@@ -103,17 +107,18 @@ pub(crate) fn send<'a>(
     ensures within { IfOk result (λ c. All (ActivationWithin (length state.old.held.objects)) callers.old.items → ActivationWithin (length state.old.held.objects) activation.old → All (ActivationWithin (length state.new.held.objects)) callers.new.items × ActivationWithin (length state.new.held.objects) activation.new × ControlWithin (length state.new.held.objects) c) }
 {
     tick(units)?;
-    match ask(setting.alloc, setting.classes, state, &request)? {
-        Reply::Answers(value) => go_on_selectors(
+    match ask(setting.alloc, setting.classes, state, &request) {
+        Ok(Reply::Answers(value)) => go_on_selectors(
             setting.alloc,
             &mut activation.tasks,
             request.depth,
             value,
             request.more,
         ),
-        Reply::Runs(object, method) => {
+        Ok(Reply::Runs(object, method)) => {
             call(setting.alloc, activation, callers, request, object, method)
         }
+        Err(stop) => Err(stop),
     }
 }
 

@@ -6,6 +6,7 @@ ghost use Rattle.pz_code.specs.CodeView.{view};
 ghost use Rattle.pz_classes.specs.Tables.{AreClasses};
 ghost use Rattle.pz_state.specs.References.{RefersWithin};
 ghost use Rattle.pz_state.specs.Marks.{changed};
+ghost use Rattle.pz_eval.specs.Known.{AreKnown};
 ghost use Rattle.pz_eval.specs.Binding.{set_slots, bound};
 ghost use Rattle.pz_eval.specs.Conditions.{Fits, FindsCondition};
 
@@ -22,6 +23,7 @@ use std::alloc::{AllocError, Global};
 
 /// Gives variables of the process these values from left to right, as far as there are both. The only
 /// error is want of memory.
+#[tactic(none)]
 fn set_slots(
     state: &mut State,
     frame: FrameId,
@@ -43,6 +45,7 @@ fn set_slots(
 }
 
 /// Unpacks a parcel and binds its values to these variables. At a refusal the open marks are as before.
+#[tactic(none)]
 fn bind(
     alloc: Global,
     state: &mut State,
@@ -63,6 +66,7 @@ fn bind(
 /// What an expression comes to once a parcel is unpacked and its values are bound to these variables
 /// from left to right, with no effect: the state is as before, always. Where the parcel finds no room,
 /// that is a fault of the receive. The only error is want of memory.
+#[tactic(none)]
 pub fn try_condition(
     alloc: Global,
     classes: &Classes,
@@ -75,6 +79,7 @@ pub fn try_condition(
     code: &Code,
     allowance: Allowance,
 ) -> Result<Outcome, AllocError>
+    requires { AreKnown classes.now }
     ensures finds { (m : ModelTree) → ∥ AreClasses m classes.now ∥₁ → IfOk result (FindsCondition m clock frame.0 state.old.held parcel.now into.now receive (view code.now) allowance) }
     ensures state { state.new ≡ state.old }
 {

@@ -13,7 +13,7 @@ ghost use Rattle.pz_eval.specs.devices.Steps.{Tells};
 
 use crate::stop::Stop;
 use pz_classes::Classes;
-use pz_state::{FaultKind, MakeError, State};
+use pz_state::{FaultKind, MakeError, OBJECT_LIMIT, State};
 use pz_syntax::Pos;
 use pz_value::{ClassId, Value};
 
@@ -54,9 +54,12 @@ pub(crate) fn create(
     let Ok(fields) = u32::try_from(count_fields(classes, class)) else {
         return Err(Stop::NoMemory);
     };
+    if state.objects() == OBJECT_LIMIT {
+        return Err(Stop::Fault(FaultKind::StoreFull, at));
+    }
     match state.make(class, fields) {
         Ok(r) => Ok(Value::Ref(r)),
         Err(MakeError::NoMemory) => Err(Stop::NoMemory),
-        Err(MakeError::StoreFull) => Err(Stop::Fault(FaultKind::StoreFull, at)),
+        Err(MakeError::StoreFull) => unreachable!(),
     }
 }

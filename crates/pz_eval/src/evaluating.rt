@@ -5,6 +5,7 @@ ghost use Rattle.pz_syntax.specs.Classes.{ModelTree};
 ghost use Rattle.pz_code.specs.CodeView.{view, list_view};
 ghost use Rattle.pz_classes.specs.Tables.{AreClasses};
 ghost use Rattle.pz_evaluation.specs.Outcomes.{Finds, FindsAll};
+ghost use Rattle.pz_eval.specs.Known.{AreKnown};
 ghost use Rattle.pz_eval.specs.Tentative.{WouldFind};
 ghost use Rattle.pz_eval.specs.devices.Found.{found_value, IsOutcomeOf, IsListedOf};
 ghost use Rattle.pz_eval.specs.Promises.{UnlessValue, UnlessValues, NamesWithin, NameWithin};
@@ -54,6 +55,7 @@ fn listed_of(stop: Stop) -> Result<Listed, AllocError>
 /// Evaluates an expression of a method of a process whose locals are those of this frame. Effects stay
 /// where a value is found; after anything else the state is as before. The only error is want of
 /// memory.
+#[tactic(none)]
 pub fn eval(
     alloc: Global,
     classes: &Classes,
@@ -63,6 +65,7 @@ pub fn eval(
     code: &Code,
     allowance: Allowance,
 ) -> Result<Outcome, AllocError>
+    requires { AreKnown classes.now }
     ensures finds { (m : ModelTree) → ∥ AreClasses m classes.now ∥₁ → IfOk result (λ outcome. Finds m clock frame.0 state.old.held (view code.now) allowance outcome state.new.held) }
     ensures within { IfOk result (NamesWithin (length state.new.held.objects)) }
     ensures kept { IfOk result (UnlessValue (state.new ≡ state.old)) }
@@ -91,6 +94,7 @@ pub fn eval(
 
 /// What an expression comes to, with no effect: the state is as before, always. The only error is want
 /// of memory.
+#[tactic(none)]
 pub fn try_eval(
     alloc: Global,
     classes: &Classes,
@@ -100,6 +104,7 @@ pub fn try_eval(
     code: &Code,
     allowance: Allowance,
 ) -> Result<Outcome, AllocError>
+    requires { AreKnown classes.now }
     ensures finds { (m : ModelTree) → ∥ AreClasses m classes.now ∥₁ → IfOk result (WouldFind m clock frame.0 state.old.held (view code.now) allowance) }
     ensures state { state.new ≡ state.old }
 {
@@ -121,6 +126,7 @@ pub fn try_eval(
 
 /// Evaluates expressions from left to right, as one evaluation with one allowance. Effects stay where
 /// there are values; after anything else the state is as before. The only error is want of memory.
+#[tactic(none)]
 pub fn eval_list(
     alloc: Global,
     classes: &Classes,
@@ -130,6 +136,7 @@ pub fn eval_list(
     codes: &[Code],
     allowance: Allowance,
 ) -> Result<Listed, AllocError>
+    requires { AreKnown classes.now }
     ensures finds { (m : ModelTree) → ∥ AreClasses m classes.now ∥₁ → IfOk result (λ listed. FindsAll m clock frame.0 state.old.held (list_view codes.now) allowance listed state.new.held) }
     ensures within { IfOk result (NameWithin (length state.new.held.objects)) }
     ensures kept { IfOk result (UnlessValues (state.new ≡ state.old)) }

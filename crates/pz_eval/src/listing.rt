@@ -8,6 +8,7 @@ ghost use Rattle.pz_classes.specs.Tables.{AreClasses};
 ghost use Rattle.pz_evaluation.specs.Memories.{in_process};
 ghost use Rattle.pz_evaluation.specs.Outcomes.{outside};
 ghost use Rattle.pz_evaluation.specs.devices.Computed.{arguments, evaluated};
+ghost use Rattle.pz_eval.specs.Known.{AreKnown};
 ghost use Rattle.pz_eval.specs.devices.Lists.{Gathers};
 
 use crate::machine::evaluate;
@@ -31,6 +32,7 @@ fn only(alloc: Global, value: Value) -> Result<Items<Value>, AllocError>
 
 /// Evaluates expressions of a method of the process from left to right, as one evaluation. Effects stay,
 /// whatever comes of it. A `return` is alone.
+#[tactic(none)]
 pub(crate) fn evaluate_list(
     setting: Setting<'_>,
     state: &mut State,
@@ -39,6 +41,7 @@ pub(crate) fn evaluate_list(
     depth: u32,
     codes: &[Code],
 ) -> Result<Items<Value>, Stop>
+    requires { AreKnown setting.classes.now }
     ensures gathers { (model : ModelTree) → AreClasses model setting.entry.classes.now → Gathers result state.new.held units.new (arguments model setting.entry.clock (evaluated model setting.entry.clock depth) (in_process frame.0) [] (list_view codes.now) (outside state.old.held) units.old) }
     ensures marks { state.new.marks ≡ state.old.marks }
     ensures within { IfOk result (λ values. All (RefersWithin (length state.new.held.objects)) values) }

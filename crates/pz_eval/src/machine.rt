@@ -11,9 +11,10 @@ ghost use Rattle.pz_evaluation.specs.Memories.{in_process};
 ghost use Rattle.pz_evaluation.specs.Outcomes.{outside};
 ghost use Rattle.pz_evaluation.specs.Answers.{ends, gives, stops};
 ghost use Rattle.pz_evaluation.specs.devices.Computed.{done, evaluated};
+ghost use Rattle.pz_eval.specs.Known.{AreKnown};
 ghost use Rattle.pz_eval.specs.devices.Sites.{place_of, memory_at};
 ghost use Rattle.pz_eval.specs.devices.Tasks.{meant, unwound};
-ghost use Rattle.pz_eval.specs.devices.Steps.{Progresses, Advances, Finishes, OnOver, root};
+ghost use Rattle.pz_eval.specs.devices.Steps.{went_on, Progresses, Advances, Finishes, OnOver, root};
 ghost use Rattle.pz_eval.specs.devices.Within.{ControlWithin, ActivationWithin, FinishWithin, ProgressWithin};
 
 use crate::beginning::begin;
@@ -27,6 +28,7 @@ use pz_state::{FrameId, State};
 use pz_value::Value;
 
 /// A value of a method that runs goes to its caller; where there is none, the evaluation is over.
+#[tactic(none)]
 fn give_back<'a>(
     activation: &mut Activation<'a>,
     callers: &mut Vec<Activation<'a>>,
@@ -44,6 +46,7 @@ fn give_back<'a>(
 }
 
 /// The result of a method goes to its caller; where there is none, the evaluation is over.
+#[tactic(none)]
 fn give_result<'a>(
     activation: &mut Activation<'a>,
     callers: &mut Vec<Activation<'a>>,
@@ -60,7 +63,18 @@ fn give_result<'a>(
     Progress::Over(Finish::Return(value))
 }
 
+/// The evaluation goes on.
+fn on<'a>(control: Result<Control<'a>, Stop>) -> Result<Progress<'a>, Stop>
+    ensures { result ≡ went_on control.entry }
+{
+    match control {
+        Ok(control) => Ok(Progress::On(control)),
+        Err(stop) => Err(stop),
+    }
+}
+
 /// One step. It says what is done next, or with what the evaluation ends.
+#[tactic(none)]
 fn advance<'a>(
     setting: Setting<'a>,
     state: &mut State,
@@ -69,6 +83,7 @@ fn advance<'a>(
     callers: &mut Vec<Activation<'a>>,
     control: Control<'a>,
 ) -> Result<Progress<'a>, Stop>
+    requires known { AreKnown setting.classes.now }
     requires control { ControlWithin (length state.old.held.objects) control }
     requires within { ActivationWithin (length state.old.held.objects) activation.old }
     requires callers { All (ActivationWithin (length state.old.held.objects)) callers.old.items }
@@ -81,20 +96,21 @@ fn advance<'a>(
 {
     match control {
         Control::Evaluate { depth, code } => {
-            Ok(Progress::On(begin(setting, state, units, activation, depth, code)?))
+            on(begin(setting, state, units, activation, depth, code))
         }
         Control::Give(value) => match activation.tasks.pop() {
-            Some(task) => Ok(Progress::On(resume(setting, state, units, activation, task, value)?)),
+            Some(task) => on(resume(setting, state, units, activation, task, value)),
             None => Ok(give_back(activation, callers, value)),
         },
         Control::Send(request) => {
-            Ok(Progress::On(send(setting, state, units, activation, callers, request)?))
+            on(send(setting, state, units, activation, callers, request))
         }
         Control::Leave(value) => Ok(give_result(activation, callers, value)),
     }
 }
 
 /// Steps until the evaluation is over. More steps than 64 bits number are taken for want of memory.
+#[tactic(none)]
 fn run<'a>(
     setting: Setting<'a>,
     state: &mut State,
@@ -103,6 +119,7 @@ fn run<'a>(
     callers: &mut Vec<Activation<'a>>,
     first: Control<'a>,
 ) -> Result<Finish, Stop>
+    requires known { AreKnown setting.classes.now }
     requires control { ControlWithin (length state.old.held.objects) first }
     requires within { ActivationWithin (length state.old.held.objects) activation.old }
     requires callers { callers.old.items ≡ [] }
@@ -123,6 +140,7 @@ fn run<'a>(
 
 /// Evaluates an expression of a method of the process whose locals are those of this frame. Units are
 /// counted down; effects stay, whatever comes of it.
+#[tactic(none)]
 pub(crate) fn evaluate(
     setting: Setting<'_>,
     state: &mut State,
@@ -131,6 +149,7 @@ pub(crate) fn evaluate(
     depth: u32,
     code: &Code,
 ) -> Result<Finish, Stop>
+    requires { AreKnown setting.classes.now }
     ensures goes { (model : ModelTree) → AreClasses model setting.entry.classes.now → Finishes result (outside state.new.held) units.new (evaluated model setting.entry.clock depth (in_process frame.0) (view code.now) (outside state.old.held) units.old) }
     ensures marks { state.new.marks ≡ state.old.marks }
     ensures within { IfOk result (FinishWithin (length state.new.held.objects)) }

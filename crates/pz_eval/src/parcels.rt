@@ -4,6 +4,7 @@ ghost use Rattle.std.specs.Prelude.{◌≡◌, IfOk};
 ghost use Rattle.pz_syntax.specs.Classes.{ModelTree};
 ghost use Rattle.pz_code.specs.CodeView.{list_view};
 ghost use Rattle.pz_classes.specs.Tables.{AreClasses};
+ghost use Rattle.pz_eval.specs.Known.{AreKnown};
 ghost use Rattle.pz_eval.specs.Parcels.{FindsParcel};
 
 use crate::evaluating::eval_list;
@@ -26,6 +27,7 @@ pub enum Parceled {
 }
 
 /// The values that expressions come to in a parcel. Effects stay where there are values.
+#[tactic(none)]
 fn parcel_of(
     alloc: Global,
     classes: &Classes,
@@ -35,6 +37,7 @@ fn parcel_of(
     codes: &[Code],
     allowance: Allowance,
 ) -> Result<Parceled, AllocError>
+    requires { AreKnown classes.now }
     ensures finds { (m : ModelTree) → ∥ AreClasses m classes.now ∥₁ → IfOk result (FindsParcel m clock frame.0 state.old.held (list_view codes.now) allowance) }
     ensures marks { state.new.marks ≡ state.old.marks }
 {
@@ -47,6 +50,7 @@ fn parcel_of(
 
 /// The parcel of the values that expressions come to, with no effect: the state is as before, always.
 /// The only error is want of memory.
+#[tactic(none)]
 pub fn try_parcel(
     alloc: Global,
     classes: &Classes,
@@ -56,6 +60,7 @@ pub fn try_parcel(
     codes: &[Code],
     allowance: Allowance,
 ) -> Result<Parceled, AllocError>
+    requires { AreKnown classes.now }
     ensures finds { (m : ModelTree) → ∥ AreClasses m classes.now ∥₁ → IfOk result (FindsParcel m clock frame.0 state.old.held (list_view codes.now) allowance) }
     ensures state { state.new ≡ state.old }
 {

@@ -8,6 +8,7 @@ ghost use Rattle.pz_code.specs.CodeView.{list_view};
 ghost use Rattle.pz_state.specs.References.{RefersWithin};
 ghost use Rattle.pz_classes.specs.Tables.{AreClasses};
 ghost use Rattle.pz_evaluation.specs.Steps as steps;
+ghost use Rattle.pz_eval.specs.Known.{AreKnown};
 ghost use Rattle.pz_eval.specs.devices.Replies.{method_found, Replies, ReplyWithin};
 ghost use Rattle.pz_eval.specs.devices.Within.{RequestWithin};
 
@@ -44,6 +45,7 @@ fn find_method<'a>(
     name: &[u8],
     count: u32,
 ) -> Option<Method<'a>>
+    requires { AreKnown classes.now }
     ensures { (m : ModelTree) → AreClasses m classes.now → option_map method_found result ≡ steps.data_method m class name.now count }
 {
     if class.0 as usize >= classes.count() {
@@ -67,7 +69,8 @@ fn class_reply<'a>(
     selector: &Id,
     count: u32,
 ) -> Result<Reply<'a>, Stop>
-    requires { RefersWithin (length state.now.held.objects) receiver.now }
+    requires known { AreKnown classes.now }
+    requires receiver { RefersWithin (length state.now.held.objects) receiver.now }
     ensures replies { (m : ModelTree) (locals : List Value) → AreClasses m classes.now → Replies result (steps.class_reply m (record { state = state.now.held; locals = locals }) receiver.now selector.now count) (record { state = state.now.held; locals = locals }) }
     ensures within { IfOk result (ReplyWithin (length state.now.held.objects)) }
 {
@@ -89,7 +92,8 @@ pub(crate) fn ask<'a>(
     state: &mut State,
     request: &Request<'a>,
 ) -> Result<Reply<'a>, Stop>
-    requires { RequestWithin (length state.old.held.objects) request.now }
+    requires known { AreKnown classes.now }
+    requires within { RequestWithin (length state.old.held.objects) request.now }
     ensures replies { (m : ModelTree) (locals : List Value) → AreClasses m classes.now → Replies result (steps.reply m request.now.receiver request.now.selector.now request.now.arguments.items (record { state = state.old.held; locals = locals })) (record { state = state.new.held; locals = locals }) }
     ensures marks { state.new.marks ≡ state.old.marks }
     ensures count { length state.new.held.objects ≡ length state.old.held.objects }

@@ -33,6 +33,7 @@ use pz_value::Value;
 use std::alloc::Global;
 
 /// An operator is applied, which counts one unit, and then those behind it.
+#[tactic(none)]
 fn operate<'a>(
     alloc: Global,
     state: &mut State,
@@ -59,6 +60,7 @@ fn operate<'a>(
 }
 
 /// An operator before a value is applied.
+#[tactic(none)]
 fn operate_alone<'a>(
     alloc: Global,
     state: &mut State,
@@ -77,6 +79,7 @@ fn operate_alone<'a>(
 }
 
 /// A variable gets a value, which is that of the assignment.
+#[tactic(none)]
 fn assign<'a>(
     state: &mut State,
     activation: &mut Activation<'a>,
@@ -97,6 +100,7 @@ fn assign<'a>(
 }
 
 /// A value is the next argument of a selector.
+#[tactic(none)]
 fn take_argument<'a>(
     tasks: &mut Vec<Task<'a>>,
     mut request: Request<'a>,
@@ -111,6 +115,7 @@ fn take_argument<'a>(
 }
 
 /// A task of the method that runs is resumed with a value.
+#[tactic(none)]
 pub(crate) fn resume<'a>(
     setting: Setting<'a>,
     state: &mut State,

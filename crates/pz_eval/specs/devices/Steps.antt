@@ -53,6 +53,10 @@ abbrev pub Advances : (Control → Reached Value) → Result Progress Stop → M
 Advances after (Ok x) m r before = Progresses after x m r before
 Advances after (Err e) m r before = Stops e before r
 
+abbrev pub went_on : Result Control Stop → Result Progress Stop
+went_on (Ok c) = Ok (progress.On c)
+went_on (Err e) = Err e
+
 -- P holds where the evaluation is over
 abbrev pub OnOver : Type 0 → Progress → Type 0
 OnOver P (progress.On c) = Unit {0}

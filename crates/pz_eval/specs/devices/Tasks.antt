@@ -40,22 +40,22 @@ module _ (model : ModelTree) (now : ℕ) where
 
   -- what a task comes to with a value
   abbrev pub resumed : Place → Task → Value → Computation Value
-  resumed p (task.Sequence d rest) y = sequence model now (evaluated model now d) p y (list_view rest.now)
-  resumed p (task.Operators d links) y = operators model now (evaluated model now d) p y (links_view links.now)
-  resumed p (task.Operand d left op at rest) w =
-      tick (λ m r. follow (applied op at left w m) r (λ z. operators model now (evaluated model now d) p z (links_view rest.now)))
-  resumed p (task.Selectors d sendings) y = selectors model now (evaluated model now d) p y (sendings_view sendings.now)
+  resumed p (task.Sequence d rest) y m r = sequence model now (evaluated model now d) p y (list_view rest.now) m r
+  resumed p (task.Operators d links) y m r = operators model now (evaluated model now d) p y (links_view links.now) m r
+  resumed p (task.Operand d left op at rest) w m r =
+      tick (λ m1 r1. follow (applied op at left w m1) r1 (λ z. operators model now (evaluated model now d) p z (links_view rest.now))) m r
+  resumed p (task.Selectors d sendings) y m r = selectors model now (evaluated model now d) p y (sendings_view sendings.now) m r
   resumed p (task.Argument q rest) w m r =
       and_then (arguments model now (evaluated model now q.depth) p (q.arguments.items ++ w ∷ []) (list_view rest.now) m r)
       (sent q.depth p q.receiver q.selector.now (sendings_view q.more.now))
   resumed p (task.Unary op at) y m r = done (applied_alone op at y m) r
   resumed p (task.Assign x) y m r = done (gives y (write p x y m)) r
   resumed p task.Return y m r = done (stops (ends y m)) r
-  resumed p (task.If d at part other) y =
-      tested at (truth y) (λ b. sequence model now (evaluated model now d) p Nil (chosen b (list_view part.now) (part_view other.now)))
-  resumed p (task.Test d at test body) y =
-      tested at (truth y) (going model now (evaluated model now d) p (list_view body.now) (turning d p at (view test.now) (list_view body.now)))
-  resumed p (task.Turn d at test body) y = turning d p at (view test.now) (list_view body.now)
+  resumed p (task.If d at part other) y m r =
+      tested at (truth y) (λ b. sequence model now (evaluated model now d) p Nil (chosen b (list_view part.now) (part_view other.now))) m r
+  resumed p (task.Test d at test body) y m r =
+      tested at (truth y) (going model now (evaluated model now d) p (list_view body.now) (turning d p at (view test.now) (list_view body.now))) m r
+  resumed p (task.Turn d at test body) y m r = turning d p at (view test.now) (list_view body.now) m r
 
   -- tasks, the latest of which is last, and then something else
   unfoldable pub pending_before : Place → (Value → Computation Value) → List Task → Value → Computation Value
