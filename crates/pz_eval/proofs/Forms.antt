@@ -18,7 +18,7 @@ use Rattle.pz_code.specs.declared.code.CodeSending.{CodeSending}
 use Rattle.pz_code.specs.CodeView.{Tree, view, form_view, list_view, part_view}
 use Rattle.pz_evaluation.specs.Memories.{Memory, Place, read, self_at}
 use Rattle.pz_evaluation.specs.Answers.{gives}
-use Rattle.pz_evaluation.specs.Steps.{constant, time, created}
+use Rattle.pz_evaluation.specs.Steps.{constant, time, created, truth, chosen}
 use Rattle.pz_evaluation.specs.devices.Computed.{Reached, done, Computation, and_then, tick, tested, sequence, operators, selectors, turns, evaluated, step, spent}
 use Rattle.pz_eval.specs.declared.task.Task.TheVariants as task
 use Rattle.pz_eval.specs.devices.Tasks.{links_view, sendings_view, turning, resumed}
@@ -116,10 +116,11 @@ module _ (model : ModelTree) (now d : ℕ) (p : Place) (at : Pos) (f : CodeForm)
   unfolding step
   at_return value value1 e is = rw (e, is, returned_view value at) refl
 
-  pub at_choice : (test test1 : Code) (part : List Code) (part1 : Bor (List Code)) (other : Bor (Option (List Code))) → test1 ≡ test → part1.now ≡ part → f ≡ form.If test part other.now
-      → tick (λ m1 r1. and_then (evaluated model now d p (view test1) m1 r1) (resumed model now p (task.If d at part1 other))) m u ≡ step model now (evaluated model now d) p (form_view f at) m u
+  pub at_choice : (test test1 : Code) (part part1 : List Code) (other : Option (List Code)) → test1 ≡ test → part1 ≡ part → f ≡ form.If test part other
+      → tick (λ m1 r1. and_then (evaluated model now d p (view test1) m1 r1) (λ y m2 r2. tested at (truth y) (λ b. sequence model now (evaluated model now d) p Nil (chosen b (list_view part1) (part_view other))) m2 r2)) m u
+      ≡ step model now (evaluated model now d) p (form_view f at) m u
   unfolding step
-  at_choice test test1 part part1 other e l is = rw (e, is, choice_view test part other.now at, ← l) refl
+  at_choice test test1 part part1 other e l is = rw (e, l, is, choice_view test part other at) refl
 
   pub at_loop : (test test1 : Code) (body body1 : List Code) → test1 ≡ test → body1 ≡ body → f ≡ form.While test body
       → turning model now d p at (view test1) (list_view body1) m u ≡ step model now (evaluated model now d) p (form_view f at) m u

@@ -16,7 +16,7 @@ use Rattle.pz_eval.specs.declared.stop.Stop.TheVariants as stop
 use Rattle.pz_eval.specs.declared.task.Control.{Control}
 use Rattle.pz_eval.specs.declared.task.Task.{Task}
 use Rattle.pz_eval.specs.devices.Tasks.{resumed, pending_before, pending, meant}
-use Rattle.pz_eval.specs.devices.Steps.{Stops, Ticks, Tells, Goes}
+use Rattle.pz_eval.specs.devices.Steps.{Stops, Ticks, Tells, given, Goes}
 
 pub then_assoc : {A B C : Type 0} (x : Reached A) (f : A → Computation B) (g : B → Computation C) → and_then (and_then x f) g ≡ and_then x (λ y m r. and_then (f y m r) g)
 then_assoc (done (gives y m) r) f g = refl
@@ -65,3 +65,15 @@ module _ (model : ModelTree) (now : ℕ) (p : Place) where
   pending_pop y m r k ks ks1 e =
       ap (λ (js : List Task). pending model now p js y m r) e
       ∙ ap (λ (f : Value → Computation Value). f y m r) (pending_push (λ z m1 r1. done (gives z m1) r1) ks k)
+
+-- a value is given after one unit
+pub given_goes : (model : ModelTree) (now : ℕ) (p : Place) (ks : List Task) (v : Result Value Stop) (result : Result Control Stop) (f : Memory → Answer Value) (m m1 : Memory) (u r : ℕ)
+    → u ≡ suc r → result ≡ given v → Tells v (f m) m1
+    → Goes (λ k. meant model now p ks k m1 r) result r (and_then (tick (λ m2 r2. done (f m2) r2) m u) (pending model now p ks))
+given_goes model now p ks (Ok y) result f m m1 u r u_is e h = rw (u_is, e, h) refl
+given_goes model now p ks (Err stop.NoMemory) result f m m1 u r u_is e h = rw e tt
+given_goes model now p ks (Err stop.Spent) result f m m1 u r u_is e h = absurd h
+given_goes model now p ks (Err (stop.Fault kind at)) result f m m1 u r u_is e h = rw (u_is, e, h) refl
+
+pub one_left : (f : Computation Value) (m : Memory) (u r : ℕ) → u ≡ suc r → tick f m u ≡ f m r
+one_left f m u r e = ap (λ (n : ℕ). tick f m n) e

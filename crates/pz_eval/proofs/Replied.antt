@@ -22,10 +22,13 @@ use Rattle.pz_evaluation.specs.devices.Computed.{Reached, done, spent, Computati
 use Rattle.pz_eval.specs.declared.stop.Stop.{Stop}
 use Rattle.pz_eval.specs.declared.stop.Stop.TheVariants as stop
 use Rattle.pz_eval.specs.declared.task.Request.{Request}
+use Rattle.pz_eval.specs.declared.replying.Method.{Method}
 use Rattle.pz_eval.specs.declared.replying.Reply.{Reply as Got}
-use Rattle.pz_eval.specs.devices.Tasks.{sent}
+use Rattle.pz_eval.specs.declared.replying.Reply.TheVariants as got
+use Rattle.pz_code.specs.CodeView.{list_view}
+use Rattle.std.specs.Prelude.{IfOk}
 use Rattle.pz_eval.specs.devices.Steps.{Stops}
-use Rattle.pz_eval.specs.devices.Replies.{Replies}
+use Rattle.pz_eval.specs.devices.Replies.{Replies, ReplyWithin, UnlessAnswer}
 
 -- by the answer of the table
 by_value : (model : ModelTree) (m : Memory) (y : Value) (selector : Id) (count : ℕ) (o : Outcome) (z : Value) → o.answer ≡ prim.Value z
@@ -93,25 +96,45 @@ module _ (model : ModelTree) (s : StateView) (locals : List Value) (y : Value) (
 pub replies_same : (result : Result Got Stop) (m : Memory) {x y : Reply} → x ≡ y → Replies result x m → Replies result y m
 replies_same result m e = subst (λ (z : Reply). Replies result z m) e
 
--- what comes of a selector that is sent, of which one unit is counted
-module _ (model : ModelTree) (now d : ℕ) (p : Place) (y : Value) (selector : Id) (more : Sendings Slot ClassId) (ws : List Value) (m : Memory) (u r : ℕ) (u_is : u ≡ suc r) where
-  pub sent_answer : (z : Value) (m1 : Memory) → reply model y selector ws m ≡ answers (gives z m1)
-      → sent model now d p y selector more ws m u ≡ selectors model now (evaluated model now d) p z more m1 r
+-- what comes of a reply
+module _ (model : ModelTree) (now d : ℕ) (y : Value) (selector : Id) (ws : List Value) (m : Memory) (r : ℕ) (after : Value → Computation Value) where
+  pub got_answer : (z : Value) (m1 : Memory) → reply model y selector ws m ≡ answers (gives z m1)
+      → and_then (replied model now (evaluated model now d) (reply model y selector ws m) ws m r) after ≡ after z m1 r
   unfolding replied
-  sent_answer z m1 is = rw (u_is, is) refl
+  got_answer z m1 is = rw is refl
 
-  pub sent_runs : (o n : ℕ) (body : Codes) → reply model y selector ws m ≡ runs o n body
-      → sent model now d p y selector more ws m u ≡ and_then (replied model now (evaluated model now d) (runs o n body) ws m r) (λ z. selectors model now (evaluated model now d) p z more)
+  pub got_run : (o n : ℕ) (body : Codes) → reply model y selector ws m ≡ runs o n body
+      → and_then (replied model now (evaluated model now d) (reply model y selector ws m) ws m r) after ≡ and_then (replied model now (evaluated model now d) (runs o n body) ws m r) after
+  got_run o n body is = ap (λ (x : Reply). and_then (replied model now (evaluated model now d) x ws m r) after) is
+
+  got_fault : (kind : FaultKind) (at : Pos) → reply model y selector ws m ≡ answers (stops (fault kind at))
+      → and_then (replied model now (evaluated model now d) (reply model y selector ws m) ws m r) after ≡ done (stops (fault kind at)) r
   unfolding replied
-  sent_runs o n body is = rw (u_is, is) refl
+  got_fault kind at is = rw is refl
 
-  sent_fault : (kind : FaultKind) (at : Pos) → reply model y selector ws m ≡ answers (stops (fault kind at))
-      → sent model now d p y selector more ws m u ≡ done (stops (fault kind at)) r
-  unfolding replied
-  sent_fault kind at is = rw (u_is, is) refl
+  pub got_stop : (e : Stop) (m1 : Memory) (next : Value → Computation Value) → Replies (Err e) (reply model y selector ws m) m1
+      → Stops e (and_then (and_then (replied model now (evaluated model now d) (reply model y selector ws m) ws m r) after) next) r
+  got_stop stop.NoMemory m1 next h = tt
+  got_stop stop.Spent m1 next h = absurd h
+  got_stop (stop.Fault kind at) m1 next h = ap (λ (x : Reached Value). and_then x next) (got_fault kind at h)
 
-  pub sent_stops : (e : Stop) (m1 : Memory) (next : Value → Computation Value) → Replies (Err e) (reply model y selector ws m) m1
-      → Stops e (and_then (sent model now d p y selector more ws m u) next) r
-  sent_stops stop.NoMemory m1 next h = tt
-  sent_stops stop.Spent m1 next h = absurd h
-  sent_stops (stop.Fault kind at) m1 next h = ap (λ (x : Reached Value). and_then x next) (sent_fault kind at h)
+pub unless_answer : {P : Type 0} (result : Result Got Stop) → P → IfOk result (UnlessAnswer P)
+unless_answer (Ok (got.Answers y)) h = tt
+unless_answer (Ok (got.Runs r method)) h = h
+unless_answer (Err e) h = tt
+
+-- what an arm knows of a reply
+pub is_answer : (result : Result Got Stop) (y : Value) (x : Reply) (m : Memory) → result ≡ Ok (got.Answers y) → Replies result x m → x ≡ answers (gives y m)
+is_answer result y x m e = subst (λ (k : Result Got Stop). Replies k x m) e
+
+pub is_run : (result : Result Got Stop) (r : ℕ) (method : Method) (x : Reply) (m : Memory) → result ≡ Ok (got.Runs r method) → Replies result x m → x ≡ runs r method.locals (list_view method.code.now)
+is_run result r method x m e = subst (λ (k : Result Got Stop). Replies k x m) e
+
+pub is_stop : (result : Result Got Stop) (e : Stop) (x : Reply) (m : Memory) → result ≡ Err e → Replies result x m → Replies (Err e) x m
+is_stop result e x m is = subst (λ (k : Result Got Stop). Replies k x m) is
+
+pub run_same : (result : Result Got Stop) (r : ℕ) (method : Method) (P : Type 0) → result ≡ Ok (got.Runs r method) → IfOk result (UnlessAnswer P) → P
+run_same result r method P is = subst (λ (k : Result Got Stop). IfOk k (UnlessAnswer P)) is
+
+pub reply_within : (result : Result Got Stop) (y : Got) (n : ℕ) → result ≡ Ok y → IfOk result (ReplyWithin n) → ReplyWithin n y
+reply_within result y n is = subst (λ (k : Result Got Stop). IfOk k (ReplyWithin n)) is

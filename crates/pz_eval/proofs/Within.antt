@@ -1,11 +1,12 @@
 -- References stay within what grows.
-use Rattle.std.proofs.Common.{◌≡◌, ℕ, ◌<◌, ◌≤◌, List, [], ◌∷◌, ◌++◌, sym, subst, arith}
+use Rattle.std.proofs.Common.{◌≡◌, ℕ, ◌-◌, ◌<◌, ◌≤◌, Some, length, List, [], ◌∷◌, ◌++◌, sym, subst, arith}
 use Rattle.std.specs.Prelude.{All}
 use Rattle.std.specs.List.{slice_index_or}
-use Rattle.std.proofs.lemmas.List.Elements.{All-nil, All-cons, All-append}
+use Rattle.std.proofs.lemmas.List.Elements.{All-nil, All-cons, All-append, All-replicate, All-pop}
 use Rattle.pz_value.specs.declared.value.Value.{Value}
 use Rattle.pz_value.specs.declared.value.Value.TheVariants as value
 use Rattle.pz_state.specs.References.{RefersWithin}
+use Rattle.pz_state.specs.States.{nils}
 use Rattle.pz_eval.specs.declared.task.Request.{Request}
 use Rattle.pz_eval.specs.declared.task.Task.{Task}
 use Rattle.pz_eval.specs.declared.task.Task.TheVariants as task
@@ -60,3 +61,24 @@ module _ (m n : ℕ) (wider : m ≤ n) where
 
   pub activations_wider : (as_ : List Activation) → All (ActivationWithin m) as_ → All (ActivationWithin n) as_
   activations_wider as_ = all_wider (ActivationWithin m) (ActivationWithin n) as_ activation_wider
+
+-- a caller waits with one more task
+pub caller_waits : (count : ℕ) (cs cs1 : List Activation) (a0 a : Activation) (k : Task) → a.site ≡ a0.site → a.locals.items ≡ a0.locals.items → a.tasks.items ≡ a0.tasks.items ++ k ∷ []
+    → cs1 ≡ cs ++ a ∷ [] → TaskWithin count k → All (ActivationWithin count) cs → ActivationWithin count a0 → All (ActivationWithin count) cs1
+caller_waits count cs cs1 a0 a k site locals tasks e here all within =
+    all_push (ActivationWithin count) cs cs1 a e all (record {
+      site = subst (λ x. SiteWithin count x) (sym site) within.site;
+      locals = subst (λ ys. All (RefersWithin count) ys) (sym locals) within.locals;
+      tasks = all_push (TaskWithin count) a0.tasks.items a.tasks.items k tasks within.tasks here;
+    })
+
+-- the locals of a method that begins
+pub locals_within : (count n : ℕ) (ws ys : List Value) → ys ≡ ws ++ nils (n - length ws) → All (RefersWithin count) ws → All (RefersWithin count) ys
+locals_within count n ws ys e all = subst (λ zs. All (RefersWithin count) zs) (sym e) (All-append (RefersWithin count) ws (nils (n - length ws)) all (All-replicate (RefersWithin count) (n - length ws) value.Nil tt))
+
+pub site_within : (count o : ℕ) (s : Site) → s ≡ site.Object o → o < count → SiteWithin count s
+site_within count o s e below = rw e below
+
+-- the latest of a list, and those before it
+pub all_pop : {X : Type 0} (P : X → Type 0) (xs ys : List X) (x : X) → xs ≡ ys ++ x ∷ [] → All P xs → All P ys × P x
+all_pop P xs ys x e all = All-pop P xs ys (Some x) e all

@@ -15,7 +15,7 @@ ghost use Rattle.pz_evaluation.specs.devices.Computed.{done, and_then, tick as t
 ghost use Rattle.pz_eval.specs.declared.task.Task.{Task as Tasks};
 ghost use Rattle.pz_eval.specs.devices.Sites.{place_of, memory_at};
 ghost use Rattle.pz_eval.specs.devices.Tasks.{pending, meant};
-ghost use Rattle.pz_eval.specs.devices.Steps.{Goes};
+ghost use Rattle.pz_eval.specs.devices.Steps.{given, Goes};
 ghost use Rattle.pz_eval.specs.devices.Within.{SiteWithin, TaskWithin, ControlWithin, ActivationWithin};
 
 use crate::continuing::{descend, descend_counted, go_on_list, go_on_turns};
@@ -82,6 +82,16 @@ fn give_time<'a>(clock: u128, units: &mut u64, at: Pos) -> Result<Control<'a>, S
     Ok(Control::Give(time(clock, at)?))
 }
 
+/// A value is given, if there is one.
+fn give<'a>(value: Result<Value, Stop>) -> Result<Control<'a>, Stop>
+    ensures { result ≡ given value }
+{
+    match value {
+        Ok(value) => Ok(Control::Give(value)),
+        Err(stop) => Err(stop),
+    }
+}
+
 /// A new object counts one unit.
 fn give_new<'a>(
     classes: &Classes,
@@ -96,7 +106,7 @@ fn give_new<'a>(
     ensures within { IfOk result (ControlWithin (length state.new.held.objects)) }
 {
     tick(units)?;
-    Ok(Control::Give(create(classes, state, class, at)?))
+    give(create(classes, state, class, at))
 }
 
 /// A bracketed list counts one unit.

@@ -5,7 +5,7 @@ ghost use Rattle.pz_syntax.specs.Classes.{ModelTree};
 ghost use Rattle.pz_code.specs.CodeView.{list_view};
 ghost use Rattle.pz_state.specs.States.{StateView, nils};
 ghost use Rattle.pz_classes.specs.Tables.{AreClasses};
-ghost use Rattle.pz_evaluation.specs.Steps.{runs};
+ghost use Rattle.pz_evaluation.specs.Steps.{reply, runs};
 ghost use Rattle.pz_evaluation.specs.devices.Computed.{and_then, replied, selectors, evaluated};
 ghost use Rattle.pz_eval.specs.Known.{AreKnown};
 ghost use Rattle.pz_eval.specs.devices.Sites.{place_of, memory_at};
@@ -59,7 +59,6 @@ fn start_method<'a>(
 
 /// The method of an object that was found begins. Its caller waits with the selectors behind the one
 /// that was sent.
-#[tactic(none)]
 fn call<'a>(
     alloc: Global,
     activation: &mut Activation<'a>,
@@ -88,6 +87,39 @@ fn call<'a>(
     go_on_list(&mut activation.tasks, depth, Value::Nil, method.code)
 }
 
+/// A receiver does what it does with a selector: it answers, and the selectors behind go on, or a method
+/// of it begins.
+#[tactic(none)]
+fn deliver<'a>(
+    setting: Setting<'a>,
+    state: &mut State,
+    activation: &mut Activation<'a>,
+    callers: &mut Vec<Activation<'a>>,
+    request: Request<'a>,
+) -> Result<Control<'a>, Stop>
+    requires known { AreKnown setting.classes.now }
+    requires within { RequestWithin (length state.old.held.objects) request }
+    ensures goes { (model : ModelTree) (r : ℕ) → AreClasses model setting.entry.classes.now → Goes (λ c. unwound model setting.entry.clock callers.new.items (meant model setting.entry.clock (place_of activation.new.site) activation.new.tasks.items c (memory_at activation.new.site state.new.held activation.new.locals.items) r)) result r (unwound model setting.entry.clock callers.old.items (and_then (and_then (replied model setting.entry.clock (evaluated model setting.entry.clock request.entry.depth) (reply model request.entry.receiver request.entry.selector.now request.entry.arguments.items (memory_at activation.old.site state.old.held activation.old.locals.items)) request.entry.arguments.items (memory_at activation.old.site state.old.held activation.old.locals.items) r) (λ z. selectors model setting.entry.clock (evaluated model setting.entry.clock request.entry.depth) (place_of activation.old.site) z (sendings_view request.entry.more.now))) (pending model setting.entry.clock (place_of activation.old.site) activation.old.tasks.items))) }
+    ensures marks { state.new.marks ≡ state.old.marks }
+    ensures count { length state.new.held.objects ≡ length state.old.held.objects }
+    ensures root { OnOk result (root callers.new.items (place_of activation.new.site) ≡ root callers.old.items (place_of activation.old.site)) }
+    ensures within { IfOk result (λ c. (count : ℕ) → count ≡ length state.new.held.objects → All (ActivationWithin count) callers.old.items → ActivationWithin count activation.old → All (ActivationWithin count) callers.new.items × ActivationWithin count activation.new × ControlWithin count c) }
+{
+    match ask(setting.alloc, setting.classes, state, &request) {
+        Ok(Reply::Answers(value)) => go_on_selectors(
+            setting.alloc,
+            &mut activation.tasks,
+            request.depth,
+            value,
+            request.more,
+        ),
+        Ok(Reply::Runs(object, method)) => {
+            call(setting.alloc, activation, callers, request, object, method)
+        }
+        Err(stop) => Err(stop),
+    }
+}
+
 /// A selector is sent to its receiver, which counts one unit.
 #[tactic(none)]
 pub(crate) fn send<'a>(
@@ -104,20 +136,10 @@ pub(crate) fn send<'a>(
     ensures marks { state.new.marks ≡ state.old.marks }
     ensures count { length state.new.held.objects ≡ length state.old.held.objects }
     ensures root { OnOk result (root callers.new.items (place_of activation.new.site) ≡ root callers.old.items (place_of activation.old.site)) }
-    ensures within { IfOk result (λ c. All (ActivationWithin (length state.old.held.objects)) callers.old.items → ActivationWithin (length state.old.held.objects) activation.old → All (ActivationWithin (length state.new.held.objects)) callers.new.items × ActivationWithin (length state.new.held.objects) activation.new × ControlWithin (length state.new.held.objects) c) }
+    ensures within { IfOk result (λ c. (count : ℕ) → count ≡ length state.new.held.objects → All (ActivationWithin count) callers.old.items → ActivationWithin count activation.old → All (ActivationWithin count) callers.new.items × ActivationWithin count activation.new × ControlWithin count c) }
 {
-    tick(units)?;
-    match ask(setting.alloc, setting.classes, state, &request) {
-        Ok(Reply::Answers(value)) => go_on_selectors(
-            setting.alloc,
-            &mut activation.tasks,
-            request.depth,
-            value,
-            request.more,
-        ),
-        Ok(Reply::Runs(object, method)) => {
-            call(setting.alloc, activation, callers, request, object, method)
-        }
+    match tick(units) {
+        Ok(()) => deliver(setting, state, activation, callers, request),
         Err(stop) => Err(stop),
     }
 }

@@ -1,6 +1,6 @@
 //! Constants, and what variables hold.
 
-ghost use Rattle.std.specs.Prelude.{◌≡◌, ◌<◌, length, IfOk, All};
+ghost use Rattle.std.specs.Prelude.{◌≡◌, ℕ, length, IfOk, All};
 ghost use Rattle.pz_state.specs.States.{value_at, variable, local, item};
 ghost use Rattle.pz_state.specs.References.{RefersWithin};
 ghost use Rattle.pz_evaluation.specs.Memories.{read};
@@ -31,7 +31,8 @@ pub(crate) fn constant(alloc: Global, literal: &Literal) -> Result<Value, AllocE
 
 /// What stands at a place of a list; nil past its end. The only error is want of memory.
 fn copy_at(values: &[Value], place: u32) -> Result<Value, AllocError>
-    ensures { IfOk result (λ value. value ≡ value_at values.now place) }
+    ensures value { IfOk result (λ value. value ≡ value_at values.now place) }
+    ensures within { (count : ℕ) → All (RefersWithin count) values.now → IfOk result (RefersWithin count) }
 {
     match values.get(place as usize) {
         Some(value) => value.copy(),
@@ -41,7 +42,8 @@ fn copy_at(values: &[Value], place: u32) -> Result<Value, AllocError>
 
 /// A variable of the process; nil if there is none.
 fn copy_variable(state: &State, slot: u32) -> Result<Value, AllocError>
-    ensures { IfOk result (λ value. value ≡ variable state.now.held slot) }
+    ensures value { IfOk result (λ value. value ≡ variable state.now.held slot) }
+    ensures within { IfOk result (RefersWithin (length state.now.held.objects)) }
 {
     if slot as usize >= state.variables() {
         return Ok(Value::Nil);
@@ -51,7 +53,8 @@ fn copy_variable(state: &State, slot: u32) -> Result<Value, AllocError>
 
 /// A local of a frame; nil if there is none.
 fn copy_local(state: &State, frame: FrameId, slot: u32) -> Result<Value, AllocError>
-    ensures { IfOk result (λ value. value ≡ local state.now.held frame.0 slot) }
+    ensures value { IfOk result (λ value. value ≡ local state.now.held frame.0 slot) }
+    ensures within { IfOk result (RefersWithin (length state.now.held.objects)) }
 {
     if slot as usize >= state.locals(frame) {
         return Ok(Value::Nil);
@@ -61,7 +64,8 @@ fn copy_local(state: &State, frame: FrameId, slot: u32) -> Result<Value, AllocEr
 
 /// A field of an object; nil if there is none.
 fn copy_field(state: &State, r: u32, place: u32) -> Result<Value, AllocError>
-    ensures { IfOk result (λ value. value ≡ item state.now.held r place) }
+    ensures value { IfOk result (λ value. value ≡ item state.now.held r place) }
+    ensures within { IfOk result (RefersWithin (length state.now.held.objects)) }
 {
     if r >= state.objects() {
         return Ok(Value::Nil);
@@ -77,7 +81,8 @@ pub(crate) fn read(
     locals: &[Value],
     slot: Slot,
 ) -> Result<Value, AllocError>
-    ensures { IfOk result (λ value. value ≡ read (place_of site) slot (memory_at site state.now.held locals.now)) }
+    ensures within { All (RefersWithin (length state.now.held.objects)) locals.now → IfOk result (RefersWithin (length state.now.held.objects)) }
+    ensures value { IfOk result (λ value. value ≡ read (place_of site) slot (memory_at site state.now.held locals.now)) }
 {
     match (site, slot) {
         (Site::Process(frame), Slot::Local(i)) => copy_local(state, frame, i),

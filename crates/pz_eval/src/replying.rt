@@ -9,7 +9,7 @@ ghost use Rattle.pz_state.specs.References.{RefersWithin};
 ghost use Rattle.pz_classes.specs.Tables.{AreClasses};
 ghost use Rattle.pz_evaluation.specs.Steps as steps;
 ghost use Rattle.pz_eval.specs.Known.{AreKnown};
-ghost use Rattle.pz_eval.specs.devices.Replies.{method_found, Replies, ReplyWithin};
+ghost use Rattle.pz_eval.specs.devices.Replies.{method_found, Replies, ReplyWithin, UnlessAnswer};
 ghost use Rattle.pz_eval.specs.devices.Within.{RequestWithin};
 
 use crate::stop::Stop;
@@ -98,6 +98,7 @@ pub(crate) fn ask<'a>(
     ensures marks { state.new.marks ≡ state.old.marks }
     ensures count { length state.new.held.objects ≡ length state.old.held.objects }
     ensures within { IfOk result (ReplyWithin (length state.new.held.objects)) }
+    ensures same { IfOk result (UnlessAnswer (state.new ≡ state.old)) }
 {
     let name = request.selector.name.as_str().as_bytes();
     let arguments = request.arguments.as_slice();

@@ -27,3 +27,8 @@ Replies (Err (stop.Fault kind at)) x m = x ≡ answers (stops (fault kind at))
 abbrev pub ReplyWithin : ℕ → Reply → Type 0
 ReplyWithin count (reply.Answers y) = RefersWithin count y
 ReplyWithin count (reply.Runs r method) = r < count
+
+-- P holds, unless the receiver answers
+abbrev pub UnlessAnswer : Type 0 → Reply → Type 0
+UnlessAnswer P (reply.Answers y) = Unit {0}
+UnlessAnswer P (reply.Runs r method) = P

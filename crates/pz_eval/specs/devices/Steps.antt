@@ -7,6 +7,7 @@ use Rattle.pz_evaluation.specs.devices.Computed.{Reached, done, spent}
 use Rattle.pz_eval.specs.declared.stop.Stop.{Stop}
 use Rattle.pz_eval.specs.declared.stop.Stop.TheVariants as stop
 use Rattle.pz_eval.specs.declared.task.Control.{Control}
+use Rattle.pz_eval.specs.declared.task.Control.TheVariants as control
 use Rattle.pz_eval.specs.declared.task.Activation.{Activation}
 use Rattle.pz_eval.specs.declared.task.Finish.{Finish}
 use Rattle.pz_eval.specs.declared.task.Finish.TheVariants as finish
@@ -39,6 +40,10 @@ Tells (Err (stop.Fault kind at)) a m = a ≡ stops (fault kind at)
 abbrev pub Goes : (Control → Reached Value) → Result Control Stop → ℕ → Reached Value → Type 0
 Goes after (Ok c) r before = after c ≡ before
 Goes after (Err e) r before = Stops e before r
+
+abbrev pub given : Result Value Stop → Result Control Stop
+given (Ok y) = Ok (control.Give y)
+given (Err e) = Err e
 
 abbrev pub finished : Finish → Memory → Answer Value
 finished (finish.Value y) m = gives y m

@@ -3,7 +3,7 @@ use Rattle.pz_state.specs.Marks.{Seen}
 use Rattle.pz_state.specs.References.{RefersWithin}
 use Rattle.pz_prims.specs.declared.answer.Prim.{Prim}
 use Rattle.pz_prims.specs.Promises.{UnlessValue}
-use Rattle.pz_eval.proofs.Replied.{reply_value, reply_fault, reply_other, replies_same}
+use Rattle.pz_eval.proofs.Replied.{reply_value, reply_fault, reply_other, replies_same, unless_answer}
 use Rattle.pz_eval.proofs.replying.ask.Goals as goal
 
 pub returns-in-Value-clause-replies : goal.returns-in-Value-clause-replies
@@ -26,3 +26,8 @@ returns-in-Ok-clause-replies c m locals known =
     (sym (reply_other m c.args.request.now c.args.state.now c.prim.new.state locals c.as_bytes-name.result.now c.as_slice-arguments.result.now c.in_ok-value.field-0
     (c.as_bytes-name.ensures.value ∙ c.as_str.ensures) c.as_slice-arguments.ensures.value c.in_ok-value.ensures.answer c.in-Ok.count c.in-Other.is kept (omega (arith, c.in-Ok.ensures))))
     (c.class_reply.ensures.replies m locals known)
+
+pub returns-in-Ok-clause-same : goal.returns-in-Ok-clause-same
+returns-in-Ok-clause-same c =
+    let kept : c.prim.new.state ≡ c.args.state.now = subst (λ (x : Prim). UnlessValue (c.prim.new.state ≡ c.args.state.now) x) c.in-Other.is c.in_ok-value.ensures.kept in
+    unless_answer c.class_reply.result kept
