@@ -16,7 +16,7 @@ use Rattle.pz_eval.specs.declared.stop.Stop.TheVariants as stop
 use Rattle.pz_eval.specs.declared.task.Control.{Control}
 use Rattle.pz_eval.specs.declared.task.Task.{Task}
 use Rattle.pz_eval.specs.devices.Tasks.{resumed, pending_before, pending, meant}
-use Rattle.pz_eval.specs.devices.Steps.{Stops, Ticks, Tells, given, Goes}
+use Rattle.pz_eval.specs.devices.Steps.{Stops, Ticks, Tells, Counts, given, Goes}
 
 pub then_assoc : {A B C : Type 0} (x : Reached A) (f : A → Computation B) (g : B → Computation C) → and_then (and_then x f) g ≡ and_then x (λ y m r. and_then (f y m r) g)
 then_assoc (done (gives y m) r) f g = refl
@@ -77,3 +77,33 @@ given_goes model now p ks (Err (stop.Fault kind at)) result f m m1 u r u_is e h 
 
 pub one_left : (f : Computation Value) (m : Memory) (u r : ℕ) → u ≡ suc r → tick f m u ≡ f m r
 one_left f m u r e = ap (λ (n : ℕ). tick f m n) e
+
+pub told_goes : (model : ModelTree) (now : ℕ) (p : Place) (ks : List Task) (v : Result Value Stop) (result : Result Control Stop) (a : Answer Value) (m1 : Memory) (r : ℕ)
+    → result ≡ given v → Tells v a m1
+    → Goes (λ k. meant model now p ks k m1 r) result r (and_then (done a r) (pending model now p ks))
+told_goes model now p ks (Ok y) result a m1 r e h = rw (e, h) refl
+told_goes model now p ks (Err stop.NoMemory) result a m1 r e h = rw e tt
+told_goes model now p ks (Err stop.Spent) result a m1 r e h = absurd h
+told_goes model now p ks (Err (stop.Fault kind at)) result a m1 r e h = rw (e, h) refl
+
+-- an operator is applied after one unit
+pub tells_counts : (v : Result Value Stop) (a : Answer Value) (m : Memory) (u r : ℕ) → u ≡ suc r → Tells v a m → Counts v a m u r
+tells_counts (Ok y) a m u r e h = (e, h)
+tells_counts (Err stop.NoMemory) a m u r e h = tt
+tells_counts (Err stop.Spent) a m u r e h = absurd h
+tells_counts (Err (stop.Fault kind at)) a m u r e h = (e, h)
+
+pub tick_counts : (e : Stop) (a : Answer Value) (m : Memory) (u r : ℕ) → Ticks (Err e) u r → Counts (Err e) a m u r
+tick_counts stop.NoMemory a m u r h = absurd h
+tick_counts stop.Spent a m u r h = h
+tick_counts (stop.Fault kind at) a m u r h = absurd h
+
+pub counted_on : (z : Value) (f : Memory → Answer Value) (g : Value → Computation Value) (m m1 : Memory) (u r : ℕ) (next : Value → Computation Value) → Counts (Ok z) (f m) m1 u r
+    → and_then (g z m1 r) next ≡ and_then (tick (λ m2 r2. follow (f m2) r2 g) m u) next
+counted_on z f g m m1 u r next h = rw (h.0, h.1) refl
+
+pub counted_stops : (e : Stop) (f : Memory → Answer Value) (g : Value → Computation Value) (m m1 : Memory) (u r : ℕ) (next : Value → Computation Value) → Counts (Err e) (f m) m1 u r
+    → Stops e (and_then (tick (λ m2 r2. follow (f m2) r2 g) m u) next) r
+counted_stops stop.NoMemory f g m m1 u r next h = tt
+counted_stops stop.Spent f g m m1 u r next h = rw h refl
+counted_stops (stop.Fault kind at) f g m m1 u r next h = rw (h.0, h.1) refl

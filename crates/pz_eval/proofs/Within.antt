@@ -1,6 +1,6 @@
 -- References stay within what grows.
 use Rattle.std.proofs.Common.{◌≡◌, ℕ, ◌-◌, ◌<◌, ◌≤◌, Some, length, List, [], ◌∷◌, ◌++◌, sym, subst, arith}
-use Rattle.std.specs.Prelude.{All}
+use Rattle.std.specs.Prelude.{All, IfOk, Result, Ok, Err}
 use Rattle.std.specs.List.{slice_index_or}
 use Rattle.std.proofs.lemmas.List.Elements.{All-nil, All-cons, All-append, All-replicate, All-pop}
 use Rattle.pz_value.specs.declared.value.Value.{Value}
@@ -13,7 +13,10 @@ use Rattle.pz_eval.specs.declared.task.Task.TheVariants as task
 use Rattle.pz_eval.specs.declared.task.Site.{Site}
 use Rattle.pz_eval.specs.declared.task.Site.TheVariants as site
 use Rattle.pz_eval.specs.declared.task.Activation.{Activation}
-use Rattle.pz_eval.specs.devices.Within.{RequestWithin, TaskWithin, SiteWithin, ActivationWithin}
+use Rattle.pz_eval.specs.declared.stop.Stop.{Stop}
+use Rattle.pz_eval.specs.declared.task.Control.{Control}
+use Rattle.pz_eval.specs.devices.Steps.{given}
+use Rattle.pz_eval.specs.devices.Within.{RequestWithin, TaskWithin, SiteWithin, ControlWithin, ActivationWithin}
 
 pub all_wider : {X : Type 0} (P Q : X → Type 0) (xs : List X) → ((x : X) → P x → Q x) → All P xs → All Q xs
 all_wider P Q xs wider all i d below = wider (slice_index_or xs i d) (all i d below)
@@ -82,3 +85,7 @@ site_within count o s e below = rw e below
 -- the latest of a list, and those before it
 pub all_pop : {X : Type 0} (P : X → Type 0) (xs ys : List X) (x : X) → xs ≡ ys ++ x ∷ [] → All P xs → All P ys × P x
 all_pop P xs ys x e all = All-pop P xs ys (Some x) e all
+
+pub given_within : (v : Result Value Stop) (result : Result Control Stop) (count : ℕ) → result ≡ given v → IfOk v (RefersWithin count) → IfOk result (ControlWithin count)
+given_within (Ok y) result count e h = rw e h
+given_within (Err stop) result count e h = rw e tt

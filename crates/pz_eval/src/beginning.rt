@@ -83,7 +83,7 @@ fn give_time<'a>(clock: u128, units: &mut u64, at: Pos) -> Result<Control<'a>, S
 }
 
 /// A value is given, if there is one.
-fn give<'a>(value: Result<Value, Stop>) -> Result<Control<'a>, Stop>
+pub(crate) fn give<'a>(value: Result<Value, Stop>) -> Result<Control<'a>, Stop>
     ensures { result ≡ given value }
 {
     match value {

@@ -89,7 +89,6 @@ fn call<'a>(
 
 /// A receiver does what it does with a selector: it answers, and the selectors behind go on, or a method
 /// of it begins.
-#[tactic(none)]
 fn deliver<'a>(
     setting: Setting<'a>,
     state: &mut State,
@@ -121,7 +120,6 @@ fn deliver<'a>(
 }
 
 /// A selector is sent to its receiver, which counts one unit.
-#[tactic(none)]
 pub(crate) fn send<'a>(
     setting: Setting<'a>,
     state: &mut State,

@@ -13,10 +13,11 @@ ghost use Rattle.pz_evaluation.specs.devices.Computed.{done, and_then, follow, t
 ghost use Rattle.pz_eval.specs.declared.task.Task.{Task as Tasks};
 ghost use Rattle.pz_eval.specs.devices.Sites.{place_of, memory_at};
 ghost use Rattle.pz_eval.specs.devices.Tasks.{links_view, sendings_view, sent, resumed, pending, meant};
-ghost use Rattle.pz_eval.specs.devices.Steps.{Goes};
+ghost use Rattle.pz_eval.specs.devices.Steps.{Counts, Goes};
 ghost use Rattle.pz_eval.specs.devices.Within.{RequestWithin, TaskWithin, ControlWithin, ActivationWithin};
 
 use crate::choosing::{choose, turn_or_end};
+use crate::beginning::give;
 use crate::continuing::{
     go_on_arguments, go_on_list, go_on_operators, go_on_selectors, go_on_turns,
 };
@@ -32,8 +33,30 @@ use pz_syntax::{Pos, Symbol};
 use pz_value::Value;
 use std::alloc::Global;
 
+/// What an operator between two values gives, which counts one unit.
+fn apply_counted(
+    alloc: Global,
+    state: &mut State,
+    units: &mut u64,
+    op: Symbol,
+    at: Pos,
+    left: &Value,
+    right: Value,
+) -> Result<Value, Stop>
+    requires left { RefersWithin (length state.old.held.objects) left.now }
+    requires right { RefersWithin (length state.old.held.objects) right }
+    ensures counts { (locals : List Values) → Counts result (steps.applied op at left.now right (record { state = state.old.held; locals = locals })) (record { state = state.new.held; locals = locals }) units.old units.new }
+    ensures marks { state.new.marks ≡ state.old.marks }
+    ensures count { length state.new.held.objects ≡ length state.old.held.objects }
+    ensures within { IfOk result (RefersWithin (length state.new.held.objects)) }
+{
+    match tick(units) {
+        Ok(()) => apply(alloc, state, op, at, left, &[right]),
+        Err(stop) => Err(stop),
+    }
+}
+
 /// An operator is applied, which counts one unit, and then those behind it.
-#[tactic(none)]
 fn operate<'a>(
     alloc: Global,
     state: &mut State,
@@ -53,14 +76,13 @@ fn operate<'a>(
     ensures count { length state.new.held.objects ≡ length state.old.held.objects }
     ensures within { IfOk result (λ c. All (TaskWithin (length state.old.held.objects)) tasks.old.items → All (TaskWithin (length state.new.held.objects)) tasks.new.items × ControlWithin (length state.new.held.objects) c) }
 {
-    tick(units)?;
-    let others = [right];
-    let value = apply(alloc, state, op, at, &left, &others)?;
-    go_on_operators(tasks, depth, value, rest)
+    match apply_counted(alloc, state, units, op, at, &left, right) {
+        Ok(value) => go_on_operators(tasks, depth, value, rest),
+        Err(stop) => Err(stop),
+    }
 }
 
 /// An operator before a value is applied.
-#[tactic(none)]
 fn operate_alone<'a>(
     alloc: Global,
     state: &mut State,
@@ -74,12 +96,10 @@ fn operate_alone<'a>(
     ensures count { length state.new.held.objects ≡ length state.old.held.objects }
     ensures within { IfOk result (ControlWithin (length state.new.held.objects)) }
 {
-    let value = apply(alloc, state, op, at, &operand, &[])?;
-    Ok(Control::Give(value))
+    give(apply(alloc, state, op, at, &operand, &[]))
 }
 
 /// A variable gets a value, which is that of the assignment.
-#[tactic(none)]
 fn assign<'a>(
     state: &mut State,
     activation: &mut Activation<'a>,
@@ -100,7 +120,6 @@ fn assign<'a>(
 }
 
 /// A value is the next argument of a selector.
-#[tactic(none)]
 fn take_argument<'a>(
     tasks: &mut Vec<Task<'a>>,
     mut request: Request<'a>,
@@ -115,7 +134,6 @@ fn take_argument<'a>(
 }
 
 /// A task of the method that runs is resumed with a value.
-#[tactic(none)]
 pub(crate) fn resume<'a>(
     setting: Setting<'a>,
     state: &mut State,
@@ -134,21 +152,20 @@ pub(crate) fn resume<'a>(
     ensures within { IfOk result (λ c. ActivationWithin (length state.new.held.objects) activation.new × ControlWithin (length state.new.held.objects) c) }
 {
     let alloc = setting.alloc;
-    let tasks = &mut activation.tasks;
     match task {
-        Task::Sequence { depth, rest } => go_on_list(tasks, depth, value, rest),
-        Task::Operators { depth, links } => go_on_operators(tasks, depth, value, links),
+        Task::Sequence { depth, rest } => go_on_list(&mut activation.tasks, depth, value, rest),
+        Task::Operators { depth, links } => go_on_operators(&mut activation.tasks, depth, value, links),
         Task::Operand {
             depth,
             left,
             op,
             at,
             rest,
-        } => operate(alloc, state, units, tasks, depth, op, at, left, value, rest),
+        } => operate(alloc, state, units, &mut activation.tasks, depth, op, at, left, value, rest),
         Task::Selectors { depth, sendings } => {
-            go_on_selectors(alloc, tasks, depth, value, sendings)
+            go_on_selectors(alloc, &mut activation.tasks, depth, value, sendings)
         }
-        Task::Argument { request, rest } => take_argument(tasks, request, rest, value),
+        Task::Argument { request, rest } => take_argument(&mut activation.tasks, request, rest, value),
         Task::Unary { op, at } => operate_alone(alloc, state, op, at, value),
         Task::Assign { slot } => assign(state, activation, slot, value),
         Task::Return => Ok(Control::Leave(value)),
@@ -157,18 +174,18 @@ pub(crate) fn resume<'a>(
             at,
             part,
             other,
-        } => choose(tasks, depth, at, part, other, value),
+        } => choose(&mut activation.tasks, depth, at, part, other, value),
         Task::Test {
             depth,
             at,
             test,
             body,
-        } => turn_or_end(tasks, depth, at, test, body, value),
+        } => turn_or_end(&mut activation.tasks, depth, at, test, body, value),
         Task::Turn {
             depth,
             at,
             test,
             body,
-        } => go_on_turns(units, tasks, depth, at, test, body),
+        } => go_on_turns(units, &mut activation.tasks, depth, at, test, body),
     }
 }

@@ -36,6 +36,13 @@ Tells (Err stop.NoMemory) a m = Unit {0}
 Tells (Err stop.Spent) a m = ⊥
 Tells (Err (stop.Fault kind at)) a m = a ≡ stops (fault kind at)
 
+-- the same, where one unit is counted first
+abbrev pub Counts : Result Value Stop → Answer Value → Memory → ℕ → ℕ → Type 0
+Counts (Ok y) a m u r = (u ≡ suc r) × (a ≡ gives y m)
+Counts (Err stop.NoMemory) a m u r = Unit {0}
+Counts (Err stop.Spent) a m u r = u ≡ 0
+Counts (Err (stop.Fault kind at)) a m u r = (u ≡ suc r) × (a ≡ stops (fault kind at))
+
 -- what the code does next comes to the same as what was to come
 abbrev pub Goes : (Control → Reached Value) → Result Control Stop → ℕ → Reached Value → Type 0
 Goes after (Ok c) r before = after c ≡ before

@@ -35,8 +35,8 @@ returns-in-Ok-Runs-clause-goes c model r known =
     ∙ ap (λ (x : Reached Value). unwound model c.args.setting.clock c.args.callers.now.items (and_then x (pending model c.args.setting.clock (place_of c.args.activation.now.site) c.args.activation.now.tasks.items))) (sym (got_run model c.args.setting.clock c.args.request.depth c.args.request.receiver c.args.request.selector.now c.args.request.arguments.items (memory_at c.args.activation.now.site c.args.state.now.held c.args.activation.now.locals.items) r (λ z. selectors model c.args.setting.clock (evaluated model c.args.setting.clock c.args.request.depth) (place_of c.args.activation.now.site) z (sendings_view c.args.request.more.now)) c.in-Ok-Runs.object c.in-Ok-Runs.method.locals (list_view c.in-Ok-Runs.method.code.now) run)))
     (c.call.ensures.goes model c.args.setting.clock c.ask.new.state.held r)
 
-pub returns-in-Err-clause-goes : goal.returns-in-Err-clause-goes
-returns-in-Err-clause-goes c model r known =
+pub returns-clause-goes : goal.returns-clause-goes
+returns-clause-goes c model r known =
     stops_unwound model c.args.setting.clock c.in-Err.stop c.args.callers.now.items (and_then (and_then (replied model c.args.setting.clock (evaluated model c.args.setting.clock c.args.request.depth) (reply model c.args.request.receiver c.args.request.selector.now c.args.request.arguments.items (memory_at c.args.activation.now.site c.args.state.now.held c.args.activation.now.locals.items)) c.args.request.arguments.items (memory_at c.args.activation.now.site c.args.state.now.held c.args.activation.now.locals.items) r) (λ z. selectors model c.args.setting.clock (evaluated model c.args.setting.clock c.args.request.depth) (place_of c.args.activation.now.site) z (sendings_view c.args.request.more.now))) (pending model c.args.setting.clock (place_of c.args.activation.now.site) c.args.activation.now.tasks.items)) r
     (got_stop model c.args.setting.clock c.args.request.depth c.args.request.receiver c.args.request.selector.now c.args.request.arguments.items (memory_at c.args.activation.now.site c.args.state.now.held c.args.activation.now.locals.items) r (λ z. selectors model c.args.setting.clock (evaluated model c.args.setting.clock c.args.request.depth) (place_of c.args.activation.now.site) z (sendings_view c.args.request.more.now)) c.in-Err.stop (memory_at c.args.activation.now.site c.ask.new.state.held c.args.activation.now.locals.items) (pending model c.args.setting.clock (place_of c.args.activation.now.site) c.args.activation.now.tasks.items) (is_stop c.ask.result c.in-Err.stop (reply model c.args.request.receiver c.args.request.selector.now c.args.request.arguments.items (memory_at c.args.activation.now.site c.args.state.now.held c.args.activation.now.locals.items)) (memory_at c.args.activation.now.site c.ask.new.state.held c.args.activation.now.locals.items) c.in-Err.is (c.ask.ensures.replies model (locals_at c.args.activation.now.site c.args.activation.now.locals.items) known)))
 

@@ -23,6 +23,6 @@ returns-in-Ok-clause-goes c model known =
     (ap (λ (x : Reached Value). unwound model c.args.setting.clock c.args.callers.now.items (and_then x (pending model c.args.setting.clock (place_of c.args.activation.now.site) c.args.activation.now.tasks.items))) (sym (one_left (λ m r. and_then (replied model c.args.setting.clock (evaluated model c.args.setting.clock c.args.request.depth) (reply model c.args.request.receiver c.args.request.selector.now c.args.request.arguments.items m) c.args.request.arguments.items m r) (λ z. selectors model c.args.setting.clock (evaluated model c.args.setting.clock c.args.request.depth) (place_of c.args.activation.now.site) z (sendings_view c.args.request.more.now))) (memory_at c.args.activation.now.site c.args.state.now.held c.args.activation.now.locals.items) c.args.units.now c.tick.new.units c.in-Ok.ensures)))
     (c.deliver.ensures.goes model c.tick.new.units known)
 
-pub returns-in-Err-clause-goes : goal.returns-in-Err-clause-goes
-returns-in-Err-clause-goes c model known =
+pub returns-clause-goes : goal.returns-clause-goes
+returns-clause-goes c model known =
     tick_stops model c.args.setting.clock c.in-Err.stop c.args.callers.now.items (λ m r. and_then (replied model c.args.setting.clock (evaluated model c.args.setting.clock c.args.request.depth) (reply model c.args.request.receiver c.args.request.selector.now c.args.request.arguments.items m) c.args.request.arguments.items m r) (λ z. selectors model c.args.setting.clock (evaluated model c.args.setting.clock c.args.request.depth) (place_of c.args.activation.now.site) z (sendings_view c.args.request.more.now))) (memory_at c.args.activation.now.site c.args.state.now.held c.args.activation.now.locals.items) c.args.units.now c.tick.new.units (pending model c.args.setting.clock (place_of c.args.activation.now.site) c.args.activation.now.tasks.items) c.in-Err.ensures
