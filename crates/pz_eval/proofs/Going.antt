@@ -14,6 +14,7 @@ use Rattle.pz_evaluation.specs.devices.Computed.{Reached, done, spent, Computati
 use Rattle.pz_eval.specs.declared.stop.Stop.{Stop}
 use Rattle.pz_eval.specs.declared.stop.Stop.TheVariants as stop
 use Rattle.pz_eval.specs.declared.task.Control.{Control}
+use Rattle.pz_eval.specs.declared.task.Control.TheVariants as control
 use Rattle.pz_eval.specs.declared.task.Task.{Task}
 use Rattle.pz_eval.specs.devices.Tasks.{resumed, pending_before, pending, meant}
 use Rattle.pz_eval.specs.devices.Steps.{Stops, Ticks, Tells, Counts, given, Goes}
@@ -65,6 +66,16 @@ module _ (model : ModelTree) (now : ℕ) (p : Place) where
   pending_pop y m r k ks ks1 e =
       ap (λ (js : List Task). pending model now p js y m r) e
       ∙ ap (λ (f : Value → Computation Value). f y m r) (pending_push (λ z m1 r1. done (gives z m1) r1) ks k)
+
+-- nothing is left to do
+pub given_none : (model : ModelTree) (now : ℕ) (p : Place) (k : Control) (y : Value) (ks : List Task) (m : Memory) (r : ℕ) → k ≡ control.Give y → ks ≡ [] → done (gives y m) r ≡ meant model now p ks k m r
+unfolding pending_before
+given_none model now p k y ks m r e f = rw (e, f) refl
+
+-- the latest task is left to do
+pub given_some : (model : ModelTree) (now : ℕ) (p : Place) (j : Control) (y : Value) (k : Task) (ks ks1 : List Task) (m : Memory) (r : ℕ) → j ≡ control.Give y → ks1 ≡ ks ++ k ∷ []
+    → and_then (resumed model now p k y m r) (pending model now p ks) ≡ meant model now p ks1 j m r
+given_some model now p j y k ks ks1 m r e f = sym (ap (λ (x : Control). meant model now p ks1 x m r) e ∙ pending_pop model now p y m r k ks ks1 f)
 
 -- a value is given after one unit
 pub given_goes : (model : ModelTree) (now : ℕ) (p : Place) (ks : List Task) (v : Result Value Stop) (result : Result Control Stop) (f : Memory → Answer Value) (m m1 : Memory) (u r : ℕ)

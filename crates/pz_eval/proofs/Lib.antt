@@ -1,4 +1,5 @@
 pub mod Going
+pub mod Advancing
 pub mod Onward
 pub mod Forms
 pub mod Replied

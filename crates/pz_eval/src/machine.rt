@@ -28,7 +28,6 @@ use pz_state::{FrameId, State};
 use pz_value::Value;
 
 /// A value of a method that runs goes to its caller; where there is none, the evaluation is over.
-#[tactic(none)]
 fn give_back<'a>(
     activation: &mut Activation<'a>,
     callers: &mut Vec<Activation<'a>>,
@@ -46,7 +45,6 @@ fn give_back<'a>(
 }
 
 /// The result of a method goes to its caller; where there is none, the evaluation is over.
-#[tactic(none)]
 fn give_result<'a>(
     activation: &mut Activation<'a>,
     callers: &mut Vec<Activation<'a>>,
@@ -74,7 +72,6 @@ fn on<'a>(control: Result<Control<'a>, Stop>) -> Result<Progress<'a>, Stop>
 }
 
 /// One step. It says what is done next, or with what the evaluation ends.
-#[tactic(none)]
 fn advance<'a>(
     setting: Setting<'a>,
     state: &mut State,
@@ -110,7 +107,6 @@ fn advance<'a>(
 }
 
 /// Steps until the evaluation is over. More steps than 64 bits number are taken for want of memory.
-#[tactic(none)]
 fn run<'a>(
     setting: Setting<'a>,
     state: &mut State,
@@ -130,9 +126,10 @@ fn run<'a>(
 {
     let mut control = first;
     for _step in 0..u64::MAX {
-        match advance(setting, state, units, activation, callers, control)? {
-            Progress::On(next) => control = next,
-            Progress::Over(finish) => return Ok(finish),
+        match advance(setting, state, units, activation, callers, control) {
+            Ok(Progress::On(next)) => control = next,
+            Ok(Progress::Over(finish)) => return Ok(finish),
+            Err(stop) => return Err(stop),
         }
     }
     Err(Stop::NoMemory)
@@ -140,7 +137,6 @@ fn run<'a>(
 
 /// Evaluates an expression of a method of the process whose locals are those of this frame. Units are
 /// counted down; effects stay, whatever comes of it.
-#[tactic(none)]
 pub(crate) fn evaluate(
     setting: Setting<'_>,
     state: &mut State,
