@@ -6,3 +6,5 @@ pub mod Replied
 pub mod Unwinding
 pub mod Absent
 pub mod Within
+pub mod Gathering
+pub mod Finding

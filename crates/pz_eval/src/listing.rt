@@ -48,9 +48,10 @@ pub(crate) fn evaluate_list(
 {
     let mut values = Items::new(setting.alloc);
     for code in codes {
-        match evaluate(setting, state, units, frame, depth, code)? {
-            Finish::Value(value) => values.push(value)?,
-            Finish::Return(value) => return Ok(only(setting.alloc, value)?),
+        match evaluate(setting, state, units, frame, depth, code) {
+            Ok(Finish::Value(value)) => values.push(value)?,
+            Ok(Finish::Return(value)) => return Ok(only(setting.alloc, value)?),
+            Err(stop) => return Err(stop),
         }
     }
     Ok(values)

@@ -121,6 +121,7 @@ fn run<'a>(
     requires callers { callers.old.items ≡ [] }
     ensures goes { (model : ModelTree) → AreClasses model setting.entry.classes.now → Finishes result (memory_at activation.new.site state.new.held activation.new.locals.items) units.new (meant model setting.entry.clock (place_of activation.old.site) activation.old.tasks.items first.entry (memory_at activation.old.site state.old.held activation.old.locals.items) units.old) }
     ensures marks { state.new.marks ≡ state.old.marks }
+    ensures count { length state.old.held.objects ≤ length state.new.held.objects }
     ensures place { OnOk result (place_of activation.new.site ≡ place_of activation.old.site) }
     ensures within { IfOk result (FinishWithin (length state.new.held.objects)) }
 {
@@ -148,6 +149,7 @@ pub(crate) fn evaluate(
     requires { AreKnown setting.classes.now }
     ensures goes { (model : ModelTree) → AreClasses model setting.entry.classes.now → Finishes result (outside state.new.held) units.new (evaluated model setting.entry.clock depth (in_process frame.0) (view code.now) (outside state.old.held) units.old) }
     ensures marks { state.new.marks ≡ state.old.marks }
+    ensures count { length state.old.held.objects ≤ length state.new.held.objects }
     ensures within { IfOk result (FinishWithin (length state.new.held.objects)) }
 {
     let mut activation = Activation {

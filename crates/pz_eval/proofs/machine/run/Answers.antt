@@ -1,4 +1,4 @@
-use Rattle.std.proofs.Common.{◌≡◌, List, [], Result, Ok, length, refl, sym, ap, subst, ◌∙◌}
+use Rattle.std.proofs.Common.{◌≡◌, List, [], Result, Ok, length, refl, sym, ap, subst, ◌∙◌, arith}
 use Rattle.std.specs.Prelude.{All}
 use Rattle.pz_value.specs.declared.value.Value.{Value}
 use Rattle.pz_evaluation.specs.devices.Computed.{Reached}
@@ -18,6 +18,7 @@ pub loop-step-init : goal.loop-step-init
 loop-step-init c = record {
   goes = λ model known. unwound_none model c.args.setting.clock c.args.callers.now.items (meant model c.args.setting.clock (place_of c.args.activation.now.site) c.args.activation.now.tasks.items c.args.first (memory_at c.args.activation.now.site c.args.state.now.held c.args.activation.now.locals.items) c.args.units.now) c.requires.callers;
   marks = refl;
+  count = omega arith;
   place = ap (λ (cs : List Activation). root cs (place_of c.args.activation.now.site)) c.requires.callers;
   control = c.requires.control;
   within = c.requires.within;
@@ -40,6 +41,7 @@ loop-step-preserved c =
     record {
       goes = λ model known. went_next c.advance.result (λ k. unwound model c.args.setting.clock c.advance.new.callers.items (meant model c.args.setting.clock (place_of c.advance.new.activation.site) c.advance.new.activation.tasks.items k (memory_at c.advance.new.activation.site c.advance.new.state.held c.advance.new.activation.locals.items) c.advance.new.units)) (memory_at c.advance.new.activation.site c.advance.new.state.held c.advance.new.activation.locals.items) c.advance.new.units (unwound model c.args.setting.clock c.loop-step.callers.items (meant model c.args.setting.clock (place_of c.loop-step.activation.site) c.loop-step.activation.tasks.items c.loop-step.control (memory_at c.loop-step.activation.site c.loop-step.state.held c.loop-step.activation.locals.items) c.loop-step.units)) c.in-Ok-On.next is (c.advance.ensures.goes model known) ∙ c.loop-step.invariant.goes model known;
       marks = c.advance.ensures.marks ∙ c.loop-step.invariant.marks;
+      count = omega (arith, c.advance.ensures.count, c.loop-step.invariant.count);
       place = root_kept c.advance.result (root c.advance.new.callers.items (place_of c.advance.new.activation.site) ≡ root c.loop-step.callers.items (place_of c.loop-step.activation.site)) (progress.On c.in-Ok-On.next) is c.advance.ensures.root ∙ c.loop-step.invariant.place;
       control = kept.2;
       within = kept.1;
@@ -77,3 +79,12 @@ returns-in-Err-clause-marks c = c.advance.ensures.marks ∙ c.loop-step.invarian
 
 pub returns-clause-marks : goal.returns-clause-marks
 returns-clause-marks c = c.loop-step.invariant.marks
+
+pub returns-in-Ok-Over-clause-count : goal.returns-in-Ok-Over-clause-count
+returns-in-Ok-Over-clause-count c = omega (arith, c.advance.ensures.count, c.loop-step.invariant.count)
+
+pub returns-in-Err-clause-count : goal.returns-in-Err-clause-count
+returns-in-Err-clause-count c = omega (arith, c.advance.ensures.count, c.loop-step.invariant.count)
+
+pub returns-clause-count : goal.returns-clause-count
+returns-clause-count c = c.loop-step.invariant.count
