@@ -62,5 +62,5 @@ module _ (model : ModelTree) (now d : ℕ) (p : Place) (codes : List Code) where
       → arguments model now (evaluated model now d) p ys (list_view (drop i codes)) (outside s) r ≡ all → Gathers (Ok ys) s r all
   unfolding arguments
   all_gathered ys i s r all past whole =
-      let all_is : all ≡ done (gives ys (outside s)) r = sym whole ∙ ap (λ (cs : List Code). arguments model now (evaluated model now d) p ys (list_view cs) (outside s) r) (drop_all codes i past) in
+      let all_is : all ≡ done (gives ys (outside s)) r = sym whole ∙ ap (λ (cs : List Code). arguments model now (evaluated model now d) p ys (list_view cs) (outside s) r) (drop_all i codes past) in
       subst (λ (x : Reached (List Value)). Gathers (Ok ys) s r x) (sym all_is) (refl, λ before. refl)

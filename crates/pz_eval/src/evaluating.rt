@@ -55,7 +55,6 @@ fn listed_of(stop: Stop) -> Result<Listed, AllocError>
 /// Evaluates an expression of a method of a process whose locals are those of this frame. Effects stay
 /// where a value is found; after anything else the state is as before. The only error is want of
 /// memory.
-#[tactic(none)]
 pub fn eval(
     alloc: Global,
     classes: &Classes,
@@ -94,7 +93,6 @@ pub fn eval(
 
 /// What an expression comes to, with no effect: the state is as before, always. The only error is want
 /// of memory.
-#[tactic(none)]
 pub fn try_eval(
     alloc: Global,
     classes: &Classes,
@@ -126,7 +124,6 @@ pub fn try_eval(
 
 /// Evaluates expressions from left to right, as one evaluation with one allowance. Effects stay where
 /// there are values; after anything else the state is as before. The only error is want of memory.
-#[tactic(none)]
 pub fn eval_list(
     alloc: Global,
     classes: &Classes,

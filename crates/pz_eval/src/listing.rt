@@ -32,7 +32,6 @@ fn only(alloc: Global, value: Value) -> Result<Items<Value>, AllocError>
 
 /// Evaluates expressions of a method of the process from left to right, as one evaluation. Effects stay,
 /// whatever comes of it. A `return` is alone.
-#[tactic(none)]
 pub(crate) fn evaluate_list(
     setting: Setting<'_>,
     state: &mut State,
