@@ -8,3 +8,4 @@ pub mod Absent
 pub mod Within
 pub mod Gathering
 pub mod Finding
+pub mod Parceling

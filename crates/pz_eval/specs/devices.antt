@@ -5,3 +5,4 @@ pub mod Within
 pub mod Replies
 pub mod Lists
 pub mod Found
+pub mod Parceled

@@ -6,6 +6,7 @@ ghost use Rattle.pz_code.specs.CodeView.{list_view};
 ghost use Rattle.pz_classes.specs.Tables.{AreClasses};
 ghost use Rattle.pz_eval.specs.Known.{AreKnown};
 ghost use Rattle.pz_eval.specs.Parcels.{FindsParcel};
+ghost use Rattle.pz_eval.specs.devices.Parceled.{parceled};
 
 use crate::evaluating::eval_list;
 use pz_classes::Classes;
@@ -26,8 +27,17 @@ pub enum Parceled {
     Spent,
 }
 
+/// The parcel is what is found. The only error is want of memory.
+fn in_parcel(parcel: Result<Parcel, AllocError>) -> Result<Parceled, AllocError>
+    ensures { result ≡ parceled parcel }
+{
+    match parcel {
+        Ok(parcel) => Ok(Parceled::Parcel(parcel)),
+        Err(error) => Err(error),
+    }
+}
+
 /// The values that expressions come to in a parcel. Effects stay where there are values.
-#[tactic(none)]
 fn parcel_of(
     alloc: Global,
     classes: &Classes,
@@ -41,16 +51,16 @@ fn parcel_of(
     ensures finds { (m : ModelTree) → ∥ AreClasses m classes.now ∥₁ → IfOk result (FindsParcel m clock frame.0 state.old.held (list_view codes.now) allowance) }
     ensures marks { state.new.marks ≡ state.old.marks }
 {
-    match eval_list(alloc, classes, state, frame, clock, codes, allowance)? {
-        Listed::Values(values) => Ok(Parceled::Parcel(pack(alloc, state, values.as_slice())?)),
-        Listed::Fault(kind, at) => Ok(Parceled::Fault(kind, at)),
-        Listed::Spent => Ok(Parceled::Spent),
+    match eval_list(alloc, classes, state, frame, clock, codes, allowance) {
+        Ok(Listed::Values(values)) => in_parcel(pack(alloc, state, values.as_slice())),
+        Ok(Listed::Fault(kind, at)) => Ok(Parceled::Fault(kind, at)),
+        Ok(Listed::Spent) => Ok(Parceled::Spent),
+        Err(error) => Err(error),
     }
 }
 
 /// The parcel of the values that expressions come to, with no effect: the state is as before, always.
 /// The only error is want of memory.
-#[tactic(none)]
 pub fn try_parcel(
     alloc: Global,
     classes: &Classes,
