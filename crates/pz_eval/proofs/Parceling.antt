@@ -38,12 +38,12 @@ module _ (model : ModelTree) (now frame : ℕ) (s : StateView) (ts : Codes) (all
   found_parcel ys zs (Err error) result e same found h = rw e tt
 
 -- the next pair
-pub next_set : (frame : ℕ) (xs : List Slot) (ys : List Value) (i : ℕ) (x : Slot) (y z : Value) (s s1 : StateView) → i < length xs → i < length ys → x ≡ get_or xs i x → z ≡ get_or ys i z → y ≡ z → s1 ≡ set_slot frame x y s
+pub next_set : (frame : ℕ) (xs : List Slot) (ys : List Value) (i : ℕ) (d : Slot) (y z : Value) (s s1 : StateView) → i < length xs → i < length ys → z ≡ get_or ys i z → y ≡ z → s1 ≡ set_slot frame (get_or xs i d) y s
     → set_slots frame (drop (i + 1) xs) (drop (i + 1) ys) s1 ≡ set_slots frame (drop i xs) (drop i ys) s
-next_set frame xs ys i x y z s s1 in_xs in_ys x_is z_is y_is e =
+next_set frame xs ys i d y z s s1 in_xs in_ys z_is y_is e =
     ap (λ (t : StateView). set_slots frame (drop (i + 1) xs) (drop (i + 1) ys) t) e
-    ∙ sym (ap (λ (ps : List Slot). set_slots frame ps (drop i ys) s) (drop_more xs i x in_xs ∙ ap (λ (p : Slot). p ∷ drop (i + 1) xs) (sym x_is))
-    ∙ ap (λ (vs : List Value). set_slots frame (x ∷ drop (i + 1) xs) vs s) (drop_more ys i z in_ys ∙ ap (λ (v : Value). v ∷ drop (i + 1) ys) (sym z_is ∙ sym y_is)))
+    ∙ sym (ap (λ (ps : List Slot). set_slots frame ps (drop i ys) s) (drop_more xs i d in_xs)
+    ∙ ap (λ (vs : List Value). set_slots frame (get_or xs i d ∷ drop (i + 1) xs) vs s) (drop_more ys i z in_ys ∙ ap (λ (v : Value). v ∷ drop (i + 1) ys) (sym z_is ∙ sym y_is)))
 
 no_values_left : (frame : ℕ) (xs : List Slot) (s : StateView) → set_slots frame xs [] s ≡ s
 no_values_left frame [] s = refl
@@ -56,10 +56,13 @@ pub no_values_more : (frame : ℕ) (xs : List Slot) (ys : List Value) (i : ℕ) 
 no_values_more frame xs ys i s past = ap (λ (vs : List Value). set_slots frame (drop i xs) vs s) (drop_all i ys past) ∙ no_values_left frame (drop i xs) s
 
 -- no write makes or removes an object
-pub objects_kept : (frame : ℕ) (x : Slot) (y : Value) (s : StateView) → length (set_slot frame x y s).objects ≡ length s.objects
+objects_kept : (frame : ℕ) (x : Slot) (y : Value) (s : StateView) → length (set_slot frame x y s).objects ≡ length s.objects
 objects_kept frame (Local i) y s = refl
 objects_kept frame (Shared i) y s = refl
 objects_kept frame Unknown y s = refl
+
+pub count_stays : (frame : ℕ) (xs : List Slot) (i : ℕ) (d : Slot) (y : Value) (s s1 : StateView) → s1 ≡ set_slot frame (get_or xs i d) y s → length s1.objects ≡ length s.objects
+count_stays frame xs i d y s s1 e = ap (λ (t : StateView). length t.objects) e ∙ objects_kept frame (get_or xs i d) y s
 
 pub bound_changed : (frame : ℕ) (xs : List Slot) (s0 s1 s2 : Seen) (u : StateView) (vs ws : List Value) → s1 ≡ changed s0 u → vs ≡ ws → s2 ≡ changed s1 (set_slots frame xs vs s1.held) → s2 ≡ changed s0 (set_slots frame xs ws u)
 bound_changed frame xs s0 s1 s2 u vs ws e h g =

@@ -64,8 +64,9 @@ fn set_slots(
     ensures marks { state.new.marks ≡ state.old.marks }
 {
     for i in 0..pairs(into, values) {
+        let slot = &into[i];
         let value = values[i].copy()?;
-        set_slot(state, frame, &into[i], value)?;
+        set_slot(state, frame, slot, value)?;
     }
     Ok(())
 }

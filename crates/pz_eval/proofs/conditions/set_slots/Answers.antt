@@ -4,7 +4,7 @@ use Rattle.pz_state.specs.States.{StateView}
 use Rattle.pz_state.specs.Marks.{Seen, changed}
 use Rattle.pz_state.specs.References.{RefersWithin}
 use Rattle.pz_eval.specs.Binding.{set_slot, set_slots}
-use Rattle.pz_eval.proofs.Parceling.{next_set, no_pairs, objects_kept}
+use Rattle.pz_eval.proofs.Parceling.{next_set, no_pairs, count_stays}
 use Rattle.pz_eval.proofs.conditions.set_slots.Goals as goal
 
 pub loop-i-init : goal.loop-i-init
@@ -24,13 +24,13 @@ returns-in_err-set_slot-clause-marks c = c.set_slot.ensures.marks ∙ c.loop-i.i
 
 pub loop-i-preserved : goal.loop-i-preserved
 loop-i-preserved c =
-    let held : c.set_slot.new.state.held ≡ set_slot c.args.frame.0 c.index-into-i.result c.in_ok-value.value c.loop-i.state.held = ap (λ (t : Seen). t.held) c.in_ok-set_slot.ensures.ok in
+    let held = ap (λ (t : Seen). t.held) c.in_ok-set_slot.ensures.ok in
     record {
-      set = next_set c.args.frame.0 c.args.into.now c.args.values.now c.loop-i.i c.index-into-i.result c.in_ok-value.value c.index-values-i.result c.loop-i.state.held c.set_slot.new.state.held
-          (omega (arith, c.loop-i-test.true, c.pairs-i-end.ensures.into)) (omega (arith, c.loop-i-test.true, c.pairs-i-end.ensures.values)) c.index-into-i.is c.index-values-i.is c.in_ok-value.ensures held
+      set = next_set c.args.frame.0 c.args.into.now c.args.values.now c.loop-i.i _ c.in_ok-value.value c.index-values-i.result c.loop-i.state.held c.set_slot.new.state.held
+          (omega (arith, c.loop-i-test.true, c.pairs-i-end.ensures.into)) (omega (arith, c.loop-i-test.true, c.pairs-i-end.ensures.values)) c.index-values-i.is c.in_ok-value.ensures held
           ∙ c.loop-i.invariant.set;
       marks = c.set_slot.ensures.marks ∙ c.loop-i.invariant.marks;
-      count = ap (λ (s : StateView). length s.objects) held ∙ objects_kept c.args.frame.0 c.index-into-i.result c.in_ok-value.value c.loop-i.state.held ∙ c.loop-i.invariant.count;
+      count = count_stays c.args.frame.0 c.args.into.now c.loop-i.i _ c.in_ok-value.value c.loop-i.state.held c.set_slot.new.state.held held ∙ c.loop-i.invariant.count;
     }
 
 pub returns-clause-ok : goal.returns-clause-ok
