@@ -1,0 +1,11 @@
+pub mod Going
+pub mod Advancing
+pub mod Onward
+pub mod Forms
+pub mod Replied
+pub mod Unwinding
+pub mod Absent
+pub mod Within
+pub mod Gathering
+pub mod Finding
+pub mod Parceling

@@ -1,0 +1,19 @@
+use Rattle.std.proofs.Common.{◌≡◌, ℕ, [], length, drop}
+use Rattle.std.specs.Prelude.{All}
+use Rattle.pz_syntax.specs.Classes.{ModelTree}
+use Rattle.pz_code.specs.CodeView.{list_view}
+use Rattle.pz_state.specs.References.{RefersWithin}
+use Rattle.pz_classes.specs.Tables.{AreClasses}
+use Rattle.pz_evaluation.specs.Memories.{in_process}
+use Rattle.pz_evaluation.specs.Outcomes.{outside}
+use Rattle.pz_evaluation.specs.devices.Computed.{arguments, evaluated}
+use Rattle.pz_eval.proofs.listing.evaluate_list.Given as goal
+
+abbrev pub invariant-loop-code : goal.invariant-loop-code
+invariant-loop-code l = record {
+  gathers : (model : ModelTree) → AreClasses model l.fn.setting.classes.now
+      → arguments model l.fn.setting.clock (evaluated model l.fn.setting.clock l.depth) (in_process l.frame.0) l.values (list_view (drop l.code-index l.codes)) (outside l.state.held) l.units
+      ≡ arguments model l.fn.setting.clock (evaluated model l.fn.setting.clock l.depth) (in_process l.frame.0) [] (list_view l.codes) (outside l.fn.state.held) l.fn.units;
+  marks : l.state.marks ≡ l.fn.state.marks;
+  within : All (RefersWithin (length l.state.held.objects)) l.values;
+}

@@ -1,0 +1,24 @@
+use Rattle.std.proofs.Common.{◌≡◌, sym, subst, ℕ, List, length}
+use Rattle.std.specs.Prelude.{All}
+use Rattle.std.proofs.lemmas.Result.{IfOk-weaker}
+use Rattle.pz_evaluation.specs.Steps.{applied}
+use Rattle.pz_evaluation.specs.devices.Computed.{and_then, operators, evaluated}
+use Rattle.pz_eval.specs.devices.Tasks.{links_view, pending, meant}
+use Rattle.pz_eval.specs.devices.Within.{TaskWithin}
+use Rattle.pz_eval.proofs.Going.{goes_same, counted_on, counted_stops}
+use Rattle.pz_eval.proofs.resuming.operate.Goals as goal
+
+pub returns-in-Ok-clause-goes : goal.returns-in-Ok-clause-goes
+returns-in-Ok-clause-goes c model now p locals =
+    goes_same (λ k. meant model now p c.go_on_operators.new.tasks.items k (record { state = c.apply_counted.new.state.held; locals = locals }) c.apply_counted.new.units) c.go_on_operators.result c.apply_counted.new.units
+    (counted_on c.in-Ok.value (applied c.args.op c.args.at c.args.left c.args.right) (λ z. operators model now (evaluated model now c.args.depth) p z (links_view c.args.rest.now)) (record { state = c.args.state.now.held; locals = locals }) (record { state = c.apply_counted.new.state.held; locals = locals }) c.args.units.now c.apply_counted.new.units (pending model now p c.args.tasks.now.items) (c.in-Ok.ensures.counts locals))
+    (c.go_on_operators.ensures.goes model now p (record { state = c.apply_counted.new.state.held; locals = locals }) c.apply_counted.new.units)
+
+pub returns-clause-goes : goal.returns-clause-goes
+returns-clause-goes c model now p locals =
+    counted_stops c.in-Err.stop (applied c.args.op c.args.at c.args.left c.args.right) (λ z. operators model now (evaluated model now c.args.depth) p z (links_view c.args.rest.now)) (record { state = c.args.state.now.held; locals = locals }) (record { state = c.apply_counted.new.state.held; locals = locals }) c.args.units.now c.apply_counted.new.units (pending model now p c.args.tasks.now.items) (c.in-Err.ensures.counts locals)
+
+pub returns-in-Ok-clause-within : goal.returns-in-Ok-clause-within
+returns-in-Ok-clause-within c =
+    IfOk-weaker c.go_on_operators.result _ _
+    (λ k kept all. kept (length c.apply_counted.new.state.held.objects) c.in-Ok.ensures.within (subst (λ (n : ℕ). All (TaskWithin n) c.args.tasks.now.items) (sym c.apply_counted.ensures.count) all)) c.go_on_operators.ensures.within

@@ -1,0 +1,135 @@
+use Rattle.std.proofs.Common.{◌≡◌, ap, sym, subst, ℕ, List, length}
+use Rattle.std.specs.Prelude.{All}
+use Rattle.std.proofs.lemmas.Result.{IfOk-weaker}
+use Rattle.pz_value.specs.declared.value.Value.{Value}
+use Rattle.pz_state.specs.References.{RefersWithin}
+use Rattle.pz_evaluation.specs.devices.Computed.{and_then}
+use Rattle.pz_eval.specs.declared.task.Task.{Task}
+use Rattle.pz_eval.specs.devices.Sites.{place_of, locals_at, memory_at}
+use Rattle.pz_eval.specs.devices.Tasks.{resumed, pending, meant}
+use Rattle.pz_eval.specs.devices.Within.{SiteWithin, TaskWithin}
+use Rattle.pz_eval.proofs.Going.{goes_same}
+use Rattle.pz_eval.proofs.resuming.resume.Goals as goal
+
+pub returns-in-Sequence-clause-goes : goal.returns-in-Sequence-clause-goes
+returns-in-Sequence-clause-goes c model now =
+    goes_same (λ k. meant model now (place_of c.args.activation.now.site) c.go_on_list.new.tasks.items k (memory_at c.args.activation.now.site c.args.state.now.held c.args.activation.now.locals.items) c.args.units.now) c.go_on_list.result c.args.units.now
+    (sym (ap (λ (j : Task). and_then (resumed model now (place_of c.args.activation.now.site) j c.args.value (memory_at c.args.activation.now.site c.args.state.now.held c.args.activation.now.locals.items) c.args.units.now) (pending model now (place_of c.args.activation.now.site) c.args.activation.now.tasks.items)) c.in-Sequence.is))
+    (c.go_on_list.ensures.goes model now (place_of c.args.activation.now.site) (memory_at c.args.activation.now.site c.args.state.now.held c.args.activation.now.locals.items) c.args.units.now)
+
+pub returns-in-Sequence-clause-within : goal.returns-in-Sequence-clause-within
+returns-in-Sequence-clause-within c =
+    IfOk-weaker c.go_on_list.result _ _
+    (λ k kept. let tasks = kept (length c.args.state.now.held.objects) c.requires.value c.requires.within.tasks in (record { site = c.requires.within.site; locals = c.requires.within.locals; tasks = tasks.0 }, tasks.1)) c.go_on_list.ensures.within
+
+pub returns-in-Operators-clause-goes : goal.returns-in-Operators-clause-goes
+returns-in-Operators-clause-goes c model now =
+    goes_same (λ k. meant model now (place_of c.args.activation.now.site) c.go_on_operators.new.tasks.items k (memory_at c.args.activation.now.site c.args.state.now.held c.args.activation.now.locals.items) c.args.units.now) c.go_on_operators.result c.args.units.now
+    (sym (ap (λ (j : Task). and_then (resumed model now (place_of c.args.activation.now.site) j c.args.value (memory_at c.args.activation.now.site c.args.state.now.held c.args.activation.now.locals.items) c.args.units.now) (pending model now (place_of c.args.activation.now.site) c.args.activation.now.tasks.items)) c.in-Operators.is))
+    (c.go_on_operators.ensures.goes model now (place_of c.args.activation.now.site) (memory_at c.args.activation.now.site c.args.state.now.held c.args.activation.now.locals.items) c.args.units.now)
+
+pub returns-in-Operators-clause-within : goal.returns-in-Operators-clause-within
+returns-in-Operators-clause-within c =
+    IfOk-weaker c.go_on_operators.result _ _
+    (λ k kept. let tasks = kept (length c.args.state.now.held.objects) c.requires.value c.requires.within.tasks in (record { site = c.requires.within.site; locals = c.requires.within.locals; tasks = tasks.0 }, tasks.1)) c.go_on_operators.ensures.within
+
+pub returns-in-Selectors-clause-goes : goal.returns-in-Selectors-clause-goes
+returns-in-Selectors-clause-goes c model now =
+    goes_same (λ k. meant model now (place_of c.args.activation.now.site) c.go_on_selectors.new.tasks.items k (memory_at c.args.activation.now.site c.args.state.now.held c.args.activation.now.locals.items) c.args.units.now) c.go_on_selectors.result c.args.units.now
+    (sym (ap (λ (j : Task). and_then (resumed model now (place_of c.args.activation.now.site) j c.args.value (memory_at c.args.activation.now.site c.args.state.now.held c.args.activation.now.locals.items) c.args.units.now) (pending model now (place_of c.args.activation.now.site) c.args.activation.now.tasks.items)) c.in-Selectors.is))
+    (c.go_on_selectors.ensures.goes model now (place_of c.args.activation.now.site) (memory_at c.args.activation.now.site c.args.state.now.held c.args.activation.now.locals.items) c.args.units.now)
+
+pub returns-in-Selectors-clause-within : goal.returns-in-Selectors-clause-within
+returns-in-Selectors-clause-within c =
+    IfOk-weaker c.go_on_selectors.result _ _
+    (λ k kept. let tasks = kept (length c.args.state.now.held.objects) c.requires.value c.requires.within.tasks in (record { site = c.requires.within.site; locals = c.requires.within.locals; tasks = tasks.0 }, tasks.1)) c.go_on_selectors.ensures.within
+
+pub returns-in-Argument-clause-goes : goal.returns-in-Argument-clause-goes
+returns-in-Argument-clause-goes c model now =
+    goes_same (λ k. meant model now (place_of c.args.activation.now.site) c.take_argument.new.tasks.items k (memory_at c.args.activation.now.site c.args.state.now.held c.args.activation.now.locals.items) c.args.units.now) c.take_argument.result c.args.units.now
+    (sym (ap (λ (j : Task). and_then (resumed model now (place_of c.args.activation.now.site) j c.args.value (memory_at c.args.activation.now.site c.args.state.now.held c.args.activation.now.locals.items) c.args.units.now) (pending model now (place_of c.args.activation.now.site) c.args.activation.now.tasks.items)) c.in-Argument.is))
+    (c.take_argument.ensures.goes model now (place_of c.args.activation.now.site) (memory_at c.args.activation.now.site c.args.state.now.held c.args.activation.now.locals.items) c.args.units.now)
+
+pub returns-in-Argument-clause-within : goal.returns-in-Argument-clause-within
+returns-in-Argument-clause-within c =
+    IfOk-weaker c.take_argument.result _ _
+    (λ k kept. let tasks = kept (length c.args.state.now.held.objects) (rw c.in-Argument.is at c.requires.task) c.requires.value c.requires.within.tasks in (record { site = c.requires.within.site; locals = c.requires.within.locals; tasks = tasks.0 }, tasks.1)) c.take_argument.ensures.within
+
+pub returns-in-If-clause-goes : goal.returns-in-If-clause-goes
+returns-in-If-clause-goes c model now =
+    goes_same (λ k. meant model now (place_of c.args.activation.now.site) c.choose.new.tasks.items k (memory_at c.args.activation.now.site c.args.state.now.held c.args.activation.now.locals.items) c.args.units.now) c.choose.result c.args.units.now
+    (sym (ap (λ (j : Task). and_then (resumed model now (place_of c.args.activation.now.site) j c.args.value (memory_at c.args.activation.now.site c.args.state.now.held c.args.activation.now.locals.items) c.args.units.now) (pending model now (place_of c.args.activation.now.site) c.args.activation.now.tasks.items)) c.in-If.is))
+    (c.choose.ensures.goes model now (place_of c.args.activation.now.site) (memory_at c.args.activation.now.site c.args.state.now.held c.args.activation.now.locals.items) c.args.units.now)
+
+pub returns-in-If-clause-within : goal.returns-in-If-clause-within
+returns-in-If-clause-within c =
+    IfOk-weaker c.choose.result _ _
+    (λ k kept. let tasks = kept (length c.args.state.now.held.objects) c.requires.within.tasks in (record { site = c.requires.within.site; locals = c.requires.within.locals; tasks = tasks.0 }, tasks.1)) c.choose.ensures.within
+
+pub returns-in-Test-clause-goes : goal.returns-in-Test-clause-goes
+returns-in-Test-clause-goes c model now =
+    goes_same (λ k. meant model now (place_of c.args.activation.now.site) c.turn_or_end.new.tasks.items k (memory_at c.args.activation.now.site c.args.state.now.held c.args.activation.now.locals.items) c.args.units.now) c.turn_or_end.result c.args.units.now
+    (sym (ap (λ (j : Task). and_then (resumed model now (place_of c.args.activation.now.site) j c.args.value (memory_at c.args.activation.now.site c.args.state.now.held c.args.activation.now.locals.items) c.args.units.now) (pending model now (place_of c.args.activation.now.site) c.args.activation.now.tasks.items)) c.in-Test.is))
+    (c.turn_or_end.ensures.goes model now (place_of c.args.activation.now.site) (memory_at c.args.activation.now.site c.args.state.now.held c.args.activation.now.locals.items) c.args.units.now)
+
+pub returns-in-Test-clause-within : goal.returns-in-Test-clause-within
+returns-in-Test-clause-within c =
+    IfOk-weaker c.turn_or_end.result _ _
+    (λ k kept. let tasks = kept (length c.args.state.now.held.objects) c.requires.within.tasks in (record { site = c.requires.within.site; locals = c.requires.within.locals; tasks = tasks.0 }, tasks.1)) c.turn_or_end.ensures.within
+
+pub returns-in-Operand-clause-goes : goal.returns-in-Operand-clause-goes
+returns-in-Operand-clause-goes c model now =
+    goes_same (λ k. meant model now (place_of c.args.activation.now.site) c.operate.new.tasks.items k (memory_at c.args.activation.now.site c.operate.new.state.held c.args.activation.now.locals.items) c.operate.new.units) c.operate.result c.operate.new.units
+    (sym (ap (λ (j : Task). and_then (resumed model now (place_of c.args.activation.now.site) j c.args.value (memory_at c.args.activation.now.site c.args.state.now.held c.args.activation.now.locals.items) c.args.units.now) (pending model now (place_of c.args.activation.now.site) c.args.activation.now.tasks.items)) c.in-Operand.is))
+    (c.operate.ensures.goes model now (place_of c.args.activation.now.site) (locals_at c.args.activation.now.site c.args.activation.now.locals.items))
+
+pub operate-requires-clause-left : goal.operate-requires-clause-left
+operate-requires-clause-left c = rw c.in-Operand.is at c.requires.task
+
+pub returns-in-Operand-clause-within : goal.returns-in-Operand-clause-within
+returns-in-Operand-clause-within c =
+    IfOk-weaker c.operate.result _ _
+    (λ k kept. let tasks = kept c.requires.within.tasks in
+    (record {
+      site = subst (λ (n : ℕ). SiteWithin n c.args.activation.now.site) (sym c.operate.ensures.count) c.requires.within.site;
+      locals = subst (λ (n : ℕ). All (RefersWithin n) c.args.activation.now.locals.items) (sym c.operate.ensures.count) c.requires.within.locals;
+      tasks = tasks.0;
+    }, tasks.1)) c.operate.ensures.within
+
+pub returns-in-Unary-clause-goes : goal.returns-in-Unary-clause-goes
+returns-in-Unary-clause-goes c model now =
+    goes_same (λ k. meant model now (place_of c.args.activation.now.site) c.args.activation.now.tasks.items k (memory_at c.args.activation.now.site c.operate_alone.new.state.held c.args.activation.now.locals.items) c.args.units.now) c.operate_alone.result c.args.units.now
+    (sym (ap (λ (j : Task). and_then (resumed model now (place_of c.args.activation.now.site) j c.args.value (memory_at c.args.activation.now.site c.args.state.now.held c.args.activation.now.locals.items) c.args.units.now) (pending model now (place_of c.args.activation.now.site) c.args.activation.now.tasks.items)) c.in-Unary.is))
+    (c.operate_alone.ensures.goes model now (place_of c.args.activation.now.site) c.args.activation.now.tasks.items (locals_at c.args.activation.now.site c.args.activation.now.locals.items) c.args.units.now)
+
+pub returns-in-Unary-clause-within : goal.returns-in-Unary-clause-within
+returns-in-Unary-clause-within c =
+    IfOk-weaker c.operate_alone.result _ _
+    (λ k here. (record {
+      site = subst (λ (n : ℕ). SiteWithin n c.args.activation.now.site) (sym c.operate_alone.ensures.count) c.requires.within.site;
+      locals = subst (λ (n : ℕ). All (RefersWithin n) c.args.activation.now.locals.items) (sym c.operate_alone.ensures.count) c.requires.within.locals;
+      tasks = subst (λ (n : ℕ). All (TaskWithin n) c.args.activation.now.tasks.items) (sym c.operate_alone.ensures.count) c.requires.within.tasks;
+    }, here)) c.operate_alone.ensures.within
+
+pub returns-in-Assign-clause-goes : goal.returns-in-Assign-clause-goes
+returns-in-Assign-clause-goes c model now =
+    goes_same (λ k. meant model now (place_of c.assign.new.activation.site) c.assign.new.activation.tasks.items k (memory_at c.assign.new.activation.site c.assign.new.state.held c.assign.new.activation.locals.items) c.args.units.now) c.assign.result c.args.units.now
+    (sym (ap (λ (j : Task). and_then (resumed model now (place_of c.args.activation.now.site) j c.args.value (memory_at c.args.activation.now.site c.args.state.now.held c.args.activation.now.locals.items) c.args.units.now) (pending model now (place_of c.args.activation.now.site) c.args.activation.now.tasks.items)) c.in-Assign.is))
+    (c.assign.ensures.goes model now c.args.units.now)
+
+pub returns-in-Return-clause-goes : goal.returns-in-Return-clause-goes
+returns-in-Return-clause-goes c model now = sym (ap (λ (j : Task). and_then (resumed model now (place_of c.args.activation.now.site) j c.args.value (memory_at c.args.activation.now.site c.args.state.now.held c.args.activation.now.locals.items) c.args.units.now) (pending model now (place_of c.args.activation.now.site) c.args.activation.now.tasks.items)) c.in-Return.is)
+
+pub returns-in-Return-clause-within : goal.returns-in-Return-clause-within
+returns-in-Return-clause-within c = (c.requires.within, c.requires.value)
+
+pub returns-in-Turn-clause-goes : goal.returns-in-Turn-clause-goes
+returns-in-Turn-clause-goes c model now =
+    goes_same (λ k. meant model now (place_of c.args.activation.now.site) c.go_on_turns.new.tasks.items k (memory_at c.args.activation.now.site c.args.state.now.held c.args.activation.now.locals.items) c.go_on_turns.new.units) c.go_on_turns.result c.go_on_turns.new.units
+    (sym (ap (λ (j : Task). and_then (resumed model now (place_of c.args.activation.now.site) j c.args.value (memory_at c.args.activation.now.site c.args.state.now.held c.args.activation.now.locals.items) c.args.units.now) (pending model now (place_of c.args.activation.now.site) c.args.activation.now.tasks.items)) c.in-Turn.is))
+    (c.go_on_turns.ensures.goes model now (place_of c.args.activation.now.site) (memory_at c.args.activation.now.site c.args.state.now.held c.args.activation.now.locals.items))
+
+pub returns-in-Turn-clause-within : goal.returns-in-Turn-clause-within
+returns-in-Turn-clause-within c =
+    IfOk-weaker c.go_on_turns.result _ _
+    (λ k kept. let tasks = kept (length c.args.state.now.held.objects) c.requires.within.tasks in (record { site = c.requires.within.site; locals = c.requires.within.locals; tasks = tasks.0 }, tasks.1)) c.go_on_turns.ensures.within

@@ -1,0 +1,27 @@
+-- What the condition of a receive comes to once a parcel is bound to its variables.
+use Rattle.std.specs.Prelude.{◌≤◌, ◌+◌, ℕ, List, length}
+use Rattle.pz_syntax.specs.declared.tokens.Pos.{Pos}
+use Rattle.pz_syntax.specs.Classes.{ModelTree}
+use Rattle.pz_code.specs.declared.slot.Slot.{Slot}
+use Rattle.pz_code.specs.CodeView.{Tree}
+use Rattle.pz_state.specs.declared.fault.FaultKind.TheVariants.{StoreFull}
+use Rattle.pz_state.specs.declared.state.TheConstants.{OBJECT_LIMIT}
+use Rattle.pz_state.specs.States.{StateView}
+use Rattle.pz_copy.specs.Parcels.{ParcelView}
+use Rattle.pz_evaluation.specs.declared.allowance.Allowance.{Allowance}
+use Rattle.pz_evaluation.specs.declared.outcome.Outcome.{Outcome}
+use Rattle.pz_evaluation.specs.declared.outcome.Outcome.TheVariants as outcome
+use Rattle.pz_eval.specs.Binding.{bound}
+use Rattle.pz_eval.specs.Tentative.{WouldFind}
+
+-- the objects of the parcel find room beside those of the state
+abbrev pub Fits : StateView → ParcelView → Type 0
+Fits s parcel = length s.objects + length parcel.objects ≤ OBJECT_LIMIT
+
+-- of a receive at this place
+pub data FindsCondition (model : ModelTree) (now frame : ℕ) (s : StateView) (parcel : ParcelView) (into : List Slot) (receive : Pos) (t : Tree) (allowed : Allowance) : Outcome → Type 0 where
+  asked : {o : Outcome}
+      → Fits s parcel → WouldFind model now frame (bound frame into parcel s) t allowed o
+      → FindsCondition model now frame s parcel into receive t allowed o
+  full : ¬ Fits s parcel
+      → FindsCondition model now frame s parcel into receive t allowed (outcome.Fault StoreFull receive)

@@ -1,0 +1,8 @@
+-- The classes of a model.
+use Rattle.pz_syntax.specs.Classes.{ModelTree}
+use Rattle.pz_classes.specs.declared.classes.Classes.{Classes}
+use Rattle.pz_classes.specs.Tables.{AreClasses}
+
+-- these are the classes of some model, as a bare fact
+abbrev pub AreKnown : Classes → Type 0
+AreKnown classes = ∥ ((m : ModelTree) × AreClasses m classes) ∥₁

@@ -1,0 +1,7 @@
+pub mod Known
+pub mod Promises
+pub mod Tentative
+pub mod Parcels
+pub mod Binding
+pub mod Conditions
+pub mod devices

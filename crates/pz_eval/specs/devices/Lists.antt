@@ -1,0 +1,17 @@
+-- What the evaluation of a list gathers.
+use Rattle.std.specs.Prelude.{◌≡◌, ℕ, List, Result, Ok, Err}
+use Rattle.pz_value.specs.declared.value.Value.{Value}
+use Rattle.pz_state.specs.States.{StateView}
+use Rattle.pz_evaluation.specs.declared.outcome.Listed.TheVariants as listed
+use Rattle.pz_evaluation.specs.Answers.{stops, fault}
+use Rattle.pz_evaluation.specs.devices.Computed.{Reached, done, spent}
+use Rattle.pz_evaluation.specs.devices.Outcomes.{listed_of, state_after}
+use Rattle.pz_eval.specs.declared.stop.Stop.{Stop}
+use Rattle.pz_eval.specs.declared.stop.Stop.TheVariants as stop
+
+-- the values, and the state that is left; or why there are none
+abbrev pub Gathers : Result (List Value) Stop → StateView → ℕ → Reached (List Value) → Type 0
+Gathers (Ok ys) s r x = (listed_of x ≡ listed.Values ys) × ((before : StateView) → state_after before x ≡ s)
+Gathers (Err stop.NoMemory) s r x = Unit {0}
+Gathers (Err stop.Spent) s r x = x ≡ spent
+Gathers (Err (stop.Fault kind at)) s r x = x ≡ done (stops (fault kind at)) r

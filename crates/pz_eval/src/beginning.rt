@@ -1,0 +1,214 @@
+//! How the evaluation of an expression begins, form by form.
+
+ghost use Rattle.std.specs.Prelude.{◌≡◌, ◌≤◌, ℕ, List, length, IfOk, All};
+ghost use Rattle.pz_syntax.specs.Classes.{ModelTree};
+ghost use Rattle.pz_code.specs.CodeView.{view, form_view, list_view};
+ghost use Rattle.pz_value.specs.declared.value.Value.{Value as Values};
+ghost use Rattle.pz_value.specs.declared.value.Value.TheVariants.{Nil};
+ghost use Rattle.pz_state.specs.References.{RefersWithin};
+ghost use Rattle.pz_classes.specs.Tables.{AreClasses};
+ghost use Rattle.pz_evaluation.specs.Memories.{Memory, Place};
+ghost use Rattle.pz_evaluation.specs.Memories as memories;
+ghost use Rattle.pz_evaluation.specs.Answers.{gives};
+ghost use Rattle.pz_evaluation.specs.Steps as steps;
+ghost use Rattle.pz_evaluation.specs.devices.Computed.{done, and_then, tick as ticked, sequence, step, evaluated};
+ghost use Rattle.pz_eval.specs.declared.task.Task.{Task as Tasks};
+ghost use Rattle.pz_eval.specs.devices.Sites.{place_of, memory_at};
+ghost use Rattle.pz_eval.specs.devices.Tasks.{pending, meant};
+ghost use Rattle.pz_eval.specs.devices.Steps.{given, Goes};
+ghost use Rattle.pz_eval.specs.devices.Within.{SiteWithin, TaskWithin, ControlWithin, ActivationWithin};
+
+use crate::continuing::{descend, descend_counted, go_on_list, go_on_turns};
+use crate::creating::{create, time};
+use crate::reading::{constant, read};
+use crate::setting::Setting;
+use crate::stop::Stop;
+use crate::task::{Activation, Control, Site, Task};
+use crate::units::tick;
+use pz_classes::Classes;
+use pz_code::{Code, CodeForm, Slot};
+use pz_state::State;
+use pz_syntax::{Literal, Pos};
+use pz_value::{ClassId, Value};
+use std::alloc::Global;
+
+/// A constant counts one unit.
+fn give_constant<'a>(
+    alloc: Global,
+    units: &mut u64,
+    literal: &Literal,
+) -> Result<Control<'a>, Stop>
+    ensures goes { (model : ModelTree) (now : ℕ) (p : Place) (ks : List Tasks) (m : Memory) → Goes (λ c. meant model now p ks c m units.new) result units.new (and_then (ticked (λ m1 r1. done (gives (steps.constant literal.now) m1) r1) m units.old) (pending model now p ks)) }
+    ensures within { (count : ℕ) → IfOk result (ControlWithin count) }
+{
+    tick(units)?;
+    Ok(Control::Give(constant(alloc, literal)?))
+}
+
+/// A variable counts one unit.
+fn give_variable<'a>(
+    state: &State,
+    units: &mut u64,
+    site: Site,
+    locals: &[Value],
+    slot: Slot,
+) -> Result<Control<'a>, Stop>
+    requires { All (RefersWithin (length state.now.held.objects)) locals.now }
+    ensures goes { (model : ModelTree) (now : ℕ) (ks : List Tasks) → Goes (λ c. meant model now (place_of site) ks c (memory_at site state.now.held locals.now) units.new) result units.new (and_then (ticked (λ m1 r1. done (gives (memories.read (place_of site) slot m1) m1) r1) (memory_at site state.now.held locals.now) units.old) (pending model now (place_of site) ks)) }
+    ensures within { IfOk result (ControlWithin (length state.now.held.objects)) }
+{
+    tick(units)?;
+    Ok(Control::Give(read(state, site, locals, slot)?))
+}
+
+/// `self` counts one unit; outside data methods it is nil.
+fn give_self<'a>(units: &mut u64, site: Site) -> Result<Control<'a>, Stop>
+    ensures goes { (model : ModelTree) (now : ℕ) (ks : List Tasks) (m : Memory) → Goes (λ c. meant model now (place_of site) ks c m units.new) result units.new (and_then (ticked (λ m1 r1. done (gives (memories.self_at (place_of site)) m1) r1) m units.old) (pending model now (place_of site) ks)) }
+    ensures within { (count : ℕ) → SiteWithin count site → IfOk result (ControlWithin count) }
+{
+    tick(units)?;
+    match site {
+        Site::Object(r) => Ok(Control::Give(Value::Ref(r))),
+        Site::Process(_) => Ok(Control::Give(Value::Nil)),
+    }
+}
+
+/// The time counts one unit.
+fn give_time<'a>(clock: u128, units: &mut u64, at: Pos) -> Result<Control<'a>, Stop>
+    ensures goes { (model : ModelTree) (now : ℕ) (p : Place) (ks : List Tasks) (m : Memory) → Goes (λ c. meant model now p ks c m units.new) result units.new (and_then (ticked (λ m1 r1. done (steps.time clock at m1) r1) m units.old) (pending model now p ks)) }
+    ensures within { (count : ℕ) → IfOk result (ControlWithin count) }
+{
+    tick(units)?;
+    Ok(Control::Give(time(clock, at)?))
+}
+
+/// A value is given, if there is one.
+pub(crate) fn give<'a>(value: Result<Value, Stop>) -> Result<Control<'a>, Stop>
+    ensures { result ≡ given value }
+{
+    match value {
+        Ok(value) => Ok(Control::Give(value)),
+        Err(stop) => Err(stop),
+    }
+}
+
+/// A new object counts one unit.
+fn give_new<'a>(
+    classes: &Classes,
+    state: &mut State,
+    units: &mut u64,
+    class: ClassId,
+    at: Pos,
+) -> Result<Control<'a>, Stop>
+    ensures goes { (model : ModelTree) (now : ℕ) (p : Place) (ks : List Tasks) (locals : List Values) → AreClasses model classes.now → Goes (λ c. meant model now p ks c (record { state = state.new.held; locals = locals }) units.new) result units.new (and_then (ticked (λ m1 r1. done (steps.created model class at m1) r1) (record { state = state.old.held; locals = locals }) units.old) (pending model now p ks)) }
+    ensures marks { state.new.marks ≡ state.old.marks }
+    ensures count { length state.old.held.objects ≤ length state.new.held.objects }
+    ensures within { IfOk result (ControlWithin (length state.new.held.objects)) }
+{
+    tick(units)?;
+    give(create(classes, state, class, at))
+}
+
+/// A bracketed list counts one unit.
+fn begin_group<'a>(
+    units: &mut u64,
+    tasks: &mut Vec<Task<'a>>,
+    depth: u32,
+    codes: &'a [Code],
+) -> Result<Control<'a>, Stop>
+    ensures goes { (model : ModelTree) (now : ℕ) (p : Place) (m : Memory) → Goes (λ c. meant model now p tasks.new.items c m units.new) result units.new (and_then (ticked (sequence model now (evaluated model now depth) p Nil (list_view codes.now)) m units.old) (pending model now p tasks.old.items)) }
+    ensures within { IfOk result (λ c. (count : ℕ) → All (TaskWithin count) tasks.old.items → All (TaskWithin count) tasks.new.items × ControlWithin count c) }
+{
+    tick(units)?;
+    go_on_list(tasks, depth, Value::Nil, codes)
+}
+
+/// The evaluation of a form at this place begins, whose parts may stand so deep.
+fn begin_form<'a>(
+    setting: Setting<'a>,
+    state: &mut State,
+    units: &mut u64,
+    activation: &mut Activation<'a>,
+    depth: u32,
+    at: Pos,
+    form: &'a CodeForm,
+) -> Result<Control<'a>, Stop>
+    requires { ActivationWithin (length state.old.held.objects) activation.old }
+    ensures goes { (model : ModelTree) → AreClasses model setting.entry.classes.now → Goes (λ c. meant model setting.entry.clock (place_of activation.new.site) activation.new.tasks.items c (memory_at activation.new.site state.new.held activation.new.locals.items) units.new) result units.new (and_then (step model setting.entry.clock (evaluated model setting.entry.clock depth) (place_of activation.old.site) (form_view form.now at) (memory_at activation.old.site state.old.held activation.old.locals.items) units.old) (pending model setting.entry.clock (place_of activation.old.site) activation.old.tasks.items)) }
+    ensures marks { state.new.marks ≡ state.old.marks }
+    ensures count { length state.old.held.objects ≤ length state.new.held.objects }
+    ensures site { activation.new.site ≡ activation.old.site }
+    ensures locals { activation.new.locals ≡ activation.old.locals }
+    ensures tasks { IfOk result (λ _. (count : ℕ) → All (TaskWithin count) activation.old.tasks.items → All (TaskWithin count) activation.new.tasks.items) }
+    ensures within { IfOk result (ControlWithin (length state.new.held.objects)) }
+{
+    match form {
+        CodeForm::Lit(literal) => give_constant(setting.alloc, units, literal),
+        CodeForm::Var(slot) => {
+            give_variable(state, units, activation.site, activation.locals.as_slice(), *slot)
+        }
+        CodeForm::Me => give_self(units, activation.site),
+        CodeForm::Clock => give_time(setting.clock, units, at),
+        CodeForm::New(class) => give_new(setting.classes, state, units, *class, at),
+        CodeForm::Group(codes) => begin_group(units, &mut activation.tasks, depth, codes.as_slice()),
+        CodeForm::Chain(first, links) => {
+            let links = links.as_slice();
+            let task = Task::Operators { depth, links };
+            descend(&mut activation.tasks, depth, first.get(), task)
+        }
+        CodeForm::Sends(first, sendings) => {
+            let sendings = sendings.as_slice();
+            let task = Task::Selectors { depth, sendings };
+            descend(&mut activation.tasks, depth, first.get(), task)
+        }
+        CodeForm::Unary(op, operand) => {
+            let task = Task::Unary { op: *op, at };
+            descend_counted(units, &mut activation.tasks, depth, operand.get(), task)
+        }
+        CodeForm::Assign(slot, value) => {
+            let task = Task::Assign { slot: *slot };
+            descend_counted(units, &mut activation.tasks, depth, value.get(), task)
+        }
+        CodeForm::Return(value) => {
+            descend_counted(units, &mut activation.tasks, depth, value.get(), Task::Return)
+        }
+        CodeForm::If(test, part, other) => {
+            let part = part.as_slice();
+            let task = Task::If {
+                depth,
+                at,
+                part,
+                other,
+            };
+            descend_counted(units, &mut activation.tasks, depth, test.get(), task)
+        }
+        CodeForm::While(test, body) => {
+            let body = body.as_slice();
+            go_on_turns(units, &mut activation.tasks, depth, at, test.get(), body)
+        }
+    }
+}
+
+/// The evaluation of an expression begins, which may stand so deep.
+pub(crate) fn begin<'a>(
+    setting: Setting<'a>,
+    state: &mut State,
+    units: &mut u64,
+    activation: &mut Activation<'a>,
+    depth: u32,
+    code: &'a Code,
+) -> Result<Control<'a>, Stop>
+    requires { ActivationWithin (length state.old.held.objects) activation.old }
+    ensures goes { (model : ModelTree) → AreClasses model setting.entry.classes.now → Goes (λ c. meant model setting.entry.clock (place_of activation.new.site) activation.new.tasks.items c (memory_at activation.new.site state.new.held activation.new.locals.items) units.new) result units.new (and_then (evaluated model setting.entry.clock depth (place_of activation.old.site) (view code.now) (memory_at activation.old.site state.old.held activation.old.locals.items) units.old) (pending model setting.entry.clock (place_of activation.old.site) activation.old.tasks.items)) }
+    ensures marks { state.new.marks ≡ state.old.marks }
+    ensures count { length state.old.held.objects ≤ length state.new.held.objects }
+    ensures site { activation.new.site ≡ activation.old.site }
+    ensures locals { activation.new.locals ≡ activation.old.locals }
+    ensures tasks { IfOk result (λ _. (count : ℕ) → All (TaskWithin count) activation.old.tasks.items → All (TaskWithin count) activation.new.tasks.items) }
+    ensures within { IfOk result (ControlWithin (length state.new.held.objects)) }
+{
+    if depth == 0 {
+        return Err(Stop::Spent);
+    }
+    begin_form(setting, state, units, activation, depth - 1, code.pos, &code.form)
+}

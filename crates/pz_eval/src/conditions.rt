@@ -1,0 +1,160 @@
+//! The condition of a receive.
+
+ghost use Rattle.std.specs.Prelude.{◌≡◌, length, Err, ◌<◌, ◌≤◌, IfOk, OnOk, OnErr, All};
+ghost use Rattle.pz_syntax.specs.Classes.{ModelTree};
+ghost use Rattle.pz_code.specs.CodeView.{view};
+ghost use Rattle.pz_classes.specs.Tables.{AreClasses};
+ghost use Rattle.pz_state.specs.References.{RefersWithin};
+ghost use Rattle.pz_state.specs.Marks.{changed};
+ghost use Rattle.pz_eval.specs.Known.{AreKnown};
+ghost use Rattle.pz_eval.specs.Binding.{set_slot, set_slots, bound};
+ghost use Rattle.pz_eval.specs.Conditions.{Fits, FindsCondition};
+
+use crate::evaluating::try_eval;
+use crate::writing::{write_local, write_variable};
+use pz_classes::Classes;
+use pz_code::{Code, Slot};
+use pz_copy::{Parcel, UnpackError, unpack};
+use pz_evaluation::{Allowance, Outcome};
+use pz_state::{FaultKind, FrameId, State};
+use pz_syntax::Pos;
+use pz_value::Value;
+use std::alloc::{AllocError, Global};
+
+/// Gives a variable of the process a value. The only error is want of memory.
+fn set_slot(
+    state: &mut State,
+    frame: FrameId,
+    slot: &Slot,
+    value: Value,
+) -> Result<(), AllocError>
+    requires { RefersWithin (length state.old.held.objects) value }
+    ensures ok { OnOk result (state.new ≡ changed state.old (set_slot frame.0 slot.now value state.old.held)) }
+    ensures marks { state.new.marks ≡ state.old.marks }
+{
+    match slot {
+        Slot::Local(i) => write_local(state, frame, *i, value),
+        Slot::Shared(i) => write_variable(state, *i, value),
+        Slot::Unknown => Ok(()),
+    }
+}
+
+/// How many pairs there are.
+fn pairs(into: &[Slot], values: &[Value]) -> usize
+    ensures into { result ≤ length into.now }
+    ensures values { result ≤ length values.now }
+    ensures all { result < length into.now → result ≡ length values.now }
+{
+    if into.len() < values.len() {
+        return into.len();
+    }
+    values.len()
+}
+
+/// Gives variables of the process these values from left to right, as far as there are both. The only
+/// error is want of memory.
+fn set_slots(
+    state: &mut State,
+    frame: FrameId,
+    into: &[Slot],
+    values: &[Value],
+) -> Result<(), AllocError>
+    requires { All (RefersWithin (length state.old.held.objects)) values.now }
+    ensures ok { OnOk result (state.new ≡ changed state.old (set_slots frame.0 into.now values.now state.old.held)) }
+    ensures marks { state.new.marks ≡ state.old.marks }
+{
+    for i in 0..pairs(into, values) {
+        let slot = &into[i];
+        let value = values[i].copy()?;
+        set_slot(state, frame, slot, value)?;
+    }
+    Ok(())
+}
+
+/// The same, where the only error is want of memory.
+fn bind_values(
+    state: &mut State,
+    frame: FrameId,
+    into: &[Slot],
+    values: &[Value],
+) -> Result<(), UnpackError>
+    requires { All (RefersWithin (length state.old.held.objects)) values.now }
+    ensures ok { OnOk result (state.new ≡ changed state.old (set_slots frame.0 into.now values.now state.old.held)) }
+    ensures marks { state.new.marks ≡ state.old.marks }
+    ensures err { OnErr result (result ≡ Err UnpackError.NoMemory) }
+{
+    match set_slots(state, frame, into, values) {
+        Ok(()) => Ok(()),
+        Err(AllocError) => Err(UnpackError::NoMemory),
+    }
+}
+
+/// Unpacks a parcel and binds its values to these variables. At a refusal the open marks are as before.
+fn bind(
+    alloc: Global,
+    state: &mut State,
+    frame: FrameId,
+    parcel: &Parcel,
+    into: &[Slot],
+) -> Result<(), UnpackError>
+    ensures ok { OnOk result (state.new ≡ changed state.old (bound frame.0 into.now parcel.now state.old.held)) }
+    ensures fits { OnOk result (Fits state.old.held parcel.now) }
+    ensures full { result ≡ Err UnpackError.StoreFull → ¬ Fits state.old.held parcel.now }
+    ensures marks { state.new.marks ≡ state.old.marks }
+{
+    match unpack(alloc, state, parcel) {
+        Ok(values) => bind_values(state, frame, into, values.as_slice()),
+        Err(error) => Err(error),
+    }
+}
+
+/// What an expression comes to once a parcel is unpacked and its values are bound. Effects may stay.
+fn condition_of(
+    alloc: Global,
+    classes: &Classes,
+    state: &mut State,
+    frame: FrameId,
+    clock: u128,
+    parcel: &Parcel,
+    into: &[Slot],
+    receive: Pos,
+    code: &Code,
+    allowance: Allowance,
+) -> Result<Outcome, AllocError>
+    requires { AreKnown classes.now }
+    ensures finds { (m : ModelTree) → ∥ AreClasses m classes.now ∥₁ → IfOk result (FindsCondition m clock frame.0 state.old.held parcel.now into.now receive (view code.now) allowance) }
+    ensures marks { state.new.marks ≡ state.old.marks }
+{
+    match bind(alloc, state, frame, parcel, into) {
+        Ok(()) => try_eval(alloc, classes, state, frame, clock, code, allowance),
+        Err(UnpackError::StoreFull) => Ok(Outcome::Fault(FaultKind::StoreFull, receive)),
+        Err(UnpackError::NoMemory) => Err(AllocError),
+    }
+}
+
+/// What an expression comes to once a parcel is unpacked and its values are bound to these variables
+/// from left to right, with no effect: the state is as before, always. Where the parcel finds no room,
+/// that is a fault of the receive. The only error is want of memory.
+pub fn try_condition(
+    alloc: Global,
+    classes: &Classes,
+    state: &mut State,
+    frame: FrameId,
+    clock: u128,
+    parcel: &Parcel,
+    into: &[Slot],
+    receive: Pos,
+    code: &Code,
+    allowance: Allowance,
+) -> Result<Outcome, AllocError>
+    requires { AreKnown classes.now }
+    ensures finds { (m : ModelTree) → ∥ AreClasses m classes.now ∥₁ → IfOk result (FindsCondition m clock frame.0 state.old.held parcel.now into.now receive (view code.now) allowance) }
+    ensures state { state.new ≡ state.old }
+{
+    let point = state.mark()?;
+    let found = condition_of(
+        alloc, classes, state, frame, clock, parcel, into, receive, code, allowance,
+    );
+    state.undo_to(point);
+    found
+}

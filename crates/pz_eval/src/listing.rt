@@ -1,0 +1,57 @@
+//! The values of a list of expressions.
+
+ghost use Rattle.std.specs.Prelude.{◌≡◌, ◌≤◌, ℕ, [], ◌∷◌, length, IfOk, All};
+ghost use Rattle.pz_syntax.specs.Classes.{ModelTree};
+ghost use Rattle.pz_code.specs.CodeView.{list_view};
+ghost use Rattle.pz_state.specs.References.{RefersWithin};
+ghost use Rattle.pz_classes.specs.Tables.{AreClasses};
+ghost use Rattle.pz_evaluation.specs.Memories.{in_process};
+ghost use Rattle.pz_evaluation.specs.Outcomes.{outside};
+ghost use Rattle.pz_evaluation.specs.devices.Computed.{arguments, evaluated};
+ghost use Rattle.pz_eval.specs.Known.{AreKnown};
+ghost use Rattle.pz_eval.specs.devices.Lists.{Gathers};
+
+use crate::machine::evaluate;
+use crate::setting::Setting;
+use crate::stop::Stop;
+use crate::task::Finish;
+use pz_code::Code;
+use pz_items::Items;
+use pz_state::{FrameId, State};
+use pz_value::Value;
+use std::alloc::{AllocError, Global};
+
+/// A list of one value. The only error is want of memory.
+fn only(alloc: Global, value: Value) -> Result<Items<Value>, AllocError>
+    ensures { IfOk result (λ values. values ≡ value ∷ []) }
+{
+    let mut values = Items::new(alloc);
+    values.push(value)?;
+    Ok(values)
+}
+
+/// Evaluates expressions of a method of the process from left to right, as one evaluation. Effects stay,
+/// whatever comes of it. A `return` is alone.
+pub(crate) fn evaluate_list(
+    setting: Setting<'_>,
+    state: &mut State,
+    units: &mut u64,
+    frame: FrameId,
+    depth: u32,
+    codes: &[Code],
+) -> Result<Items<Value>, Stop>
+    requires { AreKnown setting.classes.now }
+    ensures gathers { (model : ModelTree) → AreClasses model setting.entry.classes.now → Gathers result state.new.held units.new (arguments model setting.entry.clock (evaluated model setting.entry.clock depth) (in_process frame.0) [] (list_view codes.now) (outside state.old.held) units.old) }
+    ensures marks { state.new.marks ≡ state.old.marks }
+    ensures within { IfOk result (λ values. All (RefersWithin (length state.new.held.objects)) values) }
+{
+    let mut values = Items::new(setting.alloc);
+    for code in codes {
+        match evaluate(setting, state, units, frame, depth, code) {
+            Ok(Finish::Value(value)) => values.push(value)?,
+            Ok(Finish::Return(value)) => return Ok(only(setting.alloc, value)?),
+            Err(stop) => return Err(stop),
+        }
+    }
+    Ok(values)
+}
