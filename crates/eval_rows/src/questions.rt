@@ -15,6 +15,7 @@ use std::io;
 const QUESTION: &str = "//? ";
 
 /// A question: the name of a method, and an allowance.
+#[derive(Drop)]
 struct Question<'a> {
     name: &'a str,
     allowance: Allowance,

@@ -1,5 +1,7 @@
 //! The statements of a method, one after the other.
 
+ghost use Rattle.pz_eval.specs.Known.{AreKnown};
+
 use crate::showing::{show_fault, show_listed, show_outcome, show_state, show_values};
 use pz_classes::{Classes, Step};
 use pz_code::{Code, Slot, StepForm};
@@ -30,7 +32,9 @@ fn show_expression(
     asking: Asking<'_>,
     state: &mut State,
     code: &Code,
-) -> io::Result<()> {
+) -> io::Result<()>
+    requires { AreKnown asking.classes.now }
+{
     let Asking {
         classes,
         frame,
@@ -48,7 +52,9 @@ fn show_block(
     asking: Asking<'_>,
     state: &mut State,
     codes: &[Code],
-) -> io::Result<()> {
+) -> io::Result<()>
+    requires { AreKnown asking.classes.now }
+{
     let Asking {
         classes,
         frame,
@@ -64,7 +70,9 @@ fn show_parcel(
     asking: Asking<'_>,
     state: &mut State,
     codes: &[Code],
-) -> io::Result<Option<Parcel>> {
+) -> io::Result<Option<Parcel>>
+    requires { AreKnown asking.classes.now }
+{
     let Asking {
         classes,
         frame,
@@ -96,7 +104,9 @@ fn show_condition(
     into: &[Slot],
     receive: Pos,
     condition: &Code,
-) -> io::Result<()> {
+) -> io::Result<()>
+    requires { AreKnown asking.classes.now }
+{
     let Asking {
         classes,
         frame,
@@ -118,7 +128,9 @@ fn show_receive(
     into: &Option<Items<Slot>>,
     receive: Pos,
     condition: &Option<Code>,
-) -> io::Result<()> {
+) -> io::Result<()>
+    requires { AreKnown asking.classes.now }
+{
     let Some(parcel) = parcel else {
         return print!(rt; " no parcel");
     };
@@ -140,7 +152,9 @@ fn show_statement(
     state: &mut State,
     kept: &mut Option<Parcel>,
     step: &Step,
-) -> io::Result<()> {
+) -> io::Result<()>
+    requires { AreKnown asking.classes.now }
+{
     match &step.form {
         StepForm::Eval(code) => show_expression(rt, asking, state, code),
         StepForm::Block(codes) => show_block(rt, asking, state, codes.as_slice()),
@@ -164,7 +178,9 @@ pub fn show_statements(
     locals: u32,
     steps: &[Step],
     allowance: Allowance,
-) -> io::Result<()> {
+) -> io::Result<()>
+    requires { AreKnown classes.now }
+{
     let mut state = State::new(rt.alloc(), VARIABLES)?;
     let frame = state.open_frame(locals)?;
     let asking = Asking {
