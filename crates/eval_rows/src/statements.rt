@@ -139,7 +139,15 @@ fn show_receive(
     };
     match condition {
         Some(condition) => {
-            show_condition(rt, asking, state, parcel, into.as_slice(), receive, condition)
+            show_condition(
+                rt,
+                asking,
+                state,
+                parcel,
+                into.as_slice(),
+                receive,
+                condition,
+            )
         }
         None => print!(rt; " no condition"),
     }
@@ -159,13 +167,16 @@ fn show_statement(
         StepForm::Eval(code) => show_expression(rt, asking, state, code),
         StepForm::Block(codes) => show_block(rt, asking, state, codes.as_slice()),
         StepForm::Send {
-            args: Some(args), ..
+            args: Some(args),
+            ..
         } => {
             *kept = show_parcel(rt, asking, state, args.as_slice())?;
             Ok(())
         }
         StepForm::Receive {
-            into, condition, ..
+            into,
+            condition,
+            ..
         } => show_receive(rt, asking, state, kept, into, step.pos, condition),
         _ => print!(rt; " no evaluation"),
     }

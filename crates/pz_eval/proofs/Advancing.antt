@@ -41,7 +41,6 @@ pub went_root : (P : Type 0) (control : Result Control Stop) (result : Result Pr
 went_root P (Ok k) result e h = rw e h
 went_root P (Err stop) result e h = rw e tt
 
-
 pub went_bottom : (P : Type 0) (control : Result Control Stop) (result : Result Progress Stop) → result ≡ went_on control → IfOk result (OnOver P)
 went_bottom P (Ok k) result e = rw e tt
 went_bottom P (Err stop) result e = rw e tt

@@ -33,11 +33,7 @@ use pz_value::{ClassId, Value};
 use std::alloc::Global;
 
 /// A constant counts one unit.
-fn give_constant<'a>(
-    alloc: Global,
-    units: &mut u64,
-    literal: &Literal,
-) -> Result<Control<'a>, Stop>
+fn give_constant<'a>(alloc: Global, units: &mut u64, literal: &Literal) -> Result<Control<'a>, Stop>
     ensures goes { (model : ModelTree) (now : ℕ) (p : Place) (ks : List Tasks) (m : Memory) → Goes (λ c. meant model now p ks c m units.new) result units.new (and_then (ticked (λ m1 r1. done (gives (steps.constant literal.now) m1) r1) m units.old) (pending model now p ks)) }
     ensures within { (count : ℕ) → IfOk result (ControlWithin count) }
 {
@@ -145,12 +141,23 @@ fn begin_form<'a>(
     match form {
         CodeForm::Lit(literal) => give_constant(setting.alloc, units, literal),
         CodeForm::Var(slot) => {
-            give_variable(state, units, activation.site, activation.locals.as_slice(), *slot)
+            give_variable(
+                state,
+                units,
+                activation.site,
+                activation.locals.as_slice(),
+                *slot,
+            )
         }
         CodeForm::Me => give_self(units, activation.site),
         CodeForm::Clock => give_time(setting.clock, units, at),
         CodeForm::New(class) => give_new(setting.classes, state, units, *class, at),
-        CodeForm::Group(codes) => begin_group(units, &mut activation.tasks, depth, codes.as_slice()),
+        CodeForm::Group(codes) => begin_group(
+            units,
+            &mut activation.tasks,
+            depth,
+            codes.as_slice(),
+        ),
         CodeForm::Chain(first, links) => {
             let links = links.as_slice();
             let task = Task::Operators { depth, links };
@@ -170,7 +177,13 @@ fn begin_form<'a>(
             descend_counted(units, &mut activation.tasks, depth, value.get(), task)
         }
         CodeForm::Return(value) => {
-            descend_counted(units, &mut activation.tasks, depth, value.get(), Task::Return)
+            descend_counted(
+                units,
+                &mut activation.tasks,
+                depth,
+                value.get(),
+                Task::Return,
+            )
         }
         CodeForm::If(test, part, other) => {
             let part = part.as_slice();
@@ -210,5 +223,13 @@ pub(crate) fn begin<'a>(
     if depth == 0 {
         return Err(Stop::Spent);
     }
-    begin_form(setting, state, units, activation, depth - 1, code.pos, &code.form)
+    begin_form(
+        setting,
+        state,
+        units,
+        activation,
+        depth - 1,
+        code.pos,
+        &code.form,
+    )
 }

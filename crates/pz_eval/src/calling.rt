@@ -143,10 +143,7 @@ pub(crate) fn send<'a>(
 }
 
 /// Goes back to the caller; says whether there is one.
-pub(crate) fn leave<'a>(
-    activation: &mut Activation<'a>,
-    callers: &mut Vec<Activation<'a>>,
-) -> bool
+pub(crate) fn leave<'a>(activation: &mut Activation<'a>, callers: &mut Vec<Activation<'a>>) -> bool
     ensures returns { IsTrue result → callers.old.items ≡ callers.new.items ++ activation.new ∷ [] }
     ensures stays { result ≡ false → (callers.old.items ≡ []) × (callers.new.items ≡ []) × (activation.new ≡ activation.old) }
 {

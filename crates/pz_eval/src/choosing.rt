@@ -21,11 +21,7 @@ use pz_syntax::Pos;
 use pz_value::Value;
 
 /// The part of an `if` that is chosen.
-fn chosen_part<'a>(
-    test: bool,
-    part: &'a [Code],
-    other: &'a Option<Items<Code>>,
-) -> &'a [Code]
+fn chosen_part<'a>(test: bool, part: &'a [Code], other: &'a Option<Items<Code>>) -> &'a [Code]
     ensures { list_view result.now ≡ chosen test (list_view part.now) (part_view other.now) }
 {
     if test {

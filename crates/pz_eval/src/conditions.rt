@@ -22,12 +22,7 @@ use pz_value::Value;
 use std::alloc::{AllocError, Global};
 
 /// Gives a variable of the process a value. The only error is want of memory.
-fn set_slot(
-    state: &mut State,
-    frame: FrameId,
-    slot: &Slot,
-    value: Value,
-) -> Result<(), AllocError>
+fn set_slot(state: &mut State, frame: FrameId, slot: &Slot, value: Value) -> Result<(), AllocError>
     requires { RefersWithin (length state.old.held.objects) value }
     ensures ok { OnOk result (state.new ≡ changed state.old (set_slot frame.0 slot.now value state.old.held)) }
     ensures marks { state.new.marks ≡ state.old.marks }

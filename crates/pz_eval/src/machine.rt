@@ -99,9 +99,7 @@ fn advance<'a>(
             Some(task) => on(resume(setting, state, units, activation, task, value)),
             None => Ok(give_back(activation, callers, value)),
         },
-        Control::Send(request) => {
-            on(send(setting, state, units, activation, callers, request))
-        }
+        Control::Send(request) => { on(send(setting, state, units, activation, callers, request)) }
         Control::Leave(value) => Ok(give_result(activation, callers, value)),
     }
 }

@@ -16,8 +16,8 @@ ghost use Rattle.pz_eval.specs.devices.Tasks.{links_view, sendings_view, sent, r
 ghost use Rattle.pz_eval.specs.devices.Steps.{Counts, Goes};
 ghost use Rattle.pz_eval.specs.devices.Within.{RequestWithin, TaskWithin, ControlWithin, ActivationWithin};
 
-use crate::choosing::{choose, turn_or_end};
 use crate::beginning::give;
+use crate::choosing::{choose, turn_or_end};
 use crate::continuing::{
     go_on_arguments, go_on_list, go_on_operators, go_on_selectors, go_on_turns,
 };
@@ -154,18 +154,39 @@ pub(crate) fn resume<'a>(
     let alloc = setting.alloc;
     match task {
         Task::Sequence { depth, rest } => go_on_list(&mut activation.tasks, depth, value, rest),
-        Task::Operators { depth, links } => go_on_operators(&mut activation.tasks, depth, value, links),
+        Task::Operators { depth, links } => go_on_operators(
+            &mut activation.tasks,
+            depth,
+            value,
+            links,
+        ),
         Task::Operand {
             depth,
             left,
             op,
             at,
             rest,
-        } => operate(alloc, state, units, &mut activation.tasks, depth, op, at, left, value, rest),
+        } => operate(
+            alloc,
+            state,
+            units,
+            &mut activation.tasks,
+            depth,
+            op,
+            at,
+            left,
+            value,
+            rest,
+        ),
         Task::Selectors { depth, sendings } => {
             go_on_selectors(alloc, &mut activation.tasks, depth, value, sendings)
         }
-        Task::Argument { request, rest } => take_argument(&mut activation.tasks, request, rest, value),
+        Task::Argument { request, rest } => take_argument(
+            &mut activation.tasks,
+            request,
+            rest,
+            value,
+        ),
         Task::Unary { op, at } => operate_alone(alloc, state, op, at, value),
         Task::Assign { slot } => assign(state, activation, slot, value),
         Task::Return => Ok(Control::Leave(value)),

@@ -29,9 +29,15 @@ pub(crate) struct Request<'a> {
 #[derive(Drop)]
 pub(crate) enum Task<'a> {
     /// It is the value of a list so far, of which these are left.
-    Sequence { depth: u32, rest: &'a [Code] },
+    Sequence {
+        depth: u32,
+        rest: &'a [Code],
+    },
     /// It is the left operand of the first of these operators.
-    Operators { depth: u32, links: &'a [CodeLink] },
+    Operators {
+        depth: u32,
+        links: &'a [CodeLink],
+    },
     /// It is the right operand of an operator, behind which these are left.
     Operand {
         depth: u32,
@@ -51,9 +57,14 @@ pub(crate) enum Task<'a> {
         rest: &'a [Code],
     },
     /// It is the operand of this operator.
-    Unary { op: Symbol, at: Pos },
+    Unary {
+        op: Symbol,
+        at: Pos,
+    },
     /// A variable gets it.
-    Assign { slot: Slot },
+    Assign {
+        slot: Slot,
+    },
     /// The body of the method ends with it.
     Return,
     /// It chooses a part of an `if`.

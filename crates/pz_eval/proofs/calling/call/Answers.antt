@@ -38,11 +38,13 @@ returns-clause-within c =
     IfOk-weaker c.go_on_list.result _ _
     (λ k kept count there all here q.
     let none : c.replace.new.dest.tasks.items ≡ [] = ap (λ (a : Activation). a.tasks.items) c.replace.ensures.after ∙ c.in_ok-inner.ensures.tasks in
-    let tasks = kept count tt (subst (λ (ks : List Task). All (TaskWithin count) ks) (sym none) (All-nil (TaskWithin count))) in
-    (caller_waits count c.args.callers.now.items c.push-2.new.self.items c.args.activation.now c.replace.result (task.Selectors c.args.request.depth c.args.request.more)
-    (ap (λ (a : Activation). a.site) c.replace.ensures.value) (ap (λ (a : Activation). a.locals.items) c.replace.ensures.value) (ap (λ (a : Activation). a.tasks.items) c.replace.ensures.value ∙ c.in_ok-push.ensures.items) c.in_ok-push-2.ensures.items tt all here,
-    record {
-      site = site_within count c.args.object c.replace.new.dest.site (ap (λ (a : Activation). a.site) c.replace.ensures.after ∙ c.in_ok-inner.ensures.site) there;
-      locals = locals_within count c.args.method.locals c.args.request.arguments.items c.replace.new.dest.locals.items (ap (λ (a : Activation). a.locals.items) c.replace.ensures.after ∙ c.in_ok-inner.ensures.locals) q.arguments;
-      tasks = tasks.0;
-    }, tasks.1)) c.go_on_list.ensures.within
+    let tasks = kept count tt (subst (λ (ks : List Task). All (TaskWithin count) ks) (sym none) (All-nil (TaskWithin count))) in (
+      caller_waits count c.args.callers.now.items c.push-2.new.self.items c.args.activation.now c.replace.result (task.Selectors c.args.request.depth c.args.request.more)
+          (ap (λ (a : Activation). a.site) c.replace.ensures.value) (ap (λ (a : Activation). a.locals.items) c.replace.ensures.value) (ap (λ (a : Activation). a.tasks.items) c.replace.ensures.value ∙ c.in_ok-push.ensures.items) c.in_ok-push-2.ensures.items tt all here,
+      record {
+        site = site_within count c.args.object c.replace.new.dest.site (ap (λ (a : Activation). a.site) c.replace.ensures.after ∙ c.in_ok-inner.ensures.site) there;
+        locals = locals_within count c.args.method.locals c.args.request.arguments.items c.replace.new.dest.locals.items (ap (λ (a : Activation). a.locals.items) c.replace.ensures.after ∙ c.in_ok-inner.ensures.locals) q.arguments;
+        tasks = tasks.0;
+      },
+      tasks.1,
+    )) c.go_on_list.ensures.within

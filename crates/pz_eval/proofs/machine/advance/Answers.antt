@@ -57,10 +57,10 @@ resume-requires-clause-value c = rw c.in-Give.is at c.requires.control
 
 pub resume-requires-clause-within : goal.resume-requires-clause-within
 resume-requires-clause-within c = record {
-      site = c.requires.within.site;
-      locals = c.requires.within.locals;
-      tasks = (popped_within (length c.args.state.now.held.objects) c.args.activation.now.tasks.items c.pop.new.self.items c.in-Some.task (popped c.args.activation.now.tasks.items c.pop.new.self.items c.pop.result c.in-Some.task c.pop.ensures.items c.in-Some.is) c.requires.within.tasks).0;
-    }
+  site = c.requires.within.site;
+  locals = c.requires.within.locals;
+  tasks = (popped_within (length c.args.state.now.held.objects) c.args.activation.now.tasks.items c.pop.new.self.items c.in-Some.task (popped c.args.activation.now.tasks.items c.pop.new.self.items c.pop.result c.in-Some.task c.pop.ensures.items c.in-Some.is) c.requires.within.tasks).0;
+}
 
 pub returns-in-Some-clause-goes : goal.returns-in-Some-clause-goes
 returns-in-Some-clause-goes c model known =

@@ -17,9 +17,11 @@ returns-clause-goes c model now r =
     (c.in_ok-write.ensures.memory ∙ ap (λ (y : Value). write (place_of c.args.activation.now.site) c.args.slot y (memory_at c.args.activation.now.site c.args.state.now.held c.args.activation.now.locals.items)) c.in_ok-copy.ensures)
 
 pub returns-clause-within : goal.returns-clause-within
-returns-clause-within c =
-    (record {
-      site = subst (λ (n : ℕ). SiteWithin n c.args.activation.now.site) (sym c.write.ensures.count) c.requires.within.site;
-      locals = c.write.ensures.within;
-      tasks = subst (λ (n : ℕ). All (TaskWithin n) c.args.activation.now.tasks.items) (sym c.write.ensures.count) c.requires.within.tasks;
-    }, subst (λ (n : ℕ). RefersWithin n c.args.value) (sym c.write.ensures.count) c.requires.value)
+returns-clause-within c = (
+  record {
+    site = subst (λ (n : ℕ). SiteWithin n c.args.activation.now.site) (sym c.write.ensures.count) c.requires.within.site;
+    locals = c.write.ensures.within;
+    tasks = subst (λ (n : ℕ). All (TaskWithin n) c.args.activation.now.tasks.items) (sym c.write.ensures.count) c.requires.within.tasks;
+  },
+  subst (λ (n : ℕ). RefersWithin n c.args.value) (sym c.write.ensures.count) c.requires.value,
+)

@@ -88,12 +88,14 @@ operate-requires-clause-left c = rw c.in-Operand.is at c.requires.task
 pub returns-in-Operand-clause-within : goal.returns-in-Operand-clause-within
 returns-in-Operand-clause-within c =
     IfOk-weaker c.operate.result _ _
-    (λ k kept. let tasks = kept c.requires.within.tasks in
-    (record {
-      site = subst (λ (n : ℕ). SiteWithin n c.args.activation.now.site) (sym c.operate.ensures.count) c.requires.within.site;
-      locals = subst (λ (n : ℕ). All (RefersWithin n) c.args.activation.now.locals.items) (sym c.operate.ensures.count) c.requires.within.locals;
-      tasks = tasks.0;
-    }, tasks.1)) c.operate.ensures.within
+    (λ k kept. let tasks = kept c.requires.within.tasks in (
+      record {
+        site = subst (λ (n : ℕ). SiteWithin n c.args.activation.now.site) (sym c.operate.ensures.count) c.requires.within.site;
+        locals = subst (λ (n : ℕ). All (RefersWithin n) c.args.activation.now.locals.items) (sym c.operate.ensures.count) c.requires.within.locals;
+        tasks = tasks.0;
+      },
+      tasks.1,
+    )) c.operate.ensures.within
 
 pub returns-in-Unary-clause-goes : goal.returns-in-Unary-clause-goes
 returns-in-Unary-clause-goes c model now =
@@ -104,11 +106,14 @@ returns-in-Unary-clause-goes c model now =
 pub returns-in-Unary-clause-within : goal.returns-in-Unary-clause-within
 returns-in-Unary-clause-within c =
     IfOk-weaker c.operate_alone.result _ _
-    (λ k here. (record {
-      site = subst (λ (n : ℕ). SiteWithin n c.args.activation.now.site) (sym c.operate_alone.ensures.count) c.requires.within.site;
-      locals = subst (λ (n : ℕ). All (RefersWithin n) c.args.activation.now.locals.items) (sym c.operate_alone.ensures.count) c.requires.within.locals;
-      tasks = subst (λ (n : ℕ). All (TaskWithin n) c.args.activation.now.tasks.items) (sym c.operate_alone.ensures.count) c.requires.within.tasks;
-    }, here)) c.operate_alone.ensures.within
+    (λ k here. (
+      record {
+        site = subst (λ (n : ℕ). SiteWithin n c.args.activation.now.site) (sym c.operate_alone.ensures.count) c.requires.within.site;
+        locals = subst (λ (n : ℕ). All (RefersWithin n) c.args.activation.now.locals.items) (sym c.operate_alone.ensures.count) c.requires.within.locals;
+        tasks = subst (λ (n : ℕ). All (TaskWithin n) c.args.activation.now.tasks.items) (sym c.operate_alone.ensures.count) c.requires.within.tasks;
+      },
+      here,
+    )) c.operate_alone.ensures.within
 
 pub returns-in-Assign-clause-goes : goal.returns-in-Assign-clause-goes
 returns-in-Assign-clause-goes c model now =
