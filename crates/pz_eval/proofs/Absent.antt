@@ -1,5 +1,5 @@
 -- What is not there: nil is read, and a write changes nothing.
-use Rattle.std.proofs.Common.{◌≡◌, ℕ, zero, suc, ◌+◌, ◌-◌, ◌<◌, ◌≤◌, List, [], ◌∷◌, ◌++◌, length, length-append, append_assoc, nat_eq, lt-ltb, Option, Some, None, Result, Ok, Err, slice_get, refl, sym, ap, ◌∙◌, arith}
+use Rattle.std.proofs.Common.{◌≡◌, ℕ, zero, suc, ◌+◌, ◌-◌, ◌<◌, ◌≤◌, List, [], ◌∷◌, ◌++◌, length, length-append, append_assoc, nat_eq, lt-ltb, Option, Some, None, Result, Ok, Err, refl, sym, ap, ◌∙◌, arith}
 use Rattle.std.specs.Prelude.{OnOk, OnErr, slice_set, unwrap_or, if◌then◌else◌, Bool, true, false}
 use Rattle.std.proofs.lemmas.Option.{slice_get_past}
 use Rattle.pz_syntax.specs.declared.tokens.Pos.{Pos}
@@ -13,7 +13,6 @@ use Rattle.pz_state.specs.declared.state.TheConstants.{OBJECT_LIMIT}
 use Rattle.pz_state.specs.Marks.{Seen, changed}
 use Rattle.pz_classes.specs.Numbers.{declaration}
 use Rattle.pz_classes.specs.Members.{fields}
-use Rattle.pz_classes.specs.MethodBodies.{method_body}
 use Rattle.pz_evaluation.specs.Answers.{gives}
 use Rattle.pz_evaluation.specs.Steps.{created, data_method}
 

@@ -10,7 +10,7 @@ use Rattle.pz_code.specs.CodeView.{view}
 use Rattle.pz_state.specs.States.{StateView}
 use Rattle.pz_evaluation.specs.Memories.{Memory, Place, in_process, in_object}
 use Rattle.pz_evaluation.specs.Outcomes.{outside}
-use Rattle.pz_evaluation.specs.devices.Computed.{Reached, done, and_then, evaluated}
+use Rattle.pz_evaluation.specs.devices.Computed.{Reached, done, evaluated}
 use Rattle.pz_eval.specs.declared.stop.Stop.{Stop}
 use Rattle.pz_eval.specs.declared.task.Task.{Task}
 use Rattle.pz_eval.specs.declared.task.Control.{Control}

@@ -1,5 +1,5 @@
 -- What is found, of what an evaluation comes to.
-use Rattle.std.proofs.Common.{◌≡◌, ℕ, List, [], Result, Ok, Err, length, refl, sym, ap, ◌∙◌, subst}
+use Rattle.std.proofs.Common.{◌≡◌, ℕ, List, [], Result, Ok, Err, sym, ap, ◌∙◌, subst}
 use Rattle.std.specs.Prelude.{OnErr}
 use Rattle.std.proofs.Math.Logic.{∥∥₁_elim}
 use base.Stored.{Coded-set}

@@ -1,5 +1,5 @@
 -- What each form stands for, and what a step of its evaluation is.
-use Rattle.std.proofs.Common.{◌≡◌, ℕ, Bor, suc, ◌-◌, ◌<◌, List, Option, refl, sym, ap, ◌∙◌, arith, rules}
+use Rattle.std.proofs.Common.{◌≡◌, ℕ, Bor, ◌-◌, ◌<◌, List, Option, refl, rules}
 use Rattle.pz_syntax.specs.declared.tokens.Pos.{Pos}
 use Rattle.pz_syntax.specs.declared.tokens.Symbol.{Symbol}
 use Rattle.pz_syntax.specs.declared.exprs.Literal.{Literal}
@@ -19,7 +19,7 @@ use Rattle.pz_code.specs.CodeView.{Tree, view, form_view, list_view, part_view}
 use Rattle.pz_evaluation.specs.Memories.{Memory, Place, read, self_at}
 use Rattle.pz_evaluation.specs.Answers.{gives}
 use Rattle.pz_evaluation.specs.Steps.{constant, time, created, truth, chosen}
-use Rattle.pz_evaluation.specs.devices.Computed.{Reached, done, Computation, and_then, tick, tested, sequence, operators, selectors, turns, evaluated, step, spent}
+use Rattle.pz_evaluation.specs.devices.Computed.{done, Computation, and_then, tick, tested, sequence, evaluated, step, spent}
 use Rattle.pz_eval.specs.declared.task.Task.TheVariants as task
 use Rattle.pz_eval.specs.devices.Tasks.{links_view, sendings_view, turning, resumed}
 use Rattle.pz_eval.proofs.Going.{evaluated_is}

@@ -8,10 +8,9 @@ use Rattle.pz_code.specs.CodeView.{view, list_view}
 use Rattle.pz_state.specs.States.{StateView}
 use Rattle.pz_evaluation.specs.declared.outcome.Listed.TheVariants as listed
 use Rattle.pz_evaluation.specs.Memories.{Memory, Place}
-use Rattle.pz_evaluation.specs.Answers.{ends, fault, gives, stops}
+use Rattle.pz_evaluation.specs.Answers.{ends, gives, stops}
 use Rattle.pz_evaluation.specs.Outcomes.{outside}
-use Rattle.pz_evaluation.specs.devices.Computed.{Reached, done, spent, Computation, and_then, arguments, evaluated}
-use Rattle.pz_evaluation.specs.devices.Outcomes.{listed_of, state_after}
+use Rattle.pz_evaluation.specs.devices.Computed.{Reached, done, Computation, and_then, arguments, evaluated}
 use Rattle.pz_eval.specs.declared.stop.Stop.{Stop}
 use Rattle.pz_eval.specs.declared.stop.Stop.TheVariants as stop
 use Rattle.pz_eval.specs.declared.task.Finish.{Finish}

@@ -1,15 +1,9 @@
 -- What is to come in the method that runs.
-use Rattle.std.proofs.Common.{◌≡◌, ℕ, zero, suc, ◌-◌, ◌<◌, List, [], ◌∷◌, ◌++◌, length, Result, Ok, Err, Bool, true, false, Option, Some, None, refl, sym, ap, ◌∙◌, subst, arith}
-use Rattle.pz_syntax.specs.declared.tokens.Pos.{Pos}
-use Rattle.pz_syntax.specs.declared.tokens.Symbol.{Symbol}
-use Rattle.pz_syntax.specs.declared.names.Id.{Id}
+use Rattle.std.proofs.Common.{◌≡◌, ℕ, zero, suc, ◌-◌, ◌<◌, List, [], ◌∷◌, ◌++◌, length, Result, Ok, Err, refl, sym, ap, ◌∙◌, subst, arith}
 use Rattle.pz_syntax.specs.Classes.{ModelTree}
 use Rattle.pz_value.specs.declared.value.Value.{Value}
-use Rattle.pz_value.specs.declared.value.Value.TheVariants.{Nil}
-use Rattle.pz_code.specs.declared.code.Code.{Code}
-use Rattle.pz_code.specs.CodeView.{Tree, view, list_view}
 use Rattle.pz_evaluation.specs.Memories.{Memory, Place}
-use Rattle.pz_evaluation.specs.Answers.{Answer, ends, fault, gives, stops}
+use Rattle.pz_evaluation.specs.Answers.{Answer, gives, stops}
 use Rattle.pz_evaluation.specs.devices.Computed.{Reached, done, spent, Computation, follow, and_then, tick, evaluated, step}
 use Rattle.pz_eval.specs.declared.stop.Stop.{Stop}
 use Rattle.pz_eval.specs.declared.stop.Stop.TheVariants as stop

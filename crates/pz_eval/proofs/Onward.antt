@@ -1,9 +1,7 @@
 -- How lists, operators, selectors, arguments and turns go on.
-use Rattle.std.proofs.Common.{◌≡◌, ℕ, zero, suc, List, [], ◌∷◌, ◌++◌, length, Bool, true, false, Option, Some, None, Bor, refl, sym, ap, ◌∙◌, subst, arith, rules}
+use Rattle.std.proofs.Common.{◌≡◌, ℕ, zero, suc, List, [], ◌∷◌, ◌++◌, length, Bool, true, false, Option, Some, None, Bor, refl, sym, ap, arith, rules}
 use Rattle.pz_syntax.specs.declared.tokens.Pos.{Pos}
-use Rattle.pz_syntax.specs.declared.tokens.Symbol.{Symbol}
-use Rattle.pz_syntax.specs.declared.names.Id.{Id}
-use Rattle.pz_syntax.specs.Expressions.{Expressions, Part, Sendings}
+use Rattle.pz_syntax.specs.Expressions.{Part}
 use Rattle.pz_syntax.specs.Classes.{ModelTree}
 use Rattle.pz_value.specs.declared.value.ClassId.{ClassId}
 use Rattle.pz_value.specs.declared.value.Value.{Value}
@@ -13,13 +11,13 @@ use Rattle.pz_code.specs.declared.code.Code.{Code}
 use Rattle.pz_code.specs.declared.code.CodeLink.{CodeLink}
 use Rattle.pz_code.specs.declared.code.CodeSending.{CodeSending, out-CodeSending}
 use Rattle.pz_code.specs.declared.code.CodeForm.TheFolds.{the_lemmas}
-use Rattle.pz_code.specs.CodeView.{Tree, view, list_view, part_view, link_view, sending_view}
+use Rattle.pz_code.specs.CodeView.{view, list_view, part_view, link_view, sending_view}
 use Rattle.pz_state.specs.declared.fault.FaultKind.TheVariants.{NotBoolean}
 use Rattle.pz_evaluation.specs.Memories.{Memory, Place}
-use Rattle.pz_evaluation.specs.Answers.{fault, gives, stops}
+use Rattle.pz_evaluation.specs.Answers.{fault, stops}
 use Rattle.pz_evaluation.specs.Steps.{Codes, truth, chosen}
 use Rattle.pz_evaluation.specs.Evaluation.{arguments_of}
-use Rattle.pz_evaluation.specs.devices.Computed.{Reached, done, spent, Computation, and_then, tick, tested, sequence, arguments, operators, selectors, going, turns, evaluated}
+use Rattle.pz_evaluation.specs.devices.Computed.{Reached, done, Computation, and_then, tick, tested, sequence, arguments, operators, selectors, going, turns, evaluated}
 use Rattle.pz_evaluation.specs.devices.Laws.{TurnsGoOn}
 use Rattle.pz_eval.specs.declared.task.Request.{Request}
 use Rattle.pz_eval.specs.declared.task.Task.{Task}

@@ -1,13 +1,11 @@
 -- What receivers do, and what comes of a selector that is sent.
-use Rattle.std.proofs.Common.{◌≡◌, ℕ, suc, ◌-◌, ◌++◌, ◌∷◌, List, [], length, Option, Some, None, Result, Ok, Err, refl, sym, ap, ◌∙◌, subst}
+use Rattle.std.proofs.Common.{◌≡◌, ℕ, List, length, Some, None, Result, Ok, Err, refl, sym, ap, ◌∙◌, subst}
 use Rattle.pz_syntax.specs.declared.tokens.Pos.{Pos}
 use Rattle.pz_syntax.specs.declared.names.Id.{Id}
-use Rattle.pz_syntax.specs.Expressions.{Sendings}
 use Rattle.pz_syntax.specs.Classes.{ModelTree}
 use Rattle.pz_value.specs.declared.value.ClassId.{ClassId}
 use Rattle.pz_value.specs.declared.value.Value.{Value}
 use Rattle.pz_value.specs.declared.value.Value.TheVariants as value
-use Rattle.pz_code.specs.declared.slot.Slot.{Slot}
 use Rattle.pz_state.specs.declared.fault.FaultKind.{FaultKind}
 use Rattle.pz_state.specs.declared.fault.FaultKind.TheVariants.{NotUnderstood}
 use Rattle.pz_state.specs.States.{StateView, object}
@@ -15,10 +13,10 @@ use Rattle.pz_state.specs.Marks.{Seen, changed}
 use Rattle.pz_prims.specs.declared.answer.Prim.{Prim}
 use Rattle.pz_prims.specs.declared.answer.Prim.TheVariants as prim
 use Rattle.pz_prims.specs.Table.{Outcome, outcome}
-use Rattle.pz_evaluation.specs.Memories.{Memory, Place, with_state}
-use Rattle.pz_evaluation.specs.Answers.{Answer, Stop as Stopped, fault, gives, stops}
+use Rattle.pz_evaluation.specs.Memories.{Memory, with_state}
+use Rattle.pz_evaluation.specs.Answers.{fault, gives, stops}
 use Rattle.pz_evaluation.specs.Steps.{Codes, Reply, answers, runs, reply, reply_to, class_reply, data_method}
-use Rattle.pz_evaluation.specs.devices.Computed.{Reached, done, spent, Computation, and_then, replied, selectors, evaluated}
+use Rattle.pz_evaluation.specs.devices.Computed.{Reached, done, Computation, and_then, replied, evaluated}
 use Rattle.pz_eval.specs.declared.stop.Stop.{Stop}
 use Rattle.pz_eval.specs.declared.stop.Stop.TheVariants as stop
 use Rattle.pz_eval.specs.declared.task.Request.{Request}

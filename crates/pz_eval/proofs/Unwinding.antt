@@ -1,5 +1,5 @@
 -- What callers make of what their methods come to.
-use Rattle.std.proofs.Common.{◌≡◌, ℕ, suc, ◌-◌, List, [], ◌∷◌, ◌++◌, length, Bor, Result, Ok, Err, refl, sym, ap, ◌∙◌}
+use Rattle.std.proofs.Common.{◌≡◌, ℕ, ◌-◌, List, [], ◌∷◌, ◌++◌, length, Bor, Result, Ok, Err, refl, sym, ap, ◌∙◌}
 use Rattle.std.specs.Prelude.{OnOk}
 use Rattle.pz_syntax.specs.declared.tokens.Pos.{Pos}
 use Rattle.pz_syntax.specs.Classes.{ModelTree}
@@ -9,13 +9,12 @@ use Rattle.pz_code.specs.declared.code.CodeSending.{CodeSending}
 use Rattle.pz_state.specs.declared.fault.FaultKind.{FaultKind}
 use Rattle.pz_state.specs.States.{StateView, nils}
 use Rattle.pz_evaluation.specs.Memories.{Memory, Place, in_object}
-use Rattle.pz_evaluation.specs.Answers.{Answer, ends, fault, gives, stops, ended}
+use Rattle.pz_evaluation.specs.Answers.{ends, fault, gives, stops, ended}
 use Rattle.pz_evaluation.specs.Steps.{Codes, runs}
 use Rattle.pz_evaluation.specs.devices.Computed.{Reached, done, spent, Computation, and_then, seen_by, tick, sequence, replied, selectors, evaluated}
 use Rattle.pz_eval.specs.declared.stop.Stop.{Stop}
 use Rattle.pz_eval.specs.declared.stop.Stop.TheVariants as stop
 use Rattle.pz_eval.specs.declared.task.Site.TheVariants.{Object}
-use Rattle.pz_eval.specs.declared.task.Task.{Task}
 use Rattle.pz_eval.specs.declared.task.Task.TheVariants as task
 use Rattle.pz_eval.specs.declared.task.Control.{Control}
 use Rattle.pz_eval.specs.declared.task.Activation.{Activation}

@@ -1,5 +1,5 @@
 -- Where the code evaluates, and what it reads there.
-use Rattle.std.specs.Prelude.{ℕ, List, []}
+use Rattle.std.specs.Prelude.{List, []}
 use Rattle.pz_value.specs.declared.value.Value.{Value}
 use Rattle.pz_state.specs.States.{StateView}
 use Rattle.pz_evaluation.specs.Memories.{Memory, Place, in_process, in_object}

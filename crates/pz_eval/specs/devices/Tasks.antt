@@ -11,7 +11,7 @@ use Rattle.pz_code.specs.declared.slot.Slot.{Slot}
 use Rattle.pz_code.specs.declared.code.CodeLink.{CodeLink}
 use Rattle.pz_code.specs.declared.code.CodeSending.{CodeSending}
 use Rattle.pz_code.specs.CodeView.{Tree, view, list_view, part_view, links_of, link_view, sendings_of, sending_view}
-use Rattle.pz_evaluation.specs.Memories.{Memory, Place, write}
+use Rattle.pz_evaluation.specs.Memories.{Place, write}
 use Rattle.pz_evaluation.specs.Answers.{ends, gives, stops, ended}
 use Rattle.pz_evaluation.specs.Steps.{Codes, truth, chosen, applied, applied_alone, reply}
 use Rattle.pz_evaluation.specs.devices.Computed.{Reached, done, Computation, follow, and_then, seen_by, tick, tested, sequence, arguments, operators, replied, selectors, going, turns, evaluated}

@@ -1,6 +1,5 @@
 -- References that the code holds name objects that are there.
-use Rattle.std.specs.Prelude.{◌<◌, ℕ, List, All}
-use Rattle.pz_value.specs.declared.value.Value.{Value}
+use Rattle.std.specs.Prelude.{◌<◌, ℕ, All}
 use Rattle.pz_state.specs.References.{RefersWithin}
 use Rattle.pz_eval.specs.declared.task.Site.{Site}
 use Rattle.pz_eval.specs.declared.task.Site.TheVariants.{Process, Object}

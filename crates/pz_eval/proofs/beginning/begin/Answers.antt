@@ -1,4 +1,4 @@
-use Rattle.std.proofs.Common.{◌≡◌, ap, arith}
+use Rattle.std.proofs.Common.{ap, arith}
 use Rattle.pz_code.specs.CodeView.{view}
 use Rattle.pz_evaluation.specs.devices.Computed.{and_then}
 use Rattle.pz_eval.specs.devices.Sites.{place_of, memory_at}

@@ -1,4 +1,4 @@
-use Rattle.std.proofs.Common.{◌≡◌, ap, refl, subst, List, length}
+use Rattle.std.proofs.Common.{ap, subst, List, length}
 use Rattle.pz_value.specs.declared.value.Value.{Value}
 use Rattle.pz_evaluation.specs.Memories.{read}
 use Rattle.pz_evaluation.specs.Answers.{gives}

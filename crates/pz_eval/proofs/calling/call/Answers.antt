@@ -1,8 +1,7 @@
-use Rattle.std.proofs.Common.{◌≡◌, ap, sym, subst, ◌∙◌, List, [], length}
+use Rattle.std.proofs.Common.{◌≡◌, ap, sym, subst, ◌∙◌, List, []}
 use Rattle.std.specs.Prelude.{All}
 use Rattle.std.proofs.lemmas.Result.{IfOk-weaker}
 use Rattle.std.proofs.lemmas.List.Elements.{All-nil}
-use Rattle.pz_value.specs.declared.value.Value.{Value}
 use Rattle.pz_value.specs.declared.value.Value.TheVariants.{Nil}
 use Rattle.pz_code.specs.CodeView.{list_view}
 use Rattle.pz_evaluation.specs.devices.Computed.{and_then, sequence, evaluated}

@@ -1,20 +1,11 @@
-use Rattle.std.proofs.Common.{◌≡◌, ap, sym, subst, ◌∙◌, ℕ, List, Ok, length}
-use Rattle.std.specs.Prelude.{All, IfOk}
-use Rattle.std.proofs.lemmas.Result.{IfOk-weaker}
+use Rattle.std.proofs.Common.{ap, sym}
 use Rattle.pz_value.specs.declared.value.Value.{Value}
-use Rattle.pz_code.specs.CodeView.{list_view}
-use Rattle.pz_state.specs.Marks.{Seen}
-use Rattle.pz_state.specs.References.{RefersWithin}
-use Rattle.pz_evaluation.specs.Steps.{reply, runs}
+use Rattle.pz_evaluation.specs.Steps.{reply}
 use Rattle.pz_evaluation.specs.devices.Computed.{Reached, and_then, replied, selectors, evaluated}
-use Rattle.pz_eval.specs.declared.replying.Reply.{Reply as Got}
-use Rattle.pz_eval.specs.declared.replying.Reply.TheVariants as got
-use Rattle.pz_eval.specs.devices.Sites.{place_of, locals_at, memory_at}
-use Rattle.pz_eval.specs.devices.Tasks.{sendings_view, sent, pending, meant, unwound}
-use Rattle.pz_eval.specs.devices.Within.{RequestWithin, ActivationWithin, ControlWithin}
+use Rattle.pz_eval.specs.devices.Sites.{place_of, memory_at}
+use Rattle.pz_eval.specs.devices.Tasks.{sendings_view, pending, meant, unwound}
 use Rattle.pz_eval.proofs.Going.{goes_same, one_left}
-use Rattle.pz_eval.proofs.Replied.{is_answer, is_run, is_stop, run_same, reply_within, got_answer, got_run, got_stop}
-use Rattle.pz_eval.proofs.Unwinding.{goes_unwound, stops_unwound, tick_stops, on_ok}
+use Rattle.pz_eval.proofs.Unwinding.{tick_stops}
 use Rattle.pz_eval.proofs.calling.send.Goals as goal
 
 pub returns-in-Ok-clause-goes : goal.returns-in-Ok-clause-goes

@@ -1,9 +1,8 @@
-use Rattle.std.proofs.Common.{◌≡◌, ℕ, ◌<◌, length, refl, sym, ap, subst, ◌∙◌, arith}
+use Rattle.std.proofs.Common.{ℕ, ◌<◌, length, refl, sym, ap, subst, ◌∙◌, arith}
 use Rattle.pz_value.specs.declared.value.Value.{Value}
 use Rattle.pz_state.specs.States.{StateView}
 use Rattle.pz_state.specs.Marks.{Seen, changed}
 use Rattle.pz_state.specs.References.{RefersWithin}
-use Rattle.pz_eval.specs.Binding.{set_slot, set_slots}
 use Rattle.pz_eval.proofs.Parceling.{next_set, no_pairs, count_stays}
 use Rattle.pz_eval.proofs.conditions.set_slots.Goals as goal
 

@@ -1,4 +1,4 @@
-use Rattle.std.proofs.Common.{◌≡◌, List, sym, subst}
+use Rattle.std.proofs.Common.{List, sym, subst}
 use Rattle.pz_value.specs.declared.value.Value.{Value}
 use Rattle.std.proofs.lemmas.Result.{IfOk-weaker}
 use Rattle.pz_eval.specs.devices.Tasks.{pending, meant}

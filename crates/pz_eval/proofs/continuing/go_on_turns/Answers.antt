@@ -1,4 +1,3 @@
-use Rattle.std.proofs.Common.{◌≡◌, refl, sym, ap, ◌∙◌}
 use Rattle.std.proofs.lemmas.Result.{IfOk-weaker}
 use Rattle.pz_eval.specs.devices.Tasks.{pending, meant}
 use Rattle.pz_eval.proofs.Going.{goes_same}

@@ -1,19 +1,13 @@
-use Rattle.std.proofs.Common.{◌≡◌, List, Result, Ok, Err, length, refl, sym, ap, subst, ◌∙◌}
+use Rattle.std.proofs.Common.{◌≡◌, List, Result, Ok, Err, length, sym, ap, subst}
 use Rattle.std.specs.Prelude.{All, IfOk}
 use Rattle.std.proofs.lemmas.Result.{IfOk-weaker}
 use Rattle.pz_value.specs.declared.value.Value.{Value}
-use Rattle.pz_code.specs.CodeView.{view, list_view}
-use Rattle.pz_state.specs.States.{StateView}
+use Rattle.pz_code.specs.CodeView.{list_view}
 use Rattle.pz_state.specs.Marks.{Seen}
 use Rattle.pz_state.specs.References.{RefersWithin}
-use Rattle.pz_evaluation.specs.Outcomes.{outside}
-use Rattle.pz_evaluation.specs.devices.Outcomes.{reached_value, reached_list}
+use Rattle.pz_evaluation.specs.devices.Outcomes.{reached_list}
 use Rattle.pz_eval.specs.declared.stop.Stop.{Stop}
-use Rattle.pz_eval.specs.declared.task.Finish.{Finish}
-use Rattle.pz_eval.specs.devices.Within.{FinishWithin}
-use Rattle.pz_eval.specs.Promises.{NamesWithin, NameWithin}
-use Rattle.pz_eval.proofs.Gathering.{finish_is, stop_is}
-use Rattle.pz_eval.proofs.Finding.{value_found, stop_found, values_found, list_stop_found, gathers_is, is_latest, is_back, marks_kept, finish_within, value_kept, stop_within, same_kept, stop_within_all, same_kept_all, on_err}
+use Rattle.pz_eval.proofs.Finding.{values_found, list_stop_found, gathers_is, is_latest, is_back, marks_kept, stop_within_all, same_kept_all, on_err}
 use Rattle.pz_eval.proofs.evaluating.eval_list.Goals as goal
 
 pub keep-requires : goal.keep-requires

@@ -1,19 +1,11 @@
-use Rattle.std.proofs.Common.{◌≡◌, List, Result, Ok, Err, length, refl, sym, ap, subst, ◌∙◌}
-use Rattle.std.specs.Prelude.{All, IfOk}
+use Rattle.std.proofs.Common.{refl, ap}
 use Rattle.std.proofs.lemmas.Result.{IfOk-weaker}
-use Rattle.pz_value.specs.declared.value.Value.{Value}
-use Rattle.pz_code.specs.CodeView.{view, list_view}
-use Rattle.pz_state.specs.States.{StateView}
+use Rattle.pz_code.specs.CodeView.{view}
 use Rattle.pz_state.specs.Marks.{Seen}
-use Rattle.pz_state.specs.References.{RefersWithin}
 use Rattle.pz_evaluation.specs.Outcomes.{outside}
-use Rattle.pz_evaluation.specs.devices.Outcomes.{reached_value, reached_list}
-use Rattle.pz_eval.specs.declared.stop.Stop.{Stop}
-use Rattle.pz_eval.specs.declared.task.Finish.{Finish}
-use Rattle.pz_eval.specs.devices.Within.{FinishWithin}
-use Rattle.pz_eval.specs.Promises.{NamesWithin, NameWithin}
+use Rattle.pz_evaluation.specs.devices.Outcomes.{reached_value}
 use Rattle.pz_eval.proofs.Gathering.{finish_is, stop_is}
-use Rattle.pz_eval.proofs.Finding.{value_found, stop_found, values_found, list_stop_found, gathers_is, is_latest, is_back, marks_kept, finish_within, value_kept, stop_within, same_kept, stop_within_all, same_kept_all, on_err}
+use Rattle.pz_eval.proofs.Finding.{value_found, stop_found, is_latest, is_back}
 use Rattle.pz_eval.proofs.evaluating.try_eval.Goals as goal
 
 pub undo_to-requires : goal.undo_to-requires

@@ -1,4 +1,4 @@
-use Rattle.std.proofs.Common.{◌≡◌, ℕ, [], length, drop}
+use Rattle.std.proofs.Common.{◌≡◌, [], length, drop}
 use Rattle.std.specs.Prelude.{All}
 use Rattle.pz_syntax.specs.Classes.{ModelTree}
 use Rattle.pz_code.specs.CodeView.{list_view}

@@ -1,4 +1,4 @@
-use Rattle.std.proofs.Common.{◌≡◌, ℕ, List, [], length, refl, sym, ap, subst, ◌∙◌, arith}
+use Rattle.std.proofs.Common.{◌≡◌, ℕ, [], length, refl, sym, ap, subst, arith}
 use Rattle.std.specs.Prelude.{All}
 use Rattle.std.proofs.lemmas.Result.{IfOk-weaker}
 use Rattle.std.proofs.lemmas.List.Elements.{All-pop}
@@ -9,7 +9,6 @@ use Rattle.pz_value.specs.declared.value.Value.{Value}
 use Rattle.pz_eval.specs.declared.task.Control.{Control}
 use Rattle.pz_eval.specs.declared.task.Control.TheVariants as control
 use Rattle.pz_eval.specs.declared.task.Site.{Site}
-use Rattle.pz_eval.specs.declared.task.Activation.{Activation}
 use Rattle.pz_eval.specs.devices.Sites.{place_of, memory_at}
 use Rattle.pz_eval.specs.devices.Tasks.{resumed, pending, meant, unwound}
 use Rattle.pz_eval.specs.devices.Steps.{Advances, Progresses, root}

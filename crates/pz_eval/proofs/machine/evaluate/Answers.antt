@@ -1,4 +1,4 @@
-use Rattle.std.proofs.Common.{◌≡◌, length, ap, ◌∙◌}
+use Rattle.std.proofs.Common.{length}
 use Rattle.pz_code.specs.CodeView.{view}
 use Rattle.pz_state.specs.References.{RefersWithin}
 use Rattle.pz_evaluation.specs.Memories.{in_process}

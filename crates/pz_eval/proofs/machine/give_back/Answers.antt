@@ -1,6 +1,6 @@
-use Rattle.std.proofs.Common.{◌≡◌, List, [], sym, ap, subst, ◌∙◌}
+use Rattle.std.proofs.Common.{List, sym, ap, subst, ◌∙◌}
 use Rattle.std.specs.Prelude.{All}
-use Rattle.pz_evaluation.specs.Answers.{gives, ends, stops}
+use Rattle.pz_evaluation.specs.Answers.{gives}
 use Rattle.pz_evaluation.specs.devices.Computed.{done}
 use Rattle.pz_eval.specs.declared.task.Activation.{Activation}
 use Rattle.pz_eval.specs.devices.Sites.{place_of, locals_at, memory_at}

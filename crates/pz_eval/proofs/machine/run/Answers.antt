@@ -1,8 +1,7 @@
-use Rattle.std.proofs.Common.{◌≡◌, List, [], Result, Ok, length, refl, sym, ap, subst, ◌∙◌, arith}
+use Rattle.std.proofs.Common.{◌≡◌, List, [], Ok, length, refl, sym, ap, subst, ◌∙◌, arith}
 use Rattle.std.specs.Prelude.{All}
 use Rattle.pz_value.specs.declared.value.Value.{Value}
 use Rattle.pz_evaluation.specs.devices.Computed.{Reached}
-use Rattle.pz_eval.specs.declared.stop.Stop.{Stop}
 use Rattle.pz_eval.specs.declared.task.Activation.{Activation}
 use Rattle.pz_eval.specs.declared.task.Progress.{Progress}
 use Rattle.pz_eval.specs.declared.task.Progress.TheVariants as progress

@@ -1,5 +1,4 @@
-use Rattle.std.proofs.Common.{◌≡◌, ◌∙◌, ap, ℕ, List}
-use Rattle.pz_value.specs.declared.value.ClassId.{ClassId}
+use Rattle.std.proofs.Common.{◌≡◌, ◌∙◌, ap}
 use Rattle.pz_state.specs.Objects.{ObjectView}
 use Rattle.pz_state.specs.States.{object}
 use Rattle.pz_code.specs.CodeView.{list_view}

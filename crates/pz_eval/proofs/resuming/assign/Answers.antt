@@ -1,4 +1,4 @@
-use Rattle.std.proofs.Common.{◌≡◌, ap, sym, subst, ◌∙◌, ℕ, List, length}
+use Rattle.std.proofs.Common.{ap, sym, subst, ◌∙◌, ℕ, length}
 use Rattle.std.specs.Prelude.{All}
 use Rattle.pz_value.specs.declared.value.Value.{Value}
 use Rattle.pz_state.specs.References.{RefersWithin}

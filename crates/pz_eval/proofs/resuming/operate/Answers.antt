@@ -1,8 +1,8 @@
-use Rattle.std.proofs.Common.{◌≡◌, sym, subst, ℕ, List, length}
+use Rattle.std.proofs.Common.{sym, subst, ℕ, length}
 use Rattle.std.specs.Prelude.{All}
 use Rattle.std.proofs.lemmas.Result.{IfOk-weaker}
 use Rattle.pz_evaluation.specs.Steps.{applied}
-use Rattle.pz_evaluation.specs.devices.Computed.{and_then, operators, evaluated}
+use Rattle.pz_evaluation.specs.devices.Computed.{operators, evaluated}
 use Rattle.pz_eval.specs.devices.Tasks.{links_view, pending, meant}
 use Rattle.pz_eval.specs.devices.Within.{TaskWithin}
 use Rattle.pz_eval.proofs.Going.{goes_same, counted_on, counted_stops}

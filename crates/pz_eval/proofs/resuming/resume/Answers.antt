@@ -1,7 +1,6 @@
-use Rattle.std.proofs.Common.{◌≡◌, ap, sym, subst, ℕ, List, length}
+use Rattle.std.proofs.Common.{ap, sym, subst, ℕ, length}
 use Rattle.std.specs.Prelude.{All}
 use Rattle.std.proofs.lemmas.Result.{IfOk-weaker}
-use Rattle.pz_value.specs.declared.value.Value.{Value}
 use Rattle.pz_state.specs.References.{RefersWithin}
 use Rattle.pz_evaluation.specs.devices.Computed.{and_then}
 use Rattle.pz_eval.specs.declared.task.Task.{Task}

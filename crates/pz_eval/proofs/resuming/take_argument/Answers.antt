@@ -1,4 +1,4 @@
-use Rattle.std.proofs.Common.{◌≡◌, ap, List}
+use Rattle.std.proofs.Common.{ap, List}
 use Rattle.std.proofs.lemmas.Result.{IfOk-weaker}
 use Rattle.pz_value.specs.declared.value.Value.{Value}
 use Rattle.pz_code.specs.CodeView.{list_view}

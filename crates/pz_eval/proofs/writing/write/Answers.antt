@@ -1,4 +1,4 @@
-use Rattle.std.proofs.Common.{◌≡◌, ap, sym, subst, ℕ, length}
+use Rattle.std.proofs.Common.{sym, subst, ℕ}
 use Rattle.std.specs.Prelude.{All, slice_set}
 use Rattle.pz_state.specs.References.{RefersWithin}
 use Rattle.pz_state.specs.States.{set_item}
