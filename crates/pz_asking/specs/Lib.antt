@@ -1,0 +1,3 @@
+pub mod Standpoints
+pub mod Parcels
+pub mod devices

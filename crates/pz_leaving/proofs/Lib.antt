@@ -1,0 +1,4 @@
+mod Views
+mod SlotsSet
+mod Acting
+mod Levels

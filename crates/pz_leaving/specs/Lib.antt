@@ -1,0 +1,4 @@
+pub mod devices
+pub mod Places
+pub mod Becoming
+pub mod Laws

@@ -1,0 +1,13 @@
+//! What is around a part that has become another, each form on one level, and what a frame that ends
+//! gives to the variables around it.
+#![tactic(auto)]
+
+mod around;
+mod laws;
+mod slots;
+
+pub use around::{
+    in_abort, in_frame, in_handling, in_interrupt, in_parallel, in_sequence, is_done,
+};
+pub use laws::active_parts_may_act;
+pub use slots::{copy_locals, set_slot, set_slots};
