@@ -1,0 +1,66 @@
+ghost use Rattle.std.specs.Prelude.{◌≡◌, []};
+
+use pz_copy::Parcel;
+use pz_offer::{Place, Trouble};
+use pz_rules::Kind;
+use pz_syntax::{Name, Pos};
+use std::alloc::Global;
+
+/// An internal action that an active part can do.
+#[derive(Drop)]
+pub struct Doing {
+    pub place: Place,
+    pub kind: Kind,
+    pub pos: Pos,
+}
+
+/// An active send, with the parcel that it would hand over now.
+#[derive(Drop)]
+pub struct Sending {
+    pub place: Place,
+    pub pos: Pos,
+    pub port: u32,
+    pub message: Name,
+    pub parcel: Parcel,
+}
+
+/// An active receive, of so many values.
+#[derive(Drop)]
+pub struct Receiving {
+    pub place: Place,
+    pub pos: Pos,
+    pub port: u32,
+    pub message: Name,
+    pub count: usize,
+}
+
+/// What is found in a term, each list in the order of places.
+#[derive(Drop)]
+pub struct Found {
+    pub internal: Vec<Doing>,
+    pub sends: Vec<Sending>,
+    pub receives: Vec<Receiving>,
+    /// What is left of the active delays, in clock units.
+    pub delays: Vec<u128>,
+    /// The troubles of what is asked.
+    pub troubles: Vec<Trouble>,
+}
+
+impl Found {
+    /// Nothing yet. Takes no memory.
+    pub fn new(alloc: Global) -> Found
+        ensures internal { result.internal.items ≡ [] }
+        ensures sends { result.sends.items ≡ [] }
+        ensures receives { result.receives.items ≡ [] }
+        ensures delays { result.delays.items ≡ [] }
+        ensures troubles { result.troubles.items ≡ [] }
+    {
+        Found {
+            internal: Vec::new(alloc),
+            sends: Vec::new(alloc),
+            receives: Vec::new(alloc),
+            delays: Vec::new(alloc),
+            troubles: Vec::new(alloc),
+        }
+    }
+}
