@@ -26,7 +26,8 @@ use Rattle.pz_rules.proofs.Chosen.{acting_at, passing_at, takes_within}
 use Rattle.pz_rules.proofs.Elapsed.{there, next_whole, passing_whole}
 use Rattle.pz_rules.proofs.Waiting.{passing_some}
 use Rattle.pz_rules.proofs.Kept.{OutcomeFits, next_some, outcome_fits, passing_fits}
-use Rattle.pz_rules.proofs.Pending.{list_pending, fewer_pending}
+use Rattle.pz_rules.specs.devices.Pending.{list_pending}
+use Rattle.pz_rules.proofs.Pending.{fewer_pending}
 
 contains_at : {X : Type 0} (xs : List X) (i : ℕ) (x : X) → slice_get xs i ≡ Some x → Contains xs x
 contains_at [] i x e = no_some e

@@ -20,38 +20,12 @@ use Rattle.pz_rules.specs.Steps.{PassesTo}
 use Rattle.pz_rules.specs.Moments.{IsMoment}
 use Rattle.pz_rules.specs.devices.Found.{tested, lasting}
 use Rattle.pz_rules.specs.devices.Passing.{begun, statement_passed, if_open, passed, passed_all}
+use Rattle.pz_rules.specs.devices.Pending.{waits_on, statement_pending, pending, all_pending, list_pending}
 use Rattle.pz_rules.proofs.Found.{tests_only, lasts_only}
 use Rattle.pz_rules.proofs.Locals.{some_is, no_some}
 use Rattle.pz_rules.proofs.Passings.{passes_only}
 use Rattle.pz_rules.proofs.Moments.{least_passes, time_positive}
 use Rattle.pz_rules.proofs.Elapsed.{stands_there}
-
--- how many delays in a term may have something left
-abbrev waits_on : ℕ → ℕ
-waits_on zero = 0
-waits_on (suc n) = 1
-
-abbrev statement_pending : Step → ℕ
-statement_pending (delay at e) = 1
-statement_pending s = 0
-
-abbrev mutual
-  pub pending : Term → ℕ
-  pending done = 0
-  pending (leaf s) = statement_pending s
-  pending (wait left at) = waits_on left
-  pending (sequence t rest) = pending t
-  pending (parallel ts) = all_pending ts
-  pending (select ts) = all_pending ts
-  pending (guarded test at t) = pending t
-  pending (frame number inputs results t) = pending t
-  pending (abort t u) = pending t + pending u
-  pending (idle t u again) = pending t + pending u
-  pending (handling t u again) = pending t + pending u
-
-  pub all_pending : Terms → ℕ
-  all_pending no_terms = 0
-  all_pending (and t ts) = pending t + all_pending ts
 
 waits_few : (n : ℕ) → waits_on n ≤ 1
 waits_few zero = omega arith
@@ -146,11 +120,6 @@ module _ (a : At) (d : ℕ) where
   part_fewer : (f : ℕ) (t : Term) (place : Place) (g : ℕ) (x : Term) (left : ℕ) → Active a f t place g x → left ≡ d → 1 ≤ d → Delays a g x left → pending (passed a d f t) < pending t
   part_fewer _ _ _ _ _ left (active.here f t) same positive h = delay_fewer f t left same positive h
   part_fewer _ _ _ _ _ left (active.inside f t i place g x r k) same positive h = child_fewer f t i r (part_fewer (frame_in t f) (child t i) place g x left k same positive h)
-
--- of a configuration
-abbrev pub list_pending : List Process → ℕ
-list_pending [] = 0
-list_pending (p ∷ ps) = pending p.term + list_pending ps
 
 -- a list in which no process has more, and one has fewer
 list_less : (ps qs : List Process) → length ps ≡ length qs → ((i : ℕ) (p q : Process) → slice_get ps i ≡ Some p → slice_get qs i ≡ Some q → pending q.term ≤ pending p.term) → list_pending qs ≤ list_pending ps

@@ -3,3 +3,5 @@ pub mod Walk
 pub mod Walks
 pub mod Passing
 pub mod Computed
+pub mod Pending
+pub mod Ends

@@ -2,6 +2,7 @@
 
 ghost use Rattle.pz_rules.specs.Laws.{OneListOfOffers, EveryListOfOffers, WiresAreKnown, OneMoment, EveryMoment, TimeWaits, LeastPasses, TimeIsPositive, EveryPassing, PassingTakes, BringsToZero, OneNext, OnePassing, StaysWhole, StartFits, StaysFit, EveryNext, OneChosenRun, EveryChosenRun, ChosenRunsAreRuns};
 ghost use Rattle.pz_rules.specs.devices.Computed.{TestsAreComputed, TimesAreComputed, PartsAreComputed, PassingIsComputed, OnePassingIsComputed};
+ghost use Rattle.pz_rules.specs.devices.Ends.{PassingsEnd, ActivePartsFit};
 ghost use Rattle.pz_rules.specs.devices.Walks.{InternalActionsAreListed, SendsAreListed, SendsHaveParcels, ReceivesAreListed, DelaysAreListed, TroublesAreListed};
 
 use pz_bind::ends_share_wires;
@@ -96,4 +97,15 @@ pub fn evaluations_are_computed()
 pub fn passing_is_computed()
     ensures only { OnePassingIsComputed }
     ensures some { PassingIsComputed }
+{}
+
+/// Only so many passings of time follow each other: each leaves fewer delays that may have something
+/// left.
+pub fn passings_end()
+    ensures law { PassingsEnd }
+{}
+
+/// An active part of a term that fits a class fits it too.
+pub fn active_parts_fit()
+    ensures law { ActivePartsFit }
 {}
