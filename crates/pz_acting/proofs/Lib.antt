@@ -1,0 +1,6 @@
+mod Forms
+mod Performed
+mod Methods
+mod Calls
+mod Frames
+mod Messages

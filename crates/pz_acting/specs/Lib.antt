@@ -1,0 +1,5 @@
+pub mod devices
+pub mod Acting
+pub mod Becoming
+pub mod Fitting
+pub mod Laws

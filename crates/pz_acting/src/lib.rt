@@ -1,0 +1,16 @@
+//! What an acting part of a process becomes: by itself, by handing over a parcel, or by taking one.
+#![tactic(auto)]
+
+mod calling;
+mod evaluating;
+mod handing;
+mod laws;
+mod opening;
+mod performing;
+mod taking;
+mod testing;
+
+pub use handing::hand;
+pub use laws::offered_parts_act;
+pub use performing::perform;
+pub use taking::take;

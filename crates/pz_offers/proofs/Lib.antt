@@ -1,0 +1,4 @@
+mod Pairs
+mod Verdicts
+mod Communications
+mod Moments

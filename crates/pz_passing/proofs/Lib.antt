@@ -1,0 +1,3 @@
+mod Begun
+mod Left
+mod Parts

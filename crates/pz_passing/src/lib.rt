@@ -1,0 +1,6 @@
+//! What the passing of time leaves of a term.
+#![tactic(auto)]
+
+mod passing;
+
+pub use passing::pass;

@@ -1,0 +1,5 @@
+mod Unwinding
+mod Inward
+mod Outward
+mod Standing
+mod Closing

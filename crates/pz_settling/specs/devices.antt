@@ -1,0 +1,2 @@
+pub mod Unwound
+pub mod Swept

@@ -1,0 +1,4 @@
+mod Setting
+mod Given
+mod First
+mod Started

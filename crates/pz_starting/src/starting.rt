@@ -1,0 +1,75 @@
+// The processes before the first step. The only error is want of memory.
+
+ghost use Rattle.std.specs.Prelude.{◌≡◌, ℕ, [], Some, length, slice_get, All, IfOk};
+ghost use Rattle.pz_classes.specs.CheckedView.{checked_model};
+ghost use Rattle.pz_state.specs.References.{RefersWithin};
+ghost use Rattle.pz_levels.specs.Places.{Place};
+ghost use Rattle.pz_bind.specs.Nest as nest;
+ghost use Rattle.pz_bind.specs.NetView.{IsNet, HasProcess};
+ghost use Rattle.pz_rules.specs.declared.limits.Limits.{Limits};
+ghost use Rattle.pz_rules.specs.Starting.{StartsAs, IsStart};
+ghost use Rattle.pz_process.specs.Standing.{setting_of, process_view, config_of, AreProcesses};
+
+use pz_bind::Net;
+use pz_bodies::copy_step;
+use pz_classes::{Checked, sound_classes_fit};
+use pz_process::{Process, trees_are_sets};
+use pz_rules::{Term, what_fits_goes_on};
+use pz_state::State;
+use pz_value::Value;
+use std::alloc::{AllocError, Global};
+
+/// A state of variables with these values, without frames and objects.
+fn state_of(alloc: Global, values: &[Value]) -> Result<State, AllocError>
+    requires { All (RefersWithin 0) values.now }
+    ensures { IfOk result (λ state. state.held ≡ record { vars = values.now; frames = []; objects = [] }) }
+{
+    // No memory holds so many values that their numbers do not fit.
+    let Ok(count) = u32::try_from(values.len()) else {
+        return Err(AllocError);
+    };
+    let mut state = State::new(alloc, count)?;
+    for slot in 0..count {
+        state.set_var(slot, values[slot as usize].copy()?)?;
+    }
+    Ok(state)
+}
+
+/// A process before the call that the `init` of its class names.
+fn first_of(
+    alloc: Global,
+    checked: &Checked,
+    net: &Net,
+    process: u32,
+) -> Result<Process, AllocError>
+    requires of_model { ∥ IsNet (checked_model checked.now) net.now ∥₁ }
+    requires there { HasProcess net.now process }
+    ensures { IfOk result (λ first. (limits : Limits) (place : Place) → slice_get (nest.processes (checked_model checked.now)) process ≡ Some place →
+        StartsAs (setting_of (checked_model checked.now) limits) place (process_view first)) }
+{
+    sound_classes_fit();
+    trees_are_sets();
+    let _model = checked.model();
+    let Some(call) = checked.classes().init(net.class(process)) else {
+        unreachable!()
+    };
+    let term = Term::Leaf(copy_step(alloc, call)?);
+    let state = state_of(alloc, net.values(process))?;
+    Ok(Process { term, state })
+}
+
+/// The processes of a model, each before the call that its `init` names, with the values that its
+/// parameters are given and all other variables nil. The only error is want of memory.
+pub fn start(alloc: Global, checked: &Checked, net: &Net) -> Result<Vec<Process>, AllocError>
+    requires of_model { ∥ IsNet (checked_model checked.now) net.now ∥₁ }
+    ensures start { IfOk result (λ processes. (limits : Limits) → IsStart (setting_of (checked_model checked.now) limits) (config_of 0 processes.items)) }
+    ensures processes { IfOk result (λ processes. (limits : Limits) → AreProcesses (setting_of (checked_model checked.now) limits) 0 processes.items) }
+{
+    what_fits_goes_on();
+    let _model = checked.model();
+    let mut processes = Vec::new(alloc);
+    for process in 0..net.processes() {
+        processes.push(first_of(alloc, checked, net, process)?)?;
+    }
+    Ok(processes)
+}

@@ -1,0 +1,12 @@
+mod Lists
+mod Paired
+mod Least
+mod Moving
+mod Merely
+mod Listed
+mod OneProcess
+mod Ends
+mod Further
+mod Whole
+mod Seeing
+mod Standing

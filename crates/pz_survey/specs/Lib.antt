@@ -1,0 +1,2 @@
+pub mod devices
+pub mod Surveyed
