@@ -1,0 +1,6 @@
+pub mod Causes
+pub mod FewMarks
+pub mod Merely
+pub mod Trees
+pub mod Found
+mod Rows

@@ -1,0 +1,5 @@
+pub mod Models
+pub mod Refusals
+pub mod Sizes
+pub mod Answers
+pub mod devices

@@ -1,0 +1,17 @@
+//! Reading a model: from the bytes of a text to a model that violates no rule and to the processes and
+//! wires of its system, or to why the text is refused.
+#![tactic(auto)]
+
+mod flat_model;
+mod flattening;
+mod read_error;
+mod reading;
+mod refusal;
+mod size;
+
+pub use flat_model::FlatModel;
+pub use flattening::{measure, read_net};
+pub use read_error::ReadModelError;
+pub use reading::read_model;
+pub use refusal::Refusal;
+pub use size::Size;

@@ -1,0 +1,9 @@
+//! The lines that the program prints beside those of a trace.
+#![tactic(auto)]
+
+mod lines;
+
+pub use lines::{
+    accepted_line, expected_line, model_refused_line, read_fault_line, too_long_line,
+    trace_refused_line, usage_line,
+};
