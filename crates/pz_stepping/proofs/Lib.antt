@@ -1,0 +1,7 @@
+mod Lists
+mod Statements
+mod Marked
+mod Homes
+mod Finished
+mod Nexts
+mod Elapsed

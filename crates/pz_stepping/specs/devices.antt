@@ -1,0 +1,3 @@
+pub mod StatementPlaces
+pub mod Deeds
+pub mod Elapsing
