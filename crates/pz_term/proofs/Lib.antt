@@ -1,16 +1,3 @@
-pub mod Lists
-pub mod Computed
-pub mod Views
-pub mod Openings
-pub mod Collected
-pub mod Acted
-pub mod LocalOffers
-pub mod AllOffers
-pub mod LeastDelays
-pub mod MomentsAre
-pub mod FirstRuns
-pub mod OneProcess
-pub mod Entered
-pub mod Steps
-pub mod Starts
-pub mod Rows
+mod Copies
+mod Kept
+mod Moved

@@ -1,12 +1,23 @@
 -- What a plain simulator stands for.
-use Rattle.std.specs.Prelude.{[], ◌∷◌}
+use Rattle.std.specs.Prelude.{ℕ, List}
+use Rattle.pz_syntax.specs.Classes.{ModelTree}
+use Rattle.pz_classes.specs.CheckedView.{checked_model}
+use Rattle.pz_rules.specs.Settings.{Setting}
+use Rattle.pz_rules.specs.Runs.{whole, stopped}
+use Rattle.pz_process.specs.declared.process.Process.{Process}
+use Rattle.pz_process.specs.Standing.{setting_of, config_of}
+use Rattle.pz_term.specs.declared.standing.Standing.{Standing}
+use Rattle.pz_term.specs.declared.standing.Standing.TheVariants as standing
 use Rattle.pz_term.specs.declared.plain.Plain.{Plain}
-use Rattle.pz_term.specs.Simulations.{Simulation}
-use Rattle.pz_term.specs.View.{term_view, bodies_view}
+use Rattle.pz_term.specs.Simulations.{Simulation, stands, broken}
+
+abbrev pub simulation_at : Setting → ℕ → List Process → Standing → Simulation
+simulation_at setting clock processes (standing.Whole outlook) = stands setting (config_of clock processes) whole
+simulation_at setting clock processes (standing.Stopped trouble) = stands setting (config_of clock processes) (stopped trouble)
+simulation_at setting clock processes standing.Broken = broken setting
+
+abbrev pub model_of : Plain → ModelTree
+model_of p = checked_model p.checked
 
 abbrev pub simulation_of : Plain → Simulation
-simulation_of p = record {
-  bodies = bodies_view p.bodies;
-  config = record { clock = p.clock; processes = record { term = term_view p.term } ∷ [] };
-  broken = p.broken;
-}
+simulation_of p = simulation_at (setting_of (model_of p) p.limits) p.clock p.processes.items p.standing

@@ -1,37 +1,60 @@
--- What a simulator stands for, and what its calls do.
-use Rattle.std.specs.Prelude.{◌≡◌, ℕ, Bool, true, false}
-use Rattle.pz_term.specs.declared.action.Action.{Action}
-use Rattle.pz_term.specs.declared.moment.Moment.{Moment}
-use Rattle.pz_term.specs.declared.moment.Moment.TheVariants.{Actions, Time, Broken}
-use Rattle.pz_term.specs.Residual.{Bodies}
-use Rattle.pz_term.specs.Configurations.{Config, next, pass}
-use Rattle.pz_term.specs.Moments.{IsMoment}
-use Rattle.pz_term.specs.Runs.{IsChoice}
+-- What a simulator stands for, and how it goes on.
+use Rattle.std.specs.Prelude.{◌≡◌, ℕ, List, [], Ok, Err}
+use Rattle.pz_offer.specs.declared.trouble.Trouble.{Trouble}
+use Rattle.pz_rules.specs.declared.action.Action.{Action}
+use Rattle.pz_rules.specs.declared.moment.Moment.{Moment}
+use Rattle.pz_rules.specs.declared.moment.Moment.TheVariants.{Actions, Time, Stopped, Broken}
+use Rattle.pz_rules.specs.Settings.{Setting}
+use Rattle.pz_rules.specs.Configurations.{Config}
+use Rattle.pz_rules.specs.Offers.{IsOffers}
+use Rattle.pz_rules.specs.Moments.{IsMoment}
+use Rattle.pz_rules.specs.Runs.{Standing, whole, stopped, IsChoice}
+use Rattle.pz_rules.specs.Steps.{Next, PassesTo}
+use Rattle.pz_rules.specs.Starting.{IsStart}
 
--- the methods of the model's class, where it stands, and whether memory was wanting
-pub record Simulation : Type 0 where
-  pub bodies : Bodies
-  pub config : Config
-  pub broken : Bool
+-- A configuration of a model, and whether the last action ended in a trouble. After want of memory a
+-- simulator is broken, and nothing is known of it.
+pub data Simulation : Type 0 where
+  stands : Setting → Config → Standing → Simulation
+  broken : Setting → Simulation
 
-abbrev pub IsMomentBy : Bool → Config → Moment → Type 0
-IsMomentBy true c m = m ≡ Broken
-IsMomentBy false c m = IsMoment c m
+-- it stands at the start of a run
+pub data Starts (setting : Setting) : Simulation → Type 0 where
+  starts : (c : Config) → IsStart setting c → Starts setting (stands setting c whole)
 
--- the moment of its configuration, unless it is broken
-abbrev pub IsMomentOf : Simulation → Moment → Type 0
-IsMomentOf s m = IsMomentBy s.broken s.config m
+-- its moment: that of the configuration, unless the last action ended in a trouble or memory was wanting
+pub data IsMomentOf : Simulation → Moment → Type 0 where
+  of_configuration : (setting : Setting) (c : Config) (m : Moment) → IsMoment setting c m → IsMomentOf (stands setting c whole) m
+  of_trouble : (setting : Setting) (c : Config) (trouble : Trouble) → IsMomentOf (stands setting c (stopped trouble)) (Stopped trouble)
+  of_broken : (setting : Setting) → IsMomentOf (broken setting) Broken
 
--- one offer was chosen, and the next configuration is reached
-pub record Chooses (before after : Simulation) (k : ℕ) : Type 0 where
-  pub count : ℕ
-  pub action : Action
-  pub moment : IsMomentOf before (Actions count)
-  pub choice : IsChoice before.config count k action
-  pub reached : after ≡ record before { config = next before.bodies before.config action }
+-- its offers: those of the configuration where that is the moment, else none
+pub data AreOffersOf : Simulation → List Action → Type 0 where
+  some : (setting : Setting) (c : Config) (n : ℕ) (actions : List Action) → IsMoment setting c (Actions n) → IsOffers setting c actions → AreOffersOf (stands setting c whole) actions
+  none : (s : Simulation) → ((n : ℕ) → IsMomentOf s (Actions n) → ⊥) → AreOffersOf s []
 
--- time has passed, by the least that is left
-pub record Passes (before after : Simulation) : Type 0 where
-  pub time : ℕ
-  pub moment : IsMomentOf before (Time time)
-  pub reached : after ≡ record before { config = pass time before.config }
+-- Offer k is chosen. The action leads to the next configuration, or it does not take place.
+pub data Chooses (k : ℕ) : Simulation → Simulation → Type 0 where
+  acts : (setting : Setting) (c next : Config) (n : ℕ) (a : Action)
+      → IsMoment setting c (Actions n) → IsChoice setting c n k a → Next setting c a (Ok next) → Chooses k (stands setting c whole) (stands setting next whole)
+  stops : (setting : Setting) (c : Config) (n : ℕ) (a : Action) (trouble : Trouble)
+      → IsMoment setting c (Actions n) → IsChoice setting c n k a → Next setting c a (Err trouble) → Chooses k (stands setting c whole) (stands setting c (stopped trouble))
+
+-- time passes
+pub data Passes : Simulation → Simulation → Type 0 where
+  passes : (setting : Setting) (c next : Config) (d : ℕ) → IsMoment setting c (Time d) → PassesTo setting c d next → Passes (stands setting c whole) (stands setting next whole)
+
+-- the setting of a simulator never changes
+abbrev pub setting_in : Simulation → Setting
+setting_in (stands setting c standing) = setting
+setting_in (broken setting) = setting
+
+-- memory was wanting
+abbrev pub IsBroken : Simulation → Type 0
+IsBroken (stands setting c standing) = ⊥
+IsBroken (broken setting) = Unit {0}
+
+-- the clock, unless it is broken
+abbrev pub ClockIs : Simulation → ℕ → Type 0
+ClockIs (stands setting c standing) clock = clock ≡ c.clock
+ClockIs (broken setting) clock = Unit {0}

@@ -1,17 +1,13 @@
-//! Terms, moments and runs of processes, and a plain simulator that follows them.
+//! The plain simulator: it stands for a configuration of the rules, and goes on as they say.
 #![tactic(auto)]
 
-mod acting;
-mod action;
-mod bodies;
-pub mod laws;
-mod moment;
-mod passing;
-mod place;
+mod copying;
 mod plain;
-mod term;
+mod refusal;
+mod standing;
+mod vector;
 
-pub use action::{Action, End, Kind};
-pub use moment::Moment;
-pub use place::Place;
-pub use plain::{ChooseError, PassError, Plain};
+pub use plain::Plain;
+pub use pz_offer::{End, Place, Trouble};
+pub use pz_rules::{Action, Kind, Limits, Moment, Term, open_term};
+pub use refusal::{ChooseError, PassError};

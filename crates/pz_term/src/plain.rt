@@ -1,135 +1,132 @@
-use crate::acting::{chosen, collect};
-use crate::bodies::{Body, copy_bodies};
-use crate::passing::pass;
-use crate::term::{Term, count_actions, first_call, is_done, least_delay};
-use crate::{Action, Moment, Place};
-use pz_items::Items;
-use pz_syntax::{Decl, Model, ProcessClass};
+ghost use Rattle.std.specs.Prelude.{◌≡◌, ◌≤◌, ◌<◌, Err, IfOk, OnOk, IfErr, OnErr};
+ghost use Rattle.pz_classes.specs.CheckedView.{checked_model};
+ghost use Rattle.pz_bind.specs.NetView.{IsNet};
+ghost use Rattle.pz_process.specs.Standing.{setting_of, config_of, AreProcesses};
+ghost use Rattle.pz_rules.specs.Runs.{whole};
+ghost use Rattle.pz_term.specs.devices.Holding.{Holds};
+
+use crate::copying::copy_actions;
+use crate::refusal::{ChooseError, PassError};
+use crate::standing::Standing;
+use crate::vector::{elapse_at, look_at, step_at};
+use pz_bind::Net;
+use pz_classes::Checked;
+use pz_offer::Trouble;
+use pz_process::Process;
+use pz_rules::{Action, Limits, Moment, one_list_of_offers, one_moment, wires_are_known};
+use pz_starting::start;
 use std::alloc::{AllocError, Global};
 use std::mem::{self, drop};
 
-/// Why an offer was not chosen.
-#[derive(Clone, Copy, Debug, PartialEq, Eq)]
-pub enum ChooseError {
-    /// Memory was wanting, and the simulator is broken from now on.
-    NoMemory,
-    /// There are only so many offers, numbered from 0.
-    NoSuchOffer { offers: u64 },
-    /// The moment is this one, and not `Actions`.
-    NotNow(Moment),
-}
-
-/// Why no time passed.
-#[derive(Clone, Copy, Debug, PartialEq, Eq)]
-pub enum PassError {
-    /// Memory was wanting, and the simulator is broken from now on.
-    NoMemory,
-    /// The moment is this one, and not `Time`.
-    NotNow(Moment),
-}
-
-/// A simulator that follows the rules from the terms alone.
+/// A simulator that follows the rules from the terms and states alone: it stands for a configuration of
+/// a model, says what may happen next there, and goes on to the next one.
 #[derive(Drop)]
 pub struct Plain {
     alloc: Global,
+    checked: Checked,
+    net: Net,
+    limits: Limits,
     clock: u128,
-    term: Term,
-    bodies: Items<Body>,
-    broken: bool,
+    processes: Vec<Process>,
+    standing: Standing,
+    ghost of_model: { ∥ IsNet (checked_model checked) net ∥₁ },
+    ghost holds: { ∥ Holds (setting_of (checked_model checked) limits) clock processes.items standing ∥₁ },
 }
 
 impl Plain {
-    ghost use Rattle.std.specs.Prelude.{◌≡◌, ◌<◌, ◌≤◌, ◌^◌, ℕ, [], true, false, IfOk, OnOk, IfErr, OnErr, IsErrOf};
-    ghost use Rattle.pz_term.specs.Moments.{IsMoment};
-    ghost use Rattle.pz_term.specs.Refusals.{OnNoSuchOffer, OnChooseNotNow, OnChooseRefused, NoActions, OnPassNotNow, OnPassRefused, NoTime};
-    ghost use Rattle.pz_syntax.specs.ClassView.{model_view, process_class_view};
-    ghost use Rattle.pz_term.specs.FirstPath.{IsFirstPath, FirstModel, class_of, tree_of};
-    ghost use Rattle.pz_term.specs.Start.{bodies_of, start as start_of};
-    ghost use Rattle.pz_term.specs.Offers.{IsOffers};
-    ghost use Rattle.pz_term.specs.Simulations.{IsMomentOf, Chooses, Passes};
-    ghost use Rattle.pz_term.specs.Plains.{simulation_of};
+    ghost use Rattle.std.specs.Prelude.{ℕ};
+    ghost use Rattle.pz_term.specs.Simulations.{Starts, IsMomentOf, AreOffersOf, Chooses, Passes, IsBroken, ClockIs, setting_in, stands};
+    ghost use Rattle.pz_term.specs.Refusals.{OnNoSuchOffer, OnChooseNotNow, OnChooseRefused, OnChooseNoMemory, NoActions, OnPassNotNow, OnPassRefused, OnPassNoMemory, NoTime};
+    ghost use Rattle.pz_term.specs.Plains.{simulation_of, model_of};
 
-    /// The simulator of a model of the first path, before its first step. It copies what it needs
-    /// of the model. The only error is want of memory.
-    pub fn start(alloc: Global, model: &Model) -> Result<Plain, AllocError>
-        requires { IsFirstPath (model_view model.now) }
-        ensures { IfOk result (λ plain. (m : FirstModel) → model_view model.now ≡ tree_of m →
-            simulation_of plain ≡ record { bodies = bodies_of m; config = start_of m; broken = false }) }
+    /// The simulator of a model before its first step, whose net this is. The only error is want of
+    /// memory.
+    pub fn start(
+        alloc: Global,
+        checked: Checked,
+        net: Net,
+        limits: Limits,
+    ) -> Result<Plain, AllocError>
+        requires of_model { ∥ IsNet (checked_model checked) net ∥₁ }
+        ensures starts { IfOk result (λ plain. Starts (setting_of (checked_model checked) limits) (simulation_of plain)) }
+        ensures checked { IfOk result (λ plain. plain.checked ≡ checked) }
+        ensures net { IfOk result (λ plain. plain.net ≡ net) }
     {
-        match model.decls.as_slice() {
-            [Decl::Process(class), ..] => Plain::of_class(alloc, class),
-            _ => unreachable!(),
-        }
-    }
-
-    // The simulator of the one process of this class.
-    fn of_class(alloc: Global, class: &ProcessClass) -> Result<Plain, AllocError>
-        requires { (m : FirstModel) × (process_class_view class.now ≡ class_of m) }
-        ensures { IfOk result (λ plain. (m : FirstModel) → process_class_view class.now ≡ class_of m →
-            simulation_of plain ≡ record { bodies = bodies_of m; config = start_of m; broken = false }) }
-    {
-        let Some(start) = &class.start else {
-            unreachable!()
-        };
-        let Some(methods) = &class.methods else {
-            unreachable!()
-        };
-        let bodies = copy_bodies(alloc, methods.as_slice())?;
-        let term = first_call(alloc, &start.method)?;
+        let mut processes = start(alloc, &checked, &net)?;
+        let outlook = look_at(alloc, &checked, &net, limits, 0, &mut processes)?;
         Ok(Plain {
             alloc,
+            checked,
+            net,
+            limits,
             clock: 0,
-            term,
-            bodies,
-            broken: false,
+            processes,
+            standing: Standing::Whole(outlook),
         })
     }
 
     /// What may happen next. Takes no memory.
-    pub fn moment(&mut self) -> Moment
-        ensures moment { IsMomentOf (simulation_of self.old) result }
-        // No constant of a delay is longer.
-        ensures short { (time : ℕ) → result ≡ Moment.Time time → time < 2 ^ 64 }
-        ensures unchanged { self.new ≡ self.old }
+    pub fn moment(&self) -> Moment
+        ensures { IsMomentOf (simulation_of self.now) result }
     {
-        if self.broken {
-            return Moment::Broken;
-        }
-        let offers = count_actions(&self.term);
-        if offers > 0 {
-            return Moment::Actions(offers);
-        }
-        match least_delay(&self.term) {
-            Some(time) => Moment::Time(u128::from(time)),
-            None if is_done(&self.term) => Moment::Finished,
-            None => Moment::Deadlock,
+        one_moment();
+        wires_are_known();
+        let _model = self.checked.model();
+        match &self.standing {
+            Standing::Whole(outlook) => outlook.moment,
+            Standing::Stopped(trouble) => Moment::Stopped(*trouble),
+            Standing::Broken => Moment::Broken,
         }
     }
 
     /// The clock, in clock units from the start of the run. Takes no memory.
     pub fn clock(&self) -> u128
-        ensures { result ≡ (simulation_of self.now).config.clock }
+        ensures { ClockIs (simulation_of self.now) result }
     {
         self.clock
     }
 
-    /// The offers in their order: none unless the moment is `Actions`. The only error is want of
-    /// memory, and it breaks nothing.
-    pub fn actions(&mut self) -> Result<Vec<Action>, AllocError>
-        ensures offers { (simulation_of self.old).broken ≡ false → IfOk result (λ actions. IsOffers (simulation_of self.old).config actions.items) }
-        ensures broken { (simulation_of self.old).broken ≡ true → IfOk result (λ actions. actions.items ≡ []) }
-        ensures unchanged { self.new ≡ self.old }
+    /// The model that is simulated. Takes no memory.
+    pub fn checked(&self) -> &Checked
+        ensures is { result.now ≡ self.now.checked }
+        ensures model { checked_model result.now ≡ model_of self.now }
     {
-        let mut actions = Vec::new(self.alloc);
-        if self.broken {
-            return Ok(actions);
-        }
-        let mut place = Place::root(self.alloc);
-        collect(&self.term, 0, &mut place, &mut actions)?;
-        Ok(actions)
+        &self.checked
     }
 
-    /// Chooses the offer of this number, from 0: the action takes place.
+    /// The net of the model. Takes no memory.
+    pub fn net(&self) -> &Net
+        ensures is { result.now ≡ self.now.net }
+        ensures net { ∥ IsNet (model_of self.now) result.now ∥₁ }
+    {
+        &self.net
+    }
+
+    /// The offers in their order: none unless the moment is `Actions`. Takes no memory.
+    pub fn offers(&self) -> &[Action]
+        ensures { AreOffersOf (simulation_of self.now) result.now }
+    {
+        one_moment();
+        one_list_of_offers();
+        wires_are_known();
+        let _model = self.checked.model();
+        match &self.standing {
+            Standing::Whole(outlook) => outlook.actions.as_slice(),
+            Standing::Stopped(_) | Standing::Broken => &[],
+        }
+    }
+
+    /// Copies of the offers in their order: none unless the moment is `Actions`. The only error is want
+    /// of memory, and it breaks nothing.
+    pub fn actions(&mut self) -> Result<Vec<Action>, AllocError>
+        ensures offers { IfOk result (λ actions. AreOffersOf (simulation_of self.old) actions.items) }
+        ensures unchanged { self.new ≡ self.old }
+    {
+        copy_actions(self.alloc, self.offers())
+    }
+
+    /// Chooses the offer of this number, from 0: the action takes place, or the moment becomes
+    /// `Stopped` where it ends in a trouble. Takes the time of a moment.
     ///
     /// # Errors
     ///
@@ -137,11 +134,12 @@ impl Plain {
     /// number, and `NotNow` exactly where the moment is not `Actions`; then nothing has changed. After
     /// `NoMemory` the simulator is broken.
     pub fn choose(&mut self, k: u64) -> Result<(), ChooseError>
-        ensures ok { OnOk result (Chooses (simulation_of self.old) (simulation_of self.new) k) }
+        ensures ok { OnOk result (Chooses k (simulation_of self.old) (simulation_of self.new)) }
         ensures no_such_offer { IfErr result (OnNoSuchOffer (λ offers. IsMomentOf (simulation_of self.old) (Moment.Actions offers) × (offers ≤ k))) }
         ensures not_now { IfErr result (OnChooseNotNow (λ moment. IsMomentOf (simulation_of self.old) moment × NoActions moment)) }
         ensures refused { IfErr result (OnChooseRefused (self.new ≡ self.old)) }
-        ensures broken { IsErrOf result ChooseError.NoMemory → (simulation_of self.new).broken ≡ true }
+        ensures broken { IfErr result (OnChooseNoMemory (IsBroken (simulation_of self.new))) }
+        ensures setting { setting_in (simulation_of self.new) ≡ setting_in (simulation_of self.old) }
     {
         match self.moment() {
             Moment::Actions(offers) => {
@@ -155,68 +153,110 @@ impl Plain {
         }
     }
 
-    fn set_term(&mut self, term: Term)
-        ensures { self.new ≡ record self.old { term = term } }
-    {
-        drop(mem::replace(&mut self.term, term));
-    }
-
     // Takes an offer that is there.
     fn take(&mut self, k: u64) -> Result<(), ChooseError>
-        requires whole { (simulation_of self.old).broken ≡ false }
-        requires some { (n : ℕ) × IsMoment (simulation_of self.old).config (Moment.Actions n) × (k < n) }
-        ensures ok { OnOk result (Chooses (simulation_of self.old) (simulation_of self.new) k) }
+        requires there { (n : ℕ) × IsMomentOf (simulation_of self.old) (Moment.Actions n) × (k < n) }
+        ensures ok { OnOk result (Chooses k (simulation_of self.old) (simulation_of self.new)) }
         ensures memory { OnErr result (result ≡ Err ChooseError.NoMemory) }
-        ensures broken { OnErr result ((simulation_of self.new).broken ≡ true) }
+        ensures broken { OnErr result (IsBroken (simulation_of self.new)) }
+        ensures setting { setting_in (simulation_of self.new) ≡ setting_in (simulation_of self.old) }
     {
-        let term = mem::replace(&mut self.term, Term::Done);
-        let Ok(left) = chosen(self.alloc, term, self.bodies.as_slice()) else {
-            self.broken = true;
+        one_moment();
+        one_list_of_offers();
+        wires_are_known();
+        let _model = self.checked.model();
+        let Standing::Whole(outlook) = mem::replace(&mut self.standing, Standing::Broken) else {
+            unreachable!()
+        };
+        let action = &outlook.actions[k as usize];
+        let Ok(left) = step_at(
+            self.alloc,
+            &self.checked,
+            &self.net,
+            self.limits,
+            self.clock,
+            &mut self.processes,
+            action,
+        ) else {
             return Err(ChooseError::NoMemory);
         };
-        self.set_term(left);
+        drop(outlook);
+        match left {
+            Ok(()) => match self.look_on() {
+                Ok(()) => Ok(()),
+                Err(_) => Err(ChooseError::NoMemory),
+            },
+            Err(trouble) => {
+                self.standing = Standing::Stopped(trouble);
+                Ok(())
+            }
+        }
+    }
+
+    // Looks where it stands now. The only error is want of memory, and then it stays broken.
+    fn look_on(&mut self) -> Result<(), AllocError>
+        requires broken { self.old.standing ≡ Standing.Broken }
+        requires are { ∥ AreProcesses (setting_of (model_of self.old) self.old.limits) self.old.clock self.old.processes.items ∥₁ }
+        ensures ok { OnOk result (simulation_of self.new ≡ stands (setting_of (model_of self.old) self.old.limits) (config_of self.old.clock self.old.processes.items) whole) }
+        ensures err { OnErr result (self.new.standing ≡ Standing.Broken) }
+        ensures setting { setting_in (simulation_of self.new) ≡ setting_in (simulation_of self.old) }
+    {
+        let outlook = look_at(
+            self.alloc,
+            &self.checked,
+            &self.net,
+            self.limits,
+            self.clock,
+            &mut self.processes,
+        )?;
+        self.standing = Standing::Whole(outlook);
         Ok(())
     }
 
-    /// Lets time pass, by the least that is left of an active delay. The clock is below 2^127
-    /// before that.
+    /// Lets time pass, by the least that is left of an active delay. Takes the time of a moment.
     ///
     /// # Errors
     ///
     /// But for `NoMemory`, `NotNow` comes exactly where the moment is not `Time`; then nothing has
-    /// changed. After `NoMemory` the simulator is broken.
+    /// changed. After `NoMemory` the simulator is broken. A clock past 2^128 - 1, to which no machine
+    /// comes, is taken for want of memory.
     pub fn pass(&mut self) -> Result<(), PassError>
-        requires { (simulation_of self.old).config.clock < 2 ^ 127 }
         ensures ok { OnOk result (Passes (simulation_of self.old) (simulation_of self.new)) }
         ensures not_now { IfErr result (OnPassNotNow (λ moment. IsMomentOf (simulation_of self.old) moment × NoTime moment)) }
         ensures refused { IfErr result (OnPassRefused (self.new ≡ self.old)) }
-        ensures broken { IsErrOf result PassError.NoMemory → (simulation_of self.new).broken ≡ true }
+        ensures broken { IfErr result (OnPassNoMemory (IsBroken (simulation_of self.new))) }
+        ensures setting { setting_in (simulation_of self.new) ≡ setting_in (simulation_of self.old) }
     {
         match self.moment() {
-            Moment::Time(_) => self.elapse(),
+            Moment::Time(time) => match self.wait(time) {
+                Ok(()) => Ok(()),
+                Err(_) => Err(PassError::NoMemory),
+            },
             moment => Err(PassError::NotNow(moment)),
         }
     }
 
-    // Lets time pass where it can.
-    fn elapse(&mut self) -> Result<(), PassError>
-        requires soon { (simulation_of self.old).config.clock < 2 ^ 127 }
-        requires whole { (simulation_of self.old).broken ≡ false }
-        requires some { (d : ℕ) × IsMoment (simulation_of self.old).config (Moment.Time d) }
+    // Lets so much time pass, which can.
+    fn wait(&mut self, time: u128) -> Result<(), AllocError>
+        requires there { IsMomentOf (simulation_of self.old) (Moment.Time time) }
         ensures ok { OnOk result (Passes (simulation_of self.old) (simulation_of self.new)) }
-        ensures memory { OnErr result (result ≡ Err PassError.NoMemory) }
-        ensures broken { OnErr result ((simulation_of self.new).broken ≡ true) }
+        ensures broken { OnErr result (IsBroken (simulation_of self.new)) }
+        ensures setting { setting_in (simulation_of self.new) ≡ setting_in (simulation_of self.old) }
     {
-        let Some(time) = least_delay(&self.term) else {
-            unreachable!()
+        self.standing = Standing::Broken;
+        let Some(clock) = self.clock.checked_add(time) else {
+            return Err(AllocError);
         };
-        let term = mem::replace(&mut self.term, Term::Done);
-        let Ok(left) = pass(self.alloc, term, time) else {
-            self.broken = true;
-            return Err(PassError::NoMemory);
-        };
-        self.clock += u128::from(time);
-        self.set_term(left);
-        Ok(())
+        elapse_at(
+            self.alloc,
+            &self.checked,
+            &self.net,
+            self.limits,
+            self.clock,
+            &mut self.processes,
+            time,
+        )?;
+        self.clock = clock;
+        self.look_on()
     }
 }

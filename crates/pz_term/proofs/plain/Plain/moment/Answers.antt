@@ -1,24 +1,17 @@
-use Rattle.std.proofs.Common.{ap, Some, ◌∙◌, arith}
-use Rattle.pz_term.specs.View.{term_view}
-use Rattle.pz_term.proofs.OneProcess.{acting_alone, passing_alone, finished_alone, deadlock_alone}
+use Rattle.std.proofs.Common.{subst}
+use Rattle.pz_classes.specs.CheckedView.{checked_model}
+use Rattle.pz_classes.specs.Soundness.{IsSound}
+use Rattle.pz_process.specs.Standing.{setting_of}
+use Rattle.pz_term.proofs.Kept.{whole_moment, stopped_moment, broken_moment}
 use Rattle.pz_term.proofs.plain.Plain.moment.Goals as goal
 
-pub returns-then-offers-gt0-clause-moment : goal.returns-then-offers-gt0-clause-moment
-returns-then-offers-gt0-clause-moment c =
-    acting_alone c.args.self.now.clock (term_view c.args.self.now.term) c.args.self.now.broken c.if-self.false
-    c.count_actions-offers.result c.count_actions-offers.ensures c.if-offers-gt0.true
+pub returns-in-Whole : goal.returns-in-Whole
+returns-in-Whole c =
+    whole_moment (setting_of (checked_model c.args.self.now.checked) c.args.self.now.limits) c.args.self.now.clock c.args.self.now.processes.items c.args.self.now.standing c.in-Whole.outlook c.in-Whole.is c.one_moment.ensures.some c.one_moment.ensures.one
+    (c.wires_are_known.ensures.law (checked_model c.args.self.now.checked) (subst IsSound c.model-model.ensures.is c.model-model.ensures.sound)) c.args.self.now.holds
 
-pub returns-in-Some-clause-moment : goal.returns-in-Some-clause-moment
-returns-in-Some-clause-moment c =
-    passing_alone c.args.self.now.clock (term_view c.args.self.now.term) c.args.self.now.broken c.if-self.false
-    c.count_actions-offers.result c.count_actions-offers.ensures (omega arith) c.from.result (ap Some c.from.ensures ∙ c.in-Some.ensures)
+pub returns-in-Stopped : goal.returns-in-Stopped
+returns-in-Stopped c = stopped_moment (setting_of (checked_model c.args.self.now.checked) c.args.self.now.limits) c.args.self.now.clock c.args.self.now.processes.items c.args.self.now.standing c.in-Stopped.trouble c.in-Stopped.is
 
-pub returns-in-None-clause-moment : goal.returns-in-None-clause-moment
-returns-in-None-clause-moment c =
-    finished_alone c.args.self.now.clock (term_view c.args.self.now.term) c.args.self.now.broken c.if-self.false
-    c.count_actions-offers.result c.count_actions-offers.ensures (omega arith) c.in-None.ensures (cc)
-
-pub returns-in-None-2-clause-moment : goal.returns-in-None-2-clause-moment
-returns-in-None-2-clause-moment c =
-    deadlock_alone c.args.self.now.clock (term_view c.args.self.now.term) c.args.self.now.broken c.if-self.false
-    c.count_actions-offers.result c.count_actions-offers.ensures (omega arith) c.in-None-2.ensures (cc)
+pub returns-in-Broken : goal.returns-in-Broken
+returns-in-Broken c = broken_moment (setting_of (checked_model c.args.self.now.checked) c.args.self.now.limits) c.args.self.now.clock c.args.self.now.processes.items c.args.self.now.standing c.in-Broken.is

@@ -1,7 +1,29 @@
-use Rattle.pz_term.proofs.Steps.{chooses}
+use Rattle.std.proofs.Common.{arith}
+use Rattle.pz_classes.specs.CheckedView.{checked_model}
+use Rattle.pz_rules.specs.declared.moment.Moment.TheVariants.{Actions}
+use Rattle.pz_process.specs.Standing.{setting_of}
+use Rattle.pz_term.specs.Plains.{simulation_of}
+use Rattle.pz_term.proofs.Kept.{kept_processes}
+use Rattle.pz_term.proofs.Moved.{within_shown, action_offered, chosen_acts, chosen_stops}
 use Rattle.pz_term.proofs.plain.Plain.take.Goals as goal
 
-pub returns-clause-ok : goal.returns-clause-ok
-returns-clause-ok c =
-    chooses c.args.self.now c.set_term.new.self c.in-Ok.left c.replace-term.result c.as_slice.result.now c.requires.some.0 c.args.k
-    c.requires.some.1 c.requires.some.2 c.requires.whole c.replace-term.ensures.value c.as_slice.ensures c.set_term.ensures c.in-Ok.ensures
+pub index-action-requires : goal.index-action-requires
+index-action-requires c =
+    let within = within_shown (setting_of (checked_model c.args.self.now.checked) c.args.self.now.limits) c.args.self.now.clock c.args.self.now.processes.items c.args.self.now.standing c.in-Whole.outlook c.requires.there.0 c.args.k c.one_moment.ensures.one c.one_list_of_offers.ensures.one c.in-Whole.ensures.value c.requires.there.1 c.requires.there.2 c.args.self.now.holds in
+    omega (arith, within, c.in-Whole.outlook.actions.ok.0)
+
+pub step_at-requires-clause-processes : goal.step_at-requires-clause-processes
+step_at-requires-clause-processes c = kept_processes (setting_of (checked_model c.args.self.now.checked) c.args.self.now.limits) c.args.self.now.clock c.args.self.now.processes.items c.args.self.now.standing (Actions c.requires.there.0) tt c.requires.there.1 c.args.self.now.holds
+
+pub step_at-requires-clause-offered : goal.step_at-requires-clause-offered
+step_at-requires-clause-offered c = action_offered (setting_of (checked_model c.args.self.now.checked) c.args.self.now.limits) c.args.self.now.clock c.args.self.now.processes.items c.args.self.now.standing c.in-Whole.outlook c.requires.there.0 c.args.k c.one_moment.ensures.one c.one_list_of_offers.ensures.one c.in-Whole.ensures.value c.requires.there.1 c.requires.there.2 c.args.self.now.holds c.index-action.result.now c.index-action.ensures
+
+pub returns-in-Ok-look_on-clause-ok : goal.returns-in-Ok-look_on-clause-ok
+returns-in-Ok-look_on-clause-ok c =
+    chosen_acts (setting_of (checked_model c.args.self.now.checked) c.args.self.now.limits) c.args.self.now.clock c.args.self.now.processes.items c.args.self.now.standing c.in-Whole.outlook c.requires.there.0 c.args.k c.one_moment.ensures.one c.one_list_of_offers.ensures.one c.in-Whole.ensures.value c.requires.there.1 c.requires.there.2 c.args.self.now.holds c.index-action.result.now (simulation_of c.look_on.new.self) c.step_at.new.processes.items c.step_at.result c.in-Ok.left c.in-Ok-left.field-0
+    c.index-action.ensures c.in-Ok.is c.in-Ok-left.is c.step_at.ensures.steps c.in-Ok-look_on.ensures.ok
+
+pub returns-in-Err-clause-ok : goal.returns-in-Err-clause-ok
+returns-in-Err-clause-ok c =
+    chosen_stops (setting_of (checked_model c.args.self.now.checked) c.args.self.now.limits) c.args.self.now.clock c.args.self.now.processes.items c.args.self.now.standing c.in-Whole.outlook c.requires.there.0 c.args.k c.one_moment.ensures.one c.one_list_of_offers.ensures.one c.in-Whole.ensures.value c.requires.there.1 c.requires.there.2 c.args.self.now.holds c.index-action.result.now c.step_at.new.processes.items c.step_at.result c.in-Ok.left c.in-Err.trouble
+    c.index-action.ensures c.in-Ok.is c.in-Err.is c.step_at.ensures.steps c.step_at.ensures.stays

@@ -1,4 +1,0 @@
-pub mod Errors
-pub mod Reading
-pub mod Writing
-pub mod Keeping

@@ -1,0 +1,14 @@
+use Rattle.std.proofs.Common.{subst}
+use Rattle.pz_classes.specs.CheckedView.{checked_model}
+use Rattle.pz_classes.specs.Soundness.{IsSound}
+use Rattle.pz_process.specs.Standing.{setting_of}
+use Rattle.pz_term.proofs.Kept.{whole_offers, no_offers}
+use Rattle.pz_term.proofs.plain.Plain.offers.Goals as goal
+
+pub returns-in-Whole : goal.returns-in-Whole
+returns-in-Whole c =
+    whole_offers (setting_of (checked_model c.args.self.now.checked) c.args.self.now.limits) c.args.self.now.clock c.args.self.now.processes.items c.args.self.now.standing c.in-Whole.outlook c.as_slice.result.now c.in-Whole.is c.as_slice.ensures.value
+    c.one_moment.ensures.some c.one_moment.ensures.one c.one_list_of_offers.ensures.one (c.wires_are_known.ensures.law (checked_model c.args.self.now.checked) (subst IsSound c.model-model.ensures.is c.model-model.ensures.sound)) c.args.self.now.holds
+
+pub returns-in-Stopped : goal.returns-in-Stopped
+returns-in-Stopped c = no_offers (setting_of (checked_model c.args.self.now.checked) c.args.self.now.limits) c.args.self.now.clock c.args.self.now.processes.items c.args.self.now.standing c.in-Stopped.is

@@ -1,0 +1,22 @@
+-- What a plain simulator keeps.
+use Rattle.std.specs.Prelude.{ℕ, List}
+use Rattle.pz_rules.specs.Settings.{Setting}
+use Rattle.pz_rules.specs.Moments.{IsMoment}
+use Rattle.pz_process.specs.declared.process.Process.{Process}
+use Rattle.pz_process.specs.Standing.{config_of, AreProcesses}
+use Rattle.pz_offers.specs.declared.looking.Outlook.{Outlook}
+use Rattle.pz_offers.specs.Looking.{AreActionsAt}
+use Rattle.pz_term.specs.declared.standing.Standing.{Standing}
+use Rattle.pz_term.specs.declared.standing.Standing.TheVariants as standing
+
+-- the processes are those of the model, and this is their moment with its offers
+pub record IsOutlook (setting : Setting) (clock : ℕ) (processes : List Process) (outlook : Outlook) : Type 0 where
+  pub are : AreProcesses setting clock processes
+  pub moment : IsMoment setting (config_of clock processes) outlook.moment
+  pub actions : AreActionsAt setting (config_of clock processes) outlook.moment outlook.actions.items
+
+-- where an action or memory failed, nothing goes on from there
+abbrev pub Holds : Setting → ℕ → List Process → Standing → Type 0
+Holds setting clock processes (standing.Whole outlook) = IsOutlook setting clock processes outlook
+Holds setting clock processes (standing.Stopped trouble) = Unit {0}
+Holds setting clock processes standing.Broken = Unit {0}

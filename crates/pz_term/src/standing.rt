@@ -1,0 +1,13 @@
+use pz_offer::Trouble;
+use pz_offers::Outlook;
+
+/// How it is with a simulator.
+#[derive(Drop)]
+pub enum Standing {
+    /// This may happen next.
+    Whole(Outlook),
+    /// The last action ended in this trouble, and did not take place.
+    Stopped(Trouble),
+    /// Memory was wanting.
+    Broken,
+}

@@ -1,5 +1,0 @@
-//! Tests of the top call.
-#![tactic(auto)]
-
-#[cfg(test)]
-mod programs;
