@@ -3,8 +3,7 @@ use Rattle.std.proofs.Common.{◌≡◌, ℕ, List, Result, Ok, Err, Some, sym, 
 use Rattle.std.specs.Prelude.{slice_get}
 use Rattle.pz_state.specs.States.{StateView}
 use Rattle.pz_state.specs.Marks.{Seen, IsLatest, point_of_first, undone, undone_from, kept}
-use Rattle.pz_levels.specs.Places as levels
-use Rattle.pz_bind.specs.Nest.{processes, class_at}
+use Rattle.pz_bind.specs.Nest.{class_at}
 use Rattle.pz_offer.specs.declared.end.End.{End}
 use Rattle.pz_offer.specs.PlaceOrder.{Place}
 use Rattle.pz_offer.specs.declared.trouble.Trouble.{Trouble}
@@ -72,8 +71,8 @@ pub acts_at : (setting : Setting) (clock : ℕ) (ps : List Process) (end : End) 
     → Leaves (seen_at setting end.process class clock p.state.held) does (term_view p.term) place result → Acts setting (config_of clock ps) does end result
 acts_at setting clock ps end can at p there does class is_class place is_place result leaves =
     let here : Leaves (seen_at setting end.process (class_at setting.model at.home) clock p.state.held) does (term_view p.term) end.place result =
-        subst (λ (q : Place). Leaves (seen_at setting end.process (class_at setting.model at.home) clock p.state.held) does (term_view p.term) q result) is_place
-        (subst (λ (k : ℕ). Leaves (seen_at setting end.process k clock p.state.held) does (term_view p.term) place result) is_class leaves) in
+    subst (λ (q : Place). Leaves (seen_at setting end.process (class_at setting.model at.home) clock p.state.held) does (term_view p.term) q result) is_place
+    (subst (λ (k : ℕ). Leaves (seen_at setting end.process k clock p.state.held) does (term_view p.term) place result) is_class leaves) in
     record {
       process = process_view p;
       seen = seen_at setting end.process (class_at setting.model at.home) clock p.state.held;

@@ -30,7 +30,9 @@ use Rattle.pz_rules.specs.Active.{IsActive}
 use Rattle.pz_rules.specs.View.{term_view}
 use Rattle.pz_process.specs.declared.process.Process.{Process}
 use Rattle.pz_process.specs.Standing.{setting_of, process_view, config_of, AreProcesses}
-use Rattle.pz_acting.specs.Acting.{IsSoundPart}
+use Rattle.pz_asking.specs.declared.standpoint.Standpoint.{Standpoint}
+use Rattle.pz_asking.specs.Standpoints.{Knows}
+use Rattle.pz_acting.specs.Fitting.{FitsHere}
 use Rattle.pz_stepping.specs.devices.Deeds.{Ability, CanDo, seen_at}
 use Rattle.pz_stepping.proofs.Lists.{some_is, image_there}
 
@@ -52,17 +54,17 @@ count_is m limits clock net ps count is are counted =
     ∥∥₁_elim is (ℕ_set count (length ps)) (λ known.
     ∥∥₁_elim are (ℕ_set count (length ps)) (λ all. counted m known ∙ sym all.whole ∙ length-map ps process_view))
 
-pub term_sound : (m : ModelTree) (limits : Limits) (clock : ℕ) (net : Net) (classes : Classes) (ps : List Process) (i : ℕ) (home : levels.Place) (p : Process) (class : ClassId)
-    → SoundBodiesFit → IsSound m → ∥ IsNet m net ∥₁ → ∥ AreProcesses (setting_of m limits) clock ps ∥₁ → ∥ AreClasses m classes ∥₁
+pub term_fits : (m : ModelTree) (limits : Limits) (clock : ℕ) (net : Net) (here : Standpoint) (ps : List Process) (i : ℕ) (home : levels.Place) (p : Process) (class : ClassId)
+    → SoundBodiesFit → IsSound m → ∥ IsNet m net ∥₁ → ∥ AreProcesses (setting_of m limits) clock ps ∥₁ → Knows m here
     → ((n : ModelTree) (table : Classes) → IsNet n net → AreClasses n table → HasClass table class)
     → slice_get (processes m) i ≡ Some home → slice_get ps i ≡ Some p → class.0 ≡ class_at m home
-    → ∥ IsSoundPart classes class (term_view p.term) ∥₁
-term_sound m limits clock net classes ps i home p class law sound is are known belongs at_home there is_class =
-    ∥∥₁_elim is (∥∥₁_prop) (λ n. ∥∥₁_map₂ are known (λ all k. record {
+    → ∥ FitsHere here class (term_view p.term) ∥₁
+term_fits m limits clock net here ps i home p class law sound is are known belongs at_home there is_class =
+    ∥∥₁_elim is ∥∥₁_prop (λ n. ∥∥₁_map₂ are known (λ all k. record {
       model = m;
-      are_classes = k;
+      knows = known;
       bodies = law m sound;
-      has_class = belongs m classes n k;
+      belongs = belongs m here.classes.now n k;
       locals = 0;
       fits = subst (λ (c : ℕ). TermFits m c 0 (term_view p.term)) (sym is_class) (all.fit i home (process_view p) at_home (image_there process_view ps i p there));
     }))
@@ -110,7 +112,7 @@ ready setting clock ps end can a f x pos part it = record {
     able p there class is_class place is_place =
         let seen = seen_is setting clock ps end.process p there part.process a part.stands in
         let active : IsActive a (term_view p.term) end.place f x =
-            subst (λ (q : rules.Process). IsActive a q.term end.place f x) (same_process setting clock ps end.process p there part.process a part.stands) part.active in
+        subst (λ (q : rules.Process). IsActive a q.term end.place f x) (same_process setting clock ps end.process p there part.process a part.stands) part.active in
         let here : CanDo can a (term_view p.term) end.place = record { frame = f; part = x; active = active; it_holds = (pos, it) } in
         subst (λ (q : Place). CanDo can (seen_at setting end.process class clock p.state.held) (term_view p.term) q) (sym is_place)
         (subst (λ (k : ℕ). CanDo can (seen_at setting end.process k clock p.state.held) (term_view p.term) end.place) (sym is_class)

@@ -5,7 +5,6 @@ use Rattle.std.proofs.Math.Logic.{∥∥₁_map}
 use Rattle.pz_syntax.specs.declared.tokens.Pos.{Pos}
 use Rattle.pz_syntax.specs.Classes.{ModelTree}
 use Rattle.pz_value.specs.declared.value.ClassId.{ClassId}
-use Rattle.pz_classes.specs.declared.classes.Classes.{Classes}
 use Rattle.pz_state.specs.States.{StateView}
 use Rattle.pz_state.specs.Marks.{Seen, marked, undone}
 use Rattle.pz_offer.specs.PlaceOrder.{Place}
@@ -23,7 +22,7 @@ use Rattle.pz_asking.specs.Standpoints.{Knows, seen_from}
 use Rattle.pz_leaving.specs.Places.{MayAct}
 use Rattle.pz_leaving.specs.Laws.{ActivePartsMayAct}
 use Rattle.pz_judging.specs.Parts.{IsPartAt}
-use Rattle.pz_acting.specs.Acting.{IsSoundPart}
+use Rattle.pz_acting.specs.Fitting.{FitsHere}
 use Rattle.pz_stepping.specs.declared.begun.Begun.{Begun}
 use Rattle.pz_stepping.specs.devices.StatementPlaces.{IsFrom}
 use Rattle.pz_stepping.specs.devices.Deeds.{Ability, CanDo, Leaves, begun_process}
@@ -49,11 +48,11 @@ module _ (can : Ability) (a : At) (t : Term) (place : Place) (there : CanDo can 
     place_is holds = (there.it_holds.0, part_is IsFrom holds)
 
     -- the parts of what fits fit
-    pub part_sound : ActivePartsFit → (classes : Classes) (class : ClassId) → ∥ IsSoundPart classes class t ∥₁ → ∥ IsSoundPart classes class y ∥₁
-    part_sound law classes class sound =
-        subst (λ (z : Term). ∥ IsSoundPart classes class z ∥₁) (sym same_part.1) (∥∥₁_map sound (λ w.
+    pub part_fits : ActivePartsFit → (here : Standpoint) (class : ClassId) → ∥ FitsHere here class t ∥₁ → ∥ FitsHere here class y ∥₁
+    part_fits law here class whole =
+        subst (λ (z : Term). ∥ FitsHere here class z ∥₁) (sym same_part.1) (∥∥₁_map whole (λ w.
         let fits = law w.model class.0 w.locals a 0 t place there.frame there.part there.active w.fits in
-        record { model = w.model; are_classes = w.are_classes; bodies = w.bodies; has_class = w.has_class; locals = fits.0; fits = fits.1 }))
+        record { model = w.model; knows = w.knows; bodies = w.bodies; belongs = w.belongs; locals = fits.0; fits = fits.1 }))
 
 -- in an equal state, of an equal part in an equal frame
 moved : (P : At → ℕ → Term → Type 0) (m : ModelTree) (here : Standpoint) (class : ℕ) (s s' : StateView) (f g : ℕ) (y x : Term)

@@ -19,8 +19,6 @@ use Rattle.pz_rules.specs.InternalActions.{Can}
 use Rattle.pz_rules.specs.Messages as messages
 use Rattle.pz_rules.specs.Messages.{Sends, Receives}
 use Rattle.pz_rules.specs.View.{term_view, term_step}
-use Rattle.pz_acting.specs.Acting.{IsActing, IsSend}
-use Rattle.pz_judging.specs.Parts.{IsReceive}
 use Rattle.pz_stepping.specs.devices.StatementPlaces.{statement_place, IsFrom}
 
 -- the code's statements
@@ -114,24 +112,8 @@ acting_place a f _ _ _ (internals.elapses at e lasts) = refl
 acting_place a f _ _ _ (internals.expires at) = refl
 acting_place a f _ _ _ (internals.calls at method args results) = refl
 
-pub acting_is : (a : At) (f : ℕ) (part : terms.Term) (kind : Kind) (pos : Pos) → Can a f part kind pos → IsActing part
-acting_is a f _ _ _ (internals.skips at) = tt
-acting_is a f _ _ _ (internals.evaluates at e) = tt
-acting_is a f _ _ _ (internals.evaluates_block at es) = tt
-acting_is a f _ _ _ (internals.tests at e ts other) = tt
-acting_is a f _ _ _ (internals.repeats at e ts) = tt
-acting_is a f _ _ _ (internals.elapses at e lasts) = tt
-acting_is a f _ _ _ (internals.expires at) = tt
-acting_is a f _ _ _ (internals.calls at method args results) = tt
-
 pub sending_place : (a : At) (f : ℕ) (part : terms.Term) (pos : Pos) (port : ℕ) (message : List ℕ) (parcel : ParcelView) → Sends a f part pos port message parcel → IsFrom pos part
 sending_place a f _ _ _ _ _ (messages.sends at port name args block values s parcel gives packed) = refl
 
-pub sending_is : (a : At) (f : ℕ) (part : terms.Term) (pos : Pos) (port : ℕ) (message : List ℕ) (parcel : ParcelView) → Sends a f part pos port message parcel → IsSend part
-sending_is a f _ _ _ _ _ (messages.sends at port name args block values s parcel gives packed) = tt
-
 pub receiving_place : (part : terms.Term) (pos : Pos) (port : ℕ) (message : List ℕ) (count : ℕ) → Receives part pos port message count → IsFrom pos part
 receiving_place _ _ _ _ _ (messages.receives at port name into condition block) = refl
-
-pub receiving_is : (part : terms.Term) (pos : Pos) (port : ℕ) (message : List ℕ) (count : ℕ) → Receives part pos port message count → IsReceive part
-receiving_is _ _ _ _ _ (messages.receives at port name into condition block) = tt

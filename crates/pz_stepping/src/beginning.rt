@@ -10,12 +10,13 @@ ghost use Rattle.pz_rules.specs.InternalActions.{Performs};
 ghost use Rattle.pz_rules.specs.Messages.{Hands, Takes};
 ghost use Rattle.pz_rules.specs.View.{term_view};
 ghost use Rattle.pz_asking.specs.Standpoints.{Knows, seen_from};
-ghost use Rattle.pz_acting.specs.Acting.{IsSoundPart, process_left, done_left};
+ghost use Rattle.pz_acting.specs.Becoming.{process_left, done_left};
+ghost use Rattle.pz_acting.specs.Fitting.{FitsHere};
 ghost use Rattle.pz_stepping.specs.devices.StatementPlaces.{IsFrom};
 ghost use Rattle.pz_stepping.specs.devices.Deeds.{Acting, Sending, Receiving, CanDo, Leaves, begun_process, IsBegun};
 
 use crate::begun::{Begun, hold};
-use pz_acting::{hand, perform, take};
+use pz_acting::{hand, offered_parts_act, perform, take};
 use pz_asking::Standpoint;
 use pz_copy::Parcel;
 use pz_judging::part_at;
@@ -59,13 +60,14 @@ pub(crate) fn begin_internal(
     place: &[u32],
 ) -> Result<Result<Begun, Trouble>, AllocError>
     requires can { (m : ModelTree) × Knows m here.now × CanDo Acting (seen_from m here.now class.0 process.old.state.held) (term_view process.old.term) place.now }
-    requires fits { ∥ IsSoundPart here.now.classes.now class (term_view process.old.term) ∥₁ }
+    requires fits { ∥ FitsHere here.now class (term_view process.old.term) ∥₁ }
     ensures leaves { (m : ModelTree) → Knows m here.now → CanDo Acting (seen_from m here.now class.0 process.old.state.held) (term_view process.old.term) place.now
         → IfOk result (λ begun. Leaves (seen_from m here.now class.0 process.old.state.held) Performs (term_view process.old.term) place.now (begun_process (term_view process.old.term) place.now process.new.state.held begun)) }
     ensures state { IfOk result (IsBegun process.old.state process.new.state) }
     ensures term { process.new.term ≡ process.old.term }
 {
     active_parts_may_act();
+    offered_parts_act();
     active_parts_fit();
     let point = process.state.mark()?;
     let (frame, part) = part_at(&process.term, FrameId(0), place);
@@ -88,6 +90,7 @@ pub(crate) fn begin_send(
     ensures term { process.new.term ≡ process.old.term }
 {
     active_parts_may_act();
+    offered_parts_act();
     let point = process.state.mark()?;
     let (frame, part) = part_at(&process.term, FrameId(0), place);
     let pos = pos_of(part);
@@ -110,6 +113,7 @@ pub(crate) fn begin_receive(
     ensures term { process.new.term ≡ process.old.term }
 {
     active_parts_may_act();
+    offered_parts_act();
     let point = process.state.mark()?;
     let (frame, part) = part_at(&process.term, FrameId(0), place);
     let pos = pos_of(part);

@@ -10,7 +10,7 @@ ghost use Rattle.pz_rules.specs.View.{term_view};
 ghost use Rattle.pz_asking.specs.Standpoints.{seen_from};
 ghost use Rattle.pz_leaving.specs.Places.{MayAct};
 ghost use Rattle.pz_leaving.specs.Becoming.{Became};
-ghost use Rattle.pz_acting.specs.Acting.{process_left};
+ghost use Rattle.pz_acting.specs.Becoming.{process_left};
 ghost use Rattle.pz_stepping.specs.devices.Deeds.{begun_process};
 
 use pz_asking::Standpoint;

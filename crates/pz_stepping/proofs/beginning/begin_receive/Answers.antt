@@ -6,10 +6,10 @@ use Rattle.pz_rules.specs.Meanings.{and_then}
 use Rattle.pz_rules.specs.Messages.{Takes}
 use Rattle.pz_rules.specs.View.{term_view}
 use Rattle.pz_asking.specs.Standpoints.{seen_from}
-use Rattle.pz_judging.specs.Parts.{IsReceive}
-use Rattle.pz_acting.specs.Acting.{done_left}
+use Rattle.pz_acting.specs.Acting.{IsReceive}
+use Rattle.pz_acting.specs.Becoming.{done_left}
 use Rattle.pz_stepping.specs.devices.Deeds.{Receiving}
-use Rattle.pz_stepping.proofs.Statements.{receiving_place, receiving_is}
+use Rattle.pz_stepping.proofs.Statements.{receiving_place}
 use Rattle.pz_stepping.proofs.Marked.{known_is, may_act, part_is, place_is, leaves_begun}
 use Rattle.pz_stepping.proofs.beginning.begin_receive.Goals as goal
 
@@ -25,7 +25,7 @@ pos_of-pos-requires c =
 pub take-requires-clause-receives : goal.take-requires-clause-receives
 take-requires-clause-receives c =
     part_is Receiving (seen_from c.requires.can.0 c.args.here.now c.requires.can.1 c.args.process.now.state.held) (term_view c.args.process.now.term) c.args.place.now c.requires.can.3
-    c.part_at.result.0.0 (term_view c.part_at.result.1.now) c.part_at.ensures (λ pos x. IsReceive x) (λ f x pos can. receiving_is x pos can.0 can.1 can.2 can.3)
+    c.part_at.result.0.0 (term_view c.part_at.result.1.now) c.part_at.ensures (λ pos x. IsReceive x) (λ f x pos can. c.offered_parts_act.ensures.receives x pos can.0 can.1 can.2 can.3)
 
 pub take-requires-clause-known : goal.take-requires-clause-known
 take-requires-clause-known c = known_is c.requires.can.0 c.args.here.now c.requires.can.2
@@ -36,7 +36,7 @@ returns-clause-leaves c = λ m class known.
     leaves_begun Receiving (λ a f. Takes a f c.args.parcel.now) (λ a f x pos can. receiving_place x pos can.0 can.1 can.2 can.3) m c.args.here.now class (term_view c.args.process.now.term) c.args.place.now
     c.args.process.now.state c.mark.new.self c.take.new.state c.hold.new.process.state c.in_ok-point.point c.part_at.result.0.0 (term_view c.part_at.result.1.now) c.pos_of-pos.result
     (done_left c.take.new.state.held c.in_ok-left.left) c.hold.result
-    c.in_ok-point.ensures.ok c.part_at.ensures c.pos_of-pos.ensures (λ pos can. c.in_ok-left.ensures.takes m class known pos can.0 can.1 can.2 can.3)
+    c.in_ok-point.ensures.ok c.part_at.ensures c.pos_of-pos.ensures (λ pos can. c.in_ok-left.ensures.takes m class pos can.0 can.1 can.2 known can.3)
     (c.hold.ensures.left m class c.args.process.now.state.held
     ∙ ap (λ (r : Result Process Trouble). and_then r (settled a c.pos_of-pos.result (term_view c.args.process.now.term) c.args.place.now)) (c.done_by.ensures c.take.new.state.held))
     c.hold.ensures.state

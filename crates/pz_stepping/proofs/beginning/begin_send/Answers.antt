@@ -6,9 +6,10 @@ use Rattle.pz_rules.specs.Meanings.{and_then}
 use Rattle.pz_rules.specs.Messages.{Hands}
 use Rattle.pz_rules.specs.View.{term_view}
 use Rattle.pz_asking.specs.Standpoints.{seen_from}
-use Rattle.pz_acting.specs.Acting.{IsSend, done_left}
+use Rattle.pz_acting.specs.Acting.{IsSend}
+use Rattle.pz_acting.specs.Becoming.{done_left}
 use Rattle.pz_stepping.specs.devices.Deeds.{Sending}
-use Rattle.pz_stepping.proofs.Statements.{sending_place, sending_is}
+use Rattle.pz_stepping.proofs.Statements.{sending_place}
 use Rattle.pz_stepping.proofs.Marked.{known_is, may_act, part_is, place_is, leaves_begun}
 use Rattle.pz_stepping.proofs.beginning.begin_send.Goals as goal
 
@@ -24,7 +25,7 @@ pos_of-pos-requires c =
 pub hand-requires-clause-sends : goal.hand-requires-clause-sends
 hand-requires-clause-sends c =
     part_is (Sending c.requires.can.2) (seen_from c.requires.can.0 c.args.here.now c.requires.can.1 c.args.process.now.state.held) (term_view c.args.process.now.term) c.args.place.now c.requires.can.4
-    c.part_at.result.0.0 (term_view c.part_at.result.1.now) c.part_at.ensures (λ pos x. IsSend x) (λ f x pos can. sending_is _ f x pos can.0 can.1 c.requires.can.2 can.2)
+    c.part_at.result.0.0 (term_view c.part_at.result.1.now) c.part_at.ensures (λ pos x. IsSend x) (λ f x pos can. c.offered_parts_act.ensures.sends _ f x pos can.0 can.1 c.requires.can.2 can.2)
 
 pub hand-requires-clause-known : goal.hand-requires-clause-known
 hand-requires-clause-known c = known_is c.requires.can.0 c.args.here.now c.requires.can.3
@@ -35,7 +36,7 @@ returns-clause-leaves c = λ m class parcel known.
     leaves_begun (Sending parcel) (λ a f. Hands a f parcel) (λ a f x pos can. sending_place a f x pos can.0 can.1 parcel can.2) m c.args.here.now class (term_view c.args.process.now.term) c.args.place.now
     c.args.process.now.state c.mark.new.self c.hand.new.state c.hold.new.process.state c.in_ok-point.point c.part_at.result.0.0 (term_view c.part_at.result.1.now) c.pos_of-pos.result
     (done_left c.hand.new.state.held c.in_ok-left.left) c.hold.result
-    c.in_ok-point.ensures.ok c.part_at.ensures c.pos_of-pos.ensures (λ pos can. c.in_ok-left.ensures.hands m class known pos can.0 can.1 parcel can.2)
+    c.in_ok-point.ensures.ok c.part_at.ensures c.pos_of-pos.ensures (λ pos can. c.in_ok-left.ensures.hands m class pos can.0 can.1 parcel known can.2)
     (c.hold.ensures.left m class c.args.process.now.state.held
     ∙ ap (λ (r : Result Process Trouble). and_then r (settled a c.pos_of-pos.result (term_view c.args.process.now.term) c.args.place.now)) (c.done_by.ensures c.hand.new.state.held))
     c.hold.ensures.state

@@ -10,7 +10,7 @@ use Rattle.pz_process.specs.Standing.{setting_of, process_view}
 use Rattle.pz_stepping.specs.devices.Deeds.{Acting, seen_at}
 use Rattle.pz_stepping.proofs.Lists.{set_back}
 use Rattle.pz_stepping.proofs.Marked.{may_act}
-use Rattle.pz_stepping.proofs.Homes.{net_has, class_is, term_sound}
+use Rattle.pz_stepping.proofs.Homes.{net_has, class_is, term_fits}
 use Rattle.pz_stepping.proofs.Finished.{process_is, begun_trouble, acts_still, leaves_finished, leaves_trouble, acts_at}
 use Rattle.pz_stepping.proofs.Nexts.{act_ready, acted, acted_trouble}
 use Rattle.pz_stepping.proofs.stepping.act.Goals as goal
@@ -47,7 +47,8 @@ begin_internal-requires-clause-fits c =
     let class = class_is m c.args.net.now c.args.at.now.process at.home c.class-class.result c.requires.of_model at.at_home c.class-class.ensures.is in
     let p = slice_index_or ps c.args.at.now.process c.index-processes-at.result in
     let there = slice_get-get_or ps c.args.at.now.process c.index-processes-at.result at.within in
-    term_sound m c.args.limits c.args.clock c.args.net.now c.classes.result.now ps c.args.at.now.process at.home p c.class-class.result
+    term_fits m c.args.limits c.args.clock c.args.net.now
+    (record { classes = c.classes.result; limits = c.args.limits; process = c.args.at.now.process; clock = c.args.clock }) ps c.args.at.now.process at.home p c.class-class.result
     c.sound_bodies_fit.ensures.law (subst IsSound c.model-model.ensures.is c.model-model.ensures.sound) c.requires.of_model c.requires.processes c.classes.ensures.tabled c.class-class.ensures.belongs
     at.at_home there class
 

@@ -1,4 +1,4 @@
-use Rattle.std.proofs.Common.{◌∙◌, length, Ok, Err, refl, sym, subst, ap}
+use Rattle.std.proofs.Common.{◌∙◌, Ok, Err, refl, sym, subst, ap}
 use Rattle.std.specs.Prelude.{slice_index_or, slice_set}
 use Rattle.std.proofs.lemmas.Option.{slice_get-get_or}
 use Rattle.pz_classes.specs.CheckedView.{checked_model}
