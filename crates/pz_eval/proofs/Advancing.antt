@@ -20,7 +20,6 @@ use Rattle.pz_eval.specs.declared.task.Site.TheVariants as site
 use Rattle.pz_eval.specs.declared.task.Finish.{Finish}
 use Rattle.pz_eval.specs.declared.task.Activation.{Activation}
 use Rattle.pz_eval.specs.declared.task.Progress.{Progress}
-use Rattle.pz_eval.specs.declared.task.Progress.TheVariants as progress
 use Rattle.pz_eval.specs.devices.Sites.{place_of, memory_at}
 use Rattle.pz_eval.specs.devices.Tasks.{pending_before, meant, unwound}
 use Rattle.pz_eval.specs.devices.Steps.{Stops, Goes, finished, Advances, went_on, OnOver, Finishes}
@@ -60,25 +59,6 @@ popped ks1 ks o k e f = e ∙ ap (λ (x : Option Task). ks ++ option_to_list x) 
 
 pub popped_within : (count : ℕ) (ks1 ks : List Task) (k : Task) → ks1 ≡ ks ++ k ∷ [] → All (TaskWithin count) ks1 → All (TaskWithin count) ks × TaskWithin count k
 popped_within count ks1 ks k e all = all_pop (TaskWithin count) ks1 ks k e all
-
-module _ (result : Result Progress Stop) where
-  pub went_next : (after : Control → Reached Value) (m : Memory) (r : ℕ) (before : Reached Value) (k : Control) → result ≡ Ok (progress.On k) → Advances after result m r before → after k ≡ before
-  went_next after m r before k e h = subst (λ (x : Result Progress Stop). Advances after x m r before) e h
-
-  pub went_over : (after : Control → Reached Value) (m : Memory) (r : ℕ) (before : Reached Value) (f : Finish) → result ≡ Ok (progress.Over f) → Advances after result m r before → before ≡ done (finished f m) r
-  went_over after m r before f e h = subst (λ (x : Result Progress Stop). Advances after x m r before) e h
-
-  pub went_stop : (after : Control → Reached Value) (m : Memory) (r : ℕ) (before : Reached Value) (stop : Stop) → result ≡ Err stop → Advances after result m r before → Stops stop before r
-  went_stop after m r before stop e h = subst (λ (x : Result Progress Stop). Advances after x m r before) e h
-
-  pub root_kept : (P : Type 0) (x : Progress) → result ≡ Ok x → OnOk result P → P
-  root_kept P x e h = subst (λ (y : Result Progress Stop). OnOk y P) e h
-
-  pub bottom_is : (P : Type 0) (f : Finish) → result ≡ Ok (progress.Over f) → IfOk result (OnOver P) → P
-  bottom_is P f e h = subst (λ (y : Result Progress Stop). IfOk y (OnOver P)) e h
-
-  pub kept_within : (B C : Type 0) (count : ℕ) (x : Progress) → result ≡ Ok x → IfOk result (λ p. B × C × ProgressWithin count p) → B × C × ProgressWithin count x
-  kept_within B C count x e h = subst (λ (y : Result Progress Stop). IfOk y (λ p. B × C × ProgressWithin count p)) e h
 
 -- an evaluation begins with nothing else to do
 pub begun : (model : ModelTree) (now : ℕ) (p : Place) (d : ℕ) (code : Bor Code) (ks : List Task) (m : Memory) (r : ℕ) → ks ≡ []

@@ -27,13 +27,13 @@ use Rattle.pz_eval.proofs.Going.{evaluated_is}
 pub code_is : (c : Code) → view c ≡ form_view c.form c.pos
 code_is c = search (rules, the_lemmas)
 
-literal_view : (x : Literal) (at : Pos) → form_view (form.Lit x) at ≡ literal at x
+pub literal_view : (x : Literal) (at : Pos) → form_view (form.Lit x) at ≡ literal at x
 literal_view x at = search (rules, the_lemmas)
 
-variable_view : (x : Slot) (at : Pos) → form_view (form.Var x) at ≡ variable at x
+pub variable_view : (x : Slot) (at : Pos) → form_view (form.Var x) at ≡ variable at x
 variable_view x at = search (rules, the_lemmas)
 
-me_view : (at : Pos) → form_view form.Me at ≡ me at
+pub me_view : (at : Pos) → form_view form.Me at ≡ me at
 me_view at = search (rules, the_lemmas)
 
 clock_view : (at : Pos) → form_view form.Clock at ≡ clock at
@@ -45,10 +45,10 @@ creation_view class at = search (rules, the_lemmas)
 group_view : (codes : List Code) (at : Pos) → form_view (form.Group codes) at ≡ group at (list_view codes)
 group_view codes at = search (rules, the_lemmas)
 
-chain_view : (first : Code) (links : List CodeLink) (at : Pos) → form_view (form.Chain first links) at ≡ chain at (view first) (links_view links)
+pub chain_view : (first : Code) (links : List CodeLink) (at : Pos) → form_view (form.Chain first links) at ≡ chain at (view first) (links_view links)
 chain_view first links at = search (rules, the_lemmas)
 
-sends_view : (first : Code) (sendings : List CodeSending) (at : Pos) → form_view (form.Sends first sendings) at ≡ sends at (view first) (sendings_view sendings)
+pub sends_view : (first : Code) (sendings : List CodeSending) (at : Pos) → form_view (form.Sends first sendings) at ≡ sends at (view first) (sendings_view sendings)
 sends_view first sendings at = search (rules, the_lemmas)
 
 unary_view : (op : Symbol) (operand : Code) (at : Pos) → form_view (form.Unary op operand) at ≡ unary at op (view operand)

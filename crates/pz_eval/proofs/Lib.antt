@@ -2,6 +2,10 @@ pub mod Going
 pub mod Advancing
 pub mod Onward
 pub mod Forms
+pub mod Weighing
+pub mod Applied
+pub mod Worth
+pub mod Arguments
 pub mod Replied
 pub mod Unwinding
 pub mod Absent

@@ -1,5 +1,5 @@
 -- How lists, operators, selectors, arguments and turns go on.
-use Rattle.std.proofs.Common.{◌≡◌, ℕ, zero, suc, List, [], ◌∷◌, ◌++◌, length, Bool, true, false, Option, Some, None, Bor, refl, sym, ap, arith, rules}
+use Rattle.std.proofs.Common.{◌≡◌, ℕ, zero, suc, List, [], ◌∷◌, ◌++◌, length, Bool, true, false, Option, Some, None, Bor, Box, Global, refl, sym, ap, arith, rules}
 use Rattle.pz_syntax.specs.declared.tokens.Pos.{Pos}
 use Rattle.pz_syntax.specs.Expressions.{Part}
 use Rattle.pz_syntax.specs.Classes.{ModelTree}
@@ -14,26 +14,26 @@ use Rattle.pz_code.specs.declared.code.CodeForm.TheFolds.{the_lemmas}
 use Rattle.pz_code.specs.CodeView.{view, list_view, part_view, link_view, sending_view}
 use Rattle.pz_state.specs.declared.fault.FaultKind.TheVariants.{NotBoolean}
 use Rattle.pz_evaluation.specs.Memories.{Memory, Place}
-use Rattle.pz_evaluation.specs.Answers.{fault, stops}
-use Rattle.pz_evaluation.specs.Steps.{Codes, truth, chosen}
+use Rattle.pz_evaluation.specs.Answers.{fault, gives, stops}
+use Rattle.pz_evaluation.specs.Steps.{Codes, truth, chosen, applied}
 use Rattle.pz_evaluation.specs.Evaluation.{arguments_of}
-use Rattle.pz_evaluation.specs.devices.Computed.{Reached, done, Computation, and_then, tick, tested, sequence, arguments, operators, selectors, going, turns, evaluated}
+use Rattle.pz_evaluation.specs.devices.Computed.{Reached, done, Computation, follow, and_then, tick, tested, sequence, arguments, operators, selectors, going, turns, evaluated}
 use Rattle.pz_evaluation.specs.devices.Laws.{TurnsGoOn}
 use Rattle.pz_eval.specs.declared.task.Request.{Request}
 use Rattle.pz_eval.specs.declared.task.Task.{Task}
 use Rattle.pz_eval.specs.declared.task.Task.TheVariants as task
 use Rattle.pz_eval.specs.devices.Tasks.{links_view, sendings_view, turning, sent, resumed, pending}
-use Rattle.pz_eval.proofs.Going.{then_assoc, then_pending}
+use Rattle.pz_eval.proofs.Going.{then_assoc, then_gives, then_pending}
 
 -- what an operator, and what a selector stands for
-link_is : (l : CodeLink) → link_view l ≡ (l.op, l.pos, view l.operand)
+pub link_is : (l : CodeLink) → link_view l ≡ (l.op, l.pos, view l.operand)
 link_is l = search (rules, the_lemmas)
 
 sending_of : (s : CodeSending) (args : Option (List Code)) → (out-CodeSending s).args ≡ args → sending_view s ≡ ((out-CodeSending s).selector, part_view args)
 sending_of s None e = search (rules, the_lemmas)
 sending_of s (Some es) e = search (rules, the_lemmas)
 
-sending_is : (s : CodeSending) → sending_view s ≡ ((out-CodeSending s).selector, part_view (out-CodeSending s).args)
+pub sending_is : (s : CodeSending) → sending_view s ≡ ((out-CodeSending s).selector, part_view (out-CodeSending s).args)
 sending_is s = sending_of s (out-CodeSending s).args refl
 
 module _ (model : ModelTree) (now d : ℕ) (p : Place) (m : Memory) (r : ℕ) (next : Value → Computation Value) where
@@ -48,16 +48,29 @@ module _ (model : ModelTree) (now d : ℕ) (p : Place) (m : Memory) (r : ℕ) (n
   unfolding sequence
   list_more y first rest codes e = rw e refl
 
+  -- the last one leaves no task
+  pub list_last : (y : Value) (first : Code) (rest codes : List Code) → codes ≡ first ∷ rest → rest ≡ []
+      → and_then (evaluated model now d p (view first) m r) next ≡ and_then (sequence model now (evaluated model now d) p y (list_view codes) m r) next
+  unfolding sequence
+  list_last y first rest codes e none = rw (e, none) (ap (λ (x : Reached Value). and_then x next) (sym (then_gives (evaluated model now d p (view first) m r))))
+
   -- operators
   pub operators_over : (y : Value) (links : List CodeLink) → length links ≡ 0 → next y m r ≡ and_then (operators model now (evaluated model now d) p y (links_view links) m r) next
   unfolding operators
   operators_over y [] e = refl
   operators_over y (l ∷ ls) e = absurd (omega (arith, e))
 
-  pub operators_more : (y : Value) (first : CodeLink) (rest : Bor (List CodeLink)) (links : List CodeLink) → links ≡ first ∷ rest.now
-      → and_then (and_then (evaluated model now d p (view first.operand) m r) (resumed model now p (task.Operand d y first.op first.pos rest))) next ≡ and_then (operators model now (evaluated model now d) p y (links_view links) m r) next
+  pub operators_more : (y : Value) (first : Bor CodeLink) (rest : Bor (List CodeLink)) (links : List CodeLink) → links ≡ first.now ∷ rest.now
+      → and_then (and_then (evaluated model now d p (view first.now.operand) m r) (resumed model now p (task.Operand d y first rest))) next ≡ and_then (operators model now (evaluated model now d) p y (links_view links) m r) next
   unfolding operators
-  operators_more y first rest links e = rw (e, link_is first) refl
+  operators_more y first rest links e = rw (e, link_is first.now) refl
+
+  -- the operand is found at once
+  pub operators_found : (y w : Value) (u : ℕ) (first : CodeLink) (rest links : List CodeLink) → links ≡ first ∷ rest → evaluated model now d p (view first.operand) m r ≡ done (gives w m) u
+      → and_then (tick (λ m1 r1. follow (applied first.op first.pos y w m1) r1 (λ z. operators model now (evaluated model now d) p z (links_view rest))) m u) next
+      ≡ and_then (operators model now (evaluated model now d) p y (links_view links) m r) next
+  unfolding operators
+  operators_found y w u first rest links e found = rw (e, link_is first, found) refl
 
   -- selectors
   pub selectors_over : (y : Value) (sendings : List CodeSending) → length sendings ≡ 0 → next y m r ≡ and_then (selectors model now (evaluated model now d) p y (sendings_view sendings) m r) next
@@ -81,13 +94,13 @@ module _ (model : ModelTree) (now : ℕ) (p : Place) (m : Memory) (r : ℕ) (nex
   arguments_over q [] e = refl
   arguments_over q (c ∷ cs) e = absurd (omega (arith, e))
 
-  pub arguments_more : (q : Request) (first : Code) (rest : Bor (List Code)) (codes : List Code) → codes ≡ first ∷ rest.now
-      → and_then (and_then (evaluated model now q.depth p (view first) m r) (resumed model now p (task.Argument q rest))) next
-      ≡ and_then (and_then (arguments model now (evaluated model now q.depth) p q.arguments.items (list_view codes) m r) (sent model now q.depth p q.receiver q.selector.now (sendings_view q.more.now))) next
+  pub arguments_more : (q : Box Request Global) (first : Code) (rest : Bor (List Code)) (codes : List Code) → codes ≡ first ∷ rest.now
+      → and_then (and_then (evaluated model now q.value.depth p (view first) m r) (resumed model now p (task.Argument q rest))) next
+      ≡ and_then (and_then (arguments model now (evaluated model now q.value.depth) p q.value.arguments.items (list_view codes) m r) (sent model now q.value.depth p q.value.receiver q.value.selector.now (sendings_view q.value.more.now))) next
   unfolding arguments
   arguments_more q first rest codes e =
-      rw e (ap (λ (x : Reached Value). and_then x next) (sym (then_assoc (evaluated model now q.depth p (view first) m r)
-      (λ y. arguments model now (evaluated model now q.depth) p (q.arguments.items ++ y ∷ []) (list_view rest.now)) (sent model now q.depth p q.receiver q.selector.now (sendings_view q.more.now)))))
+      rw e (ap (λ (x : Reached Value). and_then x next) (sym (then_assoc (evaluated model now q.value.depth p (view first) m r)
+      (λ y. arguments model now (evaluated model now q.value.depth) p (q.value.arguments.items ++ y ∷ []) (list_view rest.now)) (sent model now q.value.depth p q.value.receiver q.value.selector.now (sendings_view q.value.more.now)))))
 
 -- turns
 turns_counted : TurnsGoOn → (model : ModelTree) (now d : ℕ) (p : Place) (at : Pos) (test : Bor Code) (body : Bor (List Code)) (m : Memory) (u : ℕ)

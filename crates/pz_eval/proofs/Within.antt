@@ -42,9 +42,9 @@ module _ (m n : ℕ) (wider : m ≤ n) where
   task_wider : (k : Task) → TaskWithin m k → TaskWithin n k
   task_wider (task.Sequence d rest) h = tt
   task_wider (task.Operators d links) h = tt
-  task_wider (task.Operand d left op at rest) h = value_wider left h
+  task_wider (task.Operand d left l rest) h = value_wider left h
   task_wider (task.Selectors d sendings) h = tt
-  task_wider (task.Argument q rest) h = request_wider q h
+  task_wider (task.Argument q rest) h = request_wider q.value h
   task_wider (task.Unary op at) h = tt
   task_wider (task.Assign x) h = tt
   task_wider task.Return h = tt

@@ -1,32 +1,39 @@
 //! How the evaluation of an expression begins, form by form.
 
-ghost use Rattle.std.specs.Prelude.{◌≡◌, ◌≤◌, ℕ, List, length, IfOk, All};
+ghost use Rattle.std.specs.Prelude.{◌≡◌, ◌≤◌, ◌<◌, ◌+◌, ℕ, suc, List, length, IfOk, OnOk, All};
 ghost use Rattle.pz_syntax.specs.Classes.{ModelTree};
-ghost use Rattle.pz_code.specs.CodeView.{view, form_view, list_view};
+ghost use Rattle.pz_code.specs.CodeView.{view, form_view, list_view, part_view};
 ghost use Rattle.pz_value.specs.declared.value.Value.{Value as Values};
 ghost use Rattle.pz_value.specs.declared.value.Value.TheVariants.{Nil};
 ghost use Rattle.pz_state.specs.References.{RefersWithin};
 ghost use Rattle.pz_classes.specs.Tables.{AreClasses};
 ghost use Rattle.pz_evaluation.specs.Memories.{Memory, Place};
 ghost use Rattle.pz_evaluation.specs.Memories as memories;
-ghost use Rattle.pz_evaluation.specs.Answers.{gives};
+ghost use Rattle.pz_evaluation.specs.Answers.{ends, gives, stops};
+ghost use Rattle.pz_evaluation.specs.Steps.{truth, chosen};
 ghost use Rattle.pz_evaluation.specs.Steps as steps;
-ghost use Rattle.pz_evaluation.specs.devices.Computed.{done, and_then, tick as ticked, sequence, step, evaluated};
+ghost use Rattle.pz_evaluation.specs.devices.Computed.{done, and_then, tick as ticked, tested, sequence, operators, selectors, step, evaluated};
 ghost use Rattle.pz_eval.specs.declared.task.Task.{Task as Tasks};
-ghost use Rattle.pz_eval.specs.devices.Sites.{place_of, memory_at};
-ghost use Rattle.pz_eval.specs.devices.Tasks.{pending, meant};
+ghost use Rattle.pz_eval.specs.devices.Sites.{place_of, memory_at, memory_of};
+ghost use Rattle.pz_eval.specs.devices.Tasks.{links_view, sendings_view, pending, meant, coming, then_tasks};
 ghost use Rattle.pz_eval.specs.devices.Steps.{given, Goes};
 ghost use Rattle.pz_eval.specs.devices.Within.{SiteWithin, TaskWithin, ControlWithin, ActivationWithin};
+ghost use Rattle.pz_eval.specs.devices.Weights.{weight, links_weight, sendings_weight, tasks_weight, load, Falls};
 
-use crate::continuing::{descend, descend_counted, go_on_list, go_on_turns};
+use crate::at_once::{at_once, self_at};
+use crate::choosing::{choose, go_on_turns};
+use crate::continuing::{descend, descend_counted, go_on_list, go_on_selectors};
 use crate::creating::{create, time};
+use crate::operators::go_on_operators;
 use crate::reading::{constant, read};
+use crate::resuming::assign;
 use crate::setting::Setting;
 use crate::stop::Stop;
 use crate::task::{Activation, Control, Site, Task};
 use crate::units::tick;
 use pz_classes::Classes;
-use pz_code::{Code, CodeForm, Slot};
+use pz_code::{Code, CodeForm, CodeLink, CodeSending, Slot};
+use pz_items::Items;
 use pz_state::State;
 use pz_syntax::{Literal, Pos};
 use pz_value::{ClassId, Value};
@@ -36,6 +43,7 @@ use std::alloc::Global;
 fn give_constant<'a>(alloc: Global, units: &mut u64, literal: &Literal) -> Result<Control<'a>, Stop>
     ensures goes { (model : ModelTree) (now : ℕ) (p : Place) (ks : List Tasks) (m : Memory) → Goes (λ c. meant model now p ks c m units.new) result units.new (and_then (ticked (λ m1 r1. done (gives (steps.constant literal.now) m1) r1) m units.old) (pending model now p ks)) }
     ensures within { (count : ℕ) → IfOk result (ControlWithin count) }
+    ensures counted { OnOk result (units.new < units.old) }
 {
     tick(units)?;
     Ok(Control::Give(constant(alloc, literal)?))
@@ -52,6 +60,7 @@ fn give_variable<'a>(
     requires { All (RefersWithin (length state.now.held.objects)) locals.now }
     ensures goes { (model : ModelTree) (now : ℕ) (ks : List Tasks) → Goes (λ c. meant model now (place_of site) ks c (memory_at site state.now.held locals.now) units.new) result units.new (and_then (ticked (λ m1 r1. done (gives (memories.read (place_of site) slot m1) m1) r1) (memory_at site state.now.held locals.now) units.old) (pending model now (place_of site) ks)) }
     ensures within { IfOk result (ControlWithin (length state.now.held.objects)) }
+    ensures counted { OnOk result (units.new < units.old) }
 {
     tick(units)?;
     Ok(Control::Give(read(state, site, locals, slot)?))
@@ -61,18 +70,17 @@ fn give_variable<'a>(
 fn give_self<'a>(units: &mut u64, site: Site) -> Result<Control<'a>, Stop>
     ensures goes { (model : ModelTree) (now : ℕ) (ks : List Tasks) (m : Memory) → Goes (λ c. meant model now (place_of site) ks c m units.new) result units.new (and_then (ticked (λ m1 r1. done (gives (memories.self_at (place_of site)) m1) r1) m units.old) (pending model now (place_of site) ks)) }
     ensures within { (count : ℕ) → SiteWithin count site → IfOk result (ControlWithin count) }
+    ensures counted { OnOk result (units.new < units.old) }
 {
     tick(units)?;
-    match site {
-        Site::Object(r) => Ok(Control::Give(Value::Ref(r))),
-        Site::Process(_) => Ok(Control::Give(Value::Nil)),
-    }
+    Ok(Control::Give(self_at(site)))
 }
 
 /// The time counts one unit.
 fn give_time<'a>(clock: u128, units: &mut u64, at: Pos) -> Result<Control<'a>, Stop>
     ensures goes { (model : ModelTree) (now : ℕ) (p : Place) (ks : List Tasks) (m : Memory) → Goes (λ c. meant model now p ks c m units.new) result units.new (and_then (ticked (λ m1 r1. done (steps.time clock at m1) r1) m units.old) (pending model now p ks)) }
     ensures within { (count : ℕ) → IfOk result (ControlWithin count) }
+    ensures counted { OnOk result (units.new < units.old) }
 {
     tick(units)?;
     Ok(Control::Give(time(clock, at)?))
@@ -100,6 +108,7 @@ fn give_new<'a>(
     ensures marks { state.new.marks ≡ state.old.marks }
     ensures count { length state.old.held.objects ≤ length state.new.held.objects }
     ensures within { IfOk result (ControlWithin (length state.new.held.objects)) }
+    ensures counted { OnOk result (units.new < units.old) }
 {
     tick(units)?;
     give(create(classes, state, class, at))
@@ -114,9 +123,151 @@ fn begin_group<'a>(
 ) -> Result<Control<'a>, Stop>
     ensures goes { (model : ModelTree) (now : ℕ) (p : Place) (m : Memory) → Goes (λ c. meant model now p tasks.new.items c m units.new) result units.new (and_then (ticked (sequence model now (evaluated model now depth) p Nil (list_view codes.now)) m units.old) (pending model now p tasks.old.items)) }
     ensures within { IfOk result (λ c. (count : ℕ) → All (TaskWithin count) tasks.old.items → All (TaskWithin count) tasks.new.items × ControlWithin count c) }
+    ensures counted { OnOk result (units.new < units.old) }
 {
     tick(units)?;
     go_on_list(tasks, depth, Value::Nil, codes)
+}
+
+/// A chain of operators begins with its first operand.
+fn begin_chain<'a>(
+    alloc: Global,
+    state: &mut State,
+    units: &mut u64,
+    activation: &mut Activation<'a>,
+    depth: u32,
+    first: &'a Code,
+    links: &'a [CodeLink],
+) -> Result<Control<'a>, Stop>
+    requires { ActivationWithin (length state.old.held.objects) activation.old }
+    ensures goes { (model : ModelTree) (now : ℕ) → Goes (coming model now activation.new state.new.held units.new) result units.new (then_tasks model now activation.old (and_then (evaluated model now depth (place_of activation.old.site) (view first.now) (memory_of activation.old state.old.held) units.old) (λ y. operators model now (evaluated model now depth) (place_of activation.old.site) y (links_view links.now)))) }
+    ensures marks { state.new.marks ≡ state.old.marks }
+    ensures count { length state.new.held.objects ≡ length state.old.held.objects }
+    ensures site { activation.new.site ≡ activation.old.site }
+    ensures locals { activation.new.locals ≡ activation.old.locals }
+    ensures within { IfOk result (λ c. ActivationWithin (length state.new.held.objects) activation.new × ControlWithin (length state.new.held.objects) c) }
+    ensures falls { IfOk result (λ c. Falls units.old (suc (weight (view first.now) + suc (links_weight (links_view links.now))) + tasks_weight activation.old.tasks.items) units.new (load c activation.new.tasks.items)) }
+{
+    match at_once(state, units, activation, depth, first) {
+        Some(left) => go_on_operators(alloc, state, units, activation, depth, left, links),
+        None => descend(
+            &mut activation.tasks,
+            depth,
+            first,
+            Task::Operators { depth, links },
+        ),
+    }
+}
+
+/// Selectors begin with their receiver.
+fn begin_sends<'a>(
+    alloc: Global,
+    state: &State,
+    units: &mut u64,
+    activation: &mut Activation<'a>,
+    depth: u32,
+    first: &'a Code,
+    sendings: &'a [CodeSending],
+) -> Result<Control<'a>, Stop>
+    requires { ActivationWithin (length state.now.held.objects) activation.old }
+    ensures goes { (model : ModelTree) (now : ℕ) → Goes (coming model now activation.new state.now.held units.new) result units.new (then_tasks model now activation.old (and_then (evaluated model now depth (place_of activation.old.site) (view first.now) (memory_of activation.old state.now.held) units.old) (λ y. selectors model now (evaluated model now depth) (place_of activation.old.site) y (sendings_view sendings.now)))) }
+    ensures site { activation.new.site ≡ activation.old.site }
+    ensures locals { activation.new.locals ≡ activation.old.locals }
+    ensures within { IfOk result (λ c. ActivationWithin (length state.now.held.objects) activation.new × ControlWithin (length state.now.held.objects) c) }
+    ensures falls { IfOk result (λ c. Falls units.old (suc (weight (view first.now) + suc (sendings_weight (sendings_view sendings.now))) + tasks_weight activation.old.tasks.items) units.new (load c activation.new.tasks.items)) }
+{
+    match at_once(state, units, activation, depth, first) {
+        Some(receiver) => {
+            go_on_selectors(alloc, state, units, activation, depth, receiver, sendings)
+        }
+        None => descend(
+            &mut activation.tasks,
+            depth,
+            first,
+            Task::Selectors { depth, sendings },
+        ),
+    }
+}
+
+/// An assignment counts one unit.
+fn begin_assign<'a>(
+    state: &mut State,
+    units: &mut u64,
+    activation: &mut Activation<'a>,
+    depth: u32,
+    slot: Slot,
+    code: &'a Code,
+) -> Result<Control<'a>, Stop>
+    requires { ActivationWithin (length state.old.held.objects) activation.old }
+    ensures goes { (model : ModelTree) (now : ℕ) → Goes (coming model now activation.new state.new.held units.new) result units.new (then_tasks model now activation.old (ticked (λ m r. and_then (evaluated model now depth (place_of activation.old.site) (view code.now) m r) (λ y m1 r1. done (gives y (memories.write (place_of activation.old.site) slot y m1)) r1)) (memory_of activation.old state.old.held) units.old)) }
+    ensures marks { state.new.marks ≡ state.old.marks }
+    ensures count { length state.new.held.objects ≡ length state.old.held.objects }
+    ensures site { activation.new.site ≡ activation.old.site }
+    ensures within { IfOk result (λ c. ActivationWithin (length state.new.held.objects) activation.new × ControlWithin (length state.new.held.objects) c) }
+    ensures counted { OnOk result (units.new < units.old) }
+{
+    tick(units)?;
+    match at_once(state, units, activation, depth, code) {
+        Some(value) => assign(state, activation, slot, value),
+        None => descend(&mut activation.tasks, depth, code, Task::Assign { slot }),
+    }
+}
+
+/// A `return` counts one unit.
+fn begin_return<'a>(
+    state: &State,
+    units: &mut u64,
+    activation: &mut Activation<'a>,
+    depth: u32,
+    code: &'a Code,
+) -> Result<Control<'a>, Stop>
+    requires { ActivationWithin (length state.now.held.objects) activation.old }
+    ensures goes { (model : ModelTree) (now : ℕ) → Goes (coming model now activation.new state.now.held units.new) result units.new (then_tasks model now activation.old (ticked (λ m r. and_then (evaluated model now depth (place_of activation.old.site) (view code.now) m r) (λ y m1 r1. done (stops (ends y m1)) r1)) (memory_of activation.old state.now.held) units.old)) }
+    ensures site { activation.new.site ≡ activation.old.site }
+    ensures locals { activation.new.locals ≡ activation.old.locals }
+    ensures within { IfOk result (λ c. ActivationWithin (length state.now.held.objects) activation.new × ControlWithin (length state.now.held.objects) c) }
+    ensures counted { OnOk result (units.new < units.old) }
+{
+    tick(units)?;
+    match at_once(state, units, activation, depth, code) {
+        Some(value) => Ok(Control::Leave(value)),
+        None => descend(&mut activation.tasks, depth, code, Task::Return),
+    }
+}
+
+/// An `if` counts one unit.
+fn begin_if<'a>(
+    state: &State,
+    units: &mut u64,
+    activation: &mut Activation<'a>,
+    depth: u32,
+    at: Pos,
+    test: &'a Code,
+    part: &'a [Code],
+    other: &'a Option<Items<Code>>,
+) -> Result<Control<'a>, Stop>
+    requires { ActivationWithin (length state.now.held.objects) activation.old }
+    ensures goes { (model : ModelTree) (now : ℕ) → Goes (coming model now activation.new state.now.held units.new) result units.new (then_tasks model now activation.old (ticked (λ m r. and_then (evaluated model now depth (place_of activation.old.site) (view test.now) m r) (λ y. tested at (truth y) (λ b. sequence model now (evaluated model now depth) (place_of activation.old.site) Nil (chosen b (list_view part.now) (part_view other.now))))) (memory_of activation.old state.now.held) units.old)) }
+    ensures site { activation.new.site ≡ activation.old.site }
+    ensures locals { activation.new.locals ≡ activation.old.locals }
+    ensures within { IfOk result (λ c. ActivationWithin (length state.now.held.objects) activation.new × ControlWithin (length state.now.held.objects) c) }
+    ensures counted { OnOk result (units.new < units.old) }
+{
+    tick(units)?;
+    match at_once(state, units, activation, depth, test) {
+        Some(value) => choose(&mut activation.tasks, depth, at, part, other, value),
+        None => descend(
+            &mut activation.tasks,
+            depth,
+            test,
+            Task::If {
+                depth,
+                at,
+                part,
+                other,
+            },
+        ),
+    }
 }
 
 /// The evaluation of a form at this place begins, whose parts may stand so deep.
@@ -134,9 +285,8 @@ fn begin_form<'a>(
     ensures marks { state.new.marks ≡ state.old.marks }
     ensures count { length state.old.held.objects ≤ length state.new.held.objects }
     ensures site { activation.new.site ≡ activation.old.site }
-    ensures locals { activation.new.locals ≡ activation.old.locals }
-    ensures tasks { IfOk result (λ _. (count : ℕ) → All (TaskWithin count) activation.old.tasks.items → All (TaskWithin count) activation.new.tasks.items) }
-    ensures within { IfOk result (ControlWithin (length state.new.held.objects)) }
+    ensures within { IfOk result (λ c. ActivationWithin (length state.new.held.objects) activation.new × ControlWithin (length state.new.held.objects) c) }
+    ensures falls { IfOk result (λ c. Falls units.old (weight (form_view form.now at) + tasks_weight activation.old.tasks.items) units.new (load c activation.new.tasks.items)) }
 {
     match form {
         CodeForm::Lit(literal) => give_constant(setting.alloc, units, literal),
@@ -158,47 +308,51 @@ fn begin_form<'a>(
             depth,
             codes.as_slice(),
         ),
-        CodeForm::Chain(first, links) => {
-            let links = links.as_slice();
-            let task = Task::Operators { depth, links };
-            descend(&mut activation.tasks, depth, first.get(), task)
-        }
-        CodeForm::Sends(first, sendings) => {
-            let sendings = sendings.as_slice();
-            let task = Task::Selectors { depth, sendings };
-            descend(&mut activation.tasks, depth, first.get(), task)
-        }
+        CodeForm::Chain(first, links) => begin_chain(
+            setting.alloc,
+            state,
+            units,
+            activation,
+            depth,
+            first.get(),
+            links.as_slice(),
+        ),
+        CodeForm::Sends(first, sendings) => begin_sends(
+            setting.alloc,
+            state,
+            units,
+            activation,
+            depth,
+            first.get(),
+            sendings.as_slice(),
+        ),
         CodeForm::Unary(op, operand) => {
             let task = Task::Unary { op: *op, at };
             descend_counted(units, &mut activation.tasks, depth, operand.get(), task)
         }
         CodeForm::Assign(slot, value) => {
-            let task = Task::Assign { slot: *slot };
-            descend_counted(units, &mut activation.tasks, depth, value.get(), task)
+            begin_assign(state, units, activation, depth, *slot, value.get())
         }
-        CodeForm::Return(value) => {
-            descend_counted(
-                units,
-                &mut activation.tasks,
-                depth,
-                value.get(),
-                Task::Return,
-            )
-        }
-        CodeForm::If(test, part, other) => {
-            let part = part.as_slice();
-            let task = Task::If {
-                depth,
-                at,
-                part,
-                other,
-            };
-            descend_counted(units, &mut activation.tasks, depth, test.get(), task)
-        }
-        CodeForm::While(test, body) => {
-            let body = body.as_slice();
-            go_on_turns(units, &mut activation.tasks, depth, at, test.get(), body)
-        }
+        CodeForm::Return(value) => begin_return(state, units, activation, depth, value.get()),
+        CodeForm::If(test, part, other) => begin_if(
+            state,
+            units,
+            activation,
+            depth,
+            at,
+            test.get(),
+            part.as_slice(),
+            other,
+        ),
+        CodeForm::While(test, body) => go_on_turns(
+            state,
+            units,
+            activation,
+            depth,
+            at,
+            test.get(),
+            body.as_slice(),
+        ),
     }
 }
 
@@ -216,9 +370,8 @@ pub(crate) fn begin<'a>(
     ensures marks { state.new.marks ≡ state.old.marks }
     ensures count { length state.old.held.objects ≤ length state.new.held.objects }
     ensures site { activation.new.site ≡ activation.old.site }
-    ensures locals { activation.new.locals ≡ activation.old.locals }
-    ensures tasks { IfOk result (λ _. (count : ℕ) → All (TaskWithin count) activation.old.tasks.items → All (TaskWithin count) activation.new.tasks.items) }
-    ensures within { IfOk result (ControlWithin (length state.new.held.objects)) }
+    ensures within { IfOk result (λ c. ActivationWithin (length state.new.held.objects) activation.new × ControlWithin (length state.new.held.objects) c) }
+    ensures falls { IfOk result (λ c. Falls units.old (weight (view code.now) + tasks_weight activation.old.tasks.items) units.new (load c activation.new.tasks.items)) }
 {
     if depth == 0 {
         return Err(Stop::Spent);

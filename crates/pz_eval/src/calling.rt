@@ -1,6 +1,6 @@
 //! Methods begin, and go back to their callers.
 
-ghost use Rattle.std.specs.Prelude.{◌≡◌, ◌<◌, ◌-◌, ◌++◌, ◌∷◌, [], ℕ, length, false, IsTrue, IfOk, OnOk, All};
+ghost use Rattle.std.specs.Prelude.{◌≡◌, ◌<◌, ◌≤◌, ◌-◌, ◌++◌, ◌∷◌, [], ℕ, length, false, IsTrue, IfOk, OnOk, All};
 ghost use Rattle.pz_syntax.specs.Classes.{ModelTree};
 ghost use Rattle.pz_code.specs.CodeView.{list_view};
 ghost use Rattle.pz_state.specs.States.{StateView, nils};
@@ -8,14 +8,13 @@ ghost use Rattle.pz_classes.specs.Tables.{AreClasses};
 ghost use Rattle.pz_evaluation.specs.Steps.{reply, runs};
 ghost use Rattle.pz_evaluation.specs.devices.Computed.{and_then, replied, selectors, evaluated};
 ghost use Rattle.pz_eval.specs.Known.{AreKnown};
-ghost use Rattle.pz_eval.specs.devices.Sites.{place_of, memory_at};
-ghost use Rattle.pz_eval.specs.devices.Tasks.{sendings_view, pending, meant, unwound};
+ghost use Rattle.pz_eval.specs.devices.Sites.{place_of, memory_at, memory_of};
+ghost use Rattle.pz_eval.specs.devices.Tasks.{sendings_view, sent, pending, meant, coming, then_tasks, unwound};
 ghost use Rattle.pz_eval.specs.devices.Steps.{Goes, root};
 ghost use Rattle.pz_eval.specs.devices.Within.{RequestWithin, ControlWithin, ActivationWithin};
-ghost use Rattle.pz_eval.specs.declared.task.Control.TheVariants.{Send};
 ghost use Rattle.pz_eval.specs.declared.task.Site.TheVariants.{Object};
 
-use crate::continuing::{go_on_list, go_on_selectors};
+use crate::continuing::{add_task, go_on_list, go_on_selectors};
 use crate::replying::{Method, Reply, ask};
 use crate::setting::Setting;
 use crate::stop::Stop;
@@ -78,10 +77,11 @@ fn call<'a>(
         arguments,
         more,
     } = request;
-    activation.tasks.push(Task::Selectors {
+    let task = Task::Selectors {
         depth,
         sendings: more,
-    })?;
+    };
+    add_task(&mut activation.tasks, task)?;
     let inner = start_method(alloc, object, arguments, method.locals)?;
     callers.push(mem::replace(activation, inner))?;
     go_on_list(&mut activation.tasks, depth, Value::Nil, method.code)
@@ -92,22 +92,28 @@ fn call<'a>(
 fn deliver<'a>(
     setting: Setting<'a>,
     state: &mut State,
+    units: &mut u64,
     activation: &mut Activation<'a>,
     callers: &mut Vec<Activation<'a>>,
     request: Request<'a>,
 ) -> Result<Control<'a>, Stop>
     requires known { AreKnown setting.classes.now }
-    requires within { RequestWithin (length state.old.held.objects) request }
-    ensures goes { (model : ModelTree) (r : ℕ) → AreClasses model setting.entry.classes.now → Goes (λ c. unwound model setting.entry.clock callers.new.items (meant model setting.entry.clock (place_of activation.new.site) activation.new.tasks.items c (memory_at activation.new.site state.new.held activation.new.locals.items) r)) result r (unwound model setting.entry.clock callers.old.items (and_then (and_then (replied model setting.entry.clock (evaluated model setting.entry.clock request.entry.depth) (reply model request.entry.receiver request.entry.selector.now request.entry.arguments.items (memory_at activation.old.site state.old.held activation.old.locals.items)) request.entry.arguments.items (memory_at activation.old.site state.old.held activation.old.locals.items) r) (λ z. selectors model setting.entry.clock (evaluated model setting.entry.clock request.entry.depth) (place_of activation.old.site) z (sendings_view request.entry.more.now))) (pending model setting.entry.clock (place_of activation.old.site) activation.old.tasks.items))) }
+    requires request { RequestWithin (length state.old.held.objects) request }
+    requires within { ActivationWithin (length state.old.held.objects) activation.old }
+    requires callers { All (ActivationWithin (length state.old.held.objects)) callers.old.items }
+    ensures goes { (model : ModelTree) → AreClasses model setting.entry.classes.now → Goes (λ c. unwound model setting.entry.clock callers.new.items (coming model setting.entry.clock activation.new state.new.held units.new c)) result units.new (unwound model setting.entry.clock callers.old.items (then_tasks model setting.entry.clock activation.old (and_then (replied model setting.entry.clock (evaluated model setting.entry.clock request.entry.depth) (reply model request.entry.receiver request.entry.selector.now request.entry.arguments.items (memory_of activation.old state.old.held)) request.entry.arguments.items (memory_of activation.old state.old.held) units.old) (λ z. selectors model setting.entry.clock (evaluated model setting.entry.clock request.entry.depth) (place_of activation.old.site) z (sendings_view request.entry.more.now))))) }
     ensures marks { state.new.marks ≡ state.old.marks }
     ensures count { length state.new.held.objects ≡ length state.old.held.objects }
     ensures root { OnOk result (root callers.new.items (place_of activation.new.site) ≡ root callers.old.items (place_of activation.old.site)) }
-    ensures within { IfOk result (λ c. (count : ℕ) → count ≡ length state.new.held.objects → All (ActivationWithin count) callers.old.items → ActivationWithin count activation.old → All (ActivationWithin count) callers.new.items × ActivationWithin count activation.new × ControlWithin count c) }
+    ensures within { IfOk result (λ c. All (ActivationWithin (length state.new.held.objects)) callers.new.items × ActivationWithin (length state.new.held.objects) activation.new × ControlWithin (length state.new.held.objects) c) }
+    ensures units { OnOk result (units.new ≤ units.old) }
 {
     match ask(setting.alloc, setting.classes, state, &request) {
         Ok(Reply::Answers(value)) => go_on_selectors(
             setting.alloc,
-            &mut activation.tasks,
+            state,
+            units,
+            activation,
             request.depth,
             value,
             request.more,
@@ -129,15 +135,18 @@ pub(crate) fn send<'a>(
     request: Request<'a>,
 ) -> Result<Control<'a>, Stop>
     requires known { AreKnown setting.classes.now }
-    requires within { RequestWithin (length state.old.held.objects) request }
-    ensures goes { (model : ModelTree) → AreClasses model setting.entry.classes.now → Goes (λ c. unwound model setting.entry.clock callers.new.items (meant model setting.entry.clock (place_of activation.new.site) activation.new.tasks.items c (memory_at activation.new.site state.new.held activation.new.locals.items) units.new)) result units.new (unwound model setting.entry.clock callers.old.items (meant model setting.entry.clock (place_of activation.old.site) activation.old.tasks.items (Send request.entry) (memory_at activation.old.site state.old.held activation.old.locals.items) units.old)) }
+    requires request { RequestWithin (length state.old.held.objects) request }
+    requires within { ActivationWithin (length state.old.held.objects) activation.old }
+    requires callers { All (ActivationWithin (length state.old.held.objects)) callers.old.items }
+    ensures goes { (model : ModelTree) → AreClasses model setting.entry.classes.now → Goes (λ c. unwound model setting.entry.clock callers.new.items (coming model setting.entry.clock activation.new state.new.held units.new c)) result units.new (unwound model setting.entry.clock callers.old.items (then_tasks model setting.entry.clock activation.old (sent model setting.entry.clock request.entry.depth (place_of activation.old.site) request.entry.receiver request.entry.selector.now (sendings_view request.entry.more.now) request.entry.arguments.items (memory_of activation.old state.old.held) units.old))) }
     ensures marks { state.new.marks ≡ state.old.marks }
     ensures count { length state.new.held.objects ≡ length state.old.held.objects }
     ensures root { OnOk result (root callers.new.items (place_of activation.new.site) ≡ root callers.old.items (place_of activation.old.site)) }
-    ensures within { IfOk result (λ c. (count : ℕ) → count ≡ length state.new.held.objects → All (ActivationWithin count) callers.old.items → ActivationWithin count activation.old → All (ActivationWithin count) callers.new.items × ActivationWithin count activation.new × ControlWithin count c) }
+    ensures within { IfOk result (λ c. All (ActivationWithin (length state.new.held.objects)) callers.new.items × ActivationWithin (length state.new.held.objects) activation.new × ControlWithin (length state.new.held.objects) c) }
+    ensures counted { OnOk result (units.new < units.old) }
 {
     match tick(units) {
-        Ok(()) => deliver(setting, state, activation, callers, request),
+        Ok(()) => deliver(setting, state, units, activation, callers, request),
         Err(stop) => Err(stop),
     }
 }

@@ -2,6 +2,7 @@
 //! with their effects or without.
 #![tactic(auto)]
 
+mod at_once;
 mod beginning;
 mod calling;
 mod choosing;
@@ -12,6 +13,7 @@ mod evaluating;
 mod listing;
 mod machine;
 mod operating;
+mod operators;
 mod parcels;
 mod reading;
 mod replying;

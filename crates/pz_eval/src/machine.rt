@@ -1,7 +1,7 @@
 //! The evaluation of an expression, step by step. What is to be done later stands in the tasks of the
 //! methods that run, so that neither expressions nor calls are followed by calls of this code.
 
-ghost use Rattle.std.specs.Prelude.{◌≡◌, ◌≤◌, ℕ, [], length, IfOk, OnOk, All};
+ghost use Rattle.std.specs.Prelude.{◌≡◌, ◌≤◌, ◌<◌, ℕ, [], length, IfOk, OnOk, All};
 ghost use Rattle.pz_syntax.specs.Classes.{ModelTree};
 ghost use Rattle.pz_code.specs.CodeView.{view};
 ghost use Rattle.pz_state.specs.States.{StateView};
@@ -16,6 +16,7 @@ ghost use Rattle.pz_eval.specs.devices.Sites.{place_of, memory_at};
 ghost use Rattle.pz_eval.specs.devices.Tasks.{meant, unwound};
 ghost use Rattle.pz_eval.specs.devices.Steps.{went_on, Progresses, Advances, Finishes, OnOver, root};
 ghost use Rattle.pz_eval.specs.devices.Within.{ControlWithin, ActivationWithin, FinishWithin, ProgressWithin};
+ghost use Rattle.pz_eval.specs.devices.Weights.{callers_weight, total, Falls, WhileOn};
 
 use crate::beginning::begin;
 use crate::calling::{leave, send};
@@ -37,6 +38,7 @@ fn give_back<'a>(
     ensures root { root callers.new.items (place_of activation.new.site) ≡ root callers.old.items (place_of activation.old.site) }
     ensures bottom { OnOver (callers.new.items ≡ []) result }
     ensures within { (count : ℕ) → RefersWithin count value → All (ActivationWithin count) callers.old.items → ActivationWithin count activation.old → All (ActivationWithin count) callers.new.items × ActivationWithin count activation.new × ProgressWithin count result }
+    ensures lighter { WhileOn (λ c. total c activation.new callers.new.items < callers_weight callers.old.items) result }
 {
     if leave(activation, callers) {
         return Progress::On(Control::Give(value));
@@ -54,6 +56,7 @@ fn give_result<'a>(
     ensures root { root callers.new.items (place_of activation.new.site) ≡ root callers.old.items (place_of activation.old.site) }
     ensures bottom { OnOver (callers.new.items ≡ []) result }
     ensures within { (count : ℕ) → RefersWithin count value → All (ActivationWithin count) callers.old.items → ActivationWithin count activation.old → All (ActivationWithin count) callers.new.items × ActivationWithin count activation.new × ProgressWithin count result }
+    ensures lighter { WhileOn (λ c. total c activation.new callers.new.items < callers_weight callers.old.items) result }
 {
     if leave(activation, callers) {
         return Progress::On(Control::Give(value));
@@ -90,6 +93,7 @@ fn advance<'a>(
     ensures root { OnOk result (root callers.new.items (place_of activation.new.site) ≡ root callers.old.items (place_of activation.old.site)) }
     ensures bottom { IfOk result (OnOver (callers.new.items ≡ [])) }
     ensures within { IfOk result (λ p. All (ActivationWithin (length state.new.held.objects)) callers.new.items × ActivationWithin (length state.new.held.objects) activation.new × ProgressWithin (length state.new.held.objects) p) }
+    ensures falls { IfOk result (WhileOn (λ c. Falls units.old (total control.entry activation.old callers.old.items) units.new (total c activation.new callers.new.items))) }
 {
     match control {
         Control::Evaluate { depth, code } => {
@@ -99,12 +103,53 @@ fn advance<'a>(
             Some(task) => on(resume(setting, state, units, activation, task, value)),
             None => Ok(give_back(activation, callers, value)),
         },
-        Control::Send(request) => { on(send(setting, state, units, activation, callers, request)) }
+        Control::Send(request) => {
+            let request = Box::into_inner(request);
+            on(send(setting, state, units, activation, callers, request))
+        }
         Control::Leave(value) => Ok(give_result(activation, callers, value)),
     }
 }
 
-/// Steps until the evaluation is over. More steps than 64 bits number are taken for want of memory.
+/// Steps until a unit has been counted or the evaluation is over. What can be done before that becomes
+/// less with each step.
+fn count_one<'a>(
+    setting: Setting<'a>,
+    state: &mut State,
+    units: &mut u64,
+    activation: &mut Activation<'a>,
+    callers: &mut Vec<Activation<'a>>,
+    first: Control<'a>,
+) -> Result<Progress<'a>, Stop>
+    requires known { AreKnown setting.classes.now }
+    requires control { ControlWithin (length state.old.held.objects) first }
+    requires within { ActivationWithin (length state.old.held.objects) activation.old }
+    requires callers { All (ActivationWithin (length state.old.held.objects)) callers.old.items }
+    ensures goes { (model : ModelTree) → AreClasses model setting.entry.classes.now → Advances (λ c. unwound model setting.entry.clock callers.new.items (meant model setting.entry.clock (place_of activation.new.site) activation.new.tasks.items c (memory_at activation.new.site state.new.held activation.new.locals.items) units.new)) result (memory_at activation.new.site state.new.held activation.new.locals.items) units.new (unwound model setting.entry.clock callers.old.items (meant model setting.entry.clock (place_of activation.old.site) activation.old.tasks.items first.entry (memory_at activation.old.site state.old.held activation.old.locals.items) units.old)) }
+    ensures marks { state.new.marks ≡ state.old.marks }
+    ensures count { length state.old.held.objects ≤ length state.new.held.objects }
+    ensures root { OnOk result (root callers.new.items (place_of activation.new.site) ≡ root callers.old.items (place_of activation.old.site)) }
+    ensures bottom { IfOk result (OnOver (callers.new.items ≡ [])) }
+    ensures within { IfOk result (λ p. All (ActivationWithin (length state.new.held.objects)) callers.new.items × ActivationWithin (length state.new.held.objects) activation.new × ProgressWithin (length state.new.held.objects) p) }
+    ensures counted { IfOk result (WhileOn (λ _. units.new < units.old)) }
+{
+    let before = *units;
+    let mut control = first;
+    'steps: loop {
+        match advance(setting, state, units, activation, callers, control) {
+            Ok(Progress::On(next)) => {
+                if *units < before {
+                    return Ok(Progress::On(next));
+                }
+                control = next;
+            }
+            Ok(Progress::Over(finish)) => return Ok(Progress::Over(finish)),
+            Err(stop) => return Err(stop),
+        }
+    }
+}
+
+/// Steps until the evaluation is over, which the units bound.
 fn run<'a>(
     setting: Setting<'a>,
     state: &mut State,
@@ -124,14 +169,13 @@ fn run<'a>(
     ensures within { IfOk result (FinishWithin (length state.new.held.objects)) }
 {
     let mut control = first;
-    for _step in 0..u64::MAX {
-        match advance(setting, state, units, activation, callers, control) {
+    'units: loop {
+        match count_one(setting, state, units, activation, callers, control) {
             Ok(Progress::On(next)) => control = next,
             Ok(Progress::Over(finish)) => return Ok(finish),
             Err(stop) => return Err(stop),
         }
     }
-    Err(Stop::NoMemory)
 }
 
 /// Evaluates an expression of a method of the process whose locals are those of this frame. Units are

@@ -1,7 +1,9 @@
 //! Constants, and what variables hold.
 
-ghost use Rattle.std.specs.Prelude.{◌≡◌, ℕ, length, IfOk, All};
-ghost use Rattle.pz_state.specs.States.{value_at, variable, local, item};
+ghost use Rattle.std.specs.Prelude.{◌≡◌, length, unwrap_or, IfOk, IfSome, All};
+ghost use Rattle.std.specs.Option.{option_copied};
+ghost use Rattle.pz_value.specs.declared.value.Value.TheVariants.{Nil};
+ghost use Rattle.pz_state.specs.States.{variable, local, item};
 ghost use Rattle.pz_state.specs.References.{RefersWithin};
 ghost use Rattle.pz_evaluation.specs.Memories.{read};
 ghost use Rattle.pz_evaluation.specs.Steps as steps;
@@ -29,48 +31,94 @@ pub(crate) fn constant(alloc: Global, literal: &Literal) -> Result<Value, AllocE
     })
 }
 
-/// What stands at a place of a list; nil past its end. The only error is want of memory.
-fn copy_at(values: &[Value], place: u32) -> Result<Value, AllocError>
-    ensures value { IfOk result (λ value. value ≡ value_at values.now place) }
-    ensures within { (count : ℕ) → All (RefersWithin count) values.now → IfOk result (RefersWithin count) }
+/// The value of a constant, if it is no text.
+pub(crate) fn plain_constant(literal: &Literal) -> Option<Value>
+    ensures { IfSome result (λ value. value ≡ steps.constant literal.now) }
 {
-    match values.get(place as usize) {
-        Some(value) => value.copy(),
-        None => Ok(Value::Nil),
+    match literal {
+        Literal::Int(n) => Some(Value::Int(*n)),
+        Literal::Float | Literal::Nil => Some(Value::Nil),
+        Literal::Char(byte) => Some(Value::Char(*byte)),
+        Literal::Str(_) => None,
+        Literal::True => Some(Value::Bool(true)),
+        Literal::False => Some(Value::Bool(false)),
     }
 }
 
-/// A variable of the process; nil if there is none.
-fn copy_variable(state: &State, slot: u32) -> Result<Value, AllocError>
-    ensures value { IfOk result (λ value. value ≡ variable state.now.held slot) }
-    ensures within { IfOk result (RefersWithin (length state.now.held.objects)) }
+/// An equal value, if it is no text. Takes no memory.
+pub(crate) fn plain_copy(value: &Value) -> Option<Value>
+    ensures { IfSome result (λ copy. copy ≡ value.now) }
+{
+    match value {
+        Value::Nil => Some(Value::Nil),
+        Value::Bool(b) => Some(Value::Bool(*b)),
+        Value::Int(n) => Some(Value::Int(*n)),
+        Value::Char(c) => Some(Value::Char(*c)),
+        Value::Str(_) => None,
+        Value::Ref(r) => Some(Value::Ref(*r)),
+    }
+}
+
+/// An equal value. The only error is want of memory.
+pub(crate) fn copy(value: &Value) -> Result<Value, AllocError>
+    ensures { IfOk result (λ copy. copy ≡ value.now) }
+{
+    match plain_copy(value) {
+        Some(copy) => Ok(copy),
+        None => value.copy(),
+    }
+}
+
+/// A variable of the process, if it is there.
+fn variable_in(state: &State, slot: u32) -> Option<&Value>
+    ensures value { unwrap_or (option_copied result) Nil ≡ variable state.now.held slot }
+    ensures within { IfSome result (λ value. RefersWithin (length state.now.held.objects) value.now) }
 {
     if slot as usize >= state.variables() {
-        return Ok(Value::Nil);
+        return None;
     }
-    state.var(slot).copy()
+    Some(state.var(slot))
 }
 
-/// A local of a frame; nil if there is none.
-fn copy_local(state: &State, frame: FrameId, slot: u32) -> Result<Value, AllocError>
-    ensures value { IfOk result (λ value. value ≡ local state.now.held frame.0 slot) }
-    ensures within { IfOk result (RefersWithin (length state.now.held.objects)) }
+/// A local of a frame, if it is there.
+fn local_in(state: &State, frame: FrameId, slot: u32) -> Option<&Value>
+    ensures value { unwrap_or (option_copied result) Nil ≡ local state.now.held frame.0 slot }
+    ensures within { IfSome result (λ value. RefersWithin (length state.now.held.objects) value.now) }
 {
     if slot as usize >= state.locals(frame) {
-        return Ok(Value::Nil);
+        return None;
     }
-    state.local(frame, slot).copy()
+    Some(state.local(frame, slot))
 }
 
-/// A field of an object; nil if there is none.
-fn copy_field(state: &State, r: u32, place: u32) -> Result<Value, AllocError>
-    ensures value { IfOk result (λ value. value ≡ item state.now.held r place) }
-    ensures within { IfOk result (RefersWithin (length state.now.held.objects)) }
+/// A field of an object, if it is there.
+fn field_in(state: &State, r: u32, place: u32) -> Option<&Value>
+    ensures value { unwrap_or (option_copied result) Nil ≡ item state.now.held r place }
+    ensures within { IfSome result (λ value. RefersWithin (length state.now.held.objects) value.now) }
 {
     if r >= state.objects() {
-        return Ok(Value::Nil);
+        return None;
     }
-    copy_at(state.object(r).items(), place)
+    state.object(r).items().get(place as usize)
+}
+
+/// What a variable holds where the code stands, if it is there.
+pub(crate) fn held<'a>(
+    state: &'a State,
+    site: Site,
+    locals: &'a [Value],
+    slot: Slot,
+) -> Option<&'a Value>
+    ensures value { unwrap_or (option_copied result) Nil ≡ read (place_of site) slot (memory_at site state.now.held locals.now) }
+    ensures within { All (RefersWithin (length state.now.held.objects)) locals.now → IfSome result (λ value. RefersWithin (length state.now.held.objects) value.now) }
+{
+    match (site, slot) {
+        (Site::Process(frame), Slot::Local(i)) => local_in(state, frame, i),
+        (Site::Process(_), Slot::Shared(i)) => variable_in(state, i),
+        (Site::Object(_), Slot::Local(i)) => locals.get(i as usize),
+        (Site::Object(r), Slot::Shared(i)) => field_in(state, r, i),
+        (_, Slot::Unknown) => None,
+    }
 }
 
 /// What a variable holds where the code stands; nil if there is none. The only error is want of
@@ -84,11 +132,8 @@ pub(crate) fn read(
     ensures within { All (RefersWithin (length state.now.held.objects)) locals.now → IfOk result (RefersWithin (length state.now.held.objects)) }
     ensures value { IfOk result (λ value. value ≡ read (place_of site) slot (memory_at site state.now.held locals.now)) }
 {
-    match (site, slot) {
-        (Site::Process(frame), Slot::Local(i)) => copy_local(state, frame, i),
-        (Site::Process(_), Slot::Shared(i)) => copy_variable(state, i),
-        (Site::Object(_), Slot::Local(i)) => copy_at(locals, i),
-        (Site::Object(r), Slot::Shared(i)) => copy_field(state, r, i),
-        (_, Slot::Unknown) => Ok(Value::Nil),
+    match held(state, site, locals, slot) {
+        Some(value) => copy(value),
+        None => Ok(Value::Nil),
     }
 }

@@ -1,86 +1,37 @@
 //! How tasks are resumed with a value.
 
-ghost use Rattle.std.specs.Prelude.{◌≡◌, ℕ, List, [], ◌∷◌, ◌++◌, length, IfOk, All};
+ghost use Rattle.std.specs.Prelude.{◌≡◌, ◌+◌, ℕ, List, [], ◌∷◌, ◌++◌, length, IfOk};
 ghost use Rattle.pz_syntax.specs.Classes.{ModelTree};
 ghost use Rattle.pz_code.specs.CodeView.{list_view};
 ghost use Rattle.pz_value.specs.declared.value.Value.{Value as Values};
 ghost use Rattle.pz_state.specs.References.{RefersWithin};
-ghost use Rattle.pz_evaluation.specs.Memories.{Memory, Place};
+ghost use Rattle.pz_evaluation.specs.Memories.{Place};
 ghost use Rattle.pz_evaluation.specs.Memories as memories;
 ghost use Rattle.pz_evaluation.specs.Answers.{gives};
 ghost use Rattle.pz_evaluation.specs.Steps as steps;
-ghost use Rattle.pz_evaluation.specs.devices.Computed.{done, and_then, follow, tick as ticked, operators, arguments, evaluated};
+ghost use Rattle.pz_evaluation.specs.devices.Computed.{done, and_then, arguments, evaluated};
 ghost use Rattle.pz_eval.specs.declared.task.Task.{Task as Tasks};
-ghost use Rattle.pz_eval.specs.devices.Sites.{place_of, memory_at};
-ghost use Rattle.pz_eval.specs.devices.Tasks.{links_view, sendings_view, sent, resumed, pending, meant};
-ghost use Rattle.pz_eval.specs.devices.Steps.{Counts, Goes};
+ghost use Rattle.pz_eval.specs.devices.Sites.{place_of, memory_at, memory_of};
+ghost use Rattle.pz_eval.specs.devices.Tasks.{sendings_view, sent, resumed, pending, meant, coming, then_tasks};
+ghost use Rattle.pz_eval.specs.devices.Steps.{Goes};
 ghost use Rattle.pz_eval.specs.devices.Within.{RequestWithin, TaskWithin, ControlWithin, ActivationWithin};
+ghost use Rattle.pz_eval.specs.devices.Weights.{list_weight, task_weight, tasks_weight, control_weight, load, Falls, NoMore};
 
 use crate::beginning::give;
-use crate::choosing::{choose, turn_or_end};
-use crate::continuing::{
-    go_on_arguments, go_on_list, go_on_operators, go_on_selectors, go_on_turns,
-};
+use crate::choosing::{choose, go_on_turns, turn_or_end};
+use crate::continuing::{add_argument, go_on_arguments, go_on_list, go_on_selectors};
 use crate::operating::apply;
+use crate::operators::{go_on_operators, operate};
+use crate::reading::copy;
 use crate::setting::Setting;
 use crate::stop::Stop;
 use crate::task::{Activation, Control, Request, Task};
-use crate::units::tick;
 use crate::writing::write;
-use pz_code::{Code, CodeLink, Slot};
+use pz_code::{Code, Slot};
 use pz_state::State;
 use pz_syntax::{Pos, Symbol};
 use pz_value::Value;
 use std::alloc::Global;
-
-/// What an operator between two values gives, which counts one unit.
-fn apply_counted(
-    alloc: Global,
-    state: &mut State,
-    units: &mut u64,
-    op: Symbol,
-    at: Pos,
-    left: &Value,
-    right: Value,
-) -> Result<Value, Stop>
-    requires left { RefersWithin (length state.old.held.objects) left.now }
-    requires right { RefersWithin (length state.old.held.objects) right }
-    ensures counts { (locals : List Values) → Counts result (steps.applied op at left.now right (record { state = state.old.held; locals = locals })) (record { state = state.new.held; locals = locals }) units.old units.new }
-    ensures marks { state.new.marks ≡ state.old.marks }
-    ensures count { length state.new.held.objects ≡ length state.old.held.objects }
-    ensures within { IfOk result (RefersWithin (length state.new.held.objects)) }
-{
-    match tick(units) {
-        Ok(()) => apply(alloc, state, op, at, left, &[right]),
-        Err(stop) => Err(stop),
-    }
-}
-
-/// An operator is applied, which counts one unit, and then those behind it.
-fn operate<'a>(
-    alloc: Global,
-    state: &mut State,
-    units: &mut u64,
-    tasks: &mut Vec<Task<'a>>,
-    depth: u32,
-    op: Symbol,
-    at: Pos,
-    left: Value,
-    right: Value,
-    rest: &'a [CodeLink],
-) -> Result<Control<'a>, Stop>
-    requires left { RefersWithin (length state.old.held.objects) left }
-    requires right { RefersWithin (length state.old.held.objects) right }
-    ensures goes { (model : ModelTree) (now : ℕ) (p : Place) (locals : List Values) → Goes (λ c. meant model now p tasks.new.items c (record { state = state.new.held; locals = locals }) units.new) result units.new (and_then (ticked (λ m r. follow (steps.applied op at left right m) r (λ z. operators model now (evaluated model now depth) p z (links_view rest.now))) (record { state = state.old.held; locals = locals }) units.old) (pending model now p tasks.old.items)) }
-    ensures marks { state.new.marks ≡ state.old.marks }
-    ensures count { length state.new.held.objects ≡ length state.old.held.objects }
-    ensures within { IfOk result (λ c. All (TaskWithin (length state.old.held.objects)) tasks.old.items → All (TaskWithin (length state.new.held.objects)) tasks.new.items × ControlWithin (length state.new.held.objects) c) }
-{
-    match apply_counted(alloc, state, units, op, at, &left, right) {
-        Ok(value) => go_on_operators(tasks, depth, value, rest),
-        Err(stop) => Err(stop),
-    }
-}
 
 /// An operator before a value is applied.
 fn operate_alone<'a>(
@@ -95,12 +46,13 @@ fn operate_alone<'a>(
     ensures marks { state.new.marks ≡ state.old.marks }
     ensures count { length state.new.held.objects ≡ length state.old.held.objects }
     ensures within { IfOk result (ControlWithin (length state.new.held.objects)) }
+    ensures weighs { IfOk result (λ c. control_weight c ≡ 0) }
 {
     give(apply(alloc, state, op, at, &operand, &[]))
 }
 
 /// A variable gets a value, which is that of the assignment.
-fn assign<'a>(
+pub(crate) fn assign<'a>(
     state: &mut State,
     activation: &mut Activation<'a>,
     slot: Slot,
@@ -113,24 +65,33 @@ fn assign<'a>(
     ensures count { length state.new.held.objects ≡ length state.old.held.objects }
     ensures site { activation.new.site ≡ activation.old.site }
     ensures within { IfOk result (λ c. ActivationWithin (length state.new.held.objects) activation.new × ControlWithin (length state.new.held.objects) c) }
+    ensures weighs { IfOk result (λ c. load c activation.new.tasks.items ≡ tasks_weight activation.old.tasks.items) }
 {
-    let copy = value.copy()?;
+    let copy = copy(&value)?;
     write(state, activation.site, &mut activation.locals, slot, copy)?;
     Ok(Control::Give(value))
 }
 
 /// A value is the next argument of a selector.
 fn take_argument<'a>(
-    tasks: &mut Vec<Task<'a>>,
-    mut request: Request<'a>,
+    state: &State,
+    units: &mut u64,
+    activation: &mut Activation<'a>,
+    mut request: Box<Request<'a>>,
     rest: &'a [Code],
     value: Value,
 ) -> Result<Control<'a>, Stop>
-    ensures goes { (model : ModelTree) (now : ℕ) (p : Place) (m : Memory) (r : ℕ) → Goes (λ c. meant model now p tasks.new.items c m r) result r (and_then (and_then (arguments model now (evaluated model now request.entry.depth) p (request.entry.arguments.items ++ value ∷ []) (list_view rest.now) m r) (sent model now request.entry.depth p request.entry.receiver request.entry.selector.now (sendings_view request.entry.more.now))) (pending model now p tasks.old.items)) }
-    ensures within { IfOk result (λ c. (count : ℕ) → RequestWithin count request.entry → RefersWithin count value → All (TaskWithin count) tasks.old.items → All (TaskWithin count) tasks.new.items × ControlWithin count c) }
+    requires request { RequestWithin (length state.now.held.objects) request.value }
+    requires value { RefersWithin (length state.now.held.objects) value }
+    requires within { ActivationWithin (length state.now.held.objects) activation.old }
+    ensures goes { (model : ModelTree) (now : ℕ) → Goes (coming model now activation.new state.now.held units.new) result units.new (then_tasks model now activation.old (and_then (arguments model now (evaluated model now request.entry.value.depth) (place_of activation.old.site) (request.entry.value.arguments.items ++ value ∷ []) (list_view rest.now) (memory_of activation.old state.now.held) units.old) (sent model now request.entry.value.depth (place_of activation.old.site) request.entry.value.receiver request.entry.value.selector.now (sendings_view request.entry.value.more.now)))) }
+    ensures site { activation.new.site ≡ activation.old.site }
+    ensures locals { activation.new.locals ≡ activation.old.locals }
+    ensures within { IfOk result (λ c. ActivationWithin (length state.now.held.objects) activation.new × ControlWithin (length state.now.held.objects) c) }
+    ensures weighs { IfOk result (λ c. NoMore units.old (list_weight (list_view rest.now) + tasks_weight activation.old.tasks.items) units.new (load c activation.new.tasks.items)) }
 {
-    request.arguments.push(value)?;
-    go_on_arguments(tasks, request, rest)
+    add_argument(&mut request.arguments, value)?;
+    go_on_arguments(state, units, activation, request, rest)
 }
 
 /// A task of the method that runs is resumed with a value.
@@ -150,21 +111,18 @@ pub(crate) fn resume<'a>(
     ensures count { length state.new.held.objects ≡ length state.old.held.objects }
     ensures site { activation.new.site ≡ activation.old.site }
     ensures within { IfOk result (λ c. ActivationWithin (length state.new.held.objects) activation.new × ControlWithin (length state.new.held.objects) c) }
+    ensures falls { IfOk result (λ c. Falls units.old (task_weight task.entry + tasks_weight activation.old.tasks.items) units.new (load c activation.new.tasks.items)) }
 {
     let alloc = setting.alloc;
     match task {
         Task::Sequence { depth, rest } => go_on_list(&mut activation.tasks, depth, value, rest),
-        Task::Operators { depth, links } => go_on_operators(
-            &mut activation.tasks,
-            depth,
-            value,
-            links,
-        ),
+        Task::Operators { depth, links } => {
+            go_on_operators(alloc, state, units, activation, depth, value, links)
+        }
         Task::Operand {
             depth,
             left,
-            op,
-            at,
+            link,
             rest,
         } => operate(
             alloc,
@@ -172,21 +130,17 @@ pub(crate) fn resume<'a>(
             units,
             &mut activation.tasks,
             depth,
-            op,
-            at,
             left,
+            link,
             value,
             rest,
         ),
         Task::Selectors { depth, sendings } => {
-            go_on_selectors(alloc, &mut activation.tasks, depth, value, sendings)
+            go_on_selectors(alloc, state, units, activation, depth, value, sendings)
         }
-        Task::Argument { request, rest } => take_argument(
-            &mut activation.tasks,
-            request,
-            rest,
-            value,
-        ),
+        Task::Argument { request, rest } => {
+            take_argument(state, units, activation, request, rest, value)
+        }
         Task::Unary { op, at } => operate_alone(alloc, state, op, at, value),
         Task::Assign { slot } => assign(state, activation, slot, value),
         Task::Return => Ok(Control::Leave(value)),
@@ -207,6 +161,6 @@ pub(crate) fn resume<'a>(
             at,
             test,
             body,
-        } => go_on_turns(units, &mut activation.tasks, depth, at, test, body),
+        } => go_on_turns(state, units, activation, depth, at, test, body),
     }
 }

@@ -38,12 +38,11 @@ pub(crate) enum Task<'a> {
         depth: u32,
         links: &'a [CodeLink],
     },
-    /// It is the right operand of an operator, behind which these are left.
+    /// It is the right operand of this operator, behind which these are left.
     Operand {
         depth: u32,
         left: Value,
-        op: Symbol,
-        at: Pos,
+        link: &'a CodeLink,
         rest: &'a [CodeLink],
     },
     /// It is the receiver of the first of these selectors.
@@ -53,7 +52,7 @@ pub(crate) enum Task<'a> {
     },
     /// It is an argument, behind which these are left.
     Argument {
-        request: Request<'a>,
+        request: Box<Request<'a>>,
         rest: &'a [Code],
     },
     /// It is the operand of this operator.
@@ -98,7 +97,7 @@ pub(crate) enum Control<'a> {
     /// A value is given to the latest task.
     Give(Value),
     /// A selector is sent, all its arguments being there.
-    Send(Request<'a>),
+    Send(Box<Request<'a>>),
     /// The method that runs ends with a value.
     Leave(Value),
 }

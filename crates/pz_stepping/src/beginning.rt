@@ -1,5 +1,6 @@
-// What an active part does, as far as it can still be undone. After want of memory, which is the only
-// error, nothing is promised of the state.
+// What an active part does, as far as it can still be undone: the mark from before is open, and at a
+// trouble all is as it was. After want of memory, which is the only error, nothing is promised of the
+// state.
 
 ghost use Rattle.std.specs.Prelude.{◌≡◌, ℕ, IfOk};
 ghost use Rattle.pz_syntax.specs.declared.tokens.Pos.{Pos as StatementPos};

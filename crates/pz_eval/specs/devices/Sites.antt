@@ -5,6 +5,7 @@ use Rattle.pz_state.specs.States.{StateView}
 use Rattle.pz_evaluation.specs.Memories.{Memory, Place, in_process, in_object}
 use Rattle.pz_eval.specs.declared.task.Site.{Site}
 use Rattle.pz_eval.specs.declared.task.Site.TheVariants.{Process, Object}
+use Rattle.pz_eval.specs.declared.task.Activation.{Activation}
 
 abbrev pub place_of : Site → Place
 place_of (Process frame) = in_process frame.0
@@ -17,3 +18,7 @@ locals_at (Object r) locals = locals
 
 abbrev pub memory_at : Site → StateView → List Value → Memory
 memory_at site s locals = record { state = s; locals = locals_at site locals }
+
+-- of a method that runs
+abbrev pub memory_of : Activation → StateView → Memory
+memory_of a s = memory_at a.site s a.locals.items

@@ -20,7 +20,8 @@ use Rattle.pz_eval.specs.declared.task.Task.TheVariants as task
 use Rattle.pz_eval.specs.declared.task.Control.{Control}
 use Rattle.pz_eval.specs.declared.task.Control.TheVariants as control
 use Rattle.pz_eval.specs.declared.task.Activation.{Activation}
-use Rattle.pz_eval.specs.devices.Sites.{place_of, locals_at}
+use Rattle.pz_state.specs.States.{StateView}
+use Rattle.pz_eval.specs.devices.Sites.{place_of, locals_at, memory_of}
 
 abbrev pub links_view : List CodeLink → Links Slot ClassId
 links_view ls = links_of (map link_view ls)
@@ -42,12 +43,12 @@ module _ (model : ModelTree) (now : ℕ) where
   abbrev pub resumed : Place → Task → Value → Computation Value
   resumed p (task.Sequence d rest) y m r = sequence model now (evaluated model now d) p y (list_view rest.now) m r
   resumed p (task.Operators d links) y m r = operators model now (evaluated model now d) p y (links_view links.now) m r
-  resumed p (task.Operand d left op at rest) w m r =
-      tick (λ m1 r1. follow (applied op at left w m1) r1 (λ z. operators model now (evaluated model now d) p z (links_view rest.now))) m r
+  resumed p (task.Operand d left l rest) w m r =
+      tick (λ m1 r1. follow (applied l.now.op l.now.pos left w m1) r1 (λ z. operators model now (evaluated model now d) p z (links_view rest.now))) m r
   resumed p (task.Selectors d sendings) y m r = selectors model now (evaluated model now d) p y (sendings_view sendings.now) m r
   resumed p (task.Argument q rest) w m r =
-      and_then (arguments model now (evaluated model now q.depth) p (q.arguments.items ++ w ∷ []) (list_view rest.now) m r)
-      (sent q.depth p q.receiver q.selector.now (sendings_view q.more.now))
+      and_then (arguments model now (evaluated model now q.value.depth) p (q.value.arguments.items ++ w ∷ []) (list_view rest.now) m r)
+      (sent q.value.depth p q.value.receiver q.value.selector.now (sendings_view q.value.more.now))
   resumed p (task.Unary op at) y m r = done (applied_alone op at y m) r
   resumed p (task.Assign x) y m r = done (gives y (write p x y m)) r
   resumed p task.Return y m r = done (stops (ends y m)) r
@@ -69,8 +70,16 @@ module _ (model : ModelTree) (now : ℕ) where
   abbrev pub meant : Place → List Task → Control → Computation Value
   meant p ks (control.Evaluate d code) m r = and_then (evaluated model now d p (view code.now) m r) (pending p ks)
   meant p ks (control.Give y) m r = pending p ks y m r
-  meant p ks (control.Send q) m r = and_then (sent q.depth p q.receiver q.selector.now (sendings_view q.more.now) q.arguments.items m r) (pending p ks)
+  meant p ks (control.Send q) m r = and_then (sent q.value.depth p q.value.receiver q.value.selector.now (sendings_view q.value.more.now) q.value.arguments.items m r) (pending p ks)
   meant p ks (control.Leave y) m r = done (stops (ends y m)) r
+
+  -- the same in a method that runs
+  abbrev pub coming : Activation → StateView → ℕ → Control → Reached Value
+  coming a s r c = meant (place_of a.site) a.tasks.items c (memory_of a s) r
+
+  -- what comes of this once the tasks of the method are done
+  abbrev pub then_tasks : Activation → Reached Value → Reached Value
+  then_tasks a x = and_then x (pending (place_of a.site) a.tasks.items)
 
   -- a caller goes on with what its method came to
   abbrev pub handed : Activation → Reached Value → Reached Value

@@ -19,14 +19,14 @@ pub record RequestWithin (count : ℕ) (q : Request) : Type 0 where
   pub arguments : All (RefersWithin count) q.arguments.items
 
 abbrev pub TaskWithin : ℕ → Task → Type 0
-TaskWithin count (task.Operand d left op at rest) = RefersWithin count left
-TaskWithin count (task.Argument q rest) = RequestWithin count q
+TaskWithin count (task.Operand d left l rest) = RefersWithin count left
+TaskWithin count (task.Argument q rest) = RequestWithin count q.value
 TaskWithin count _ = Unit {0}
 
 abbrev pub ControlWithin : ℕ → Control → Type 0
 ControlWithin count (control.Evaluate d code) = Unit {0}
 ControlWithin count (control.Give y) = RefersWithin count y
-ControlWithin count (control.Send q) = RequestWithin count q
+ControlWithin count (control.Send q) = RequestWithin count q.value
 ControlWithin count (control.Leave y) = RefersWithin count y
 
 abbrev pub SiteWithin : ℕ → Site → Type 0

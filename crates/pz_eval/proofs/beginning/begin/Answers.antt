@@ -5,6 +5,10 @@ use Rattle.pz_eval.specs.devices.Sites.{place_of, memory_at}
 use Rattle.pz_eval.specs.devices.Tasks.{pending, meant}
 use Rattle.pz_eval.proofs.Going.{goes_same}
 use Rattle.pz_eval.proofs.Forms.{nothing_deep, begun}
+use Rattle.std.proofs.Common.{ℕ, ◌+◌, sym, subst}
+use Rattle.std.proofs.lemmas.Result.{IfOk-weaker}
+use Rattle.pz_eval.specs.devices.Weights.{tasks_weight, load, Falls}
+use Rattle.pz_eval.proofs.Weighing.{code_weighs}
 use Rattle.pz_eval.proofs.beginning.begin.Goals as goal
 
 pub returns-then-depth-eq0-clause-goes : goal.returns-then-depth-eq0-clause-goes
@@ -18,3 +22,8 @@ returns-clause-goes c model known =
     (ap (λ x. and_then x (pending model c.args.setting.clock (place_of c.args.activation.now.site) c.args.activation.now.tasks.items))
     (begun model c.args.setting.clock c.args.depth (place_of c.args.activation.now.site) c.args.code.now (memory_at c.args.activation.now.site c.args.state.now.held c.args.activation.now.locals.items) c.args.units.now (omega (arith, c.if-depth-eq0.false))))
     (c.begin_form.ensures.goes model known)
+
+pub returns-clause-falls : goal.returns-clause-falls
+returns-clause-falls c =
+    IfOk-weaker c.begin_form.result _ _
+    (λ k h. subst (λ (n : ℕ). Falls c.args.units.now (n + tasks_weight c.args.activation.now.tasks.items) c.begin_form.new.units (load k c.begin_form.new.activation.tasks.items)) (sym (code_weighs c.args.code.now)) h) c.begin_form.ensures.falls

@@ -19,18 +19,18 @@ use Rattle.pz_eval.proofs.calling.call.Goals as goal
 
 pub returns-clause-goes : goal.returns-clause-goes
 returns-clause-goes c model now s r =
-    goes_same (λ k. unwound model now c.push-2.new.self.items (meant model now (place_of c.replace.new.dest.site) c.go_on_list.new.tasks.items k (memory_at c.replace.new.dest.site s c.replace.new.dest.locals.items) r)) c.go_on_list.result r
-    (call_same model now s r c.args.request.depth c.args.object c.args.method.locals (list_view c.args.method.code.now) c.args.request.arguments.items c.args.request.more c.args.activation.now c.replace.result c.replace.new.dest c.args.callers.now.items c.push-2.new.self.items
-    (ap (λ (a : Activation). a.site) c.replace.ensures.value) (ap (λ (a : Activation). a.locals.items) c.replace.ensures.value) (ap (λ (a : Activation). a.tasks.items) c.replace.ensures.value ∙ c.in_ok-push.ensures.items) c.in_ok-push-2.ensures.items
+    goes_same (λ k. unwound model now c.push.new.self.items (meant model now (place_of c.replace.new.dest.site) c.go_on_list.new.tasks.items k (memory_at c.replace.new.dest.site s c.replace.new.dest.locals.items) r)) c.go_on_list.result r
+    (call_same model now s r c.args.request.depth c.args.object c.args.method.locals (list_view c.args.method.code.now) c.args.request.arguments.items c.args.request.more c.args.activation.now c.replace.result c.replace.new.dest c.args.callers.now.items c.push.new.self.items
+    (ap (λ (a : Activation). a.site) c.replace.ensures.value) (ap (λ (a : Activation). a.locals.items) c.replace.ensures.value) (ap (λ (a : Activation). a.tasks.items) c.replace.ensures.value ∙ c.in_ok-add_task.ensures) c.in_ok-push.ensures.items
     (ap (λ (a : Activation). a.site) c.replace.ensures.after ∙ c.in_ok-inner.ensures.site) (ap (λ (a : Activation). a.locals.items) c.replace.ensures.after ∙ c.in_ok-inner.ensures.locals) (ap (λ (a : Activation). a.tasks.items) c.replace.ensures.after ∙ c.in_ok-inner.ensures.tasks))
-    (goes_unwound model now c.push-2.new.self.items (λ k. meant model now (place_of c.replace.new.dest.site) c.go_on_list.new.tasks.items k (memory_at c.replace.new.dest.site s c.replace.new.dest.locals.items) r) c.go_on_list.result r
+    (goes_unwound model now c.push.new.self.items (λ k. meant model now (place_of c.replace.new.dest.site) c.go_on_list.new.tasks.items k (memory_at c.replace.new.dest.site s c.replace.new.dest.locals.items) r) c.go_on_list.result r
     (and_then (sequence model now (evaluated model now c.args.request.depth) (place_of c.replace.new.dest.site) Nil (list_view c.args.method.code.now) (memory_at c.replace.new.dest.site s c.replace.new.dest.locals.items) r) (pending model now (place_of c.replace.new.dest.site) c.replace.new.dest.tasks.items))
     (c.go_on_list.ensures.goes model now (place_of c.replace.new.dest.site) (memory_at c.replace.new.dest.site s c.replace.new.dest.locals.items) r))
 
 pub returns-clause-root : goal.returns-clause-root
 returns-clause-root c =
     on_ok c.go_on_list.result
-    (root_push c.args.callers.now.items c.push-2.new.self.items c.replace.result (place_of c.replace.new.dest.site) c.in_ok-push-2.ensures.items
+    (root_push c.args.callers.now.items c.push.new.self.items c.replace.result (place_of c.replace.new.dest.site) c.in_ok-push.ensures.items
     ∙ ap (λ (a : Activation). root c.args.callers.now.items (place_of a.site)) c.replace.ensures.value)
 
 pub returns-clause-within : goal.returns-clause-within
@@ -39,8 +39,8 @@ returns-clause-within c =
     (λ k kept count there all here q.
     let none : c.replace.new.dest.tasks.items ≡ [] = ap (λ (a : Activation). a.tasks.items) c.replace.ensures.after ∙ c.in_ok-inner.ensures.tasks in
     let tasks = kept count tt (subst (λ (ks : List Task). All (TaskWithin count) ks) (sym none) (All-nil (TaskWithin count))) in (
-      caller_waits count c.args.callers.now.items c.push-2.new.self.items c.args.activation.now c.replace.result (task.Selectors c.args.request.depth c.args.request.more)
-          (ap (λ (a : Activation). a.site) c.replace.ensures.value) (ap (λ (a : Activation). a.locals.items) c.replace.ensures.value) (ap (λ (a : Activation). a.tasks.items) c.replace.ensures.value ∙ c.in_ok-push.ensures.items) c.in_ok-push-2.ensures.items tt all here,
+      caller_waits count c.args.callers.now.items c.push.new.self.items c.args.activation.now c.replace.result (task.Selectors c.args.request.depth c.args.request.more)
+          (ap (λ (a : Activation). a.site) c.replace.ensures.value) (ap (λ (a : Activation). a.locals.items) c.replace.ensures.value) (ap (λ (a : Activation). a.tasks.items) c.replace.ensures.value ∙ c.in_ok-add_task.ensures) c.in_ok-push.ensures.items tt all here,
       record {
         site = site_within count c.args.object c.replace.new.dest.site (ap (λ (a : Activation). a.site) c.replace.ensures.after ∙ c.in_ok-inner.ensures.site) there;
         locals = locals_within count c.args.method.locals c.args.request.arguments.items c.replace.new.dest.locals.items (ap (λ (a : Activation). a.locals.items) c.replace.ensures.after ∙ c.in_ok-inner.ensures.locals) q.arguments;

@@ -6,12 +6,15 @@ use Rattle.pz_evaluation.specs.devices.Computed.{sequence, evaluated}
 use Rattle.pz_eval.specs.devices.Tasks.{pending, meant}
 use Rattle.pz_eval.proofs.Going.{goes_same}
 use Rattle.pz_eval.proofs.Onward.{not_tested, part_chosen}
+use Rattle.std.proofs.Common.{arith}
+use Rattle.pz_eval.proofs.Weighing.{chosen_weighs}
 use Rattle.pz_eval.proofs.choosing.choose.Goals as goal
 
 pub returns-in_default : goal.returns-in_default
 returns-in_default c = record {
   goes = λ model now p m r. not_tested c.args.value c.in_default.not-Bool c.args.at (λ b. sequence model now (evaluated model now c.args.depth) p Nil (chosen b (list_view c.args.part.now) (part_view c.args.other.now))) m r (pending model now p c.args.tasks.now.items);
   within = tt;
+  weighs = tt;
 }
 
 pub returns-clause-goes : goal.returns-clause-goes
@@ -22,3 +25,8 @@ returns-clause-goes c model now p m r =
 
 pub returns-clause-within : goal.returns-clause-within
 returns-clause-within c = IfOk-weaker c.go_on_list.result _ _ (λ k kept count all. kept count tt all) c.go_on_list.ensures.within
+
+pub returns-clause-weighs : goal.returns-clause-weighs
+returns-clause-weighs c =
+    IfOk-weaker c.go_on_list.result _ _
+    (λ k e. omega (arith, e, chosen_weighs c.in-Bool.test (list_view c.args.part.now) (list_view c.chosen_part-codes.result.now) (part_view c.args.other.now) c.chosen_part-codes.ensures)) c.go_on_list.ensures.weighs

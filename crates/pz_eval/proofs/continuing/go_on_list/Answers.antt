@@ -1,7 +1,9 @@
 use Rattle.std.proofs.lemmas.Result.{IfOk-weaker}
 use Rattle.pz_eval.specs.devices.Tasks.{pending, meant}
-use Rattle.pz_eval.proofs.Going.{goes_same}
-use Rattle.pz_eval.proofs.Onward.{list_over, list_more}
+use Rattle.pz_eval.proofs.Going.{goes_same, nothing_left}
+use Rattle.pz_eval.proofs.Onward.{list_over, list_more, list_last}
+use Rattle.std.proofs.Common.{length, eqb-true, sym, ◌∙◌, arith}
+use Rattle.pz_eval.proofs.Weighing.{no_list, some_list}
 use Rattle.pz_eval.proofs.continuing.go_on_list.Goals as goal
 
 pub returns-in_default-clause-goes : goal.returns-in_default-clause-goes
@@ -15,3 +17,17 @@ returns-clause-goes c model now p m r =
 
 pub returns-clause-within : goal.returns-clause-within
 returns-clause-within c = IfOk-weaker c.descend.result _ _ (λ k kept count y all. kept count tt all) c.descend.ensures.within
+
+pub returns-in_default-clause-weighs : goal.returns-in_default-clause-weighs
+returns-in_default-clause-weighs c = omega (arith, no_list c.args.codes.now c.in_default.ensures.cases)
+
+pub returns-clause-weighs : goal.returns-clause-weighs
+returns-clause-weighs c = IfOk-weaker c.descend.result _ _ (λ k e. omega (arith, e, some_list c.in-Some.first.now c.in-Some.rest.now c.args.codes.now c.in-Some.ensures.cases.0)) c.descend.ensures.weighs
+
+pub returns-then-is_empty-clause-goes : goal.returns-then-is_empty-clause-goes
+returns-then-is_empty-clause-goes c model now p m r =
+    list_last model now c.args.depth p m r (pending model now p c.args.tasks.now.items) c.args.value c.in-Some.first.now c.in-Some.rest.now c.args.codes.now c.in-Some.ensures.cases.0
+    (nothing_left c.in-Some.rest.now (eqb-true (length c.in-Some.rest.now) 0 (sym c.is_empty.ensures ∙ c.if-is_empty.true)))
+
+pub returns-then-is_empty-clause-weighs : goal.returns-then-is_empty-clause-weighs
+returns-then-is_empty-clause-weighs c = omega (arith, some_list c.in-Some.first.now c.in-Some.rest.now c.args.codes.now c.in-Some.ensures.cases.0)

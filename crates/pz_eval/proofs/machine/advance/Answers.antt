@@ -9,14 +9,18 @@ use Rattle.pz_value.specs.declared.value.Value.{Value}
 use Rattle.pz_eval.specs.declared.task.Control.{Control}
 use Rattle.pz_eval.specs.declared.task.Control.TheVariants as control
 use Rattle.pz_eval.specs.declared.task.Site.{Site}
-use Rattle.pz_eval.specs.devices.Sites.{place_of, memory_at}
-use Rattle.pz_eval.specs.devices.Tasks.{resumed, pending, meant, unwound}
+use Rattle.pz_eval.specs.declared.task.Request.{Request}
+use Rattle.pz_eval.specs.devices.Sites.{place_of, memory_at, memory_of}
+use Rattle.pz_eval.specs.devices.Tasks.{sendings_view, sent, resumed, pending, meant, coming, unwound}
 use Rattle.pz_eval.specs.devices.Steps.{Advances, Progresses, root}
-use Rattle.pz_eval.specs.devices.Within.{SiteWithin, TaskWithin, ActivationWithin}
+use Rattle.pz_eval.specs.devices.Within.{RequestWithin, TaskWithin, ActivationWithin}
 use Rattle.pz_eval.proofs.Going.{given_none, given_some, nothing_left}
 use Rattle.pz_eval.proofs.Unwinding.{on_ok, advanced}
 use Rattle.pz_eval.proofs.Within.{activation_wider, activations_wider}
-use Rattle.pz_eval.proofs.Advancing.{advanced_in, went_root, went_bottom, went_within, both_within, popped, popped_within}
+use Rattle.pz_eval.proofs.Advancing.{advanced_in, went_root, went_bottom, went_within, popped, popped_within}
+use Rattle.std.proofs.Common.{◌+◌, ◌<◌, inr}
+use Rattle.pz_eval.specs.devices.Weights.{weight, task_weight, tasks_weight, control_weight, load, callers_weight, total, Falls}
+use Rattle.pz_eval.proofs.Weighing.{tasks_pushed, counted_falls, falls_beside, went_falls, on_weaker}
 use Rattle.pz_eval.proofs.machine.advance.Goals as goal
 
 pub returns-in-Evaluate-clause-goes : goal.returns-in-Evaluate-clause-goes
@@ -38,16 +42,8 @@ returns-in-Evaluate-clause-bottom c = went_bottom (c.args.callers.now.items ≡ 
 pub returns-in-Evaluate-clause-within : goal.returns-in-Evaluate-clause-within
 returns-in-Evaluate-clause-within c =
     let n1 : ℕ = length c.begin.new.state.held.objects in
-    let here = activation_wider (length c.args.state.now.held.objects) n1 c.begin.ensures.count c.args.activation.now c.requires.within in
     went_within (All (ActivationWithin n1) c.args.callers.now.items) (ActivationWithin n1 c.begin.new.activation) n1 c.begin.result c.on.result c.on.ensures
-    (both_within (All (ActivationWithin n1) c.args.callers.now.items) (ActivationWithin n1 c.begin.new.activation) n1 c.begin.result
-    (activations_wider (length c.args.state.now.held.objects) n1 c.begin.ensures.count c.args.callers.now.items c.requires.callers)
-    (IfOk-weaker c.begin.result _ _ (λ k kept. record {
-      site = subst (λ (s : Site). SiteWithin n1 s) (sym c.begin.ensures.site) here.site;
-      locals = subst (λ l. All (RefersWithin n1) l.items) (sym c.begin.ensures.locals) here.locals;
-      tasks = kept n1 here.tasks;
-    }) c.begin.ensures.tasks)
-    c.begin.ensures.within)
+    (IfOk-weaker c.begin.result _ _ (λ k kept. (activations_wider (length c.args.state.now.held.objects) n1 c.begin.ensures.count c.args.callers.now.items c.requires.callers, kept.0, kept.1)) c.begin.ensures.within)
 
 pub resume-requires-clause-task : goal.resume-requires-clause-task
 resume-requires-clause-task c = (popped_within (length c.args.state.now.held.objects) c.args.activation.now.tasks.items c.pop.new.self.items c.in-Some.task (popped c.args.activation.now.tasks.items c.pop.new.self.items c.pop.result c.in-Some.task c.pop.ensures.items c.in-Some.is) c.requires.within.tasks).1
@@ -104,14 +100,16 @@ returns-in-None-clause-within c =
       tasks = (All-pop (TaskWithin (length c.args.state.now.held.objects)) c.args.activation.now.tasks.items c.pop.new.self.items c.pop.result c.pop.ensures.items c.requires.within.tasks).0;
     })
 
-pub send-requires-clause-within : goal.send-requires-clause-within
-send-requires-clause-within c = rw c.in-Send.is at c.requires.control
+pub send-requires-clause-request : goal.send-requires-clause-request
+send-requires-clause-request c = subst (λ (q : Request). RequestWithin (length c.args.state.now.held.objects) q) (sym c.into_inner-request.ensures) (rw c.in-Send.is at c.requires.control)
 
 pub returns-in-Send-clause-goes : goal.returns-in-Send-clause-goes
 returns-in-Send-clause-goes c model known =
-    subst (λ (j : Control). Advances (λ k. unwound model c.args.setting.clock c.send.new.callers.items (meant model c.args.setting.clock (place_of c.send.new.activation.site) c.send.new.activation.tasks.items k (memory_at c.send.new.activation.site c.send.new.state.held c.send.new.activation.locals.items) c.send.new.units)) c.on-in-Send.result (memory_at c.send.new.activation.site c.send.new.state.held c.send.new.activation.locals.items) c.send.new.units (unwound model c.args.setting.clock c.args.callers.now.items (meant model c.args.setting.clock (place_of c.args.activation.now.site) c.args.activation.now.tasks.items j (memory_at c.args.activation.now.site c.args.state.now.held c.args.activation.now.locals.items) c.args.units.now)))
+    subst (λ (j : Control). Advances (λ k. unwound model c.args.setting.clock c.send.new.callers.items (coming model c.args.setting.clock c.send.new.activation c.send.new.state.held c.send.new.units k)) c.on-in-Send.result (memory_of c.send.new.activation c.send.new.state.held) c.send.new.units (unwound model c.args.setting.clock c.args.callers.now.items (coming model c.args.setting.clock c.args.activation.now c.args.state.now.held c.args.units.now j)))
     (sym c.in-Send.is)
-    (advanced (λ k. unwound model c.args.setting.clock c.send.new.callers.items (meant model c.args.setting.clock (place_of c.send.new.activation.site) c.send.new.activation.tasks.items k (memory_at c.send.new.activation.site c.send.new.state.held c.send.new.activation.locals.items) c.send.new.units)) c.send.result c.on-in-Send.result (memory_at c.send.new.activation.site c.send.new.state.held c.send.new.activation.locals.items) c.send.new.units (unwound model c.args.setting.clock c.args.callers.now.items (meant model c.args.setting.clock (place_of c.args.activation.now.site) c.args.activation.now.tasks.items (control.Send c.in-Send.request) (memory_at c.args.activation.now.site c.args.state.now.held c.args.activation.now.locals.items) c.args.units.now)) c.on-in-Send.ensures (c.send.ensures.goes model known))
+    (subst (λ (q : Request). Advances (λ k. unwound model c.args.setting.clock c.send.new.callers.items (coming model c.args.setting.clock c.send.new.activation c.send.new.state.held c.send.new.units k)) c.on-in-Send.result (memory_of c.send.new.activation c.send.new.state.held) c.send.new.units (unwound model c.args.setting.clock c.args.callers.now.items (and_then (sent model c.args.setting.clock q.depth (place_of c.args.activation.now.site) q.receiver q.selector.now (sendings_view q.more.now) q.arguments.items (memory_of c.args.activation.now c.args.state.now.held) c.args.units.now) (pending model c.args.setting.clock (place_of c.args.activation.now.site) c.args.activation.now.tasks.items))))
+    c.into_inner-request.ensures
+    (advanced (λ k. unwound model c.args.setting.clock c.send.new.callers.items (coming model c.args.setting.clock c.send.new.activation c.send.new.state.held c.send.new.units k)) c.send.result c.on-in-Send.result (memory_of c.send.new.activation c.send.new.state.held) c.send.new.units (unwound model c.args.setting.clock c.args.callers.now.items (and_then (sent model c.args.setting.clock c.into_inner-request.result.depth (place_of c.args.activation.now.site) c.into_inner-request.result.receiver c.into_inner-request.result.selector.now (sendings_view c.into_inner-request.result.more.now) c.into_inner-request.result.arguments.items (memory_of c.args.activation.now c.args.state.now.held) c.args.units.now) (pending model c.args.setting.clock (place_of c.args.activation.now.site) c.args.activation.now.tasks.items))) c.on-in-Send.ensures (c.send.ensures.goes model known)))
 
 pub returns-in-Send-clause-root : goal.returns-in-Send-clause-root
 returns-in-Send-clause-root c = went_root (root c.send.new.callers.items (place_of c.send.new.activation.site) ≡ root c.args.callers.now.items (place_of c.args.activation.now.site)) c.send.result c.on-in-Send.result c.on-in-Send.ensures c.send.ensures.root
@@ -122,8 +120,7 @@ returns-in-Send-clause-bottom c = went_bottom (c.send.new.callers.items ≡ []) 
 pub returns-in-Send-clause-within : goal.returns-in-Send-clause-within
 returns-in-Send-clause-within c =
     let n1 : ℕ = length c.send.new.state.held.objects in
-    went_within (All (ActivationWithin n1) c.send.new.callers.items) (ActivationWithin n1 c.send.new.activation) n1 c.send.result c.on-in-Send.result c.on-in-Send.ensures
-    (IfOk-weaker c.send.result _ _ (λ k kept. kept n1 refl (subst (λ (n : ℕ). All (ActivationWithin n) c.args.callers.now.items) (sym c.send.ensures.count) c.requires.callers) (subst (λ (n : ℕ). ActivationWithin n c.args.activation.now) (sym c.send.ensures.count) c.requires.within)) c.send.ensures.within)
+    went_within (All (ActivationWithin n1) c.send.new.callers.items) (ActivationWithin n1 c.send.new.activation) n1 c.send.result c.on-in-Send.result c.on-in-Send.ensures c.send.ensures.within
 
 pub returns-in-Leave-clause-goes : goal.returns-in-Leave-clause-goes
 returns-in-Leave-clause-goes c model known =
@@ -140,3 +137,36 @@ returns-in-Leave-clause-bottom c = c.give_result.ensures.bottom
 pub returns-in-Leave-clause-within : goal.returns-in-Leave-clause-within
 returns-in-Leave-clause-within c =
     c.give_result.ensures.within (length c.args.state.now.held.objects) (rw c.in-Leave.is at c.requires.control) c.requires.callers c.requires.within
+
+pub returns-in-Evaluate-clause-falls : goal.returns-in-Evaluate-clause-falls
+returns-in-Evaluate-clause-falls c =
+    went_falls c.begin.result c.on.result (λ k. Falls c.args.units.now (total c.args.control c.args.activation.now c.args.callers.now.items) c.begin.new.units (total k c.begin.new.activation c.args.callers.now.items)) c.on.ensures
+    (IfOk-weaker c.begin.result _ _
+    (λ k h. falls_beside c.args.units.now (weight (view c.in-Evaluate.code.now) + tasks_weight c.args.activation.now.tasks.items) c.begin.new.units (load k c.begin.new.activation.tasks.items) (callers_weight c.args.callers.now.items) (total c.args.control c.args.activation.now c.args.callers.now.items)
+    (omega (arith, ap control_weight c.in-Evaluate.is)) h) c.begin.ensures.falls)
+
+pub returns-in-Some-clause-falls : goal.returns-in-Some-clause-falls
+returns-in-Some-clause-falls c =
+    let pushed : tasks_weight c.args.activation.now.tasks.items ≡ task_weight c.in-Some.task + tasks_weight c.pop.new.self.items =
+    tasks_pushed c.pop.new.self.items c.args.activation.now.tasks.items c.in-Some.task (popped c.args.activation.now.tasks.items c.pop.new.self.items c.pop.result c.in-Some.task c.pop.ensures.items c.in-Some.is) in
+    went_falls c.resume.result c.on-in-Some.result (λ k. Falls c.args.units.now (total c.args.control c.args.activation.now c.args.callers.now.items) c.resume.new.units (total k c.resume.new.activation c.args.callers.now.items)) c.on-in-Some.ensures
+    (IfOk-weaker c.resume.result _ _
+    (λ k h. falls_beside c.args.units.now (task_weight c.in-Some.task + tasks_weight c.pop.new.self.items) c.resume.new.units (load k c.resume.new.activation.tasks.items) (callers_weight c.args.callers.now.items) (total c.args.control c.args.activation.now c.args.callers.now.items)
+    (omega (arith, ap control_weight c.in-Give.is, pushed)) h) c.resume.ensures.falls)
+
+pub returns-in-None-clause-falls : goal.returns-in-None-clause-falls
+returns-in-None-clause-falls c =
+    on_weaker c.give_back.result (λ k. total k c.give_back.new.activation c.give_back.new.callers.items < callers_weight c.args.callers.now.items)
+    (λ k. Falls c.args.units.now (total c.args.control c.args.activation.now c.args.callers.now.items) c.args.units.now (total k c.give_back.new.activation c.give_back.new.callers.items))
+    (λ k h. inr (refl, omega (arith, h))) c.give_back.ensures.lighter
+
+pub returns-in-Send-clause-falls : goal.returns-in-Send-clause-falls
+returns-in-Send-clause-falls c =
+    went_falls c.send.result c.on-in-Send.result (λ k. Falls c.args.units.now (total c.args.control c.args.activation.now c.args.callers.now.items) c.send.new.units (total k c.send.new.activation c.send.new.callers.items)) c.on-in-Send.ensures
+    (counted_falls c.send.result c.args.units.now (total c.args.control c.args.activation.now c.args.callers.now.items) c.send.new.units (λ k. total k c.send.new.activation c.send.new.callers.items) c.send.ensures.counted)
+
+pub returns-in-Leave-clause-falls : goal.returns-in-Leave-clause-falls
+returns-in-Leave-clause-falls c =
+    on_weaker c.give_result.result (λ k. total k c.give_result.new.activation c.give_result.new.callers.items < callers_weight c.args.callers.now.items)
+    (λ k. Falls c.args.units.now (total c.args.control c.args.activation.now c.args.callers.now.items) c.args.units.now (total k c.give_result.new.activation c.give_result.new.callers.items))
+    (λ k h. inr (refl, omega (arith, h))) c.give_result.ensures.lighter

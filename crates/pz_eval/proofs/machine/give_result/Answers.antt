@@ -8,6 +8,8 @@ use Rattle.pz_eval.specs.devices.Steps.{root}
 use Rattle.pz_eval.specs.devices.Within.{ActivationWithin}
 use Rattle.pz_eval.proofs.Unwinding.{unwound_none, result_handed, root_push}
 use Rattle.pz_eval.proofs.Within.{all_pop}
+use Rattle.std.proofs.Common.{arith}
+use Rattle.pz_eval.proofs.Weighing.{callers_pushed}
 use Rattle.pz_eval.proofs.machine.give_result.Goals as goal
 
 pub returns-then-leave-clause-goes : goal.returns-then-leave-clause-goes
@@ -41,3 +43,6 @@ pub returns-clause-within : goal.returns-clause-within
 returns-clause-within c count y all here =
     let alone = c.leave.ensures.stays c.if-leave.false in
     (subst (λ (cs : List Activation). All (ActivationWithin count) cs) (alone.0 ∙ sym alone.1) all, subst (λ (a : Activation). ActivationWithin count a) (sym alone.2) here, y)
+
+pub returns-then-leave-clause-lighter : goal.returns-then-leave-clause-lighter
+returns-then-leave-clause-lighter c = omega (arith, callers_pushed c.leave.new.callers.items c.args.callers.now.items c.leave.new.activation (c.leave.ensures.returns c.if-leave.true))

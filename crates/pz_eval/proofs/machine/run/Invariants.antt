@@ -8,8 +8,8 @@ use Rattle.pz_eval.specs.devices.Steps.{root}
 use Rattle.pz_eval.specs.devices.Within.{ControlWithin, ActivationWithin}
 use Rattle.pz_eval.proofs.machine.run.Given as goal
 
-abbrev pub invariant-loop-step : goal.invariant-loop-step
-invariant-loop-step l = record {
+abbrev pub invariant-units : goal.invariant-units
+invariant-units l = record {
   goes : (model : ModelTree) → AreClasses model l.fn.setting.classes.now → unwound model l.fn.setting.clock l.callers.items (meant model l.fn.setting.clock (place_of l.activation.site) l.activation.tasks.items l.control (memory_at l.activation.site l.state.held l.activation.locals.items) l.units)
       ≡ meant model l.fn.setting.clock (place_of l.fn.activation.site) l.fn.activation.tasks.items l.fn.first (memory_at l.fn.activation.site l.fn.state.held l.fn.activation.locals.items) l.fn.units;
   marks : l.state.marks ≡ l.fn.state.marks;
@@ -19,3 +19,6 @@ invariant-loop-step l = record {
   within : ActivationWithin (length l.state.held.objects) l.activation;
   callers : All (ActivationWithin (length l.state.held.objects)) l.callers.items;
 }
+
+abbrev pub decreases-units : goal.decreases-units
+decreases-units l = l.units

@@ -1,6 +1,7 @@
 use Rattle.pz_evaluation.specs.Steps.{applied_alone}
 use Rattle.pz_eval.proofs.Going.{told_goes}
 use Rattle.pz_eval.proofs.Within.{given_within}
+use Rattle.pz_eval.proofs.Weighing.{given_weighs}
 use Rattle.pz_eval.proofs.resuming.operate_alone.Goals as goal
 
 pub returns-clause-goes : goal.returns-clause-goes
@@ -9,3 +10,6 @@ returns-clause-goes c model now p ks locals r =
 
 pub returns-clause-within : goal.returns-clause-within
 returns-clause-within c = given_within c.apply.result c.give.result _ c.give.ensures c.apply.ensures.within
+
+pub returns-clause-weighs : goal.returns-clause-weighs
+returns-clause-weighs c = given_weighs c.apply.result c.give.result c.give.ensures

@@ -5,9 +5,14 @@ use Rattle.pz_state.specs.References.{RefersWithin}
 use Rattle.pz_evaluation.specs.devices.Computed.{and_then}
 use Rattle.pz_eval.specs.declared.task.Task.{Task}
 use Rattle.pz_eval.specs.devices.Sites.{place_of, locals_at, memory_at}
-use Rattle.pz_eval.specs.devices.Tasks.{resumed, pending, meant}
+use Rattle.pz_eval.specs.devices.Tasks.{resumed, pending, meant, coming}
 use Rattle.pz_eval.specs.devices.Within.{SiteWithin, TaskWithin}
 use Rattle.pz_eval.proofs.Going.{goes_same}
+use Rattle.std.proofs.Common.{◌+◌, refl, inr, arith}
+use Rattle.pz_code.specs.CodeView.{list_view, part_view}
+use Rattle.pz_eval.specs.devices.Tasks.{links_view, sendings_view}
+use Rattle.pz_eval.specs.devices.Weights.{list_weight, part_weight, links_weight, sendings_weight, task_weight, tasks_weight, load}
+use Rattle.pz_eval.proofs.Weighing.{counted_falls, lighter, resumed_falls, given_lighter}
 use Rattle.pz_eval.proofs.resuming.resume.Goals as goal
 
 pub returns-in-Sequence-clause-goes : goal.returns-in-Sequence-clause-goes
@@ -23,36 +28,24 @@ returns-in-Sequence-clause-within c =
 
 pub returns-in-Operators-clause-goes : goal.returns-in-Operators-clause-goes
 returns-in-Operators-clause-goes c model now =
-    goes_same (λ k. meant model now (place_of c.args.activation.now.site) c.go_on_operators.new.tasks.items k (memory_at c.args.activation.now.site c.args.state.now.held c.args.activation.now.locals.items) c.args.units.now) c.go_on_operators.result c.args.units.now
+    goes_same (coming model now c.go_on_operators.new.activation c.go_on_operators.new.state.held c.go_on_operators.new.units) c.go_on_operators.result c.go_on_operators.new.units
     (sym (ap (λ (j : Task). and_then (resumed model now (place_of c.args.activation.now.site) j c.args.value (memory_at c.args.activation.now.site c.args.state.now.held c.args.activation.now.locals.items) c.args.units.now) (pending model now (place_of c.args.activation.now.site) c.args.activation.now.tasks.items)) c.in-Operators.is))
-    (c.go_on_operators.ensures.goes model now (place_of c.args.activation.now.site) (memory_at c.args.activation.now.site c.args.state.now.held c.args.activation.now.locals.items) c.args.units.now)
-
-pub returns-in-Operators-clause-within : goal.returns-in-Operators-clause-within
-returns-in-Operators-clause-within c =
-    IfOk-weaker c.go_on_operators.result _ _
-    (λ k kept. let tasks = kept (length c.args.state.now.held.objects) c.requires.value c.requires.within.tasks in (record { site = c.requires.within.site; locals = c.requires.within.locals; tasks = tasks.0 }, tasks.1)) c.go_on_operators.ensures.within
+    (c.go_on_operators.ensures.goes model now)
 
 pub returns-in-Selectors-clause-goes : goal.returns-in-Selectors-clause-goes
 returns-in-Selectors-clause-goes c model now =
-    goes_same (λ k. meant model now (place_of c.args.activation.now.site) c.go_on_selectors.new.tasks.items k (memory_at c.args.activation.now.site c.args.state.now.held c.args.activation.now.locals.items) c.args.units.now) c.go_on_selectors.result c.args.units.now
+    goes_same (coming model now c.go_on_selectors.new.activation c.args.state.now.held c.go_on_selectors.new.units) c.go_on_selectors.result c.go_on_selectors.new.units
     (sym (ap (λ (j : Task). and_then (resumed model now (place_of c.args.activation.now.site) j c.args.value (memory_at c.args.activation.now.site c.args.state.now.held c.args.activation.now.locals.items) c.args.units.now) (pending model now (place_of c.args.activation.now.site) c.args.activation.now.tasks.items)) c.in-Selectors.is))
-    (c.go_on_selectors.ensures.goes model now (place_of c.args.activation.now.site) (memory_at c.args.activation.now.site c.args.state.now.held c.args.activation.now.locals.items) c.args.units.now)
-
-pub returns-in-Selectors-clause-within : goal.returns-in-Selectors-clause-within
-returns-in-Selectors-clause-within c =
-    IfOk-weaker c.go_on_selectors.result _ _
-    (λ k kept. let tasks = kept (length c.args.state.now.held.objects) c.requires.value c.requires.within.tasks in (record { site = c.requires.within.site; locals = c.requires.within.locals; tasks = tasks.0 }, tasks.1)) c.go_on_selectors.ensures.within
+    (c.go_on_selectors.ensures.goes model now)
 
 pub returns-in-Argument-clause-goes : goal.returns-in-Argument-clause-goes
 returns-in-Argument-clause-goes c model now =
-    goes_same (λ k. meant model now (place_of c.args.activation.now.site) c.take_argument.new.tasks.items k (memory_at c.args.activation.now.site c.args.state.now.held c.args.activation.now.locals.items) c.args.units.now) c.take_argument.result c.args.units.now
+    goes_same (coming model now c.take_argument.new.activation c.args.state.now.held c.take_argument.new.units) c.take_argument.result c.take_argument.new.units
     (sym (ap (λ (j : Task). and_then (resumed model now (place_of c.args.activation.now.site) j c.args.value (memory_at c.args.activation.now.site c.args.state.now.held c.args.activation.now.locals.items) c.args.units.now) (pending model now (place_of c.args.activation.now.site) c.args.activation.now.tasks.items)) c.in-Argument.is))
-    (c.take_argument.ensures.goes model now (place_of c.args.activation.now.site) (memory_at c.args.activation.now.site c.args.state.now.held c.args.activation.now.locals.items) c.args.units.now)
+    (c.take_argument.ensures.goes model now)
 
-pub returns-in-Argument-clause-within : goal.returns-in-Argument-clause-within
-returns-in-Argument-clause-within c =
-    IfOk-weaker c.take_argument.result _ _
-    (λ k kept. let tasks = kept (length c.args.state.now.held.objects) (rw c.in-Argument.is at c.requires.task) c.requires.value c.requires.within.tasks in (record { site = c.requires.within.site; locals = c.requires.within.locals; tasks = tasks.0 }, tasks.1)) c.take_argument.ensures.within
+pub take_argument-requires-clause-request : goal.take_argument-requires-clause-request
+take_argument-requires-clause-request c = rw c.in-Argument.is at c.requires.task
 
 pub returns-in-If-clause-goes : goal.returns-in-If-clause-goes
 returns-in-If-clause-goes c model now =
@@ -129,11 +122,47 @@ returns-in-Return-clause-within c = (c.requires.within, c.requires.value)
 
 pub returns-in-Turn-clause-goes : goal.returns-in-Turn-clause-goes
 returns-in-Turn-clause-goes c model now =
-    goes_same (λ k. meant model now (place_of c.args.activation.now.site) c.go_on_turns.new.tasks.items k (memory_at c.args.activation.now.site c.args.state.now.held c.args.activation.now.locals.items) c.go_on_turns.new.units) c.go_on_turns.result c.go_on_turns.new.units
+    goes_same (coming model now c.go_on_turns.new.activation c.args.state.now.held c.go_on_turns.new.units) c.go_on_turns.result c.go_on_turns.new.units
     (sym (ap (λ (j : Task). and_then (resumed model now (place_of c.args.activation.now.site) j c.args.value (memory_at c.args.activation.now.site c.args.state.now.held c.args.activation.now.locals.items) c.args.units.now) (pending model now (place_of c.args.activation.now.site) c.args.activation.now.tasks.items)) c.in-Turn.is))
-    (c.go_on_turns.ensures.goes model now (place_of c.args.activation.now.site) (memory_at c.args.activation.now.site c.args.state.now.held c.args.activation.now.locals.items))
+    (c.go_on_turns.ensures.goes model now)
 
-pub returns-in-Turn-clause-within : goal.returns-in-Turn-clause-within
-returns-in-Turn-clause-within c =
-    IfOk-weaker c.go_on_turns.result _ _
-    (λ k kept. let tasks = kept (length c.args.state.now.held.objects) c.requires.within.tasks in (record { site = c.requires.within.site; locals = c.requires.within.locals; tasks = tasks.0 }, tasks.1)) c.go_on_turns.ensures.within
+pub returns-in-Sequence-clause-falls : goal.returns-in-Sequence-clause-falls
+returns-in-Sequence-clause-falls c =
+    lighter c.go_on_list.result c.args.task c.args.units.now (list_weight (list_view c.in-Sequence.rest.now)) c.args.activation.now.tasks.items c.go_on_list.new.tasks.items (ap task_weight c.in-Sequence.is) c.go_on_list.ensures.weighs
+
+pub returns-in-Operators-clause-falls : goal.returns-in-Operators-clause-falls
+returns-in-Operators-clause-falls c =
+    resumed_falls c.go_on_operators.result c.args.task c.args.units.now c.go_on_operators.new.units (links_weight (links_view c.in-Operators.links.now)) c.args.activation.now.tasks.items c.go_on_operators.new.activation.tasks.items (ap task_weight c.in-Operators.is) c.go_on_operators.ensures.weighs
+
+pub returns-in-Selectors-clause-falls : goal.returns-in-Selectors-clause-falls
+returns-in-Selectors-clause-falls c =
+    resumed_falls c.go_on_selectors.result c.args.task c.args.units.now c.go_on_selectors.new.units (sendings_weight (sendings_view c.in-Selectors.sendings.now)) c.args.activation.now.tasks.items c.go_on_selectors.new.activation.tasks.items (ap task_weight c.in-Selectors.is) c.go_on_selectors.ensures.weighs
+
+pub returns-in-Argument-clause-falls : goal.returns-in-Argument-clause-falls
+returns-in-Argument-clause-falls c =
+    resumed_falls c.take_argument.result c.args.task c.args.units.now c.take_argument.new.units (list_weight (list_view c.in-Argument.rest.now)) c.args.activation.now.tasks.items c.take_argument.new.activation.tasks.items (ap task_weight c.in-Argument.is) c.take_argument.ensures.weighs
+
+pub returns-in-If-clause-falls : goal.returns-in-If-clause-falls
+returns-in-If-clause-falls c =
+    lighter c.choose.result c.args.task c.args.units.now (list_weight (list_view c.in-If.part.now) + part_weight (part_view c.in-If.other.now)) c.args.activation.now.tasks.items c.choose.new.tasks.items (ap task_weight c.in-If.is) c.choose.ensures.weighs
+
+pub returns-in-Test-clause-falls : goal.returns-in-Test-clause-falls
+returns-in-Test-clause-falls c =
+    lighter c.turn_or_end.result c.args.task c.args.units.now (list_weight (list_view c.in-Test.body.now)) c.args.activation.now.tasks.items c.turn_or_end.new.tasks.items (ap task_weight c.in-Test.is) c.turn_or_end.ensures.weighs
+
+pub returns-in-Operand-clause-falls : goal.returns-in-Operand-clause-falls
+returns-in-Operand-clause-falls c =
+    counted_falls c.operate.result c.args.units.now (task_weight c.args.task + tasks_weight c.args.activation.now.tasks.items) c.operate.new.units (λ k. load k c.operate.new.tasks.items) c.operate.ensures.counted
+
+pub returns-in-Turn-clause-falls : goal.returns-in-Turn-clause-falls
+returns-in-Turn-clause-falls c =
+    counted_falls c.go_on_turns.result c.args.units.now (task_weight c.args.task + tasks_weight c.args.activation.now.tasks.items) c.go_on_turns.new.units (λ k. load k c.go_on_turns.new.activation.tasks.items) c.go_on_turns.ensures.counted
+
+pub returns-in-Unary-clause-falls : goal.returns-in-Unary-clause-falls
+returns-in-Unary-clause-falls c = given_lighter c.operate_alone.result c.args.task c.args.units.now c.args.activation.now.tasks.items (ap task_weight c.in-Unary.is) c.operate_alone.ensures.weighs
+
+pub returns-in-Assign-clause-falls : goal.returns-in-Assign-clause-falls
+returns-in-Assign-clause-falls c = IfOk-weaker c.assign.result _ _ (λ k e. inr (refl, omega (arith, e, ap task_weight c.in-Assign.is))) c.assign.ensures.weighs
+
+pub returns-in-Return-clause-falls : goal.returns-in-Return-clause-falls
+returns-in-Return-clause-falls c = inr (refl, omega (arith, ap task_weight c.in-Return.is))
