@@ -1,3 +1,7 @@
+pub mod Digits
+pub mod Numerals
+pub mod Headed
+pub mod Cut
 pub mod Naming
 pub mod Unbroken
 pub mod Happening

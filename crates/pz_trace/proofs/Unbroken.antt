@@ -1,9 +1,9 @@
 -- No LF stands within a line.
-use Rattle.std.proofs.Common.{◌≡◌, ◌<◌, subst, ℤ, refl, sym, ◌∙◌, ℕ, zero, suc, pos, negsuc, ◌+◌, ◌/◌, ◌%◌, Bool, true, false, if◌then◌else◌, List, [], ◌∷◌, ◌++◌, map, Option, Some, None, arith, codes, append_assoc}
-use Rattle.std.specs.Prelude.{nat_eq, nat_lt, nat_le, ◌||◌, ◌&&◌, ◌==◌, slice_get}
+use Rattle.std.proofs.Common.{◌≡◌, ◌<◌, subst, ℤ, refl, sym, ◌∙◌, ℕ, suc, pos, negsuc, ◌+◌, ◌/◌, ◌%◌, Bool, true, false, if◌then◌else◌, List, [], ◌∷◌, ◌++◌, map, Option, Some, None, arith, codes, append_assoc}
+use Rattle.std.specs.Prelude.{nat_eq, nat_lt, nat_le, ◌||◌, ◌&&◌, slice_get}
 use Rattle.std.specs.List.{flat_map}
 use Rattle.std.specs.Option.{option_map_or}
-use Rattle.std.specs.Fmt.{digits, digits_onto, digit_glyph, decimal, signed_decimal}
+use Rattle.std.specs.Fmt.{decimal, signed_decimal}
 use Rattle.std.proofs.lemmas.List.Folds.{list_any-append}
 use Rattle.std.proofs.lemmas.Bool.{ne_eqb, eqb-true}
 use Rattle.pz_syntax.specs.declared.tokens.Pos.{Pos}
@@ -33,6 +33,7 @@ use Rattle.pz_trace.specs.Words.{kind_word, fault_word, pos_text}
 use Rattle.pz_trace.specs.Labels.{path_of, wire_of, spot, sending, label}
 use Rattle.pz_trace.specs.Lines.{newline, header, time_line, action_line, trouble_line, end_line}
 use Rattle.pz_trace.specs.Laws.{Unbroken, IsLine, HasUnbrokenNames, HasUnbrokenMessage}
+use Rattle.pz_trace.proofs.Digits.{decimal_lacks}
 
 -- one text and then another
 joined : (a b : List ℕ) → Unbroken a → Unbroken b → Unbroken (a ++ b)
@@ -56,23 +57,13 @@ each_unbroken : {A : Type 0} (f : A → List ℕ) (xs : List A) → ((x : A) →
 each_unbroken f [] each = refl
 each_unbroken f (x ∷ xs) each = joined (f x) (flat_map f xs) (each x) (each_unbroken f xs each)
 
-glyph_apart : (d : ℕ) → nat_eq 10 (digit_glyph false d) ≡ false
-glyph_apart d = choice_apart (nat_lt d 10) (48 + d) (87 + d) (above (48 + d) (omega arith)) (above (87 + d) (omega arith))
-
 hex_apart : (d : ℕ) → nat_eq 10 (hex_digit d) ≡ false
 hex_apart d = choice_apart (nat_lt d 10) (48 + d) (87 + d) (above (48 + d) (omega arith)) (above (87 + d) (omega arith))
 
 -- numbers
 
-digits_unbroken : (k n : ℕ) (acc : List ℕ) → Unbroken acc → Unbroken (digits_onto k 10 false n acc)
-digits_unbroken zero n acc rest = rest
-digits_unbroken (suc k) n acc rest =
-    let one : Unbroken (digit_glyph false (n % 10) ∷ acc) = other_byte (digit_glyph false (n % 10)) acc (glyph_apart (n % 10)) rest in
-    either (n / 10 == 0) (digit_glyph false (n % 10) ∷ acc) (digits_onto k 10 false (n / 10) (digit_glyph false (n % 10) ∷ acc)) one (digits_unbroken k (n / 10) (digit_glyph false (n % 10) ∷ acc) one)
-
 decimal_unbroken : (n : ℕ) → Unbroken (decimal n)
-unfolding digits
-decimal_unbroken n = digits_unbroken 64 n [] refl
+decimal_unbroken n = decimal_lacks 10 n (omega arith)
 
 signed_unbroken : (z : ℤ) → Unbroken (signed_decimal z)
 signed_unbroken (pos n) = decimal_unbroken n

@@ -1,6 +1,7 @@
 -- Laws of lines. They stand apart: LF stands at the end of each and nowhere else, where no name of the
--- model has one. And what they have to name in a run is there.
-use Rattle.std.specs.Prelude.{◌≡◌, ℕ, nat_eq, false, List, ◌++◌, Err}
+-- model has one; those of one moment differ, and their headings tell actions. And what they have to name
+-- in a run is there.
+use Rattle.std.specs.Prelude.{◌≡◌, ◌≢◌, ◌<◌, ◌^◌, ℕ, nat_eq, false, List, ◌++◌, Err}
 use Rattle.std.specs.List.{list_any}
 use Rattle.pz_syntax.specs.Classes.{ModelTree}
 use Rattle.pz_value.specs.declared.value.ClassId.{ClassId}
@@ -20,7 +21,11 @@ use Rattle.pz_rules.specs.Offers.{Offers}
 use Rattle.pz_rules.specs.Steps.{Next}
 use Rattle.pz_rules.specs.Moments.{IsMoment}
 use Rattle.pz_trace.specs.declared.ending.Ending.{Ending}
+use Rattle.pz_trace.specs.declared.ending.Ending.TheVariants.{Stop}
+use Rattle.pz_trace.specs.declared.headings.Heading.{Heading}
+use Rattle.pz_trace.specs.declared.headings.Heading.TheVariants.{Step}
 use Rattle.pz_trace.specs.Lines.{newline, header, time_line, action_line, end_line}
+use Rattle.pz_trace.specs.Headings.{IsHeading}
 use Rattle.pz_trace.specs.Named.{IsNamed, HasTroubled}
 
 -- no LF stands in the text
@@ -53,6 +58,30 @@ ActionLinesAreLines = (m : ModelTree) (clock n k : ℕ) (a : Action) → HasUnbr
 
 abbrev pub EndLinesAreLines : Type 0
 EndLinesAreLines = (m : ModelTree) (clock : ℕ) (end : Ending) → HasUnbrokenNames m → IsLine (end_line m clock end)
+
+-- what a text begins with, and what is left of it
+pub record SameFront (line other rest left : List ℕ) : Type 0 where
+  pub same_line : line ≡ other
+  pub same_rest : rest ≡ left
+
+abbrev pub OneFirstLine : Type 0
+OneFirstLine = (line other rest left : List ℕ) → IsLine line → IsLine other → line ++ rest ≡ other ++ left → SameFront line other rest left
+
+-- at one clock and among as many offers, two lines tell of one number
+abbrev pub ActionLinesDiffer : Type 0
+ActionLinesDiffer = (m : ModelTree) (clock n k l : ℕ) (a b : Action) → k < 2 ^ 64 → l < 2 ^ 64 → action_line m clock n k a ≡ action_line m clock n l b → k ≡ l
+
+abbrev pub StopIsNoAction : Type 0
+StopIsNoAction = (m : ModelTree) (clock n k : ℕ) (a : Action) → action_line m clock n k a ≢ end_line m clock Stop
+
+abbrev pub StopIsNoPassing : Type 0
+StopIsNoPassing = (m : ModelTree) (clock d : ℕ) → time_line clock d ≢ end_line m clock Stop
+
+abbrev pub OneHeading : Type 0
+OneHeading = (line : List ℕ) (x y : Heading) → IsHeading line x → IsHeading line y → x ≡ y
+
+abbrev pub ActionsHaveHeadings : Type 0
+ActionsHaveHeadings = (m : ModelTree) (clock n k : ℕ) (a : Action) → clock < 2 ^ 128 → n < 2 ^ 64 → k < 2 ^ 64 → IsHeading (action_line m clock n k a) (Step clock n k)
 
 -- What is offered in a configuration names processes, and a wire, of the net.
 abbrev pub OffersAreNamed : Type 0

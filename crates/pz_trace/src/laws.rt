@@ -1,6 +1,6 @@
 // Laws of lines, each the contract of a function that does nothing.
 
-ghost use Rattle.pz_trace.specs.Laws.{HeaderIsLine, TimeLinesAreLines, ActionLinesAreLines, EndLinesAreLines, OffersAreNamed, FaultsAreNamed, StopsAreNamed};
+ghost use Rattle.pz_trace.specs.Laws.{HeaderIsLine, TimeLinesAreLines, ActionLinesAreLines, EndLinesAreLines, OneFirstLine, ActionLinesDiffer, StopIsNoAction, StopIsNoPassing, OneHeading, ActionsHaveHeadings, OffersAreNamed, FaultsAreNamed, StopsAreNamed};
 
 /// Each line ends with LF and has none before it, whatever a parcel holds, where no name of an
 /// instance, a class or a message has one. So a trace is cut into its lines at each LF.
@@ -9,6 +9,21 @@ pub fn lines_stand_apart()
     ensures time { TimeLinesAreLines }
     ensures action { ActionLinesAreLines }
     ensures end { EndLinesAreLines }
+{}
+
+/// A text begins with no more than one line. Of one moment, the lines of two offers differ, and the line
+/// of a stop is that of no offer and of no passing of time.
+pub fn lines_differ()
+    ensures first { OneFirstLine }
+    ensures offers { ActionLinesDiffer }
+    ensures stop_acting { StopIsNoAction }
+    ensures stop_passing { StopIsNoPassing }
+{}
+
+/// A line has no more than one heading, and that of an action has its numbers.
+pub fn headings_tell_actions()
+    ensures one { OneHeading }
+    ensures actions { ActionsHaveHeadings }
 {}
 
 /// What a line has to name is there: an action that is offered names processes, and a wire, of the

@@ -1,0 +1,10 @@
+pub mod Written
+pub mod Simulated
+pub mod Rests
+pub mod Steps
+pub mod Onwards
+pub mod Goings
+pub mod Told
+pub mod Ends
+pub mod LastLines
+pub mod WholeRuns

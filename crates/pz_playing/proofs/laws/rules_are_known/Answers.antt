@@ -1,0 +1,25 @@
+use Rattle.pz_playing.proofs.laws.rules_are_known.Goals as goal
+
+pub returns : goal.returns
+returns c = record {
+  one_list = c.one_list_of_offers.ensures.one;
+  wires = c.wires_are_known.ensures.law;
+  one_moment = c.one_moment.ensures.one;
+  some_moment = c.one_moment.ensures.some;
+  positive = c.least_passes.ensures.positive;
+  some_passing = c.least_passes.ensures.some;
+  stays_whole = c.one_next.ensures.whole;
+  start_fits = c.what_fits_goes_on.ensures.start;
+  stays_fit = c.what_fits_goes_on.ensures.stays;
+  some_next = c.what_fits_goes_on.ensures.some;
+  some_run = c.one_chosen_run.ensures.some;
+  are_runs = c.one_chosen_run.ensures.is_run;
+  passings_end = c.passings_end.ensures.law;
+  offers_named = c.what_happens_is_named.ensures.offers;
+  faults_named = c.what_happens_is_named.ensures.faults;
+  stops_named = c.what_happens_is_named.ensures.stops;
+  nothing = c.pieces_join.ensures.nothing;
+  joins = c.pieces_join.ensures.joins;
+  halts = c.pieces_join.ensures.halts;
+  wants = c.pieces_join.ensures.wants;
+}

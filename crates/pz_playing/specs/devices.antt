@@ -1,0 +1,4 @@
+pub mod Rests
+pub mod Deciding
+pub mod Going
+pub mod Known

@@ -1,0 +1,27 @@
+-- What is known of runs, of names and of writing, by the laws of the crates below.
+use Rattle.pz_rules.specs.Laws.{OneListOfOffers, WiresAreKnown, OneMoment, EveryMoment, TimeIsPositive, EveryPassing, StaysWhole, StartFits, StaysFit, EveryNext, EveryChosenRun, ChosenRunsAreRuns}
+use Rattle.pz_rules.specs.devices.Ends.{PassingsEnd}
+use Rattle.pz_trace.specs.Laws.{OffersAreNamed, FaultsAreNamed, StopsAreNamed}
+use Rattle.pz_writing.specs.Laws.{NothingIsWritten, PiecesJoin, HaltsBeforeMore, MemoryMayBeWanting}
+
+pub record Known : Type 0 where
+  pub one_list : OneListOfOffers
+  pub wires : WiresAreKnown
+  pub one_moment : OneMoment
+  pub some_moment : EveryMoment
+  pub positive : TimeIsPositive
+  pub some_passing : EveryPassing
+  pub stays_whole : StaysWhole
+  pub start_fits : StartFits
+  pub stays_fit : StaysFit
+  pub some_next : EveryNext
+  pub some_run : EveryChosenRun
+  pub are_runs : ChosenRunsAreRuns
+  pub passings_end : PassingsEnd
+  pub offers_named : OffersAreNamed
+  pub faults_named : FaultsAreNamed
+  pub stops_named : StopsAreNamed
+  pub nothing : NothingIsWritten
+  pub joins : PiecesJoin
+  pub halts : HaltsBeforeMore
+  pub wants : MemoryMayBeWanting

@@ -1,0 +1,16 @@
+//! Runs of the simulator that are chosen, told line by line, by one line, or with what there is to choose
+//! from at the end.
+#![tactic(auto)]
+
+mod choosing;
+mod deciding;
+mod finale;
+mod laws;
+mod lines;
+mod playing;
+mod runs;
+mod telling;
+
+pub use finale::Finale;
+pub use laws::run_texts_are_traces;
+pub use runs::{play_menu, play_summary, play_trace};

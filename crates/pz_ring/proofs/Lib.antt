@@ -1,0 +1,17 @@
+mod Names
+mod Cuts
+mod RingCut
+mod MarksOfBits
+mod RingMarks
+mod Placing
+mod RingForm
+mod Distinct
+mod RingKeys
+mod RingSystem
+mod Declared
+mod RingWords
+mod RingClasses
+mod RingEnds
+mod RingSize
+mod RingSound
+mod Rings

@@ -1,0 +1,3 @@
+pub mod Models
+pub mod Rings
+pub mod devices
