@@ -15,3 +15,4 @@ mod RingEnds
 mod RingSize
 mod RingSound
 mod Rings
+mod RingLength

@@ -17,11 +17,11 @@ module _ where
   pub name_is_not : (i : ℕ) (x : List ℕ) → begins_s x ≡ false → name i ≢ x
   name_is_not i x other same = true≢false (ap begins_s same ∙ other)
 
-  fits : (i n : ℕ) → i < n → n ≤ 1000 → i < 2 ^ 64
-  fits i n low few = lt_of_lt_of_le (lt_of_lt_of_le low few) (lit≤ tt)
+  is_short : (i n : ℕ) → i < n → n ≤ 1000 → i < 2 ^ 64
+  is_short i n low few = lt_of_lt_of_le (lt_of_lt_of_le low few) (lit≤ tt)
 
   name_differs : (i j n : ℕ) → i < n → j < n → n ≤ 1000 → i ≢ j → name i ≢ name j
-  name_differs i j n low high few differ same = differ (name_injective i j (fits i n low few) (fits j n high few) same)
+  name_differs i j n low high few differ same = differ (name_injective i j (is_short i n low few) (is_short j n high few) same)
 
   next_is : (n i j : ℕ) → i < j → j < n → next n i ≡ i + 1
   next_is n i j less low = cond-false (i + 1 == n) 0 (i + 1) (ne_eqb (i + 1) n (λ e. omega arith))

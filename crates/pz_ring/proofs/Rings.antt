@@ -4,7 +4,7 @@ use Rattle.pz_syntax.specs.declared.tokens.Pos.{Pos}
 use Rattle.pz_cursor.specs.Places.{positions}
 use Rattle.pz_clusters.specs.ClusterPlaces.{place_system}
 use Rattle.pz_gen.specs.Ring as ring
-use Rattle.pz_ring.specs.Models.{IsTreeOf, IsModelOf}
+use Rattle.pz_reading.specs.Models.{IsTreeOf, IsModelOf}
 use Rattle.pz_ring.specs.Rings.{RingsAreModels}
 use Rattle.pz_ring.specs.devices.RingBits.{bits}
 use Rattle.pz_ring.specs.devices.RingTree.{ring_system, system_at, tree}

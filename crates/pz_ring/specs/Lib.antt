@@ -1,3 +1,2 @@
-pub mod Models
 pub mod Rings
 pub mod devices
