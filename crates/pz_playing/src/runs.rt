@@ -22,7 +22,7 @@ use std::alloc::Global;
 ///
 /// # Errors
 ///
-/// What was written is a front of the trace. The simulator stands somewhere in the run, or is broken.
+/// What was written is a front of the trace. What has become of the simulator is left open.
 pub fn play_trace<W: Sink>(
     alloc: Global,
     plain: &mut Plain,
@@ -44,7 +44,7 @@ pub fn play_trace<W: Sink>(
 ///
 /// # Errors
 ///
-/// What was written is a front of that line. The simulator stands somewhere in the run, or is broken.
+/// What was written is a front of that line. What has become of the simulator is left open.
 pub fn play_summary<W: Sink>(
     alloc: Global,
     plain: &mut Plain,
@@ -67,8 +67,7 @@ pub fn play_summary<W: Sink>(
 ///
 /// # Errors
 ///
-/// What was written is a front of the trace and these lines. The simulator stands somewhere in the run, or
-/// is broken.
+/// What was written is a front of the trace and these lines. What has become of the simulator is left open.
 pub fn play_menu<W: Sink>(
     alloc: Global,
     plain: &mut Plain,

@@ -1,0 +1,11 @@
+pub mod Sayings
+pub mod Played
+pub mod OneEnd
+pub mod OfTexts
+pub mod RingLength
+pub mod Unread
+pub mod CanEnds
+pub mod Keeps
+pub mod OneFiles
+pub mod OfJobs
+pub mod Asked

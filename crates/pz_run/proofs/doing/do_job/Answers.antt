@@ -1,0 +1,27 @@
+use Rattle.pz_run.proofs.OfJobs.{keeps_run, keeps_menu, keeps_check, keeps_make, keeps_ring}
+use Rattle.pz_run.proofs.Keeps.{keeps_usage}
+use Rattle.pz_run.proofs.doing.do_job.Goals as goal
+
+pub returns-in-Run : goal.returns-in-Run
+returns-in-Run g c =
+    rw c.in-Run.is
+    (keeps_run _ _ _ _ c.run_file.result c.in-Run.model c.in-Run.choice c.in-Run.limits c.in-Run.summary
+    (rw (c.as_str.ensures, c.when-telling.ensures) at c.run_file.ensures))
+
+pub returns-in-Menu : goal.returns-in-Menu
+returns-in-Menu g c =
+    rw c.in-Menu.is
+    (keeps_menu _ _ _ _ c.run_file-in-Menu.result c.in-Menu.model c.in-Menu.choice c.in-Menu.limits (rw c.as_str-in-Menu.ensures at c.run_file-in-Menu.ensures))
+
+pub returns-in-Check : goal.returns-in-Check
+returns-in-Check g c =
+    rw c.in-Check.is (keeps_check _ _ _ _ c.check_file.result c.in-Check.model (rw c.as_str-in-Check.ensures at c.check_file.ensures))
+
+pub returns-in-Make : goal.returns-in-Make
+returns-in-Make g c = rw c.in-Make.is (keeps_make _ _ _ c.make_ring.result c.in-Make.n c.make_ring.ensures)
+
+pub returns-in-Ring : goal.returns-in-Ring
+returns-in-Ring g c = rw c.in-Ring.is (keeps_ring _ _ _ c.run_ring.result c.in-Ring.n c.in-Ring.choice c.in-Ring.limits c.run_ring.ensures)
+
+pub returns : goal.returns
+returns g c = rw c.in-Replay.is (keeps_usage _ _ _ c.say.result (rw c.usage_line.ensures at c.say.ensures))

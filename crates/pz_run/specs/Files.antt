@@ -1,0 +1,26 @@
+-- The files that a job reads.
+use Rattle.std.specs.Prelude.{ℕ, List, [], ◌∷◌, Option, Some, None}
+use Rattle.pz_words.specs.declared.jobs.Job.{Job}
+use Rattle.pz_words.specs.declared.jobs.Job.TheVariants.{Run, Menu, Replay, Check, Make, Ring}
+use Rattle.pz_run.specs.declared.limits.TheConstants.{MODEL_LIMIT, TRACE_LIMIT}
+
+-- a file, and the most bytes that it may have
+pub record JobFile : Type 0 where
+  pub name : List ℕ
+  pub limit : ℕ
+
+abbrev pub model_file : List ℕ → JobFile
+model_file name = record { name = name; limit = MODEL_LIMIT }
+
+abbrev pub trace_file : List ℕ → JobFile
+trace_file name = record { name = name; limit = TRACE_LIMIT }
+
+-- in their order: the model first; without a job there is none
+abbrev pub files_of : Option Job → List JobFile
+files_of None = []
+files_of (Some (Run model choice limits summary)) = model_file model ∷ []
+files_of (Some (Menu model choice limits)) = model_file model ∷ []
+files_of (Some (Replay model trace units)) = model_file model ∷ trace_file trace ∷ []
+files_of (Some (Check model)) = model_file model ∷ []
+files_of (Some (Make n)) = []
+files_of (Some (Ring n choice limits)) = []

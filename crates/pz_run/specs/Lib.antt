@@ -1,0 +1,7 @@
+pub mod Words
+pub mod Files
+pub mod Status
+pub mod Plays
+pub mod Output
+pub mod Promises
+pub mod devices

@@ -1,0 +1,62 @@
+-- What the program prints for a job and the files, and how it ends: first the model's size, then
+-- whether it is refused, then its run or what else is said of it.
+use Rattle.std.specs.Prelude.{◌<◌, ◌≤◌, ℕ, List, length, Option, Some, None}
+use Rattle.pz_io.specs.Outside.{Entries, lookup}
+use Rattle.pz_syntax.specs.Classes.{ModelTree}
+use Rattle.pz_words.specs.declared.jobs.Job.{Job}
+use Rattle.pz_words.specs.declared.jobs.Job.TheVariants.{Run, Menu, Replay, Check, Make, Ring}
+use Rattle.pz_gen.specs.Ring.{model as ring_text}
+use Rattle.pz_reading.specs.declared.refusal.Refusal.{Refusal}
+use Rattle.pz_reading.specs.Models.{IsModelOf}
+use Rattle.pz_reading.specs.Refusals.{IsRefused}
+use Rattle.pz_reading.specs.Sizes.{HasSize}
+use Rattle.pz_report.specs.Lines.{usage_line, read_fault_line, too_long_line, accepted_line, model_refused_line}
+use Rattle.pz_playing.specs.Playing.{Tells}
+use Rattle.pz_run.specs.declared.play.Play.{Play}
+use Rattle.pz_run.specs.declared.play.Telling.TheVariants as telling
+use Rattle.pz_run.specs.declared.status.Status.{Status}
+use Rattle.pz_run.specs.declared.status.Status.TheVariants.{Done, Usage, ModelRefused, TooLong, ReadFault}
+use Rattle.pz_run.specs.Files.{JobFile, model_file}
+use Rattle.pz_run.specs.Plays.{play, telling_when, told_of, setting_for, RunOf}
+use Rattle.pz_run.specs.Status.{status_of}
+
+-- what is told of the run of a model, and the status of its ending
+pub data PrintsRun (p : Play) (m : ModelTree) : List ℕ → Status → Type 0 where
+  plays : (run : RunOf p m) (text : List ℕ) → Tells (setting_for m p) run.events run.end run.ending (told_of p.telling) text
+      → PrintsRun p m text (status_of run.ending)
+
+-- how large the system of a model is
+pub data PrintsSize (m : ModelTree) : List ℕ → Status → Type 0 where
+  accepts : (processes wires : ℕ) → HasSize m processes wires → PrintsSize m (accepted_line processes wires) Done
+
+-- the text of the model of a ring with so many stations
+pub data PrintsRing (n : ℕ) : List ℕ → Status → Type 0 where
+  makes : PrintsRing n (ring_text n) Done
+
+-- of a text: why it is refused, or what this is of its model
+pub data PrintsModel (P : ModelTree → List ℕ → Status → Type 0) (text : List ℕ) : List ℕ → Status → Type 0 where
+  refuses : (r : Refusal) → IsRefused text r → PrintsModel P text (model_refused_line r) ModelRefused
+  of_model : (m : ModelTree) (bytes : List ℕ) (status : Status) → IsModelOf text m → P m bytes status → PrintsModel P text bytes status
+
+-- of a file: that it is lacked or too long, or what this is of its text
+pub data PrintsFile (file : JobFile) (P : List ℕ → List ℕ → Status → Type 0) : Option (List ℕ) → List ℕ → Status → Type 0 where
+  lacks : PrintsFile file P None (read_fault_line file.name) ReadFault
+  too_long : (text : List ℕ) → file.limit < length text → PrintsFile file P (Some text) (too_long_line file.name) TooLong
+  reads : (text bytes : List ℕ) (status : Status) → length text ≤ file.limit → P text bytes status → PrintsFile file P (Some text) bytes status
+
+abbrev pub PrintsModelFile : Entries → List ℕ → (ModelTree → List ℕ → Status → Type 0) → List ℕ → Status → Type 0
+PrintsModelFile files name P = PrintsFile (model_file name) (PrintsModel P) (lookup files name)
+
+abbrev pub PrintsJob : Entries → Job → List ℕ → Status → Type 0
+PrintsJob files (Run model choice limits summary) = PrintsModelFile files model (PrintsRun (play choice limits (telling_when summary)))
+PrintsJob files (Menu model choice limits) = PrintsModelFile files model (PrintsRun (play choice limits telling.Menu))
+-- no replay is done yet
+PrintsJob files (Replay model trace units) = λ bytes status. ⊥
+PrintsJob files (Check model) = PrintsModelFile files model PrintsSize
+PrintsJob files (Make n) = PrintsRing n
+PrintsJob files (Ring n choice limits) = PrintsModel (PrintsRun (play choice limits telling.Summary)) (ring_text n)
+
+-- a job, or that there is none
+pub data Prints (files : Entries) : Option Job → List ℕ → Status → Type 0 where
+  usage : Prints files None usage_line Usage
+  does : (job : Job) (bytes : List ℕ) (status : Status) → PrintsJob files job bytes status → Prints files (Some job) bytes status

@@ -1,0 +1,48 @@
+-- The runs that jobs ask for.
+use Rattle.std.specs.Prelude.{Bool, true, false, Option, Some, None}
+use Rattle.pz_syntax.specs.Classes.{ModelTree}
+use Rattle.pz_rules.specs.Settings.{Setting}
+use Rattle.pz_rules.specs.ChosenRuns.{Policy}
+use Rattle.pz_words.specs.declared.jobs.Choice.{Choice}
+use Rattle.pz_words.specs.declared.jobs.RunLimits.{RunLimits}
+use Rattle.pz_words.specs.declared.jobs.Job.{Job}
+use Rattle.pz_words.specs.declared.jobs.Job.TheVariants.{Run, Menu, Replay, Check, Make, Ring}
+use Rattle.pz_playing.specs.Policies.{resolver_of, policy_of}
+use Rattle.pz_playing.specs.Playing as playing
+use Rattle.pz_playing.specs.Playing.{ChosenRun}
+use Rattle.pz_run.specs.declared.limits.TheConstants.{DEPTH_LIMIT, HEIGHT_LIMIT}
+use Rattle.pz_run.specs.declared.play.Telling.{Telling}
+use Rattle.pz_run.specs.declared.play.Telling.TheVariants as telling
+use Rattle.pz_run.specs.declared.play.Play.{Play}
+
+abbrev pub told_of : Telling → playing.Telling
+told_of telling.Trace = playing.trace
+told_of telling.Summary = playing.summary
+told_of telling.Menu = playing.menu
+
+abbrev pub telling_when : Bool → Telling
+telling_when true = telling.Summary
+telling_when false = telling.Trace
+
+abbrev pub play : Choice → RunLimits → Telling → Play
+play choice limits told = record { choice = choice; limits = limits; telling = told }
+
+-- the run that a job asks for, if it asks for one
+abbrev pub play_of : Job → Option Play
+play_of (Run model choice limits summary) = Some (play choice limits (telling_when summary))
+play_of (Menu model choice limits) = Some (play choice limits telling.Menu)
+play_of (Replay model trace units) = None
+play_of (Check model) = None
+play_of (Make n) = None
+play_of (Ring n choice limits) = Some (play choice limits telling.Summary)
+
+-- each evaluation has the units of the job
+abbrev pub setting_for : ModelTree → Play → Setting
+setting_for m p = record { model = m; limits = record { units = p.limits.units; depth = DEPTH_LIMIT; height = HEIGHT_LIMIT } }
+
+abbrev pub policy_for : Play → Policy
+policy_for p = policy_of (resolver_of p.choice) p.limits
+
+-- that run of a model
+abbrev pub RunOf : Play → ModelTree → Type 0
+RunOf p m = ChosenRun (setting_for m p) (policy_for p)

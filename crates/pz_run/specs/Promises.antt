@@ -1,0 +1,154 @@
+-- What the top call promises, by parts: of files and of a sink at two moments, before and now. What the
+-- words ask for is a job, or none.
+use Rattle.std.specs.Prelude.{◌≡◌, ◌≢◌, ◌⊎◌, ◌<◌, ◌≤◌, ℕ, zero, suc, List, true, length, Contains, slice_get, Option, Some, None}
+use Rattle.pz_io.specs.Outside.{Entries, FilesState, SinkState, lookup, raised, Rose, Exceeds}
+use Rattle.pz_writing.specs.Writing.{TookAll, TookFront}
+use Rattle.pz_syntax.specs.Classes.{ModelTree}
+use Rattle.pz_rules.specs.Runs.{Ending}
+use Rattle.pz_words.specs.declared.jobs.Job.{Job}
+use Rattle.pz_words.specs.declared.jobs.Job.TheVariants.{Run, Menu, Replay, Check, Make, Ring}
+use Rattle.pz_gen.specs.Ring.{model as ring_text}
+use Rattle.pz_reading.specs.declared.refusal.Refusal.{Refusal}
+use Rattle.pz_reading.specs.Models.{IsModelOf}
+use Rattle.pz_reading.specs.Refusals.{IsRefused}
+use Rattle.pz_report.specs.Lines.{read_fault_line}
+use Rattle.pz_run.specs.declared.limits.TheConstants.{MODEL_LIMIT}
+use Rattle.pz_run.specs.declared.play.Play.{Play}
+use Rattle.pz_run.specs.declared.status.Status.{Status}
+use Rattle.pz_run.specs.declared.status.Status.TheVariants.{Done, Deadlock, Usage, ModelRefused, ModelFault, ChoiceRefused, TooLong, ReadFault, WriteFault, NoMemory}
+use Rattle.pz_run.specs.Files.{JobFile, files_of}
+use Rattle.pz_run.specs.Plays.{play_of, RunOf}
+use Rattle.pz_run.specs.Output.{Prints}
+
+-- the status is the one that goes with what is to be printed, which a sink that tells has taken since
+pub record PrintsAll (a : Option Job) (held : Entries) (before now : SinkState) (status : Status) : Type 0 where
+  pub bytes : List ℕ
+  pub prints : Prints held a bytes status
+  pub taken : before.told ≡ true → TookAll before now bytes
+
+-- the bytes taken since are a front of what is to be printed
+pub record PrintsSome (a : Option Job) (held : Entries) (before now : SinkState) : Type 0 where
+  pub bytes : List ℕ
+  pub status : Status
+  pub prints : Prints held a bytes status
+  pub front : TookFront before now bytes
+
+-- a count that was raised so often
+abbrev pub raised_by : ℕ → ℕ → ℕ
+raised_by zero count = count
+raised_by (suc n) count = raised_by n (raised count)
+
+-- The files of a job were opened in their order, each once at most, and the first for certain unless
+-- memory was wanting before. Without a file nothing was opened.
+pub record OpensFiles (files : List JobFile) (before now : FilesState) (status : Status) : Type 0 where
+  pub count : ℕ
+  pub within : count ≤ length files
+  pub first : status ≢ NoMemory → 0 < length files → 0 < count
+  pub opened : now.opens ≡ raised_by count before.opens
+
+-- so many files were opened that this one is the last of them
+pub record OpensLast (files : List JobFile) (before now : FilesState) (file : JobFile) : Type 0 where
+  pub place : ℕ
+  pub is : slice_get files place ≡ Some file
+  pub opened : now.opens ≡ raised_by (suc place) before.opens
+
+-- the bytes taken since are the line of a read fault, which names the last file that was opened
+pub record SaysFault (files : List JobFile) (f g : FilesState) (before now : SinkState) : Type 0 where
+  pub file : JobFile
+  pub last : OpensLast files f g file
+  pub taken : before.told ≡ true → TookAll before now (read_fault_line file.name)
+
+-- the same of a front of that line
+pub record SaysFaultFront (files : List JobFile) (f g : FilesState) (before now : SinkState) : Type 0 where
+  pub file : JobFile
+  pub last : OpensLast files f g file
+  pub front : TookFront before now (read_fault_line file.name)
+
+-- nothing was taken yet, or a front of what is to be printed, or a front of the line of a read
+-- fault where the count of the files rose
+abbrev pub PrintsFront : Option Job → FilesState → FilesState → SinkState → SinkState → Type 0
+PrintsFront a f g before now =
+    (now.taken ≡ before.taken)
+    ⊎ (PrintsSome a f.held before now
+    ⊎ (Rose f.faults g.faults × SaysFaultFront (files_of a) f g before now))
+
+-- more bytes of the last file that was opened were handed out than its limit
+abbrev pub IsPastLimit : List JobFile → FilesState → FilesState → Type 0
+IsPastLimit files f g = (file : JobFile) × OpensLast files f g file × (file.limit < g.handed)
+
+-- the files lack one that the job reads
+abbrev pub Lacks : List JobFile → Entries → Type 0
+Lacks files held = (file : JobFile) × Contains files file × (lookup held file.name ≡ None)
+
+-- one that the job reads is longer than its limit
+abbrev pub IsLonger : List JobFile → Entries → Type 0
+IsLonger files held = (file : JobFile) × Contains files file × Exceeds (lookup held file.name) file.limit
+
+-- the name of the model that a job reads
+abbrev pub model_name : Job → Option (List ℕ)
+model_name (Run model choice limits summary) = Some model
+model_name (Menu model choice limits) = Some model
+model_name (Replay model trace units) = Some model
+model_name (Check model) = Some model
+model_name (Make n) = None
+model_name (Ring n choice limits) = None
+
+-- how many stations the ring has that a job runs
+abbrev pub stations_of : Job → Option ℕ
+stations_of (Run model choice limits summary) = None
+stations_of (Menu model choice limits) = None
+stations_of (Replay model trace units) = None
+stations_of (Check model) = None
+stations_of (Make n) = None
+stations_of (Ring n choice limits) = Some n
+
+-- the text of the model of a job: that of its file, within the limit, or of a ring
+pub data IsTextFor (files : Entries) : Job → List ℕ → Type 0 where
+  of_file : (job : Job) (name text : List ℕ) → model_name job ≡ Some name → lookup files name ≡ Some text → length text ≤ MODEL_LIMIT → IsTextFor files job text
+  of_ring : (job : Job) (n : ℕ) → stations_of job ≡ Some n → IsTextFor files job (ring_text n)
+
+-- the text of the model is refused
+pub record IsNoModel (a : Option Job) (files : Entries) : Type 0 where
+  pub job : Job
+  pub is_asked : a ≡ Some job
+  pub text : List ℕ
+  pub is_text : IsTextFor files job text
+  pub refusal : Refusal
+  pub is_refused : IsRefused text refusal
+
+-- the run of the model of this text, which the job asks for, has this ending
+pub record HasEnding (job : Job) (text : List ℕ) (ending : Ending) : Type 0 where
+  pub play : Play
+  pub is_play : play_of job ≡ Some play
+  pub model : ModelTree
+  pub is_model : IsModelOf text model
+  pub run : RunOf play model
+  pub ends : run.ending ≡ ending
+
+-- the run that is asked for has this ending
+pub record RunEnds (a : Option Job) (files : Entries) (ending : Ending) : Type 0 where
+  pub job : Job
+  pub is_asked : a ≡ Some job
+  pub text : List ℕ
+  pub is_text : IsTextFor files job text
+  pub has_ending : HasEnding job text ending
+
+-- it has a model, which is read or made
+abbrev pub HasModel : Job → Type 0
+HasModel (Make n) = ⊥
+HasModel job = Unit {0}
+
+-- how a call can end, whatever the files and the sink do
+pub data CanEnd : Option Job → Status → Type 0 where
+  usage : CanEnd None Usage
+  -- at the end of a run, or where it was stopped; or without a run
+  done : (job : Job) → CanEnd (Some job) Done
+  -- at other ends of runs
+  deadlock : (job : Job) (play : Play) → play_of job ≡ Some play → CanEnd (Some job) Deadlock
+  model_fault : (job : Job) (play : Play) → play_of job ≡ Some play → CanEnd (Some job) ModelFault
+  choice_refused : (job : Job) (play : Play) → play_of job ≡ Some play → CanEnd (Some job) ChoiceRefused
+  model_refused : (job : Job) → HasModel job → CanEnd (Some job) ModelRefused
+  too_long : (job : Job) (file : JobFile) → Contains (files_of (Some job)) file → CanEnd (Some job) TooLong
+  read_fault : (job : Job) (file : JobFile) → Contains (files_of (Some job)) file → CanEnd (Some job) ReadFault
+  write_fault : (a : Option Job) → CanEnd a WriteFault
+  no_memory : (a : Option Job) → CanEnd a NoMemory

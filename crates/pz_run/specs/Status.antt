@@ -1,0 +1,27 @@
+-- How the program ends.
+use Rattle.std.specs.Prelude.{ℕ}
+use Rattle.pz_rules.specs.Runs.{Ending, ended, deadlocked, troubled, halted, refused}
+use Rattle.pz_run.specs.declared.status.Status.{Status}
+use Rattle.pz_run.specs.declared.status.Status.TheVariants.{Done, Deadlock, Usage, ModelRefused, ModelFault, ChoiceRefused, TraceRefused, TooLong, ReadFault, WriteFault, NoMemory}
+
+-- the exit status
+abbrev pub number_of : Status → ℕ
+number_of Done = 0
+number_of Deadlock = 1
+number_of Usage = 2
+number_of ModelRefused = 3
+number_of ModelFault = 4
+number_of ChoiceRefused = 5
+number_of TraceRefused = 6
+number_of TooLong = 7
+number_of ReadFault = 8
+number_of WriteFault = 9
+number_of NoMemory = 10
+
+-- the status of a job whose run ended so
+abbrev pub status_of : Ending → Status
+status_of ended = Done
+status_of deadlocked = Deadlock
+status_of (troubled trouble) = ModelFault
+status_of halted = Done
+status_of (refused entry count) = ChoiceRefused

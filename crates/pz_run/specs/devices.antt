@@ -1,0 +1,6 @@
+pub mod Words
+pub mod Halting
+pub mod Saying
+pub mod Texts
+pub mod Reading
+pub mod Keeping

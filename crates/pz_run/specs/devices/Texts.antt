@@ -1,0 +1,31 @@
+-- What is said of the text of a model.
+use Rattle.std.specs.Prelude.{◌≡◌, ℕ, List}
+use Rattle.pz_io.specs.Outside.{SinkState}
+use Rattle.pz_syntax.specs.Classes.{ModelTree}
+use Rattle.pz_reading.specs.declared.read_error.ReadModelError.{ReadModelError}
+use Rattle.pz_reading.specs.declared.read_error.ReadModelError.TheVariants.{NoMemory, Refused}
+use Rattle.pz_reading.specs.Models.{IsModelOf}
+use Rattle.pz_report.specs.Lines.{model_refused_line}
+use Rattle.pz_run.specs.declared.play.Play.{Play}
+use Rattle.pz_run.specs.declared.status.Status.{Status}
+use Rattle.pz_run.specs.declared.status.Status.TheVariants.{ModelRefused}
+use Rattle.pz_run.specs.Plays.{RunOf}
+use Rattle.pz_run.specs.Status.{status_of}
+use Rattle.pz_run.specs.Output.{PrintsRun, PrintsSize, PrintsModel}
+use Rattle.pz_run.specs.devices.Saying.{Said, NothingWritten}
+
+-- whichever run of whichever model of the text that is, this is the status of its ending
+abbrev pub EndsOnlySo : Play → List ℕ → Status → Type 0
+EndsOnlySo p text status = (m : ModelTree) → IsModelOf text m → (run : RunOf p m) → status ≡ status_of run.ending
+
+pub record PrintsPlay (p : Play) (text bytes : List ℕ) (status : Status) : Type 0 where
+  pub prints : PrintsModel (PrintsRun p) text bytes status
+  pub only : EndsOnlySo p text status
+
+abbrev pub PrintsCheck : List ℕ → List ℕ → Status → Type 0
+PrintsCheck = PrintsModel PrintsSize
+
+-- why there is no model was said
+abbrev pub SaysRefusal : ReadModelError → SinkState → SinkState → Status → Type 0
+SaysRefusal NoMemory before now given = NothingWritten before now given
+SaysRefusal (Refused r) before now given = Said before now (model_refused_line r) ModelRefused given

@@ -1,0 +1,16 @@
+//! The program: words and files to a model, its run, and what is printed of it.
+#![tactic(auto)]
+
+mod doing;
+mod files;
+mod limits;
+mod play;
+mod playing;
+mod printing;
+mod program;
+mod rings;
+mod status;
+mod texts;
+
+pub use program::run_program;
+pub use status::Status;

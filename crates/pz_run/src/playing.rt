@@ -1,0 +1,89 @@
+// Runs of models.
+ghost use Rattle.pz_syntax.specs.Classes.{ModelTree};
+ghost use Rattle.pz_classes.specs.CheckedView.{checked_model};
+ghost use Rattle.pz_bind.specs.NetView.{IsNet};
+ghost use Rattle.pz_rules.specs.Settings.{Setting};
+ghost use Rattle.pz_term.specs.Simulations.{Starts};
+ghost use Rattle.pz_term.specs.Plains.{simulation_of};
+ghost use Rattle.pz_playing.specs.Playing.{Plays};
+ghost use Rattle.pz_run.specs.Plays.{told_of, setting_for, policy_for};
+ghost use Rattle.pz_run.specs.Output.{PrintsRun};
+ghost use Rattle.pz_run.specs.devices.Saying.{Says, Answers};
+
+use crate::Status;
+use crate::limits::{DEPTH_LIMIT, HEIGHT_LIMIT};
+use crate::play::{Play, Telling};
+use pz_bind::Net;
+use pz_classes::Checked;
+use pz_io::Sink;
+use pz_playing::{Finale, play_menu, play_summary, play_trace};
+use pz_term::{Limits, Plain};
+use pz_writing::Halt;
+use std::alloc::Global;
+use std::mem::drop;
+
+// Plays the run from the start of a simulator on, and prints what is told of it.
+fn play_from<W: Sink>(
+    alloc: Global,
+    plain: &mut Plain,
+    play: Play,
+    out: &mut W,
+) -> Result<Finale, Halt>
+    requires { (setting : Setting) × Starts setting (simulation_of plain.old) }
+    ensures { (setting : Setting) → Starts setting (simulation_of plain.old) →
+        Plays setting (policy_for play) (told_of play.telling) (simulation_of plain.new) (W.state out.old) (W.state out.new) result }
+{
+    let Play {
+        choice,
+        limits,
+        telling,
+    } = play;
+    match telling {
+        Telling::Trace => play_trace(alloc, plain, choice, limits, out),
+        Telling::Summary => play_summary(alloc, plain, choice, limits, out),
+        Telling::Menu => play_menu(alloc, plain, choice, limits, out),
+    }
+}
+
+// The same, with the status of the run.
+fn play_plain<W: Sink>(alloc: Global, mut plain: Plain, play: Play, out: &mut W) -> Status
+    requires { (setting : Setting) × Starts setting (simulation_of plain) }
+    ensures { (m : ModelTree) → Starts (setting_for m play) (simulation_of plain) →
+        Says (PrintsRun play m) (W.state out.old) (W.state out.new) result }
+{
+    let ended = play_from(alloc, &mut plain, play, out);
+    drop(plain);
+    Status::played(ended)
+}
+
+/// Runs the model, prints what is told of its run, and gives the status of the run.
+pub fn run_model<W: Sink>(alloc: Global, checked: Checked, play: Play, out: &mut W) -> Status
+    ensures { Answers (PrintsRun play (checked_model checked)) (W.state out.old) (W.state out.new) result }
+{
+    match Net::flatten(alloc, &checked) {
+        Ok(net) => run_net(alloc, checked, net, play, out),
+        Err(_) => Status::NoMemory,
+    }
+}
+
+// The same of a model whose net this is.
+fn run_net<W: Sink>(
+    alloc: Global,
+    checked: Checked,
+    net: Net,
+    play: Play,
+    out: &mut W,
+) -> Status
+    requires of_model { ∥ IsNet (checked_model checked) net ∥₁ }
+    ensures { Answers (PrintsRun play (checked_model checked)) (W.state out.old) (W.state out.new) result }
+{
+    let limits = Limits {
+        units: play.limits.units,
+        depth: DEPTH_LIMIT,
+        height: HEIGHT_LIMIT,
+    };
+    match Plain::start(alloc, checked, net, limits) {
+        Ok(plain) => play_plain(alloc, plain, play, out),
+        Err(_) => Status::NoMemory,
+    }
+}

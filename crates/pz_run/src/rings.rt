@@ -1,0 +1,32 @@
+// The model of a ring.
+ghost use Rattle.pz_words.specs.Jobs.{IsRingSize};
+ghost use Rattle.pz_gen.specs.Ring.{model as ring_text};
+ghost use Rattle.pz_run.specs.devices.Saying.{Said, Answers};
+ghost use Rattle.pz_run.specs.devices.Texts.{PrintsPlay};
+
+use crate::Status;
+use crate::play::Play;
+use crate::printing::say_made;
+use crate::texts::run_text;
+use pz_gen::make;
+use pz_io::Sink;
+use std::alloc::Global;
+
+/// Prints the model of a ring with this many stations.
+pub fn make_ring<W: Sink>(alloc: Global, n: u32, out: &mut W) -> Status
+    requires { IsRingSize n }
+    ensures { Said (W.state out.old) (W.state out.new) (ring_text n) Status.Done result }
+{
+    say_made(out, make(alloc, n), Status::Done)
+}
+
+/// Runs the model of a ring with this many stations.
+pub fn run_ring<W: Sink>(alloc: Global, n: u32, play: Play, out: &mut W) -> Status
+    requires { IsRingSize n }
+    ensures { Answers (PrintsPlay play (ring_text n)) (W.state out.old) (W.state out.new) result }
+{
+    match make(alloc, n) {
+        Ok(text) => run_text(alloc, text.as_slice(), play, out),
+        Err(_) => Status::NoMemory,
+    }
+}

@@ -1,0 +1,77 @@
+ghost use Rattle.std.specs.Prelude.{◌≡◌};
+ghost use Rattle.pz_run.specs.Status.{number_of};
+ghost use Rattle.pz_run.specs.devices.Halting.{halted_as, given_as};
+
+use pz_playing::Finale;
+use pz_writing::Halt;
+
+/// How the program ends.
+#[derive(Clone, Copy, Debug, PartialEq, Eq)]
+pub enum Status {
+    /// The run ended, or was stopped where it could go on; or the job has no run.
+    Done,
+    /// The run can go no further, and some process is not done.
+    Deadlock,
+    /// The words ask for no job.
+    Usage,
+    /// The model is refused.
+    ModelRefused,
+    /// An expression of the model has no value, or what a process has to do grew too high.
+    ModelFault,
+    /// An entry of a list of choices is none of the offers.
+    ChoiceRefused,
+    /// A trace is that of no run.
+    TraceRefused,
+    /// A file is longer than its limit.
+    TooLong,
+    /// A file could not be read.
+    ReadFault,
+    /// The output failed.
+    WriteFault,
+    /// Memory was wanting.
+    NoMemory,
+}
+
+impl Status {
+    /// The exit status.
+    pub fn number(self) -> u8
+        ensures { result ≡ number_of self }
+    {
+        match self {
+            Status::Done => 0,
+            Status::Deadlock => 1,
+            Status::Usage => 2,
+            Status::ModelRefused => 3,
+            Status::ModelFault => 4,
+            Status::ChoiceRefused => 5,
+            Status::TraceRefused => 6,
+            Status::TooLong => 7,
+            Status::ReadFault => 8,
+            Status::WriteFault => 9,
+            Status::NoMemory => 10,
+        }
+    }
+
+    /// That of a job in which this halted.
+    pub(crate) fn halted(halt: Halt) -> Status
+        ensures { result ≡ halted_as halt }
+    {
+        match halt {
+            Halt::NoMemory => Status::NoMemory,
+            Halt::WriteFault => Status::WriteFault,
+        }
+    }
+
+    /// That of a job whose run was played so.
+    pub(crate) fn played(ended: Result<Finale, Halt>) -> Status
+        ensures { result ≡ given_as ended }
+    {
+        match ended {
+            Ok(Finale::End | Finale::Stop) => Status::Done,
+            Ok(Finale::Deadlock) => Status::Deadlock,
+            Ok(Finale::Trouble(_)) => Status::ModelFault,
+            Ok(Finale::Refused { .. }) => Status::ChoiceRefused,
+            Err(halt) => Status::halted(halt),
+        }
+    }
+}

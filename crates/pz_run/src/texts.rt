@@ -1,0 +1,52 @@
+// What is done with the text of a model.
+ghost use Rattle.std.specs.Prelude.{◌-◌, ◌<◌, ◌^◌, length};
+ghost use Rattle.pz_run.specs.devices.Saying.{Answers};
+ghost use Rattle.pz_run.specs.devices.Texts.{PrintsPlay, PrintsCheck, SaysRefusal};
+
+use crate::Status;
+use crate::play::Play;
+use crate::playing::run_model;
+use crate::printing::say_made;
+use pz_io::Sink;
+use pz_reading::{ReadModelError, measure, read_model};
+use pz_report::{accepted_line, model_refused_line};
+use pz_rules::{one_chosen_run, what_fits_goes_on};
+use std::alloc::Global;
+
+/// Runs the model of this text, or says why that is refused.
+pub fn run_text<W: Sink>(alloc: Global, text: &[u8], play: Play, out: &mut W) -> Status
+    requires { length text.now < 2 ^ 32 - 1 }
+    ensures { Answers (PrintsPlay play text.now) (W.state out.old) (W.state out.new) result }
+{
+    one_chosen_run();
+    what_fits_goes_on();
+    match read_model(alloc, text) {
+        Ok(checked) => run_model(alloc, checked, play, out),
+        Err(error) => say_refused(alloc, error, out),
+    }
+}
+
+/// Says how large the system of the model of this text is, or why that is refused.
+pub fn check_text<W: Sink>(alloc: Global, text: &[u8], out: &mut W) -> Status
+    requires { length text.now < 2 ^ 32 - 1 }
+    ensures { Answers (PrintsCheck text.now) (W.state out.old) (W.state out.new) result }
+{
+    match measure(alloc, text) {
+        Ok(size) => say_made(out, accepted_line(alloc, size), Status::Done),
+        Err(error) => say_refused(alloc, error, out),
+    }
+}
+
+// Says why a text is refused.
+fn say_refused<W: Sink>(alloc: Global, error: ReadModelError, out: &mut W) -> Status
+    ensures { SaysRefusal error (W.state out.old) (W.state out.new) result }
+{
+    match error {
+        ReadModelError::NoMemory => Status::NoMemory,
+        ReadModelError::Refused(refusal) => say_made(
+            out,
+            model_refused_line(alloc, refusal),
+            Status::ModelRefused,
+        ),
+    }
+}

@@ -1,0 +1,263 @@
+// What no clause says: that a call with ample memory does not answer want of it, and examples of each
+// answer, with the bytes that are printed.
+use pz_io::{FailingFiles, Files, MemFiles, RoomySink};
+use pz_run::run_program;
+use std::alloc::{AllocError, Global};
+use std::process::Abort;
+use std::test::Fail;
+
+const MODEL: &str =
+    "process class P\ninit a()()\nmethods a()()\nskip;\ndelay 3;\nskip\nsystem instances p : P\n";
+
+const TRACE: &str =
+    "poosl-trace 1\n0 1 0 p call 2:6\n0 1 0 p skip 4:1\n0 time 3\n3 1 0 p expire 5:1\n3 1 0 p skip 6:1\n3 end\n";
+
+// The words of a command line, with one blank between them.
+fn words_of(alloc: Global, line: &str) -> Result<Vec<String>, AllocError> {
+    let mut words = Vec::new(alloc);
+    for word in line.split(' ') {
+        words.push(String::from_str(alloc, word)?)?;
+    }
+    Ok(words)
+}
+
+// The files with one model, named `m`, blanks behind its text up to a length.
+fn one_file(alloc: Global, text: &str, length: usize) -> Result<MemFiles, AllocError> {
+    let mut bytes = text.as_bytes().to_vec(alloc)?;
+    let first = bytes.len();
+    for _ in first..length {
+        bytes.push(b' ')?;
+    }
+    let name = String::from_str(alloc, "m")?;
+    Ok(MemFiles::new(vec![in alloc; (name, bytes)]?))
+}
+
+// Calls the program with these words, and compares its exit status and what it prints.
+fn expect<F: Files>(
+    rt: &impl Abort,
+    alloc: Global,
+    line: &str,
+    files: &mut F,
+    status: u8,
+    output: &str,
+) -> Result<(), AllocError> {
+    let words = words_of(alloc, line)?;
+    let mut out = RoomySink::new(alloc, 100_000, Vec::new(alloc))?;
+    let given = run_program(alloc, &words, files, &mut out);
+    assert_eq!(rt; given.number(), status, "{output}");
+    assert_eq!(rt; out.bytes(), output.as_bytes());
+    Ok(())
+}
+
+// The same for a model of this text.
+fn expect_of(
+    rt: &impl Abort,
+    alloc: Global,
+    line: &str,
+    text: &str,
+    status: u8,
+    output: &str,
+) -> Result<(), AllocError> {
+    let mut files = one_file(alloc, text, 0)?;
+    expect(rt, alloc, line, &mut files, status, output)
+}
+
+#[test]
+fn a_command_line_gives_its_status_and_its_lines(rt: HostRuntime) -> Result<(), Fail> {
+    let usage =
+        "usage: poosl_run run MODEL | menu MODEL | replay MODEL TRACE | check MODEL | make N | ring N\n";
+    let rows = [
+        ("run m", 0, TRACE),
+        ("run m --first", 0, TRACE),
+        ("run m --seed 9", 0, TRACE),
+        ("run m --choices 0,0,0,0", 0, TRACE),
+        ("run m --summary", 0, "actions 4 passes 1 clock 3 end\n"),
+        (
+            "run m --until 2 --summary",
+            0,
+            "actions 2 passes 0 clock 0 stop\n",
+        ),
+        ("run m --steps 0", 0, "poosl-trace 1\n0 stop\n"),
+        ("run m --choices 1", 5, "poosl-trace 1\n0 refused 1 of 1\n"),
+        (
+            "run m --choices 0,0,0,0,7 --summary",
+            5,
+            "actions 4 passes 1 clock 3 refused 7 of 0\n",
+        ),
+        ("menu m", 0, "poosl-trace 1\n0 stop\noffer 0 p call 2:6\n"),
+        ("check m", 0, "accepted 1 processes 0 wires\n"),
+        ("run", 2, usage),
+        ("run --first m", 2, usage),
+        ("run m --steps 01", 2, usage),
+        ("check -m", 2, usage),
+        ("make 1", 2, usage),
+        ("ring 1001", 2, usage),
+        ("", 2, usage),
+    ];
+    for (line, status, output) in rows {
+        expect_of(&rt, rt.alloc(), line, MODEL, status, output)?;
+    }
+    Ok(())
+}
+
+#[test]
+fn a_text_may_be_laid_out_in_any_way(rt: HostRuntime) -> Result<(), Fail> {
+    let same =
+        "process class P // a class\r\ninit a()()\r\nmethods a()() /* its\tmethod */\r\nskip;\r\ndelay 3;\r\nskip\r\nsystem instances p : P\r\n";
+    expect_of(&rt, rt.alloc(), "run m", same, 0, TRACE)?;
+    Ok(())
+}
+
+#[test]
+fn a_run_that_cannot_go_on_says_why(rt: HostRuntime) -> Result<(), Fail> {
+    let rows = [
+        (
+            "process class P ports o messages o!m init a()() methods a()() o!m\nsystem instances p : P",
+            1,
+            "actions 1 passes 0 clock 0 deadlock\n",
+        ),
+        (
+            "process class P variables x : Integer init a()() methods a()()\ndelay 2; x := 1 / 0\nsystem instances p : P",
+            4,
+            "actions 3 passes 1 clock 2 fault DivideByZero p 2:17\n",
+        ),
+        (
+            "process class P init a()() methods a()()\n[1] skip\nsystem instances p : P",
+            4,
+            "actions 1 passes 0 clock 0 fault NotBoolean p 2:1\n",
+        ),
+    ];
+    for (text, status, output) in rows {
+        expect_of(&rt, rt.alloc(), "run m --summary", text, status, output)?;
+    }
+    Ok(())
+}
+
+#[test]
+fn a_text_is_refused_with_its_kind_and_place(rt: HostRuntime) -> Result<(), Fail> {
+    let rows = [
+        ("process # class", "BadByte 1:9"),
+        ("skip\n  /* no end", "OpenComment 2:3"),
+        ("skip \"no end\n\"", "OpenString 1:6"),
+        ("delay 3x", "BadNumber 1:7"),
+        ("", "Syntax 1:1"),
+        ("process class P;", "Syntax 1:16"),
+        ("process class P methods a() skip", "Syntax 1:25"),
+        (
+            "process class P\ninit a()()\nmethods a()()\nskip;\ndelay 3;\nskip\nsystem instances p : Q\n",
+            "C13 7:22",
+        ),
+        (
+            "process class P\ninit b()()\nmethods a()()\nskip;\ndelay 3;\nskip\nsystem instances p : P\n",
+            "C7 2:6",
+        ),
+        (
+            "process class P\ninit a()()\nmethods a()() par skip rap\n",
+            "C20 1:1",
+        ),
+    ];
+    for (text, refusal) in rows {
+        let line = format!(in rt.alloc(); "model refused: {refusal}\n")?;
+        expect_of(&rt, rt.alloc(), "run m --first", text, 3, line.as_str())?;
+    }
+    Ok(())
+}
+
+#[test]
+fn a_check_counts_the_processes_and_wires_of_a_model(rt: HostRuntime) -> Result<(), Fail> {
+    let rows = [
+        (MODEL, 0, "accepted 1 processes 0 wires\n"),
+        (
+            "process class P init a()() methods a()() par skip rap system instances p : P q : P",
+            0,
+            "accepted 2 processes 0 wires\n",
+        ),
+        (
+            "process class P\nports out\ninit a()()\nmethods a()() skip\nsystem instances p : P q : P\nchannels { p.out, q.out }\n",
+            0,
+            "accepted 2 processes 1 wires\n",
+        ),
+        (
+            "process class P\ninit a()()\nmethods a()() skip\ncluster class C\ninstances p : P\nsystem instances c : C\n",
+            0,
+            "accepted 1 processes 0 wires\n",
+        ),
+        (
+            "process class P\ninit a()()\nmethods a()() skip\ncluster class C\ninstances p : P\nsystem instances c : D\n",
+            3,
+            "model refused: C13 6:22\n",
+        ),
+    ];
+    for (text, status, output) in rows {
+        expect_of(&rt, rt.alloc(), "check m", text, status, output)?;
+    }
+    Ok(())
+}
+
+#[test]
+fn a_model_may_have_a_mebibyte_and_no_byte_more(rt: HostRuntime) -> Result<(), Fail> {
+    for (length, status, output) in [(1_048_576, 0, TRACE), (1_048_577, 7, "too long: m\n")] {
+        let mut files = one_file(rt.alloc(), MODEL, length)?;
+        expect(&rt, rt.alloc(), "run m --first", &mut files, status, output)?;
+    }
+    Ok(())
+}
+
+#[test]
+fn a_missing_model_and_one_that_cannot_be_read_are_read_faults(
+    rt: HostRuntime,
+) -> Result<(), Fail> {
+    expect_of(
+        &rt,
+        rt.alloc(),
+        "run n --first",
+        MODEL,
+        8,
+        "read fault: n\n",
+    )?;
+    let inner = one_file(rt.alloc(), MODEL, 0)?;
+    let mut files = FailingFiles::new(inner, vec![in rt.alloc(); 2]?);
+    expect(
+        &rt,
+        rt.alloc(),
+        "run m --first",
+        &mut files,
+        8,
+        "read fault: m\n",
+    )?;
+    Ok(())
+}
+
+#[test]
+fn a_sink_that_fails_at_its_third_write_has_two_lines(rt: HostRuntime) -> Result<(), Fail> {
+    let words = words_of(rt.alloc(), "run m --first")?;
+    let mut files = one_file(rt.alloc(), MODEL, 0)?;
+    let mut out = RoomySink::new(rt.alloc(), 100_000, vec![in rt.alloc(); 3]?)?;
+    let status = run_program(rt.alloc(), &words, &mut files, &mut out);
+    assert_eq!(rt; status.number(), 9);
+    assert_eq!(rt; out.bytes(), "poosl-trace 1\n0 1 0 p call 2:6\n".as_bytes());
+    Ok(())
+}
+
+#[test]
+fn a_hundred_and_one_constructs_are_too_many(rt: HostRuntime) -> Result<(), Fail> {
+    let open = "(".repeat(rt.alloc(), 101)?;
+    let close = ")".repeat(rt.alloc(), 101)?;
+    let text = format!(in rt.alloc(); "process class P methods a()()\n{open}skip{close}")?;
+    let refusal = "model refused: TooNested 2:101\n";
+    expect_of(&rt, rt.alloc(), "run m --first", text.as_str(), 3, refusal)?;
+    Ok(())
+}
+
+#[test]
+fn a_model_that_calls_itself_stops_after_a_thousand_actions(rt: HostRuntime) -> Result<(), Fail> {
+    let words = words_of(rt.alloc(), "run m --first")?;
+    let text = "process class P init a()() methods a()() a()() system instances p : P";
+    let mut files = one_file(rt.alloc(), text, 0)?;
+    let mut out = RoomySink::new(rt.alloc(), 100_000, Vec::new(rt.alloc()))?;
+    let status = run_program(rt.alloc(), &words, &mut files, &mut out);
+    assert_eq!(rt; status.number(), 0);
+    assert!(rt; out.bytes().ends_with("0 stop\n".as_bytes()));
+    assert_eq!(rt; out.bytes().iter().filter(|b| **b == b'\n').count(), 1002);
+    Ok(())
+}
