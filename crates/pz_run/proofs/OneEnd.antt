@@ -60,7 +60,7 @@ module _ (one : OneChosenRun) (fits : StartFits) where
   one_ending : (setting : Setting) (policy : Policy) → IsSound setting.model → (x y : ChosenRun setting policy) → x.ending ≡ y.ending
   one_ending setting policy sound x y =
       let other : IsChosenRun setting policy 0 x.start y.events y.end y.ending =
-          subst (λ (c : Config). IsChosenRun setting policy 0 c y.events y.end y.ending) (one_start setting y.start x.start y.is_start x.is_start) y.is_chosen in
+      subst (λ (c : Config). IsChosenRun setting policy 0 c y.events y.end y.ending) (one_start setting y.start x.start y.is_start x.is_start) y.is_chosen in
       (one setting policy 0 x.start x.events y.events x.end y.end x.ending y.ending (fits setting x.start sound x.is_start).0 x.is_chosen other).2
 
   -- so a status that goes with what is printed of it is that of each such run

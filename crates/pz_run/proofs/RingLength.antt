@@ -79,6 +79,6 @@ ring_is_short n within =
     let channels : length (each n (channel n)) ≤ n * 40 = short_from 0 n 40 (channel n) (λ i below. channel_short n i (omega (arith, within, below))) in
     let last : length (halting n) ≤ 40050 = halting_short n within in
     let all : length (ring_text n) ≤ 200000 =
-        five classes (each n station) (lines (codes "v : Supervisor" ∷ codes "channels" ∷ [])) (each n (channel n)) (halting n) 200000
-        (omega (arith, within, heads, stations, middle, channels, last)) in
+    five classes (each n station) (lines (codes "v : Supervisor" ∷ codes "channels" ∷ [])) (each n (channel n)) (halting n) 200000
+    (omega (arith, within, heads, stations, middle, channels, last)) in
     omega (arith, all)

@@ -27,36 +27,34 @@ pub fn do_job<F: Files, W: Sink>(alloc: Global, job: Job, files: &mut F, out: &m
             summary,
         } => {
             let telling = Telling::when(summary);
-            let play = Play {
+            let run = Play {
                 choice,
                 limits,
                 telling,
             };
-            run_file(alloc, model.as_str(), play, files, out)
+            run_file(alloc, model.as_str(), run, files, out)
         }
         Job::Menu {
             model,
             choice,
             limits,
         } => {
-            let telling = Telling::Menu;
-            let play = Play {
+            let menu = Play {
                 choice,
                 limits,
-                telling,
+                telling: Telling::Menu,
             };
-            run_file(alloc, model.as_str(), play, files, out)
+            run_file(alloc, model.as_str(), menu, files, out)
         }
         Job::Check { model } => check_file(alloc, model.as_str(), files, out),
         Job::Make { n } => make_ring(alloc, n, out),
         Job::Ring { n, choice, limits } => {
-            let telling = Telling::Summary;
-            let play = Play {
+            let run = Play {
                 choice,
                 limits,
-                telling,
+                telling: Telling::Summary,
             };
-            run_ring(alloc, n, play, out)
+            run_ring(alloc, n, run, out)
         }
         // Not done yet.
         Job::Replay { .. } => say(out, usage_line(), Status::Usage),

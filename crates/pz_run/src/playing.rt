@@ -67,13 +67,7 @@ pub fn run_model<W: Sink>(alloc: Global, checked: Checked, play: Play, out: &mut
 }
 
 // The same of a model whose net this is.
-fn run_net<W: Sink>(
-    alloc: Global,
-    checked: Checked,
-    net: Net,
-    play: Play,
-    out: &mut W,
-) -> Status
+fn run_net<W: Sink>(alloc: Global, checked: Checked, net: Net, play: Play, out: &mut W) -> Status
     requires of_model { ∥ IsNet (checked_model checked) net ∥₁ }
     ensures { Answers (PrintsRun play (checked_model checked)) (W.state out.old) (W.state out.new) result }
 {

@@ -19,11 +19,7 @@ pub fn say<W: Sink>(out: &mut W, bytes: &[u8], status: Status) -> Status
 }
 
 /// The same for bytes that were made, if memory was there.
-pub fn say_made<W: Sink>(
-    out: &mut W,
-    made: Result<Vec<u8>, AllocError>,
-    status: Status,
-) -> Status
+pub fn say_made<W: Sink>(out: &mut W, made: Result<Vec<u8>, AllocError>, status: Status) -> Status
     requires ordinary { status ≢ Status.WriteFault }
     ensures { (text : List ℕ) → IfOk made (λ bytes. bytes.items ≡ text) →
         Said (W.state out.old) (W.state out.new) text status result }
