@@ -1,5 +1,5 @@
 -- The promises, job by job.
-use Rattle.std.proofs.Common.{◌≡◌, ◌≢◌, inl, inr, ◌<◌, ◌≤◌, ℕ, List, [], ◌∷◌, Bool, Option, Some, None, length, sym, subst, ap, ◌∙◌, refl}
+use Rattle.std.proofs.Common.{◌≡◌, inl, inr, ◌<◌, ◌≤◌, ℕ, List, [], ◌∷◌, Bool, Option, Some, None, length, sym, subst, ap, ◌∙◌, refl}
 use Rattle.pz_io.specs.Outside.{Entries, FilesState, SinkState, lookup}
 use Rattle.pz_syntax.specs.Classes.{ModelTree}
 use Rattle.pz_rules.specs.Runs.{Ending}
@@ -23,7 +23,7 @@ use Rattle.pz_run.specs.Promises.{HasModel, model_name, IsTextFor, of_ring, HasE
 use Rattle.pz_run.specs.Promises as promises
 use Rattle.pz_run.specs.devices.Keeping.{KeepsPromises}
 use Rattle.pz_run.specs.devices.Reading.{ReadsFile}
-use Rattle.pz_run.specs.devices.Saying.{Said, Says, Answers}
+use Rattle.pz_run.specs.devices.Saying.{Said, Answers}
 use Rattle.pz_run.specs.devices.Texts.{EndsOnlySo, PrintsPlay, PrintsCheck}
 use Rattle.pz_run.proofs.OneEnd.{some_is}
 use Rattle.pz_run.proofs.Keeps.{Wants, keeps, keeps_nothing, none_opened}

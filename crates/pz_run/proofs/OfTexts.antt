@@ -1,5 +1,5 @@
 -- What is said of the text of a model, by how its reading went.
-use Rattle.std.proofs.Common.{◌≡◌, inl, inr, ℕ, List, refl, subst}
+use Rattle.std.proofs.Common.{◌≡◌, inl, inr, ℕ, List, subst}
 use Rattle.pz_io.specs.Outside.{SinkState}
 use Rattle.pz_syntax.specs.Classes.{ModelTree}
 use Rattle.pz_rules.specs.Laws.{OneChosenRun, StartFits}

@@ -1,5 +1,5 @@
 -- The promises of jobs that read one file.
-use Rattle.std.proofs.Common.{◌≡◌, ◌≢◌, ◌⊎◌, inl, inr, ⊎_elim, ◌<◌, ◌≤◌, ℕ, List, [], ◌∷◌, true, Option, Some, None, length, sym, subst, ap, ◌∙◌, refl, arith, lit<}
+use Rattle.std.proofs.Common.{◌≡◌, ◌≢◌, ◌⊎◌, inl, inr, ⊎_elim, ◌<◌, ◌≤◌, ℕ, List, [], ◌∷◌, true, Some, None, length, sym, subst, ap, ◌∙◌, refl, arith, lit<}
 use Rattle.std.specs.Prelude.{Contains}
 use Rattle.pz_io.specs.Outside.{Entries, FilesState, SinkState, lookup, raised, Rose, Exceeds}
 use Rattle.pz_rules.specs.Runs.{Ending, ended, deadlocked, troubled, halted, refused}
@@ -12,7 +12,7 @@ use Rattle.pz_reading.specs.Refusals.{IsRefused}
 use Rattle.pz_report.specs.Lines.{read_fault_line, too_long_line}
 use Rattle.pz_run.specs.declared.limits.TheConstants.{MODEL_LIMIT}
 use Rattle.pz_run.specs.declared.status.Status.{Status}
-use Rattle.pz_run.specs.declared.status.Status.TheVariants.{Done, Deadlock, ModelRefused, ModelFault, ChoiceRefused, TooLong, ReadFault, NoMemory}
+use Rattle.pz_run.specs.declared.status.Status.TheVariants.{Done, Deadlock, ModelRefused, ModelFault, ChoiceRefused, TooLong, ReadFault}
 use Rattle.pz_run.specs.Files.{JobFile, model_file, files_of}
 use Rattle.pz_run.specs.Status.{status_of}
 use Rattle.pz_run.specs.Output.{Prints, does, PrintsJob}
@@ -20,7 +20,7 @@ use Rattle.pz_run.specs.Promises.{OpensFiles, OpensLast, IsNoModel, HasModel, mo
 use Rattle.pz_run.specs.Promises as promises
 use Rattle.pz_run.specs.devices.Keeping.{KeepsPromises}
 use Rattle.pz_run.specs.devices.Reading.{FileOutcome, wanting, fault, long, whole, ReadsFile}
-use Rattle.pz_run.specs.devices.Saying.{Said, Says, Answers}
+use Rattle.pz_run.specs.devices.Saying.{Answers}
 use Rattle.pz_run.proofs.OneEnd.{some_is}
 use Rattle.pz_run.proofs.Keeps.{IsFaultLine, Wants, keeps, keeps_nothing}
 

@@ -1,5 +1,5 @@
 -- The promises of the top call as one, for the calls below it.
-use Rattle.std.specs.Prelude.{◌≡◌, ◌≢◌, ◌⊎◌, ℕ, List, true, Option}
+use Rattle.std.specs.Prelude.{◌≡◌, ◌≢◌, ◌⊎◌, ℕ, true, Option}
 use Rattle.pz_io.specs.Outside.{FilesState, SinkState, Rose}
 use Rattle.pz_offer.specs.declared.trouble.Trouble.{Trouble}
 use Rattle.pz_rules.specs.Runs.{Ending, deadlocked, troubled, refused}

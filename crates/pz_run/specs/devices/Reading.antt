@@ -1,5 +1,5 @@
 -- What was done with a file that a job reads.
-use Rattle.std.specs.Prelude.{◌≡◌, ◌⊎◌, ◌<◌, ◌≤◌, ℕ, List, true, length, Option, Some, None}
+use Rattle.std.specs.Prelude.{◌≡◌, ◌⊎◌, ◌<◌, ◌≤◌, ℕ, List, true, length, Some, None}
 use Rattle.pz_io.specs.Outside.{FilesState, SinkState, lookup, raised, Rose, Exceeds}
 use Rattle.pz_io.specs.declared.whole.ReadError.{ReadError}
 use Rattle.pz_io.specs.declared.whole.ReadError.TheVariants.{NoMemory, Fault, TooLong}

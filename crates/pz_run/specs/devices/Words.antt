@@ -1,6 +1,6 @@
 -- What is known of the jobs that words ask for.
 use Rattle.pz_words.specs.declared.jobs.Job.{Job}
-use Rattle.pz_words.specs.declared.jobs.Job.TheVariants.{Run, Menu, Replay, Check, Make, Ring}
+use Rattle.pz_words.specs.declared.jobs.Job.TheVariants.{Make, Ring}
 use Rattle.pz_words.specs.Jobs.{IsRingSize}
 
 -- a ring has no more stations than it may have
