@@ -43,10 +43,7 @@ pub fn show_time(rt: &HostRuntime, clock: u128, time: u128) -> io::Result<()> {
 }
 
 fn show_label(rt: &HostRuntime, plain: &Plain, action: &Action) -> io::Result<()> {
-    show_bytes(
-        rt,
-        label(rt.alloc(), plain.checked(), plain.net(), action)?,
-    )?;
+    show_bytes(rt, label(rt.alloc(), plain.checked(), plain.net(), action)?)?;
     println!(rt)
 }
 

@@ -45,20 +45,24 @@ fn show_ring(rt: &HostRuntime, n: u32, choice: Choice, limits: RunLimits) -> io:
 fn show_job(rt: &HostRuntime, line: &str, shown: Shown) -> io::Result<()> {
     let words = words_of(rt.alloc(), line)?;
     match read_words(rt.alloc(), words.as_slice())? {
-        Some(Job::Run {
-            model,
-            choice,
-            limits,
-            summary,
-        }) => {
+        Some(
+            Job::Run {
+                model,
+                choice,
+                limits,
+                summary,
+            },
+        ) => {
             let shown = if summary { Shown::Summary } else { shown };
             show_file(rt, model.as_str(), choice, limits, shown)
         }
-        Some(Job::Menu {
-            model,
-            choice,
-            limits,
-        }) => show_file(rt, model.as_str(), choice, limits, Shown::Menu),
+        Some(
+            Job::Menu {
+                model,
+                choice,
+                limits,
+            },
+        ) => show_file(rt, model.as_str(), choice, limits, Shown::Menu),
         Some(Job::Ring { n, choice, limits }) => show_ring(rt, n, choice, limits),
         _ => println!(rt; "no run"),
     }

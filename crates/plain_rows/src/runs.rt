@@ -101,9 +101,7 @@ fn advance(rt: &HostRuntime, run: &mut Run) -> io::Result<Option<Ending>> {
         Moment::Time(time) => pass(rt, run, time),
         Moment::Finished => Ok(Some(end_of(run, Ending::End))),
         Moment::Deadlock => Ok(Some(end_of(run, Ending::Deadlock))),
-        Moment::Faulty(trouble) | Moment::Stopped(trouble) => {
-            Ok(Some(Ending::Trouble(trouble)))
-        }
+        Moment::Faulty(trouble) | Moment::Stopped(trouble) => { Ok(Some(Ending::Trouble(trouble))) }
         Moment::Broken => Ok(Some(Ending::Broken)),
     }
 }
@@ -125,9 +123,7 @@ fn show_ending(rt: &HostRuntime, run: &Run, ending: Ending) -> io::Result<()> {
         Ending::End => show_end(rt, plain, clock, &TraceEnding::End),
         Ending::Deadlock => show_end(rt, plain, clock, &TraceEnding::Deadlock),
         Ending::Stop => show_end(rt, plain, clock, &TraceEnding::Stop),
-        Ending::Trouble(trouble) => {
-            show_end(rt, plain, clock, &TraceEnding::Trouble(trouble))
-        }
+        Ending::Trouble(trouble) => { show_end(rt, plain, clock, &TraceEnding::Trouble(trouble)) }
         Ending::Refused { entry, offers } => println!(rt; "{clock} refused {entry} of {offers}"),
         Ending::Broken => println!(rt; "no memory"),
     }
