@@ -2,6 +2,7 @@ pub mod Digits
 pub mod Numerals
 pub mod Headed
 pub mod Cut
+pub mod EveryHeadings
 pub mod Naming
 pub mod Unbroken
 pub mod Happening

@@ -80,6 +80,10 @@ StopIsNoPassing = (m : ModelTree) (clock d : ℕ) → time_line clock d ≢ end_
 abbrev pub OneHeading : Type 0
 OneHeading = (line : List ℕ) (x y : Heading) → IsHeading line x → IsHeading line y → x ≡ y
 
+-- each text has a heading
+abbrev pub EveryHeading : Type 0
+EveryHeading = (line : List ℕ) → (x : Heading) × IsHeading line x
+
 abbrev pub ActionsHaveHeadings : Type 0
 ActionsHaveHeadings = (m : ModelTree) (clock n k : ℕ) (a : Action) → clock < 2 ^ 128 → n < 2 ^ 64 → k < 2 ^ 64 → IsHeading (action_line m clock n k a) (Step clock n k)
 

@@ -1,6 +1,6 @@
 // Laws of lines, each the contract of a function that does nothing.
 
-ghost use Rattle.pz_trace.specs.Laws.{HeaderIsLine, TimeLinesAreLines, ActionLinesAreLines, EndLinesAreLines, OneFirstLine, ActionLinesDiffer, StopIsNoAction, StopIsNoPassing, OneHeading, ActionsHaveHeadings, OffersAreNamed, FaultsAreNamed, StopsAreNamed};
+ghost use Rattle.pz_trace.specs.Laws.{HeaderIsLine, TimeLinesAreLines, ActionLinesAreLines, EndLinesAreLines, OneFirstLine, ActionLinesDiffer, StopIsNoAction, StopIsNoPassing, OneHeading, EveryHeading, ActionsHaveHeadings, OffersAreNamed, FaultsAreNamed, StopsAreNamed};
 
 /// Each line ends with LF and has none before it, whatever a parcel holds, where no name of an
 /// instance, a class or a message has one. So a trace is cut into its lines at each LF.
@@ -20,9 +20,10 @@ pub fn lines_differ()
     ensures stop_passing { StopIsNoPassing }
 {}
 
-/// A line has no more than one heading, and that of an action has its numbers.
+/// A text has one heading and no more, and that of the line of an action has its numbers.
 pub fn headings_tell_actions()
     ensures one { OneHeading }
+    ensures some { EveryHeading }
     ensures actions { ActionsHaveHeadings }
 {}
 
