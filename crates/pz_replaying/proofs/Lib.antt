@@ -1,0 +1,17 @@
+pub mod Cuts
+pub mod Moments
+pub mod Starts
+pub mod Takings
+pub mod Roads
+pub mod Refused
+pub mod Expectings
+pub mod Goings
+pub mod Simulated
+pub mod Moved
+pub mod Begins
+pub mod Found
+pub mod Looping
+pub mod Followings
+pub mod Outcomes
+pub mod Openings
+pub mod Written
