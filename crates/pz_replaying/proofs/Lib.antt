@@ -1,0 +1,14 @@
+pub mod Cuts
+pub mod Moments
+pub mod Starts
+pub mod Takings
+pub mod Roads
+pub mod Refused
+pub mod Expectings
+pub mod Goings
+pub mod Simulated
+pub mod Moved
+pub mod Begins
+pub mod Found
+pub mod Looping
+pub mod Written
