@@ -22,13 +22,13 @@ use Rattle.pz_evaluation.specs.Outcomes.{outside, Finds, FindsAll}
 use Rattle.pz_evaluation.specs.devices.Computed.{Reached, done}
 use Rattle.pz_evaluation.specs.devices.Laws.{ComputedIsFound, ComputedListIsFound}
 use Rattle.pz_evaluation.specs.devices.Outcomes.{reached_value, reached_list, outcome_of, listed_of, state_after}
-use Rattle.pz_eval.specs.declared.stop.Stop.{Stop}
-use Rattle.pz_eval.specs.declared.stop.Stop.TheVariants as stop
-use Rattle.pz_eval.specs.declared.task.Finish.{Finish}
-use Rattle.pz_eval.specs.declared.task.Finish.TheVariants as finish
-use Rattle.pz_eval.specs.devices.Steps.{Stops, finished}
+use Rattle.pz_operations.specs.declared.stop.Stop.{Stop}
+use Rattle.pz_operations.specs.declared.stop.Stop.TheVariants as stop
+use Rattle.pz_machine.specs.declared.control.Finish.{Finish}
+use Rattle.pz_machine.specs.declared.control.Finish.TheVariants as finish
+use Rattle.pz_machine.specs.devices.Steps.{Stops, finished}
 use Rattle.pz_eval.specs.devices.Lists.{Gathers}
-use Rattle.pz_eval.specs.devices.Within.{FinishWithin}
+use Rattle.pz_machine.specs.devices.Within.{FinishWithin}
 use Rattle.pz_eval.specs.Promises.{UnlessValue, UnlessValues, NamesWithin, NameWithin}
 use Rattle.pz_eval.specs.devices.Found.{found_value, IsOutcomeOf, IsListedOf}
 

@@ -11,10 +11,10 @@ use Rattle.pz_evaluation.specs.Memories.{Memory, Place}
 use Rattle.pz_evaluation.specs.Answers.{ends, gives, stops}
 use Rattle.pz_evaluation.specs.Outcomes.{outside}
 use Rattle.pz_evaluation.specs.devices.Computed.{Reached, done, Computation, and_then, arguments, evaluated}
-use Rattle.pz_eval.specs.declared.stop.Stop.{Stop}
-use Rattle.pz_eval.specs.declared.stop.Stop.TheVariants as stop
-use Rattle.pz_eval.specs.declared.task.Finish.{Finish}
-use Rattle.pz_eval.specs.devices.Steps.{Stops, finished, Finishes}
+use Rattle.pz_operations.specs.declared.stop.Stop.{Stop}
+use Rattle.pz_operations.specs.declared.stop.Stop.TheVariants as stop
+use Rattle.pz_machine.specs.declared.control.Finish.{Finish}
+use Rattle.pz_machine.specs.devices.Steps.{Stops, finished, Finishes}
 use Rattle.pz_eval.specs.devices.Lists.{Gathers}
 
 pub finish_is : (result : Result Finish Stop) (f : Finish) (m : Memory) (r : ℕ) (before : Reached Value) → result ≡ Ok f → Finishes result m r before → before ≡ done (finished f m) r

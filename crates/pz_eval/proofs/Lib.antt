@@ -1,15 +1,3 @@
-pub mod Going
-pub mod Advancing
-pub mod Onward
-pub mod Forms
-pub mod Weighing
-pub mod Applied
-pub mod Worth
-pub mod Arguments
-pub mod Replied
-pub mod Unwinding
-pub mod Absent
-pub mod Within
 pub mod Gathering
 pub mod Finding
 pub mod Parceling

@@ -1,4 +1,4 @@
-pub mod Known
+pub use Rattle.pz_operations.specs.Known
 pub mod Promises
 pub mod Tentative
 pub mod Parcels

@@ -1,10 +1,3 @@
-pub mod Sites
-pub mod Tasks
-pub mod Steps
-pub mod Within
-pub mod Weights
-pub mod AtOnce
-pub mod Replies
 pub mod Lists
 pub mod Found
 pub mod Parceled

@@ -5,19 +5,17 @@ ghost use Rattle.pz_syntax.specs.Classes.{ModelTree};
 ghost use Rattle.pz_code.specs.CodeView.{view, list_view};
 ghost use Rattle.pz_classes.specs.Tables.{AreClasses};
 ghost use Rattle.pz_evaluation.specs.Outcomes.{Finds, FindsAll};
-ghost use Rattle.pz_eval.specs.Known.{AreKnown};
+ghost use Rattle.pz_operations.specs.Known.{AreKnown};
 ghost use Rattle.pz_eval.specs.Tentative.{WouldFind};
 ghost use Rattle.pz_eval.specs.devices.Found.{found_value, IsOutcomeOf, IsListedOf};
 ghost use Rattle.pz_eval.specs.Promises.{UnlessValue, UnlessValues, NamesWithin, NameWithin};
 
 use crate::listing::evaluate_list;
-use crate::machine::evaluate;
-use crate::setting::Setting;
-use crate::stop::Stop;
-use crate::task::Finish;
 use pz_classes::Classes;
 use pz_code::Code;
 use pz_evaluation::{Allowance, Listed, Outcome, computed_is_found};
+use pz_machine::{Finish, Setting, evaluate};
+use pz_operations::Stop;
 use pz_state::{FrameId, State};
 use std::alloc::{AllocError, Global};
 

@@ -8,15 +8,13 @@ ghost use Rattle.pz_classes.specs.Tables.{AreClasses};
 ghost use Rattle.pz_evaluation.specs.Memories.{in_process};
 ghost use Rattle.pz_evaluation.specs.Outcomes.{outside};
 ghost use Rattle.pz_evaluation.specs.devices.Computed.{arguments, evaluated};
-ghost use Rattle.pz_eval.specs.Known.{AreKnown};
+ghost use Rattle.pz_operations.specs.Known.{AreKnown};
 ghost use Rattle.pz_eval.specs.devices.Lists.{Gathers};
 
-use crate::machine::evaluate;
-use crate::setting::Setting;
-use crate::stop::Stop;
-use crate::task::Finish;
 use pz_code::Code;
 use pz_items::Items;
+use pz_machine::{Finish, Setting, evaluate};
+use pz_operations::Stop;
 use pz_state::{FrameId, State};
 use pz_value::Value;
 use std::alloc::{AllocError, Global};

@@ -4,10 +4,10 @@ use Rattle.pz_evaluation.specs.declared.outcome.Outcome.{Outcome}
 use Rattle.pz_evaluation.specs.declared.outcome.Outcome.TheVariants as outcome
 use Rattle.pz_evaluation.specs.declared.outcome.Listed.{Listed}
 use Rattle.pz_evaluation.specs.declared.outcome.Listed.TheVariants as listed
-use Rattle.pz_eval.specs.declared.stop.Stop.{Stop}
-use Rattle.pz_eval.specs.declared.stop.Stop.TheVariants as stop
-use Rattle.pz_eval.specs.declared.task.Finish.{Finish}
-use Rattle.pz_eval.specs.declared.task.Finish.TheVariants as finish
+use Rattle.pz_operations.specs.declared.stop.Stop.{Stop}
+use Rattle.pz_operations.specs.declared.stop.Stop.TheVariants as stop
+use Rattle.pz_machine.specs.declared.control.Finish.{Finish}
+use Rattle.pz_machine.specs.declared.control.Finish.TheVariants as finish
 
 abbrev pub found_value : Finish → Outcome
 found_value (finish.Value y) = outcome.Value y

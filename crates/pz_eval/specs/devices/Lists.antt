@@ -6,8 +6,8 @@ use Rattle.pz_evaluation.specs.declared.outcome.Listed.TheVariants as listed
 use Rattle.pz_evaluation.specs.Answers.{stops, fault}
 use Rattle.pz_evaluation.specs.devices.Computed.{Reached, done, spent}
 use Rattle.pz_evaluation.specs.devices.Outcomes.{listed_of, state_after}
-use Rattle.pz_eval.specs.declared.stop.Stop.{Stop}
-use Rattle.pz_eval.specs.declared.stop.Stop.TheVariants as stop
+use Rattle.pz_operations.specs.declared.stop.Stop.{Stop}
+use Rattle.pz_operations.specs.declared.stop.Stop.TheVariants as stop
 
 -- the values, and the state that is left; or why there are none
 abbrev pub Gathers : Result (List Value) Stop → StateView → ℕ → Reached (List Value) → Type 0

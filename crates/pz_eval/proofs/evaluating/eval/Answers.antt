@@ -5,9 +5,9 @@ use Rattle.pz_code.specs.CodeView.{view}
 use Rattle.pz_state.specs.Marks.{Seen}
 use Rattle.pz_evaluation.specs.Outcomes.{outside}
 use Rattle.pz_evaluation.specs.devices.Outcomes.{reached_value}
-use Rattle.pz_eval.specs.declared.stop.Stop.{Stop}
-use Rattle.pz_eval.specs.declared.task.Finish.{Finish}
-use Rattle.pz_eval.specs.devices.Within.{FinishWithin}
+use Rattle.pz_operations.specs.declared.stop.Stop.{Stop}
+use Rattle.pz_machine.specs.declared.control.Finish.{Finish}
+use Rattle.pz_machine.specs.devices.Within.{FinishWithin}
 use Rattle.pz_eval.specs.Promises.{NamesWithin}
 use Rattle.pz_eval.proofs.Gathering.{finish_is, stop_is}
 use Rattle.pz_eval.proofs.Finding.{value_found, stop_found, is_latest, is_back, marks_kept, finish_within, value_kept, stop_within, same_kept, on_err}

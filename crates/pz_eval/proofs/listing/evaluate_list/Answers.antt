@@ -7,11 +7,11 @@ use Rattle.pz_state.specs.References.{RefersWithin}
 use Rattle.pz_evaluation.specs.Memories.{in_process}
 use Rattle.pz_evaluation.specs.Outcomes.{outside}
 use Rattle.pz_evaluation.specs.devices.Computed.{arguments, evaluated}
-use Rattle.pz_eval.specs.declared.stop.Stop.{Stop}
-use Rattle.pz_eval.specs.declared.task.Finish.{Finish}
-use Rattle.pz_eval.specs.declared.task.Finish.TheVariants as finish
-use Rattle.pz_eval.specs.devices.Within.{FinishWithin}
-use Rattle.pz_eval.proofs.Within.{values_wider, all_push}
+use Rattle.pz_operations.specs.declared.stop.Stop.{Stop}
+use Rattle.pz_machine.specs.declared.control.Finish.{Finish}
+use Rattle.pz_machine.specs.declared.control.Finish.TheVariants as finish
+use Rattle.pz_machine.specs.devices.Within.{FinishWithin}
+use Rattle.pz_machine.proofs.Within.{values_wider, all_push}
 use Rattle.pz_eval.proofs.Gathering.{finish_is, stop_is, value_gathered, return_gathered, stop_gathered, all_gathered}
 use Rattle.pz_eval.proofs.listing.evaluate_list.Goals as goal
 

@@ -1,0 +1,10 @@
+pub mod Going
+pub mod Advancing
+pub mod Onward
+pub mod Forms
+pub mod Weighing
+pub mod AtOnce
+pub mod Arguments
+pub mod Replied
+pub mod Unwinding
+pub mod Within

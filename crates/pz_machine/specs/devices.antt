@@ -1,0 +1,4 @@
+pub mod Tasks
+pub mod Steps
+pub mod Within
+pub mod Weights

@@ -1,0 +1,17 @@
+//! The evaluation of an expression of a method of a process, step by step, with units that are counted
+//! down and a depth. Effects stay, whatever comes of it.
+#![tactic(auto)]
+
+mod beginning;
+mod calling;
+mod choosing;
+mod continuing;
+mod control;
+mod machine;
+mod operators;
+mod resuming;
+mod setting;
+
+pub use control::Finish;
+pub use machine::evaluate;
+pub use setting::Setting;

@@ -1,0 +1,10 @@
+use pz_classes::Classes;
+use std::alloc::Global;
+
+/// What an evaluation stands on.
+#[derive(Clone, Copy)]
+pub struct Setting<'a> {
+    pub alloc: Global,
+    pub classes: &'a Classes,
+    pub clock: u128,
+}
