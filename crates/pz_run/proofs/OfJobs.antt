@@ -14,8 +14,8 @@ use Rattle.pz_run.specs.declared.limits.TheConstants.{MODEL_LIMIT}
 use Rattle.pz_run.specs.declared.play.Play.{Play}
 use Rattle.pz_run.specs.declared.play.Telling.TheVariants as telling
 use Rattle.pz_run.specs.declared.status.Status.{Status}
-use Rattle.pz_run.specs.declared.status.Status.TheVariants.{Done, TraceRefused, TooLong, ReadFault}
-use Rattle.pz_run.specs.Files.{JobFile, model_file, files_of}
+use Rattle.pz_run.specs.declared.status.Status.TheVariants.{Done, TooLong, ReadFault}
+use Rattle.pz_run.specs.Files.{model_file, files_of}
 use Rattle.pz_run.specs.Status.{status_of}
 use Rattle.pz_run.specs.Plays.{play, play_of, telling_when}
 use Rattle.pz_run.specs.Output.{PrintsRun, plays, PrintsSize, accepts, makes, PrintsModel, refuses, of_model, PrintsFile, lacks, too_long, reads, PrintsModelFile, PrintsJob, does}

@@ -45,7 +45,7 @@ module _ (first : OneFirstLine) (m : ModelTree) where
       (sym (append_assoc (event_line m x) (events_text m events) l) ∙ e ∙ append_assoc (event_line m y) (events_text m more) k) in
       same_last events more l k are.1 others.1 line other same.same_rest
 
--- ---- what it says
+  -- ---- what it says
 
   abbrev end_words : Ending → List ℕ
   end_words ending.End = codes "end" ++ newline

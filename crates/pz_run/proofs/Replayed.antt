@@ -1,5 +1,5 @@
 -- What was said of a trace that was replayed, and the promises of a replay.
-use Rattle.std.proofs.Common.{◌≡◌, ◌≢◌, ◌⊎◌, inl, inr, ⊎_elim, ◌∙◌, ◌<◌, ◌≤◌, ◌+◌, ℕ, List, [], ◌∷◌, true, Option, Some, None, Result, Ok, Err, length, refl, sym, subst, ap, arith}
+use Rattle.std.proofs.Common.{◌≡◌, ◌≢◌, ◌⊎◌, inl, inr, ⊎_elim, ◌∙◌, ◌<◌, ◌≤◌, ℕ, List, [], ◌∷◌, true, Option, Some, None, Result, Ok, Err, length, refl, sym, subst, ap, arith}
 use Rattle.std.specs.Prelude.{Contains}
 use Rattle.pz_io.specs.Outside.{Entries, FilesState, SinkState, lookup, raised, Rose, Exceeds}
 use Rattle.pz_writing.specs.declared.writing.Halt.{Halt}
@@ -169,7 +169,7 @@ module _ (model name : List ℕ) (units : ℕ) where
     no_run = λ held text bytes status prints none. refusal_lacks text bytes status none.replay.model prints none.replay.is_model;
   }
 
--- ---- promises, where the model was accepted
+  -- ---- promises, where the model was accepted
 
   module _ (f mid g : FilesState) (text : List ℕ) (m : ModelTree) (was : WasRead (model_file model) text f mid) (is : IsOnlyModel text m) (opened : g.opens ≡ raised mid.opens) where
     twice : g.opens ≡ raised (raised f.opens)
