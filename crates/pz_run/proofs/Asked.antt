@@ -6,7 +6,7 @@ use Rattle.pz_words.specs.Jobs.{Asks, IsAsked}
 use Rattle.pz_words.specs.Jobs as jobs
 use Rattle.pz_words.specs.devices.Reading.{job_in}
 use Rattle.pz_run.specs.declared.status.Status.{Status}
-use Rattle.pz_run.specs.Words.{but_replay, asked}
+use Rattle.pz_run.specs.Words.{asked}
 use Rattle.pz_run.specs.devices.Words.{HasRingSize}
 use Rattle.pz_run.specs.devices.Keeping.{KeepsPromises}
 
@@ -17,9 +17,9 @@ one_asked words None None a b = refl
 
 -- what is kept of the job that was found is kept of the one that was asked for
 pub keeps_asked : (words : List (List ℕ)) (found : Option Job) → IsAsked words found → IsAsked words (job_in words)
-    → (f g : FilesState) (before now : SinkState) (given : Status) → KeepsPromises (but_replay found) f g before now given → KeepsPromises (asked words) f g before now given
+    → (f g : FilesState) (before now : SinkState) (given : Status) → KeepsPromises found f g before now given → KeepsPromises (asked words) f g before now given
 keeps_asked words found is computed f g before now given kept =
-    subst (λ (a : Option Job). KeepsPromises (but_replay a) f g before now given) (one_asked words found (job_in words) is computed) kept
+    subst (λ (a : Option Job). KeepsPromises a f g before now given) (one_asked words found (job_in words) is computed) kept
 
 sized : (words : List (List ℕ)) (job : Job) → Asks words job → HasRingSize job
 sized _ _ (jobs.run model options o is are) = tt

@@ -9,9 +9,10 @@ use Rattle.pz_run.specs.Promises as promises
 pub only_usage : (a : Option Job) (s : Status) → CanEnd a s → a ≡ None → s ≢ WriteFault → s ≢ NoMemory → s ≡ Usage
 only_usage _ _ promises.usage none no_fault no_want = refl
 only_usage _ _ (promises.done job) none no_fault no_want = cc
-only_usage _ _ (promises.deadlock job p is) none no_fault no_want = cc
-only_usage _ _ (promises.model_fault job p is) none no_fault no_want = cc
+only_usage _ _ (promises.deadlock job has) none no_fault no_want = cc
+only_usage _ _ (promises.model_fault job has) none no_fault no_want = cc
 only_usage _ _ (promises.choice_refused job p is) none no_fault no_want = cc
+only_usage _ _ (promises.trace_refused model trace units) none no_fault no_want = cc
 only_usage _ _ (promises.model_refused job has) none no_fault no_want = cc
 only_usage _ _ (promises.too_long job file among) none no_fault no_want = cc
 only_usage _ _ (promises.read_fault job file among) none no_fault no_want = cc
@@ -21,9 +22,10 @@ only_usage _ _ (promises.no_memory a) none no_fault no_want = absurd (no_want re
 pub no_usage : (a : Option Job) (s : Status) → CanEnd a s → s ≡ Usage → a ≡ None
 no_usage _ _ promises.usage is = refl
 no_usage _ _ (promises.done job) is = cc
-no_usage _ _ (promises.deadlock job p asked) is = cc
-no_usage _ _ (promises.model_fault job p asked) is = cc
+no_usage _ _ (promises.deadlock job has) is = cc
+no_usage _ _ (promises.model_fault job has) is = cc
 no_usage _ _ (promises.choice_refused job p asked) is = cc
+no_usage _ _ (promises.trace_refused model trace units) is = cc
 no_usage _ _ (promises.model_refused job has) is = cc
 no_usage _ _ (promises.too_long job file among) is = cc
 no_usage _ _ (promises.read_fault job file among) is = cc

@@ -1,17 +1,18 @@
 -- The promises of the top call, from what was to be said and that it was said.
-use Rattle.std.proofs.Common.{◌≡◌, ◌≢◌, ◌⊎◌, inl, inr, ⊎_elim, ℕ, List, [], ◌++◌, true, Option, Some, None, length, sym, subst, ap, ◌∙◌, refl, arith}
-use Rattle.pz_io.specs.Outside.{FilesState, SinkState, Rose}
+use Rattle.std.proofs.Common.{◌≡◌, ◌≢◌, ◌⊎◌, ◌<◌, ◌≤◌, ◌+◌, ◌-◌, ◌^◌, inl, inr, ⊎_elim, ℕ, List, [], ◌++◌, true, Option, Some, None, length, sym, subst, ap, ◌∙◌, refl, arith}
+use Rattle.std.proofs.Math.Nat.{min-le_left}
+use Rattle.pz_io.specs.Outside.{FilesState, SinkState, raised, Rose}
 use Rattle.pz_writing.specs.Writing.{TookFront}
 use Rattle.pz_offer.specs.declared.trouble.Trouble.{Trouble}
 use Rattle.pz_rules.specs.Runs.{Ending, deadlocked, troubled, refused}
 use Rattle.pz_words.specs.declared.jobs.Job.{Job}
 use Rattle.pz_report.specs.Lines.{usage_line, read_fault_line}
 use Rattle.pz_run.specs.declared.status.Status.{Status}
-use Rattle.pz_run.specs.declared.status.Status.TheVariants.{Deadlock, Usage, ModelRefused, ModelFault, ChoiceRefused, TooLong, ReadFault, WriteFault, NoMemory}
+use Rattle.pz_run.specs.declared.status.Status.TheVariants.{Deadlock, Usage, ModelRefused, ModelFault, ChoiceRefused, TraceRefused, TooLong, ReadFault, WriteFault, NoMemory}
 use Rattle.pz_run.specs.Files.{JobFile, files_of}
 use Rattle.pz_run.specs.Status.{status_of}
 use Rattle.pz_run.specs.Output.{Prints, usage}
-use Rattle.pz_run.specs.Promises.{OpensFiles, OpensLast, IsPastLimit, Lacks, IsLonger, IsNoModel, RunEnds, CanEnd}
+use Rattle.pz_run.specs.Promises.{OpensFiles, OpensLast, IsPastLimit, Lacks, IsLonger, IsNoModel, HasModelText, RunEnds, IsNoTrace, CanEnd}
 use Rattle.pz_run.specs.Promises as promises
 use Rattle.pz_run.specs.devices.Keeping.{KeepsPromises}
 use Rattle.pz_run.specs.devices.Saying.{Said, NothingWritten}
@@ -35,6 +36,9 @@ pub record Wants (a : Option Job) (f g : FilesState) (bytes : List ℕ) (wanted 
   pub model_fault : f.told ≡ true → wanted ≡ ModelFault → (trouble : Trouble) × RunEnds a f.held (troubled trouble)
   pub choice_refused : f.told ≡ true → wanted ≡ ChoiceRefused → (entry : ℕ) × (count : ℕ) × RunEnds a f.held (refused entry count)
   pub run_end : (ending : Ending) → RunEnds a f.held ending → f.told ≡ true → ¬ ((wanted ≡ ReadFault) × Rose f.faults g.faults) → wanted ≡ status_of ending
+  pub trace_refused : f.told ≡ true → wanted ≡ TraceRefused → IsNoTrace a f.held
+  pub no_trace : IsNoTrace a f.held → f.told ≡ true → ¬ ((wanted ≡ ReadFault) × Rose f.faults g.faults) → wanted ≡ TraceRefused
+  pub trace_opened : f.told ≡ true → f.opens + 1 < g.opens → HasModelText a f.held
   pub too_long : wanted ≡ TooLong → IsPastLimit (files_of a) f g
   pub longer : f.told ≡ true → wanted ≡ TooLong → IsLonger (files_of a) f.held
   pub read_cause : wanted ≡ ReadFault → Rose f.faults g.faults ⊎ ((f.told ≡ true) × Lacks (files_of a) f.held)
@@ -72,6 +76,10 @@ module _ (a : Option Job) (f g : FilesState) (before now : SinkState) (bytes : L
     choice_refused = λ told is. wants.choice_refused told (is_wanted ChoiceRefused is (λ e. cc) (λ e. cc));
     run_end = λ ending ends told no_fault no_want unless.
         let same = said.is_wanted no_fault no_want in same ∙ wants.run_end ending ends told (λ both. unless (same ∙ both.0, both.1));
+    trace_refused = λ told is. wants.trace_refused told (is_wanted TraceRefused is (λ e. cc) (λ e. cc));
+    no_trace = λ none told no_fault no_want unless.
+        let same = said.is_wanted no_fault no_want in same ∙ wants.no_trace none told (λ both. unless (same ∙ both.0, both.1));
+    trace_opened = wants.trace_opened;
     too_long = λ is. wants.too_long (is_wanted TooLong is (λ e. cc) (λ e. cc));
     longer = λ told is. wants.longer told (is_wanted TooLong is (λ e. cc) (λ e. cc));
     read_cause = λ is. wants.read_cause (is_wanted ReadFault is (λ e. cc) (λ e. cc));
@@ -79,8 +87,9 @@ module _ (a : Option Job) (f g : FilesState) (before now : SinkState) (bytes : L
   }
 
 -- memory was wanting before anything was said
-pub keeps_nothing : (a : Option Job) (f g : FilesState) (before now : SinkState) (given : Status) → OpensFiles (files_of a) f g given → NothingWritten before now given → KeepsPromises a f g before now given
-keeps_nothing a f g before now given opens none = record {
+pub keeps_nothing : (a : Option Job) (f g : FilesState) (before now : SinkState) (given : Status) → OpensFiles (files_of a) f g given → (f.told ≡ true → f.opens + 1 < g.opens → HasModelText a f.held)
+    → NothingWritten before now given → KeepsPromises a f g before now given
+keeps_nothing a f g before now given opens accepted none = record {
   output = λ _ _ no_want _. absurd (no_want none.wanting);
   read_fault = λ is _. absurd (other ReadFault is (λ e. cc));
   opens = opens;
@@ -91,6 +100,9 @@ keeps_nothing a f g before now given opens none = record {
   model_fault = λ _ is. absurd (other ModelFault is (λ e. cc));
   choice_refused = λ _ is. absurd (other ChoiceRefused is (λ e. cc));
   run_end = λ _ _ _ _ no_want _. absurd (no_want none.wanting);
+  trace_refused = λ _ is. absurd (other TraceRefused is (λ e. cc));
+  no_trace = λ _ _ _ no_want _. absurd (no_want none.wanting);
+  trace_opened = accepted;
   too_long = λ is. absurd (other TooLong is (λ e. cc));
   longer = λ _ is. absurd (other TooLong is (λ e. cc));
   read_cause = λ is. absurd (other ReadFault is (λ e. cc));
@@ -113,6 +125,17 @@ none_opened files f s none = record {
 pub not_opened : (files : List JobFile) (f : FilesState) → OpensFiles files f f NoMemory
 not_opened files f = record { count = 0; within = omega arith; first = λ ample _. absurd (ample refl); opened = refl }
 
+-- a count that was raised once has not risen by more than one
+
+raised_little : (n : ℕ) → raised n ≤ n + 1
+raised_little n = min-le_left (n + 1) (2 ^ 64 - 1)
+
+pub opened_once : {X : Type 0} (f g : FilesState) → g.opens ≡ raised f.opens → f.opens + 1 < g.opens → X
+opened_once f g once many = absurd (omega (arith, raised_little f.opens, once, many))
+
+pub opened_never : {X : Type 0} (count : ℕ) → count + 1 < count → X
+opened_never count many = absurd (omega (arith, many))
+
 no_job : (job : Job) → None ≡ Some job → ⊥
 no_job job e = cc
 
@@ -122,6 +145,9 @@ keeps_usage f before now given said = keeps None f f before now usage_line Usage
   where
     no_run : (ending : Ending) → RunEnds None f.held ending → ⊥
     no_run ending ends = no_job ends.job ends.is_asked
+
+    no_trace : IsNoTrace None f.held → ⊥
+    no_trace none = no_job none.job none.is_asked
 
     wants : Wants None f f usage_line Usage
     wants = record {
@@ -135,6 +161,9 @@ keeps_usage f before now given said = keeps None f f before now usage_line Usage
       model_fault = λ _ is. cc;
       choice_refused = λ _ is. cc;
       run_end = λ ending ends _ _. absurd (no_run ending ends);
+      trace_refused = λ _ is. cc;
+      no_trace = λ none _ _. absurd (no_trace none);
+      trace_opened = λ _ many. opened_never f.opens many;
       too_long = λ is. cc;
       longer = λ _ is. cc;
       read_cause = λ is. cc;

@@ -6,6 +6,9 @@ pub mod RingLength
 pub mod Unread
 pub mod CanEnds
 pub mod Keeps
+pub mod Outcomes
 pub mod OneFiles
 pub mod OfJobs
+pub mod OneEndings
+pub mod Replayed
 pub mod Asked

@@ -6,7 +6,7 @@ use Rattle.pz_rules.specs.Runs.{Ending}
 use Rattle.pz_words.specs.declared.jobs.Choice.{Choice}
 use Rattle.pz_words.specs.declared.jobs.RunLimits.{RunLimits}
 use Rattle.pz_words.specs.declared.jobs.Job.{Job}
-use Rattle.pz_words.specs.declared.jobs.Job.TheVariants.{Run, Menu, Check, Make, Ring}
+use Rattle.pz_words.specs.declared.jobs.Job.TheVariants.{Run, Menu, Replay, Check, Make, Ring}
 use Rattle.pz_gen.specs.Ring.{model as ring_text}
 use Rattle.pz_reading.specs.Models.{IsModelOf}
 use Rattle.pz_report.specs.Lines.{read_fault_line, too_long_line}
@@ -19,40 +19,49 @@ use Rattle.pz_run.specs.Files.{model_file, files_of}
 use Rattle.pz_run.specs.Status.{status_of}
 use Rattle.pz_run.specs.Plays.{play, play_of, telling_when}
 use Rattle.pz_run.specs.Output.{PrintsRun, plays, PrintsSize, accepts, makes, PrintsModel, refuses, of_model, PrintsFile, lacks, too_long, reads, PrintsModelFile, PrintsJob, does}
-use Rattle.pz_run.specs.Promises.{HasModel, model_name, IsTextFor, of_ring, HasEnding, RunEnds}
+use Rattle.pz_run.specs.Promises.{HasModel, model_name, IsTextFor, of_ring, ChosenEnds, HasTrace, ToldEnds, HasEnding, of_choice, of_trace, RunEnds, TellsNoRun, IsNoTrace}
 use Rattle.pz_run.specs.Promises as promises
 use Rattle.pz_run.specs.devices.Keeping.{KeepsPromises}
 use Rattle.pz_run.specs.devices.Reading.{ReadsFile}
 use Rattle.pz_run.specs.devices.Saying.{Said, Answers}
 use Rattle.pz_run.specs.devices.Texts.{EndsOnlySo, PrintsPlay, PrintsCheck}
 use Rattle.pz_run.proofs.OneEnd.{some_is}
-use Rattle.pz_run.proofs.Keeps.{Wants, keeps, keeps_nothing, none_opened}
-use Rattle.pz_run.proofs.OneFiles.{Outcome, no_model, run_ended, checked, EndsText, ends_text, EndsOfText, run_in, ring_in, OneFile, keeps_file}
+use Rattle.pz_run.proofs.Keeps.{Wants, keeps, keeps_nothing, none_opened, opened_never}
+use Rattle.pz_run.proofs.Outcomes.{chosen_can, Outcome, no_model, run_ended, checked, EndsText, ends_text, OfText, run_in, none_in, ring_in}
+use Rattle.pz_run.proofs.OneFiles.{OneFile, keeps_file}
 
 -- ---- what is printed of a file
 
 module _ (files : Entries) (name : List ℕ) (P : ModelTree → List ℕ → Status → Type 0) where
-  file_lacks : lookup files name ≡ None → PrintsModelFile files name P (read_fault_line name) ReadFault
+  pub file_lacks : lookup files name ≡ None → PrintsModelFile files name P (read_fault_line name) ReadFault
   file_lacks missing = subst (λ (o : Option (List ℕ)). PrintsFile (model_file name) (PrintsModel P) o (read_fault_line name) ReadFault) (sym missing) lacks
 
-  file_long : (text : List ℕ) → lookup files name ≡ Some text → MODEL_LIMIT < length text → PrintsModelFile files name P (too_long_line name) TooLong
+  pub file_long : (text : List ℕ) → lookup files name ≡ Some text → MODEL_LIMIT < length text → PrintsModelFile files name P (too_long_line name) TooLong
   file_long text held long = subst (λ (o : Option (List ℕ)). PrintsFile (model_file name) (PrintsModel P) o (too_long_line name) TooLong) (sym held) (too_long text long)
 
-  file_read : (text bytes : List ℕ) (status : Status) → lookup files name ≡ Some text → length text ≤ MODEL_LIMIT → PrintsModel P text bytes status → PrintsModelFile files name P bytes status
+  pub file_read : (text bytes : List ℕ) (status : Status) → lookup files name ≡ Some text → length text ≤ MODEL_LIMIT → PrintsModel P text bytes status → PrintsModelFile files name P bytes status
   file_read text bytes status held short prints = subst (λ (o : Option (List ℕ)). PrintsFile (model_file name) (PrintsModel P) o bytes status) (sym held) (reads text bytes status short prints)
 
 -- ---- runs
 
+none_played : (model name : List ℕ) (units : ℕ) (p : Play) → play_of (Replay model name units) ≡ Some p → ⊥
+none_played model name units p e = cc
+
 module _ (job : Job) (p : Play) (is_play : play_of job ≡ Some p) (text : List ℕ) where
-  run_outcome : (m : ModelTree) (bytes : List ℕ) (status : Status) → IsModelOf text m → PrintsRun p m bytes status → Outcome job text status
-  run_outcome m _ _ is (plays run told tells) = run_ended run.ending (record { play = p; is_play = is_play; model = m; is_model = is; run = run; ends = refl })
+  run_outcome : (f : FilesState) (m : ModelTree) (bytes : List ℕ) (status : Status) → IsModelOf text m → PrintsRun p m bytes status → Outcome f job text status
+  run_outcome f m _ _ is (plays run told tells) =
+      run_ended run.ending (chosen_can job p is_play run.ending) (λ _. of_choice (record { play = p; is_play = is_play; model = m; is_model = is; run = run; ends = refl }))
 
-  play_outcome : (bytes : List ℕ) (status : Status) → PrintsModel (PrintsRun p) text bytes status → Outcome job text status
-  play_outcome _ _ (refuses r is) = no_model r is
-  play_outcome _ _ (of_model m bytes status is prints) = run_outcome m bytes status is prints
+  play_outcome : (f : FilesState) (bytes : List ℕ) (status : Status) → PrintsModel (PrintsRun p) text bytes status → Outcome f job text status
+  play_outcome f _ _ (refuses r is) = no_model r is
+  play_outcome f _ _ (of_model m bytes status is prints) = run_outcome f m bytes status is prints
 
-  play_only : (status : Status) → EndsOnlySo p text status → (ending : Ending) → HasEnding job text ending → status ≡ status_of ending
-  play_only status only ending x =
+  no_trace : {X : Type 0} (held : Entries) → HasTrace held job text → X
+  no_trace held x = absurd (none_played x.model_word x.trace_word x.units p (ap play_of (sym x.is_replay) ∙ is_play))
+
+  play_only : (held : Entries) (status : Status) → EndsOnlySo p text status → (ending : Ending) → HasEnding held job text ending → status ≡ status_of ending
+  play_only held status only ending (of_trace x) = no_trace held x.replay
+  play_only held status only ending (of_choice x) =
       let same : p ≡ x.play = some_is p x.play (sym is_play ∙ x.is_play) in
       let other : EndsOnlySo x.play text status = subst (λ (q : Play). EndsOnlySo q text status) same only in
       other x.model x.is_model x.run ∙ ap status_of x.ends
@@ -62,14 +71,16 @@ plays_file : (job : Job) (name : List ℕ) (p : Play) → files_of (Some job) �
     → ((held : Entries) (bytes : List ℕ) (status : Status) → PrintsModelFile held name (PrintsRun p) bytes status → PrintsJob held job bytes status)
     → OneFile job name (PrintsPlay p)
 plays_file job name p files has named is_play prints = record {
+  more = [];
   files = files;
   has = has;
   named = named;
   lacks = λ held missing. prints held (read_fault_line name) ReadFault (file_lacks held name (PrintsRun p) missing);
   long = λ held text is long. prints held (too_long_line name) TooLong (file_long held name (PrintsRun p) text is long);
   reads = λ held text bytes status is short x. prints held bytes status (file_read held name (PrintsRun p) text bytes status is short x.prints);
-  outcome = λ text bytes status x. play_outcome job p is_play text bytes status x.prints;
-  only = λ text bytes status x. play_only job p is_play text status x.only;
+  outcome = λ f text bytes status x. play_outcome job p is_play text f bytes status x.prints;
+  only = λ held text bytes status x. play_only job p is_play text held status x.only;
+  no_run = λ held text bytes status x none. no_trace job p is_play text held none.replay;
 }
 
 module _ (f g : FilesState) (before now : SinkState) (given : Status) where
@@ -92,23 +103,34 @@ module _ (f g : FilesState) (before now : SinkState) (given : Status) where
 no_play : (model : List ℕ) (p : Play) → play_of (Check model) ≡ Some p → ⊥
 no_play model p e = cc
 
-size_outcome : (job : Job) (text : List ℕ) (m : ModelTree) (bytes : List ℕ) (status : Status) → PrintsSize m bytes status → Outcome job text status
-size_outcome job text m _ _ (accepts processes wires is) = checked
+size_outcome : (f : FilesState) (job : Job) (text : List ℕ) (m : ModelTree) (bytes : List ℕ) (status : Status) → PrintsSize m bytes status → Outcome f job text status
+size_outcome f job text m _ _ (accepts processes wires is) = checked
 
-check_outcome : (job : Job) (text bytes : List ℕ) (status : Status) → PrintsCheck text bytes status → Outcome job text status
-check_outcome job text _ _ (refuses r is) = no_model r is
-check_outcome job text _ _ (of_model m bytes status is prints) = size_outcome job text m bytes status prints
+check_outcome : (f : FilesState) (job : Job) (text bytes : List ℕ) (status : Status) → PrintsCheck text bytes status → Outcome f job text status
+check_outcome f job text _ _ (refuses r is) = no_model r is
+check_outcome f job text _ _ (of_model m bytes status is prints) = size_outcome f job text m bytes status prints
+
+-- neither a check nor a ring that is made has a run
+
+check_told : {X : Type 0} (model : List ℕ) (held : Entries) (text : List ℕ) → HasTrace held (Check model) text → X
+check_told model held text x = let same : Check model ≡ Replay x.model_word x.trace_word x.units = x.is_replay in cc
+
+check_ended : {X : Type 0} (model : List ℕ) (held : Entries) (text : List ℕ) (e : Ending) → HasEnding held (Check model) text e → X
+check_ended model held text e (of_choice x) = absurd (no_play model x.play x.is_play)
+check_ended model held text e (of_trace x) = check_told model held text x.replay
 
 checks_file : (model : List ℕ) → OneFile (Check model) model PrintsCheck
 checks_file model = record {
+  more = [];
   files = refl;
   has = tt;
   named = refl;
   lacks = λ held missing. file_lacks held model PrintsSize missing;
   long = λ held text is long. file_long held model PrintsSize text is long;
   reads = λ held text bytes status is short prints. file_read held model PrintsSize text bytes status is short prints;
-  outcome = λ text bytes status prints. check_outcome (Check model) text bytes status prints;
-  only = λ text bytes status prints ending x. absurd (no_play model x.play x.is_play);
+  outcome = λ f text bytes status prints. check_outcome f (Check model) text bytes status prints;
+  only = λ held text bytes status prints e x. check_ended model held text e x;
+  no_run = λ held text bytes status prints none. check_told model held text none.replay;
 }
 
 pub keeps_check : (f g : FilesState) (before now : SinkState) (given : Status) (model : List ℕ) → ReadsFile (model_file model) PrintsCheck f g before now given → KeepsPromises (Some (Check model)) f g before now given
@@ -119,13 +141,17 @@ keeps_check f g before now given model done = keeps_file (Check model) model Pri
 no_run : (n : ℕ) (p : Play) → play_of (Make n) ≡ Some p → ⊥
 no_run n p e = cc
 
+make_told : {X : Type 0} (n : ℕ) (held : Entries) (text : List ℕ) → HasTrace held (Make n) text → X
+make_told n held text x = let same : Make n ≡ Replay x.model_word x.trace_word x.units = x.is_replay in cc
+
+make_ended : {X : Type 0} (n : ℕ) (held : Entries) (text : List ℕ) (e : Ending) → HasEnding held (Make n) text e → X
+make_ended n held text e (of_choice x) = absurd (no_run n x.play x.is_play)
+make_ended n held text e (of_trace x) = make_told n held text x.replay
+
 module _ (f : FilesState) (before now : SinkState) (given : Status) where
   pub keeps_make : (n : ℕ) → Said before now (ring_text n) Done given → KeepsPromises (Some (Make n)) f f before now given
   keeps_make n said = keeps (Some (Make n)) f f before now (ring_text n) Done given wants said
     where
-      no_end : (ending : Ending) → RunEnds (Some (Make n)) f.held ending → ⊥
-      no_end ending ends = let x = run_in f.held (Make n) ending ends in no_run n x.has_ending.play x.has_ending.is_play
-
       wants : Wants (Some (Make n)) f f (ring_text n) Done
       wants = record {
         prints = λ _ _. does (Make n) (ring_text n) Done makes;
@@ -137,7 +163,10 @@ module _ (f : FilesState) (before now : SinkState) (given : Status) where
         deadlock = λ _ is. cc;
         model_fault = λ _ is. cc;
         choice_refused = λ _ is. cc;
-        run_end = λ ending ends _ _. absurd (no_end ending ends);
+        run_end = λ e ends _ _. let x = run_in f.held (Make n) e ends in make_ended n f.held x.text e x.holds;
+        trace_refused = λ _ is. cc;
+        no_trace = λ none _ _. let x = none_in f.held (Make n) none in make_told n f.held x.text x.holds.replay;
+        trace_opened = λ _ many. opened_never f.opens many;
         too_long = λ is. cc;
         longer = λ _ is. cc;
         read_cause = λ is. cc;
@@ -155,7 +184,10 @@ module _ (f : FilesState) (before now : SinkState) (given : Status) where
       deadlock = end.deadlock;
       model_fault = end.model_fault;
       choice_refused = end.choice_refused;
-      run_end = λ ending ends _ _. same_end ending (run_in f.held job ending ends);
+      run_end = λ e ends _ _. play_only job p refl (ring_text n) f.held wanted x.only e (same_text (λ j t. HasEnding f.held j t e) (run_in f.held job e ends));
+      trace_refused = end.trace_refused;
+      no_trace = λ none _ _. no_trace job p refl (ring_text n) f.held (same_text (λ j t. TellsNoRun f.held j t) (none_in f.held job none)).replay;
+      trace_opened = λ _ many. opened_never f.opens many;
       too_long = λ is. absurd (end.not_long is);
       longer = λ _ is. absurd (end.not_long is);
       read_cause = λ is. absurd (end.no_fault is);
@@ -168,13 +200,11 @@ module _ (f : FilesState) (before now : SinkState) (given : Status) where
         job = Ring n choice limits
 
         end : EndsText job tt (ring_text n) f (λ _. of_ring job n refl) wanted
-        end = ends_text job tt (ring_text n) f (λ _. of_ring job n refl) wanted (play_outcome job p refl (ring_text n) bytes wanted x.prints)
+        end = ends_text job tt (ring_text n) f (λ _. of_ring job n refl) wanted (play_outcome job p refl (ring_text n) f bytes wanted x.prints)
 
-        same_end : (ending : Ending) → EndsOfText f.held job ending → wanted ≡ status_of ending
-        same_end ending y =
-            let same : y.text ≡ ring_text n = ring_in f.held job y.text y.is_text n refl in
-            play_only job p refl (ring_text n) wanted x.only ending (subst (λ (t : List ℕ). HasEnding job t ending) same y.has_ending)
+        same_text : (Q : Job → List ℕ → Type 0) → OfText f.held job Q → Q job (ring_text n)
+        same_text Q y = subst (λ (t : List ℕ). Q job t) (ring_in f.held job y.text y.is_text n refl) y.holds
 
     pub keeps_ring : Answers (PrintsPlay (play choice limits telling.Summary) (ring_text n)) before now given → KeepsPromises (Some (Ring n choice limits)) f f before now given
-    keeps_ring (inl none) = keeps_nothing (Some (Ring n choice limits)) f f before now given (none_opened [] f given refl) none
+    keeps_ring (inl none) = keeps_nothing (Some (Ring n choice limits)) f f before now given (none_opened [] f given refl) (λ _ many. opened_never f.opens many) none
     keeps_ring (inr says) = keeps (Some (Ring n choice limits)) f f before now says.bytes says.wanted given (ring_wants says.bytes says.wanted says.prints) says.said

@@ -1,5 +1,5 @@
 -- What the program prints for a job and the files, and how it ends: first the model's size, then
--- whether it is refused, then its run or what else is said of it.
+-- whether it is refused, then the size of a trace, then the run or what else is said of the model.
 use Rattle.std.specs.Prelude.{◌<◌, ◌≤◌, ℕ, List, length, Option, Some, None}
 use Rattle.pz_io.specs.Outside.{Entries, lookup}
 use Rattle.pz_syntax.specs.Classes.{ModelTree}
@@ -12,18 +12,26 @@ use Rattle.pz_reading.specs.Refusals.{IsRefused}
 use Rattle.pz_reading.specs.Sizes.{HasSize}
 use Rattle.pz_report.specs.Lines.{usage_line, read_fault_line, too_long_line, accepted_line, model_refused_line}
 use Rattle.pz_playing.specs.Playing.{Tells}
+use Rattle.pz_term.specs.Simulations.{Simulation}
+use Rattle.pz_replaying.specs.declared.replayed.Replayed.{Replayed}
+use Rattle.pz_replaying.specs.Replays.{Replays}
 use Rattle.pz_run.specs.declared.play.Play.{Play}
 use Rattle.pz_run.specs.declared.play.Telling.TheVariants as telling
 use Rattle.pz_run.specs.declared.status.Status.{Status}
 use Rattle.pz_run.specs.declared.status.Status.TheVariants.{Done, Usage, ModelRefused, TooLong, ReadFault}
-use Rattle.pz_run.specs.Files.{JobFile, model_file}
-use Rattle.pz_run.specs.Plays.{play, telling_when, told_of, setting_for, RunOf}
-use Rattle.pz_run.specs.Status.{status_of}
+use Rattle.pz_run.specs.Files.{JobFile, model_file, trace_file}
+use Rattle.pz_run.specs.Plays.{play, telling_when, told_of, setting_with, setting_for, RunOf}
+use Rattle.pz_run.specs.Status.{status_of, replay_status}
 
 -- what is told of the run of a model, and the status of its ending
 pub data PrintsRun (p : Play) (m : ModelTree) : List ℕ → Status → Type 0 where
   plays : (run : RunOf p m) (text : List ℕ) → Tells (setting_for m p) run.events run.end run.ending (told_of p.telling) text
       → PrintsRun p m text (status_of run.ending)
+
+-- what is said of a trace that is held against the runs of a model, with so many units for each evaluation
+pub data PrintsReplay (units : ℕ) (m : ModelTree) (trace : List ℕ) : List ℕ → Status → Type 0 where
+  replays : (text : List ℕ) (outcome : Replayed) (end : Simulation) → Replays (setting_with m units) trace text outcome end
+      → PrintsReplay units m trace text (replay_status outcome)
 
 -- how large the system of a model is
 pub data PrintsSize (m : ModelTree) : List ℕ → Status → Type 0 where
@@ -47,11 +55,14 @@ pub data PrintsFile (file : JobFile) (P : List ℕ → List ℕ → Status → T
 abbrev pub PrintsModelFile : Entries → List ℕ → (ModelTree → List ℕ → Status → Type 0) → List ℕ → Status → Type 0
 PrintsModelFile files name P = PrintsFile (model_file name) (PrintsModel P) (lookup files name)
 
+-- of a model: what is said of the trace in a file
+abbrev pub PrintsTraceFile : Entries → List ℕ → ℕ → ModelTree → List ℕ → Status → Type 0
+PrintsTraceFile files name units m = PrintsFile (trace_file name) (PrintsReplay units m) (lookup files name)
+
 abbrev pub PrintsJob : Entries → Job → List ℕ → Status → Type 0
 PrintsJob files (Run model choice limits summary) = PrintsModelFile files model (PrintsRun (play choice limits (telling_when summary)))
 PrintsJob files (Menu model choice limits) = PrintsModelFile files model (PrintsRun (play choice limits telling.Menu))
--- no replay is done yet
-PrintsJob files (Replay model trace units) = λ bytes status. ⊥
+PrintsJob files (Replay model trace units) = PrintsModelFile files model (PrintsTraceFile files trace units)
 PrintsJob files (Check model) = PrintsModelFile files model PrintsSize
 PrintsJob files (Make n) = PrintsRing n
 PrintsJob files (Ring n choice limits) = PrintsModel (PrintsRun (play choice limits telling.Summary)) (ring_text n)

@@ -1,5 +1,5 @@
 -- The runs that jobs ask for.
-use Rattle.std.specs.Prelude.{Bool, true, false, Option, Some, None}
+use Rattle.std.specs.Prelude.{ℕ, Bool, true, false, Option, Some, None}
 use Rattle.pz_syntax.specs.Classes.{ModelTree}
 use Rattle.pz_rules.specs.Settings.{Setting}
 use Rattle.pz_rules.specs.ChosenRuns.{Policy}
@@ -27,7 +27,7 @@ telling_when false = telling.Trace
 abbrev pub play : Choice → RunLimits → Telling → Play
 play choice limits told = record { choice = choice; limits = limits; telling = told }
 
--- the run that a job asks for, if it asks for one
+-- the run that a job asks for by a choice, if it asks for one
 abbrev pub play_of : Job → Option Play
 play_of (Run model choice limits summary) = Some (play choice limits (telling_when summary))
 play_of (Menu model choice limits) = Some (play choice limits telling.Menu)
@@ -36,9 +36,13 @@ play_of (Check model) = None
 play_of (Make n) = None
 play_of (Ring n choice limits) = Some (play choice limits telling.Summary)
 
--- each evaluation has the units of the job
+-- each evaluation has so many units
+abbrev pub setting_with : ModelTree → ℕ → Setting
+setting_with m units = record { model = m; limits = record { units = units; depth = DEPTH_LIMIT; height = HEIGHT_LIMIT } }
+
+-- those of the job
 abbrev pub setting_for : ModelTree → Play → Setting
-setting_for m p = record { model = m; limits = record { units = p.limits.units; depth = DEPTH_LIMIT; height = HEIGHT_LIMIT } }
+setting_for m p = setting_with m p.limits.units
 
 abbrev pub policy_for : Play → Policy
 policy_for p = policy_of (resolver_of p.choice) p.limits

@@ -7,17 +7,18 @@ use Rattle.pz_syntax.specs.Classes.{ModelTree}
 use Rattle.pz_rules.specs.Runs.{Ending}
 use Rattle.pz_words.specs.declared.jobs.Job.{Job}
 use Rattle.pz_words.specs.declared.jobs.Job.TheVariants.{Run, Menu, Replay, Check, Make, Ring}
+use Rattle.pz_trace.specs.TraceText.{run_ending, IsTrace}
 use Rattle.pz_gen.specs.Ring.{model as ring_text}
 use Rattle.pz_reading.specs.declared.refusal.Refusal.{Refusal}
 use Rattle.pz_reading.specs.Models.{IsModelOf}
 use Rattle.pz_reading.specs.Refusals.{IsRefused}
 use Rattle.pz_report.specs.Lines.{read_fault_line}
-use Rattle.pz_run.specs.declared.limits.TheConstants.{MODEL_LIMIT}
+use Rattle.pz_run.specs.declared.limits.TheConstants.{MODEL_LIMIT, TRACE_LIMIT}
 use Rattle.pz_run.specs.declared.play.Play.{Play}
 use Rattle.pz_run.specs.declared.status.Status.{Status}
-use Rattle.pz_run.specs.declared.status.Status.TheVariants.{Done, Deadlock, Usage, ModelRefused, ModelFault, ChoiceRefused, TooLong, ReadFault, WriteFault, NoMemory}
+use Rattle.pz_run.specs.declared.status.Status.TheVariants.{Done, Deadlock, Usage, ModelRefused, ModelFault, ChoiceRefused, TraceRefused, TooLong, ReadFault, WriteFault, NoMemory}
 use Rattle.pz_run.specs.Files.{JobFile, files_of}
-use Rattle.pz_run.specs.Plays.{play_of, RunOf}
+use Rattle.pz_run.specs.Plays.{play_of, setting_with, RunOf}
 use Rattle.pz_run.specs.Output.{Prints}
 
 -- the status is the one that goes with what is to be printed, which a sink that tells has taken since
@@ -116,8 +117,17 @@ pub record IsNoModel (a : Option Job) (files : Entries) : Type 0 where
   pub refusal : Refusal
   pub is_refused : IsRefused text refusal
 
--- the run of the model of this text, which the job asks for, has this ending
-pub record HasEnding (job : Job) (text : List ℕ) (ending : Ending) : Type 0 where
+-- the text of the model of a job is that of this model
+pub record HasModelText (a : Option Job) (files : Entries) : Type 0 where
+  pub job : Job
+  pub is_asked : a ≡ Some job
+  pub text : List ℕ
+  pub is_text : IsTextFor files job text
+  pub model : ModelTree
+  pub is_model : IsModelOf text model
+
+-- the run of the model of this text that the choice and the limits of the job decide has this ending
+pub record ChosenEnds (job : Job) (text : List ℕ) (ending : Ending) : Type 0 where
   pub play : Play
   pub is_play : play_of job ≡ Some play
   pub model : ModelTree
@@ -125,18 +135,64 @@ pub record HasEnding (job : Job) (text : List ℕ) (ending : Ending) : Type 0 wh
   pub run : RunOf play model
   pub ends : run.ending ≡ ending
 
+-- the trace of a job, which is a replay on the model of this text: that of its file, within the limit
+pub record HasTrace (files : Entries) (job : Job) (text : List ℕ) : Type 0 where
+  pub model_word : List ℕ
+  pub trace_word : List ℕ
+  pub units : ℕ
+  pub is_replay : job ≡ Replay model_word trace_word units
+  pub trace : List ℕ
+  pub held : lookup files trace_word ≡ Some trace
+  pub short : length trace ≤ TRACE_LIMIT
+  pub model : ModelTree
+  pub is_model : IsModelOf text model
+
+-- it is the text of a run of the model
+abbrev pub TellsRun : (files : Entries) (job : Job) (text : List ℕ) → HasTrace files job text → Type 0
+TellsRun files job text x = IsTrace (setting_with x.model x.units) x.trace
+
+-- that run has this ending
+pub record ToldEnds (files : Entries) (job : Job) (text : List ℕ) (ending : Ending) : Type 0 where
+  pub replay : HasTrace files job text
+  pub run : TellsRun files job text replay
+  pub ends : run_ending run.ending ≡ ending
+
+-- the run of the model of this text, which the job asks for, has this ending
+pub data HasEnding (files : Entries) (job : Job) (text : List ℕ) (ending : Ending) : Type 0 where
+  of_choice : ChosenEnds job text ending → HasEnding files job text ending
+  of_trace : ToldEnds files job text ending → HasEnding files job text ending
+
 -- the run that is asked for has this ending
 pub record RunEnds (a : Option Job) (files : Entries) (ending : Ending) : Type 0 where
   pub job : Job
   pub is_asked : a ≡ Some job
   pub text : List ℕ
   pub is_text : IsTextFor files job text
-  pub has_ending : HasEnding job text ending
+  pub has_ending : HasEnding files job text ending
+
+-- the trace of the job is the text of no run of the model of this text
+pub record TellsNoRun (files : Entries) (job : Job) (text : List ℕ) : Type 0 where
+  pub replay : HasTrace files job text
+  pub no_run : TellsRun files job text replay → ⊥
+
+-- the trace that is to be replayed is the text of no run of its model
+pub record IsNoTrace (a : Option Job) (files : Entries) : Type 0 where
+  pub job : Job
+  pub is_asked : a ≡ Some job
+  pub text : List ℕ
+  pub is_text : IsTextFor files job text
+  pub tells_none : TellsNoRun files job text
 
 -- it has a model, which is read or made
 abbrev pub HasModel : Job → Type 0
 HasModel (Make n) = ⊥
 HasModel job = Unit {0}
+
+-- it has a run, which is chosen or told by a trace
+abbrev pub HasRun : Job → Type 0
+HasRun (Check model) = ⊥
+HasRun (Make n) = ⊥
+HasRun job = Unit {0}
 
 -- how a call can end, whatever the files and the sink do
 pub data CanEnd : Option Job → Status → Type 0 where
@@ -144,9 +200,10 @@ pub data CanEnd : Option Job → Status → Type 0 where
   -- at the end of a run, or where it was stopped; or without a run
   done : (job : Job) → CanEnd (Some job) Done
   -- at other ends of runs
-  deadlock : (job : Job) (play : Play) → play_of job ≡ Some play → CanEnd (Some job) Deadlock
-  model_fault : (job : Job) (play : Play) → play_of job ≡ Some play → CanEnd (Some job) ModelFault
+  deadlock : (job : Job) → HasRun job → CanEnd (Some job) Deadlock
+  model_fault : (job : Job) → HasRun job → CanEnd (Some job) ModelFault
   choice_refused : (job : Job) (play : Play) → play_of job ≡ Some play → CanEnd (Some job) ChoiceRefused
+  trace_refused : (model trace : List ℕ) (units : ℕ) → CanEnd (Some (Replay model trace units)) TraceRefused
   model_refused : (job : Job) → HasModel job → CanEnd (Some job) ModelRefused
   too_long : (job : Job) (file : JobFile) → Contains (files_of (Some job)) file → CanEnd (Some job) TooLong
   read_fault : (job : Job) (file : JobFile) → Contains (files_of (Some job)) file → CanEnd (Some job) ReadFault

@@ -1,6 +1,9 @@
 -- How the program ends.
 use Rattle.std.specs.Prelude.{ℕ}
 use Rattle.pz_rules.specs.Runs.{Ending, ended, deadlocked, troubled, halted, refused}
+use Rattle.pz_trace.specs.TraceText.{run_ending}
+use Rattle.pz_replaying.specs.declared.replayed.Replayed.{Replayed}
+use Rattle.pz_replaying.specs.declared.replayed.Replayed.TheVariants as replayed
 use Rattle.pz_run.specs.declared.status.Status.{Status}
 use Rattle.pz_run.specs.declared.status.Status.TheVariants.{Done, Deadlock, Usage, ModelRefused, ModelFault, ChoiceRefused, TraceRefused, TooLong, ReadFault, WriteFault, NoMemory}
 
@@ -25,3 +28,8 @@ status_of deadlocked = Deadlock
 status_of (troubled trouble) = ModelFault
 status_of halted = Done
 status_of (refused entry count) = ChoiceRefused
+
+-- that of a replay: where the trace is that of a run, the status of its ending
+abbrev pub replay_status : Replayed → Status
+replay_status (replayed.Ended ending) = status_of (run_ending ending)
+replay_status (replayed.Refused line) = TraceRefused

@@ -3,4 +3,5 @@ pub mod Halting
 pub mod Saying
 pub mod Texts
 pub mod Reading
+pub mod Replaying
 pub mod Keeping

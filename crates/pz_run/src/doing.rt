@@ -1,23 +1,21 @@
 // Jobs.
 ghost use Rattle.std.specs.Prelude.{Some};
-ghost use Rattle.pz_run.specs.Words.{but_replay};
 ghost use Rattle.pz_run.specs.devices.Words.{HasRingSize};
 ghost use Rattle.pz_run.specs.devices.Keeping.{KeepsPromises};
 
 use crate::Status;
 use crate::files::{check_file, run_file};
 use crate::play::{Play, Telling};
-use crate::printing::say;
+use crate::replaying::replay_file;
 use crate::rings::{make_ring, run_ring};
 use pz_io::{Files, Sink};
-use pz_report::usage_line;
 use pz_words::Job;
 use std::alloc::Global;
 
 /// Does the job, over the files, and prints to the sink.
 pub fn do_job<F: Files, W: Sink>(alloc: Global, job: Job, files: &mut F, out: &mut W) -> Status
     requires { HasRingSize job }
-    ensures { KeepsPromises (but_replay (Some job)) (F.state files.old) (F.state files.new) (W.state out.old) (W.state out.new) result }
+    ensures { KeepsPromises (Some job) (F.state files.old) (F.state files.new) (W.state out.old) (W.state out.new) result }
 {
     match job {
         Job::Run {
@@ -46,6 +44,11 @@ pub fn do_job<F: Files, W: Sink>(alloc: Global, job: Job, files: &mut F, out: &m
             };
             run_file(alloc, model.as_str(), menu, files, out)
         }
+        Job::Replay {
+            model,
+            trace,
+            units,
+        } => replay_file(alloc, model.as_str(), trace.as_str(), units, files, out),
         Job::Check { model } => check_file(alloc, model.as_str(), files, out),
         Job::Make { n } => make_ring(alloc, n, out),
         Job::Ring { n, choice, limits } => {
@@ -56,7 +59,5 @@ pub fn do_job<F: Files, W: Sink>(alloc: Global, job: Job, files: &mut F, out: &m
             };
             run_ring(alloc, n, run, out)
         }
-        // Not done yet.
-        Job::Replay { .. } => say(out, usage_line(), Status::Usage),
     }
 }

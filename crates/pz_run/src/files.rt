@@ -1,4 +1,4 @@
-// What is done with the file of a model.
+// What is done with the one file of a job, which is that of a model.
 ghost use Rattle.pz_run.specs.Files.{model_file};
 ghost use Rattle.pz_run.specs.devices.Reading.{ReadsFile, SaysUnread};
 ghost use Rattle.pz_run.specs.devices.Texts.{PrintsPlay, PrintsCheck};
@@ -43,8 +43,13 @@ pub fn check_file<F: Files, W: Sink>(
     }
 }
 
-// Says why a file was not read.
-fn say_unread<W: Sink>(alloc: Global, error: ReadError, name: &str, out: &mut W) -> Status
+/// Says why a file was not read.
+pub(crate) fn say_unread<W: Sink>(
+    alloc: Global,
+    error: ReadError,
+    name: &str,
+    out: &mut W,
+) -> Status
     ensures { SaysUnread error name.now (W.state out.old) (W.state out.new) result }
 {
     match error {

@@ -3,12 +3,15 @@
 
 mod doing;
 mod files;
+mod laws;
 mod limits;
 mod play;
 mod playing;
 mod printing;
 mod program;
+mod replaying;
 mod rings;
+mod starting;
 mod status;
 mod texts;
 

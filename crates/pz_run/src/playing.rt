@@ -1,7 +1,6 @@
 // Runs of models.
 ghost use Rattle.pz_syntax.specs.Classes.{ModelTree};
 ghost use Rattle.pz_classes.specs.CheckedView.{checked_model};
-ghost use Rattle.pz_bind.specs.NetView.{IsNet};
 ghost use Rattle.pz_rules.specs.Settings.{Setting};
 ghost use Rattle.pz_term.specs.Simulations.{Starts};
 ghost use Rattle.pz_term.specs.Plains.{simulation_of};
@@ -11,13 +10,12 @@ ghost use Rattle.pz_run.specs.Output.{PrintsRun};
 ghost use Rattle.pz_run.specs.devices.Saying.{Says, Answers};
 
 use crate::Status;
-use crate::limits::{DEPTH_LIMIT, HEIGHT_LIMIT};
 use crate::play::{Play, Telling};
-use pz_bind::Net;
+use crate::starting::start;
 use pz_classes::Checked;
 use pz_io::Sink;
 use pz_playing::{Finale, play_menu, play_summary, play_trace};
-use pz_term::{Limits, Plain};
+use pz_term::Plain;
 use pz_writing::Halt;
 use std::alloc::Global;
 use std::mem::drop;
@@ -60,23 +58,7 @@ fn play_plain<W: Sink>(alloc: Global, mut plain: Plain, play: Play, out: &mut W)
 pub fn run_model<W: Sink>(alloc: Global, checked: Checked, play: Play, out: &mut W) -> Status
     ensures { Answers (PrintsRun play (checked_model checked)) (W.state out.old) (W.state out.new) result }
 {
-    match Net::flatten(alloc, &checked) {
-        Ok(net) => run_net(alloc, checked, net, play, out),
-        Err(_) => Status::NoMemory,
-    }
-}
-
-// The same of a model whose net this is.
-fn run_net<W: Sink>(alloc: Global, checked: Checked, net: Net, play: Play, out: &mut W) -> Status
-    requires of_model { ∥ IsNet (checked_model checked) net ∥₁ }
-    ensures { Answers (PrintsRun play (checked_model checked)) (W.state out.old) (W.state out.new) result }
-{
-    let limits = Limits {
-        units: play.limits.units,
-        depth: DEPTH_LIMIT,
-        height: HEIGHT_LIMIT,
-    };
-    match Plain::start(alloc, checked, net, limits) {
+    match start(alloc, checked, play.limits.units) {
         Ok(plain) => play_plain(alloc, plain, play, out),
         Err(_) => Status::NoMemory,
     }

@@ -1,12 +1,12 @@
 // The top call.
-ghost use Rattle.std.specs.Prelude.{◌≡◌, ◌≢◌, ◌⊎◌, ℕ, true, None, map, string_bytes};
+ghost use Rattle.std.specs.Prelude.{◌≡◌, ◌≢◌, ◌⊎◌, ◌<◌, ◌+◌, ℕ, true, None, map, string_bytes};
 ghost use Rattle.pz_io.specs.Outside.{Rose};
 ghost use Rattle.pz_offer.specs.declared.trouble.Trouble.{Trouble};
 ghost use Rattle.pz_rules.specs.Runs.{Ending, deadlocked, troubled, refused};
 ghost use Rattle.pz_run.specs.Words.{asked};
 ghost use Rattle.pz_run.specs.Files.{files_of};
 ghost use Rattle.pz_run.specs.Status.{status_of};
-ghost use Rattle.pz_run.specs.Promises.{PrintsAll, PrintsFront, OpensFiles, SaysFault, IsPastLimit, Lacks, IsLonger, IsNoModel, RunEnds, CanEnd};
+ghost use Rattle.pz_run.specs.Promises.{PrintsAll, PrintsFront, OpensFiles, SaysFault, IsPastLimit, Lacks, IsLonger, IsNoModel, HasModelText, RunEnds, IsNoTrace, CanEnd};
 ghost use Rattle.pz_run.specs.devices.Keeping.{KeepsPromises};
 
 use crate::Status;
@@ -21,15 +21,17 @@ use std::alloc::Global;
 ///
 /// The words are those of the command line after the program's name. `run MODEL` reads the named model,
 /// runs it and prints its trace or a summary, `menu MODEL` the trace and what there is to choose from at
-/// its end, `check MODEL` how many processes and wires it has. `make N` prints the model of a ring, and
-/// `ring N` runs that and prints a summary; these read no file. A model that violates a rule is refused.
+/// its end, `check MODEL` how many processes and wires it has. `replay MODEL TRACE` reads a trace too, once
+/// the model is accepted: it is printed again if it is that of a run of the model, and refused at the first
+/// line that differs if not. `make N` prints the model of a ring, and `ring N` runs that and prints a
+/// summary; these read no file. A model that violates a rule is refused.
 ///
 /// What is promised of the bytes that are printed holds over a sink that tells what it took, and what
 /// is promised of the contents of files over files that tell; the rest holds always. Want of memory,
 /// `NoMemory`, is the one answer without a cause.
 ///
-/// A file is kept whole while its model is made of it, and a trace line by line. The time is that of
-/// reading and of the run's moments.
+/// A file is kept whole, and a trace that is printed line by line. The time is that of reading and of the
+/// run's moments.
 pub fn run_program<F: Files, W: Sink>(
     alloc: Global,
     words: &[String],
@@ -37,7 +39,7 @@ pub fn run_program<F: Files, W: Sink>(
     out: &mut W,
 ) -> Status
     // The status, and what is printed, are those of the definitions: the text of the run of a sound model
-    // that the words choose, by the rules, or what else is to be said.
+    // that the words choose, or a trace tells, by the rules, or what else is to be said.
     ensures output { (F.state files.old).told ≡ true → result ≢ Status.WriteFault → result ≢ Status.NoMemory →
         ¬ ((result ≡ Status.ReadFault) × Rose (F.state files.old).faults (F.state files.new).faults) →
         PrintsAll (asked (map string_bytes words.now)) (F.state files.old).held (W.state out.old) (W.state out.new) result }
@@ -64,11 +66,22 @@ pub fn run_program<F: Files, W: Sink>(
         (trouble : Trouble) × RunEnds (asked (map string_bytes words.now)) (F.state files.old).held (troubled trouble) }
     ensures choice_refused { (F.state files.old).told ≡ true → result ≡ Status.ChoiceRefused →
         (entry : ℕ) × (count : ℕ) × RunEnds (asked (map string_bytes words.now)) (F.state files.old).held (refused entry count) }
-    // These three come exactly there: the run that is asked for gives its own status.
+    // These three come exactly there: the run that is asked for, by a choice or by its trace, gives its own
+    // status.
     ensures run_end { (ending : Ending) → RunEnds (asked (map string_bytes words.now)) (F.state files.old).held ending →
         (F.state files.old).told ≡ true → result ≢ Status.WriteFault → result ≢ Status.NoMemory →
         ¬ ((result ≡ Status.ReadFault) × Rose (F.state files.old).faults (F.state files.new).faults) →
         result ≡ status_of ending }
+    // A trace is refused exactly where it is the text of no run of the model.
+    ensures trace_refused { (F.state files.old).told ≡ true → result ≡ Status.TraceRefused →
+        IsNoTrace (asked (map string_bytes words.now)) (F.state files.old).held }
+    ensures no_trace { IsNoTrace (asked (map string_bytes words.now)) (F.state files.old).held →
+        (F.state files.old).told ≡ true → result ≢ Status.WriteFault → result ≢ Status.NoMemory →
+        ¬ ((result ≡ Status.ReadFault) × Rose (F.state files.old).faults (F.state files.new).faults) →
+        result ≡ Status.TraceRefused }
+    // A second file is opened only once the model is accepted.
+    ensures trace_opened { (F.state files.old).told ≡ true → (F.state files.old).opens + 1 < (F.state files.new).opens →
+        HasModelText (asked (map string_bytes words.now)) (F.state files.old).held }
     ensures too_long { result ≡ Status.TooLong → IsPastLimit (files_of (asked (map string_bytes words.now))) (F.state files.old) (F.state files.new) }
     ensures longer { (F.state files.old).told ≡ true → result ≡ Status.TooLong →
         IsLonger (files_of (asked (map string_bytes words.now))) (F.state files.old).held }

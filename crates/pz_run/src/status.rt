@@ -1,8 +1,10 @@
 ghost use Rattle.std.specs.Prelude.{◌≡◌};
 ghost use Rattle.pz_run.specs.Status.{number_of};
-ghost use Rattle.pz_run.specs.devices.Halting.{halted_as, given_as};
+ghost use Rattle.pz_run.specs.devices.Halting.{halted_as, given_as, replayed_as};
 
 use pz_playing::Finale;
+use pz_replaying::Replayed;
+use pz_trace::Ending;
 use pz_writing::Halt;
 
 /// How the program ends.
@@ -71,6 +73,19 @@ impl Status {
             Ok(Finale::Deadlock) => Status::Deadlock,
             Ok(Finale::Trouble(_)) => Status::ModelFault,
             Ok(Finale::Refused { .. }) => Status::ChoiceRefused,
+            Err(halt) => Status::halted(halt),
+        }
+    }
+
+    /// That of a job whose trace was replayed so.
+    pub(crate) fn replayed(ended: Result<Replayed, Halt>) -> Status
+        ensures { result ≡ replayed_as ended }
+    {
+        match ended {
+            Ok(Replayed::Ended(Ending::End | Ending::Stop)) => Status::Done,
+            Ok(Replayed::Ended(Ending::Deadlock)) => Status::Deadlock,
+            Ok(Replayed::Ended(Ending::Trouble(_))) => Status::ModelFault,
+            Ok(Replayed::Refused { .. }) => Status::TraceRefused,
             Err(halt) => Status::halted(halt),
         }
     }

@@ -37,8 +37,8 @@ pub fn check_text<W: Sink>(alloc: Global, text: &[u8], out: &mut W) -> Status
     }
 }
 
-// Says why a text is refused.
-fn say_refused<W: Sink>(alloc: Global, error: ReadModelError, out: &mut W) -> Status
+/// Says why a text is refused.
+pub(crate) fn say_refused<W: Sink>(alloc: Global, error: ReadModelError, out: &mut W) -> Status
     ensures { SaysRefusal error (W.state out.old) (W.state out.new) result }
 {
     match error {

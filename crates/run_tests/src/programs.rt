@@ -13,7 +13,7 @@ const TRACE: &str =
     "poosl-trace 1\n0 1 0 p call 2:6\n0 1 0 p skip 4:1\n0 time 3\n3 1 0 p expire 5:1\n3 1 0 p skip 6:1\n3 end\n";
 
 // The words of a command line, with one blank between them.
-fn words_of(alloc: Global, line: &str) -> Result<Vec<String>, AllocError> {
+pub(crate) fn words_of(alloc: Global, line: &str) -> Result<Vec<String>, AllocError> {
     let mut words = Vec::new(alloc);
     for word in line.split(' ') {
         words.push(String::from_str(alloc, word)?)?;
@@ -33,7 +33,7 @@ fn one_file(alloc: Global, text: &str, length: usize) -> Result<MemFiles, AllocE
 }
 
 // Calls the program with these words, and compares its exit status and what it prints.
-fn expect<F: Files>(
+pub(crate) fn expect<F: Files>(
     rt: &impl Abort,
     alloc: Global,
     line: &str,

@@ -1,5 +1,5 @@
 use Rattle.pz_run.proofs.OfJobs.{keeps_run, keeps_menu, keeps_check, keeps_make, keeps_ring}
-use Rattle.pz_run.proofs.Keeps.{keeps_usage}
+use Rattle.pz_run.proofs.Replayed.{keeps_replay}
 use Rattle.pz_run.proofs.doing.do_job.Goals as goal
 
 pub returns-in-Run : goal.returns-in-Run
@@ -23,5 +23,8 @@ returns-in-Make g c = rw c.in-Make.is (keeps_make _ _ _ c.make_ring.result c.in-
 pub returns-in-Ring : goal.returns-in-Ring
 returns-in-Ring g c = rw c.in-Ring.is (keeps_ring _ _ _ c.run_ring.result c.in-Ring.n c.in-Ring.choice c.in-Ring.limits c.run_ring.ensures)
 
-pub returns : goal.returns
-returns g c = rw c.in-Replay.is (keeps_usage _ _ _ c.say.result (rw c.usage_line.ensures at c.say.ensures))
+pub returns-in-Replay : goal.returns-in-Replay
+returns-in-Replay g c =
+    rw c.in-Replay.is
+    (keeps_replay _ _ _ _ c.replay_file.result c.in-Replay.model c.in-Replay.trace c.in-Replay.units
+    (rw (c.as_str-in-Replay.ensures, c.as_str-in-Replay-2.ensures) at c.replay_file.ensures))

@@ -40,6 +40,15 @@ returns-clause-choice_refused g c = c.run_words.ensures.choice_refused
 pub returns-clause-run_end : goal.returns-clause-run_end
 returns-clause-run_end g c = c.run_words.ensures.run_end
 
+pub returns-clause-trace_refused : goal.returns-clause-trace_refused
+returns-clause-trace_refused g c = c.run_words.ensures.trace_refused
+
+pub returns-clause-no_trace : goal.returns-clause-no_trace
+returns-clause-no_trace g c = c.run_words.ensures.no_trace
+
+pub returns-clause-trace_opened : goal.returns-clause-trace_opened
+returns-clause-trace_opened g c = c.run_words.ensures.trace_opened
+
 pub returns-clause-too_long : goal.returns-clause-too_long
 returns-clause-too_long g c = c.run_words.ensures.too_long
 

@@ -2,7 +2,7 @@ use Rattle.std.proofs.Common.{Some, None, refl, subst, map, string_bytes}
 use Rattle.pz_words.specs.Jobs.{IsAsked}
 use Rattle.pz_run.specs.declared.status.Status.TheVariants.{NoMemory}
 use Rattle.pz_run.proofs.Asked.{keeps_asked, found_sized}
-use Rattle.pz_run.proofs.Keeps.{keeps_usage, keeps_nothing, not_opened}
+use Rattle.pz_run.proofs.Keeps.{keeps_usage, keeps_nothing, not_opened, opened_never}
 use Rattle.pz_run.proofs.program.run_words.Goals as goal
 
 pub do_job-requires : goal.do_job-requires
@@ -24,4 +24,4 @@ returns-in-Ok-None g c =
     (keeps_usage _ _ _ c.say.result (rw c.usage_line.ensures at c.say.ensures))
 
 pub returns-in-Err : goal.returns-in-Err
-returns-in-Err g c = keeps_nothing _ _ _ _ _ NoMemory (not_opened _ _) (record { unchanged = refl; wanting = refl })
+returns-in-Err g c = keeps_nothing _ _ _ _ _ NoMemory (not_opened _ _) (λ _ many. opened_never _ many) (record { unchanged = refl; wanting = refl })

@@ -1,0 +1,379 @@
+-- What was said of a trace that was replayed, and the promises of a replay.
+use Rattle.std.proofs.Common.{◌≡◌, ◌≢◌, ◌⊎◌, inl, inr, ⊎_elim, ◌∙◌, ◌<◌, ◌≤◌, ℕ, List, [], ◌∷◌, true, Option, Some, None, Result, Ok, Err, length, refl, sym, subst, ap, arith}
+use Rattle.std.specs.Prelude.{Contains}
+use Rattle.pz_io.specs.Outside.{Entries, FilesState, SinkState, lookup, raised, Rose, Exceeds}
+use Rattle.pz_writing.specs.declared.writing.Halt.{Halt}
+use Rattle.pz_syntax.specs.Classes.{ModelTree}
+use Rattle.pz_rules.specs.Settings.{Setting}
+use Rattle.pz_rules.specs.Runs.{Ending}
+use Rattle.pz_trace.specs.TraceText.{run_ending, IsTrace}
+use Rattle.pz_trace.specs.declared.ending.Ending as trace
+use Rattle.pz_trace.specs.declared.ending.Ending.TheVariants as ending
+use Rattle.pz_term.specs.Simulations.{Simulation}
+use Rattle.pz_replaying.specs.declared.replayed.Replayed.{Replayed}
+use Rattle.pz_replaying.specs.declared.replayed.Replayed.TheVariants as replayed
+use Rattle.pz_replaying.specs.Replays.{Replays, accepts, refuses, TellsLines, IsReplayed}
+use Rattle.pz_words.specs.declared.jobs.Job.{Job}
+use Rattle.pz_words.specs.declared.jobs.Job.TheVariants.{Replay}
+use Rattle.pz_reading.specs.Models.{IsModelOf}
+use Rattle.pz_reading.specs.Refusals.{IsRefused}
+use Rattle.pz_reading.specs.Answers.{OnRefused}
+use Rattle.pz_reading.specs.declared.read_error.ReadModelError.{ReadModelError}
+use Rattle.pz_reading.specs.declared.read_error.ReadModelError.TheVariants.{NoMemory, Refused}
+use Rattle.pz_reading.specs.declared.refusal.Refusal.{Refusal}
+use Rattle.pz_report.specs.Lines.{read_fault_line, too_long_line, model_refused_line}
+use Rattle.pz_run.specs.declared.limits.TheConstants.{MODEL_LIMIT, TRACE_LIMIT}
+use Rattle.pz_run.specs.declared.status.Status.{Status}
+use Rattle.pz_run.specs.declared.status.Status.TheVariants.{ModelRefused, TraceRefused, TooLong, ReadFault, WriteFault}
+use Rattle.pz_run.specs.Files.{JobFile, model_file, trace_file, files_of}
+use Rattle.pz_run.specs.Plays.{play_of, setting_with}
+use Rattle.pz_run.specs.Status.{status_of, replay_status}
+use Rattle.pz_run.specs.Output.{PrintsReplay, replays, PrintsFile, lacks, too_long, reads, of_model, PrintsTraceFile, PrintsJob, Prints, does}
+use Rattle.pz_run.specs.Output as output
+use Rattle.pz_run.specs.Promises.{OpensFiles, OpensLast, HasModelText, IsTextFor, of_file, ChosenEnds, HasTrace, ToldEnds, HasEnding, of_choice, of_trace, RunEnds, TellsNoRun, IsNoTrace, CanEnd}
+use Rattle.pz_run.specs.Promises as promises
+use Rattle.pz_run.specs.devices.Halting.{replayed_as}
+use Rattle.pz_run.specs.devices.Keeping.{KeepsPromises}
+use Rattle.pz_run.specs.devices.Reading.{FileOutcome, wanting, fault, long, whole, ReadsFile}
+use Rattle.pz_run.specs.devices.Replaying.{OneEnding, PrintsRefusal, refused, PrintsTrace, IsOnlyModel, WasRead, ReplaysText, goes_on, ReplaysFiles, no_model, reads_on}
+use Rattle.pz_run.specs.devices.Replaying as replaying
+use Rattle.pz_run.specs.devices.Saying.{Said, NothingWritten, Says, Answers}
+use Rattle.pz_run.specs.devices.Texts.{SaysRefusal}
+use Rattle.pz_run.proofs.Sayings.{said_whole, said_halted, answers_by}
+use Rattle.pz_run.proofs.OneEnd.{some_is}
+use Rattle.pz_run.proofs.Outcomes.{told_can, Outcome, run_ended, no_trace, EndsText, ends_text, IsTextOfFile, text_in, OfText, run_in, none_in}
+use Rattle.pz_run.proofs.Outcomes as outcomes
+use Rattle.pz_run.proofs.Keeps.{IsFaultLine, Wants, keeps, keeps_nothing}
+use Rattle.pz_run.proofs.OneFiles.{OneFile, keeps_file}
+use Rattle.pz_run.proofs.OfJobs.{file_lacks, file_long, file_read}
+
+-- ---- what was said of a trace
+
+end_ordinary : (e : trace.Ending) → status_of (run_ending e) ≢ WriteFault
+end_ordinary ending.End is = cc
+end_ordinary ending.Deadlock is = cc
+end_ordinary ending.Stop is = cc
+end_ordinary (ending.Trouble trouble) is = cc
+
+ordinary : (outcome : Replayed) → replay_status outcome ≢ WriteFault
+ordinary (replayed.Ended e) is = end_ordinary e is
+ordinary (replayed.Refused line) is = cc
+
+module _ (units : ℕ) (m : ModelTree) (text : List ℕ) (t : Simulation) (before now : SinkState) where
+  pub says_replay : (r : Result Replayed Halt) (given : Status) → given ≡ replayed_as r → IsReplayed (setting_with m units) text t before now r → Says (PrintsReplay units m text) before now given
+  says_replay (Ok outcome) given is done =
+      let same : given ≡ replay_status done.outcome = is ∙ ap replay_status done.is_outcome in
+      record {
+        bytes = done.text;
+        wanted = replay_status done.outcome;
+        prints = replays done.text done.outcome done.end done.replays;
+        said = subst (λ (s : Status). Said before now done.text (replay_status done.outcome) s) (sym same)
+            (said_whole before now done.text (replay_status done.outcome) (ordinary done.outcome) done.wrote);
+      }
+  says_replay (Err halt) given is done = record {
+    bytes = done.text;
+    wanted = replay_status done.outcome;
+    prints = replays done.text done.outcome done.end done.replays;
+    said = subst (λ (s : Status). Said before now done.text (replay_status done.outcome) s) (sym is)
+        (said_halted before now done.text (replay_status done.outcome) halt done.wrote);
+  }
+
+-- ---- the one status that goes with it
+
+module _ (one : OneEnding) (units : ℕ) (m : ModelTree) (tells : TellsLines (setting_with m units)) (text : List ℕ) where
+  only_end : (bytes : List ℕ) (outcome : Replayed) (end : Simulation) → Replays (setting_with m units) text bytes outcome end
+      → (run : IsTrace (setting_with m units) text) → replay_status outcome ≡ status_of (run_ending run.ending)
+  only_end _ _ _ (accepts run) other = one (setting_with m units) text tells run other
+  only_end _ _ _ (refuses lines rest stage expected now refusal are is leads expects at) other = absurd (refusal.no_run other)
+
+  none_refused : (bytes : List ℕ) (outcome : Replayed) (end : Simulation) → Replays (setting_with m units) text bytes outcome end
+      → (IsTrace (setting_with m units) text → ⊥) → replay_status outcome ≡ TraceRefused
+  none_refused _ _ _ (accepts run) none = absurd (none run)
+  none_refused _ _ _ (refuses lines rest stage expected now refusal are is leads expects at) none = refl
+
+  pub of_replay : (bytes : List ℕ) (status : Status) → PrintsReplay units m text bytes status → PrintsTrace units m text bytes status
+  of_replay _ _ (replays bytes outcome end is) = record {
+    prints = replays bytes outcome end is;
+    only = only_end bytes outcome end is;
+    no_run = none_refused bytes outcome end is;
+  }
+
+module _ (one : OneEnding) (units : ℕ) (m : ModelTree) (tells : TellsLines (setting_with m units)) (file : JobFile) (f g : FilesState) (before now : SinkState) (given : Status) where
+  of_outcome : FileOutcome file (PrintsReplay units m) f g before now given → FileOutcome file (PrintsTrace units m) f g before now given
+  of_outcome (wanting none) = wanting none
+  of_outcome (fault cause said) = fault cause said
+  of_outcome (long handed exceeds said) = long handed exceeds said
+  of_outcome (whole text short held answers) =
+      whole text short held (answers_by (PrintsReplay units m text) (PrintsTrace units m text) (of_replay one units m tells text) before now given answers)
+
+  pub of_reading : ReadsFile file (PrintsReplay units m) f g before now given → ReadsFile file (PrintsTrace units m) f g before now given
+  of_reading x = record { opened = x.opened; outcome = of_outcome x.outcome }
+
+-- ---- the text of a model that is refused
+
+differ : (r : Refusal) → Refused r ≡ NoMemory → ⊥
+differ r same = cc
+
+pub refusal_said : (text : List ℕ) (before now : SinkState) (given : Status) (e : ReadModelError) → OnRefused (IsRefused text) e → ((m : ModelTree) → IsModelOf text m → e ≡ NoMemory)
+    → SaysRefusal e before now given → Answers (PrintsRefusal text) before now given
+refusal_said text before now given NoMemory is only says = inl says
+refusal_said text before now given (Refused r) is only says =
+    inr (record { bytes = model_refused_line r; wanted = ModelRefused; prints = refused r is (λ m model. differ r (only m model)); said = says })
+
+-- ---- from the model's file on
+
+module _ (model name : List ℕ) (units : ℕ) (f mid g : FilesState) (before now : SinkState) (given : Status) where
+  pub from_text : (text : List ℕ) → WasRead (model_file model) text f mid → ReplaysText name units mid g before now given text → ReplaysFiles model name units f g before now given
+  from_text text was (replaying.refuses same answers) = no_model (record {
+    opened = subst (λ (s : FilesState). s.opens ≡ raised f.opens) (sym same) was.opened;
+    outcome = whole text was.short was.content answers;
+  })
+  from_text text was (goes_on m is reading) = reads_on mid text m was is reading
+
+-- ---- promises, where the model was refused or its file not read
+
+replay_words : (model name : List ℕ) (units : ℕ) (model' other : List ℕ) (more : ℕ) → Replay model name units ≡ Replay model' other more → (name ≡ other) × (units ≡ more)
+replay_words model name units model' other more same = (cc, cc)
+
+refusal_lacks : {X : Type 0} (text bytes : List ℕ) (status : Status) (m : ModelTree) → PrintsRefusal text bytes status → IsModelOf text m → X
+refusal_lacks text _ _ m (refused r is none) model = absurd (none m model)
+
+module _ (model name : List ℕ) (units : ℕ) where
+  abbrev job : Job
+  job = Replay model name units
+
+  not_played : {X : Type 0} (text : List ℕ) (e : Ending) → ChosenEnds job text e → X
+  not_played text e x = let none : play_of (Replay model name units) ≡ Some x.play = x.is_play in cc
+
+  refusal_outcome : (f : FilesState) (text bytes : List ℕ) (status : Status) → PrintsRefusal text bytes status → Outcome f job text status
+  refusal_outcome f text _ _ (refused r is none) = outcomes.no_model r is
+
+  refusal_only : (held : Entries) (text bytes : List ℕ) (status : Status) → PrintsRefusal text bytes status → (e : Ending) → HasEnding held job text e → status ≡ status_of e
+  refusal_only held text bytes status prints e (of_choice x) = not_played text e x
+  refusal_only held text bytes status prints e (of_trace x) = refusal_lacks text bytes status x.replay.model prints x.replay.is_model
+
+  refusal_printed : (held : Entries) (text bytes : List ℕ) (status : Status) → lookup held model ≡ Some text → length text ≤ MODEL_LIMIT → PrintsRefusal text bytes status → PrintsJob held job bytes status
+  refusal_printed held text _ _ is short (refused r wrong none) = file_read held model (PrintsTraceFile held name units) text (model_refused_line r) ModelRefused is short (output.refuses r wrong)
+
+  refuses_file : OneFile job model PrintsRefusal
+  refuses_file = record {
+    more = trace_file name ∷ [];
+    files = refl;
+    has = tt;
+    named = refl;
+    lacks = λ held missing. file_lacks held model (PrintsTraceFile held name units) missing;
+    long = λ held text is exceeds. file_long held model (PrintsTraceFile held name units) text is exceeds;
+    reads = refusal_printed;
+    outcome = refusal_outcome;
+    only = refusal_only;
+    no_run = λ held text bytes status prints none. refusal_lacks text bytes status none.replay.model prints none.replay.is_model;
+  }
+
+  -- ---- promises, where the model was accepted
+
+  module _ (f mid g : FilesState) (text : List ℕ) (m : ModelTree) (was : WasRead (model_file model) text f mid) (is : IsOnlyModel text m) (opened : g.opens ≡ raised mid.opens) where
+    twice : g.opens ≡ raised (raised f.opens)
+    twice = opened ∙ ap raised was.opened
+
+    opens : (s : Status) → OpensFiles (files_of (Some job)) f g s
+    opens s = record { count = 2; within = omega arith; first = λ _ _. omega arith; opened = twice }
+
+    last : OpensLast (files_of (Some job)) f g (trace_file name)
+    last = record { place = 1; is = refl; opened = twice }
+
+    among : Contains (files_of (Some job)) (trace_file name)
+    among = (1, omega arith, refl)
+
+    text_for : f.told ≡ true → IsTextFor f.held job text
+    text_for tells = of_file job model text refl (was.content tells) was.short
+
+    accepted : f.told ≡ true → HasModelText (Some job) f.held
+    accepted tells = record { job = job; is_asked = refl; text = text; is_text = text_for tells; model = m; is_model = is.is_model }
+
+    -- in the files at the start, and in those at which the trace was opened
+
+    told_mid : f.told ≡ true → mid.told ≡ true
+    told_mid tells = was.told ∙ tells
+
+    same_held : (o : Option (List ℕ)) → lookup mid.held name ≡ o → lookup f.held name ≡ o
+    same_held o found = subst (λ (held : Entries). lookup held name ≡ o) was.held found
+
+    rose : Rose mid.faults g.faults → Rose f.faults g.faults
+    rose (inl more) = inl (omega (arith, was.faults, more))
+    rose (inr end) = inr end
+
+    printed : (bytes : List ℕ) (status : Status) → f.told ≡ true → PrintsTraceFile f.held name units m bytes status → Prints f.held (Some job) bytes status
+    printed bytes status tells prints =
+        does job bytes status (file_read f.held model (PrintsTraceFile f.held name units) text bytes status (was.content tells) was.short (of_model m bytes status is.is_model prints))
+
+    -- the trace of whichever run that is asked for
+    same_text : (Q : Job → List ℕ → Type 0) → OfText f.held job Q → f.told ≡ true → Q job text
+    same_text Q x tells =
+        let there = text_in f.held job x.text x.is_text model refl in
+        subst (λ (t : List ℕ). Q job t) (some_is x.text text (sym there.held ∙ was.content tells)) x.holds
+
+    -- a replay of these files is one of this model, with these units
+    record IsHere (x : HasTrace f.held job text) (t : List ℕ) : Type 0 where
+      pub same_trace : x.trace ≡ t
+      pub same_units : x.units ≡ units
+      pub same_model : x.model ≡ m
+
+    trace_held : (x : HasTrace f.held job text) → lookup f.held name ≡ Some x.trace
+    trace_held x = subst (λ (word : List ℕ). lookup f.held word ≡ Some x.trace) (sym (replay_words model name units x.model_word x.trace_word x.units x.is_replay).0) x.held
+
+    is_here : (x : HasTrace f.held job text) (t : List ℕ) → lookup f.held name ≡ Some t → IsHere x t
+    is_here x t found = record {
+      same_trace = some_is x.trace t (sym (trace_held x) ∙ found);
+      same_units = sym (replay_words model name units x.model_word x.trace_word x.units x.is_replay).1;
+      same_model = sym (is.only x.model x.is_model);
+    }
+
+    told_here : (x : HasTrace f.held job text) (t : List ℕ) → lookup f.held name ≡ Some t → (Q : Setting → List ℕ → Type 0) → Q (setting_with x.model x.units) x.trace → Q (setting_with m units) t
+    told_here x t found Q holds =
+        let here = is_here x t found in
+        subst (λ (l : List ℕ). Q (setting_with m units) l) here.same_trace
+        (subst (λ (n : ModelTree). Q (setting_with n units) x.trace) here.same_model
+        (subst (λ (u : ℕ). Q (setting_with x.model u) x.trace) here.same_units holds))
+
+    run_told : (e : Ending) → RunEnds (Some job) f.held e → f.told ≡ true → ToldEnds f.held job text e
+    run_told e ends tells = told_replay e (same_text (λ j t. HasEnding f.held j t e) (run_in f.held job e ends) tells)
+      where
+        told_replay : (d : Ending) → HasEnding f.held job text d → ToldEnds f.held job text d
+        told_replay d (of_choice x) = not_played text d x
+        told_replay d (of_trace x) = x
+
+    none_told : IsNoTrace (Some job) f.held → f.told ≡ true → TellsNoRun f.held job text
+    none_told none tells = same_text (λ j t. TellsNoRun f.held j t) (none_in f.held job none) tells
+
+    -- the trace was not read
+
+    missing_trace : {X : Type 0} (x : HasTrace f.held job text) → lookup f.held name ≡ None → X
+    missing_trace x missing = let none : None ≡ Some x.trace = sym missing ∙ trace_held x in cc
+
+    long_trace : {X : Type 0} (x : HasTrace f.held job text) → Exceeds (lookup f.held name) TRACE_LIMIT → X
+    long_trace x exceeds =
+        let same : length x.trace ≡ length exceeds.0 = ap (λ (l : List ℕ). length l) (some_is x.trace exceeds.0 (sym (trace_held x) ∙ exceeds.1)) in
+        absurd (omega (arith, same, x.short, exceeds.2))
+
+    wants_fault : Rose mid.faults g.faults ⊎ ((mid.told ≡ true) × (lookup mid.held name ≡ None)) → Wants (Some job) f g (read_fault_line name) ReadFault
+    wants_fault cause = record {
+      prints = λ tells unless. ⊎_elim (λ x. absurd (unless (refl, rose x))) (λ x. prints tells (same_held None x.1)) cause;
+      fault = λ _ _. line;
+      front = λ tells. ⊎_elim (λ x. inr (rose x, line)) (λ x. inl (prints tells (same_held None x.1))) cause;
+      opens = opens;
+      ends = promises.read_fault job (trace_file name) among;
+      model_refused = λ _ is. cc;
+      deadlock = λ _ is. cc;
+      model_fault = λ _ is. cc;
+      choice_refused = λ _ is. cc;
+      run_end = λ e ends tells unless. ⊎_elim (λ x. absurd (unless (refl, rose x))) (λ x. missing_trace (run_told e ends tells).replay (same_held None x.1)) cause;
+      trace_refused = λ _ is. cc;
+      no_trace = λ none tells unless. ⊎_elim (λ x. absurd (unless (refl, rose x))) (λ x. missing_trace (none_told none tells).replay (same_held None x.1)) cause;
+      trace_opened = λ tells _. accepted tells;
+      too_long = λ is. cc;
+      longer = λ _ is. cc;
+      read_cause = λ _. ⊎_elim (λ x. inl (rose x)) (λ x. inr (sym was.told ∙ x.0, (trace_file name, among, same_held None x.1))) cause;
+    }
+      where
+        prints : f.told ≡ true → lookup f.held name ≡ None → Prints f.held (Some job) (read_fault_line name) ReadFault
+        prints tells missing = printed (read_fault_line name) ReadFault tells
+            (subst (λ (o : Option (List ℕ)). PrintsFile (trace_file name) (PrintsReplay units m) o (read_fault_line name) ReadFault) (sym missing) lacks)
+
+        line : IsFaultLine (files_of (Some job)) f g (read_fault_line name)
+        line = record { file = trace_file name; last = last; line = refl }
+
+    wants_long : TRACE_LIMIT < g.handed → (mid.told ≡ true → Exceeds (lookup mid.held name) TRACE_LIMIT) → Wants (Some job) f g (too_long_line name) TooLong
+    wants_long handed exceeds = record {
+      prints = λ tells _. prints tells;
+      fault = λ is _. cc;
+      front = λ tells. inl (prints tells);
+      opens = opens;
+      ends = promises.too_long job (trace_file name) among;
+      model_refused = λ _ is. cc;
+      deadlock = λ _ is. cc;
+      model_fault = λ _ is. cc;
+      choice_refused = λ _ is. cc;
+      run_end = λ e ends tells _. long_trace (run_told e ends tells).replay (long_here tells);
+      trace_refused = λ _ is. cc;
+      no_trace = λ none tells _. long_trace (none_told none tells).replay (long_here tells);
+      trace_opened = λ tells _. accepted tells;
+      too_long = λ _. (trace_file name, last, handed);
+      longer = λ tells _. (trace_file name, among, long_here tells);
+      read_cause = λ is. cc;
+    }
+      where
+        long_here : f.told ≡ true → Exceeds (lookup f.held name) TRACE_LIMIT
+        long_here tells = let x = exceeds (told_mid tells) in (x.0, same_held (Some x.0) x.1, x.2)
+
+        prints : f.told ≡ true → Prints f.held (Some job) (too_long_line name) TooLong
+        prints tells =
+            let x = long_here tells in
+            printed (too_long_line name) TooLong tells
+            (subst (λ (o : Option (List ℕ)). PrintsFile (trace_file name) (PrintsReplay units m) o (too_long_line name) TooLong) (sym x.1) (too_long x.0 x.2))
+
+    module _ (t : List ℕ) (short : length t ≤ TRACE_LIMIT) (held : mid.told ≡ true → lookup mid.held name ≡ Some t) where
+      found : f.told ≡ true → lookup f.held name ≡ Some t
+      found tells = same_held (Some t) (held (told_mid tells))
+
+      abbrev has_trace : f.told ≡ true → HasTrace f.held job text
+      has_trace tells = record { model_word = model; trace_word = name; units = units; is_replay = refl; trace = t; held = found tells; short = short; model = m; is_model = is.is_model }
+
+      replay_outcome : (bytes : List ℕ) (outcome : Replayed) (end : Simulation) → Replays (setting_with m units) t bytes outcome end → Outcome f job text (replay_status outcome)
+      replay_outcome _ _ _ (accepts run) =
+          run_ended (run_ending run.ending) (told_can model name units run.ending) (λ tells. of_trace (record { replay = has_trace tells; run = run; ends = refl }))
+      replay_outcome _ _ _ (refuses lines rest stage expected now refusal are is leads expects at) =
+          no_trace (promises.trace_refused model name units) (λ tells. record { replay = has_trace tells; no_run = refusal.no_run })
+
+      trace_outcome : (bytes : List ℕ) (wanted : Status) → PrintsReplay units m t bytes wanted → Outcome f job text wanted
+      trace_outcome _ _ (replays bytes outcome end is) = replay_outcome bytes outcome end is
+
+      wants_trace : (bytes : List ℕ) (wanted : Status) → PrintsTrace units m t bytes wanted → Wants (Some job) f g bytes wanted
+      wants_trace bytes wanted x = record {
+        prints = λ tells _. prints tells;
+        fault = λ is _. absurd (end.no_fault is);
+        front = λ tells. inl (prints tells);
+        opens = opens;
+        ends = end.can;
+        model_refused = end.model_refused;
+        deadlock = end.deadlock;
+        model_fault = end.model_fault;
+        choice_refused = end.choice_refused;
+        run_end = λ e ends tells _. same_end e (run_told e ends tells) tells;
+        trace_refused = end.trace_refused;
+        no_trace = λ none tells _. let y = none_told none tells in x.no_run (told_here y.replay t (found tells) (λ s l. IsTrace s l → ⊥) y.no_run);
+        trace_opened = λ tells _. accepted tells;
+        too_long = λ is. absurd (end.not_long is);
+        longer = λ _ is. absurd (end.not_long is);
+        read_cause = λ is. absurd (end.no_fault is);
+      }
+        where
+          prints : f.told ≡ true → Prints f.held (Some job) bytes wanted
+          prints tells = printed bytes wanted tells
+              (subst (λ (o : Option (List ℕ)). PrintsFile (trace_file name) (PrintsReplay units m) o bytes wanted) (sym (found tells)) (reads t bytes wanted short x.prints))
+
+          end : EndsText job tt text f text_for wanted
+          end = ends_text job tt text f text_for wanted (trace_outcome bytes wanted x.prints)
+
+          same_end : (e : Ending) → ToldEnds f.held job text e → f.told ≡ true → wanted ≡ status_of e
+          same_end e y tells =
+              let run = told_here y.replay t (found tells) (λ s l. (run : IsTrace s l) × (run_ending run.ending ≡ e)) (y.run, y.ends) in
+              x.only run.0 ∙ ap status_of run.1
+
+    module _ (before now : SinkState) (given : Status) where
+      keeps_none : NothingWritten before now given → KeepsPromises (Some job) f g before now given
+      keeps_none none = keeps_nothing (Some job) f g before now given (opens given) (λ tells _. accepted tells) none
+
+      keeps_trace : (t : List ℕ) → length t ≤ TRACE_LIMIT → (mid.told ≡ true → lookup mid.held name ≡ Some t) → Answers (PrintsTrace units m t) before now given → KeepsPromises (Some job) f g before now given
+      keeps_trace t short held (inl none) = keeps_none none
+      keeps_trace t short held (inr says) = keeps (Some job) f g before now says.bytes says.wanted given (wants_trace t short held says.bytes says.wanted says.prints) says.said
+
+      keeps_outcome : FileOutcome (trace_file name) (PrintsTrace units m) mid g before now given → KeepsPromises (Some job) f g before now given
+      keeps_outcome (wanting none) = keeps_none none
+      keeps_outcome (fault cause said) = keeps (Some job) f g before now (read_fault_line name) ReadFault given (wants_fault cause) said
+      keeps_outcome (long handed exceeds said) = keeps (Some job) f g before now (too_long_line name) TooLong given (wants_long handed exceeds) said
+      keeps_outcome (whole t short held answers) = keeps_trace t short held answers
+
+pub keeps_replay : (f g : FilesState) (before now : SinkState) (given : Status) (model name : List ℕ) (units : ℕ)
+    → ReplaysFiles model name units f g before now given → KeepsPromises (Some (Replay model name units)) f g before now given
+keeps_replay f g before now given model name units (no_model reading) = keeps_file (Replay model name units) model PrintsRefusal (refuses_file model name units) f g before now given reading
+keeps_replay f g before now given model name units (reads_on mid text m was is reading) = keeps_outcome model name units f mid g text m was is reading.opened before now given reading.outcome

@@ -1,0 +1,113 @@
+// Replays of traces.
+ghost use Rattle.std.specs.Prelude.{◌-◌, ◌<◌, ◌^◌, ℕ, length};
+ghost use Rattle.pz_syntax.specs.Classes.{ModelTree};
+ghost use Rattle.pz_classes.specs.CheckedView.{checked_model};
+ghost use Rattle.pz_rules.specs.Settings.{Setting};
+ghost use Rattle.pz_term.specs.Simulations.{Starts};
+ghost use Rattle.pz_term.specs.Plains.{simulation_of};
+ghost use Rattle.pz_replaying.specs.Replays.{TellsLines};
+ghost use Rattle.pz_run.specs.Files.{trace_file};
+ghost use Rattle.pz_run.specs.Plays.{setting_with};
+ghost use Rattle.pz_run.specs.Output.{PrintsReplay};
+ghost use Rattle.pz_run.specs.devices.Saying.{Says, Answers};
+ghost use Rattle.pz_run.specs.devices.Reading.{ReadsFile};
+ghost use Rattle.pz_run.specs.devices.Replaying.{ReplaysText, ReplaysFiles};
+
+use crate::Status;
+use crate::files::say_unread;
+use crate::laws::traces_are_known;
+use crate::limits::{MODEL_LIMIT, TRACE_LIMIT};
+use crate::starting::start;
+use crate::texts::say_refused;
+use pz_classes::Checked;
+use pz_io::{Files, Sink, read_all};
+use pz_reading::read_model;
+use pz_replaying::replay;
+use pz_term::Plain;
+use std::alloc::Global;
+use std::mem::drop;
+
+/// Replays a trace on a model, each of which is a file. The trace is opened once the model is accepted.
+pub fn replay_file<F: Files, W: Sink>(
+    alloc: Global,
+    model: &str,
+    trace: &str,
+    units: u64,
+    files: &mut F,
+    out: &mut W,
+) -> Status
+    ensures { ReplaysFiles model.now trace.now units (F.state files.old) (F.state files.new) (W.state out.old) (W.state out.new) result }
+{
+    match read_all(alloc, files, model, MODEL_LIMIT) {
+        Ok(text) => replay_text(alloc, text.as_slice(), trace, units, files, out),
+        Err(error) => say_unread(alloc, error, model, out),
+    }
+}
+
+// The same of the text of a model.
+fn replay_text<F: Files, W: Sink>(
+    alloc: Global,
+    text: &[u8],
+    trace: &str,
+    units: u64,
+    files: &mut F,
+    out: &mut W,
+) -> Status
+    requires { length text.now < 2 ^ 32 - 1 }
+    ensures { ReplaysText trace.now units (F.state files.old) (F.state files.new) (W.state out.old) (W.state out.new) result text.now }
+{
+    traces_are_known();
+    match read_model(alloc, text) {
+        Ok(checked) => replay_model(alloc, checked, trace, units, files, out),
+        Err(error) => say_refused(alloc, error, out),
+    }
+}
+
+// The same of a model.
+fn replay_model<F: Files, W: Sink>(
+    alloc: Global,
+    checked: Checked,
+    trace: &str,
+    units: u64,
+    files: &mut F,
+    out: &mut W,
+) -> Status
+    requires { TellsLines (setting_with (checked_model checked) units) }
+    ensures { ReadsFile (trace_file trace.now) (PrintsReplay units (checked_model checked)) (F.state files.old) (F.state files.new) (W.state out.old) (W.state out.new) result }
+{
+    match read_all(alloc, files, trace, TRACE_LIMIT) {
+        Ok(bytes) => replay_trace(alloc, checked, bytes.as_slice(), units, out),
+        Err(error) => {
+            drop(checked);
+            say_unread(alloc, error, trace, out)
+        }
+    }
+}
+
+// Replays these bytes on a model.
+fn replay_trace<W: Sink>(
+    alloc: Global,
+    checked: Checked,
+    trace: &[u8],
+    units: u64,
+    out: &mut W,
+) -> Status
+    requires { TellsLines (setting_with (checked_model checked) units) }
+    ensures { Answers (PrintsReplay units (checked_model checked) trace.now) (W.state out.old) (W.state out.new) result }
+{
+    match start(alloc, checked, units) {
+        Ok(plain) => replay_plain(alloc, plain, trace, out),
+        Err(_) => Status::NoMemory,
+    }
+}
+
+// The same from the start of a simulator on.
+fn replay_plain<W: Sink>(alloc: Global, mut plain: Plain, trace: &[u8], out: &mut W) -> Status
+    requires { (setting : Setting) × Starts setting (simulation_of plain) }
+    ensures { (m : ModelTree) (units : ℕ) → Starts (setting_with m units) (simulation_of plain) → TellsLines (setting_with m units) →
+        Says (PrintsReplay units m trace.now) (W.state out.old) (W.state out.new) result }
+{
+    let ended = replay(alloc, &mut plain, trace, out);
+    drop(plain);
+    Status::replayed(ended)
+}

@@ -1,0 +1,99 @@
+// Replays where a trace is cut, where it is long, and where files or the output fail.
+use crate::programs::{expect, words_of};
+use pz_io::{FailingFiles, MemFiles, RoomySink};
+use pz_run::run_program;
+use std::alloc::{AllocError, Global};
+use std::test::Fail;
+
+const MODEL: &str =
+    "process class S(d : Integer)\nports o\nmessages o!m\ninit a()()\nmethods a()() delay d; o!m\nprocess class R\nports i\nmessages i?m\ninit a()()\nmethods a()() sel i?m or delay 5; skip les\nsystem\ninstances s : S(d := 5) r : R\nchannels {s.o, r.i}\n";
+
+const TRACE: &str =
+    "poosl-trace 1\n0 2 0 s call 4:6\n0 1 0 r call 9:6\n0 time 5\n5 2 0 s expire 5:15\n5 2 1 #1 s ! m() -> r\n5 end\n";
+
+// The files with that model, named `m`, and a trace, named `t`.
+fn two_files(alloc: Global, trace: Vec<u8>) -> Result<MemFiles, AllocError> {
+    let model = MODEL.as_bytes().to_vec(alloc)?;
+    let m = String::from_str(alloc, "m")?;
+    let t = String::from_str(alloc, "t")?;
+    Ok(MemFiles::new(vec![in alloc; (m, model), (t, trace)]?))
+}
+
+#[test]
+fn each_front_of_a_trace_is_refused_behind_its_whole_lines(rt: HostRuntime) -> Result<(), Fail> {
+    let trace = TRACE.as_bytes();
+    let words = words_of(rt.alloc(), "replay m t")?;
+    for cut in 0..trace.len() {
+        let front = &trace[..cut];
+        let mut files = two_files(rt.alloc(), front.to_vec(rt.alloc())?)?;
+        let mut out = RoomySink::new(rt.alloc(), 100_000, Vec::new(rt.alloc()))?;
+        let status = run_program(rt.alloc(), &words, &mut files, &mut out);
+        let lines = front.iter().filter(|b| **b == b'\n').count();
+        let whole = match front.iter().rposition(|b| *b == b'\n') {
+            Some(last) => &front[..last + 1],
+            None => b"",
+        };
+        let refused = format!(in rt.alloc(); "refused line {}\n", lines + 1)?;
+        assert_eq!(rt; status.number(), 6);
+        assert!(rt; out.bytes().starts_with(whole));
+        assert!(rt; out.bytes()[whole.len()..].starts_with(refused.as_bytes()));
+    }
+    Ok(())
+}
+
+#[test]
+fn the_file_that_failed_is_named(rt: HostRuntime) -> Result<(), Fail> {
+    // The model is read by calls 1 to 3, the trace from call 4 on.
+    let rows = [
+        (1, "read fault: m\n"),
+        (2, "read fault: m\n"),
+        (4, "read fault: t\n"),
+        (5, "read fault: t\n"),
+    ];
+    for (call, output) in rows {
+        let inner = two_files(rt.alloc(), TRACE.as_bytes().to_vec(rt.alloc())?)?;
+        let mut files = FailingFiles::new(inner, vec![in rt.alloc(); call]?);
+        expect(&rt, rt.alloc(), "replay m t", &mut files, 8, output)?;
+    }
+    Ok(())
+}
+
+#[test]
+fn a_sink_that_fails_has_the_lines_before(rt: HostRuntime) -> Result<(), Fail> {
+    let words = words_of(rt.alloc(), "replay m t")?;
+    let cut = "poosl-trace 1\n0 2 0 s call 4:6\n0 1 0 r call 9:6\n";
+    let rows = [
+        (1, ""),
+        (3, "poosl-trace 1\n0 2 0 s call 4:6\n"),
+        (4, cut),
+        (
+            5,
+            "poosl-trace 1\n0 2 0 s call 4:6\n0 1 0 r call 9:6\nrefused line 4\n",
+        ),
+    ];
+    for (write, output) in rows {
+        let mut files = two_files(rt.alloc(), cut.as_bytes().to_vec(rt.alloc())?)?;
+        let mut out = RoomySink::new(rt.alloc(), 100_000, vec![in rt.alloc(); write]?)?;
+        let status = run_program(rt.alloc(), &words, &mut files, &mut out);
+        assert_eq!(rt; status.number(), 9);
+        assert_eq!(rt; out.bytes(), output.as_bytes());
+    }
+    Ok(())
+}
+
+#[test]
+fn a_trace_may_have_64_mebibytes_and_no_byte_more(rt: HostRuntime) -> Result<(), Fail> {
+    let behind = format!(in rt.alloc(); "{TRACE}refused line 8\n")?;
+    let rows = [
+        (67_108_864, 6, behind.as_str()),
+        (67_108_865, 7, "too long: t\n"),
+    ];
+    for (length, status, output) in rows {
+        let lines = TRACE.repeat(rt.alloc(), length / TRACE.len())?;
+        let blanks = " ".repeat(rt.alloc(), length - lines.len())?;
+        let trace = format!(in rt.alloc(); "{lines}{blanks}")?;
+        let mut files = two_files(rt.alloc(), trace.into_bytes())?;
+        expect(&rt, rt.alloc(), "replay m t", &mut files, status, output)?;
+    }
+    Ok(())
+}
