@@ -1,0 +1,31 @@
+//! Takes the plain simulator step by step through models, and shows after each step what it answered,
+//! the clock, the moment and the offers. Nothing is promised here: the output is the test.
+//!
+//! A line `MODEL STEP ..` of the input names a file and steps: a number chooses the offer of this number,
+//! and `pass` lets time pass. With the arguments `ring STATIONS EVENTS` it plays so many events of a ring,
+//! of the offers always the first.
+#![tactic(auto)]
+
+mod models;
+mod offers;
+mod plays;
+mod rows;
+
+use std::{env, io};
+
+fn show_rows(rt: &HostRuntime) -> io::Result<()> {
+    for line in rt.lines(rt.alloc()) {
+        rows::show_row(rt, line?.as_str())?;
+    }
+    Ok(())
+}
+
+fn main(rt: HostRuntime) -> io::Result<()> {
+    let words = env::args(&rt)?.collect::<Vec<String>>(rt.alloc())?;
+    match words.as_slice() {
+        [_, job, stations, events] if job.as_str() == "ring" => {
+            rows::show_ring(&rt, stations.as_str(), events.as_str())
+        }
+        _ => show_rows(&rt),
+    }
+}

@@ -1,0 +1,34 @@
+//! What is asked for, by a line of the input or by the arguments.
+
+use crate::models::{LIMIT, show_text};
+use crate::plays::Play;
+use pz_gen::make;
+use pz_io::{OsFiles, read_all};
+use std::io;
+
+fn show_file(rt: &HostRuntime, name: &str, play: Play<'_>) -> io::Result<()> {
+    match read_all(rt.alloc(), &mut OsFiles::new(*rt), name, LIMIT) {
+        Ok(text) => show_text(rt, text.as_slice(), play),
+        Err(_) => println!(rt; "no file"),
+    }
+}
+
+/// Shows what a line asks for.
+pub fn show_row(rt: &HostRuntime, line: &str) -> io::Result<()> {
+    println!(rt; "> {line}")?;
+    match line.split_once(' ') {
+        Some((name, steps)) => show_file(rt, name, Play::Steps(steps)),
+        None => println!(rt; "no steps"),
+    }
+}
+
+/// Shows how far so many events lead in a ring of so many stations.
+pub fn show_ring(rt: &HostRuntime, stations: &str, events: &str) -> io::Result<()> {
+    let stations = stations.parse::<u32>().unwrap_or(0);
+    let events = events.parse::<u64>().unwrap_or(0);
+    if stations < 2 || stations > 1000 {
+        return println!(rt; "no ring");
+    }
+    let text = make(rt.alloc(), stations)?;
+    show_text(rt, text.as_slice(), Play::Events(events))
+}
