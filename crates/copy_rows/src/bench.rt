@@ -58,7 +58,7 @@ fn show_packing(rt: &HostRuntime, state: &State, last: u32, times: u32) -> io::R
 
 /// Packs the last of a chain of so many objects so many times, out of a state that has so many others.
 pub fn show_bench(rt: &HostRuntime, reached: &str, others: &str, times: &str) -> io::Result<()> {
-    let mut state = State::new(rt.alloc(), 0)?;
+    let mut state = State::new(rt.alloc(), Vec::new(rt.alloc()));
     let last = fill(&mut state, number(reached), number(others))?;
     show_packing(rt, &state, last, number(times))
 }

@@ -33,7 +33,7 @@ pub fn make_nodes(state: &mut State, count: u32) -> Result<(), AllocError> {
 
 /// A state with so many objects of two nil items.
 pub fn nodes(alloc: Global, count: u32) -> Result<State, AllocError> {
-    let mut state = State::new(alloc, 0)?;
+    let mut state = State::new(alloc, Vec::new(alloc));
     make_nodes(&mut state, count)?;
     Ok(state)
 }

@@ -128,7 +128,7 @@ fn make_objects(state: &mut State) -> Result<(), MakeError> {
 }
 
 fn show_rows(rt: &HostRuntime) -> io::Result<()> {
-    let mut state = State::new(rt.alloc(), 0)?;
+    let mut state = State::new(rt.alloc(), Vec::new(rt.alloc()));
     let mut subject = Subject::new(rt.alloc(), 0)?;
     match make_objects(&mut state) {
         Ok(()) => show_lines(rt, &mut state, &mut subject),

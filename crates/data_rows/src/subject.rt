@@ -3,7 +3,7 @@ ghost use Rattle.std.specs.Option.{option_map};
 ghost use Rattle.pz_state.specs.States.{HasItem, locals_in};
 
 use crate::show;
-use pz_state::{FrameId, MakeError, Point, State};
+use pz_state::{FrameId, MakeError, Point, State, nil_values};
 use pz_value::{ClassId, Value};
 use std::alloc::{AllocError, Global};
 use std::io;
@@ -62,14 +62,14 @@ fn show_frame(rt: &HostRuntime, state: &State, frame: Frame) -> io::Result<()>
     print!(rt; "; frame {number}:")?;
     for slot in 0..frame.locals {
         print!(rt; " ")?;
-        show::value(rt, state.local(frame.id, slot))?;
+        show::value(rt, state.local(frame.id, slot as usize))?;
     }
     Ok(())
 }
 
 impl Subject {
     pub fn new(alloc: Global, variables: u32) -> Result<Subject, AllocError> {
-        let state = State::new(alloc, variables)?;
+        let state = State::new(alloc, nil_values(alloc, variables)?);
         Ok(Subject {
             state,
             variables,
@@ -123,7 +123,8 @@ impl Subject {
     pub fn set_local(&mut self, slot: u32, number: i64) -> Result<(), AllocError> {
         if let Some(frame) = self.frame {
             if slot < frame.locals {
-                self.state.set_local(frame.id, slot, Value::Int(number))?;
+                self.state
+                    .set_local(frame.id, slot as usize, Value::Int(number))?;
             }
         }
         Ok(())

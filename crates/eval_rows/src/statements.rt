@@ -8,7 +8,7 @@ use pz_code::{Code, Slot, StepForm};
 use pz_copy::Parcel;
 use pz_eval::{Allowance, Parceled, eval, eval_list, try_condition, try_eval, try_parcel};
 use pz_items::Items;
-use pz_state::{FrameId, State};
+use pz_state::{FrameId, State, nil_values};
 use pz_syntax::Pos;
 use std::io;
 
@@ -192,7 +192,7 @@ pub fn show_statements(
 ) -> io::Result<()>
     requires { AreKnown classes.now }
 {
-    let mut state = State::new(rt.alloc(), VARIABLES)?;
+    let mut state = State::new(rt.alloc(), nil_values(rt.alloc(), VARIABLES)?);
     let frame = state.open_frame(locals)?;
     let asking = Asking {
         classes,

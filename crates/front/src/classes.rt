@@ -65,11 +65,11 @@ fn answer(model: &Model, classes: &Classes, question: &str) -> Option<MethodId>
     let mut words = question.split_whitespace();
     let class = classes.class(words.next()?.as_bytes())?;
     let name = words.next()?.as_bytes();
-    let inputs = words.next()?.parse::<u32>().ok()?;
+    let inputs = words.next()?.parse::<usize>().ok()?;
     match words.next() {
         None => classes.method(class, name, inputs),
         Some(outputs) => {
-            let outputs = outputs.parse::<u32>().ok()?;
+            let outputs = outputs.parse::<usize>().ok()?;
             classes.process_method(class, name, inputs, outputs)
         }
     }

@@ -1,11 +1,10 @@
 -- The frame of a method that is called.
-use Rattle.std.proofs.Common.{◌≡◌, ℕ, zero, suc, ◌+◌, List, [], ◌∷◌, ◌++◌, length, Result, Ok, Err, refl, sym, subst, ap, ◌∙◌, arith}
+use Rattle.std.proofs.Common.{◌≡◌, ℕ, List, length, Result, Ok, Err, sym, subst, ap, ◌∙◌}
 use Rattle.pz_syntax.specs.declared.tokens.Pos.{Pos}
 use Rattle.pz_syntax.specs.declared.names.Id.{Id}
 use Rattle.pz_syntax.specs.Statements.{call}
 use Rattle.pz_value.specs.declared.value.Value.{Value}
 use Rattle.pz_code.specs.declared.slot.Slot.{Slot}
-use Rattle.pz_code.specs.declared.slot.Slot.TheVariants.{Local}
 use Rattle.pz_classes.specs.FitBodies.{how_many}
 use Rattle.pz_state.specs.States.{StateView, IsLeastFree}
 use Rattle.pz_state.specs.Marks.{Seen}
@@ -17,21 +16,7 @@ use Rattle.pz_rules.specs.Evaluations.{GivesAll}
 use Rattle.pz_rules.specs.Methods.{IsMethod}
 use Rattle.pz_rules.specs.InternalActions as actions
 use Rattle.pz_rules.specs.InternalActions.{entered, Performs}
-use Rattle.pz_rules.specs.Slots.{first_slots}
 use Rattle.pz_acting.specs.devices.Calls.{Enters}
-
--- so many locals from number n on
-abbrev pub slots_from : ℕ → ℕ → List Slot
-slots_from n zero = []
-slots_from n (suc k) = Local n ∷ slots_from (suc n) k
-
-pub one_more_slot : (n k m : ℕ) → m ≡ n + k → slots_from n (suc k) ≡ slots_from n k ++ Local m ∷ []
-one_more_slot n zero m e = let same : n ≡ m = omega (arith, e) in ap (λ (i : ℕ). Local i ∷ []) same
-one_more_slot n (suc k) m e = ap (λ (xs : List Slot). Local n ∷ xs) (one_more_slot (suc n) k m (omega (arith, e)))
-
-pub slots_of : (n : ℕ) (inputs : List Value) → slots_from n (length inputs) ≡ first_slots n inputs
-slots_of n [] = refl
-slots_of n (v ∷ vs) = ap (λ (xs : List Slot). Local n ∷ xs) (slots_of (suc n) vs)
 
 module _ (a : At) (f : ℕ) (at : Pos) (method : Id) (args : Codes) (results : List Slot) (s : Seen) (r : Result (List Value) Trouble) (gives : GivesAll a f at args r s.held)
     (locals : ℕ) (body : Steps) (is_method : IsMethod a.setting.model a.class method.name (how_many args) (length results) locals body) where

@@ -3,7 +3,6 @@
 ghost use Rattle.std.specs.Prelude.{◌≡◌, ℕ, List, length, All, IfOk, OnOk};
 ghost use Rattle.pz_syntax.specs.Classes.{ModelTree};
 ghost use Rattle.pz_syntax.specs.Statements as statements;
-ghost use Rattle.pz_value.specs.declared.value.Value.{Value as Found};
 ghost use Rattle.pz_code.specs.CodeView.{list_view};
 ghost use Rattle.pz_code.specs.StepView.{sequence_view};
 ghost use Rattle.pz_state.specs.References.{RefersWithin};
@@ -12,7 +11,6 @@ ghost use Rattle.pz_rules.specs.Terms as terms;
 ghost use Rattle.pz_rules.specs.Opening.{opened_all};
 ghost use Rattle.pz_rules.specs.Methods.{IsMethod};
 ghost use Rattle.pz_rules.specs.InternalActions.{Performs};
-ghost use Rattle.pz_rules.specs.Slots as slots;
 ghost use Rattle.pz_rules.specs.View.{term_view};
 ghost use Rattle.pz_eval.specs.Known.{AreKnown};
 ghost use Rattle.pz_asking.specs.Standpoints.{Knows, seen_from};
@@ -26,7 +24,7 @@ use pz_asking::Standpoint;
 use pz_classes::{Body, Classes};
 use pz_code::{Code, Slot, Step};
 use pz_items::{Boxed, Items};
-use pz_leaving::set_slots;
+use pz_leaving::set_inputs;
 use pz_offer::Trouble;
 use pz_process::trees_are_sets;
 use pz_rules::Term;
@@ -42,23 +40,13 @@ struct Method<'a> {
     steps: &'a [Step],
 }
 
-/// A count in 32 bits. More is taken for want of memory, since no memory holds so many elements.
-fn number_of(count: usize) -> Result<u32, AllocError>
-    ensures { IfOk result (λ number. number ≡ count) }
-{
-    match u32::try_from(count) {
-        Ok(number) => Ok(number),
-        Err(_) => Err(AllocError),
-    }
-}
-
 /// The method of a process class with this name and these numbers of inputs and outputs.
 fn find_method<'a>(
     classes: &'a Classes,
     class: ClassId,
     name: &[u8],
-    inputs: u32,
-    outputs: u32,
+    inputs: usize,
+    outputs: usize,
 ) -> Method<'a>
     requires { ∥ IsCallable classes.now class name.now inputs outputs ∥₁ }
     ensures { (m : ModelTree) → ∥ AreClasses m classes.now ∥₁ → IsMethod m class.0 name.now inputs outputs result.locals (sequence_view result.steps.now) }
@@ -76,22 +64,11 @@ fn find_method<'a>(
     }
 }
 
-/// So many locals, from the first on.
-fn first_slots(alloc: Global, count: u32) -> Result<Vec<Slot>, AllocError>
-    ensures { IfOk result (λ found. (inputs : List Found) → length inputs ≡ count → found.items ≡ slots.first_slots 0 inputs) }
-{
-    let mut found = Vec::with_capacity(alloc, count as usize)?;
-    for number in 0..count {
-        found.push(Slot::Local(number))?;
-    }
-    Ok(found)
-}
-
 /// The frame of a method, round its body.
 fn framed(
     alloc: Global,
     frame: FrameId,
-    inputs: u32,
+    inputs: usize,
     results: &[Slot],
     steps: &[Step],
 ) -> Result<Term, AllocError>
@@ -118,10 +95,9 @@ fn enter(
     requires { All (RefersWithin (length state.old.held.objects)) inputs }
     ensures { IfOk result (λ term. Enters method.entry.locals results.now (sequence_view method.entry.steps.now) inputs (term_view term) state.old state.new) }
 {
-    let count = number_of(inputs.len())?;
+    let count = inputs.len();
     let frame = state.open_frame(method.locals)?;
-    let slots = first_slots(alloc, count)?;
-    set_slots(state, frame, slots.as_slice(), inputs.into_vec())?;
+    set_inputs(state, frame, inputs.into_vec())?;
     framed(alloc, frame, count, results, method.steps)
 }
 
@@ -143,10 +119,8 @@ pub(crate) fn perform_call(
         (terms.leaf (statements.call pos method.now (list_view args.now) results.now)) pos (process_left state.new.held left)) }
     ensures marks { OnOk result (state.new.marks ≡ state.old.marks) }
 {
-    let inputs = number_of(args.len())?;
-    let outputs = number_of(results.len())?;
     let name = method.name.as_str().as_bytes();
-    let called = find_method(here.classes, class, name, inputs, outputs);
+    let called = find_method(here.classes, class, name, args.len(), results.len());
     match evaluate_all(alloc, here, state, frame, pos, args)? {
         Ok(values) => Ok(Ok(enter(alloc, state, called, values, results)?)),
         Err(trouble) => Ok(Err(trouble)),

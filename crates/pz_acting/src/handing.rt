@@ -9,7 +9,7 @@ ghost use Rattle.pz_rules.specs.Messages.{Sends, Hands};
 ghost use Rattle.pz_rules.specs.View.{term_view};
 ghost use Rattle.pz_eval.specs.Known.{AreKnown};
 ghost use Rattle.pz_asking.specs.Standpoints.{Knows, seen_from};
-ghost use Rattle.pz_acting.specs.Acting.{IsSend};
+ghost use Rattle.pz_rules.specs.Acting.{IsSend};
 ghost use Rattle.pz_acting.specs.Becoming.{done_left};
 ghost use Rattle.pz_acting.specs.devices.Effects.{RunsBoth};
 

@@ -4,13 +4,11 @@
 mod calling;
 mod evaluating;
 mod handing;
-mod laws;
 mod opening;
 mod performing;
 mod taking;
 mod testing;
 
 pub use handing::hand;
-pub use laws::offered_parts_act;
 pub use performing::perform;
 pub use taking::take;

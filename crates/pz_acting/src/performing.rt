@@ -13,7 +13,7 @@ ghost use Rattle.pz_rules.specs.InternalActions.{Can, Performs};
 ghost use Rattle.pz_rules.specs.View.{term_view};
 ghost use Rattle.pz_eval.specs.Known.{AreKnown};
 ghost use Rattle.pz_asking.specs.Standpoints.{Knows, seen_from};
-ghost use Rattle.pz_acting.specs.Acting.{IsActing};
+ghost use Rattle.pz_rules.specs.Acting.{IsActing};
 ghost use Rattle.pz_acting.specs.Becoming.{process_left, done_left};
 ghost use Rattle.pz_acting.specs.Fitting.{FitsHere};
 

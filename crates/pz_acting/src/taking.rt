@@ -13,7 +13,7 @@ ghost use Rattle.pz_rules.specs.Messages.{Receives, Takes, variables_of};
 ghost use Rattle.pz_rules.specs.View.{term_view};
 ghost use Rattle.pz_eval.specs.Known.{AreKnown};
 ghost use Rattle.pz_asking.specs.Standpoints.{Knows, seen_from};
-ghost use Rattle.pz_acting.specs.Acting.{IsReceive};
+ghost use Rattle.pz_rules.specs.Acting.{IsReceive};
 ghost use Rattle.pz_acting.specs.Becoming.{done_left};
 ghost use Rattle.pz_acting.specs.devices.Effects.{Ran};
 

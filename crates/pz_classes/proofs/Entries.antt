@@ -1,5 +1,5 @@
 -- What is kept of a class is its row.
-use Rattle.std.proofs.Common.{◌≡◌, ℕ, Option}
+use Rattle.std.proofs.Common.{◌≡◌, ◌<◌, ◌^◌, ℕ, Option, length}
 use Rattle.std.specs.Option.{option_map}
 use Rattle.pz_syntax.specs.Classes.{ModelTree}
 use Rattle.pz_code.specs.declared.step.Step.{Step}
@@ -16,7 +16,7 @@ use Rattle.pz_classes.proofs.Agreeing.{agreeing}
 
 pub row_is : (m : ModelTree) (c : ℕ) (up : Option ℕ) (members : Members) (start : Option Step) (methods : Methods) → up ≡ parent m c
     → HasMembers m (ancestors m c) members → option_map step.view start ≡ own_call m c → HasMethodsOf m c methods
-    → row_view (record { parent = up; members = members; start = start; methods = methods }) ≡ row m c
-row_is m c up members start methods extends has starts declares =
+    → (few : length members.fields < 2 ^ 32) → row_view (record { parent = up; members = members; start = start; methods = methods; few_fields = few }) ≡ row m c
+row_is m c up members start methods extends has starts declares few =
     let declared : method_in methods ≡ (λ (s : Signature). own_method m s c) = agreeing (method_in methods) (λ (s : Signature). own_method m s c) declares.each in
     rw (extends, has.fields, has.variables, has.ports, starts, declared)

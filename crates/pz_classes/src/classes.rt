@@ -1,4 +1,4 @@
-ghost use Rattle.std.specs.Prelude.{◌≡◌, ◌<◌, ◌+◌, List, ℕ, length, IfOk, OnOk, IfErr, IfSome};
+ghost use Rattle.std.specs.Prelude.{◌≡◌, ◌<◌, ◌+◌, ◌^◌, List, ℕ, length, IfOk, OnOk, IfErr, IfSome};
 ghost use Rattle.std.specs.Prelude.{Some, slice_get};
 ghost use Rattle.std.specs.Option.{option_map, option_and_then, option_copied};
 ghost use Rattle.pz_code.specs.StepView as step;
@@ -26,9 +26,10 @@ use crate::ancestry::{number_classes, parents_of};
 use crate::bodies::bodies_of;
 use crate::checking::least_violation;
 use crate::declarations::declared_name;
-use crate::entry::{Entry, entries_of};
+use crate::entry::Entry;
 use crate::finding::{find, find_start};
 use crate::members::members_of_classes;
+use crate::tabling::entries_of;
 use crate::{Body, BuildError, Counts, MethodId, Step};
 use pz_code::Numbering;
 use pz_items::Items;
@@ -164,10 +165,11 @@ impl Classes {
     }
 
     /// The fields of a data class: those of its ancestors from the root on, in the order of the
-    /// text.
+    /// text. 32 bits number them.
     pub fn fields(&self, class: ClassId) -> &[Name]
         requires { HasClass self.now class }
-        ensures { (m : ModelTree) → AreClasses m self.now → result.now ≡ spelled (members.fields m class.0) }
+        ensures fields { (m : ModelTree) → AreClasses m self.now → result.now ≡ spelled (members.fields m class.0) }
+        ensures few { length result.now < 2 ^ 32 }
     {
         self.entry(class).members.fields.as_slice()
     }
@@ -190,7 +192,7 @@ impl Classes {
 
     /// The method of a data class with this name and number of inputs: that of the nearest ancestor
     /// that has it. None where none has.
-    pub fn method(&self, class: ClassId, name: &[u8], inputs: u32) -> Option<MethodId>
+    pub fn method(&self, class: ClassId, name: &[u8], inputs: usize) -> Option<MethodId>
         requires { HasClass self.now class }
         ensures method { (m : ModelTree) → AreClasses m self.now → result ≡ methods.method m class.0 name.now inputs }
         ensures body { (m : ModelTree) → AreClasses m self.now → option_and_then (λ n. slice_get (bodies m) n.0) result ≡ method_body m class.0 name.now inputs }
@@ -210,8 +212,8 @@ impl Classes {
         &self,
         class: ClassId,
         name: &[u8],
-        inputs: u32,
-        outputs: u32,
+        inputs: usize,
+        outputs: usize,
     ) -> Option<MethodId>
         requires { HasClass self.now class }
         ensures method { (m : ModelTree) → AreClasses m self.now → result ≡ methods.process_method m class.0 name.now inputs outputs }

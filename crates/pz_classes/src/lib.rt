@@ -19,6 +19,7 @@ mod method_index;
 mod methods;
 mod starting;
 mod surroundings;
+mod tabling;
 
 pub use checked::Checked;
 pub use classes::Classes;

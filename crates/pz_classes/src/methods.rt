@@ -46,7 +46,7 @@ fn data_methods(alloc: Global, first: u32, methods: &[DataMethod]) -> Result<Met
     let mut named = Methods::new(alloc, first);
     for method in methods {
         let counts = Counts::Data {
-            inputs: count_section(&method.inputs),
+            inputs: count_section(&method.inputs) as usize,
         };
         named.add(alloc, &method.name.name, counts)?;
     }
@@ -67,8 +67,8 @@ fn process_methods(
     let mut named = Methods::new(alloc, first);
     for method in methods {
         let counts = Counts::Process {
-            inputs: count_names(method.inputs.as_slice()),
-            outputs: count_names(method.outputs.as_slice()),
+            inputs: count_names(method.inputs.as_slice()) as usize,
+            outputs: count_names(method.outputs.as_slice()) as usize,
         };
         named.add(alloc, &method.name.name, counts)?;
     }

@@ -28,7 +28,7 @@ fn set_slot(state: &mut State, frame: FrameId, slot: &Slot, value: Value) -> Res
     ensures marks { state.new.marks ≡ state.old.marks }
 {
     match slot {
-        Slot::Local(i) => write_local(state, frame, *i, value),
+        Slot::Local(i) => write_local(state, frame, *i as usize, value),
         Slot::Shared(i) => write_variable(state, *i, value),
         Slot::Unknown => Ok(()),
     }

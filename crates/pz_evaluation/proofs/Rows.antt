@@ -11,7 +11,7 @@ use Rattle.pz_value.specs.declared.value.Value.TheVariants as value
 use Rattle.pz_code.specs.declared.slot.Slot.TheVariants.{Shared}
 use Rattle.pz_code.specs.CodeView.{Tree}
 use Rattle.pz_state.specs.declared.fault.FaultKind.TheVariants.{DivideByZero, NotUnderstood, NotBoolean, ClockTooLarge}
-use Rattle.pz_state.specs.States.{initial}
+use Rattle.pz_state.specs.States.{initial, nils}
 use Rattle.pz_evaluation.specs.declared.allowance.Allowance.{Allowance}
 use Rattle.pz_evaluation.specs.declared.outcome.Outcome.{Outcome}
 use Rattle.pz_evaluation.specs.declared.outcome.Outcome.TheVariants as found
@@ -38,7 +38,7 @@ integer column n = expression.literal (at column) (literal.Int (pos n))
 
 -- what is found in a state of two nil variables, at this clock
 abbrev at_clock : ℕ → Tree → ℕ → ℕ → Outcome
-at_clock now t units depth = outcome_of (reached_value nothing now 0 (initial 2) t (allowed units depth))
+at_clock now t units depth = outcome_of (reached_value nothing now 0 (initial (nils 2)) t (allowed units depth))
 
 abbrev finds : Tree → ℕ → ℕ → Outcome
 finds = at_clock 0
@@ -173,7 +173,7 @@ family = record {
 }
 
 abbrev in_family : Tree → ℕ → ℕ → Outcome
-in_family t units depth = outcome_of (reached_value family 0 0 (initial 0) t (allowed units depth))
+in_family t units depth = outcome_of (reached_value family 0 0 (initial (nils 0)) t (allowed units depth))
 
 -- new(D) name(n)
 abbrev called : List ℕ → ℕ → Tree
@@ -205,7 +205,7 @@ changed_object : in_family (called (codes "h") 3) 100 400 ≡ found.Value (value
 unfolding evaluated step sequence arguments operators replied selectors going turns outcome answered every_value integers booleans
 changed_object = refl
 
-changed_field : state_after (initial 0) (reached_value family 0 0 (initial 0) (called (codes "h") 3) (allowed 100 400))
+changed_field : state_after (initial (nils 0)) (reached_value family 0 0 (initial (nils 0)) (called (codes "h") 3) (allowed 100 400))
     ≡ record { vars = []; frames = []; objects = record { class = record { 0 = 1 }; items = value.Int (pos 3) ∷ [] } ∷ [] }
 unfolding evaluated step sequence arguments operators replied selectors going turns outcome answered every_value integers booleans
 changed_field = refl

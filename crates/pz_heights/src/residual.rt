@@ -19,7 +19,7 @@ use pz_rules::Term;
 
 /// Of a term once its part at the place has become one of this outline. A part at the place may act.
 #[cycle(outlines)]
-fn outline_after(term: &Term, place: &[u32], part: Outline) -> Outline
+fn outline_after(term: &Term, place: &[usize], part: Outline) -> Outline
     requires { MayAct (term_view term.now) place.now }
     ensures { IsLeft part (term_view term.now) place.now result }
 {
@@ -31,7 +31,7 @@ fn outline_after(term: &Term, place: &[u32], part: Outline) -> Outline
 
 // The same, for a place in a child of the term.
 #[cycle(outlines)]
-fn outline_inside(term: &Term, child: u32, inner: &[u32], part: Outline) -> Outline
+fn outline_inside(term: &Term, child: usize, inner: &[usize], part: Outline) -> Outline
     requires { MayAct (term_view term.now) (child ∷ inner.now) }
     ensures { IsLeft part (term_view term.now) (child ∷ inner.now) result }
 {
@@ -41,7 +41,7 @@ fn outline_inside(term: &Term, child: u32, inner: &[u32], part: Outline) -> Outl
         Term::Wait { .. } => unreachable!(),
         Term::Seq(first, rest) => outline_sequence(outline_after(first.get(), inner, part), rest),
         Term::Par(parts) => outline_among(parts.as_slice(), child, inner, part),
-        Term::Sel(parts) => outline_after(&parts.as_slice()[child as usize], inner, part),
+        Term::Sel(parts) => outline_after(&parts.as_slice()[child], inner, part),
         Term::Guard { body, .. } => outline_after(body.get(), inner, part),
         Term::Frame { results, body, .. } => {
             outline_frame(results.as_slice(), outline_after(body.get(), inner, part))
@@ -61,11 +61,11 @@ fn outline_inside(term: &Term, child: u32, inner: &[u32], part: Outline) -> Outl
 
 // Of parts side by side.
 #[cycle(outlines)]
-fn outline_among(parts: &[Term], child: u32, inner: &[u32], part: Outline) -> Outline
+fn outline_among(parts: &[Term], child: usize, inner: &[usize], part: Outline) -> Outline
     requires { MayAct (terms.parallel (terms_view parts.now)) (child ∷ inner.now) }
     ensures { IsLeft part (terms.parallel (terms_view parts.now)) (child ∷ inner.now) result }
 {
-    let (before, from) = parts.split_at(child as usize);
+    let (before, from) = parts.split_at(child);
     let Some((acting, behind)) = from.split_first() else {
         unreachable!()
     };
@@ -74,7 +74,13 @@ fn outline_among(parts: &[Term], child: u32, inner: &[u32], part: Outline) -> Ou
 
 // Once the second part acts, it is all that is left.
 #[cycle(outlines)]
-fn outline_abort(first: &Term, second: &Term, child: u32, inner: &[u32], part: Outline) -> Outline
+fn outline_abort(
+    first: &Term,
+    second: &Term,
+    child: usize,
+    inner: &[usize],
+    part: Outline,
+) -> Outline
     requires { MayAct (terms.abort (term_view first.now) (term_view second.now)) (child ∷ inner.now) }
     ensures { IsLeft part (terms.abort (term_view first.now) (term_view second.now)) (child ∷ inner.now) result }
 {
@@ -90,8 +96,8 @@ fn outline_idle(
     first: &Term,
     second: &Term,
     again: &Step,
-    child: u32,
-    inner: &[u32],
+    child: usize,
+    inner: &[usize],
     part: Outline,
 ) -> Outline
     requires { MayAct (terms.idle (term_view first.now) (term_view second.now) (view again.now)) (child ∷ inner.now) }
@@ -107,7 +113,7 @@ fn outline_idle(
 /// Takes no memory, and time linear in the term.
 ///
 /// A part at the place may act.
-pub fn stays_low(term: &Term, place: &[u32], part: &Term, limit: u32) -> bool
+pub fn stays_low(term: &Term, place: &[usize], part: &Term, limit: u32) -> bool
     requires { MayAct (term_view term.now) place.now }
     ensures { (f : ℕ) (s : StateView) → result ≡ nat_le (height (residual f (term_view term.now) place.now (left_by s (term_view part.now))).term) limit }
 {

@@ -32,7 +32,7 @@ use Rattle.pz_rules.specs.Messages as messages
 use Rattle.pz_rules.specs.Messages.{Fits, bound, variables_of, Judges, Receives}
 use Rattle.pz_rules.specs.devices.Computed.{TestsAreComputed}
 use Rattle.pz_rules.specs.devices.Found.{tested}
-use Rattle.pz_judging.specs.Laws.{OneVerdict, WhatReceives}
+use Rattle.pz_judging.specs.Laws.{OneVerdict}
 
 -- Binding is the same to evaluation as to execution.
 
@@ -115,6 +115,3 @@ module _ (computed : TestsAreComputed) (a : At) (f : ℕ) where
 
 pub one_verdict : TestsAreComputed → OneVerdict
 one_verdict computed a f parcel t q r x y = term_once computed a f parcel t q r (judged computed a f parcel t q x) (judged computed a f parcel t r y)
-
-pub what_receives : WhatReceives
-what_receives _ _ _ _ _ (messages.receives at port name into condition block) = tt

@@ -1,17 +1,11 @@
--- Laws of receives.
-use Rattle.std.specs.Prelude.{◌≡◌, ℕ, Bool, List, Result}
-use Rattle.pz_syntax.specs.declared.tokens.Pos.{Pos}
+-- A law of receives.
+use Rattle.std.specs.Prelude.{◌≡◌, ℕ, Bool, Result}
 use Rattle.pz_copy.specs.Parcels.{ParcelView}
 use Rattle.pz_offer.specs.declared.trouble.Trouble.{Trouble}
 use Rattle.pz_rules.specs.Terms.{Term}
 use Rattle.pz_rules.specs.Settings.{At}
-use Rattle.pz_rules.specs.Messages.{Receives, Judges}
-use Rattle.pz_judging.specs.Parts.{IsReceive}
+use Rattle.pz_rules.specs.Messages.{Judges}
 
 -- a receive says one thing to a parcel
 abbrev pub OneVerdict : Type 0
 OneVerdict = (a : At) (f : ℕ) (parcel : ParcelView) (t : Term) (q r : Result Bool Trouble) → Judges a f parcel t q → Judges a f parcel t r → q ≡ r
-
--- what receives is a receive
-abbrev pub WhatReceives : Type 0
-WhatReceives = (t : Term) (at : Pos) (port : ℕ) (message : List ℕ) (count : ℕ) → Receives t at port message count → IsReceive t

@@ -1,16 +1,10 @@
 -- The parts of a term by their places.
 use Rattle.std.specs.Prelude.{◌≡◌, ℕ}
-use Rattle.pz_syntax.specs.Statements.{receive}
 use Rattle.pz_offer.specs.PlaceOrder.{Place}
-use Rattle.pz_rules.specs.Terms.{Term, leaf}
+use Rattle.pz_rules.specs.Terms.{Term}
 use Rattle.pz_rules.specs.Settings.{At}
 use Rattle.pz_rules.specs.Active.{Active}
 
 -- of a term that stands in frame f: an active part at the place is this one, in this frame
 abbrev pub IsPartAt : ℕ → Term → Place → ℕ → Term → Type 0
 IsPartAt f t place frame part = (a : At) (g : ℕ) (x : Term) → Active a f t place g x → (frame ≡ g) × (part ≡ x)
-
--- the statement is a receive
-abbrev pub IsReceive : Term → Type 0
-IsReceive (leaf (receive at port name into condition block)) = Unit {0}
-IsReceive t = ⊥

@@ -16,7 +16,7 @@ ghost use Rattle.pz_rules.specs.Evaluations as evaluations;
 ghost use Rattle.pz_rules.specs.Messages.{variables_of, Judges};
 ghost use Rattle.pz_eval.specs.Known.{AreKnown};
 ghost use Rattle.pz_asking.specs.Standpoints.{Knows, seen_from};
-ghost use Rattle.pz_judging.specs.Parts.{IsReceive};
+ghost use Rattle.pz_rules.specs.Acting.{IsReceive};
 
 use pz_asking::{Standpoint, allowance, truth, value_or_trouble};
 use pz_code::{Code, Slot, StepForm};

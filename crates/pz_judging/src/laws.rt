@@ -1,13 +1,12 @@
-// Laws of receives, the contract of a function that does nothing.
+// A law of receives, the contract of a function that does nothing.
 
-ghost use Rattle.pz_judging.specs.Laws.{OneVerdict, WhatReceives};
+ghost use Rattle.pz_judging.specs.Laws.{OneVerdict};
 
 use pz_rules::evaluations_are_computed;
 
-/// A receive says one thing to a parcel, and whatever receives is a receive.
+/// A receive says one thing to a parcel.
 pub fn one_verdict()
-    ensures one { OneVerdict }
-    ensures receives { WhatReceives }
+    ensures law { OneVerdict }
 {
     evaluations_are_computed();
 }

@@ -19,22 +19,22 @@ fn inner_frame(term: &Term, frame: FrameId) -> FrameId
     }
 }
 
-fn one_of<'a>(first: &'a Term, second: &'a Term, number: u32) -> &'a Term
+fn one_of<'a>(first: &'a Term, second: &'a Term, number: usize) -> &'a Term
     requires { number < 2 }
     ensures { term_view result.now ≡ first_or (term_view first.now) (term_view second.now) number }
 {
     if number == 0 { first } else { second }
 }
 
-fn part_in(parts: &[Term], number: u32) -> &Term
+fn part_in(parts: &[Term], number: usize) -> &Term
     requires { number < count (terms_view parts.now) }
     ensures { term_view result.now ≡ term_at (terms_view parts.now) number }
 {
-    &parts[number as usize]
+    &parts[number]
 }
 
 /// The child of this number, which may act.
-fn child_of(term: &Term, number: u32) -> &Term
+fn child_of(term: &Term, number: usize) -> &Term
     requires { MayActIn (term_view term.now) number }
     ensures { term_view result.now ≡ child (term_view term.now) number }
 {
@@ -55,7 +55,7 @@ fn child_of(term: &Term, number: u32) -> &Term
 
 /// The part at a place, and the frame in which it stands, of a term that stands in this frame. A part
 /// at the place may act. Takes no memory, and a step for each child on the way.
-pub fn part_at<'a>(term: &'a Term, frame: FrameId, place: &[u32]) -> (FrameId, &'a Term)
+pub fn part_at<'a>(term: &'a Term, frame: FrameId, place: &[usize]) -> (FrameId, &'a Term)
     requires { MayAct (term_view term.now) place.now }
     ensures { IsPartAt frame.0 (term_view term.now) place.now result.0.0 (term_view result.1.now) }
 {

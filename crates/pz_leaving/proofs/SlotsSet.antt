@@ -12,7 +12,7 @@ use Rattle.pz_code.specs.declared.slot.Slot.TheVariants.{Local, Shared, Unknown}
 use Rattle.pz_state.specs.States.{StateView, Frames, locals_of, locals, value_at, at_frame, set_variable, set_local}
 use Rattle.pz_state.specs.References.{RefersWithin}
 use Rattle.pz_state.specs.Marks.{Seen, changed}
-use Rattle.pz_rules.specs.Slots.{set_slot, set_slots}
+use Rattle.pz_rules.specs.Slots.{set_slot, set_slots, first_slots}
 
 pub no_variable : (s : Seen) (i : ℕ) (v : Value) → length s.held.vars ≤ i → s ≡ changed s (set_variable s.held i v)
 no_variable s i v past = ap (λ (vs : List Value). changed s (record s.held { vars = vs })) (sym (set_past s.held.vars i v past))
@@ -62,6 +62,21 @@ one_set f xs vs ws p x v s t all in_xs in_vs x_is v_is emptied set so_far =
     ∙ sym (ap (λ (l : List Slot). set_slots f l (drop p vs) s.held) (drop_more xs p x in_xs ∙ ap (λ (y : Slot). y ∷ drop (p + 1) xs) (sym x_is))
     ∙ ap (λ (l : List Value). set_slots f (x ∷ drop (p + 1) xs) l s.held) (drop_more vs p v in_vs ∙ ap (λ (w : Value). w ∷ drop (p + 1) vs) (sym v_is)))
     ∙ so_far
+
+-- one input further
+pub one_input : (f : ℕ) (vs ws : List Value) (p : ℕ) (v : Value) (s t : Seen) (all : StateView) → p < length vs → v ≡ get_or vs p v → ws ≡ slice_set vs p value.Nil → t ≡ changed s (set_local s.held f p v)
+    → set_slots f (first_slots p (drop p vs)) (drop p vs) s.held ≡ all → set_slots f (first_slots (p + 1) (drop (p + 1) ws)) (drop (p + 1) ws) t.held ≡ all
+one_input f vs ws p v s t all within v_is emptied set so_far =
+    let on : p + 1 ≡ suc p = omega arith in
+    ap (λ (l : List Value). set_slots f (first_slots (p + 1) (drop (p + 1) l)) (drop (p + 1) l) t.held) emptied
+    ∙ ap (λ (l : List Value). set_slots f (first_slots (p + 1) l) l t.held) (drop-set-lt (p + 1) vs p value.Nil (omega arith))
+    ∙ ap (λ (z : Seen). set_slots f (first_slots (p + 1) (drop (p + 1) vs)) (drop (p + 1) vs) z.held) set
+    ∙ ap (λ (n : ℕ). set_slots f (first_slots n (drop (p + 1) vs)) (drop (p + 1) vs) (set_local s.held f p v)) on
+    ∙ sym (ap (λ (l : List Value). set_slots f (first_slots p l) l s.held) (drop_more vs p v within ∙ ap (λ (w : Value). w ∷ drop (p + 1) vs) (sym v_is)))
+    ∙ so_far
+
+pub inputs_over : (f : ℕ) (vs : List Value) (p : ℕ) (s : StateView) → length vs ≤ p → set_slots f (first_slots p (drop p vs)) (drop p vs) s ≡ s
+inputs_over f vs p s past = ap (λ (l : List Value). set_slots f (first_slots p l) l s) (drop_past p vs past)
 
 pub still_objects : (f : ℕ) (x : Slot) (v : Value) (s t : Seen) → t ≡ changed s (set_slot f x v s.held) → t.held.objects ≡ s.held.objects
 still_objects f x v s t set = ap (λ (z : Seen). z.held.objects) set ∙ objects_kept f x v s.held

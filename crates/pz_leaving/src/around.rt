@@ -133,7 +133,7 @@ fn is_bare(term: &Term) -> bool
 fn framed(
     alloc: Global,
     frame: FrameId,
-    inputs: u32,
+    inputs: usize,
     results: Items<Slot>,
     left: Term,
 ) -> Result<Term, AllocError>
@@ -156,7 +156,7 @@ pub fn in_frame(
     alloc: Global,
     outer: FrameId,
     frame: FrameId,
-    inputs: u32,
+    inputs: usize,
     results: Items<Slot>,
     left: Term,
     state: &mut State,

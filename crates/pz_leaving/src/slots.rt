@@ -4,7 +4,7 @@ ghost use Rattle.std.specs.Prelude.{◌≡◌, length, take, drop, All, IfOk, On
 ghost use Rattle.pz_state.specs.References.{RefersWithin};
 ghost use Rattle.pz_state.specs.States.{locals, set_variable, set_local};
 ghost use Rattle.pz_state.specs.Marks.{changed};
-ghost use Rattle.pz_rules.specs.Slots.{set_slot, set_slots};
+ghost use Rattle.pz_rules.specs.Slots.{set_slot, set_slots, first_slots};
 
 use pz_code::Slot;
 use pz_state::{FrameId, State};
@@ -24,11 +24,11 @@ fn set_shared(state: &mut State, number: u32, value: Value) -> Result<(), AllocE
 }
 
 /// A local of a frame; where there is none of this number, nothing changes.
-fn set_own(state: &mut State, frame: FrameId, number: u32, value: Value) -> Result<(), AllocError>
+fn set_own(state: &mut State, frame: FrameId, number: usize, value: Value) -> Result<(), AllocError>
     requires { RefersWithin (length state.old.held.objects) value }
     ensures { OnOk result (state.new ≡ changed state.old (set_local state.old.held frame.0 number value)) }
 {
-    if number as usize >= state.locals(frame) {
+    if number >= state.locals(frame).len() {
         return Ok(());
     }
     state.set_local(frame, number, value)
@@ -45,7 +45,7 @@ pub fn set_slot(
     ensures { OnOk result (state.new ≡ changed state.old (set_slot frame.0 slot value state.old.held)) }
 {
     match slot {
-        Slot::Local(number) => set_own(state, frame, number, value),
+        Slot::Local(number) => set_own(state, frame, number as usize, value),
         Slot::Shared(number) => set_shared(state, number, value),
         Slot::Unknown => Ok(()),
     }
@@ -71,25 +71,37 @@ pub fn set_slots(
     Ok(())
 }
 
+/// Gives the first locals of a frame these values, where there are so many.
+pub fn set_inputs(
+    state: &mut State,
+    frame: FrameId,
+    mut values: Vec<Value>,
+) -> Result<(), AllocError>
+    requires { All (RefersWithin (length state.old.held.objects)) values.items }
+    ensures { OnOk result (state.new ≡ changed state.old (set_slots frame.0 (first_slots 0 values.items) values.items state.old.held)) }
+{
+    for place in 0..values.len() {
+        let value = mem::replace(&mut values[place], Value::Nil);
+        set_own(state, frame, place, value)?;
+    }
+    Ok(())
+}
+
 /// The locals of a frame behind the first so many, and no more than wanted.
 pub fn copy_locals(
     alloc: Global,
     state: &State,
     frame: FrameId,
-    first: u32,
+    first: usize,
     wanted: usize,
 ) -> Result<Vec<Value>, AllocError>
     ensures values { IfOk result (λ values. values.items ≡ take wanted (drop first (locals state.now.held frame.0))) }
     ensures within { IfOk result (λ values. All (RefersWithin (length state.now.held.objects)) values.items) }
 {
     let mut values = Vec::new(alloc);
-    let there = state.locals(frame).saturating_sub(first as usize);
+    let there = state.locals(frame).len().saturating_sub(first);
     for count in 0..there.min(wanted) {
-        // No frame has so many locals that their numbers do not fit.
-        let Ok(slot) = u32::try_from(first as usize + count) else {
-            return Err(AllocError);
-        };
-        values.push(state.local(frame, slot).copy()?)?;
+        values.push(state.local(frame, first + count).copy()?)?;
     }
     Ok(values)
 }

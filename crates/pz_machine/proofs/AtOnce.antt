@@ -1,5 +1,5 @@
 -- What is found at once, or waited for, and then something else.
-use Rattle.std.proofs.Common.{◌≡◌, ℕ, suc, ◌<◌, Result, Ok, Err, refl, arith}
+use Rattle.std.proofs.Common.{◌≡◌, ℕ, suc, ◌<◌, ◌≤◌, Result, Ok, Err, refl, arith}
 use Rattle.std.specs.Prelude.{OnOk}
 use Rattle.pz_operations.specs.declared.stop.Stop.{Stop}
 use Rattle.pz_value.specs.declared.value.Value.{Value}
@@ -29,3 +29,7 @@ fewer (Err stop) u u1 u2 e h = tt
 pub one_fewer : {A : Type 0} (result : Result A Stop) (u u1 u2 : ℕ) → u ≡ suc u1 → u2 ≡ u1 → OnOk result (u2 < u)
 one_fewer (Ok x) u u1 u2 e h = omega (arith, e, h)
 one_fewer (Err stop) u u1 u2 e h = tt
+
+pub fewer_then : {A : Type 0} (result : Result A Stop) (u u1 u2 u3 : ℕ) → u ≡ suc u1 → u2 < u1 → OnOk result (u3 ≤ u2) → OnOk result (u3 < u)
+fewer_then (Ok x) u u1 u2 u3 e less h = omega (arith, e, less, h)
+fewer_then (Err stop) u u1 u2 u3 e less h = tt

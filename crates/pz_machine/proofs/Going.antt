@@ -54,6 +54,10 @@ module _ (model : ModelTree) (now : ℕ) (p : Place) where
       ap (λ (js : List Task). pending model now p js y m r) e
       ∙ ap (λ (f : Value → Computation Value). f y m r) (pending_push (λ z m1 r1. done (gives z m1) r1) ks k)
 
+-- the same, and then the same tasks
+pub then_same : (model : ModelTree) (now : ℕ) (p p1 : Place) (ks ks1 : List Task) {x x1 : Reached Value} → x ≡ x1 → p ≡ p1 → ks ≡ ks1 → and_then x (pending model now p ks) ≡ and_then x1 (pending model now p1 ks1)
+then_same model now p p1 ks ks1 x_is p_is ks_is = rw (x_is, p_is, ks_is) refl
+
 -- nothing is left to do
 pub given_none : (model : ModelTree) (now : ℕ) (p : Place) (k : Control) (y : Value) (ks : List Task) (m : Memory) (r : ℕ) → k ≡ control.Give y → ks ≡ [] → done (gives y m) r ≡ meant model now p ks k m r
 unfolding pending_before

@@ -1,5 +1,5 @@
 -- How lists, operators, selectors, arguments and turns go on.
-use Rattle.std.proofs.Common.{◌≡◌, ℕ, zero, suc, List, [], ◌∷◌, ◌++◌, length, Bool, true, false, Option, Some, None, Bor, Box, Global, refl, sym, ap, arith, rules}
+use Rattle.std.proofs.Common.{◌≡◌, ℕ, zero, suc, List, [], ◌∷◌, ◌++◌, length, Bool, true, false, Option, Some, None, Bor, Box, Global, refl, sym, ap, subst, arith, rules}
 use Rattle.pz_syntax.specs.declared.tokens.Pos.{Pos}
 use Rattle.pz_syntax.specs.Expressions.{Part}
 use Rattle.pz_syntax.specs.Classes.{ModelTree}
@@ -11,7 +11,7 @@ use Rattle.pz_code.specs.declared.code.Code.{Code}
 use Rattle.pz_code.specs.declared.code.CodeLink.{CodeLink}
 use Rattle.pz_code.specs.declared.code.CodeSending.{CodeSending, out-CodeSending}
 use Rattle.pz_code.specs.declared.code.CodeForm.TheFolds.{the_lemmas}
-use Rattle.pz_code.specs.CodeView.{view, list_view, part_view, sending_view}
+use Rattle.pz_code.specs.CodeView.{Tree, view, list_view, part_view, sending_view}
 use Rattle.pz_state.specs.declared.fault.FaultKind.TheVariants.{NotBoolean}
 use Rattle.pz_evaluation.specs.Memories.{Memory, Place}
 use Rattle.pz_evaluation.specs.Answers.{fault, gives, stops}
@@ -22,6 +22,7 @@ use Rattle.pz_evaluation.specs.devices.Laws.{TurnsGoOn}
 use Rattle.pz_operations.specs.declared.task.Request.{Request}
 use Rattle.pz_operations.specs.declared.task.Task.{Task}
 use Rattle.pz_operations.specs.declared.task.Task.TheVariants as task
+use Rattle.pz_operations.specs.devices.AtOnce.{Assigned}
 use Rattle.pz_operations.specs.devices.Views.{links_view, sendings_view}
 use Rattle.pz_machine.specs.devices.Tasks.{turning, sent, resumed, pending}
 use Rattle.pz_machine.proofs.Going.{then_assoc, then_gives, then_pending}
@@ -76,6 +77,16 @@ module _ (model : ModelTree) (now d : ℕ) (p : Place) (m : Memory) (r : ℕ) (n
   unfolding selectors
   selectors_over y [] e = refl
   selectors_over y (s ∷ ss) e = absurd (omega (arith, e))
+
+-- an assignment that is done at once
+pub done_assigned : (d : ℕ) (p : Place) (t : Tree) (m m1 : Memory) (u u1 : ℕ) (o : Option Value) (y : Value) → o ≡ Some y → Assigned d p t m u m1 u1 o → Assigned d p t m u m1 u1 (Some y)
+done_assigned d p t m m1 u u1 o y e = subst (λ (x : Option Value). Assigned d p t m u m1 u1 x) e
+
+pub list_assigned : (model : ModelTree) (now d : ℕ) (p p1 : Place) (y z : Value) (first : Code) (rest codes : List Code) (m m1 : Memory) (u u1 : ℕ) → p1 ≡ p → codes ≡ first ∷ rest
+    → Assigned d p (view first) m u m1 u1 (Some z)
+    → sequence model now (evaluated model now d) p1 z (list_view rest) m1 u1 ≡ sequence model now (evaluated model now d) p y (list_view codes) m u
+unfolding sequence
+list_assigned model now d p p1 y z first rest codes m m1 u u1 p_is e found = rw (p_is, e, found.1 model now) refl
 
 module _ (model : ModelTree) (now : ℕ) (p : Place) (m : Memory) (r : ℕ) (next : Value → Computation Value) where
   pub selectors_more : (d : ℕ) (y : Value) (first : CodeSending) (rest : List CodeSending) (sendings : List CodeSending) (ws : List Value) (ts : Codes) → sendings ≡ first ∷ rest

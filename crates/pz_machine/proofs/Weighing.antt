@@ -109,6 +109,10 @@ no_more_units (Ok c) u u1 w w1 (inl h) = omega (arith, h)
 no_more_units (Ok c) u u1 w w1 (inr h) = omega (arith, h.0)
 no_more_units (Err stop) u u1 w w1 h = tt
 
+pub no_more_below : (u w w1 u1 w2 : ℕ) → w1 ≤ w → NoMore u w1 u1 w2 → NoMore u w u1 w2
+no_more_below u w w1 u1 w2 less (inl h) = inl h
+no_more_below u w w1 u1 w2 less (inr h) = inr (h.0, omega (arith, h.1, less))
+
 pub counted_then : (result : Result Control Stop) (u u1 u2 : ℕ) → u ≡ suc u1 → OnOk result (u2 ≤ u1) → OnOk result (u2 < u)
 counted_then (Ok c) u u1 u2 e h = omega (arith, e, h)
 counted_then (Err stop) u u1 u2 e h = tt

@@ -12,9 +12,9 @@ ghost use Rattle.pz_machine.specs.devices.Tasks.{turning, pending, meant, coming
 ghost use Rattle.pz_machine.specs.devices.Steps.{Goes};
 ghost use Rattle.pz_operations.specs.devices.Within.{TaskWithin, ActivationWithin};
 ghost use Rattle.pz_machine.specs.devices.Within.{ControlWithin};
-ghost use Rattle.pz_machine.specs.devices.Weights.{list_weight, part_weight, tasks_weight, load};
+ghost use Rattle.pz_machine.specs.devices.Weights.{list_weight, part_weight, tasks_weight, load, NoMore};
 
-use crate::continuing::{add_task, descend, go_on_list};
+use crate::continuing::{add_task, descend, go_on_list, run_list};
 use crate::control::Control;
 use pz_code::Code;
 use pz_evaluation::turns_go_on;
@@ -59,16 +59,22 @@ pub(crate) fn choose<'a>(
 
 /// A `while` has a further turn, or not, as a value says.
 pub(crate) fn turn_or_end<'a>(
-    tasks: &mut Vec<Task<'a>>,
+    state: &mut State,
+    units: &mut u64,
+    activation: &mut Activation<'a>,
     depth: u32,
     at: Pos,
     test: &'a Code,
     body: &'a [Code],
     value: Value,
 ) -> Result<Control<'a>, Stop>
-    ensures goes { (model : ModelTree) (now : ℕ) (p : Place) (m : Memory) (r : ℕ) → Goes (λ c. meant model now p tasks.new.items c m r) result r (and_then (tested at (truth value) (going model now (evaluated model now depth) p (list_view body.now) (turning model now depth p at (view test.now) (list_view body.now))) m r) (pending model now p tasks.old.items)) }
-    ensures within { IfOk result (λ c. (count : ℕ) → All (TaskWithin count) tasks.old.items → All (TaskWithin count) tasks.new.items × ControlWithin count c) }
-    ensures weighs { IfOk result (λ c. load c tasks.new.items ≤ list_weight (list_view body.now) + tasks_weight tasks.old.items) }
+    requires { ActivationWithin (length state.old.held.objects) activation.old }
+    ensures goes { (model : ModelTree) (now : ℕ) → Goes (coming model now activation.new state.new.held units.new) result units.new (then_tasks model now activation.old (tested at (truth value) (going model now (evaluated model now depth) (place_of activation.old.site) (list_view body.now) (turning model now depth (place_of activation.old.site) at (view test.now) (list_view body.now))) (memory_of activation.old state.old.held) units.old)) }
+    ensures marks { state.new.marks ≡ state.old.marks }
+    ensures count { length state.new.held.objects ≡ length state.old.held.objects }
+    ensures site { activation.new.site ≡ activation.old.site }
+    ensures within { IfOk result (λ c. ActivationWithin (length state.new.held.objects) activation.new × ControlWithin (length state.new.held.objects) c) }
+    ensures weighs { IfOk result (λ c. NoMore units.old (list_weight (list_view body.now) + tasks_weight activation.old.tasks.items) units.new (load c activation.new.tasks.items)) }
 {
     let Value::Bool(goes) = value else {
         return Err(Stop::Fault(FaultKind::NotBoolean, at));
@@ -82,13 +88,13 @@ pub(crate) fn turn_or_end<'a>(
         test,
         body,
     };
-    add_task(tasks, turn)?;
-    go_on_list(tasks, depth, Value::Nil, body)
+    add_task(&mut activation.tasks, turn)?;
+    run_list(state, units, activation, depth, Value::Nil, body)
 }
 
 /// The test of a `while` begins, which counts one unit.
 fn begin_turn<'a>(
-    state: &State,
+    state: &mut State,
     units: &mut u64,
     activation: &mut Activation<'a>,
     depth: u32,
@@ -96,16 +102,17 @@ fn begin_turn<'a>(
     test: &'a Code,
     body: &'a [Code],
 ) -> Result<Control<'a>, Stop>
-    requires { ActivationWithin (length state.now.held.objects) activation.old }
-    ensures goes { (model : ModelTree) (now : ℕ) → Goes (coming model now activation.new state.now.held units.new) result units.new (then_tasks model now activation.old (ticked (λ m r. and_then (evaluated model now depth (place_of activation.old.site) (view test.now) m r) (λ y. tested at (truth y) (going model now (evaluated model now depth) (place_of activation.old.site) (list_view body.now) (turning model now depth (place_of activation.old.site) at (view test.now) (list_view body.now))))) (memory_of activation.old state.now.held) units.old)) }
+    requires { ActivationWithin (length state.old.held.objects) activation.old }
+    ensures goes { (model : ModelTree) (now : ℕ) → Goes (coming model now activation.new state.new.held units.new) result units.new (then_tasks model now activation.old (ticked (λ m r. and_then (evaluated model now depth (place_of activation.old.site) (view test.now) m r) (λ y. tested at (truth y) (going model now (evaluated model now depth) (place_of activation.old.site) (list_view body.now) (turning model now depth (place_of activation.old.site) at (view test.now) (list_view body.now))))) (memory_of activation.old state.old.held) units.old)) }
+    ensures marks { state.new.marks ≡ state.old.marks }
+    ensures count { length state.new.held.objects ≡ length state.old.held.objects }
     ensures site { activation.new.site ≡ activation.old.site }
-    ensures locals { activation.new.locals ≡ activation.old.locals }
-    ensures within { IfOk result (λ c. ActivationWithin (length state.now.held.objects) activation.new × ControlWithin (length state.now.held.objects) c) }
+    ensures within { IfOk result (λ c. ActivationWithin (length state.new.held.objects) activation.new × ControlWithin (length state.new.held.objects) c) }
     ensures counted { OnOk result (units.new < units.old) }
 {
     tick(units)?;
     match at_once(state, units, activation, depth, test) {
-        Some(value) => turn_or_end(&mut activation.tasks, depth, at, test, body, value),
+        Some(value) => turn_or_end(state, units, activation, depth, at, test, body, value),
         None => descend(
             &mut activation.tasks,
             depth,
@@ -122,7 +129,7 @@ fn begin_turn<'a>(
 
 /// A `while` goes on with its test, which counts one unit.
 pub(crate) fn go_on_turns<'a>(
-    state: &State,
+    state: &mut State,
     units: &mut u64,
     activation: &mut Activation<'a>,
     depth: u32,
@@ -130,11 +137,12 @@ pub(crate) fn go_on_turns<'a>(
     test: &'a Code,
     body: &'a [Code],
 ) -> Result<Control<'a>, Stop>
-    requires { ActivationWithin (length state.now.held.objects) activation.old }
-    ensures goes { (model : ModelTree) (now : ℕ) → Goes (coming model now activation.new state.now.held units.new) result units.new (then_tasks model now activation.old (turning model now depth (place_of activation.old.site) at (view test.now) (list_view body.now) (memory_of activation.old state.now.held) units.old)) }
+    requires { ActivationWithin (length state.old.held.objects) activation.old }
+    ensures goes { (model : ModelTree) (now : ℕ) → Goes (coming model now activation.new state.new.held units.new) result units.new (then_tasks model now activation.old (turning model now depth (place_of activation.old.site) at (view test.now) (list_view body.now) (memory_of activation.old state.old.held) units.old)) }
+    ensures marks { state.new.marks ≡ state.old.marks }
+    ensures count { length state.new.held.objects ≡ length state.old.held.objects }
     ensures site { activation.new.site ≡ activation.old.site }
-    ensures locals { activation.new.locals ≡ activation.old.locals }
-    ensures within { IfOk result (λ c. ActivationWithin (length state.now.held.objects) activation.new × ControlWithin (length state.now.held.objects) c) }
+    ensures within { IfOk result (λ c. ActivationWithin (length state.new.held.objects) activation.new × ControlWithin (length state.new.held.objects) c) }
     ensures counted { OnOk result (units.new < units.old) }
 {
     turns_go_on();

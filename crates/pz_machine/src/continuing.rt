@@ -19,7 +19,7 @@ ghost use Rattle.pz_machine.specs.devices.Weights.{weight, list_weight, sendings
 use crate::control::Control;
 use pz_code::{Code, CodeSending};
 use pz_items::Items;
-use pz_operations::{Activation, Request, Stop, Task, at_once, tick};
+use pz_operations::{Activation, Request, Stop, Task, assign_at_once, at_once, tick};
 use pz_state::State;
 use pz_value::Value;
 use std::alloc::{AllocError, Global};
@@ -82,6 +82,38 @@ pub(crate) fn go_on_list<'a>(
         return Ok(Control::Evaluate { depth, code: first });
     }
     descend(tasks, depth, first, Task::Sequence { depth, rest })
+}
+
+/// A list goes on after this value. Assignments that are done at once leave no task.
+pub(crate) fn run_list<'a>(
+    state: &mut State,
+    units: &mut u64,
+    activation: &mut Activation<'a>,
+    depth: u32,
+    value: Value,
+    codes: &'a [Code],
+) -> Result<Control<'a>, Stop>
+    requires value { RefersWithin (length state.old.held.objects) value }
+    requires within { ActivationWithin (length state.old.held.objects) activation.old }
+    ensures goes { (model : ModelTree) (now : ℕ) → Goes (coming model now activation.new state.new.held units.new) result units.new (then_tasks model now activation.old (sequence model now (evaluated model now depth) (place_of activation.old.site) value (list_view codes.now) (memory_of activation.old state.old.held) units.old)) }
+    ensures marks { state.new.marks ≡ state.old.marks }
+    ensures count { length state.new.held.objects ≡ length state.old.held.objects }
+    ensures site { activation.new.site ≡ activation.old.site }
+    ensures within { IfOk result (λ c. ActivationWithin (length state.new.held.objects) activation.new × ControlWithin (length state.new.held.objects) c) }
+    ensures weighs { IfOk result (λ c. NoMore units.old (list_weight (list_view codes.now) + tasks_weight activation.old.tasks.items) units.new (load c activation.new.tasks.items)) }
+{
+    let mut last = value;
+    let mut left = codes;
+    'list: while let Some((first, rest)) = left.split_first() {
+        match assign_at_once(state, units, activation, depth, first)? {
+            Some(value) => {
+                last = value;
+                left = rest;
+            }
+            None => return go_on_list(&mut activation.tasks, depth, last, left),
+        }
+    }
+    Ok(Control::Give(last))
 }
 
 /// A value is the next argument. The only error is want of memory.

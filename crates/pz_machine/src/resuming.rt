@@ -21,7 +21,7 @@ ghost use Rattle.pz_machine.specs.devices.Weights.{list_weight, task_weight, tas
 
 use crate::beginning::give;
 use crate::choosing::{choose, go_on_turns, turn_or_end};
-use crate::continuing::{add_argument, go_on_arguments, go_on_list, go_on_selectors};
+use crate::continuing::{add_argument, go_on_arguments, go_on_selectors, run_list};
 use crate::control::Control;
 use crate::operators::{go_on_operators, operate};
 use crate::setting::Setting;
@@ -114,7 +114,7 @@ pub(crate) fn resume<'a>(
 {
     let alloc = setting.alloc;
     match task {
-        Task::Sequence { depth, rest } => go_on_list(&mut activation.tasks, depth, value, rest),
+        Task::Sequence { depth, rest } => { run_list(state, units, activation, depth, value, rest) }
         Task::Operators { depth, links } => {
             go_on_operators(alloc, state, units, activation, depth, value, links)
         }
@@ -154,7 +154,7 @@ pub(crate) fn resume<'a>(
             at,
             test,
             body,
-        } => turn_or_end(&mut activation.tasks, depth, at, test, body, value),
+        } => turn_or_end(state, units, activation, depth, at, test, body, value),
         Task::Turn {
             depth,
             at,

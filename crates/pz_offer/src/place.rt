@@ -7,7 +7,7 @@ use std::marker::Model;
 /// Contracts see the list of the numbers.
 #[derive(Drop)]
 pub struct Place {
-    steps: Vec<u32>,
+    steps: Vec<usize>,
 }
 
 impl Model for Place {
@@ -29,7 +29,7 @@ impl Place {
     }
 
     /// The numbers of the children, from the root on.
-    pub fn as_slice(&self) -> &[u32]
+    pub fn as_slice(&self) -> &[usize]
         ensures { result.now ≡ self.now }
     {
         self.steps.as_slice()
@@ -44,7 +44,7 @@ impl Place {
     }
 
     /// Goes on to a child. The only error is want of memory, and then the place stays.
-    pub fn enter(&mut self, child: u32) -> Result<(), AllocError>
+    pub fn enter(&mut self, child: usize) -> Result<(), AllocError>
         ensures ok { OnOk result (self.new ≡ self.old ++ child ∷ []) }
         ensures err { OnErr result (self.new ≡ self.old) }
     {

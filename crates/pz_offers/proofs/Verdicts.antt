@@ -28,8 +28,10 @@ use Rattle.pz_leaving.specs.Places.{MayAct}
 use Rattle.pz_eval.specs.Known.{AreKnown}
 use Rattle.pz_process.specs.declared.process.Process.{Process}
 use Rattle.pz_process.specs.Standing.{setting_of, config_of, process_view}
-use Rattle.pz_judging.specs.Parts.{IsPartAt, IsReceive}
-use Rattle.pz_judging.specs.Laws.{OneVerdict, WhatReceives}
+use Rattle.pz_judging.specs.Parts.{IsPartAt}
+use Rattle.pz_judging.specs.Laws.{OneVerdict}
+use Rattle.pz_rules.specs.Acting.{IsReceive}
+use Rattle.pz_rules.specs.Laws.{WhatReceivesIsAReceive}
 use Rattle.pz_matching.specs.declared.ends.Receiver.{Receiver}
 use Rattle.pz_survey.specs.Surveyed.{IsReceiver}
 use Rattle.pz_offers.specs.devices.Judged.{HasReceive, JudgesAt}
@@ -104,7 +106,7 @@ module _ (m : ModelTree) (limits : Limits) (clock : ℕ) (ps : List Process) whe
       same_Some x.active.process (process_view (get_or ps r.end.process d))
       (sym x.active.stands.is_here ∙ slice_get-map process_view ps r.end.process ∙ ap (λ (o : Option Process). option_map process_view o) (slice_get-get_or ps r.end.process d (process_within r x)))
 
-  pub has_receive : WhatReceives → (r : Receiver) → IsReceiver (setting_of m limits) (config_of clock ps) r → (d : Process) → HasReceive (term_view (get_or ps r.end.process d).term) r.end.place
+  pub has_receive : WhatReceivesIsAReceive → (r : Receiver) → IsReceiver (setting_of m limits) (config_of clock ps) r → (d : Process) → HasReceive (term_view (get_or ps r.end.process d).term) r.end.place
   has_receive law r x d = record {
     seen = x.seen;
     frame = x.frame;

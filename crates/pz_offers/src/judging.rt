@@ -22,7 +22,7 @@ use pz_leaving::active_parts_may_act;
 use pz_matching::{Pair, Receiver, Sender, match_ends};
 use pz_offer::{Place, Trouble};
 use pz_process::Process;
-use pz_rules::{Action, Limits};
+use pz_rules::{Action, Limits, offered_parts_act};
 use pz_state::FrameId;
 use std::alloc::{AllocError, Global};
 
@@ -60,6 +60,7 @@ fn judge_receive(
     ensures unchanged { processes.new ≡ processes.old }
 {
     one_verdict();
+    offered_parts_act();
     let process = receiver.end.process;
     let here = Standpoint {
         classes: checked.classes(),

@@ -1,8 +1,8 @@
--- What constants, variables, `self` and operators stand for.
+-- What constants, variables, `self`, operators and assignments stand for.
 use Rattle.std.proofs.Common.{◌≡◌, List, rules}
 use Rattle.pz_syntax.specs.declared.tokens.Pos.{Pos}
 use Rattle.pz_syntax.specs.declared.exprs.Literal.{Literal}
-use Rattle.pz_syntax.specs.Expressions.{literal, variable, me, chain}
+use Rattle.pz_syntax.specs.Expressions.{literal, variable, me, chain, assign}
 use Rattle.pz_code.specs.declared.slot.Slot.{Slot}
 use Rattle.pz_code.specs.declared.code.Code.{Code}
 use Rattle.pz_code.specs.declared.code.CodeForm.TheVariants as form
@@ -25,6 +25,9 @@ me_view at = search (rules, the_lemmas)
 
 pub chain_view : (first : Code) (links : List CodeLink) (at : Pos) → form_view (form.Chain first links) at ≡ chain at (view first) (links_view links)
 chain_view first links at = search (rules, the_lemmas)
+
+pub assign_view : (x : Slot) (value : Code) (at : Pos) → form_view (form.Assign x value) at ≡ assign at x (view value)
+assign_view x value at = search (rules, the_lemmas)
 
 pub link_is : (l : CodeLink) → link_view l ≡ (l.op, l.pos, view l.operand)
 link_is l = search (rules, the_lemmas)

@@ -11,12 +11,12 @@ use Rattle.pz_code.specs.declared.code.Code.{Code}
 use Rattle.pz_code.specs.declared.code.CodeForm.TheVariants as form
 use Rattle.pz_code.specs.declared.code.CodeLink.{CodeLink}
 use Rattle.pz_code.specs.CodeView.{Tree, view}
-use Rattle.pz_evaluation.specs.Memories.{Memory, Place, read, self_at}
+use Rattle.pz_evaluation.specs.Memories.{Memory, Place, read, self_at, write}
 use Rattle.pz_evaluation.specs.Steps.{constant}
 use Rattle.pz_evaluation.specs.devices.Computed.{operators, evaluated, step}
 use Rattle.pz_operations.specs.devices.Views.{links_view}
-use Rattle.pz_operations.specs.devices.AtOnce.{IsWorth, IsWorthThree, Attempt}
-use Rattle.pz_operations.proofs.Views.{code_is, literal_view, variable_view, me_view, chain_view, link_is}
+use Rattle.pz_operations.specs.devices.AtOnce.{IsWorth, IsWorthThree, Attempt, Assigned}
+use Rattle.pz_operations.proofs.Views.{code_is, literal_view, variable_view, me_view, chain_view, assign_view, link_is}
 use Rattle.pz_operations.proofs.Applied.{Gives}
 
 pub some_weaker : {T : Type 0} (r : Option T) (P Q : T → Type 0) → ((x : T) → P x → Q x) → IfSome r P → IfSome r Q
@@ -60,3 +60,11 @@ module _ (p : Place) (m : Memory) (t : Tree) (y : Value) where
 pub nothing_left : {A : Type 0} (xs : List A) → length xs ≡ 0 → xs ≡ []
 nothing_left [] e = refl
 nothing_left (x ∷ xs) e = absurd (omega arith)
+
+-- an assignment of what is found at once
+pub assigned_found : (p : Place) (m m1 : Memory) (c t t1 : Code) (x : Slot) (y z : Value) (d d1 u u1 u2 : ℕ)
+    → c.form ≡ form.Assign x t → t1 ≡ t → d ≡ suc d1 → u ≡ suc u1 → z ≡ y → m1 ≡ write p x y m → Attempt d1 p m (view t1) u1 u2 (Some y)
+    → Assigned d p (view c) m u m1 u2 (Some z)
+unfolding evaluated step
+assigned_found p m m1 c t t1 x y z d d1 u u1 u2 is e deep some same left found =
+    (omega (arith, some, found.0), λ model now. rw (code_is c, is, assign_view x t c.pos, ← e, deep, some, same, left, found.1 model now) refl)

@@ -29,26 +29,23 @@ pub fn time(clock: u128, at: Pos) -> Result<Value, Stop>
 }
 
 /// How many fields objects of a class have; none if there is no such class.
-fn count_fields(classes: &Classes, class: ClassId) -> usize
+fn count_fields(classes: &Classes, class: ClassId) -> u32
     ensures { (m : ModelTree) → AreClasses m classes.now → result ≡ length (fields m class.0) }
 {
     if class.0 as usize >= classes.count() {
         return 0;
     }
-    classes.fields(class).len()
+    classes.fields(class).len() as u32
 }
 
-/// A new object of a class, its fields nil. More fields than 32 bits number are taken for want of
-/// memory.
+/// A new object of a class, its fields nil.
 pub fn create(classes: &Classes, state: &mut State, class: ClassId, at: Pos) -> Result<Value, Stop>
     ensures tells { (m : ModelTree) (locals : List Value) → AreClasses m classes.now → Tells result (steps.created m class at (record { state = state.old.held; locals = locals })) (record { state = state.new.held; locals = locals }) }
     ensures marks { state.new.marks ≡ state.old.marks }
     ensures count { length state.old.held.objects ≤ length state.new.held.objects }
     ensures within { IfOk result (RefersWithin (length state.new.held.objects)) }
 {
-    let Ok(fields) = u32::try_from(count_fields(classes, class)) else {
-        return Err(Stop::NoMemory);
-    };
+    let fields = count_fields(classes, class);
     if state.objects() == OBJECT_LIMIT {
         return Err(Stop::Fault(FaultKind::StoreFull, at));
     }

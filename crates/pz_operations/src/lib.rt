@@ -3,6 +3,7 @@
 //! What a method that runs has left to do has its types here.
 #![tactic(auto)]
 
+mod assigning;
 mod attempts;
 mod creating;
 mod operating;
@@ -13,6 +14,7 @@ mod task;
 mod units;
 mod writing;
 
+pub use assigning::assign_at_once;
 pub use attempts::{at_once, self_at};
 pub use creating::{create, time};
 pub use operating::{apply, apply_counted};

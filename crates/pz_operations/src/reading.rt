@@ -85,10 +85,7 @@ fn local_in(state: &State, frame: FrameId, slot: u32) -> Option<&Value>
     ensures value { unwrap_or (option_copied result) Nil ≡ local state.now.held frame.0 slot }
     ensures within { IfSome result (λ value. RefersWithin (length state.now.held.objects) value.now) }
 {
-    if slot as usize >= state.locals(frame) {
-        return None;
-    }
-    Some(state.local(frame, slot))
+    state.locals(frame).get(slot as usize)
 }
 
 /// A field of an object, if it is there.

@@ -43,7 +43,7 @@ fn find_method<'a>(
     classes: &'a Classes,
     class: ClassId,
     name: &[u8],
-    count: u32,
+    count: usize,
 ) -> Option<Method<'a>>
     requires { AreKnown classes.now }
     ensures { (m : ModelTree) → AreClasses m classes.now → option_map method_found result ≡ steps.data_method m class name.now count }
@@ -67,7 +67,7 @@ fn class_reply<'a>(
     state: &State,
     receiver: &Value,
     selector: &Id,
-    count: u32,
+    count: usize,
 ) -> Result<Reply<'a>, Stop>
     requires known { AreKnown classes.now }
     requires receiver { RefersWithin (length state.now.held.objects) receiver.now }
@@ -85,7 +85,7 @@ fn class_reply<'a>(
 }
 
 /// What a receiver does with a selector: what the table of primitive values says, or else what its class
-/// does. More arguments than 32 bits number are taken for want of memory.
+/// does.
 pub fn ask<'a>(
     alloc: Global,
     classes: &'a Classes,
@@ -105,11 +105,12 @@ pub fn ask<'a>(
     match prim(alloc, state, &request.receiver, name, arguments)? {
         Prim::Value(value) => Ok(Reply::Answers(value)),
         Prim::Fault(kind) => Err(Stop::Fault(kind, request.selector.pos)),
-        Prim::Other => {
-            let Ok(count) = u32::try_from(arguments.len()) else {
-                return Err(Stop::NoMemory);
-            };
-            class_reply(classes, state, &request.receiver, request.selector, count)
-        }
+        Prim::Other => class_reply(
+            classes,
+            state,
+            &request.receiver,
+            request.selector,
+            arguments.len(),
+        ),
     }
 }

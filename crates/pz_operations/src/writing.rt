@@ -29,14 +29,14 @@ pub fn write_variable(state: &mut State, slot: u32, value: Value) -> Result<(), 
 pub fn write_local(
     state: &mut State,
     frame: FrameId,
-    slot: u32,
+    slot: usize,
     value: Value,
 ) -> Result<(), AllocError>
     requires { RefersWithin (length state.old.held.objects) value }
     ensures ok { OnOk result (state.new ≡ changed state.old (set_local state.old.held frame.0 slot value)) }
     ensures err { OnErr result (state.new ≡ state.old) }
 {
-    if slot as usize >= state.locals(frame) {
+    if slot >= state.locals(frame).len() {
         return Ok(());
     }
     state.set_local(frame, slot, value)
@@ -82,7 +82,7 @@ pub fn write(
     ensures within { All (RefersWithin (length state.new.held.objects)) locals.new.items }
 {
     match (site, slot) {
-        (Site::Process(frame), Slot::Local(i)) => write_local(state, frame, i, value),
+        (Site::Process(frame), Slot::Local(i)) => write_local(state, frame, i as usize, value),
         (Site::Process(_), Slot::Shared(i)) => write_variable(state, i, value),
         (Site::Object(_), Slot::Local(i)) => {
             write_own(locals, i, value);

@@ -9,16 +9,17 @@ use Rattle.pz_rules.specs.declared.action.Action.{Action}
 use Rattle.pz_rules.specs.declared.moment.Moment.{Moment}
 use Rattle.pz_rules.specs.declared.moment.Moment.TheVariants.{Actions, Time}
 use Rattle.pz_rules.specs.Settings.{Setting}
-use Rattle.pz_rules.specs.Laws.{OneMoment}
+use Rattle.pz_term.specs.Laws.{OneMomentOf}
 use Rattle.pz_rules.specs.ChosenRuns.{Policy, stops_with, takes, is_beyond, decided}
 use Rattle.pz_trace.specs.Lines.{action_line, time_line}
 use Rattle.pz_term.specs.Simulations.{Simulation, IsMomentOf, Chooses, Passes, setting_in}
 use Rattle.pz_playing.specs.declared.playing.Played.{Played}
 use Rattle.pz_playing.specs.Endings.{ending_of}
 use Rattle.pz_playing.specs.devices.Known.{Known}
-use Rattle.pz_playing.specs.devices.Rests.{model_in, clock_in, IsReady, IsHeld, IsOffer}
+use Rattle.pz_term.specs.Simulations.{model_in, clock_in, IsOffer}
+use Rattle.pz_playing.specs.devices.Rests.{IsReady, IsHeld}
 use Rattle.pz_playing.specs.devices.Going.{told, told_events, progress, CutShort, Passing, Going, Ended}
-use Rattle.pz_playing.proofs.Simulated.{same_moment, time_is}
+use Rattle.pz_playing.proofs.Simulated.{time_is}
 use Rattle.pz_playing.proofs.Rests.{some_rest}
 use Rattle.pz_playing.proofs.Steps.{ready_passed, ready_chosen, clock_passed, clock_chosen, some_passing, some_choosing}
 use Rattle.pz_playing.proofs.Onwards.{told_none, onward_none, onward_then, passes_onward, acts_onward, cut_here, cut_later, ends_here}
@@ -27,8 +28,8 @@ use Rattle.pz_playing.proofs.Onwards.{told_none, onward_none, onward_then, passe
 pub asked_there : (until : Option ℕ) (s : Simulation) (clock time : ℕ) (b answer : Bool) → clock ≡ clock_in s → b ≡ is_beyond until clock time → b ≡ answer → is_beyond until (clock_in s) time ≡ answer
 asked_there until s clock time b answer same asked is = ap (λ (t : ℕ). is_beyond until t time) (sym same) ∙ sym asked ∙ is
 
-pub held_now : OneMoment → (until : Option ℕ) (s : Simulation) (time : ℕ) → IsMomentOf s (Time time) → is_beyond until (clock_in s) time ≡ true → IsHeld until s
-held_now one until s time at beyond d now = ap (is_beyond until (clock_in s)) (time_is (same_moment one s (Time d) (Time time) now at)) ∙ beyond
+pub held_now : OneMomentOf → (until : Option ℕ) (s : Simulation) (time : ℕ) → IsMomentOf s (Time time) → is_beyond until (clock_in s) time ≡ true → IsHeld until s
+held_now one until s time at beyond d now = ap (is_beyond until (clock_in s)) (time_is (one s (Time d) (Time time) now at)) ∙ beyond
 
 module _ (known : Known) (until : Option ℕ) (lines : Bool) (first : Simulation) (before : SinkState) (begun : ℕ) where
   pub passing_none : IsReady first → begun ≤ clock_in first → Passing until lines first before begun begun first before

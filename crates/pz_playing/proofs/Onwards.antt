@@ -22,9 +22,10 @@ use Rattle.pz_trace.specs.TraceText.{event_line}
 use Rattle.pz_term.specs.Simulations as simulations
 use Rattle.pz_term.specs.Simulations.{Simulation, stands, broken, IsMomentOf, Chooses, Passes}
 use Rattle.pz_playing.specs.devices.Known.{Known}
-use Rattle.pz_playing.specs.devices.Rests.{clock_in, IsReady, IsOffer, RestOf}
+use Rattle.pz_term.specs.Simulations.{clock_in, IsOffer}
+use Rattle.pz_playing.specs.devices.Rests.{IsReady, RestOf}
 use Rattle.pz_playing.specs.devices.Going.{told, told_events, Progress, progress, Since, Onward, CutShort}
-use Rattle.pz_playing.proofs.Simulated.{MomentIn, moment_in, time_is, count_is}
+use Rattle.pz_playing.proofs.Simulated.{time_is, count_is}
 use Rattle.pz_playing.proofs.Rests.{HasRest}
 
 told_next : (lines : Bool) (m : ModelTree) (e : Event) (events : List Event) → told_events lines m (e ∷ events) ≡ told lines (event_line m e) ++ told_events lines m events
@@ -78,7 +79,7 @@ module _ (policy : Policy) (m : ModelTree) (lines : Bool) where
   pub passes_onward : Known → (j p d : ℕ) (s t : Simulation) → IsMomentOf s (Time d) → is_beyond policy.until (clock_in s) d ≡ false → Passes s t
       → Onward policy m lines (progress j p s) (progress j (p + 1) t) (told lines (time_line (clock_in s) d))
   passes_onward known j p d _ _ now within (simulations.passes setting c next e is to) =
-      let here : IsMoment setting c (Time d) = moment_in (stands setting c whole) (Time d) now in
+      let here : IsMoment setting c (Time d) = now in
       let same : e ≡ d = time_is (known.one_moment setting c (Time e) (Time d) is here) in
       record { since = waited j p d setting c next here within (subst (λ (f : ℕ). PassesTo setting c f next) same to) }
 
@@ -130,7 +131,7 @@ module _ (policy : Policy) (m : ModelTree) (lines : Bool) where
 
   pub acts_onward : Known → (j p n k : ℕ) (s t : Simulation) → IsMomentOf s (Actions n) → decided policy j (clock_in s) (Actions n) ≡ takes n k → Chooses k s t → Acting j p n k s t
   acts_onward known j p n k _ _ now decides (simulations.acts setting c next i a is choice to) =
-      let here : IsMoment setting c (Actions n) = moment_in (stands setting c whole) (Actions n) now in
+      let here : IsMoment setting c (Actions n) = now in
       let same : i ≡ n = count_is (known.one_moment setting c (Actions i) (Actions n) is here) in
       record {
         action = a;
@@ -138,7 +139,7 @@ module _ (policy : Policy) (m : ModelTree) (lines : Bool) where
         onward = record { since = acted_on j p n k setting c next a here decides (as_counted setting c i n k a same choice) to };
       }
   acts_onward known j p n k _ _ now decides (simulations.stops setting c i a trouble is choice to) =
-      let here : IsMoment setting c (Actions n) = moment_in (stands setting c whole) (Actions n) now in
+      let here : IsMoment setting c (Actions n) = now in
       let same : i ≡ n = count_is (known.one_moment setting c (Actions i) (Actions n) is here) in
       record {
         action = a;
@@ -173,7 +174,7 @@ module _ (policy : Policy) (m : ModelTree) (lines : Bool) where
       }
 
 -- the run ends where the simulator stands
-ends_by : (policy : Policy) (j : ℕ) (s : Simulation) (m : Moment) (ending : Ending) → IsReady s → MomentIn s m → decided policy j (clock_in s) m ≡ stops_with ending → RestOf policy j s [] s ending
+ends_by : (policy : Policy) (j : ℕ) (s : Simulation) (m : Moment) (ending : Ending) → IsReady s → IsMomentOf s m → decided policy j (clock_in s) m ≡ stops_with ending → RestOf policy j s [] s ending
 ends_by policy j (stands setting c whole) m ending ready is decides = record {
   end = c;
   standing = whole;
@@ -191,4 +192,4 @@ ends_by policy j (stands setting c (stopped trouble)) m ending ready is decides 
 ends_by policy j (broken setting) m ending ready is decides = absurd ready
 
 pub ends_here : (policy : Policy) (j : ℕ) (s : Simulation) (m : Moment) (ending : Ending) → IsReady s → IsMomentOf s m → decided policy j (clock_in s) m ≡ stops_with ending → RestOf policy j s [] s ending
-ends_here policy j s m ending ready now decides = ends_by policy j s m ending ready (moment_in s m now) decides
+ends_here policy j s m ending ready now decides = ends_by policy j s m ending ready now decides

@@ -16,8 +16,9 @@ use Rattle.pz_rules.specs.Runs.{whole, stopped, IsChoice}
 use Rattle.pz_term.specs.Simulations as simulations
 use Rattle.pz_term.specs.Simulations.{Simulation, stands, broken, IsMomentOf, Chooses, Passes}
 use Rattle.pz_playing.specs.devices.Known.{Known}
-use Rattle.pz_playing.specs.devices.Rests.{clock_in, pending_in, CanGoOn, IsReady}
-use Rattle.pz_playing.proofs.Simulated.{moment_in, time_stopped, actions_stopped, counted}
+use Rattle.pz_term.specs.Simulations.{clock_in}
+use Rattle.pz_playing.specs.devices.Rests.{pending_in, CanGoOn, IsReady}
+use Rattle.pz_playing.proofs.Simulated.{time_stopped, actions_stopped}
 
 some_action : Action
 some_action = Internal (record { process = 0; place = [] }) Skip (record { line = 0; column = 0 })
@@ -73,27 +74,25 @@ module _ (known : Known) where
 
   -- where time passes or an action is chosen, there is a simulator afterwards
   pub some_passing : (s : Simulation) (d : ℕ) → IsReady s → IsMomentOf s (Time d) → (t : Simulation) × Passes s t
-  some_passing (stands setting c whole) d ready now =
-      let is = moment_in (stands setting c whole) (Time d) now in
+  some_passing (stands setting c whole) d ready is =
       let to = known.some_passing setting c d ready.wires is in
       (stands setting to.0 whole, simulations.passes setting c to.0 d is to.1)
-  some_passing (stands setting c (stopped trouble)) d ready now = absurd (time_stopped (moment_in (stands setting c (stopped trouble)) (Time d) now))
+  some_passing (stands setting c (stopped trouble)) d ready now = absurd (time_stopped now)
   some_passing (broken setting) d ready now = absurd ready
 
   pub some_choosing : (s : Simulation) (n k : ℕ) → IsReady s → IsMomentOf s (Actions n) → k < n → (t : Simulation) × Chooses k s t
-  some_choosing (stands setting c whole) n k ready now within =
-      let is = moment_in (stands setting c whole) (Actions n) now in
-      let x = counted setting c n is in
+  some_choosing (stands setting c whole) n k ready is within =
+      let x = known.counts setting c n is in
       let below : k < length x.offers = omega (arith, within, x.count) in
       let a = get_or x.offers k some_action in
-      let choice : IsChoice setting c n k a = record { offers = x.offers; all = x.are; count = x.count; chosen = slice_get-get_or x.offers k some_action below } in
-      let left = known.some_next setting c a ready.sound ready.fit (x.are.derivable k some_action below) in
+      let choice : IsChoice setting c n k a = record { offers = x.offers; all = x.all; count = x.count; chosen = slice_get-get_or x.offers k some_action below } in
+      let left = known.some_next setting c a ready.sound ready.fit (x.all.derivable k some_action below) in
       chosen left.0 is choice left.1
     where
       chosen : {a : Action} (r : Result Config Trouble) → IsMoment setting c (Actions n) → IsChoice setting c n k a → Next setting c a r → (t : Simulation) × Chooses k (stands setting c whole) t
       chosen {a} (Ok next) is choice to = (stands setting next whole, simulations.acts setting c next n a is choice to)
       chosen {a} (Err trouble) is choice to = (stands setting c (stopped trouble), simulations.stops setting c n a trouble is choice to)
-  some_choosing (stands setting c (stopped trouble)) n k ready now within = absurd (actions_stopped (moment_in (stands setting c (stopped trouble)) (Actions n) now))
+  some_choosing (stands setting c (stopped trouble)) n k ready now within = absurd (actions_stopped now)
   some_choosing (broken setting) n k ready now within = absurd ready
 
 pub clock_chosen : (k : ℕ) (s t : Simulation) → Chooses k s t → clock_in t ≡ clock_in s

@@ -30,11 +30,11 @@ use Rattle.pz_playing.specs.Summaries.{actions_in, passings_in, summary_of, summ
 use Rattle.pz_playing.specs.Menus.{AreLeft, offered, no_offers, not_stopped, offers_text}
 use Rattle.pz_playing.specs.Playing.{EndsAs, ChosenRun, Telling, trace, summary, menu, Tells, of_trace, of_summary, of_menu, Plays}
 use Rattle.pz_playing.specs.devices.Known.{Known}
-use Rattle.pz_playing.specs.devices.Rests.{model_in, IsReady, IsTroubledIn, ChosenRest, RestOf}
+use Rattle.pz_term.specs.Simulations.{model_in}
+use Rattle.pz_playing.specs.devices.Rests.{IsReady, IsTroubledIn, ChosenRest, RestOf}
 use Rattle.pz_playing.specs.devices.Going.{told, told_events, CutShort, Ended, PlayedThrough, BrokenOff}
 use Rattle.pz_playing.proofs.Written.{err_is}
 use Rattle.pz_playing.proofs.Rests.{some_rest}
-use Rattle.pz_playing.proofs.Simulated.{counted}
 use Rattle.pz_playing.proofs.Ends.{run_named}
 
 -- the simulator stands at a start
@@ -190,7 +190,7 @@ left_beside : Known → (setting : Setting) (end : Config) (m : Moment) → IsMo
 left_beside known setting end m is other = ([], no_offers (λ n acts. other n (known.one_moment setting end (Actions n) m acts is)))
 
 left_at : Known → (setting : Setting) (end : Config) (m : Moment) → IsMoment setting end m → (offers : List Action) × AreLeft setting end halted offers
-left_at known setting end (Actions n) is = let x = counted setting end n is in (x.offers, offered n x.offers is x.are)
+left_at known setting end (Actions n) is = let x = known.counts setting end n is in (x.offers, offered n x.offers is x.all)
 left_at known setting end (Time d) is = left_beside known setting end (Time d) is (λ n h. cc)
 left_at known setting end Finished is = left_beside known setting end Finished is (λ n h. cc)
 left_at known setting end Deadlock is = left_beside known setting end Deadlock is (λ n h. cc)
@@ -213,7 +213,7 @@ LeftIn (stands setting c (stopped trouble)) offers = Unit {0}
 LeftIn (broken setting) offers = Unit {0}
 
 none_in : (s : Simulation) → ((n : ℕ) → IsMomentOf s (Actions n) → ⊥) → LeftIn s []
-none_in (stands setting c whole) never = no_offers (λ n is. never n (simulations.of_configuration setting c (Actions n) is))
+none_in (stands setting c whole) never = no_offers (λ n is. never n is)
 none_in (stands setting c (stopped trouble)) never = tt
 none_in (broken setting) never = tt
 

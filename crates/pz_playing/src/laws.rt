@@ -4,9 +4,10 @@ ghost use Rattle.pz_playing.specs.Laws.{RunTextsAreTraceTexts, ChosenRunsAreTrac
 ghost use Rattle.pz_playing.specs.devices.Known.{Known};
 
 use pz_rules::{
-    least_passes, one_chosen_run, one_list_of_offers, one_moment, one_next, passings_end,
-    what_fits_goes_on, wires_are_known,
+    least_passes, one_chosen_run, one_moment, one_next, passings_end, what_fits_goes_on,
+    wires_are_known,
 };
+use pz_term::simulators_show_one_moment;
 use pz_trace::what_happens_is_named;
 use pz_writing::pieces_join;
 
@@ -22,7 +23,6 @@ pub fn run_texts_are_traces()
 pub(crate) fn rules_are_known()
     ensures { Known }
 {
-    one_list_of_offers();
     wires_are_known();
     one_moment();
     least_passes();
@@ -30,6 +30,7 @@ pub(crate) fn rules_are_known()
     what_fits_goes_on();
     one_chosen_run();
     passings_end();
+    simulators_show_one_moment();
     what_happens_is_named();
     pieces_join();
 }

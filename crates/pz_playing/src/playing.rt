@@ -12,7 +12,8 @@ ghost use Rattle.pz_trace.specs.Lines as trace_lines;
 ghost use Rattle.pz_term.specs.Simulations.{Starts, IsMomentOf, Chooses, Passes, setting_in};
 ghost use Rattle.pz_term.specs.Plains.{simulation_of};
 ghost use Rattle.pz_playing.specs.Policies.{resolver_of, policy_of};
-ghost use Rattle.pz_playing.specs.devices.Rests.{model_in, clock_in, IsReady, IsHeld, IsOffer};
+ghost use Rattle.pz_term.specs.Simulations.{model_in, clock_in, IsOffer};
+ghost use Rattle.pz_playing.specs.devices.Rests.{IsReady, IsHeld};
 ghost use Rattle.pz_playing.specs.devices.Going.{told, Passing, CutShort, Ended, PlayedThrough, BrokenOff};
 
 use crate::choosing::chooser_of;

@@ -15,7 +15,8 @@ ghost use Rattle.pz_playing.specs.Endings.{ending_of};
 ghost use Rattle.pz_playing.specs.Summaries.{summary_of};
 ghost use Rattle.pz_playing.specs.Menus as menus;
 ghost use Rattle.pz_playing.specs.Menus.{offers_text};
-ghost use Rattle.pz_playing.specs.devices.Rests.{model_in, clock_in, IsOffer, IsNamedIn, IsTroubledIn};
+ghost use Rattle.pz_term.specs.Simulations.{model_in, clock_in, IsOffer};
+ghost use Rattle.pz_playing.specs.devices.Rests.{IsNamedIn, IsTroubledIn};
 ghost use Rattle.pz_playing.specs.devices.Going.{told};
 
 use crate::Finale;

@@ -53,7 +53,7 @@ module _ (known : Known) (setting : Setting) (rest : List ℕ) where
       subst (ExpectedAt setting rest c (Some (action_line setting.model c.clock n k a))) (known.one_moment setting c (Actions n) m is at) (an_offer n k a named choice refl)
   expected_at c _ _ m at (no_offer _ n is none) = subst (ExpectedAt setting rest c None) (known.one_moment setting c (Actions n) m is at) (none_named n none refl)
   expected_at c _ _ m at (the_passing _ d is) = subst (ExpectedAt setting rest c (Some (time_line c.clock d))) (known.one_moment setting c (Time d) m is at) (a_passing d refl)
-  expected_at c standing _ m at (the_end _ _ e so no_stop) = an_end m e (ends_at known.one_moment setting c standing m e at so) no_stop refl
+  expected_at c standing _ m at (the_end _ _ e so no_stop) = an_end m e (ends_at known.one_moment_of setting c standing m e at so) no_stop refl
 
   same_expected : (c : Config) (x y : Option (List ℕ)) (m : Moment) → ExpectedAt setting rest c x m → ExpectedAt setting rest c y m → x ≡ y
   same_expected c x y _ (an_offer n k a named choice is) (an_offer _ l b named' choice' is') =

@@ -16,7 +16,6 @@ use Rattle.pz_rules.specs.Moments.{IsMoment}
 use Rattle.pz_rules.specs.Runs.{Standing, whole, stopped, IsChoice}
 use Rattle.pz_trace.specs.declared.ending.Ending.{Ending}
 use Rattle.pz_trace.specs.Lines.{header, time_line, action_line, end_line}
-use Rattle.pz_term.specs.Simulations as simulations
 use Rattle.pz_term.specs.Simulations.{stands}
 use Rattle.pz_replaying.specs.Stages.{Stage, unbegun, underway, concluded}
 use Rattle.pz_replaying.specs.devices.Known.{Known}
@@ -183,7 +182,7 @@ module _ (known : Known) (setting : Setting) (Q : Stage → Type 0) (line : List
 
     offer_decided : (n k : ℕ) → IsMoment setting c (Actions n) → k < n → Decided (OfferFirst n k)
     offer_decided n k is within =
-        let offer = offer_there (stands setting c whole) n k (simulations.of_configuration setting c (Actions n) is) within in
+        let offer = offer_there known (stands setting c whole) n k is within in
         let choice = choice_of known setting c n k offer.0 is offer.1 in
         let result = known.some_next setting c offer.0 ready.sound ready.fit (derivable setting c n k offer.0 choice) in
         let to = leaves setting c offer.0 result.0 result.1 in

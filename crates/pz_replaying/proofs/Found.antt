@@ -12,7 +12,7 @@ use Rattle.pz_rules.specs.declared.moment.Moment.TheVariants as moments
 use Rattle.pz_rules.specs.Settings.{Setting}
 use Rattle.pz_rules.specs.Configurations.{Config}
 use Rattle.pz_rules.specs.Runs.{Standing, whole, stopped, IsChoice}
-use Rattle.pz_rules.specs.Laws.{OneMoment}
+use Rattle.pz_term.specs.Laws.{OneMomentOf}
 use Rattle.pz_trace.specs.declared.ending.Ending.{Ending}
 use Rattle.pz_trace.specs.declared.ending.Ending.TheVariants.{End, Deadlock, Stop, Trouble}
 use Rattle.pz_trace.specs.declared.headings.Heading.TheVariants.{Step}
@@ -29,13 +29,14 @@ use Rattle.pz_replaying.specs.Stages.{Stage, underway, concluded}
 use Rattle.pz_replaying.specs.Expected.{NamesOffer, Expects, the_offer, no_offer, the_passing, the_end}
 use Rattle.pz_replaying.specs.devices.Known.{Known}
 use Rattle.pz_replaying.specs.devices.Fronts.{StartsWith}
-use Rattle.pz_replaying.specs.devices.Readiness.{model_in, clock_in, IsReady, IsOffer, IsEndAt, IsLast, HasFewOffers}
+use Rattle.pz_term.specs.Simulations.{model_in, clock_in, IsOffer}
+use Rattle.pz_replaying.specs.devices.Readiness.{IsReady, IsEndAt, IsLast, HasFewOffers}
 use Rattle.pz_replaying.specs.devices.Taking.{Differs}
 use Rattle.pz_replaying.specs.devices.Judging.{IsMoveLine, Judges, goes, ends, differs}
 use Rattle.pz_replaying.proofs.Moments.{MomentAt, one_end, may_end}
 use Rattle.pz_replaying.proofs.Takings.{TakenAt, an_offer, a_passing, an_end, taken_at, offer_within, one_offer}
 use Rattle.pz_replaying.proofs.Expectings.{one_named}
-use Rattle.pz_replaying.proofs.Simulated.{moment_in, same_moment, count_is, choice_of, offer_there, ends_in}
+use Rattle.pz_replaying.proofs.Simulated.{count_is, choice_of, offer_there, ends_in}
 
 actions_stopped : {n : ℕ} {t : TheTrouble} → Actions n ≡ Stopped t → ⊥
 actions_stopped h = cc
@@ -110,7 +111,7 @@ judges_stop s m rest len ready now is begins = ends Stop len (ends_in s m Stop r
 pub differs_end : Known → (s : Simulation) (rest : List ℕ) (e : Ending) (made : Vec ℕ Global) → IsReady s → IsLast s e → Made made (end_line (model_in s) (clock_in s) e)
     → ((left : List ℕ) → rest ≡ end_line (model_in s) (clock_in s) e ++ left → ⊥) → Judges s rest (judged.Differs (Some made))
 differs_end known (stands setting c standing) rest e made ready last of none =
-    let at = moment_in (stands setting c standing) last.moment last.is_moment in
+    let at = last.is_moment in
     differs (Some made)
     (differs_by known setting c rest standing last.moment at
     (λ line left t is_line is taken. none left (is ∙ ap (λ (l : List ℕ). l ++ left) (end_alone known setting c rest standing last.moment e line t last.ends last.no_stop taken))))
@@ -125,44 +126,41 @@ judges_passing s rest line d len now of begins = goes (Wait d) len line now of b
 pub differs_passing : Known → (s : Simulation) (rest : List ℕ) (d : ℕ) (made : Vec ℕ Global) → IsReady s → IsMomentOf s (Time d) → Made made (time_line (clock_in s) d)
     → ((left : List ℕ) → rest ≡ end_line (model_in s) (clock_in s) Stop ++ left → ⊥) → ((left : List ℕ) → rest ≡ time_line (clock_in s) d ++ left → ⊥) → Judges s rest (judged.Differs (Some made))
 differs_passing known (stands setting c whole) rest d made ready now of no_stop none =
-    let at = moment_in (stands setting c whole) (Time d) now in
     differs (Some made)
-    (differs_by known setting c rest whole (Time d) at (λ line left t is_line is taken. passing_none known setting c rest d no_stop none line left t is taken))
-    (subst (λ (l : List ℕ). Expects setting rest (underway c whole) (Some l)) (sym of) (the_passing c d at))
-differs_passing known (stands setting c (stopped u)) rest d made ready now of no_stop none = absurd (time_stopped (moment_in (stands setting c (stopped u)) (Time d) now))
+    (differs_by known setting c rest whole (Time d) now (λ line left t is_line is taken. passing_none known setting c rest d no_stop none line left t is taken))
+    (subst (λ (l : List ℕ). Expects setting rest (underway c whole) (Some l)) (sym of) (the_passing c d now))
+differs_passing known (stands setting c (stopped u)) rest d made ready now of no_stop none = absurd (time_stopped now)
 differs_passing known (broken setting) rest d made ready now of no_stop none = absurd ready
 
 -- Where there are offers
 
-pub judges_offer : (s : Simulation) (rest line : List ℕ) (n k len : ℕ) → IsMomentOf s (Actions n) → k < n → ((a : Action) → IsOffer s k a → line ≡ action_line (model_in s) (clock_in s) n k a) → StartsWith rest line len
+pub judges_offer : Known → (s : Simulation) (rest line : List ℕ) (n k len : ℕ) → IsMomentOf s (Actions n) → k < n → ((a : Action) → IsOffer s k a → line ≡ action_line (model_in s) (clock_in s) n k a) → StartsWith rest line len
     → Judges s rest (judged.Goes (Act n k) len)
-judges_offer s rest line n k len now within of begins =
-    let offer = offer_there s n k now within in
+judges_offer known s rest line n k len now within of begins =
+    let offer = offer_there known s n k now within in
     goes (Act n k) len line (now, within) (offer.0, offer.1, of offer.0 offer.1) begins
 
 pub differs_none : Known → (s : Simulation) (rest : List ℕ) (n clock : ℕ) → IsReady s → IsMomentOf s (Actions n) → clock ≡ clock_in s → clock < 2 ^ 128 → n < 2 ^ 64
     → ((left : List ℕ) → rest ≡ end_line (model_in s) (clock_in s) Stop ++ left → ⊥) → ((k : ℕ) → k < n → NamesOffer rest k → ⊥) → Judges s rest (judged.Differs None)
 differs_none known (stands setting c whole) rest n clock ready now is_clock clock_fits n_fits no_stop none =
-    let at = moment_in (stands setting c whole) (Actions n) now in
     differs None
-    (differs_by known setting c rest whole (Actions n) at (acting_none known setting c rest n (subst (λ (i : ℕ). i < 2 ^ 128) is_clock clock_fits) n_fits no_stop none))
-    (no_offer c n at none)
-differs_none known (stands setting c (stopped u)) rest n clock ready now is_clock clock_fits n_fits no_stop none = absurd (actions_stopped (moment_in (stands setting c (stopped u)) (Actions n) now))
+    (differs_by known setting c rest whole (Actions n) now (acting_none known setting c rest n (subst (λ (i : ℕ). i < 2 ^ 128) is_clock clock_fits) n_fits no_stop none))
+    (no_offer c n now none)
+differs_none known (stands setting c (stopped u)) rest n clock ready now is_clock clock_fits n_fits no_stop none = absurd (actions_stopped now)
 differs_none known (broken setting) rest n clock ready now is_clock clock_fits n_fits no_stop none = absurd ready
 
 pub differs_offer : Known → (s : Simulation) (rest : List ℕ) (n k clock : ℕ) (made : Vec ℕ Global) → IsReady s → IsMomentOf s (Actions n) → clock ≡ clock_in s → clock < 2 ^ 128 → n < 2 ^ 64 → k < n
     → ((left : List ℕ) → rest ≡ end_line (model_in s) (clock_in s) Stop ++ left → ⊥) → NamesOffer rest k → ((a : Action) → IsOffer s k a → Made made (action_line (model_in s) (clock_in s) n k a))
     → ((left : List ℕ) → rest ≡ made.items ++ left → ⊥) → Judges s rest (judged.Differs (Some made))
 differs_offer known (stands setting c whole) rest n k clock made ready now is_clock clock_fits n_fits within no_stop named of none =
-    let at = moment_in (stands setting c whole) (Actions n) now in
-    let offer = offer_there (stands setting c whole) n k now within in
-    let choice = choice_of known setting c n k offer.0 at offer.1 in
+    let offer = offer_there known (stands setting c whole) n k now within in
+    let choice = choice_of known setting c n k offer.0 now offer.1 in
     let line : made.items ≡ action_line setting.model c.clock n k offer.0 = of offer.0 offer.1 in
     differs (Some made)
-    (differs_by known setting c rest whole (Actions n) at
+    (differs_by known setting c rest whole (Actions n) now
     (acting_other known setting c rest n (subst (λ (i : ℕ). i < 2 ^ 128) is_clock clock_fits) n_fits no_stop k offer.0 named choice (λ left is. none left (is ∙ ap (λ (l : List ℕ). l ++ left) (sym line)))))
-    (subst (λ (l : List ℕ). Expects setting rest (underway c whole) (Some l)) (sym line) (the_offer c n k offer.0 at named choice))
-differs_offer known (stands setting c (stopped u)) rest n k clock made ready now is_clock clock_fits n_fits within no_stop named of none = absurd (actions_stopped (moment_in (stands setting c (stopped u)) (Actions n) now))
+    (subst (λ (l : List ℕ). Expects setting rest (underway c whole) (Some l)) (sym line) (the_offer c n k offer.0 now named choice))
+differs_offer known (stands setting c (stopped u)) rest n k clock made ready now is_clock clock_fits n_fits within no_stop named of none = absurd (actions_stopped now)
 differs_offer known (broken setting) rest n k clock made ready now is_clock clock_fits n_fits within no_stop named of none = absurd ready
 
 -- a line is not empty
@@ -188,11 +186,11 @@ end_some m clock (Trouble (High process at)) =
 
 -- few offers
 
-pub few_there : OneMoment → (s : Simulation) (n : ℕ) → IsMomentOf s (Actions n) → n < 2 ^ 64 → HasFewOffers s
-few_there one s n now fits = λ m other. subst (λ (i : ℕ). i < 2 ^ 64) (count_is (same_moment one s (Actions n) (Actions m) now other)) fits
+pub few_there : OneMomentOf → (s : Simulation) (n : ℕ) → IsMomentOf s (Actions n) → n < 2 ^ 64 → HasFewOffers s
+few_there one s n now fits = λ m other. subst (λ (i : ℕ). i < 2 ^ 64) (count_is (one s (Actions n) (Actions m) now other)) fits
 
-pub few_else : OneMoment → (s : Simulation) (m : Moment) → IsMomentOf s m → ((n : ℕ) → m ≡ Actions n → ⊥) → HasFewOffers s
-few_else one s m now other_moment = λ n other. absurd (other_moment n (same_moment one s m (Actions n) now other))
+pub few_else : OneMomentOf → (s : Simulation) (m : Moment) → IsMomentOf s m → ((n : ℕ) → m ≡ Actions n → ⊥) → HasFewOffers s
+few_else one s m now other_moment = λ n other. absurd (other_moment n (one s m (Actions n) now other))
 
 pub time_no : (d n : ℕ) → Time d ≡ Actions n → ⊥
 time_no d n h = cc

@@ -21,7 +21,8 @@ use Rattle.pz_replaying.specs.Expected.{Expects}
 use Rattle.pz_replaying.specs.Replays.{TellsLines, refusal_text}
 use Rattle.pz_replaying.specs.devices.Known.{Known}
 use Rattle.pz_replaying.specs.devices.Fronts.{StartsWith}
-use Rattle.pz_replaying.specs.devices.Readiness.{model_in, clock_in, stage_of, IsReady, EndsIn, HasFewOffers}
+use Rattle.pz_term.specs.Simulations.{model_in, clock_in}
+use Rattle.pz_replaying.specs.devices.Readiness.{stage_of, IsReady, EndsIn, HasFewOffers}
 use Rattle.pz_replaying.specs.devices.Taking.{Takes, HasFew, IsKept, Differs}
 use Rattle.pz_replaying.specs.devices.Judging.{MayMove, Moves, IsMoveLine, Judges, goes, ends, differs, Concludes}
 use Rattle.pz_replaying.specs.devices.Progress.{Progress, Answers, Going}

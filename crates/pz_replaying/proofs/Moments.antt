@@ -6,10 +6,12 @@ use Rattle.pz_rules.specs.declared.moment.Moment.TheVariants.{Actions, Time, Fin
 use Rattle.pz_rules.specs.Settings.{Setting}
 use Rattle.pz_rules.specs.Ports.{HasWires}
 use Rattle.pz_rules.specs.Configurations.{Config}
-use Rattle.pz_rules.specs.Moments.{Says, faulty, acting, passing, finished, deadlock, IsMoment}
+use Rattle.pz_rules.specs.Moments.{Says, faulty, acting, passing, finished, deadlock}
 use Rattle.pz_rules.specs.Runs as runs
 use Rattle.pz_rules.specs.Runs.{Standing, whole, stopped, Ending as RunEnding, ended, deadlocked, troubled, halted, Ends}
-use Rattle.pz_rules.specs.Laws.{OneMoment, EveryMoment}
+use Rattle.pz_rules.specs.Laws.{EveryMoment}
+use Rattle.pz_term.specs.Simulations.{stands, IsMomentOf}
+use Rattle.pz_term.specs.Laws.{OneMomentOf}
 use Rattle.pz_trace.specs.declared.ending.Ending.{Ending}
 use Rattle.pz_trace.specs.declared.ending.Ending.TheVariants as ending
 use Rattle.pz_trace.specs.TraceText.{run_ending}
@@ -17,12 +19,7 @@ use Rattle.pz_replaying.specs.devices.Readiness.{IsEndAt}
 
 -- the moment where a run stands
 abbrev pub MomentAt : Setting → Config → Standing → Moment → Type 0
-MomentAt setting c whole m = IsMoment setting c m
-MomentAt setting c (stopped trouble) m = m ≡ Stopped trouble
-
-pub one_at : OneMoment → (setting : Setting) (c : Config) (standing : Standing) (m n : Moment) → MomentAt setting c standing m → MomentAt setting c standing n → m ≡ n
-one_at one setting c whole m n x y = one setting c m n x y
-one_at one setting c (stopped trouble) m n x y = x ∙ sym y
+MomentAt setting c standing m = IsMomentOf (stands setting c standing) m
 
 pub some_at : EveryMoment → (setting : Setting) (c : Config) (standing : Standing) → HasWires setting.model → (m : Moment) × MomentAt setting c standing m
 some_at some setting c whole wires = some setting c wires
@@ -68,10 +65,10 @@ end_moment setting _ _ _ e h (runs.halts_acting c n is) = record { moment = Acti
 end_moment setting _ _ _ e h (runs.halts_passing c d is) = record { moment = Time d; is_moment = is; is_end = halted_is e h }
 
 -- a run that ends does so as its moment has it
-pub ends_at : OneMoment → (setting : Setting) (c : Config) (standing : Standing) (m : Moment) (e : Ending) → MomentAt setting c standing m → Ends setting c standing (run_ending e) → IsEndAt m e
+pub ends_at : OneMomentOf → (setting : Setting) (c : Config) (standing : Standing) (m : Moment) (e : Ending) → MomentAt setting c standing m → Ends setting c standing (run_ending e) → IsEndAt m e
 ends_at one setting c standing m e at so =
     let x = end_moment setting c standing (run_ending e) e refl so in
-    subst (λ (n : Moment). IsEndAt n e) (one_at one setting c standing x.moment m x.is_moment at) x.is_end
+    subst (λ (n : Moment). IsEndAt n e) (one (stands setting c standing) x.moment m x.is_moment at) x.is_end
 
 pub one_end : (m : Moment) (e f : Ending) → IsEndAt m e → IsEndAt m f → e ≡ f
 one_end (Actions n) e f x y = x ∙ sym y

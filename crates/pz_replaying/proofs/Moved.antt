@@ -19,11 +19,12 @@ use Rattle.pz_replaying.specs.declared.judging.Move.{Move}
 use Rattle.pz_replaying.specs.declared.judging.Move.TheVariants.{Act, Wait}
 use Rattle.pz_replaying.specs.Stages.{underway}
 use Rattle.pz_replaying.specs.devices.Known.{Known}
-use Rattle.pz_replaying.specs.devices.Readiness.{model_in, clock_in, stage_of, IsReady, EndsIn, HasFewOffers}
+use Rattle.pz_term.specs.Simulations.{model_in, clock_in}
+use Rattle.pz_replaying.specs.devices.Readiness.{stage_of, IsReady, EndsIn, HasFewOffers}
 use Rattle.pz_replaying.specs.devices.Taking.{takes_place, fails, Takes, action_taken, passing_taken, end_taken, HasFew, IsKept}
 use Rattle.pz_replaying.specs.devices.Judging.{MayMove, Moves, IsMoveLine}
 use Rattle.pz_replaying.proofs.Takings.{one_offer, kept_taken}
-use Rattle.pz_replaying.proofs.Simulated.{moment_in, time_is, offer_there, choice_of, concluded_of}
+use Rattle.pz_replaying.proofs.Simulated.{time_is, offer_there, choice_of, concluded_of}
 
 actions_stopped : {n : ℕ} {t : Trouble} → Actions n ≡ Stopped t → ⊥
 actions_stopped h = cc
@@ -35,13 +36,13 @@ module _ (known : Known) where
   -- a chosen offer, of this line
   chosen_taken : (n k : ℕ) (s t : Simulation) (line : List ℕ) → IsMomentOf s (Actions n) → IsMoveLine s (Act n k) line → Chooses k s t → Takes (setting_in s) (stage_of s) line (stage_of t)
   chosen_taken n k _ _ line now of (simulations.acts setting c next n' a' is choice to) =
-      let here : IsMoment setting c (Actions n) = moment_in (stands setting c whole) (Actions n) now in
+      let here : IsMoment setting c (Actions n) = now in
       let mine = choice_of known setting c n k of.0 here of.1 in
       let action : a' ≡ of.0 = one_offer known setting c n' n k k a' of.0 refl choice mine in
       subst (λ (l : List ℕ). Takes setting (underway c whole) l (underway next whole)) (sym of.2)
       (action_taken c next whole n k of.0 here mine (takes_place next (subst (λ (b : Action). Next setting c b (Ok next)) action to)))
   chosen_taken n k _ _ line now of (simulations.stops setting c n' a' trouble is choice to) =
-      let here : IsMoment setting c (Actions n) = moment_in (stands setting c whole) (Actions n) now in
+      let here : IsMoment setting c (Actions n) = now in
       let mine = choice_of known setting c n k of.0 here of.1 in
       let action : a' ≡ of.0 = one_offer known setting c n' n k k a' of.0 refl choice mine in
       subst (λ (l : List ℕ). Takes setting (underway c whole) l (underway c (stopped trouble))) (sym of.2)
@@ -49,7 +50,7 @@ module _ (known : Known) where
 
   passed_taken : (d : ℕ) (s t : Simulation) (line : List ℕ) → IsMomentOf s (Time d) → line ≡ time_line (clock_in s) d → Passes s t → Takes (setting_in s) (stage_of s) line (stage_of t)
   passed_taken d _ _ line now of (simulations.passes setting c next e is to) =
-      let here : IsMoment setting c (Time d) = moment_in (stands setting c whole) (Time d) now in
+      let here : IsMoment setting c (Time d) = now in
       let same : e ≡ d = time_is (known.one_moment setting c (Time e) (Time d) is here) in
       subst (λ (l : List ℕ). Takes setting (underway c whole) l (underway next whole)) (sym of)
       (passing_taken c next d here (subst (λ (f : ℕ). PassesTo setting c f next) same to))
@@ -75,8 +76,8 @@ module _ (known : Known) where
   -- a move that may be made leads somewhere
   some_choosing : (n k : ℕ) (s : Simulation) → IsReady s → IsMomentOf s (Actions n) → k < n → (t : Simulation) × Chooses k s t
   some_choosing n k (stands setting c whole) ready now within =
-      let here : IsMoment setting c (Actions n) = moment_in (stands setting c whole) (Actions n) now in
-      let offer = offer_there (stands setting c whole) n k now within in
+      let here : IsMoment setting c (Actions n) = now in
+      let offer = offer_there known (stands setting c whole) n k now within in
       let choice = choice_of known setting c n k offer.0 here offer.1 in
       let left = known.some_next setting c offer.0 ready.sound ready.fit (derivable here offer.0 choice) in
       chosen offer.0 left.0 here choice left.1
@@ -87,15 +88,15 @@ module _ (known : Known) where
       chosen : (a : Action) (r : Result Config Trouble) → IsMoment setting c (Actions n) → IsChoice setting c n k a → Next setting c a r → (t : Simulation) × Chooses k (stands setting c whole) t
       chosen a (Ok next) is choice to = (stands setting next whole, simulations.acts setting c next n a is choice to)
       chosen a (Err trouble) is choice to = (stands setting c (stopped trouble), simulations.stops setting c n a trouble is choice to)
-  some_choosing n k (stands setting c (stopped trouble)) ready now within = absurd (actions_stopped (moment_in (stands setting c (stopped trouble)) (Actions n) now))
+  some_choosing n k (stands setting c (stopped trouble)) ready now within = absurd (actions_stopped now)
   some_choosing n k (broken setting) ready now within = absurd ready
 
   some_passing : (d : ℕ) (s : Simulation) → IsReady s → IsMomentOf s (Time d) → (t : Simulation) × Passes s t
   some_passing d (stands setting c whole) ready now =
-      let here : IsMoment setting c (Time d) = moment_in (stands setting c whole) (Time d) now in
+      let here : IsMoment setting c (Time d) = now in
       let to = known.some_passing setting c d ready.wires here in
       (stands setting to.0 whole, simulations.passes setting c to.0 d here to.1)
-  some_passing d (stands setting c (stopped trouble)) ready now = absurd (time_stopped (moment_in (stands setting c (stopped trouble)) (Time d) now))
+  some_passing d (stands setting c (stopped trouble)) ready now = absurd (time_stopped now)
   some_passing d (broken setting) ready now = absurd ready
 
   pub some_move : (step : Move) (s : Simulation) → IsReady s → MayMove s step → (t : Simulation) × Moves step s t
@@ -108,7 +109,7 @@ ended_taken (stands setting c standing) e so = end_taken c standing e so
 ended_taken (broken setting) e so = absurd so
 
 pub few_in : (s : Simulation) → HasFewOffers s → HasFew (setting_in s) (stage_of s)
-few_in (stands setting c whole) few = λ n is. few n (simulations.of_configuration setting c (Actions n) is)
+few_in (stands setting c whole) few = λ n is. few n is
 few_in (stands setting c (stopped trouble)) few = tt
 few_in (broken setting) few = tt
 

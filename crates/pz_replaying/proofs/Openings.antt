@@ -19,7 +19,8 @@ use Rattle.pz_replaying.specs.Expected.{Expects, the_header}
 use Rattle.pz_replaying.specs.Replays.{TellsLines, IsReplayed, refusal_text}
 use Rattle.pz_replaying.specs.devices.Known.{Known}
 use Rattle.pz_replaying.specs.devices.Fronts.{StartsWith}
-use Rattle.pz_replaying.specs.devices.Readiness.{model_in, IsReady}
+use Rattle.pz_term.specs.Simulations.{model_in}
+use Rattle.pz_replaying.specs.devices.Readiness.{IsReady}
 use Rattle.pz_replaying.specs.devices.Taking.{Takes, header_taken, arrived, Differs}
 use Rattle.pz_replaying.specs.devices.Progress.{Progress, Answers}
 use Rattle.pz_replaying.proofs.Goings.{answers_memory, answers_cut, answers_refused, since_none, since_on, since_answers}

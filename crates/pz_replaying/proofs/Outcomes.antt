@@ -39,7 +39,6 @@ use Rattle.pz_replaying.proofs.Roads.{splits, leads_on, leads_followed, lines_to
 use Rattle.pz_replaying.proofs.Refused.{either_less, agrees_led}
 use Rattle.pz_replaying.proofs.Begins.{no_line, none_unbroken, named, none_past, none_other}
 use Rattle.pz_replaying.proofs.Followings.{Decided, same_number, same_text, Leads, can_follow}
-use Rattle.pz_term.specs.Simulations as simulations
 
 -- A text is cut into its lines, and what stands behind the last LF
 
@@ -149,7 +148,7 @@ module _ (known : Known) where
 
     expects_offer : (c : Config) (n : ℕ) → IsMoment setting c (Actions n) → Names rest n ⊎ NamesNone rest n → SomeExpected (underway c whole)
     expects_offer c n is (inl x) =
-        let offer = offer_there (stands setting c whole) n x.k (simulations.of_configuration setting c (Actions n) is) x.within in
+        let offer = offer_there known (stands setting c whole) n x.k is x.within in
         record { expected = Some (action_line setting.model c.clock n x.k offer.0); expects = the_offer c n x.k offer.0 is x.named (choice_of known setting c n x.k offer.0 is offer.1) }
     expects_offer c n is (inr none) = record { expected = None; expects = no_offer c n is none }
 

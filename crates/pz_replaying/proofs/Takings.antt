@@ -47,7 +47,7 @@ taken_at known setting c _ _ _ m at (action_taken _ next left n k a is choice af
     subst (TakenAt setting c whole (action_line setting.model c.clock n k a) (underway next left)) (known.one_moment setting c (Actions n) m is at) (an_offer n k a next left choice after refl refl)
 taken_at known setting c _ _ _ m at (passing_taken _ next d is passes) =
     subst (TakenAt setting c whole (time_line c.clock d) (underway next whole)) (known.one_moment setting c (Time d) m is at) (a_passing d next passes refl refl)
-taken_at known setting c standing _ _ m at (end_taken _ _ e so) = an_end m e (ends_at known.one_moment setting c standing m e at so) refl refl
+taken_at known setting c standing _ _ m at (end_taken _ _ e so) = an_end m e (ends_at known.one_moment_of setting c standing m e at so) refl refl
 
 -- the offer of a number
 

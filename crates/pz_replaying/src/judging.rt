@@ -6,7 +6,8 @@ ghost use Rattle.pz_trace.specs.Lines as trace_lines;
 ghost use Rattle.pz_term.specs.Simulations.{IsMomentOf};
 ghost use Rattle.pz_term.specs.Plains.{simulation_of};
 ghost use Rattle.pz_replaying.specs.devices.Fronts.{StartsWith};
-ghost use Rattle.pz_replaying.specs.devices.Readiness.{model_in, clock_in, IsReady, IsOffer, IsLast, IsNamedLast, HasFewOffers};
+ghost use Rattle.pz_term.specs.Simulations.{model_in, clock_in, IsOffer};
+ghost use Rattle.pz_replaying.specs.devices.Readiness.{IsReady, IsLast, IsNamedLast, HasFewOffers};
 ghost use Rattle.pz_replaying.specs.devices.Judging.{Judges};
 
 use crate::fronts::{front_len, named_offer};

@@ -5,6 +5,7 @@ ghost use Rattle.pz_replaying.specs.devices.Known.{Known};
 use pz_rules::{
     least_passes, one_list_of_offers, one_moment, one_next, what_fits_goes_on, wires_are_known,
 };
+use pz_term::simulators_show_one_moment;
 use pz_trace::{headings_tell_actions, lines_differ, lines_stand_apart, what_happens_is_named};
 use pz_writing::pieces_join;
 
@@ -18,6 +19,7 @@ pub(crate) fn rules_are_known()
     least_passes();
     one_next();
     what_fits_goes_on();
+    simulators_show_one_moment();
     what_happens_is_named();
     lines_stand_apart();
     lines_differ();

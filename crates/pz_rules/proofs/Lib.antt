@@ -9,6 +9,7 @@ mod Orders
 mod Nexts
 mod Parcels
 mod OneMoment
+mod Counted
 mod Passings
 mod Elapsed
 mod Chosen

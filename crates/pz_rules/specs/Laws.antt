@@ -1,5 +1,5 @@
 -- Laws of execution.
-use Rattle.std.specs.Prelude.{◌≡◌, ◌≤◌, ℕ, ◌-◌, List, [], ◌∷◌, Some, Result, Ok, slice_get}
+use Rattle.std.specs.Prelude.{◌≡◌, ◌≤◌, ℕ, ◌-◌, List, [], ◌∷◌, length, Some, Result, Ok, slice_get}
 use Rattle.pz_syntax.specs.declared.tokens.Pos.{Pos}
 use Rattle.pz_syntax.specs.Classes.{ModelTree}
 use Rattle.pz_classes.specs.Soundness.{IsSound}
@@ -8,9 +8,14 @@ use Rattle.pz_offer.specs.PlaceOrder.{Place}
 use Rattle.pz_offer.specs.declared.trouble.Trouble.{Trouble}
 use Rattle.pz_rules.specs.declared.action.Action.{Action}
 use Rattle.pz_rules.specs.declared.moment.Moment.{Moment}
-use Rattle.pz_rules.specs.declared.moment.Moment.TheVariants.{Time}
+use Rattle.pz_rules.specs.declared.moment.Moment.TheVariants.{Actions, Time}
+use Rattle.pz_copy.specs.Parcels.{ParcelView}
+use Rattle.pz_rules.specs.declared.action.Kind.{Kind}
 use Rattle.pz_rules.specs.Terms.{Term, wait, child}
 use Rattle.pz_rules.specs.Settings.{Setting, Process, At}
+use Rattle.pz_rules.specs.Acting.{IsActing, IsSend, IsReceive}
+use Rattle.pz_rules.specs.InternalActions.{Can}
+use Rattle.pz_rules.specs.Messages.{Sends, Receives}
 use Rattle.pz_rules.specs.Delays.{Delays}
 use Rattle.pz_rules.specs.Ports.{HasWires}
 use Rattle.pz_rules.specs.Starting.{IsStart}
@@ -41,6 +46,16 @@ OneMoment = (setting : Setting) (c : Config) (m n : Moment) → IsMoment setting
 -- and has one
 abbrev pub EveryMoment : Type 0
 EveryMoment = (setting : Setting) (c : Config) → HasWires setting.model → (m : Moment) × IsMoment setting c m
+
+-- the offers that a moment counts, of which there is one at least
+pub record HasOffers (setting : Setting) (c : Config) (n : ℕ) : Type 0 where
+  pub offers : List Action
+  pub all : IsOffers setting c offers
+  pub count : n ≡ length offers
+  pub some : 1 ≤ n
+
+abbrev pub MomentsCountOffers : Type 0
+MomentsCountOffers = (setting : Setting) (c : Config) (n : ℕ) → IsMoment setting c (Actions n) → HasOffers setting c n
 
 -- time never passes while an action is possible
 abbrev pub TimeWaits : Type 0
@@ -144,3 +159,14 @@ abbrev pub ChosenRunsAreRuns : Type 0
 ChosenRunsAreRuns = (setting : Setting) (policy : Policy) (j : ℕ) (c : Config) (events : List Event) (end : Config) (ending : Ending)
     → IsChosenRun setting policy j c events end ending
     → (IsOwn ending → IsRun setting c events end ending) × ((entry count : ℕ) → ending ≡ refused entry count → Reaches setting c events end whole)
+
+-- what can act by itself is an acting part; what sends is a send; what receives is a receive
+
+abbrev pub WhatCanActs : Type 0
+WhatCanActs = (a : At) (f : ℕ) (t : Term) (kind : Kind) (pos : Pos) → Can a f t kind pos → IsActing t
+
+abbrev pub WhatSendsIsASend : Type 0
+WhatSendsIsASend = (a : At) (f : ℕ) (t : Term) (pos : Pos) (port : ℕ) (message : List ℕ) (parcel : ParcelView) → Sends a f t pos port message parcel → IsSend t
+
+abbrev pub WhatReceivesIsAReceive : Type 0
+WhatReceivesIsAReceive = (t : Term) (pos : Pos) (port : ℕ) (message : List ℕ) (count : ℕ) → Receives t pos port message count → IsReceive t

@@ -10,6 +10,7 @@ pub mod Methods
 pub mod InternalActions
 pub mod Leaving
 pub mod Messages
+pub mod Acting
 pub mod Asking
 pub mod Delays
 pub mod Configurations

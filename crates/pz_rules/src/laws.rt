@@ -1,6 +1,6 @@
 // Laws of execution, each the contract of a function that does nothing.
 
-ghost use Rattle.pz_rules.specs.Laws.{OneListOfOffers, EveryListOfOffers, WiresAreKnown, OneMoment, EveryMoment, TimeWaits, LeastPasses, TimeIsPositive, EveryPassing, PassingTakes, BringsToZero, OneNext, OnePassing, StaysWhole, StartFits, StaysFit, EveryNext, OneChosenRun, EveryChosenRun, ChosenRunsAreRuns};
+ghost use Rattle.pz_rules.specs.Laws.{OneListOfOffers, EveryListOfOffers, WiresAreKnown, OneMoment, EveryMoment, MomentsCountOffers, TimeWaits, LeastPasses, TimeIsPositive, EveryPassing, PassingTakes, BringsToZero, OneNext, OnePassing, StaysWhole, StartFits, StaysFit, EveryNext, OneChosenRun, EveryChosenRun, ChosenRunsAreRuns, WhatCanActs, WhatSendsIsASend, WhatReceivesIsAReceive};
 ghost use Rattle.pz_rules.specs.devices.Computed.{TestsAreComputed, TimesAreComputed, PartsAreComputed, PassingIsComputed, OnePassingIsComputed};
 ghost use Rattle.pz_rules.specs.devices.Ends.{PassingsEnd, ActivePartsFit};
 ghost use Rattle.pz_rules.specs.devices.Walks.{InternalActionsAreListed, SendsAreListed, SendsHaveParcels, ReceivesAreListed, DelaysAreListed, TroublesAreListed};
@@ -23,10 +23,12 @@ pub fn wires_are_known()
     ends_share_wires();
 }
 
-/// A configuration has no more than one moment, and has one where the wires of its model are known.
+/// A configuration has no more than one moment, and has one where the wires of its model are known. A
+/// moment with actions counts the offers, of which there is one at least.
 pub fn one_moment()
     ensures one { OneMoment }
     ensures some { EveryMoment }
+    ensures counts { MomentsCountOffers }
 {}
 
 /// Where the wires of a model are known, time never passes while an action is possible.
@@ -108,4 +110,11 @@ pub fn passings_end()
 /// An active part of a term that fits a class fits it too.
 pub fn active_parts_fit()
     ensures law { ActivePartsFit }
+{}
+
+/// What can act by itself is an acting part, what sends is a send, and what receives is a receive.
+pub fn offered_parts_act()
+    ensures acts { WhatCanActs }
+    ensures sends { WhatSendsIsASend }
+    ensures receives { WhatReceivesIsAReceive }
 {}

@@ -29,7 +29,7 @@ pub enum Term {
     /// outputs are those from number `inputs` on, and go to the `results` of the caller.
     Frame {
         frame: FrameId,
-        inputs: u32,
+        inputs: usize,
         results: Items<Slot>,
         body: Boxed<Term>,
     },

@@ -27,13 +27,13 @@ pub(crate) enum Level {
     /// All parts, of which the one of this number acts; in its place stands another.
     Parallel {
         parts: Items<Term>,
-        acting: u32,
+        acting: usize,
     },
     /// A frame, and the frame around it.
     Frame {
         outer: FrameId,
         frame: FrameId,
-        inputs: u32,
+        inputs: usize,
         results: Items<Slot>,
     },
     /// The second part, which ends the first.
@@ -62,12 +62,12 @@ fn exchange(parts: &mut Vec<Term>, place: usize, part: Term) -> Term
 }
 
 // Into one of parts side by side.
-fn into_parallel(frame: FrameId, parts: Items<Term>, child: u32) -> Inside
+fn into_parallel(frame: FrameId, parts: Items<Term>, child: usize) -> Inside
     requires { child < length parts }
     ensures { IsInside frame.0 (terms.parallel (terms_view parts)) child result }
 {
     let mut parts = parts.into_vec();
-    let term = exchange(&mut parts, child as usize, Term::Done);
+    let term = exchange(&mut parts, child, Term::Done);
     let level = Level::Parallel {
         parts: Items::from_vec(parts),
         acting: child,
@@ -76,12 +76,12 @@ fn into_parallel(frame: FrameId, parts: Items<Term>, child: u32) -> Inside
 }
 
 // Into one of alternatives; the others are gone.
-fn into_select(frame: FrameId, parts: Items<Term>, child: u32) -> Inside
+fn into_select(frame: FrameId, parts: Items<Term>, child: usize) -> Inside
     requires { child < length parts }
     ensures { IsInside frame.0 (terms.select (terms_view parts)) child result }
 {
     let mut parts = parts.into_vec();
-    let term = exchange(&mut parts, child as usize, Term::Done);
+    let term = exchange(&mut parts, child, Term::Done);
     Inside {
         level: Level::Gone,
         frame,
@@ -90,7 +90,7 @@ fn into_select(frame: FrameId, parts: Items<Term>, child: u32) -> Inside
 }
 
 // An action of the second part ends the first for good.
-fn into_abort(frame: FrameId, first: Boxed<Term>, second: Boxed<Term>, child: u32) -> Inside
+fn into_abort(frame: FrameId, first: Boxed<Term>, second: Boxed<Term>, child: usize) -> Inside
     requires { child < 2 }
     ensures { IsInside frame.0 (terms.abort (term_view first) (term_view second)) child result }
 {
@@ -114,7 +114,7 @@ fn into_idle(
     first: Boxed<Term>,
     second: Boxed<Term>,
     again: Step,
-    child: u32,
+    child: usize,
 ) -> Inside
     requires { child < 2 }
     ensures { IsInside frame.0 (terms.idle (term_view first) (term_view second) (view again)) child result }
@@ -136,7 +136,7 @@ fn into_idle(
 /// Takes a term apart that stands in this frame. Takes no memory.
 ///
 /// The child of this number may act.
-pub(crate) fn step_in(frame: FrameId, term: Term, child: u32) -> Inside
+pub(crate) fn step_in(frame: FrameId, term: Term, child: usize) -> Inside
     requires { MayActIn (term_view term) child }
     ensures { IsInside frame.0 (term_view term) child result }
 {
@@ -182,12 +182,12 @@ pub(crate) fn step_in(frame: FrameId, term: Term, child: u32) -> Inside
 }
 
 // Round one of parts side by side.
-fn round_parallel(parts: Items<Term>, acting: u32, left: Term) -> Term
+fn round_parallel(parts: Items<Term>, acting: usize, left: Term) -> Term
     requires { acting < length parts }
     ensures { term_view result ≡ joined (replaced (terms_view parts) acting (term_view left)) }
 {
     let mut parts = parts.into_vec();
-    drop(exchange(&mut parts, acting as usize, left));
+    drop(exchange(&mut parts, acting, left));
     in_parallel(Items::from_vec(parts))
 }
 

@@ -16,7 +16,7 @@ use std::alloc::{AllocError, Global};
 
 /// What is around the part at the place of a term that stands in no frame, from the whole term to the
 /// part, which is gone. The only error is want of memory.
-fn take_apart(alloc: Global, mut term: Term, place: &[u32]) -> Result<Vec<Level>, AllocError>
+fn take_apart(alloc: Global, mut term: Term, place: &[usize]) -> Result<Vec<Level>, AllocError>
     requires { MayAct (term_view term) place.now }
     ensures around { IfOk result (λ levels. (p : Process) → unwound levels.items p ≡ residual 0 (term_view term) place.now p) }
     ensures places { IfOk result (λ levels. All HasItsPlace levels.items) }
@@ -62,7 +62,7 @@ fn put_together(
 pub fn settle(
     alloc: Global,
     term: Term,
-    place: &[u32],
+    place: &[usize],
     part: Term,
     state: &mut State,
 ) -> Result<Term, AllocError>

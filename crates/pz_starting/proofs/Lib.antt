@@ -1,4 +1,3 @@
-mod Setting
 mod Given
 mod First
 mod Started

@@ -19,20 +19,15 @@ use pz_state::State;
 use pz_value::Value;
 use std::alloc::{AllocError, Global};
 
-/// A state of variables with these values, without frames and objects.
-fn state_of(alloc: Global, values: &[Value]) -> Result<State, AllocError>
-    requires { All (RefersWithin 0) values.now }
-    ensures { IfOk result (λ state. state.held ≡ record { vars = values.now; frames = []; objects = [] }) }
+/// Equal values.
+fn copies_of(alloc: Global, values: &[Value]) -> Result<Vec<Value>, AllocError>
+    ensures { IfOk result (λ copies. copies.items ≡ values.now) }
 {
-    // No memory holds so many values that their numbers do not fit.
-    let Ok(count) = u32::try_from(values.len()) else {
-        return Err(AllocError);
-    };
-    let mut state = State::new(alloc, count)?;
-    for slot in 0..count {
-        state.set_var(slot, values[slot as usize].copy()?)?;
+    let mut copies = Vec::new(alloc);
+    for value in values {
+        copies.push(value.copy()?)?;
     }
-    Ok(state)
+    Ok(copies)
 }
 
 /// A process before the call that the `init` of its class names.
@@ -54,7 +49,7 @@ fn first_of(
         unreachable!()
     };
     let term = Term::Leaf(copy_step(alloc, call)?);
-    let state = state_of(alloc, net.values(process))?;
+    let state = State::new(alloc, copies_of(alloc, net.values(process))?);
     Ok(Process { term, state })
 }
 

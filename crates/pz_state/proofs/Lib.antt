@@ -1,6 +1,6 @@
 pub mod Reading
 pub mod FrameTables
-pub mod FrameCounts
+pub mod FrameLocals
 pub mod FrameNumbers
 pub mod ObjectLists
 pub mod Journals

@@ -7,7 +7,7 @@ use Rattle.pz_value.specs.declared.value.ClassId.{ClassId}
 use Rattle.pz_value.specs.declared.value.Value.{Value}
 use Rattle.pz_value.specs.declared.value.Value.TheVariants as value
 use Rattle.pz_state.specs.Objects.{ObjectView}
-use Rattle.pz_state.specs.States.{StateView, Frames, value_at, variable, local, object, no_object, locals_of, at_frame, at_object, with_frame, without_frame, nils, fitted, initial, set_variable, set_local, set_item, resized, opened, closed, made}
+use Rattle.pz_state.specs.States.{StateView, Frames, value_at, variable, locals, local, object, no_object, locals_of, at_frame, at_object, with_frame, without_frame, nils, fitted, initial, set_variable, set_local, set_item, resized, opened, closed, made}
 use Rattle.pz_state.specs.References.{RefersWithin, IsSelfContained}
 use Rattle.pz_state.proofs.ObjectLists.{length-at_object}
 
@@ -111,8 +111,8 @@ length-fitted count values = omega (arith, length-append (take count values) (ni
 
 -- states
 
-pub contained-initial : (variables : ℕ) → IsSelfContained (initial variables)
-contained-initial variables = record { vars = nils_within 0 variables; frames = all_none _; objects = all_none _; counted = all_none _ }
+pub contained-initial : (variables : List Value) → AreWithin 0 variables → IsSelfContained (initial variables)
+contained-initial variables here = record { vars = here; frames = all_none _; objects = all_none _; counted = all_none _ }
 
 pub contained-set_variable : (s : StateView) (slot : ℕ) (x : Value) → IsSelfContained s → RefersWithin (length s.objects) x → IsSelfContained (set_variable s slot x)
 contained-set_variable s slot x c r = record { vars = All-set (RefersWithin (length s.objects)) s.vars slot x r c.vars; frames = c.frames; objects = c.objects; counted = c.counted }
@@ -174,6 +174,9 @@ locals_within n number (f ∷ fs) h = by_number (locals_within n number fs (all_
     by_number : AreWithin n (locals_of fs number) → (b : Bool) → nat_eq f.0 number ≡ b → AreWithin n (locals_of (f ∷ fs) number)
     by_number rest true e = rw e (all_head (λ g. AreWithin n g.1) f fs h)
     by_number rest false e = rw e rest
+
+pub frame_within : (s : StateView) (number : ℕ) → IsSelfContained s → All (RefersWithin (length s.objects)) (locals s number)
+frame_within s number c = locals_within (length s.objects) number s.frames c.frames
 
 pub local_within : (s : StateView) (number slot : ℕ) → IsSelfContained s → RefersWithin (length s.objects) (local s number slot)
 local_within s number slot c = value_at_within (length s.objects) (locals_of s.frames number) slot (locals_within (length s.objects) number s.frames c.frames)

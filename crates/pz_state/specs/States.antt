@@ -18,9 +18,9 @@ pub record StateView : Type 0 where
 abbrev pub nils : ℕ → List Value
 nils n = replicate n value.Nil
 
--- nil variables, no frame and no object
-abbrev pub initial : ℕ → StateView
-initial variables = record { vars = nils variables; frames = []; objects = [] }
+-- these variables, no frame and no object
+abbrev pub initial : List Value → StateView
+initial variables = record { vars = variables; frames = []; objects = [] }
 
 -- Reading
 

@@ -30,16 +30,15 @@ impl Model for Contents {
 }
 
 impl Contents {
-    /// So many nil variables, and nothing else. The only error is want of memory.
-    pub fn new(alloc: Global, variables: u32) -> Result<Contents, AllocError>
-        ensures { IfOk result (λ contents. contents.state ≡ initial variables) }
+    /// These variables, and nothing else. Takes no memory.
+    pub fn new(alloc: Global, vars: Vec<Value>) -> Contents
+        ensures { result.state ≡ initial vars.items }
     {
-        let vars = nil_values(alloc, variables)?;
-        Ok(Contents {
+        Contents {
             vars,
             frames: FrameTable::new(alloc),
             objects: Vec::new(alloc),
-        })
+        }
     }
 
     /// How many variables there are.
@@ -49,11 +48,11 @@ impl Contents {
         self.vars.len()
     }
 
-    /// How many locals the frame of this number has, none where no such frame is open.
-    pub fn locals(&self, frame: u64) -> usize
-        ensures { result ≡ length (locals self.now.state frame) }
+    /// The locals of the frame of this number, none where no such frame is open.
+    pub fn locals(&self, frame: u64) -> &[Value]
+        ensures { result.now ≡ locals self.now.state frame }
     {
-        self.frames.count(frame)
+        self.frames.locals(frame)
     }
 
     /// The numbers of the open frames, in increasing order. The only error is want of memory.
@@ -71,11 +70,11 @@ impl Contents {
         &self.vars[slot as usize]
     }
 
-    pub fn local(&self, frame: u64, slot: u32) -> &Value
+    pub fn local(&self, frame: u64, slot: usize) -> &Value
         requires { HasLocal self.now.state frame slot }
         ensures { result.now ≡ local self.now.state frame slot }
     {
-        self.frames.local(frame, slot as usize)
+        self.frames.local(frame, slot)
     }
 
     pub fn object(&self, r: u32) -> &Object
@@ -101,12 +100,12 @@ impl Contents {
         Change::Variable { slot, old }
     }
 
-    pub fn set_local(&mut self, frame: u64, slot: u32, value: Value) -> Change
+    pub fn set_local(&mut self, frame: u64, slot: usize, value: Value) -> Change
         requires { HasLocal self.old.state frame slot }
         ensures state { self.new.state ≡ set_local self.old.state frame slot value }
         ensures back { LeadsBack self.old self.new result }
     {
-        let old = self.frames.replace(frame, slot as usize, value);
+        let old = self.frames.replace(frame, slot, value);
         Change::Local { frame, slot, old }
     }
 

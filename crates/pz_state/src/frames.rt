@@ -74,20 +74,20 @@ impl FrameTable {
         }
     }
 
-    /// How many locals the frame of this number has, none where no such frame is open.
-    pub fn count(&self, number: u64) -> usize
-        ensures { result ≡ length (locals_of self.now.frames number) }
+    /// The locals of the frame of this number, none where no such frame is open.
+    pub fn locals(&self, number: u64) -> &[Value]
+        ensures { result.now ≡ locals_of self.now.frames number }
     {
         let last = self.table.len() as u64;
         if number == 0 {
-            return 0;
+            return &[];
         }
         if number > last {
-            return 0;
+            return &[];
         }
         match &self.table[(number - 1) as usize] {
-            Some(locals) => locals.len(),
-            None => 0,
+            Some(locals) => locals.as_slice(),
+            None => &[],
         }
     }
 

@@ -12,7 +12,7 @@ use std::alloc::{AllocError, Global};
 #[derive(Debug, Drop)]
 pub enum Change {
     Variable { slot: u32, old: Value },
-    Local { frame: u64, slot: u32, old: Value },
+    Local { frame: u64, slot: usize, old: Value },
     Item { object: u32, place: u32, old: Value },
     /// An object had so many items, and has more.
     Grown { object: u32, count: usize },

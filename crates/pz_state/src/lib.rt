@@ -13,3 +13,4 @@ mod values;
 pub use fault::FaultKind;
 pub use object::{ARRAY_LIMIT, Object};
 pub use state::{FrameId, MakeError, OBJECT_LIMIT, Point, State};
+pub use values::nil_values;

@@ -78,16 +78,16 @@ impl Model for State {
 }
 
 impl State {
-    /// The state of a process with so many variables, all of them nil. The only error is want of
+    /// The state of a process whose variables have these values, in which no object is yet. Takes no
     /// memory.
-    pub fn new(alloc: Global, variables: u32) -> Result<State, AllocError>
-        ensures { IfOk result (λ state. state ≡ record { held = initial variables; marks = [] }) }
+    pub fn new(alloc: Global, variables: Vec<Value>) -> State
+        requires { All (RefersWithin 0) variables.items }
+        ensures { result ≡ record { held = initial variables.items; marks = [] } }
     {
-        let contents = Contents::new(alloc, variables)?;
-        Ok(State {
-            contents,
+        State {
+            contents: Contents::new(alloc, variables),
             journal: Journal::new(alloc),
-        })
+        }
     }
 
     /// How many variables there are. Takes no memory.
@@ -97,9 +97,10 @@ impl State {
         self.contents.variables()
     }
 
-    /// How many locals the frame of this number has, none where no such frame is open. Takes no memory.
-    pub fn locals(&self, frame: FrameId) -> usize
-        ensures { result ≡ length (locals self.now.held frame.0) }
+    /// The locals of the frame of this number, none where no such frame is open. Takes no memory.
+    pub fn locals(&self, frame: FrameId) -> &[Value]
+        ensures value { result.now ≡ locals self.now.held frame.0 }
+        ensures within { All (RefersWithin (length self.now.held.objects)) result.now }
     {
         self.contents.locals(frame.0)
     }
@@ -122,7 +123,7 @@ impl State {
     }
 
     /// A local of an open frame. Takes no memory.
-    pub fn local(&self, frame: FrameId, slot: u32) -> &Value
+    pub fn local(&self, frame: FrameId, slot: usize) -> &Value
         requires { HasLocal self.now.held frame.0 slot }
         ensures value { result.now ≡ local self.now.held frame.0 slot }
         ensures within { RefersWithin (length self.now.held.objects) result.now }
@@ -164,7 +165,7 @@ impl State {
 
     /// Gives a local of an open frame a value. The only error is want of memory, and then all is as
     /// before.
-    pub fn set_local(&mut self, frame: FrameId, slot: u32, value: Value) -> Result<(), AllocError>
+    pub fn set_local(&mut self, frame: FrameId, slot: usize, value: Value) -> Result<(), AllocError>
         requires there { HasLocal self.old.held frame.0 slot }
         requires within { RefersWithin (length self.old.held.objects) value }
         ensures ok { OnOk result (self.new ≡ changed self.old (set_local self.old.held frame.0 slot value)) }

@@ -1,6 +1,7 @@
 //! Lists of values in place.
 
-ghost use Rattle.std.specs.Prelude.{◌≡◌, ◌<◌, ◌≤◌, ◌+◌, ◌-◌, ◌++◌, [], length, reverse, take, slice_get, slice_set, Some, IfOk, OnErr, vec_len, vec_capacity};
+ghost use Rattle.std.specs.Prelude.{◌≡◌, ◌<◌, ◌≤◌, ◌+◌, ◌-◌, ◌++◌, ℕ, [], length, reverse, take, slice_get, slice_set, Some, All, IfOk, OnErr, vec_len, vec_capacity};
+ghost use Rattle.pz_state.specs.References.{RefersWithin};
 ghost use Rattle.pz_state.specs.States.{nils};
 
 use pz_value::Value;
@@ -20,7 +21,8 @@ pub fn push_nils(values: &mut Vec<Value>, count: usize)
 
 /// So many nils. The only error is want of memory.
 pub fn nil_values(alloc: Global, count: u32) -> Result<Vec<Value>, AllocError>
-    ensures { IfOk result (λ values. values.items ≡ nils count) }
+    ensures items { IfOk result (λ values. values.items ≡ nils count) }
+    ensures within { (objects : ℕ) → IfOk result (λ values. All (RefersWithin objects) values.items) }
 {
     let mut values = Vec::with_capacity(alloc, count as usize)?;
     push_nils(&mut values, count as usize);

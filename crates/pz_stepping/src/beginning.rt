@@ -17,14 +17,14 @@ ghost use Rattle.pz_stepping.specs.devices.StatementPlaces.{IsFrom};
 ghost use Rattle.pz_stepping.specs.devices.Deeds.{Acting, Sending, Receiving, CanDo, Leaves, begun_process, IsBegun};
 
 use crate::begun::{Begun, hold};
-use pz_acting::{hand, offered_parts_act, perform, take};
+use pz_acting::{hand, perform, take};
 use pz_asking::Standpoint;
 use pz_copy::Parcel;
 use pz_judging::part_at;
 use pz_leaving::active_parts_may_act;
 use pz_offer::Trouble;
 use pz_process::Process;
-use pz_rules::{Term, active_parts_fit};
+use pz_rules::{Term, active_parts_fit, offered_parts_act};
 use pz_state::FrameId;
 use pz_syntax::Pos;
 use pz_value::ClassId;
@@ -58,7 +58,7 @@ pub(crate) fn begin_internal(
     here: &Standpoint<'_>,
     class: ClassId,
     process: &mut Process,
-    place: &[u32],
+    place: &[usize],
 ) -> Result<Result<Begun, Trouble>, AllocError>
     requires can { (m : ModelTree) × Knows m here.now × CanDo Acting (seen_from m here.now class.0 process.old.state.held) (term_view process.old.term) place.now }
     requires fits { ∥ FitsHere here.now class (term_view process.old.term) ∥₁ }
@@ -82,7 +82,7 @@ pub(crate) fn begin_send(
     alloc: Global,
     here: &Standpoint<'_>,
     process: &mut Process,
-    place: &[u32],
+    place: &[usize],
 ) -> Result<Result<Begun, Trouble>, AllocError>
     requires can { (m : ModelTree) × (class : ℕ) × (parcel : ParcelView) × Knows m here.now × CanDo (Sending parcel) (seen_from m here.now class process.old.state.held) (term_view process.old.term) place.now }
     ensures leaves { (m : ModelTree) (class : ℕ) (parcel : ParcelView) → Knows m here.now → CanDo (Sending parcel) (seen_from m here.now class process.old.state.held) (term_view process.old.term) place.now
@@ -104,7 +104,7 @@ pub(crate) fn begin_receive(
     alloc: Global,
     here: &Standpoint<'_>,
     process: &mut Process,
-    place: &[u32],
+    place: &[usize],
     parcel: &Parcel,
 ) -> Result<Result<Begun, Trouble>, AllocError>
     requires can { (m : ModelTree) × (class : ℕ) × Knows m here.now × CanDo Receiving (seen_from m here.now class process.old.state.held) (term_view process.old.term) place.now }

@@ -36,7 +36,7 @@ pub(crate) struct Begun {
 pub(crate) fn hold(
     here: &Standpoint<'_>,
     process: &mut Process,
-    place: &[u32],
+    place: &[usize],
     point: Point,
     pos: Pos,
     left: Result<Term, Trouble>,
@@ -77,7 +77,7 @@ pub(crate) fn withdraw(process: &mut Process, begun: Begun)
 pub(crate) fn finish(
     alloc: Global,
     process: &mut Process,
-    place: &[u32],
+    place: &[usize],
     begun: Begun,
 ) -> Result<(), AllocError>
     requires may_act { MayAct (term_view process.old.term) place.now }

@@ -16,7 +16,7 @@ use Rattle.pz_rules.specs.Configurations.{Config}
 use Rattle.pz_rules.specs.Offers.{IsOffers}
 use Rattle.pz_rules.specs.Moments as moments
 use Rattle.pz_rules.specs.Moments.{Says, IsMoment}
-use Rattle.pz_rules.specs.Runs.{whole, stopped, IsChoice}
+use Rattle.pz_rules.specs.Runs.{whole, IsChoice}
 use Rattle.pz_rules.specs.Laws.{OneMoment, EveryMoment, OneListOfOffers}
 use Rattle.pz_process.specs.declared.process.Process.{Process}
 use Rattle.pz_process.specs.Standing.{config_of, AreProcesses}
@@ -29,17 +29,6 @@ use Rattle.pz_term.specs.Simulations.{Simulation, stands, broken, IsMomentOf, Ar
 use Rattle.pz_term.specs.Plains.{simulation_at}
 use Rattle.pz_term.specs.devices.Holding.{IsOutlook, Holds}
 
--- the moment of a simulator by its standing
-abbrev OfStanding : Simulation → Moment → Type 0
-OfStanding (stands setting c whole) m = IsMoment setting c m
-OfStanding (stands setting c (stopped trouble)) m = m ≡ Stopped trouble
-OfStanding (broken setting) m = m ≡ Broken
-
-of_standing : (s : Simulation) (m : Moment) → IsMomentOf s m → OfStanding s m
-of_standing _ _ (simulations.of_configuration setting c m is) = is
-of_standing _ _ (simulations.of_trouble setting c trouble) = refl
-of_standing _ _ (simulations.of_broken setting) = refl
-
 -- a moment at which something can go on
 abbrev GoesOn : Moment → Type 0
 GoesOn (Actions n) = Unit {0}
@@ -51,9 +40,9 @@ goes_on_not m n e g absent = absent (subst GoesOn e g)
 
 -- there the simulator is whole
 pub is_moment : (setting : Setting) (clock : ℕ) (ps : List Process) (s : Standing) (m : Moment) → GoesOn m → IsMomentOf (simulation_at setting clock ps s) m → IsMoment setting (config_of clock ps) m
-is_moment setting clock ps (standing.Whole outlook) m g is = of_standing _ m is
-is_moment setting clock ps (standing.Stopped trouble) m g is = absurd (goes_on_not m (Stopped trouble) (of_standing _ m is) g (λ x. x))
-is_moment setting clock ps standing.Broken m g is = absurd (goes_on_not m Broken (of_standing _ m is) g (λ x. x))
+is_moment setting clock ps (standing.Whole outlook) m g is = is
+is_moment setting clock ps (standing.Stopped trouble) m g is = absurd (goes_on_not m (Stopped trouble) is g (λ x. x))
+is_moment setting clock ps standing.Broken m g is = absurd (goes_on_not m Broken is g (λ x. x))
 
 abbrev IsWhole : Standing → Type 0
 IsWhole (standing.Whole outlook) = Unit {0}
@@ -61,13 +50,13 @@ IsWhole s = ⊥
 
 pub whole_at : (setting : Setting) (clock : ℕ) (ps : List Process) (s : Standing) (m : Moment) → GoesOn m → IsMomentOf (simulation_at setting clock ps s) m → simulation_at setting clock ps s ≡ stands setting (config_of clock ps) whole
 whole_at setting clock ps (standing.Whole outlook) m g is = refl
-whole_at setting clock ps (standing.Stopped trouble) m g is = absurd (goes_on_not m (Stopped trouble) (of_standing _ m is) g (λ x. x))
-whole_at setting clock ps standing.Broken m g is = absurd (goes_on_not m Broken (of_standing _ m is) g (λ x. x))
+whole_at setting clock ps (standing.Stopped trouble) m g is = absurd (goes_on_not m (Stopped trouble) is g (λ x. x))
+whole_at setting clock ps standing.Broken m g is = absurd (goes_on_not m Broken is g (λ x. x))
 
 pub kept_processes : (setting : Setting) (clock : ℕ) (ps : List Process) (s : Standing) (m : Moment) → GoesOn m → IsMomentOf (simulation_at setting clock ps s) m → ∥ Holds setting clock ps s ∥₁ → ∥ AreProcesses setting clock ps ∥₁
 kept_processes setting clock ps (standing.Whole outlook) m g is h = ∥∥₁_elim h squash₁ (λ k. ∣ k.are ∣₁)
-kept_processes setting clock ps (standing.Stopped trouble) m g is h = absurd (goes_on_not m (Stopped trouble) (of_standing _ m is) g (λ x. x))
-kept_processes setting clock ps standing.Broken m g is h = absurd (goes_on_not m Broken (of_standing _ m is) g (λ x. x))
+kept_processes setting clock ps (standing.Stopped trouble) m g is h = absurd (goes_on_not m (Stopped trouble) is g (λ x. x))
+kept_processes setting clock ps standing.Broken m g is h = absurd (goes_on_not m Broken is g (λ x. x))
 
 -- the moment that is shown is that of the configuration
 pub shown_moment : (setting : Setting) (clock : ℕ) (ps : List Process) (outlook : Outlook) → EveryMoment → OneMoment → HasWires setting.model → ∥ IsOutlook setting clock ps outlook ∥₁ → IsMoment setting (config_of clock ps) outlook.moment
@@ -133,7 +122,7 @@ module _ (setting : Setting) (clock : ℕ) (ps : List Process) (outlook : Outloo
   none_at Broken g are = are
 
   not_actions : (m : Moment) → NoActions m → outlook.moment ≡ m → (n : ℕ) → IsMomentOf there (Actions n) → ⊥
-  not_actions m g e n is = subst NoActions (sym e ∙ one setting (config_of clock ps) outlook.moment (Actions n) moment_is (of_standing there (Actions n) is)) g
+  not_actions m g e n is = subst NoActions (sym e ∙ one setting (config_of clock ps) outlook.moment (Actions n) moment_is is) g
 
   without : (m : Moment) → NoActions m → outlook.moment ≡ m → AreOffersOf there outlook.actions.items
   without m g e =
@@ -167,13 +156,13 @@ module _ (setting : Setting) (clock : ℕ) (ps : List Process) (s : Standing) wh
   pub whole_moment : (outlook : Outlook) → s ≡ standing.Whole outlook → EveryMoment → OneMoment → HasWires setting.model → ∥ Holds setting clock ps s ∥₁ → IsMomentOf simulation outlook.moment
   whole_moment outlook e every one wires h =
       subst (λ (x : Standing). IsMomentOf (simulation_at setting clock ps x) outlook.moment) (sym e)
-      (simulations.of_configuration setting (config_of clock ps) outlook.moment (shown_moment setting clock ps outlook every one wires (holds_whole outlook e h)))
+      (shown_moment setting clock ps outlook every one wires (holds_whole outlook e h))
 
   pub stopped_moment : (trouble : Trouble) → s ≡ standing.Stopped trouble → IsMomentOf simulation (Stopped trouble)
-  stopped_moment trouble e = subst (λ (x : Standing). IsMomentOf (simulation_at setting clock ps x) (Stopped trouble)) (sym e) (simulations.of_trouble setting (config_of clock ps) trouble)
+  stopped_moment trouble e = subst (λ (x : Standing). IsMomentOf (simulation_at setting clock ps x) (Stopped trouble)) (sym e) refl
 
   pub broken_moment : s ≡ standing.Broken → IsMomentOf simulation Broken
-  broken_moment e = subst (λ (x : Standing). IsMomentOf (simulation_at setting clock ps x) Broken) (sym e) (simulations.of_broken setting)
+  broken_moment e = subst (λ (x : Standing). IsMomentOf (simulation_at setting clock ps x) Broken) (sym e) refl
 
   pub whole_offers : (outlook : Outlook) (actions : List Action) → s ≡ standing.Whole outlook → actions ≡ outlook.actions.items → EveryMoment → OneMoment → OneListOfOffers → HasWires setting.model → ∥ Holds setting clock ps s ∥₁ → AreOffersOf simulation actions
   whole_offers outlook actions e is every one single wires h =
@@ -181,8 +170,8 @@ module _ (setting : Setting) (clock : ℕ) (ps : List Process) (s : Standing) wh
       (subst (λ (x : Standing). AreOffersOf (simulation_at setting clock ps x) outlook.actions.items) (sym e) (offers_there setting clock ps outlook every one single wires (holds_whole outlook e h)))
 
   nowhere : (n : ℕ) → ((trouble : Trouble) × (s ≡ standing.Stopped trouble)) ⊎ (s ≡ standing.Broken) → IsMomentOf simulation (Actions n) → ⊥
-  nowhere n (inl x) is = goes_on_not (Actions n) (Stopped x.0) (of_standing (simulation_at setting clock ps (standing.Stopped x.0)) (Actions n) (subst (λ (y : Standing). IsMomentOf (simulation_at setting clock ps y) (Actions n)) x.1 is)) tt (λ z. z)
-  nowhere n (inr x) is = goes_on_not (Actions n) Broken (of_standing (simulation_at setting clock ps standing.Broken) (Actions n) (subst (λ (y : Standing). IsMomentOf (simulation_at setting clock ps y) (Actions n)) x is)) tt (λ z. z)
+  nowhere n (inl x) is = goes_on_not (Actions n) (Stopped x.0) (subst (λ (y : Standing). IsMomentOf (simulation_at setting clock ps y) (Actions n)) x.1 is) tt (λ z. z)
+  nowhere n (inr x) is = goes_on_not (Actions n) Broken (subst (λ (y : Standing). IsMomentOf (simulation_at setting clock ps y) (Actions n)) x is) tt (λ z. z)
 
   pub no_offers : ((trouble : Trouble) × (s ≡ standing.Stopped trouble)) ⊎ (s ≡ standing.Broken) → AreOffersOf simulation []
   no_offers e = simulations.none simulation (λ n is. nowhere n e is)

@@ -1,3 +1,4 @@
 mod Copies
 mod Kept
 mod Moved
+mod Shown

@@ -1,5 +1,6 @@
 -- What a simulator stands for, and how it goes on.
-use Rattle.std.specs.Prelude.{◌≡◌, ℕ, List, [], Ok, Err}
+use Rattle.std.specs.Prelude.{◌≡◌, ℕ, List, [], Some, Ok, Err, slice_get}
+use Rattle.pz_syntax.specs.Classes.{ModelTree}
 use Rattle.pz_offer.specs.declared.trouble.Trouble.{Trouble}
 use Rattle.pz_rules.specs.declared.action.Action.{Action}
 use Rattle.pz_rules.specs.declared.moment.Moment.{Moment}
@@ -23,10 +24,10 @@ pub data Starts (setting : Setting) : Simulation → Type 0 where
   starts : (c : Config) → IsStart setting c → Starts setting (stands setting c whole)
 
 -- its moment: that of the configuration, unless the last action ended in a trouble or memory was wanting
-pub data IsMomentOf : Simulation → Moment → Type 0 where
-  of_configuration : (setting : Setting) (c : Config) (m : Moment) → IsMoment setting c m → IsMomentOf (stands setting c whole) m
-  of_trouble : (setting : Setting) (c : Config) (trouble : Trouble) → IsMomentOf (stands setting c (stopped trouble)) (Stopped trouble)
-  of_broken : (setting : Setting) → IsMomentOf (broken setting) Broken
+abbrev pub IsMomentOf : Simulation → Moment → Type 0
+IsMomentOf (stands setting c whole) m = IsMoment setting c m
+IsMomentOf (stands setting c (stopped trouble)) m = m ≡ Stopped trouble
+IsMomentOf (broken setting) m = m ≡ Broken
 
 -- its offers: those of the configuration where that is the moment, else none
 pub data AreOffersOf : Simulation → List Action → Type 0 where
@@ -49,12 +50,30 @@ abbrev pub setting_in : Simulation → Setting
 setting_in (stands setting c standing) = setting
 setting_in (broken setting) = setting
 
+-- nor does its model
+abbrev pub model_in : Simulation → ModelTree
+model_in s = (setting_in s).model
+
 -- memory was wanting
 abbrev pub IsBroken : Simulation → Type 0
 IsBroken (stands setting c standing) = ⊥
 IsBroken (broken setting) = Unit {0}
 
--- the clock, unless it is broken
+-- the clock; of a broken one nothing is known
+abbrev pub clock_in : Simulation → ℕ
+clock_in (stands setting c standing) = c.clock
+clock_in (broken setting) = 0
+
 abbrev pub ClockIs : Simulation → ℕ → Type 0
 ClockIs (stands setting c standing) clock = clock ≡ c.clock
 ClockIs (broken setting) clock = Unit {0}
+
+-- the offer of number k
+pub record IsOfferIn (setting : Setting) (c : Config) (k : ℕ) (a : Action) : Type 0 where
+  pub offers : List Action
+  pub all : IsOffers setting c offers
+  pub chosen : slice_get offers k ≡ Some a
+
+abbrev pub IsOffer : Simulation → ℕ → Action → Type 0
+IsOffer (stands setting c standing) k a = IsOfferIn setting c k a
+IsOffer (broken setting) k a = ⊥

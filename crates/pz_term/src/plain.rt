@@ -20,7 +20,6 @@ use std::mem::{self, drop};
 
 /// A simulator that follows the rules from the terms and states alone: it stands for a configuration of
 /// a model, says what may happen next there, and goes on to the next one.
-#[derive(Drop)]
 pub struct Plain {
     alloc: Global,
     checked: Checked,
@@ -33,9 +32,28 @@ pub struct Plain {
     ghost holds: { ∥ Holds (setting_of (checked_model checked) limits) clock processes.items standing ∥₁ },
 }
 
+// Written out, so that it is proved once, here, and not in each crate that drops one.
+impl Drop for Plain {
+    fn drop(self) {
+        let Plain {
+            alloc: _,
+            checked,
+            net,
+            limits: _,
+            clock: _,
+            processes,
+            standing,
+        } = self;
+        drop(checked);
+        drop(net);
+        drop(processes);
+        drop(standing);
+    }
+}
+
 impl Plain {
     ghost use Rattle.std.specs.Prelude.{ℕ};
-    ghost use Rattle.pz_term.specs.Simulations.{Starts, IsMomentOf, AreOffersOf, Chooses, Passes, IsBroken, ClockIs, setting_in, stands};
+    ghost use Rattle.pz_term.specs.Simulations.{Starts, IsMomentOf, AreOffersOf, Chooses, Passes, IsBroken, ClockIs, setting_in, model_in, stands};
     ghost use Rattle.pz_term.specs.Refusals.{OnNoSuchOffer, OnChooseNotNow, OnChooseRefused, OnChooseNoMemory, NoActions, OnPassNotNow, OnPassRefused, OnPassNoMemory, NoTime};
     ghost use Rattle.pz_term.specs.Plains.{simulation_of, model_of};
 
@@ -89,7 +107,7 @@ impl Plain {
     /// The model that is simulated. Takes no memory.
     pub fn checked(&self) -> &Checked
         ensures is { result.now ≡ self.now.checked }
-        ensures model { checked_model result.now ≡ model_of self.now }
+        ensures model { checked_model result.now ≡ model_in (simulation_of self.now) }
     {
         &self.checked
     }
@@ -97,7 +115,7 @@ impl Plain {
     /// The net of the model. Takes no memory.
     pub fn net(&self) -> &Net
         ensures is { result.now ≡ self.now.net }
-        ensures net { ∥ IsNet (model_of self.now) result.now ∥₁ }
+        ensures net { ∥ IsNet (model_in (simulation_of self.now)) result.now ∥₁ }
     {
         &self.net
     }

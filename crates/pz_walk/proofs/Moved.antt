@@ -27,15 +27,14 @@ module _ (at : Seen → At) (f : ℕ) where
       (subst (λ (p : Place). OnOk r (Adds (at s) p (map (under 1) (active_parts (at s) f second)) m n)) stayed
       (subst (λ (x : Seen). OnOk r (Adds (at x) there (map (under 1) (active_parts (at x) f second)) m n)) same more))
 
-  pub next_added : (s later : Seen) (place there : Place) (ts : List Term) (i k : ℕ) (t : Term) (o m n : Found) → later ≡ s → there ≡ place → k ≡ i → i < length ts → t ≡ get_or ts i t
+  pub next_added : (s later : Seen) (place there : Place) (ts : List Term) (i : ℕ) (t : Term) (o m n : Found) → later ≡ s → there ≡ place → i < length ts → t ≡ get_or ts i t
       → Adds (at s) place (active_children (at s) f 0 (terms_view (take i ts))) o m
-      → Adds (at later) there (map (under k) (active_parts (at later) f (term_view t))) m n
+      → Adds (at later) there (map (under i) (active_parts (at later) f (term_view t))) m n
       → Adds (at s) place (active_children (at s) f 0 (terms_view (take (i + 1) ts))) o n
-  next_added s later place there ts i k t o m n same stayed counted within is so_far more =
+  next_added s later place there ts i t o m n same stayed within is so_far more =
       child_added (at s) f place ts i t o m n within is so_far
-      (subst (λ (j : ℕ). Adds (at s) place (map (under j) (active_parts (at s) f (term_view t))) m n) counted
-      (subst (λ (p : Place). Adds (at s) p (map (under k) (active_parts (at s) f (term_view t))) m n) stayed
-      (subst (λ (x : Seen). Adds (at x) there (map (under k) (active_parts (at x) f (term_view t))) m n) same more)))
+      (subst (λ (p : Place). Adds (at s) p (map (under i) (active_parts (at s) f (term_view t))) m n) stayed
+      (subst (λ (x : Seen). Adds (at x) there (map (under i) (active_parts (at x) f (term_view t))) m n) same more))
 
   pub behind_added : {R E : Type 0} (r : Result R E) (s later : Seen) (place : Place) (test : Code) (pos : Pos) (t : terms.Term) (o n : Found) → later ≡ s → Ok true ≡ tested (at s) f pos test
       → OnOk r (Adds (at later) place (map (under 0) (active_parts (at later) f t)) o n)

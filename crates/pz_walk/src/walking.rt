@@ -99,7 +99,7 @@ fn walk_child(
     state: &mut State,
     frame: FrameId,
     child: &Term,
-    number: u32,
+    number: usize,
     place: &mut Place,
     found: &mut Found,
 ) -> Result<(), AllocError>
@@ -150,11 +150,7 @@ fn walk_children(
     ensures place { OnOk result (place.new ≡ place.old) }
     ensures state { state.new ≡ state.old }
 {
-    for (index, part) in parts.iter().enumerate() {
-        // No memory holds so many parts that their numbers do not fit.
-        let Ok(number) = u32::try_from(index) else {
-            return Err(AllocError);
-        };
+    for (number, part) in parts.iter().enumerate() {
         walk_child(alloc, here, state, frame, part, number, place, found)?;
     }
     Ok(())

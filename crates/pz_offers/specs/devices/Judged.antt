@@ -11,7 +11,7 @@ use Rattle.pz_rules.specs.Active.{IsActive}
 use Rattle.pz_rules.specs.Messages.{Judges}
 use Rattle.pz_rules.specs.Configurations.{Config}
 use Rattle.pz_rules.specs.Offers.{IsJudged}
-use Rattle.pz_judging.specs.Parts.{IsReceive}
+use Rattle.pz_rules.specs.Acting.{IsReceive}
 use Rattle.pz_matching.specs.declared.ends.Sender.{Sender}
 use Rattle.pz_matching.specs.declared.ends.Receiver.{Receiver}
 use Rattle.pz_matching.specs.declared.ends.Pair.{Pair}

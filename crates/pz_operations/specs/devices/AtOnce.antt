@@ -20,3 +20,9 @@ IsWorthThree p m t y = (model : ModelTree) (now d r : ℕ) → evaluated model n
 abbrev pub Attempt : ℕ → Place → Memory → Tree → ℕ → ℕ → Option Value → Type 0
 Attempt d p m t u u1 None = u1 ≡ u
 Attempt d p m t u u1 (Some y) = (u1 < u) × ((model : ModelTree) (now : ℕ) → evaluated model now d p t m u ≡ done (gives y m) u1)
+
+-- Within this depth an assignment is done: it has this value, what is left behind, and so many units of
+-- these. Or it is not tried, and nothing has changed.
+abbrev pub Assigned : ℕ → Place → Tree → Memory → ℕ → Memory → ℕ → Option Value → Type 0
+Assigned d p t m u m1 u1 None = (m1 ≡ m) × (u1 ≡ u)
+Assigned d p t m u m1 u1 (Some y) = (u1 < u) × ((model : ModelTree) (now : ℕ) → evaluated model now d p t m u ≡ done (gives y m1) u1)

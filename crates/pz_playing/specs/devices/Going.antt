@@ -19,7 +19,8 @@ use Rattle.pz_playing.specs.declared.playing.Played.{Played}
 use Rattle.pz_playing.specs.Endings.{ending_of}
 use Rattle.pz_playing.specs.Summaries.{actions_in, passings_in}
 use Rattle.pz_playing.specs.Playing.{ChosenRun}
-use Rattle.pz_playing.specs.devices.Rests.{model_in, clock_in, IsReady, RestOf}
+use Rattle.pz_term.specs.Simulations.{model_in, clock_in}
+use Rattle.pz_playing.specs.devices.Rests.{IsReady, RestOf}
 
 -- a text, if lines are told
 abbrev pub told : Bool → List ℕ → List ℕ

@@ -1,5 +1,5 @@
 -- What is left of a chosen run from where a simulator stands.
-use Rattle.std.specs.Prelude.{◌≡◌, ℕ, true, List, [], Option, Some, slice_get}
+use Rattle.std.specs.Prelude.{◌≡◌, ℕ, true, List, [], Option}
 use Rattle.pz_syntax.specs.Classes.{ModelTree}
 use Rattle.pz_classes.specs.Soundness.{IsSound}
 use Rattle.pz_offer.specs.declared.trouble.Trouble.{Trouble}
@@ -11,21 +11,12 @@ use Rattle.pz_rules.specs.Settings.{Setting}
 use Rattle.pz_rules.specs.Ports.{HasWires}
 use Rattle.pz_rules.specs.Fitting.{IsFit}
 use Rattle.pz_rules.specs.Configurations.{Config, IsWhole}
-use Rattle.pz_rules.specs.Offers.{IsOffers}
 use Rattle.pz_rules.specs.Runs.{Event, Standing, whole, stopped, Reaches, Ending, troubled}
 use Rattle.pz_rules.specs.ChosenRuns.{Policy, IsChosenRun, is_beyond}
 use Rattle.pz_rules.specs.devices.Pending.{list_pending}
 use Rattle.pz_trace.specs.Named.{IsNamed, HasTroubled}
-use Rattle.pz_term.specs.Simulations.{Simulation, stands, broken, IsMomentOf, setting_in}
+use Rattle.pz_term.specs.Simulations.{Simulation, stands, broken, IsMomentOf, clock_in}
 use Rattle.pz_playing.specs.Playing.{EndsAs}
-
-abbrev pub model_in : Simulation → ModelTree
-model_in s = (setting_in s).model
-
--- of a broken one nothing is known
-abbrev pub clock_in : Simulation → ℕ
-clock_in (stands setting c standing) = c.clock
-clock_in (broken setting) = 0
 
 -- how many delays may have something left
 abbrev pub pending_in : Simulation → ℕ
@@ -48,16 +39,6 @@ IsReady (broken setting) = ⊥
 -- no time passes any more
 abbrev pub IsHeld : Option ℕ → Simulation → Type 0
 IsHeld until s = (d : ℕ) → IsMomentOf s (Time d) → is_beyond until (clock_in s) d ≡ true
-
--- the offer of number k
-pub record IsOfferIn (setting : Setting) (c : Config) (k : ℕ) (a : Action) : Type 0 where
-  pub offers : List Action
-  pub all : IsOffers setting c offers
-  pub chosen : slice_get offers k ≡ Some a
-
-abbrev pub IsOffer : Simulation → ℕ → Action → Type 0
-IsOffer (stands setting c standing) k a = IsOfferIn setting c k a
-IsOffer (broken setting) k a = ⊥
 
 -- it is the net of some model
 abbrev pub IsSomeNet : Net → Type 0

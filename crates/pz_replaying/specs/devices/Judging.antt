@@ -20,7 +20,8 @@ use Rattle.pz_replaying.specs.declared.replayed.Replayed.TheVariants.{Ended, Ref
 use Rattle.pz_replaying.specs.Expected.{Expects}
 use Rattle.pz_replaying.specs.Replays.{refusal_text}
 use Rattle.pz_replaying.specs.devices.Fronts.{StartsWith}
-use Rattle.pz_replaying.specs.devices.Readiness.{model_in, clock_in, stage_of, IsOffer, EndsIn}
+use Rattle.pz_term.specs.Simulations.{model_in, clock_in, IsOffer}
+use Rattle.pz_replaying.specs.devices.Readiness.{stage_of, EndsIn}
 use Rattle.pz_replaying.specs.devices.Taking.{Differs}
 
 abbrev pub MayMove : Simulation → Move → Type 0

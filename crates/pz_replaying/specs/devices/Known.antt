@@ -1,6 +1,7 @@
 -- What is known of runs, of lines and of writing, by the laws of the crates below.
-use Rattle.pz_rules.specs.Laws.{OneListOfOffers, WiresAreKnown, OneMoment, EveryMoment, EveryPassing, OneNext, OnePassing, StaysWhole, StartFits, StaysFit, EveryNext}
+use Rattle.pz_rules.specs.Laws.{OneListOfOffers, WiresAreKnown, OneMoment, EveryMoment, MomentsCountOffers, EveryPassing, OneNext, OnePassing, StaysWhole, StartFits, StaysFit, EveryNext}
 use Rattle.pz_trace.specs.Laws.{HeaderIsLine, EndLinesAreLines, OneFirstLine, ActionLinesDiffer, StopIsNoAction, StopIsNoPassing, OneHeading, EveryHeading, ActionsHaveHeadings, OffersAreNamed, FaultsAreNamed, StopsAreNamed}
+use Rattle.pz_term.specs.Laws.{OneMomentOf, OffersAreCounted, OffersAreNumbered, OffersAreDerived}
 use Rattle.pz_writing.specs.Laws.{NothingIsWritten, PiecesJoin, HaltsBeforeMore, MemoryMayBeWanting}
 
 pub record Known : Type 0 where
@@ -8,6 +9,7 @@ pub record Known : Type 0 where
   pub wires : WiresAreKnown
   pub one_moment : OneMoment
   pub some_moment : EveryMoment
+  pub counts : MomentsCountOffers
   pub some_passing : EveryPassing
   pub one_next : OneNext
   pub one_passing : OnePassing
@@ -15,6 +17,10 @@ pub record Known : Type 0 where
   pub start_fits : StartFits
   pub stays_fit : StaysFit
   pub some_next : EveryNext
+  pub one_moment_of : OneMomentOf
+  pub offers_counted : OffersAreCounted
+  pub offers_numbered : OffersAreNumbered
+  pub offers_derived : OffersAreDerived
   pub offers_named : OffersAreNamed
   pub faults_named : FaultsAreNamed
   pub stops_named : StopsAreNamed

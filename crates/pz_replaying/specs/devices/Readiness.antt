@@ -1,6 +1,5 @@
 -- What a simulator stands for on its way through a run, and what it needs to go on.
-use Rattle.std.specs.Prelude.{◌≡◌, ◌≢◌, ◌<◌, ◌^◌, ℕ, List, Some, Err, slice_get}
-use Rattle.pz_syntax.specs.Classes.{ModelTree}
+use Rattle.std.specs.Prelude.{◌≡◌, ◌≢◌, ◌<◌, ◌^◌, ℕ, Err}
 use Rattle.pz_classes.specs.Soundness.{IsSound}
 use Rattle.pz_bind.specs.declared.net.Net.{Net}
 use Rattle.pz_bind.specs.NetView.{IsNet}
@@ -11,23 +10,14 @@ use Rattle.pz_rules.specs.Settings.{Setting}
 use Rattle.pz_rules.specs.Ports.{HasWires}
 use Rattle.pz_rules.specs.Fitting.{IsFit}
 use Rattle.pz_rules.specs.Configurations.{Config, IsWhole}
-use Rattle.pz_rules.specs.Offers.{IsOffers}
 use Rattle.pz_rules.specs.Steps.{Next}
 use Rattle.pz_rules.specs.Runs.{Standing, whole, stopped, Ends}
 use Rattle.pz_trace.specs.declared.ending.Ending.{Ending}
 use Rattle.pz_trace.specs.declared.ending.Ending.TheVariants as ending
 use Rattle.pz_trace.specs.Named.{IsNamedAtEnd}
 use Rattle.pz_trace.specs.TraceText.{run_ending}
-use Rattle.pz_term.specs.Simulations.{Simulation, stands, broken, setting_in, IsMomentOf}
+use Rattle.pz_term.specs.Simulations.{Simulation, stands, broken, model_in, IsMomentOf}
 use Rattle.pz_replaying.specs.Stages.{Stage, unbegun, underway}
-
-abbrev pub model_in : Simulation → ModelTree
-model_in s = (setting_in s).model
-
--- of a broken one nothing is known
-abbrev pub clock_in : Simulation → ℕ
-clock_in (stands setting c standing) = c.clock
-clock_in (broken setting) = 0
 
 abbrev pub stage_of : Simulation → Stage
 stage_of (stands setting c standing) = underway c standing
@@ -49,16 +39,6 @@ pub record Ready (setting : Setting) (c : Config) (standing : Standing) : Type 0
 abbrev pub IsReady : Simulation → Type 0
 IsReady (stands setting c standing) = Ready setting c standing
 IsReady (broken setting) = ⊥
-
--- the offer of number k
-pub record IsOfferIn (setting : Setting) (c : Config) (k : ℕ) (a : Action) : Type 0 where
-  pub offers : List Action
-  pub all : IsOffers setting c offers
-  pub chosen : slice_get offers k ≡ Some a
-
-abbrev pub IsOffer : Simulation → ℕ → Action → Type 0
-IsOffer (stands setting c standing) k a = IsOfferIn setting c k a
-IsOffer (broken setting) k a = ⊥
 
 -- how a run may end at a moment
 abbrev pub IsEndAt : Moment → Ending → Type 0

@@ -38,6 +38,13 @@ outline_idle-returns-then-child-eq0 t c =
     idle_left_first c.args.part c.outline_first.result c.outline_after.result (term_view c.args.first.now) (term_view c.args.second.now) (step.view c.args.again.now) c.args.child c.args.inner.now
     c.if-child-eq0.true c.outline_after.ensures c.outline_first.ensures.idle
 
+pub outline_inside-offset_bounds-as_slice-child : goal.outline_inside-offset_bounds-as_slice-child
+outline_inside-offset_bounds-as_slice-child t c =
+    let within : c.args.child < length c.as_slice-in-Sel.result.now =
+    select_within c.as_slice-in-Sel.result.now c.args.child c.args.inner.now
+    (seen_may (term_view c.args.term.now) (terms.select (terms_view c.as_slice-in-Sel.result.now)) (c.args.child ∷ c.args.inner.now) (sel_is c.args.term.now c.in-Sel.parts c.as_slice-in-Sel.result.now c.in-Sel.is c.as_slice-in-Sel.ensures) c.requires) in
+    omega (arith, within)
+
 pub outline_inside-bounds-as_slice-child : goal.outline_inside-bounds-as_slice-child
 outline_inside-bounds-as_slice-child t c =
     let at = c.args.child ∷ c.args.inner.now in

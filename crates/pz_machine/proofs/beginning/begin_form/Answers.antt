@@ -169,7 +169,7 @@ returns-in-If-clause-falls c =
 
 pub returns-in-While-clause-goes : goal.returns-in-While-clause-goes
 returns-in-While-clause-goes c model known =
-    goes_same (coming model c.args.setting.clock c.go_on_turns.new.activation c.args.state.now.held c.go_on_turns.new.units) c.go_on_turns.result c.go_on_turns.new.units
+    goes_same (coming model c.args.setting.clock c.go_on_turns.new.activation c.go_on_turns.new.state.held c.go_on_turns.new.units) c.go_on_turns.result c.go_on_turns.new.units
     (ap (λ x. and_then x (pending model c.args.setting.clock (place_of c.args.activation.now.site) c.args.activation.now.tasks.items)) (at_loop model c.args.setting.clock c.args.depth (place_of c.args.activation.now.site) c.args.at c.args.form.now (memory_at c.args.activation.now.site c.args.state.now.held c.args.activation.now.locals.items) c.args.units.now c.in-While.test c.get-in-While.result.now c.in-While.body c.as_slice-in-While.result.now c.get-in-While.ensures c.as_slice-in-While.ensures c.in-While.is))
     (c.go_on_turns.ensures.goes model c.args.setting.clock)
 

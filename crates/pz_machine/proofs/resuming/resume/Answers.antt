@@ -17,14 +17,9 @@ use Rattle.pz_machine.proofs.resuming.resume.Goals as goal
 
 pub returns-in-Sequence-clause-goes : goal.returns-in-Sequence-clause-goes
 returns-in-Sequence-clause-goes c model now =
-    goes_same (λ k. meant model now (place_of c.args.activation.now.site) c.go_on_list.new.tasks.items k (memory_at c.args.activation.now.site c.args.state.now.held c.args.activation.now.locals.items) c.args.units.now) c.go_on_list.result c.args.units.now
+    goes_same (coming model now c.run_list.new.activation c.run_list.new.state.held c.run_list.new.units) c.run_list.result c.run_list.new.units
     (sym (ap (λ (j : Task). and_then (resumed model now (place_of c.args.activation.now.site) j c.args.value (memory_at c.args.activation.now.site c.args.state.now.held c.args.activation.now.locals.items) c.args.units.now) (pending model now (place_of c.args.activation.now.site) c.args.activation.now.tasks.items)) c.in-Sequence.is))
-    (c.go_on_list.ensures.goes model now (place_of c.args.activation.now.site) (memory_at c.args.activation.now.site c.args.state.now.held c.args.activation.now.locals.items) c.args.units.now)
-
-pub returns-in-Sequence-clause-within : goal.returns-in-Sequence-clause-within
-returns-in-Sequence-clause-within c =
-    IfOk-weaker c.go_on_list.result _ _
-    (λ k kept. let tasks = kept (length c.args.state.now.held.objects) c.requires.value c.requires.within.tasks in (record { site = c.requires.within.site; locals = c.requires.within.locals; tasks = tasks.0 }, tasks.1)) c.go_on_list.ensures.within
+    (c.run_list.ensures.goes model now)
 
 pub returns-in-Operators-clause-goes : goal.returns-in-Operators-clause-goes
 returns-in-Operators-clause-goes c model now =
@@ -60,14 +55,9 @@ returns-in-If-clause-within c =
 
 pub returns-in-Test-clause-goes : goal.returns-in-Test-clause-goes
 returns-in-Test-clause-goes c model now =
-    goes_same (λ k. meant model now (place_of c.args.activation.now.site) c.turn_or_end.new.tasks.items k (memory_at c.args.activation.now.site c.args.state.now.held c.args.activation.now.locals.items) c.args.units.now) c.turn_or_end.result c.args.units.now
+    goes_same (coming model now c.turn_or_end.new.activation c.turn_or_end.new.state.held c.turn_or_end.new.units) c.turn_or_end.result c.turn_or_end.new.units
     (sym (ap (λ (j : Task). and_then (resumed model now (place_of c.args.activation.now.site) j c.args.value (memory_at c.args.activation.now.site c.args.state.now.held c.args.activation.now.locals.items) c.args.units.now) (pending model now (place_of c.args.activation.now.site) c.args.activation.now.tasks.items)) c.in-Test.is))
-    (c.turn_or_end.ensures.goes model now (place_of c.args.activation.now.site) (memory_at c.args.activation.now.site c.args.state.now.held c.args.activation.now.locals.items) c.args.units.now)
-
-pub returns-in-Test-clause-within : goal.returns-in-Test-clause-within
-returns-in-Test-clause-within c =
-    IfOk-weaker c.turn_or_end.result _ _
-    (λ k kept. let tasks = kept (length c.args.state.now.held.objects) c.requires.within.tasks in (record { site = c.requires.within.site; locals = c.requires.within.locals; tasks = tasks.0 }, tasks.1)) c.turn_or_end.ensures.within
+    (c.turn_or_end.ensures.goes model now)
 
 pub returns-in-Operand-clause-goes : goal.returns-in-Operand-clause-goes
 returns-in-Operand-clause-goes c model now =
@@ -122,13 +112,13 @@ returns-in-Return-clause-within c = (c.requires.within, c.requires.value)
 
 pub returns-in-Turn-clause-goes : goal.returns-in-Turn-clause-goes
 returns-in-Turn-clause-goes c model now =
-    goes_same (coming model now c.go_on_turns.new.activation c.args.state.now.held c.go_on_turns.new.units) c.go_on_turns.result c.go_on_turns.new.units
+    goes_same (coming model now c.go_on_turns.new.activation c.go_on_turns.new.state.held c.go_on_turns.new.units) c.go_on_turns.result c.go_on_turns.new.units
     (sym (ap (λ (j : Task). and_then (resumed model now (place_of c.args.activation.now.site) j c.args.value (memory_at c.args.activation.now.site c.args.state.now.held c.args.activation.now.locals.items) c.args.units.now) (pending model now (place_of c.args.activation.now.site) c.args.activation.now.tasks.items)) c.in-Turn.is))
     (c.go_on_turns.ensures.goes model now)
 
 pub returns-in-Sequence-clause-falls : goal.returns-in-Sequence-clause-falls
 returns-in-Sequence-clause-falls c =
-    lighter c.go_on_list.result c.args.task c.args.units.now (list_weight (list_view c.in-Sequence.rest.now)) c.args.activation.now.tasks.items c.go_on_list.new.tasks.items (ap task_weight c.in-Sequence.is) c.go_on_list.ensures.weighs
+    resumed_falls c.run_list.result c.args.task c.args.units.now c.run_list.new.units (list_weight (list_view c.in-Sequence.rest.now)) c.args.activation.now.tasks.items c.run_list.new.activation.tasks.items (ap task_weight c.in-Sequence.is) c.run_list.ensures.weighs
 
 pub returns-in-Operators-clause-falls : goal.returns-in-Operators-clause-falls
 returns-in-Operators-clause-falls c =
@@ -148,7 +138,7 @@ returns-in-If-clause-falls c =
 
 pub returns-in-Test-clause-falls : goal.returns-in-Test-clause-falls
 returns-in-Test-clause-falls c =
-    lighter c.turn_or_end.result c.args.task c.args.units.now (list_weight (list_view c.in-Test.body.now)) c.args.activation.now.tasks.items c.turn_or_end.new.tasks.items (ap task_weight c.in-Test.is) c.turn_or_end.ensures.weighs
+    resumed_falls c.turn_or_end.result c.args.task c.args.units.now c.turn_or_end.new.units (list_weight (list_view c.in-Test.body.now)) c.args.activation.now.tasks.items c.turn_or_end.new.activation.tasks.items (ap task_weight c.in-Test.is) c.turn_or_end.ensures.weighs
 
 pub returns-in-Operand-clause-falls : goal.returns-in-Operand-clause-falls
 returns-in-Operand-clause-falls c =

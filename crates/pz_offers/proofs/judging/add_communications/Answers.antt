@@ -17,5 +17,5 @@ returns-clause-judged c =
     let new = c.add_pairs.new.actions.items in
     let are_matches = subst (λ (ps : List Pair). AreMatches c.args.senders.now c.args.receivers.now ps) (sym c.as_slice.ensures.value) c.in_ok-pairs.ensures.pairs in
     IfOk-weaker c.add_pairs.result (OfPairs setting config c.args.senders.now c.args.receivers.now c.as_slice.result.now old new) (OfAll setting config old new)
-    (λ trouble come. comes_to setting config c.args.senders.now c.args.receivers.now c.requires.senders c.requires.receivers c.one_verdict.ensures.one c.as_slice.result.now are_matches old new trouble come)
+    (λ trouble come. comes_to setting config c.args.senders.now c.args.receivers.now c.requires.senders c.requires.receivers c.one_verdict.ensures.law c.as_slice.result.now are_matches old new trouble come)
     c.add_pairs.ensures.judged

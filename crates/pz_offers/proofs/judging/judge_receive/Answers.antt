@@ -13,7 +13,7 @@ pub judge_part-requires-clause-known : goal.judge_part-requires-clause-known
 judge_part-requires-clause-known c = are_known (checked_model c.args.checked.now) c.classes.result.now c.classes.ensures.tabled
 
 pub judge_part-requires-clause-receives : goal.judge_part-requires-clause-receives
-judge_part-requires-clause-receives c = has_receive (checked_model c.args.checked.now) c.args.limits c.args.clock c.args.processes.now c.one_verdict.ensures.receives c.args.receiver.now c.requires c.index-processes-process.result
+judge_part-requires-clause-receives c = has_receive (checked_model c.args.checked.now) c.args.limits c.args.clock c.args.processes.now c.offered_parts_act.ensures.receives c.args.receiver.now c.requires c.index-processes-process.result
 
 pub returns-clause-judged : goal.returns-clause-judged
 returns-clause-judged c =

@@ -1,4 +1,4 @@
-use Rattle.std.proofs.Common.{◌≡◌, ◌∙◌, sym, subst, ℕ, arith}
+use Rattle.std.proofs.Common.{◌≡◌, ◌∙◌, refl, sym, subst, ℕ, length}
 use Rattle.pz_state.specs.References.{RefersWithin}
 use Rattle.pz_prims.specs.declared.answer.Prim.{Prim}
 use Rattle.pz_prims.specs.Promises.{UnlessValue}
@@ -18,15 +18,15 @@ returns-in-Fault-clause-replies c m locals known =
 pub class_reply-requires-clause-receiver : goal.class_reply-requires-clause-receiver
 class_reply-requires-clause-receiver c = subst (λ (n : ℕ). RefersWithin n c.args.request.now.receiver) (sym c.prim.ensures.count) c.requires.within.receiver
 
-pub returns-in-Ok-clause-replies : goal.returns-in-Ok-clause-replies
-returns-in-Ok-clause-replies c m locals known =
+pub returns-in-Other-clause-replies : goal.returns-in-Other-clause-replies
+returns-in-Other-clause-replies c m locals known =
     let kept : c.prim.new.state ≡ c.args.state.now = subst (λ (x : Prim). UnlessValue (c.prim.new.state ≡ c.args.state.now) x) c.in-Other.is c.in_ok-value.ensures.kept in
     replies_same c.class_reply.result (record { state = c.prim.new.state.held; locals = locals })
     (sym (reply_other m c.args.request.now c.args.state.now c.prim.new.state locals c.as_bytes-name.result.now c.as_slice-arguments.result.now c.in_ok-value.field-0
-    (c.as_bytes-name.ensures.value ∙ c.as_str.ensures) c.as_slice-arguments.ensures.value c.in_ok-value.ensures.answer c.in-Ok.count c.in-Other.is kept (omega (arith, c.in-Ok.ensures))))
+    (c.as_bytes-name.ensures.value ∙ c.as_str.ensures) c.as_slice-arguments.ensures.value c.in_ok-value.ensures.answer (length c.as_slice-arguments.result.now) c.in-Other.is kept refl))
     (c.class_reply.ensures.replies m locals known)
 
-pub returns-in-Ok-clause-same : goal.returns-in-Ok-clause-same
-returns-in-Ok-clause-same c =
+pub returns-in-Other-clause-same : goal.returns-in-Other-clause-same
+returns-in-Other-clause-same c =
     let kept : c.prim.new.state ≡ c.args.state.now = subst (λ (x : Prim). UnlessValue (c.prim.new.state ≡ c.args.state.now) x) c.in-Other.is c.in_ok-value.ensures.kept in
     unless_answer c.class_reply.result kept

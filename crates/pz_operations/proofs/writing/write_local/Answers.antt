@@ -1,5 +1,6 @@
-use Rattle.std.proofs.Common.{ap, arith}
-use Rattle.pz_state.specs.States.{StateView}
+use Rattle.std.proofs.Common.{◌≡◌, List, length, ap, arith}
+use Rattle.pz_value.specs.declared.value.Value.{Value}
+use Rattle.pz_state.specs.States.{StateView, locals}
 use Rattle.pz_state.specs.Marks.{changed}
 use Rattle.pz_operations.proofs.Absent.{no_local}
 use Rattle.pz_operations.proofs.writing.write_local.Goals as goal
@@ -7,4 +8,4 @@ use Rattle.pz_operations.proofs.writing.write_local.Goals as goal
 pub returns-then-slot-locals-clause-ok : goal.returns-then-slot-locals-clause-ok
 returns-then-slot-locals-clause-ok c =
     ap (λ (h : StateView). changed c.args.state.now h)
-    (no_local c.args.state.now.held c.args.frame.0 c.args.slot c.args.value (omega (arith, c.locals.ensures, c.if-slot-locals.true)))
+    (no_local c.args.state.now.held c.args.frame.0 c.args.slot c.args.value (let count : length c.locals.result.now ≡ length (locals c.args.state.now.held c.args.frame.0) = ap (λ (vs : List Value). length vs) c.locals.ensures.value in omega (arith, count, c.if-slot-locals.true)))

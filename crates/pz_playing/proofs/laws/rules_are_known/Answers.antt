@@ -2,10 +2,10 @@ use Rattle.pz_playing.proofs.laws.rules_are_known.Goals as goal
 
 pub returns : goal.returns
 returns c = record {
-  one_list = c.one_list_of_offers.ensures.one;
   wires = c.wires_are_known.ensures.law;
   one_moment = c.one_moment.ensures.one;
   some_moment = c.one_moment.ensures.some;
+  counts = c.one_moment.ensures.counts;
   positive = c.least_passes.ensures.positive;
   some_passing = c.least_passes.ensures.some;
   stays_whole = c.one_next.ensures.whole;
@@ -15,6 +15,10 @@ returns c = record {
   some_run = c.one_chosen_run.ensures.some;
   are_runs = c.one_chosen_run.ensures.is_run;
   passings_end = c.passings_end.ensures.law;
+  one_moment_of = c.simulators_show_one_moment.ensures.one;
+  offers_counted = c.simulators_show_one_moment.ensures.counted;
+  offers_numbered = c.simulators_show_one_moment.ensures.numbered;
+  offers_derived = c.simulators_show_one_moment.ensures.derived;
   offers_named = c.what_happens_is_named.ensures.offers;
   faults_named = c.what_happens_is_named.ensures.faults;
   stops_named = c.what_happens_is_named.ensures.stops;

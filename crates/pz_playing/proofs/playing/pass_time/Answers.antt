@@ -16,7 +16,7 @@ pub returns-then-is_beyond-clause-held : goal.returns-then-is_beyond-clause-held
 returns-then-is_beyond-clause-held g c =
     let s = simulation_of c.passings.plain in
     let clock = clock_of_ready s c.passings.clock c.passings.invariant.0.ready c.passings.invariant.1 in
-    held_now c.rules_are_known.ensures.one_moment c.args.until s c.in-Time.time c.in-Time.ensures
+    held_now c.rules_are_known.ensures.one_moment_of c.args.until s c.in-Time.time c.in-Time.ensures
     (asked_there c.args.until s c.passings.clock c.in-Time.time c.is_beyond.result true clock c.is_beyond.ensures c.if-is_beyond.true)
 
 pub returns-in_err-pass-clause-cut : goal.returns-in_err-pass-clause-cut

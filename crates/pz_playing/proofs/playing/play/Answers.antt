@@ -1,12 +1,13 @@
+use Rattle.std.proofs.Common.{subst, ◌∙◌}
 use Rattle.std.proofs.lemmas.Result.{IfOk-weaker, IfErr-weaker}
 use Rattle.pz_choice.specs.Resolvers.{Resolver}
 use Rattle.pz_choice.specs.Choosers.{Stands}
 use Rattle.pz_term.specs.Simulations.{setting_in}
 use Rattle.pz_term.specs.Plains.{simulation_of}
 use Rattle.pz_playing.specs.Policies.{resolver_of, policy_of}
-use Rattle.pz_playing.specs.devices.Rests.{model_in}
+use Rattle.pz_term.specs.Simulations.{model_in}
 use Rattle.pz_playing.specs.devices.Going.{CutShort, Ended, PlayedThrough, BrokenOff}
-use Rattle.pz_playing.proofs.Simulated.{sound_here}
+use Rattle.pz_classes.specs.Soundness.{IsSound}
 use Rattle.pz_playing.proofs.WholeRuns.{start_in, ready_at, header_cut, lines_cut, lines_ended}
 use Rattle.pz_playing.proofs.Written.{err_is}
 use Rattle.pz_playing.proofs.playing.play.Goals as goal
@@ -16,7 +17,7 @@ returns-in_err-tell_header-clause-broken g c =
     let known = c.rules_are_known.ensures in
     let s = simulation_of c.args.plain.now in
     let start = start_in (setting_in s) s c.requires in
-    let sound = sound_here c.args.plain.now _ _ c.model-model.ensures.is c.checked.ensures.model c.model-model.ensures.sound in
+    let sound = subst IsSound (c.model-model.ensures.is ∙ c.checked.ensures.model) c.model-model.ensures.sound in
     rw (err_is c.from_residual.result c.in_err-tell_header.field-0.0 c.from_residual.ensures.1)
     (header_cut known (policy_of (resolver_of c.args.choice) c.args.limits) c.args.lines s start (g.W.Sink.state c.args.out.now) (g.W.Sink.state c.tell_header.new.out)
     (ready_at known (setting_in s) s sound start) c.in_err-tell_header.field-0.0 c.in_err-tell_header.ensures)
@@ -24,7 +25,7 @@ returns-in_err-tell_header-clause-broken g c =
 pub play_on-played-requires : goal.play_on-played-requires
 play_on-played-requires g c =
     let s = simulation_of c.args.plain.now in
-    let sound = sound_here c.args.plain.now _ _ c.model-model.ensures.is c.checked.ensures.model c.model-model.ensures.sound in
+    let sound = subst IsSound (c.model-model.ensures.is ∙ c.checked.ensures.model) c.model-model.ensures.sound in
     ready_at c.rules_are_known.ensures (setting_in s) s sound (start_in (setting_in s) s c.requires)
 
 pub returns-clause-through : goal.returns-clause-through

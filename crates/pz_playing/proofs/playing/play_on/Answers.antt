@@ -4,7 +4,7 @@ use Rattle.pz_rules.specs.ChosenRuns.{decided}
 use Rattle.pz_term.specs.Simulations.{IsMomentOf}
 use Rattle.pz_term.specs.Plains.{simulation_of}
 use Rattle.pz_playing.specs.Policies.{policy_of}
-use Rattle.pz_playing.specs.devices.Rests.{model_in, clock_in}
+use Rattle.pz_term.specs.Simulations.{model_in, clock_in}
 use Rattle.pz_playing.proofs.Steps.{ready_chosen, clock_chosen}
 use Rattle.pz_playing.proofs.Goings.{going_none, going_passed, going_cut, going_acted, acting_cut, going_ended}
 use Rattle.pz_playing.proofs.Written.{err_is}

@@ -1,10 +1,10 @@
-use Rattle.std.proofs.Common.{subst}
+use Rattle.std.proofs.Common.{subst, ◌∙◌}
 use Rattle.pz_rules.specs.Settings.{Setting}
 use Rattle.pz_rules.specs.Ports.{HasWires}
 use Rattle.pz_term.specs.Plains.{simulation_of}
 use Rattle.pz_playing.specs.Policies.{resolver_of, policy_of}
-use Rattle.pz_playing.specs.devices.Rests.{model_in}
-use Rattle.pz_playing.proofs.Simulated.{sound_here}
+use Rattle.pz_term.specs.Simulations.{model_in}
+use Rattle.pz_classes.specs.Soundness.{IsSound}
 use Rattle.pz_playing.proofs.WholeRuns.{its_setting, menu_broken, menu_cut, menu_told, menu_alone}
 use Rattle.pz_playing.proofs.runs.play_menu.Goals as goal
 
@@ -12,7 +12,7 @@ pub returns-in_err-finale : goal.returns-in_err-finale
 returns-in_err-finale g c = λ setting starts.
     let s = simulation_of c.args.plain.now in
     let policy = policy_of (resolver_of c.args.choice) c.args.limits in
-    let sound = sound_here c.args.plain.now _ _ c.model-model.ensures.is c.checked.ensures.model c.model-model.ensures.sound in
+    let sound = subst IsSound (c.model-model.ensures.is ∙ c.checked.ensures.model) c.model-model.ensures.sound in
     let wires = subst (λ (x : Setting). HasWires x.model) (its_setting setting s starts) (c.rules_are_known.ensures.wires (model_in s) sound) in
     let now = g.W.Sink.state c.play_trace.new.out in
     menu_broken c.rules_are_known.ensures setting policy (simulation_of c.play_trace.new.plain) (g.W.Sink.state c.args.out.now) now now

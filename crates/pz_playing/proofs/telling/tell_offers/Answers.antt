@@ -1,5 +1,5 @@
 use Rattle.pz_term.specs.Plains.{simulation_of}
-use Rattle.pz_playing.specs.devices.Rests.{model_in}
+use Rattle.pz_term.specs.Simulations.{model_in}
 use Rattle.pz_playing.proofs.Simulated.{named_here}
 use Rattle.pz_playing.proofs.Told.{offer_told, offer_cut}
 use Rattle.pz_playing.proofs.Written.{halted_so}
@@ -7,7 +7,7 @@ use Rattle.pz_playing.proofs.telling.tell_offers.Goals as goal
 
 pub tell_offer-requires : goal.tell_offer-requires
 tell_offer-requires g c = λ net is_net.
-    named_here c.rules_are_known.ensures.offers_named c.args.plain.now c.offers-actions.result.now c.loop-number.number c.index-actions-number.result net
+    named_here c.rules_are_known.ensures (simulation_of c.args.plain.now) c.offers-actions.result.now c.loop-number.number c.index-actions-number.result net
     c.offers-actions.ensures c.loop-number-test.true c.index-actions-number.is is_net
 
 pub returns-in_err-tell_offer : goal.returns-in_err-tell_offer

@@ -2,7 +2,7 @@ use Rattle.std.proofs.Common.{◌≡◌, ◌++◌, List, ℕ, drop, None}
 use Rattle.pz_writing.specs.Writing.{Wrote}
 use Rattle.pz_term.specs.Plains.{simulation_of}
 use Rattle.pz_playing.specs.Menus.{offers_text}
-use Rattle.pz_playing.specs.devices.Rests.{model_in}
+use Rattle.pz_term.specs.Simulations.{model_in}
 use Rattle.pz_playing.proofs.telling.tell_offers.Given as goal
 
 abbrev pub invariant-loop-number : goal.invariant-loop-number

@@ -9,14 +9,14 @@ pub offer_line-requires-clause-at : goal.offer_line-requires-clause-at
 offer_line-requires-clause-at c = clock_of_ready (simulation_of c.args.plain.now) c.clock-clock.result c.requires.ready c.clock-clock.ensures
 
 pub returns-in_err-len-clause-few : goal.returns-in_err-len-clause-few
-returns-in_err-len-clause-few c = few_there c.rules_are_known.ensures.one_moment (simulation_of c.args.plain.now) c.args.offers c.requires.moment (omega arith)
+returns-in_err-len-clause-few c = few_there c.rules_are_known.ensures.one_moment_of (simulation_of c.args.plain.now) c.args.offers c.requires.moment (omega arith)
 
 pub returns-in-Some-clause-judges : goal.returns-in-Some-clause-judges
 returns-in-Some-clause-judges c =
     judges_stop (simulation_of c.args.plain.now) (Actions c.args.offers) c.args.rest.now c.in-Some.len c.requires.ready c.requires.moment refl (rw c.in-Some.is at c.in_ok-len.ensures)
 
 pub returns-in-Some-clause-few : goal.returns-in-Some-clause-few
-returns-in-Some-clause-few c = few_there c.rules_are_known.ensures.one_moment (simulation_of c.args.plain.now) c.args.offers c.requires.moment (omega arith)
+returns-in-Some-clause-few c = few_there c.rules_are_known.ensures.one_moment_of (simulation_of c.args.plain.now) c.args.offers c.requires.moment (omega arith)
 
 pub returns-in_default-named_offer-clause-judges : goal.returns-in_default-named_offer-clause-judges
 returns-in_default-named_offer-clause-judges c =
@@ -26,18 +26,18 @@ returns-in_default-named_offer-clause-judges c =
     differs_none c.rules_are_known.ensures s c.args.rest.now c.args.offers c.clock-clock.result c.requires.ready c.requires.moment clock fits (omega arith) (rw c.in_default.is at c.in_ok-len.ensures) c.in_default-named_offer.ensures
 
 pub returns-in_default-named_offer-clause-few : goal.returns-in_default-named_offer-clause-few
-returns-in_default-named_offer-clause-few c = few_there c.rules_are_known.ensures.one_moment (simulation_of c.args.plain.now) c.args.offers c.requires.moment (omega arith)
+returns-in_default-named_offer-clause-few c = few_there c.rules_are_known.ensures.one_moment_of (simulation_of c.args.plain.now) c.args.offers c.requires.moment (omega arith)
 
 pub returns-in_err-line-clause-few : goal.returns-in_err-line-clause-few
-returns-in_err-line-clause-few c = few_there c.rules_are_known.ensures.one_moment (simulation_of c.args.plain.now) c.args.offers c.requires.moment (omega arith)
+returns-in_err-line-clause-few c = few_there c.rules_are_known.ensures.one_moment_of (simulation_of c.args.plain.now) c.args.offers c.requires.moment (omega arith)
 
 pub returns-in-Some-front_len-clause-judges : goal.returns-in-Some-front_len-clause-judges
 returns-in-Some-front_len-clause-judges c =
-    judges_offer (simulation_of c.args.plain.now) c.args.rest.now c.as_slice.result.now c.args.offers c.in-Some-named_offer.number c.in-Some-front_len.len c.requires.moment c.in-Some-named_offer.ensures.0
+    judges_offer c.rules_are_known.ensures (simulation_of c.args.plain.now) c.args.rest.now c.as_slice.result.now c.args.offers c.in-Some-named_offer.number c.in-Some-front_len.len c.requires.moment c.in-Some-named_offer.ensures.0
     (λ a offer. c.as_slice.ensures.value ∙ c.in_ok-line.ensures a offer) c.in-Some-front_len.ensures
 
 pub returns-in-Some-front_len-clause-few : goal.returns-in-Some-front_len-clause-few
-returns-in-Some-front_len-clause-few c = few_there c.rules_are_known.ensures.one_moment (simulation_of c.args.plain.now) c.args.offers c.requires.moment (omega arith)
+returns-in-Some-front_len-clause-few c = few_there c.rules_are_known.ensures.one_moment_of (simulation_of c.args.plain.now) c.args.offers c.requires.moment (omega arith)
 
 pub returns-in-None-clause-judges : goal.returns-in-None-clause-judges
 returns-in-None-clause-judges c =
@@ -50,4 +50,4 @@ returns-in-None-clause-judges c =
     (λ left is. c.in-None.ensures left (is ∙ ap (λ (l : List ℕ). l ++ left) (sym c.as_slice.ensures.value)))
 
 pub returns-in-None-clause-few : goal.returns-in-None-clause-few
-returns-in-None-clause-few c = few_there c.rules_are_known.ensures.one_moment (simulation_of c.args.plain.now) c.args.offers c.requires.moment (omega arith)
+returns-in-None-clause-few c = few_there c.rules_are_known.ensures.one_moment_of (simulation_of c.args.plain.now) c.args.offers c.requires.moment (omega arith)

@@ -3,7 +3,7 @@ use Rattle.pz_writing.specs.Writing.{Wrote}
 use Rattle.pz_writing.specs.declared.writing.Halt.TheVariants.{NoMemory}
 use Rattle.pz_term.specs.Plains.{simulation_of}
 use Rattle.pz_replaying.proofs.Written.{err_is}
-use Rattle.pz_replaying.specs.devices.Readiness.{model_in, clock_in}
+use Rattle.pz_term.specs.Simulations.{model_in, clock_in}
 use Rattle.pz_replaying.proofs.Found.{move_some, end_some}
 use Rattle.pz_replaying.proofs.Looping.{found_move, found_end, found_other, going_none, going_memory, going_cut, going_on, end_cut, going_concluded, going_refused}
 use Rattle.pz_replaying.proofs.replaying.follow.Goals as goal

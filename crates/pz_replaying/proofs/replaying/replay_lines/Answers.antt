@@ -4,21 +4,21 @@ use Rattle.pz_writing.specs.declared.writing.Halt.TheVariants.{NoMemory}
 use Rattle.pz_trace.specs.Lines.{header}
 use Rattle.pz_term.specs.Plains.{simulation_of}
 use Rattle.pz_replaying.specs.devices.Fronts.{StartsWith}
-use Rattle.pz_replaying.proofs.Simulated.{sound_here}
+use Rattle.pz_classes.specs.Soundness.{IsSound}
 use Rattle.pz_replaying.proofs.Written.{err_is}
 use Rattle.pz_replaying.proofs.Openings.{ready_there, header_wanting, header_refused, header_cut, header_followed}
 use Rattle.pz_replaying.proofs.replaying.replay_lines.Goals as goal
 
 pub returns-in_err-header : goal.returns-in_err-header
 returns-in_err-header g c =
-    let sound = sound_here c.args.plain.now _ _ c.model-model.ensures.is c.checked.ensures.model c.model-model.ensures.sound in
+    let sound = subst IsSound (c.model-model.ensures.is ∙ c.checked.ensures.model) c.model-model.ensures.sound in
     rw (err_is c.from_residual.result NoMemory c.from_residual.ensures.1)
     (λ setting starts tells.
     header_wanting c.rules_are_known.ensures setting c.args.trace.now tells (g.W.Sink.state c.args.out.now) (simulation_of c.args.plain.now) (simulation_of c.args.plain.now) starts sound)
 
 pub returns-in_default : goal.returns-in_default
 returns-in_default g c = λ setting starts tells.
-    let sound = sound_here c.args.plain.now _ _ c.model-model.ensures.is c.checked.ensures.model c.model-model.ensures.sound in
+    let sound = subst IsSound (c.model-model.ensures.is ∙ c.checked.ensures.model) c.model-model.ensures.sound in
     header_refused c.rules_are_known.ensures setting c.args.trace.now tells (g.W.Sink.state c.args.out.now) (simulation_of c.args.plain.now) (g.W.Sink.state c.refuse.new.out)
     c.in_ok-header.header c.refuse.result starts sound c.in_ok-header.ensures
     (λ rest is. c.in_default.ensures rest (is ∙ ap (λ (l : List ℕ). l ++ rest) (sym (c.as_slice.ensures.value ∙ c.in_ok-header.ensures))))
@@ -26,7 +26,7 @@ returns-in_default g c = λ setting starts tells.
 
 pub returns-in_err-put : goal.returns-in_err-put
 returns-in_err-put g c =
-    let sound = sound_here c.args.plain.now _ _ c.model-model.ensures.is c.checked.ensures.model c.model-model.ensures.sound in
+    let sound = subst IsSound (c.model-model.ensures.is ∙ c.checked.ensures.model) c.model-model.ensures.sound in
     let is : c.as_slice.result.now ≡ header = c.as_slice.ensures.value ∙ c.in_ok-header.ensures in
     let front = subst (λ (l : List ℕ). StartsWith c.args.trace.now l c.in-Some.len) is c.in-Some.ensures in
     let before = g.W.Sink.state c.args.out.now in
@@ -39,12 +39,12 @@ returns-in_err-put g c =
 
 pub follow-requires-clause-ready : goal.follow-requires-clause-ready
 follow-requires-clause-ready g c =
-    let sound = sound_here c.args.plain.now _ _ c.model-model.ensures.is c.checked.ensures.model c.model-model.ensures.sound in
+    let sound = subst IsSound (c.model-model.ensures.is ∙ c.checked.ensures.model) c.model-model.ensures.sound in
     ready_there c.rules_are_known.ensures c.requires.0 (simulation_of c.args.plain.now) c.requires.1 sound
 
 pub returns : goal.returns
 returns g c = λ setting starts tells.
-    let sound = sound_here c.args.plain.now _ _ c.model-model.ensures.is c.checked.ensures.model c.model-model.ensures.sound in
+    let sound = subst IsSound (c.model-model.ensures.is ∙ c.checked.ensures.model) c.model-model.ensures.sound in
     let is : c.as_slice.result.now ≡ header = c.as_slice.ensures.value ∙ c.in_ok-header.ensures in
     let front = subst (λ (l : List ℕ). StartsWith c.args.trace.now l c.in-Some.len) is c.in-Some.ensures in
     let before = g.W.Sink.state c.args.out.now in

@@ -1,7 +1,7 @@
 use Rattle.pz_rules.specs.InternalActions.{Performs}
 use Rattle.pz_rules.specs.View.{term_view}
 use Rattle.pz_asking.specs.Standpoints.{seen_from}
-use Rattle.pz_acting.specs.Acting.{IsActing}
+use Rattle.pz_rules.specs.Acting.{IsActing}
 use Rattle.pz_acting.specs.Becoming.{process_left}
 use Rattle.pz_stepping.specs.devices.Deeds.{Acting}
 use Rattle.pz_stepping.proofs.Statements.{acting_place}

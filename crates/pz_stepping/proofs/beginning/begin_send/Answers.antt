@@ -6,7 +6,7 @@ use Rattle.pz_rules.specs.Meanings.{and_then}
 use Rattle.pz_rules.specs.Messages.{Hands}
 use Rattle.pz_rules.specs.View.{term_view}
 use Rattle.pz_asking.specs.Standpoints.{seen_from}
-use Rattle.pz_acting.specs.Acting.{IsSend}
+use Rattle.pz_rules.specs.Acting.{IsSend}
 use Rattle.pz_acting.specs.Becoming.{done_left}
 use Rattle.pz_stepping.specs.devices.Deeds.{Sending}
 use Rattle.pz_stepping.proofs.Statements.{sending_place}

@@ -1,4 +1,4 @@
-use Rattle.std.proofs.Common.{◌∙◌, Bool, Result, Ok, sym, ap, arith}
+use Rattle.std.proofs.Common.{◌∙◌, Bool, Result, Ok, sym, ap}
 use Rattle.std.proofs.lemmas.Result.{on_ok_weaker}
 use Rattle.pz_offer.specs.declared.trouble.Trouble.{Trouble}
 use Rattle.pz_code.specs.CodeView as code
@@ -25,14 +25,14 @@ walk_child-returns-clause-adds t c = λ m class known.
     (active_parts (seen_from m c.args.here.now class c.args.state.now.held) c.args.frame.0 (term_view c.args.child.now)) c.args.found.now c.walk_part.new.found
     c.in_ok-enter.ensures.ok (c.in_ok-walk_part.ensures.adds m class known)
 
-pub walk_children-loop-index-preserved : goal.walk_children-loop-index-preserved
-walk_children-loop-index-preserved t c = record {
+pub walk_children-loop-number-preserved : goal.walk_children-loop-number-preserved
+walk_children-loop-number-preserved t c = record {
   adds = λ m class known.
-      next_added (λ (s : Seen). seen_from m c.args.here.now class s.held) c.args.frame.0 c.args.state.now c.loop-index.state c.args.place.now c.loop-index.place c.args.parts.now c.loop-index.index c.in-Ok.number
-      c.index-parts-index.result c.args.found.now c.loop-index.found c.walk_child.new.found c.loop-index.invariant.state c.loop-index.invariant.place (omega (arith, c.in-Ok.ensures)) c.loop-index-test.true
-      c.index-parts-index.is (c.loop-index.invariant.adds m class known) (c.in_ok-walk_child.ensures.adds m class known);
-  place = c.in_ok-walk_child.ensures.place ∙ c.loop-index.invariant.place;
-  state = c.in_ok-walk_child.ensures.state ∙ c.loop-index.invariant.state;
+      next_added (λ (s : Seen). seen_from m c.args.here.now class s.held) c.args.frame.0 c.args.state.now c.loop-number.state c.args.place.now c.loop-number.place c.args.parts.now c.loop-number.number
+      c.index-parts-number.result c.args.found.now c.loop-number.found c.walk_child.new.found c.loop-number.invariant.state c.loop-number.invariant.place c.loop-number-test.true
+      c.index-parts-number.is (c.loop-number.invariant.adds m class known) (c.in_ok-walk_child.ensures.adds m class known);
+  place = c.in_ok-walk_child.ensures.place ∙ c.loop-number.invariant.place;
+  state = c.in_ok-walk_child.ensures.state ∙ c.loop-number.invariant.state;
 }
 
 pub walk_guarded-returns-in-Ok-true-clause-adds : goal.walk_guarded-returns-in-Ok-true-clause-adds

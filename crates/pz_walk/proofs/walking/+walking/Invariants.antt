@@ -7,9 +7,9 @@ use Rattle.pz_asking.specs.Standpoints.{Knows, seen_from}
 use Rattle.pz_walk.specs.devices.Listings.{Adds}
 use Rattle.pz_walk.proofs.walking.+walking.Given as goal
 
-abbrev pub invariant-walk_children-loop-index : goal.invariant-walk_children-loop-index
-invariant-walk_children-loop-index l = record {
-  adds : (m : ModelTree) (class : ℕ) → Knows m l.here → Adds (seen_from m l.here class l.initial.state.held) l.initial.place (active_children (seen_from m l.here class l.initial.state.held) l.frame.0 0 (terms_view (take l.index l.parts))) l.initial.found l.found;
+abbrev pub invariant-walk_children-loop-number : goal.invariant-walk_children-loop-number
+invariant-walk_children-loop-number l = record {
+  adds : (m : ModelTree) (class : ℕ) → Knows m l.here → Adds (seen_from m l.here class l.initial.state.held) l.initial.place (active_children (seen_from m l.here class l.initial.state.held) l.frame.0 0 (terms_view (take l.number l.parts))) l.initial.found l.found;
   place : l.place ≡ l.initial.place;
   state : l.state ≡ l.initial.state;
 }

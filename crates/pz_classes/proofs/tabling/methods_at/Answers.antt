@@ -8,7 +8,7 @@ use Rattle.pz_classes.specs.Methods.{signatures}
 use Rattle.pz_classes.specs.devices.MethodIn.{HasMethods, HasMethodsOf}
 use Rattle.pz_classes.proofs.FewMarks.{numbers_fit, decl_fits}
 use Rattle.pz_classes.proofs.Numbered.{declares}
-use Rattle.pz_classes.proofs.entry.methods_at.Goals as goal
+use Rattle.pz_classes.proofs.tabling.methods_at.Goals as goal
 
 pub returns-in-Some : goal.returns-in-Some
 returns-in-Some c =

@@ -5,7 +5,7 @@ use Rattle.pz_syntax.specs.ClassView.{model_view}
 use Rattle.pz_classes.specs.declared.entry.Entry.{Entry}
 use Rattle.pz_classes.specs.Tables.{rows, row_view}
 use Rattle.pz_classes.proofs.Counting.{rows_step, all_rows, one_further, nothing_left}
-use Rattle.pz_classes.proofs.entry.entries_of.Goals as goal
+use Rattle.pz_classes.proofs.tabling.entries_of.Goals as goal
 
 pub entry_of-requires-clause-inherited : goal.entry_of-requires-clause-inherited
 entry_of-requires-clause-inherited c =

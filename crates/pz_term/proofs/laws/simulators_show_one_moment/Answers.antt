@@ -1,0 +1,10 @@
+use Rattle.pz_term.proofs.Shown.{one_moment_of, offers_counted, offers_numbered, offers_derived}
+use Rattle.pz_term.proofs.laws.simulators_show_one_moment.Goals as goal
+
+pub returns : goal.returns
+returns c = record {
+  one = one_moment_of c.one_moment.ensures.one;
+  counted = offers_counted c.one_moment.ensures.counts c.one_list_of_offers.ensures.one;
+  numbered = offers_numbered c.one_list_of_offers.ensures.one;
+  derived = offers_derived;
+}

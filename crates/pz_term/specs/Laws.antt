@@ -1,0 +1,24 @@
+-- Laws of simulators.
+use Rattle.std.specs.Prelude.{◌≡◌, ◌<◌, ℕ, List, length, get_or, Some, slice_get}
+use Rattle.pz_rules.specs.declared.action.Action.{Action}
+use Rattle.pz_rules.specs.declared.moment.Moment.{Moment}
+use Rattle.pz_rules.specs.declared.moment.Moment.TheVariants.{Actions}
+use Rattle.pz_rules.specs.Configurations.{Config}
+use Rattle.pz_rules.specs.Offers.{Offers}
+use Rattle.pz_term.specs.Simulations.{Simulation, IsMomentOf, AreOffersOf, IsOffer, setting_in}
+
+-- a simulator has no more than one moment
+abbrev pub OneMomentOf : Type 0
+OneMomentOf = (s : Simulation) (m n : Moment) → IsMomentOf s m → IsMomentOf s n → m ≡ n
+
+-- it has as many offers as its moment counts, each by its number
+
+abbrev pub OffersAreCounted : Type 0
+OffersAreCounted = (s : Simulation) (n : ℕ) (offers : List Action) → IsMomentOf s (Actions n) → AreOffersOf s offers → n ≡ length offers
+
+abbrev pub OffersAreNumbered : Type 0
+OffersAreNumbered = (s : Simulation) (n k : ℕ) (offers : List Action) (a : Action) → IsMomentOf s (Actions n) → AreOffersOf s offers → IsOffer s k a → slice_get offers k ≡ Some a
+
+-- each of its offers is one by the rules
+abbrev pub OffersAreDerived : Type 0
+OffersAreDerived = (s : Simulation) (offers : List Action) → AreOffersOf s offers → (k : ℕ) (d : Action) → k < length offers → (c : Config) × Offers (setting_in s) c (get_or offers k d)

@@ -1,0 +1,17 @@
+// Laws of simulators, the contract of a function that does nothing.
+
+ghost use Rattle.pz_term.specs.Laws.{OneMomentOf, OffersAreCounted, OffersAreNumbered, OffersAreDerived};
+
+use pz_rules::{one_list_of_offers, one_moment};
+
+/// A simulator has no more than one moment. Its offers are as many as that counts, each has its number,
+/// and each is one by the rules.
+pub fn simulators_show_one_moment()
+    ensures one { OneMomentOf }
+    ensures counted { OffersAreCounted }
+    ensures numbered { OffersAreNumbered }
+    ensures derived { OffersAreDerived }
+{
+    one_moment();
+    one_list_of_offers();
+}
