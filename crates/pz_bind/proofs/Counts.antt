@@ -12,7 +12,7 @@ use Rattle.pz_classes.specs.Instances.{instances, channels, instance_class}
 use Rattle.pz_classes.specs.SizeRules.{system_of, Totals, nothing, plus, all_of, one_of, expanded, system_size}
 use Rattle.pz_classes.specs.SoundSystem.{SystemFits, IsLimited}
 use Rattle.pz_classes.proofs.Elements.{first_in}
-use Rattle.pz_levels.specs.Places.{Place}
+use Rattle.pz_bind_levels.specs.Places.{Place}
 use Rattle.pz_bind.specs.Nest.{first_system, each_instance, system_class, instances_in, channels_in, class_of, class_at, instances_at, instance_at, channels_at, with_inside, inside, places, is_level, is_process_at, processes}
 use Rattle.pz_bind.specs.Wires.{is_joined, ending, wires_at, wires}
 use Rattle.pz_bind.proofs.Sorts.{Sort, of_none, a_process, a_cluster, sort}

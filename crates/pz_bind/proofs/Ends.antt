@@ -9,10 +9,10 @@ use Rattle.pz_syntax.specs.declared.clusters.ChannelEnd.TheVariants.{Outer}
 use Rattle.pz_syntax.specs.Classes.{ModelTree}
 use Rattle.pz_classes.specs.Members.{ports, spelled}
 use Rattle.pz_classes.specs.SoundSystem.{SystemFits, HasPort}
-use Rattle.pz_levels.specs.Layouts.{Layout}
-use Rattle.pz_levels.specs.Places.{Place, layout_at}
-use Rattle.pz_levels.specs.Wires.{Channel, channel, joined as joined_to}
-use Rattle.pz_levels.specs.Connections as by_number
+use Rattle.pz_bind_levels.specs.Layouts.{Layout}
+use Rattle.pz_bind_levels.specs.Places.{Place, layout_at}
+use Rattle.pz_bind_levels.specs.Wires.{Channel, channel, joined as joined_to}
+use Rattle.pz_bind_levels.specs.Connections as by_number
 use Rattle.pz_bind.specs.Nest.{system_class, class_of, class_at, instance_at, instances_at, channels_at}
 use Rattle.pz_bind.specs.Connections.{End, end, is_outer, names_inner, IsIn, is_in, Joined, joined, Leads, itself, outwards, Reaches}
 use Rattle.pz_bind.specs.devices.Layouts.{outer_from, layouts}

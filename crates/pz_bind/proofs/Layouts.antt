@@ -6,8 +6,8 @@ use Rattle.std.proofs.lemmas.Option.{slice_get-map, slice_get_within}
 use Rattle.pz_syntax.specs.declared.clusters.Instance.{Instance}
 use Rattle.pz_syntax.specs.declared.clusters.Channel.{Channel as Written}
 use Rattle.pz_syntax.specs.Classes.{DeclTree, ModelTree}
-use Rattle.pz_levels.specs.Layouts.{Layout, empty, layout, AreLinked}
-use Rattle.pz_levels.specs.Places.{Place, layout_at}
+use Rattle.pz_bind_levels.specs.Layouts.{Layout, empty, layout, AreLinked}
+use Rattle.pz_bind_levels.specs.Places.{Place, layout_at}
 use Rattle.pz_bind.specs.Nest.{system_class, instances_in, channels_in, class_of, class_at, instance_at, instances_at}
 use Rattle.pz_bind.specs.devices.Layouts.{part_of, outer_from, links_from, linked_by, class_layout, layouts_from, layouts}
 use Rattle.pz_bind.proofs.Linked.{of_channels}

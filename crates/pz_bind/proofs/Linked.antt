@@ -10,7 +10,7 @@ use Rattle.pz_syntax.specs.declared.clusters.ChannelEnd.{ChannelEnd}
 use Rattle.pz_syntax.specs.declared.clusters.ChannelEnd.TheVariants.{Inner, Outer}
 use Rattle.pz_syntax.specs.Classes.{ModelTree}
 use Rattle.pz_classes.proofs.Elements.{both_true}
-use Rattle.pz_levels.proofs.Each.{in_first}
+use Rattle.pz_bind_levels.proofs.Each.{in_first}
 use Rattle.pz_bind.specs.devices.Layouts.{Link, link, linked_by, instance_number, port_of, link_at, link_of, links_from}
 use Rattle.pz_bind.proofs.Lists.{in_later, map_at}
 

@@ -10,16 +10,16 @@ use Rattle.pz_classes.specs.declared.classes.Classes.{Classes}
 use Rattle.pz_classes.specs.Tables.{Row, rows_from, row_view, AreClasses}
 use Rattle.pz_classes.specs.Members.{ports, spelled}
 use Rattle.pz_classes.specs.SoundClasses.{ClassesFit}
-use Rattle.pz_levels.specs.declared.expansion.Process.{Process}
-use Rattle.pz_levels.specs.declared.expansion.Expansion.{Expansion}
-use Rattle.pz_levels.specs.Layouts.{Layout, AreLinked}
-use Rattle.pz_levels.specs.Places.{Place, Spot}
-use Rattle.pz_levels.specs.Places as by_number
-use Rattle.pz_levels.specs.Wires.{Channel}
-use Rattle.pz_levels.specs.Connections as numbers
-use Rattle.pz_levels.specs.Expanded.{StandsAt, IsExpansion}
-use Rattle.pz_levels.proofs.Each.{there}
-use Rattle.pz_levels.specs.devices.Walking.{layouts_of}
+use Rattle.pz_bind_levels.specs.declared.expansion.Process.{Process}
+use Rattle.pz_bind_levels.specs.declared.expansion.Expansion.{Expansion}
+use Rattle.pz_bind_levels.specs.Layouts.{Layout, AreLinked}
+use Rattle.pz_bind_levels.specs.Places.{Place, Spot}
+use Rattle.pz_bind_levels.specs.Places as by_number
+use Rattle.pz_bind_levels.specs.Wires.{Channel}
+use Rattle.pz_bind_levels.specs.Connections as numbers
+use Rattle.pz_bind_levels.specs.Expanded.{StandsAt, IsExpansion}
+use Rattle.pz_bind_levels.proofs.Each.{there}
+use Rattle.pz_bind_levels.specs.devices.Walking.{layouts_of}
 use Rattle.pz_bind.specs.Nest.{system_class, class_at, is_process_at, places, processes}
 use Rattle.pz_bind.specs.Connections.{end, IsInNone}
 use Rattle.pz_bind.specs.Wires.{wires, HasWire}

@@ -6,13 +6,13 @@ use Rattle.std.proofs.lemmas.Option.{slice_get_within}
 use Rattle.pz_syntax.specs.Classes.{ModelTree}
 use Rattle.pz_classes.specs.Members.{ports, spelled}
 use Rattle.pz_classes.specs.SoundSystem.{SystemFits}
-use Rattle.pz_levels.specs.declared.expansion.Standing.{Standing}
-use Rattle.pz_levels.specs.declared.expansion.Process.{Process}
-use Rattle.pz_levels.specs.declared.expansion.Expansion.{Expansion}
-use Rattle.pz_levels.specs.Places.{Place, Spot}
-use Rattle.pz_levels.specs.Places as by_number
-use Rattle.pz_levels.specs.Wires.{Channel}
-use Rattle.pz_levels.specs.Expanded.{StandsAt, at_top, in_level, IsExpansion}
+use Rattle.pz_bind_levels.specs.declared.expansion.Standing.{Standing}
+use Rattle.pz_bind_levels.specs.declared.expansion.Process.{Process}
+use Rattle.pz_bind_levels.specs.declared.expansion.Expansion.{Expansion}
+use Rattle.pz_bind_levels.specs.Places.{Place, Spot}
+use Rattle.pz_bind_levels.specs.Places as by_number
+use Rattle.pz_bind_levels.specs.Wires.{Channel}
+use Rattle.pz_bind_levels.specs.Expanded.{StandsAt, at_top, in_level, IsExpansion}
 use Rattle.pz_bind.specs.Nest.{system_class, class_at, instances_at, inside, is_level, is_process_at, places, levels, processes}
 use Rattle.pz_bind.specs.devices.Layouts.{layouts}
 use Rattle.pz_bind.specs.devices.Sites.{LevelAt, the_system, a_cluster, AreLevels}

@@ -11,15 +11,15 @@ use Rattle.pz_syntax.specs.declared.clusters.ChannelEnd.{ChannelEnd}
 use Rattle.pz_syntax.specs.declared.clusters.Decl.{Decl}
 use Rattle.pz_syntax.specs.Classes.{DeclTree, ModelTree}
 use Rattle.pz_syntax.specs.ClassView.{decl_view}
-use Rattle.pz_code.specs.declared.numbering.Numbering.{Numbering}
-use Rattle.pz_code.specs.NumberIn.{number_in}
+use Rattle.pz_classes_code.specs.declared.numbering.Numbering.{Numbering}
+use Rattle.pz_classes_code.specs.NumberIn.{number_in}
 use Rattle.pz_classes.specs.Bodies.{place_in}
 use Rattle.pz_classes.specs.Instances.{instances}
 use Rattle.pz_classes.specs.Members.{own_ports, ports, spelled}
 use Rattle.pz_classes.specs.Numbers.{declaration}
 use Rattle.pz_classes.specs.SoundNumbers.{NumbersFit}
-use Rattle.pz_levels.specs.Layouts.{Layout}
-use Rattle.pz_levels.proofs.Each.{pushed_at, there}
+use Rattle.pz_bind_levels.specs.Layouts.{Layout}
+use Rattle.pz_bind_levels.proofs.Each.{pushed_at, there}
 use Rattle.pz_bind.specs.Nest.{instances_in}
 use Rattle.pz_bind.specs.devices.Layouts.{linked_by, link_of, links_from, port_number, class_layout, layouts_from}
 use Rattle.pz_bind.specs.devices.Numberings.{AreNumbers, ByClass}

@@ -14,8 +14,8 @@ use Rattle.pz_syntax.specs.declared.clusters.Arg.TheVariants.{Plain, Negated, Pa
 use Rattle.pz_syntax.specs.declared.exprs.Literal.TheVariants as literal
 use Rattle.pz_value.specs.declared.value.Value.TheVariants.{Nil, Int}
 use Rattle.pz_syntax.specs.Classes.{DeclTree, process_class, cluster_class, system, ModelTree}
-use Rattle.pz_levels.specs.Places.{Place}
-use Rattle.pz_levels.specs.Wires.{channel}
+use Rattle.pz_bind_levels.specs.Places.{Place}
+use Rattle.pz_bind_levels.specs.Wires.{channel}
 use Rattle.pz_bind.specs.Nest.{levels, processes}
 use Rattle.pz_bind.specs.Names.{path, wire_name}
 use Rattle.pz_bind.specs.Values.{values_at}

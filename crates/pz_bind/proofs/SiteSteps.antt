@@ -11,13 +11,13 @@ use Rattle.pz_value.specs.declared.value.Value.{Value}
 use Rattle.pz_value.specs.declared.value.Value.TheVariants.{Nil}
 use Rattle.pz_classes.specs.Members.{variables, spelled}
 use Rattle.pz_classes.specs.Tables.{class_id}
-use Rattle.pz_levels.specs.declared.expansion.Standing.{Standing}
-use Rattle.pz_levels.specs.declared.expansion.Level.{Level}
-use Rattle.pz_levels.specs.declared.expansion.Process.{Process}
-use Rattle.pz_levels.specs.declared.expansion.Wire.{Wire}
-use Rattle.pz_levels.specs.Places.{Place}
-use Rattle.pz_levels.specs.Wires.{Channel}
-use Rattle.pz_levels.proofs.Each.{there, pushed, partner}
+use Rattle.pz_bind_levels.specs.declared.expansion.Standing.{Standing}
+use Rattle.pz_bind_levels.specs.declared.expansion.Level.{Level}
+use Rattle.pz_bind_levels.specs.declared.expansion.Process.{Process}
+use Rattle.pz_bind_levels.specs.declared.expansion.Wire.{Wire}
+use Rattle.pz_bind_levels.specs.Places.{Place}
+use Rattle.pz_bind_levels.specs.Wires.{Channel}
+use Rattle.pz_bind_levels.proofs.Each.{there, pushed, partner}
 use Rattle.pz_bind.specs.Nest.{instances_in, class_at, instance_at, levels, processes}
 use Rattle.pz_bind.specs.Names.{path, wire_name}
 use Rattle.pz_bind.specs.Values.{given_value, parameter_at, values_at}

@@ -10,10 +10,10 @@ use Rattle.pz_classes.specs.Kinds.{is_process, is_cluster}
 use Rattle.pz_classes.specs.Instances.{instances}
 use Rattle.pz_classes.specs.SoundSystem.{SystemFits, InstanceFits}
 use Rattle.pz_classes.proofs.Elements.{at_place}
-use Rattle.pz_levels.specs.Layouts.{Layout}
-use Rattle.pz_levels.specs.Places.{Place, Spot, spot, the_system, each_part}
-use Rattle.pz_levels.specs.Places as by_number
-use Rattle.pz_levels.proofs.Each.{at_end}
+use Rattle.pz_bind_levels.specs.Layouts.{Layout}
+use Rattle.pz_bind_levels.specs.Places.{Place, Spot, spot, the_system, each_part}
+use Rattle.pz_bind_levels.specs.Places as by_number
+use Rattle.pz_bind_levels.proofs.Each.{at_end}
 use Rattle.pz_bind.specs.Nest.{each_instance, system_class, instances_in, class_of, class_at, instances_at, instance_at, with_inside, inside, places, is_level, is_process_at, levels, processes}
 use Rattle.pz_bind.specs.devices.Layouts.{is_cluster_class, part_of, layouts}
 use Rattle.pz_bind.proofs.Layouts.{layout_is, layouts_count}

@@ -11,12 +11,12 @@ use Rattle.pz_syntax.specs.declared.clusters.ChannelEnd.TheVariants.{Inner, Oute
 use Rattle.pz_syntax.specs.Classes.{ModelTree}
 use Rattle.pz_classes.specs.Members.{ports, spelled}
 use Rattle.pz_classes.specs.SoundSystem.{SystemFits}
-use Rattle.pz_levels.specs.Layouts.{Layout}
-use Rattle.pz_levels.specs.Places.{Place}
-use Rattle.pz_levels.specs.Wires.{Channel, channel, joined_by, joined as joined_to}
-use Rattle.pz_levels.specs.Wires as by_number
-use Rattle.pz_levels.specs.Connections as numbers
-use Rattle.pz_levels.proofs.Each.{at_end}
+use Rattle.pz_bind_levels.specs.Layouts.{Layout}
+use Rattle.pz_bind_levels.specs.Places.{Place}
+use Rattle.pz_bind_levels.specs.Wires.{Channel, channel, joined_by, joined as joined_to}
+use Rattle.pz_bind_levels.specs.Wires as by_number
+use Rattle.pz_bind_levels.specs.Connections as numbers
+use Rattle.pz_bind_levels.proofs.Each.{at_end}
 use Rattle.pz_bind.specs.Nest.{system_class, class_of, class_at, instance_at, channels_at, levels}
 use Rattle.pz_bind.specs.Names.{name_at}
 use Rattle.pz_bind.specs.Connections.{End, end, is_outer, names_inner, IsIn, is_in, Joined, joined, Connected, IsInNone}

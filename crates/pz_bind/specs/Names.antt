@@ -3,8 +3,8 @@ use Rattle.std.specs.Prelude.{ℕ, suc, List, [], ◌∷◌, ◌++◌, codes}
 use Rattle.std.specs.Option.{option_map_or}
 use Rattle.std.specs.Fmt.{decimal}
 use Rattle.pz_syntax.specs.Classes.{ModelTree}
-use Rattle.pz_levels.specs.Places.{Place}
-use Rattle.pz_levels.specs.Wires.{Channel}
+use Rattle.pz_bind_levels.specs.Places.{Place}
+use Rattle.pz_bind_levels.specs.Wires.{Channel}
 use Rattle.pz_bind.specs.Nest.{instance_at}
 
 module _ (m : ModelTree) where

@@ -9,7 +9,7 @@ use Rattle.pz_syntax.specs.Classes.{DeclTree, data_class, process_class, cluster
 use Rattle.pz_classes.specs.Numbers.{declaration}
 use Rattle.pz_classes.specs.Kinds.{is_process, is_cluster}
 use Rattle.pz_classes.specs.Instances.{instances, channels, instance_class}
-use Rattle.pz_levels.specs.Places.{Place}
+use Rattle.pz_bind_levels.specs.Places.{Place}
 
 abbrev pub is_system : DeclTree → Bool
 is_system (data_class c) = false

@@ -4,9 +4,9 @@ use Rattle.pz_syntax.specs.Classes.{ModelTree}
 use Rattle.pz_classes.specs.Tables.{class_id}
 use Rattle.pz_classes.specs.SoundSystem.{SystemFits}
 use Rattle.pz_classes.specs.SoundClasses.{ClassesFit}
-use Rattle.pz_levels.specs.Places.{Place}
-use Rattle.pz_levels.specs.Expanded.{IsExpansion}
-use Rattle.pz_levels.specs.devices.Walking.{layouts_of}
+use Rattle.pz_bind_levels.specs.Places.{Place}
+use Rattle.pz_bind_levels.specs.Expanded.{IsExpansion}
+use Rattle.pz_bind_levels.specs.devices.Walking.{layouts_of}
 use Rattle.pz_bind.specs.Nest.{system_class, class_at, processes}
 use Rattle.pz_bind.specs.Names.{path, wire_name}
 use Rattle.pz_bind.specs.Values.{values_at}

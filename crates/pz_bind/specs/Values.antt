@@ -12,7 +12,7 @@ use Rattle.pz_syntax.specs.Classes.{ModelTree}
 use Rattle.pz_value.specs.declared.value.Value.{Value}
 use Rattle.pz_value.specs.declared.value.Value.TheVariants.{Nil, Bool, Int, Char, Str}
 use Rattle.pz_classes.specs.Members.{variables, spelled}
-use Rattle.pz_levels.specs.Places.{Place}
+use Rattle.pz_bind_levels.specs.Places.{Place}
 use Rattle.pz_bind.specs.Nest.{class_at, instance_at}
 
 -- a float stands in no checked model

@@ -12,5 +12,5 @@ pub fn ends_share_wires()
 {
     sound_systems_fit();
     sound_classes_fit();
-    pz_levels::ends_share_wires();
+    pz_bind_levels::ends_share_wires();
 }

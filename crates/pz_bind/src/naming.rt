@@ -5,13 +5,13 @@ ghost use Rattle.std.specs.Option.{option_or};
 ghost use Rattle.std.specs.List.{flat_map};
 ghost use Rattle.pz_syntax.specs.declared.clusters.Instance.{Instance as Stood};
 ghost use Rattle.pz_syntax.specs.Classes.{ModelTree};
-ghost use Rattle.pz_levels.specs.devices.Walking.{linked_in};
+ghost use Rattle.pz_bind_levels.specs.devices.Walking.{linked_in};
 ghost use Rattle.pz_bind.specs.devices.Layouts.{instance_number, port_of, linked_by, link_of, links_from};
 ghost use Rattle.pz_bind.specs.devices.Numberings.{IsNaming};
 
 use crate::port_numbers::PortNumbers;
-use pz_code::Numbering;
-use pz_levels::{Links, Part};
+use pz_classes_code::Numbering;
+use pz_bind_levels::{Links, Part};
 use pz_syntax::{Channel, ChannelEnd};
 use std::alloc::{AllocError, Global};
 

@@ -3,7 +3,7 @@
 ghost use Rattle.std.specs.Prelude.{◌≡◌, ◌<◌, ◌++◌, suc, codes, length, map, IfOk, Some, slice_get};
 ghost use Rattle.std.specs.Fmt.{decimal};
 ghost use Rattle.pz_classes.specs.CheckedView.{checked_model};
-ghost use Rattle.pz_levels.specs.Places.{Place};
+ghost use Rattle.pz_bind_levels.specs.Places.{Place};
 ghost use Rattle.pz_bind.specs.Nest.{class_at, levels};
 ghost use Rattle.pz_bind.specs.Nest as nest;
 ghost use Rattle.pz_bind.specs.Names as spec_names;
@@ -18,7 +18,7 @@ use crate::net::Node;
 use crate::sites::Site;
 use pz_classes::Checked;
 use pz_items::Items;
-use pz_levels::{Process, Wire};
+use pz_bind_levels::{Process, Wire};
 use pz_syntax::Name;
 use pz_value::ClassId;
 use std::alloc::{AllocError, Global};

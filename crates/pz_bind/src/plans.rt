@@ -5,7 +5,7 @@ ghost use Rattle.pz_syntax.specs.declared.clusters.Channel.{Channel as Written};
 ghost use Rattle.pz_syntax.specs.Classes.{ModelTree};
 ghost use Rattle.pz_classes.specs.CheckedView.{checked_model};
 ghost use Rattle.pz_classes.specs.SoundNumbers.{NumbersFit};
-ghost use Rattle.pz_levels.specs.devices.Walking.{layout_of, layouts_of, linked_in};
+ghost use Rattle.pz_bind_levels.specs.devices.Walking.{layout_of, layouts_of, linked_in};
 ghost use Rattle.pz_bind.specs.devices.Layouts as spec;
 ghost use Rattle.pz_bind.specs.devices.Layouts.{class_layout, layouts, linked_by, links_from};
 ghost use Rattle.pz_bind.specs.devices.Numberings.{AreNumbers};
@@ -15,7 +15,7 @@ use crate::naming::Naming;
 use crate::port_numbers::{PortNumbers, number_instances};
 use pz_classes::Checked;
 use pz_items::Items;
-use pz_levels::{Links, Part, Plan};
+use pz_bind_levels::{Links, Part, Plan};
 use pz_syntax::{Channel, ChannelEnd, Instance};
 use std::alloc::{AllocError, Global};
 

@@ -1,7 +1,7 @@
 // The numbers of ports and of instances by their names.
 
 ghost use Rattle.std.specs.Prelude.{◌≡◌, ◌<◌, ◌^◌, ℕ, List, length, IfOk};
-ghost use Rattle.pz_code.specs.NumberIn.{number_in};
+ghost use Rattle.pz_classes_code.specs.NumberIn.{number_in};
 ghost use Rattle.pz_classes.specs.Bodies.{place_in};
 ghost use Rattle.pz_classes.specs.CheckedView.{checked_model};
 ghost use Rattle.pz_bind.specs.devices.Layouts.{instance_number};
@@ -9,7 +9,7 @@ ghost use Rattle.pz_bind.specs.devices.Numberings.{port_in, AreNumbers};
 
 use crate::declared::{is_numbered, ports_of};
 use pz_classes::Checked;
-use pz_code::Numbering;
+use pz_classes_code::Numbering;
 use pz_items::Items;
 use pz_syntax::{Instance, Name};
 use std::alloc::{AllocError, Global};

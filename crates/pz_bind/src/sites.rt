@@ -2,7 +2,7 @@
 
 ghost use Rattle.std.specs.Prelude.{◌≡◌, ◌<◌, ◌++◌, codes, length, IfOk, if◌then◌else◌, slice_get, Some};
 ghost use Rattle.pz_classes.specs.CheckedView.{checked_model};
-ghost use Rattle.pz_levels.specs.Places.{Place};
+ghost use Rattle.pz_bind_levels.specs.Places.{Place};
 ghost use Rattle.pz_bind.specs.Nest as nest;
 ghost use Rattle.pz_bind.specs.Nest.{class_at};
 ghost use Rattle.pz_bind.specs.devices.Sites.{IsSite, IsPlaced, StandsIn, below};
@@ -12,7 +12,7 @@ use crate::bindings::Bindings;
 use crate::declared::instances_in;
 use pz_classes::Checked;
 use pz_items::Items;
-use pz_levels::{Level, Standing};
+use pz_bind_levels::{Level, Standing};
 use pz_syntax::{Instance, Name};
 use std::alloc::{AllocError, Global};
 

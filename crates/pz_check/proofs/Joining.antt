@@ -3,10 +3,10 @@ use Rattle.std.proofs.Common.{◌≡◌, true, Option, Some, None, ◌⊎◌, in
 use Rattle.std.specs.Option.{is_some}
 use Rattle.pz_syntax.specs.declared.tokens.Pos.{Pos}
 use Rattle.pz_syntax.specs.Classes.{ModelTree}
-use Rattle.pz_violation.specs.declared.violation.Violation.{Violation}
-use Rattle.pz_violation.specs.Order.{violation}
-use Rattle.pz_violation.specs.Least.{LeastOf, sooner}
-use Rattle.pz_violation.proofs.TwoLeasts.{sooner_is_least}
+use Rattle.pz_check_violations.specs.declared.violation.Violation.{Violation}
+use Rattle.pz_check_violations.specs.Order.{violation}
+use Rattle.pz_check_violations.specs.Least.{LeastOf, sooner}
+use Rattle.pz_check_violations.proofs.TwoLeasts.{sooner_is_least}
 use Rattle.pz_classes.specs.WordRules.{BreaksWord}
 use Rattle.pz_classes.specs.RepeatRules.{BreaksC4}
 use Rattle.pz_classes.specs.InstanceRules.{BreaksC14, BreaksC15}

@@ -3,9 +3,9 @@
 ghost use Rattle.std.specs.Prelude.{◌≡◌, IfOk, IfErr};
 ghost use Rattle.pz_syntax.specs.ClassView.{model_view};
 ghost use Rattle.pz_syntax.specs.ModelText.{HasFewMarks};
-ghost use Rattle.pz_violation.specs.declared.violation.Violation.{Violation as Found};
-ghost use Rattle.pz_violation.specs.Order.{IsLeast};
-ghost use Rattle.pz_violation.specs.Least.{LeastOf};
+ghost use Rattle.pz_check_violations.specs.declared.violation.Violation.{Violation as Found};
+ghost use Rattle.pz_check_violations.specs.Order.{IsLeast};
+ghost use Rattle.pz_check_violations.specs.Least.{LeastOf};
 ghost use Rattle.pz_classes.specs.Tables.{AreClasses};
 ghost use Rattle.pz_classes.specs.Violations.{Violates};
 ghost use Rattle.pz_classes.specs.Soundness.{Breaks};
@@ -15,11 +15,11 @@ ghost use Rattle.pz_check.specs.Together.{OnRefused};
 use crate::CheckError;
 use crate::size::least_of_size;
 use pz_classes::{Checked, Classes};
-use pz_instances::{least_ill_given, least_missing_end};
-use pz_repeats::{least_double_end, least_repeat};
+use pz_check_instances::{least_ill_given, least_missing_end};
+use pz_check_duplicates::{least_double_end, least_repeat};
 use pz_syntax::Model;
-use pz_usage::least_misuse;
-use pz_violation::{Violation, sooner};
+use pz_check_names::least_misuse;
+use pz_check_violations::{Violation, sooner};
 use std::alloc::{AllocError, Global};
 use std::mem::drop;
 

@@ -2,18 +2,18 @@
 
 ghost use Rattle.std.specs.Prelude.{IfOk};
 ghost use Rattle.pz_syntax.specs.ClassView.{model_view};
-ghost use Rattle.pz_violation.specs.Least.{LeastOf};
+ghost use Rattle.pz_check_violations.specs.Least.{LeastOf};
 ghost use Rattle.pz_classes.specs.InstanceRules.{BreaksC15};
 ghost use Rattle.pz_classes.specs.SizeRules.{BreaksC19, BreaksC20};
 ghost use Rattle.pz_classes.specs.Tables.{AreClasses};
 ghost use Rattle.pz_check.specs.Together.{BreaksSize};
 
 use pz_classes::Classes;
-use pz_expansion::{least_holding, oversized};
-use pz_repeats::least_system;
+use pz_check_size::{least_holding, oversized};
+use pz_check_duplicates::least_system;
 use pz_syntax::Model;
-use pz_usage::has_unsized_words;
-use pz_violation::{Violation, sooner};
+use pz_check_names::has_unsized_words;
+use pz_check_violations::{Violation, sooner};
 use std::alloc::{AllocError, Global};
 
 /// The violation of C19, if there is one. The other two are the least violations of C15 and C20: a

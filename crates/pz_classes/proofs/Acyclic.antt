@@ -7,7 +7,7 @@ use Rattle.std.proofs.lemmas.Bool.{eqb-true}
 use Rattle.std.proofs.lemmas.Map.Keys.{IsDistinct-cons}
 use Rattle.std.proofs.lemmas.Map.Steps.{length-le_from_distinct_below}
 use Rattle.pz_syntax.specs.Classes.{ModelTree}
-use Rattle.pz_lineage.specs.Reached.{GoesRound, round}
+use Rattle.pz_classes_lineage.specs.Reached.{GoesRound, round}
 use Rattle.pz_classes.specs.Ancestors.{parent, ancestors, followed}
 use Rattle.pz_classes.proofs.Belongs.{parent_within}
 use Rattle.pz_classes.proofs.Reaching.{apart, followed_from}

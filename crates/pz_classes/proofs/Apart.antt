@@ -2,7 +2,7 @@
 use Rattle.std.proofs.Common.{◌≡◌, ◌≢◌, refl, sym, ℕ, Bool, true, false, ◌&&◌, ◌||◌, IsTrue, List, nat_eq, nat_lt, arith, ◌⊎◌, inl, inr}
 use Rattle.std.proofs.lemmas.Bool.Decides.{nat_tests}
 use Rattle.pz_syntax.specs.declared.tokens.Pos.{Pos}
-use Rattle.pz_violation.specs.Order.{pos_before}
+use Rattle.pz_check_violations.specs.Order.{pos_before}
 use Rattle.pz_classes.specs.RepeatRules.{Repeats}
 use Rattle.pz_classes.specs.Apart.{AreApart}
 

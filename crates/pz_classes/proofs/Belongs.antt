@@ -7,7 +7,7 @@ use Rattle.std.proofs.lemmas.List.Sums.{sum_by_more_le, sum_by-cons}
 use Rattle.std.proofs.lemmas.Option.{slice_get_within, get_or_from_slice_get}
 use Rattle.pz_syntax.specs.declared.names.Id.{Id}
 use Rattle.pz_syntax.specs.Classes.{DeclTree, data_class, process_class, cluster_class, system, ModelTree}
-use Rattle.pz_code.specs.ReservedNames.{is_primitive, is_unsupported}
+use Rattle.pz_classes_code.specs.ReservedNames.{is_primitive, is_unsupported}
 use Rattle.pz_classes.specs.declared.entry.Entry.{Entry}
 use Rattle.pz_classes.specs.declared.method_id.MethodId.{MethodId}
 use Rattle.pz_classes.specs.Numbers.{is_named, declaration, first_named, class}

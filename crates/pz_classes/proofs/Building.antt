@@ -2,11 +2,11 @@
 use Rattle.std.proofs.Common.{◌≡◌, sym, ap, ◌∙◌, subst, ℕ, ◌+◌, ◌↔◌, Bool, true, List, Option, Some, length, slice_get, arith}
 use Rattle.pz_syntax.specs.declared.clusters.Model.{Model}
 use Rattle.pz_syntax.specs.ClassView.{model_view}
-use Rattle.pz_violation.specs.declared.violation.Violation.{Violation}
-use Rattle.pz_lineage.specs.declared.visit.Visit.{Visit}
-use Rattle.pz_lineage.specs.Parents.{parent_in, AreWithin}
-use Rattle.pz_lineage.specs.Reached.{GoesRound}
-use Rattle.pz_lineage.specs.Preorder.{IsPreorder}
+use Rattle.pz_check_violations.specs.declared.violation.Violation.{Violation}
+use Rattle.pz_classes_lineage.specs.declared.visit.Visit.{Visit}
+use Rattle.pz_classes_lineage.specs.Parents.{parent_in, AreWithin}
+use Rattle.pz_classes_lineage.specs.Reached.{GoesRound}
+use Rattle.pz_classes_lineage.specs.Preorder.{IsPreorder}
 use Rattle.pz_classes.specs.Ancestors.{parent}
 use Rattle.pz_classes.specs.Violations.{Violates}
 use Rattle.pz_classes.specs.devices.Rounds.{AreRound}

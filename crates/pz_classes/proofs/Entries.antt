@@ -2,8 +2,8 @@
 use Rattle.std.proofs.Common.{◌≡◌, ◌<◌, ◌^◌, ℕ, Option, length}
 use Rattle.std.specs.Option.{option_map}
 use Rattle.pz_syntax.specs.Classes.{ModelTree}
-use Rattle.pz_code.specs.declared.step.Step.{Step}
-use Rattle.pz_code.specs.StepView as step
+use Rattle.pz_classes_code.specs.declared.step.Step.{Step}
+use Rattle.pz_classes_code.specs.StepView as step
 use Rattle.pz_classes.specs.declared.members.Members.{Members}
 use Rattle.pz_classes.specs.declared.method_index.Methods.{Methods}
 use Rattle.pz_classes.specs.Ancestors.{parent, ancestors}

@@ -27,7 +27,7 @@ use Rattle.pz_syntax.specs.ClassView.{decl_view, data_class_view, data_method_vi
 use Rattle.pz_classes.specs.declared.members.Members.{Members}
 use Rattle.pz_classes.specs.devices.Inherited.{HasMembers, AreFew}
 use Rattle.pz_classes.specs.Numbers.{declaration}
-use Rattle.pz_lineage.specs.Reached.{GoesRound, round}
+use Rattle.pz_classes_lineage.specs.Reached.{GoesRound, round}
 use Rattle.pz_classes.specs.Ancestors.{parent, ancestors, followed}
 use Rattle.pz_classes.specs.Members.{grouped, section, own_fields, own_variables, own_ports, from_root, fields, variables, ports}
 use Rattle.pz_classes.specs.Instances.{instances}

@@ -9,10 +9,10 @@ use Rattle.std.proofs.lemmas.Option.{slice_get_read, slice_get_within}
 use Rattle.pz_syntax.specs.declared.clusters.Model.{Model}
 use Rattle.pz_syntax.specs.Classes.{ModelTree}
 use Rattle.pz_syntax.specs.ClassView.{decl_view, model_view}
-use Rattle.pz_lineage.specs.declared.visit.Visit.{Visit}
-use Rattle.pz_lineage.specs.Parents.{parent_in}
-use Rattle.pz_lineage.specs.Reached.{GoesRound}
-use Rattle.pz_lineage.specs.Preorder.{visited, IsPreorder}
+use Rattle.pz_classes_lineage.specs.declared.visit.Visit.{Visit}
+use Rattle.pz_classes_lineage.specs.Parents.{parent_in}
+use Rattle.pz_classes_lineage.specs.Reached.{GoesRound}
+use Rattle.pz_classes_lineage.specs.Preorder.{visited, IsPreorder}
 use Rattle.pz_classes.specs.Ancestors.{parent, ancestors}
 use Rattle.pz_classes.specs.declared.members.Members.{Members}
 use Rattle.pz_classes.specs.devices.Inherited.{HasMembers, AddsAt, AreMembers, inherited_in}

@@ -8,15 +8,15 @@ use Rattle.std.proofs.lemmas.Cmp.{nat_eq_equiv}
 use Rattle.std.proofs.lemmas.Map.Views.{Contains-from_any, list_any-from_Contains}
 use Rattle.pz_syntax.specs.declared.names.Id.{Id}
 use Rattle.pz_syntax.specs.Classes.{DeclTree, ModelTree}
-use Rattle.pz_violation.specs.declared.violation.Violation.{Violation}
+use Rattle.pz_check_violations.specs.declared.violation.Violation.{Violation}
 use Rattle.pz_classes.specs.Numbers.{declared_name, declaration}
 use Rattle.pz_classes.specs.Ancestors.{extended, parent, ancestors}
-use Rattle.pz_violation.specs.Order.{violation}
-use Rattle.pz_violation.specs.Least.{LeastOf, listed, least_from, Member}
+use Rattle.pz_check_violations.specs.Order.{violation}
+use Rattle.pz_check_violations.specs.Least.{LeastOf, listed, least_from, Member}
 use Rattle.pz_classes.specs.Violations.{breaks_c1, breaks_c2, Violates, c1, c2, c3}
 use Rattle.pz_classes.specs.devices.ViolationList.{breaks_c3, of_name, of_parent, of_class, among, violations}
-use Rattle.pz_violation.proofs.Members.{member_left, member_right, member_cases, listed_is, is_listed}
-use Rattle.pz_violation.proofs.Leasts as leasts
+use Rattle.pz_check_violations.proofs.Members.{member_left, member_right, member_cases, listed_is, is_listed}
+use Rattle.pz_check_violations.proofs.Leasts as leasts
 
 module _ (m : ModelTree) where
   -- the class and its parent's ancestors agree with the test

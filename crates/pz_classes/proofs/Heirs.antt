@@ -7,7 +7,7 @@ use Rattle.std.proofs.lemmas.Map.Views.{list_any-from_Contains}
 use Rattle.std.proofs.lemmas.Option.{slice_get_cases}
 use Rattle.pz_syntax.specs.declared.names.Id.{Id}
 use Rattle.pz_syntax.specs.Classes.{DeclTree, ModelTree}
-use Rattle.pz_lineage.specs.Reached.{Reaches, itself, further, GoesRound}
+use Rattle.pz_classes_lineage.specs.Reached.{Reaches, itself, further, GoesRound}
 use Rattle.pz_classes.specs.Numbers.{declaration}
 use Rattle.pz_classes.specs.Ancestors.{parent, ancestors}
 use Rattle.pz_classes.specs.Members.{from_root}

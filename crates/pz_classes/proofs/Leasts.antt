@@ -3,10 +3,10 @@ use Rattle.std.proofs.Common.{◌≡◌, sym, ap, ◌∙◌, ℕ, suc, ◌<◌, 
 use Rattle.pz_syntax.specs.declared.clusters.Decl.{Decl}
 use Rattle.pz_syntax.specs.Classes.{ModelTree}
 use Rattle.pz_syntax.specs.ClassView.{decl_view}
-use Rattle.pz_violation.specs.declared.violation.Violation.{Violation}
-use Rattle.pz_violation.specs.Least.{least_from}
+use Rattle.pz_check_violations.specs.declared.violation.Violation.{Violation}
+use Rattle.pz_check_violations.specs.Least.{least_from}
 use Rattle.pz_classes.specs.devices.ViolationList.{of_class, among}
-use Rattle.pz_violation.proofs.Leasts.{least_from_append}
+use Rattle.pz_check_violations.proofs.Leasts.{least_from_append}
 
 -- one class further
 pub among_step : (m : ModelTree) (ds : List Decl) (d : Decl) (i j n next : ℕ) (least now whole : Option Violation) → i < length ds → d ≡ get_or ds i d → j ≡ suc i → next ≡ suc n

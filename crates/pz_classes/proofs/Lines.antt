@@ -5,7 +5,7 @@ use Rattle.pz_syntax.specs.declared.clusters.Decl.{Decl}
 use Rattle.pz_syntax.specs.Classes.{DeclTree, ModelTree}
 use Rattle.pz_syntax.specs.ClassView.{decl_view}
 use Rattle.pz_classes.specs.Ancestors.{followed, parent, parent_of}
-use Rattle.pz_lineage.specs.Parents.{parent_in}
+use Rattle.pz_classes_lineage.specs.Parents.{parent_in}
 
 joined : (f : DeclTree → Option ℕ) (ds : List Decl) (i : ℕ) → option_and_then (λ p. p) (slice_get (map (λ d. f (decl_view d)) ds) i) ≡ option_and_then f (slice_get (map decl_view ds) i)
 joined f [] i = refl

@@ -12,12 +12,12 @@ use Rattle.pz_syntax.specs.declared.exprs.Literal.TheVariants as lit
 use Rattle.pz_syntax.specs.Expressions.{Expression, literal, variable, me, clock, creation, group, chain, sends, unary, assign, returned, choice, loop, Expressions, none, more, Part, left_out, written, Links, no_links, link, Sendings, no_sendings, sending}
 use Rattle.pz_syntax.specs.Statements.{Statement, skip, delay, bracketed, block, guarded, parallel, select, conditional, repeated, abort, interrupt, send, receive, call, assignment, value, Statements, no_statements, then, StatementPart, not_written, otherwise, Branches, no_branches, branch}
 use Rattle.pz_syntax.specs.Classes.{ModelTree}
-use Rattle.pz_mentions.specs.declared.mention.Mention.{Mention}
-use Rattle.pz_mentions.specs.declared.mention.Mention.TheVariants as w
-use Rattle.pz_mentions.specs.Expressions.{count, count_written, mentioned_literal, mentioned, mentioned_all, mentioned_part, mentioned_links, mentioned_sendings}
-use Rattle.pz_mentions.specs.Statements.{variables, received, mentioned_condition, mentioned_statements, mentioned_otherwise, mentioned_branches}
-use Rattle.pz_mentions.specs.Statements as statement
-use Rattle.pz_code.specs.Resolution.{Scope, slot_of, class_of, port_of, slots_of, resolved, resolved_all, resolved_part, resolved_links, resolved_sendings, resolved_statement, resolved_statements, resolved_otherwise, resolved_branches}
+use Rattle.pz_classes_mentions.specs.declared.mention.Mention.{Mention}
+use Rattle.pz_classes_mentions.specs.declared.mention.Mention.TheVariants as w
+use Rattle.pz_classes_mentions.specs.Expressions.{count, count_written, mentioned_literal, mentioned, mentioned_all, mentioned_part, mentioned_links, mentioned_sendings}
+use Rattle.pz_classes_mentions.specs.Statements.{variables, received, mentioned_condition, mentioned_statements, mentioned_otherwise, mentioned_branches}
+use Rattle.pz_classes_mentions.specs.Statements as statement
+use Rattle.pz_classes_code.specs.Resolution.{Scope, slot_of, class_of, port_of, slots_of, resolved, resolved_all, resolved_part, resolved_links, resolved_sendings, resolved_statement, resolved_statements, resolved_otherwise, resolved_branches}
 use Rattle.pz_classes.specs.FitBodies.{Sort, data_code, process_code, MayBeCreated, LiteralFits, how_many, SlotFits, ExpressionFits, ExpressionsFit, PartFits, LinksFit, SendingsFit, PortFits, ReceivedFit, ConditionFits, CallFits, StatementFits, StatementsFit, OtherwiseFits, BranchesFit}
 use Rattle.pz_classes.proofs.Elements.{first_in, later_in}
 

@@ -9,8 +9,8 @@ use Rattle.pz_syntax.specs.declared.classes.ProcessClass.{ProcessClass}
 use Rattle.pz_syntax.specs.declared.classes.ProcessMethod.{ProcessMethod}
 use Rattle.pz_syntax.specs.Classes.{ModelTree}
 use Rattle.pz_syntax.specs.ClassView.{decl_view, data_method_view, process_method_view}
-use Rattle.pz_code.specs.declared.numbering.Numbering.{Numbering}
-use Rattle.pz_code.specs.Resolution.{Scope}
+use Rattle.pz_classes_code.specs.declared.numbering.Numbering.{Numbering}
+use Rattle.pz_classes_code.specs.Resolution.{Scope}
 use Rattle.pz_classes.specs.declared.surroundings.Surroundings.{Surroundings}
 use Rattle.pz_classes.specs.Members as members
 use Rattle.pz_classes.specs.Members.{spelled}

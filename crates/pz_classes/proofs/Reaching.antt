@@ -12,7 +12,7 @@ use Rattle.std.proofs.lemmas.Map.Views.{Contains-from_any, list_any-from_Contain
 use Rattle.std.proofs.lemmas.Option.{slice_get_within}
 use Rattle.pz_syntax.specs.Classes.{ModelTree}
 use Rattle.pz_classes.specs.Ancestors.{parent, ancestors, followed}
-use Rattle.pz_lineage.specs.Reached.{Reaches, itself, further}
+use Rattle.pz_classes_lineage.specs.Reached.{Reaches, itself, further}
 use Rattle.pz_classes.specs.Reached.{AncestorsAreReached}
 use Rattle.pz_classes.proofs.Belongs.{parent_within, parent_positive}
 

@@ -4,10 +4,10 @@ use Rattle.std.specs.Option.{option_and_then, unwrap_or}
 use Rattle.std.proofs.lemmas.Option.{slice_get_cases}
 use Rattle.pz_syntax.specs.declared.names.Id.{Id}
 use Rattle.pz_syntax.specs.Classes.{DeclTree, data_class, process_class, cluster_class, system, ModelTree}
-use Rattle.pz_violation.specs.declared.violation.Violation.{Violation}
-use Rattle.pz_violation.specs.Order.{violation}
-use Rattle.pz_lineage.specs.Parents.{parent_in}
-use Rattle.pz_lineage.specs.Reached.{GoesRound, round}
+use Rattle.pz_check_violations.specs.declared.violation.Violation.{Violation}
+use Rattle.pz_check_violations.specs.Order.{violation}
+use Rattle.pz_classes_lineage.specs.Parents.{parent_in}
+use Rattle.pz_classes_lineage.specs.Reached.{GoesRound, round}
 use Rattle.pz_classes.specs.Numbers.{declaration, declared_name}
 use Rattle.pz_classes.specs.Ancestors.{extended, parent_named, parent}
 use Rattle.pz_classes.specs.Violations.{Violates, c3}

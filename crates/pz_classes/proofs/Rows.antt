@@ -8,7 +8,7 @@ use Rattle.pz_classes.specs.Numbers.{class}
 use Rattle.pz_classes.specs.Ancestors.{ancestors}
 use Rattle.pz_classes.specs.Members.{fields, variables, ports, spelled}
 use Rattle.pz_classes.specs.Methods.{method, method_id}
-use Rattle.pz_violation.specs.Order.{violation}
+use Rattle.pz_check_violations.specs.Order.{violation}
 use Rattle.pz_classes.specs.devices.ViolationList.{violations}
 
 -- a name in this line, in column 1

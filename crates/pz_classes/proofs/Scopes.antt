@@ -6,16 +6,16 @@ use Rattle.pz_syntax.specs.declared.names.Id.{Id}
 use Rattle.pz_syntax.specs.Classes.{ProcessMethodTree, StartTree, ModelTree}
 use Rattle.pz_syntax.specs.Statements.{Statements}
 use Rattle.pz_value.specs.declared.value.ClassId.{ClassId}
-use Rattle.pz_code.specs.declared.numbering.Numbering.{Numbering}
-use Rattle.pz_code.specs.NumberIn.{number_in}
-use Rattle.pz_code.specs.declared.slot.Slot.{Slot}
-use Rattle.pz_code.specs.Resolution.{Scope, resolved_all, resolved_statements}
+use Rattle.pz_classes_code.specs.declared.numbering.Numbering.{Numbering}
+use Rattle.pz_classes_code.specs.NumberIn.{number_in}
+use Rattle.pz_classes_code.specs.declared.slot.Slot.{Slot}
+use Rattle.pz_classes_code.specs.Resolution.{Scope, resolved_all, resolved_statements}
 use Rattle.pz_classes.specs.Numbers.{declaration}
 use Rattle.pz_classes.specs.Members as members
 use Rattle.pz_classes.specs.Members.{spelled}
 use Rattle.pz_classes.specs.Starts.{own_start, start_call, own_call}
 use Rattle.pz_syntax.specs.Statements.{call}
-use Rattle.pz_code.specs.StepView.{Tree}
+use Rattle.pz_classes_code.specs.StepView.{Tree}
 use Rattle.pz_classes.specs.Bodies.{place_in, scope_of, process_scope, process_locals, process_body, process_body_in}
 use Rattle.pz_classes.specs.devices.Surrounding.{scope_around}
 use Rattle.pz_classes.specs.declared.surroundings.Surroundings.{Surroundings}

@@ -8,16 +8,16 @@ use Rattle.std.proofs.lemmas.List.{length-append}
 use Rattle.std.proofs.lemmas.List.Elements.{Contains-append_right, All-nil}
 use Rattle.pz_syntax.specs.declared.names.Id.{Id}
 use Rattle.pz_syntax.specs.Classes.{DataMethodTree, DataClassTree, ProcessMethodTree, ProcessClassTree, DeclTree, data_class, process_class, cluster_class, system, StartTree, ModelTree}
-use Rattle.pz_violation.specs.Order.{violation}
-use Rattle.pz_mentions.specs.declared.mention.Mention.{Mention}
-use Rattle.pz_mentions.specs.declared.mention.Mention.TheVariants as w
-use Rattle.pz_mentions.specs.declared.part.Part.{Part}
-use Rattle.pz_mentions.specs.Declarations.{parts, types, section_types, data_head, data_method, process_head, process_method, mentioned_start}
-use Rattle.pz_mentions.specs.Expressions.{count, mentioned_all}
-use Rattle.pz_mentions.specs.Statements.{mentioned_statements}
-use Rattle.pz_code.specs.ReservedNames.{is_primitive, is_unsupported, is_array}
-use Rattle.pz_code.specs.Resolution.{Scope, slot_by, unknown}
-use Rattle.pz_code.specs.StepView.{Tree}
+use Rattle.pz_check_violations.specs.Order.{violation}
+use Rattle.pz_classes_mentions.specs.declared.mention.Mention.{Mention}
+use Rattle.pz_classes_mentions.specs.declared.mention.Mention.TheVariants as w
+use Rattle.pz_classes_mentions.specs.declared.part.Part.{Part}
+use Rattle.pz_classes_mentions.specs.Declarations.{parts, types, section_types, data_head, data_method, process_head, process_method, mentioned_start}
+use Rattle.pz_classes_mentions.specs.Expressions.{count, mentioned_all}
+use Rattle.pz_classes_mentions.specs.Statements.{mentioned_statements}
+use Rattle.pz_classes_code.specs.ReservedNames.{is_primitive, is_unsupported, is_array}
+use Rattle.pz_classes_code.specs.Resolution.{Scope, slot_by, unknown}
+use Rattle.pz_classes_code.specs.StepView.{Tree}
 use Rattle.pz_classes.specs.declared.method_id.Counts.{Counts}
 use Rattle.pz_classes.specs.declared.method_id.Counts.TheVariants.{Data, Process}
 use Rattle.pz_classes.specs.Numbers.{declaration, class}

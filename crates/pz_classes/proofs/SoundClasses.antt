@@ -5,14 +5,14 @@ use Rattle.std.specs.Option.{option_and_then, option_map, option_or, unwrap_or}
 use Rattle.std.proofs.lemmas.List.Elements.{Contains-append_right}
 use Rattle.pz_syntax.specs.declared.names.Id.{Id}
 use Rattle.pz_syntax.specs.Classes.{ProcessClassTree, DeclTree, data_class, process_class, cluster_class, system, StartTree, ModelTree}
-use Rattle.pz_violation.specs.Order.{violation}
-use Rattle.pz_mentions.specs.declared.mention.Mention.{Mention}
-use Rattle.pz_mentions.specs.declared.mention.Mention.TheVariants.{Declared, Called}
-use Rattle.pz_mentions.specs.declared.part.Part.{Part}
-use Rattle.pz_mentions.specs.Declarations.{parts, process_head, section_types, extended, mentioned_messages, mentioned_start}
-use Rattle.pz_mentions.specs.Expressions.{count, mentioned_all}
-use Rattle.pz_lineage.specs.Reached.{GoesRound}
-use Rattle.pz_code.specs.ReservedNames.{is_unsupported}
+use Rattle.pz_check_violations.specs.Order.{violation}
+use Rattle.pz_classes_mentions.specs.declared.mention.Mention.{Mention}
+use Rattle.pz_classes_mentions.specs.declared.mention.Mention.TheVariants.{Declared, Called}
+use Rattle.pz_classes_mentions.specs.declared.part.Part.{Part}
+use Rattle.pz_classes_mentions.specs.Declarations.{parts, process_head, section_types, extended, mentioned_messages, mentioned_start}
+use Rattle.pz_classes_mentions.specs.Expressions.{count, mentioned_all}
+use Rattle.pz_classes_lineage.specs.Reached.{GoesRound}
+use Rattle.pz_classes_code.specs.ReservedNames.{is_unsupported}
 use Rattle.pz_classes.specs.Numbers.{declaration}
 use Rattle.pz_classes.specs.Ancestors.{parent, ancestors}
 use Rattle.pz_classes.specs.Members.{own_fields, own_variables, own_ports, fields, variables, ports, from_root}

@@ -7,11 +7,11 @@ use Rattle.std.proofs.lemmas.Bool.{eqb-true}
 use Rattle.std.proofs.lemmas.List.Elements.{Contains-append_right}
 use Rattle.pz_syntax.specs.declared.clusters.Instance.{Instance}
 use Rattle.pz_syntax.specs.Classes.{DeclTree, data_class, process_class, cluster_class, system, ModelTree}
-use Rattle.pz_violation.specs.Order.{violation}
-use Rattle.pz_mentions.specs.declared.mention.Mention.TheVariants.{Declared, Instantiated}
-use Rattle.pz_mentions.specs.declared.part.Part.{Part}
-use Rattle.pz_mentions.specs.Declarations.{parts, cluster_part, system_part, section_types, mentioned_instance, mentioned_givens, mentioned_instances}
-use Rattle.pz_code.specs.ReservedNames.{is_unsupported}
+use Rattle.pz_check_violations.specs.Order.{violation}
+use Rattle.pz_classes_mentions.specs.declared.mention.Mention.TheVariants.{Declared, Instantiated}
+use Rattle.pz_classes_mentions.specs.declared.part.Part.{Part}
+use Rattle.pz_classes_mentions.specs.Declarations.{parts, cluster_part, system_part, section_types, mentioned_instance, mentioned_givens, mentioned_instances}
+use Rattle.pz_classes_code.specs.ReservedNames.{is_unsupported}
 use Rattle.pz_classes.specs.Numbers.{declaration, class}
 use Rattle.pz_classes.specs.Members.{spelled}
 use Rattle.pz_classes.specs.NameRules.{has_instances}

@@ -11,7 +11,7 @@ use Rattle.pz_syntax.specs.declared.clusters.ChannelEnd.TheVariants.{Inner, Oute
 use Rattle.pz_syntax.specs.Classes.{DeclTree, data_class, process_class, cluster_class, system, ModelTree}
 use Rattle.pz_syntax.specs.Expressions.{none}
 use Rattle.pz_syntax.specs.Statements.{no_statements}
-use Rattle.pz_mentions.specs.declared.mention.Mention.TheVariants as m
+use Rattle.pz_classes_mentions.specs.declared.mention.Mention.TheVariants as m
 use Rattle.pz_classes.specs.NameRules.{breaks_c5, breaks_c6, breaks_c12, breaks_c13, breaks_c18, breaks_c21, breaks_c22}
 use Rattle.pz_classes.specs.CallRules.{breaks_c7, breaks_c8, breaks_c9, breaks_c10, breaks_c11}
 use Rattle.pz_classes.specs.InstanceRules.{gives_each, given_names}

@@ -9,8 +9,8 @@ use Rattle.pz_syntax.specs.Expressions.{Expressions, variable, creation, assign,
 use Rattle.pz_syntax.specs.Statements.{send, receive, call, value, assignment, no_statements, then}
 use Rattle.pz_syntax.specs.Classes.{ProcessMethodTree, DeclTree, data_class, process_class, ModelTree}
 use Rattle.pz_value.specs.declared.value.ClassId.{ClassId}
-use Rattle.pz_code.specs.declared.slot.Slot.{Slot}
-use Rattle.pz_code.specs.declared.slot.Slot.TheVariants.{Local, Shared, Unknown}
+use Rattle.pz_classes_code.specs.declared.slot.Slot.{Slot}
+use Rattle.pz_classes_code.specs.declared.slot.Slot.TheVariants.{Local, Shared, Unknown}
 use Rattle.pz_classes.specs.declared.method_id.Counts.TheVariants.{Process}
 use Rattle.pz_classes.specs.Methods.{process_method, method_id}
 use Rattle.pz_classes.specs.Bodies.{BodyTree, process_body}

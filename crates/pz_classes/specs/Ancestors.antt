@@ -3,7 +3,7 @@ use Rattle.std.specs.Prelude.{ℕ, zero, suc, List, [], ◌∷◌, length, Optio
 use Rattle.std.specs.Option.{option_map_or, option_and_then}
 use Rattle.pz_syntax.specs.declared.names.Id.{Id}
 use Rattle.pz_syntax.specs.Classes.{DeclTree, data_class, process_class, cluster_class, system, ModelTree}
-use Rattle.pz_code.specs.ReservedNames.{is_primitive, is_unsupported}
+use Rattle.pz_classes_code.specs.ReservedNames.{is_primitive, is_unsupported}
 use Rattle.pz_classes.specs.Numbers.{declaration, class}
 
 -- the name behind `extends`

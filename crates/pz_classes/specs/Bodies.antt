@@ -7,8 +7,8 @@ use Rattle.pz_syntax.specs.Expressions.{Expressions}
 use Rattle.pz_syntax.specs.Statements.{Statements}
 use Rattle.pz_syntax.specs.Classes.{DeclTree, data_class, process_class, DataMethodTree, ProcessMethodTree, ModelTree}
 use Rattle.pz_value.specs.declared.value.ClassId.{ClassId}
-use Rattle.pz_code.specs.declared.slot.Slot.{Slot}
-use Rattle.pz_code.specs.Resolution.{Scope, resolved_all, resolved_statements}
+use Rattle.pz_classes_code.specs.declared.slot.Slot.{Slot}
+use Rattle.pz_classes_code.specs.Resolution.{Scope, resolved_all, resolved_statements}
 use Rattle.pz_classes.specs.Numbers.{class}
 use Rattle.pz_classes.specs.Members.{grouped, section, spelled, fields, variables, ports}
 

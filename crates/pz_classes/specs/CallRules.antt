@@ -6,9 +6,9 @@ use Rattle.std.specs.Str.{bytes_eq}
 use Rattle.std.specs.List.{list_any, flat_map}
 use Rattle.pz_syntax.specs.declared.classes.Message.{Message}
 use Rattle.pz_syntax.specs.Classes.{DeclTree, process_class, StartTree, ModelTree}
-use Rattle.pz_mentions.specs.declared.mention.Mention.{Mention}
-use Rattle.pz_mentions.specs.declared.mention.Mention.TheVariants.{Declared, Selector, Called, Port, Sent, Received}
-use Rattle.pz_code.specs.ReservedNames.{is_unsupported}
+use Rattle.pz_classes_mentions.specs.declared.mention.Mention.{Mention}
+use Rattle.pz_classes_mentions.specs.declared.mention.Mention.TheVariants.{Declared, Selector, Called, Port, Sent, Received}
+use Rattle.pz_classes_code.specs.ReservedNames.{is_unsupported}
 use Rattle.pz_classes.specs.declared.method_id.Counts.TheVariants.{Data}
 use Rattle.pz_classes.specs.Numbers.{declaration}
 use Rattle.pz_classes.specs.Ancestors.{ancestors}

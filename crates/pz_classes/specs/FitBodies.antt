@@ -7,8 +7,8 @@ use Rattle.pz_syntax.specs.Expressions.{Expression, literal, variable, me, clock
 use Rattle.pz_syntax.specs.Statements.{Statement, skip, delay, bracketed, block, guarded, parallel, select, conditional, repeated, abort, interrupt, send, receive, call, assignment, value, Statements, no_statements, then, StatementPart, not_written, otherwise, Branches, no_branches, branch}
 use Rattle.pz_syntax.specs.Classes.{DataClassTree, data_class, ModelTree}
 use Rattle.pz_value.specs.declared.value.ClassId.{ClassId}
-use Rattle.pz_code.specs.declared.slot.Slot.{Slot}
-use Rattle.pz_code.specs.declared.slot.Slot.TheVariants.{Local, Shared, Unknown}
+use Rattle.pz_classes_code.specs.declared.slot.Slot.{Slot}
+use Rattle.pz_classes_code.specs.declared.slot.Slot.TheVariants.{Local, Shared, Unknown}
 use Rattle.pz_classes.specs.declared.method_id.Counts.{Counts}
 use Rattle.pz_classes.specs.declared.method_id.Counts.TheVariants.{Data, Process}
 use Rattle.pz_classes.specs.Numbers.{declaration}

@@ -5,7 +5,7 @@ use Rattle.pz_syntax.specs.declared.names.Id.{Id}
 use Rattle.pz_syntax.specs.declared.clusters.Instance.{Instance}
 use Rattle.pz_syntax.specs.declared.clusters.Channel.{Channel}
 use Rattle.pz_syntax.specs.Classes.{DeclTree, process_class, cluster_class, system, ModelTree}
-use Rattle.pz_code.specs.ReservedNames.{is_unsupported}
+use Rattle.pz_classes_code.specs.ReservedNames.{is_unsupported}
 use Rattle.pz_classes.specs.Numbers.{class}
 use Rattle.pz_classes.specs.Ancestors.{ancestors}
 use Rattle.pz_classes.specs.Members.{section, from_root}

@@ -4,7 +4,7 @@ use Rattle.std.specs.Prelude.{◌≡◌, ℕ, List, [], ◌∷◌, map, Option, 
 use Rattle.std.specs.Option.{unwrap_or, option_map_or}
 use Rattle.pz_syntax.specs.declared.names.Id.{Id}
 use Rattle.pz_syntax.specs.Classes.{DeclTree, data_class, process_class, DataMethodTree, ProcessMethodTree, ModelTree}
-use Rattle.pz_code.specs.Resolution.{Scope}
+use Rattle.pz_classes_code.specs.Resolution.{Scope}
 use Rattle.pz_classes.specs.declared.method_id.Counts.TheVariants.{Data, Process}
 use Rattle.pz_classes.specs.declared.method_id.MethodId.{MethodId}
 use Rattle.pz_classes.specs.Numbers.{declaration}

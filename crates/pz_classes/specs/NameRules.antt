@@ -3,9 +3,9 @@
 use Rattle.std.specs.Prelude.{ℕ, Bool, true, false, not, ◌&&◌, ◌||◌, List, [], if◌then◌else◌}
 use Rattle.pz_syntax.specs.declared.names.Id.{Id}
 use Rattle.pz_syntax.specs.Classes.{DeclTree, data_class, process_class, ModelTree}
-use Rattle.pz_mentions.specs.declared.mention.Mention.{Mention}
-use Rattle.pz_mentions.specs.declared.mention.Mention.TheVariants.{Declared, Extended, Typed, Variable, Created, Instantiated, Clock, Me, Return, Float}
-use Rattle.pz_code.specs.ReservedNames.{is_primitive, is_unsupported, is_array}
+use Rattle.pz_classes_mentions.specs.declared.mention.Mention.{Mention}
+use Rattle.pz_classes_mentions.specs.declared.mention.Mention.TheVariants.{Declared, Extended, Typed, Variable, Created, Instantiated, Clock, Me, Return, Float}
+use Rattle.pz_classes_code.specs.ReservedNames.{is_primitive, is_unsupported, is_array}
 use Rattle.pz_classes.specs.Kinds.{is_data, is_process, is_cluster, is_declared_as}
 use Rattle.pz_classes.specs.Members.{fields, variables}
 use Rattle.pz_classes.specs.Words.{is_among}

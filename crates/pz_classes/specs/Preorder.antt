@@ -1,8 +1,8 @@
 -- An order in which each class comes after its ancestors.
 use Rattle.std.specs.Prelude.{◌≡◌, ◌≤◌, ℕ, List, [], ◌∷◌, length, Contains}
 use Rattle.pz_syntax.specs.Classes.{ModelTree}
-use Rattle.pz_lineage.specs.declared.visit.Visit.{Visit}
-use Rattle.pz_lineage.specs.Preorder.{outermost, visited}
+use Rattle.pz_classes_lineage.specs.declared.visit.Visit.{Visit}
+use Rattle.pz_classes_lineage.specs.Preorder.{outermost, visited}
 use Rattle.pz_classes.specs.Ancestors.{ancestors}
 
 -- While these classes are open, the innermost first, each visit leaves all but the outermost, as

@@ -1,7 +1,7 @@
 -- The classes that parents lead to.
 use Rattle.std.specs.Prelude.{◌≡◌, ℕ, Some, Contains}
 use Rattle.pz_syntax.specs.Classes.{DeclTree, ModelTree}
-use Rattle.pz_lineage.specs.Reached.{Reaches}
+use Rattle.pz_classes_lineage.specs.Reached.{Reaches}
 use Rattle.pz_classes.specs.Numbers.{declaration}
 use Rattle.pz_classes.specs.Ancestors.{parent, ancestors}
 

@@ -1,7 +1,7 @@
 -- What a refusal says.
 use Rattle.pz_classes.specs.declared.error.BuildError.{BuildError}
 use Rattle.pz_classes.specs.declared.error.BuildError.TheVariants.{NoMemory, Refused}
-use Rattle.pz_violation.specs.declared.violation.Violation.{Violation}
+use Rattle.pz_check_violations.specs.declared.violation.Violation.{Violation}
 
 -- nothing is said of want of memory
 abbrev pub OnRefused : (Violation → Type 0) → BuildError → Type 0

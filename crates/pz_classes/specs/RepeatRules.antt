@@ -7,10 +7,10 @@ use Rattle.pz_syntax.specs.declared.tokens.Pos.{Pos}
 use Rattle.pz_syntax.specs.declared.names.Id.{Id}
 use Rattle.pz_syntax.specs.declared.classes.Message.{Message}
 use Rattle.pz_syntax.specs.Classes.{DeclTree, data_class, process_class, DataMethodTree, ProcessMethodTree, ModelTree}
-use Rattle.pz_violation.specs.declared.violation.Violation.{Violation}
-use Rattle.pz_violation.specs.Order.{violation, pos_before}
-use Rattle.pz_mentions.specs.declared.part.Part.{Part}
-use Rattle.pz_mentions.specs.Declarations.{parts}
+use Rattle.pz_check_violations.specs.declared.violation.Violation.{Violation}
+use Rattle.pz_check_violations.specs.Order.{violation, pos_before}
+use Rattle.pz_classes_mentions.specs.declared.part.Part.{Part}
+use Rattle.pz_classes_mentions.specs.Declarations.{parts}
 use Rattle.pz_classes.specs.Numbers.{declaration}
 use Rattle.pz_classes.specs.Members.{fields, variables, ports}
 use Rattle.pz_classes.specs.Methods.{Signature, same_signature, data_signature, process_signature}

@@ -6,8 +6,8 @@ use Rattle.pz_syntax.specs.declared.tokens.Pos.{Pos}
 use Rattle.pz_syntax.specs.declared.clusters.Instance.{Instance}
 use Rattle.pz_syntax.specs.declared.clusters.SystemDecl.{SystemDecl}
 use Rattle.pz_syntax.specs.Classes.{DeclTree, data_class, process_class, cluster_class, system, ModelTree}
-use Rattle.pz_violation.specs.declared.violation.Violation.{Violation}
-use Rattle.pz_violation.specs.Order.{violation}
+use Rattle.pz_check_violations.specs.declared.violation.Violation.{Violation}
+use Rattle.pz_check_violations.specs.Order.{violation}
 use Rattle.pz_classes.specs.Numbers.{declaration}
 use Rattle.pz_classes.specs.Instances.{instances, channels, instance_class}
 use Rattle.pz_classes.specs.InstanceRules.{BreaksC15}

@@ -1,7 +1,7 @@
 -- What a sound model says of the bodies of its methods, in positive words.
 use Rattle.std.specs.Prelude.{◌≡◌, ℕ, Some, Contains}
 use Rattle.pz_syntax.specs.Classes.{DeclTree, ModelTree}
-use Rattle.pz_code.specs.StepView.{Tree}
+use Rattle.pz_classes_code.specs.StepView.{Tree}
 use Rattle.pz_classes.specs.declared.method_id.Counts.{Counts}
 use Rattle.pz_classes.specs.Numbers.{declaration}
 use Rattle.pz_classes.specs.Ancestors.{ancestors}

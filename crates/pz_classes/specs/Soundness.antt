@@ -1,6 +1,6 @@
 -- What a sound model is.
 use Rattle.pz_syntax.specs.Classes.{ModelTree}
-use Rattle.pz_violation.specs.declared.violation.Violation.{Violation}
+use Rattle.pz_check_violations.specs.declared.violation.Violation.{Violation}
 use Rattle.pz_classes.specs.Violations.{Violates}
 use Rattle.pz_classes.specs.WordRules.{BreaksWord}
 use Rattle.pz_classes.specs.RepeatRules.{BreaksC4}

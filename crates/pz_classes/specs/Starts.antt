@@ -3,8 +3,8 @@ use Rattle.std.specs.Prelude.{ℕ, [], Option, None}
 use Rattle.std.specs.Option.{option_map, option_and_then}
 use Rattle.pz_syntax.specs.Classes.{DeclTree, process_class, StartTree, ModelTree}
 use Rattle.pz_syntax.specs.Statements.{call}
-use Rattle.pz_code.specs.StepView.{Tree}
-use Rattle.pz_code.specs.Resolution.{resolved_all}
+use Rattle.pz_classes_code.specs.StepView.{Tree}
+use Rattle.pz_classes_code.specs.Resolution.{resolved_all}
 use Rattle.pz_classes.specs.Numbers.{declaration}
 use Rattle.pz_classes.specs.Ancestors.{ancestors}
 use Rattle.pz_classes.specs.Methods.{nearest}

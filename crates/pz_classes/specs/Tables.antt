@@ -12,9 +12,9 @@ use Rattle.pz_classes.specs.Bodies.{bodies}
 use Rattle.pz_classes.specs.Preorder.{IsPreorderOf}
 use Rattle.pz_classes.specs.BodyView.{body_view}
 use Rattle.pz_classes.specs.Starts.{own_call}
-use Rattle.pz_code.specs.NumberIn.{number_in}
-use Rattle.pz_code.specs.StepView.{Tree}
-use Rattle.pz_code.specs.StepView as step
+use Rattle.pz_classes_code.specs.NumberIn.{number_in}
+use Rattle.pz_classes_code.specs.StepView.{Tree}
+use Rattle.pz_classes_code.specs.StepView as step
 use Rattle.pz_classes.specs.declared.method_id.MethodId.{MethodId}
 use Rattle.pz_classes.specs.declared.entry.Entry.{Entry}
 use Rattle.pz_classes.specs.declared.classes.Classes.{Classes}

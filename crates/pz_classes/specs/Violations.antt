@@ -3,9 +3,9 @@ use Rattle.std.specs.Prelude.{◌≡◌, ℕ, Bool, true, false, not, ◌&&◌, 
 use Rattle.std.specs.Option.{option_map_or}
 use Rattle.pz_syntax.specs.declared.names.Id.{Id}
 use Rattle.pz_syntax.specs.Classes.{DeclTree, data_class, process_class, ModelTree}
-use Rattle.pz_violation.specs.declared.violation.Violation.{Violation}
-use Rattle.pz_violation.specs.Order.{violation}
-use Rattle.pz_code.specs.ReservedNames.{is_primitive, is_unsupported, is_object}
+use Rattle.pz_check_violations.specs.declared.violation.Violation.{Violation}
+use Rattle.pz_check_violations.specs.Order.{violation}
+use Rattle.pz_classes_code.specs.ReservedNames.{is_primitive, is_unsupported, is_object}
 use Rattle.pz_classes.specs.Numbers.{declared_name, declaration, class}
 use Rattle.pz_classes.specs.Kinds.{is_data, is_declared_as}
 use Rattle.pz_classes.specs.Ancestors.{extended, parent, ancestors}

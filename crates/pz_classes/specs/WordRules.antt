@@ -1,10 +1,10 @@
 -- The rules that are broken at a word.
 use Rattle.std.specs.Prelude.{ℕ, IsTrue}
 use Rattle.pz_syntax.specs.Classes.{DeclTree, ModelTree}
-use Rattle.pz_violation.specs.declared.violation.Violation.{Violation}
-use Rattle.pz_violation.specs.Order.{violation}
-use Rattle.pz_mentions.specs.declared.mention.Mention.{Mention}
-use Rattle.pz_mentions.specs.declared.part.Part.{Part}
+use Rattle.pz_check_violations.specs.declared.violation.Violation.{Violation}
+use Rattle.pz_check_violations.specs.Order.{violation}
+use Rattle.pz_classes_mentions.specs.declared.mention.Mention.{Mention}
+use Rattle.pz_classes_mentions.specs.declared.part.Part.{Part}
 use Rattle.pz_classes.specs.Words.{Mentions, place}
 use Rattle.pz_classes.specs.NameRules.{breaks_c5, breaks_c6, breaks_c12, breaks_c13, breaks_c18, breaks_c21, breaks_c22}
 use Rattle.pz_classes.specs.CallRules.{breaks_c7, breaks_c8, breaks_c9, breaks_c10, breaks_c11}

@@ -5,10 +5,10 @@ use Rattle.std.specs.List.{list_any}
 use Rattle.pz_syntax.specs.declared.tokens.Pos.{Pos}
 use Rattle.pz_syntax.specs.declared.names.Id.{Id}
 use Rattle.pz_syntax.specs.Classes.{DeclTree, ModelTree}
-use Rattle.pz_mentions.specs.declared.mention.Mention.{Mention}
-use Rattle.pz_mentions.specs.declared.mention.Mention.TheVariants.{Declared, Extended, Typed, Variable, Created, Selector, Called, Port, Sent, Received, Instantiated, Clock, Me, Return, Float}
-use Rattle.pz_mentions.specs.declared.part.Part.{Part}
-use Rattle.pz_mentions.specs.Declarations.{parts}
+use Rattle.pz_classes_mentions.specs.declared.mention.Mention.{Mention}
+use Rattle.pz_classes_mentions.specs.declared.mention.Mention.TheVariants.{Declared, Extended, Typed, Variable, Created, Selector, Called, Port, Sent, Received, Instantiated, Clock, Me, Return, Float}
+use Rattle.pz_classes_mentions.specs.declared.part.Part.{Part}
+use Rattle.pz_classes_mentions.specs.Declarations.{parts}
 use Rattle.pz_classes.specs.Numbers.{declaration}
 
 -- the part of the class c, which is declared as d, mentions x

@@ -4,11 +4,11 @@ ghost use Rattle.std.specs.Prelude.{◌≡◌, ◌<◌, ◌+◌, ◌^◌, List, 
 ghost use Rattle.pz_syntax.specs.ClassView.{decl_view, model_view};
 ghost use Rattle.pz_classes.specs.Numbers.{class};
 ghost use Rattle.pz_classes.specs.Ancestors.{parent, parent_of};
-ghost use Rattle.pz_code.specs.NumberIn.{number_in};
-ghost use Rattle.pz_lineage.specs.Parents.{parent_in};
+ghost use Rattle.pz_classes_code.specs.NumberIn.{number_in};
+ghost use Rattle.pz_classes_lineage.specs.Parents.{parent_in};
 
 use crate::declarations::{declared_name, extended};
-use pz_code::{Numbering, is_primitive, is_unsupported};
+use pz_classes_code::{Numbering, is_primitive, is_unsupported};
 use pz_syntax::{Decl, Model};
 use std::alloc::{AllocError, Global};
 

@@ -3,7 +3,7 @@
 ghost use Rattle.std.specs.Prelude.{◌≡◌};
 ghost use Rattle.pz_syntax.specs.ClassView.{model_view};
 ghost use Rattle.pz_syntax.specs.ModelText.{HasFewMarks};
-ghost use Rattle.pz_violation.specs.declared.violation.Violation.{Violation};
+ghost use Rattle.pz_check_violations.specs.declared.violation.Violation.{Violation};
 ghost use Rattle.pz_classes.specs.Violations.{Violates};
 ghost use Rattle.pz_classes.specs.Soundness.{Breaks};
 ghost use Rattle.pz_classes.specs.Tables.{AreClasses};

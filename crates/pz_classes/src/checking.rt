@@ -3,16 +3,16 @@
 ghost use Rattle.std.specs.Prelude.{◌≡◌, ◌<◌, ◌+◌, ◌^◌, List, ℕ, None, length};
 ghost use Rattle.pz_syntax.specs.ClassView.{decl_view, model_view};
 ghost use Rattle.pz_classes.specs.Numbers.{class};
-ghost use Rattle.pz_code.specs.NumberIn.{number_in};
+ghost use Rattle.pz_classes_code.specs.NumberIn.{number_in};
 ghost use Rattle.pz_classes.specs.devices.Rounds.{AreRound};
 ghost use Rattle.pz_classes.specs.Violations as rules;
 ghost use Rattle.pz_classes.specs.devices.ViolationList as list;
-ghost use Rattle.pz_violation.specs.Least as least;
+ghost use Rattle.pz_check_violations.specs.Least as least;
 
 use crate::declarations::{declaration, declared_name, extended, is_data, same_sort};
-use pz_code::{Numbering, is_object, is_primitive, is_unsupported};
+use pz_classes_code::{Numbering, is_object, is_primitive, is_unsupported};
 use pz_syntax::{Decl, Id, Model, Name};
-use pz_violation::{Violation, lesser};
+use pz_check_violations::{Violation, lesser};
 
 /// Whether a class's name is declared before it, or is a primitive's.
 fn breaks_c1(model: &Model, numbering: &Numbering, number: u32, name: &Name) -> bool
@@ -62,7 +62,7 @@ fn breaks_c3(model: &Model, round: &[bool], number: u32) -> bool
 }
 
 /// The least of what was found before and the violations at the name of this class.
-#[tactic(auto, using(pz_violation::proofs::Leasts::least_from_append))]
+#[tactic(auto, using(pz_check_violations::proofs::Leasts::least_from_append))]
 fn least_at_name(
     model: &Model,
     numbering: &Numbering,
@@ -98,7 +98,7 @@ fn least_at_name(
 }
 
 /// The least of what was found before and the violations of this class.
-#[tactic(auto, using(pz_violation::proofs::Leasts::least_from_append))]
+#[tactic(auto, using(pz_check_violations::proofs::Leasts::least_from_append))]
 fn least_of_class(
     model: &Model,
     numbering: &Numbering,
@@ -130,7 +130,7 @@ fn least_of_class(
 }
 
 /// The least violation of the rules C1 to C3, if there is one.
-#[tactic(auto, using(pz_violation::proofs::Leasts::least_from_append))]
+#[tactic(auto, using(pz_check_violations::proofs::Leasts::least_from_append))]
 pub(crate) fn least_violation(
     model: &Model,
     numbering: &Numbering,

@@ -11,7 +11,7 @@ ghost use Rattle.pz_classes.specs.Tables.{AreClasses, HasClass, class_id};
 
 use crate::Classes;
 use crate::declarations::declaration;
-use pz_code::{is_primitive, is_unsupported};
+use pz_classes_code::{is_primitive, is_unsupported};
 use pz_items::Items;
 use pz_syntax::{Channel, Decl, Instance, Model, Name};
 use pz_value::ClassId;

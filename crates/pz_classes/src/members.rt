@@ -4,16 +4,16 @@ ghost use Rattle.std.specs.Prelude.{◌≡◌, ◌<◌, ◌+◌, ◌++◌, ℕ, 
 ghost use Rattle.std.specs.Option.{unwrap_or};
 ghost use Rattle.pz_syntax.specs.ClassView.{decl_view, model_view};
 ghost use Rattle.pz_classes.specs.Members.{spelled, grouped, section};
-ghost use Rattle.pz_lineage.specs.Parents.{parent_in};
-ghost use Rattle.pz_lineage.specs.Reached.{GoesRound};
-ghost use Rattle.pz_lineage.specs.Preorder.{IsPreorder};
+ghost use Rattle.pz_classes_lineage.specs.Parents.{parent_in};
+ghost use Rattle.pz_classes_lineage.specs.Reached.{GoesRound};
+ghost use Rattle.pz_classes_lineage.specs.Preorder.{IsPreorder};
 ghost use Rattle.pz_classes.specs.Ancestors.{parent};
 ghost use Rattle.pz_classes.specs.devices.Inherited.{Adds, AddsAt, AreMembers, Joins, none_yet, inherited_in};
 
 use crate::ancestry::parent_at;
 use crate::declarations::declaration;
 use pz_items::Items;
-use pz_lineage::Visit;
+use pz_classes_lineage::Visit;
 use pz_syntax::{Decl, Id, Model, Name, VarGroup};
 use std::alloc::{AllocError, Global};
 

@@ -2,12 +2,12 @@
 
 ghost use Rattle.std.specs.Prelude.{◌≡◌, ◌<◌, ◌^◌, List, ℕ, length, IfOk};
 ghost use Rattle.pz_syntax.specs.Classes.{ModelTree};
-ghost use Rattle.pz_code.specs.NumberIn.{number_in};
+ghost use Rattle.pz_classes_code.specs.NumberIn.{number_in};
 ghost use Rattle.pz_classes.specs.Bodies.{place_in, scope_of};
 ghost use Rattle.pz_classes.specs.devices.Surrounding.{scope_around, Numbers};
-ghost use Rattle.pz_code.specs.declared.numbering.Numbering.{Numbering as Names};
+ghost use Rattle.pz_classes_code.specs.declared.numbering.Numbering.{Numbering as Names};
 
-use pz_code::Numbering;
+use pz_classes_code::Numbering;
 use pz_syntax::Name;
 use std::alloc::{AllocError, Global};
 

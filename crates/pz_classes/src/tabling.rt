@@ -3,14 +3,14 @@
 ghost use Rattle.std.specs.Prelude.{◌≡◌, ◌<◌, ◌+◌, ◌-◌, ◌^◌, ℕ, List, length, map, IfOk};
 ghost use Rattle.pz_syntax.specs.ClassView.{model_view};
 ghost use Rattle.pz_syntax.specs.ModelText.{HasFewMarks};
-ghost use Rattle.pz_code.specs.NumberIn.{number_in};
+ghost use Rattle.pz_classes_code.specs.NumberIn.{number_in};
 ghost use Rattle.pz_classes.specs.Numbers.{class as numbered};
 ghost use Rattle.pz_classes.specs.Ancestors.{ancestors, parent};
 ghost use Rattle.pz_classes.specs.devices.Inherited.{HasMembers, AreMembers};
 ghost use Rattle.pz_classes.specs.Methods.{methods_before};
 ghost use Rattle.pz_classes.specs.devices.MethodIn.{HasMethodsOf};
-ghost use Rattle.pz_lineage.specs.Parents.{parent_in};
-ghost use Rattle.pz_lineage.specs.Reached.{GoesRound};
+ghost use Rattle.pz_classes_lineage.specs.Parents.{parent_in};
+ghost use Rattle.pz_classes_lineage.specs.Reached.{GoesRound};
 ghost use Rattle.pz_classes.specs.devices.Surrounding.{Numbers};
 ghost use Rattle.pz_classes.specs.Tables.{row, rows, row_view};
 
@@ -21,7 +21,7 @@ use crate::members::Members;
 use crate::method_index::Methods;
 use crate::methods::methods_of;
 use crate::starting::start_at;
-use pz_code::Numbering;
+use pz_classes_code::Numbering;
 use pz_items::Items;
 use pz_syntax::Model;
 use std::alloc::{AllocError, Global};

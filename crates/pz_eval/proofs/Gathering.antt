@@ -3,18 +3,18 @@ use Rattle.std.proofs.Common.{◌≡◌, ℕ, ◌+◌, ◌<◌, ◌≤◌, List,
 use Rattle.std.proofs.lemmas.List.{drop_more, drop_all}
 use Rattle.pz_syntax.specs.Classes.{ModelTree}
 use Rattle.pz_value.specs.declared.value.Value.{Value}
-use Rattle.pz_code.specs.declared.code.Code.{Code}
-use Rattle.pz_code.specs.CodeView.{view, list_view}
+use Rattle.pz_classes_code.specs.declared.code.Code.{Code}
+use Rattle.pz_classes_code.specs.CodeView.{view, list_view}
 use Rattle.pz_state.specs.States.{StateView}
-use Rattle.pz_evaluation.specs.declared.outcome.Listed.TheVariants as listed
-use Rattle.pz_evaluation.specs.Memories.{Memory, Place}
-use Rattle.pz_evaluation.specs.Answers.{ends, gives, stops}
-use Rattle.pz_evaluation.specs.Outcomes.{outside}
-use Rattle.pz_evaluation.specs.devices.Computed.{Reached, done, Computation, and_then, arguments, evaluated}
-use Rattle.pz_operations.specs.declared.stop.Stop.{Stop}
-use Rattle.pz_operations.specs.declared.stop.Stop.TheVariants as stop
-use Rattle.pz_machine.specs.declared.control.Finish.{Finish}
-use Rattle.pz_machine.specs.devices.Steps.{Stops, finished, Finishes}
+use Rattle.pz_eval_rules.specs.declared.outcome.Listed.TheVariants as listed
+use Rattle.pz_eval_rules.specs.Memories.{Memory, Place}
+use Rattle.pz_eval_rules.specs.Answers.{ends, gives, stops}
+use Rattle.pz_eval_rules.specs.Outcomes.{outside}
+use Rattle.pz_eval_rules.specs.devices.Computed.{Reached, done, Computation, and_then, arguments, evaluated}
+use Rattle.pz_eval_operations.specs.declared.stop.Stop.{Stop}
+use Rattle.pz_eval_operations.specs.declared.stop.Stop.TheVariants as stop
+use Rattle.pz_eval_machine.specs.declared.control.Finish.{Finish}
+use Rattle.pz_eval_machine.specs.devices.Steps.{Stops, finished, Finishes}
 use Rattle.pz_eval.specs.devices.Lists.{Gathers}
 
 pub finish_is : (result : Result Finish Stop) (f : Finish) (m : Memory) (r : ℕ) (before : Reached Value) → result ≡ Ok f → Finishes result m r before → before ≡ done (finished f m) r

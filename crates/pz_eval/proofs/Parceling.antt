@@ -5,8 +5,8 @@ use Rattle.std.proofs.lemmas.List.{drop_more, drop_all}
 use Rattle.std.proofs.lemmas.Bool.{cases_lt}
 use Rattle.pz_syntax.specs.Classes.{ModelTree}
 use Rattle.pz_value.specs.declared.value.Value.{Value}
-use Rattle.pz_code.specs.declared.slot.Slot.{Slot}
-use Rattle.pz_code.specs.declared.slot.Slot.TheVariants.{Local, Shared, Unknown}
+use Rattle.pz_classes_code.specs.declared.slot.Slot.{Slot}
+use Rattle.pz_classes_code.specs.declared.slot.Slot.TheVariants.{Local, Shared, Unknown}
 use Rattle.pz_state.specs.States.{StateView}
 use Rattle.pz_state.specs.Marks.{Seen, changed}
 use Rattle.pz_state.specs.References.{RefersWithin}
@@ -14,11 +14,11 @@ use Rattle.pz_copy.specs.declared.unpacking.UnpackError.{UnpackError}
 use Rattle.pz_copy.specs.declared.unpacking.UnpackError.TheVariants.{NoMemory, StoreFull}
 use Rattle.pz_copy.specs.Parcels.{ParcelView}
 use Rattle.pz_copy.specs.Packing.{IsParcelOf}
-use Rattle.pz_evaluation.specs.declared.allowance.Allowance.{Allowance}
-use Rattle.pz_evaluation.specs.declared.outcome.Listed.{Listed}
-use Rattle.pz_evaluation.specs.declared.outcome.Listed.TheVariants as listed
-use Rattle.pz_evaluation.specs.Steps.{Codes}
-use Rattle.pz_evaluation.specs.Outcomes.{FindsAll}
+use Rattle.pz_eval_rules.specs.declared.allowance.Allowance.{Allowance}
+use Rattle.pz_eval_rules.specs.declared.outcome.Listed.{Listed}
+use Rattle.pz_eval_rules.specs.declared.outcome.Listed.TheVariants as listed
+use Rattle.pz_eval_rules.specs.Steps.{Codes}
+use Rattle.pz_eval_rules.specs.Outcomes.{FindsAll}
 use Rattle.pz_eval.specs.declared.parcels.Parceled.{Parceled}
 use Rattle.pz_eval.specs.Promises.{NameWithin}
 use Rattle.pz_eval.specs.Parcels.{FindsParcel, a_parcel}

@@ -1,8 +1,8 @@
 -- Values that are bound to the variables of a process, from left to right.
 use Rattle.std.specs.Prelude.{ℕ, List, [], ◌∷◌}
 use Rattle.pz_value.specs.declared.value.Value.{Value}
-use Rattle.pz_code.specs.declared.slot.Slot.{Slot}
-use Rattle.pz_code.specs.declared.slot.Slot.TheVariants.{Local, Shared, Unknown}
+use Rattle.pz_classes_code.specs.declared.slot.Slot.{Slot}
+use Rattle.pz_classes_code.specs.declared.slot.Slot.TheVariants.{Local, Shared, Unknown}
 use Rattle.pz_state.specs.States.{StateView, set_variable, set_local}
 use Rattle.pz_copy.specs.Parcels.{ParcelView}
 use Rattle.pz_copy.specs.Unpacking.{unpacked, unpacked_values}

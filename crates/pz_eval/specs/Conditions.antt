@@ -2,15 +2,15 @@
 use Rattle.std.specs.Prelude.{◌≤◌, ◌+◌, ℕ, List, length}
 use Rattle.pz_syntax.specs.declared.tokens.Pos.{Pos}
 use Rattle.pz_syntax.specs.Classes.{ModelTree}
-use Rattle.pz_code.specs.declared.slot.Slot.{Slot}
-use Rattle.pz_code.specs.CodeView.{Tree}
+use Rattle.pz_classes_code.specs.declared.slot.Slot.{Slot}
+use Rattle.pz_classes_code.specs.CodeView.{Tree}
 use Rattle.pz_state.specs.declared.fault.FaultKind.TheVariants.{StoreFull}
 use Rattle.pz_state.specs.declared.state.TheConstants.{OBJECT_LIMIT}
 use Rattle.pz_state.specs.States.{StateView}
 use Rattle.pz_copy.specs.Parcels.{ParcelView}
-use Rattle.pz_evaluation.specs.declared.allowance.Allowance.{Allowance}
-use Rattle.pz_evaluation.specs.declared.outcome.Outcome.{Outcome}
-use Rattle.pz_evaluation.specs.declared.outcome.Outcome.TheVariants as outcome
+use Rattle.pz_eval_rules.specs.declared.allowance.Allowance.{Allowance}
+use Rattle.pz_eval_rules.specs.declared.outcome.Outcome.{Outcome}
+use Rattle.pz_eval_rules.specs.declared.outcome.Outcome.TheVariants as outcome
 use Rattle.pz_eval.specs.Binding.{bound}
 use Rattle.pz_eval.specs.Tentative.{WouldFind}
 

@@ -1,4 +1,4 @@
-pub use Rattle.pz_operations.specs.Known
+pub use Rattle.pz_eval_operations.specs.Known
 pub mod Promises
 pub mod Tentative
 pub mod Parcels

@@ -7,10 +7,10 @@ use Rattle.pz_state.specs.declared.fault.FaultKind.{FaultKind}
 use Rattle.pz_state.specs.States.{StateView}
 use Rattle.pz_copy.specs.Parcels.{ParcelView}
 use Rattle.pz_copy.specs.Packing.{IsParcelOf}
-use Rattle.pz_evaluation.specs.declared.allowance.Allowance.{Allowance}
-use Rattle.pz_evaluation.specs.declared.outcome.Listed.TheVariants as listed
-use Rattle.pz_evaluation.specs.Steps.{Codes}
-use Rattle.pz_evaluation.specs.Outcomes.{FindsAll}
+use Rattle.pz_eval_rules.specs.declared.allowance.Allowance.{Allowance}
+use Rattle.pz_eval_rules.specs.declared.outcome.Listed.TheVariants as listed
+use Rattle.pz_eval_rules.specs.Steps.{Codes}
+use Rattle.pz_eval_rules.specs.Outcomes.{FindsAll}
 use Rattle.pz_eval.specs.declared.parcels.Parceled.{Parceled}
 use Rattle.pz_eval.specs.declared.parcels.Parceled.TheVariants as parceled
 

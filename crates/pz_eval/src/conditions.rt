@@ -2,20 +2,20 @@
 
 ghost use Rattle.std.specs.Prelude.{◌≡◌, length, Err, ◌<◌, ◌≤◌, IfOk, OnOk, OnErr, All};
 ghost use Rattle.pz_syntax.specs.Classes.{ModelTree};
-ghost use Rattle.pz_code.specs.CodeView.{view};
+ghost use Rattle.pz_classes_code.specs.CodeView.{view};
 ghost use Rattle.pz_classes.specs.Tables.{AreClasses};
 ghost use Rattle.pz_state.specs.References.{RefersWithin};
 ghost use Rattle.pz_state.specs.Marks.{changed};
-ghost use Rattle.pz_operations.specs.Known.{AreKnown};
+ghost use Rattle.pz_eval_operations.specs.Known.{AreKnown};
 ghost use Rattle.pz_eval.specs.Binding.{set_slot, set_slots, bound};
 ghost use Rattle.pz_eval.specs.Conditions.{Fits, FindsCondition};
 
 use crate::evaluating::try_eval;
 use pz_classes::Classes;
-use pz_code::{Code, Slot};
+use pz_classes_code::{Code, Slot};
 use pz_copy::{Parcel, UnpackError, unpack};
-use pz_evaluation::{Allowance, Outcome};
-use pz_operations::{write_local, write_variable};
+use pz_eval_rules::{Allowance, Outcome};
+use pz_eval_operations::{write_local, write_variable};
 use pz_state::{FaultKind, FrameId, State};
 use pz_syntax::Pos;
 use pz_value::Value;

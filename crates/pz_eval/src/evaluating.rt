@@ -2,20 +2,20 @@
 
 ghost use Rattle.std.specs.Prelude.{◌≡◌, length, IfOk, OnErr};
 ghost use Rattle.pz_syntax.specs.Classes.{ModelTree};
-ghost use Rattle.pz_code.specs.CodeView.{view, list_view};
+ghost use Rattle.pz_classes_code.specs.CodeView.{view, list_view};
 ghost use Rattle.pz_classes.specs.Tables.{AreClasses};
-ghost use Rattle.pz_evaluation.specs.Outcomes.{Finds, FindsAll};
-ghost use Rattle.pz_operations.specs.Known.{AreKnown};
+ghost use Rattle.pz_eval_rules.specs.Outcomes.{Finds, FindsAll};
+ghost use Rattle.pz_eval_operations.specs.Known.{AreKnown};
 ghost use Rattle.pz_eval.specs.Tentative.{WouldFind};
 ghost use Rattle.pz_eval.specs.devices.Found.{found_value, IsOutcomeOf, IsListedOf};
 ghost use Rattle.pz_eval.specs.Promises.{UnlessValue, UnlessValues, NamesWithin, NameWithin};
 
 use crate::listing::evaluate_list;
 use pz_classes::Classes;
-use pz_code::Code;
-use pz_evaluation::{Allowance, Listed, Outcome, computed_is_found};
-use pz_machine::{Finish, Setting, evaluate};
-use pz_operations::Stop;
+use pz_classes_code::Code;
+use pz_eval_rules::{Allowance, Listed, Outcome, computed_is_found};
+use pz_eval_machine::{Finish, Setting, evaluate};
+use pz_eval_operations::Stop;
 use pz_state::{FrameId, State};
 use std::alloc::{AllocError, Global};
 

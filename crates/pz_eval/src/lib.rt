@@ -10,4 +10,4 @@ mod parcels;
 pub use conditions::try_condition;
 pub use evaluating::{eval, eval_list, try_eval};
 pub use parcels::{Parceled, try_parcel};
-pub use pz_evaluation::{Allowance, Listed, Outcome};
+pub use pz_eval_rules::{Allowance, Listed, Outcome};

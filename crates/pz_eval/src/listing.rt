@@ -2,19 +2,19 @@
 
 ghost use Rattle.std.specs.Prelude.{◌≡◌, ◌≤◌, ℕ, [], ◌∷◌, length, IfOk, All};
 ghost use Rattle.pz_syntax.specs.Classes.{ModelTree};
-ghost use Rattle.pz_code.specs.CodeView.{list_view};
+ghost use Rattle.pz_classes_code.specs.CodeView.{list_view};
 ghost use Rattle.pz_state.specs.References.{RefersWithin};
 ghost use Rattle.pz_classes.specs.Tables.{AreClasses};
-ghost use Rattle.pz_evaluation.specs.Memories.{in_process};
-ghost use Rattle.pz_evaluation.specs.Outcomes.{outside};
-ghost use Rattle.pz_evaluation.specs.devices.Computed.{arguments, evaluated};
-ghost use Rattle.pz_operations.specs.Known.{AreKnown};
+ghost use Rattle.pz_eval_rules.specs.Memories.{in_process};
+ghost use Rattle.pz_eval_rules.specs.Outcomes.{outside};
+ghost use Rattle.pz_eval_rules.specs.devices.Computed.{arguments, evaluated};
+ghost use Rattle.pz_eval_operations.specs.Known.{AreKnown};
 ghost use Rattle.pz_eval.specs.devices.Lists.{Gathers};
 
-use pz_code::Code;
+use pz_classes_code::Code;
 use pz_items::Items;
-use pz_machine::{Finish, Setting, evaluate};
-use pz_operations::Stop;
+use pz_eval_machine::{Finish, Setting, evaluate};
+use pz_eval_operations::Stop;
 use pz_state::{FrameId, State};
 use pz_value::Value;
 use std::alloc::{AllocError, Global};

@@ -2,17 +2,17 @@
 
 ghost use Rattle.std.specs.Prelude.{◌≡◌, IfOk};
 ghost use Rattle.pz_syntax.specs.Classes.{ModelTree};
-ghost use Rattle.pz_code.specs.CodeView.{list_view};
+ghost use Rattle.pz_classes_code.specs.CodeView.{list_view};
 ghost use Rattle.pz_classes.specs.Tables.{AreClasses};
-ghost use Rattle.pz_operations.specs.Known.{AreKnown};
+ghost use Rattle.pz_eval_operations.specs.Known.{AreKnown};
 ghost use Rattle.pz_eval.specs.Parcels.{FindsParcel};
 ghost use Rattle.pz_eval.specs.devices.Parceled.{parceled};
 
 use crate::evaluating::eval_list;
 use pz_classes::Classes;
-use pz_code::Code;
+use pz_classes_code::Code;
 use pz_copy::{Parcel, pack};
-use pz_evaluation::{Allowance, Listed};
+use pz_eval_rules::{Allowance, Listed};
 use pz_state::{FaultKind, FrameId, State};
 use pz_syntax::Pos;
 use std::alloc::{AllocError, Global};

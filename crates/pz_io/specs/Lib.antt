@@ -6,3 +6,5 @@ pub mod Failing
 pub mod Roomy
 pub mod Os
 pub mod devices
+pub mod Writing
+pub mod Laws

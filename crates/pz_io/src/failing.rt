@@ -3,7 +3,8 @@ ghost use Rattle.std.specs.Prelude.{◌≡◌, ◌⊎◌, ◌≤◌, ◌<◌, �
 ghost use Rattle.pz_io.specs.Outside.{lookup, raised, raised_if, Rose};
 ghost use Rattle.pz_io.specs.Outcomes.{OnReady, OnOpenFailed, IfBytes, OnEnd, OnReadFailed, is_end, is_read_failed, bytes_got};
 
-use crate::{Files, Got, MemFiles, Opened};
+use crate::mem::MemFiles;
+use crate::outside::{Files, Got, Opened};
 
 /// Files in memory of which given calls fail, for tests of what a program does then.
 ///

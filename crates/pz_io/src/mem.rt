@@ -5,7 +5,7 @@ ghost use Rattle.pz_io.specs.Outcomes.{IfBytes, OnEnd, is_end, is_read_failed, b
 ghost use Rattle.pz_io.specs.Entries.{entries_of, rest_of};
 ghost use Rattle.pz_io.specs.devices.Places.{IsPlaceOf};
 
-use crate::{Files, Got, Opened};
+use crate::outside::{Files, Got, Opened};
 
 /// Files in memory. Their count of faults is always 0, so no `read` of theirs fails, and an `open`
 /// fails exactly where they lack the name. No call takes memory.

@@ -4,7 +4,7 @@ ghost use Rattle.std.specs.Prelude.{◌≡◌, ◌≤◌, ◌<◌, ◌+◌, [], 
 ghost use Rattle.pz_io.specs.Outside.{new_files, new_sink, raised, raised_if, Rose};
 ghost use Rattle.pz_io.specs.Outcomes.{OnOpenFailed, is_open_failed, IfBytes, OnReadFailed, is_end, is_read_failed, bytes_got, IfTook, OnWriteFailed, is_write_failed};
 
-use crate::{Files, Got, Opened, Put, Sink};
+use crate::outside::{Files, Got, Opened, Put, Sink};
 use std::fs::File;
 use std::io;
 use std::io::{Read, Write};

@@ -3,7 +3,7 @@ ghost use Rattle.std.specs.Prelude.{◌≡◌, ◌≤◌, ◌<◌, ◌+◌, ◌+
 ghost use Rattle.pz_io.specs.Outside.{new_sink, raised, raised_if, Rose};
 ghost use Rattle.pz_io.specs.Outcomes.{IfTook, OnWriteFailed, is_write_failed};
 
-use crate::{Put, Sink};
+use crate::outside::{Put, Sink};
 use std::alloc::{AllocError, Global};
 
 /// A sink in memory, of which given writes fail.

@@ -3,7 +3,7 @@ ghost use Rattle.std.specs.Prelude.{◌≡◌, ◌⊎◌, ◌≤◌, ◌<◌, �
 ghost use Rattle.pz_io.specs.Outside.{lookup, raised, Rose, Exceeds};
 ghost use Rattle.pz_io.specs.Outcomes.{sent_of};
 
-use crate::{Files, Got, Opened, Put, Sink};
+use crate::outside::{Files, Got, Opened, Put, Sink};
 use std::alloc::{AllocError, Global};
 
 /// Why [`read_all`] gave no bytes.

@@ -2,23 +2,23 @@
 -- begin a construct.
 use Rattle.std.proofs.Common.{◌≡◌, ℕ, zero, suc, List, [], ◌∷◌, length, Option, Ok, Err, refl}
 use Rattle.pz_syntax.specs.Classes.{DeclTree, data_class, process_class, cluster_class, system, ModelTree}
-use Rattle.pz_cursor.specs.declared.ahead.Next.{Next}
-use Rattle.pz_cursor.specs.declared.ahead.Next.TheVariants as n
-use Rattle.pz_cursor.specs.devices.LookAhead.{next}
-use Rattle.pz_cursor.specs.devices.Input.{Tokens, identifier, sees}
-use Rattle.pz_cursor.specs.devices.Device.{Parser, pure, ask, take_id, expect}
-use Rattle.pz_cursor.specs.devices.Lists.{each_of, with_front}
-use Rattle.pz_cursor.specs.devices.Names as names
-use Rattle.pz_cursor.proofs.Budget.{BudgetAt, Budget, pure_budget, ask_budget, take_budget, refuse_budget, bind_budget, expect_budget, each_budget, front_at}
-use Rattle.pz_cursor.proofs.NameBudgets.{word_budget, formal_budget, optional_formal_budget, optional_locals_budget}
-use Rattle.pz_cursor.proofs.Sections.{section_budget, ports_budget}
-use Rattle.pz_statements.specs.devices.Statements.{stmts}
-use Rattle.pz_statements.proofs.Budgets.{stmts_budget}
-use Rattle.pz_declarations.specs.devices.Sections.{parent_section, messages_section, variables_section, start_section}
-use Rattle.pz_declarations.specs.devices.DataClasses as classes
-use Rattle.pz_declarations.proofs.Budgets.{parent_section_budget, messages_section_budget, variables_section_budget, start_section_budget, data_class_budget}
-use Rattle.pz_clusters.specs.devices.Clusters as clusters
-use Rattle.pz_clusters.proofs.Budgets.{cluster_class_budget, system_budget}
+use Rattle.pz_parser_cursor.specs.declared.ahead.Next.{Next}
+use Rattle.pz_parser_cursor.specs.declared.ahead.Next.TheVariants as n
+use Rattle.pz_parser_cursor.specs.devices.LookAhead.{next}
+use Rattle.pz_parser_cursor.specs.devices.Input.{Tokens, identifier, sees}
+use Rattle.pz_parser_cursor.specs.devices.Device.{Parser, pure, ask, take_id, expect}
+use Rattle.pz_parser_cursor.specs.devices.Lists.{each_of, with_front}
+use Rattle.pz_parser_cursor.specs.devices.Names as names
+use Rattle.pz_parser_cursor.proofs.Budget.{BudgetAt, Budget, pure_budget, ask_budget, take_budget, refuse_budget, bind_budget, expect_budget, each_budget, front_at}
+use Rattle.pz_parser_cursor.proofs.NameBudgets.{word_budget, formal_budget, optional_formal_budget, optional_locals_budget}
+use Rattle.pz_parser_cursor.proofs.Sections.{section_budget, ports_budget}
+use Rattle.pz_parser_statements.specs.devices.Statements.{stmts}
+use Rattle.pz_parser_statements.proofs.Budgets.{stmts_budget}
+use Rattle.pz_parser_declarations.specs.devices.Sections.{parent_section, messages_section, variables_section, start_section}
+use Rattle.pz_parser_declarations.specs.devices.DataClasses as classes
+use Rattle.pz_parser_declarations.proofs.Budgets.{parent_section_budget, messages_section_budget, variables_section_budget, start_section_budget, data_class_budget}
+use Rattle.pz_parser_declarations.specs.devices.Clusters as clusters
+use Rattle.pz_parser_declarations.proofs.Budgets.{cluster_class_budget, system_budget}
 use Rattle.pz_parser.specs.devices.Processes as processes
 use Rattle.pz_parser.specs.devices.Models as spec
 

@@ -7,13 +7,13 @@ use Rattle.pz_syntax.specs.ModelText.{decl_text}
 use Rattle.pz_syntax.specs.ExpressionErasure.{erase_id}
 use Rattle.pz_syntax.specs.StatementErasure.{erase_sequence}
 use Rattle.pz_syntax.specs.ModelErasure.{erase_group, erase_message, erase_start, erase_process_method, erase_process_class, erase_decl, erase}
-use Rattle.pz_cursor.specs.Places.{place_id, place_optional, place_section, place_names, place_variables, place_enclosed}
-use Rattle.pz_cursor.proofs.Erasing.{Erased, erased_each, erased_optional, erased_section, erased_names, erased_enclosed}
-use Rattle.pz_statements.specs.StatementPlaces.{place_all}
-use Rattle.pz_statements.proofs.Erasing.{erase_place_sequence}
-use Rattle.pz_declarations.specs.DeclarationPlaces.{place_messages, place_start}
-use Rattle.pz_declarations.proofs.Erasing.{erased_parent_section, erased_messages_section, erased_variables_section, erased_start_section, erased_data_class}
-use Rattle.pz_clusters.proofs.Erasing.{erased_cluster_class, erased_system}
+use Rattle.pz_parser_cursor.specs.Places.{place_id, place_optional, place_section, place_names, place_variables, place_enclosed}
+use Rattle.pz_parser_cursor.proofs.Erasing.{Erased, erased_each, erased_optional, erased_section, erased_names, erased_enclosed}
+use Rattle.pz_parser_statements.specs.StatementPlaces.{place_all}
+use Rattle.pz_parser_statements.proofs.Erasing.{erase_place_sequence}
+use Rattle.pz_parser_declarations.specs.DeclarationPlaces.{place_messages, place_start}
+use Rattle.pz_parser_declarations.proofs.Erasing.{erased_parent_section, erased_messages_section, erased_variables_section, erased_start_section, erased_data_class}
+use Rattle.pz_parser_declarations.proofs.Erasing.{erased_cluster_class, erased_system}
 use Rattle.pz_parser.specs.ProcessPlaces.{outputs_at, locals_at, body_at, place_process_method, place_process_methods, parent_at, ports_at, messages_at, variables_at, start_at, methods_at, place_process_class}
 use Rattle.pz_parser.specs.ModelPlaces.{place_decl, place_model}
 

@@ -6,22 +6,22 @@ use Rattle.pz_syntax.specs.Classes.{DeclTree, data_class, process_class, cluster
 use Rattle.pz_syntax.specs.ModelText.{decl_text, text}
 use Rattle.pz_syntax.specs.ModelForm.{Each, IsNonempty, IsDecl, IsModel}
 use Rattle.pz_syntax.specs.ModelNesting.{decl_nesting, greatest, nesting}
-use Rattle.pz_cursor.specs.declared.ahead.Next.{Next}
-use Rattle.pz_cursor.specs.declared.ahead.Next.TheVariants as n
-use Rattle.pz_cursor.specs.devices.LookAhead.{next}
-use Rattle.pz_cursor.specs.devices.Input.{Tokens, marks}
-use Rattle.pz_cursor.specs.devices.Lists.{each_of, with_front}
-use Rattle.pz_cursor.specs.Places.{located, positions, place_each}
-use Rattle.pz_cursor.proofs.Steps.{bind_ok}
-use Rattle.pz_cursor.proofs.Reading.{Took, Sound, Complete, ok_took, split_located, whole_given}
-use Rattle.pz_cursor.proofs.Joined.{Filled, with_front_ok}
-use Rattle.pz_cursor.proofs.Each.{each_sound, each_complete}
-use Rattle.pz_cursor.proofs.Orders.{Ends}
-use Rattle.pz_declarations.specs.devices.DataClasses as classes
-use Rattle.pz_declarations.proofs.DataClasses.{data_class_sound, data_class_complete}
-use Rattle.pz_clusters.specs.devices.Clusters as clusters
-use Rattle.pz_clusters.proofs.Readings.{cluster_class_sound, system_sound}
-use Rattle.pz_clusters.proofs.Completeness.{cluster_class_complete, system_complete}
+use Rattle.pz_parser_cursor.specs.declared.ahead.Next.{Next}
+use Rattle.pz_parser_cursor.specs.declared.ahead.Next.TheVariants as n
+use Rattle.pz_parser_cursor.specs.devices.LookAhead.{next}
+use Rattle.pz_parser_cursor.specs.devices.Input.{Tokens, marks}
+use Rattle.pz_parser_cursor.specs.devices.Lists.{each_of, with_front}
+use Rattle.pz_parser_cursor.specs.Places.{located, positions, place_each}
+use Rattle.pz_parser_cursor.proofs.Steps.{bind_ok}
+use Rattle.pz_parser_cursor.proofs.Reading.{Took, Sound, Complete, ok_took, split_located, whole_given}
+use Rattle.pz_parser_cursor.proofs.Joined.{Filled, with_front_ok}
+use Rattle.pz_parser_cursor.proofs.Each.{each_sound, each_complete}
+use Rattle.pz_parser_cursor.proofs.Orders.{Ends}
+use Rattle.pz_parser_declarations.specs.devices.DataClasses as classes
+use Rattle.pz_parser_declarations.proofs.DataClasses.{data_class_sound, data_class_complete}
+use Rattle.pz_parser_declarations.specs.devices.Clusters as clusters
+use Rattle.pz_parser_declarations.proofs.Readings.{cluster_class_sound, system_sound}
+use Rattle.pz_parser_declarations.proofs.Completeness.{cluster_class_complete, system_complete}
 use Rattle.pz_parser.specs.devices.Processes as processes
 use Rattle.pz_parser.specs.devices.Models as spec
 use Rattle.pz_parser.specs.ModelPlaces.{place_decl, place_model}

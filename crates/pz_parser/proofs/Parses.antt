@@ -12,13 +12,13 @@ use Rattle.pz_syntax.specs.ModelForm.{IsModel}
 use Rattle.pz_syntax.specs.ModelNesting.{nesting}
 use Rattle.pz_syntax.specs.ModelErasure.{erase}
 use Rattle.pz_syntax.specs.ExpressionErasure.{origin}
-use Rattle.pz_cursor.specs.declared.refusal.Refusal.{Refusal}
-use Rattle.pz_cursor.specs.declared.refusal.Refusal.TheVariants as refusal
-use Rattle.pz_cursor.specs.devices.Input.{Tokens, marks}
-use Rattle.pz_cursor.specs.devices.Device.{Outcome, Reads}
-use Rattle.pz_cursor.specs.Openers.{openers}
-use Rattle.pz_cursor.specs.Places.{located, positions}
-use Rattle.pz_cursor.proofs.Reading.{done, marks_located}
+use Rattle.pz_parser_cursor.specs.declared.refusal.Refusal.{Refusal}
+use Rattle.pz_parser_cursor.specs.declared.refusal.Refusal.TheVariants as refusal
+use Rattle.pz_parser_cursor.specs.devices.Input.{Tokens, marks}
+use Rattle.pz_parser_cursor.specs.devices.Device.{Outcome, Reads}
+use Rattle.pz_parser_cursor.specs.Openers.{openers}
+use Rattle.pz_parser_cursor.specs.Places.{located, positions}
+use Rattle.pz_parser_cursor.proofs.Reading.{done, marks_located}
 use Rattle.pz_parser.specs.declared.error.ParseError.{ParseError}
 use Rattle.pz_parser.specs.declared.error.ParseError.TheVariants.{NoMemory, Syntax, TooNested}
 use Rattle.pz_parser.specs.devices.Models as spec

@@ -10,21 +10,21 @@ use Rattle.pz_syntax.specs.Classes.{StartTree, ProcessMethodTree, ProcessClassTr
 use Rattle.pz_syntax.specs.ClassText.{formal_text, variables_text, messages_text, start_text, process_method_text, process_class_text}
 use Rattle.pz_syntax.specs.ModelForm.{Each, IfWritten, IsStart, IsProcessMethod, IsProcessClass}
 use Rattle.pz_syntax.specs.ModelNesting.{greatest, optional_nesting, start_nesting, process_method_nesting, process_class_nesting}
-use Rattle.pz_cursor.specs.declared.ahead.Next.TheVariants as n
-use Rattle.pz_cursor.specs.devices.LookAhead.{next, same}
-use Rattle.pz_cursor.specs.devices.Input.{Tokens, marks, after, identifier, name, position, sees}
-use Rattle.pz_cursor.specs.devices.Device.{expect, expect_id}
-use Rattle.pz_cursor.specs.devices.Names as names
-use Rattle.pz_cursor.specs.Places.{located, place_section}
-use Rattle.pz_cursor.proofs.Steps.{bind_ok, expected}
-use Rattle.pz_cursor.proofs.Reading.{Sound, Complete, ok_took, split_located}
-use Rattle.pz_cursor.proofs.Joined.{token}
-use Rattle.pz_cursor.proofs.Named.{Any, if_written, word_sound, optional_formal_sound, optional_formal_complete}
-use Rattle.pz_cursor.proofs.Orders.{Behind, Ends, behind_not, section_behind}
-use Rattle.pz_cursor.proofs.Sections.{section_sound, section_complete, ports_sound}
-use Rattle.pz_declarations.specs.devices.Sections.{parent_section, messages_section, variables_section, start_section}
-use Rattle.pz_declarations.proofs.SectionRules.{parent_section_sound, parent_section_complete, ports_section_complete, variables_section_sound, variables_section_complete, start_section_sound, start_section_complete}
-use Rattle.pz_declarations.proofs.MessageRules.{messages_section_sound, messages_section_complete}
+use Rattle.pz_parser_cursor.specs.declared.ahead.Next.TheVariants as n
+use Rattle.pz_parser_cursor.specs.devices.LookAhead.{next, same}
+use Rattle.pz_parser_cursor.specs.devices.Input.{Tokens, marks, after, identifier, name, position, sees}
+use Rattle.pz_parser_cursor.specs.devices.Device.{expect, expect_id}
+use Rattle.pz_parser_cursor.specs.devices.Names as names
+use Rattle.pz_parser_cursor.specs.Places.{located, place_section}
+use Rattle.pz_parser_cursor.proofs.Steps.{bind_ok, expected}
+use Rattle.pz_parser_cursor.proofs.Reading.{Sound, Complete, ok_took, split_located}
+use Rattle.pz_parser_cursor.proofs.Joined.{token}
+use Rattle.pz_parser_cursor.proofs.Named.{Any, if_written, word_sound, optional_formal_sound, optional_formal_complete}
+use Rattle.pz_parser_cursor.proofs.Orders.{Behind, Ends, behind_not, section_behind}
+use Rattle.pz_parser_cursor.proofs.Sections.{section_sound, section_complete, ports_sound}
+use Rattle.pz_parser_declarations.specs.devices.Sections.{parent_section, messages_section, variables_section, start_section}
+use Rattle.pz_parser_declarations.proofs.SectionRules.{parent_section_sound, parent_section_complete, ports_section_complete, variables_section_sound, variables_section_complete, start_section_sound, start_section_complete}
+use Rattle.pz_parser_declarations.proofs.MessageRules.{messages_section_sound, messages_section_complete}
 use Rattle.pz_parser.specs.devices.Processes as spec
 use Rattle.pz_parser.specs.ProcessPlaces.{parent_at, ports_at, messages_at, variables_at, start_at, methods_at, place_process_methods, place_process_class}
 use Rattle.pz_parser.proofs.Nested.{Within, of_written, to_written, of_optional, to_optional}

@@ -8,23 +8,23 @@ use Rattle.pz_syntax.specs.StatementText.{texts}
 use Rattle.pz_syntax.specs.ClassText.{formal_text, locals_text, process_method_text}
 use Rattle.pz_syntax.specs.ModelForm.{Each, IsProcessMethod}
 use Rattle.pz_syntax.specs.ModelNesting.{process_method_nesting}
-use Rattle.pz_cursor.specs.declared.ahead.Next.{Next}
-use Rattle.pz_cursor.specs.declared.ahead.Next.TheVariants as n
-use Rattle.pz_cursor.specs.devices.LookAhead.{next, same}
-use Rattle.pz_cursor.specs.devices.Input.{Tokens, marks, after, identifier, name, position, sees}
-use Rattle.pz_cursor.specs.devices.Names as names
-use Rattle.pz_cursor.specs.Places.{located}
-use Rattle.pz_cursor.proofs.Steps.{bind_ok, sees_is, not_seen}
-use Rattle.pz_cursor.proofs.Words.{head_is}
-use Rattle.pz_cursor.proofs.Reading.{Took, Sound, Complete, ok_took, split_located}
-use Rattle.pz_cursor.proofs.Each.{each_sound, each_complete}
-use Rattle.pz_cursor.proofs.Named.{formal_sound, formal_complete, optional_locals_sound, optional_locals_complete}
-use Rattle.pz_cursor.proofs.Orders.{Behind, Ends, behind_not}
-use Rattle.pz_statements.specs.devices.Statements.{stmts}
-use Rattle.pz_statements.proofs.Ends.{EndsBody, ends_body}
-use Rattle.pz_statements.proofs.Beginnings.{stmts_begin}
-use Rattle.pz_statements.proofs.Readings.{stmts_sound}
-use Rattle.pz_statements.proofs.Completeness.{stmts_complete}
+use Rattle.pz_parser_cursor.specs.declared.ahead.Next.{Next}
+use Rattle.pz_parser_cursor.specs.declared.ahead.Next.TheVariants as n
+use Rattle.pz_parser_cursor.specs.devices.LookAhead.{next, same}
+use Rattle.pz_parser_cursor.specs.devices.Input.{Tokens, marks, after, identifier, name, position, sees}
+use Rattle.pz_parser_cursor.specs.devices.Names as names
+use Rattle.pz_parser_cursor.specs.Places.{located}
+use Rattle.pz_parser_cursor.proofs.Steps.{bind_ok, sees_is, not_seen}
+use Rattle.pz_parser_cursor.proofs.Words.{head_is}
+use Rattle.pz_parser_cursor.proofs.Reading.{Took, Sound, Complete, ok_took, split_located}
+use Rattle.pz_parser_cursor.proofs.Each.{each_sound, each_complete}
+use Rattle.pz_parser_cursor.proofs.Named.{formal_sound, formal_complete, optional_locals_sound, optional_locals_complete}
+use Rattle.pz_parser_cursor.proofs.Orders.{Behind, Ends, behind_not}
+use Rattle.pz_parser_statements.specs.devices.Statements.{stmts}
+use Rattle.pz_parser_statements.proofs.Ends.{EndsBody, ends_body}
+use Rattle.pz_parser_statements.proofs.Beginnings.{stmts_begin}
+use Rattle.pz_parser_statements.proofs.Readings.{stmts_sound}
+use Rattle.pz_parser_statements.proofs.Completeness.{stmts_complete}
 use Rattle.pz_parser.specs.devices.Processes as spec
 use Rattle.pz_parser.specs.ProcessPlaces.{outputs_at, locals_at, body_at, place_process_method, place_process_methods}
 use Rattle.pz_parser.proofs.Nested.{Within}

@@ -1,9 +1,9 @@
 -- Models with the positions of the tokens of their texts.
 use Rattle.pz_syntax.specs.Classes.{DeclTree, data_class, process_class, cluster_class, system, ModelTree}
 use Rattle.pz_syntax.specs.ModelText.{decl_text}
-use Rattle.pz_cursor.specs.Places.{Placing, place_each}
-use Rattle.pz_declarations.specs.DeclarationPlaces.{place_data_class}
-use Rattle.pz_clusters.specs.ClusterPlaces.{place_cluster_class, place_system}
+use Rattle.pz_parser_cursor.specs.Places.{Placing, place_each}
+use Rattle.pz_parser_declarations.specs.DeclarationPlaces.{place_data_class}
+use Rattle.pz_parser_declarations.specs.ClusterPlaces.{place_cluster_class, place_system}
 use Rattle.pz_parser.specs.ProcessPlaces.{place_process_class}
 
 abbrev pub place_decl : Placing DeclTree

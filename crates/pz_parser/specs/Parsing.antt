@@ -8,11 +8,11 @@ use Rattle.pz_syntax.specs.ClassView.{model_view}
 use Rattle.pz_syntax.specs.ModelText.{text}
 use Rattle.pz_syntax.specs.ModelForm.{IsModel}
 use Rattle.pz_syntax.specs.ModelNesting.{nesting}
-use Rattle.pz_cursor.specs.devices.Input.{marks}
-use Rattle.pz_cursor.specs.Places.{positions}
-use Rattle.pz_cursor.specs.Openers.{openers}
-use Rattle.pz_cursor.specs.declared.refusal.Refusal.{Refusal}
-use Rattle.pz_cursor.specs.declared.refusal.Refusal.TheVariants as refusal
+use Rattle.pz_parser_cursor.specs.devices.Input.{marks}
+use Rattle.pz_parser_cursor.specs.Places.{positions}
+use Rattle.pz_parser_cursor.specs.Openers.{openers}
+use Rattle.pz_parser_cursor.specs.declared.refusal.Refusal.{Refusal}
+use Rattle.pz_parser_cursor.specs.declared.refusal.Refusal.TheVariants as refusal
 use Rattle.pz_parser.specs.declared.error.ParseError.{ParseError}
 use Rattle.pz_parser.specs.declared.error.ParseError.TheVariants.{NoMemory, Syntax, TooNested}
 use Rattle.pz_parser.specs.ModelPlaces.{place_model}

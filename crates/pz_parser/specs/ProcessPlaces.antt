@@ -5,9 +5,9 @@ use Rattle.pz_syntax.specs.declared.tokens.Keyword.TheVariants as k
 use Rattle.pz_syntax.specs.Marks.{optional, section, word_text, names_text}
 use Rattle.pz_syntax.specs.Classes.{ProcessMethodTree, ProcessClassTree}
 use Rattle.pz_syntax.specs.ClassText.{formal_text, locals_text, variables_text, messages_text, start_text, process_method_text}
-use Rattle.pz_cursor.specs.Places.{Placing, place_id, place_names, place_variables, place_enclosed, place_each, place_optional, place_section}
-use Rattle.pz_statements.specs.StatementPlaces.{place_all}
-use Rattle.pz_declarations.specs.DeclarationPlaces.{place_messages, place_start}
+use Rattle.pz_parser_cursor.specs.Places.{Placing, place_id, place_names, place_variables, place_enclosed, place_each, place_optional, place_section}
+use Rattle.pz_parser_statements.specs.StatementPlaces.{place_all}
+use Rattle.pz_parser_declarations.specs.DeclarationPlaces.{place_messages, place_start}
 
 -- the parts of a method, from the number of its name
 module _ (n : ℕ) (m : ProcessMethodTree) where

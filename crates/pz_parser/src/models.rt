@@ -2,13 +2,12 @@
 
 ghost use Rattle.std.specs.Prelude.{◌≡◌, ◌<◌, ◌-◌, ◌^◌, map};
 ghost use Rattle.pz_syntax.specs.ClassView.{decl_view, model_view};
-ghost use Rattle.pz_cursor.specs.devices.Device.{Reads};
+ghost use Rattle.pz_parser_cursor.specs.devices.Device.{Reads};
 ghost use Rattle.pz_parser.specs.devices.Models as spec;
 
 use crate::processes::process_class;
-use pz_clusters::{cluster_class, system};
-use pz_cursor::{Cursor, Next, Refusal};
-use pz_declarations::data_class;
+use pz_parser_declarations::{cluster_class, data_class, system};
+use pz_parser_cursor::{Cursor, Next, Refusal};
 use pz_items::Items;
 use pz_syntax::{Decl, Model};
 use std::alloc::Global;
@@ -46,7 +45,7 @@ fn decls(alloc: Global, cursor: &mut Cursor<'_>, depth: usize) -> Result<Items<D
     more_decls(alloc, cursor, depth, found)
 }
 
-#[tactic(auto, unfolding(crate::specs::devices::Models::more_decls, pz_cursor::specs::devices::Lists::each_of, pz_cursor::specs::devices::Lists::repeat))]
+#[tactic(auto, unfolding(crate::specs::devices::Models::more_decls, pz_parser_cursor::specs::devices::Lists::each_of, pz_parser_cursor::specs::devices::Lists::repeat))]
 fn more_decls(
     alloc: Global,
     cursor: &mut Cursor<'_>,

@@ -8,7 +8,7 @@ ghost use Rattle.pz_parser.specs.Parsing as spec;
 
 use crate::ParseError;
 use crate::models::model;
-use pz_cursor::{Cursor, Refusal};
+use pz_parser_cursor::{Cursor, Refusal};
 use pz_syntax::{Model, Pos, Token};
 use std::alloc::Global;
 

@@ -2,14 +2,14 @@
 
 ghost use Rattle.std.specs.Prelude.{◌≡◌, ◌<◌, ◌-◌, ◌^◌, map, option_map};
 ghost use Rattle.pz_syntax.specs.ClassView.{process_method_view, process_class_view};
-ghost use Rattle.pz_cursor.specs.devices.Device.{Reads, behind};
-ghost use Rattle.pz_cursor.specs.declared.ahead.Next.TheVariants as n;
+ghost use Rattle.pz_parser_cursor.specs.devices.Device.{Reads, behind};
+ghost use Rattle.pz_parser_cursor.specs.declared.ahead.Next.TheVariants as n;
 ghost use Rattle.pz_parser.specs.devices.Processes as spec;
 
-use pz_cursor::{Cursor, Next, Refusal, formal, optional_formal, optional_locals, ports_section};
-use pz_declarations::{messages_section, parent_section, start_section, variables_section};
+use pz_parser_cursor::{Cursor, Next, Refusal, formal, optional_formal, optional_locals, ports_section};
+use pz_parser_declarations::{messages_section, parent_section, start_section, variables_section};
 use pz_items::Items;
-use pz_statements::stmts;
+use pz_parser_statements::stmts;
 use pz_syntax::{ProcessClass, ProcessMethod};
 use std::alloc::Global;
 
@@ -75,7 +75,7 @@ fn methods_behind(
 }
 
 /// Methods, as long as a head stands next.
-#[tactic(auto, unfolding(crate::specs::devices::Processes::process_methods, pz_cursor::specs::devices::Lists::each_of, pz_cursor::specs::devices::Lists::repeat))]
+#[tactic(auto, unfolding(crate::specs::devices::Processes::process_methods, pz_parser_cursor::specs::devices::Lists::each_of, pz_parser_cursor::specs::devices::Lists::repeat))]
 fn process_methods(
     alloc: Global,
     cursor: &mut Cursor<'_>,

@@ -4,11 +4,11 @@ use Rattle.pz_syntax.specs.declared.tokens.Pos.{Pos}
 use Rattle.pz_syntax.specs.Expressions.{Part, left_out, written}
 use Rattle.pz_value.specs.declared.value.ClassId.{ClassId}
 use Rattle.pz_value.specs.declared.value.Value.{Value}
-use Rattle.pz_code.specs.declared.slot.Slot.{Slot}
+use Rattle.pz_classes_code.specs.declared.slot.Slot.{Slot}
 use Rattle.pz_state.specs.States.{StateView}
 use Rattle.pz_offer.specs.declared.trouble.Trouble.{Trouble}
-use Rattle.pz_evaluation.specs.devices.Outcomes.{outcome_of, listed_of}
-use Rattle.pz_evaluation.proofs.Exact as exact
+use Rattle.pz_eval_rules.specs.devices.Outcomes.{outcome_of, listed_of}
+use Rattle.pz_eval_rules.proofs.Exact as exact
 use Rattle.pz_rules.specs.Terms.{Code, Codes}
 use Rattle.pz_rules.specs.Settings.{At}
 use Rattle.pz_rules.specs.Meanings.{and_then, truth, duration}

@@ -6,7 +6,7 @@ use Rattle.std.specs.Prelude.{slice_get, slice_set, if◌then◌else◌, nat_le}
 use Rattle.pz_syntax.specs.declared.tokens.Pos.{Pos}
 use Rattle.pz_syntax.specs.Classes.{ModelTree}
 use Rattle.pz_classes.specs.SoundBodies.{BodiesFit}
-use Rattle.pz_levels.specs.Places.{Place as Standing}
+use Rattle.pz_bind_levels.specs.Places.{Place as Standing}
 use Rattle.pz_bind.specs.Nest.{processes, class_at}
 use Rattle.pz_offer.specs.declared.end.End.{End}
 use Rattle.pz_offer.specs.PlaceOrder.{Place}

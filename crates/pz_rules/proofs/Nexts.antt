@@ -1,7 +1,7 @@
 -- An action leaves one configuration or one trouble.
 use Rattle.std.proofs.Common.{◌≡◌, ℕ, Result, Ok, sym, subst, ap, ◌∙◌}
 use Rattle.pz_syntax.specs.declared.tokens.Pos.{Pos}
-use Rattle.pz_levels.specs.Places.{Place}
+use Rattle.pz_bind_levels.specs.Places.{Place}
 use Rattle.pz_bind.specs.Nest.{class_at}
 use Rattle.pz_offer.specs.declared.end.End.{End}
 use Rattle.pz_offer.specs.declared.trouble.Trouble.{Trouble}

@@ -2,8 +2,8 @@
 use Rattle.std.proofs.Common.{◌≡◌, ℕ, ◌<◌, ◌+◌, true, false, List, [], ◌∷◌, ◌++◌, take, length, get_or, refl, sym, ap, ◌∙◌}
 use Rattle.std.specs.Prelude.{◌==◌}
 use Rattle.std.proofs.lemmas.List.{take_more}
-use Rattle.pz_code.specs.declared.step.Step.{Step}
-use Rattle.pz_code.specs.StepView as step
+use Rattle.pz_classes_code.specs.declared.step.Step.{Step}
+use Rattle.pz_classes_code.specs.StepView as step
 use Rattle.pz_rules.specs.declared.term.Term.{Term, fold-roll-Term}
 use Rattle.pz_rules.specs.declared.term.Term.TheOpen.{Term-F}
 use Rattle.pz_rules.specs.declared.term.Term.TheVariants.{Seq, rolls-Seq}

@@ -9,7 +9,7 @@ use Rattle.pz_syntax.specs.Statements.{skip, delay, no_statements, then}
 use Rattle.pz_syntax.specs.Classes.{ModelTree}
 use Rattle.pz_value.specs.declared.value.Value.{Value}
 use Rattle.pz_value.specs.declared.value.Value.TheVariants as value
-use Rattle.pz_code.specs.declared.slot.Slot.TheVariants.{Shared}
+use Rattle.pz_classes_code.specs.declared.slot.Slot.TheVariants.{Shared}
 use Rattle.pz_state.specs.States.{StateView}
 use Rattle.pz_prims.specs.Rows.{answered}
 use Rattle.pz_prims.specs.EveryValue.{every_value}
@@ -17,7 +17,7 @@ use Rattle.pz_prims.specs.Integers.{integers}
 use Rattle.pz_prims.specs.Booleans.{booleans}
 use Rattle.pz_prims.specs.Table.{outcome}
 use Rattle.pz_copy.specs.Parcels.{ParcelView}
-use Rattle.pz_evaluation.specs.devices.Computed.{sequence, arguments, operators, replied, selectors, going, turns, step, evaluated}
+use Rattle.pz_eval_rules.specs.devices.Computed.{sequence, arguments, operators, replied, selectors, going, turns, step, evaluated}
 use Rattle.pz_rules.specs.declared.action.Kind.TheVariants.{Expire}
 use Rattle.pz_rules.specs.Terms as terms
 use Rattle.pz_rules.specs.Terms.{Code, Step, Term, done, leaf, wait, parallel, select, guarded, frame, abort, idle, handling, Terms, no_terms, and}

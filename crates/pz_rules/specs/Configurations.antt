@@ -1,6 +1,6 @@
 -- Where a model stands: the clock, and each process in the order of the text.
 use Rattle.std.specs.Prelude.{◌≡◌, ℕ, List, length, Some, slice_get}
-use Rattle.pz_levels.specs.Places.{Place}
+use Rattle.pz_bind_levels.specs.Places.{Place}
 use Rattle.pz_bind.specs.Nest.{processes, class_at}
 use Rattle.pz_rules.specs.Settings.{Setting, Process, At}
 

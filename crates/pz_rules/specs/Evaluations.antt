@@ -5,16 +5,16 @@ use Rattle.pz_syntax.specs.declared.tokens.Pos.{Pos}
 use Rattle.pz_syntax.specs.Expressions.{Part, left_out, written}
 use Rattle.pz_value.specs.declared.value.ClassId.{ClassId}
 use Rattle.pz_value.specs.declared.value.Value.{Value}
-use Rattle.pz_code.specs.declared.slot.Slot.{Slot}
+use Rattle.pz_classes_code.specs.declared.slot.Slot.{Slot}
 use Rattle.pz_state.specs.States.{StateView}
 use Rattle.pz_offer.specs.declared.trouble.Trouble.{Trouble}
 use Rattle.pz_offer.specs.declared.trouble.Trouble.TheVariants.{Fault, Spent}
-use Rattle.pz_evaluation.specs.declared.allowance.Allowance.{Allowance}
-use Rattle.pz_evaluation.specs.declared.outcome.Outcome.{Outcome}
-use Rattle.pz_evaluation.specs.declared.outcome.Outcome.TheVariants as outcome
-use Rattle.pz_evaluation.specs.declared.outcome.Listed.{Listed}
-use Rattle.pz_evaluation.specs.declared.outcome.Listed.TheVariants as listed
-use Rattle.pz_evaluation.specs.Outcomes.{Finds, FindsAll}
+use Rattle.pz_eval_rules.specs.declared.allowance.Allowance.{Allowance}
+use Rattle.pz_eval_rules.specs.declared.outcome.Outcome.{Outcome}
+use Rattle.pz_eval_rules.specs.declared.outcome.Outcome.TheVariants as outcome
+use Rattle.pz_eval_rules.specs.declared.outcome.Listed.{Listed}
+use Rattle.pz_eval_rules.specs.declared.outcome.Listed.TheVariants as listed
+use Rattle.pz_eval_rules.specs.Outcomes.{Finds, FindsAll}
 use Rattle.pz_rules.specs.declared.limits.Limits.{Limits}
 use Rattle.pz_rules.specs.Terms.{Code, Codes}
 use Rattle.pz_rules.specs.Settings.{At}

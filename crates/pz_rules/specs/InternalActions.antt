@@ -5,7 +5,7 @@ use Rattle.pz_syntax.specs.declared.names.Id.{Id}
 use Rattle.pz_syntax.specs.Statements.{skip, delay, block, conditional, repeated, call, value, no_statements, then, StatementPart}
 use Rattle.pz_value.specs.declared.value.ClassId.{ClassId}
 use Rattle.pz_value.specs.declared.value.Value.{Value}
-use Rattle.pz_code.specs.declared.slot.Slot.{Slot}
+use Rattle.pz_classes_code.specs.declared.slot.Slot.{Slot}
 use Rattle.pz_classes.specs.FitBodies.{how_many}
 use Rattle.pz_state.specs.States.{StateView, IsLeastFree, opened as with_frame}
 use Rattle.pz_offer.specs.declared.trouble.Trouble.{Trouble}

@@ -6,6 +6,7 @@ pub mod Slots
 pub mod Meanings
 pub mod Evaluations
 pub mod Active
+pub mod Places
 pub mod Methods
 pub mod InternalActions
 pub mod Leaving

@@ -3,7 +3,7 @@
 use Rattle.std.specs.Prelude.{ℕ}
 use Rattle.pz_syntax.specs.Statements.{bracketed, guarded, parallel, select, abort, interrupt, no_statements, then, StatementPart, not_written, otherwise, Branches, no_branches, branch}
 use Rattle.pz_value.specs.declared.value.ClassId.{ClassId}
-use Rattle.pz_code.specs.declared.slot.Slot.{Slot}
+use Rattle.pz_classes_code.specs.declared.slot.Slot.{Slot}
 use Rattle.pz_rules.specs.Terms.{Step, Steps, Term, done, leaf, sequence, Terms, no_terms, and}
 use Rattle.pz_rules.specs.Terms as terms
 

@@ -2,7 +2,7 @@
 -- given parameters and all other variables nil.
 use Rattle.std.specs.Prelude.{◌≡◌, ℕ, [], length, Some, slice_get}
 use Rattle.pz_classes.specs.Starts.{init}
-use Rattle.pz_levels.specs.Places.{Place}
+use Rattle.pz_bind_levels.specs.Places.{Place}
 use Rattle.pz_bind.specs.Nest.{processes, class_at}
 use Rattle.pz_bind.specs.Values.{values_at}
 use Rattle.pz_rules.specs.Terms.{Step, leaf}

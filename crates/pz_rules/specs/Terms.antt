@@ -4,7 +4,7 @@ use Rattle.pz_syntax.specs.declared.tokens.Pos.{Pos}
 use Rattle.pz_syntax.specs.Expressions.{Expression, Expressions}
 use Rattle.pz_syntax.specs.Statements.{Statement, Statements}
 use Rattle.pz_value.specs.declared.value.ClassId.{ClassId}
-use Rattle.pz_code.specs.declared.slot.Slot.{Slot}
+use Rattle.pz_classes_code.specs.declared.slot.Slot.{Slot}
 
 -- expressions and statements of bodies, with slots and numbers in place of names
 abbrev pub Code : Type 0

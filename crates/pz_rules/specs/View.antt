@@ -2,10 +2,10 @@
 use Rattle.std.specs.Prelude.{ℕ, List, [], ◌∷◌, map}
 use Rattle.pz_syntax.specs.Statements.{Branches}
 use Rattle.pz_value.specs.declared.value.ClassId.{ClassId}
-use Rattle.pz_code.specs.declared.slot.Slot.{Slot}
-use Rattle.pz_code.specs.declared.step.Step.{Step}
-use Rattle.pz_code.specs.CodeView as code
-use Rattle.pz_code.specs.StepView as step
+use Rattle.pz_classes_code.specs.declared.slot.Slot.{Slot}
+use Rattle.pz_classes_code.specs.declared.step.Step.{Step}
+use Rattle.pz_classes_code.specs.CodeView as code
+use Rattle.pz_classes_code.specs.StepView as step
 use Rattle.pz_rules.specs.declared.term.Term.{Term, fold-Term}
 use Rattle.pz_rules.specs.declared.term.Term.TheOpen.{Term-F}
 use Rattle.pz_rules.specs.Terms as terms

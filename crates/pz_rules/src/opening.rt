@@ -2,15 +2,15 @@
 
 ghost use Rattle.std.specs.Prelude.{◌≡◌, IfOk};
 ghost use Rattle.pz_classes.specs.CheckedView.{checked_model};
-ghost use Rattle.pz_code.specs.StepView.{view, sequence_view};
+ghost use Rattle.pz_classes_code.specs.StepView.{view, sequence_view};
 ghost use Rattle.pz_rules.specs.Opening.{opened, opened_all, opened_branches};
 ghost use Rattle.pz_rules.specs.Openable.{IsProcessClass, HasItsVariables, MayOpen};
 ghost use Rattle.pz_rules.specs.View.{term_view, terms_view, branches_view};
 
 use crate::{Limits, Rest, Term};
-use pz_bodies::{copy_code, copy_step};
+use pz_classes_copies::{copy_code, copy_step};
 use pz_classes::Checked;
-use pz_code::{Step, StepForm};
+use pz_classes_code::{Step, StepForm};
 use pz_items::{Boxed, Items};
 use pz_state::{FrameId, State};
 use pz_value::ClassId;

@@ -1,8 +1,8 @@
 ghost use Rattle.std.specs.Prelude.{◌≡◌, [], ◌∷◌, length, IfOk, MatchOption, ◌==◌, slice_get};
 ghost use Rattle.std.specs.Option.{option_copied};
 
-use pz_bodies::copy_step;
-use pz_code::Step;
+use pz_classes_copies::copy_step;
+use pz_classes_code::Step;
 use std::alloc::{AllocError, Global};
 use std::marker::Model;
 
@@ -16,8 +16,8 @@ pub struct Rest {
 impl Model for Rest {
     ghost use Rattle.std.specs.Prelude.{List, reverse};
     ghost use Rattle.std.specs.Coded.{codes};
-    ghost use Rattle.pz_code.specs.declared.step.Step.{Step};
-    ghost use Rattle.pz_code.specs.contracts.step.Step as step;
+    ghost use Rattle.pz_classes_code.specs.declared.step.Step.{Step};
+    ghost use Rattle.pz_classes_code.specs.contracts.step.Step as step;
 
     ghost Value = { List Step };
 

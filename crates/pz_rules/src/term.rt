@@ -1,5 +1,5 @@
 use crate::Rest;
-use pz_code::{Code, Slot, Step};
+use pz_classes_code::{Code, Slot, Step};
 use pz_items::{Boxed, Items};
 use pz_state::FrameId;
 use pz_syntax::Pos;

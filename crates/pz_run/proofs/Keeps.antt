@@ -2,11 +2,11 @@
 use Rattle.std.proofs.Common.{◌≡◌, ◌≢◌, ◌⊎◌, ◌<◌, ◌≤◌, ◌+◌, ◌-◌, ◌^◌, inl, inr, ⊎_elim, ℕ, List, [], ◌++◌, true, Option, Some, None, length, sym, subst, ap, ◌∙◌, refl, arith}
 use Rattle.std.proofs.Math.Nat.{min-le_left}
 use Rattle.pz_io.specs.Outside.{FilesState, SinkState, raised, Rose}
-use Rattle.pz_writing.specs.Writing.{TookFront}
+use Rattle.pz_io.specs.Writing.{TookFront}
 use Rattle.pz_offer.specs.declared.trouble.Trouble.{Trouble}
 use Rattle.pz_rules.specs.Runs.{Ending, deadlocked, troubled, refused}
 use Rattle.pz_words.specs.declared.jobs.Job.{Job}
-use Rattle.pz_report.specs.Lines.{usage_line, read_fault_line}
+use Rattle.pz_run_lines.specs.Lines.{usage_line, read_fault_line}
 use Rattle.pz_run.specs.declared.status.Status.{Status}
 use Rattle.pz_run.specs.declared.status.Status.TheVariants.{Deadlock, Usage, ModelRefused, ModelFault, ChoiceRefused, TraceRefused, TooLong, ReadFault, WriteFault, NoMemory}
 use Rattle.pz_run.specs.Files.{JobFile, files_of}

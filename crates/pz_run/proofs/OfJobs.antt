@@ -8,8 +8,8 @@ use Rattle.pz_words.specs.declared.jobs.RunLimits.{RunLimits}
 use Rattle.pz_words.specs.declared.jobs.Job.{Job}
 use Rattle.pz_words.specs.declared.jobs.Job.TheVariants.{Run, Menu, Replay, Check, Make, Ring}
 use Rattle.pz_gen.specs.Ring.{model as ring_text}
-use Rattle.pz_reading.specs.Models.{IsModelOf}
-use Rattle.pz_report.specs.Lines.{read_fault_line, too_long_line}
+use Rattle.pz_run_reading.specs.Models.{IsModelOf}
+use Rattle.pz_run_lines.specs.Lines.{read_fault_line, too_long_line}
 use Rattle.pz_run.specs.declared.limits.TheConstants.{MODEL_LIMIT}
 use Rattle.pz_run.specs.declared.play.Play.{Play}
 use Rattle.pz_run.specs.declared.play.Telling.TheVariants as telling

@@ -3,14 +3,14 @@ use Rattle.std.proofs.Common.{◌≡◌, inl, inr, ℕ, List, subst}
 use Rattle.pz_io.specs.Outside.{SinkState}
 use Rattle.pz_syntax.specs.Classes.{ModelTree}
 use Rattle.pz_rules.specs.Laws.{OneChosenRun, StartFits}
-use Rattle.pz_reading.specs.declared.refusal.Refusal.{Refusal}
-use Rattle.pz_reading.specs.declared.read_error.ReadModelError.{ReadModelError}
-use Rattle.pz_reading.specs.declared.read_error.ReadModelError.TheVariants.{NoMemory, Refused}
-use Rattle.pz_reading.specs.Models.{IsModelOf}
-use Rattle.pz_reading.specs.Refusals.{IsRefused}
-use Rattle.pz_reading.specs.Sizes.{IsAccepted}
-use Rattle.pz_reading.specs.Answers.{OnRefused}
-use Rattle.pz_report.specs.Lines.{accepted_line, model_refused_line}
+use Rattle.pz_run_reading.specs.declared.refusal.Refusal.{Refusal}
+use Rattle.pz_run_reading.specs.declared.read_error.ReadModelError.{ReadModelError}
+use Rattle.pz_run_reading.specs.declared.read_error.ReadModelError.TheVariants.{NoMemory, Refused}
+use Rattle.pz_run_reading.specs.Models.{IsModelOf}
+use Rattle.pz_run_reading.specs.Refusals.{IsRefused}
+use Rattle.pz_run_reading.specs.Sizes.{IsAccepted}
+use Rattle.pz_run_reading.specs.Answers.{OnRefused}
+use Rattle.pz_run_lines.specs.Lines.{accepted_line, model_refused_line}
 use Rattle.pz_run.specs.declared.play.Play.{Play}
 use Rattle.pz_run.specs.declared.status.Status.{Status}
 use Rattle.pz_run.specs.declared.status.Status.TheVariants.{Done, ModelRefused}

@@ -4,7 +4,7 @@ use Rattle.std.specs.Prelude.{slice_get}
 use Rattle.std.proofs.lemmas.Option.{slice_get_within}
 use Rattle.pz_syntax.specs.Classes.{ModelTree}
 use Rattle.pz_classes.specs.Soundness.{IsSound}
-use Rattle.pz_levels.specs.Places.{Place}
+use Rattle.pz_bind_levels.specs.Places.{Place}
 use Rattle.pz_bind.specs.Nest.{processes}
 use Rattle.pz_bind.specs.Values.{values_at}
 use Rattle.pz_rules.specs.Terms.{Step, leaf}
@@ -13,7 +13,7 @@ use Rattle.pz_rules.specs.Configurations.{Config}
 use Rattle.pz_rules.specs.Starting.{StartsAs, IsStart}
 use Rattle.pz_rules.specs.ChosenRuns.{Policy, IsChosenRun}
 use Rattle.pz_rules.specs.Laws.{OneChosenRun, StartFits}
-use Rattle.pz_playing.specs.Playing.{ChosenRun}
+use Rattle.pz_run_playing.specs.Playing.{ChosenRun}
 use Rattle.pz_run.specs.declared.play.Play.{Play}
 use Rattle.pz_run.specs.declared.status.Status.{Status}
 use Rattle.pz_run.specs.Plays.{setting_for, policy_for, RunOf}

@@ -9,8 +9,8 @@ use Rattle.pz_trace.specs.TraceText.{run_ending}
 use Rattle.pz_words.specs.declared.jobs.Job.{Job}
 use Rattle.pz_words.specs.declared.jobs.Job.TheVariants.{Run, Menu, Replay, Check, Make, Ring}
 use Rattle.pz_gen.specs.Ring.{model as ring_text}
-use Rattle.pz_reading.specs.declared.refusal.Refusal.{Refusal}
-use Rattle.pz_reading.specs.Refusals.{IsRefused}
+use Rattle.pz_run_reading.specs.declared.refusal.Refusal.{Refusal}
+use Rattle.pz_run_reading.specs.Refusals.{IsRefused}
 use Rattle.pz_run.specs.declared.limits.TheConstants.{MODEL_LIMIT}
 use Rattle.pz_run.specs.declared.play.Play.{Play}
 use Rattle.pz_run.specs.declared.status.Status.{Status}

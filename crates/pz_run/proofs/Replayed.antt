@@ -2,7 +2,7 @@
 use Rattle.std.proofs.Common.{◌≡◌, ◌≢◌, ◌⊎◌, inl, inr, ⊎_elim, ◌∙◌, ◌<◌, ◌≤◌, ℕ, List, [], ◌∷◌, true, Option, Some, None, Result, Ok, Err, length, refl, sym, subst, ap, arith}
 use Rattle.std.specs.Prelude.{Contains}
 use Rattle.pz_io.specs.Outside.{Entries, FilesState, SinkState, lookup, raised, Rose, Exceeds}
-use Rattle.pz_writing.specs.declared.writing.Halt.{Halt}
+use Rattle.pz_io.specs.declared.writing.Halt.{Halt}
 use Rattle.pz_syntax.specs.Classes.{ModelTree}
 use Rattle.pz_rules.specs.Settings.{Setting}
 use Rattle.pz_rules.specs.Runs.{Ending}
@@ -10,18 +10,18 @@ use Rattle.pz_trace.specs.TraceText.{run_ending, IsTrace}
 use Rattle.pz_trace.specs.declared.ending.Ending as trace
 use Rattle.pz_trace.specs.declared.ending.Ending.TheVariants as ending
 use Rattle.pz_term.specs.Simulations.{Simulation}
-use Rattle.pz_replaying.specs.declared.replayed.Replayed.{Replayed}
-use Rattle.pz_replaying.specs.declared.replayed.Replayed.TheVariants as replayed
-use Rattle.pz_replaying.specs.Replays.{Replays, accepts, refuses, TellsLines, IsReplayed}
+use Rattle.pz_run_replaying.specs.declared.replayed.Replayed.{Replayed}
+use Rattle.pz_run_replaying.specs.declared.replayed.Replayed.TheVariants as replayed
+use Rattle.pz_run_replaying.specs.Replays.{Replays, accepts, refuses, TellsLines, IsReplayed}
 use Rattle.pz_words.specs.declared.jobs.Job.{Job}
 use Rattle.pz_words.specs.declared.jobs.Job.TheVariants.{Replay}
-use Rattle.pz_reading.specs.Models.{IsModelOf}
-use Rattle.pz_reading.specs.Refusals.{IsRefused}
-use Rattle.pz_reading.specs.Answers.{OnRefused}
-use Rattle.pz_reading.specs.declared.read_error.ReadModelError.{ReadModelError}
-use Rattle.pz_reading.specs.declared.read_error.ReadModelError.TheVariants.{NoMemory, Refused}
-use Rattle.pz_reading.specs.declared.refusal.Refusal.{Refusal}
-use Rattle.pz_report.specs.Lines.{read_fault_line, too_long_line, model_refused_line}
+use Rattle.pz_run_reading.specs.Models.{IsModelOf}
+use Rattle.pz_run_reading.specs.Refusals.{IsRefused}
+use Rattle.pz_run_reading.specs.Answers.{OnRefused}
+use Rattle.pz_run_reading.specs.declared.read_error.ReadModelError.{ReadModelError}
+use Rattle.pz_run_reading.specs.declared.read_error.ReadModelError.TheVariants.{NoMemory, Refused}
+use Rattle.pz_run_reading.specs.declared.refusal.Refusal.{Refusal}
+use Rattle.pz_run_lines.specs.Lines.{read_fault_line, too_long_line, model_refused_line}
 use Rattle.pz_run.specs.declared.limits.TheConstants.{MODEL_LIMIT, TRACE_LIMIT}
 use Rattle.pz_run.specs.declared.status.Status.{Status}
 use Rattle.pz_run.specs.declared.status.Status.TheVariants.{ModelRefused, TraceRefused, TooLong, ReadFault, WriteFault}

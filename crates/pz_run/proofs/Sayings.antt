@@ -2,9 +2,9 @@
 use Rattle.std.proofs.Common.{◌≢◌, inl, inr, ◌∙◌, ℕ, List, [], Some, None, refl, arith}
 use Rattle.std.proofs.lemmas.List.{append-nil}
 use Rattle.pz_io.specs.Outside.{SinkState}
-use Rattle.pz_writing.specs.Writing.{Wrote}
-use Rattle.pz_writing.specs.declared.writing.Halt.{Halt}
-use Rattle.pz_writing.specs.declared.writing.Halt.TheVariants as halt
+use Rattle.pz_io.specs.Writing.{Wrote}
+use Rattle.pz_io.specs.declared.writing.Halt.{Halt}
+use Rattle.pz_io.specs.declared.writing.Halt.TheVariants as halt
 use Rattle.pz_run.specs.declared.status.Status.{Status}
 use Rattle.pz_run.specs.declared.status.Status.TheVariants.{WriteFault, NoMemory}
 use Rattle.pz_run.specs.devices.Halting.{halted_as}

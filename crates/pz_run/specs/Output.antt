@@ -6,15 +6,15 @@ use Rattle.pz_syntax.specs.Classes.{ModelTree}
 use Rattle.pz_words.specs.declared.jobs.Job.{Job}
 use Rattle.pz_words.specs.declared.jobs.Job.TheVariants.{Run, Menu, Replay, Check, Make, Ring}
 use Rattle.pz_gen.specs.Ring.{model as ring_text}
-use Rattle.pz_reading.specs.declared.refusal.Refusal.{Refusal}
-use Rattle.pz_reading.specs.Models.{IsModelOf}
-use Rattle.pz_reading.specs.Refusals.{IsRefused}
-use Rattle.pz_reading.specs.Sizes.{HasSize}
-use Rattle.pz_report.specs.Lines.{usage_line, read_fault_line, too_long_line, accepted_line, model_refused_line}
-use Rattle.pz_playing.specs.Playing.{Tells}
+use Rattle.pz_run_reading.specs.declared.refusal.Refusal.{Refusal}
+use Rattle.pz_run_reading.specs.Models.{IsModelOf}
+use Rattle.pz_run_reading.specs.Refusals.{IsRefused}
+use Rattle.pz_run_reading.specs.Sizes.{HasSize}
+use Rattle.pz_run_lines.specs.Lines.{usage_line, read_fault_line, too_long_line, accepted_line, model_refused_line}
+use Rattle.pz_run_playing.specs.Playing.{Tells}
 use Rattle.pz_term.specs.Simulations.{Simulation}
-use Rattle.pz_replaying.specs.declared.replayed.Replayed.{Replayed}
-use Rattle.pz_replaying.specs.Replays.{Replays}
+use Rattle.pz_run_replaying.specs.declared.replayed.Replayed.{Replayed}
+use Rattle.pz_run_replaying.specs.Replays.{Replays}
 use Rattle.pz_run.specs.declared.play.Play.{Play}
 use Rattle.pz_run.specs.declared.play.Telling.TheVariants as telling
 use Rattle.pz_run.specs.declared.status.Status.{Status}

@@ -7,9 +7,9 @@ use Rattle.pz_words.specs.declared.jobs.Choice.{Choice}
 use Rattle.pz_words.specs.declared.jobs.RunLimits.{RunLimits}
 use Rattle.pz_words.specs.declared.jobs.Job.{Job}
 use Rattle.pz_words.specs.declared.jobs.Job.TheVariants.{Run, Menu, Replay, Check, Make, Ring}
-use Rattle.pz_playing.specs.Policies.{resolver_of, policy_of}
-use Rattle.pz_playing.specs.Playing as playing
-use Rattle.pz_playing.specs.Playing.{ChosenRun}
+use Rattle.pz_run_playing.specs.Policies.{resolver_of, policy_of}
+use Rattle.pz_run_playing.specs.Playing as playing
+use Rattle.pz_run_playing.specs.Playing.{ChosenRun}
 use Rattle.pz_run.specs.declared.limits.TheConstants.{DEPTH_LIMIT, HEIGHT_LIMIT}
 use Rattle.pz_run.specs.declared.play.Telling.{Telling}
 use Rattle.pz_run.specs.declared.play.Telling.TheVariants as telling

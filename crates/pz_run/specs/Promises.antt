@@ -2,17 +2,17 @@
 -- words ask for is a job, or none.
 use Rattle.std.specs.Prelude.{◌≡◌, ◌≢◌, ◌⊎◌, ◌<◌, ◌≤◌, ℕ, zero, suc, List, true, length, Contains, slice_get, Option, Some, None}
 use Rattle.pz_io.specs.Outside.{Entries, FilesState, SinkState, lookup, raised, Rose, Exceeds}
-use Rattle.pz_writing.specs.Writing.{TookAll, TookFront}
+use Rattle.pz_io.specs.Writing.{TookAll, TookFront}
 use Rattle.pz_syntax.specs.Classes.{ModelTree}
 use Rattle.pz_rules.specs.Runs.{Ending}
 use Rattle.pz_words.specs.declared.jobs.Job.{Job}
 use Rattle.pz_words.specs.declared.jobs.Job.TheVariants.{Run, Menu, Replay, Check, Make, Ring}
 use Rattle.pz_trace.specs.TraceText.{run_ending, IsTrace}
 use Rattle.pz_gen.specs.Ring.{model as ring_text}
-use Rattle.pz_reading.specs.declared.refusal.Refusal.{Refusal}
-use Rattle.pz_reading.specs.Models.{IsModelOf}
-use Rattle.pz_reading.specs.Refusals.{IsRefused}
-use Rattle.pz_report.specs.Lines.{read_fault_line}
+use Rattle.pz_run_reading.specs.declared.refusal.Refusal.{Refusal}
+use Rattle.pz_run_reading.specs.Models.{IsModelOf}
+use Rattle.pz_run_reading.specs.Refusals.{IsRefused}
+use Rattle.pz_run_lines.specs.Lines.{read_fault_line}
 use Rattle.pz_run.specs.declared.limits.TheConstants.{MODEL_LIMIT, TRACE_LIMIT}
 use Rattle.pz_run.specs.declared.play.Play.{Play}
 use Rattle.pz_run.specs.declared.status.Status.{Status}

@@ -2,8 +2,8 @@
 use Rattle.std.specs.Prelude.{ℕ}
 use Rattle.pz_rules.specs.Runs.{Ending, ended, deadlocked, troubled, halted, refused}
 use Rattle.pz_trace.specs.TraceText.{run_ending}
-use Rattle.pz_replaying.specs.declared.replayed.Replayed.{Replayed}
-use Rattle.pz_replaying.specs.declared.replayed.Replayed.TheVariants as replayed
+use Rattle.pz_run_replaying.specs.declared.replayed.Replayed.{Replayed}
+use Rattle.pz_run_replaying.specs.declared.replayed.Replayed.TheVariants as replayed
 use Rattle.pz_run.specs.declared.status.Status.{Status}
 use Rattle.pz_run.specs.declared.status.Status.TheVariants.{Done, Deadlock, Usage, ModelRefused, ModelFault, ChoiceRefused, TraceRefused, TooLong, ReadFault, WriteFault, NoMemory}
 

@@ -9,7 +9,7 @@ use crate::play::Play;
 use crate::printing::say_made;
 use crate::texts::{check_text, run_text};
 use pz_io::{Files, ReadError, Sink, read_all};
-use pz_report::{read_fault_line, too_long_line};
+use pz_run_lines::{read_fault_line, too_long_line};
 use std::alloc::Global;
 
 /// Runs the model of this file.

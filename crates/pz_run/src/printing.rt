@@ -3,8 +3,7 @@ ghost use Rattle.std.specs.Prelude.{◌≡◌, ◌≢◌, List, ℕ, IfOk};
 ghost use Rattle.pz_run.specs.devices.Saying.{Said};
 
 use crate::Status;
-use pz_io::Sink;
-use pz_writing::put;
+use pz_io::{Sink, put};
 use std::alloc::AllocError;
 
 /// Writes the last bytes of a job, in one `write_all`, and gives its status.

@@ -13,7 +13,7 @@ use crate::Status;
 use crate::doing::do_job;
 use crate::printing::say;
 use pz_io::{Files, Sink};
-use pz_report::usage_line;
+use pz_run_lines::usage_line;
 use pz_words::{job_is_computed, read_words};
 use std::alloc::Global;
 

@@ -4,7 +4,7 @@ use Rattle.std.proofs.lemmas.Bool.{cases_lt}
 use Rattle.std.specs.declared.alloc.Global.{Global}
 use Rattle.std.proofs.lemmas.List.{get_or-set_same, get_or_default, get_or_past, length-set}
 use Rattle.pz_value.specs.declared.value.Value.{Value}
-use Rattle.pz_flags.specs.Flags.{is_set, IsFirstClear}
+use Rattle.pz_state_flags.specs.Flags.{is_set, IsFirstClear}
 use Rattle.pz_state.specs.States.{Frames, locals_in, locals_of, at_frame, with_frame, without_frame, IsLeastFree}
 use Rattle.pz_state.proofs.Reading.{set_read}
 use Rattle.pz_state.specs.devices.FrameTables.{Table, StoredFrames, frames_from, stored}

@@ -6,7 +6,7 @@ ghost use Rattle.pz_state.specs.States.{value_at, locals_in, locals_of, at_frame
 
 use crate::FrameId;
 use crate::values::replace;
-use pz_flags::Flags;
+use pz_state_flags::Flags;
 use pz_value::Value;
 use std::alloc::{AllocError, Global};
 use std::marker::Model;

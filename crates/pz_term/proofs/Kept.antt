@@ -18,10 +18,10 @@ use Rattle.pz_rules.specs.Moments as moments
 use Rattle.pz_rules.specs.Moments.{Says, IsMoment}
 use Rattle.pz_rules.specs.Runs.{whole, IsChoice}
 use Rattle.pz_rules.specs.Laws.{OneMoment, EveryMoment, OneListOfOffers}
-use Rattle.pz_process.specs.declared.process.Process.{Process}
-use Rattle.pz_process.specs.Standing.{config_of, AreProcesses}
-use Rattle.pz_offers.specs.declared.looking.Outlook.{Outlook}
-use Rattle.pz_offers.specs.Looking.{AreActionsAt}
+use Rattle.pz_term_processes.specs.declared.process.Process.{Process}
+use Rattle.pz_term_processes.specs.Standing.{config_of, AreProcesses}
+use Rattle.pz_term_enabled.specs.declared.looking.Outlook.{Outlook}
+use Rattle.pz_term_enabled.specs.Looking.{AreActionsAt}
 use Rattle.pz_term.specs.declared.standing.Standing.{Standing}
 use Rattle.pz_term.specs.declared.standing.Standing.TheVariants as standing
 use Rattle.pz_term.specs.Simulations as simulations

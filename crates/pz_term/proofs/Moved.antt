@@ -14,11 +14,11 @@ use Rattle.pz_rules.specs.Steps.{Next, PassesTo}
 use Rattle.pz_rules.specs.Runs.{whole, stopped}
 use Rattle.pz_rules.specs.Starting.{IsStart}
 use Rattle.pz_rules.specs.Laws.{OneMoment, OneListOfOffers}
-use Rattle.pz_process.specs.declared.process.Process.{Process}
-use Rattle.pz_process.specs.Standing.{config_of, AreProcesses}
-use Rattle.pz_offers.specs.declared.looking.Outlook.{Outlook}
-use Rattle.pz_offers.specs.Looking.{AreActionsAt}
-use Rattle.pz_stepping.specs.Stepping.{reached}
+use Rattle.pz_term_processes.specs.declared.process.Process.{Process}
+use Rattle.pz_term_processes.specs.Standing.{config_of, AreProcesses}
+use Rattle.pz_term_enabled.specs.declared.looking.Outlook.{Outlook}
+use Rattle.pz_term_enabled.specs.Looking.{AreActionsAt}
+use Rattle.pz_term_steps.specs.Stepping.{reached}
 use Rattle.pz_term.specs.declared.standing.Standing.{Standing}
 use Rattle.pz_term.specs.declared.standing.Standing.TheVariants as standing
 use Rattle.pz_term.specs.Simulations as simulations

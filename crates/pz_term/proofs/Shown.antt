@@ -5,7 +5,7 @@ use Rattle.pz_rules.specs.declared.action.Action.{Action}
 use Rattle.pz_rules.specs.Settings.{Setting}
 use Rattle.pz_rules.specs.Runs.{whole, stopped}
 use Rattle.pz_rules.specs.Laws.{OneMoment, MomentsCountOffers, OneListOfOffers}
-use Rattle.pz_process.specs.declared.process.Process.{Process}
+use Rattle.pz_term_processes.specs.declared.process.Process.{Process}
 use Rattle.pz_term.specs.declared.standing.Standing.{Standing}
 use Rattle.pz_term.specs.declared.standing.Standing.TheVariants as standing
 use Rattle.pz_term.specs.declared.plain.Plain.{Plain}

@@ -4,8 +4,8 @@ use Rattle.pz_syntax.specs.Classes.{ModelTree}
 use Rattle.pz_classes.specs.CheckedView.{checked_model}
 use Rattle.pz_rules.specs.Settings.{Setting}
 use Rattle.pz_rules.specs.Runs.{whole, stopped}
-use Rattle.pz_process.specs.declared.process.Process.{Process}
-use Rattle.pz_process.specs.Standing.{setting_of, config_of}
+use Rattle.pz_term_processes.specs.declared.process.Process.{Process}
+use Rattle.pz_term_processes.specs.Standing.{setting_of, config_of}
 use Rattle.pz_term.specs.declared.standing.Standing.{Standing}
 use Rattle.pz_term.specs.declared.standing.Standing.TheVariants as standing
 use Rattle.pz_term.specs.declared.plain.Plain.{Plain}

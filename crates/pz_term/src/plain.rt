@@ -1,7 +1,7 @@
 ghost use Rattle.std.specs.Prelude.{◌≡◌, ◌≤◌, ◌<◌, Err, IfOk, OnOk, IfErr, OnErr};
 ghost use Rattle.pz_classes.specs.CheckedView.{checked_model};
 ghost use Rattle.pz_bind.specs.NetView.{IsNet};
-ghost use Rattle.pz_process.specs.Standing.{setting_of, config_of, AreProcesses};
+ghost use Rattle.pz_term_processes.specs.Standing.{setting_of, config_of, AreProcesses};
 ghost use Rattle.pz_rules.specs.Runs.{whole};
 ghost use Rattle.pz_term.specs.devices.Holding.{Holds};
 
@@ -12,9 +12,8 @@ use crate::vector::{elapse_at, look_at, step_at};
 use pz_bind::Net;
 use pz_classes::Checked;
 use pz_offer::Trouble;
-use pz_process::Process;
+use pz_term_processes::{Process, start};
 use pz_rules::{Action, Limits, Moment, one_list_of_offers, one_moment, wires_are_known};
-use pz_starting::start;
 use std::alloc::{AllocError, Global};
 use std::mem::{self, drop};
 

@@ -1,5 +1,5 @@
 use pz_offer::Trouble;
-use pz_offers::Outlook;
+use pz_term_enabled::Outlook;
 
 /// How it is with a simulator.
 #[derive(Drop)]

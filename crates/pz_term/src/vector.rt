@@ -6,17 +6,17 @@ ghost use Rattle.pz_bind.specs.NetView.{IsNet};
 ghost use Rattle.pz_rules.specs.Offers.{Offers};
 ghost use Rattle.pz_rules.specs.Steps.{Next, PassesTo};
 ghost use Rattle.pz_rules.specs.Moments.{IsMoment};
-ghost use Rattle.pz_process.specs.Standing.{setting_of, config_of, AreProcesses};
-ghost use Rattle.pz_offers.specs.Looking.{AreActionsAt};
-ghost use Rattle.pz_stepping.specs.Stepping.{reached};
+ghost use Rattle.pz_term_processes.specs.Standing.{setting_of, config_of, AreProcesses};
+ghost use Rattle.pz_term_enabled.specs.Looking.{AreActionsAt};
+ghost use Rattle.pz_term_steps.specs.Stepping.{reached};
 
 use pz_bind::Net;
 use pz_classes::Checked;
 use pz_offer::Trouble;
-use pz_offers::{Outlook, look};
-use pz_process::Process;
+use pz_term_enabled::{Outlook, look};
+use pz_term_processes::Process;
 use pz_rules::{Action, Limits, Moment};
-use pz_stepping::{elapse, step};
+use pz_term_steps::{elapse, step};
 use std::alloc::{AllocError, Global};
 
 /// The moment of the processes, and the offers.

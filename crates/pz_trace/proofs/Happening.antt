@@ -11,20 +11,20 @@ use Rattle.pz_syntax.specs.Classes.{ModelTree}
 use Rattle.pz_value.specs.declared.value.ClassId.{ClassId}
 use Rattle.pz_value.specs.declared.value.Value.{Value}
 use Rattle.pz_value.specs.declared.value.Value.TheVariants as value
-use Rattle.pz_code.specs.declared.slot.Slot.{Slot}
+use Rattle.pz_classes_code.specs.declared.slot.Slot.{Slot}
 use Rattle.pz_state.specs.States.{StateView}
-use Rattle.pz_levels.specs.Places.{Place}
-use Rattle.pz_levels.specs.Wires.{Channel}
+use Rattle.pz_bind_levels.specs.Places.{Place}
+use Rattle.pz_bind_levels.specs.Wires.{Channel}
 use Rattle.pz_bind.specs.declared.net.Net.{Net}
 use Rattle.pz_bind.specs.Nest.{processes}
 use Rattle.pz_bind.specs.Names.{wire_name}
 use Rattle.pz_bind.specs.Wires.{wires}
 use Rattle.pz_bind.specs.NetView.{IsNet, HasProcess, IsWireOf, node_at}
 use Rattle.pz_copy.specs.Parcels.{ParcelView}
-use Rattle.pz_evaluation.specs.declared.outcome.Outcome.{Outcome}
-use Rattle.pz_evaluation.specs.declared.outcome.Outcome.TheVariants as outcome
-use Rattle.pz_evaluation.specs.declared.outcome.Listed.{Listed}
-use Rattle.pz_evaluation.specs.declared.outcome.Listed.TheVariants as listed
+use Rattle.pz_eval_rules.specs.declared.outcome.Outcome.{Outcome}
+use Rattle.pz_eval_rules.specs.declared.outcome.Outcome.TheVariants as outcome
+use Rattle.pz_eval_rules.specs.declared.outcome.Listed.{Listed}
+use Rattle.pz_eval_rules.specs.declared.outcome.Listed.TheVariants as listed
 use Rattle.pz_offer.specs.declared.end.End.{End}
 use Rattle.pz_offer.specs.declared.trouble.Trouble.{Trouble}
 use Rattle.pz_offer.specs.declared.trouble.Trouble.TheVariants.{Fault, Spent, High}

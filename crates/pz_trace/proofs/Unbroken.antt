@@ -14,8 +14,8 @@ use Rattle.pz_state.specs.declared.fault.FaultKind.{FaultKind}
 use Rattle.pz_state.specs.declared.fault.FaultKind.TheVariants as fault
 use Rattle.pz_state.specs.Objects.{ObjectView}
 use Rattle.pz_classes.specs.Tables.{class_names}
-use Rattle.pz_levels.specs.Places.{Place}
-use Rattle.pz_levels.specs.Wires.{Channel}
+use Rattle.pz_bind_levels.specs.Places.{Place}
+use Rattle.pz_bind_levels.specs.Wires.{Channel}
 use Rattle.pz_bind.specs.Nest.{processes}
 use Rattle.pz_bind.specs.Names.{path, wire_name, name_at}
 use Rattle.pz_bind.specs.Wires.{wires}

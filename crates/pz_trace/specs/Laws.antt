@@ -6,7 +6,7 @@ use Rattle.std.specs.List.{list_any}
 use Rattle.pz_syntax.specs.Classes.{ModelTree}
 use Rattle.pz_value.specs.declared.value.ClassId.{ClassId}
 use Rattle.pz_classes.specs.Tables.{class_names}
-use Rattle.pz_levels.specs.Places.{Place}
+use Rattle.pz_bind_levels.specs.Places.{Place}
 use Rattle.pz_bind.specs.declared.net.Net.{Net}
 use Rattle.pz_bind.specs.Names.{name_at}
 use Rattle.pz_bind.specs.NetView.{IsNet}

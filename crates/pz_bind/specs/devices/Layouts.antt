@@ -11,8 +11,8 @@ use Rattle.pz_classes.specs.Numbers.{declaration}
 use Rattle.pz_classes.specs.Kinds.{is_cluster}
 use Rattle.pz_classes.specs.Members.{ports, spelled}
 use Rattle.pz_classes.specs.Bodies.{place_in}
-use Rattle.pz_levels.specs.declared.plan.Part.{Part}
-use Rattle.pz_levels.specs.Layouts.{Layout}
+use Rattle.pz_bind_levels.specs.declared.plan.Part.{Part}
+use Rattle.pz_bind_levels.specs.Layouts.{Layout}
 use Rattle.pz_bind.specs.Nest.{instances_in, channels_in, class_of}
 
 -- a port of an instance is in a channel

@@ -3,8 +3,8 @@ use Rattle.std.specs.Prelude.{◌≡◌, ℕ, List, Option, Some, length, map, s
 use Rattle.std.specs.Option.{option_and_then}
 use Rattle.pz_syntax.specs.declared.clusters.Instance.{Instance}
 use Rattle.pz_syntax.specs.Classes.{ModelTree}
-use Rattle.pz_code.specs.declared.numbering.Numbering.{Numbering}
-use Rattle.pz_code.specs.NumberIn.{number_in}
+use Rattle.pz_classes_code.specs.declared.numbering.Numbering.{Numbering}
+use Rattle.pz_classes_code.specs.NumberIn.{number_in}
 use Rattle.pz_bind.specs.declared.port_numbers.PortNumbers.{PortNumbers}
 use Rattle.pz_bind.specs.declared.naming.Naming.{Naming}
 use Rattle.pz_bind.specs.devices.Layouts.{port_number, instance_number, part_of}

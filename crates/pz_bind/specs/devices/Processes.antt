@@ -1,10 +1,10 @@
 -- What an expansion says of the processes and the wires of a system.
 use Rattle.std.specs.Prelude.{◌≡◌, ◌<◌, ℕ, List, ◌∷◌, length, Some, slice_get}
 use Rattle.pz_syntax.specs.Classes.{ModelTree}
-use Rattle.pz_levels.specs.declared.expansion.Process.{Process}
-use Rattle.pz_levels.specs.declared.expansion.Wire.{Wire}
-use Rattle.pz_levels.specs.Places.{Place}
-use Rattle.pz_levels.specs.Wires.{Channel}
+use Rattle.pz_bind_levels.specs.declared.expansion.Process.{Process}
+use Rattle.pz_bind_levels.specs.declared.expansion.Wire.{Wire}
+use Rattle.pz_bind_levels.specs.Places.{Place}
+use Rattle.pz_bind_levels.specs.Wires.{Channel}
 use Rattle.pz_bind.specs.Nest.{class_at, instances_at, levels, processes}
 use Rattle.pz_bind.specs.Wires.{wires}
 

@@ -1,10 +1,10 @@
 -- What the code keeps of the levels of a system.
 use Rattle.std.specs.Prelude.{◌≡◌, ◌<◌, ℕ, Bool, true, false, List, [], ◌∷◌, ◌++◌, codes, length, Option, Some, None, slice_get, if◌then◌else◌}
 use Rattle.pz_syntax.specs.Classes.{ModelTree}
-use Rattle.pz_levels.specs.declared.expansion.Standing.{Standing}
-use Rattle.pz_levels.specs.declared.expansion.Level.{Level}
-use Rattle.pz_levels.specs.Places.{Place}
-use Rattle.pz_levels.specs.Expanded.{EachOf}
+use Rattle.pz_bind_levels.specs.declared.expansion.Standing.{Standing}
+use Rattle.pz_bind_levels.specs.declared.expansion.Level.{Level}
+use Rattle.pz_bind_levels.specs.Places.{Place}
+use Rattle.pz_bind_levels.specs.Expanded.{EachOf}
 use Rattle.pz_value.specs.declared.value.Value.TheVariants.{Nil}
 use Rattle.pz_bind.specs.Nest.{class_at, instances_in, instances_at, levels}
 use Rattle.pz_bind.specs.Names.{path}

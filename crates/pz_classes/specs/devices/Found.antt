@@ -1,7 +1,7 @@
 -- Looking methods and starts up in the rows of the classes.
 use Rattle.std.specs.Prelude.{ℕ, List, length, Option, slice_get}
 use Rattle.std.specs.Option.{option_and_then}
-use Rattle.pz_code.specs.StepView.{Tree}
+use Rattle.pz_classes_code.specs.StepView.{Tree}
 use Rattle.pz_classes.specs.declared.method_id.MethodId.{MethodId}
 use Rattle.pz_classes.specs.Ancestors.{followed}
 use Rattle.pz_classes.specs.Methods.{Signature, nearest}

@@ -2,9 +2,9 @@
 use Rattle.std.specs.Prelude.{◌≡◌, ℕ, List}
 use Rattle.pz_syntax.specs.declared.names.Id.{Id}
 use Rattle.pz_syntax.specs.Classes.{ModelTree}
-use Rattle.pz_code.specs.declared.numbering.Numbering.{Numbering}
-use Rattle.pz_code.specs.NumberIn.{number_in}
-use Rattle.pz_code.specs.Resolution.{Scope}
+use Rattle.pz_classes_code.specs.declared.numbering.Numbering.{Numbering}
+use Rattle.pz_classes_code.specs.NumberIn.{number_in}
+use Rattle.pz_classes_code.specs.Resolution.{Scope}
 use Rattle.pz_classes.specs.Numbers.{class}
 use Rattle.pz_classes.specs.Members.{spelled}
 use Rattle.pz_classes.specs.Bodies.{place_in}

@@ -4,12 +4,12 @@ use Rattle.std.specs.Option.{option_map_or}
 use Rattle.std.specs.List.{list_any}
 use Rattle.pz_syntax.specs.declared.names.Id.{Id}
 use Rattle.pz_syntax.specs.Classes.{DeclTree, ModelTree}
-use Rattle.pz_violation.specs.declared.violation.Violation.{Violation}
+use Rattle.pz_check_violations.specs.declared.violation.Violation.{Violation}
 use Rattle.pz_classes.specs.Numbers.{declared_name}
 use Rattle.pz_classes.specs.Ancestors.{extended, parent, ancestors}
 use Rattle.pz_classes.specs.Violations.{breaks_c1, breaks_c2}
-use Rattle.pz_violation.specs.Order.{violation}
-use Rattle.pz_violation.specs.Least.{listed}
+use Rattle.pz_check_violations.specs.Order.{violation}
+use Rattle.pz_check_violations.specs.Least.{listed}
 
 abbrev pub breaks_c3 : ModelTree → ℕ → Bool
 breaks_c3 m c = option_map_or (λ p. list_any (nat_eq c) (ancestors m p)) (parent m c) false

@@ -1,13 +1,13 @@
 -- Outcomes of the ends of evaluations.
 use Rattle.std.specs.Prelude.{◌≡◌}
-use Rattle.pz_evaluation.specs.declared.outcome.Outcome.{Outcome}
-use Rattle.pz_evaluation.specs.declared.outcome.Outcome.TheVariants as outcome
-use Rattle.pz_evaluation.specs.declared.outcome.Listed.{Listed}
-use Rattle.pz_evaluation.specs.declared.outcome.Listed.TheVariants as listed
-use Rattle.pz_operations.specs.declared.stop.Stop.{Stop}
-use Rattle.pz_operations.specs.declared.stop.Stop.TheVariants as stop
-use Rattle.pz_machine.specs.declared.control.Finish.{Finish}
-use Rattle.pz_machine.specs.declared.control.Finish.TheVariants as finish
+use Rattle.pz_eval_rules.specs.declared.outcome.Outcome.{Outcome}
+use Rattle.pz_eval_rules.specs.declared.outcome.Outcome.TheVariants as outcome
+use Rattle.pz_eval_rules.specs.declared.outcome.Listed.{Listed}
+use Rattle.pz_eval_rules.specs.declared.outcome.Listed.TheVariants as listed
+use Rattle.pz_eval_operations.specs.declared.stop.Stop.{Stop}
+use Rattle.pz_eval_operations.specs.declared.stop.Stop.TheVariants as stop
+use Rattle.pz_eval_machine.specs.declared.control.Finish.{Finish}
+use Rattle.pz_eval_machine.specs.declared.control.Finish.TheVariants as finish
 
 abbrev pub found_value : Finish → Outcome
 found_value (finish.Value y) = outcome.Value y

@@ -1,14 +1,14 @@
 -- Declarations and whole models, as devices of the proofs.
 use Rattle.std.specs.Prelude.{ℕ, zero, suc, Bool, true, false, List, [], ◌∷◌, length}
 use Rattle.pz_syntax.specs.Classes.{DeclTree, data_class, process_class, cluster_class, system, ModelTree}
-use Rattle.pz_cursor.specs.declared.ahead.Next.{Next}
-use Rattle.pz_cursor.specs.declared.ahead.Next.TheVariants as n
-use Rattle.pz_cursor.specs.devices.LookAhead.{next}
-use Rattle.pz_cursor.specs.devices.Input.{Tokens}
-use Rattle.pz_cursor.specs.devices.Device.{Parser, ◌>>=◌, ◌>>◌, ◌<$>◌, pure, refuse, peek}
-use Rattle.pz_cursor.specs.devices.Lists.{with_front, each_of}
-use Rattle.pz_declarations.specs.devices.DataClasses as classes
-use Rattle.pz_clusters.specs.devices.Clusters as clusters
+use Rattle.pz_parser_cursor.specs.declared.ahead.Next.{Next}
+use Rattle.pz_parser_cursor.specs.declared.ahead.Next.TheVariants as n
+use Rattle.pz_parser_cursor.specs.devices.LookAhead.{next}
+use Rattle.pz_parser_cursor.specs.devices.Input.{Tokens}
+use Rattle.pz_parser_cursor.specs.devices.Device.{Parser, ◌>>=◌, ◌>>◌, ◌<$>◌, pure, refuse, peek}
+use Rattle.pz_parser_cursor.specs.devices.Lists.{with_front, each_of}
+use Rattle.pz_parser_declarations.specs.devices.DataClasses as classes
+use Rattle.pz_parser_declarations.specs.devices.Clusters as clusters
 use Rattle.pz_parser.specs.devices.Processes as processes
 
 abbrev pub begins_by : Next → Bool

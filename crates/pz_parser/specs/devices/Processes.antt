@@ -1,13 +1,13 @@
 -- Process methods and process classes, as devices of the proofs.
 use Rattle.std.specs.Prelude.{ℕ, List, Option}
 use Rattle.pz_syntax.specs.Classes.{ProcessMethodTree, ProcessClassTree}
-use Rattle.pz_cursor.specs.declared.ahead.Next.TheVariants as n
-use Rattle.pz_cursor.specs.devices.Input.{sees}
-use Rattle.pz_cursor.specs.devices.Device.{Parser, ◌>>=◌, ◌>>◌, pure, take_id, expect, section}
-use Rattle.pz_cursor.specs.devices.Lists.{each_of}
-use Rattle.pz_cursor.specs.devices.Names.{word, formal, optional_formal, optional_locals, ports}
-use Rattle.pz_statements.specs.devices.Statements.{stmts}
-use Rattle.pz_declarations.specs.devices.Sections.{parent_section, messages_section, variables_section, start_section}
+use Rattle.pz_parser_cursor.specs.declared.ahead.Next.TheVariants as n
+use Rattle.pz_parser_cursor.specs.devices.Input.{sees}
+use Rattle.pz_parser_cursor.specs.devices.Device.{Parser, ◌>>=◌, ◌>>◌, pure, take_id, expect, section}
+use Rattle.pz_parser_cursor.specs.devices.Lists.{each_of}
+use Rattle.pz_parser_cursor.specs.devices.Names.{word, formal, optional_formal, optional_locals, ports}
+use Rattle.pz_parser_statements.specs.devices.Statements.{stmts}
+use Rattle.pz_parser_declarations.specs.devices.Sections.{parent_section, messages_section, variables_section, start_section}
 
 module _ (depth : ℕ) where
   -- from its name on

@@ -22,7 +22,7 @@ use Rattle.pz_syntax.specs.Expressions.{variable, chain, none, left_out, written
 use Rattle.pz_syntax.specs.Statements.{send, receive, call}
 use Rattle.pz_syntax.specs.Classes.{process_class, ModelTree}
 use Rattle.pz_value.specs.declared.value.Value.TheVariants.{Nil}
-use Rattle.pz_code.specs.declared.slot.Slot.TheVariants.{Shared}
+use Rattle.pz_classes_code.specs.declared.slot.Slot.TheVariants.{Shared}
 use Rattle.pz_rules.specs.declared.action.Kind.TheVariants.{Call}
 use Rattle.pz_rules.specs.declared.moment.Moment.TheVariants.{Deadlock}
 use Rattle.pz_rules.specs.Terms.{Step, leaf}

@@ -13,7 +13,7 @@ use Rattle.pz_syntax.specs.Expressions as ours
 use Rattle.pz_syntax.specs.Statements.{skip, delay, block, conditional, repeated, call, value, send, receive}
 use Rattle.pz_value.specs.declared.value.ClassId.{ClassId}
 use Rattle.pz_value.specs.declared.value.Value.{Value}
-use Rattle.pz_code.specs.declared.slot.Slot.{Slot}
+use Rattle.pz_classes_code.specs.declared.slot.Slot.{Slot}
 use Rattle.pz_state.specs.declared.state.TheConstants.{OBJECT_LIMIT}
 use Rattle.pz_state.specs.declared.fault.FaultKind.TheVariants.{StoreFull}
 use Rattle.pz_classes.specs.Bodies.{BodyTree, data_body, process_body}

@@ -21,7 +21,7 @@ use Rattle.pz_syntax.specs.Statements.{skip, delay, bracketed, send, receive, ca
 use Rattle.pz_syntax.specs.Statements as statement
 use Rattle.pz_syntax.specs.Classes.{process_class, ModelTree}
 use Rattle.pz_value.specs.declared.value.Value.{Value}
-use Rattle.pz_code.specs.declared.slot.Slot.TheVariants.{Shared}
+use Rattle.pz_classes_code.specs.declared.slot.Slot.TheVariants.{Shared}
 use Rattle.pz_rules.specs.declared.action.Kind.TheVariants.{Expire, Call}
 use Rattle.pz_rules.specs.declared.action.Action.{Action}
 use Rattle.pz_rules.specs.declared.action.Action.TheVariants.{Comm}

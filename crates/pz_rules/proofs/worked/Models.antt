@@ -24,7 +24,7 @@ use Rattle.pz_prims.specs.Integers.{integers}
 use Rattle.pz_prims.specs.Booleans.{booleans}
 use Rattle.pz_prims.specs.Table.{outcome}
 use Rattle.pz_copy.specs.Parcels.{ParcelView}
-use Rattle.pz_evaluation.specs.devices.Computed.{sequence, arguments, operators, replied, selectors, going, turns, step, evaluated}
+use Rattle.pz_eval_rules.specs.devices.Computed.{sequence, arguments, operators, replied, selectors, going, turns, step, evaluated}
 use Rattle.pz_offer.specs.declared.end.End.{End}
 use Rattle.pz_offer.specs.PlaceOrder.{Place}
 use Rattle.pz_rules.specs.declared.action.Kind.{Kind}

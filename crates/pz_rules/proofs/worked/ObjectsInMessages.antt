@@ -37,7 +37,7 @@ use Rattle.pz_syntax.specs.Statements.{send, receive, call, assignment, value}
 use Rattle.pz_syntax.specs.Classes.{data_class, process_class, ModelTree}
 use Rattle.pz_value.specs.declared.value.Value.{Value}
 use Rattle.pz_value.specs.declared.value.Value.TheVariants.{Nil, Ref}
-use Rattle.pz_code.specs.declared.slot.Slot.TheVariants.{Shared}
+use Rattle.pz_classes_code.specs.declared.slot.Slot.TheVariants.{Shared}
 use Rattle.pz_state.specs.Objects.{ObjectView}
 use Rattle.pz_rules.specs.declared.action.Kind.TheVariants.{Eval, Call}
 use Rattle.pz_rules.specs.declared.action.Action.{Action}

@@ -7,7 +7,7 @@ use Rattle.pz_syntax.specs.Expressions.{Part}
 use Rattle.pz_syntax.specs.Statements.{send}
 use Rattle.pz_value.specs.declared.value.ClassId.{ClassId}
 use Rattle.pz_value.specs.declared.value.Value.{Value}
-use Rattle.pz_code.specs.declared.slot.Slot.{Slot}
+use Rattle.pz_classes_code.specs.declared.slot.Slot.{Slot}
 use Rattle.pz_state.specs.States.{StateView}
 use Rattle.pz_copy.specs.Parcels.{ParcelView}
 use Rattle.pz_copy.specs.Packing.{IsParcelOf}

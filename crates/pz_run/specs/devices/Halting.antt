@@ -1,10 +1,10 @@
 -- The statuses of jobs that halt, of runs that were played, and of traces that were replayed.
 use Rattle.std.specs.Prelude.{Result, Ok, Err}
-use Rattle.pz_writing.specs.declared.writing.Halt.{Halt}
-use Rattle.pz_writing.specs.declared.writing.Halt.TheVariants as halt
-use Rattle.pz_playing.specs.declared.finale.Finale.{Finale}
-use Rattle.pz_playing.specs.Endings.{ending_of}
-use Rattle.pz_replaying.specs.declared.replayed.Replayed.{Replayed}
+use Rattle.pz_io.specs.declared.writing.Halt.{Halt}
+use Rattle.pz_io.specs.declared.writing.Halt.TheVariants as halt
+use Rattle.pz_run_playing.specs.declared.finale.Finale.{Finale}
+use Rattle.pz_run_playing.specs.Endings.{ending_of}
+use Rattle.pz_run_replaying.specs.declared.replayed.Replayed.{Replayed}
 use Rattle.pz_run.specs.declared.status.Status.{Status}
 use Rattle.pz_run.specs.declared.status.Status.TheVariants.{WriteFault, NoMemory}
 use Rattle.pz_run.specs.Status.{status_of, replay_status}

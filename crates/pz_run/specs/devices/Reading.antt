@@ -3,7 +3,7 @@ use Rattle.std.specs.Prelude.{◌≡◌, ◌⊎◌, ◌<◌, ◌≤◌, ℕ, Lis
 use Rattle.pz_io.specs.Outside.{FilesState, SinkState, lookup, raised, Rose, Exceeds}
 use Rattle.pz_io.specs.declared.whole.ReadError.{ReadError}
 use Rattle.pz_io.specs.declared.whole.ReadError.TheVariants.{NoMemory, Fault, TooLong}
-use Rattle.pz_report.specs.Lines.{read_fault_line, too_long_line}
+use Rattle.pz_run_lines.specs.Lines.{read_fault_line, too_long_line}
 use Rattle.pz_run.specs.declared.status.Status.{Status}
 use Rattle.pz_run.specs.declared.status.Status.TheVariants as status
 use Rattle.pz_run.specs.Files.{JobFile}

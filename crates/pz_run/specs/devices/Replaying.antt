@@ -4,11 +4,11 @@ use Rattle.pz_io.specs.Outside.{FilesState, SinkState, lookup, raised}
 use Rattle.pz_syntax.specs.Classes.{ModelTree}
 use Rattle.pz_rules.specs.Settings.{Setting}
 use Rattle.pz_trace.specs.TraceText.{run_ending, IsTrace}
-use Rattle.pz_replaying.specs.Replays.{TellsLines}
-use Rattle.pz_reading.specs.declared.refusal.Refusal.{Refusal}
-use Rattle.pz_reading.specs.Models.{IsModelOf}
-use Rattle.pz_reading.specs.Refusals.{IsRefused}
-use Rattle.pz_report.specs.Lines.{model_refused_line}
+use Rattle.pz_run_replaying.specs.Replays.{TellsLines}
+use Rattle.pz_run_reading.specs.declared.refusal.Refusal.{Refusal}
+use Rattle.pz_run_reading.specs.Models.{IsModelOf}
+use Rattle.pz_run_reading.specs.Refusals.{IsRefused}
+use Rattle.pz_run_lines.specs.Lines.{model_refused_line}
 use Rattle.pz_run.specs.declared.status.Status.{Status}
 use Rattle.pz_run.specs.declared.status.Status.TheVariants.{ModelRefused, TraceRefused}
 use Rattle.pz_run.specs.Files.{JobFile, model_file, trace_file}

@@ -1,7 +1,7 @@
 -- What a call has done that ends with a status.
 use Rattle.std.specs.Prelude.{◌≡◌, ◌≢◌, ◌≤◌, ◌⊎◌, ℕ, List, true}
 use Rattle.pz_io.specs.Outside.{SinkState, Rose}
-use Rattle.pz_writing.specs.Writing.{TookAll, TookFront}
+use Rattle.pz_io.specs.Writing.{TookAll, TookFront}
 use Rattle.pz_run.specs.declared.status.Status.{Status}
 use Rattle.pz_run.specs.declared.status.Status.TheVariants.{WriteFault, NoMemory}
 

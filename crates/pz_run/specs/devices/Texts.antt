@@ -2,10 +2,10 @@
 use Rattle.std.specs.Prelude.{◌≡◌, ℕ, List}
 use Rattle.pz_io.specs.Outside.{SinkState}
 use Rattle.pz_syntax.specs.Classes.{ModelTree}
-use Rattle.pz_reading.specs.declared.read_error.ReadModelError.{ReadModelError}
-use Rattle.pz_reading.specs.declared.read_error.ReadModelError.TheVariants.{NoMemory, Refused}
-use Rattle.pz_reading.specs.Models.{IsModelOf}
-use Rattle.pz_report.specs.Lines.{model_refused_line}
+use Rattle.pz_run_reading.specs.declared.read_error.ReadModelError.{ReadModelError}
+use Rattle.pz_run_reading.specs.declared.read_error.ReadModelError.TheVariants.{NoMemory, Refused}
+use Rattle.pz_run_reading.specs.Models.{IsModelOf}
+use Rattle.pz_run_lines.specs.Lines.{model_refused_line}
 use Rattle.pz_run.specs.declared.play.Play.{Play}
 use Rattle.pz_run.specs.declared.status.Status.{Status}
 use Rattle.pz_run.specs.declared.status.Status.TheVariants.{ModelRefused}

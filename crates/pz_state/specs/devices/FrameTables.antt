@@ -2,7 +2,7 @@
 use Rattle.std.specs.Prelude.{◌≡◌, ◌≤◌, ℕ, suc, List, [], ◌∷◌, length, slice_index_or, is_some, Option, Some, None, Vec}
 use Rattle.std.specs.declared.alloc.Global.{Global}
 use Rattle.pz_value.specs.declared.value.Value.{Value}
-use Rattle.pz_flags.specs.Flags.{is_set, room}
+use Rattle.pz_state_flags.specs.Flags.{is_set, room}
 use Rattle.pz_state.specs.declared.frames.FrameTable.TheInside.{Inside}
 use Rattle.pz_state.specs.States.{Frames}
 

@@ -2,10 +2,10 @@
 use Rattle.std.specs.Prelude.{ℕ, List}
 use Rattle.pz_rules.specs.Settings.{Setting}
 use Rattle.pz_rules.specs.Moments.{IsMoment}
-use Rattle.pz_process.specs.declared.process.Process.{Process}
-use Rattle.pz_process.specs.Standing.{config_of, AreProcesses}
-use Rattle.pz_offers.specs.declared.looking.Outlook.{Outlook}
-use Rattle.pz_offers.specs.Looking.{AreActionsAt}
+use Rattle.pz_term_processes.specs.declared.process.Process.{Process}
+use Rattle.pz_term_processes.specs.Standing.{config_of, AreProcesses}
+use Rattle.pz_term_enabled.specs.declared.looking.Outlook.{Outlook}
+use Rattle.pz_term_enabled.specs.Looking.{AreActionsAt}
 use Rattle.pz_term.specs.declared.standing.Standing.{Standing}
 use Rattle.pz_term.specs.declared.standing.Standing.TheVariants as standing
 

@@ -1,8 +1,8 @@
 use Rattle.std.proofs.Common.{◌≡◌, ◌∙◌, ◌+◌, suc, ap, ℕ, [], ◌∷◌, ◌++◌, arith}
 use Rattle.std.proofs.lemmas.List.{map-append}
 use Rattle.pz_classes.specs.CheckedView.{checked_model}
-use Rattle.pz_levels.specs.Layouts.{Layout}
-use Rattle.pz_levels.specs.devices.Walking.{layout_of, layouts_of}
+use Rattle.pz_bind_levels.specs.Layouts.{Layout}
+use Rattle.pz_bind_levels.specs.devices.Walking.{layout_of, layouts_of}
 use Rattle.pz_bind.specs.devices.Layouts.{class_layout, layouts}
 use Rattle.pz_bind.proofs.PlanSteps.{plans_step}
 use Rattle.pz_bind.proofs.plans.plans_of.Goals as goal

@@ -1,7 +1,7 @@
 use Rattle.std.proofs.Common.{◌≡◌, suc, ◌++◌, map, drop}
 use Rattle.pz_syntax.specs.ClassView.{decl_view}
 use Rattle.pz_classes.specs.CheckedView.{checked_model}
-use Rattle.pz_levels.specs.devices.Walking.{layouts_of}
+use Rattle.pz_bind_levels.specs.devices.Walking.{layouts_of}
 use Rattle.pz_bind.specs.devices.Layouts.{layouts_from, layouts}
 use Rattle.pz_bind.proofs.plans.plans_of.Given as goal
 

@@ -1,6 +1,6 @@
 use Rattle.std.proofs.Common.{◌≡◌, ℕ, List, map, drop}
 use Rattle.std.specs.Option.{option_or}
-use Rattle.pz_code.specs.NumberIn.{number_in}
+use Rattle.pz_classes_code.specs.NumberIn.{number_in}
 use Rattle.pz_classes.specs.Bodies.{place_from}
 use Rattle.pz_bind.specs.devices.Layouts.{instance_number}
 use Rattle.pz_bind.proofs.port_numbers.number_instances.Given as goal

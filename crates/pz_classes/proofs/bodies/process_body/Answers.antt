@@ -2,9 +2,9 @@ use Rattle.std.proofs.Common.{◌≡◌, ap, subst, ◌∙◌, ℕ, List, length
 use Rattle.pz_syntax.specs.declared.stmts.Stmt.{Stmt}
 use Rattle.pz_syntax.specs.ClassView.{process_method_view}
 use Rattle.pz_syntax.specs.StatementView as tree
-use Rattle.pz_code.specs.NumberIn.{number_in}
-use Rattle.pz_code.specs.StepView.{sequence_view}
-use Rattle.pz_code.specs.Resolution.{resolved_statements}
+use Rattle.pz_classes_code.specs.NumberIn.{number_in}
+use Rattle.pz_classes_code.specs.StepView.{sequence_view}
+use Rattle.pz_classes_code.specs.Resolution.{resolved_statements}
 use Rattle.pz_classes.specs.Bodies.{place_in}
 use Rattle.pz_classes.proofs.Scopes.{held, process_body_is}
 use Rattle.pz_classes.proofs.bodies.process_body.Goals as goal

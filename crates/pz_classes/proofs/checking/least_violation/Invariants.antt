@@ -1,7 +1,7 @@
 use Rattle.std.proofs.Common.{◌≡◌, suc, None, map, drop}
 use Rattle.pz_syntax.specs.ClassView.{decl_view, model_view}
 use Rattle.pz_classes.specs.devices.ViolationList.{among, violations}
-use Rattle.pz_violation.specs.Least.{least_from}
+use Rattle.pz_check_violations.specs.Least.{least_from}
 use Rattle.pz_classes.proofs.checking.least_violation.Given as goal
 
 abbrev pub invariant-loop-decl : goal.invariant-loop-decl

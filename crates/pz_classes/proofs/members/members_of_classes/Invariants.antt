@@ -1,7 +1,7 @@
 use Rattle.std.proofs.Common.{◌≡◌, ℕ, length, take}
 use Rattle.std.specs.List.{Contains}
 use Rattle.pz_syntax.specs.ClassView.{model_view}
-use Rattle.pz_lineage.specs.Preorder.{visited}
+use Rattle.pz_classes_lineage.specs.Preorder.{visited}
 use Rattle.pz_classes.proofs.Inheriting.{HasAt}
 use Rattle.pz_classes.proofs.members.members_of_classes.Given as goal
 

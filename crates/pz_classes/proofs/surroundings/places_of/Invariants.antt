@@ -1,6 +1,6 @@
 use Rattle.std.proofs.Common.{◌≡◌, ℕ, List, drop}
 use Rattle.std.specs.Option.{option_or}
-use Rattle.pz_code.specs.NumberIn.{number_in}
+use Rattle.pz_classes_code.specs.NumberIn.{number_in}
 use Rattle.pz_classes.specs.Bodies.{place_from, place_in}
 use Rattle.pz_classes.proofs.surroundings.places_of.Given as goal
 

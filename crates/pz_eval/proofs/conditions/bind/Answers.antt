@@ -7,7 +7,7 @@ use Rattle.pz_state.specs.Marks.{Seen}
 use Rattle.pz_state.specs.References.{RefersWithin}
 use Rattle.pz_state.specs.declared.state.TheConstants.{OBJECT_LIMIT}
 use Rattle.pz_eval.proofs.Parceling.{bound_changed, on_ok_map, fits_of, not_full_of, same_error}
-use Rattle.pz_machine.proofs.Unwinding.{on_ok}
+use Rattle.pz_eval_machine.proofs.Unwinding.{on_ok}
 use Rattle.pz_eval.proofs.conditions.bind.Goals as goal
 
 pub bind_values-requires : goal.bind_values-requires

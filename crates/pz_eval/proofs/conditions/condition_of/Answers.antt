@@ -1,6 +1,6 @@
 use Rattle.std.proofs.Common.{Err, ap, subst, ◌∙◌}
 use Rattle.std.proofs.lemmas.Result.{IfOk-weaker}
-use Rattle.pz_code.specs.CodeView.{view}
+use Rattle.pz_classes_code.specs.CodeView.{view}
 use Rattle.pz_copy.specs.declared.unpacking.UnpackError.{UnpackError}
 use Rattle.pz_state.specs.States.{StateView}
 use Rattle.pz_state.specs.Marks.{Seen}

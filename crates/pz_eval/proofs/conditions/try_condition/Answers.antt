@@ -1,6 +1,6 @@
 use Rattle.std.proofs.Common.{ap, subst}
 use Rattle.std.specs.Prelude.{IfOk}
-use Rattle.pz_code.specs.CodeView.{view}
+use Rattle.pz_classes_code.specs.CodeView.{view}
 use Rattle.pz_state.specs.States.{StateView}
 use Rattle.pz_state.specs.Marks.{Seen}
 use Rattle.pz_eval.specs.Conditions.{FindsCondition}

@@ -1,13 +1,13 @@
 use Rattle.std.proofs.Common.{◌≡◌, Result, length, sym, ap, subst}
 use Rattle.std.specs.Prelude.{IfOk}
 use Rattle.std.proofs.lemmas.Result.{IfOk-weaker}
-use Rattle.pz_code.specs.CodeView.{view}
+use Rattle.pz_classes_code.specs.CodeView.{view}
 use Rattle.pz_state.specs.Marks.{Seen}
-use Rattle.pz_evaluation.specs.Outcomes.{outside}
-use Rattle.pz_evaluation.specs.devices.Outcomes.{reached_value}
-use Rattle.pz_operations.specs.declared.stop.Stop.{Stop}
-use Rattle.pz_machine.specs.declared.control.Finish.{Finish}
-use Rattle.pz_machine.specs.devices.Within.{FinishWithin}
+use Rattle.pz_eval_rules.specs.Outcomes.{outside}
+use Rattle.pz_eval_rules.specs.devices.Outcomes.{reached_value}
+use Rattle.pz_eval_operations.specs.declared.stop.Stop.{Stop}
+use Rattle.pz_eval_machine.specs.declared.control.Finish.{Finish}
+use Rattle.pz_eval_machine.specs.devices.Within.{FinishWithin}
 use Rattle.pz_eval.specs.Promises.{NamesWithin}
 use Rattle.pz_eval.proofs.Gathering.{finish_is, stop_is}
 use Rattle.pz_eval.proofs.Finding.{value_found, stop_found, is_latest, is_back, marks_kept, finish_within, value_kept, stop_within, same_kept, on_err}

@@ -2,16 +2,16 @@ use Rattle.std.proofs.Common.{◌≡◌, List, [], Result, Ok, length, refl, sym
 use Rattle.std.specs.Prelude.{All, IfOk}
 use Rattle.std.proofs.lemmas.List.Elements.{All-nil, All-cons}
 use Rattle.pz_value.specs.declared.value.Value.{Value}
-use Rattle.pz_code.specs.CodeView.{view, list_view}
+use Rattle.pz_classes_code.specs.CodeView.{view, list_view}
 use Rattle.pz_state.specs.References.{RefersWithin}
-use Rattle.pz_evaluation.specs.Memories.{in_process}
-use Rattle.pz_evaluation.specs.Outcomes.{outside}
-use Rattle.pz_evaluation.specs.devices.Computed.{arguments, evaluated}
-use Rattle.pz_operations.specs.declared.stop.Stop.{Stop}
-use Rattle.pz_machine.specs.declared.control.Finish.{Finish}
-use Rattle.pz_machine.specs.declared.control.Finish.TheVariants as finish
-use Rattle.pz_machine.specs.devices.Within.{FinishWithin}
-use Rattle.pz_machine.proofs.Within.{values_wider, all_push}
+use Rattle.pz_eval_rules.specs.Memories.{in_process}
+use Rattle.pz_eval_rules.specs.Outcomes.{outside}
+use Rattle.pz_eval_rules.specs.devices.Computed.{arguments, evaluated}
+use Rattle.pz_eval_operations.specs.declared.stop.Stop.{Stop}
+use Rattle.pz_eval_machine.specs.declared.control.Finish.{Finish}
+use Rattle.pz_eval_machine.specs.declared.control.Finish.TheVariants as finish
+use Rattle.pz_eval_machine.specs.devices.Within.{FinishWithin}
+use Rattle.pz_eval_machine.proofs.Within.{values_wider, all_push}
 use Rattle.pz_eval.proofs.Gathering.{finish_is, stop_is, value_gathered, return_gathered, stop_gathered, all_gathered}
 use Rattle.pz_eval.proofs.listing.evaluate_list.Goals as goal
 

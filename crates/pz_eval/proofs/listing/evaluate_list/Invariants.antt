@@ -1,12 +1,12 @@
 use Rattle.std.proofs.Common.{◌≡◌, [], length, drop}
 use Rattle.std.specs.Prelude.{All}
 use Rattle.pz_syntax.specs.Classes.{ModelTree}
-use Rattle.pz_code.specs.CodeView.{list_view}
+use Rattle.pz_classes_code.specs.CodeView.{list_view}
 use Rattle.pz_state.specs.References.{RefersWithin}
 use Rattle.pz_classes.specs.Tables.{AreClasses}
-use Rattle.pz_evaluation.specs.Memories.{in_process}
-use Rattle.pz_evaluation.specs.Outcomes.{outside}
-use Rattle.pz_evaluation.specs.devices.Computed.{arguments, evaluated}
+use Rattle.pz_eval_rules.specs.Memories.{in_process}
+use Rattle.pz_eval_rules.specs.Outcomes.{outside}
+use Rattle.pz_eval_rules.specs.devices.Computed.{arguments, evaluated}
 use Rattle.pz_eval.proofs.listing.evaluate_list.Given as goal
 
 abbrev pub invariant-loop-code : goal.invariant-loop-code

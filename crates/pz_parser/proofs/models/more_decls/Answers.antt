@@ -1,7 +1,7 @@
 use Rattle.std.proofs.Common.{◌≡◌, ℕ, suc, ◌+◌, ◌-◌, true, Ok, sym, ap, ◌∙◌, arith, map}
 use Rattle.pz_syntax.specs.ClassView.{decl_view}
-use Rattle.pz_cursor.specs.devices.Lists.{repeat, with_front}
-use Rattle.pz_cursor.proofs.Loops.{repeat_more, map_more}
+use Rattle.pz_parser_cursor.specs.devices.Lists.{repeat, with_front}
+use Rattle.pz_parser_cursor.proofs.Loops.{repeat_more, map_more}
 use Rattle.pz_parser.specs.devices.Models.{begins_decl, decl}
 use Rattle.pz_parser.proofs.models.more_decls.Goals as goal
 

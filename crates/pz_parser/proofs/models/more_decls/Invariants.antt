@@ -1,6 +1,6 @@
 use Rattle.std.proofs.Common.{◌≡◌, ◌-◌, map}
 use Rattle.pz_syntax.specs.ClassView.{decl_view}
-use Rattle.pz_cursor.specs.devices.Lists.{repeat, with_front}
+use Rattle.pz_parser_cursor.specs.devices.Lists.{repeat, with_front}
 use Rattle.pz_parser.specs.devices.Models.{more_decls, begins_decl, decl}
 use Rattle.pz_parser.proofs.models.more_decls.Given as goal
 

@@ -1,9 +1,9 @@
 use Rattle.std.proofs.Common.{◌≡◌, ℕ, suc, ◌+◌, ◌-◌, true, Ok, sym, ap, ◌∙◌, arith, map}
 use Rattle.pz_syntax.specs.ClassView.{process_method_view}
-use Rattle.pz_cursor.specs.declared.ahead.Next.TheVariants as n
-use Rattle.pz_cursor.specs.devices.Input.{sees}
-use Rattle.pz_cursor.specs.devices.Lists.{repeat, with_front}
-use Rattle.pz_cursor.proofs.Loops.{repeat_more, map_more}
+use Rattle.pz_parser_cursor.specs.declared.ahead.Next.TheVariants as n
+use Rattle.pz_parser_cursor.specs.devices.Input.{sees}
+use Rattle.pz_parser_cursor.specs.devices.Lists.{repeat, with_front}
+use Rattle.pz_parser_cursor.proofs.Loops.{repeat_more, map_more}
 use Rattle.pz_parser.specs.devices.Processes.{process_method}
 use Rattle.pz_parser.proofs.processes.process_methods.Goals as goal
 

@@ -1,8 +1,8 @@
 use Rattle.std.proofs.Common.{◌≡◌, ◌-◌, map}
 use Rattle.pz_syntax.specs.ClassView.{process_method_view}
-use Rattle.pz_cursor.specs.declared.ahead.Next.TheVariants as n
-use Rattle.pz_cursor.specs.devices.Input.{sees}
-use Rattle.pz_cursor.specs.devices.Lists.{repeat, with_front}
+use Rattle.pz_parser_cursor.specs.declared.ahead.Next.TheVariants as n
+use Rattle.pz_parser_cursor.specs.devices.Input.{sees}
+use Rattle.pz_parser_cursor.specs.devices.Lists.{repeat, with_front}
 use Rattle.pz_parser.specs.devices.Processes.{process_methods, process_method}
 use Rattle.pz_parser.proofs.processes.process_methods.Given as goal
 

@@ -1,6 +1,6 @@
 use Rattle.std.proofs.Common.{◌∙◌, ap, List}
-use Rattle.pz_code.specs.declared.step.Step.{Step}
-use Rattle.pz_code.specs.StepView.{sequence_view}
+use Rattle.pz_classes_code.specs.declared.step.Step.{Step}
+use Rattle.pz_classes_code.specs.StepView.{sequence_view}
 use Rattle.pz_rules.specs.Opening.{opened_all}
 use Rattle.pz_rules.proofs.Openings.{branch_opened}
 use Rattle.pz_rules.proofs.opening.+opening.Goals as goal

@@ -1,6 +1,6 @@
 use Rattle.std.proofs.Common.{◌∙◌, sym, ap, List}
-use Rattle.pz_code.specs.declared.step.Step.{Step}
-use Rattle.pz_code.specs.StepView.{sequence_view}
+use Rattle.pz_classes_code.specs.declared.step.Step.{Step}
+use Rattle.pz_classes_code.specs.StepView.{sequence_view}
 use Rattle.pz_rules.specs.declared.term.Term.{Term}
 use Rattle.pz_rules.specs.Terms as terms
 use Rattle.pz_rules.specs.Opening.{opened_all}

@@ -1,4 +1,4 @@
-use Rattle.pz_report.specs.Lines.{accepted_line}
+use Rattle.pz_run_lines.specs.Lines.{accepted_line}
 use Rattle.pz_run.proofs.OfTexts.{size_said, no_size_said}
 use Rattle.pz_run.proofs.texts.check_text.Goals as goal
 

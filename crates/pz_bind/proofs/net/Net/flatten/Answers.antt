@@ -1,8 +1,8 @@
 use Rattle.std.proofs.Common.{◌≡◌, sym, ap, ◌∙◌, subst, ℕ, ◌≤◌, List, length}
 use Rattle.std.proofs.lemmas.List.{length-map}
 use Rattle.pz_classes.specs.CheckedView.{checked_model}
-use Rattle.pz_levels.specs.Layouts.{AreLinked}
-use Rattle.pz_levels.specs.devices.Walking.{layouts_of}
+use Rattle.pz_bind_levels.specs.Layouts.{AreLinked}
+use Rattle.pz_bind_levels.specs.devices.Walking.{layouts_of}
 use Rattle.pz_bind.specs.Nest.{processes}
 use Rattle.pz_bind.specs.Names.{wire_name}
 use Rattle.pz_bind.specs.Wires.{wires}

@@ -1,7 +1,7 @@
 use Rattle.std.proofs.Common.{sym, subst, ◌<◌, length, List}
-use Rattle.pz_levels.specs.declared.expansion.Process.{Process}
-use Rattle.pz_levels.specs.declared.plan.Plan.{Plan}
-use Rattle.pz_levels.specs.devices.Walking.{layouts_of}
+use Rattle.pz_bind_levels.specs.declared.expansion.Process.{Process}
+use Rattle.pz_bind_levels.specs.declared.plan.Plan.{Plan}
+use Rattle.pz_bind_levels.specs.devices.Walking.{layouts_of}
 use Rattle.pz_bind.proofs.NetFits.{Said, wire_says, narrowed_says}
 use Rattle.pz_bind.proofs.net.Net.wire.Goals as goal
 

@@ -1,6 +1,6 @@
 use Rattle.std.proofs.Common.{◌≡◌, ◌∙◌, ap, sym, ℕ, List, Option, length, arith}
 use Rattle.pz_syntax.specs.ClassView.{model_view}
-use Rattle.pz_violation.proofs.Leasts.{least_at_some, least_at_none}
+use Rattle.pz_check_violations.proofs.Leasts.{least_at_some, least_at_none}
 use Rattle.pz_classes.specs.Violations.{Violates}
 use Rattle.pz_classes.proofs.Building.{each_is_within, rounds_are, nobody_seen, walk_is, walk_of}
 use Rattle.pz_classes.proofs.FewMarks.{room}

@@ -1,7 +1,7 @@
 use Rattle.std.proofs.Common.{subst}
 use Rattle.pz_classes.specs.CheckedView.{checked_model}
 use Rattle.pz_classes.specs.Soundness.{IsSound}
-use Rattle.pz_process.specs.Standing.{setting_of}
+use Rattle.pz_term_processes.specs.Standing.{setting_of}
 use Rattle.pz_term.proofs.Kept.{whole_offers, no_offers}
 use Rattle.pz_term.proofs.plain.Plain.offers.Goals as goal
 

@@ -1,7 +1,7 @@
 use Rattle.std.proofs.Common.{arith}
 use Rattle.pz_classes.specs.CheckedView.{checked_model}
 use Rattle.pz_rules.specs.declared.moment.Moment.TheVariants.{Actions}
-use Rattle.pz_process.specs.Standing.{setting_of}
+use Rattle.pz_term_processes.specs.Standing.{setting_of}
 use Rattle.pz_term.specs.Plains.{simulation_of}
 use Rattle.pz_term.proofs.Kept.{kept_processes}
 use Rattle.pz_term.proofs.Moved.{within_shown, action_offered, chosen_acts, chosen_stops}

@@ -1,9 +1,0 @@
-use Rattle.pz_state.specs.References.{RefersWithin}
-use Rattle.copy_rows.proofs.Taken.{one_more, each}
-use Rattle.copy_rows.proofs.conditions.refer_within.Goals as goal
-
-pub loop-value-preserved : goal.loop-value-preserved
-loop-value-preserved c = one_more (RefersWithin c.args.count) c.args.values.now c.loop-value.value-index c.value-item.result c.loop-value-test.true c.value-item.is c.loop-value.invariant (c.refers_within.ensures c.if-not-refers_within.false)
-
-pub returns : goal.returns
-returns c _ = each (RefersWithin c.args.count) c.args.values.now c.loop-value.value-index c.loop-value-test.false c.loop-value.invariant

@@ -1,6 +1,0 @@
-use Rattle.std.proofs.Common.{arith}
-use Rattle.data_rows.proofs.Shadowed.{has_local}
-use Rattle.data_rows.proofs.subject.show_frame.Goals as goal
-
-pub local-requires : goal.local-requires
-local-requires c = has_local _ c.args.frame.locals c.loop-slot.slot c.requires (omega (arith, c.loop-slot-test.true))

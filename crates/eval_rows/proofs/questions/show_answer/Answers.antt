@@ -1,5 +1,0 @@
-use Rattle.pz_syntax.specs.ClassView.{model_view}
-use Rattle.eval_rows.proofs.questions.show_answer.Goals as goal
-
-pub show_statements-requires : goal.show_statements-requires
-show_statements-requires c = ∣ (model_view c.args.model.now, c.requires) ∣₁

@@ -1,9 +1,0 @@
-use Rattle.pz_code.specs.CodeView.{list_view}
-use Rattle.pz_asking.specs.Standpoints.{seen_from}
-use Rattle.pz_acting.proofs.Performed.{block_performed}
-use Rattle.pz_acting.proofs.performing.perform_block.Goals as goal
-
-pub returns-clause-performs : goal.returns-clause-performs
-returns-clause-performs c = λ m class known.
-    block_performed (seen_from m c.args.here.now class c.args.state.now.held) c.args.frame.0 c.args.pos (list_view c.args.codes.now) c.run.new.state.held c.in_ok-end.end c.done.result
-    (c.in_ok-end.ensures.runs m class known) (c.done.ensures c.run.new.state.held)

@@ -1,9 +1,0 @@
-use Rattle.pz_code.specs.CodeView.{view}
-use Rattle.pz_asking.specs.Standpoints.{seen_from}
-use Rattle.pz_acting.proofs.Performed.{value_performed}
-use Rattle.pz_acting.proofs.performing.perform_value.Goals as goal
-
-pub returns-clause-performs : goal.returns-clause-performs
-returns-clause-performs c = λ m class known.
-    value_performed (seen_from m c.args.here.now class c.args.state.now.held) c.args.frame.0 c.args.pos (view c.args.code.now) c.in_ok-found.found c.evaluate.new.state.held c.without_value.result c.done.result
-    (c.in_ok-found.ensures.gives m class known) c.without_value.ensures (c.done.ensures c.evaluate.new.state.held)

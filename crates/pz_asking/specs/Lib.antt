@@ -1,3 +1,0 @@
-pub mod Standpoints
-pub mod Parcels
-pub mod devices

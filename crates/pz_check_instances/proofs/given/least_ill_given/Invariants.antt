@@ -1,0 +1,15 @@
+use Rattle.std.proofs.Common.{◌≡◌, None, drop}
+use Rattle.std.specs.List.{flat_map}
+use Rattle.pz_syntax.specs.ClassView.{model_view}
+use Rattle.pz_check_violations.specs.Least.{least_from}
+use Rattle.pz_classes.specs.Instances.{own_parameters}
+use Rattle.pz_check_instances.specs.devices.Open.{HasOpen}
+use Rattle.pz_check_instances.specs.devices.Given.{ill_given_in, all_given}
+use Rattle.pz_check_instances.proofs.Line.{line_after, scopes_of}
+use Rattle.pz_check_instances.proofs.given.least_ill_given.Given as goal
+
+abbrev pub invariant-loop-visit : goal.invariant-loop-visit
+invariant-loop-visit l = record {
+  opened : HasOpen (scopes_of (model_view l.model) own_parameters (line_after (model_view l.model) l.visit-items l.visit-index)) l.opened;
+  found : least_from l.least (flat_map (λ v. ill_given_in (model_view l.model) v.class) (drop l.visit-index l.visit-items)) ≡ least_from None (all_given (model_view l.model) l.visit-items);
+}

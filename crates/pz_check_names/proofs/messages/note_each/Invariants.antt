@@ -1,0 +1,7 @@
+use Rattle.std.proofs.Common.{List, ◌∷◌, ◌++◌, take}
+use Rattle.pz_syntax.specs.declared.classes.Message.{Message}
+use Rattle.pz_check_names.specs.devices.Shown.{ShowsMessages}
+use Rattle.pz_check_names.proofs.messages.note_each.Given as goal
+
+abbrev pub invariant-loop-message : goal.invariant-loop-message
+invariant-loop-message l = (own : List Message) (outer : List (List Message)) → ShowsMessages (own ∷ outer) l.initial.noted → ShowsMessages ((own ++ take l.message-index l.messages) ∷ outer) l.noted

@@ -1,0 +1,144 @@
+ghost use Rattle.std.specs.Prelude.{◌≡◌, map, IfOk};
+ghost use Rattle.pz_syntax.specs.ExpressionView as tree;
+ghost use Rattle.pz_classes_code.specs.CodeView as code;
+ghost use Rattle.pz_classes_code.specs.Resolution.{resolved, resolved_all, resolved_part, resolved_links, resolved_sendings};
+ghost use Rattle.pz_classes_code.specs.ScopeView.{scope_view};
+
+use crate::scope::Scope;
+use crate::{Code, CodeForm, CodeLink, CodeSending};
+use pz_items::{Boxed, Items};
+use pz_syntax::{Expr, ExprForm, Link, Pos, Sending};
+use std::alloc::{AllocError, Global};
+
+#[cycle(resolve_expr)]
+pub(crate) fn resolve(alloc: Global, scope: &Scope, expr: &Expr) -> Result<Code, AllocError>
+    ensures { IfOk result (λ c. code.view c ≡ resolved (scope_view scope.now) (tree.view expr.now)) }
+{
+    Ok(Code {
+        pos: expr.pos,
+        form: resolve_form(alloc, scope, &expr.form, expr.pos)?,
+    })
+}
+
+#[cycle(resolve_expr)]
+fn resolve_form(
+    alloc: Global,
+    scope: &Scope,
+    form: &ExprForm,
+    pos: Pos,
+) -> Result<CodeForm, AllocError>
+    ensures { IfOk result (λ f. code.form_view f pos ≡ resolved (scope_view scope.now) (tree.form_view form.now pos)) }
+{
+    match form {
+        ExprForm::Lit(literal) => Ok(CodeForm::Lit(literal.copy()?)),
+        ExprForm::Var(name) => Ok(CodeForm::Var(scope.slot(name))),
+        ExprForm::Me => Ok(CodeForm::Me),
+        ExprForm::Clock => Ok(CodeForm::Clock),
+        ExprForm::New(class) => Ok(CodeForm::New(scope.class(&class.name))),
+        ExprForm::Group(list) => Ok(CodeForm::Group(resolve_list(alloc, scope, list.as_slice())?)),
+        ExprForm::Chain(first, links) => {
+            let first = Boxed::new(alloc, resolve(alloc, scope, first.get())?)?;
+            let links = resolve_links(alloc, scope, links.as_slice())?;
+            Ok(CodeForm::Chain(first, links))
+        }
+        ExprForm::Sends(first, sendings) => {
+            let first = Boxed::new(alloc, resolve(alloc, scope, first.get())?)?;
+            let sendings = resolve_sendings(alloc, scope, sendings.as_slice())?;
+            Ok(CodeForm::Sends(first, sendings))
+        }
+        ExprForm::Unary(op, operand) => {
+            let operand = Boxed::new(alloc, resolve(alloc, scope, operand.get())?)?;
+            Ok(CodeForm::Unary(*op, operand))
+        }
+        ExprForm::Assign(target, value) => {
+            let value = Boxed::new(alloc, resolve(alloc, scope, value.get())?)?;
+            Ok(CodeForm::Assign(scope.slot(&target.name), value))
+        }
+        ExprForm::Return(value) => {
+            let value = Boxed::new(alloc, resolve(alloc, scope, value.get())?)?;
+            Ok(CodeForm::Return(value))
+        }
+        ExprForm::If(test, part, rest) => {
+            let test = Boxed::new(alloc, resolve(alloc, scope, test.get())?)?;
+            let part = resolve_list(alloc, scope, part.as_slice())?;
+            match rest {
+                None => Ok(CodeForm::If(test, part, None)),
+                Some(rest) => {
+                    let rest = resolve_list(alloc, scope, rest.as_slice())?;
+                    Ok(CodeForm::If(test, part, Some(rest)))
+                }
+            }
+        }
+        ExprForm::While(test, body) => {
+            let test = Boxed::new(alloc, resolve(alloc, scope, test.get())?)?;
+            let body = resolve_list(alloc, scope, body.as_slice())?;
+            Ok(CodeForm::While(test, body))
+        }
+    }
+}
+
+/// These expressions in order, each name replaced by what it stands for in the scope. The only error
+/// is want of memory.
+#[cycle(resolve_expr)]
+pub fn resolve_list(alloc: Global, scope: &Scope, list: &[Expr]) -> Result<Items<Code>, AllocError>
+    ensures { IfOk result (λ cs. code.list_view cs ≡ resolved_all (scope_view scope.now) (tree.list_view list.now)) }
+{
+    let mut codes = Items::new(alloc);
+    for expr in list {
+        codes.push(resolve(alloc, scope, expr)?)?;
+    }
+    Ok(codes)
+}
+
+#[cycle(resolve_expr)]
+fn resolve_links(
+    alloc: Global,
+    scope: &Scope,
+    links: &[Link],
+) -> Result<Items<CodeLink>, AllocError>
+    ensures { IfOk result (λ ls. code.links_of (map code.link_view ls) ≡ resolved_links (scope_view scope.now) (tree.links_of (map tree.link_view links.now))) }
+{
+    let mut codes = Items::new(alloc);
+    for link in links {
+        codes.push(CodeLink {
+            op: link.op,
+            pos: link.pos,
+            operand: resolve(alloc, scope, &link.operand)?,
+        })?;
+    }
+    Ok(codes)
+}
+
+#[cycle(resolve_expr)]
+fn resolve_sendings(
+    alloc: Global,
+    scope: &Scope,
+    sendings: &[Sending],
+) -> Result<Items<CodeSending>, AllocError>
+    ensures { IfOk result (λ ss. code.sendings_of (map code.sending_view ss) ≡ resolved_sendings (scope_view scope.now) (tree.sendings_of (map tree.sending_view sendings.now))) }
+{
+    let mut codes = Items::new(alloc);
+    for sending in sendings {
+        let selector = sending.selector.copy()?;
+        let args = match &sending.args {
+            None => None,
+            Some(args) => Some(resolve_list(alloc, scope, args.as_slice())?),
+        };
+        codes.push(CodeSending { selector, args })?;
+    }
+    Ok(codes)
+}
+
+/// A list that is written or left out.
+pub(crate) fn resolve_part(
+    alloc: Global,
+    scope: &Scope,
+    part: &Option<Items<Expr>>,
+) -> Result<Option<Items<Code>>, AllocError>
+    ensures { IfOk result (λ p. code.part_view p ≡ resolved_part (scope_view scope.now) (tree.part_view part.now)) }
+{
+    match part {
+        None => Ok(None),
+        Some(list) => Ok(Some(resolve_list(alloc, scope, list.as_slice())?)),
+    }
+}

@@ -1,0 +1,223 @@
+ghost use Rattle.std.specs.Prelude.{◌≡◌, map, option_map, IfOk};
+ghost use Rattle.pz_syntax.specs.StatementView as tree;
+ghost use Rattle.pz_classes_code.specs.StepView as step;
+ghost use Rattle.pz_syntax.specs.ExpressionView as expression;
+ghost use Rattle.pz_classes_code.specs.CodeView as code;
+ghost use Rattle.pz_classes_code.specs.Resolution.{resolved, slots_of, resolved_statement, resolved_statements, resolved_branches};
+ghost use Rattle.pz_classes_code.specs.ScopeView.{scope_view};
+
+use crate::resolving::expressions::{resolve, resolve_list, resolve_part};
+use crate::scope::Scope;
+use crate::{Code, CodeForm, Slot, Step, StepForm};
+use pz_items::{Boxed, Items};
+use pz_syntax::{Expr, Id, Pos, Stmt, StmtForm};
+use std::alloc::{AllocError, Global};
+
+#[cycle(resolve_stmt)]
+fn resolve_statement(alloc: Global, scope: &Scope, stmt: &Stmt) -> Result<Step, AllocError>
+    ensures { IfOk result (λ s. step.view s ≡ resolved_statement (scope_view scope.now) (tree.view stmt.now)) }
+{
+    Ok(Step {
+        pos: stmt.pos,
+        form: resolve_form(alloc, scope, &stmt.form, stmt.pos)?,
+    })
+}
+
+#[cycle(resolve_stmt)]
+fn resolve_form(
+    alloc: Global,
+    scope: &Scope,
+    form: &StmtForm,
+    pos: Pos,
+) -> Result<StepForm, AllocError>
+    ensures { IfOk result (λ f. step.form_view f pos ≡ resolved_statement (scope_view scope.now) (tree.form_view form.now pos)) }
+{
+    match form {
+        StmtForm::Skip => Ok(StepForm::Skip),
+        StmtForm::Delay(time) => Ok(StepForm::Delay(resolve(alloc, scope, time)?)),
+        StmtForm::Group(list) => {
+            Ok(StepForm::Group(resolve_statements(alloc, scope, list.as_slice())?))
+        }
+        StmtForm::Block(list) => Ok(StepForm::Block(resolve_list(alloc, scope, list.as_slice())?)),
+        StmtForm::Guard(test, guarded) => {
+            let guarded = Boxed::new(alloc, resolve_statement(alloc, scope, guarded.get())?)?;
+            Ok(StepForm::Guard(resolve(alloc, scope, test)?, guarded))
+        }
+        StmtForm::Par(branches) => {
+            Ok(StepForm::Par(resolve_branches(alloc, scope, branches.as_slice())?))
+        }
+        StmtForm::Sel(branches) => {
+            Ok(StepForm::Sel(resolve_branches(alloc, scope, branches.as_slice())?))
+        }
+        StmtForm::If(test, part, rest) => {
+            let test = resolve(alloc, scope, test)?;
+            let part = resolve_statements(alloc, scope, part.as_slice())?;
+            match rest {
+                None => Ok(StepForm::If(test, part, None)),
+                Some(rest) => {
+                    let rest = resolve_statements(alloc, scope, rest.as_slice())?;
+                    Ok(StepForm::If(test, part, Some(rest)))
+                }
+            }
+        }
+        StmtForm::While(test, body) => {
+            let body = resolve_statements(alloc, scope, body.as_slice())?;
+            Ok(StepForm::While(resolve(alloc, scope, test)?, body))
+        }
+        StmtForm::Abort(first, second) => {
+            let second = Boxed::new(alloc, resolve_statement(alloc, scope, second.get())?)?;
+            let first = resolve_statements(alloc, scope, first.as_slice())?;
+            Ok(StepForm::Abort(first, second))
+        }
+        StmtForm::Interrupt(first, second) => {
+            let second = Boxed::new(alloc, resolve_statement(alloc, scope, second.get())?)?;
+            let first = resolve_statements(alloc, scope, first.as_slice())?;
+            Ok(StepForm::Interrupt(first, second))
+        }
+        StmtForm::Send {
+            port,
+            name,
+            args,
+            block,
+        } => resolve_send(alloc, scope, port, name, args, block, pos),
+        StmtForm::Receive {
+            port,
+            name,
+            into,
+            condition,
+            block,
+        } => resolve_receive(alloc, scope, port, name, into, condition, block, pos),
+        StmtForm::Call {
+            method,
+            args,
+            results,
+        } => Ok(StepForm::Call {
+            method: method.copy()?,
+            args: resolve_list(alloc, scope, args.as_slice())?,
+            results: scope.slots(alloc, results.as_slice())?,
+        }),
+        StmtForm::Assign(target, value) => resolve_assignment(alloc, scope, target, value, pos),
+        StmtForm::Value(value) => Ok(StepForm::Eval(resolve(alloc, scope, value)?)),
+    }
+}
+
+/// The assignment as an expression, at the same place.
+fn resolve_assignment(
+    alloc: Global,
+    scope: &Scope,
+    target: &Id,
+    value: &Expr,
+    pos: Pos,
+) -> Result<StepForm, AllocError>
+    ensures { IfOk result (λ f. step.form_view f pos ≡ resolved_statement (scope_view scope.now) (tree.form_view (StmtForm.Assign target.now value.now) pos)) }
+{
+    let value = Boxed::new(alloc, resolve(alloc, scope, value)?)?;
+    Ok(StepForm::Eval(Code {
+        pos,
+        form: CodeForm::Assign(scope.slot(&target.name), value),
+    }))
+}
+
+fn resolve_send(
+    alloc: Global,
+    scope: &Scope,
+    port: &Id,
+    name: &Id,
+    args: &Option<Items<Expr>>,
+    block: &Option<Items<Expr>>,
+    pos: Pos,
+) -> Result<StepForm, AllocError>
+    ensures { IfOk result (λ f. step.form_view f pos ≡ resolved_statement (scope_view scope.now) (tree.form_view (StmtForm.Send port.now name.now args.now block.now) pos)) }
+{
+    Ok(StepForm::Send {
+        port: scope.port(&port.name),
+        name: name.copy()?,
+        args: resolve_part(alloc, scope, args)?,
+        block: resolve_part(alloc, scope, block)?,
+    })
+}
+
+fn resolve_receive(
+    alloc: Global,
+    scope: &Scope,
+    port: &Id,
+    name: &Id,
+    into: &Option<Items<Id>>,
+    condition: &Option<Expr>,
+    block: &Option<Items<Expr>>,
+    pos: Pos,
+) -> Result<StepForm, AllocError>
+    ensures { IfOk result (λ f. step.form_view f pos ≡ resolved_statement (scope_view scope.now) (tree.form_view (StmtForm.Receive port.now name.now into.now condition.now block.now) pos)) }
+{
+    Ok(StepForm::Receive {
+        port: scope.port(&port.name),
+        name: name.copy()?,
+        into: resolve_into(alloc, scope, into)?,
+        condition: resolve_condition(alloc, scope, condition)?,
+        block: resolve_part(alloc, scope, block)?,
+    })
+}
+
+/// The variables of a reception.
+fn resolve_into(
+    alloc: Global,
+    scope: &Scope,
+    into: &Option<Items<Id>>,
+) -> Result<Option<Items<Slot>>, AllocError>
+    ensures { IfOk result (λ slots. slots ≡ option_map (slots_of (scope_view scope.now)) into.now) }
+{
+    match into {
+        None => Ok(None),
+        Some(ids) => Ok(Some(scope.slots(alloc, ids.as_slice())?)),
+    }
+}
+
+/// The condition of a reception.
+fn resolve_condition(
+    alloc: Global,
+    scope: &Scope,
+    condition: &Option<Expr>,
+) -> Result<Option<Code>, AllocError>
+    ensures { IfOk result (λ c. option_map code.view c ≡ option_map (resolved (scope_view scope.now)) (option_map expression.view condition.now)) }
+{
+    match condition {
+        None => Ok(None),
+        Some(test) => Ok(Some(resolve(alloc, scope, test)?)),
+    }
+}
+
+/// These statements in order, each name replaced by what it stands for in the scope. The only error
+/// is want of memory.
+#[cycle(resolve_stmt)]
+pub fn resolve_statements(
+    alloc: Global,
+    scope: &Scope,
+    list: &[Stmt],
+) -> Result<Items<Step>, AllocError>
+    ensures { IfOk result (λ ss. step.sequence_view ss ≡ resolved_statements (scope_view scope.now) (tree.sequence_view list.now)) }
+{
+    let mut steps = Items::new(alloc);
+    for stmt in list {
+        steps.push(resolve_statement(alloc, scope, stmt)?)?;
+    }
+    Ok(steps)
+}
+
+#[cycle(resolve_stmt)]
+fn resolve_branches(
+    alloc: Global,
+    scope: &Scope,
+    branches: &[Items<Stmt>],
+) -> Result<Items<Items<Step>>, AllocError>
+    ensures { IfOk result (λ bs. step.branches_of (map (map step.view) bs) ≡ resolved_branches (scope_view scope.now) (tree.branches_of (map (map tree.view) branches.now))) }
+{
+    let mut steps = Items::new(alloc);
+    for branch in branches {
+        let mut part = Items::new(alloc);
+        for stmt in branch.as_slice() {
+            part.push(resolve_statement(alloc, scope, stmt)?)?;
+        }
+        steps.push(part)?;
+    }
+    Ok(steps)
+}

@@ -1,4 +1,0 @@
-pub mod Readings
-pub mod Completeness
-pub mod Budgets
-pub mod Erasing

@@ -1,9 +1,0 @@
-use Rattle.std.proofs.Common.{◌≡◌, ◌-◌}
-use Rattle.pz_cursor.specs.declared.ahead.Next.TheVariants as n
-use Rattle.pz_cursor.specs.devices.Input.{sees}
-use Rattle.pz_cursor.specs.devices.Lists.{repeat, with_front}
-use Rattle.pz_clusters.specs.devices.Clusters.{instances, one_instance}
-use Rattle.pz_clusters.proofs.instances.instances.Given as goal
-
-abbrev pub invariant-loop-turn : goal.invariant-loop-turn
-invariant-loop-turn l = instances l.fn.cursor ≡ with_front l.found (repeat (sees n.Head) one_instance (l._turn-end - l._turn) l.cursor)

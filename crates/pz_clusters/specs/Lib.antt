@@ -1,2 +1,0 @@
-pub mod ClusterPlaces
-pub mod devices

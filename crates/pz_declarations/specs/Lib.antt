@@ -1,2 +1,0 @@
-pub mod DeclarationPlaces
-pub mod devices

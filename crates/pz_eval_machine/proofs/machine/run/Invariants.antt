@@ -1,0 +1,25 @@
+use Rattle.std.proofs.Common.{◌≡◌, ◌≤◌, length}
+use Rattle.std.specs.Prelude.{All}
+use Rattle.pz_syntax.specs.Classes.{ModelTree}
+use Rattle.pz_classes.specs.Tables.{AreClasses}
+use Rattle.pz_eval_operations.specs.devices.Sites.{place_of, memory_at}
+use Rattle.pz_eval_machine.specs.devices.Tasks.{meant, unwound}
+use Rattle.pz_eval_machine.specs.devices.Steps.{root}
+use Rattle.pz_eval_machine.specs.devices.Within.{ControlWithin}
+use Rattle.pz_eval_operations.specs.devices.Within.{ActivationWithin}
+use Rattle.pz_eval_machine.proofs.machine.run.Given as goal
+
+abbrev pub invariant-units : goal.invariant-units
+invariant-units l = record {
+  goes : (model : ModelTree) → AreClasses model l.fn.setting.classes.now → unwound model l.fn.setting.clock l.callers.items (meant model l.fn.setting.clock (place_of l.activation.site) l.activation.tasks.items l.control (memory_at l.activation.site l.state.held l.activation.locals.items) l.units)
+      ≡ meant model l.fn.setting.clock (place_of l.fn.activation.site) l.fn.activation.tasks.items l.fn.first (memory_at l.fn.activation.site l.fn.state.held l.fn.activation.locals.items) l.fn.units;
+  marks : l.state.marks ≡ l.fn.state.marks;
+  count : length l.fn.state.held.objects ≤ length l.state.held.objects;
+  place : root l.callers.items (place_of l.activation.site) ≡ place_of l.fn.activation.site;
+  control : ControlWithin (length l.state.held.objects) l.control;
+  within : ActivationWithin (length l.state.held.objects) l.activation;
+  callers : All (ActivationWithin (length l.state.held.objects)) l.callers.items;
+}
+
+abbrev pub decreases-units : goal.decreases-units
+decreases-units l = l.units

@@ -1,0 +1,181 @@
+//! Expressions that are evaluated at once, with no task and no memory: constants, variables and `self`,
+//! and an operator between two numbers that are constants or variables.
+
+ghost use Rattle.std.specs.Prelude.{◌≡◌, ◌<◌, ℕ, length, IfSome};
+ghost use Rattle.pz_syntax.specs.declared.tokens.Pos.{Pos};
+ghost use Rattle.pz_syntax.specs.Expressions.{chain};
+ghost use Rattle.pz_classes_code.specs.CodeView.{view};
+ghost use Rattle.pz_value.specs.declared.value.Value.TheVariants.{Int};
+ghost use Rattle.pz_state.specs.References.{RefersWithin};
+ghost use Rattle.pz_eval_rules.specs.Memories as memories;
+ghost use Rattle.pz_eval_rules.specs.Steps as steps;
+ghost use Rattle.pz_eval_operations.specs.devices.Sites.{place_of, memory_of};
+ghost use Rattle.pz_eval_operations.specs.devices.Views.{links_view};
+ghost use Rattle.pz_eval_operations.specs.devices.AtOnce.{IsWorth, IsWorthThree, Attempt};
+ghost use Rattle.pz_eval_operations.specs.devices.Within.{SiteWithin, ActivationWithin};
+
+use crate::operating::between_numbers;
+use crate::reading::{held, plain_constant, plain_copy};
+use crate::task::{Activation, Site};
+use pz_classes_code::{Code, CodeForm, CodeLink, Slot};
+use pz_state::State;
+use pz_syntax::Literal;
+use pz_value::Value;
+
+/// What a variable holds, if it is no text; nil if there is none.
+fn plain_variable(state: &State, activation: &Activation<'_>, slot: Slot) -> Option<Value>
+    ensures value { IfSome result (λ y. y ≡ memories.read (place_of activation.now.site) slot (memory_of activation.now state.now.held)) }
+    ensures within { ActivationWithin (length state.now.held.objects) activation.now → IfSome result (RefersWithin (length state.now.held.objects)) }
+{
+    match held(state, activation.site, activation.locals.as_slice(), slot) {
+        Some(value) => plain_copy(value),
+        None => Some(Value::Nil),
+    }
+}
+
+/// What `self` is: outside data methods it is nil.
+pub fn self_at(site: Site) -> Value
+    ensures value { result ≡ memories.self_at (place_of site) }
+    ensures within { (count : ℕ) → SiteWithin count site → RefersWithin count result }
+{
+    match site {
+        Site::Object(r) => Value::Ref(r),
+        Site::Process(_) => Value::Nil,
+    }
+}
+
+/// A constant, a variable or `self`, but for texts.
+fn plain(state: &State, activation: &Activation<'_>, code: &Code) -> Option<Value>
+    ensures worth { IfSome result (IsWorth (place_of activation.now.site) (memory_of activation.now state.now.held) (view code.now)) }
+    ensures within { ActivationWithin (length state.now.held.objects) activation.now → IfSome result (RefersWithin (length state.now.held.objects)) }
+{
+    match &code.form {
+        CodeForm::Lit(literal) => plain_constant(literal),
+        CodeForm::Var(slot) => plain_variable(state, activation, *slot),
+        CodeForm::Me => Some(self_at(activation.site)),
+        _ => None,
+    }
+}
+
+/// A constant that is a number.
+fn number_of(literal: &Literal) -> Option<i64>
+    ensures { IfSome result (λ n. steps.constant literal.now ≡ Int n) }
+{
+    match literal {
+        Literal::Int(n) => Some(*n),
+        _ => None,
+    }
+}
+
+/// A number that a variable holds.
+fn number_in(state: &State, activation: &Activation<'_>, slot: Slot) -> Option<i64>
+    ensures { IfSome result (λ n. memories.read (place_of activation.now.site) slot (memory_of activation.now state.now.held) ≡ Int n) }
+{
+    match held(state, activation.site, activation.locals.as_slice(), slot)? {
+        Value::Int(n) => Some(*n),
+        _ => None,
+    }
+}
+
+/// A number that is a constant or a variable.
+fn number(state: &State, activation: &Activation<'_>, code: &Code) -> Option<i64>
+    ensures { IfSome result (λ n. IsWorth (place_of activation.now.site) (memory_of activation.now state.now.held) (view code.now) (Int n)) }
+{
+    match &code.form {
+        CodeForm::Lit(literal) => number_of(literal),
+        CodeForm::Var(slot) => number_in(state, activation, *slot),
+        _ => None,
+    }
+}
+
+/// One operator between two numbers.
+fn of_numbers(
+    state: &State,
+    activation: &Activation<'_>,
+    first: &Code,
+    links: &[CodeLink],
+) -> Option<Value>
+    ensures worth { IfSome result (λ y. (at : Pos) → IsWorthThree (place_of activation.now.site) (memory_of activation.now state.now.held) (chain at (view first.now) (links_view links.now)) y) }
+    ensures within { (count : ℕ) → IfSome result (RefersWithin count) }
+{
+    let (link, rest) = links.split_first()?;
+    if !rest.is_empty() {
+        return None;
+    }
+    let left = number(state, activation, first)?;
+    let right = number(state, activation, &link.operand)?;
+    between_numbers(link.op, left, right)
+}
+
+/// A constant, a variable or `self`, which counts one unit.
+fn plain_at_once(
+    state: &State,
+    units: &mut u64,
+    activation: &Activation<'_>,
+    depth: u32,
+    code: &Code,
+) -> Option<Value>
+    ensures finds { Attempt depth (place_of activation.now.site) (memory_of activation.now state.now.held) (view code.now) units.old units.new result }
+    ensures within { ActivationWithin (length state.now.held.objects) activation.now → IfSome result (RefersWithin (length state.now.held.objects)) }
+{
+    if depth == 0 {
+        return None;
+    }
+    if *units == 0 {
+        return None;
+    }
+    let value = plain(state, activation, code)?;
+    *units -= 1;
+    Some(value)
+}
+
+/// An operator between two numbers, which counts a unit, as each of them does.
+fn numbers_at_once(
+    state: &State,
+    units: &mut u64,
+    activation: &Activation<'_>,
+    depth: u32,
+    first: &Code,
+    links: &[CodeLink],
+) -> Option<Value>
+    ensures finds { (at : Pos) → Attempt depth (place_of activation.now.site) (memory_of activation.now state.now.held) (chain at (view first.now) (links_view links.now)) units.old units.new result }
+    ensures within { (count : ℕ) → IfSome result (RefersWithin count) }
+{
+    if depth < 2 {
+        return None;
+    }
+    if *units < 3 {
+        return None;
+    }
+    let value = of_numbers(state, activation, first, links)?;
+    *units -= 3;
+    Some(value)
+}
+
+/// The value of an expression that may stand so deep, if it is evaluated at once, with the units that
+/// it counts.
+pub fn at_once(
+    state: &State,
+    units: &mut u64,
+    activation: &Activation<'_>,
+    depth: u32,
+    code: &Code,
+) -> Option<Value>
+    ensures finds { Attempt depth (place_of activation.now.site) (memory_of activation.now state.now.held) (view code.now) units.old units.new result }
+    ensures within { ActivationWithin (length state.now.held.objects) activation.now → IfSome result (RefersWithin (length state.now.held.objects)) }
+{
+    match &code.form {
+        CodeForm::Chain(first, links) => numbers_at_once(
+            state,
+            units,
+            activation,
+            depth,
+            first.get(),
+            links.as_slice(),
+        ),
+        CodeForm::Lit(_) | CodeForm::Var(_) | CodeForm::Me => {
+            plain_at_once(state, units, activation, depth, code)
+        }
+        _ => None,
+    }
+}

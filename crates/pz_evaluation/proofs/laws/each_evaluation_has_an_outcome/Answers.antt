@@ -1,5 +1,0 @@
-use Rattle.pz_evaluation.proofs.Exact.{each_has_an_outcome}
-use Rattle.pz_evaluation.proofs.laws.each_evaluation_has_an_outcome.Goals as goal
-
-pub returns : goal.returns
-returns c = record { law = each_has_an_outcome }

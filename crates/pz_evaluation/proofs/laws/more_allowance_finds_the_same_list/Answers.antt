@@ -1,5 +1,0 @@
-use Rattle.pz_evaluation.proofs.Exact.{more_finds_list}
-use Rattle.pz_evaluation.proofs.laws.more_allowance_finds_the_same_list.Goals as goal
-
-pub returns : goal.returns
-returns c = record { law = more_finds_list }

@@ -1,5 +1,0 @@
-use Rattle.pz_evaluation.proofs.Turns.{on_and_on}
-use Rattle.pz_evaluation.proofs.laws.turns_go_on.Goals as goal
-
-pub returns : goal.returns
-returns c = record { law = on_and_on }

@@ -1,5 +1,0 @@
-use Rattle.pz_expansion.specs.devices.Counting.{ArePlaced}
-use Rattle.pz_expansion.proofs.counting.by_number.Given as goal
-
-abbrev pub invariant-loop-class : goal.invariant-loop-class
-invariant-loop-class l = ArePlaced l.numbers l.classes.items l.class

@@ -1,5 +1,0 @@
-use Rattle.pz_expansion.specs.devices.Counting.{AreCounted}
-use Rattle.pz_expansion.proofs.counting.count_all.Given as goal
-
-abbrev pub invariant-loop-class : goal.invariant-loop-class
-invariant-loop-class l = AreCounted l.nodes l.order l.totals.items l.class-index

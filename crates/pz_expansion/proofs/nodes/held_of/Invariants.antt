@@ -1,7 +1,0 @@
-use Rattle.std.proofs.Common.{◌≡◌, take}
-use Rattle.pz_syntax.specs.ClassView.{model_view}
-use Rattle.pz_expansion.specs.devices.Nodes.{all_held}
-use Rattle.pz_expansion.proofs.nodes.held_of.Given as goal
-
-abbrev pub invariant-loop-instance : goal.invariant-loop-instance
-invariant-loop-instance l = l.held ≡ all_held (model_view l.model) (take l.instance-index l.instances)

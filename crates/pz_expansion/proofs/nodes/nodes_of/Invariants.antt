@@ -1,7 +1,0 @@
-use Rattle.std.proofs.Common.{◌≡◌, ◌++◌, map, drop}
-use Rattle.pz_syntax.specs.ClassView.{decl_view, model_view}
-use Rattle.pz_expansion.specs.devices.Nodes.{node_of, nodes}
-use Rattle.pz_expansion.proofs.nodes.nodes_of.Given as goal
-
-abbrev pub invariant-loop-decl : goal.invariant-loop-decl
-invariant-loop-decl l = l.nodes ++ map (node_of (model_view l.model)) (map decl_view (drop l.decl-index l.decl-items)) ≡ nodes (model_view l.model)

@@ -1,7 +1,0 @@
-mod Capping
-mod Forms
-mod Openings
-mod Outlined
-mod Rounds
-mod Beside
-mod Residuals

@@ -1,5 +1,0 @@
-use Rattle.pz_heights.proofs.Outlined.{outlined_opened}
-use Rattle.pz_heights.proofs.outline.outline_opened.Goals as goal
-
-pub returns : goal.returns
-returns c = outlined_opened c.opened_height.result c.opens_done.result c.args.step.now c.opened_height.ensures c.opens_done.ensures

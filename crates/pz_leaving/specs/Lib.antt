@@ -1,4 +1,0 @@
-pub mod devices
-pub mod Places
-pub mod Becoming
-pub mod Laws

@@ -1,5 +1,0 @@
-use Rattle.pz_operations.proofs.Counted.{counted}
-use Rattle.pz_machine.proofs.continuing.descend_counted.Goals as goal
-
-pub returns-clause-counted : goal.returns-clause-counted
-returns-clause-counted c = counted c.descend.result c.args.units.now c.tick.new.units c.in_ok-tick.ensures

@@ -1,4 +1,0 @@
-mod Pairs
-mod Verdicts
-mod Communications
-mod Moments

@@ -1,2 +1,0 @@
-pub mod devices
-pub mod Looking

@@ -1,7 +1,0 @@
-//! The moment of a configuration, and its offers.
-#![tactic(auto)]
-
-mod judging;
-mod looking;
-
-pub use looking::{Outlook, look};

@@ -1,0 +1,3 @@
+pub mod DeclarationPlaces
+pub mod devices
+pub mod ClusterPlaces

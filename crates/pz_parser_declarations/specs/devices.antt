@@ -1,0 +1,3 @@
+pub mod Sections
+pub mod DataClasses
+pub mod Clusters

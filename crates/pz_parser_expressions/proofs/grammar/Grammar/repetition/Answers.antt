@@ -1,0 +1,7 @@
+use Rattle.std.proofs.Common.{refl}
+use Rattle.pz_parser_expressions.specs.devices.Values.{repetition}
+use Rattle.pz_parser_expressions.proofs.grammar.Grammar.repetition.Goals as goal
+
+pub returns : goal.returns
+unfolding repetition
+returns g c = record { reads = rw (c.in_ok-deepen.ensures.reads, c.in_ok-test.ensures.reads, c.in_ok-body.ensures.reads, c.in_ok-expect.ensures.reads, c.repeated.ensures, c.pos-pos.ensures.is) refl }

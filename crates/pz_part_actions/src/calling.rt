@@ -1,0 +1,128 @@
+// The call of a method. The only error is want of memory.
+
+ghost use Rattle.std.specs.Prelude.{◌≡◌, ℕ, List, length, All, IfOk, OnOk};
+ghost use Rattle.pz_syntax.specs.Classes.{ModelTree};
+ghost use Rattle.pz_syntax.specs.Statements as statements;
+ghost use Rattle.pz_classes_code.specs.CodeView.{list_view};
+ghost use Rattle.pz_classes_code.specs.StepView.{sequence_view};
+ghost use Rattle.pz_state.specs.References.{RefersWithin};
+ghost use Rattle.pz_classes.specs.Tables.{AreClasses};
+ghost use Rattle.pz_rules.specs.Terms as terms;
+ghost use Rattle.pz_rules.specs.Opening.{opened_all};
+ghost use Rattle.pz_rules.specs.Methods.{IsMethod};
+ghost use Rattle.pz_rules.specs.InternalActions.{Performs};
+ghost use Rattle.pz_rules.specs.View.{term_view};
+ghost use Rattle.pz_eval.specs.Known.{AreKnown};
+ghost use Rattle.pz_part_queries.specs.Standpoints.{Knows, seen_from};
+ghost use Rattle.pz_part_actions.specs.Becoming.{process_left};
+ghost use Rattle.pz_part_actions.specs.Fitting.{FitsHere};
+ghost use Rattle.pz_part_actions.specs.devices.Calls.{IsCallable, Enters};
+
+use crate::evaluating::evaluate_all;
+use crate::opening::open_steps;
+use pz_part_queries::Standpoint;
+use pz_classes::{Body, Classes};
+use pz_classes_code::{Code, Slot, Step};
+use pz_items::{Boxed, Items};
+use pz_term_around::set_inputs;
+use pz_offer::Trouble;
+use pz_term_processes::trees_are_sets;
+use pz_rules::Term;
+use pz_state::{FrameId, State};
+use pz_syntax::{Id, Pos};
+use pz_value::{ClassId, Value};
+use std::alloc::{AllocError, Global};
+
+/// The body of a method: how many locals it has, and its statements.
+#[derive(Clone, Copy)]
+struct Method<'a> {
+    locals: u32,
+    steps: &'a [Step],
+}
+
+/// The method of a process class with this name and these numbers of inputs and outputs.
+fn find_method<'a>(
+    classes: &'a Classes,
+    class: ClassId,
+    name: &[u8],
+    inputs: usize,
+    outputs: usize,
+) -> Method<'a>
+    requires { ∥ IsCallable classes.now class name.now inputs outputs ∥₁ }
+    ensures { (m : ModelTree) → ∥ AreClasses m classes.now ∥₁ → IsMethod m class.0 name.now inputs outputs result.locals (sequence_view result.steps.now) }
+{
+    trees_are_sets();
+    let Some(method) = classes.process_method(class, name, inputs, outputs) else {
+        unreachable!();
+    };
+    match classes.body(method) {
+        Body::Process { locals, stmts } => Method {
+            locals: *locals,
+            steps: stmts.as_slice(),
+        },
+        Body::Data { .. } => unreachable!(),
+    }
+}
+
+/// The frame of a method, round its body.
+fn framed(
+    alloc: Global,
+    frame: FrameId,
+    inputs: usize,
+    results: &[Slot],
+    steps: &[Step],
+) -> Result<Term, AllocError>
+    ensures { IfOk result (λ term. term_view term ≡ terms.frame frame.0 inputs results.now (opened_all (sequence_view steps.now))) }
+{
+    let results = Items::from_vec(Vec::from_slice(alloc, results)?);
+    let body = Boxed::new(alloc, open_steps(alloc, steps)?)?;
+    Ok(Term::Frame {
+        frame,
+        inputs,
+        results,
+        body,
+    })
+}
+
+/// A further frame, whose first locals have the values of the inputs, round the body of the method.
+fn enter(
+    alloc: Global,
+    state: &mut State,
+    method: Method<'_>,
+    inputs: Items<Value>,
+    results: &[Slot],
+) -> Result<Term, AllocError>
+    requires { All (RefersWithin (length state.old.held.objects)) inputs }
+    ensures { IfOk result (λ term. Enters method.entry.locals results.now (sequence_view method.entry.steps.now) inputs (term_view term) state.old state.new) }
+{
+    let count = inputs.len();
+    let frame = state.open_frame(method.locals)?;
+    set_inputs(state, frame, inputs.into_vec())?;
+    framed(alloc, frame, count, results, method.steps)
+}
+
+/// A call. Its arguments are evaluated in the frame of the caller, before that of the method opens.
+pub(crate) fn perform_call(
+    alloc: Global,
+    here: &Standpoint<'_>,
+    class: ClassId,
+    state: &mut State,
+    frame: FrameId,
+    pos: Pos,
+    method: &Id,
+    args: &[Code],
+    results: &[Slot],
+) -> Result<Result<Term, Trouble>, AllocError>
+    requires known { AreKnown here.now.classes.now }
+    requires fits { ∥ FitsHere here.now class (terms.leaf (statements.call pos method.now (list_view args.now) results.now)) ∥₁ }
+    ensures performs { (m : ModelTree) → Knows m here.now → IfOk result (λ left. Performs (seen_from m here.now class.0 state.old.held) frame.0
+        (terms.leaf (statements.call pos method.now (list_view args.now) results.now)) pos (process_left state.new.held left)) }
+    ensures marks { OnOk result (state.new.marks ≡ state.old.marks) }
+{
+    let name = method.name.as_str().as_bytes();
+    let called = find_method(here.classes, class, name, args.len(), results.len());
+    match evaluate_all(alloc, here, state, frame, pos, args)? {
+        Ok(values) => Ok(Ok(enter(alloc, state, called, values, results)?)),
+        Err(trouble) => Ok(Err(trouble)),
+    }
+}

@@ -1,0 +1,153 @@
+//! What a part becomes by itself. The only error is want of memory.
+
+ghost use Rattle.std.specs.Prelude.{◌≡◌, ℕ, IfOk, OnOk};
+ghost use Rattle.pz_syntax.specs.Classes.{ModelTree};
+ghost use Rattle.pz_syntax.specs.declared.tokens.Pos.{Pos as Position};
+ghost use Rattle.pz_syntax.specs.Statements as statements;
+ghost use Rattle.pz_classes_code.specs.CodeView.{view as code_view, list_view};
+ghost use Rattle.pz_classes_code.specs.StepView.{view};
+ghost use Rattle.pz_state.specs.States.{StateView};
+ghost use Rattle.pz_rules.specs.declared.action.Kind.{Kind};
+ghost use Rattle.pz_rules.specs.Terms as terms;
+ghost use Rattle.pz_rules.specs.InternalActions.{Can, Performs};
+ghost use Rattle.pz_rules.specs.View.{term_view};
+ghost use Rattle.pz_eval.specs.Known.{AreKnown};
+ghost use Rattle.pz_part_queries.specs.Standpoints.{Knows, seen_from};
+ghost use Rattle.pz_rules.specs.Acting.{IsActing};
+ghost use Rattle.pz_part_actions.specs.Becoming.{process_left, done_left};
+ghost use Rattle.pz_part_actions.specs.Fitting.{FitsHere};
+
+use crate::calling::perform_call;
+use crate::evaluating::{evaluate, run, without_value};
+use crate::testing::{perform_if, perform_while};
+use pz_part_queries::Standpoint;
+use pz_classes_code::{Code, Step, StepForm};
+use pz_offer::Trouble;
+use pz_rules::Term;
+use pz_state::{FrameId, State};
+use pz_syntax::Pos;
+use pz_value::ClassId;
+use std::alloc::{AllocError, Global};
+
+/// Nothing is left, unless there is a trouble.
+fn done(end: Result<(), Trouble>) -> Result<Term, Trouble>
+    ensures { (s : StateView) → process_left s result ≡ done_left s end }
+{
+    end?;
+    Ok(Term::Done)
+}
+
+/// An expression that is a statement.
+fn perform_value(
+    alloc: Global,
+    here: &Standpoint<'_>,
+    state: &mut State,
+    frame: FrameId,
+    pos: Pos,
+    code: &Code,
+) -> Result<Result<Term, Trouble>, AllocError>
+    requires { AreKnown here.now.classes.now }
+    ensures performs { (m : ModelTree) (class : ℕ) → Knows m here.now → IfOk result (λ left. Performs (seen_from m here.now class state.old.held) frame.0 (terms.leaf (statements.value pos (code_view code.now))) pos (process_left state.new.held left)) }
+    ensures marks { state.new.marks ≡ state.old.marks }
+{
+    let found = evaluate(alloc, here, state, frame, pos, code)?;
+    Ok(done(without_value(found)))
+}
+
+/// A block.
+fn perform_block(
+    alloc: Global,
+    here: &Standpoint<'_>,
+    state: &mut State,
+    frame: FrameId,
+    pos: Pos,
+    codes: &[Code],
+) -> Result<Result<Term, Trouble>, AllocError>
+    requires { AreKnown here.now.classes.now }
+    ensures performs { (m : ModelTree) (class : ℕ) → Knows m here.now → IfOk result (λ left. Performs (seen_from m here.now class state.old.held) frame.0 (terms.leaf (statements.block pos (list_view codes.now))) pos (process_left state.new.held left)) }
+    ensures marks { state.new.marks ≡ state.old.marks }
+{
+    let end = run(alloc, here, state, frame, pos, codes)?;
+    Ok(done(end))
+}
+
+/// A statement that has not begun.
+fn perform_step(
+    alloc: Global,
+    here: &Standpoint<'_>,
+    class: ClassId,
+    state: &mut State,
+    frame: FrameId,
+    step: &Step,
+) -> Result<Result<Term, Trouble>, AllocError>
+    requires known { AreKnown here.now.classes.now }
+    requires acts { IsActing (terms.leaf (view step.now)) }
+    requires fits { ∥ FitsHere here.now class (terms.leaf (view step.now)) ∥₁ }
+    ensures performs { (m : ModelTree) → Knows m here.now → IfOk result (λ left. Performs (seen_from m here.now class.0 state.old.held) frame.0 (terms.leaf (view step.now)) step.now.pos (process_left state.new.held left)) }
+    ensures marks { OnOk result (state.new.marks ≡ state.old.marks) }
+{
+    let pos = step.pos;
+    match &step.form {
+        StepForm::Skip => Ok(Ok(Term::Done)),
+        // No time is left of it, and its evaluation leaves nothing.
+        StepForm::Delay(_) => Ok(Ok(Term::Done)),
+        StepForm::Eval(code) => perform_value(alloc, here, state, frame, pos, code),
+        StepForm::Block(codes) => perform_block(alloc, here, state, frame, pos, codes.as_slice()),
+        StepForm::If(test, steps, other) => {
+            perform_if(
+                alloc,
+                here,
+                state,
+                frame,
+                pos,
+                test,
+                steps.as_slice(),
+                other,
+            )
+        }
+        StepForm::While(test, body) => {
+            perform_while(alloc, here, state, frame, step, test, body.as_slice())
+        }
+        StepForm::Call {
+            method,
+            args,
+            results,
+        } => perform_call(
+            alloc,
+            here,
+            class,
+            state,
+            frame,
+            pos,
+            method,
+            args.as_slice(),
+            results.as_slice(),
+        ),
+        _ => unreachable!(),
+    }
+}
+
+/// What a part becomes by itself, in a frame of a process of this class. Effects stay, and after a
+/// trouble some may: who calls marks the state before. The time is that of the evaluation, and
+/// linear in what is opened and in the inputs of a call. The only error is want of memory.
+pub fn perform(
+    alloc: Global,
+    here: &Standpoint<'_>,
+    class: ClassId,
+    state: &mut State,
+    frame: FrameId,
+    part: &Term,
+) -> Result<Result<Term, Trouble>, AllocError>
+    requires known { AreKnown here.now.classes.now }
+    requires acts { IsActing (term_view part.now) }
+    requires fits { ∥ FitsHere here.now class (term_view part.now) ∥₁ }
+    ensures performs { (m : ModelTree) (kind : Kind) (pos : Position) → Knows m here.now → Can (seen_from m here.now class.0 state.old.held) frame.0 (term_view part.now) kind pos →
+        IfOk result (λ left. Performs (seen_from m here.now class.0 state.old.held) frame.0 (term_view part.now) pos (process_left state.new.held left)) }
+    ensures marks { OnOk result (state.new.marks ≡ state.old.marks) }
+{
+    match part {
+        Term::Leaf(step) => perform_step(alloc, here, class, state, frame, step),
+        Term::Wait { .. } => Ok(Ok(Term::Done)),
+        _ => unreachable!(),
+    }
+}

@@ -1,0 +1,3 @@
+mod Asked
+pub mod Inside
+pub mod Verdicts

@@ -1,0 +1,5 @@
+pub mod Standpoints
+pub mod Parcels
+pub mod devices
+pub mod Parts
+pub mod Laws

@@ -1,0 +1,18 @@
+-- The parcel of the values of a send's arguments.
+use Rattle.std.specs.Prelude.{ℕ, List, Result, Ok, Err}
+use Rattle.pz_syntax.specs.declared.tokens.Pos.{Pos}
+use Rattle.pz_syntax.specs.Expressions.{Part}
+use Rattle.pz_value.specs.declared.value.ClassId.{ClassId}
+use Rattle.pz_value.specs.declared.value.Value.{Value}
+use Rattle.pz_classes_code.specs.declared.slot.Slot.{Slot}
+use Rattle.pz_state.specs.States.{StateView}
+use Rattle.pz_copy.specs.Parcels.{ParcelView}
+use Rattle.pz_copy.specs.Packing.{IsParcelOf}
+use Rattle.pz_offer.specs.declared.trouble.Trouble.{Trouble}
+use Rattle.pz_rules.specs.Settings.{At}
+use Rattle.pz_rules.specs.Evaluations.{GivesPart}
+
+-- the values are packed out of the state that their evaluation leaves; or it is a trouble
+pub data Packs (a : At) (f : ℕ) (at : Pos) (es : Part Slot ClassId) : Result ParcelView Trouble → Type 0 where
+  packs : (values : List Value) (s : StateView) (parcel : ParcelView) → GivesPart a f at es (Ok values) s → IsParcelOf s values parcel → Packs a f at es (Ok parcel)
+  fails : (trouble : Trouble) (s : StateView) → GivesPart a f at es (Err trouble) s → Packs a f at es (Err trouble)

@@ -1,5 +1,0 @@
-use Rattle.pz_process.proofs.CodedTrees.{steps_set, bodies_set}
-use Rattle.pz_process.proofs.laws.trees_are_sets.Goals as goal
-
-pub returns : goal.returns
-returns c = record { statements = steps_set; bodies = bodies_set }

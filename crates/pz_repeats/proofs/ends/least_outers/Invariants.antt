@@ -1,8 +1,0 @@
-use Rattle.std.proofs.Common.{◌≡◌, drop}
-use Rattle.std.specs.List.{flat_map}
-use Rattle.pz_violation.specs.Least.{least_from}
-use Rattle.pz_repeats.specs.devices.EndList.{outers}
-use Rattle.pz_repeats.proofs.ends.least_outers.Given as goal
-
-abbrev pub invariant-loop-channel : goal.invariant-loop-channel
-invariant-loop-channel l = least_from l.least (flat_map outers (drop l.channel-index l.channels)) ≡ least_from l.fn.before (flat_map outers l.channels)

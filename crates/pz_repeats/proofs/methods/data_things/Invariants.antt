@@ -1,8 +1,0 @@
-use Rattle.std.proofs.Common.{◌≡◌, map, take}
-use Rattle.pz_syntax.specs.ClassView.{data_method_view}
-use Rattle.pz_classes.specs.RepeatRules.{data_heading}
-use Rattle.pz_repeats.specs.devices.Headings.{heading_of}
-use Rattle.pz_repeats.proofs.methods.data_things.Given as goal
-
-abbrev pub invariant-loop-method : goal.invariant-loop-method
-invariant-loop-method l = map heading_of l.things ≡ map data_heading (map data_method_view (take l.method-index l.methods))

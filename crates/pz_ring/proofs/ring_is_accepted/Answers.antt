@@ -1,5 +1,0 @@
-use Rattle.pz_ring.proofs.Rings.{rings_are_models}
-use Rattle.pz_ring.proofs.ring_is_accepted.Goals as goal
-
-pub returns : goal.returns
-returns c = record { law = rings_are_models }

@@ -1,5 +1,0 @@
-use Rattle.pz_ring.proofs.RingLength.{rings_are_short}
-use Rattle.pz_ring.proofs.ring_is_short.Goals as goal
-
-pub returns : goal.returns
-returns c = record { law = rings_are_short }

@@ -1,0 +1,35 @@
+-- Lines, computed from the definitions.
+use Rattle.std.proofs.Common.{◌≡◌, refl, codes}
+use Rattle.std.specs.Fmt.{digits}
+use Rattle.pz_check_violations.specs.Order.{violation}
+use Rattle.pz_run_reading.specs.declared.refusal.Refusal.TheVariants.{Syntax, Violates}
+use Rattle.pz_run_lines.specs.Lines.{read_fault_line, too_long_line, accepted_line, model_refused_line, trace_refused_line, expected_line}
+
+no_file : read_fault_line (codes "m") ≡ codes "read fault: m\n"
+no_file = refl
+
+long_file : too_long_line (codes "models/m") ≡ codes "too long: models/m\n"
+long_file = refl
+
+-- seven processes in two clusters
+seven : accepted_line 7 4 ≡ codes "accepted 7 processes 4 wires\n"
+unfolding digits
+seven = refl
+
+-- an empty text
+empty : model_refused_line (Syntax (record { line = 1; column = 1 })) ≡ codes "model refused: Syntax 1:1\n"
+unfolding digits
+empty = refl
+
+-- an instance of a class that is not there
+no_class : model_refused_line (Violates (violation 13 (record { line = 1; column = 22 }))) ≡ codes "model refused: C13 1:22\n"
+unfolding digits
+no_class = refl
+
+-- a trace without its last line
+cut : trace_refused_line 7 ≡ codes "refused line 7\n"
+unfolding digits
+cut = refl
+
+cut_before : expected_line (codes "5 end\n") ≡ codes "expected 5 end\n"
+cut_before = refl

@@ -1,0 +1,46 @@
+-- What is known of a simulator, by where it stands.
+use Rattle.std.proofs.Common.{◌≡◌, ◌<◌, ℕ, List, length, get_or, sym, subst}
+use Rattle.pz_bind.specs.declared.net.Net.{Net}
+use Rattle.pz_bind.specs.NetView.{IsNet}
+use Rattle.pz_offer.specs.declared.trouble.Trouble.{Trouble}
+use Rattle.pz_rules.specs.declared.action.Action.{Action}
+use Rattle.pz_rules.specs.declared.moment.Moment.{Moment}
+use Rattle.pz_rules.specs.declared.moment.Moment.TheVariants.{Actions, Time, Stopped, Broken}
+use Rattle.pz_trace.specs.Named.{IsNamed}
+use Rattle.pz_term.specs.Simulations.{Simulation, stands, broken, IsMomentOf, AreOffersOf, ClockIs, setting_in, model_in, clock_in}
+use Rattle.pz_term.specs.Refusals.{NoTime}
+use Rattle.pz_term.specs.Laws.{OneMomentOf}
+use Rattle.pz_run_playing.specs.devices.Known.{Known}
+use Rattle.pz_run_playing.specs.devices.Rests.{IsReady}
+
+pub time_is : {d e : ℕ} → Time d ≡ Time e → d ≡ e
+time_is h = cc
+
+pub count_is : {n m : ℕ} → Actions n ≡ Actions m → n ≡ m
+count_is h = cc
+
+pub time_stopped : {d : ℕ} {t : Trouble} → Time d ≡ Stopped t → ⊥
+time_stopped h = cc
+
+pub actions_stopped : {n : ℕ} {t : Trouble} → Actions n ≡ Stopped t → ⊥
+actions_stopped h = cc
+
+actions_broken : {n : ℕ} → Actions n ≡ Broken → ⊥
+actions_broken h = cc
+
+pub no_time : OneMomentOf → (s : Simulation) (d : ℕ) (m : Moment) → IsMomentOf s (Time d) → IsMomentOf s m → NoTime m → ⊥
+no_time one s d m now other none = subst NoTime (one s m (Time d) other now) none
+
+pub clock_of_actions : (s : Simulation) (n clock : ℕ) → IsMomentOf s (Actions n) → ClockIs s clock → clock ≡ clock_in s
+clock_of_actions (stands setting c standing) n clock now at = at
+clock_of_actions (broken setting) n clock now at = absurd (actions_broken now)
+
+pub clock_of_ready : (s : Simulation) (clock : ℕ) → IsReady s → ClockIs s clock → clock ≡ clock_in s
+clock_of_ready (stands setting c standing) clock ready at = at
+clock_of_ready (broken setting) clock ready at = absurd ready
+
+-- an offer names what is there
+pub named_here : Known → (s : Simulation) (offers : List Action) (k : ℕ) (a : Action) (net : Net) → AreOffersOf s offers → k < length offers → a ≡ get_or offers k a → ∥ IsNet (model_in s) net ∥₁ → IsNamed net a
+named_here known s offers k a net are within is is_net =
+    let offer = known.offers_derived s offers are k a within in
+    subst (IsNamed net) (sym is) (known.offers_named (setting_in s) offer.0 net (get_or offers k a) is_net offer.1)

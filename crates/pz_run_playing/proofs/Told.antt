@@ -1,0 +1,35 @@
+-- Lines of offers, one after another.
+use Rattle.std.proofs.Common.{◌≡◌, ◌<◌, ◌+◌, ℕ, List, ◌++◌, length, get_or, drop, Some, None, sym, subst, ap, ◌∙◌, append_assoc}
+use Rattle.std.proofs.lemmas.List.{drop_more}
+use Rattle.pz_io.specs.Outside.{SinkState}
+use Rattle.pz_io.specs.declared.writing.Halt.{Halt}
+use Rattle.pz_io.specs.Writing.{Wrote}
+use Rattle.pz_syntax.specs.Classes.{ModelTree}
+use Rattle.pz_rules.specs.declared.action.Action.{Action}
+use Rattle.pz_trace.specs.Lines.{action_line}
+use Rattle.pz_run_playing.specs.Menus.{offer_line, offers_text}
+use Rattle.pz_run_playing.specs.devices.Known.{Known}
+
+-- the line of an action, where all of it is known
+pub same_line : (m l : ModelTree) (t u n k : ℕ) (a b : Action) → m ≡ l → t ≡ u → a ≡ b → action_line m t n k a ≡ action_line l u n k b
+same_line m l t u n k a b model clock action =
+    ap (λ (x : ModelTree). action_line x t n k a) model ∙ ap (λ (x : ℕ). action_line l x n k a) clock ∙ ap (λ (x : Action). action_line l u n k x) action
+
+module _ (m : ModelTree) (k : ℕ) (a : Action) (offers : List Action) (within : k < length offers) (is : a ≡ get_or offers k a) where
+  offers_step : offers_text m k (drop k offers) ≡ offer_line m k a ++ offers_text m (k + 1) (drop (k + 1) offers)
+  offers_step = ap (offers_text m k) (drop_more offers k a within) ∙ ap (λ (x : Action). offer_line m k x ++ offers_text m (k + 1) (drop (k + 1) offers)) (sym is)
+
+  module _ (known : Known) (before mid now : SinkState) (written : List ℕ) (wrote : Wrote before mid written None) (text : written ++ offers_text m k (drop k offers) ≡ offers_text m 0 offers) where
+    -- one more
+    pub offer_told : Wrote mid now (offer_line m k a) None → (more : List ℕ) × Wrote before now more None × (more ++ offers_text m (k + 1) (drop (k + 1) offers) ≡ offers_text m 0 offers)
+    offer_told line = (
+      written ++ offer_line m k a,
+      known.joins before mid now written (offer_line m k a) None wrote line,
+      append_assoc written (offer_line m k a) (offers_text m (k + 1) (drop (k + 1) offers)) ∙ ap (λ (l : List ℕ). written ++ l) (sym offers_step) ∙ text,
+    )
+
+    -- or the last
+    pub offer_cut : (halt : Halt) → Wrote mid now (offer_line m k a) (Some halt) → Wrote before now (offers_text m 0 offers) (Some halt)
+    offer_cut halt line =
+        let rest : Wrote mid now (offers_text m k (drop k offers)) (Some halt) = subst (λ (l : List ℕ). Wrote mid now l (Some halt)) (sym offers_step) (known.halts mid now (offer_line m k a) (offers_text m (k + 1) (drop (k + 1) offers)) halt line) in
+        subst (λ (l : List ℕ). Wrote before now l (Some halt)) text (known.joins before mid now written (offers_text m k (drop k offers)) (Some halt) wrote rest)

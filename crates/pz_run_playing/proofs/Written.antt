@@ -1,0 +1,20 @@
+-- What was written where memory is wanting.
+use Rattle.std.proofs.Common.{◌≡◌, ℕ, List, [], Some, Result, Err, ap, ◌∙◌}
+use Rattle.std.specs.Result.{IsErrAnd, result_err}
+use Rattle.std.proofs.lemmas.Result.{err_from_is_err_and}
+use Rattle.pz_io.specs.Outside.{SinkState}
+use Rattle.pz_io.specs.declared.writing.Halt.{Halt}
+use Rattle.pz_io.specs.declared.writing.Halt.TheVariants.{NoMemory}
+use Rattle.pz_io.specs.Writing.{Wrote}
+use Rattle.pz_run_playing.specs.devices.Known.{Known}
+
+-- the error that a `?` hands on
+pub err_is : {T : Type 0} (r : Result T Halt) (halt : Halt) → IsErrAnd r (λ e. e ≡ halt) → r ≡ Err halt
+err_is r halt is = let p = err_from_is_err_and r is in p.1 ∙ ap Err p.2
+
+pub halted_so : {T : Type 0} (r : Result T Halt) (halt : Halt) → IsErrAnd r (λ e. e ≡ halt) → result_err r ≡ Some halt
+halted_so r halt is = ap result_err (err_is r halt is)
+
+-- nothing of a text
+pub none_written : {T : Type 0} (known : Known) (s : SinkState) (text : List ℕ) (r : Result T Halt) → IsErrAnd r (λ e. e ≡ NoMemory) → Wrote s s text (result_err r)
+none_written known s text r is = rw (halted_so r NoMemory is) (known.wants s s [] text (known.nothing s))

@@ -1,0 +1,19 @@
+-- Laws of the texts of runs.
+use Rattle.std.specs.Prelude.{◌≡◌, ℕ, List}
+use Rattle.pz_syntax.specs.Classes.{ModelTree}
+use Rattle.pz_rules.specs.Settings.{Setting}
+use Rattle.pz_rules.specs.Runs.{Event}
+use Rattle.pz_rules.specs.ChosenRuns.{Policy}
+use Rattle.pz_trace.specs.declared.ending.Ending.{Ending}
+use Rattle.pz_trace.specs.TraceText.{trace_text, run_ending, IsTrace}
+use Rattle.pz_run_playing.specs.RunText.{run_text}
+use Rattle.pz_run_playing.specs.Playing.{ChosenRun}
+
+-- unless an entry is refused, the text of a run is that of a trace
+abbrev pub RunTextsAreTraceTexts : Type 0
+RunTextsAreTraceTexts = (m : ModelTree) (events : List Event) (clock : ℕ) (ending : Ending) → run_text m events clock (run_ending ending) ≡ trace_text m events clock ending
+
+-- that of a run of the model
+abbrev pub ChosenRunsAreTraces : Type 0
+ChosenRunsAreTraces = (setting : Setting) (policy : Policy) (run : ChosenRun setting policy) (ending : Ending) → run.ending ≡ run_ending ending
+    → IsTrace setting (run_text setting.model run.events run.end.clock run.ending)

@@ -1,0 +1,32 @@
+-- What is known of runs, of names and of writing, by the laws of the crates below.
+use Rattle.pz_rules.specs.Laws.{WiresAreKnown, OneMoment, EveryMoment, MomentsCountOffers, TimeIsPositive, EveryPassing, StaysWhole, StartFits, StaysFit, EveryNext, EveryChosenRun, ChosenRunsAreRuns}
+use Rattle.pz_rules.specs.devices.Ends.{PassingsEnd}
+use Rattle.pz_trace.specs.Laws.{OffersAreNamed, FaultsAreNamed, StopsAreNamed}
+use Rattle.pz_term.specs.Laws.{OneMomentOf, OffersAreCounted, OffersAreNumbered, OffersAreDerived}
+use Rattle.pz_io.specs.Laws.{NothingIsWritten, PiecesJoin, HaltsBeforeMore, MemoryMayBeWanting}
+
+pub record Known : Type 0 where
+  pub wires : WiresAreKnown
+  pub one_moment : OneMoment
+  pub some_moment : EveryMoment
+  pub counts : MomentsCountOffers
+  pub positive : TimeIsPositive
+  pub some_passing : EveryPassing
+  pub stays_whole : StaysWhole
+  pub start_fits : StartFits
+  pub stays_fit : StaysFit
+  pub some_next : EveryNext
+  pub some_run : EveryChosenRun
+  pub are_runs : ChosenRunsAreRuns
+  pub passings_end : PassingsEnd
+  pub one_moment_of : OneMomentOf
+  pub offers_counted : OffersAreCounted
+  pub offers_numbered : OffersAreNumbered
+  pub offers_derived : OffersAreDerived
+  pub offers_named : OffersAreNamed
+  pub faults_named : FaultsAreNamed
+  pub stops_named : StopsAreNamed
+  pub nothing : NothingIsWritten
+  pub joins : PiecesJoin
+  pub halts : HaltsBeforeMore
+  pub wants : MemoryMayBeWanting

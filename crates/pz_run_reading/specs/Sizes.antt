@@ -1,0 +1,17 @@
+-- How large the system of a model is, each cluster expanded, and what a check says of a text.
+use Rattle.std.specs.Prelude.{◌≡◌, ℕ, List, length}
+use Rattle.pz_syntax.specs.Classes.{ModelTree}
+use Rattle.pz_bind.specs.Nest as nest
+use Rattle.pz_bind.specs.Wires as wiring
+use Rattle.pz_run_reading.specs.Models.{IsModelOf}
+
+-- the system has so many processes and so many wires
+pub record HasSize (m : ModelTree) (processes wires : ℕ) : Type 0 where
+  pub all_processes : length (nest.processes m) ≡ processes
+  pub all_wires : length (wiring.wires m) ≡ wires
+
+-- the text is that of a model whose system has so many processes and so many wires
+pub record IsAccepted (text : List ℕ) (processes wires : ℕ) : Type 0 where
+  pub model : ModelTree
+  pub is_model : IsModelOf text model
+  pub size : HasSize model processes wires

@@ -1,0 +1,64 @@
+// How a simulator goes on as a line of a trace tells.
+
+ghost use Rattle.std.specs.Prelude.{◌≡◌, OnOk, IsOkUnless};
+ghost use Rattle.std.specs.Result.{result_err};
+ghost use Rattle.pz_io.specs.Writing.{Wrote};
+ghost use Rattle.pz_term.specs.Simulations.{IsMomentOf, Chooses, Passes, setting_in};
+ghost use Rattle.pz_term.specs.Plains.{simulation_of};
+ghost use Rattle.pz_run_replaying.specs.devices.Judging.{MayMove, Moves};
+
+use crate::judging::Move;
+use crate::laws::rules_are_known;
+use pz_io::{Halt, Sink, put};
+use pz_term::{ChooseError, PassError, Plain};
+
+// Takes an offer that is there.
+fn act(plain: &mut Plain, offers: u64, number: u64) -> Result<(), Halt>
+    requires { MayMove (simulation_of plain.old) (Move.Act offers number) }
+    ensures chooses { OnOk result (Chooses number (simulation_of plain.old) (simulation_of plain.new)) }
+    ensures setting { setting_in (simulation_of plain.new) ≡ setting_in (simulation_of plain.old) }
+    ensures memory { IsOkUnless result Halt.NoMemory }
+{
+    rules_are_known();
+    match plain.choose(number) {
+        Ok(()) => Ok(()),
+        Err(ChooseError::NoMemory) => Err(Halt::NoMemory),
+        Err(ChooseError::NoSuchOffer { .. }) => unreachable!(),
+        Err(ChooseError::NotNow(_)) => unreachable!(),
+    }
+}
+
+// Lets so much time pass, which can.
+fn wait(plain: &mut Plain, time: u128) -> Result<(), Halt>
+    requires { MayMove (simulation_of plain.old) (Move.Wait time) }
+    ensures passes { OnOk result (Passes (simulation_of plain.old) (simulation_of plain.new)) }
+    ensures setting { setting_in (simulation_of plain.new) ≡ setting_in (simulation_of plain.old) }
+    ensures memory { IsOkUnless result Halt.NoMemory }
+{
+    rules_are_known();
+    match plain.pass() {
+        Ok(()) => Ok(()),
+        Err(PassError::NoMemory) => Err(Halt::NoMemory),
+        Err(PassError::NotNow(_)) => unreachable!(),
+    }
+}
+
+/// Writes the line of a move, and then makes it.
+pub(crate) fn go<W: Sink>(
+    plain: &mut Plain,
+    step: Move,
+    line: &[u8],
+    out: &mut W,
+) -> Result<(), Halt>
+    requires { MayMove (simulation_of plain.old) step }
+    ensures moves { OnOk result (Moves step (simulation_of plain.old) (simulation_of plain.new)) }
+    ensures setting { setting_in (simulation_of plain.new) ≡ setting_in (simulation_of plain.old) }
+    ensures wrote { Wrote (W.state out.old) (W.state out.new) line.now (result_err result) }
+{
+    rules_are_known();
+    put(out, line)?;
+    match step {
+        Move::Act { offers, number } => act(plain, offers, number),
+        Move::Wait { time } => wait(plain, time),
+    }
+}

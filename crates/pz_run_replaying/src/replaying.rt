@@ -1,0 +1,102 @@
+// A trace, line by line.
+
+ghost use Rattle.std.specs.Prelude.{◌≡◌, ◌<◌, ◌+◌, ◌^◌, ℕ, suc, List, [], length};
+ghost use Rattle.pz_rules.specs.Settings.{Setting};
+ghost use Rattle.pz_term.specs.Simulations.{Starts, setting_in};
+ghost use Rattle.pz_term.specs.Plains.{simulation_of};
+ghost use Rattle.pz_run_replaying.specs.Replays.{TellsLines, IsReplayed};
+ghost use Rattle.pz_run_replaying.specs.devices.Readiness.{IsReady, stage_of};
+ghost use Rattle.pz_run_replaying.specs.devices.Progress.{Progress, Answers};
+
+use crate::Replayed;
+use crate::fronts::{behind, front, front_len};
+use crate::judging::{Judged, judge};
+use crate::laws::rules_are_known;
+use crate::moving::go;
+use crate::refusing::{conclude, refuse};
+use pz_io::{Halt, Sink, put};
+use pz_term::Plain;
+use pz_trace::header;
+use std::alloc::Global;
+
+// Goes through the lines of a trace behind its header, of which the first has this number, from 1.
+fn follow<W: Sink>(
+    alloc: Global,
+    plain: &mut Plain,
+    trace: &[u8],
+    first: u64,
+    out: &mut W,
+) -> Result<Replayed, Halt>
+    requires ready { IsReady (simulation_of plain.old) }
+    requires short { first + length trace.now < 2 ^ 64 }
+    ensures { (whole : List ℕ) (lines : List (List ℕ)) → TellsLines (setting_in (simulation_of plain.old)) →
+        Progress (setting_in (simulation_of plain.old)) whole lines (stage_of (simulation_of plain.old)) trace.now → first ≡ suc (length lines) →
+        Answers (setting_in (simulation_of plain.old)) whole lines (W.state out.old) (W.state out.new) (simulation_of plain.new) result }
+{
+    rules_are_known();
+    let mut rest = trace;
+    let mut number = first;
+    'lines: loop {
+        match judge(alloc, plain, rest)? {
+            Judged::Goes { step, len } => {
+                go(plain, step, front(rest, len), out)?;
+                rest = behind(rest, len);
+                number += 1;
+            }
+            Judged::Ends { ending, len } => {
+                put(out, front(rest, len))?;
+                return conclude(alloc, ending, number + 1, behind(rest, len), out);
+            }
+            Judged::Differs { expected } => return refuse(alloc, number, expected, out),
+        }
+    }
+}
+
+// Goes through the lines of a trace.
+fn replay_lines<W: Sink>(
+    alloc: Global,
+    plain: &mut Plain,
+    trace: &[u8],
+    out: &mut W,
+) -> Result<Replayed, Halt>
+    requires { (setting : Setting) × Starts setting (simulation_of plain.old) }
+    ensures { (setting : Setting) → Starts setting (simulation_of plain.old) → TellsLines setting →
+        Answers setting trace.now [] (W.state out.old) (W.state out.new) (simulation_of plain.new) result }
+{
+    rules_are_known();
+    let _model = plain.checked().model();
+    let header = header(alloc)?;
+    let Some(len) = front_len(trace, header.as_slice()) else {
+        return refuse(alloc, 1, Some(header), out);
+    };
+    put(out, header.as_slice())?;
+    follow(alloc, plain, behind(trace, len), 2, out)
+}
+
+/// Replays a trace on a simulator that stands at its start. The trace is accepted exactly where it is the
+/// text of a run of the model, with the limits of the simulator; then it is written again, and the
+/// simulator stands at the end of that run. Otherwise the lines are written before the first with which the
+/// trace begins the text of no run, then the number of that line, and the line that the rules have there,
+/// if any; the simulator stands where the lines before have led it.
+///
+/// Each line is written, in one call of the sink, before the simulator goes on. Takes the time of the run
+/// and the length of the trace; nothing of the trace is copied.
+///
+/// # Errors
+///
+/// What was written is a front of what is to be written. The simulator stands somewhere in a run, or is
+/// broken.
+pub fn replay<W: Sink>(
+    alloc: Global,
+    plain: &mut Plain,
+    trace: &[u8],
+    out: &mut W,
+) -> Result<Replayed, Halt>
+    requires { (setting : Setting) × Starts setting (simulation_of plain.old) }
+    ensures { (setting : Setting) → Starts setting (simulation_of plain.old) → TellsLines setting →
+        IsReplayed setting trace.now (simulation_of plain.new) (W.state out.old) (W.state out.new) result }
+{
+    rules_are_known();
+    let _model = plain.checked().model();
+    replay_lines(alloc, plain, trace, out)
+}

@@ -1,5 +1,0 @@
-mod Unwinding
-mod Inward
-mod Outward
-mod Standing
-mod Closing

@@ -1,7 +1,0 @@
-use Rattle.std.proofs.Common.{◌≡◌}
-use Rattle.pz_state.specs.Marks.{changed}
-use Rattle.pz_settling.specs.devices.Swept.{swept_up_to}
-use Rattle.pz_settling.proofs.sweeping.close_others.Given as goal
-
-abbrev pub invariant-loop-frame : goal.invariant-loop-frame
-invariant-loop-frame l = l.state ≡ changed l.initial.state (swept_up_to l.standing l.frame-index l.initial.state.held)

@@ -1,2 +1,0 @@
-pub mod Unwound
-pub mod Swept

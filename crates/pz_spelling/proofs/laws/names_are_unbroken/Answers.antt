@@ -1,5 +1,0 @@
-use Rattle.pz_spelling.proofs.Names.{names_unbroken, messages_unbroken}
-use Rattle.pz_spelling.proofs.laws.names_are_unbroken.Goals as goal
-
-pub returns : goal.returns
-returns c = record { names = names_unbroken; messages = messages_unbroken }

@@ -1,4 +1,0 @@
-use Rattle.pz_statements.proofs.grammar.+stmt.Given as goal
-
-abbrev pub decreases-stmt : goal.decreases-stmt
-decreases-stmt l = l.depth

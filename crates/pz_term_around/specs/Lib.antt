@@ -1,0 +1,3 @@
+pub mod devices
+pub mod Becoming
+pub mod Laws

@@ -1,0 +1,173 @@
+// What is around a part that has become another, each on one level. The only error is want of memory.
+
+ghost use Rattle.std.specs.Prelude.{◌≡◌, ℕ, List, IfOk, false};
+ghost use Rattle.pz_classes_code.specs.StepView.{view, sequence_view};
+ghost use Rattle.pz_state.specs.States.{StateView};
+ghost use Rattle.pz_rules.specs.Terms as terms;
+ghost use Rattle.pz_rules.specs.Opening.{opened};
+ghost use Rattle.pz_rules.specs.Leaving as leaving;
+ghost use Rattle.pz_rules.specs.View.{term_view, terms_view};
+ghost use Rattle.pz_term_around.specs.Becoming.{Became};
+ghost use Rattle.pz_term_around.specs.devices.Bare.{is_bare as bare};
+
+use crate::slots::{copy_locals, set_slots};
+use pz_classes_code::{Slot, Step};
+use pz_items::{Boxed, Items};
+use pz_rules::{Rest, Term, open_rest, open_step};
+use pz_state::{FrameId, State};
+use std::alloc::{AllocError, Global};
+
+/// Whether nothing is left.
+pub fn is_done(term: &Term) -> bool
+    ensures { result ≡ leaving.is_done (term_view term.now) }
+{
+    matches!(term, Term::Done)
+}
+
+/// Whether nothing is left of any of these.
+fn all_done(parts: &[Term]) -> bool
+    ensures { result ≡ leaving.all_done (terms_view parts.now) }
+{
+    for part in parts {
+        if !is_done(part) {
+            return false;
+        }
+    }
+    true
+}
+
+/// What is open, and the statements behind it; once it is done, these stand open.
+pub fn in_sequence(alloc: Global, left: Term, rest: Rest) -> Result<Term, AllocError>
+    ensures { IfOk result (λ term. (f : ℕ) (s : StateView) (first : terms.Term) (i : ℕ) →
+        leaving.around f s (terms.sequence first (sequence_view rest)) i (term_view left) ≡ leaving.left_by s (term_view term)) }
+{
+    if is_done(&left) {
+        return open_rest(alloc, rest);
+    }
+    let left = Boxed::new(alloc, left)?;
+    Ok(Term::Seq(left, rest))
+}
+
+/// Parts side by side, which are done once all of them are.
+pub fn in_parallel(parts: Items<Term>) -> Term
+    ensures { term_view result ≡ leaving.joined (terms_view parts) }
+{
+    if all_done(parts.as_slice()) {
+        Term::Done
+    } else {
+        Term::Par(parts)
+    }
+}
+
+/// The first part, until the second acts; when the first is done, the whole is.
+pub fn in_abort(alloc: Global, left: Term, second: Boxed<Term>) -> Result<Term, AllocError>
+    ensures { IfOk result (λ term. term_view term ≡ leaving.aborted (term_view second) (term_view left)) }
+{
+    if is_done(&left) {
+        return Ok(Term::Done);
+    }
+    let left = Boxed::new(alloc, left)?;
+    Ok(Term::Abort(left, second))
+}
+
+/// The first part, until the second acts; when the first is done, the whole is.
+pub fn in_interrupt(
+    alloc: Global,
+    left: Term,
+    second: Boxed<Term>,
+    again: Step,
+) -> Result<Term, AllocError>
+    ensures { IfOk result (λ term. term_view term ≡ leaving.interrupted (term_view second) (view again) (term_view left)) }
+{
+    if is_done(&left) {
+        return Ok(Term::Done);
+    }
+    let left = Boxed::new(alloc, left)?;
+    Ok(Term::Idle(left, second, again))
+}
+
+/// What is interrupted goes on, and the second part stands open afresh.
+fn reopened(alloc: Global, first: Boxed<Term>, again: Step) -> Result<Term, AllocError>
+    ensures { IfOk result (λ term. term_view term ≡ terms.idle (term_view first) (opened (view again)) (view again)) }
+{
+    let second = boxed_step(alloc, &again)?;
+    Ok(Term::Idle(first, second, again))
+}
+
+fn boxed_step(alloc: Global, step: &Step) -> Result<Boxed<Term>, AllocError>
+    ensures { IfOk result (λ term. term_view term ≡ opened (view step.now)) }
+{
+    let term = open_step(alloc, step)?;
+    Boxed::new(alloc, term)
+}
+
+/// What is interrupted, while the second part acts; once that is done, the first goes on, and the
+/// second stands open afresh.
+pub fn in_handling(
+    alloc: Global,
+    first: Boxed<Term>,
+    left: Term,
+    again: Step,
+) -> Result<Term, AllocError>
+    ensures { IfOk result (λ term. term_view term ≡ leaving.handled (term_view first) (view again) (term_view left)) }
+{
+    if is_done(&left) {
+        return reopened(alloc, first, again);
+    }
+    let left = Boxed::new(alloc, left)?;
+    Ok(Term::Handling(first, left, again))
+}
+
+/// Whether the term is a frame without outputs.
+fn is_bare(term: &Term) -> bool
+    ensures { result ≡ bare (term_view term.now) }
+{
+    match term {
+        Term::Frame { results, .. } => results.is_empty(),
+        _ => false,
+    }
+}
+
+/// A frame round what is not done. A frame without outputs that is all of a frame without outputs
+/// stands in its place.
+fn framed(
+    alloc: Global,
+    frame: FrameId,
+    inputs: usize,
+    results: Items<Slot>,
+    left: Term,
+) -> Result<Term, AllocError>
+    ensures { IfOk result (λ term. term_view term ≡ leaving.framed frame.0 inputs results (term_view left)) }
+{
+    if results.is_empty() && is_bare(&left) {
+        return Ok(left);
+    }
+    let body = Boxed::new(alloc, left)?;
+    Ok(Term::Frame {
+        frame,
+        inputs,
+        results,
+        body,
+    })
+}
+
+/// A frame within another; once it is done, its outputs go to the variables around it.
+pub fn in_frame(
+    alloc: Global,
+    outer: FrameId,
+    frame: FrameId,
+    inputs: usize,
+    results: Items<Slot>,
+    left: Term,
+    state: &mut State,
+) -> Result<Term, AllocError>
+    ensures { IfOk result (λ term. (body : terms.Term) (i : ℕ) →
+        Became (leaving.around outer.0 state.old.held (terms.frame frame.0 inputs results body) i (term_view left)) (term_view term) state.old state.new) }
+{
+    if is_done(&left) {
+        let outputs = copy_locals(alloc, state, frame, inputs, results.len())?;
+        set_slots(state, outer, results.as_slice(), outputs)?;
+        return Ok(Term::Done);
+    }
+    framed(alloc, frame, inputs, results, left)
+}

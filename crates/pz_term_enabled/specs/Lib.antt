@@ -1,0 +1,4 @@
+pub mod devices
+pub mod Walked
+pub mod Surveyed
+pub mod Looking

@@ -1,0 +1,7 @@
+pub mod Listings
+pub mod Adding
+pub mod Below
+pub mod Seen
+pub mod Judged
+pub mod Communications
+pub mod Deciding

@@ -1,0 +1,104 @@
+-- The first process of a place.
+use Rattle.std.proofs.Common.{◌≡◌, ◌<◌, ◌∙◌, ℕ, zero, suc, List, [], ◌∷◌, length, Option, Some, refl, sym, ap, subst, arith}
+use Rattle.std.specs.Prelude.{slice_get, All, slice_index_or}
+use Rattle.std.specs.Option.{option_map}
+use Rattle.std.proofs.Math.Logic.{∥∥₁_elim}
+use Rattle.std.proofs.Math.Nat.{ℕ_set}
+use Rattle.std.proofs.Math.Bridge.{le_prop}
+use Rattle.std.proofs.lemmas.List.{length-map}
+use Rattle.std.specs.Coded.{coded_list}
+use base.Stored.{Coded-set}
+use Rattle.pz_syntax.specs.Classes.{ModelTree}
+use Rattle.pz_value.specs.declared.value.ClassId.{ClassId}
+use Rattle.pz_value.specs.declared.value.Value.{Value}
+use Rattle.pz_value.specs.declared.value.Value.TheVariants as value
+use Rattle.pz_value.specs.contracts.value.Value as value_contract
+use Rattle.pz_classes_code.specs.declared.step.Step.{Step}
+use Rattle.pz_classes_code.specs.StepView as step
+use Rattle.pz_state.specs.Marks.{Seen}
+use Rattle.pz_state.specs.States.{StateView}
+use Rattle.pz_state.specs.References.{RefersWithin}
+use Rattle.pz_classes.specs.declared.classes.Classes.{Classes}
+use Rattle.pz_classes.specs.Tables.{AreClasses, class_id}
+use Rattle.pz_classes.specs.Starts.{init}
+use Rattle.pz_bind_levels.specs.Places.{Place}
+use Rattle.pz_bind.specs.Nest.{processes, class_at}
+use Rattle.pz_bind.specs.Values.{values_at}
+use Rattle.pz_bind.specs.NetView.{IsNet, HasProcess, node_at}
+use Rattle.pz_bind.specs.declared.net.Net.{Net}
+use Rattle.pz_rules.specs.declared.limits.Limits.{Limits}
+use Rattle.pz_rules.specs.declared.term.Term.{fold-roll-Term}
+use Rattle.pz_rules.specs.declared.term.Term.TheOpen.{Term-F}
+use Rattle.pz_rules.specs.declared.term.Term.TheVariants.{Leaf, rolls-Leaf}
+use Rattle.pz_rules.specs.Terms as terms
+use Rattle.pz_rules.specs.Settings.{Process}
+use Rattle.pz_rules.specs.View.{term_view, term_step}
+use Rattle.pz_rules.specs.Starting.{StartsAs}
+use Rattle.pz_term_processes.specs.Standing.{setting_of}
+use Rattle.pz_term_processes.proofs.Given.{values_plain}
+
+there : {X : Type 0} (xs : List X) (i : ℕ) → i < length xs → (x : X) × (slice_get xs i ≡ Some x)
+there [] i within = absurd (omega (arith, within))
+there (x ∷ xs) zero within = (x, refl)
+there (x ∷ xs) (suc i) within = there xs i (omega (arith, within))
+
+-- each process of a net stands somewhere
+stands : (m : ModelTree) (net : Net) (i : ℕ) → IsNet m net → HasProcess net i → (place : Place) × (slice_get (processes m) i ≡ Some place)
+stands m net i known within =
+    let count : length net.nodes ≡ length (processes m) = ap (λ xs. length xs) known.nodes ∙ length-map (processes m) (node_at m) in
+    there (processes m) i (subst (λ (n : ℕ). i < n) count within)
+
+refers_prop : (count : ℕ) (v : Value) → IsProp (RefersWithin count v)
+refers_prop count (value.Ref r) = le_prop
+refers_prop count value.Nil = λ x y. refl
+refers_prop count (value.Bool b) = λ x y. refl
+refers_prop count (value.Int n) = λ x y. refl
+refers_prop count (value.Char c) = λ x y. refl
+refers_prop count (value.Str t) = λ x y. refl
+
+abbrev AreValues : Net → ℕ → List Value → Type 0
+AreValues net i values = (m : ModelTree) (place : Place) → IsNet m net → slice_get (processes m) i ≡ Some place → values ≡ values_at m place
+
+-- the values that a process has at first are no references
+pub plain_values : (m : ModelTree) (net : Net) (i : ℕ) (values : List Value) → ∥ IsNet m net ∥₁ → HasProcess net i → AreValues net i values → All (RefersWithin 0) values
+plain_values m net i values known within are k d below =
+    ∥∥₁_elim known (refers_prop 0 (slice_index_or values k d)) (λ net_is.
+    let place = stands m net i net_is within in
+    subst (λ (vs : List Value). All (RefersWithin 0) vs) (sym (are m place.0 net_is place.1)) (values_plain 0 m place.0) k d below)
+
+values_merely : {A : Type 0} (xs ys : List Value) → ∥ A ∥₁ → (A → xs ≡ ys) → xs ≡ ys
+values_merely xs ys a is = ∥∥₁_elim a (Coded-set (coded_list value_contract.the_row.coded) xs ys) is
+
+view-Leaf : (s : Step) → term_view (Leaf s) ≡ terms.leaf (step.view s)
+view-Leaf s = ap term_view (sym (rolls-Leaf s)) ∙ fold-roll-Term terms.Term term_step (Term-F.Leaf s)
+
+some_is : {X : Type 0} {x y : X} → Some x ≡ Some y → x ≡ y
+some_is e = cc
+
+abbrev IsClassOf : Net → ℕ → ClassId → Type 0
+IsClassOf net i class = (m : ModelTree) (place : Place) → IsNet m net → slice_get (processes m) i ≡ Some place → class ≡ class_id (class_at m place)
+
+abbrev IsCallOf : Classes → ClassId → Option Step → Type 0
+IsCallOf classes class call = (m : ModelTree) → AreClasses m classes → option_map step.view call ≡ init m class.0
+
+-- the class and the call are those of the model
+call_is : (set : IsSet (Option terms.Step)) (m : ModelTree) (classes : Classes) (net : Net) (i : ℕ) (class : ClassId) (call : Step) (place : Place) → ∥ AreClasses m classes ∥₁ → ∥ IsNet m net ∥₁
+    → slice_get (processes m) i ≡ Some place → IsClassOf net i class → IsCallOf classes class (Some call) → init m (class_at m place) ≡ Some (step.view call)
+call_is set m classes net i class call place tabled known at is calls =
+    let here : class.0 ≡ class_at m place = ∥∥₁_elim known (ℕ_set class.0 (class_at m place)) (λ k. ap (λ (c : ClassId). c.0) (is m place k at)) in
+    ∥∥₁_elim tabled (set (init m (class_at m place)) (Some (step.view call))) (λ k. sym (calls m k ∙ ap (init m) here))
+
+pub starts_as : (set : IsSet (Option terms.Step)) (m : ModelTree) (classes : Classes) (net : Net) (limits : Limits) (i : ℕ) (class : ClassId) (call copy : Step) (values : List Value) (state : Seen) (place : Place)
+    → ∥ AreClasses m classes ∥₁ → ∥ IsNet m net ∥₁ → slice_get (processes m) i ≡ Some place → IsClassOf net i class → IsCallOf classes class (Some call) → AreValues net i values
+    → copy ≡ call → state.held ≡ record { vars = values; frames = []; objects = [] }
+    → StartsAs (setting_of m limits) place (record { term = term_view (Leaf copy); state = state.held })
+starts_as set m classes net limits i class call copy values state place tabled known at is calls are same held =
+    let given : values ≡ values_at m place = values_merely values (values_at m place) known (λ k. are m place k at) in
+    record {
+      call = step.view call;
+      is_call = call_is set m classes net i class call place tabled known at is calls;
+      stands =
+          ap (λ (t : terms.Term). let p : Process = record { term = t; state = state.held } in p) (view-Leaf copy ∙ ap (λ (s : Step). terms.leaf (step.view s)) same)
+          ∙ ap (λ (s : StateView). let p : Process = record { term = terms.leaf (step.view call); state = s } in p) held
+          ∙ ap (λ (vs : List Value). let p : Process = record { term = terms.leaf (step.view call); state = record { vars = vs; frames = []; objects = [] } } in p) given;
+    }

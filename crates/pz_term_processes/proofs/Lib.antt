@@ -1,0 +1,4 @@
+mod CodedTrees
+mod Given
+mod First
+mod Started

@@ -1,0 +1,12 @@
+//! The processes of a model at a moment: what is left of each, and its state.
+//!
+//! The processes of a model before the first step.
+#![tactic(auto)]
+
+mod laws;
+mod process;
+mod starting;
+
+pub use laws::trees_are_sets;
+pub use process::Process;
+pub use starting::start;

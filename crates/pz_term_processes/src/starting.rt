@@ -1,0 +1,71 @@
+// The processes before the first step. The only error is want of memory.
+
+ghost use Rattle.std.specs.Prelude.{◌≡◌, ℕ, [], Some, length, slice_get, All, IfOk};
+ghost use Rattle.pz_classes.specs.CheckedView.{checked_model};
+ghost use Rattle.pz_state.specs.References.{RefersWithin};
+ghost use Rattle.pz_bind_levels.specs.Places.{Place};
+ghost use Rattle.pz_bind.specs.Nest as nest;
+ghost use Rattle.pz_bind.specs.NetView.{IsNet, HasProcess};
+ghost use Rattle.pz_rules.specs.declared.limits.Limits.{Limits};
+ghost use Rattle.pz_rules.specs.Starting.{StartsAs, IsStart};
+ghost use Rattle.pz_term_processes.specs.Standing.{setting_of, process_view, config_of, AreProcesses};
+
+use pz_bind::Net;
+use pz_classes_copies::copy_step;
+use pz_classes::{Checked, sound_classes_fit};
+use crate::laws::trees_are_sets;
+use crate::process::Process;
+use pz_rules::{Term, what_fits_goes_on};
+use pz_state::State;
+use pz_value::Value;
+use std::alloc::{AllocError, Global};
+
+/// Equal values.
+fn copies_of(alloc: Global, values: &[Value]) -> Result<Vec<Value>, AllocError>
+    ensures { IfOk result (λ copies. copies.items ≡ values.now) }
+{
+    let mut copies = Vec::new(alloc);
+    for value in values {
+        copies.push(value.copy()?)?;
+    }
+    Ok(copies)
+}
+
+/// A process before the call that the `init` of its class names.
+fn first_of(
+    alloc: Global,
+    checked: &Checked,
+    net: &Net,
+    process: u32,
+) -> Result<Process, AllocError>
+    requires of_model { ∥ IsNet (checked_model checked.now) net.now ∥₁ }
+    requires there { HasProcess net.now process }
+    ensures { IfOk result (λ first. (limits : Limits) (place : Place) → slice_get (nest.processes (checked_model checked.now)) process ≡ Some place →
+        StartsAs (setting_of (checked_model checked.now) limits) place (process_view first)) }
+{
+    sound_classes_fit();
+    trees_are_sets();
+    let _model = checked.model();
+    let Some(call) = checked.classes().init(net.class(process)) else {
+        unreachable!()
+    };
+    let term = Term::Leaf(copy_step(alloc, call)?);
+    let state = State::new(alloc, copies_of(alloc, net.values(process))?);
+    Ok(Process { term, state })
+}
+
+/// The processes of a model, each before the call that its `init` names, with the values that its
+/// parameters are given and all other variables nil. The only error is want of memory.
+pub fn start(alloc: Global, checked: &Checked, net: &Net) -> Result<Vec<Process>, AllocError>
+    requires of_model { ∥ IsNet (checked_model checked.now) net.now ∥₁ }
+    ensures start { IfOk result (λ processes. (limits : Limits) → IsStart (setting_of (checked_model checked.now) limits) (config_of 0 processes.items)) }
+    ensures processes { IfOk result (λ processes. (limits : Limits) → AreProcesses (setting_of (checked_model checked.now) limits) 0 processes.items) }
+{
+    what_fits_goes_on();
+    let _model = checked.model();
+    let mut processes = Vec::new(alloc);
+    for process in 0..net.processes() {
+        processes.push(first_of(alloc, checked, net, process)?)?;
+    }
+    Ok(processes)
+}

@@ -1,0 +1,12 @@
+mod Capping
+mod Forms
+mod Openings
+mod Outlined
+mod Rounds
+mod Beside
+mod Residuals
+mod Unwinding
+mod Inward
+mod Outward
+mod Standing
+mod Closing

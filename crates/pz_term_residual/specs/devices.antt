@@ -1,0 +1,4 @@
+pub mod Capped
+pub mod Outlines
+pub mod Unwound
+pub mod Swept

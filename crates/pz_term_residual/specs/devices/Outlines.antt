@@ -1,0 +1,27 @@
+-- What matters of a term for the height of what is around it.
+use Rattle.std.specs.Prelude.{◌≡◌, ℕ, suc, false}
+use Rattle.pz_state.specs.States.{StateView}
+use Rattle.pz_offer.specs.PlaceOrder.{Place}
+use Rattle.pz_rules.specs.Terms.{Term, height}
+use Rattle.pz_rules.specs.Leaving.{is_done, left_by, around, residual}
+use Rattle.pz_term_around.specs.devices.Bare.{is_bare}
+use Rattle.pz_term_residual.specs.declared.outline.Outline.{Outline}
+use Rattle.pz_term_residual.specs.devices.Capped.{capped}
+
+abbrev pub outline : Term → Outline
+outline t = record { height = capped (height t); done = is_done t; bare = is_bare t }
+
+-- the term is neither done nor a frame without outputs, and its greatest part is so high
+pub record IsAbove (t : Term) (part : ℕ) : Type 0 where
+  pub one_more : height t ≡ suc part
+  pub undone : is_done t ≡ false
+  pub other : is_bare t ≡ false
+
+-- Where the child of this number has become one of the first outline, the term becomes one of the
+-- second.
+abbrev pub IsRound : Outline → Term → ℕ → Outline → Type 0
+IsRound left t i result = (f : ℕ) (s : StateView) (x : Term) → left ≡ outline x → result ≡ outline (around f s t i x).term
+
+-- the same for the part at a place
+abbrev pub IsLeft : Outline → Term → Place → Outline → Type 0
+IsLeft part t place result = (f : ℕ) (s : StateView) (x : Term) → part ≡ outline x → result ≡ outline (residual f t place (left_by s x)).term

@@ -1,0 +1,184 @@
+// What matters of a term for the height of what is around it, form by form.
+
+ghost use Rattle.std.specs.Prelude.{◌≡◌, [], ◌∷◌, ◌++◌, ◌&&◌, ℕ, length};
+ghost use Rattle.pz_rules.specs.declared.term.Term.{Term as Part};
+ghost use Rattle.pz_classes_code.specs.StepView.{view, sequence_view};
+ghost use Rattle.pz_rules.specs.Terms as terms;
+ghost use Rattle.pz_rules.specs.Opening.{opened, opened_all};
+ghost use Rattle.pz_rules.specs.Leaving as leaving;
+ghost use Rattle.pz_rules.specs.View.{term_view, terms_view};
+ghost use Rattle.pz_term_residual.specs.devices.Capped.{capped};
+ghost use Rattle.pz_term_around.specs.devices.Bare.{is_bare as bare};
+ghost use Rattle.pz_term_residual.specs.devices.Outlines.{outline, IsAbove, IsRound};
+
+use crate::heights::{above, greatest_of, height_of};
+use crate::opening::{opened_height, opens_done};
+use pz_classes_code::{Slot, Step};
+use pz_term_around::is_done;
+use pz_rules::{Rest, Term};
+
+/// What matters of a term for the height of what is around it.
+#[derive(Clone, Copy)]
+pub(crate) struct Outline {
+    /// The height, which stands still at the end of its type.
+    pub(crate) height: u64,
+    /// Whether nothing is left.
+    pub(crate) done: bool,
+    /// Whether it is a frame without outputs.
+    pub(crate) bare: bool,
+}
+
+/// Whether the term is a frame without outputs.
+fn is_bare(term: &Term) -> bool
+    ensures { result ≡ bare (term_view term.now) }
+{
+    match term {
+        Term::Frame { results, .. } => results.is_empty(),
+        _ => false,
+    }
+}
+
+pub(crate) fn outline_of(term: &Term) -> Outline
+    ensures { result ≡ outline (term_view term.now) }
+{
+    Outline {
+        height: height_of(term),
+        done: is_done(term),
+        bare: is_bare(term),
+    }
+}
+
+/// Of a term, neither done nor a frame without outputs, whose greatest part has this height.
+fn outline_above(part: u64) -> Outline
+    ensures { (t : terms.Term) (n : ℕ) → part ≡ capped n → IsAbove t n → result ≡ outline t }
+{
+    Outline {
+        height: above(part),
+        done: false,
+        bare: false,
+    }
+}
+
+fn outline_done() -> Outline
+    ensures { result ≡ outline terms.done }
+{
+    Outline {
+        height: 1,
+        done: true,
+        bare: false,
+    }
+}
+
+/// Of what a statement opens as.
+fn outline_opened(step: &Step) -> Outline
+    ensures { result ≡ outline (opened (view step.now)) }
+{
+    Outline {
+        height: opened_height(step),
+        done: opens_done(step),
+        bare: false,
+    }
+}
+
+/// Of what statements that wait open as.
+fn outline_rest(rest: &Rest) -> Outline
+    ensures { result ≡ outline (opened_all (sequence_view rest.now)) }
+{
+    let Some(first) = rest.first() else {
+        return outline_done();
+    };
+    if rest.len() == 1 {
+        return outline_opened(first);
+    }
+    outline_above(opened_height(first))
+}
+
+/// Of what is open, with statements behind it.
+pub(crate) fn outline_sequence(left: Outline, rest: &Rest) -> Outline
+    ensures { (t : terms.Term) (i : ℕ) → IsRound left (terms.sequence t (sequence_view rest.now)) i result }
+{
+    if left.done {
+        outline_rest(rest)
+    } else {
+        outline_above(left.height)
+    }
+}
+
+/// Whether nothing is left of any part.
+fn all_done(parts: &[Term]) -> bool
+    ensures { result ≡ leaving.all_done (terms_view parts.now) }
+{
+    for part in parts {
+        if !is_done(part) {
+            return false;
+        }
+    }
+    true
+}
+
+/// Whether nothing is left of parts side by side, of which one is done or not.
+fn stand_done(before: &[Term], left: bool, behind: &[Term]) -> bool
+    ensures { result ≡ (leaving.all_done (terms_view before.now) && (left && leaving.all_done (terms_view behind.now))) }
+{
+    all_done(before) && left && all_done(behind)
+}
+
+/// Of parts side by side, of which one has become another.
+pub(crate) fn outline_parallel(before: &[Term], left: Outline, behind: &[Term]) -> Outline
+    ensures { (t : Part) → IsRound left (terms.parallel (terms_view (before.now ++ t ∷ behind.now))) (length before.now) result }
+{
+    if stand_done(before, left.done, behind) {
+        return outline_done();
+    }
+    let others = left.height.max(greatest_of(behind));
+    outline_above(greatest_of(before).max(others))
+}
+
+/// Of two parts, of which the first has become another; when that is done, the whole is.
+pub(crate) fn outline_first(left: Outline, second: &Term) -> Outline
+    ensures abort { (t : terms.Term) → IsRound left (terms.abort t (term_view second.now)) 0 result }
+    ensures idle { (t : terms.Term) (again : terms.Step) → IsRound left (terms.idle t (term_view second.now) again) 0 result }
+{
+    if left.done {
+        return left;
+    }
+    outline_above(left.height.max(height_of(second)))
+}
+
+/// Of what is interrupted, whose second part has become another.
+pub(crate) fn outline_second(first: &Term, left: Outline, again: &Step) -> Outline
+    ensures { (x : terms.Term) → left ≡ outline x → result ≡ outline (leaving.handled (term_view first.now) (view again.now) x) }
+{
+    if left.done {
+        return outline_above(height_of(first).max(opened_height(again)));
+    }
+    outline_above(height_of(first).max(left.height))
+}
+
+/// Of a frame without outputs whose body has become another, where a frame without outputs that is
+/// all of it stands in its place.
+fn outline_bare(left: Outline) -> Outline
+    ensures { (x : terms.Term) (number inputs : ℕ) → left ≡ outline x → result ≡ outline (leaving.framed number inputs [] x) }
+{
+    if left.bare {
+        return left;
+    }
+    Outline {
+        height: above(left.height),
+        done: false,
+        bare: true,
+    }
+}
+
+/// Of a frame whose body has become another.
+pub(crate) fn outline_frame(results: &[Slot], left: Outline) -> Outline
+    ensures { (number inputs : ℕ) (t : terms.Term) (i : ℕ) → IsRound left (terms.frame number inputs results.now t) i result }
+{
+    if left.done {
+        return left;
+    }
+    if results.is_empty() {
+        return outline_bare(left);
+    }
+    outline_above(left.height)
+}

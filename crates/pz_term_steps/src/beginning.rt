@@ -1,0 +1,122 @@
+// What an active part does, as far as it can still be undone: the mark from before is open, and at a
+// trouble all is as it was. After want of memory, which is the only error, nothing is promised of the
+// state.
+
+ghost use Rattle.std.specs.Prelude.{◌≡◌, ℕ, IfOk};
+ghost use Rattle.pz_syntax.specs.declared.tokens.Pos.{Pos as StatementPos};
+ghost use Rattle.pz_syntax.specs.Classes.{ModelTree};
+ghost use Rattle.pz_copy.specs.Parcels.{ParcelView};
+ghost use Rattle.pz_state.specs.States.{StateView};
+ghost use Rattle.pz_rules.specs.InternalActions.{Performs};
+ghost use Rattle.pz_rules.specs.Messages.{Hands, Takes};
+ghost use Rattle.pz_rules.specs.View.{term_view};
+ghost use Rattle.pz_part_queries.specs.Standpoints.{Knows, seen_from};
+ghost use Rattle.pz_part_actions.specs.Becoming.{process_left, done_left};
+ghost use Rattle.pz_part_actions.specs.Fitting.{FitsHere};
+ghost use Rattle.pz_term_steps.specs.devices.StatementPlaces.{IsFrom};
+ghost use Rattle.pz_term_steps.specs.devices.Deeds.{Acting, Sending, Receiving, CanDo, Leaves, begun_process, IsBegun};
+
+use crate::begun::{Begun, hold};
+use pz_part_actions::{hand, perform, take};
+use pz_part_queries::{Standpoint, part_at};
+use pz_copy::Parcel;
+use pz_term_around::active_parts_may_act;
+use pz_offer::Trouble;
+use pz_term_processes::Process;
+use pz_rules::{Term, active_parts_fit, offered_parts_act};
+use pz_state::FrameId;
+use pz_syntax::Pos;
+use pz_value::ClassId;
+use std::alloc::{AllocError, Global};
+
+/// The place of the statement that a part is. Takes no memory.
+fn pos_of(part: &Term) -> Pos
+    requires { (pos : StatementPos) × IsFrom pos (term_view part.now) }
+    ensures { IsFrom result (term_view part.now) }
+{
+    match part {
+        Term::Leaf(step) => step.pos,
+        Term::Wait { pos, .. } => *pos,
+        _ => unreachable!(),
+    }
+}
+
+/// A part of which nothing is left.
+fn done_by(left: Result<(), Trouble>) -> Result<Term, Trouble>
+    ensures { (s : StateView) → process_left s result ≡ done_left s left }
+{
+    match left {
+        Ok(()) => Ok(Term::Done),
+        Err(trouble) => Err(trouble),
+    }
+}
+
+/// A part acts by itself. Its process is of this class, and its term fits it.
+pub(crate) fn begin_internal(
+    alloc: Global,
+    here: &Standpoint<'_>,
+    class: ClassId,
+    process: &mut Process,
+    place: &[usize],
+) -> Result<Result<Begun, Trouble>, AllocError>
+    requires can { (m : ModelTree) × Knows m here.now × CanDo Acting (seen_from m here.now class.0 process.old.state.held) (term_view process.old.term) place.now }
+    requires fits { ∥ FitsHere here.now class (term_view process.old.term) ∥₁ }
+    ensures leaves { (m : ModelTree) → Knows m here.now → CanDo Acting (seen_from m here.now class.0 process.old.state.held) (term_view process.old.term) place.now
+        → IfOk result (λ begun. Leaves (seen_from m here.now class.0 process.old.state.held) Performs (term_view process.old.term) place.now (begun_process (term_view process.old.term) place.now process.new.state.held begun)) }
+    ensures state { IfOk result (IsBegun process.old.state process.new.state) }
+    ensures term { process.new.term ≡ process.old.term }
+{
+    active_parts_may_act();
+    offered_parts_act();
+    active_parts_fit();
+    let point = process.state.mark()?;
+    let (frame, part) = part_at(&process.term, FrameId(0), place);
+    let pos = pos_of(part);
+    let left = perform(alloc, here, class, &mut process.state, frame, part)?;
+    Ok(hold(here, process, place, point, pos, left))
+}
+
+/// A send hands over its parcel.
+pub(crate) fn begin_send(
+    alloc: Global,
+    here: &Standpoint<'_>,
+    process: &mut Process,
+    place: &[usize],
+) -> Result<Result<Begun, Trouble>, AllocError>
+    requires can { (m : ModelTree) × (class : ℕ) × (parcel : ParcelView) × Knows m here.now × CanDo (Sending parcel) (seen_from m here.now class process.old.state.held) (term_view process.old.term) place.now }
+    ensures leaves { (m : ModelTree) (class : ℕ) (parcel : ParcelView) → Knows m here.now → CanDo (Sending parcel) (seen_from m here.now class process.old.state.held) (term_view process.old.term) place.now
+        → IfOk result (λ begun. Leaves (seen_from m here.now class process.old.state.held) (λ a f. Hands a f parcel) (term_view process.old.term) place.now (begun_process (term_view process.old.term) place.now process.new.state.held begun)) }
+    ensures state { IfOk result (IsBegun process.old.state process.new.state) }
+    ensures term { process.new.term ≡ process.old.term }
+{
+    active_parts_may_act();
+    offered_parts_act();
+    let point = process.state.mark()?;
+    let (frame, part) = part_at(&process.term, FrameId(0), place);
+    let pos = pos_of(part);
+    let left = hand(alloc, here, &mut process.state, frame, part)?;
+    Ok(hold(here, process, place, point, pos, done_by(left)))
+}
+
+/// A receive takes this parcel.
+pub(crate) fn begin_receive(
+    alloc: Global,
+    here: &Standpoint<'_>,
+    process: &mut Process,
+    place: &[usize],
+    parcel: &Parcel,
+) -> Result<Result<Begun, Trouble>, AllocError>
+    requires can { (m : ModelTree) × (class : ℕ) × Knows m here.now × CanDo Receiving (seen_from m here.now class process.old.state.held) (term_view process.old.term) place.now }
+    ensures leaves { (m : ModelTree) (class : ℕ) → Knows m here.now → CanDo Receiving (seen_from m here.now class process.old.state.held) (term_view process.old.term) place.now
+        → IfOk result (λ begun. Leaves (seen_from m here.now class process.old.state.held) (λ a f. Takes a f parcel.now) (term_view process.old.term) place.now (begun_process (term_view process.old.term) place.now process.new.state.held begun)) }
+    ensures state { IfOk result (IsBegun process.old.state process.new.state) }
+    ensures term { process.new.term ≡ process.old.term }
+{
+    active_parts_may_act();
+    offered_parts_act();
+    let point = process.state.mark()?;
+    let (frame, part) = part_at(&process.term, FrameId(0), place);
+    let pos = pos_of(part);
+    let left = take(alloc, here, &mut process.state, frame, part, parcel)?;
+    Ok(hold(here, process, place, point, pos, done_by(left)))
+}

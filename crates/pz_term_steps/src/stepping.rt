@@ -1,0 +1,204 @@
+ghost use Rattle.std.specs.Prelude.{◌≡◌, ◌+◌, ℕ, List, IfOk, OnOk, OnErr};
+ghost use Rattle.pz_syntax.specs.declared.tokens.Pos.{Pos};
+ghost use Rattle.pz_syntax.specs.Classes.{ModelTree};
+ghost use Rattle.pz_classes.specs.CheckedView.{checked_model};
+ghost use Rattle.pz_bind.specs.NetView.{IsNet};
+ghost use Rattle.pz_rules.specs.declared.action.Kind.{Kind};
+ghost use Rattle.pz_rules.specs.Offers.{IsPair, Offers};
+ghost use Rattle.pz_rules.specs.Steps.{Next, PassesTo};
+ghost use Rattle.pz_rules.specs.Moments.{IsMoment};
+ghost use Rattle.pz_rules.specs.View.{term_view};
+ghost use Rattle.pz_rules.specs.devices.Passing.{passed};
+ghost use Rattle.pz_eval.specs.Known.{AreKnown};
+ghost use Rattle.pz_part_queries.specs.Standpoints.{Knows, seen_from};
+ghost use Rattle.pz_term_processes.specs.Standing.{setting_of, config_of, AreProcesses};
+ghost use Rattle.pz_term_steps.specs.Stepping.{reached};
+
+use crate::beginning::{begin_internal, begin_receive, begin_send};
+use crate::begun::{finish, withdraw};
+use pz_part_queries::Standpoint;
+use pz_bind::Net;
+use pz_classes::{Checked, sound_bodies_fit};
+use pz_copy::Parcel;
+use pz_eval_rules::each_list_has_an_outcome;
+use pz_term_around::active_parts_may_act;
+use pz_offer::{End, Trouble};
+use pz_term_time::pass;
+use pz_term_processes::Process;
+use pz_rules::{
+    Action, Limits, Moment, Term, least_passes, one_next, passing_is_computed, what_fits_goes_on,
+    wires_are_known,
+};
+use std::alloc::{AllocError, Global};
+use std::mem;
+
+/// An active part of a process acts by itself.
+fn act(
+    alloc: Global,
+    checked: &Checked,
+    net: &Net,
+    limits: Limits,
+    clock: u128,
+    processes: &mut [Process],
+    at: &End,
+) -> Result<Result<(), Trouble>, AllocError>
+    requires of_model { ∥ IsNet (checked_model checked.now) net.now ∥₁ }
+    requires processes { ∥ AreProcesses (setting_of (checked_model checked.now) limits) clock processes.old ∥₁ }
+    requires offered { (kind : Kind) × (pos : Pos) × Offers (setting_of (checked_model checked.now) limits) (config_of clock processes.old) (Action.Internal at.now kind pos) }
+    ensures steps { (kind : Kind) (pos : Pos) → IfOk result (λ left. Next (setting_of (checked_model checked.now) limits) (config_of clock processes.old) (Action.Internal at.now kind pos) (reached clock processes.new left)) }
+    ensures stays { IfOk result (λ left. OnErr left (processes.new ≡ processes.old)) }
+{
+    sound_bodies_fit();
+    active_parts_may_act();
+    let _model = checked.model();
+    let here = Standpoint {
+        classes: checked.classes(),
+        limits,
+        process: at.process,
+        clock,
+    };
+    let class = net.class(at.process);
+    let place = at.place.as_slice();
+    let process = &mut processes[at.process as usize];
+    match begin_internal(alloc, &here, class, process, place)? {
+        Ok(begun) => {
+            finish(alloc, process, place, begun)?;
+            Ok(Ok(()))
+        }
+        Err(trouble) => Ok(Err(trouble)),
+    }
+}
+
+/// Two processes communicate: the sender hands over the parcel, then the receiver takes it. Only when
+/// nothing can fail any more does what they did stay.
+fn communicate(
+    alloc: Global,
+    checked: &Checked,
+    limits: Limits,
+    clock: u128,
+    processes: &mut [Process],
+    sender: &End,
+    receiver: &End,
+    parcel: &Parcel,
+) -> Result<Result<(), Trouble>, AllocError>
+    requires pair { (number : ℕ) × (message : List ℕ) × IsPair (setting_of (checked_model checked.now) limits) (config_of clock processes.old) number sender.now receiver.now message parcel.now }
+    ensures steps { (number : ℕ) (message : List ℕ) → IfOk result (λ left. Next (setting_of (checked_model checked.now) limits) (config_of clock processes.old) (Action.Comm number sender.now receiver.now message parcel.now) (reached clock processes.new left)) }
+    ensures stays { IfOk result (λ left. OnErr left (processes.new ≡ processes.old)) }
+{
+    active_parts_may_act();
+    each_list_has_an_outcome();
+    let (from, to) = (sender.process as usize, receiver.process as usize);
+    let sends_at = sender.place.as_slice();
+    let receives_at = receiver.place.as_slice();
+    let here = Standpoint {
+        classes: checked.classes(),
+        limits,
+        process: sender.process,
+        clock,
+    };
+    let sent = match begin_send(alloc, &here, &mut processes[from], sends_at)? {
+        Ok(sent) => sent,
+        Err(trouble) => return Ok(Err(trouble)),
+    };
+    let there = Standpoint {
+        process: receiver.process,
+        ..here
+    };
+    match begin_receive(alloc, &there, &mut processes[to], receives_at, parcel)? {
+        Ok(taken) => {
+            finish(alloc, &mut processes[from], sends_at, sent)?;
+            finish(alloc, &mut processes[to], receives_at, taken)?;
+            Ok(Ok(()))
+        }
+        Err(trouble) => {
+            withdraw(&mut processes[from], sent);
+            Ok(Err(trouble))
+        }
+    }
+}
+
+/// Takes an action that is offered at this clock, or says in which trouble it ends; then the processes
+/// stay as they are. Time is that of the evaluations that the action asks for, and linear in the terms
+/// of the processes that act. The only error is want of memory.
+pub fn step(
+    alloc: Global,
+    checked: &Checked,
+    net: &Net,
+    limits: Limits,
+    clock: u128,
+    processes: &mut [Process],
+    action: &Action,
+) -> Result<Result<(), Trouble>, AllocError>
+    requires of_model { ∥ IsNet (checked_model checked.now) net.now ∥₁ }
+    requires processes { ∥ AreProcesses (setting_of (checked_model checked.now) limits) clock processes.old ∥₁ }
+    requires offered { Offers (setting_of (checked_model checked.now) limits) (config_of clock processes.old) action.now }
+    ensures steps { IfOk result (λ left. Next (setting_of (checked_model checked.now) limits) (config_of clock processes.old) action.now (reached clock processes.new left)) }
+    ensures stays { IfOk result (λ left. OnErr left (processes.new ≡ processes.old)) }
+    ensures processes { OnOk result (∥ AreProcesses (setting_of (checked_model checked.now) limits) clock processes.new ∥₁) }
+{
+    one_next();
+    what_fits_goes_on();
+    let _model = checked.model();
+    match action {
+        Action::Internal { at, .. } => act(alloc, checked, net, limits, clock, processes, at),
+        Action::Comm {
+            sender,
+            receiver,
+            parcel,
+            ..
+        } => communicate(
+            alloc, checked, limits, clock, processes, sender, receiver, parcel,
+        ),
+    }
+}
+
+/// What is left of a process when so much time passes; its state stays.
+fn pass_process(
+    alloc: Global,
+    here: &Standpoint<'_>,
+    process: &mut Process,
+    time: u128,
+) -> Result<(), AllocError>
+    requires { AreKnown here.now.classes.now }
+    ensures term { (m : ModelTree) (class : ℕ) → Knows m here.now → OnOk result (term_view process.new.term ≡ passed (seen_from m here.now class process.old.state.held) time 0 (term_view process.old.term)) }
+    ensures state { process.new.state ≡ process.old.state }
+{
+    let term = mem::replace(&mut process.term, Term::Done);
+    process.term = pass(alloc, here, &mut process.state, term, time)?;
+    Ok(())
+}
+
+/// Lets so much time pass, in clock units, from this clock on: the time that passes there. Time is linear
+/// in the terms and in the evaluations that their active parts ask for. The only error is want of memory.
+pub fn elapse(
+    alloc: Global,
+    checked: &Checked,
+    net: &Net,
+    limits: Limits,
+    clock: u128,
+    processes: &mut [Process],
+    time: u128,
+) -> Result<(), AllocError>
+    requires of_model { ∥ IsNet (checked_model checked.now) net.now ∥₁ }
+    requires processes { ∥ AreProcesses (setting_of (checked_model checked.now) limits) clock processes.old ∥₁ }
+    requires moment { IsMoment (setting_of (checked_model checked.now) limits) (config_of clock processes.old) (Moment.Time time) }
+    ensures passes { OnOk result (PassesTo (setting_of (checked_model checked.now) limits) (config_of clock processes.old) time (config_of (clock + time) processes.new)) }
+    ensures processes { OnOk result (∥ AreProcesses (setting_of (checked_model checked.now) limits) (clock + time) processes.new ∥₁) }
+{
+    wires_are_known();
+    least_passes();
+    passing_is_computed();
+    one_next();
+    what_fits_goes_on();
+    let _model = checked.model();
+    for number in 0..net.processes() {
+        let here = Standpoint {
+            classes: checked.classes(),
+            limits,
+            process: number,
+            clock,
+        };
+        pass_process(alloc, &here, &mut processes[number as usize], time)?;
+    }
+    Ok(())
+}

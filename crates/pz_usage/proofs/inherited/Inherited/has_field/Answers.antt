@@ -1,9 +1,0 @@
-use Rattle.std.proofs.Common.{◌∙◌, map}
-use Rattle.pz_classes.specs.Numbers.{declaration}
-use Rattle.pz_classes.specs.Members.{own_fields}
-use Rattle.pz_usage.specs.devices.Inherited.{of_each}
-use Rattle.pz_usage.proofs.Along.{names_along}
-use Rattle.pz_usage.proofs.inherited.Inherited.has_field.Goals as goal
-
-pub returns : goal.returns
-returns c = λ m line shown. c.has_name.ensures (of_each own_fields (map (declaration m) line)) shown.fields ∙ names_along m own_fields c.args.name.now line

@@ -1,9 +1,0 @@
-use Rattle.std.proofs.Common.{◌∙◌, map}
-use Rattle.pz_classes.specs.Numbers.{declaration}
-use Rattle.pz_classes.specs.Members.{own_ports}
-use Rattle.pz_usage.specs.devices.Inherited.{of_each}
-use Rattle.pz_usage.proofs.Along.{names_along}
-use Rattle.pz_usage.proofs.inherited.Inherited.has_port.Goals as goal
-
-pub returns : goal.returns
-returns c = λ m line shown. c.has_name.ensures (of_each own_ports (map (declaration m) line)) shown.ports ∙ names_along m own_ports c.args.name.now line

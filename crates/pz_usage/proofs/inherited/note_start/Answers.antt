@@ -1,8 +1,0 @@
-use Rattle.std.proofs.Common.{refl, []}
-use Rattle.pz_syntax.specs.ClassView.{start_view}
-use Rattle.pz_usage.proofs.Shown.{noted_shown}
-use Rattle.pz_usage.proofs.inherited.note_start.Goals as goal
-
-pub returns : goal.returns
-returns c = λ outer shown.
-    rw c.in-Some.is (noted_shown _ _ [] outer tt (start_view c.in-Some.field-0) _ _ tt (λ k. refl) c.in_ok-note.ensures.noted shown)

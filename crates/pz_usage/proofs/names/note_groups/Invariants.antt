@@ -1,8 +1,0 @@
-use Rattle.std.proofs.Common.{List, ◌∷◌, ◌++◌, take}
-use Rattle.pz_syntax.specs.declared.names.Id.{Id}
-use Rattle.pz_classes.specs.Members.{grouped}
-use Rattle.pz_usage.specs.devices.Shown.{ShowsNames}
-use Rattle.pz_usage.proofs.names.note_groups.Given as goal
-
-abbrev pub invariant-loop-group : goal.invariant-loop-group
-invariant-loop-group l = (own : List Id) (outer : List (List Id)) → ShowsNames (own ∷ outer) l.initial.names → ShowsNames ((own ++ grouped (take l.group-index l.groups)) ∷ outer) l.names

@@ -1,9 +1,0 @@
-use Rattle.std.proofs.Common.{ap, Bool, not}
-use Rattle.pz_classes.specs.Ancestors.{ancestors}
-use Rattle.pz_usage.specs.devices.Scopes.{model_of}
-use Rattle.pz_usage.proofs.scopes.never_starts.Goals as goal
-
-pub returns-in-Process : goal.returns-in-Process
-returns-in-Process c =
-    let m = model_of c.args.declared.now in
-    rw c.in-Process.is (ap (λ (b : Bool). not b) (c.has_start.ensures m (ancestors m c.args.scope.now.class.0) c.requires))

@@ -1,6 +1,0 @@
-use Rattle.std.proofs.Common.{◌+◌, ◌*◌, ◌-◌}
-use Rattle.pz_values.specs.devices.Rules.{rank}
-use Rattle.pz_values.proofs.grammar.+expr.Given as goal
-
-abbrev pub decreases-expr : goal.decreases-expr
-decreases-expr l = 7 * l.depth + (6 - rank l.rule)

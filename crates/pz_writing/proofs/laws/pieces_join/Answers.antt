@@ -1,5 +1,0 @@
-use Rattle.pz_writing.proofs.Pieces.{nothing, joins, halts, wants}
-use Rattle.pz_writing.proofs.laws.pieces_join.Goals as goal
-
-pub returns : goal.returns
-returns c = record { nothing = nothing; joins = joins; halts = halts; wants = wants }
