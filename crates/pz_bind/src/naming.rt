@@ -10,8 +10,8 @@ ghost use Rattle.pz_bind.specs.devices.Layouts.{instance_number, port_of, linked
 ghost use Rattle.pz_bind.specs.devices.Numberings.{IsNaming};
 
 use crate::port_numbers::PortNumbers;
-use pz_classes_code::Numbering;
 use pz_bind_levels::{Links, Part};
+use pz_classes_code::Numbering;
 use pz_syntax::{Channel, ChannelEnd};
 use std::alloc::{AllocError, Global};
 

@@ -13,9 +13,9 @@ ghost use Rattle.pz_bind.specs.devices.Numberings.{AreNumbers};
 use crate::declared::{channels_in, class_of, instances_in, is_cluster_class, is_numbered};
 use crate::naming::Naming;
 use crate::port_numbers::{PortNumbers, number_instances};
+use pz_bind_levels::{Links, Part, Plan};
 use pz_classes::Checked;
 use pz_items::Items;
-use pz_bind_levels::{Links, Part, Plan};
 use pz_syntax::{Channel, ChannelEnd, Instance};
 use std::alloc::{AllocError, Global};
 

@@ -10,9 +10,9 @@ ghost use Rattle.pz_bind.specs.devices.Sites as spec;
 
 use crate::bindings::Bindings;
 use crate::declared::instances_in;
+use pz_bind_levels::{Level, Standing};
 use pz_classes::Checked;
 use pz_items::Items;
-use pz_bind_levels::{Level, Standing};
 use pz_syntax::{Instance, Name};
 use std::alloc::{AllocError, Global};
 

@@ -14,12 +14,12 @@ ghost use Rattle.pz_check.specs.Together.{OnRefused};
 
 use crate::CheckError;
 use crate::size::least_of_size;
-use pz_classes::{Checked, Classes};
-use pz_check_instances::{least_ill_given, least_missing_end};
 use pz_check_duplicates::{least_double_end, least_repeat};
-use pz_syntax::Model;
+use pz_check_instances::{least_ill_given, least_missing_end};
 use pz_check_names::least_misuse;
 use pz_check_violations::{Violation, sooner};
+use pz_classes::{Checked, Classes};
+use pz_syntax::Model;
 use std::alloc::{AllocError, Global};
 use std::mem::drop;
 

@@ -8,12 +8,12 @@ ghost use Rattle.pz_classes.specs.SizeRules.{BreaksC19, BreaksC20};
 ghost use Rattle.pz_classes.specs.Tables.{AreClasses};
 ghost use Rattle.pz_check.specs.Together.{BreaksSize};
 
-use pz_classes::Classes;
-use pz_check_size::{least_holding, oversized};
 use pz_check_duplicates::least_system;
-use pz_syntax::Model;
 use pz_check_names::has_unsized_words;
+use pz_check_size::{least_holding, oversized};
 use pz_check_violations::{Violation, sooner};
+use pz_classes::Classes;
+use pz_syntax::Model;
 use std::alloc::{AllocError, Global};
 
 /// The violation of C19, if there is one. The other two are the least violations of C15 and C20: a

@@ -11,8 +11,8 @@ ghost use Rattle.pz_check_duplicates.specs.devices.Knowing.{spread, Knows};
 use crate::again::least_later;
 use crate::places::{Thing, earlier_place};
 use pz_check_scopes::Nested;
-use pz_syntax::Pos;
 use pz_check_violations::Violation;
+use pz_syntax::Pos;
 use std::alloc::AllocError;
 
 /// Notes the earliest place of a name, and gives the least of what was found before and the later

@@ -13,10 +13,10 @@ ghost use Rattle.pz_check_duplicates.specs.devices.EndList.{outers, of_decl};
 
 use crate::again::least_again;
 use crate::places::{Alike, Thing};
+use pz_check_violations::Violation;
 use pz_classes::{channels_of, is_cluster};
 use pz_items::Items;
 use pz_syntax::{Channel, ChannelEnd, Decl, Model};
-use pz_check_violations::Violation;
 use std::alloc::{AllocError, Global};
 
 /// An end of a channel, by the names that it is written with.

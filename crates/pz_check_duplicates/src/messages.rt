@@ -11,9 +11,9 @@ ghost use Rattle.pz_check_duplicates.specs.devices.Signals.{signal, signal_of, m
 
 use crate::again::least_again;
 use crate::places::Thing;
+use pz_check_violations::Violation;
 use pz_items::Items;
 use pz_syntax::{Decl, Id, Message};
-use pz_check_violations::Violation;
 use std::alloc::{AllocError, Global};
 
 /// A message, by its port, its direction, its name and how many parameters it has.

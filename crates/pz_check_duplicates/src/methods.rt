@@ -11,10 +11,10 @@ ghost use Rattle.pz_check_duplicates.specs.devices.Headings.{heading_of, heading
 
 use crate::again::least_again;
 use crate::places::Thing;
+use pz_check_violations::Violation;
 use pz_classes::{count_names, count_section};
 use pz_items::Items;
 use pz_syntax::{DataMethod, Decl, ProcessMethod};
-use pz_check_violations::Violation;
 use std::alloc::{AllocError, Global};
 
 /// A method, by its name and its counts.

@@ -11,9 +11,9 @@ ghost use Rattle.pz_check_duplicates.specs.devices.Names.{id_of, id_place};
 
 use crate::again::least_again;
 use crate::places::Thing;
+use pz_check_violations::Violation;
 use pz_items::Items;
 use pz_syntax::{Id, Instance, VarGroup};
-use pz_check_violations::Violation;
 use std::alloc::{AllocError, Global};
 
 fn name_thing(id: &Id) -> Thing<&[u8]>

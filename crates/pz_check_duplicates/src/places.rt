@@ -5,8 +5,8 @@ ghost use Rattle.indexmap.specs.IndexMap.{get};
 ghost use Rattle.pz_check_duplicates.specs.devices.Earlier.{earlier};
 
 use indexmap::IndexMap;
-use pz_syntax::Pos;
 use pz_check_violations::pos_before;
+use pz_syntax::Pos;
 use std::alloc::AllocError;
 use std::hash::Hash;
 

@@ -15,10 +15,10 @@ use crate::messages::least_message;
 use crate::methods::least_method;
 use crate::names::{least_id, least_instance};
 use crate::walk::least_inherited;
+use pz_check_violations::Violation;
 use pz_classes::{Classes, instances_of};
 use pz_classes_mentions::parts_of;
 use pz_syntax::{Decl, Model};
-use pz_check_violations::Violation;
 use std::alloc::{AllocError, Global};
 
 /// The least of what was found before and the local names that repeat one of the same method.

@@ -9,9 +9,9 @@ ghost use Rattle.pz_check_duplicates.specs.devices.Systems.{system_place};
 
 use crate::again::least_again;
 use crate::places::{Alike, Thing};
+use pz_check_violations::Violation;
 use pz_items::Items;
 use pz_syntax::{Decl, Model, Pos};
-use pz_check_violations::Violation;
 use std::alloc::{AllocError, Global};
 
 const THE_SYSTEM: u8 = 20;

@@ -11,10 +11,10 @@ ghost use Rattle.pz_check_duplicates.specs.devices.RepeatList.{own_at, of_visits
 
 use crate::declaring::declare_all;
 use crate::inherited::{Inherited, own_names};
-use pz_classes_lineage::Visit;
 use pz_check_scopes::Nested;
-use pz_syntax::{Model, Pos};
 use pz_check_violations::Violation;
+use pz_classes_lineage::Visit;
+use pz_syntax::{Model, Pos};
 use std::alloc::{AllocError, Global};
 
 /// Goes into a class: the least of what was found before and the repeats of its own names.

@@ -18,9 +18,9 @@ use crate::name_set::NameSet;
 use crate::needs::{Inside, Need, places_of};
 use crate::open_names::OpenNames;
 use crate::parts::ports_at;
+use pz_check_violations::{Violation, lesser};
 use pz_classes::{Classes, channels_of, instances_of};
 use pz_syntax::{ChannelEnd, Decl, Model, Pos};
-use pz_check_violations::{Violation, lesser};
 use std::alloc::{AllocError, Global};
 
 /// A port that an end of a channel asks of a class, and where the end stands.

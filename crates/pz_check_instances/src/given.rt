@@ -15,9 +15,9 @@ use crate::by_class::ByClass;
 use crate::name_set::NameSet;
 use crate::open_names::OpenNames;
 use crate::parts::{given_of, parameters_at};
+use pz_check_violations::{Violation, lesser};
 use pz_classes::{Classes, class_of_instance, instances_of};
 use pz_syntax::{Given, Instance, Model};
-use pz_check_violations::{Violation, lesser};
 use std::alloc::{AllocError, Global};
 
 /// Whether each of these names is wanted, and none is given twice. The only error is want of memory.

@@ -16,8 +16,8 @@ ghost use Rattle.pz_check_names.specs.devices.Inherited.{AreOpen, IsOpen, messag
 use crate::messages::{Signal, note_messages};
 use crate::methods::{Call, note_methods};
 use crate::names::{has_name, note_optional, note_section};
-use pz_classes::{Visit, declaration};
 use pz_check_scopes::Nested;
+use pz_classes::{Visit, declaration};
 use pz_syntax::{Decl, Model, Name, ProcessClass, Start};
 use std::alloc::{AllocError, Global};
 

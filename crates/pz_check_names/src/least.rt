@@ -19,11 +19,11 @@ use crate::inherited::Inherited;
 use crate::selectors::selectors_of;
 use crate::stretch::stretch_of;
 use crate::words::least_at_word;
+use pz_check_violations::Violation;
 use pz_classes::{Classes, Visit, declaration};
 use pz_classes_mentions::{Part, parts_of};
 use pz_syntax::Model;
 use pz_value::ClassId;
-use pz_check_violations::Violation;
 use std::alloc::{AllocError, Global};
 
 /// The least of what was found before and the violations in this part of a class. The only error is

@@ -5,8 +5,8 @@ ghost use Rattle.std.specs.Option.{unwrap_or};
 ghost use Rattle.pz_syntax.specs.declared.classes.Message.{Message as Declared};
 ghost use Rattle.pz_check_names.specs.devices.Shown.{ShowsMessages};
 
-use pz_items::Items;
 use pz_check_scopes::Nested;
+use pz_items::Items;
 use pz_syntax::{Id, Message, Name};
 use std::alloc::AllocError;
 

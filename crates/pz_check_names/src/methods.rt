@@ -8,9 +8,9 @@ ghost use Rattle.pz_classes.specs.Members.{grouped};
 ghost use Rattle.pz_classes.specs.Methods.{process_signature};
 ghost use Rattle.pz_check_names.specs.devices.Shown.{ShowsMethods, called, signature_of};
 
+use pz_check_scopes::Nested;
 use pz_classes::count_names;
 use pz_items::Items;
-use pz_check_scopes::Nested;
 use pz_syntax::{Name, ProcessMethod};
 use std::alloc::AllocError;
 

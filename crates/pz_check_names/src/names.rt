@@ -8,8 +8,8 @@ ghost use Rattle.pz_classes.specs.Members.{grouped, section};
 ghost use Rattle.pz_check_names.specs.devices.Shown.{ShowsNames};
 ghost use Rattle.pz_classes.specs.Words.{is_among};
 
-use pz_items::Items;
 use pz_check_scopes::Nested;
+use pz_items::Items;
 use pz_syntax::{Id, Name, VarGroup};
 use std::alloc::{AllocError, Global};
 

@@ -3,8 +3,8 @@ ghost use Rattle.pz_classes.specs.Words.{is_among};
 ghost use Rattle.pz_check_names.specs.devices.Scopes.{HasLocals};
 
 use crate::names::{has_name, scope_of};
-use pz_classes_mentions::Part;
 use pz_check_scopes::Nested;
+use pz_classes_mentions::Part;
 use pz_syntax::Name;
 use std::alloc::{AllocError, Global};
 

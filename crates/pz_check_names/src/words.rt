@@ -14,10 +14,10 @@ use crate::scopes::{
     is_data, lacks_message, lacks_method, lacks_port, lacks_selector, lacks_variable, never_starts,
 };
 use crate::stretch::Stretch;
+use pz_check_violations::{Violation, lesser};
 use pz_classes_code::is_unsupported;
 use pz_classes_mentions::Mention;
 use pz_syntax::{Id, Pos};
-use pz_check_violations::{Violation, lesser};
 
 /// The least of what was found before and this rule at this place, if it is broken there.
 fn noted(before: Option<Violation>, broken: bool, rule: u8, pos: Pos) -> Option<Violation>

@@ -8,9 +8,9 @@ ghost use Rattle.pz_classes.specs.Tables.{AreClasses};
 
 use crate::leading_back::least_leading_back;
 use crate::nodes::nodes_of;
+use pz_check_violations::Violation;
 use pz_classes::Classes;
 use pz_syntax::Model;
-use pz_check_violations::Violation;
 use std::alloc::{AllocError, Global};
 
 /// The least instance by which a cluster class holds itself, directly or through others, at the

@@ -11,9 +11,9 @@ ghost use Rattle.pz_check_size.specs.devices.Oversized as spec;
 use crate::counting::all_totals;
 use crate::nodes::nodes_of;
 use crate::totals::{Totals, total_in};
+use pz_check_violations::{Violation, lesser};
 use pz_classes::Classes;
 use pz_syntax::{Decl, Model};
-use pz_check_violations::{Violation, lesser};
 use std::alloc::{AllocError, Global};
 
 const TOO_LARGE: u8 = 19;

@@ -10,9 +10,9 @@ ghost use Rattle.pz_classes.specs.devices.ViolationList as list;
 ghost use Rattle.pz_check_violations.specs.Least as least;
 
 use crate::declarations::{declaration, declared_name, extended, is_data, same_sort};
+use pz_check_violations::{Violation, lesser};
 use pz_classes_code::{Numbering, is_object, is_primitive, is_unsupported};
 use pz_syntax::{Decl, Id, Model, Name};
-use pz_check_violations::{Violation, lesser};
 
 /// Whether a class's name is declared before it, or is a primitive's.
 fn breaks_c1(model: &Model, numbering: &Numbering, number: u32, name: &Name) -> bool

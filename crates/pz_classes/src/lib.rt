@@ -32,6 +32,6 @@ pub use laws::{
 };
 pub use method_id::{Counts, MethodId};
 pub use methods::{count_names, count_section};
+pub use pz_check_violations::Violation;
 pub use pz_classes_code::{Body, Code, CodeForm, CodeLink, CodeSending, Slot, Step, StepForm};
 pub use pz_classes_lineage::Visit;
-pub use pz_check_violations::Violation;

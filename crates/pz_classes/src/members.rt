@@ -12,8 +12,8 @@ ghost use Rattle.pz_classes.specs.devices.Inherited.{Adds, AddsAt, AreMembers, J
 
 use crate::ancestry::parent_at;
 use crate::declarations::declaration;
-use pz_items::Items;
 use pz_classes_lineage::Visit;
+use pz_items::Items;
 use pz_syntax::{Decl, Id, Model, Name, VarGroup};
 use std::alloc::{AllocError, Global};
 

@@ -13,9 +13,9 @@ ghost use Rattle.pz_eval.specs.Promises.{UnlessValue, UnlessValues, NamesWithin,
 use crate::listing::evaluate_list;
 use pz_classes::Classes;
 use pz_classes_code::Code;
-use pz_eval_rules::{Allowance, Listed, Outcome, computed_is_found};
 use pz_eval_machine::{Finish, Setting, evaluate};
 use pz_eval_operations::Stop;
+use pz_eval_rules::{Allowance, Listed, Outcome, computed_is_found};
 use pz_state::{FrameId, State};
 use std::alloc::{AllocError, Global};
 

@@ -12,9 +12,9 @@ ghost use Rattle.pz_eval_operations.specs.Known.{AreKnown};
 ghost use Rattle.pz_eval.specs.devices.Lists.{Gathers};
 
 use pz_classes_code::Code;
-use pz_items::Items;
 use pz_eval_machine::{Finish, Setting, evaluate};
 use pz_eval_operations::Stop;
+use pz_items::Items;
 use pz_state::{FrameId, State};
 use pz_value::Value;
 use std::alloc::{AllocError, Global};

@@ -30,10 +30,10 @@ use crate::resuming::assign;
 use crate::setting::Setting;
 use pz_classes::Classes;
 use pz_classes_code::{Code, CodeForm, CodeLink, CodeSending, Slot};
-use pz_items::Items;
 use pz_eval_operations::{
     Activation, Site, Stop, Task, at_once, constant, create, read, self_at, tick, time,
 };
+use pz_items::Items;
 use pz_state::State;
 use pz_syntax::{Literal, Pos};
 use pz_value::{ClassId, Value};

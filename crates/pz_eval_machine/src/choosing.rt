@@ -17,9 +17,9 @@ ghost use Rattle.pz_eval_machine.specs.devices.Weights.{list_weight, part_weight
 use crate::continuing::{add_task, descend, go_on_list, run_list};
 use crate::control::Control;
 use pz_classes_code::Code;
+use pz_eval_operations::{Activation, Stop, Task, at_once, tick};
 use pz_eval_rules::turns_go_on;
 use pz_items::Items;
-use pz_eval_operations::{Activation, Stop, Task, at_once, tick};
 use pz_state::{FaultKind, State};
 use pz_syntax::Pos;
 use pz_value::Value;

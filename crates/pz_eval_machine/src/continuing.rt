@@ -18,8 +18,8 @@ ghost use Rattle.pz_eval_machine.specs.devices.Weights.{weight, list_weight, sen
 
 use crate::control::Control;
 use pz_classes_code::{Code, CodeSending};
-use pz_items::Items;
 use pz_eval_operations::{Activation, Request, Stop, Task, assign_at_once, at_once, tick};
+use pz_items::Items;
 use pz_state::State;
 use pz_value::Value;
 use std::alloc::{AllocError, Global};

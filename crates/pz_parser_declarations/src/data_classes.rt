@@ -6,10 +6,10 @@ ghost use Rattle.pz_parser_cursor.specs.devices.Device.{Reads};
 ghost use Rattle.pz_parser_declarations.specs.devices.DataClasses as spec;
 
 use crate::sections::{parent_section, variables_section};
-use pz_parser_cursor::{Cursor, Next, Refusal, optional_formal, optional_locals};
 use pz_items::Items;
-use pz_syntax::{DataClass, DataMethod};
+use pz_parser_cursor::{Cursor, Next, Refusal, optional_formal, optional_locals};
 use pz_parser_expressions::exprs;
+use pz_syntax::{DataClass, DataMethod};
 use std::alloc::Global;
 
 /// A data class from `data` on. In its methods at most `depth` constructs stand one in another.

@@ -12,8 +12,8 @@ ghost use Rattle.pz_parser_statements.specs.devices.Nests.{Nests};
 
 use crate::messages::call;
 use crate::single::{block, delay, skip, valued, worded};
-use pz_parser_cursor::{Cursor, Next, Refusal};
 use pz_items::Items;
+use pz_parser_cursor::{Cursor, Next, Refusal};
 use pz_syntax::Stmt;
 use std::alloc::Global;
 

@@ -10,10 +10,10 @@ ghost use Rattle.pz_parser_statements.specs.devices.Views.{reception_view};
 
 use crate::kept::up_to;
 use crate::single::inner_value;
-use pz_parser_cursor::{Cursor, Next, Refusal, optional_names};
 use pz_items::Items;
-use pz_syntax::{Expr, Id, Stmt, StmtForm};
+use pz_parser_cursor::{Cursor, Next, Refusal, optional_names};
 use pz_parser_expressions::{arguments, block, optional_arguments};
+use pz_syntax::{Expr, Id, Stmt, StmtForm};
 use std::alloc::Global;
 
 /// The variables and the condition of a reception. A condition is there only where brackets are.

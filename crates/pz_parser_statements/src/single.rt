@@ -10,8 +10,8 @@ ghost use Rattle.pz_parser_statements.specs.devices.Statements as spec;
 
 use crate::messages::{receive, send};
 use pz_parser_cursor::{Cursor, Next, Refusal};
-use pz_syntax::{Expr, Stmt, StmtForm};
 use pz_parser_expressions::value;
+use pz_syntax::{Expr, Stmt, StmtForm};
 use std::alloc::Global;
 
 /// A `skip` stands next.

@@ -20,16 +20,16 @@ ghost use Rattle.pz_part_actions.specs.devices.Calls.{IsCallable, Enters};
 
 use crate::evaluating::evaluate_all;
 use crate::opening::open_steps;
-use pz_part_queries::Standpoint;
 use pz_classes::{Body, Classes};
 use pz_classes_code::{Code, Slot, Step};
 use pz_items::{Boxed, Items};
-use pz_term_around::set_inputs;
 use pz_offer::Trouble;
-use pz_term_processes::trees_are_sets;
+use pz_part_queries::Standpoint;
 use pz_rules::Term;
 use pz_state::{FrameId, State};
 use pz_syntax::{Id, Pos};
+use pz_term_around::set_inputs;
+use pz_term_processes::trees_are_sets;
 use pz_value::{ClassId, Value};
 use std::alloc::{AllocError, Global};
 

@@ -11,11 +11,11 @@ ghost use Rattle.pz_eval.specs.Known.{AreKnown};
 ghost use Rattle.pz_part_queries.specs.Standpoints.{Knows, seen_from};
 ghost use Rattle.pz_part_actions.specs.devices.Effects.{Tested, Ran, ran};
 
-use pz_part_queries::{Standpoint, allowance, truth, value_or_trouble, values_or_trouble};
 use pz_classes_code::Code;
 use pz_eval::{eval, eval_list};
 use pz_items::Items;
 use pz_offer::Trouble;
+use pz_part_queries::{Standpoint, allowance, truth, value_or_trouble, values_or_trouble};
 use pz_state::{FrameId, State};
 use pz_syntax::Pos;
 use pz_value::Value;

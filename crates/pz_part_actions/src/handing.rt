@@ -14,10 +14,10 @@ ghost use Rattle.pz_part_actions.specs.Becoming.{done_left};
 ghost use Rattle.pz_part_actions.specs.devices.Effects.{RunsBoth};
 
 use crate::evaluating::run_part;
-use pz_part_queries::Standpoint;
 use pz_classes_code::{Code, StepForm};
 use pz_items::Items;
 use pz_offer::Trouble;
+use pz_part_queries::Standpoint;
 use pz_rules::{Term, evaluations_are_computed};
 use pz_state::{FrameId, State};
 use pz_syntax::Pos;

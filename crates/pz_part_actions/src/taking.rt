@@ -18,15 +18,15 @@ ghost use Rattle.pz_part_actions.specs.Becoming.{done_left};
 ghost use Rattle.pz_part_actions.specs.devices.Effects.{Ran};
 
 use crate::evaluating::run_part;
-use pz_part_queries::Standpoint;
 use pz_classes_code::{Code, Slot, StepForm};
 use pz_copy::{Parcel, UnpackError, unpack};
 use pz_items::Items;
-use pz_term_around::set_slots;
 use pz_offer::Trouble;
+use pz_part_queries::Standpoint;
 use pz_rules::Term;
 use pz_state::{FaultKind, FrameId, State};
 use pz_syntax::Pos;
+use pz_term_around::set_slots;
 use pz_value::Value;
 use std::alloc::{AllocError, Global};
 

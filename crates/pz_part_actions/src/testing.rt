@@ -18,10 +18,10 @@ ghost use Rattle.pz_part_actions.specs.devices.Parts.{otherwise_view};
 
 use crate::evaluating::test;
 use crate::opening::{open_part, open_steps};
-use pz_part_queries::Standpoint;
 use pz_classes_code::{Code, Step};
 use pz_items::{Boxed, Items};
 use pz_offer::Trouble;
+use pz_part_queries::Standpoint;
 use pz_rules::{Rest, Term};
 use pz_state::{FrameId, State};
 use pz_syntax::Pos;

@@ -11,8 +11,8 @@ ghost use Rattle.pz_part_queries.specs.Standpoints.{Knows, seen_from};
 ghost use Rattle.pz_part_queries.specs.Parcels.{Packs};
 ghost use Rattle.pz_part_queries.specs.devices.Outcomes as outcomes;
 
-use crate::standpoint::Standpoint;
 use crate::meanings::{duration, truth, value_or_trouble};
+use crate::standpoint::Standpoint;
 use pz_classes_code::Code;
 use pz_copy::{Parcel, pack};
 use pz_eval::{Allowance, Outcome, Parceled, try_eval, try_parcel};

@@ -8,9 +8,9 @@ ghost use Rattle.pz_rules.specs.Openable.{IsProcessClass, HasItsVariables, MayOp
 ghost use Rattle.pz_rules.specs.View.{term_view, terms_view, branches_view};
 
 use crate::{Limits, Rest, Term};
-use pz_classes_copies::{copy_code, copy_step};
 use pz_classes::Checked;
 use pz_classes_code::{Step, StepForm};
+use pz_classes_copies::{copy_code, copy_step};
 use pz_items::{Boxed, Items};
 use pz_state::{FrameId, State};
 use pz_value::ClassId;

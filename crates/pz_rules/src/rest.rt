@@ -1,8 +1,8 @@
 ghost use Rattle.std.specs.Prelude.{◌≡◌, [], ◌∷◌, length, IfOk, MatchOption, ◌==◌, slice_get};
 ghost use Rattle.std.specs.Option.{option_copied};
 
-use pz_classes_copies::copy_step;
 use pz_classes_code::Step;
+use pz_classes_copies::copy_step;
 use std::alloc::{AllocError, Global};
 use std::marker::Model;
 

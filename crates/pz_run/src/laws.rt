@@ -2,8 +2,8 @@
 
 ghost use Rattle.pz_run.specs.devices.Replaying.{TracesKnown};
 
-use pz_trace_laws::{names_are_unbroken, runs_tell_lines};
 use pz_trace::{lines_differ, lines_stand_apart};
+use pz_trace_laws::{names_are_unbroken, runs_tell_lines};
 
 /// Each event of a run of a model that was read has a line of its own, and a text is the trace of runs with
 /// one ending alone.

@@ -2,10 +2,10 @@ ghost use Rattle.std.specs.Prelude.{◌≡◌};
 ghost use Rattle.pz_run.specs.Status.{number_of};
 ghost use Rattle.pz_run.specs.devices.Halting.{halted_as, given_as, replayed_as};
 
+use pz_io::Halt;
 use pz_run_playing::Finale;
 use pz_run_replaying::Replayed;
 use pz_trace::Ending;
-use pz_io::Halt;
 
 /// How the program ends.
 #[derive(Clone, Copy, Debug, PartialEq, Eq)]

@@ -8,9 +8,9 @@ use crate::play::Play;
 use crate::playing::run_model;
 use crate::printing::say_made;
 use pz_io::Sink;
-use pz_run_reading::{ReadModelError, measure, read_model};
-use pz_run_lines::{accepted_line, model_refused_line};
 use pz_rules::{one_chosen_run, what_fits_goes_on};
+use pz_run_lines::{accepted_line, model_refused_line};
+use pz_run_reading::{ReadModelError, measure, read_model};
 use std::alloc::Global;
 
 /// Runs the model of this text, or says why that is refused.

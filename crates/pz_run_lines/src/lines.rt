@@ -3,9 +3,9 @@
 ghost use Rattle.std.specs.Prelude.{◌≡◌, IfOk};
 ghost use Rattle.pz_run_lines.specs.Lines as lines;
 
+use pz_check_violations::Violation;
 use pz_run_reading::{Refusal, Size};
 use pz_syntax::Pos;
-use pz_check_violations::Violation;
 use std::alloc::{AllocError, Global};
 
 /// How the program is called. Takes no memory.

@@ -3,13 +3,13 @@
 ghost use Rattle.pz_run_playing.specs.Laws.{RunTextsAreTraceTexts, ChosenRunsAreTraces};
 ghost use Rattle.pz_run_playing.specs.devices.Known.{Known};
 
+use pz_io::pieces_join;
 use pz_rules::{
     least_passes, one_chosen_run, one_moment, one_next, passings_end, what_fits_goes_on,
     wires_are_known,
 };
 use pz_term::simulators_show_one_moment;
 use pz_trace::what_happens_is_named;
-use pz_io::pieces_join;
 
 /// The text of a run in which no entry is refused is a trace of the model.
 pub fn run_texts_are_traces()

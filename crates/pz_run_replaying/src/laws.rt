@@ -2,12 +2,12 @@
 
 ghost use Rattle.pz_run_replaying.specs.devices.Known.{Known};
 
+use pz_io::pieces_join;
 use pz_rules::{
     least_passes, one_list_of_offers, one_moment, one_next, what_fits_goes_on, wires_are_known,
 };
 use pz_term::simulators_show_one_moment;
 use pz_trace::{headings_tell_actions, lines_differ, lines_stand_apart, what_happens_is_named};
-use pz_io::pieces_join;
 
 /// What is known of runs, of lines and of writing.
 pub(crate) fn rules_are_known()

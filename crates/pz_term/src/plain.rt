@@ -12,8 +12,8 @@ use crate::vector::{elapse_at, look_at, step_at};
 use pz_bind::Net;
 use pz_classes::Checked;
 use pz_offer::Trouble;
-use pz_term_processes::{Process, start};
 use pz_rules::{Action, Limits, Moment, one_list_of_offers, one_moment, wires_are_known};
+use pz_term_processes::{Process, start};
 use std::alloc::{AllocError, Global};
 use std::mem::{self, drop};
 

@@ -13,9 +13,9 @@ ghost use Rattle.pz_term_steps.specs.Stepping.{reached};
 use pz_bind::Net;
 use pz_classes::Checked;
 use pz_offer::Trouble;
+use pz_rules::{Action, Limits, Moment};
 use pz_term_enabled::{Outlook, look};
 use pz_term_processes::Process;
-use pz_rules::{Action, Limits, Moment};
 use pz_term_steps::{elapse, step};
 use std::alloc::{AllocError, Global};
 

@@ -10,11 +10,11 @@ ghost use Rattle.pz_term_enabled.specs.devices.Adding.{action_of, sender_of, rec
 ghost use Rattle.pz_term_enabled.specs.devices.Seen.{Wired, HasPort, wire_at};
 
 use crate::findings::Survey;
+use crate::found::{Doing, Found, Receiving, Sending};
 use pz_bind::Net;
-use pz_term_matching::{Receiver, Sender};
 use pz_offer::{End, Trouble};
 use pz_rules::Action;
-use crate::found::{Doing, Found, Receiving, Sending};
+use pz_term_matching::{Receiver, Sender};
 use std::alloc::AllocError;
 
 /// The internal actions of a process.

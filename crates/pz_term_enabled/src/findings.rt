@@ -1,8 +1,8 @@
 ghost use Rattle.std.specs.Prelude.{◌≡◌, [], None, true};
 
-use pz_term_matching::{Receiver, Sender};
 use pz_offer::Trouble;
 use pz_rules::Action;
+use pz_term_matching::{Receiver, Sender};
 use std::alloc::Global;
 
 /// What is found in all processes.

@@ -14,15 +14,15 @@ ghost use Rattle.pz_term_enabled.specs.Surveyed.{IsReceiver, AreSenders, AreRece
 ghost use Rattle.pz_term_enabled.specs.devices.Judged.{HasReceive, JudgesAt, communication_of, OfOne, OfPairs};
 ghost use Rattle.pz_term_enabled.specs.devices.Communications.{OfAll};
 
-use pz_part_queries::{Standpoint, judge, one_verdict, part_at};
 use pz_classes::Checked;
 use pz_copy::Parcel;
-use pz_term_around::active_parts_may_act;
-use pz_term_matching::{Pair, Receiver, Sender, match_ends};
 use pz_offer::{Place, Trouble};
-use pz_term_processes::Process;
+use pz_part_queries::{Standpoint, judge, one_verdict, part_at};
 use pz_rules::{Action, Limits, offered_parts_act};
 use pz_state::FrameId;
+use pz_term_around::active_parts_may_act;
+use pz_term_matching::{Pair, Receiver, Sender, match_ends};
+use pz_term_processes::Process;
 use std::alloc::{AllocError, Global};
 
 /// What the receive at this place of a process says to a parcel.

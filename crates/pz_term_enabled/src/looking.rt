@@ -9,14 +9,14 @@ ghost use Rattle.pz_term_enabled.specs.Surveyed.{IsSurveyed};
 ghost use Rattle.pz_term_enabled.specs.Looking.{AreActionsAt};
 ghost use Rattle.pz_term_enabled.specs.devices.Deciding.{Decides, calm_moment};
 
+use crate::findings::Survey;
 use crate::judging::add_communications;
+use crate::surveying::survey;
 use pz_bind::Net;
 use pz_classes::Checked;
 use pz_offer::Trouble;
-use pz_term_processes::Process;
 use pz_rules::{Action, Limits, Moment, one_list_of_offers};
-use crate::findings::Survey;
-use crate::surveying::survey;
+use pz_term_processes::Process;
 use std::alloc::{AllocError, Global};
 use std::mem;
 

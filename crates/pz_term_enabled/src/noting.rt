@@ -17,10 +17,10 @@ ghost use Rattle.pz_part_queries.specs.Standpoints.{Knows, seen_from};
 ghost use Rattle.pz_term_enabled.specs.devices.Listings.{Adds, notes_of, nothing, only_does, only_waits, only_troubles, only_receives};
 
 use crate::found::{Doing, Found, Receiving, Sending};
-use pz_part_queries::{Standpoint, ask_parcel, ask_time};
 use pz_classes_code::{Code, Slot, Step, StepForm};
 use pz_items::Items;
 use pz_offer::{Place, Trouble};
+use pz_part_queries::{Standpoint, ask_parcel, ask_time};
 use pz_rules::{Kind, evaluations_are_computed};
 use pz_state::{FrameId, State};
 use pz_syntax::{Id, Name, Pos};

@@ -11,15 +11,15 @@ ghost use Rattle.pz_term_enabled.specs.Surveyed.{IsSurveyed};
 ghost use Rattle.pz_term_enabled.specs.devices.Below.{SurveyedBelow};
 ghost use Rattle.pz_term_enabled.specs.devices.Seen.{IsSeen};
 
-use crate::findings::Survey;
 use crate::adding::add_found;
-use pz_part_queries::Standpoint;
+use crate::findings::Survey;
+use crate::walking::walk;
 use pz_bind::Net;
 use pz_classes::Checked;
+use pz_part_queries::Standpoint;
+use pz_rules::{Limits, active_parts_fit, walks_list_what_is_active, wires_are_known};
 use pz_term_around::is_done;
 use pz_term_processes::Process;
-use pz_rules::{Limits, active_parts_fit, walks_list_what_is_active, wires_are_known};
-use crate::walking::walk;
 use std::alloc::{AllocError, Global};
 
 /// Surveys a process, behind those before it. The process stays as it is, always.

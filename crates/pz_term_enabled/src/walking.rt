@@ -13,9 +13,9 @@ ghost use Rattle.pz_term_enabled.specs.devices.Listings.{Adds};
 
 use crate::found::Found;
 use crate::noting::{note_left, note_step, note_trouble};
-use pz_part_queries::{Standpoint, ask_test};
 use pz_classes_code::Code;
 use pz_offer::Place;
+use pz_part_queries::{Standpoint, ask_test};
 use pz_rules::{Term, evaluations_are_computed};
 use pz_state::{FrameId, State};
 use pz_syntax::Pos;

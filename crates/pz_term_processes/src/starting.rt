@@ -10,11 +10,11 @@ ghost use Rattle.pz_rules.specs.declared.limits.Limits.{Limits};
 ghost use Rattle.pz_rules.specs.Starting.{StartsAs, IsStart};
 ghost use Rattle.pz_term_processes.specs.Standing.{setting_of, process_view, config_of, AreProcesses};
 
-use pz_bind::Net;
-use pz_classes_copies::copy_step;
-use pz_classes::{Checked, sound_classes_fit};
 use crate::laws::trees_are_sets;
 use crate::process::Process;
+use pz_bind::Net;
+use pz_classes::{Checked, sound_classes_fit};
+use pz_classes_copies::copy_step;
 use pz_rules::{Term, what_fits_goes_on};
 use pz_state::State;
 use pz_value::Value;

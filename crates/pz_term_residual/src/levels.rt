@@ -11,9 +11,9 @@ ghost use Rattle.pz_term_residual.specs.devices.Unwound.{put_round, HasItsPlace,
 
 use pz_classes_code::{Slot, Step};
 use pz_items::{Boxed, Items};
-use pz_term_around::{in_abort, in_frame, in_handling, in_interrupt, in_parallel, in_sequence};
 use pz_rules::{Rest, Term};
 use pz_state::{FrameId, State};
+use pz_term_around::{in_abort, in_frame, in_handling, in_interrupt, in_parallel, in_sequence};
 use std::alloc::{AllocError, Global};
 use std::mem;
 

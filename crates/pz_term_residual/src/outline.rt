@@ -14,8 +14,8 @@ ghost use Rattle.pz_term_residual.specs.devices.Outlines.{outline, IsAbove, IsRo
 use crate::heights::{above, greatest_of, height_of};
 use crate::opening::{opened_height, opens_done};
 use pz_classes_code::{Slot, Step};
-use pz_term_around::is_done;
 use pz_rules::{Rest, Term};
+use pz_term_around::is_done;
 
 /// What matters of a term for the height of what is around it.
 #[derive(Clone, Copy)]

@@ -17,15 +17,15 @@ ghost use Rattle.pz_term_steps.specs.devices.StatementPlaces.{IsFrom};
 ghost use Rattle.pz_term_steps.specs.devices.Deeds.{Acting, Sending, Receiving, CanDo, Leaves, begun_process, IsBegun};
 
 use crate::begun::{Begun, hold};
+use pz_copy::Parcel;
+use pz_offer::Trouble;
 use pz_part_actions::{hand, perform, take};
 use pz_part_queries::{Standpoint, part_at};
-use pz_copy::Parcel;
-use pz_term_around::active_parts_may_act;
-use pz_offer::Trouble;
-use pz_term_processes::Process;
 use pz_rules::{Term, active_parts_fit, offered_parts_act};
 use pz_state::FrameId;
 use pz_syntax::Pos;
+use pz_term_around::active_parts_may_act;
+use pz_term_processes::Process;
 use pz_value::ClassId;
 use std::alloc::{AllocError, Global};
 

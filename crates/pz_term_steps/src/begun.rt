@@ -13,13 +13,13 @@ ghost use Rattle.pz_term_around.specs.Becoming.{Became};
 ghost use Rattle.pz_part_actions.specs.Becoming.{process_left};
 ghost use Rattle.pz_term_steps.specs.devices.Deeds.{begun_process};
 
-use pz_part_queries::Standpoint;
-use pz_term_residual::{settle, stays_low};
 use pz_offer::Trouble;
-use pz_term_processes::Process;
+use pz_part_queries::Standpoint;
 use pz_rules::Term;
 use pz_state::Point;
 use pz_syntax::Pos;
+use pz_term_processes::Process;
+use pz_term_residual::{settle, stays_low};
 use std::alloc::{AllocError, Global};
 use std::mem;
 

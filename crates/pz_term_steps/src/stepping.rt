@@ -16,19 +16,19 @@ ghost use Rattle.pz_term_steps.specs.Stepping.{reached};
 
 use crate::beginning::{begin_internal, begin_receive, begin_send};
 use crate::begun::{finish, withdraw};
-use pz_part_queries::Standpoint;
 use pz_bind::Net;
 use pz_classes::{Checked, sound_bodies_fit};
 use pz_copy::Parcel;
 use pz_eval_rules::each_list_has_an_outcome;
-use pz_term_around::active_parts_may_act;
 use pz_offer::{End, Trouble};
-use pz_term_time::pass;
-use pz_term_processes::Process;
+use pz_part_queries::Standpoint;
 use pz_rules::{
     Action, Limits, Moment, Term, least_passes, one_next, passing_is_computed, what_fits_goes_on,
     wires_are_known,
 };
+use pz_term_around::active_parts_may_act;
+use pz_term_processes::Process;
+use pz_term_time::pass;
 use std::alloc::{AllocError, Global};
 use std::mem;
 

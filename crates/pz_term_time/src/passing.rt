@@ -13,10 +13,10 @@ ghost use Rattle.pz_eval.specs.Known.{AreKnown};
 ghost use Rattle.pz_part_queries.specs.Standpoints.{Knows, seen_from};
 ghost use Rattle.pz_term_time.specs.devices.Begun.{begun_with};
 
-use pz_part_queries::{Standpoint, ask_test, ask_time};
 use pz_classes_code::{Code, Step, StepForm};
 use pz_items::{Boxed, Items};
 use pz_offer::Trouble;
+use pz_part_queries::{Standpoint, ask_test, ask_time};
 use pz_rules::{Term, evaluations_are_computed, passing_is_computed};
 use pz_state::{FrameId, State};
 use pz_syntax::Pos;

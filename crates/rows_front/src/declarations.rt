@@ -3,8 +3,8 @@
 
 use crate::reading::model_in;
 use pz_classes::{channels_of, instances_of};
-use pz_items::Items;
 use pz_classes_mentions::{Part, parts_of};
+use pz_items::Items;
 use pz_syntax::{Arg, Channel, ChannelEnd, Decl, Given, Id, Instance, Message, Model};
 use std::io;
 

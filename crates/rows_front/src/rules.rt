@@ -6,13 +6,13 @@ ghost use Rattle.pz_syntax.specs.ModelText.{HasFewMarks};
 ghost use Rattle.pz_classes.specs.Tables.{AreClasses};
 
 use crate::reading::{is_short, model_in};
-use pz_classes::{BuildError, Classes, Violation};
-use pz_check_size::least_holding;
-use pz_check_instances::{least_ill_given, least_missing_end};
-use pz_items::Items;
 use pz_check_duplicates::{least_double_end, least_repeat, least_system};
-use pz_syntax::{Decl, Model, SystemDecl};
+use pz_check_instances::{least_ill_given, least_missing_end};
 use pz_check_names::{has_unsized_words, least_misuse};
+use pz_check_size::least_holding;
+use pz_classes::{BuildError, Classes, Violation};
+use pz_items::Items;
+use pz_syntax::{Decl, Model, SystemDecl};
 use std::alloc::{AllocError, Global};
 use std::{fmt, io};
 

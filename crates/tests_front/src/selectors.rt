@@ -1,6 +1,6 @@
+use pz_lexer::lex;
 use pz_parser_cursor::Cursor;
 use pz_parser_declarations::data_class;
-use pz_lexer::lex;
 use pz_syntax::{Mark, Name, Pos, Token, TokenKind};
 use std::alloc::{AllocError, Global};
 use std::test::Fail;
