@@ -12,28 +12,28 @@ use Rattle.pz_classes.specs.Instances.{instances, channels, instance_class}
 use Rattle.pz_classes.specs.SizeRules.{system_of, Totals, nothing, plus, all_of, one_of, expanded, system_size}
 use Rattle.pz_classes.specs.SoundSystem.{SystemFits, IsLimited}
 use Rattle.pz_classes.proofs.Elements.{first_in}
-use Rattle.pz_bind_levels.specs.Places.{Place}
+use Rattle.pz_bind_levels.specs.Places.{Address}
 use Rattle.pz_bind.specs.Nest.{first_system, each_instance, system_class, instances_in, channels_in, class_of, class_at, instances_at, instance_at, channels_at, with_inside, inside, places, is_level, is_process_at, processes}
 use Rattle.pz_bind.specs.Wires.{is_joined, ending, wires_at, wires}
 use Rattle.pz_bind.proofs.Sorts.{Sort, of_none, a_process, a_cluster, sort}
 use Rattle.pz_bind.proofs.Spots.{comes_next, moved_on, one_longer}
 
 -- the weights of these places together
-abbrev total : (Place → ℕ) → List Place → ℕ
+abbrev total : (Address → ℕ) → List Address → ℕ
 total g [] = 0
 total g (p ∷ ps) = g p + total g ps
 
-total_append : (g : Place → ℕ) (ps qs : List Place) → total g (ps ++ qs) ≡ total g ps + total g qs
+total_append : (g : Address → ℕ) (ps qs : List Address) → total g (ps ++ qs) ≡ total g ps + total g qs
 total_append g [] qs = omega arith
 total_append g (p ∷ ps) qs = let rest : total g (ps ++ qs) ≡ total g ps + total g qs = total_append g ps qs in omega arith
 
 abbrev a_totals : ℕ → ℕ → ℕ → Totals
 a_totals p c h = record { processes = p; clusters = c; channels = h }
 
-module _ (m : ModelTree) (f : Totals → ℕ) (g : Place → ℕ) (f_plus : (a b : Totals) → f (plus a b) ≡ f a + f b) (f_none : f nothing ≡ 0)
-    (g_none : (i : ℕ) (up : Place) → declaration m (class_at m (i ∷ up)) ≡ None → g (i ∷ up) ≡ 0)
-    (g_process : (i : ℕ) (up : Place) (p : ProcessClassTree) → declaration m (class_at m (i ∷ up)) ≡ Some (process_class p) → g (i ∷ up) ≡ f (a_totals 1 0 0))
-    (g_cluster : (i : ℕ) (up : Place) (c : ClusterClass) → declaration m (class_at m (i ∷ up)) ≡ Some (cluster_class c) → g (i ∷ up) ≡ f (a_totals 0 1 (length (channels (cluster_class c))))) where
+module _ (m : ModelTree) (f : Totals → ℕ) (g : Address → ℕ) (f_plus : (a b : Totals) → f (plus a b) ≡ f a + f b) (f_none : f nothing ≡ 0)
+    (g_none : (i : ℕ) (up : Address) → declaration m (class_at m (i ∷ up)) ≡ None → g (i ∷ up) ≡ 0)
+    (g_process : (i : ℕ) (up : Address) (p : ProcessClassTree) → declaration m (class_at m (i ∷ up)) ≡ Some (process_class p) → g (i ∷ up) ≡ f (a_totals 1 0 0))
+    (g_cluster : (i : ℕ) (up : Address) (c : ClusterClass) → declaration m (class_at m (i ∷ up)) ≡ Some (cluster_class c) → g (i ∷ up) ≡ f (a_totals 0 1 (length (channels (cluster_class c))))) where
   no_count : (xs : List Instance) → f (all_of m (expanded m 0) xs) ≡ 0
   no_count [] = f_none
   no_count (x ∷ xs) =
@@ -51,11 +51,11 @@ module _ (m : ModelTree) (f : Totals → ℕ) (g : Place → ℕ) (f_plus : (a b
   by_number depth None = refl
   by_number depth (Some c) = refl
 
-  none_inside : (depth c : ℕ) (up : Place) → instances_in m c ≡ [] → total g (inside m depth c up) ≡ 0
+  none_inside : (depth c : ℕ) (up : Address) → instances_in m c ≡ [] → total g (inside m depth c up) ≡ 0
   none_inside zero c up none = refl
   none_inside (suc depth) c up none = ap (λ xs. total g (each_instance (with_inside m (inside m depth) up) 0 xs)) none
 
-  one_counted : (depth i : ℕ) (up : Place) (x : Instance) → instance_at m up i ≡ Some x → total g (inside m depth (class_of m x) (i ∷ up)) ≡ f (all_of m (expanded m depth) (instances_in m (class_of m x)))
+  one_counted : (depth i : ℕ) (up : Address) (x : Instance) → instance_at m up i ≡ Some x → total g (inside m depth (class_of m x) (i ∷ up)) ≡ f (all_of m (expanded m depth) (instances_in m (class_of m x)))
       → g (i ∷ up) + total g (inside m depth (class_of m x) (i ∷ up)) ≡ f (expanded m (suc depth) (class_of m x))
   one_counted depth i up x at within = by_sort (sort m x)
     where
@@ -86,8 +86,8 @@ module _ (m : ModelTree) (f : Totals → ℕ) (g : Place → ℕ) (f_plus : (a b
           let sum = f_plus (a_totals 0 1 (length (channels (cluster_class c)))) (all_of m (expanded m depth) (instances (cluster_class c))) in
           omega (arith, own, inner, all, sum)
 
-  parts_counted : (depth : ℕ) → ((c : ℕ) (up : Place) → class_at m up ≡ c → total g (inside m depth c up) ≡ f (all_of m (expanded m depth) (instances_in m c)))
-      → (up : Place) (before : List Instance) (n : ℕ) (xs : List Instance) → n ≡ length before → instances_at m up ≡ before ++ xs
+  parts_counted : (depth : ℕ) → ((c : ℕ) (up : Address) → class_at m up ≡ c → total g (inside m depth c up) ≡ f (all_of m (expanded m depth) (instances_in m c)))
+      → (up : Address) (before : List Instance) (n : ℕ) (xs : List Instance) → n ≡ length before → instances_at m up ≡ before ++ xs
       → total g (each_instance (with_inside m (inside m depth) up) n xs) ≡ f (all_of m (expanded m (suc depth)) xs)
   parts_counted depth within up before n [] size all = sym f_none
   parts_counted depth within up before n (x ∷ xs) size all =
@@ -100,7 +100,7 @@ module _ (m : ModelTree) (f : Totals → ℕ) (g : Place → ℕ) (f_plus : (a b
       let sum = f_plus (option_map_or (expanded m (suc depth)) (instance_class m x.class.name) nothing) (all_of m (expanded m (suc depth)) xs) in
       omega (arith, this, rest, joined, class_totals, sum)
 
-  pub inside_counted : (depth c : ℕ) (up : Place) → class_at m up ≡ c → total g (inside m depth c up) ≡ f (all_of m (expanded m depth) (instances_in m c))
+  pub inside_counted : (depth c : ℕ) (up : Address) → class_at m up ≡ c → total g (inside m depth c up) ≡ f (all_of m (expanded m depth) (instances_in m c))
   inside_counted zero c up is = sym (no_count (instances_in m c))
   inside_counted (suc depth) c up is = parts_counted depth (inside_counted depth) up [] 0 (instances_in m c) refl (ap (instances_in m) is)
 
@@ -132,10 +132,10 @@ module _ (m : ModelTree) (fits : SystemFits m) where
 
   -- ---- processes
 
-  abbrev is_one : Place → ℕ
+  abbrev is_one : Address → ℕ
   is_one p = if is_process_at m p then 1 else 0
 
-  filtered_count : (ps : List Place) → length (filter (is_process_at m) ps) ≡ total is_one ps
+  filtered_count : (ps : List Address) → length (filter (is_process_at m) ps) ≡ total is_one ps
   filtered_count [] = refl
   filtered_count (p ∷ ps) = by_test (is_process_at m p) refl (filtered_count ps)
     where
@@ -155,10 +155,10 @@ module _ (m : ModelTree) (fits : SystemFits m) where
 
   -- ---- wires
 
-  abbrev channel_count : Place → ℕ
+  abbrev channel_count : Address → ℕ
   channel_count p = if is_level m p then length (channels_at m p) else 0
 
-  few_ending : (place : Place) (k : ℕ) (hs : List Written) → length (ending m place k hs) ≤ length hs
+  few_ending : (place : Address) (k : ℕ) (hs : List Written) → length (ending m place k hs) ≤ length hs
   few_ending place k [] = omega arith
   few_ending place k (h ∷ hs) = by_test (is_joined m place h) (few_ending place (suc k) hs)
     where
@@ -166,7 +166,7 @@ module _ (m : ModelTree) (fits : SystemFits m) where
       by_test true rest = omega arith
       by_test false rest = omega arith
 
-  few_in : (ps : List Place) → length (flat_map (wires_at m) (filter (is_level m) ps)) ≤ total channel_count ps
+  few_in : (ps : List Address) → length (flat_map (wires_at m) (filter (is_level m) ps)) ≤ total channel_count ps
   few_in [] = omega arith
   few_in (p ∷ ps) = by_test (is_level m p) refl (few_in ps)
     where

@@ -10,11 +10,11 @@ use Rattle.pz_syntax.specs.Classes.{ModelTree}
 use Rattle.pz_classes.specs.Members.{ports, spelled}
 use Rattle.pz_classes.specs.SoundSystem.{SystemFits, HasPort}
 use Rattle.pz_bind_levels.specs.Layouts.{Layout}
-use Rattle.pz_bind_levels.specs.Places.{Place, layout_at}
+use Rattle.pz_bind_levels.specs.Places.{Address, layout_at}
 use Rattle.pz_bind_levels.specs.Wires.{Channel, channel, joined as joined_to}
 use Rattle.pz_bind_levels.specs.Connections as by_number
 use Rattle.pz_bind.specs.Nest.{system_class, class_of, class_at, instance_at, instances_at, channels_at}
-use Rattle.pz_bind.specs.Connections.{End, end, is_outer, names_inner, IsIn, is_in, Joined, joined, Leads, itself, outwards, Reaches}
+use Rattle.pz_bind.specs.Connections.{PortEnd, end, is_outer, names_inner, IsIn, is_in, Joined, joined, Leads, itself, outwards, Reaches}
 use Rattle.pz_bind.specs.devices.Layouts.{outer_from, layouts}
 use Rattle.pz_bind.proofs.Lists.{any_at, AreOnce, name_there}
 use Rattle.pz_bind.proofs.Layouts.{planned}
@@ -22,16 +22,16 @@ use Rattle.pz_bind.proofs.LevelFits.{level_fits}
 use Rattle.pz_bind.proofs.Named.{inner_end, outer_end, outer_named, outer_first, linked, link_named, named_link}
 
 -- an end by the number of its port
-abbrev pub numbered : Place → ℕ → by_number.End
+abbrev pub numbered : Address → ℕ → by_number.PortEnd
 numbered place port = record { place = place; port = port }
 
 module _ (m : ModelTree) where
   -- the port of what stands at this place has this number
-  abbrev pub IsPort : Place → List ℕ → ℕ → Type 0
+  abbrev pub IsPort : Address → List ℕ → ℕ → Type 0
   IsPort place name p = slice_get (spelled (ports m (class_at m place))) p ≡ Some name
 
-  pub record InBack (e : End) (c : Channel) : Type 0 where
-    pub up : Place
+  pub record InBack (e : PortEnd) (c : Channel) : Type 0 where
+    pub up : Address
     pub i : ℕ
     pub k : ℕ
     pub instance : Instance
@@ -42,35 +42,35 @@ module _ (m : ModelTree) where
     pub there : slice_get (channels_at m up) k ≡ Some written
     pub names : IsTrue (names_inner instance.name.name e.port written)
 
-  pub in_back : (e : End) (c : Channel) → IsIn m e c → InBack e c
+  pub in_back : (e : PortEnd) (c : Channel) → IsIn m e c → InBack e c
   in_back _ _ (is_in up i k x h port stands there names) = record { up = up; i = i; k = k; instance = x; written = h; place = refl; is = refl; stands = stands; there = there; names = names }
 
-  pub record NumberedBack (e : by_number.End) (c : Channel) : Type 0 where
-    pub up : Place
+  pub record NumberedBack (e : by_number.PortEnd) (c : Channel) : Type 0 where
+    pub up : Address
     pub i : ℕ
     pub k : ℕ
     pub place : e.place ≡ i ∷ up
     pub is : c ≡ channel up k
     pub links : (layout_at (layouts m) (system_class m) up).linked i e.port ≡ Some k
 
-  pub numbered_back : (e : by_number.End) (c : Channel) → by_number.IsIn (layouts m) (system_class m) e c → NumberedBack e c
+  pub numbered_back : (e : by_number.PortEnd) (c : Channel) → by_number.IsIn (layouts m) (system_class m) e c → NumberedBack e c
   numbered_back _ _ (by_number.is_in i port k up links) = record { up = up; i = i; k = k; place = refl; is = refl; links = links }
 
-  pub class_there : (up : Place) (i : ℕ) (x : Instance) → instance_at m up i ≡ Some x → class_at m (i ∷ up) ≡ class_of m x
+  pub class_there : (up : Address) (i : ℕ) (x : Instance) → instance_at m up i ≡ Some x → class_at m (i ∷ up) ≡ class_of m x
   class_there up i x stands = ap (λ (o : Option Instance). option_map_or (class_of m) o 0) stands
 
-  linked_is : (up : Place) (i p : ℕ) → (layout_at (layouts m) (system_class m) up).linked i p ≡ linked m (instances_at m up) (channels_at m up) i p
+  linked_is : (up : Address) (i p : ℕ) → (layout_at (layouts m) (system_class m) up).linked i p ≡ linked m (instances_at m up) (channels_at m up) i p
   linked_is up i p = ap (λ (l : Layout). l.linked i p) (planned m up)
 
   -- the port of its own cluster that a channel has
-  pub port_is : (place : Place) (k : ℕ) (h : Written) → slice_get (channels_at m place) k ≡ Some h
+  pub port_is : (place : Address) (k : ℕ) (h : Written) → slice_get (channels_at m place) k ≡ Some h
       → unwrap_or (slice_get (layout_at (layouts m) (system_class m) place).outer k) None ≡ outer_from m (class_at m place) h.ends
   port_is place k h there =
       ap (λ (l : Layout). unwrap_or (slice_get l.outer k) None) (planned m place)
       ∙ (ap (λ o. unwrap_or o None) (slice_get-map (λ (g : Written). outer_from m (class_at m place) g.ends) (channels_at m place) k)
       ∙ ap (λ o. unwrap_or (option_map (λ (g : Written). outer_from m (class_at m place) g.ends) o) None) there)
 
-  no_port : (place : Place) (k : ℕ) → slice_get (channels_at m place) k ≡ None → unwrap_or (slice_get (layout_at (layouts m) (system_class m) place).outer k) None ≡ None
+  no_port : (place : Address) (k : ℕ) → slice_get (channels_at m place) k ≡ None → unwrap_or (slice_get (layout_at (layouts m) (system_class m) place).outer k) None ≡ None
   no_port place k none =
       ap (λ (l : Layout). unwrap_or (slice_get l.outer k) None) (planned m place)
       ∙ (ap (λ o. unwrap_or o None) (slice_get-map (λ (g : Written). outer_from m (class_at m place) g.ends) (channels_at m place) k)
@@ -78,7 +78,7 @@ module _ (m : ModelTree) where
 
   -- ---- from numbers to names
 
-  pub in_named : (up : Place) (i p k : ℕ) (name : List ℕ) → (layout_at (layouts m) (system_class m) up).linked i p ≡ Some k → IsPort (i ∷ up) name p → IsIn m (end (i ∷ up) name) (channel up k)
+  pub in_named : (up : Address) (i p k : ℕ) (name : List ℕ) → (layout_at (layouts m) (system_class m) up).linked i p ≡ Some k → IsPort (i ∷ up) name p → IsIn m (end (i ∷ up) name) (channel up k)
   in_named up i p k name links port =
       let r = link_named m (instances_at m up) (channels_at m up) i p k (sym (linked_is up i p) ∙ links) in
       let here : slice_get (spelled (ports m (class_of m r.instance))) p ≡ Some name = subst (λ c. slice_get (spelled (ports m c)) p ≡ Some name) (class_there up i r.instance r.stands) port in
@@ -86,7 +86,7 @@ module _ (m : ModelTree) where
       let same : r.port ≡ name = cc in
       is_in up i k r.instance r.channel name r.stands r.there (subst (λ n. IsTrue (names_inner r.instance.name.name n r.channel)) same r.names)
 
-  pub joined_named : (up : Place) (i k j : ℕ) → joined_to (layouts m) (system_class m) (i ∷ up) k ≡ Some j → Joined m (channel (i ∷ up) k) (channel up j)
+  pub joined_named : (up : Address) (i k j : ℕ) → joined_to (layouts m) (system_class m) (i ∷ up) k ≡ Some j → Joined m (channel (i ∷ up) k) (channel up j)
   joined_named up i k j joins = by_channel (slice_get (channels_at m (i ∷ up)) k) refl
     where
       step : Option ℕ → Option ℕ
@@ -107,7 +107,7 @@ module _ (m : ModelTree) where
   leads_named _ _ (by_number.itself c) = itself c
   leads_named _ _ (by_number.outwards i k j up c joins on) = outwards (channel (i ∷ up) k) (channel up j) c (joined_named up i k j joins) (leads_named (channel up j) c on)
 
-  pub reaches_named : (place : Place) (p : ℕ) (name : List ℕ) (c : Channel) → IsPort place name p → by_number.Reaches (layouts m) (system_class m) (numbered place p) c → Reaches m (end place name) c
+  pub reaches_named : (place : Address) (p : ℕ) (name : List ℕ) (c : Channel) → IsPort place name p → by_number.Reaches (layouts m) (system_class m) (numbered place p) c → Reaches m (end place name) c
   reaches_named place p name c port r = by_back (numbered_back (numbered place p) r.first r.starts)
     where
       by_back : NumberedBack (numbered place p) r.first → Reaches m (end place name) c
@@ -122,13 +122,13 @@ module _ (m : ModelTree) where
   -- ---- from names to numbers, in a sound model
 
   module _ (fits : SystemFits m) (ports_once : (k : ℕ) → AreOnce (spelled (ports m k))) where
-    links_of : (e : End) (c : Channel) (b : InBack e c) (p : ℕ) → IsPort e.place e.port p → (layout_at (layouts m) (system_class m) b.up).linked b.i p ≡ Some b.k
+    links_of : (e : PortEnd) (c : Channel) (b : InBack e c) (p : ℕ) → IsPort e.place e.port p → (layout_at (layouts m) (system_class m) b.up).linked b.i p ≡ Some b.k
     links_of e c b p port =
         linked_is b.up b.i p
         ∙ named_link m (instances_at m b.up) (channels_at m b.up) (class_at m b.up) (level_fits m fits (class_at m b.up)) ports_once b.i p b.k b.instance b.written e.port b.stands b.there b.names
         (subst (λ k. slice_get (spelled (ports m k)) p ≡ Some e.port) (ap (class_at m) b.place ∙ class_there b.up b.i b.instance b.stands) port)
 
-    pub in_numbered : (e : End) (c : Channel) (p : ℕ) → IsPort e.place e.port p → IsIn m e c → by_number.IsIn (layouts m) (system_class m) (numbered e.place p) c
+    pub in_numbered : (e : PortEnd) (c : Channel) (p : ℕ) → IsPort e.place e.port p → IsIn m e c → by_number.IsIn (layouts m) (system_class m) (numbered e.place p) c
     in_numbered e c p port here = by_back (in_back e c here)
       where
         by_back : InBack e c → by_number.IsIn (layouts m) (system_class m) (numbered e.place p) c
@@ -137,7 +137,7 @@ module _ (m : ModelTree) where
             subst (λ q. by_number.IsIn (layouts m) (system_class m) (numbered q p) c) (sym b.place) (subst (by_number.IsIn (layouts m) (system_class m) (numbered (b.i ∷ b.up) p)) (sym b.is) there)
 
     -- an end in a channel is a port of its class
-    pub has_port : (e : End) (c : Channel) → IsIn m e c → HasPort m (class_at m e.place) e.port
+    pub has_port : (e : PortEnd) (c : Channel) → IsIn m e c → HasPort m (class_at m e.place) e.port
     has_port e c here = by_back (in_back e c here)
       where
         by_back : InBack e c → HasPort m (class_at m e.place) e.port
@@ -147,14 +147,14 @@ module _ (m : ModelTree) where
             subst (λ k. HasPort m k e.port) (sym (ap (class_at m) b.place ∙ class_there b.up b.i b.instance b.stands)) (subst (HasPort m (class_of m b.instance)) (sym n.is_port) of_instance)
 
     pub record JoinedBack (c d : Channel) : Type 0 where
-      pub up : Place
+      pub up : Address
       pub i : ℕ
       pub j : ℕ
       pub place : c.place ≡ i ∷ up
       pub is : d ≡ channel up j
       pub joins : joined_to (layouts m) (system_class m) c.place c.number ≡ Some j
 
-    joins_at : (up : Place) (i k p j : ℕ) (h : Written) → slice_get (channels_at m (i ∷ up)) k ≡ Some h → outer_from m (class_at m (i ∷ up)) h.ends ≡ Some p → (layout_at (layouts m) (system_class m) up).linked i p ≡ Some j
+    joins_at : (up : Address) (i k p j : ℕ) (h : Written) → slice_get (channels_at m (i ∷ up)) k ≡ Some h → outer_from m (class_at m (i ∷ up)) h.ends ≡ Some p → (layout_at (layouts m) (system_class m) up).linked i p ≡ Some j
         → joined_to (layouts m) (system_class m) (i ∷ up) k ≡ Some j
     joins_at up i k p j h there port links = ap (option_and_then ((layout_at (layouts m) (system_class m) up).linked i)) (port_is (i ∷ up) k h there ∙ port) ∙ links
 
@@ -189,5 +189,5 @@ module _ (m : ModelTree) where
             by_number.outwards b.i c.number b.j b.up e (subst (λ q. joined_to (layouts m) (system_class m) q c.number ≡ Some b.j) b.place b.joins) (subst (λ (x : Channel). by_number.Leads (layouts m) (system_class m) x e) b.is more) in
             subst (λ q. by_number.Leads (layouts m) (system_class m) (channel q c.number) e) (sym b.place) there
 
-    pub reaches_numbered : (e : End) (c : Channel) (p : ℕ) → IsPort e.place e.port p → Reaches m e c → by_number.Reaches (layouts m) (system_class m) (numbered e.place p) c
+    pub reaches_numbered : (e : PortEnd) (c : Channel) (p : ℕ) → IsPort e.place e.port p → Reaches m e c → by_number.Reaches (layouts m) (system_class m) (numbered e.place p) c
     reaches_numbered e c p port r = record { first = r.first; starts = in_numbered e r.first p port r.starts; leads = leads_numbered r.first c r.leads }

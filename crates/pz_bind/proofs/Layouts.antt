@@ -7,7 +7,7 @@ use Rattle.pz_syntax.specs.declared.clusters.Instance.{Instance}
 use Rattle.pz_syntax.specs.declared.clusters.Channel.{Channel as Written}
 use Rattle.pz_syntax.specs.Classes.{DeclTree, ModelTree}
 use Rattle.pz_bind_levels.specs.Layouts.{Layout, empty, layout, AreLinked}
-use Rattle.pz_bind_levels.specs.Places.{Place, layout_at}
+use Rattle.pz_bind_levels.specs.Places.{Address, layout_at}
 use Rattle.pz_bind.specs.Nest.{system_class, instances_in, channels_in, class_of, class_at, instance_at, instances_at}
 use Rattle.pz_bind.specs.devices.Layouts.{part_of, outer_from, links_from, linked_by, class_layout, layouts_from, layouts}
 use Rattle.pz_bind.proofs.Linked.{of_channels}
@@ -49,7 +49,7 @@ module _ (m : ModelTree) where
   by_instance (Some x) = layout_is (class_of m x)
 
   -- the layout of the level at a place is that of its class
-  pub planned : (place : Place) → layout_at (layouts m) (system_class m) place ≡ class_layout m (class_at m place)
+  pub planned : (place : Address) → layout_at (layouts m) (system_class m) place ≡ class_layout m (class_at m place)
   planned [] = layout_is (system_class m)
   planned (i ∷ up) =
       ap (λ (l : Layout). option_map_or (λ p. layout (layouts m) p.class) (slice_get l.parts i) empty) (planned up)

@@ -13,7 +13,7 @@ use Rattle.pz_classes.specs.SoundClasses.{ClassesFit}
 use Rattle.pz_bind_levels.specs.declared.expansion.Process.{Process}
 use Rattle.pz_bind_levels.specs.declared.expansion.Expansion.{Expansion}
 use Rattle.pz_bind_levels.specs.Layouts.{Layout, AreLinked}
-use Rattle.pz_bind_levels.specs.Places.{Place, Spot}
+use Rattle.pz_bind_levels.specs.Places.{Address, Spot}
 use Rattle.pz_bind_levels.specs.Places as by_number
 use Rattle.pz_bind_levels.specs.Wires.{Channel}
 use Rattle.pz_bind_levels.specs.Connections as numbers
@@ -40,12 +40,12 @@ ports_once m fits k = ids_once (ports m k) (fits.ports_apart k)
 
 -- what an expansion says of a port of the process of this number
 abbrev pub Said : Expansion → ℕ → ℕ → Process → Option ℕ → List Layout → List Process → Type 0
-Said e n port d result ls ps = (system : ℕ) (at : Place) → AreLinked ls → IsExpansion ls system e → StandsAt (by_number.levels ls system) (Some (get_or ps n d).standing) at
+Said e n port d result ls ps = (system : ℕ) (at : Address) → AreLinked ls → IsExpansion ls system e → StandsAt (by_number.levels ls system) (Some (get_or ps n d).standing) at
     → MatchOption result (numbers.IsInNone ls system (numbered at port)) (numbers.HasWire ls system (numbered at port))
 
 module _ (m : ModelTree) (net : Net) (is : IsNet m net) where
   -- the node of a process
-  pub node_there : (n : ℕ) (place : Place) (node : Node) → slice_get (processes m) n ≡ Some place → n < length net.nodes → node ≡ get_or net.nodes n node → node ≡ node_at m place
+  pub node_there : (n : ℕ) (place : Address) (node : Node) → slice_get (processes m) n ≡ Some place → n < length net.nodes → node ≡ get_or net.nodes n node → node ≡ node_at m place
   node_there n place node there within here =
       let at : slice_get net.nodes n ≡ Some node = slice_get-get_or net.nodes n node within ∙ ap Some (sym here) in
       let both : Some node ≡ Some (node_at m place) = sym at ∙ (ap (λ (ns : List Node). slice_get ns n) is.nodes ∙ map_at (node_at m) (processes m) n place there) in
@@ -55,10 +55,10 @@ module _ (m : ModelTree) (net : Net) (is : IsNet m net) where
   pub process_class : (n : ℕ) (node : Node) → n < length net.nodes → node ≡ get_or net.nodes n node → IsTrue (option_map_or is_process (declaration m node.class.0) false)
   process_class n node within here = by_place found.0 (node_there n found.0 node found.1 within here) (filtered_passes (is_process_at m) (places m) n found.0 found.1)
     where
-      found : (place : Place) × (slice_get (processes m) n ≡ Some place)
+      found : (place : Address) × (slice_get (processes m) n ≡ Some place)
       found = there (processes m) n (let counts = ap (λ (ns : List Node). length ns) is.nodes ∙ length-map (processes m) (node_at m) in omega (arith, counts, within))
 
-      by_place : (place : Place) → node ≡ node_at m place → is_process_at m place ≡ true → IsTrue (option_map_or is_process (declaration m node.class.0) false)
+      by_place : (place : Address) → node ≡ node_at m place → is_process_at m place ≡ true → IsTrue (option_map_or is_process (declaration m node.class.0) false)
       by_place [] same passes = let wrong : false ≡ true = passes in cc
       by_place (i ∷ up) same passes = ap (λ (x : Node). option_map_or is_process (declaration m x.class.0) false) same ∙ passes
 
@@ -75,7 +75,7 @@ module _ (m : ModelTree) (net : Net) (is : IsNet m net) where
   names_count = ap (λ (ns : List (List ℕ)). length ns) is.wire_names ∙ length-map (wires m) (wire_name m)
 
   -- the wire that the levels give is that of the end
-  pub wire_says : (n port : ℕ) (place : Place) (name : List ℕ) (d : Process) (result : Option ℕ) → slice_get (processes m) n ≡ Some place → slice_get (spelled (ports m (class_at m place))) port ≡ Some name → n < length net.expansion.processes
+  pub wire_says : (n port : ℕ) (place : Address) (name : List ℕ) (d : Process) (result : Option ℕ) → slice_get (processes m) n ≡ Some place → slice_get (spelled (ports m (class_at m place))) port ≡ Some name → n < length net.expansion.processes
       → Said net.expansion n port d result (layouts_of net.plans) net.expansion.processes
       → MatchOption result (IsInNone m (end place name)) (HasWire m (end place name))
   wire_says n port place name d result there port_at within says = by_result result (subst (λ (ls : List Layout). Said net.expansion n port d result ls net.expansion.processes) is.plans says (system_class m) place (are_linked m) is.expansion stands)
@@ -90,11 +90,11 @@ module _ (m : ModelTree) (net : Net) (is : IsNet m net) where
       by_result (Some w) has = has_wire m is.system_fits (ports_once m is.classes_fit) place port name w port_at has
 
   -- a wire of an end is one of these
-  pub wire_below : (place : Place) (name : List ℕ) (w : ℕ) → HasWire m (end place name) w → w < length net.wire_names
+  pub wire_below : (place : Address) (name : List ℕ) (w : ℕ) → HasWire m (end place name) w → w < length net.wire_names
   wire_below place name w has = subst (λ n. w < n) (sym names_count) (slice_get_within (wires m) w has.last has.there)
 
   -- wires are few enough to have numbers of 32 bits
-  pub narrowed_says : (place : Place) (name : List ℕ) (o r : Option ℕ) → (IfSome o (λ w. w < 2 ^ 32) → r ≡ o) → MatchOption o (IsInNone m (end place name)) (HasWire m (end place name)) → MatchOption r (IsInNone m (end place name)) (HasWire m (end place name))
+  pub narrowed_says : (place : Address) (name : List ℕ) (o r : Option ℕ) → (IfSome o (λ w. w < 2 ^ 32) → r ≡ o) → MatchOption o (IsInNone m (end place name)) (HasWire m (end place name)) → MatchOption r (IsInNone m (end place name)) (HasWire m (end place name))
   narrowed_says place name o r same says = subst (λ x. MatchOption x (IsInNone m (end place name)) (HasWire m (end place name))) (sym (same (small o says))) says
     where
       small : (x : Option ℕ) → MatchOption x (IsInNone m (end place name)) (HasWire m (end place name)) → IfSome x (λ w. w < 2 ^ 32)

@@ -9,7 +9,7 @@ use Rattle.pz_classes.specs.SoundSystem.{SystemFits}
 use Rattle.pz_bind_levels.specs.declared.expansion.Standing.{Standing}
 use Rattle.pz_bind_levels.specs.declared.expansion.Process.{Process}
 use Rattle.pz_bind_levels.specs.declared.expansion.Expansion.{Expansion}
-use Rattle.pz_bind_levels.specs.Places.{Place, Spot}
+use Rattle.pz_bind_levels.specs.Places.{Address, Spot}
 use Rattle.pz_bind_levels.specs.Places as by_number
 use Rattle.pz_bind_levels.specs.Wires.{Channel}
 use Rattle.pz_bind_levels.specs.Expanded.{StandsAt, at_top, in_level, IsExpansion}
@@ -43,18 +43,18 @@ filtered_passes {A} f (y ∷ ys) n x at = by_test (f y) refl n at (λ k here. fi
 
 module _ (m : ModelTree) where
   -- an instance stands there
-  abbrev Exists : Place → Type 0
+  abbrev Exists : Address → Type 0
   Exists [] = Unit {0}
   Exists (i ∷ up) = i < length (instances_at m up)
 
-  all_exist : (n : ℕ) (p : Place) → slice_get (places m) n ≡ Some p → Exists p
+  all_exist : (n : ℕ) (p : Address) → slice_get (places m) n ≡ Some p → Exists p
   all_exist = more_stand m Exists [] (inside m (length m.decls) (system_class m) []) tt
       (all_stand m Exists (λ up n x at. slice_get_within (instances_at m up) n x at) (length m.decls) (system_class m) [] refl)
 
-  level_exists : (n : ℕ) (p : Place) → slice_get (levels m) n ≡ Some p → Exists p
+  level_exists : (n : ℕ) (p : Address) → slice_get (levels m) n ≡ Some p → Exists p
   level_exists n p at = let k = filtered_there (is_level m) (places m) n p at in all_exist k.0 p k.1
 
-  process_exists : (n : ℕ) (p : Place) → slice_get (processes m) n ≡ Some p → Exists p
+  process_exists : (n : ℕ) (p : Address) → slice_get (processes m) n ≡ Some p → Exists p
   process_exists n p at = let k = filtered_there (is_process_at m) (places m) n p at in all_exist k.0 p k.1
 
   abbrev ss : List Spot
@@ -66,7 +66,7 @@ module _ (m : ModelTree) where
       let r = map_there (spot_at m) (levels m) n s (ap (λ (xs : List Spot). slice_get xs n) (sym (levels_are m)) ∙ at) in
       r.there ∙ ap (λ (t : Spot). Some t.place) r.is
 
-  level_at : (n : ℕ) (o : Option Standing) (place : Place) → StandsAt ss o place → ((s : Standing) → o ≡ Some s → s.level < n) → Exists place → LevelAt m n o place
+  level_at : (n : ℕ) (o : Option Standing) (place : Address) → StandsAt ss o place → ((s : Standing) → o ≡ Some s → s.level < n) → Exists place → LevelAt m n o place
   level_at n _ _ at_top inwards exists = the_system
   level_at n _ _ (in_level s up at) inwards exists = a_cluster s up.place (inwards s refl) (level_there s.level up at) exists
 
@@ -81,7 +81,7 @@ module _ (m : ModelTree) where
     }
 
     module _ (fits : SystemFits m) where
-      process_at : (p : Process) (o : Option Standing) (place : Place) → StandsAt ss o place → o ≡ Some p.standing → p.class ≡ class_at m place → Exists place → IsProcessAt m p place
+      process_at : (p : Process) (o : Option Standing) (place : Address) → StandsAt ss o place → o ≡ Some p.standing → p.class ≡ class_at m place → Exists place → IsProcessAt m p place
       process_at p _ _ at_top standing class exists = cc
       process_at p _ _ (in_level s up at) standing class exists =
           let same : s ≡ p.standing = cc in

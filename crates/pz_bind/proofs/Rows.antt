@@ -14,7 +14,7 @@ use Rattle.pz_syntax.specs.declared.clusters.Arg.TheVariants.{Plain, Negated, Pa
 use Rattle.pz_syntax.specs.declared.exprs.Literal.TheVariants as literal
 use Rattle.pz_value.specs.declared.value.Value.TheVariants.{Nil, Int}
 use Rattle.pz_syntax.specs.Classes.{DeclTree, process_class, cluster_class, system, ModelTree}
-use Rattle.pz_bind_levels.specs.Places.{Place}
+use Rattle.pz_bind_levels.specs.Places.{Address}
 use Rattle.pz_bind_levels.specs.Wires.{channel}
 use Rattle.pz_bind.specs.Nest.{levels, processes}
 use Rattle.pz_bind.specs.Names.{path, wire_name}
@@ -75,7 +75,7 @@ unfolding digits
 four_wires = refl
 
 -- c.t and q meet in #1
-abbrev c_at : Place
+abbrev c_at : Address
 c_at = 0 ∷ []
 
 joined_through : Connected nested (end (2 ∷ c_at) (codes "o")) (end (2 ∷ []) (codes "i"))

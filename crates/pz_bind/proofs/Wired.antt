@@ -12,14 +12,14 @@ use Rattle.pz_syntax.specs.Classes.{ModelTree}
 use Rattle.pz_classes.specs.Members.{ports, spelled}
 use Rattle.pz_classes.specs.SoundSystem.{SystemFits}
 use Rattle.pz_bind_levels.specs.Layouts.{Layout}
-use Rattle.pz_bind_levels.specs.Places.{Place}
+use Rattle.pz_bind_levels.specs.Places.{Address}
 use Rattle.pz_bind_levels.specs.Wires.{Channel, channel, joined_by, joined as joined_to}
 use Rattle.pz_bind_levels.specs.Wires as by_number
 use Rattle.pz_bind_levels.specs.Connections as numbers
 use Rattle.pz_bind_levels.proofs.Each.{at_end}
 use Rattle.pz_bind.specs.Nest.{system_class, class_of, class_at, instance_at, channels_at, levels}
 use Rattle.pz_bind.specs.Names.{name_at}
-use Rattle.pz_bind.specs.Connections.{End, end, is_outer, names_inner, IsIn, is_in, Joined, joined, Connected, IsInNone}
+use Rattle.pz_bind.specs.Connections.{PortEnd, end, is_outer, names_inner, IsIn, is_in, Joined, joined, Connected, IsInNone}
 use Rattle.pz_bind.specs.Wires.{is_carried_on, is_joined, ending, wires_at, wires, HasWire}
 use Rattle.pz_bind.specs.devices.Layouts.{outer_from, layouts}
 use Rattle.pz_bind.proofs.Lists.{any_found, any_at, AreOnce, name_there}
@@ -31,7 +31,7 @@ use Rattle.pz_bind.proofs.Ends.{numbered, IsPort, InBack, in_back, port_is, join
 module _ (m : ModelTree) (fits : SystemFits m) (ports_once : (k : ℕ) → AreOnce (spelled (ports m k))) where
   -- ---- which channels are joined
 
-  carried_on : (i : ℕ) (up : Place) (k : ℕ) (h : Written) → slice_get (channels_at m (i ∷ up)) k ≡ Some h → (c : Channel) → Joined m (channel (i ∷ up) k) c → is_joined m (i ∷ up) h ≡ true
+  carried_on : (i : ℕ) (up : Address) (k : ℕ) (h : Written) → slice_get (channels_at m (i ∷ up)) k ≡ Some h → (c : Channel) → Joined m (channel (i ∷ up) k) c → is_joined m (i ∷ up) h ≡ true
   carried_on i up k h there c joins = by_joined (channel (i ∷ up) k) c joins refl refl
     where
       by_end : (g : Written) (port : List ℕ) → slice_get (channels_at m (i ∷ up)) k ≡ Some g → IsTrue (Rattle.pz_bind.specs.Connections.names_outer port g) → InBack m (end (i ∷ up) port) c → is_joined m (i ∷ up) h ≡ true
@@ -57,7 +57,7 @@ module _ (m : ModelTree) (fits : SystemFits m) (ports_once : (k : ℕ) → AreOn
           by_end g port there_too outer (in_back m (end (i ∷ up) port) c inside)
 
   -- an instance stands where there are channels
-  stands_at : (i : ℕ) (up : Place) (k : ℕ) (h : Written) → slice_get (channels_at m (i ∷ up)) k ≡ Some h → (x : Instance) × (instance_at m up i ≡ Some x)
+  stands_at : (i : ℕ) (up : Address) (k : ℕ) (h : Written) → slice_get (channels_at m (i ∷ up)) k ≡ Some h → (x : Instance) × (instance_at m up i ≡ Some x)
   stands_at i up k h there = by_instance (instance_at m up i) refl
     where
       by_instance : (o : Option Instance) → instance_at m up i ≡ o → (x : Instance) × (instance_at m up i ≡ Some x)
@@ -67,7 +67,7 @@ module _ (m : ModelTree) (fits : SystemFits m) (ports_once : (k : ℕ) → AreOn
           cc
       by_instance (Some x) is = (x, is)
 
-  joined_on : (i : ℕ) (up : Place) (k : ℕ) (h : Written) → slice_get (channels_at m (i ∷ up)) k ≡ Some h → is_joined m (i ∷ up) h ≡ true → (c : Channel) × Joined m (channel (i ∷ up) k) c
+  joined_on : (i : ℕ) (up : Address) (k : ℕ) (h : Written) → slice_get (channels_at m (i ∷ up)) k ≡ Some h → is_joined m (i ∷ up) h ≡ true → (c : Channel) × Joined m (channel (i ∷ up) k) c
   joined_on i up k h there is = by_end e.one e.there e.passes
     where
       e : Rattle.pz_bind.proofs.Lists.Passing (is_carried_on m up i) h.ends
@@ -82,7 +82,7 @@ module _ (m : ModelTree) (fits : SystemFits m) (ports_once : (k : ℕ) → AreOn
           let named : IsTrue (names_inner x.0.name.name q.name g.one) = subst (λ n. IsTrue (names_inner n q.name g.one)) name g.passes in
           (channel up g.at, joined (i ∷ up) k h q.name (channel up g.at) there (any_at (is_outer q.name) h.ends e.at (Outer q) found ((bytes_eq-Decides q.name q.name).1 refl)) (is_in up i g.at x.0 g.one q.name x.1 g.there named))
 
-  ends_alike : (place : Place) (k : ℕ) (h : Written) → slice_get (channels_at m place) k ≡ Some h → is_some (joined_by (layouts m) (system_class m) place (outer_from m (class_at m place) h.ends)) ≡ is_joined m place h
+  ends_alike : (place : Address) (k : ℕ) (h : Written) → slice_get (channels_at m place) k ≡ Some h → is_some (joined_by (layouts m) (system_class m) place (outer_from m (class_at m place) h.ends)) ≡ is_joined m place h
   ends_alike [] k h there = refl
   ends_alike (i ∷ up) k h there = ap is_some (sym here) ∙ by_case (joined_to (layouts m) (system_class m) (i ∷ up) k) refl (is_joined m (i ∷ up) h) refl
     where
@@ -100,7 +100,7 @@ module _ (m : ModelTree) (fits : SystemFits m) (ports_once : (k : ℕ) → AreOn
 
   -- ---- the wires
 
-  ending_are : (place : Place) (before : List Written) (k : ℕ) (hs : List Written) → k ≡ length before → channels_at m place ≡ before ++ hs
+  ending_are : (place : Address) (before : List Written) (k : ℕ) (hs : List Written) → k ≡ length before → channels_at m place ≡ before ++ hs
       → by_number.ending (layouts m) (system_class m) place k (map (λ (h : Written). outer_from m (class_at m place) h.ends) hs) ≡ ending m place k hs
   ending_are place before k [] size all = refl
   ending_are place before k (h ∷ hs) size all =
@@ -113,12 +113,12 @@ module _ (m : ModelTree) (fits : SystemFits m) (ports_once : (k : ℕ) → AreOn
       longer : suc k ≡ length (before ++ h ∷ [])
       longer = let more = length_push before h in omega (arith, more, size)
 
-  wires_there : (place : Place) → by_number.wires_of (layouts m) (system_class m) (spot_at m place) ≡ wires_at m place
+  wires_there : (place : Address) → by_number.wires_of (layouts m) (system_class m) (spot_at m place) ≡ wires_at m place
   wires_there place =
       ap (λ (l : Layout). by_number.ending (layouts m) (system_class m) place 0 l.outer) (planned m place)
       ∙ ending_are place [] 0 (channels_at m place) refl refl
 
-  wires_among : (ps : List Place) → flat_map (by_number.wires_of (layouts m) (system_class m)) (map (spot_at m) ps) ≡ flat_map (wires_at m) ps
+  wires_among : (ps : List Address) → flat_map (by_number.wires_of (layouts m) (system_class m)) (map (spot_at m) ps) ≡ flat_map (wires_at m) ps
   wires_among [] = refl
   wires_among (p ∷ ps) =
       ap (λ (cs : List Channel). cs ++ flat_map (by_number.wires_of (layouts m) (system_class m)) (map (spot_at m) ps)) (wires_there p)
@@ -129,7 +129,7 @@ module _ (m : ModelTree) (fits : SystemFits m) (ports_once : (k : ℕ) → AreOn
 
   -- ---- the wire of an end
 
-  pub has_wire : (place : Place) (p : ℕ) (name : List ℕ) (w : ℕ) → IsPort m place name p → numbers.HasWire (layouts m) (system_class m) (numbered place p) w → HasWire m (end place name) w
+  pub has_wire : (place : Address) (p : ℕ) (name : List ℕ) (w : ℕ) → IsPort m place name p → numbers.HasWire (layouts m) (system_class m) (numbered place p) w → HasWire m (end place name) w
   has_wire place p name w port has = record {
     last = has.last;
     reached = reaches_named m place p name has.last port has.reached;
@@ -137,10 +137,10 @@ module _ (m : ModelTree) (fits : SystemFits m) (ports_once : (k : ℕ) → AreOn
     there = ap (λ (cs : List Channel). slice_get cs w) (sym wires_are) ∙ has.there;
   }
 
-  pub in_none : (place : Place) (p : ℕ) (name : List ℕ) → IsPort m place name p → numbers.IsInNone (layouts m) (system_class m) (numbered place p) → IsInNone m (end place name)
+  pub in_none : (place : Address) (p : ℕ) (name : List ℕ) → IsPort m place name p → numbers.IsInNone (layouts m) (system_class m) (numbered place p) → IsInNone m (end place name)
   in_none place p name port none c here = none c (in_numbered m fits ports_once (end place name) c p port here)
 
-  pub wire_numbered : (e : End) (p w : ℕ) → IsPort m e.place e.port p → HasWire m e w → numbers.HasWire (layouts m) (system_class m) (numbered e.place p) w
+  pub wire_numbered : (e : PortEnd) (p w : ℕ) → IsPort m e.place e.port p → HasWire m e w → numbers.HasWire (layouts m) (system_class m) (numbered e.place p) w
   wire_numbered e p w port has = record {
     last = has.last;
     reached = reaches_numbered m fits ports_once e has.last p port has.reached;
@@ -148,7 +148,7 @@ module _ (m : ModelTree) (fits : SystemFits m) (ports_once : (k : ℕ) → AreOn
     there = ap (λ (cs : List Channel). slice_get cs w) wires_are ∙ has.there;
   }
     where
-      by_place : (place : Place) (k : ℕ) → ((c : Channel) → Joined m (channel place k) c → ⊥) → joined_to (layouts m) (system_class m) place k ≡ None
+      by_place : (place : Address) (k : ℕ) → ((c : Channel) → Joined m (channel place k) c → ⊥) → joined_to (layouts m) (system_class m) place k ≡ None
       by_place [] k ends = refl
       by_place (i ∷ up) k ends = by_case (joined_to (layouts m) (system_class m) (i ∷ up) k) refl
         where
@@ -156,7 +156,7 @@ module _ (m : ModelTree) (fits : SystemFits m) (ports_once : (k : ℕ) → AreOn
           by_case None joins = joins
           by_case (Some j) joins = absurd (ends (channel up j) (joined_named m up i k j joins))
 
-  pub share : numbers.EndsShareWires (layouts m) (system_class m) → (e f : End) (v w : ℕ) → HasWire m e v → HasWire m f w → (v ≡ w) ↔ Connected m e f
+  pub share : numbers.EndsShareWires (layouts m) (system_class m) → (e f : PortEnd) (v w : ℕ) → HasWire m e v → HasWire m f w → (v ≡ w) ↔ Connected m e f
   share law e f v w first second = (to, from)
     where
       to : v ≡ w → Connected m e f

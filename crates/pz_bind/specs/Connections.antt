@@ -7,16 +7,16 @@ use Rattle.pz_syntax.specs.declared.clusters.Channel.{Channel as Written}
 use Rattle.pz_syntax.specs.declared.clusters.ChannelEnd.{ChannelEnd}
 use Rattle.pz_syntax.specs.declared.clusters.ChannelEnd.TheVariants.{Inner, Outer}
 use Rattle.pz_syntax.specs.Classes.{ModelTree}
-use Rattle.pz_bind_levels.specs.Places.{Place}
+use Rattle.pz_bind_levels.specs.Places.{Address}
 use Rattle.pz_bind_levels.specs.Wires.{Channel, channel}
 use Rattle.pz_bind.specs.Nest.{instance_at, channels_at}
 
 -- the port of this name of what stands at this place
-pub record End : Type 0 where
-  pub place : Place
+pub record PortEnd : Type 0 where
+  pub place : Address
   pub port : List ℕ
 
-abbrev pub end : Place → List ℕ → End
+abbrev pub end : Address → List ℕ → PortEnd
 end place port = record { place = place; port = port }
 
 abbrev pub is_inner : List ℕ → List ℕ → ChannelEnd → Bool
@@ -37,15 +37,15 @@ names_outer port h = list_any (is_outer port) h.ends
 
 module _ (m : ModelTree) where
   -- the channel of its level names the end
-  pub data IsIn : End → Channel → Type 0 where
-    is_in : (up : Place) (i k : ℕ) (x : Instance) (h : Written) (port : List ℕ)
+  pub data IsIn : PortEnd → Channel → Type 0 where
+    is_in : (up : Address) (i k : ℕ) (x : Instance) (h : Written) (port : List ℕ)
         → instance_at m up i ≡ Some x → slice_get (channels_at m up) k ≡ Some h → IsTrue (names_inner x.name.name port h)
         → IsIn (end (i ∷ up) port) (channel up k)
 
   -- The first channel names a port of its cluster, and the second, one level up, names that port of
   -- the cluster's instance.
   pub data Joined : Channel → Channel → Type 0 where
-    joined : (place : Place) (k : ℕ) (h : Written) (port : List ℕ) (c : Channel)
+    joined : (place : Address) (k : ℕ) (h : Written) (port : List ℕ) (c : Channel)
         → slice_get (channels_at m place) k ≡ Some h → IsTrue (names_outer port h) → IsIn (end place port) c
         → Joined (channel place k) c
 
@@ -55,17 +55,17 @@ module _ (m : ModelTree) where
     outwards : (c d e : Channel) → Joined c d → Leads d e → Leads c e
 
   -- the channel that the end is in, and those that it leads to
-  pub record Reaches (e : End) (c : Channel) : Type 0 where
+  pub record Reaches (e : PortEnd) (c : Channel) : Type 0 where
     pub first : Channel
     pub starts : IsIn e first
     pub leads : Leads first c
 
   -- some channel is reached by both
-  pub record Connected (e f : End) : Type 0 where
+  pub record Connected (e f : PortEnd) : Type 0 where
     pub met : Channel
     pub one : Reaches e met
     pub other : Reaches f met
 
   -- the end is in no channel
-  abbrev pub IsInNone : End → Type 0
+  abbrev pub IsInNone : PortEnd → Type 0
   IsInNone e = (c : Channel) → IsIn e c → ⊥

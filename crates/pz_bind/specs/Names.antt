@@ -3,17 +3,17 @@ use Rattle.std.specs.Prelude.{ℕ, suc, List, [], ◌∷◌, ◌++◌, codes}
 use Rattle.std.specs.Option.{option_map_or}
 use Rattle.std.specs.Fmt.{decimal}
 use Rattle.pz_syntax.specs.Classes.{ModelTree}
-use Rattle.pz_bind_levels.specs.Places.{Place}
+use Rattle.pz_bind_levels.specs.Places.{Address}
 use Rattle.pz_bind_levels.specs.Wires.{Channel}
 use Rattle.pz_bind.specs.Nest.{instance_at}
 
 module _ (m : ModelTree) where
   -- the name of the instance of this number in the level at this place
-  abbrev pub name_at : Place → ℕ → List ℕ
+  abbrev pub name_at : Address → ℕ → List ℕ
   name_at up i = option_map_or (λ x. x.name.name) (instance_at m up i) []
 
   -- the names of the instances from the system down, joined by dots
-  abbrev pub path : Place → List ℕ
+  abbrev pub path : Address → List ℕ
   path [] = []
   path (i ∷ []) = name_at [] i
   path (i ∷ j ∷ up) = path (j ∷ up) ++ (codes "." ++ name_at (j ∷ up) i)

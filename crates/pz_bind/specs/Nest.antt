@@ -9,7 +9,7 @@ use Rattle.pz_syntax.specs.Classes.{DeclTree, data_class, process_class, cluster
 use Rattle.pz_classes.specs.Numbers.{declaration}
 use Rattle.pz_classes.specs.Kinds.{is_process, is_cluster}
 use Rattle.pz_classes.specs.Instances.{instances, channels, instance_class}
-use Rattle.pz_bind_levels.specs.Places.{Place}
+use Rattle.pz_bind_levels.specs.Places.{Address}
 
 abbrev pub is_system : DeclTree → Bool
 is_system (data_class c) = false
@@ -47,50 +47,50 @@ module _ (m : ModelTree) where
 
   -- The class of what stands at this place. A place is the number of an instance in its level, then
   -- that of the level among those around it, and so on outwards; the system stands at [].
-  abbrev pub class_at : Place → ℕ
+  abbrev pub class_at : Address → ℕ
   class_at [] = system_class
   class_at (i ∷ up) = option_map_or class_of (slice_get (instances_in (class_at up)) i) 0
 
   -- the instances and the channels in the level at this place
-  abbrev pub instances_at : Place → List Instance
+  abbrev pub instances_at : Address → List Instance
   instances_at up = instances_in (class_at up)
 
-  abbrev pub channels_at : Place → List Channel
+  abbrev pub channels_at : Address → List Channel
   channels_at up = channels_in (class_at up)
 
   -- the instance that stands at place i ∷ up
-  abbrev pub instance_at : Place → ℕ → Option Instance
+  abbrev pub instance_at : Address → ℕ → Option Instance
   instance_at up i = slice_get (instances_at up) i
 
   -- an instance, and behind it what stands in it
-  abbrev pub with_inside : (ℕ → Place → List Place) → Place → ℕ → Instance → List Place
+  abbrev pub with_inside : (ℕ → Address → List Address) → Address → ℕ → Instance → List Address
   with_inside inside up i x = (i ∷ up) ∷ inside (class_of x) (i ∷ up)
 
   -- what stands in a level of this class at this place, down to so many levels, in the order of the
   -- text: each cluster before what stands in it
-  abbrev pub inside : ℕ → ℕ → Place → List Place
+  abbrev pub inside : ℕ → ℕ → Address → List Address
   inside zero c up = []
   inside (suc levels) c up = each_instance (with_inside (inside levels) up) 0 (instances_in c)
 
   -- The system and all that stands in it. Where no class holds itself, fewer levels stand in one
   -- another than there are declarations.
-  abbrev pub places : List Place
+  abbrev pub places : List Address
   places = [] ∷ inside (length m.decls) system_class []
 
   -- the system or a cluster stands at this place
-  abbrev pub is_level : Place → Bool
+  abbrev pub is_level : Address → Bool
   is_level [] = true
   is_level (i ∷ up) = option_map_or is_cluster (declaration m (class_at (i ∷ up))) false
 
   -- a process stands at this place
-  abbrev pub is_process_at : Place → Bool
+  abbrev pub is_process_at : Address → Bool
   is_process_at [] = false
   is_process_at (i ∷ up) = option_map_or is_process (declaration m (class_at (i ∷ up))) false
 
   -- the system and the clusters, in order
-  abbrev pub levels : List Place
+  abbrev pub levels : List Address
   levels = filter is_level places
 
   -- the processes, in order
-  abbrev pub processes : List Place
+  abbrev pub processes : List Address
   processes = filter is_process_at places

@@ -4,7 +4,7 @@ use Rattle.pz_syntax.specs.Classes.{ModelTree}
 use Rattle.pz_classes.specs.Tables.{class_id}
 use Rattle.pz_classes.specs.SoundSystem.{SystemFits}
 use Rattle.pz_classes.specs.SoundClasses.{ClassesFit}
-use Rattle.pz_bind_levels.specs.Places.{Place}
+use Rattle.pz_bind_levels.specs.Places.{Address}
 use Rattle.pz_bind_levels.specs.Expanded.{IsExpansion}
 use Rattle.pz_bind_levels.specs.devices.Walking.{layouts_of}
 use Rattle.pz_bind.specs.Nest.{system_class, class_at, processes}
@@ -16,7 +16,7 @@ use Rattle.pz_bind.specs.declared.net.Node.{Node}
 use Rattle.pz_bind.specs.declared.net.Net.{Net}
 
 -- the process at this place
-abbrev pub node_at : ModelTree → Place → Node
+abbrev pub node_at : ModelTree → Address → Node
 node_at m place = record { path = path m place; class = class_id (class_at m place); values = values_at m place }
 
 -- This is the net of the model, which is sound: its processes and the names of its wires, each in

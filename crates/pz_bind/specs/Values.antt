@@ -12,7 +12,7 @@ use Rattle.pz_syntax.specs.Classes.{ModelTree}
 use Rattle.pz_value.specs.declared.value.Value.{Value}
 use Rattle.pz_value.specs.declared.value.Value.TheVariants.{Nil, Bool, Int, Char, Str}
 use Rattle.pz_classes.specs.Members.{variables, spelled}
-use Rattle.pz_bind_levels.specs.Places.{Place}
+use Rattle.pz_bind_levels.specs.Places.{Address}
 use Rattle.pz_bind.specs.Nest.{class_at, instance_at}
 
 -- a float stands in no checked model
@@ -38,11 +38,11 @@ given_value outer (g ∷ gs) name = if bytes_eq name g.name.name then argument_v
 
 module _ (m : ModelTree) where
   -- the value of this parameter of what stands at this place; the system has no parameters
-  abbrev pub parameter_at : Place → List ℕ → Value
+  abbrev pub parameter_at : Address → List ℕ → Value
   parameter_at [] name = Nil
   parameter_at (i ∷ up) name = option_map_or (λ x. given_value (parameter_at up) (unwrap_or x.given []) name) (instance_at m up i) Nil
 
   -- one for each parameter and variable of the class of the process, in order: what is given to it,
   -- nil for a variable
-  abbrev pub values_at : Place → List Value
+  abbrev pub values_at : Address → List Value
   values_at place = map (parameter_at place) (spelled (variables m (class_at m place)))

@@ -6,29 +6,29 @@ use Rattle.pz_syntax.specs.declared.clusters.ChannelEnd.{ChannelEnd}
 use Rattle.pz_syntax.specs.declared.clusters.ChannelEnd.TheVariants.{Inner, Outer}
 use Rattle.pz_syntax.specs.Classes.{ModelTree}
 use Rattle.pz_classes.specs.Soundness.{IsSound}
-use Rattle.pz_bind_levels.specs.Places.{Place}
+use Rattle.pz_bind_levels.specs.Places.{Address}
 use Rattle.pz_bind_levels.specs.Wires.{Channel, channel}
 use Rattle.pz_bind.specs.Nest.{channels_at, levels}
 use Rattle.pz_bind.specs.Names.{name_at}
-use Rattle.pz_bind.specs.Connections.{End, names_inner, Joined, Reaches, Connected}
+use Rattle.pz_bind.specs.Connections.{PortEnd, names_inner, Joined, Reaches, Connected}
 
 module _ (m : ModelTree) where
   -- the end is a port of instance i of the level at this place, and a channel there names that port too
-  abbrev pub is_carried_on : Place → ℕ → ChannelEnd → Bool
+  abbrev pub is_carried_on : Address → ℕ → ChannelEnd → Bool
   is_carried_on up i (Inner x port) = false
   is_carried_on up i (Outer port) = list_any (names_inner (name_at m up i) port.name) (channels_at m up)
 
   -- the channel is joined with one outside the level at this place; nothing is outside the system
-  abbrev pub is_joined : Place → Written → Bool
+  abbrev pub is_joined : Address → Written → Bool
   is_joined [] h = false
   is_joined (i ∷ up) h = list_any (is_carried_on up i) h.ends
 
   -- of the channels of a level, from number k on, those that are joined no further
-  abbrev pub ending : Place → ℕ → List Written → List Channel
+  abbrev pub ending : Address → ℕ → List Written → List Channel
   ending place k [] = []
   ending place k (h ∷ hs) = (if is_joined place h then [] else channel place k ∷ []) ++ ending place (suc k) hs
 
-  abbrev pub wires_at : Place → List Channel
+  abbrev pub wires_at : Address → List Channel
   wires_at place = ending place 0 (channels_at m place)
 
   -- The wires in order: a wire is a channel that is joined no further. First come those of the system,
@@ -37,7 +37,7 @@ module _ (m : ModelTree) where
   wires = flat_map wires_at (levels m)
 
   -- this is the number of the end's wire: of the last channel that it reaches
-  pub record HasWire (e : End) (w : ℕ) : Type 0 where
+  pub record HasWire (e : PortEnd) (w : ℕ) : Type 0 where
     pub last : Channel
     pub reached : Reaches m e last
     pub ends : (c : Channel) → Joined m last c → ⊥
@@ -45,4 +45,4 @@ module _ (m : ModelTree) where
 
 -- in a checked model two ends that are in channels have one wire just where they are connected
 abbrev pub EndsShareWires : ModelTree → Type 0
-EndsShareWires m = IsSound m → (e f : End) (v w : ℕ) → HasWire m e v → HasWire m f w → (v ≡ w) ↔ Connected m e f
+EndsShareWires m = IsSound m → (e f : PortEnd) (v w : ℕ) → HasWire m e v → HasWire m f w → (v ≡ w) ↔ Connected m e f

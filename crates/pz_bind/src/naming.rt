@@ -10,7 +10,7 @@ ghost use Rattle.pz_bind.specs.devices.Layouts.{instance_number, port_of, linked
 ghost use Rattle.pz_bind.specs.devices.Numberings.{IsNaming};
 
 use crate::port_numbers::PortNumbers;
-use pz_bind_levels::{Links, Part};
+use pz_bind_levels::{LevelPart, Links};
 use pz_classes_code::Numbering;
 use pz_syntax::{Channel, ChannelEnd};
 use std::alloc::{AllocError, Global};
@@ -19,7 +19,7 @@ use std::alloc::{AllocError, Global};
 #[derive(Drop)]
 pub(crate) struct Naming<'a> {
     /// The instances by their numbers.
-    pub(crate) parts: &'a [Part],
+    pub(crate) parts: &'a [LevelPart],
     /// Their numbers by their names.
     pub(crate) numbers: Numbering,
     pub(crate) ports: &'a PortNumbers,

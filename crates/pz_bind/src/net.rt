@@ -7,7 +7,7 @@ ghost use Rattle.pz_classes.specs.Kinds.{is_process};
 ghost use Rattle.pz_classes.specs.Numbers.{declaration};
 ghost use Rattle.pz_classes.specs.declared.classes.Classes.{Classes as Table};
 ghost use Rattle.pz_classes.specs.Tables.{AreClasses, HasClass, class_id};
-ghost use Rattle.pz_bind_levels.specs.Places.{Place};
+ghost use Rattle.pz_bind_levels.specs.Places.{Address};
 ghost use Rattle.pz_bind_levels.specs.Wires.{Channel};
 ghost use Rattle.pz_bind.specs.Nest as nest;
 ghost use Rattle.pz_bind.specs.Names as names;
@@ -112,7 +112,7 @@ impl Net {
     /// The path of a process: the names of the instances from the system down, joined by dots.
     pub fn path(&self, process: u32) -> &[u8]
         requires { HasProcess self.now process }
-        ensures { (m : ModelTree) (place : Place) → IsNet m self.now → slice_get (nest.processes m) process ≡ Some place → result.now ≡ names.path m place }
+        ensures { (m : ModelTree) (place : Address) → IsNet m self.now → slice_get (nest.processes m) process ≡ Some place → result.now ≡ names.path m place }
     {
         self.nodes.as_slice()[process as usize]
             .path
@@ -123,7 +123,7 @@ impl Net {
     /// The class of a process: a process class of the model.
     pub fn class(&self, process: u32) -> ClassId
         requires { HasProcess self.now process }
-        ensures is { (m : ModelTree) (place : Place) → IsNet m self.now → slice_get (nest.processes m) process ≡ Some place → result ≡ class_id (nest.class_at m place) }
+        ensures is { (m : ModelTree) (place : Address) → IsNet m self.now → slice_get (nest.processes m) process ≡ Some place → result ≡ class_id (nest.class_at m place) }
         ensures process { (m : ModelTree) → IsNet m self.now → IsTrue (option_map_or is_process (declaration m result.0) false) }
         ensures belongs { (m : ModelTree) (classes : Table) → IsNet m self.now → AreClasses m classes → HasClass classes result }
     {
@@ -134,7 +134,7 @@ impl Net {
     /// those of its class: what is given to a parameter, nil for a variable.
     pub fn values(&self, process: u32) -> &[Value]
         requires { HasProcess self.now process }
-        ensures { (m : ModelTree) (place : Place) → IsNet m self.now → slice_get (nest.processes m) process ≡ Some place → result.now ≡ values.values_at m place }
+        ensures { (m : ModelTree) (place : Address) → IsNet m self.now → slice_get (nest.processes m) process ≡ Some place → result.now ≡ values.values_at m place }
     {
         self.nodes.as_slice()[process as usize].values.as_slice()
     }
@@ -154,7 +154,7 @@ impl Net {
     /// channel that it reaches. None exactly where the port is in no channel.
     pub fn wire(&self, process: u32, port: u32) -> Option<u32>
         requires { HasProcess self.now process }
-        ensures { (m : ModelTree) (place : Place) (name : List ℕ) → IsNet m self.now → slice_get (nest.processes m) process ≡ Some place → slice_get (spelled (ports m (nest.class_at m place))) port ≡ Some name
+        ensures { (m : ModelTree) (place : Address) (name : List ℕ) → IsNet m self.now → slice_get (nest.processes m) process ≡ Some place → slice_get (spelled (ports m (nest.class_at m place))) port ≡ Some name
             → MatchOption result (IsInNone m (end place name)) (HasWire m (end place name)) }
     {
         let standing = self.expansion.processes.as_slice()[process as usize].standing;

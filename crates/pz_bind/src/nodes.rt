@@ -3,7 +3,7 @@
 ghost use Rattle.std.specs.Prelude.{◌≡◌, ◌<◌, ◌++◌, suc, codes, length, map, IfOk, Some, slice_get};
 ghost use Rattle.std.specs.Fmt.{decimal};
 ghost use Rattle.pz_classes.specs.CheckedView.{checked_model};
-ghost use Rattle.pz_bind_levels.specs.Places.{Place};
+ghost use Rattle.pz_bind_levels.specs.Places.{Address};
 ghost use Rattle.pz_bind.specs.Nest.{class_at, levels};
 ghost use Rattle.pz_bind.specs.Nest as nest;
 ghost use Rattle.pz_bind.specs.Names as spec_names;
@@ -31,7 +31,7 @@ fn node_of<'a>(
     process: Process,
 ) -> Result<Node, AllocError>
     requires { IsPlaced (checked_model checked.now) sites.now process.standing }
-    ensures { IfOk result (λ node. (place : Place) → StandsIn (checked_model checked.now) sites.now (Some process.standing) place → process.class ≡ class_at (checked_model checked.now) place → node ≡ node_at (checked_model checked.now) place) }
+    ensures { IfOk result (λ node. (place : Address) → StandsIn (checked_model checked.now) sites.now (Some process.standing) place → process.class ≡ class_at (checked_model checked.now) place → node ≡ node_at (checked_model checked.now) place) }
 {
     let up = &sites[process.standing.level];
     let instance = up.instance(checked, process.standing.part);

@@ -13,18 +13,18 @@ ghost use Rattle.pz_bind.specs.devices.Numberings.{AreNumbers};
 use crate::declared::{channels_in, class_of, instances_in, is_cluster_class, is_numbered};
 use crate::naming::Naming;
 use crate::port_numbers::{PortNumbers, number_instances};
-use pz_bind_levels::{Links, Part, Plan};
+use pz_bind_levels::{LevelPart, Links, Plan};
 use pz_classes::Checked;
 use pz_items::Items;
 use pz_syntax::{Channel, ChannelEnd, Instance};
 use std::alloc::{AllocError, Global};
 
 /// An instance by the number of its class.
-fn part_of(checked: &Checked, instance: &Instance) -> Part
+fn part_of(checked: &Checked, instance: &Instance) -> LevelPart
     ensures { result ≡ spec.part_of (checked_model checked.now) instance.now }
 {
     let class = class_of(checked, instance);
-    Part {
+    LevelPart {
         class,
         is_level: is_cluster_class(checked, class as usize),
     }
@@ -35,7 +35,7 @@ fn parts_of(
     alloc: Global,
     checked: &Checked,
     instances: &[Instance],
-) -> Result<Items<Part>, AllocError>
+) -> Result<Items<LevelPart>, AllocError>
     ensures { IfOk result (λ parts. parts ≡ map (spec.part_of (checked_model checked.now)) instances.now) }
 {
     let mut parts = Items::new(alloc);
@@ -79,7 +79,7 @@ fn links_of(
     alloc: Global,
     ports: &PortNumbers,
     instances: &[Instance],
-    parts: &[Part],
+    parts: &[LevelPart],
     channels: &[Channel],
 ) -> Result<Links, AllocError>
     requires { length instances.now < 2 ^ 32 }

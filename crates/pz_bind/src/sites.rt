@@ -2,7 +2,7 @@
 
 ghost use Rattle.std.specs.Prelude.{◌≡◌, ◌<◌, ◌++◌, codes, length, IfOk, if◌then◌else◌, slice_get, Some};
 ghost use Rattle.pz_classes.specs.CheckedView.{checked_model};
-ghost use Rattle.pz_bind_levels.specs.Places.{Place};
+ghost use Rattle.pz_bind_levels.specs.Places.{Address};
 ghost use Rattle.pz_bind.specs.Nest as nest;
 ghost use Rattle.pz_bind.specs.Nest.{class_at};
 ghost use Rattle.pz_bind.specs.devices.Sites.{IsSite, IsPlaced, StandsIn, below};
@@ -69,7 +69,7 @@ fn site_at<'a>(
     class: usize,
 ) -> Result<Site<'a>, AllocError>
     requires { IsPlaced (checked_model checked.now) sites.now standing }
-    ensures { IfOk result (λ site. (place : Place) → StandsIn (checked_model checked.now) sites.now (Some standing) place → class ≡ class_at (checked_model checked.now) place → IsSite (checked_model checked.now) place site) }
+    ensures { IfOk result (λ site. (place : Address) → StandsIn (checked_model checked.now) sites.now (Some standing) place → class ≡ class_at (checked_model checked.now) place → IsSite (checked_model checked.now) place site) }
 {
     let up = &sites[standing.level];
     let instance = up.instance(checked, standing.part);
@@ -90,7 +90,7 @@ fn site_of<'a>(
     level: &Level,
 ) -> Result<Site<'a>, AllocError>
     requires { spec.MayStand (checked_model checked.now) sites.now level.now.standing }
-    ensures { IfOk result (λ site. (place : Place) → StandsIn (checked_model checked.now) sites.now level.now.standing place → level.now.class ≡ class_at (checked_model checked.now) place → IsSite (checked_model checked.now) place site) }
+    ensures { IfOk result (λ site. (place : Address) → StandsIn (checked_model checked.now) sites.now level.now.standing place → level.now.class ≡ class_at (checked_model checked.now) place → IsSite (checked_model checked.now) place site) }
 {
     match level.standing {
         None => Ok(Site::system(alloc, level.class)),

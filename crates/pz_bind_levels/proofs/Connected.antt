@@ -2,9 +2,9 @@
 use Rattle.std.proofs.Common.{◌≡◌, refl, sym, ap, ◌∙◌, subst, ℕ, List, [], ◌∷◌, Option, Some, None, slice_get}
 use Rattle.std.specs.Option.{option_map, option_map_or}
 use Rattle.pz_bind_levels.specs.Layouts.{Layout}
-use Rattle.pz_bind_levels.specs.Places.{Place, layout_at}
+use Rattle.pz_bind_levels.specs.Places.{Address, layout_at}
 use Rattle.pz_bind_levels.specs.Wires.{Channel, channel, joined, wires}
-use Rattle.pz_bind_levels.specs.Connections.{End, IsIn, is_in, Leads, itself, outwards, Reaches, Connected, HasWire, IsInNone, EndsShareWires}
+use Rattle.pz_bind_levels.specs.Connections.{PortEnd, IsIn, is_in, Leads, itself, outwards, Reaches, Connected, HasWire, IsInNone, EndsShareWires}
 use Rattle.pz_bind_levels.specs.devices.Tops.{top, top_at, top_of}
 use Rattle.pz_bind_levels.proofs.Places.{wires_once}
 
@@ -18,7 +18,7 @@ module _ (layouts : List Layout) (system : ℕ) where
   same_top _ _ (outwards i k j up c joins leads) = rw joins (same_top (channel up j) c leads)
 
   -- an end leads to its last channel
-  leads_to_top : (place : Place) (k : ℕ) → Leads layouts system (channel place k) (top layouts system place k)
+  leads_to_top : (place : Address) (k : ℕ) → Leads layouts system (channel place k) (top layouts system place k)
   leads_to_top [] k = itself (channel [] k)
   leads_to_top (i ∷ up) k = by_case (joined layouts system (i ∷ up) k) refl (λ j. leads_to_top up j)
     where
@@ -26,13 +26,13 @@ module _ (layouts : List Layout) (system : ℕ) where
       by_case None is on = itself (channel (i ∷ up) k)
       by_case (Some j) is on = outwards i k j up (top layouts system up j) is (on j)
 
-  top_in : (e : End) (c : Channel) → IsIn layouts system e c → top_of layouts system e ≡ Some (top_from c)
+  top_in : (e : PortEnd) (c : Channel) → IsIn layouts system e c → top_of layouts system e ≡ Some (top_from c)
   top_in _ _ (is_in i port k up links) = rw links refl
 
-  pub top_reached : (e : End) (c : Channel) → top_of layouts system e ≡ Some c → Reaches layouts system e c
+  pub top_reached : (e : PortEnd) (c : Channel) → top_of layouts system e ≡ Some c → Reaches layouts system e c
   top_reached e c is = by_place e.place refl is
     where
-      by_place : (place : Place) → e.place ≡ place → top_at layouts system place e.port ≡ Some c → Reaches layouts system e c
+      by_place : (place : Address) → e.place ≡ place → top_at layouts system place e.port ≡ Some c → Reaches layouts system e c
       by_place [] at wrong = cc
       by_place (i ∷ up) at found = by_link ((layout_at layouts system up).linked i e.port) refl found
         where
@@ -42,17 +42,17 @@ module _ (layouts : List Layout) (system : ℕ) where
               let last : top layouts system up k ≡ c = cc in
               record { first = channel up k; starts = subst (λ p. IsIn layouts system (record { place = p; port = e.port }) (channel up k)) (sym at) (is_in i e.port k up links); leads = subst (Leads layouts system (channel up k)) last (leads_to_top up k) }
 
-  same_last : (e : End) (c : Channel) → Reaches layouts system e c → top_of layouts system e ≡ Some (top_from c)
+  same_last : (e : PortEnd) (c : Channel) → Reaches layouts system e c → top_of layouts system e ≡ Some (top_from c)
   same_last e c r = top_in e r.first r.starts ∙ ap Some (same_top r.first c r.leads)
 
   top_of_last : (c : Channel) → joined layouts system c.place c.number ≡ None → top_from c ≡ c
   top_of_last c is = by_place c.place c.number is
     where
-      by_place : (place : Place) (k : ℕ) → joined layouts system place k ≡ None → top layouts system place k ≡ channel place k
+      by_place : (place : Address) (k : ℕ) → joined layouts system place k ≡ None → top layouts system place k ≡ channel place k
       by_place [] k is = refl
       by_place (i ∷ up) k is = rw is refl
 
-  top_ends : (place : Place) (k : ℕ) → joined layouts system (top layouts system place k).place (top layouts system place k).number ≡ None
+  top_ends : (place : Address) (k : ℕ) → joined layouts system (top layouts system place k).place (top layouts system place k).number ≡ None
   top_ends [] k = refl
   top_ends (i ∷ up) k = by_case (joined layouts system (i ∷ up) k) refl (λ j. top_ends up j)
     where
@@ -64,7 +64,7 @@ module _ (layouts : List Layout) (system : ℕ) where
       by_case (Some j) is on = on j
 
   -- where the number of the last channel is known
-  pub has_wire : (i port k w : ℕ) (up : Place) → (layout_at layouts system up).linked i port ≡ Some k → slice_get (wires layouts system) w ≡ Some (top layouts system up k) → HasWire layouts system (record { place = i ∷ up; port = port }) w
+  pub has_wire : (i port k w : ℕ) (up : Address) → (layout_at layouts system up).linked i port ≡ Some k → slice_get (wires layouts system) w ≡ Some (top layouts system up k) → HasWire layouts system (record { place = i ∷ up; port = port }) w
   has_wire i port k w up links there = record {
     last = top layouts system up k;
     reached = record { first = channel up k; starts = is_in i port k up links; leads = leads_to_top up k };
@@ -72,7 +72,7 @@ module _ (layouts : List Layout) (system : ℕ) where
     there = there;
   }
 
-  pub in_none : (i port : ℕ) (up : Place) → (layout_at layouts system up).linked i port ≡ None → IsInNone layouts system (record { place = i ∷ up; port = port })
+  pub in_none : (i port : ℕ) (up : Address) → (layout_at layouts system up).linked i port ≡ None → IsInNone layouts system (record { place = i ∷ up; port = port })
   in_none i port up none _ (is_in _ _ k _ links) = let wrong : None ≡ Some k = sym none ∙ links in cc
 
   pub share : EndsShareWires layouts system

@@ -9,7 +9,7 @@ use Rattle.pz_bind_levels.specs.declared.expansion.Level.{Level}
 use Rattle.pz_bind_levels.specs.declared.walk.Open.{Open}
 use Rattle.pz_bind_levels.specs.declared.walk.Walk.{Walk}
 use Rattle.pz_bind_levels.specs.Layouts.{Layout, layout, AreLinked}
-use Rattle.pz_bind_levels.specs.Places.{Place, Spot, layout_at}
+use Rattle.pz_bind_levels.specs.Places.{Address, Spot, layout_at}
 use Rattle.pz_bind_levels.specs.Wires.{Channel, joined_by, ending, wires_of}
 use Rattle.pz_bind_levels.specs.Expanded.{EachOf, StandsAt, at_top, in_level, IsLevel, IsProcess, IsWire, AreInwards}
 use Rattle.pz_bind_levels.specs.devices.Tops.{top}
@@ -30,7 +30,7 @@ processes_more visited s is = filter-append (λ t. not t.is_level) visited (s �
 processes_same : (visited : List Spot) (s : Spot) → s.is_level ≡ true → processes_among (visited ++ s ∷ []) ≡ processes_among visited
 processes_same visited s is = filter-append (λ t. not t.is_level) visited (s ∷ []) ∙ rw is (append-nil (processes_among visited))
 
-pub stands_still : (ss more : List Spot) (o : Option Standing) (place : Place) → StandsAt ss o place → StandsAt (ss ++ more) o place
+pub stands_still : (ss more : List Spot) (o : Option Standing) (place : Address) → StandsAt ss o place → StandsAt (ss ++ more) o place
 stands_still ss more _ _ at_top = at_top
 stands_still ss more _ _ (in_level s up at) = in_level s up (in_first ss more s.level up at)
 
@@ -42,7 +42,7 @@ inwards_more ls l all within n k s at is = by_place (pushed_at ls l k n at)
     by_place (inl found) = all n k s found is
     by_place (inr (last, same)) = rw last (within s (ap (λ (x : Level). x.standing) same ∙ is))
 
-stands_within : (ss : List Spot) (o : Option Standing) (place : Place) (s : Standing) → StandsAt ss o place → o ≡ Some s → s.level < length ss
+stands_within : (ss : List Spot) (o : Option Standing) (place : Address) (s : Standing) → StandsAt ss o place → o ≡ Some s → s.level < length ss
 stands_within ss _ _ s at_top is = cc
 stands_within ss _ _ s (in_level t up at) is = let same : t ≡ s = cc in subst (λ (x : Standing). x.level < length ss) same (slice_get_within ss t.level up at)
 
@@ -87,7 +87,7 @@ module _ (layouts : List Layout) (system : ℕ) where
         by_wire : (w : ℕ) × (slice_get l.wires j ≡ Some w) → Fits layouts system cs (standing.part ∷ up.place) (wire_at layouts levels standing port) (Some port)
         by_wire (w, wired) = goes_on w (rw (at, is.class, linked_to) wired) (rw joins refl) (λ k. rw joins (is.wired j w wired))
 
-    fits : (standing : Option Standing) (place : Place) → StandsAt ss standing place → (port : Option ℕ) → Fits layouts system cs place (wire_above layouts levels standing port) port
+    fits : (standing : Option Standing) (place : Address) → StandsAt ss standing place → (port : Option ℕ) → Fits layouts system cs place (wire_above layouts levels standing port) port
     fits _ _ at_top port = ends refl refl
     fits _ _ (in_level s up at) None = ends refl refl
     fits _ _ (in_level s up at) (Some port) = by_level (partner (IsLevel layouts system ss cs) levels ss all s.level up at)

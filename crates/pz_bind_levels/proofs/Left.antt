@@ -1,6 +1,6 @@
 -- What is still to be visited.
 use Rattle.std.proofs.Common.{◌≡◌, refl, sym, ap, ◌∙◌, ℕ, zero, suc, ◌+◌, List, [], ◌∷◌, ◌++◌, append_assoc, append-nil, drop, Some, None, slice_get, arith}
-use Rattle.pz_bind_levels.specs.declared.plan.Part.{Part}
+use Rattle.pz_bind_levels.specs.declared.plan.LevelPart.{LevelPart}
 use Rattle.pz_bind_levels.specs.declared.walk.Open.{Open}
 use Rattle.pz_bind_levels.specs.Layouts.{Layout, layout}
 use Rattle.pz_bind_levels.specs.Places.{Spot, with_inside, each_part, inside}
@@ -20,7 +20,7 @@ drop_past (x ∷ xs) (suc i) at = drop_past xs i at
 
 module _ (layouts : List Layout) where
   -- the next part, what stands in it, and the parts behind it
-  pub next_first : (s : Spot) (o : Open) (p : Part) → part_at layouts s.class o.part ≡ Some p
+  pub next_first : (s : Spot) (o : Open) (p : LevelPart) → part_at layouts s.class o.part ≡ Some p
       → still_in layouts s o ≡ with_inside (inside layouts o.below) s.place o.part p ++ still_in layouts s (after o)
   next_first s o p at =
       let one : suc o.part ≡ o.part + 1 = omega arith in

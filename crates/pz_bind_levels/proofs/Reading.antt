@@ -5,7 +5,7 @@ use Rattle.pz_bind_levels.specs.declared.expansion.Standing.{Standing}
 use Rattle.pz_bind_levels.specs.declared.expansion.Level.{Level}
 use Rattle.pz_bind_levels.specs.declared.expansion.Expansion.{Expansion}
 use Rattle.pz_bind_levels.specs.Layouts.{Layout, layout, AreLinked}
-use Rattle.pz_bind_levels.specs.Places.{Place, Spot, levels}
+use Rattle.pz_bind_levels.specs.Places.{Address, Spot, levels}
 use Rattle.pz_bind_levels.specs.Wires.{wires}
 use Rattle.pz_bind_levels.specs.Connections.{HasWire, IsInNone}
 use Rattle.pz_bind_levels.specs.Expanded.{StandsAt, in_level, IsLevel, IsExpansion}
@@ -14,7 +14,7 @@ use Rattle.pz_bind_levels.proofs.Each.{there, partner}
 use Rattle.pz_bind_levels.proofs.Connected.{has_wire, in_none}
 
 module _ (layouts : List Layout) (system : ℕ) (linked : AreLinked layouts) (e : Expansion) (kept : IsExpansion layouts system e) (port : ℕ) where
-  abbrev pub Says : Place → Option ℕ → Type 0
+  abbrev pub Says : Address → Option ℕ → Type 0
   Says place found = MatchOption found (IsInNone layouts system (record { place = place; port = port })) (HasWire layouts system (record { place = place; port = port }))
 
   in_that : (s : Standing) (up : Spot) (l : Level) → slice_get e.levels s.level ≡ Some l → IsLevel layouts system (levels layouts system) (wires layouts system) l up → (o : Option ℕ) → (layout layouts up.class).linked s.part port ≡ o
@@ -29,7 +29,7 @@ module _ (layouts : List Layout) (system : ℕ) (linked : AreLinked layouts) (e 
           let some : wire_at layouts e.levels s port ≡ Some w = rw (at, is.class, links) wired in
           subst (Says (s.part ∷ up.place)) (sym some) (has_wire layouts system s.part port k w up.place (rw is.planned links) (is.wired k w wired))
 
-  pub says : (s : Standing) (place : Place) → StandsAt (levels layouts system) (Some s) place → Says place (wire_at layouts e.levels s port)
+  pub says : (s : Standing) (place : Address) → StandsAt (levels layouts system) (Some s) place → Says place (wire_at layouts e.levels s port)
   says s _ (in_level _ up at) = by_level (partner (IsLevel layouts system (levels layouts system) (wires layouts system)) e.levels (levels layouts system) kept.levels s.level up at)
     where
       by_level : (l : Level) × (slice_get e.levels s.level ≡ Some l) × IsLevel layouts system (levels layouts system) (wires layouts system) l up → Says (s.part ∷ up.place) (wire_at layouts e.levels s port)

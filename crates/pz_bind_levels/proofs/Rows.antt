@@ -1,16 +1,16 @@
 -- A system of two clusters of one class, computed: in each cluster one channel is joined with one
 -- outside, and one is not.
 use Rattle.std.proofs.Common.{◌≡◌, refl, ℕ, zero, suc, true, false, List, [], ◌∷◌, map, Option, Some, None}
-use Rattle.pz_bind_levels.specs.declared.plan.Part.{Part}
+use Rattle.pz_bind_levels.specs.declared.plan.LevelPart.{LevelPart}
 use Rattle.pz_bind_levels.specs.Layouts.{Layout, empty}
-use Rattle.pz_bind_levels.specs.Places.{Place, levels, processes}
+use Rattle.pz_bind_levels.specs.Places.{Address, levels, processes}
 use Rattle.pz_bind_levels.specs.Wires.{channel, wires}
-use Rattle.pz_bind_levels.specs.Connections.{End, is_in, itself, outwards, Connected, HasWire}
+use Rattle.pz_bind_levels.specs.Connections.{PortEnd, is_in, itself, outwards, Connected, HasWire}
 
-abbrev process : ℕ → Part
+abbrev process : ℕ → LevelPart
 process class = record { class = class; is_level = false }
 
-abbrev level : ℕ → Part
+abbrev level : ℕ → LevelPart
 level class = record { class = class; is_level = true }
 
 -- `instances s : S r : R t : S channels {s.o, r.i} {t.o, x}`
@@ -46,7 +46,7 @@ three_levels = refl
 four_wires : wires layouts 4 ≡ channel [] 0 ∷ channel [] 1 ∷ channel (0 ∷ []) 0 ∷ channel (1 ∷ []) 0 ∷ []
 four_wires = refl
 
-abbrev end : Place → End
+abbrev end : Address → PortEnd
 end place = record { place = place; port = 0 }
 
 -- c.t and q meet in #1

@@ -5,7 +5,7 @@ use Rattle.std.specs.Option.{MatchOption}
 use Rattle.std.proofs.lemmas.List.{length_push}
 use Rattle.std.proofs.lemmas.List.Filters.{length-filter_both}
 use Rattle.pz_bind_levels.specs.declared.expansion.Process.{Process}
-use Rattle.pz_bind_levels.specs.declared.plan.Part.{Part}
+use Rattle.pz_bind_levels.specs.declared.plan.LevelPart.{LevelPart}
 use Rattle.pz_bind_levels.specs.declared.expansion.Level.{Level}
 use Rattle.pz_bind_levels.specs.declared.expansion.Expansion.{Expansion}
 use Rattle.pz_bind_levels.specs.declared.walk.Open.{Open}
@@ -54,7 +54,7 @@ module _ (layouts : List Layout) (system : ℕ) (linked : AreLinked layouts) whe
         walk = record { kept = kept; left = left; whole = whole ∙ ap (λ (xs : List Spot). visited ++ (xs ++ later)) (none_next layouts s o past) };
       })
 
-      module _ (p : Part) (next : part_at layouts s.class o.part ≡ Some p) where
+      module _ (p : LevelPart) (next : part_at layouts s.class o.part ≡ Some p) where
         abbrev t : Spot
         t = spot s.place o.part p
 
@@ -97,7 +97,7 @@ module _ (layouts : List Layout) (system : ℕ) (linked : AreLinked layouts) whe
           };
         }
 
-      by_part : (next : Option Part) → part_at layouts s.class o.part ≡ next → MatchOption next (new ≡ popped) (λ p. Visits layouts p (standing_of o) o.below (popped.path.items ++ after o ∷ []) popped new) → Goes layouts system new
+      by_part : (next : Option LevelPart) → part_at layouts s.class o.part ≡ next → MatchOption next (new ≡ popped) (λ p. Visits layouts p (standing_of o) o.below (popped.path.items ++ after o ∷ []) popped new) → Goes layouts system new
       by_part None past same = level_done past same
       by_part (Some p) next visits = visit p next p.is_level refl visits
 
@@ -108,7 +108,7 @@ module _ (layouts : List Layout) (system : ℕ) (linked : AreLinked layouts) whe
         by_level f (l, found, is) =
             let next : next_of layouts popped.levels o ≡ part_at layouts f.level.class o.part = rw (found, is.class) refl in
             by_part f.level f.later f.at f.left (walk.whole ∙ ap (λ (xs : List Spot). visited ++ xs) f.is) is.planned (part_at layouts f.level.class o.part) refl
-            (subst (λ (next : Option Part). MatchOption next (new ≡ popped) (λ p. Visits layouts p (standing_of o) o.below (popped.path.items ++ after o ∷ []) popped new)) next steps)
+            (subst (λ (next : Option LevelPart). MatchOption next (new ≡ popped) (λ p. Visits layouts p (standing_of o) o.below (popped.path.items ++ after o ∷ []) popped new)) next steps)
 
         by_first : First layouts ss popped.path.items o rest → Goes layouts system new
         by_first f = by_level f (partner (IsLevel layouts system ss (wires_among layouts system visited)) popped.levels ss kept.levels o.level f.level f.at)
@@ -148,7 +148,7 @@ module _ (layouts : List Layout) (o : Open) (popped new : Walk) (most : ℕ) (fe
   opened_few level zero = omega arith
   opened_few level (suc below) = omega arith
 
-  by_visit : (p : Part) (b : Bool) → MatchBool b (Enters layouts p.class (Some (standing_of o)) o.below (popped.path.items ++ after o ∷ []) popped new) (Meets p.class (standing_of o) (popped.path.items ++ after o ∷ []) popped new) → Nearer
+  by_visit : (p : LevelPart) (b : Bool) → MatchBool b (Enters layouts p.class (Some (standing_of o)) o.below (popped.path.items ++ after o ∷ []) popped new) (Meets p.class (standing_of o) (popped.path.items ++ after o ∷ []) popped new) → Nearer
   by_visit p true entered =
       let one : length new.levels ≡ length popped.levels + 1 = ap (λ (xs : List Level). length xs) entered.levels ∙ length_push popped.levels _ in
       let same : length new.processes ≡ length popped.processes = ap (λ (xs : List Process). length xs) entered.processes in
@@ -165,7 +165,7 @@ module _ (layouts : List Layout) (o : Open) (popped new : Walk) (most : ℕ) (fe
   pub nearer : Steps layouts o popped new → Nearer
   nearer steps = by_next (next_of layouts popped.levels o) steps
     where
-      by_next : (next : Option Part) → MatchOption next (new ≡ popped) (λ p. Visits layouts p (standing_of o) o.below (popped.path.items ++ after o ∷ []) popped new) → Nearer
+      by_next : (next : Option LevelPart) → MatchOption next (new ≡ popped) (λ p. Visits layouts p (standing_of o) o.below (popped.path.items ++ after o ∷ []) popped new) → Nearer
       by_next None same =
           let levels : length new.levels ≡ length popped.levels = ap (λ (w : Walk). length w.levels) same in
           let processes : length new.processes ≡ length popped.processes = ap (λ (w : Walk). length w.processes) same in

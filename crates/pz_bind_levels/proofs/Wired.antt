@@ -3,7 +3,7 @@ use Rattle.std.proofs.Common.{◌≡◌, refl, sym, ap, ◌∙◌, subst, ℕ, z
 use Rattle.std.specs.Option.{is_some, unwrap_or, option_map_or}
 use Rattle.std.proofs.lemmas.List.{length_push}
 use Rattle.pz_bind_levels.specs.Layouts.{Layout}
-use Rattle.pz_bind_levels.specs.Places.{Place, Spot}
+use Rattle.pz_bind_levels.specs.Places.{Address, Spot}
 use Rattle.pz_bind_levels.specs.Wires.{Channel, channel, joined_by, ending}
 use Rattle.pz_bind_levels.specs.Expanded.{EachOf, IsWire}
 use Rattle.pz_bind_levels.specs.devices.Tops.{top}
@@ -12,28 +12,28 @@ use Rattle.pz_bind_levels.proofs.Each.{in_first, at_end, none, one_first}
 
 module _ (layouts : List Layout) (system : ℕ) where
   -- the last channel reached from the channel of this number that has this port of its level
-  abbrev pub top_by : Place → Option ℕ → ℕ → Channel
+  abbrev pub top_by : Address → Option ℕ → ℕ → Channel
   top_by [] port k = channel [] k
   top_by (i ∷ up) port k = option_map_or (top layouts system up) (joined_by layouts system (i ∷ up) port) (channel (i ∷ up) k)
 
-  pub top_by_port : (place : Place) (k : ℕ) → top layouts system place k ≡ top_by place (unwrap_or (slice_get (Rattle.pz_bind_levels.specs.Places.layout_at layouts system place).outer k) None) k
+  pub top_by_port : (place : Address) (k : ℕ) → top layouts system place k ≡ top_by place (unwrap_or (slice_get (Rattle.pz_bind_levels.specs.Places.layout_at layouts system place).outer k) None) k
   top_by_port [] k = refl
   top_by_port (i ∷ up) k = refl
 
   -- a channel that has this port is joined outside just where a wire outside is known, and with that one
-  pub data Fits (cs : List Channel) (place : Place) (above : Option ℕ) (port : Option ℕ) : Type 0 where
+  pub data Fits (cs : List Channel) (place : Address) (above : Option ℕ) (port : Option ℕ) : Type 0 where
     ends : above ≡ None → joined_by layouts system place port ≡ None → Fits cs place above port
     goes_on : (w : ℕ) → above ≡ Some w → is_some (joined_by layouts system place port) ≡ true → ((k : ℕ) → slice_get cs w ≡ Some (top_by place port k)) → Fits cs place above port
 
-  pub fits_more : (cs more : List Channel) (place : Place) (above port : Option ℕ) → Fits cs place above port → Fits (cs ++ more) place above port
+  pub fits_more : (cs more : List Channel) (place : Address) (above port : Option ℕ) → Fits cs place above port → Fits (cs ++ more) place above port
   fits_more cs more place above port (ends here outside) = ends here outside
   fits_more cs more place above port (goes_on w is some at) = goes_on w is some (λ k. in_first cs more w (top_by place port k) (at k))
 
-  top_of_end : (place : Place) (port : Option ℕ) (k : ℕ) → joined_by layouts system place port ≡ None → top_by place port k ≡ channel place k
+  top_of_end : (place : Address) (port : Option ℕ) (k : ℕ) → joined_by layouts system place port ≡ None → top_by place port k ≡ channel place k
   top_of_end [] port k none = refl
   top_of_end (i ∷ up) port k none = rw none refl
 
-  module _ (above : Option ℕ → Option ℕ) (place : Place) where
+  module _ (above : Option ℕ → Option ℕ) (place : Address) where
     module _ (ss : List Spot) (s : Spot) (level : ℕ) (stands : slice_get ss level ≡ Some s) (at : s.place ≡ place) where
       -- the new wires are the channels that are joined no further
       pub new_are : (cs : List Channel) → ((port : Option ℕ) → Fits cs place (above port) port) → (k : ℕ) (ports : List (Option ℕ)) → EachOf (IsWire ss) (new_wires above level k ports) (ending layouts system place k ports)

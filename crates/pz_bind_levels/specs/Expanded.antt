@@ -6,7 +6,7 @@ use Rattle.pz_bind_levels.specs.declared.expansion.Process.{Process}
 use Rattle.pz_bind_levels.specs.declared.expansion.Wire.{Wire}
 use Rattle.pz_bind_levels.specs.declared.expansion.Expansion.{Expansion}
 use Rattle.pz_bind_levels.specs.Layouts.{Layout, layout}
-use Rattle.pz_bind_levels.specs.Places.{Place, Spot, layout_at}
+use Rattle.pz_bind_levels.specs.Places.{Address, Spot, layout_at}
 use Rattle.pz_bind_levels.specs.Places as places
 use Rattle.pz_bind_levels.specs.Wires.{Channel}
 use Rattle.pz_bind_levels.specs.Wires as channels
@@ -18,7 +18,7 @@ pub record EachOf {A B : Type 0} (P : A → B → Type 0) (xs : List A) (ys : Li
   pub each : (n : ℕ) (x : A) (y : B) → slice_get xs n ≡ Some x → slice_get ys n ≡ Some y → P x y
 
 -- a part of one of these levels stands at this place; the system is no part
-pub data StandsAt (ss : List Spot) : Option Standing → Place → Type 0 where
+pub data StandsAt (ss : List Spot) : Option Standing → Address → Type 0 where
   at_top : StandsAt ss None []
   in_level : (s : Standing) (up : Spot) → slice_get ss s.level ≡ Some up → StandsAt ss (Some s) (s.part ∷ up.place)
 

@@ -1,11 +1,11 @@
 -- What stands in the levels of a system: the system itself is a level, and so is every cluster in it.
 use Rattle.std.specs.Prelude.{◌≡◌, ◌<◌, ℕ, List, [], length, Option, None, Some, slice_get}
 use Rattle.std.specs.Option.{unwrap_or}
-use Rattle.pz_bind_levels.specs.declared.plan.Part.{Part}
+use Rattle.pz_bind_levels.specs.declared.plan.LevelPart.{LevelPart}
 
 -- What stands in each level of one class. Parts and channels are numbered from 0 in the order of the text.
 pub record Layout : Type 0 where
-  pub parts : List Part
+  pub parts : List LevelPart
   -- for each channel, the port of the level itself that is in it
   pub outer : List (Option ℕ)
   -- the channel in which this part's port of this number is

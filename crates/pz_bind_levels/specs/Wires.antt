@@ -3,28 +3,28 @@ use Rattle.std.specs.Prelude.{ℕ, suc, List, [], ◌∷◌, ◌++◌, Option, N
 use Rattle.std.specs.Option.{unwrap_or, option_and_then, is_some}
 use Rattle.std.specs.List.{flat_map}
 use Rattle.pz_bind_levels.specs.Layouts.{Layout}
-use Rattle.pz_bind_levels.specs.Places.{Place, Spot, levels, layout_at}
+use Rattle.pz_bind_levels.specs.Places.{Address, Spot, levels, layout_at}
 
 -- the channel of this number of the level at this place
 pub record Channel : Type 0 where
-  pub place : Place
+  pub place : Address
   pub number : ℕ
 
-abbrev pub channel : Place → ℕ → Channel
+abbrev pub channel : Address → ℕ → Channel
 channel place number = record { place = place; number = number }
 
 module _ (layouts : List Layout) (system : ℕ) where
   -- The channel of the level around this one with which a channel is joined that has this port of its
   -- level: the one in which that port of the level is. There is none around the system.
-  abbrev pub joined_by : Place → Option ℕ → Option ℕ
+  abbrev pub joined_by : Address → Option ℕ → Option ℕ
   joined_by [] port = None
   joined_by (i ∷ up) port = option_and_then ((layout_at layouts system up).linked i) port
 
-  abbrev pub joined : Place → ℕ → Option ℕ
+  abbrev pub joined : Address → ℕ → Option ℕ
   joined place k = joined_by place (unwrap_or (slice_get (layout_at layouts system place).outer k) None)
 
   -- of the channels of a level, from number k on, those that are joined no further
-  abbrev pub ending : Place → ℕ → List (Option ℕ) → List Channel
+  abbrev pub ending : Address → ℕ → List (Option ℕ) → List Channel
   ending place k [] = []
   ending place k (port ∷ ports) = (if is_some (joined_by place port) then [] else channel place k ∷ []) ++ ending place (suc k) ports
 

@@ -1,6 +1,6 @@
 ghost use Rattle.std.specs.Prelude.{◌≡◌, ℕ, MatchOption, Some};
 ghost use Rattle.pz_bind_levels.specs.Layouts.{AreLinked};
-ghost use Rattle.pz_bind_levels.specs.Places.{Place, levels};
+ghost use Rattle.pz_bind_levels.specs.Places.{Address, levels};
 ghost use Rattle.pz_bind_levels.specs.Connections.{HasWire, IsInNone};
 ghost use Rattle.pz_bind_levels.specs.Expanded.{IsExpansion, StandsAt};
 ghost use Rattle.pz_bind_levels.specs.devices.Walking as spec;
@@ -54,7 +54,7 @@ impl Expansion {
     /// The wire of a port of a part: the last channel that it reaches. None where it is in no channel
     /// of the part's level.
     pub fn wire(&self, plans: &[Plan], standing: Standing, port: usize) -> Option<usize>
-        ensures { (system : ℕ) (place : Place) → AreLinked (layouts_of plans.now) → IsExpansion (layouts_of plans.now) system self.now → StandsAt (levels (layouts_of plans.now) system) (Some standing) place
+        ensures { (system : ℕ) (place : Address) → AreLinked (layouts_of plans.now) → IsExpansion (layouts_of plans.now) system self.now → StandsAt (levels (layouts_of plans.now) system) (Some standing) place
             → MatchOption result (IsInNone (layouts_of plans.now) system (record { place = place; port = port })) (HasWire (layouts_of plans.now) system (record { place = place; port = port })) }
     {
         wire_at(plans, self.levels.as_slice(), standing, port)

@@ -11,5 +11,5 @@ mod walk;
 pub use expansion::{Expansion, Level, Process, Standing, Wire};
 pub use laws::ends_share_wires;
 pub use links::Links;
-pub use plan::{Part, Plan};
+pub use plan::{LevelPart, Plan};
 pub use walk::expand;

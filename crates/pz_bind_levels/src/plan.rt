@@ -8,7 +8,7 @@ use pz_items::Items;
 
 /// What stands in a level: an instance of this class. That of a cluster class is a level again.
 #[derive(Clone, Copy, Debug, PartialEq, Eq)]
-pub struct Part {
+pub struct LevelPart {
     pub class: u32,
     pub is_level: bool,
 }
@@ -17,7 +17,7 @@ pub struct Part {
 /// numbered from 0 in the order of the text.
 #[derive(Drop)]
 pub struct Plan {
-    pub parts: Items<Part>,
+    pub parts: Items<LevelPart>,
     /// For each channel the number of the port of the level itself that is in it, if there is one.
     pub outer: Items<Option<usize>>,
     /// In which channel the ports of the parts are.
@@ -25,7 +25,7 @@ pub struct Plan {
 }
 
 /// The part of this number of a level of this class.
-pub(crate) fn part_at(plans: &[Plan], class: usize, part: usize) -> Option<Part>
+pub(crate) fn part_at(plans: &[Plan], class: usize, part: usize) -> Option<LevelPart>
     ensures is { result ≡ spec.part_at (layouts_of plans.now) class part }
     ensures small { OnSome result (part + 1 < 2 ^ 64) }
 {
@@ -38,7 +38,7 @@ pub(crate) fn part_at(plans: &[Plan], class: usize, part: usize) -> Option<Part>
 }
 
 /// The parts of a level of this class.
-fn parts_of(plans: &[Plan], class: usize) -> &[Part]
+fn parts_of(plans: &[Plan], class: usize) -> &[LevelPart]
     ensures { result.now ≡ (layout (layouts_of plans.now) class).parts }
 {
     match plans.get(class) {

@@ -10,7 +10,7 @@ ghost use Rattle.pz_bind_levels.specs.devices.Walking.{layouts_of, Goes};
 
 use crate::expansion::wire_above;
 use crate::plan::{outer_of, part_at};
-use crate::{Expansion, Level, Part, Plan, Process, Standing, Wire};
+use crate::{Expansion, Level, LevelPart, Plan, Process, Standing, Wire};
 use pz_items::Items;
 use std::alloc::{AllocError, Global};
 
@@ -112,7 +112,7 @@ impl Walk {
         &mut self,
         alloc: Global,
         plans: &[Plan],
-        part: Part,
+        part: LevelPart,
         standing: Standing,
         below: usize,
     ) -> Result<(), AllocError>
@@ -130,7 +130,7 @@ impl Walk {
     }
 
     /// The part that is next in the level.
-    fn next_of(&self, plans: &[Plan], current: Open) -> Option<Part>
+    fn next_of(&self, plans: &[Plan], current: Open) -> Option<LevelPart>
         ensures is { result ≡ spec.next_of (layouts_of plans.now) self.now.levels current }
         ensures small { OnSome result (current.part + 1 < 2 ^ 64) }
     {

@@ -4,7 +4,7 @@ use Rattle.std.specs.List.{Contains}
 use Rattle.std.specs.Option.{option_map_or}
 use Rattle.pz_syntax.specs.Classes.{DeclTree, ModelTree}
 use Rattle.pz_classes_mentions.specs.declared.mention.Mention.{Mention}
-use Rattle.pz_classes_mentions.specs.declared.part.Part.{Part}
+use Rattle.pz_classes_mentions.specs.declared.local_scope.LocalScope.{LocalScope}
 use Rattle.pz_classes_mentions.specs.Declarations.{parts}
 use Rattle.pz_check_violations.specs.declared.violation.Violation.{Violation}
 use Rattle.pz_check_violations.specs.Order.{violation}
@@ -21,7 +21,7 @@ use Rattle.pz_check_names.proofs.Classes.{is_numbered}
 use Rattle.pz_check_names.proofs.Lists.{first_or, only, is_first, in_flat, of_flat}
 
 module _ (m : ModelTree) where
-  module _ (c : ℕ) (d : DeclTree) (p : Part) (x : Mention) (at : Mentions m c d p x) where
+  module _ (c : ℕ) (d : DeclTree) (p : LocalScope) (x : Mention) (at : Mentions m c d p x) where
     abbrev Rule : ℕ → Violation
     Rule n = violation n (place x)
 
@@ -74,7 +74,7 @@ module _ (m : ModelTree) where
         in_flat (of_number m) cs c v (whole c (is_numbered m c d here)) first
 
     -- and a word of it
-    module _ (c : ℕ) (d : DeclTree) (p : Part) (x : Mention) (at : Mentions m c d p x) where
+    module _ (c : ℕ) (d : DeclTree) (p : LocalScope) (x : Mention) (at : Mentions m c d p x) where
       of_rule : (v : Violation) → Member v (at_word m c d p.locals x) → Member v (misuses m cs)
       of_rule v found = at_class c d v at.declared
           (in_flat (of_part m c d) (parts d) p v at.part_of (in_flat (at_word m c d p.locals) p.mentions x v at.mentioned found))

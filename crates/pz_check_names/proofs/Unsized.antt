@@ -4,7 +4,7 @@ use Rattle.pz_syntax.specs.declared.tokens.Pos.{Pos}
 use Rattle.std.specs.List.{Contains, list_any}
 use Rattle.pz_syntax.specs.Classes.{DeclTree, ModelTree}
 use Rattle.pz_classes_mentions.specs.declared.mention.Mention.{Mention}
-use Rattle.pz_classes_mentions.specs.declared.part.Part.{Part}
+use Rattle.pz_classes_mentions.specs.declared.local_scope.LocalScope.{LocalScope}
 use Rattle.pz_classes_mentions.specs.Declarations.{parts}
 use Rattle.pz_check_violations.specs.declared.violation.Violation.{Violation}
 use Rattle.pz_classes.specs.Numbers.{declaration}
@@ -60,7 +60,7 @@ module _ (m : ModelTree) where
   abbrev At : Pos → Type 0
   At pos = BreaksWord m (violation 13 pos) ⊎ BreaksWord m (violation 18 pos)
 
-  at_word : (c : ℕ) (d : DeclTree) (p : Part) (x : Mention) → Mentions m c d p x → IsTrue (is_unsized m x) → (pos : Pos) × At pos
+  at_word : (c : ℕ) (d : DeclTree) (p : LocalScope) (x : Mention) → Mentions m c d p x → IsTrue (is_unsized m x) → (pos : Pos) × At pos
   at_word c d p x at is = by_rule (breaks_c13 m x) refl
     where
       by_rule : (b : Bool) → breaks_c13 m x ≡ b → (pos : Pos) × At pos
@@ -78,7 +78,7 @@ module _ (m : ModelTree) where
   in_model zero d here is = cc
   in_model (suc i) d here is = passing_at (is_unsized_class m) m.decls i d here is
 
-  is_word : (c : ℕ) (d : DeclTree) (p : Part) (x : Mention) → Mentions m c d p x → IsTrue (is_unsized m x) → IsTrue (is_unsized_model m)
+  is_word : (c : ℕ) (d : DeclTree) (p : LocalScope) (x : Mention) → Mentions m c d p x → IsTrue (is_unsized m x) → IsTrue (is_unsized_model m)
   is_word c d p x at is = in_model c d at.declared (passing (is_unsized_part m) (parts d) p at.part_of (passing (is_unsized m) p.mentions x at.mentioned is))
 
   abbrev OneOfThem : ℕ → Type 0

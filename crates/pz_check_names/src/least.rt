@@ -21,7 +21,7 @@ use crate::stretch::stretch_of;
 use crate::words::least_at_word;
 use pz_check_violations::Violation;
 use pz_classes::{Classes, Visit, declaration};
-use pz_classes_mentions::{Part, parts_of};
+use pz_classes_mentions::{LocalScope, parts_of};
 use pz_syntax::Model;
 use pz_value::ClassId;
 use std::alloc::{AllocError, Global};
@@ -32,7 +32,7 @@ fn least_of_part(
     alloc: Global,
     declared: &Declared,
     scope: &ClassScope,
-    part: &Part,
+    part: &LocalScope,
     before: Option<Violation>,
 ) -> Result<Option<Violation>, AllocError>
     requires declares { AreDeclared declared.now }
@@ -53,7 +53,7 @@ fn least_of_parts(
     alloc: Global,
     declared: &Declared,
     scope: &ClassScope,
-    parts: &[Part],
+    parts: &[LocalScope],
     before: Option<Violation>,
 ) -> Result<Option<Violation>, AllocError>
     requires declares { AreDeclared declared.now }

@@ -12,7 +12,7 @@ ghost use Rattle.pz_check_names.specs.devices.Unsized as spec;
 use crate::rules::has_instances;
 use pz_classes::Classes;
 use pz_classes_code::is_unsupported;
-use pz_classes_mentions::{Mention, Part, parts_of};
+use pz_classes_mentions::{LocalScope, Mention, parts_of};
 use pz_syntax::Model;
 use std::alloc::{AllocError, Global};
 
@@ -46,7 +46,7 @@ fn is_one_unsized(model: &Model, classes: &Classes, words: &[Mention]) -> bool
     false
 }
 
-fn has_unsized_part(model: &Model, classes: &Classes, parts: &[Part]) -> bool
+fn has_unsized_part(model: &Model, classes: &Classes, parts: &[LocalScope]) -> bool
     requires { AreClasses (model_view model.now) classes.now }
     ensures { result ≡ list_any (spec.is_unsized_part (model_view model.now)) parts.now }
 {

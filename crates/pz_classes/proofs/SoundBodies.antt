@@ -11,7 +11,7 @@ use Rattle.pz_syntax.specs.Classes.{DataMethodTree, DataClassTree, ProcessMethod
 use Rattle.pz_check_violations.specs.Order.{violation}
 use Rattle.pz_classes_mentions.specs.declared.mention.Mention.{Mention}
 use Rattle.pz_classes_mentions.specs.declared.mention.Mention.TheVariants as w
-use Rattle.pz_classes_mentions.specs.declared.part.Part.{Part}
+use Rattle.pz_classes_mentions.specs.declared.local_scope.LocalScope.{LocalScope}
 use Rattle.pz_classes_mentions.specs.Declarations.{parts, types, section_types, data_head, data_method, process_head, process_method, mentioned_start}
 use Rattle.pz_classes_mentions.specs.Expressions.{count, mentioned_all}
 use Rattle.pz_classes_mentions.specs.Statements.{mentioned_statements}
@@ -155,20 +155,20 @@ module _ (m : ModelTree) (sound : IsSound m) where
     abbrev scope : List Id → Scope
     scope ids = scope_of m (spelled (shared_by sort m a)) (spelled (ports m a)) ids
 
-    variable_fits : (p : Part) (ids : List Id) → p.locals ≡ ids → (x : Id) → Mentions m a d p (w.Variable x) → Right m c sort (length ids) (scope ids) (w.Variable x)
+    variable_fits : (p : LocalScope) (ids : List Id) → p.locals ≡ ids → (x : Id) → Mentions m a d p (w.Variable x) → Right m c sort (length ids) (scope ids) (w.Variable x)
     variable_fits p ids own x here = slot_fits m c sort ids (shared_by sort m a) (fewer sort) x.name
         (λ out. sound.rules (violation 6 x.pos) (a_word (violation 6 x.pos) (c6 a d p (w.Variable x) here (rw (own, shares m a d sort kind) out))))
 
-    created_fits : (p : Part) (ids : List Id) (x : Id) → Mentions m a d p (w.Created x) → Right m c sort (length ids) (scope ids) (w.Created x)
+    created_fits : (p : LocalScope) (ids : List Id) (x : Id) → Mentions m a d p (w.Created x) → Right m c sort (length ids) (scope ids) (w.Created x)
     created_fits p ids x here =
         let supported : is_unsupported x.name ≡ false = not_true (is_unsupported x.name) (λ is. sound.rules (violation 18 x.pos) (a_word (violation 18 x.pos) (c18 a d p (w.Created x) here is))) in
         may_be m x.name (not_not (may_create m x.name) (λ out. sound.rules (violation 12 x.pos) (a_word (violation 12 x.pos) (c12 a d p (w.Created x) here (rw supported out)))))
 
-    port_is : (p : Part) (ids : List Id) (x : Id) → Mentions m a d p (w.Port x) → Right m c sort (length ids) (scope ids) (w.Port x)
+    port_is : (p : LocalScope) (ids : List Id) (x : Id) → Mentions m a d p (w.Port x) → Right m c sort (length ids) (scope ids) (w.Port x)
     port_is p ids x here = port_fits (ports m c) (ports m a) (longer (ports m c) (ports m a) (fits.inherits c a heir).ports_begin) x.name
         (not_not (is_among (ports m a) x.name) (λ out. sound.rules (violation 9 x.pos) (a_word (violation 9 x.pos) (c9 a d p (w.Port x) here out))))
 
-    word : (p : Part) (ids : List Id) → p.locals ≡ ids → (x : Mention) → Mentions m a d p x → Right m c sort (length ids) (scope ids) x
+    word : (p : LocalScope) (ids : List Id) → p.locals ≡ ids → (x : Mention) → Mentions m a d p x → Right m c sort (length ids) (scope ids) x
     word p ids own (w.Declared x) here = tt
     word p ids own (w.Extended x) here = tt
     word p ids own (w.Typed x) here = tt

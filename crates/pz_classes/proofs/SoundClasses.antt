@@ -8,7 +8,7 @@ use Rattle.pz_syntax.specs.Classes.{ProcessClassTree, DeclTree, data_class, proc
 use Rattle.pz_check_violations.specs.Order.{violation}
 use Rattle.pz_classes_mentions.specs.declared.mention.Mention.{Mention}
 use Rattle.pz_classes_mentions.specs.declared.mention.Mention.TheVariants.{Declared, Called}
-use Rattle.pz_classes_mentions.specs.declared.part.Part.{Part}
+use Rattle.pz_classes_mentions.specs.declared.local_scope.LocalScope.{LocalScope}
 use Rattle.pz_classes_mentions.specs.Declarations.{parts, process_head, section_types, extended, mentioned_messages, mentioned_start}
 use Rattle.pz_classes_mentions.specs.Expressions.{count, mentioned_all}
 use Rattle.pz_classes_lineage.specs.Reached.{GoesRound}
@@ -89,12 +89,12 @@ module _ (m : ModelTree) (sound : IsSound m) where
       by_line : Line m c a → Inherits m c a
       by_line l = record { fields_begin = begins own_fields l; variables_begin = begins own_variables l; ports_begin = begins own_ports l }
 
-  has_called : (a : ℕ) (d : DeclTree) (p : Part) (name : Id) (inputs outputs : ℕ) → Mentions m a d p (Called name inputs outputs) → IsSome (process_method m a name.name inputs outputs)
+  has_called : (a : ℕ) (d : DeclTree) (p : LocalScope) (name : Id) (inputs outputs : ℕ) → Mentions m a d p (Called name inputs outputs) → IsSome (process_method m a name.name inputs outputs)
   has_called a d p name inputs outputs here =
       is_there (process_method m a name.name inputs outputs)
       (λ none. sound.rules (violation 7 name.pos) (a_word (violation 7 name.pos) (c7 a d p (Called name inputs outputs) here none)))
 
-  called : (a : ℕ) (d : DeclTree) (p : Part) (name : Id) (inputs outputs : ℕ) → Mentions m a d p (Called name inputs outputs)
+  called : (a : ℕ) (d : DeclTree) (p : LocalScope) (name : Id) (inputs outputs : ℕ) → Mentions m a d p (Called name inputs outputs)
       → (c : ℕ) → Contains (ancestors m c) a → IsSome (process_method m c name.name inputs outputs)
   called a d p name inputs outputs here c heir =
       let l = line_of m flat c a heir in

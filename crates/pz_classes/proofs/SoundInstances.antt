@@ -9,7 +9,7 @@ use Rattle.pz_syntax.specs.declared.clusters.Instance.{Instance}
 use Rattle.pz_syntax.specs.Classes.{DeclTree, data_class, process_class, cluster_class, system, ModelTree}
 use Rattle.pz_check_violations.specs.Order.{violation}
 use Rattle.pz_classes_mentions.specs.declared.mention.Mention.TheVariants.{Declared, Instantiated}
-use Rattle.pz_classes_mentions.specs.declared.part.Part.{Part}
+use Rattle.pz_classes_mentions.specs.declared.local_scope.LocalScope.{LocalScope}
 use Rattle.pz_classes_mentions.specs.Declarations.{parts, cluster_part, system_part, section_types, mentioned_instance, mentioned_givens, mentioned_instances}
 use Rattle.pz_classes_code.specs.ReservedNames.{is_unsupported}
 use Rattle.pz_classes.specs.Numbers.{declaration, class}
@@ -26,7 +26,7 @@ use Rattle.pz_classes.proofs.Elements.{both_true, none_in, first_in, later_in, i
 
 -- the part that mentions an instance's class
 record Instantiates (d : DeclTree) (i : Instance) : Type 0 where
-  part : Part
+  part : LocalScope
   part_of : Contains (parts d) part
   mentioned : Contains part.mentions (Instantiated i.class)
 

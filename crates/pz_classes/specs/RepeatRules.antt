@@ -9,7 +9,7 @@ use Rattle.pz_syntax.specs.declared.classes.Message.{Message}
 use Rattle.pz_syntax.specs.Classes.{DeclTree, data_class, process_class, DataMethodTree, ProcessMethodTree, ModelTree}
 use Rattle.pz_check_violations.specs.declared.violation.Violation.{Violation}
 use Rattle.pz_check_violations.specs.Order.{violation, pos_before}
-use Rattle.pz_classes_mentions.specs.declared.part.Part.{Part}
+use Rattle.pz_classes_mentions.specs.declared.local_scope.LocalScope.{LocalScope}
 use Rattle.pz_classes_mentions.specs.Declarations.{parts}
 use Rattle.pz_classes.specs.Numbers.{declaration}
 use Rattle.pz_classes.specs.Members.{fields, variables, ports}
@@ -71,7 +71,7 @@ pub data BreaksC4 (m : ModelTree) : Violation → Type 0 where
   -- among the ports of a process class and its ancestors, or of a cluster class
   again_port : (c : ℕ) (y : Id) → RepeatsName (ports m c) y → BreaksC4 m (violation 4 y.pos)
   -- among the inputs, outputs and locals of a method, or the parameters of a cluster class
-  again_local : (c : ℕ) (d : DeclTree) (p : Part) (y : Id) → declaration m c ≡ Some d → Contains (parts d) p
+  again_local : (c : ℕ) (d : DeclTree) (p : LocalScope) (y : Id) → declaration m c ≡ Some d → Contains (parts d) p
       → RepeatsName p.locals y → BreaksC4 m (violation 4 y.pos)
   -- among the instances of a cluster class or the system
   again_instance : (c : ℕ) (d : DeclTree) (y : Id) → declaration m c ≡ Some d

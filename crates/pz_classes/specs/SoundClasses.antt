@@ -3,7 +3,7 @@ use Rattle.std.specs.Prelude.{◌≡◌, ℕ, List, ◌++◌, Some, IsSome, Cont
 use Rattle.pz_syntax.specs.declared.names.Id.{Id}
 use Rattle.pz_syntax.specs.Classes.{DeclTree, StartTree, ModelTree}
 use Rattle.pz_classes_mentions.specs.declared.mention.Mention.TheVariants.{Called}
-use Rattle.pz_classes_mentions.specs.declared.part.Part.{Part}
+use Rattle.pz_classes_mentions.specs.declared.local_scope.LocalScope.{LocalScope}
 use Rattle.pz_classes_mentions.specs.Expressions.{count}
 use Rattle.pz_classes.specs.Numbers.{declaration}
 use Rattle.pz_classes.specs.Ancestors.{ancestors}
@@ -45,7 +45,7 @@ pub record ClassesFit (m : ModelTree) : Type 0 where
   pub ports_apart : (c : ℕ) → AreApart same_name (ports m c)
   pub starts : (c : ℕ) (d : DeclTree) → declaration m c ≡ Some d → IsTrue (is_process d) → StartsWell m c
   -- a method that is called in a class is a method of the class and of each that descends from it
-  pub called : (a : ℕ) (d : DeclTree) (p : Part) (name : Id) (inputs outputs : ℕ) → Mentions m a d p (Called name inputs outputs)
+  pub called : (a : ℕ) (d : DeclTree) (p : LocalScope) (name : Id) (inputs outputs : ℕ) → Mentions m a d p (Called name inputs outputs)
       → (c : ℕ) → Contains (ancestors m c) a → IsSome (process_method m c name.name inputs outputs)
 
 -- in a sound model names are inherited in order, and what is called is there

@@ -7,12 +7,12 @@ use Rattle.pz_syntax.specs.declared.names.Id.{Id}
 use Rattle.pz_syntax.specs.Classes.{DeclTree, ModelTree}
 use Rattle.pz_classes_mentions.specs.declared.mention.Mention.{Mention}
 use Rattle.pz_classes_mentions.specs.declared.mention.Mention.TheVariants.{Declared, Extended, Typed, Variable, Created, Selector, Called, Port, Sent, Received, Instantiated, Clock, Me, Return, Float}
-use Rattle.pz_classes_mentions.specs.declared.part.Part.{Part}
+use Rattle.pz_classes_mentions.specs.declared.local_scope.LocalScope.{LocalScope}
 use Rattle.pz_classes_mentions.specs.Declarations.{parts}
 use Rattle.pz_classes.specs.Numbers.{declaration}
 
 -- the part of the class c, which is declared as d, mentions x
-pub record Mentions (m : ModelTree) (c : ℕ) (d : DeclTree) (part : Part) (x : Mention) : Type 0 where
+pub record Mentions (m : ModelTree) (c : ℕ) (d : DeclTree) (part : LocalScope) (x : Mention) : Type 0 where
   pub declared : declaration m c ≡ Some d
   pub part_of : Contains (parts d) part
   pub mentioned : Contains part.mentions x

@@ -15,7 +15,7 @@ use Rattle.pz_syntax.specs.declared.clusters.SystemDecl.{SystemDecl}
 use Rattle.pz_syntax.specs.Classes.{DataMethodTree, DataClassTree, StartTree, ProcessMethodTree, ProcessClassTree, DeclTree, data_class, process_class, cluster_class, system}
 use Rattle.pz_classes_mentions.specs.declared.mention.Mention.{Mention}
 use Rattle.pz_classes_mentions.specs.declared.mention.Mention.TheVariants as m
-use Rattle.pz_classes_mentions.specs.declared.part.Part.{Part}
+use Rattle.pz_classes_mentions.specs.declared.local_scope.LocalScope.{LocalScope}
 use Rattle.pz_classes_mentions.specs.Expressions.{count, mentioned_all, mentioned_literal}
 use Rattle.pz_classes_mentions.specs.Statements.{mentioned_statements}
 
@@ -68,47 +68,47 @@ mentioned_instance i = m.Instantiated i.class ∷ mentioned_givens (unwrap_or i.
 abbrev pub mentioned_instances : List Instance → List Mention
 mentioned_instances is = flat_map mentioned_instance is
 
-abbrev pub data_head : DataClassTree → Part
+abbrev pub data_head : DataClassTree → LocalScope
 data_head c = record {
   locals = [];
   mentions = m.Declared c.name ∷ (extended c.parent ++ section_types c.variables);
 }
 
-abbrev pub data_method : DataMethodTree → Part
+abbrev pub data_method : DataMethodTree → LocalScope
 data_method f = record {
   locals = section_names f.inputs ++ section_names f.locals;
   mentions = section_types f.inputs ++ m.Typed f.result ∷ (section_types f.locals ++ mentioned_all f.body);
 }
 
-abbrev pub data_class_parts : DataClassTree → List Part
+abbrev pub data_class_parts : DataClassTree → List LocalScope
 data_class_parts c = data_head c ∷ map data_method (unwrap_or c.methods [])
 
-abbrev pub process_head : ProcessClassTree → Part
+abbrev pub process_head : ProcessClassTree → LocalScope
 process_head c = record {
   locals = [];
   mentions = m.Declared c.name ∷ (section_types c.parameters ++ (extended c.parent ++ (mentioned_messages (unwrap_or c.messages []) ++ (section_types c.variables ++ mentioned_start c.start))));
 }
 
-abbrev pub process_method : ProcessMethodTree → Part
+abbrev pub process_method : ProcessMethodTree → LocalScope
 process_method f = record {
   locals = names f.inputs ++ (names f.outputs ++ section_names f.locals);
   mentions = types f.inputs ++ (types f.outputs ++ (section_types f.locals ++ mentioned_statements f.body));
 }
 
-abbrev pub process_class_parts : ProcessClassTree → List Part
+abbrev pub process_class_parts : ProcessClassTree → List LocalScope
 process_class_parts c = process_head c ∷ map process_method (unwrap_or c.methods [])
 
 -- the parameters of a cluster are known to its instances
-abbrev pub cluster_part : ClusterClass → Part
+abbrev pub cluster_part : ClusterClass → LocalScope
 cluster_part c = record {
   locals = section_names c.parameters;
   mentions = m.Declared c.name ∷ (section_types c.parameters ++ mentioned_instances (unwrap_or c.instances []));
 }
 
-abbrev pub system_part : SystemDecl → Part
+abbrev pub system_part : SystemDecl → LocalScope
 system_part d = record { locals = []; mentions = mentioned_instances (unwrap_or d.instances []) }
 
-abbrev pub parts : DeclTree → List Part
+abbrev pub parts : DeclTree → List LocalScope
 parts (data_class c) = data_class_parts c
 parts (process_class c) = process_class_parts c
 parts (cluster_class c) = cluster_part c ∷ []

@@ -10,7 +10,7 @@ use crate::adding::{add_port, add_type};
 use crate::expressions::{add_exprs, count_exprs};
 use crate::groups::{add_section_types, add_types, push_names, push_section_names};
 use crate::statements::add_statements;
-use crate::{Mention, Part};
+use crate::{LocalScope, Mention};
 use pz_items::Items;
 use pz_syntax::{DataClass, DataMethod, Id, Message, ProcessClass, ProcessMethod, Start};
 use std::alloc::{AllocError, Global};
@@ -85,20 +85,20 @@ fn add_start(out: &mut Items<Mention>, start: &Option<Start>) -> Result<(), Allo
     add_exprs(out, start.args.as_slice())
 }
 
-fn data_head_of(alloc: Global, class: &DataClass) -> Result<Part, AllocError>
+fn data_head_of(alloc: Global, class: &DataClass) -> Result<LocalScope, AllocError>
     ensures { IfOk result (λ part. part ≡ data_head (data_class_view class.now)) }
 {
     let mut mentions = Items::new(alloc);
     add_declared(&mut mentions, &class.name)?;
     add_extended(&mut mentions, &class.parent)?;
     add_section_types(&mut mentions, &class.variables)?;
-    Ok(Part {
+    Ok(LocalScope {
         locals: Items::new(alloc),
         mentions,
     })
 }
 
-fn data_method_of(alloc: Global, method: &DataMethod) -> Result<Part, AllocError>
+fn data_method_of(alloc: Global, method: &DataMethod) -> Result<LocalScope, AllocError>
     ensures { IfOk result (λ part. part ≡ data_method (data_method_view method.now)) }
 {
     let mut locals = Items::new(alloc);
@@ -109,12 +109,12 @@ fn data_method_of(alloc: Global, method: &DataMethod) -> Result<Part, AllocError
     add_type(&mut mentions, &method.result)?;
     add_section_types(&mut mentions, &method.locals)?;
     add_exprs(&mut mentions, method.body.as_slice())?;
-    Ok(Part { locals, mentions })
+    Ok(LocalScope { locals, mentions })
 }
 
 fn push_data_methods(
     alloc: Global,
-    out: &mut Items<Part>,
+    out: &mut Items<LocalScope>,
     methods: &[DataMethod],
 ) -> Result<(), AllocError>
     ensures { OnOk result (out.new ≡ out.old ++ map data_method (map data_method_view methods.now)) }
@@ -126,7 +126,7 @@ fn push_data_methods(
 }
 
 /// The parts of a data class.
-pub(crate) fn data_parts(alloc: Global, class: &DataClass) -> Result<Items<Part>, AllocError>
+pub(crate) fn data_parts(alloc: Global, class: &DataClass) -> Result<Items<LocalScope>, AllocError>
     ensures { IfOk result (λ ps. ps ≡ data_class_parts (data_class_view class.now)) }
 {
     let mut out = Items::new(alloc);
@@ -137,7 +137,7 @@ pub(crate) fn data_parts(alloc: Global, class: &DataClass) -> Result<Items<Part>
     Ok(out)
 }
 
-fn process_head_of(alloc: Global, class: &ProcessClass) -> Result<Part, AllocError>
+fn process_head_of(alloc: Global, class: &ProcessClass) -> Result<LocalScope, AllocError>
     ensures { IfOk result (λ part. part ≡ process_head (process_class_view class.now)) }
 {
     let mut mentions = Items::new(alloc);
@@ -147,13 +147,13 @@ fn process_head_of(alloc: Global, class: &ProcessClass) -> Result<Part, AllocErr
     add_messages(&mut mentions, &class.messages)?;
     add_section_types(&mut mentions, &class.variables)?;
     add_start(&mut mentions, &class.start)?;
-    Ok(Part {
+    Ok(LocalScope {
         locals: Items::new(alloc),
         mentions,
     })
 }
 
-fn process_method_of(alloc: Global, method: &ProcessMethod) -> Result<Part, AllocError>
+fn process_method_of(alloc: Global, method: &ProcessMethod) -> Result<LocalScope, AllocError>
     ensures { IfOk result (λ part. part ≡ process_method (process_method_view method.now)) }
 {
     let mut locals = Items::new(alloc);
@@ -165,12 +165,12 @@ fn process_method_of(alloc: Global, method: &ProcessMethod) -> Result<Part, Allo
     add_types(&mut mentions, method.outputs.as_slice())?;
     add_section_types(&mut mentions, &method.locals)?;
     add_statements(&mut mentions, method.body.as_slice())?;
-    Ok(Part { locals, mentions })
+    Ok(LocalScope { locals, mentions })
 }
 
 fn push_process_methods(
     alloc: Global,
-    out: &mut Items<Part>,
+    out: &mut Items<LocalScope>,
     methods: &[ProcessMethod],
 ) -> Result<(), AllocError>
     ensures { OnOk result (out.new ≡ out.old ++ map process_method (map process_method_view methods.now)) }
@@ -182,7 +182,10 @@ fn push_process_methods(
 }
 
 /// The parts of a process class.
-pub(crate) fn process_parts(alloc: Global, class: &ProcessClass) -> Result<Items<Part>, AllocError>
+pub(crate) fn process_parts(
+    alloc: Global,
+    class: &ProcessClass,
+) -> Result<Items<LocalScope>, AllocError>
     ensures { IfOk result (λ ps. ps ≡ process_class_parts (process_class_view class.now)) }
 {
     let mut out = Items::new(alloc);

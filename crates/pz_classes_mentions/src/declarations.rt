@@ -2,7 +2,7 @@ ghost use Rattle.std.specs.Prelude.{◌≡◌, [], ◌∷◌, IfOk};
 ghost use Rattle.pz_syntax.specs.ClassView.{decl_view};
 ghost use Rattle.pz_classes_mentions.specs.Declarations.{cluster_part, system_part, parts};
 
-use crate::Part;
+use crate::LocalScope;
 use crate::classes::{add_declared, data_parts, process_parts};
 use crate::groups::{add_section_types, push_section_names};
 use crate::instances::add_instances;
@@ -10,7 +10,7 @@ use pz_items::Items;
 use pz_syntax::{ClusterClass, Decl, SystemDecl};
 use std::alloc::{AllocError, Global};
 
-fn cluster_part_of(alloc: Global, class: &ClusterClass) -> Result<Part, AllocError>
+fn cluster_part_of(alloc: Global, class: &ClusterClass) -> Result<LocalScope, AllocError>
     ensures { IfOk result (λ part. part ≡ cluster_part class.now) }
 {
     let mut locals = Items::new(alloc);
@@ -19,21 +19,21 @@ fn cluster_part_of(alloc: Global, class: &ClusterClass) -> Result<Part, AllocErr
     add_declared(&mut mentions, &class.name)?;
     add_section_types(&mut mentions, &class.parameters)?;
     add_instances(&mut mentions, &class.instances)?;
-    Ok(Part { locals, mentions })
+    Ok(LocalScope { locals, mentions })
 }
 
-fn system_part_of(alloc: Global, system: &SystemDecl) -> Result<Part, AllocError>
+fn system_part_of(alloc: Global, system: &SystemDecl) -> Result<LocalScope, AllocError>
     ensures { IfOk result (λ part. part ≡ system_part system.now) }
 {
     let mut mentions = Items::new(alloc);
     add_instances(&mut mentions, &system.instances)?;
-    Ok(Part {
+    Ok(LocalScope {
         locals: Items::new(alloc),
         mentions,
     })
 }
 
-fn only(alloc: Global, part: Part) -> Result<Items<Part>, AllocError>
+fn only(alloc: Global, part: LocalScope) -> Result<Items<LocalScope>, AllocError>
     ensures { IfOk result (λ ps. ps ≡ part ∷ []) }
 {
     let mut out = Items::new(alloc);
@@ -43,7 +43,7 @@ fn only(alloc: Global, part: Part) -> Result<Items<Part>, AllocError>
 
 /// The parts of a declaration, in the order of the text: what stands before its methods, then each
 /// method. The only error is want of memory.
-pub fn parts_of(alloc: Global, decl: &Decl) -> Result<Items<Part>, AllocError>
+pub fn parts_of(alloc: Global, decl: &Decl) -> Result<Items<LocalScope>, AllocError>
     ensures { IfOk result (λ ps. ps ≡ parts (decl_view decl.now)) }
 {
     match decl {

@@ -8,10 +8,10 @@ mod declarations;
 mod expressions;
 mod groups;
 mod instances;
+mod local_scope;
 mod mention;
-mod part;
 mod statements;
 
 pub use declarations::parts_of;
+pub use local_scope::LocalScope;
 pub use mention::Mention;
-pub use part::Part;

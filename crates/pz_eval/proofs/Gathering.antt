@@ -7,7 +7,7 @@ use Rattle.pz_classes_code.specs.declared.code.Code.{Code}
 use Rattle.pz_classes_code.specs.CodeView.{view, list_view}
 use Rattle.pz_state.specs.States.{StateView}
 use Rattle.pz_eval_rules.specs.declared.outcome.Listed.TheVariants as listed
-use Rattle.pz_eval_rules.specs.Memories.{Memory, Place}
+use Rattle.pz_eval_rules.specs.Memories.{Memory, Location}
 use Rattle.pz_eval_rules.specs.Answers.{ends, gives, stops}
 use Rattle.pz_eval_rules.specs.Outcomes.{outside}
 use Rattle.pz_eval_rules.specs.devices.Computed.{Reached, done, Computation, and_then, arguments, evaluated}
@@ -28,7 +28,7 @@ stops_gathers stop.NoMemory x f s r h = tt
 stops_gathers stop.Spent x f s r h = ap (λ (y : Reached Value). and_then y f) h
 stops_gathers (stop.Fault kind at) x f s r h = ap (λ (y : Reached Value). and_then y f) h
 
-module _ (model : ModelTree) (now d : ℕ) (p : Place) (codes : List Code) where
+module _ (model : ModelTree) (now d : ℕ) (p : Location) (codes : List Code) where
   -- the next expression, and then those behind it
   next_gathered : (ys : List Value) (i : ℕ) (e : Code) (m : Memory) (r : ℕ) → i < length codes → e ≡ get_or codes i e
       → arguments model now (evaluated model now d) p ys (list_view (drop i codes)) m r ≡ and_then (evaluated model now d p (view e) m r) (λ y. arguments model now (evaluated model now d) p (ys ++ y ∷ []) (list_view (drop (i + 1) codes)))

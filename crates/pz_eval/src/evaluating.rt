@@ -13,7 +13,7 @@ ghost use Rattle.pz_eval.specs.Promises.{UnlessValue, UnlessValues, NamesWithin,
 use crate::listing::evaluate_list;
 use pz_classes::Classes;
 use pz_classes_code::Code;
-use pz_eval_machine::{Finish, Setting, evaluate};
+use pz_eval_machine::{Basis, Finish, evaluate};
 use pz_eval_operations::Stop;
 use pz_eval_rules::{Allowance, Listed, Outcome, computed_is_found};
 use pz_state::{FrameId, State};
@@ -71,13 +71,13 @@ pub fn eval(
 {
     computed_is_found();
     let point = state.mark()?;
-    let setting = Setting {
+    let basis = Basis {
         alloc,
         classes,
         clock,
     };
     let mut units = allowance.units;
-    match evaluate(setting, state, &mut units, frame, allowance.depth, code) {
+    match evaluate(basis, state, &mut units, frame, allowance.depth, code) {
         Ok(finish) => {
             state.keep(point);
             Ok(value_of(finish))
@@ -106,13 +106,13 @@ pub fn try_eval(
 {
     computed_is_found();
     let point = state.mark()?;
-    let setting = Setting {
+    let basis = Basis {
         alloc,
         classes,
         clock,
     };
     let mut units = allowance.units;
-    let found = evaluate(setting, state, &mut units, frame, allowance.depth, code);
+    let found = evaluate(basis, state, &mut units, frame, allowance.depth, code);
     state.undo_to(point);
     match found {
         Ok(finish) => Ok(value_of(finish)),
@@ -140,13 +140,13 @@ pub fn eval_list(
 {
     computed_is_found();
     let point = state.mark()?;
-    let setting = Setting {
+    let basis = Basis {
         alloc,
         classes,
         clock,
     };
     let mut units = allowance.units;
-    match evaluate_list(setting, state, &mut units, frame, allowance.depth, codes) {
+    match evaluate_list(basis, state, &mut units, frame, allowance.depth, codes) {
         Ok(values) => {
             state.keep(point);
             Ok(Listed::Values(values))

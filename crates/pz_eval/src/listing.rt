@@ -12,7 +12,7 @@ ghost use Rattle.pz_eval_operations.specs.Known.{AreKnown};
 ghost use Rattle.pz_eval.specs.devices.Lists.{Gathers};
 
 use pz_classes_code::Code;
-use pz_eval_machine::{Finish, Setting, evaluate};
+use pz_eval_machine::{Basis, Finish, evaluate};
 use pz_eval_operations::Stop;
 use pz_items::Items;
 use pz_state::{FrameId, State};
@@ -31,23 +31,23 @@ fn only(alloc: Global, value: Value) -> Result<Items<Value>, AllocError>
 /// Evaluates expressions of a method of the process from left to right, as one evaluation. Effects stay,
 /// whatever comes of it. A `return` is alone.
 pub(crate) fn evaluate_list(
-    setting: Setting<'_>,
+    basis: Basis<'_>,
     state: &mut State,
     units: &mut u64,
     frame: FrameId,
     depth: u32,
     codes: &[Code],
 ) -> Result<Items<Value>, Stop>
-    requires { AreKnown setting.classes.now }
-    ensures gathers { (model : ModelTree) → AreClasses model setting.entry.classes.now → Gathers result state.new.held units.new (arguments model setting.entry.clock (evaluated model setting.entry.clock depth) (in_process frame.0) [] (list_view codes.now) (outside state.old.held) units.old) }
+    requires { AreKnown basis.classes.now }
+    ensures gathers { (model : ModelTree) → AreClasses model basis.entry.classes.now → Gathers result state.new.held units.new (arguments model basis.entry.clock (evaluated model basis.entry.clock depth) (in_process frame.0) [] (list_view codes.now) (outside state.old.held) units.old) }
     ensures marks { state.new.marks ≡ state.old.marks }
     ensures within { IfOk result (λ values. All (RefersWithin (length state.new.held.objects)) values) }
 {
-    let mut values = Items::new(setting.alloc);
+    let mut values = Items::new(basis.alloc);
     for code in codes {
-        match evaluate(setting, state, units, frame, depth, code) {
+        match evaluate(basis, state, units, frame, depth, code) {
             Ok(Finish::Value(value)) => values.push(value)?,
-            Ok(Finish::Return(value)) => return Ok(only(setting.alloc, value)?),
+            Ok(Finish::Return(value)) => return Ok(only(basis.alloc, value)?),
             Err(stop) => return Err(stop),
         }
     }

@@ -8,7 +8,7 @@ use Rattle.std.proofs.lemmas.List.Elements.{All-nil}
 use Rattle.pz_classes_code.specs.declared.code.Code.{Code}
 use Rattle.pz_classes_code.specs.CodeView.{view}
 use Rattle.pz_state.specs.States.{StateView}
-use Rattle.pz_eval_rules.specs.Memories.{Memory, Place, in_process, in_object}
+use Rattle.pz_eval_rules.specs.Memories.{Memory, Location, in_process, in_object}
 use Rattle.pz_eval_rules.specs.Outcomes.{outside}
 use Rattle.pz_eval_rules.specs.devices.Computed.{Reached, done, evaluated}
 use Rattle.pz_eval_operations.specs.declared.stop.Stop.{Stop}
@@ -57,12 +57,12 @@ pub popped_within : (count : ℕ) (ks1 ks : List Task) (k : Task) → ks1 ≡ ks
 popped_within count ks1 ks k e all = all_pop (TaskWithin count) ks1 ks k e all
 
 -- an evaluation begins with nothing else to do
-pub begun : (model : ModelTree) (now : ℕ) (p : Place) (d : ℕ) (code : Bor Code) (ks : List Task) (m : Memory) (r : ℕ) → ks ≡ []
+pub begun : (model : ModelTree) (now : ℕ) (p : Location) (d : ℕ) (code : Bor Code) (ks : List Task) (m : Memory) (r : ℕ) → ks ≡ []
     → meant model now p ks (control.Evaluate d code) m r ≡ evaluated model now d p (view code.now) m r
 unfolding pending_before
 begun model now p d code ks m r e = rw e (then_gives (evaluated model now d p (view code.now) m r))
 
-IsProcess : Place → Type 0
+IsProcess : Location → Type 0
 IsProcess (in_process f) = Unit {0}
 IsProcess (in_object o) = ⊥
 

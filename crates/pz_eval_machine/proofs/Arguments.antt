@@ -5,7 +5,7 @@ use Rattle.pz_value.specs.declared.value.Value.{Value}
 use Rattle.pz_classes_code.specs.declared.code.Code.{Code}
 use Rattle.pz_classes_code.specs.CodeView.{view, list_view}
 use Rattle.pz_state.specs.States.{StateView}
-use Rattle.pz_eval_rules.specs.Memories.{Memory, Place}
+use Rattle.pz_eval_rules.specs.Memories.{Memory, Location}
 use Rattle.pz_eval_rules.specs.Answers.{gives}
 use Rattle.pz_eval_rules.specs.Steps.{Codes}
 use Rattle.pz_eval_rules.specs.devices.Computed.{Reached, done, Computation, and_then, arguments, evaluated}
@@ -25,11 +25,11 @@ use Rattle.pz_eval_machine.proofs.Onward.{arguments_over, arguments_more}
 
 module _ (model : ModelTree) (now : ℕ) where
   -- further arguments of a request, and then its selector
-  abbrev pub asked : Place → Request → List Value → Codes → Computation Value
+  abbrev pub asked : Location → Request → List Value → Codes → Computation Value
   asked p q ws ts m r = and_then (arguments model now (evaluated model now q.depth) p ws ts m r) (sent model now q.depth p q.receiver q.selector.now (sendings_view q.more.now))
 
   -- an argument that is found at once
-  pub argument_taken : (p : Place) (m : Memory) (q q1 : Request) (ws : List Value) (first : Code) (rest codes : List Code) (y : Value) (d u u1 : ℕ)
+  pub argument_taken : (p : Location) (m : Memory) (q q1 : Request) (ws : List Value) (first : Code) (rest codes : List Code) (y : Value) (d u u1 : ℕ)
       → q1 ≡ q → d ≡ q.depth → ws ≡ q1.arguments.items ++ y ∷ [] → codes ≡ first ∷ rest → evaluated model now d p (view first) m u ≡ done (gives y m) u1
       → asked p q1 ws (list_view rest) m u1 ≡ asked p q q.arguments.items (list_view codes) m u
   unfolding arguments
@@ -39,7 +39,7 @@ module _ (model : ModelTree) (now : ℕ) where
       rw (q_is, all, e, here) refl
 
   -- one that is given
-  pub argument_given : (p : Place) (m : Memory) (r : ℕ) (q q1 : Request) (ws : List Value) (ts : Codes) (y : Value) (next : Value → Computation Value)
+  pub argument_given : (p : Location) (m : Memory) (r : ℕ) (q q1 : Request) (ws : List Value) (ts : Codes) (y : Value) (next : Value → Computation Value)
       → q1 ≡ q → ws ≡ q1.arguments.items ++ y ∷ [] → and_then (asked p q1 ws ts m r) next ≡ and_then (asked p q (q.arguments.items ++ y ∷ []) ts m r) next
   argument_given p m r q q1 ws ts y next q_is ws_is =
       let all : ws ≡ q.arguments.items ++ y ∷ [] = ws_is ∙ ap (λ (x : Request). x.arguments.items ++ y ∷ []) q_is in rw (q_is, all) refl

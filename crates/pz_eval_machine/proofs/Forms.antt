@@ -16,7 +16,7 @@ use Rattle.pz_classes_code.specs.declared.code.CodeForm.TheFolds.{the_lemmas}
 use Rattle.pz_classes_code.specs.declared.code.CodeLink.{CodeLink}
 use Rattle.pz_classes_code.specs.declared.code.CodeSending.{CodeSending}
 use Rattle.pz_classes_code.specs.CodeView.{Tree, view, form_view, list_view, part_view}
-use Rattle.pz_eval_rules.specs.Memories.{Memory, Place, read, self_at}
+use Rattle.pz_eval_rules.specs.Memories.{Memory, Location, read, self_at}
 use Rattle.pz_eval_rules.specs.Answers.{gives}
 use Rattle.pz_eval_rules.specs.Steps.{constant, time, created, truth, chosen}
 use Rattle.pz_eval_rules.specs.devices.Computed.{done, Computation, and_then, tick, tested, sequence, evaluated, step, spent}
@@ -53,7 +53,7 @@ choice_view test part other at = search (rules, the_lemmas)
 loop_view : (test : Code) (body : List Code) (at : Pos) → form_view (form.While test body) at ≡ loop at (view test) (list_view body)
 loop_view test body at = search (rules, the_lemmas)
 
-module _ (model : ModelTree) (now d : ℕ) (p : Place) (at : Pos) (f : CodeForm) (m : Memory) (u : ℕ) where
+module _ (model : ModelTree) (now d : ℕ) (p : Location) (at : Pos) (f : CodeForm) (m : Memory) (u : ℕ) where
   pub at_literal : (x : Literal) → f ≡ form.Lit x → tick (λ m1 r1. done (gives (constant x) m1) r1) m u ≡ step model now (evaluated model now d) p (form_view f at) m u
   unfolding step
   at_literal x is = rw (is, literal_view x at) refl
@@ -115,10 +115,10 @@ module _ (model : ModelTree) (now d : ℕ) (p : Place) (at : Pos) (f : CodeForm)
   at_loop test test1 body body1 e l is = rw (e, l, is, loop_view test body at) refl
 
 -- an expression of no depth, and of some
-pub nothing_deep : (model : ModelTree) (now d : ℕ) (p : Place) (t : Tree) (m : Memory) (u : ℕ) (next : Value → Computation Value) → d ≡ 0 → and_then (evaluated model now d p t m u) next ≡ spent
+pub nothing_deep : (model : ModelTree) (now d : ℕ) (p : Location) (t : Tree) (m : Memory) (u : ℕ) (next : Value → Computation Value) → d ≡ 0 → and_then (evaluated model now d p t m u) next ≡ spent
 unfolding evaluated
 nothing_deep model now d p t m u next e = rw e refl
 
-pub begun : (model : ModelTree) (now d : ℕ) (p : Place) (c : Code) (m : Memory) (u : ℕ) → 0 < d
+pub begun : (model : ModelTree) (now d : ℕ) (p : Location) (c : Code) (m : Memory) (u : ℕ) → 0 < d
     → step model now (evaluated model now (d - 1)) p (form_view c.form c.pos) m u ≡ evaluated model now d p (view c) m u
 begun model now d p c m u lt = rw (evaluated_is model now d lt, code_is c) refl

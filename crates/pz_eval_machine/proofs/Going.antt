@@ -2,7 +2,7 @@
 use Rattle.std.proofs.Common.{◌≡◌, ℕ, zero, suc, ◌-◌, ◌<◌, List, [], ◌∷◌, ◌++◌, Result, Ok, Err, refl, sym, ap, ◌∙◌, subst, arith}
 use Rattle.pz_syntax.specs.Classes.{ModelTree}
 use Rattle.pz_value.specs.declared.value.Value.{Value}
-use Rattle.pz_eval_rules.specs.Memories.{Memory, Place}
+use Rattle.pz_eval_rules.specs.Memories.{Memory, Location}
 use Rattle.pz_eval_rules.specs.Answers.{Answer, gives, stops}
 use Rattle.pz_eval_rules.specs.devices.Computed.{Reached, done, spent, Computation, follow, and_then, tick, evaluated, step}
 use Rattle.pz_eval_operations.specs.declared.stop.Stop.{Stop}
@@ -32,7 +32,7 @@ unfolding evaluated
 evaluated_is model now zero lt = absurd (omega arith)
 evaluated_is model now (suc d) lt = ap (λ (k : ℕ). step model now (evaluated model now k)) (omega arith)
 
-module _ (model : ModelTree) (now : ℕ) (p : Place) where
+module _ (model : ModelTree) (now : ℕ) (p : Location) where
   pub pending_push : (next : Value → Computation Value) (ks : List Task) (k : Task)
       → pending_before model now p next (ks ++ k ∷ []) ≡ (λ y m r. and_then (resumed model now p k y m r) (pending_before model now p next ks))
   unfolding pending_before
@@ -55,21 +55,21 @@ module _ (model : ModelTree) (now : ℕ) (p : Place) where
       ∙ ap (λ (f : Value → Computation Value). f y m r) (pending_push (λ z m1 r1. done (gives z m1) r1) ks k)
 
 -- the same, and then the same tasks
-pub then_same : (model : ModelTree) (now : ℕ) (p p1 : Place) (ks ks1 : List Task) {x x1 : Reached Value} → x ≡ x1 → p ≡ p1 → ks ≡ ks1 → and_then x (pending model now p ks) ≡ and_then x1 (pending model now p1 ks1)
+pub then_same : (model : ModelTree) (now : ℕ) (p p1 : Location) (ks ks1 : List Task) {x x1 : Reached Value} → x ≡ x1 → p ≡ p1 → ks ≡ ks1 → and_then x (pending model now p ks) ≡ and_then x1 (pending model now p1 ks1)
 then_same model now p p1 ks ks1 x_is p_is ks_is = rw (x_is, p_is, ks_is) refl
 
 -- nothing is left to do
-pub given_none : (model : ModelTree) (now : ℕ) (p : Place) (k : Control) (y : Value) (ks : List Task) (m : Memory) (r : ℕ) → k ≡ control.Give y → ks ≡ [] → done (gives y m) r ≡ meant model now p ks k m r
+pub given_none : (model : ModelTree) (now : ℕ) (p : Location) (k : Control) (y : Value) (ks : List Task) (m : Memory) (r : ℕ) → k ≡ control.Give y → ks ≡ [] → done (gives y m) r ≡ meant model now p ks k m r
 unfolding pending_before
 given_none model now p k y ks m r e f = rw (e, f) refl
 
 -- the latest task is left to do
-pub given_some : (model : ModelTree) (now : ℕ) (p : Place) (j : Control) (y : Value) (k : Task) (ks ks1 : List Task) (m : Memory) (r : ℕ) → j ≡ control.Give y → ks1 ≡ ks ++ k ∷ []
+pub given_some : (model : ModelTree) (now : ℕ) (p : Location) (j : Control) (y : Value) (k : Task) (ks ks1 : List Task) (m : Memory) (r : ℕ) → j ≡ control.Give y → ks1 ≡ ks ++ k ∷ []
     → and_then (resumed model now p k y m r) (pending model now p ks) ≡ meant model now p ks1 j m r
 given_some model now p j y k ks ks1 m r e f = sym (ap (λ (x : Control). meant model now p ks1 x m r) e ∙ pending_pop model now p y m r k ks ks1 f)
 
 -- a value is given after one unit
-pub given_goes : (model : ModelTree) (now : ℕ) (p : Place) (ks : List Task) (v : Result Value Stop) (result : Result Control Stop) (f : Memory → Answer Value) (m m1 : Memory) (u r : ℕ)
+pub given_goes : (model : ModelTree) (now : ℕ) (p : Location) (ks : List Task) (v : Result Value Stop) (result : Result Control Stop) (f : Memory → Answer Value) (m m1 : Memory) (u r : ℕ)
     → u ≡ suc r → result ≡ given v → Tells v (f m) m1
     → Goes (λ k. meant model now p ks k m1 r) result r (and_then (tick (λ m2 r2. done (f m2) r2) m u) (pending model now p ks))
 given_goes model now p ks (Ok y) result f m m1 u r u_is e h = rw (u_is, e, h) refl
@@ -80,7 +80,7 @@ given_goes model now p ks (Err (stop.Fault kind at)) result f m m1 u r u_is e h 
 pub one_left : (f : Computation Value) (m : Memory) (u r : ℕ) → u ≡ suc r → tick f m u ≡ f m r
 one_left f m u r e = ap (λ (n : ℕ). tick f m n) e
 
-pub told_goes : (model : ModelTree) (now : ℕ) (p : Place) (ks : List Task) (v : Result Value Stop) (result : Result Control Stop) (a : Answer Value) (m1 : Memory) (r : ℕ)
+pub told_goes : (model : ModelTree) (now : ℕ) (p : Location) (ks : List Task) (v : Result Value Stop) (result : Result Control Stop) (a : Answer Value) (m1 : Memory) (r : ℕ)
     → result ≡ given v → Tells v a m1
     → Goes (λ k. meant model now p ks k m1 r) result r (and_then (done a r) (pending model now p ks))
 told_goes model now p ks (Ok y) result a m1 r e h = rw (e, h) refl

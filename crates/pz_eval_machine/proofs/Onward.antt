@@ -13,7 +13,7 @@ use Rattle.pz_classes_code.specs.declared.code.CodeSending.{CodeSending, out-Cod
 use Rattle.pz_classes_code.specs.declared.code.CodeForm.TheFolds.{the_lemmas}
 use Rattle.pz_classes_code.specs.CodeView.{Tree, view, list_view, part_view, sending_view}
 use Rattle.pz_state.specs.declared.fault.FaultKind.TheVariants.{NotBoolean}
-use Rattle.pz_eval_rules.specs.Memories.{Memory, Place}
+use Rattle.pz_eval_rules.specs.Memories.{Memory, Location}
 use Rattle.pz_eval_rules.specs.Answers.{fault, gives, stops}
 use Rattle.pz_eval_rules.specs.Steps.{Codes, truth, chosen, applied}
 use Rattle.pz_eval_rules.specs.Evaluation.{arguments_of}
@@ -36,7 +36,7 @@ sending_of s (Some es) e = search (rules, the_lemmas)
 pub sending_is : (s : CodeSending) → sending_view s ≡ ((out-CodeSending s).selector, part_view (out-CodeSending s).args)
 sending_is s = sending_of s (out-CodeSending s).args refl
 
-module _ (model : ModelTree) (now d : ℕ) (p : Place) (m : Memory) (r : ℕ) (next : Value → Computation Value) where
+module _ (model : ModelTree) (now d : ℕ) (p : Location) (m : Memory) (r : ℕ) (next : Value → Computation Value) where
   -- lists
   pub list_over : (y : Value) (codes : List Code) → length codes ≡ 0 → next y m r ≡ and_then (sequence model now (evaluated model now d) p y (list_view codes) m r) next
   unfolding sequence
@@ -79,16 +79,16 @@ module _ (model : ModelTree) (now d : ℕ) (p : Place) (m : Memory) (r : ℕ) (n
   selectors_over y (s ∷ ss) e = absurd (omega (arith, e))
 
 -- an assignment that is done at once
-pub done_assigned : (d : ℕ) (p : Place) (t : Tree) (m m1 : Memory) (u u1 : ℕ) (o : Option Value) (y : Value) → o ≡ Some y → Assigned d p t m u m1 u1 o → Assigned d p t m u m1 u1 (Some y)
+pub done_assigned : (d : ℕ) (p : Location) (t : Tree) (m m1 : Memory) (u u1 : ℕ) (o : Option Value) (y : Value) → o ≡ Some y → Assigned d p t m u m1 u1 o → Assigned d p t m u m1 u1 (Some y)
 done_assigned d p t m m1 u u1 o y e = subst (λ (x : Option Value). Assigned d p t m u m1 u1 x) e
 
-pub list_assigned : (model : ModelTree) (now d : ℕ) (p p1 : Place) (y z : Value) (first : Code) (rest codes : List Code) (m m1 : Memory) (u u1 : ℕ) → p1 ≡ p → codes ≡ first ∷ rest
+pub list_assigned : (model : ModelTree) (now d : ℕ) (p p1 : Location) (y z : Value) (first : Code) (rest codes : List Code) (m m1 : Memory) (u u1 : ℕ) → p1 ≡ p → codes ≡ first ∷ rest
     → Assigned d p (view first) m u m1 u1 (Some z)
     → sequence model now (evaluated model now d) p1 z (list_view rest) m1 u1 ≡ sequence model now (evaluated model now d) p y (list_view codes) m u
 unfolding sequence
 list_assigned model now d p p1 y z first rest codes m m1 u u1 p_is e found = rw (p_is, e, found.1 model now) refl
 
-module _ (model : ModelTree) (now : ℕ) (p : Place) (m : Memory) (r : ℕ) (next : Value → Computation Value) where
+module _ (model : ModelTree) (now : ℕ) (p : Location) (m : Memory) (r : ℕ) (next : Value → Computation Value) where
   pub selectors_more : (d : ℕ) (y : Value) (first : CodeSending) (rest : List CodeSending) (sendings : List CodeSending) (ws : List Value) (ts : Codes) → sendings ≡ first ∷ rest
       → ws ≡ [] → ts ≡ arguments_of (part_view (out-CodeSending first).args)
       → and_then (and_then (arguments model now (evaluated model now d) p ws ts m r) (sent model now d p y (out-CodeSending first).selector (sendings_view rest))) next
@@ -113,13 +113,13 @@ module _ (model : ModelTree) (now : ℕ) (p : Place) (m : Memory) (r : ℕ) (nex
       (λ y. arguments model now (evaluated model now q.value.depth) p (q.value.arguments.items ++ y ∷ []) (list_view rest.now)) (sent model now q.value.depth p q.value.receiver q.value.selector.now (sendings_view q.value.more.now)))))
 
 -- turns
-turns_counted : TurnsGoOn → (model : ModelTree) (now d : ℕ) (p : Place) (at : Pos) (test : Bor Code) (body : Bor (List Code)) (m : Memory) (u : ℕ)
+turns_counted : TurnsGoOn → (model : ModelTree) (now d : ℕ) (p : Location) (at : Pos) (test : Bor Code) (body : Bor (List Code)) (m : Memory) (u : ℕ)
     → tick (λ m1 r1. and_then (evaluated model now d p (view test.now) m1 r1) (resumed model now p (task.Test d at test body))) m u ≡ turning model now d p at (view test.now) (list_view body.now) m u
 unfolding turns
 turns_counted law model now d p at test body m zero = refl
 turns_counted law model now d p at test body m (suc r) = sym (law model now d p at (view test.now) (list_view body.now) m r)
 
-pub turns_more : TurnsGoOn → (model : ModelTree) (now d : ℕ) (p : Place) (at : Pos) (test : Bor Code) (body : Bor (List Code)) (m : Memory) (u : ℕ) (next : Value → Computation Value)
+pub turns_more : TurnsGoOn → (model : ModelTree) (now d : ℕ) (p : Location) (at : Pos) (test : Bor Code) (body : Bor (List Code)) (m : Memory) (u : ℕ) (next : Value → Computation Value)
     → and_then (tick (λ m1 r1. and_then (evaluated model now d p (view test.now) m1 r1) (resumed model now p (task.Test d at test body))) m u) next
     ≡ and_then (turning model now d p at (view test.now) (list_view body.now) m u) next
 turns_more law model now d p at test body m u next = ap (λ (x : Reached Value). and_then x next) (turns_counted law model now d p at test body m u)
@@ -137,18 +137,18 @@ pub not_tested : (y : Value) → ((b : Bool) → y ≡ value.Bool b → ⊥) →
     → and_then (tested at (truth y) f m r) next ≡ done (stops (fault NotBoolean at)) r
 not_tested y other at f m r next = rw (no_truth y other) refl
 
-pub part_chosen : (model : ModelTree) (now d : ℕ) (p : Place) (at : Pos) (m : Memory) (r : ℕ) (next : Value → Computation Value) (y : Value) (b : Bool) (codes ts : Codes) (other : Part Slot ClassId)
+pub part_chosen : (model : ModelTree) (now d : ℕ) (p : Location) (at : Pos) (m : Memory) (r : ℕ) (next : Value → Computation Value) (y : Value) (b : Bool) (codes ts : Codes) (other : Part Slot ClassId)
     → y ≡ value.Bool b → codes ≡ chosen b ts other
     → and_then (sequence model now (evaluated model now d) p value.Nil codes m r) next
     ≡ and_then (tested at (truth y) (λ x. sequence model now (evaluated model now d) p value.Nil (chosen x ts other)) m r) next
 part_chosen model now d p at m r next y b codes ts other y_is codes_is = rw (y_is, codes_is) refl
 
-pub turn_ends : (model : ModelTree) (now d : ℕ) (p : Place) (at : Pos) (m : Memory) (r : ℕ) (next : Value → Computation Value) (y : Value) (b : Bool) (ts : Codes) (again : Computation Value)
+pub turn_ends : (model : ModelTree) (now d : ℕ) (p : Location) (at : Pos) (m : Memory) (r : ℕ) (next : Value → Computation Value) (y : Value) (b : Bool) (ts : Codes) (again : Computation Value)
     → y ≡ value.Bool b → b ≡ false → next value.Nil m r ≡ and_then (tested at (truth y) (going model now (evaluated model now d) p ts again) m r) next
 unfolding going
 turn_ends model now d p at m r next y b ts again y_is b_is = rw (y_is, b_is) refl
 
-pub turn_goes : (model : ModelTree) (now d : ℕ) (p : Place) (at : Pos) (test : Bor Code) (body : Bor (List Code)) (m : Memory) (r : ℕ) (y : Value) (b : Bool) (ks ks1 : List Task)
+pub turn_goes : (model : ModelTree) (now d : ℕ) (p : Location) (at : Pos) (test : Bor Code) (body : Bor (List Code)) (m : Memory) (r : ℕ) (y : Value) (b : Bool) (ks ks1 : List Task)
     → y ≡ value.Bool b → b ≡ true → ks1 ≡ ks ++ task.Turn d at test body ∷ []
     → and_then (sequence model now (evaluated model now d) p value.Nil (list_view body.now) m r) (pending model now p ks1)
     ≡ and_then (tested at (truth y) (going model now (evaluated model now d) p (list_view body.now) (turning model now d p at (view test.now) (list_view body.now))) m r) (pending model now p ks)

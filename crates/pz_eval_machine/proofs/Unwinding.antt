@@ -8,7 +8,7 @@ use Rattle.pz_value.specs.declared.value.Value.TheVariants.{Nil}
 use Rattle.pz_classes_code.specs.declared.code.CodeSending.{CodeSending}
 use Rattle.pz_state.specs.declared.fault.FaultKind.{FaultKind}
 use Rattle.pz_state.specs.States.{StateView, nils}
-use Rattle.pz_eval_rules.specs.Memories.{Memory, Place, in_object}
+use Rattle.pz_eval_rules.specs.Memories.{Memory, Location, in_object}
 use Rattle.pz_eval_rules.specs.Answers.{ends, fault, gives, stops, ended}
 use Rattle.pz_eval_rules.specs.Steps.{Codes, runs}
 use Rattle.pz_eval_rules.specs.devices.Computed.{Reached, done, spent, Computation, and_then, seen_by, tick, sequence, replied, selectors, evaluated}
@@ -91,7 +91,7 @@ module _ (model : ModelTree) (now : ℕ) where
   result_handed cs cs1 a s locals y r e =
       sym (ap (λ (xs : List Activation). unwound model now xs (done (stops (ends y (record { state = s; locals = locals }))) r)) e ∙ unwound_push (λ z. z) cs1 a (done (stops (ends y (record { state = s; locals = locals }))) r))
 
-pub root_push : (cs cs1 : List Activation) (a : Activation) (p : Place) → cs1 ≡ cs ++ a ∷ [] → root cs1 p ≡ root cs (place_of a.site)
+pub root_push : (cs cs1 : List Activation) (a : Activation) (p : Location) → cs1 ≡ cs ++ a ∷ [] → root cs1 p ≡ root cs (place_of a.site)
 root_push [] cs1 a p e = rw e refl
 root_push (c ∷ cs) cs1 a p e = rw e refl
 

@@ -7,7 +7,7 @@ ghost use Rattle.pz_value.specs.declared.value.Value.{Value as Values};
 ghost use Rattle.pz_value.specs.declared.value.Value.TheVariants.{Nil};
 ghost use Rattle.pz_state.specs.References.{RefersWithin};
 ghost use Rattle.pz_classes.specs.Tables.{AreClasses};
-ghost use Rattle.pz_eval_rules.specs.Memories.{Memory, Place};
+ghost use Rattle.pz_eval_rules.specs.Memories.{Memory, Location};
 ghost use Rattle.pz_eval_rules.specs.Memories as memories;
 ghost use Rattle.pz_eval_rules.specs.Answers.{ends, gives, stops};
 ghost use Rattle.pz_eval_rules.specs.Steps.{truth, chosen};
@@ -22,12 +22,12 @@ ghost use Rattle.pz_eval_operations.specs.devices.Within.{SiteWithin, TaskWithin
 ghost use Rattle.pz_eval_machine.specs.devices.Within.{ControlWithin};
 ghost use Rattle.pz_eval_machine.specs.devices.Weights.{weight, links_weight, sendings_weight, tasks_weight, load, Falls};
 
+use crate::basis::Basis;
 use crate::choosing::{choose, go_on_turns};
 use crate::continuing::{descend, descend_counted, go_on_list, go_on_selectors};
 use crate::control::Control;
 use crate::operators::go_on_operators;
 use crate::resuming::assign;
-use crate::setting::Setting;
 use pz_classes::Classes;
 use pz_classes_code::{Code, CodeForm, CodeLink, CodeSending, Slot};
 use pz_eval_operations::{
@@ -41,7 +41,7 @@ use std::alloc::Global;
 
 /// A constant counts one unit.
 fn give_constant<'a>(alloc: Global, units: &mut u64, literal: &Literal) -> Result<Control<'a>, Stop>
-    ensures goes { (model : ModelTree) (now : ℕ) (p : Place) (ks : List Tasks) (m : Memory) → Goes (λ c. meant model now p ks c m units.new) result units.new (and_then (ticked (λ m1 r1. done (gives (steps.constant literal.now) m1) r1) m units.old) (pending model now p ks)) }
+    ensures goes { (model : ModelTree) (now : ℕ) (p : Location) (ks : List Tasks) (m : Memory) → Goes (λ c. meant model now p ks c m units.new) result units.new (and_then (ticked (λ m1 r1. done (gives (steps.constant literal.now) m1) r1) m units.old) (pending model now p ks)) }
     ensures within { (count : ℕ) → IfOk result (ControlWithin count) }
     ensures counted { OnOk result (units.new < units.old) }
 {
@@ -78,7 +78,7 @@ fn give_self<'a>(units: &mut u64, site: Site) -> Result<Control<'a>, Stop>
 
 /// The time counts one unit.
 fn give_time<'a>(clock: u128, units: &mut u64, at: Pos) -> Result<Control<'a>, Stop>
-    ensures goes { (model : ModelTree) (now : ℕ) (p : Place) (ks : List Tasks) (m : Memory) → Goes (λ c. meant model now p ks c m units.new) result units.new (and_then (ticked (λ m1 r1. done (steps.time clock at m1) r1) m units.old) (pending model now p ks)) }
+    ensures goes { (model : ModelTree) (now : ℕ) (p : Location) (ks : List Tasks) (m : Memory) → Goes (λ c. meant model now p ks c m units.new) result units.new (and_then (ticked (λ m1 r1. done (steps.time clock at m1) r1) m units.old) (pending model now p ks)) }
     ensures within { (count : ℕ) → IfOk result (ControlWithin count) }
     ensures counted { OnOk result (units.new < units.old) }
 {
@@ -104,7 +104,7 @@ fn give_new<'a>(
     class: ClassId,
     at: Pos,
 ) -> Result<Control<'a>, Stop>
-    ensures goes { (model : ModelTree) (now : ℕ) (p : Place) (ks : List Tasks) (locals : List Values) → AreClasses model classes.now → Goes (λ c. meant model now p ks c (record { state = state.new.held; locals = locals }) units.new) result units.new (and_then (ticked (λ m1 r1. done (steps.created model class at m1) r1) (record { state = state.old.held; locals = locals }) units.old) (pending model now p ks)) }
+    ensures goes { (model : ModelTree) (now : ℕ) (p : Location) (ks : List Tasks) (locals : List Values) → AreClasses model classes.now → Goes (λ c. meant model now p ks c (record { state = state.new.held; locals = locals }) units.new) result units.new (and_then (ticked (λ m1 r1. done (steps.created model class at m1) r1) (record { state = state.old.held; locals = locals }) units.old) (pending model now p ks)) }
     ensures marks { state.new.marks ≡ state.old.marks }
     ensures count { length state.old.held.objects ≤ length state.new.held.objects }
     ensures within { IfOk result (ControlWithin (length state.new.held.objects)) }
@@ -121,7 +121,7 @@ fn begin_group<'a>(
     depth: u32,
     codes: &'a [Code],
 ) -> Result<Control<'a>, Stop>
-    ensures goes { (model : ModelTree) (now : ℕ) (p : Place) (m : Memory) → Goes (λ c. meant model now p tasks.new.items c m units.new) result units.new (and_then (ticked (sequence model now (evaluated model now depth) p Nil (list_view codes.now)) m units.old) (pending model now p tasks.old.items)) }
+    ensures goes { (model : ModelTree) (now : ℕ) (p : Location) (m : Memory) → Goes (λ c. meant model now p tasks.new.items c m units.new) result units.new (and_then (ticked (sequence model now (evaluated model now depth) p Nil (list_view codes.now)) m units.old) (pending model now p tasks.old.items)) }
     ensures within { IfOk result (λ c. (count : ℕ) → All (TaskWithin count) tasks.old.items → All (TaskWithin count) tasks.new.items × ControlWithin count c) }
     ensures counted { OnOk result (units.new < units.old) }
 {
@@ -272,7 +272,7 @@ fn begin_if<'a>(
 
 /// The evaluation of a form at this place begins, whose parts may stand so deep.
 fn begin_form<'a>(
-    setting: Setting<'a>,
+    basis: Basis<'a>,
     state: &mut State,
     units: &mut u64,
     activation: &mut Activation<'a>,
@@ -281,7 +281,7 @@ fn begin_form<'a>(
     form: &'a CodeForm,
 ) -> Result<Control<'a>, Stop>
     requires { ActivationWithin (length state.old.held.objects) activation.old }
-    ensures goes { (model : ModelTree) → AreClasses model setting.entry.classes.now → Goes (λ c. meant model setting.entry.clock (place_of activation.new.site) activation.new.tasks.items c (memory_at activation.new.site state.new.held activation.new.locals.items) units.new) result units.new (and_then (step model setting.entry.clock (evaluated model setting.entry.clock depth) (place_of activation.old.site) (form_view form.now at) (memory_at activation.old.site state.old.held activation.old.locals.items) units.old) (pending model setting.entry.clock (place_of activation.old.site) activation.old.tasks.items)) }
+    ensures goes { (model : ModelTree) → AreClasses model basis.entry.classes.now → Goes (λ c. meant model basis.entry.clock (place_of activation.new.site) activation.new.tasks.items c (memory_at activation.new.site state.new.held activation.new.locals.items) units.new) result units.new (and_then (step model basis.entry.clock (evaluated model basis.entry.clock depth) (place_of activation.old.site) (form_view form.now at) (memory_at activation.old.site state.old.held activation.old.locals.items) units.old) (pending model basis.entry.clock (place_of activation.old.site) activation.old.tasks.items)) }
     ensures marks { state.new.marks ≡ state.old.marks }
     ensures count { length state.old.held.objects ≤ length state.new.held.objects }
     ensures site { activation.new.site ≡ activation.old.site }
@@ -289,7 +289,7 @@ fn begin_form<'a>(
     ensures falls { IfOk result (λ c. Falls units.old (weight (form_view form.now at) + tasks_weight activation.old.tasks.items) units.new (load c activation.new.tasks.items)) }
 {
     match form {
-        CodeForm::Lit(literal) => give_constant(setting.alloc, units, literal),
+        CodeForm::Lit(literal) => give_constant(basis.alloc, units, literal),
         CodeForm::Var(slot) => {
             give_variable(
                 state,
@@ -300,8 +300,8 @@ fn begin_form<'a>(
             )
         }
         CodeForm::Me => give_self(units, activation.site),
-        CodeForm::Clock => give_time(setting.clock, units, at),
-        CodeForm::New(class) => give_new(setting.classes, state, units, *class, at),
+        CodeForm::Clock => give_time(basis.clock, units, at),
+        CodeForm::New(class) => give_new(basis.classes, state, units, *class, at),
         CodeForm::Group(codes) => begin_group(
             units,
             &mut activation.tasks,
@@ -309,7 +309,7 @@ fn begin_form<'a>(
             codes.as_slice(),
         ),
         CodeForm::Chain(first, links) => begin_chain(
-            setting.alloc,
+            basis.alloc,
             state,
             units,
             activation,
@@ -318,7 +318,7 @@ fn begin_form<'a>(
             links.as_slice(),
         ),
         CodeForm::Sends(first, sendings) => begin_sends(
-            setting.alloc,
+            basis.alloc,
             state,
             units,
             activation,
@@ -358,7 +358,7 @@ fn begin_form<'a>(
 
 /// The evaluation of an expression begins, which may stand so deep.
 pub(crate) fn begin<'a>(
-    setting: Setting<'a>,
+    basis: Basis<'a>,
     state: &mut State,
     units: &mut u64,
     activation: &mut Activation<'a>,
@@ -366,7 +366,7 @@ pub(crate) fn begin<'a>(
     code: &'a Code,
 ) -> Result<Control<'a>, Stop>
     requires { ActivationWithin (length state.old.held.objects) activation.old }
-    ensures goes { (model : ModelTree) → AreClasses model setting.entry.classes.now → Goes (λ c. meant model setting.entry.clock (place_of activation.new.site) activation.new.tasks.items c (memory_at activation.new.site state.new.held activation.new.locals.items) units.new) result units.new (and_then (evaluated model setting.entry.clock depth (place_of activation.old.site) (view code.now) (memory_at activation.old.site state.old.held activation.old.locals.items) units.old) (pending model setting.entry.clock (place_of activation.old.site) activation.old.tasks.items)) }
+    ensures goes { (model : ModelTree) → AreClasses model basis.entry.classes.now → Goes (λ c. meant model basis.entry.clock (place_of activation.new.site) activation.new.tasks.items c (memory_at activation.new.site state.new.held activation.new.locals.items) units.new) result units.new (and_then (evaluated model basis.entry.clock depth (place_of activation.old.site) (view code.now) (memory_at activation.old.site state.old.held activation.old.locals.items) units.old) (pending model basis.entry.clock (place_of activation.old.site) activation.old.tasks.items)) }
     ensures marks { state.new.marks ≡ state.old.marks }
     ensures count { length state.old.held.objects ≤ length state.new.held.objects }
     ensures site { activation.new.site ≡ activation.old.site }
@@ -377,7 +377,7 @@ pub(crate) fn begin<'a>(
         return Err(Stop::Spent);
     }
     begin_form(
-        setting,
+        basis,
         state,
         units,
         activation,

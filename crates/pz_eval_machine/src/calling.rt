@@ -16,9 +16,9 @@ ghost use Rattle.pz_eval_operations.specs.devices.Within.{RequestWithin, Activat
 ghost use Rattle.pz_eval_machine.specs.devices.Within.{ControlWithin};
 ghost use Rattle.pz_eval_operations.specs.declared.task.Site.TheVariants.{Object};
 
+use crate::basis::Basis;
 use crate::continuing::{add_task, go_on_list, go_on_selectors};
 use crate::control::Control;
-use crate::setting::Setting;
 use pz_eval_operations::{Activation, Method, Reply, Request, Site, Stop, Task, ask, tick};
 use pz_state::State;
 use pz_value::Value;
@@ -90,27 +90,27 @@ fn call<'a>(
 /// A receiver does what it does with a selector: it answers, and the selectors behind go on, or a method
 /// of it begins.
 fn deliver<'a>(
-    setting: Setting<'a>,
+    basis: Basis<'a>,
     state: &mut State,
     units: &mut u64,
     activation: &mut Activation<'a>,
     callers: &mut Vec<Activation<'a>>,
     request: Request<'a>,
 ) -> Result<Control<'a>, Stop>
-    requires known { AreKnown setting.classes.now }
+    requires known { AreKnown basis.classes.now }
     requires request { RequestWithin (length state.old.held.objects) request }
     requires within { ActivationWithin (length state.old.held.objects) activation.old }
     requires callers { All (ActivationWithin (length state.old.held.objects)) callers.old.items }
-    ensures goes { (model : ModelTree) → AreClasses model setting.entry.classes.now → Goes (λ c. unwound model setting.entry.clock callers.new.items (coming model setting.entry.clock activation.new state.new.held units.new c)) result units.new (unwound model setting.entry.clock callers.old.items (then_tasks model setting.entry.clock activation.old (and_then (replied model setting.entry.clock (evaluated model setting.entry.clock request.entry.depth) (reply model request.entry.receiver request.entry.selector.now request.entry.arguments.items (memory_of activation.old state.old.held)) request.entry.arguments.items (memory_of activation.old state.old.held) units.old) (λ z. selectors model setting.entry.clock (evaluated model setting.entry.clock request.entry.depth) (place_of activation.old.site) z (sendings_view request.entry.more.now))))) }
+    ensures goes { (model : ModelTree) → AreClasses model basis.entry.classes.now → Goes (λ c. unwound model basis.entry.clock callers.new.items (coming model basis.entry.clock activation.new state.new.held units.new c)) result units.new (unwound model basis.entry.clock callers.old.items (then_tasks model basis.entry.clock activation.old (and_then (replied model basis.entry.clock (evaluated model basis.entry.clock request.entry.depth) (reply model request.entry.receiver request.entry.selector.now request.entry.arguments.items (memory_of activation.old state.old.held)) request.entry.arguments.items (memory_of activation.old state.old.held) units.old) (λ z. selectors model basis.entry.clock (evaluated model basis.entry.clock request.entry.depth) (place_of activation.old.site) z (sendings_view request.entry.more.now))))) }
     ensures marks { state.new.marks ≡ state.old.marks }
     ensures count { length state.new.held.objects ≡ length state.old.held.objects }
     ensures root { OnOk result (root callers.new.items (place_of activation.new.site) ≡ root callers.old.items (place_of activation.old.site)) }
     ensures within { IfOk result (λ c. All (ActivationWithin (length state.new.held.objects)) callers.new.items × ActivationWithin (length state.new.held.objects) activation.new × ControlWithin (length state.new.held.objects) c) }
     ensures units { OnOk result (units.new ≤ units.old) }
 {
-    match ask(setting.alloc, setting.classes, state, &request) {
+    match ask(basis.alloc, basis.classes, state, &request) {
         Ok(Reply::Answers(value)) => go_on_selectors(
-            setting.alloc,
+            basis.alloc,
             state,
             units,
             activation,
@@ -119,7 +119,7 @@ fn deliver<'a>(
             request.more,
         ),
         Ok(Reply::Runs(object, method)) => {
-            call(setting.alloc, activation, callers, request, object, method)
+            call(basis.alloc, activation, callers, request, object, method)
         }
         Err(stop) => Err(stop),
     }
@@ -127,18 +127,18 @@ fn deliver<'a>(
 
 /// A selector is sent to its receiver, which counts one unit.
 pub(crate) fn send<'a>(
-    setting: Setting<'a>,
+    basis: Basis<'a>,
     state: &mut State,
     units: &mut u64,
     activation: &mut Activation<'a>,
     callers: &mut Vec<Activation<'a>>,
     request: Request<'a>,
 ) -> Result<Control<'a>, Stop>
-    requires known { AreKnown setting.classes.now }
+    requires known { AreKnown basis.classes.now }
     requires request { RequestWithin (length state.old.held.objects) request }
     requires within { ActivationWithin (length state.old.held.objects) activation.old }
     requires callers { All (ActivationWithin (length state.old.held.objects)) callers.old.items }
-    ensures goes { (model : ModelTree) → AreClasses model setting.entry.classes.now → Goes (λ c. unwound model setting.entry.clock callers.new.items (coming model setting.entry.clock activation.new state.new.held units.new c)) result units.new (unwound model setting.entry.clock callers.old.items (then_tasks model setting.entry.clock activation.old (sent model setting.entry.clock request.entry.depth (place_of activation.old.site) request.entry.receiver request.entry.selector.now (sendings_view request.entry.more.now) request.entry.arguments.items (memory_of activation.old state.old.held) units.old))) }
+    ensures goes { (model : ModelTree) → AreClasses model basis.entry.classes.now → Goes (λ c. unwound model basis.entry.clock callers.new.items (coming model basis.entry.clock activation.new state.new.held units.new c)) result units.new (unwound model basis.entry.clock callers.old.items (then_tasks model basis.entry.clock activation.old (sent model basis.entry.clock request.entry.depth (place_of activation.old.site) request.entry.receiver request.entry.selector.now (sendings_view request.entry.more.now) request.entry.arguments.items (memory_of activation.old state.old.held) units.old))) }
     ensures marks { state.new.marks ≡ state.old.marks }
     ensures count { length state.new.held.objects ≡ length state.old.held.objects }
     ensures root { OnOk result (root callers.new.items (place_of activation.new.site) ≡ root callers.old.items (place_of activation.old.site)) }
@@ -146,7 +146,7 @@ pub(crate) fn send<'a>(
     ensures counted { OnOk result (units.new < units.old) }
 {
     match tick(units) {
-        Ok(()) => deliver(setting, state, units, activation, callers, request),
+        Ok(()) => deliver(basis, state, units, activation, callers, request),
         Err(stop) => Err(stop),
     }
 }

@@ -5,7 +5,7 @@ ghost use Rattle.pz_syntax.specs.Classes.{ModelTree};
 ghost use Rattle.pz_classes_code.specs.CodeView.{view, list_view, part_view};
 ghost use Rattle.pz_value.specs.declared.value.Value.TheVariants.{Nil};
 ghost use Rattle.pz_eval_rules.specs.Steps.{truth, chosen};
-ghost use Rattle.pz_eval_rules.specs.Memories.{Memory, Place};
+ghost use Rattle.pz_eval_rules.specs.Memories.{Memory, Location};
 ghost use Rattle.pz_eval_rules.specs.devices.Computed.{and_then, tick as ticked, tested, sequence, going, evaluated};
 ghost use Rattle.pz_eval_operations.specs.devices.Sites.{place_of, memory_of};
 ghost use Rattle.pz_eval_machine.specs.devices.Tasks.{turning, pending, meant, coming, then_tasks};
@@ -46,7 +46,7 @@ pub(crate) fn choose<'a>(
     other: &'a Option<Items<Code>>,
     value: Value,
 ) -> Result<Control<'a>, Stop>
-    ensures goes { (model : ModelTree) (now : ℕ) (p : Place) (m : Memory) (r : ℕ) → Goes (λ c. meant model now p tasks.new.items c m r) result r (and_then (tested at (truth value) (λ b. sequence model now (evaluated model now depth) p Nil (chosen b (list_view part.now) (part_view other.now))) m r) (pending model now p tasks.old.items)) }
+    ensures goes { (model : ModelTree) (now : ℕ) (p : Location) (m : Memory) (r : ℕ) → Goes (λ c. meant model now p tasks.new.items c m r) result r (and_then (tested at (truth value) (λ b. sequence model now (evaluated model now depth) p Nil (chosen b (list_view part.now) (part_view other.now))) m r) (pending model now p tasks.old.items)) }
     ensures within { IfOk result (λ c. (count : ℕ) → All (TaskWithin count) tasks.old.items → All (TaskWithin count) tasks.new.items × ControlWithin count c) }
     ensures weighs { IfOk result (λ c. load c tasks.new.items ≤ list_weight (list_view part.now) + part_weight (part_view other.now) + tasks_weight tasks.old.items) }
 {

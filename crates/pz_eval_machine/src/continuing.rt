@@ -5,7 +5,7 @@ ghost use Rattle.std.specs.Prelude.{◌≡◌, ◌+◌, ◌<◌, ◌≤◌, ℕ,
 ghost use Rattle.pz_syntax.specs.Classes.{ModelTree};
 ghost use Rattle.pz_classes_code.specs.CodeView.{view, list_view, part_view};
 ghost use Rattle.pz_state.specs.References.{RefersWithin};
-ghost use Rattle.pz_eval_rules.specs.Memories.{Memory, Place};
+ghost use Rattle.pz_eval_rules.specs.Memories.{Memory, Location};
 ghost use Rattle.pz_eval_rules.specs.Evaluation.{arguments_of};
 ghost use Rattle.pz_eval_rules.specs.devices.Computed.{and_then, tick as ticked, sequence, arguments, selectors, evaluated};
 ghost use Rattle.pz_eval_operations.specs.devices.Sites.{place_of, memory_of};
@@ -40,7 +40,7 @@ pub(crate) fn descend<'a>(
     code: &'a Code,
     task: Task<'a>,
 ) -> Result<Control<'a>, Stop>
-    ensures goes { (model : ModelTree) (now : ℕ) (p : Place) (m : Memory) (r : ℕ) → Goes (λ c. meant model now p tasks.new.items c m r) result r (and_then (and_then (evaluated model now depth p (view code.now) m r) (resumed model now p task.entry)) (pending model now p tasks.old.items)) }
+    ensures goes { (model : ModelTree) (now : ℕ) (p : Location) (m : Memory) (r : ℕ) → Goes (λ c. meant model now p tasks.new.items c m r) result r (and_then (and_then (evaluated model now depth p (view code.now) m r) (resumed model now p task.entry)) (pending model now p tasks.old.items)) }
     ensures within { IfOk result (λ c. (count : ℕ) → TaskWithin count task.entry → All (TaskWithin count) tasks.old.items → All (TaskWithin count) tasks.new.items × ControlWithin count c) }
     ensures weighs { IfOk result (λ c. load c tasks.new.items ≡ weight (view code.now) + (task_weight task.entry + tasks_weight tasks.old.items)) }
 {
@@ -56,7 +56,7 @@ pub(crate) fn descend_counted<'a>(
     code: &'a Code,
     task: Task<'a>,
 ) -> Result<Control<'a>, Stop>
-    ensures goes { (model : ModelTree) (now : ℕ) (p : Place) (m : Memory) → Goes (λ c. meant model now p tasks.new.items c m units.new) result units.new (and_then (ticked (λ m1 r1. and_then (evaluated model now depth p (view code.now) m1 r1) (resumed model now p task.entry)) m units.old) (pending model now p tasks.old.items)) }
+    ensures goes { (model : ModelTree) (now : ℕ) (p : Location) (m : Memory) → Goes (λ c. meant model now p tasks.new.items c m units.new) result units.new (and_then (ticked (λ m1 r1. and_then (evaluated model now depth p (view code.now) m1 r1) (resumed model now p task.entry)) m units.old) (pending model now p tasks.old.items)) }
     ensures within { IfOk result (λ c. (count : ℕ) → TaskWithin count task.entry → All (TaskWithin count) tasks.old.items → All (TaskWithin count) tasks.new.items × ControlWithin count c) }
     ensures counted { OnOk result (units.new < units.old) }
 {
@@ -71,7 +71,7 @@ pub(crate) fn go_on_list<'a>(
     value: Value,
     codes: &'a [Code],
 ) -> Result<Control<'a>, Stop>
-    ensures goes { (model : ModelTree) (now : ℕ) (p : Place) (m : Memory) (r : ℕ) → Goes (λ c. meant model now p tasks.new.items c m r) result r (and_then (sequence model now (evaluated model now depth) p value (list_view codes.now) m r) (pending model now p tasks.old.items)) }
+    ensures goes { (model : ModelTree) (now : ℕ) (p : Location) (m : Memory) (r : ℕ) → Goes (λ c. meant model now p tasks.new.items c m r) result r (and_then (sequence model now (evaluated model now depth) p value (list_view codes.now) m r) (pending model now p tasks.old.items)) }
     ensures within { IfOk result (λ c. (count : ℕ) → RefersWithin count value → All (TaskWithin count) tasks.old.items → All (TaskWithin count) tasks.new.items × ControlWithin count c) }
     ensures weighs { IfOk result (λ c. load c tasks.new.items ≤ list_weight (list_view codes.now) + tasks_weight tasks.old.items) }
 {

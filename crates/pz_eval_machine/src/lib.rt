@@ -2,6 +2,7 @@
 //! down and a depth. Effects stay, whatever comes of it.
 #![tactic(auto)]
 
+mod basis;
 mod beginning;
 mod calling;
 mod choosing;
@@ -10,8 +11,7 @@ mod control;
 mod machine;
 mod operators;
 mod resuming;
-mod setting;
 
+pub use basis::Basis;
 pub use control::Finish;
 pub use machine::evaluate;
-pub use setting::Setting;

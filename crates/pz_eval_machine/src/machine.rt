@@ -19,11 +19,11 @@ ghost use Rattle.pz_eval_machine.specs.devices.Within.{ControlWithin, FinishWith
 ghost use Rattle.pz_eval_operations.specs.devices.Within.{ActivationWithin};
 ghost use Rattle.pz_eval_machine.specs.devices.Weights.{callers_weight, total, Falls, WhileOn};
 
+use crate::basis::Basis;
 use crate::beginning::begin;
 use crate::calling::{leave, send};
 use crate::control::{Control, Finish, Progress};
 use crate::resuming::resume;
-use crate::setting::Setting;
 use pz_classes_code::Code;
 use pz_eval_operations::{Activation, Site, Stop};
 use pz_state::{FrameId, State};
@@ -77,18 +77,18 @@ fn on<'a>(control: Result<Control<'a>, Stop>) -> Result<Progress<'a>, Stop>
 
 /// One step. It says what is done next, or with what the evaluation ends.
 fn advance<'a>(
-    setting: Setting<'a>,
+    basis: Basis<'a>,
     state: &mut State,
     units: &mut u64,
     activation: &mut Activation<'a>,
     callers: &mut Vec<Activation<'a>>,
     control: Control<'a>,
 ) -> Result<Progress<'a>, Stop>
-    requires known { AreKnown setting.classes.now }
+    requires known { AreKnown basis.classes.now }
     requires control { ControlWithin (length state.old.held.objects) control }
     requires within { ActivationWithin (length state.old.held.objects) activation.old }
     requires callers { All (ActivationWithin (length state.old.held.objects)) callers.old.items }
-    ensures goes { (model : ModelTree) → AreClasses model setting.entry.classes.now → Advances (λ c. unwound model setting.entry.clock callers.new.items (meant model setting.entry.clock (place_of activation.new.site) activation.new.tasks.items c (memory_at activation.new.site state.new.held activation.new.locals.items) units.new)) result (memory_at activation.new.site state.new.held activation.new.locals.items) units.new (unwound model setting.entry.clock callers.old.items (meant model setting.entry.clock (place_of activation.old.site) activation.old.tasks.items control.entry (memory_at activation.old.site state.old.held activation.old.locals.items) units.old)) }
+    ensures goes { (model : ModelTree) → AreClasses model basis.entry.classes.now → Advances (λ c. unwound model basis.entry.clock callers.new.items (meant model basis.entry.clock (place_of activation.new.site) activation.new.tasks.items c (memory_at activation.new.site state.new.held activation.new.locals.items) units.new)) result (memory_at activation.new.site state.new.held activation.new.locals.items) units.new (unwound model basis.entry.clock callers.old.items (meant model basis.entry.clock (place_of activation.old.site) activation.old.tasks.items control.entry (memory_at activation.old.site state.old.held activation.old.locals.items) units.old)) }
     ensures marks { state.new.marks ≡ state.old.marks }
     ensures count { length state.old.held.objects ≤ length state.new.held.objects }
     ensures root { OnOk result (root callers.new.items (place_of activation.new.site) ≡ root callers.old.items (place_of activation.old.site)) }
@@ -98,15 +98,15 @@ fn advance<'a>(
 {
     match control {
         Control::Evaluate { depth, code } => {
-            on(begin(setting, state, units, activation, depth, code))
+            on(begin(basis, state, units, activation, depth, code))
         }
         Control::Give(value) => match activation.tasks.pop() {
-            Some(task) => on(resume(setting, state, units, activation, task, value)),
+            Some(task) => on(resume(basis, state, units, activation, task, value)),
             None => Ok(give_back(activation, callers, value)),
         },
         Control::Send(request) => {
             let request = Box::into_inner(request);
-            on(send(setting, state, units, activation, callers, request))
+            on(send(basis, state, units, activation, callers, request))
         }
         Control::Leave(value) => Ok(give_result(activation, callers, value)),
     }
@@ -115,18 +115,18 @@ fn advance<'a>(
 /// Steps until a unit has been counted or the evaluation is over. What can be done before that becomes
 /// less with each step.
 fn count_one<'a>(
-    setting: Setting<'a>,
+    basis: Basis<'a>,
     state: &mut State,
     units: &mut u64,
     activation: &mut Activation<'a>,
     callers: &mut Vec<Activation<'a>>,
     first: Control<'a>,
 ) -> Result<Progress<'a>, Stop>
-    requires known { AreKnown setting.classes.now }
+    requires known { AreKnown basis.classes.now }
     requires control { ControlWithin (length state.old.held.objects) first }
     requires within { ActivationWithin (length state.old.held.objects) activation.old }
     requires callers { All (ActivationWithin (length state.old.held.objects)) callers.old.items }
-    ensures goes { (model : ModelTree) → AreClasses model setting.entry.classes.now → Advances (λ c. unwound model setting.entry.clock callers.new.items (meant model setting.entry.clock (place_of activation.new.site) activation.new.tasks.items c (memory_at activation.new.site state.new.held activation.new.locals.items) units.new)) result (memory_at activation.new.site state.new.held activation.new.locals.items) units.new (unwound model setting.entry.clock callers.old.items (meant model setting.entry.clock (place_of activation.old.site) activation.old.tasks.items first.entry (memory_at activation.old.site state.old.held activation.old.locals.items) units.old)) }
+    ensures goes { (model : ModelTree) → AreClasses model basis.entry.classes.now → Advances (λ c. unwound model basis.entry.clock callers.new.items (meant model basis.entry.clock (place_of activation.new.site) activation.new.tasks.items c (memory_at activation.new.site state.new.held activation.new.locals.items) units.new)) result (memory_at activation.new.site state.new.held activation.new.locals.items) units.new (unwound model basis.entry.clock callers.old.items (meant model basis.entry.clock (place_of activation.old.site) activation.old.tasks.items first.entry (memory_at activation.old.site state.old.held activation.old.locals.items) units.old)) }
     ensures marks { state.new.marks ≡ state.old.marks }
     ensures count { length state.old.held.objects ≤ length state.new.held.objects }
     ensures root { OnOk result (root callers.new.items (place_of activation.new.site) ≡ root callers.old.items (place_of activation.old.site)) }
@@ -137,7 +137,7 @@ fn count_one<'a>(
     let before = *units;
     let mut control = first;
     'steps: loop {
-        match advance(setting, state, units, activation, callers, control) {
+        match advance(basis, state, units, activation, callers, control) {
             Ok(Progress::On(next)) => {
                 if *units < before {
                     return Ok(Progress::On(next));
@@ -152,18 +152,18 @@ fn count_one<'a>(
 
 /// Steps until the evaluation is over, which the units bound.
 fn run<'a>(
-    setting: Setting<'a>,
+    basis: Basis<'a>,
     state: &mut State,
     units: &mut u64,
     activation: &mut Activation<'a>,
     callers: &mut Vec<Activation<'a>>,
     first: Control<'a>,
 ) -> Result<Finish, Stop>
-    requires known { AreKnown setting.classes.now }
+    requires known { AreKnown basis.classes.now }
     requires control { ControlWithin (length state.old.held.objects) first }
     requires within { ActivationWithin (length state.old.held.objects) activation.old }
     requires callers { callers.old.items ≡ [] }
-    ensures goes { (model : ModelTree) → AreClasses model setting.entry.classes.now → Finishes result (memory_at activation.new.site state.new.held activation.new.locals.items) units.new (meant model setting.entry.clock (place_of activation.old.site) activation.old.tasks.items first.entry (memory_at activation.old.site state.old.held activation.old.locals.items) units.old) }
+    ensures goes { (model : ModelTree) → AreClasses model basis.entry.classes.now → Finishes result (memory_at activation.new.site state.new.held activation.new.locals.items) units.new (meant model basis.entry.clock (place_of activation.old.site) activation.old.tasks.items first.entry (memory_at activation.old.site state.old.held activation.old.locals.items) units.old) }
     ensures marks { state.new.marks ≡ state.old.marks }
     ensures count { length state.old.held.objects ≤ length state.new.held.objects }
     ensures place { OnOk result (place_of activation.new.site ≡ place_of activation.old.site) }
@@ -171,7 +171,7 @@ fn run<'a>(
 {
     let mut control = first;
     'units: loop {
-        match count_one(setting, state, units, activation, callers, control) {
+        match count_one(basis, state, units, activation, callers, control) {
             Ok(Progress::On(next)) => control = next,
             Ok(Progress::Over(finish)) => return Ok(finish),
             Err(stop) => return Err(stop),
@@ -182,25 +182,25 @@ fn run<'a>(
 /// Evaluates an expression of a method of the process whose locals are those of this frame. Units are
 /// counted down; effects stay, whatever comes of it.
 pub fn evaluate(
-    setting: Setting<'_>,
+    basis: Basis<'_>,
     state: &mut State,
     units: &mut u64,
     frame: FrameId,
     depth: u32,
     code: &Code,
 ) -> Result<Finish, Stop>
-    requires { AreKnown setting.classes.now }
-    ensures goes { (model : ModelTree) → AreClasses model setting.entry.classes.now → Finishes result (outside state.new.held) units.new (evaluated model setting.entry.clock depth (in_process frame.0) (view code.now) (outside state.old.held) units.old) }
+    requires { AreKnown basis.classes.now }
+    ensures goes { (model : ModelTree) → AreClasses model basis.entry.classes.now → Finishes result (outside state.new.held) units.new (evaluated model basis.entry.clock depth (in_process frame.0) (view code.now) (outside state.old.held) units.old) }
     ensures marks { state.new.marks ≡ state.old.marks }
     ensures count { length state.old.held.objects ≤ length state.new.held.objects }
     ensures within { IfOk result (FinishWithin (length state.new.held.objects)) }
 {
     let mut activation = Activation {
         site: Site::Process(frame),
-        locals: Vec::new(setting.alloc),
-        tasks: Vec::new(setting.alloc),
+        locals: Vec::new(basis.alloc),
+        tasks: Vec::new(basis.alloc),
     };
-    let mut callers = Vec::new(setting.alloc);
+    let mut callers = Vec::new(basis.alloc);
     let first = Control::Evaluate { depth, code };
-    run(setting, state, units, &mut activation, &mut callers, first)
+    run(basis, state, units, &mut activation, &mut callers, first)
 }

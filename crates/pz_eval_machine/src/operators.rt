@@ -4,7 +4,7 @@ ghost use Rattle.std.specs.Prelude.{◌≡◌, ◌+◌, ◌<◌, ℕ, List, leng
 ghost use Rattle.pz_syntax.specs.Classes.{ModelTree};
 ghost use Rattle.pz_value.specs.declared.value.Value.{Value as Values};
 ghost use Rattle.pz_state.specs.References.{RefersWithin};
-ghost use Rattle.pz_eval_rules.specs.Memories.{Memory, Place};
+ghost use Rattle.pz_eval_rules.specs.Memories.{Memory, Location};
 ghost use Rattle.pz_eval_rules.specs.Steps.{applied};
 ghost use Rattle.pz_eval_rules.specs.devices.Computed.{and_then, follow, tick as ticked, operators, evaluated};
 ghost use Rattle.pz_eval_operations.specs.devices.Sites.{place_of, memory_of};
@@ -30,7 +30,7 @@ fn more_operators<'a>(
     value: Value,
     links: &'a [CodeLink],
 ) -> Result<Control<'a>, Stop>
-    ensures goes { (model : ModelTree) (now : ℕ) (p : Place) (m : Memory) (r : ℕ) → Goes (λ c. meant model now p tasks.new.items c m r) result r (and_then (operators model now (evaluated model now depth) p value (links_view links.now) m r) (pending model now p tasks.old.items)) }
+    ensures goes { (model : ModelTree) (now : ℕ) (p : Location) (m : Memory) (r : ℕ) → Goes (λ c. meant model now p tasks.new.items c m r) result r (and_then (operators model now (evaluated model now depth) p value (links_view links.now) m r) (pending model now p tasks.old.items)) }
     ensures within { IfOk result (λ c. (count : ℕ) → RefersWithin count value → All (TaskWithin count) tasks.old.items → All (TaskWithin count) tasks.new.items × ControlWithin count c) }
 {
     if links.is_empty() {
@@ -54,7 +54,7 @@ pub(crate) fn operate<'a>(
 ) -> Result<Control<'a>, Stop>
     requires left { RefersWithin (length state.old.held.objects) left }
     requires right { RefersWithin (length state.old.held.objects) right }
-    ensures goes { (model : ModelTree) (now : ℕ) (p : Place) (locals : List Values) → Goes (λ c. meant model now p tasks.new.items c (record { state = state.new.held; locals = locals }) units.new) result units.new (and_then (ticked (λ m r. follow (applied link.now.op link.now.pos left right m) r (λ z. operators model now (evaluated model now depth) p z (links_view rest.now))) (record { state = state.old.held; locals = locals }) units.old) (pending model now p tasks.old.items)) }
+    ensures goes { (model : ModelTree) (now : ℕ) (p : Location) (locals : List Values) → Goes (λ c. meant model now p tasks.new.items c (record { state = state.new.held; locals = locals }) units.new) result units.new (and_then (ticked (λ m r. follow (applied link.now.op link.now.pos left right m) r (λ z. operators model now (evaluated model now depth) p z (links_view rest.now))) (record { state = state.old.held; locals = locals }) units.old) (pending model now p tasks.old.items)) }
     ensures marks { state.new.marks ≡ state.old.marks }
     ensures count { length state.new.held.objects ≡ length state.old.held.objects }
     ensures within { IfOk result (λ c. All (TaskWithin (length state.old.held.objects)) tasks.old.items → All (TaskWithin (length state.new.held.objects)) tasks.new.items × ControlWithin (length state.new.held.objects) c) }

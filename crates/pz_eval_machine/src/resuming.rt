@@ -5,7 +5,7 @@ ghost use Rattle.pz_syntax.specs.Classes.{ModelTree};
 ghost use Rattle.pz_classes_code.specs.CodeView.{list_view};
 ghost use Rattle.pz_value.specs.declared.value.Value.{Value as Values};
 ghost use Rattle.pz_state.specs.References.{RefersWithin};
-ghost use Rattle.pz_eval_rules.specs.Memories.{Place};
+ghost use Rattle.pz_eval_rules.specs.Memories.{Location};
 ghost use Rattle.pz_eval_rules.specs.Memories as memories;
 ghost use Rattle.pz_eval_rules.specs.Answers.{gives};
 ghost use Rattle.pz_eval_rules.specs.Steps as steps;
@@ -19,12 +19,12 @@ ghost use Rattle.pz_eval_operations.specs.devices.Within.{RequestWithin, TaskWit
 ghost use Rattle.pz_eval_machine.specs.devices.Within.{ControlWithin};
 ghost use Rattle.pz_eval_machine.specs.devices.Weights.{list_weight, task_weight, tasks_weight, control_weight, load, Falls, NoMore};
 
+use crate::basis::Basis;
 use crate::beginning::give;
 use crate::choosing::{choose, go_on_turns, turn_or_end};
 use crate::continuing::{add_argument, go_on_arguments, go_on_selectors, run_list};
 use crate::control::Control;
 use crate::operators::{go_on_operators, operate};
-use crate::setting::Setting;
 use pz_classes_code::{Code, Slot};
 use pz_eval_operations::{Activation, Request, Stop, Task, apply, copy, write};
 use pz_state::State;
@@ -41,7 +41,7 @@ fn operate_alone<'a>(
     operand: Value,
 ) -> Result<Control<'a>, Stop>
     requires { RefersWithin (length state.old.held.objects) operand }
-    ensures goes { (model : ModelTree) (now : ℕ) (p : Place) (ks : List Tasks) (locals : List Values) (r : ℕ) → Goes (λ c. meant model now p ks c (record { state = state.new.held; locals = locals }) r) result r (and_then (done (steps.applied_alone op at operand (record { state = state.old.held; locals = locals })) r) (pending model now p ks)) }
+    ensures goes { (model : ModelTree) (now : ℕ) (p : Location) (ks : List Tasks) (locals : List Values) (r : ℕ) → Goes (λ c. meant model now p ks c (record { state = state.new.held; locals = locals }) r) result r (and_then (done (steps.applied_alone op at operand (record { state = state.old.held; locals = locals })) r) (pending model now p ks)) }
     ensures marks { state.new.marks ≡ state.old.marks }
     ensures count { length state.new.held.objects ≡ length state.old.held.objects }
     ensures within { IfOk result (ControlWithin (length state.new.held.objects)) }
@@ -95,7 +95,7 @@ fn take_argument<'a>(
 
 /// A task of the method that runs is resumed with a value.
 pub(crate) fn resume<'a>(
-    setting: Setting<'a>,
+    basis: Basis<'a>,
     state: &mut State,
     units: &mut u64,
     activation: &mut Activation<'a>,
@@ -112,7 +112,7 @@ pub(crate) fn resume<'a>(
     ensures within { IfOk result (λ c. ActivationWithin (length state.new.held.objects) activation.new × ControlWithin (length state.new.held.objects) c) }
     ensures falls { IfOk result (λ c. Falls units.old (task_weight task.entry + tasks_weight activation.old.tasks.items) units.new (load c activation.new.tasks.items)) }
 {
-    let alloc = setting.alloc;
+    let alloc = basis.alloc;
     match task {
         Task::Sequence { depth, rest } => { run_list(state, units, activation, depth, value, rest) }
         Task::Operators { depth, links } => {

@@ -11,7 +11,7 @@ use Rattle.pz_classes_code.specs.declared.code.Code.{Code}
 use Rattle.pz_classes_code.specs.declared.code.CodeForm.TheVariants as form
 use Rattle.pz_classes_code.specs.declared.code.CodeLink.{CodeLink}
 use Rattle.pz_classes_code.specs.CodeView.{Tree, view}
-use Rattle.pz_eval_rules.specs.Memories.{Memory, Place, read, self_at, write}
+use Rattle.pz_eval_rules.specs.Memories.{Memory, Location, read, self_at, write}
 use Rattle.pz_eval_rules.specs.Steps.{constant}
 use Rattle.pz_eval_rules.specs.devices.Computed.{operators, evaluated, step}
 use Rattle.pz_eval_operations.specs.devices.Views.{links_view}
@@ -23,7 +23,7 @@ pub some_weaker : {T : Type 0} (r : Option T) (P Q : T → Type 0) → ((x : T) 
 some_weaker None P Q weaker h = tt
 some_weaker (Some x) P Q weaker h = weaker x h
 
-module _ (p : Place) (m : Memory) (c : Code) (y : Value) where
+module _ (p : Location) (m : Memory) (c : Code) (y : Value) where
   pub literal_worth : (x : Literal) → c.form ≡ form.Lit x → y ≡ constant x → IsWorth p m (view c) y
   unfolding evaluated step
   literal_worth x is e model now d r = rw (code_is c, is, literal_view x c.pos, e) refl
@@ -40,14 +40,14 @@ pub chain_is : (c first first1 : Code) (links links1 : List CodeLink) → c.form
 chain_is c first first1 links links1 is e l = rw (code_is c, is, chain_view first links c.pos, e, l) refl
 
 -- an operator between two numbers
-pub numbers_worth : (p : Place) (m : Memory) (t : Tree) (link : CodeLink) (rest links : List CodeLink) (a b : ℤ) (y : Value)
+pub numbers_worth : (p : Location) (m : Memory) (t : Tree) (link : CodeLink) (rest links : List CodeLink) (a b : ℤ) (y : Value)
     → links ≡ link ∷ rest → rest ≡ [] → IsWorth p m t (Int a) → IsWorth p m (view link.operand) (Int b) → Gives link.op (Int a) (Int b) y
     → (at : Pos) → IsWorthThree p m (chain at t (links_view links)) y
 unfolding evaluated step operators
 numbers_worth p m t link rest links a b y e none left right gives_is at model now d r =
     rw (e, none, link_is link, left model now d (suc (suc r)), right model now d (suc r), gives_is link.pos m) refl
 
-module _ (p : Place) (m : Memory) (t : Tree) (y : Value) where
+module _ (p : Location) (m : Memory) (t : Tree) (y : Value) where
   pub worth_found : (d u u1 : ℕ) → 0 < d → u ≡ suc u1 → IsWorth p m t y → Attempt d p m t u u1 (Some y)
   worth_found zero u u1 deep e worth = absurd (omega arith)
   worth_found (suc d) u u1 deep e worth = (omega (arith, e), λ model now. rw e (worth model now d u1))
@@ -62,7 +62,7 @@ nothing_left [] e = refl
 nothing_left (x ∷ xs) e = absurd (omega arith)
 
 -- an assignment of what is found at once
-pub assigned_found : (p : Place) (m m1 : Memory) (c t t1 : Code) (x : Slot) (y z : Value) (d d1 u u1 u2 : ℕ)
+pub assigned_found : (p : Location) (m m1 : Memory) (c t t1 : Code) (x : Slot) (y z : Value) (d d1 u u1 u2 : ℕ)
     → c.form ≡ form.Assign x t → t1 ≡ t → d ≡ suc d1 → u ≡ suc u1 → z ≡ y → m1 ≡ write p x y m → Attempt d1 p m (view t1) u1 u2 (Some y)
     → Assigned d p (view c) m u m1 u2 (Some z)
 unfolding evaluated step

@@ -7,13 +7,13 @@ use Rattle.pz_value.specs.declared.value.ClassId.{ClassId}
 use Rattle.pz_value.specs.declared.value.Value.{Value}
 use Rattle.pz_classes_code.specs.declared.slot.Slot.{Slot}
 use Rattle.pz_classes_code.specs.CodeView.{Tree}
-use Rattle.pz_eval_rules.specs.Memories.{Memory, Place}
+use Rattle.pz_eval_rules.specs.Memories.{Memory, Location}
 use Rattle.pz_eval_rules.specs.Answers.{Answer, gives}
 use Rattle.pz_eval_rules.specs.Steps.{Codes}
 use Rattle.pz_eval_rules.specs.Evaluation.{Evaluates, a_constant, a_variable, itself, the_time, a_new, in_brackets, a_chain, a_chain_stops, some_sends, some_sends_stop, a_unary, a_unary_stops, an_assignment, an_assignment_stops, a_return, a_return_stops, an_if, an_if_wrong, an_if_stops, a_while, InSequence, no_more, one_more, one_stops, Arguments, no_argument, an_argument, an_argument_stops, Operators, no_operator, an_operator, an_operator_wrong, an_operand_stops, Selectors, no_selector, an_answer, an_answer_wrong, a_method, a_method_wrong, arguments_stop, Turns, a_turn, a_turn_stops, over, a_test_wrong, a_test_stops}
 use Rattle.pz_eval_rules.specs.devices.Computed.{done, sequence, arguments, operators, replied, selectors, going, turns, step, evaluated}
 
-deep : {model : ModelTree} {now : ℕ} {p : Place} {m : Memory} {t : Tree} {a : Answer Value} {u d : ℕ} → Evaluates model now p m t a u d → 1 ≤ d
+deep : {model : ModelTree} {now : ℕ} {p : Location} {m : Memory} {t : Tree} {a : Answer Value} {u d : ℕ} → Evaluates model now p m t a u d → 1 ≤ d
 deep a_constant = omega arith
 deep a_variable = omega arith
 deep itself = omega arith
@@ -35,7 +35,7 @@ deep (an_if_wrong h q) = omega arith
 deep (an_if_stops h) = omega arith
 deep (a_while h) = omega arith
 
-costs : {model : ModelTree} {now : ℕ} {p : Place} {m : Memory} {at : Pos} {t : Tree} {ts : Codes} {a : Answer Value} {u d : ℕ} → Turns model now p m at t ts a u d → 1 ≤ u
+costs : {model : ModelTree} {now : ℕ} {p : Location} {m : Memory} {at : Pos} {t : Tree} {ts : Codes} {a : Answer Value} {u d : ℕ} → Turns model now p m at t ts a u d → 1 ≤ u
 costs (a_turn h q k z) = omega arith
 costs (a_turn_stops h q k) = omega arith
 costs (over h q) = omega arith
@@ -45,7 +45,7 @@ costs (a_test_stops h) = omega arith
 mutual
   unfolding evaluated step sequence arguments operators replied selectors going turns
 
-  pub evaluates_done : {model : ModelTree} {now : ℕ} {p : Place} {m : Memory} {t : Tree} {a : Answer Value} {u d : ℕ}
+  pub evaluates_done : {model : ModelTree} {now : ℕ} {p : Location} {m : Memory} {t : Tree} {a : Answer Value} {u d : ℕ}
       → Evaluates model now p m t a u d → (D B r : ℕ) → d ≤ D → B ≡ u + r → evaluated model now D p t m B ≡ done a r
   evaluates_done h zero B r le e = let k = deep h in absurd (omega arith)
   evaluates_done a_constant (suc D) B r le e = let b : B ≡ suc r = omega arith in rw b refl
@@ -69,26 +69,26 @@ mutual
   evaluates_done (an_if_stops {u = u} h) (suc D) B r le e = let b : B ≡ suc (u + r) = omega arith in rw b (rw (evaluates_done h D (u + r) r (omega arith) refl) refl)
   evaluates_done (a_while h) (suc D) B r le e = turns_done h D B B r (omega arith) (omega arith) e
 
-  pub sequence_done : {model : ModelTree} {now : ℕ} {p : Place} {m : Memory} {y : Value} {ts : Codes} {a : Answer Value} {u d : ℕ}
+  pub sequence_done : {model : ModelTree} {now : ℕ} {p : Location} {m : Memory} {y : Value} {ts : Codes} {a : Answer Value} {u d : ℕ}
       → InSequence model now p m y ts a u d → (D B r : ℕ) → d ≤ D → B ≡ u + r → sequence model now (evaluated model now D) p y ts m B ≡ done a r
   sequence_done (no_more {m = m} {y = y}) D B r le e = ap (done (gives y m)) (omega arith)
   sequence_done (one_more {u2 = u2} h k) D B r le e = rw (evaluates_done h D B (u2 + r) (omega arith) (omega arith)) (sequence_done k D (u2 + r) r (omega arith) refl)
   sequence_done (one_stops h) D B r le e = rw (evaluates_done h D B r le e) refl
 
-  pub arguments_done : {model : ModelTree} {now : ℕ} {p : Place} {m : Memory} {ys : List Value} {ts : Codes} {a : Answer (List Value)} {u d : ℕ}
+  pub arguments_done : {model : ModelTree} {now : ℕ} {p : Location} {m : Memory} {ys : List Value} {ts : Codes} {a : Answer (List Value)} {u d : ℕ}
       → Arguments model now p m ys ts a u d → (D B r : ℕ) → d ≤ D → B ≡ u + r → arguments model now (evaluated model now D) p ys ts m B ≡ done a r
   arguments_done (no_argument {m = m} {ys = ys}) D B r le e = ap (done (gives ys m)) (omega arith)
   arguments_done (an_argument {u2 = u2} h k) D B r le e = rw (evaluates_done h D B (u2 + r) (omega arith) (omega arith)) (arguments_done k D (u2 + r) r (omega arith) refl)
   arguments_done (an_argument_stops h) D B r le e = rw (evaluates_done h D B r le e) refl
 
-  pub operators_done : {model : ModelTree} {now : ℕ} {p : Place} {m : Memory} {y : Value} {ls : Links Slot ClassId} {a : Answer Value} {u d : ℕ}
+  pub operators_done : {model : ModelTree} {now : ℕ} {p : Location} {m : Memory} {y : Value} {ls : Links Slot ClassId} {a : Answer Value} {u d : ℕ}
       → Operators model now p m y ls a u d → (D B r : ℕ) → d ≤ D → B ≡ u + r → operators model now (evaluated model now D) p y ls m B ≡ done a r
   operators_done (no_operator {m = m} {y = y}) D B r le e = ap (done (gives y m)) (omega arith)
   operators_done (an_operator {u2 = u2} h q k) D B r le e = rw (evaluates_done h D B (suc (u2 + r)) (omega arith) (omega arith)) (rw q (operators_done k D (u2 + r) r (omega arith) refl))
   operators_done (an_operator_wrong h q) D B r le e = rw (evaluates_done h D B (suc r) (omega arith) (omega arith)) (rw q refl)
   operators_done (an_operand_stops h) D B r le e = rw (evaluates_done h D B r le e) refl
 
-  pub selectors_done : {model : ModelTree} {now : ℕ} {p : Place} {m : Memory} {y : Value} {ss : Sendings Slot ClassId} {a : Answer Value} {u d : ℕ}
+  pub selectors_done : {model : ModelTree} {now : ℕ} {p : Location} {m : Memory} {y : Value} {ss : Sendings Slot ClassId} {a : Answer Value} {u d : ℕ}
       → Selectors model now p m y ss a u d → (D B r : ℕ) → d ≤ D → B ≡ u + r → selectors model now (evaluated model now D) p y ss m B ≡ done a r
   selectors_done (no_selector {m = m} {y = y}) D B r le e = ap (done (gives y m)) (omega arith)
   selectors_done (an_answer {u2 = u2} h q k) D B r le e = rw (arguments_done h D B (suc (u2 + r)) (omega arith) (omega arith)) (rw q (selectors_done k D (u2 + r) r (omega arith) refl))
@@ -99,7 +99,7 @@ mutual
       (rw (q, sequence_done k D (u2 + r) r (omega arith) refl, w) refl)
   selectors_done (arguments_stop h) D B r le e = rw (arguments_done h D B r le e) refl
 
-  pub turns_done : {model : ModelTree} {now : ℕ} {p : Place} {m : Memory} {at : Pos} {t : Tree} {ts : Codes} {a : Answer Value} {u d : ℕ}
+  pub turns_done : {model : ModelTree} {now : ℕ} {p : Location} {m : Memory} {at : Pos} {t : Tree} {ts : Codes} {a : Answer Value} {u d : ℕ}
       → Turns model now p m at t ts a u d → (D n B r : ℕ) → d ≤ D → B ≤ n → B ≡ u + r → turns model now (evaluated model now D) n p at t ts m B ≡ done a r
   turns_done h D zero B r le lt e = let k = costs h in absurd (omega arith)
   turns_done (a_turn {u1 = u1} {u2 = u2} {u3 = u3} h q k z) D (suc n) B r le lt e = let b : B ≡ suc (u1 + (u2 + (u3 + r))) = omega arith in rw b (rw (evaluates_done h D (u1 + (u2 + (u3 + r))) (u2 + (u3 + r)) (omega arith) refl, q, sequence_done k D (u2 + (u3 + r)) (u3 + r) (omega arith) refl) (turns_done z D n (u3 + r) r (omega arith) (omega arith) refl))

@@ -10,7 +10,7 @@ use Rattle.pz_value.specs.declared.value.Value.TheVariants.{Nil}
 use Rattle.pz_classes_code.specs.declared.slot.Slot.{Slot}
 use Rattle.pz_classes_code.specs.CodeView.{Tree}
 use Rattle.pz_state.specs.declared.fault.FaultKind.TheVariants.{NotBoolean}
-use Rattle.pz_eval_rules.specs.Memories.{Memory, Place, in_object, read, write, self_at, started}
+use Rattle.pz_eval_rules.specs.Memories.{Memory, Location, in_object, read, write, self_at, started}
 use Rattle.pz_eval_rules.specs.Answers.{Stop, ends, fault, Answer, gives, stops, ended}
 use Rattle.pz_eval_rules.specs.Steps.{Codes, constant, time, created, truth, chosen, applied, applied_alone, Reply, answers, runs, reply}
 use Rattle.pz_eval_rules.specs.Evaluation.{arguments_of, Evaluates, a_constant, a_variable, itself, the_time, a_new, in_brackets, a_chain, a_chain_stops, some_sends, some_sends_stop, a_unary, a_unary_stops, an_assignment, an_assignment_stops, a_return, a_return_stops, an_if, an_if_wrong, an_if_stops, a_while, InSequence, no_more, one_more, one_stops, Arguments, no_argument, an_argument, an_argument_stops, Operators, no_operator, an_operator, an_operator_wrong, an_operand_stops, Selectors, no_selector, an_answer, an_answer_wrong, a_method, a_method_wrong, arguments_stop, Turns, a_turn, a_turn_stops, over, a_test_wrong, a_test_stops}
@@ -55,29 +55,29 @@ at_same (reached {a = a} {r = r} h) go = reached (go a r h)
 at_same nothing go = nothing
 
 module _ (model : ModelTree) (now D : ℕ) where
-  abbrev pub IsEvaluation : Place → Tree → Memory → ℕ → Answer Value → ℕ → Type 0
+  abbrev pub IsEvaluation : Location → Tree → Memory → ℕ → Answer Value → ℕ → Type 0
   IsEvaluation p t m B a r = Derived D B r (Evaluates model now p m t a)
 
-  abbrev IsSequence : Place → Value → Codes → Memory → ℕ → Answer Value → ℕ → Type 0
+  abbrev IsSequence : Location → Value → Codes → Memory → ℕ → Answer Value → ℕ → Type 0
   IsSequence p y ts m B a r = Derived D B r (InSequence model now p m y ts a)
 
-  abbrev pub AreArguments : Place → List Value → Codes → Memory → ℕ → Answer (List Value) → ℕ → Type 0
+  abbrev pub AreArguments : Location → List Value → Codes → Memory → ℕ → Answer (List Value) → ℕ → Type 0
   AreArguments p ys ts m B a r = Derived D B r (Arguments model now p m ys ts a)
 
-  abbrev AreOperators : Place → Value → Links Slot ClassId → Memory → ℕ → Answer Value → ℕ → Type 0
+  abbrev AreOperators : Location → Value → Links Slot ClassId → Memory → ℕ → Answer Value → ℕ → Type 0
   AreOperators p y ls m B a r = Derived D B r (Operators model now p m y ls a)
 
-  abbrev AreSelectors : Place → Value → Sendings Slot ClassId → Memory → ℕ → Answer Value → ℕ → Type 0
+  abbrev AreSelectors : Location → Value → Sendings Slot ClassId → Memory → ℕ → Answer Value → ℕ → Type 0
   AreSelectors p y ss m B a r = Derived D B r (Selectors model now p m y ss a)
 
-  abbrev AreTurns : Place → Pos → Tree → Codes → Memory → ℕ → Answer Value → ℕ → Type 0
+  abbrev AreTurns : Location → Pos → Tree → Codes → Memory → ℕ → Answer Value → ℕ → Type 0
   AreTurns p at t ts m B a r = Derived D B r (Turns model now p m at t ts a)
 
-  abbrev inner : Place → Tree → Computation Value
+  abbrev inner : Location → Tree → Computation Value
   inner = evaluated model now D
 
-  module _ (below : (p : Place) (t : Tree) (m : Memory) (B : ℕ) → Each (IsEvaluation p t m B) (inner p t m B)) where
-    pub sequence_sound : (p : Place) (y : Value) (ts : Codes) (m : Memory) (B : ℕ) → Each (IsSequence p y ts m B) (sequence model now inner p y ts m B)
+  module _ (below : (p : Location) (t : Tree) (m : Memory) (B : ℕ) → Each (IsEvaluation p t m B) (inner p t m B)) where
+    pub sequence_sound : (p : Location) (y : Value) (ts : Codes) (m : Memory) (B : ℕ) → Each (IsSequence p y ts m B) (sequence model now inner p y ts m B)
     unfolding sequence
     sequence_sound p y none m B = reached (record { units = 0; depth = 0; proof = no_more; deep = omega arith; paid = omega arith })
     sequence_sound p y (more t ts) m B = at_then (λ z. sequence model now inner p z ts) (below p t m B)
@@ -85,7 +85,7 @@ module _ (model : ModelTree) (now D : ℕ) where
         (λ a r2 k. record { units = h.units + k.units; depth = max h.depth k.depth; proof = one_more h.proof k.proof; deep = omega arith; paid = omega arith }))
         (λ e r1 h. record { units = h.units; depth = h.depth; proof = one_stops h.proof; deep = h.deep; paid = h.paid })
 
-    pub arguments_sound : (p : Place) (ys : List Value) (ts : Codes) (m : Memory) (B : ℕ) → Each (AreArguments p ys ts m B) (arguments model now inner p ys ts m B)
+    pub arguments_sound : (p : Location) (ys : List Value) (ts : Codes) (m : Memory) (B : ℕ) → Each (AreArguments p ys ts m B) (arguments model now inner p ys ts m B)
     unfolding arguments
     arguments_sound p ys none m B = reached (record { units = 0; depth = 0; proof = no_argument; deep = omega arith; paid = omega arith })
     arguments_sound p ys (more t ts) m B = at_then (λ y. arguments model now inner p (ys ++ y ∷ []) ts) (below p t m B)
@@ -93,7 +93,7 @@ module _ (model : ModelTree) (now D : ℕ) where
         (λ a r2 k. record { units = h.units + k.units; depth = max h.depth k.depth; proof = an_argument h.proof k.proof; deep = omega arith; paid = omega arith }))
         (λ e r1 h. record { units = h.units; depth = h.depth; proof = an_argument_stops h.proof; deep = h.deep; paid = h.paid })
 
-    operators_sound : (p : Place) (y : Value) (ls : Links Slot ClassId) (m : Memory) (B : ℕ) → Each (AreOperators p y ls m B) (operators model now inner p y ls m B)
+    operators_sound : (p : Location) (y : Value) (ls : Links Slot ClassId) (m : Memory) (B : ℕ) → Each (AreOperators p y ls m B) (operators model now inner p y ls m B)
     unfolding operators
     operators_sound p y no_links m B = reached (record { units = 0; depth = 0; proof = no_operator; deep = omega arith; paid = omega arith })
     operators_sound p y (link op at t ls) m B =
@@ -106,7 +106,7 @@ module _ (model : ModelTree) (now D : ℕ) where
         (λ e r1 h. record { units = h.units; depth = h.depth; proof = an_operand_stops h.proof; deep = h.deep; paid = h.paid })
 
     -- what comes after the arguments
-    module _ (p : Place) (y : Value) (selector : Id) (args : Part Slot ClassId) (ss : Sendings Slot ClassId) (m : Memory) (B : ℕ)
+    module _ (p : Location) (y : Value) (selector : Id) (args : Part Slot ClassId) (ss : Sendings Slot ClassId) (m : Memory) (B : ℕ)
         (rest : (z : Value) (m1 : Memory) (r1 : ℕ) → Each (AreSelectors p z ss m1 r1) (selectors model now inner p z ss m1 r1))
         (ws : List Value) (m1 : Memory) (r1 r2 : ℕ) (h : AreArguments p [] (arguments_of args) m B (gives ws m1) r1) (g : r1 ≡ suc r2) where
       answer_sound : (a : Answer Value) → reply model y selector ws m1 ≡ answers a
@@ -131,7 +131,7 @@ module _ (model : ModelTree) (now D : ℕ) where
       reply_sound (answers a) q = answer_sound a q
       reply_sound (runs o count body) q = body_sound o count body q (sequence_sound (in_object o) Nil body (started count ws m1) r2)
 
-    selectors_sound : (p : Place) (y : Value) (ss : Sendings Slot ClassId) (m : Memory) (B : ℕ) → Each (AreSelectors p y ss m B) (selectors model now inner p y ss m B)
+    selectors_sound : (p : Location) (y : Value) (ss : Sendings Slot ClassId) (m : Memory) (B : ℕ) → Each (AreSelectors p y ss m B) (selectors model now inner p y ss m B)
     unfolding selectors
     selectors_sound p y no_sendings m B = reached (record { units = 0; depth = 0; proof = no_selector; deep = omega arith; paid = omega arith })
     selectors_sound p y (sending selector args ss) m B =
@@ -140,7 +140,7 @@ module _ (model : ModelTree) (now D : ℕ) where
         (λ r2 g. reply_sound p y selector args ss m B (λ z. selectors_sound p z ss) ws m1 r1 r2 h g (reply model y selector ws m1) refl))
         (λ e r1 h. record { units = h.units; depth = h.depth; proof = arguments_stop h.proof; deep = h.deep; paid = h.paid })
 
-    going_sound : (n : ℕ) (p : Place) (at : Pos) (t : Tree) (ts : Codes) (m : Memory) (B B1 : ℕ)
+    going_sound : (n : ℕ) (p : Location) (at : Pos) (t : Tree) (ts : Codes) (m : Memory) (B B1 : ℕ)
         → ((m1 : Memory) (r1 : ℕ) → Each (AreTurns p at t ts m1 r1) (turns model now inner n p at t ts m1 r1)) → B ≡ suc B1
         → (y : Value) (m1 : Memory) (r1 : ℕ) → IsEvaluation p t m B1 (gives y m1) r1 → (b : Bool) → truth y ≡ Some b
         → Each (AreTurns p at t ts m B) (going model now inner p ts (turns model now inner n p at t ts) b m1 r1)
@@ -152,7 +152,7 @@ module _ (model : ModelTree) (now D : ℕ) where
     going_sound n p at t ts m B B1 rest g y m1 r1 h false q =
         reached (record { units = suc h.units; depth = h.depth; proof = over h.proof q; deep = h.deep; paid = omega arith })
 
-    turns_sound : (n : ℕ) (p : Place) (at : Pos) (t : Tree) (ts : Codes) (m : Memory) (B : ℕ) → Each (AreTurns p at t ts m B) (turns model now inner n p at t ts m B)
+    turns_sound : (n : ℕ) (p : Location) (at : Pos) (t : Tree) (ts : Codes) (m : Memory) (B : ℕ) → Each (AreTurns p at t ts m B) (turns model now inner n p at t ts m B)
     unfolding turns
     turns_sound zero p at t ts m B = nothing
     turns_sound (suc n) p at t ts m B =
@@ -164,11 +164,11 @@ module _ (model : ModelTree) (now D : ℕ) where
         (λ e r1 h. record { units = suc h.units; depth = h.depth; proof = a_test_stops h.proof; deep = h.deep; paid = omega arith }))
 
   -- one step further out
-  abbrev IsOuter : Place → Tree → Memory → ℕ → Answer Value → ℕ → Type 0
+  abbrev IsOuter : Location → Tree → Memory → ℕ → Answer Value → ℕ → Type 0
   IsOuter p t m B a r = Derived (suc D) B r (Evaluates model now p m t a)
 
-  module _ (below : (p : Place) (t : Tree) (m : Memory) (B : ℕ) → Each (IsEvaluation p t m B) (inner p t m B)) where
-    step_sound : (p : Place) (t : Tree) (m : Memory) (B : ℕ) → Each (IsOuter p t m B) (step model now inner p t m B)
+  module _ (below : (p : Location) (t : Tree) (m : Memory) (B : ℕ) → Each (IsEvaluation p t m B) (inner p t m B)) where
+    step_sound : (p : Location) (t : Tree) (m : Memory) (B : ℕ) → Each (IsOuter p t m B) (step model now inner p t m B)
     unfolding step
     step_sound p (literal at x) m B = at_tick (λ m1 r1. done (gives (constant x) m1) r1) m B (λ r g. reached (record { units = 1; depth = 1; proof = a_constant; deep = omega arith; paid = omega arith }))
     step_sound p (variable at x) m B = at_tick (λ m1 r1. done (gives (read p x m1) m1) r1) m B (λ r g. reached (record { units = 1; depth = 1; proof = a_variable; deep = omega arith; paid = omega arith }))
@@ -209,11 +209,11 @@ module _ (model : ModelTree) (now D : ℕ) where
     step_sound p (loop at t ts) m B = at_same (turns_sound below B p at t ts m B)
         (λ a r1 h. record { units = h.units; depth = suc h.depth; proof = a_while h.proof; deep = omega arith; paid = h.paid })
 
-pub evaluated_sound : (model : ModelTree) (now D : ℕ) (p : Place) (t : Tree) (m : Memory) (B : ℕ) → Each (IsEvaluation model now D p t m B) (evaluated model now D p t m B)
+pub evaluated_sound : (model : ModelTree) (now D : ℕ) (p : Location) (t : Tree) (m : Memory) (B : ℕ) → Each (IsEvaluation model now D p t m B) (evaluated model now D p t m B)
 unfolding evaluated
 evaluated_sound model now zero p t m B = nothing
 evaluated_sound model now (suc D) p t m B = step_sound model now D (evaluated_sound model now D) p t m B
 
 -- a list of arguments, which is asked by itself
-pub list_sound : (model : ModelTree) (now D : ℕ) (p : Place) (ys : List Value) (ts : Codes) (m : Memory) (B : ℕ) → Each (AreArguments model now D p ys ts m B) (arguments model now (evaluated model now D) p ys ts m B)
+pub list_sound : (model : ModelTree) (now D : ℕ) (p : Location) (ys : List Value) (ts : Codes) (m : Memory) (B : ℕ) → Each (AreArguments model now D p ys ts m B) (arguments model now (evaluated model now D) p ys ts m B)
 list_sound model now D p ys ts m B = arguments_sound model now D (evaluated_sound model now D) p ys ts m B

@@ -5,7 +5,7 @@ use Rattle.pz_syntax.specs.Classes.{ModelTree}
 use Rattle.pz_value.specs.declared.value.Value.{Value}
 use Rattle.pz_value.specs.declared.value.Value.TheVariants.{Nil}
 use Rattle.pz_classes_code.specs.CodeView.{Tree}
-use Rattle.pz_eval_rules.specs.Memories.{Memory, Place}
+use Rattle.pz_eval_rules.specs.Memories.{Memory, Location}
 use Rattle.pz_eval_rules.specs.Answers.{Answer, gives, stops}
 use Rattle.pz_eval_rules.specs.Steps.{Codes, truth}
 use Rattle.pz_eval_rules.specs.devices.Computed.{Reached, Computation, and_then, tested, going, turns, evaluated}
@@ -22,8 +22,8 @@ same_then n f g (reached {a = gives y m} {r = r} h) same = same y m r h
 same_then n f g (reached {a = stops e} h) same = refl
 same_then n f g nothing same = refl
 
-module _ (model : ModelTree) (now D : ℕ) (p : Place) (at : Pos) (t : Tree) (ts : Codes) where
-  abbrev inner : Place → Tree → Computation Value
+module _ (model : ModelTree) (now D : ℕ) (p : Location) (at : Pos) (t : Tree) (ts : Codes) where
+  abbrev inner : Location → Tree → Computation Value
   inner = evaluated model now D
 
   same_going : (f g : Computation Value) (n : ℕ) → ((m : Memory) (r : ℕ) → r ≤ n → f m r ≡ g m r)

@@ -13,15 +13,15 @@ pub record Memory : Type 0 where
 
 -- Where an expression stands: in a method of the process, whose locals are those of the frame with
 -- this number, or in a method of the object with this number.
-pub data Place : Type 0 where
-  in_process : ℕ → Place
-  in_object : ℕ → Place
+pub data Location : Type 0 where
+  in_process : ℕ → Location
+  in_object : ℕ → Location
 
 abbrev pub with_state : Memory → StateView → Memory
 with_state m s = record { state = s; locals = m.locals }
 
 -- what a variable holds; a slot that is not there holds nil
-abbrev pub read : Place → Slot → Memory → Value
+abbrev pub read : Location → Slot → Memory → Value
 read (in_process frame) (Local i) m = local m.state frame i
 read (in_process frame) (Shared i) m = variable m.state i
 read (in_object r) (Local i) m = value_at m.locals i
@@ -29,7 +29,7 @@ read (in_object r) (Shared i) m = item m.state r i
 read p Unknown m = Nil
 
 -- a variable is given a value; a slot that is not there stays so
-abbrev pub write : Place → Slot → Value → Memory → Memory
+abbrev pub write : Location → Slot → Value → Memory → Memory
 write (in_process frame) (Local i) y m = with_state m (set_local m.state frame i y)
 write (in_process frame) (Shared i) y m = with_state m (set_variable m.state i y)
 write (in_object r) (Local i) y m = record { state = m.state; locals = slice_set m.locals i y }
@@ -37,7 +37,7 @@ write (in_object r) (Shared i) y m = with_state m (set_item m.state r i y)
 write p Unknown y m = m
 
 -- what `self` is; outside the methods of objects there is none
-abbrev pub self_at : Place → Value
+abbrev pub self_at : Location → Value
 self_at (in_object r) = Value.Ref r
 self_at (in_process frame) = Nil
 

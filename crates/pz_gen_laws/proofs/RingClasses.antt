@@ -10,7 +10,7 @@ use Rattle.pz_syntax.specs.declared.classes.Message.{Message}
 use Rattle.pz_syntax.specs.declared.clusters.Instance.{Instance}
 use Rattle.pz_syntax.specs.declared.clusters.SystemDecl.{SystemDecl}
 use Rattle.pz_syntax.specs.Classes.{DeclTree}
-use Rattle.pz_classes_mentions.specs.declared.part.Part.{Part}
+use Rattle.pz_classes_mentions.specs.declared.local_scope.LocalScope.{LocalScope}
 use Rattle.pz_classes_mentions.specs.Declarations.{parts}
 use Rattle.pz_check_violations.specs.declared.violation.Violation.{Violation}
 use Rattle.pz_classes.specs.Numbers.{declared_name, declaration}
@@ -50,7 +50,7 @@ module _ where
   ids_spelled [] = refl
   ids_spelled (i ∷ is) = ap (λ (l : List (List ℕ)). part_name i ∷ l) (ids_spelled is)
 
-  locals_apart : Part → Bool
+  locals_apart : LocalScope → Bool
   locals_apart p = distinct_bytes (spelled p.locals)
 
 module _ (at : ℕ → Pos) (s : SystemDecl) where
@@ -97,7 +97,7 @@ module _ (at : ℕ → Pos) (s : SystemDecl) where
   unfolding message_port
   messages_apart = by_number at s (λ k e. distinct_bytes (map message_port (own_messages e)) ≡ true) refl refl refl
 
-  part_locals : (c : ℕ) (d : DeclTree) (p : Part) → declaration (with_system at s) c ≡ Some d → Contains (parts d) p → distinct_bytes (spelled p.locals) ≡ true
+  part_locals : (c : ℕ) (d : DeclTree) (p : LocalScope) → declaration (with_system at s) c ≡ Some d → Contains (parts d) p → distinct_bytes (spelled p.locals) ≡ true
   unfolding locals_apart
   part_locals c d p declared there = passes_in locals_apart (parts d) p (all_locals_apart c d declared) there
 

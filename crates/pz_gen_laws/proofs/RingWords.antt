@@ -9,7 +9,7 @@ use Rattle.pz_syntax.specs.declared.clusters.Instance.{Instance}
 use Rattle.pz_syntax.specs.declared.clusters.SystemDecl.{SystemDecl}
 use Rattle.pz_syntax.specs.Classes.{DeclTree, process_class, system, ModelTree}
 use Rattle.pz_classes_mentions.specs.declared.mention.Mention.{Mention}
-use Rattle.pz_classes_mentions.specs.declared.part.Part.{Part}
+use Rattle.pz_classes_mentions.specs.declared.local_scope.LocalScope.{LocalScope}
 use Rattle.pz_classes_mentions.specs.Declarations.{parts, mentioned_instance, mentioned_instances}
 use Rattle.pz_check_violations.specs.declared.violation.Violation.{Violation}
 use Rattle.pz_classes.specs.Numbers.{declaration}
@@ -30,7 +30,7 @@ broken m c d locals x =
 abbrev stands : ModelTree → ℕ → DeclTree → List Id → Mention → Bool
 stands m c d locals x = none (broken m c d locals x)
 
-abbrev part_stands : ModelTree → ℕ → DeclTree → Part → Bool
+abbrev part_stands : ModelTree → ℕ → DeclTree → LocalScope → Bool
 part_stands m c d p = list_all (stands m c d p.locals) p.mentions
 
 abbrev all_stand : ModelTree → ℕ → DeclTree → Bool
@@ -61,7 +61,7 @@ module _ (at : ℕ → Pos) (s : SystemDecl) where
     declared_stands : (c : ℕ) (d : DeclTree) → declaration (with_system at s) c ≡ Some d → all_stand (with_system at s) c d ≡ true
     declared_stands = by_number at s (λ c d. all_stand (with_system at s) c d ≡ true) station_stands supervisor_stands system_stands
 
-    word_stands : (c : ℕ) (d : DeclTree) (p : Part) (x : Mention) → Mentions (with_system at s) c d p x → AllByRecursion (λ (b : Bool). b ≡ false) (broken (with_system at s) c d p.locals x)
+    word_stands : (c : ℕ) (d : DeclTree) (p : LocalScope) (x : Mention) → Mentions (with_system at s) c d p x → AllByRecursion (λ (b : Bool). b ≡ false) (broken (with_system at s) c d p.locals x)
     word_stands c d p x there =
         none_holds (broken (with_system at s) c d p.locals x)
         (passes_in (stands (with_system at s) c d p.locals) p.mentions x

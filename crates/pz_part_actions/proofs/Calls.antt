@@ -10,7 +10,7 @@ use Rattle.pz_state.specs.States.{StateView, IsLeastFree}
 use Rattle.pz_state.specs.Marks.{Seen}
 use Rattle.pz_offer.specs.declared.trouble.Trouble.{Trouble}
 use Rattle.pz_rules.specs.Terms.{Codes, Steps, Term, leaf}
-use Rattle.pz_rules.specs.Settings.{At, Process}
+use Rattle.pz_rules.specs.Settings.{Context, Process}
 use Rattle.pz_rules.specs.Meanings.{and_then}
 use Rattle.pz_rules.specs.Evaluations.{GivesAll}
 use Rattle.pz_rules.specs.Methods.{IsMethod}
@@ -18,7 +18,7 @@ use Rattle.pz_rules.specs.InternalActions as actions
 use Rattle.pz_rules.specs.InternalActions.{entered, Performs}
 use Rattle.pz_part_actions.specs.devices.Calls.{Enters}
 
-module _ (a : At) (f : ℕ) (at : Pos) (method : Id) (args : Codes) (results : List Slot) (s : Seen) (r : Result (List Value) Trouble) (gives : GivesAll a f at args r s.held)
+module _ (a : Context) (f : ℕ) (at : Pos) (method : Id) (args : Codes) (results : List Slot) (s : Seen) (r : Result (List Value) Trouble) (gives : GivesAll a f at args r s.held)
     (locals : ℕ) (body : Steps) (is_method : IsMethod a.setting.model a.class method.name (how_many args) (length results) locals body) where
   abbrev Called : Result Process Trouble → Type 0
   Called q = Performs a f (leaf (call at method args results)) at q

@@ -23,7 +23,7 @@ use Rattle.pz_copy.specs.declared.unpacking.UnpackError.{UnpackError}
 use Rattle.pz_copy.specs.declared.unpacking.UnpackError.TheVariants as unpacking
 use Rattle.pz_offer.specs.declared.trouble.Trouble.{Trouble}
 use Rattle.pz_rules.specs.Terms.{Code, Term, leaf}
-use Rattle.pz_rules.specs.Settings.{At, Process, in_state}
+use Rattle.pz_rules.specs.Settings.{Context, Process, in_state}
 use Rattle.pz_rules.specs.Slots.{set_slots}
 use Rattle.pz_rules.specs.Meanings.{fault}
 use Rattle.pz_rules.specs.Evaluations.{GivesPart}
@@ -45,7 +45,7 @@ same_values xs ys e = cc
 same_trouble : {A : Type 0} (u v : Trouble) → ◌≡◌ {A = Result A Trouble} (Err u) (Err v) → u ≡ v
 same_trouble u v e = cc
 
-module _ (a : At) (f : ℕ) (at : Pos) (es : Part Slot ClassId) (s : StateView) where
+module _ (a : Context) (f : ℕ) (at : Pos) (es : Part Slot ClassId) (s : StateView) where
   abbrev SomeValues : Type 0
   SomeValues = (values : List Value) × GivesPart a f at es (Ok values) s
 
@@ -64,22 +64,22 @@ module _ (a : At) (f : ℕ) (at : Pos) (es : Part Slot ClassId) (s : StateView) 
       by (Err v) gives means = subst (λ (w : Trouble). GivesPart a f at es (Err w) s) (sym (same_trouble u v means)) gives
 
 -- nothing is written
-pub none_ran : (a : At) (f : ℕ) (at : Pos) (part : Option (List code.Code)) → part ≡ None → Ran a f at (part_view part) (Ok tt) a.state
+pub none_ran : (a : Context) (f : ℕ) (at : Pos) (part : Option (List code.Code)) → part ≡ None → Ran a f at (part_view part) (Ok tt) a.state
 none_ran a f at part none =
     subst (λ (es : Option (List code.Code)). Ran a f at (part_view es) (Ok tt) a.state) (sym none) (record { found = Ok []; gives = (refl, refl); means = refl })
 
-pub run_both : {E : Type 0} (r : Result (Result (Unit {0}) Trouble) E) (a : At) (f : ℕ) (at : Pos) (es fs : Part Slot ClassId) (s left : StateView) (first : Result (Unit {0}) Trouble) (x : Unit {0})
+pub run_both : {E : Type 0} (r : Result (Result (Unit {0}) Trouble) E) (a : Context) (f : ℕ) (at : Pos) (es fs : Part Slot ClassId) (s left : StateView) (first : Result (Unit {0}) Trouble) (x : Unit {0})
     → Ran a f at es first s → first ≡ Ok x → IfOk r (λ end. Ran (in_state a s) f at fs end left) → IfOk r (λ end. RunsBoth a f at es fs end left)
 run_both r a f at es fs s left first x run is =
     let some = ran_well a f at es s first x run is in
     IfOk-weaker r (λ end. Ran (in_state a s) f at fs end left) (λ end. RunsBoth a f at es fs end left) (λ end h. both some.0 s end left some.1 h)
 
-pub run_one : (a : At) (f : ℕ) (at : Pos) (es fs : Part Slot ClassId) (s : StateView) (first : Result (Unit {0}) Trouble) (u : Trouble) → Ran a f at es first s → first ≡ Err u → RunsBoth a f at es fs (Err u) s
+pub run_one : (a : Context) (f : ℕ) (at : Pos) (es fs : Part Slot ClassId) (s : StateView) (first : Result (Unit {0}) Trouble) (u : Trouble) → Ran a f at es first s → first ≡ Err u → RunsBoth a f at es fs (Err u) s
 run_one a f at es fs s first u run is = fails u s (ran_badly a f at es s first u run is)
 
 -- A send
 
-module _ (law : PartsAreComputed) (a : At) (f : ℕ) (parcel : ParcelView) where
+module _ (law : PartsAreComputed) (a : Context) (f : ℕ) (parcel : ParcelView) where
   -- the values are those of the offer
   same_gives : (at : Pos) (args : Part Slot ClassId) (r q : Result (List Value) Trouble) (s t : StateView) → GivesPart a f at args r s → GivesPart a f at args q t → (r ≡ q) × (s ≡ t)
   same_gives at args r q s t x y = let one = law a f at args r s x in let two = law a f at args q t y in (one.0 ∙ sym two.0, one.1 ∙ sym two.1)
@@ -106,7 +106,7 @@ module _ (law : PartsAreComputed) (a : At) (f : ℕ) (parcel : ParcelView) where
 
 -- A receive
 
-module _ (a : At) (f : ℕ) (parcel : ParcelView) (at : Pos) (port : ℕ) (name : Id) (into : Option (List Slot)) (condition : Option Code) (block : Part Slot ClassId) where
+module _ (a : Context) (f : ℕ) (parcel : ParcelView) (at : Pos) (port : ℕ) (name : Id) (into : Option (List Slot)) (condition : Option Code) (block : Part Slot ClassId) where
   abbrev Taken : Result Process Trouble → Type 0
   Taken q = Takes a f parcel (leaf (receive at port name into condition block)) at q
 
@@ -139,7 +139,7 @@ place_of : (at : Pos) (port : ℕ) (name : Id) (into : Option (List Slot)) (cond
     → Receives (leaf (receive at port name into condition block)) pos way message count → at ≡ pos
 place_of at port name into condition block _ _ _ _ (messages.receives _ _ _ _ _ _) = refl
 
-pub receive_taken : {E : Type 0} (r : Result (Result (Unit {0}) Trouble) E) (a : At) (f : ℕ) (parcel : ParcelView) (t : Term) (at : Pos) (port : ℕ) (name : Id) (into : Option (List Slot)) (condition : Option Code) (block : Part Slot ClassId)
+pub receive_taken : {E : Type 0} (r : Result (Result (Unit {0}) Trouble) E) (a : Context) (f : ℕ) (parcel : ParcelView) (t : Term) (at : Pos) (port : ℕ) (name : Id) (into : Option (List Slot)) (condition : Option Code) (block : Part Slot ClassId)
     (pos : Pos) (way : ℕ) (message : List ℕ) (count : ℕ) (left : StateView) → t ≡ leaf (receive at port name into condition block) → Receives t pos way message count
     → IfOk r (λ end. Takes a f parcel (leaf (receive at port name into condition block)) at (done_left left end)) → IfOk r (λ end. Takes a f parcel t pos (done_left left end))
 receive_taken r a f parcel t at port name into condition block pos way message count left is awaits h =

@@ -13,7 +13,7 @@ use Rattle.pz_rules.specs.declared.action.Kind.{Kind}
 use Rattle.pz_rules.specs.declared.term.Term as code
 use Rattle.pz_rules.specs.declared.term.Term.TheVariants as form
 use Rattle.pz_rules.specs.Terms.{Code, Codes, Step, Steps, Term, leaf, wait}
-use Rattle.pz_rules.specs.Settings.{At, Process}
+use Rattle.pz_rules.specs.Settings.{Context, Process}
 use Rattle.pz_rules.specs.Meanings.{and_then, truth}
 use Rattle.pz_rules.specs.Evaluations.{Gives}
 use Rattle.pz_rules.specs.InternalActions as actions
@@ -35,7 +35,7 @@ chained (Err u) g h = refl
 pub done_is : (s : StateView) → Ok (done_in s) ≡ process_left s (Ok form.Done)
 done_is s = ap (λ (t : Term). let r : Result Process Trouble = Ok (left_by s t) in r) (sym shows_Done)
 
-module _ (a : At) (f : ℕ) (at : Pos) where
+module _ (a : Context) (f : ℕ) (at : Pos) where
   abbrev Becomes : Step → Result Process Trouble → Type 0
   Becomes s q = Performs a f (leaf s) at q
 
@@ -96,10 +96,10 @@ module _ (a : At) (f : ℕ) (at : Pos) where
       subst (λ (q : Result Process Trouble). Performs a f (leaf x) at q) (done_is a.state)
       (subst (λ (z : Step). Performs a f (leaf z) at (Ok (done_in a.state))) (sym is) (actions.elapses at e))
 
-expired : {a : At} {f left : ℕ} {kind : Kind} {at pos : Pos} → Can a f (wait left at) kind pos → at ≡ pos
+expired : {a : Context} {f left : ℕ} {kind : Kind} {at pos : Pos} → Can a f (wait left at) kind pos → at ≡ pos
 expired (actions.expires at) = refl
 
-pub wait_performed : (a : At) (f : ℕ) (t : Term) (left : ℕ) (kind : Kind) (pos at : Pos) → t ≡ wait left at → Can a f t kind pos → Performs a f t pos (process_left a.state (Ok form.Done))
+pub wait_performed : (a : Context) (f : ℕ) (t : Term) (left : ℕ) (kind : Kind) (pos at : Pos) → t ≡ wait left at → Can a f t kind pos → Performs a f t pos (process_left a.state (Ok form.Done))
 wait_performed a f t left kind pos at is can =
     let here : at ≡ pos = expired (subst (λ (x : Term). Can a f x kind pos) is can) in
     subst (λ (p : Pos). Performs a f t p (process_left a.state (Ok form.Done))) here

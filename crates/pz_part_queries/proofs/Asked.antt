@@ -14,14 +14,14 @@ use Rattle.pz_eval.specs.Tentative.{WouldFind}
 use Rattle.pz_eval.specs.Parcels as eval
 use Rattle.pz_eval.specs.Parcels.{FindsParcel}
 use Rattle.pz_rules.specs.Terms.{Code, Codes}
-use Rattle.pz_rules.specs.Settings.{At}
+use Rattle.pz_rules.specs.Settings.{Context}
 use Rattle.pz_rules.specs.Meanings.{and_then, truth, duration}
 use Rattle.pz_rules.specs.Evaluations.{allowance, value_or_trouble, Tests, Lasts}
 use Rattle.pz_part_queries.specs.Parcels as asking
 use Rattle.pz_part_queries.specs.Parcels.{Packs}
 use Rattle.pz_part_queries.specs.devices.Outcomes.{parcel_or_trouble}
 
-module _ (a : At) (f : ℕ) (at : Pos) (allowed : Allowance) (is_allowed : allowed ≡ allowance a.setting.limits) where
+module _ (a : Context) (f : ℕ) (at : Pos) (allowed : Allowance) (is_allowed : allowed ≡ allowance a.setting.limits) where
   abbrev Would : Code → Outcome → Allowance → Type 0
   Would e o limit = WouldFind a.setting.model a.clock f a.state e limit o
 
@@ -45,16 +45,16 @@ module _ (a : At) (f : ℕ) (at : Pos) (allowed : Allowance) (is_allowed : allow
       subst (λ (x : Result ParcelView Trouble). Packs a f at (written es) x) (sym is) (packed es p (subst (λ (limit : Allowance). FindsParcel a.setting.model a.clock f a.state es limit p) is_allowed finds))
 
 -- what is not written has no values
-pub nothing_asked : (a : At) (f : ℕ) (at : Pos) (parcel : ParcelView) → IsParcelOf a.state [] parcel → Packs a f at left_out (Ok parcel)
+pub nothing_asked : (a : Context) (f : ℕ) (at : Pos) (parcel : ParcelView) → IsParcelOf a.state [] parcel → Packs a f at left_out (Ok parcel)
 nothing_asked a f at parcel packed = asking.packs [] a.state parcel (refl, refl) packed
 
 -- in the code's words: nothing is written, or a list
 
-pub not_written : (a : At) (f : ℕ) (at : Pos) (args : Option (List code.Code)) (parcel : ParcelView) → args ≡ None → IsParcelOf a.state [] parcel → Packs a f at (part_view args) (Ok parcel)
+pub not_written : (a : Context) (f : ℕ) (at : Pos) (args : Option (List code.Code)) (parcel : ParcelView) → args ≡ None → IsParcelOf a.state [] parcel → Packs a f at (part_view args) (Ok parcel)
 not_written a f at args parcel none packed =
     subst (λ (es : Option (List code.Code)). Packs a f at (part_view es) (Ok parcel)) (sym none) (nothing_asked a f at parcel packed)
 
-pub list_written : (a : At) (f : ℕ) (at : Pos) (args : Option (List code.Code)) (codes slice : List code.Code) (r : Result ParcelView Trouble) → args ≡ Some codes → slice ≡ codes
+pub list_written : (a : Context) (f : ℕ) (at : Pos) (args : Option (List code.Code)) (codes slice : List code.Code) (r : Result ParcelView Trouble) → args ≡ Some codes → slice ≡ codes
     → Packs a f at (written (list_view slice)) r → Packs a f at (part_view args) r
 list_written a f at args codes slice r some same is =
     subst (λ (es : Option (List code.Code)). Packs a f at (part_view es) r) (sym some) (subst (λ (es : List code.Code). Packs a f at (written (list_view es)) r) same is)

@@ -6,7 +6,7 @@ use Rattle.pz_rules.specs.declared.term.Term.{Term}
 use Rattle.pz_rules.specs.Terms as terms
 use Rattle.pz_rules.specs.Terms.{frame_in, first_or, term_at, count, child}
 use Rattle.pz_rules.specs.View.{term_view, terms_view}
-use Rattle.pz_rules.specs.Settings.{At}
+use Rattle.pz_rules.specs.Settings.{Context}
 use Rattle.pz_rules.specs.Active as active
 use Rattle.pz_rules.specs.Active.{Active}
 use Rattle.pz_rules.specs.Places.{MayAct}
@@ -24,21 +24,21 @@ term_at_is (x ∷ xs) (suc i) t within is = term_at_is xs i t (omega (arith, wit
 
 -- Down a place
 
-inside_is : (a : At) (f : ℕ) (t : terms.Term) (whole : Place) (g : ℕ) (x : terms.Term) (i : ℕ) (place : Place) → Active a f t whole g x → whole ≡ i ∷ place → Active a (frame_in t f) (child t i) place g x
+inside_is : (a : Context) (f : ℕ) (t : terms.Term) (whole : Place) (g : ℕ) (x : terms.Term) (i : ℕ) (place : Place) → Active a f t whole g x → whole ≡ i ∷ place → Active a (frame_in t f) (child t i) place g x
 inside_is a _ _ _ _ _ i place (active.here f t) is = cc
 inside_is a _ _ _ _ _ i place (active.inside f t j rest g x r k) is =
     let number : j ≡ i = cc in
     let behind : rest ≡ place = cc in
     subst (λ (n : ℕ). Active a (frame_in t f) (child t n) place g x) number (subst (λ (p : Place). Active a (frame_in t f) (child t j) p g x) behind k)
 
-at_end : (a : At) (f : ℕ) (t : terms.Term) (whole : Place) (g : ℕ) (x : terms.Term) → Active a f t whole g x → whole ≡ [] → (f ≡ g) × (t ≡ x)
+at_end : (a : Context) (f : ℕ) (t : terms.Term) (whole : Place) (g : ℕ) (x : terms.Term) → Active a f t whole g x → whole ≡ [] → (f ≡ g) × (t ≡ x)
 at_end a _ _ _ _ _ (active.here f t) is = (refl, refl)
 at_end a _ _ _ _ _ (active.inside f t j rest g x r k) is = cc
 
 -- from a term in a frame, what is active at the place is active at the rest of it from here
 pub record IsOnTheWay (f : ℕ) (t : terms.Term) (place : Place) (inner : ℕ) (part : terms.Term) (rest : Place) : Type 0 where
   pub may : MayAct part rest
-  pub leads : (a : At) (g : ℕ) (x : terms.Term) → Active a f t place g x → Active a inner part rest g x
+  pub leads : (a : Context) (g : ℕ) (x : terms.Term) → Active a f t place g x → Active a inner part rest g x
 
 module _ (f : ℕ) (t : terms.Term) (place : Place) (inner : ℕ) (part : terms.Term) (i : ℕ) where
   on : (number : ℕ) → drop i place ≡ number ∷ drop (i + 1) place → IsOnTheWay f t place inner part (drop i place) → IsOnTheWay f t place inner part (number ∷ drop (i + 1) place)
@@ -53,5 +53,5 @@ module _ (f : ℕ) (t : terms.Term) (place : Place) (inner : ℕ) (part : terms.
       } in
       subst (λ (n : ℕ). IsOnTheWay f t place n next (drop (i + 1) place)) (sym framed) (subst (λ (u : terms.Term). IsOnTheWay f t place (frame_in part inner) u (drop (i + 1) place)) (sym childed) further)
 
-  pub arrived : length place < i + 1 → IsOnTheWay f t place inner part (drop i place) → (a : At) (g : ℕ) (x : terms.Term) → Active a f t place g x → (inner ≡ g) × (part ≡ x)
+  pub arrived : length place < i + 1 → IsOnTheWay f t place inner part (drop i place) → (a : Context) (g : ℕ) (x : terms.Term) → Active a f t place g x → (inner ≡ g) × (part ≡ x)
   arrived past way a g x h = at_end a inner part (drop i place) g x (way.leads a g x h) (drop_all i place (omega (arith, past)))

@@ -24,7 +24,7 @@ use Rattle.pz_eval.specs.Conditions.{FindsCondition}
 use Rattle.pz_eval.specs.Tentative.{WouldFind}
 use Rattle.pz_rules.specs.Terms as terms
 use Rattle.pz_rules.specs.Terms.{leaf}
-use Rattle.pz_rules.specs.Settings.{At, in_state}
+use Rattle.pz_rules.specs.Settings.{Context, in_state}
 use Rattle.pz_rules.specs.Slots.{set_slot, set_slots}
 use Rattle.pz_rules.specs.Meanings.{and_then, truth, fault}
 use Rattle.pz_rules.specs.Evaluations.{allowance, value_or_trouble}
@@ -48,7 +48,7 @@ slots_same f (x ∷ xs) (v ∷ vs) s = slots_same f xs vs (eval.set_slot f x v s
 
 -- The verdict of a receive
 
-module _ (a : At) (f : ℕ) (parcel : ParcelView) (pos : Pos) (port : ℕ) (name : Id) (into : Option (List Slot)) (after : Part Slot ClassId) where
+module _ (a : Context) (f : ℕ) (parcel : ParcelView) (pos : Pos) (port : ℕ) (name : Id) (into : Option (List Slot)) (after : Part Slot ClassId) where
   abbrev JudgesCode : Option Code → Result Bool Trouble → Type 0
   JudgesCode condition r = Judges a f parcel (leaf (receive pos port name into (option_map code.view condition) after)) r
 
@@ -80,7 +80,7 @@ module _ (a : At) (f : ℕ) (parcel : ParcelView) (pos : Pos) (port : ℕ) (name
 
 -- One verdict
 
-module _ (computed : TestsAreComputed) (a : At) (f : ℕ) where
+module _ (computed : TestsAreComputed) (a : Context) (f : ℕ) where
   abbrev Condition : ParcelView → Pos → Option (List Slot) → Option terms.Code → Result Bool Trouble → Type 0
   Condition parcel at into None q = q ≡ Ok true
   Condition parcel at into (Some test) q = (Fits a parcel × (q ≡ tested (in_state a (bound a f into parcel)) f at test)) ⊎ ((¬ Fits a parcel) × (q ≡ fault StoreFull a.process at))

@@ -9,10 +9,10 @@ use Rattle.pz_state.specs.States.{StateView}
 use Rattle.pz_copy.specs.Parcels.{ParcelView}
 use Rattle.pz_copy.specs.Packing.{IsParcelOf}
 use Rattle.pz_offer.specs.declared.trouble.Trouble.{Trouble}
-use Rattle.pz_rules.specs.Settings.{At}
+use Rattle.pz_rules.specs.Settings.{Context}
 use Rattle.pz_rules.specs.Evaluations.{GivesPart}
 
 -- the values are packed out of the state that their evaluation leaves; or it is a trouble
-pub data Packs (a : At) (f : ℕ) (at : Pos) (es : Part Slot ClassId) : Result ParcelView Trouble → Type 0 where
+pub data Packs (a : Context) (f : ℕ) (at : Pos) (es : Part Slot ClassId) : Result ParcelView Trouble → Type 0 where
   packs : (values : List Value) (s : StateView) (parcel : ParcelView) → GivesPart a f at es (Ok values) s → IsParcelOf s values parcel → Packs a f at es (Ok parcel)
   fails : (trouble : Trouble) (s : StateView) → GivesPart a f at es (Err trouble) s → Packs a f at es (Err trouble)

@@ -3,7 +3,7 @@ use Rattle.std.specs.Prelude.{ℕ}
 use Rattle.pz_syntax.specs.Classes.{ModelTree}
 use Rattle.pz_classes.specs.Tables.{AreClasses}
 use Rattle.pz_state.specs.States.{StateView}
-use Rattle.pz_rules.specs.Settings.{At}
+use Rattle.pz_rules.specs.Settings.{Context}
 use Rattle.pz_part_queries.specs.declared.standpoint.Standpoint.{Standpoint}
 
 -- the classes are those of the model
@@ -11,5 +11,5 @@ abbrev pub Knows : ModelTree → Standpoint → Type 0
 Knows m here = ∥ AreClasses m here.classes.now ∥₁
 
 -- in this state, of the process class of this number
-abbrev pub seen_from : ModelTree → Standpoint → ℕ → StateView → At
+abbrev pub seen_from : ModelTree → Standpoint → ℕ → StateView → Context
 seen_from m here class s = record { setting = record { model = m; limits = here.limits }; process = here.process; class = class; clock = here.clock; state = s }

@@ -9,7 +9,7 @@ use Rattle.pz_rules.specs.declared.moment.Moment.TheVariants.{Actions, Time, Fin
 use Rattle.pz_rules.specs.Settings.{Setting}
 use Rattle.pz_rules.specs.Configurations.{Config, IsWhole}
 use Rattle.pz_rules.specs.Steps.{Next, PassesTo}
-use Rattle.pz_rules.specs.Moments.{Says, faulty, acting, passing, finished, deadlock, rank, IsMoment}
+use Rattle.pz_rules.specs.Moments.{Candidate, faulty, acting, passing, finished, deadlock, rank, IsMoment}
 use Rattle.pz_rules.specs.Runs.{Event, acted, passed, IsChoice, Standing, whole, stopped, Reaches, Ending, ended, deadlocked, troubled, halted, refused, Ends}
 use Rattle.pz_rules.specs.Runs as runs
 use Rattle.pz_rules.specs.ChosenRuns as chosen
@@ -222,7 +222,7 @@ module _ (setting : Setting) (policy : Policy) where
   waits_at j clock Broken d h = stops_waits h
 
   -- the ranks of what is ever said
-  said : (c : Config) (m : Moment) → Says setting c m → (1 ≤ rank m) × (rank m ≤ 5)
+  said : (c : Config) (m : Moment) → Candidate setting c m → (1 ≤ rank m) × (rank m ≤ 5)
   said c _ (faulty t x) = (omega arith, omega arith)
   said c _ (acting xs x some) = (omega arith, omega arith)
   said c _ (passing d x) = (omega arith, omega arith)

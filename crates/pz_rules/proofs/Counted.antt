@@ -5,7 +5,7 @@ use Rattle.pz_rules.specs.declared.moment.Moment.{Moment}
 use Rattle.pz_rules.specs.declared.moment.Moment.TheVariants.{Actions, Time, Finished, Deadlock, Faulty}
 use Rattle.pz_rules.specs.Settings.{Setting}
 use Rattle.pz_rules.specs.Configurations.{Config}
-use Rattle.pz_rules.specs.Moments.{Says, faulty, acting, passing, finished, deadlock}
+use Rattle.pz_rules.specs.Moments.{Candidate, faulty, acting, passing, finished, deadlock}
 use Rattle.pz_rules.specs.Laws.{HasOffers, MomentsCountOffers}
 
 count_is : {n m : ℕ} → Actions n ≡ Actions m → n ≡ m
@@ -23,7 +23,7 @@ finished_acts h = cc
 deadlock_acts : {n : ℕ} → Deadlock ≡ Actions n → ⊥
 deadlock_acts h = cc
 
-counted_by : (setting : Setting) (c : Config) (m : Moment) (n : ℕ) → m ≡ Actions n → Says setting c m → HasOffers setting c n
+counted_by : (setting : Setting) (c : Config) (m : Moment) (n : ℕ) → m ≡ Actions n → Candidate setting c m → HasOffers setting c n
 counted_by setting c _ n e (acting offers are some) = let count : n ≡ length offers = sym (count_is e) in record { offers = offers; all = are; count = count; some = omega (arith, some, count) }
 counted_by setting c _ n e (faulty trouble least) = absurd (faulty_acts e)
 counted_by setting c _ n e (passing d least) = absurd (time_acts e)

@@ -12,7 +12,7 @@ use Rattle.pz_classes_code.specs.declared.slot.Slot.{Slot}
 use Rattle.pz_state.specs.declared.state.TheConstants.{OBJECT_LIMIT}
 use Rattle.pz_state.specs.declared.fault.FaultKind.TheVariants.{StoreFull}
 use Rattle.pz_copy.specs.Parcels.{ParcelView}
-use Rattle.pz_bind_levels.specs.Places.{Place}
+use Rattle.pz_bind_levels.specs.Places.{Address}
 use Rattle.pz_bind.specs.Nest.{processes, class_at}
 use Rattle.pz_offer.specs.declared.end.End.{End}
 use Rattle.pz_offer.specs.PlaceOrder.{EndBefore}
@@ -20,7 +20,7 @@ use Rattle.pz_offer.specs.declared.trouble.Trouble.{Trouble}
 use Rattle.pz_rules.specs.declared.action.Action.{Action}
 use Rattle.pz_rules.specs.declared.action.Action.TheVariants.{Internal, Comm}
 use Rattle.pz_rules.specs.Terms.{Code, Step, Term, leaf}
-use Rattle.pz_rules.specs.Settings.{Setting, Process, At, in_state}
+use Rattle.pz_rules.specs.Settings.{Setting, Process, Context, in_state}
 use Rattle.pz_rules.specs.Meanings.{fault}
 use Rattle.pz_rules.specs.Messages as messages
 use Rattle.pz_rules.specs.Messages.{Sends, Receives, Fits, bound, Judges}
@@ -29,7 +29,7 @@ use Rattle.pz_rules.specs.Configurations.{Config, Stands}
 use Rattle.pz_rules.specs.Offers.{PartAt, IsPair, IsJudged, Offers, internal, communication}
 use Rattle.pz_rules.specs.Moments.{Source, part, pair, Troubles, asked, judged, IsLeft}
 use Rattle.pz_rules.specs.devices.Found.{tested}
-use Rattle.pz_rules.specs.devices.Walk.{Part, active_parts, Doing, does, Sending, sent_by, Receiving, received_by, waiting, trouble_of, troubled_by}
+use Rattle.pz_rules.specs.devices.Walk.{ActivePart, active_parts, Doing, does, ActiveSend, sent_by, ActiveReceive, received_by, waiting, trouble_of, troubled_by}
 use Rattle.pz_rules.proofs.Found.{tests_found}
 use Rattle.pz_rules.proofs.Locals.{some_is, no_some, does_complete, does_sound, sends_complete, sends_sound, delays_complete, delays_sound, asks_complete, asks_sound, receives_complete, receives_sound}
 use Rattle.pz_rules.proofs.Walked.{IsPart, listed, sound}
@@ -93,23 +93,23 @@ end_known a b = by (end_order a b)
 pub record Standing : Type 0 where
   pub number : ℕ
   pub process : Process
-  pub seen : At
+  pub seen : Context
 
 -- an active part by its end
 pub record Located : Type 0 where
   pub end : End
-  pub seen : At
+  pub seen : Context
   pub frame : ℕ
   pub part : Term
 
 -- a send or a receive by its end
 pub record Sender : Type 0 where
   pub at : Located
-  pub sending : Sending
+  pub sending : ActiveSend
 
 pub record Receiver : Type 0 where
   pub at : Located
-  pub receiving : Receiving
+  pub receiving : ActiveReceive
 
 pub record Pair : Type 0 where
   pub number : ℕ
@@ -147,7 +147,7 @@ err_of (Ok b) t e = no_some e
 err_of (Err u) t e = ap (λ x. Err x) (some_is e)
 
 -- What a receive says of a parcel
-module _ (a : At) (f : ℕ) (parcel : ParcelView) where
+module _ (a : Context) (f : ℕ) (parcel : ParcelView) where
   fits_known : Known (Fits a parcel)
   fits_known = at_most_known (length a.state.objects + length parcel.objects) OBJECT_LIMIT
 
@@ -179,19 +179,19 @@ module _ (setting : Setting) (c : Config) where
   abbrev IsStanding : Standing → Type 0
   IsStanding s = Stands setting c s.number s.process s.seen
 
-  abbrev standing_at : ℕ → Place → Process → Standing
+  abbrev standing_at : ℕ → Address → Process → Standing
   standing_at i place p = record { number = i; process = p; seen = record { setting = setting; process = i; class = class_at setting.model place; clock = c.clock; state = p.state } }
 
-  abbrev HereAs : ℕ → Place → Standing → Type 0
+  abbrev HereAs : ℕ → Address → Standing → Type 0
   HereAs i place s = (p : Process) × (slice_get c.processes i ≡ Some p) × (s ≡ standing_at i place p)
 
   abbrev Numbered : ℕ → Standing → Type 0
-  Numbered i s = (place : Place) × (slice_get (processes setting.model) i ≡ Some place) × HereAs i place s
+  Numbered i s = (place : Address) × (slice_get (processes setting.model) i ≡ Some place) × HereAs i place s
 
   abbrev SomeStanding : Standing → Type 0
   SomeStanding s = (i : ℕ) × (i < length c.processes) × Numbered i s
 
-  here_as : (i : ℕ) (place : Place) → Finite (HereAs i place)
+  here_as : (i : ℕ) (place : Address) → Finite (HereAs i place)
   here_as i place =
       bind {P = λ p. slice_get c.processes i ≡ Some p} {Q = λ p s. s ≡ standing_at i place p} (from_option (slice_get c.processes i)) (λ p. just (standing_at i place p) refl (λ x e. e))
 
@@ -204,7 +204,7 @@ module _ (setting : Setting) (c : Config) where
 
   by_number : (s : Standing) → IsStanding s → SomeStanding s
   by_number s x =
-      (s.number, slice_get_within c.processes s.number s.process x.is_here, (x.place, x.is_process, (s.process, x.is_here, ap (λ (a : At). let z : Standing = record { number = s.number; process = s.process; seen = a } in z) x.seen)))
+      (s.number, slice_get_within c.processes s.number s.process x.is_here, (x.place, x.is_process, (s.process, x.is_here, ap (λ (a : Context). let z : Standing = record { number = s.number; process = s.process; seen = a } in z) x.seen)))
 
   standings : Finite IsStanding
   standings = alike stands_by by_number (bind {P = λ i. i < length c.processes} {Q = Numbered} (below (length c.processes)) numbered)
@@ -214,11 +214,11 @@ module _ (setting : Setting) (c : Config) where
   abbrev pub IsLocated : Located → Type 0
   IsLocated l = PartAt setting c l.end l.seen l.frame l.part
 
-  abbrev located_at : Standing → Part → Located
+  abbrev located_at : Standing → ActivePart → Located
   located_at s p = record { end = record { process = s.number; place = p.place }; seen = s.seen; frame = p.frame; part = p.part }
 
   abbrev PartOf : Standing → Located → Type 0
-  PartOf s l = (p : Part) × IsPart s.seen 0 s.process.term p × (l ≡ located_at s p)
+  PartOf s l = (p : ActivePart) × IsPart s.seen 0 s.process.term p × (l ≡ located_at s p)
 
   parts_of : (s : Standing) → Finite (PartOf s)
   parts_of s =
@@ -259,7 +259,7 @@ module _ (setting : Setting) (c : Config) where
   IsSender s = IsLocated s.at × (sent_by s.at.seen s.at.frame s.at.part ≡ Some s.sending)
 
   abbrev SendOf : Located → Sender → Type 0
-  SendOf l s = (x : Sending) × (sent_by l.seen l.frame l.part ≡ Some x) × (s ≡ record { at = l; sending = x })
+  SendOf l s = (x : ActiveSend) × (sent_by l.seen l.frame l.part ≡ Some x) × (s ≡ record { at = l; sending = x })
 
   send_of : (l : Located) → Finite (SendOf l)
   send_of l =
@@ -275,7 +275,7 @@ module _ (setting : Setting) (c : Config) where
   IsReceiver r = IsLocated r.at × (received_by r.at.part ≡ Some r.receiving)
 
   abbrev ReceiveOf : Located → Receiver → Type 0
-  ReceiveOf l r = (x : Receiving) × (received_by l.part ≡ Some x) × (r ≡ record { at = l; receiving = x })
+  ReceiveOf l r = (x : ActiveReceive) × (received_by l.part ≡ Some x) × (r ≡ record { at = l; receiving = x })
 
   receive_of : (l : Located) → Finite (ReceiveOf l)
   receive_of l =

@@ -6,7 +6,7 @@ use Rattle.pz_bind.specs.Nest.{processes, class_at}
 use Rattle.pz_offer.specs.declared.trouble.Trouble.{Trouble}
 use Rattle.pz_rules.specs.declared.action.Action.{Action}
 use Rattle.pz_rules.specs.Terms.{Term}
-use Rattle.pz_rules.specs.Settings.{Setting, Process, At}
+use Rattle.pz_rules.specs.Settings.{Setting, Process, Context}
 use Rattle.pz_rules.specs.Meanings.{and_then}
 use Rattle.pz_rules.specs.Configurations.{Config, Stands, IsWhole}
 use Rattle.pz_rules.specs.Steps.{with_process, with_both, Next, internal, communication, PassesTo}
@@ -38,7 +38,7 @@ length_set (y ∷ xs) (suc i) x = ap suc (length_set xs i x)
 
 module _ (setting : Setting) (c : Config) where
   -- what stands at a number
-  pub stands_there : (i : ℕ) (p : Process) → IsWhole setting c → slice_get c.processes i ≡ Some p → i < length c.processes → (a : At) × Stands setting c i p a
+  pub stands_there : (i : ℕ) (p : Process) → IsWhole setting c → slice_get c.processes i ≡ Some p → i < length c.processes → (a : Context) × Stands setting c i p a
   stands_there i p all is within =
       let place = there (processes setting.model) i (omega (arith, all, within)) in (
         record { setting = setting; process = i; class = class_at setting.model place.0; clock = c.clock; state = p.state },

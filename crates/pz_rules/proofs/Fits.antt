@@ -11,7 +11,7 @@ use Rattle.pz_classes.specs.FitBodies.{process_code, SlotFits, StatementFits, St
 use Rattle.pz_offer.specs.PlaceOrder.{Place}
 use Rattle.pz_rules.specs.Terms.{Step, Steps, Term, done, leaf, wait, sequence, parallel, select, guarded, frame, abort, idle, handling, Terms, no_terms, and, term_at, child, frame_in}
 use Rattle.pz_rules.specs.Opening.{opened, opened_all, opened_branches, opened_part}
-use Rattle.pz_rules.specs.Settings.{Process, At}
+use Rattle.pz_rules.specs.Settings.{Process, Context}
 use Rattle.pz_rules.specs.Leaving.{replaced, joined, all_done, handled, aborted, interrupted, framed, around, residual}
 use Rattle.pz_rules.specs.Active as active
 use Rattle.pz_rules.specs.Active.{Active}
@@ -149,7 +149,7 @@ pub record Fitted (m : ModelTree) (c : ℕ) (l : ℕ) (t : Term) (place : Place)
   pub fits : TermFits m c locals x
   pub leaves : (f : ℕ) (y : Process) → TermFits m c locals y.term → TermFits m c l (residual f t place y).term
 
-pub fitted : (m : ModelTree) (c : ℕ) {a : At} {f : ℕ} {t : Term} {place : Place} {g : ℕ} {x : Term} (l : ℕ) → Active a f t place g x → TermFits m c l t → Fitted m c l t place x
+pub fitted : (m : ModelTree) (c : ℕ) {a : Context} {f : ℕ} {t : Term} {place : Place} {g : ℕ} {x : Term} (l : ℕ) → Active a f t place g x → TermFits m c l t → Fitted m c l t place x
 fitted m c l (active.here f t) h = record { locals = l; fits = h; leaves = λ f y k. k }
 fitted m c l (active.inside f t i place g x r k) h =
     let below = child_of m c l t i h in

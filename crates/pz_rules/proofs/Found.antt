@@ -10,12 +10,12 @@ use Rattle.pz_offer.specs.declared.trouble.Trouble.{Trouble}
 use Rattle.pz_eval_rules.specs.devices.Outcomes.{outcome_of, listed_of}
 use Rattle.pz_eval_rules.proofs.Exact as exact
 use Rattle.pz_rules.specs.Terms.{Code, Codes}
-use Rattle.pz_rules.specs.Settings.{At}
+use Rattle.pz_rules.specs.Settings.{Context}
 use Rattle.pz_rules.specs.Meanings.{and_then, truth, duration}
 use Rattle.pz_rules.specs.Evaluations.{allowance, value_or_trouble, values_or_trouble, Gives, GivesAll, GivesPart, Tests, Lasts}
 use Rattle.pz_rules.specs.devices.Found.{reached, reached_all, found, left, found_all, left_all, found_part, left_part, tested, lasting}
 
-module _ (a : At) (f : ℕ) (at : Pos) where
+module _ (a : Context) (f : ℕ) (at : Pos) where
   pub gives_found : (e : Code) → Gives a f at e (found a f at e) (left a f e)
   gives_found e = record {
     outcome = outcome_of (reached a f e);

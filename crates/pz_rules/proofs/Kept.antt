@@ -6,15 +6,15 @@ use Rattle.std.specs.Prelude.{slice_get, slice_set, if◌then◌else◌, nat_le}
 use Rattle.pz_syntax.specs.declared.tokens.Pos.{Pos}
 use Rattle.pz_syntax.specs.Classes.{ModelTree}
 use Rattle.pz_classes.specs.SoundBodies.{BodiesFit}
-use Rattle.pz_bind_levels.specs.Places.{Place as Standing}
+use Rattle.pz_bind_levels.specs.Places.{Address as Standing}
 use Rattle.pz_bind.specs.Nest.{processes, class_at}
 use Rattle.pz_offer.specs.declared.end.End.{End}
-use Rattle.pz_offer.specs.PlaceOrder.{Place}
+use Rattle.pz_offer.specs.PlaceOrder.{Address}
 use Rattle.pz_offer.specs.declared.trouble.Trouble.{Trouble}
 use Rattle.pz_offer.specs.declared.trouble.Trouble.TheVariants.{High}
 use Rattle.pz_rules.specs.declared.action.Action.{Action}
 use Rattle.pz_rules.specs.Terms.{Term, Terms, height}
-use Rattle.pz_rules.specs.Settings.{Setting, Process, At}
+use Rattle.pz_rules.specs.Settings.{Setting, Process, Context}
 use Rattle.pz_rules.specs.Meanings.{and_then}
 use Rattle.pz_rules.specs.InternalActions.{Performs}
 use Rattle.pz_rules.specs.Messages.{Hands, Takes}
@@ -68,18 +68,18 @@ LeftFits setting i (Err t) = Unit {0}
 
 -- a deed that leaves what fits
 abbrev KeepsFit : Deed → Type 0
-KeepsFit does = (a : At) (f : ℕ) → BodiesFit a.setting.model → (l : ℕ) (t : Term) (pos : Pos) (q : Result Process Trouble) → does a f t pos q → TermFits a.setting.model a.class l t → LeavesFit a.setting.model a.class l q
+KeepsFit does = (a : Context) (f : ℕ) → BodiesFit a.setting.model → (l : ℕ) (t : Term) (pos : Pos) (q : Result Process Trouble) → does a f t pos q → TermFits a.setting.model a.class l t → LeavesFit a.setting.model a.class l q
 
 module _ (setting : Setting) (c : Config) (sound : BodiesFit setting.model) (fit : IsFit setting c) where
-  fits_there : (i : ℕ) (p : Process) (a : At) → Stands setting c i p a → TermFits a.setting.model a.class 0 p.term
-  fits_there i p a stands = subst (λ (b : At). TermFits b.setting.model b.class 0 p.term) (sym stands.seen) (fit i stands.place p stands.is_process stands.is_here)
+  fits_there : (i : ℕ) (p : Process) (a : Context) → Stands setting c i p a → TermFits a.setting.model a.class 0 p.term
+  fits_there i p a stands = subst (λ (b : Context). TermFits b.setting.model b.class 0 p.term) (sym stands.seen) (fit i stands.place p stands.is_process stands.is_here)
 
-  sound_there : (i : ℕ) (p : Process) (a : At) → Stands setting c i p a → BodiesFit a.setting.model
-  sound_there i p a stands = subst (λ (b : At). BodiesFit b.setting.model) (sym stands.seen) sound
+  sound_there : (i : ℕ) (p : Process) (a : Context) → Stands setting c i p a → BodiesFit a.setting.model
+  sound_there i p a stands = subst (λ (b : Context). BodiesFit b.setting.model) (sym stands.seen) sound
 
   -- Each action leads somewhere
 
-  acts_some : (does : Deed) (end : End) (a : At) (f : ℕ) (t : Term) → PartAt setting c end a f t → SomeDeed (does a f t) → (q : Result Process Trouble) × Acts setting c does end q
+  acts_some : (does : Deed) (end : End) (a : Context) (f : ℕ) (t : Term) → PartAt setting c end a f t → SomeDeed (does a f t) → (q : Result Process Trouble) × Acts setting c does end q
   acts_some does end a f t at deed = (
     and_then deed.left (settled a deed.pos at.process.term end.place),
     record {
@@ -108,24 +108,24 @@ module _ (setting : Setting) (c : Config) (sound : BodiesFit setting.model) (fit
 
   -- What fits stays so
 
-  high_fits : (m : ModelTree) (class : ℕ) (a : At) (pos : Pos) (p : Process) → TermFits m class 0 p.term → LeavesFit m class 0 (not_too_high a pos (swept p))
+  high_fits : (m : ModelTree) (class : ℕ) (a : Context) (pos : Pos) (p : Process) → TermFits m class 0 p.term → LeavesFit m class 0 (not_too_high a pos (swept p))
   high_fits m class a pos p h = by (nat_le (height p.term) a.setting.limits.height)
     where
       by : (b : Bool) → LeavesFit m class 0 (if b then Ok (swept p) else Err (High a.process pos))
       by true = h
       by false = tt
 
-  settled_fits : (m : ModelTree) (class : ℕ) (a : At) (pos : Pos) (t : Term) (place : Place) (l : ℕ) (left : Result Process Trouble) → LeavesFit m class l left → ((y : Process) → TermFits m class l y.term → TermFits m class 0 (residual 0 t place y).term)
+  settled_fits : (m : ModelTree) (class : ℕ) (a : Context) (pos : Pos) (t : Term) (place : Address) (l : ℕ) (left : Result Process Trouble) → LeavesFit m class l left → ((y : Process) → TermFits m class l y.term → TermFits m class 0 (residual 0 t place y).term)
       → LeavesFit m class 0 (and_then left (settled a pos t place))
   settled_fits m class a pos t place l (Ok y) h leaves = high_fits m class a pos (residual 0 t place y) (leaves y h)
   settled_fits m class a pos t place l (Err e) h leaves = tt
 
-  to_place : (i : ℕ) (a : At) (p : Process) (q : Result Process Trouble) → Stands setting c i p a → LeavesFit a.setting.model a.class 0 q → LeftFits setting i q
+  to_place : (i : ℕ) (a : Context) (p : Process) (q : Result Process Trouble) → Stands setting c i p a → LeavesFit a.setting.model a.class 0 q → LeftFits setting i q
   to_place i a p (Err t) stands h = tt
   to_place i a p (Ok r) stands h =
       λ place at.
       subst (λ (z : Standing). TermFits setting.model (class_at setting.model z) 0 r.term) (some_is (sym stands.is_process ∙ at))
-      (subst (λ (b : At). TermFits b.setting.model b.class 0 r.term) stands.seen h)
+      (subst (λ (b : Context). TermFits b.setting.model b.class 0 r.term) stands.seen h)
 
   acts_fit : (does : Deed) → KeepsFit does → (end : End) (q : Result Process Trouble) → Acts setting c does end q → LeftFits setting end.process q
   acts_fit does keeps end q x =
@@ -157,7 +157,7 @@ module _ (setting : Setting) (c : Config) (sound : BodiesFit setting.model) (fit
 -- The passing of time
 
 mutual
-  passes_fit : (m : ModelTree) (class l : ℕ) (a : At) (d f : ℕ) (t x : Term) → Passes a d f t x → TermFits m class l t → TermFits m class l x
+  passes_fit : (m : ModelTree) (class l : ℕ) (a : Context) (d f : ℕ) (t x : Term) → Passes a d f t x → TermFits m class l t → TermFits m class l x
   passes_fit m class l a d _ _ _ (delays.is_done f) h = h
   passes_fit m class l a d _ _ _ (delays.stays f s is) h = h
   passes_fit m class l a d _ _ _ (delays.begins f at e left lasts) h = tt
@@ -172,14 +172,14 @@ mutual
   passes_fit m class l a d _ _ _ (delays.in_idle f t x u y again p q) h = (passes_fit m class l a d f t x p h.0, passes_fit m class l a d f u y q h.1, h.2)
   passes_fit m class l a d _ _ _ (delays.in_handling f t u y again p) h = (h.0, passes_fit m class l a d f u y p h.1, h.2)
 
-  all_pass_fit : (m : ModelTree) (class l : ℕ) (a : At) (d f : ℕ) (ts xs : Terms) → PassesAll a d f ts xs → TermsFit m class l ts → TermsFit m class l xs
+  all_pass_fit : (m : ModelTree) (class l : ℕ) (a : Context) (d f : ℕ) (ts xs : Terms) → PassesAll a d f ts xs → TermsFit m class l ts → TermsFit m class l xs
   all_pass_fit m class l a d _ _ _ (delays.none f) h = h
   all_pass_fit m class l a d _ _ _ (delays.both f t x ts xs p q) h = (passes_fit m class l a d f t x p h.0, all_pass_fit m class l a d f ts xs q h.1)
 
 pub passing_fits : (setting : Setting) (c next : Config) (d : ℕ) → IsWhole setting c → IsFit setting c → PassesTo setting c d next → IsFit setting next
 passing_fits setting c next d all fit passes i place q at is =
     let p = there c.processes i (subst (λ (n : ℕ). i < n) passes.all (slice_get_within next.processes i q is)) in
-    let a : At = record { setting = setting; process = i; class = class_at setting.model place; clock = c.clock; state = p.0.state } in
+    let a : Context = record { setting = setting; process = i; class = class_at setting.model place; clock = c.clock; state = p.0.state } in
     let one = passes.each i p.0 a (record { place = place; is_process = at; is_here = p.1; seen = refl }) in
     let same : (let r : Process = record { term = one.0; state = p.0.state } in r) ≡ q = some_is (sym one.2 ∙ is) in
     subst (λ (r : Process). TermFits setting.model (class_at setting.model place) 0 r.term) same

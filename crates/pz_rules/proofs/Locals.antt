@@ -10,7 +10,7 @@ use Rattle.pz_offer.specs.declared.trouble.Trouble.{Trouble}
 use Rattle.pz_rules.specs.declared.action.Kind.{Kind}
 use Rattle.pz_rules.specs.declared.action.Kind.TheVariants.{Expire}
 use Rattle.pz_rules.specs.Terms.{Step, Term, leaf, wait, guarded}
-use Rattle.pz_rules.specs.Settings.{At}
+use Rattle.pz_rules.specs.Settings.{Context}
 use Rattle.pz_rules.specs.Evaluations.{GivesPart, Tests, Lasts}
 use Rattle.pz_rules.specs.InternalActions as actions
 use Rattle.pz_rules.specs.InternalActions.{Can}
@@ -21,7 +21,7 @@ use Rattle.pz_rules.specs.Asking.{Asks}
 use Rattle.pz_rules.specs.Delays as delays
 use Rattle.pz_rules.specs.Delays.{Delays}
 use Rattle.pz_rules.specs.devices.Found.{tested, lasting, found_part, left_part}
-use Rattle.pz_rules.specs.devices.Walk.{Doing, doing, expiry, does, statement_does, Sending, sending, sent_by, statement_sends, Receiving, received_by, statement_receives, answered, waiting, statement_waits, trouble_of, troubled_by, statement_troubles}
+use Rattle.pz_rules.specs.devices.Walk.{Doing, doing, expiry, does, statement_does, ActiveSend, sending, sent_by, statement_sends, ActiveReceive, received_by, statement_receives, answered, waiting, statement_waits, trouble_of, troubled_by, statement_troubles}
 use Rattle.pz_rules.proofs.Found.{gives_part_found, gives_part_only, tests_found, tests_only, lasts_found, lasts_only}
 
 pub some_is : {X : Type 0} {x y : X} → Some x ≡ Some y → x ≡ y
@@ -34,13 +34,13 @@ no_some {P} {X} {x} e = absurd (differ e)
     differ d = cc
 
 -- a send and its parcel
-pub record Packs (o : Option Sending) (pos : Pos) (port : ℕ) (message : List ℕ) (parcel : ParcelView) : Type 0 where
+pub record Packs (o : Option ActiveSend) (pos : Pos) (port : ℕ) (message : List ℕ) (parcel : ParcelView) : Type 0 where
   pub values : List Value
   pub state : StateView
   pub is : o ≡ Some (record { pos = pos; port = port; message = message; values = values; state = state })
   pub packed : IsParcelOf state values parcel
 
-module _ (a : At) (f : ℕ) where
+module _ (a : Context) (f : ℕ) where
   -- Internal actions
 
   pub does_complete : (t : Term) (kind : Kind) (pos : Pos) → Can a f t kind pos → does a f t ≡ doing kind pos
@@ -94,17 +94,17 @@ module _ (a : At) (f : ℕ) where
         packed = packed;
       }
 
-  statement_sends_sound : (s : Step) (x : Sending) (parcel : ParcelView) → statement_sends a f s ≡ Some x → IsParcelOf x.state x.values parcel → Sends a f (leaf s) x.pos x.port x.message parcel
+  statement_sends_sound : (s : Step) (x : ActiveSend) (parcel : ParcelView) → statement_sends a f s ≡ Some x → IsParcelOf x.state x.values parcel → Sends a f (leaf s) x.pos x.port x.message parcel
   statement_sends_sound (send at port name args after) x parcel is packed = by (found_part a f at args) refl is packed
     where
       by : (r : Result (List Value) Trouble) → found_part a f at args ≡ r → sending at port name.name (left_part a f args) r ≡ Some x → IsParcelOf x.state x.values parcel → Sends a f (leaf (send at port name args after)) x.pos x.port x.message parcel
       by (Ok vs) e some =
-          subst (λ (y : Sending). IsParcelOf y.state y.values parcel → Sends a f (leaf (send at port name args after)) y.pos y.port y.message parcel) (some_is some)
+          subst (λ (y : ActiveSend). IsParcelOf y.state y.values parcel → Sends a f (leaf (send at port name args after)) y.pos y.port y.message parcel) (some_is some)
           (λ fits. messages.sends at port name args after vs (left_part a f args) parcel (subst (λ (r : Result (List Value) Trouble). GivesPart a f at args r (left_part a f args)) e (gives_part_found a f at args)) fits)
       by (Err trouble) e some = no_some some
   statement_sends_sound s x parcel is packed = no_some is
 
-  pub sends_sound : (t : Term) (x : Sending) (parcel : ParcelView) → sent_by a f t ≡ Some x → IsParcelOf x.state x.values parcel → Sends a f t x.pos x.port x.message parcel
+  pub sends_sound : (t : Term) (x : ActiveSend) (parcel : ParcelView) → sent_by a f t ≡ Some x → IsParcelOf x.state x.values parcel → Sends a f t x.pos x.port x.message parcel
   sends_sound (leaf s) x parcel is packed = statement_sends_sound s x parcel is packed
   sends_sound t x parcel is packed = no_some is
 
@@ -157,13 +157,13 @@ module _ (a : At) (f : ℕ) where
 pub receives_complete : (t : Term) (pos : Pos) (port : ℕ) (message : List ℕ) (count : ℕ) → Receives t pos port message count → received_by t ≡ Some (record { pos = pos; port = port; message = message; count = count })
 receives_complete _ _ _ _ _ (messages.receives at port name into condition after) = refl
 
-abbrev Receiver : Term → Receiving → Type 0
+abbrev Receiver : Term → ActiveReceive → Type 0
 Receiver t x = Receives t x.pos x.port x.message x.count
 
-statement_receives_sound : (s : Step) (x : Receiving) → statement_receives s ≡ Some x → Receiver (leaf s) x
+statement_receives_sound : (s : Step) (x : ActiveReceive) → statement_receives s ≡ Some x → Receiver (leaf s) x
 statement_receives_sound (receive at port name into condition after) x is = subst (Receiver (leaf (receive at port name into condition after))) (some_is is) (messages.receives at port name into condition after)
 statement_receives_sound s x is = no_some is
 
-pub receives_sound : (t : Term) (x : Receiving) → received_by t ≡ Some x → Receives t x.pos x.port x.message x.count
+pub receives_sound : (t : Term) (x : ActiveReceive) → received_by t ≡ Some x → Receives t x.pos x.port x.message x.count
 receives_sound (leaf s) x is = statement_receives_sound s x is
 receives_sound t x is = no_some is

@@ -15,7 +15,7 @@ use Rattle.pz_rules.specs.declared.action.Action.TheVariants.{Internal, Comm}
 use Rattle.pz_rules.specs.declared.moment.Moment.{Moment}
 use Rattle.pz_rules.specs.declared.moment.Moment.TheVariants.{Actions, Time, Finished, Deadlock, Faulty}
 use Rattle.pz_rules.specs.Terms.{Term, done, leaf, wait, sequence, parallel, select, guarded, frame, abort, idle, handling}
-use Rattle.pz_rules.specs.Settings.{Setting, Process, At}
+use Rattle.pz_rules.specs.Settings.{Setting, Process, Context}
 use Rattle.pz_rules.specs.Evaluations.{Lasts}
 use Rattle.pz_rules.specs.InternalActions as actions
 use Rattle.pz_rules.specs.InternalActions.{Can}
@@ -24,7 +24,7 @@ use Rattle.pz_rules.specs.Delays.{Delays}
 use Rattle.pz_rules.specs.Ports.{HasWires}
 use Rattle.pz_rules.specs.Configurations.{Config}
 use Rattle.pz_rules.specs.Offers.{PartAt, IsPair, Before, IsOffers, Offers, internal, communication}
-use Rattle.pz_rules.specs.Moments.{Source, SourceBefore, Troubles, IsLeastTrouble, IsLeft, IsLeast, AllDone, Says, faulty, acting, passing, finished, deadlock, rank, IsMoment}
+use Rattle.pz_rules.specs.Moments.{Source, SourceBefore, Troubles, IsLeastTrouble, IsLeft, IsLeast, AllDone, Candidate, faulty, acting, passing, finished, deadlock, rank, IsMoment}
 use Rattle.pz_rules.specs.devices.Walk.{Doing, does}
 use Rattle.pz_rules.proofs.Locals.{some_is, does_complete}
 use Rattle.pz_rules.proofs.Orders.{Either, end_order, ThreeBefore, three_order, transitive, number_transitive, number_order, source_order, source_transitive, source_irreflexive, one_list}
@@ -35,7 +35,7 @@ use Rattle.pz_rules.proofs.Derived.{Blame, IsBlame, offers, troubles, lefts}
 module _ (setting : Setting) (c : Config) where
   -- The offers
 
-  at_one_end : (e e' : End) (a a' : At) (f f' : ℕ) (p p' : Term) (k k' : Kind) (o o' : Pos) → PartAt setting c e a f p → Can a f p k o → PartAt setting c e' a' f' p' → Can a' f' p' k' o' → e ≡ e' → Internal e k o ≡ Internal e' k' o'
+  at_one_end : (e e' : End) (a a' : Context) (f f' : ℕ) (p p' : Term) (k k' : Kind) (o o' : Pos) → PartAt setting c e a f p → Can a f p k o → PartAt setting c e' a' f' p' → Can a' f' p' k' o' → e ≡ e' → Internal e k o ≡ Internal e' k' o'
   at_one_end e e' a a' f f' p p' k k' o o' at can at' can' same =
       let here : PartAt setting c e' a f p = subst (λ (x : End). PartAt setting c x a f p) same at in
       let one : (let d : Doing = record { kind = k; pos = o } in d) ≡ record { kind = k'; pos = o' } =
@@ -156,14 +156,14 @@ module _ (setting : Setting) (c : Config) where
 
   -- What may be said, once earlier moments are excluded
 
-  rank_one : (n : Moment) → Says setting c n → 1 ≤ rank n
+  rank_one : (n : Moment) → Candidate setting c n → 1 ≤ rank n
   rank_one _ (faulty t x) = omega arith
   rank_one _ (acting xs x some) = omega arith
   rank_one _ (passing d x) = omega arith
   rank_one _ (finished x) = omega arith
   rank_one _ deadlock = omega arith
 
-  pub rank_two : NoTrouble → (n : Moment) → Says setting c n → 2 ≤ rank n
+  pub rank_two : NoTrouble → (n : Moment) → Candidate setting c n → 2 ≤ rank n
   rank_two calm _ (faulty t x) = absurd (calm x.source t x.occurs)
   rank_two calm _ (acting xs x some) = omega arith
   rank_two calm _ (passing d x) = omega arith
@@ -173,21 +173,21 @@ module _ (setting : Setting) (c : Config) where
   no_offers : (xs : List Action) → IsOffers setting c [] → IsOffers setting c xs → 1 ≤ length xs → ⊥
   no_offers xs none is some = omega (arith, some, ap length (one_list setting c xs [] is none))
 
-  pub rank_three : NoTrouble → IsOffers setting c [] → (n : Moment) → Says setting c n → 3 ≤ rank n
+  pub rank_three : NoTrouble → IsOffers setting c [] → (n : Moment) → Candidate setting c n → 3 ≤ rank n
   rank_three calm none _ (faulty t x) = absurd (calm x.source t x.occurs)
   rank_three calm none _ (acting xs x some) = absurd (no_offers xs none x some)
   rank_three calm none _ (passing d x) = omega arith
   rank_three calm none _ (finished x) = omega arith
   rank_three calm none _ deadlock = omega arith
 
-  pub rank_four : NoTrouble → IsOffers setting c [] → NoDelay → (n : Moment) → Says setting c n → 4 ≤ rank n
+  pub rank_four : NoTrouble → IsOffers setting c [] → NoDelay → (n : Moment) → Candidate setting c n → 4 ≤ rank n
   rank_four calm none still _ (faulty t x) = absurd (calm x.source t x.occurs)
   rank_four calm none still _ (acting xs x some) = absurd (no_offers xs none x some)
   rank_four calm none still _ (passing d x) = absurd (still d x.is_left)
   rank_four calm none still _ (finished x) = omega arith
   rank_four calm none still _ deadlock = omega arith
 
-  pub rank_five : NoTrouble → IsOffers setting c [] → NoDelay → (AllDone c → ⊥) → (n : Moment) → Says setting c n → 5 ≤ rank n
+  pub rank_five : NoTrouble → IsOffers setting c [] → NoDelay → (AllDone c → ⊥) → (n : Moment) → Candidate setting c n → 5 ≤ rank n
   rank_five calm none still more _ (faulty t x) = absurd (calm x.source t x.occurs)
   rank_five calm none still more _ (acting xs x some) = absurd (no_offers xs none x some)
   rank_five calm none still more _ (passing d x) = absurd (still d x.is_left)
@@ -235,7 +235,7 @@ module _ (setting : Setting) (c : Config) where
   time_is : {d e : ℕ} → Time d ≡ Time e → d ≡ e
   time_is e = cc
 
-  least_of : (m : Moment) (d : ℕ) → m ≡ Time d → Says setting c m → IsLeast setting c d
+  least_of : (m : Moment) (d : ℕ) → m ≡ Time d → Candidate setting c m → IsLeast setting c d
   least_of _ d e (passing n x) = subst (λ (k : ℕ). IsLeast setting c k) (time_is e) x
   least_of _ d e (faulty t x) = absurd (omega (arith, ap rank e))
   least_of _ d e (acting xs x some) = absurd (omega (arith, ap rank e))
@@ -246,7 +246,7 @@ module _ (setting : Setting) (c : Config) where
   least_passes d is = least_of (Time d) d refl is.applies
 
   -- what has nothing left can act
-  expires : (a : At) (f : ℕ) (t : Term) (left : ℕ) → left ≡ 0 → Delays a f t left → (pos : Pos) × Can a f t Expire pos
+  expires : (a : Context) (f : ℕ) (t : Term) (left : ℕ) → left ≡ 0 → Delays a f t left → (pos : Pos) × Can a f t Expire pos
   expires a f _ _ e (delays.not_begun at code left lasts) = (at, actions.elapses at code (subst (λ (n : ℕ). Lasts a f at code (Ok n)) e lasts))
   expires a f _ _ e (delays.begun left at) = (at, subst (λ (n : ℕ). Can a f (wait n at) Expire at) (sym e) (actions.expires at))
 
@@ -261,7 +261,7 @@ module _ (setting : Setting) (c : Config) where
 
   -- How many offers there are
 
-  counted : (n : ℕ) (m : Moment) → m ≡ Actions n → Says setting c m → (xs : List Action) → IsOffers setting c xs → n ≡ length xs
+  counted : (n : ℕ) (m : Moment) → m ≡ Actions n → Candidate setting c m → (xs : List Action) → IsOffers setting c xs → n ≡ length xs
   counted n _ e (acting ys is some) xs h = sym (count_is e) ∙ ap length (one_list setting c ys xs is h)
     where
       count_is : {k l : ℕ} → Actions k ≡ Actions l → k ≡ l

@@ -4,9 +4,9 @@ use Rattle.std.specs.List.{AllPairs, Contains}
 use Rattle.std.proofs.lemmas.List.Elements.{All-contains}
 use Rattle.pz_offer.specs.PlaceOrder.{Place, PlaceBefore}
 use Rattle.pz_rules.specs.Terms.{Term}
-use Rattle.pz_rules.specs.Settings.{At}
+use Rattle.pz_rules.specs.Settings.{Context}
 use Rattle.pz_rules.specs.Active.{Active}
-use Rattle.pz_rules.specs.devices.Walk.{Part, active_parts, Noted, noted_at, noted}
+use Rattle.pz_rules.specs.devices.Walk.{ActivePart, active_parts, Noted, noted_at, noted}
 use Rattle.pz_rules.proofs.Lists.{Contains-filter_map, AllPairs-filter_map, kept_from}
 use Rattle.pz_rules.proofs.Locals.{some_is, no_some}
 use Rattle.pz_rules.proofs.Walked.{IsPart, PartBefore, part_at, listed, sound, ordered}
@@ -14,8 +14,8 @@ use Rattle.pz_rules.proofs.Walked.{IsPart, PartBefore, part_at, listed, sound, o
 abbrev pub NotedBefore : {X : Type 0} → Noted X → Noted X → Type 0
 NotedBefore m n = PlaceBefore m.place n.place
 
-module _ {X : Type 0} (a : At) (h : ℕ → Term → Option X) (f : ℕ) (t : Term) where
-  abbrev note : Part → Option (Noted X)
+module _ {X : Type 0} (a : Context) (h : ℕ → Term → Option X) (f : ℕ) (t : Term) where
+  abbrev note : ActivePart → Option (Noted X)
   note p = noted_at p.place (h p.frame p.part)
 
   -- an active part of which this is noted
@@ -43,7 +43,7 @@ module _ {X : Type 0} (a : At) (h : ℕ → Term → Option X) (f : ℕ) (t : Te
         is = where_it_is.1;
       }
 
-  before : (p q : Part) (m n : Noted X) → note p ≡ Some m → note q ≡ Some n → PartBefore p q → NotedBefore m n
+  before : (p q : ActivePart) (m n : Noted X) → note p ≡ Some m → note q ≡ Some n → PartBefore p q → NotedBefore m n
   before p q m n is_m is_n first =
       let one = place_of p.place (h p.frame p.part) m is_m in
       let other = place_of q.place (h q.frame q.part) n is_n in

@@ -16,7 +16,7 @@ use Rattle.pz_copy.specs.Parcels.{ParcelView}
 use Rattle.pz_offer.specs.PlaceOrder.{Place}
 use Rattle.pz_offer.specs.declared.trouble.Trouble.{Trouble}
 use Rattle.pz_rules.specs.Terms.{Code, Step, Steps, Term, leaf, wait}
-use Rattle.pz_rules.specs.Settings.{At, Process, in_state}
+use Rattle.pz_rules.specs.Settings.{Context, Process, in_state}
 use Rattle.pz_rules.specs.Meanings.{and_then, truth, fault}
 use Rattle.pz_rules.specs.Active as active
 use Rattle.pz_rules.specs.Active.{Active}
@@ -35,7 +35,7 @@ pub record SamePart (g h : ℕ) (x y : Term) : Type 0 where
   pub frame : g ≡ h
   pub part : x ≡ y
 
-pub active_once : {a : At} {f : ℕ} {t : Term} {place : Place} {g h : ℕ} {x y : Term} → Active a f t place g x → Active a f t place h y → SamePart g h x y
+pub active_once : {a : Context} {f : ℕ} {t : Term} {place : Place} {g h : ℕ} {x y : Term} → Active a f t place g x → Active a f t place h y → SamePart g h x y
 active_once (active.here f t) (active.here _ _) = record { frame = refl; part = refl }
 active_once (active.inside f t i place g x r k) (active.inside _ _ _ _ h y r' l) = active_once k l
 
@@ -74,7 +74,7 @@ free_once frames n m x y = by (cases_lt n m) (cases_lt m n)
 -- What a part does by itself
 
 -- the call of a method in a state whose arguments came to this
-pub record Called (a : At) (method : Id) (inputs : ℕ) (results : List Slot) (r : Result (List Value) Trouble) (s : StateView) (q : Result Process Trouble) : Type 0 where
+pub record Called (a : Context) (method : Id) (inputs : ℕ) (results : List Slot) (r : Result (List Value) Trouble) (s : StateView) (q : Result Process Trouble) : Type 0 where
   pub locals : ℕ
   pub number : ℕ
   pub body : Steps
@@ -82,7 +82,7 @@ pub record Called (a : At) (method : Id) (inputs : ℕ) (results : List Slot) (r
   pub is_free : IsLeastFree s.frames number
   pub is : q ≡ and_then r (λ vs. Ok (entered s number locals results body vs))
 
-pub called_once : {a : At} {method : Id} {inputs : ℕ} {results : List Slot} {r : Result (List Value) Trouble} {s : StateView} {q p : Result Process Trouble} → Called a method inputs results r s q → Called a method inputs results r s p → q ≡ p
+pub called_once : {a : Context} {method : Id} {inputs : ℕ} {results : List Slot} {r : Result (List Value) Trouble} {s : StateView} {q p : Result Process Trouble} → Called a method inputs results r s q → Called a method inputs results r s p → q ≡ p
 called_once {a} {method} {inputs} {results} {r} {s} {q} {p} x y =
     let same = method_once x.is_method y.is_method in
     let number = free_once s.frames x.number y.number x.is_free y.is_free in
@@ -92,7 +92,7 @@ called_once {a} {method} {inputs} {results} {r} {s} {q} {p} x y =
     ∙ ap (λ (b : Steps). and_then r (λ vs. Ok (entered s y.number y.locals results b vs))) same.body
     ∙ sym y.is
 
-module _ (a : At) (f : ℕ) where
+module _ (a : Context) (f : ℕ) where
   -- the place and what comes of it, by cases on the part
   abbrev pub StepPerformed : Step → Pos → Result Process Trouble → Type 0
   StepPerformed (skip at) pos q = (pos ≡ at) × (q ≡ Ok (done_in a.state))

@@ -8,14 +8,14 @@ use Rattle.pz_rules.specs.declared.action.Action.{Action}
 use Rattle.pz_rules.specs.declared.moment.Moment.{Moment}
 use Rattle.pz_rules.specs.declared.moment.Moment.TheVariants.{Actions, Time, Faulty}
 use Rattle.pz_rules.specs.Terms.{Term}
-use Rattle.pz_rules.specs.Settings.{Setting, Process, At}
+use Rattle.pz_rules.specs.Settings.{Setting, Process, Context}
 use Rattle.pz_rules.specs.Active.{IsActive}
 use Rattle.pz_rules.specs.Messages.{Judges}
 use Rattle.pz_rules.specs.Asking.{Asks}
 use Rattle.pz_rules.specs.Configurations.{Config}
 use Rattle.pz_rules.specs.Offers.{PartAt, IsPair, IsJudged}
-use Rattle.pz_rules.specs.Moments.{Source, SourceBefore, Troubles, asked, judged, IsLeastTrouble, IsLeast, Says, faulty, acting, passing, finished, deadlock, rank, IsMoment}
-use Rattle.pz_rules.specs.devices.Walk.{Sending, sent_by, troubled_by}
+use Rattle.pz_rules.specs.Moments.{Source, SourceBefore, Troubles, asked, judged, IsLeastTrouble, IsLeast, Candidate, faulty, acting, passing, finished, deadlock, rank, IsMoment}
+use Rattle.pz_rules.specs.devices.Walk.{ActiveSend, sent_by, troubled_by}
 use Rattle.pz_rules.proofs.Locals.{some_is, sends_complete, asks_complete}
 use Rattle.pz_rules.proofs.Once.{active_once, judges_once}
 use Rattle.pz_rules.proofs.Orders.{one_list, Either, source_order}
@@ -23,25 +23,25 @@ use Rattle.pz_rules.proofs.Nexts.{stands_once}
 use Rattle.pz_rules.proofs.Parcels.{the_parcel, parcel_once}
 
 module _ (setting : Setting) (c : Config) where
-  pub record SamePartAt (a b : At) (f g : ℕ) (t u : Term) : Type 0 where
+  pub record SamePartAt (a b : Context) (f g : ℕ) (t u : Term) : Type 0 where
     pub seen : a ≡ b
     pub frame : f ≡ g
     pub part : t ≡ u
 
   -- one part stands at an end
-  pub part_at_once : (end : End) (a b : At) (f g : ℕ) (t u : Term) → PartAt setting c end a f t → PartAt setting c end b g u → SamePartAt a b f g t u
+  pub part_at_once : (end : End) (a b : Context) (f g : ℕ) (t u : Term) → PartAt setting c end a f t → PartAt setting c end b g u → SamePartAt a b f g t u
   part_at_once end a b f g t u x y =
       let same = stands_once setting c end.process x.process y.process a b x.stands y.stands in
-      let active : IsActive b y.process.term end.place f t = subst (λ (d : At). IsActive d y.process.term end.place f t) same.seen (subst (λ (p : Process). IsActive a p.term end.place f t) same.process x.active) in
+      let active : IsActive b y.process.term end.place f t = subst (λ (d : Context). IsActive d y.process.term end.place f t) same.seen (subst (λ (p : Process). IsActive a p.term end.place f t) same.process x.active) in
       let one = active_once active y.active in
       record { seen = same.seen; frame = one.frame; part = one.part }
 
   -- what is computed of it is one
-  pub computed_once : {X : Type 0} (h : At → ℕ → Term → X) {a b : At} {f g : ℕ} {t u : Term} → SamePartAt a b f g t u → h a f t ≡ h b g u
-  computed_once h {a} {b} {f} {g} {t} {u} same = ap (λ (d : At). h d f t) same.seen ∙ ap (λ (n : ℕ). h b n t) same.frame ∙ ap (λ (v : Term). h b g v) same.part
+  pub computed_once : {X : Type 0} (h : Context → ℕ → Term → X) {a b : Context} {f g : ℕ} {t u : Term} → SamePartAt a b f g t u → h a f t ≡ h b g u
+  computed_once h {a} {b} {f} {g} {t} {u} same = ap (λ (d : Context). h d f t) same.seen ∙ ap (λ (n : ℕ). h b n t) same.frame ∙ ap (λ (v : Term). h b g v) same.part
 
   -- it has one trouble
-  asks_once : (end : End) (a b : At) (f g : ℕ) (t u : Term) (x y : Trouble) → PartAt setting c end a f t → PartAt setting c end b g u → Asks a f t x → Asks b g u y → x ≡ y
+  asks_once : (end : End) (a b : Context) (f g : ℕ) (t u : Term) (x y : Trouble) → PartAt setting c end a f t → PartAt setting c end b g u → Asks a f t x → Asks b g u y → x ≡ y
   asks_once end a b f g t u x y at_one at_other one other =
       some_is (sym (asks_complete a f t x one) ∙ computed_once troubled_by (part_at_once end a b f g t u at_one at_other) ∙ asks_complete b g u y other)
 
@@ -57,8 +57,8 @@ module _ (setting : Setting) (c : Config) where
       let other = sends_complete y.sends_at y.sends_frame y.sends_part y.sends_pos y.sends_port n q y.sends in
       let same = some_is (sym one.is ∙ computed_once sent_by at_once ∙ other.is) in
       record {
-        message = ap (λ (z : Sending). z.message) same;
-        parcel = parcel_once one.state one.values p one.packed ∙ ap (λ (z : Sending). the_parcel z.state z.values) same ∙ sym (parcel_once other.state other.values q other.packed);
+        message = ap (λ (z : ActiveSend). z.message) same;
+        parcel = parcel_once one.state one.values p one.packed ∙ ap (λ (z : ActiveSend). the_parcel z.state z.values) same ∙ sym (parcel_once other.state other.values q other.packed);
       }
 
   pub judgement_once : (receiver : End) (parcel : ParcelView) (v w : Result Bool Trouble) → IsJudged setting c receiver parcel v → IsJudged setting c receiver parcel w → v ≡ w
@@ -66,7 +66,7 @@ module _ (setting : Setting) (c : Config) where
       let same = part_at_once receiver x.seen y.seen x.frame y.frame x.part y.part x.active y.active in
       let here : Judges y.seen y.frame parcel y.part v =
       subst (λ (t : Term). Judges y.seen y.frame parcel t v) same.part
-      (subst (λ (f : ℕ). Judges y.seen f parcel x.part v) same.frame (subst (λ (a : At). Judges a x.frame parcel x.part v) same.seen x.judges)) in
+      (subst (λ (f : ℕ). Judges y.seen f parcel x.part v) same.frame (subst (λ (a : Context). Judges a x.frame parcel x.part v) same.seen x.judges)) in
       judges_once y.seen y.frame parcel y.part v w here y.judges
 
   err_is : {A : Type 0} {t u : Trouble} → (let r : Result A Trouble = Err t in r) ≡ Err u → t ≡ u
@@ -89,7 +89,7 @@ module _ (setting : Setting) (c : Config) where
   least_once : (d e : ℕ) → IsLeast setting c d → IsLeast setting c e → d ≡ e
   least_once d e x y = omega (arith, x.least e y.is_left, y.least d x.is_left)
 
-  by_rank : (m n : Moment) → rank m ≡ rank n → Says setting c m → Says setting c n → m ≡ n
+  by_rank : (m n : Moment) → rank m ≡ rank n → Candidate setting c m → Candidate setting c n → m ≡ n
   by_rank _ _ e (faulty t x) (faulty u y) = ap Faulty (least_trouble_once t u x y)
   by_rank _ _ e (acting xs x some) (acting ys y some') = ap (λ (l : List Action). Actions (length l)) (one_list setting c xs ys x y)
   by_rank _ _ e (passing d x) (passing d' y) = ap Time (least_once d d' x y)

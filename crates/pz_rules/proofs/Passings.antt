@@ -5,7 +5,7 @@ use Rattle.pz_syntax.specs.Statements.{delay}
 use Rattle.pz_offer.specs.PlaceOrder.{Place}
 use Rattle.pz_offer.specs.declared.trouble.Trouble.{Trouble}
 use Rattle.pz_rules.specs.Terms.{Code, Step, Term, done, leaf, wait, sequence, parallel, select, guarded, frame, abort, idle, handling, Terms, no_terms, and, term_at, child, count, frame_in}
-use Rattle.pz_rules.specs.Settings.{At}
+use Rattle.pz_rules.specs.Settings.{Context}
 use Rattle.pz_rules.specs.Evaluations.{Tests, Lasts}
 use Rattle.pz_rules.specs.Active as active
 use Rattle.pz_rules.specs.Active.{Active, Reached}
@@ -17,7 +17,7 @@ use Rattle.pz_rules.specs.devices.Found.{tested, lasting}
 use Rattle.pz_rules.specs.devices.Passing.{begun, statement_passed, if_open, passed, passed_all}
 use Rattle.pz_rules.proofs.Found.{tests_found, tests_only, lasts_found, lasts_only}
 
-module _ (a : At) (d : ℕ) where
+module _ (a : Context) (d : ℕ) where
   timeless : (f : ℕ) (s : Step) → is_timeless s ≡ true → leaf s ≡ statement_passed a d f s
   timeless f (delay at e) is = absurd (differ is)
     where

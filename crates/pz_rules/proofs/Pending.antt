@@ -9,7 +9,7 @@ use Rattle.pz_offer.specs.PlaceOrder.{Place}
 use Rattle.pz_offer.specs.declared.trouble.Trouble.{Trouble}
 use Rattle.pz_rules.specs.declared.moment.Moment.TheVariants.{Time}
 use Rattle.pz_rules.specs.Terms.{Code, Step, Term, done, leaf, wait, sequence, parallel, select, guarded, frame, abort, idle, handling, Terms, no_terms, and, term_at, child, count, frame_in}
-use Rattle.pz_rules.specs.Settings.{Setting, Process, At}
+use Rattle.pz_rules.specs.Settings.{Setting, Process, Context}
 use Rattle.pz_rules.specs.Active as active
 use Rattle.pz_rules.specs.Active.{Active, Reached}
 use Rattle.pz_rules.specs.Delays as delays
@@ -35,7 +35,7 @@ waits_less : (n d : ℕ) → waits_on (n - d) ≤ waits_on n
 waits_less zero d = let e : 0 - d ≡ 0 = omega arith in rw e (omega arith)
 waits_less (suc n) d = omega (arith, waits_few (suc n - d))
 
-module _ (a : At) (d : ℕ) where
+module _ (a : Context) (d : ℕ) where
   -- none are added
 
   begun_few : (at : Pos) (e : Code) (r : Result ℕ Trouble) → pending (begun d at e r) ≤ 1
@@ -144,7 +144,7 @@ list_fewer (x ∷ ps) (y ∷ qs) long each (suc k) p q at is h =
 
 module _ (setting : Setting) (c next : Config) (d : ℕ) (wires : HasWires setting.model) (all : IsWhole setting c) (is : IsMoment setting c (Time d)) (passes : PassesTo setting c d next) where
   -- what a process becomes
-  becomes : (i : ℕ) (p q : Process) → slice_get c.processes i ≡ Some p → slice_get next.processes i ≡ Some q → (a : At) × Stands setting c i p a × (q.term ≡ passed a d 0 p.term)
+  becomes : (i : ℕ) (p q : Process) → slice_get c.processes i ≡ Some p → slice_get next.processes i ≡ Some q → (a : Context) × Stands setting c i p a × (q.term ≡ passed a d 0 p.term)
   becomes i p q at now =
       let s = stands_there setting c i p all at (slice_get_within c.processes i p at) in
       let one = passes.each i p s.0 s.1 in

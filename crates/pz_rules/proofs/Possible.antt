@@ -23,7 +23,7 @@ use Rattle.pz_offer.specs.declared.trouble.Trouble.{Trouble}
 use Rattle.pz_rules.specs.declared.action.Kind.{Kind}
 use Rattle.pz_rules.specs.Terms.{Code, Codes, Step, Steps, Term, leaf, frame}
 use Rattle.pz_rules.specs.Opening.{opened_all, opened_part}
-use Rattle.pz_rules.specs.Settings.{Process, At, in_state}
+use Rattle.pz_rules.specs.Settings.{Process, Context, in_state}
 use Rattle.pz_rules.specs.Meanings.{and_then, truth, fault}
 use Rattle.pz_rules.specs.Methods.{IsMethod}
 use Rattle.pz_rules.specs.InternalActions as actions
@@ -97,7 +97,7 @@ abbrev pub LeavesFit : ModelTree → ℕ → ℕ → Result Process Trouble → 
 LeavesFit m c l (Ok p) = TermFits m c l p.term
 LeavesFit m c l (Err t) = Unit {0}
 
-module _ (a : At) (f : ℕ) (sound : BodiesFit a.setting.model) (l : ℕ) where
+module _ (a : Context) (f : ℕ) (sound : BodiesFit a.setting.model) (l : ℕ) where
   abbrev m : ModelTree
   m = a.setting.model
 
@@ -175,7 +175,7 @@ module _ (a : At) (f : ℕ) (sound : BodiesFit a.setting.model) (l : ℕ) where
   takes_fit parcel _ _ _ (messages.takes at port name into condition after r end fits gives) h = done_fits r end
   takes_fit parcel _ _ _ (messages.full at port name into condition after unfit) h = tt
 
-module _ (a : At) (f : ℕ) where
+module _ (a : Context) (f : ℕ) where
   pub hands_some : (t : Term) (pos : Pos) (port : ℕ) (message : List ℕ) (parcel : ParcelView) → Sends a f t pos port message parcel → SomeDeed (Hands a f parcel t)
   hands_some _ _ _ _ _ (messages.sends at port name args after values s parcel gives packed) =
       record { pos = at; left = _; is = messages.hands at port name args after values s (found_part (in_state a s) f at after) (left_part (in_state a s) f after) gives packed (gives_part_found (in_state a s) f at after) }

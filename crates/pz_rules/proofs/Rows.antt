@@ -21,7 +21,7 @@ use Rattle.pz_eval_rules.specs.devices.Computed.{sequence, arguments, operators,
 use Rattle.pz_rules.specs.declared.action.Kind.TheVariants.{Expire}
 use Rattle.pz_rules.specs.Terms as terms
 use Rattle.pz_rules.specs.Terms.{Code, Step, Term, done, leaf, wait, parallel, select, guarded, frame, abort, idle, handling, Terms, no_terms, and}
-use Rattle.pz_rules.specs.Settings.{Setting, At, in_state}
+use Rattle.pz_rules.specs.Settings.{Setting, Context, in_state}
 use Rattle.pz_rules.specs.Leaving.{around, left_by, residual, swept}
 use Rattle.pz_rules.specs.Messages.{bound}
 use Rattle.pz_rules.specs.devices.Found.{tested}
@@ -44,7 +44,7 @@ integer n = value.Int (pos n)
 abbrev state_with : Value → StateView
 state_with v = record { vars = v ∷ []; frames = []; objects = [] }
 
-abbrev seen_with : Value → At
+abbrev seen_with : Value → Context
 seen_with v = record { setting = setting; process = 0; class = 1; clock = 0; state = state_with v }
 
 -- the variable is greater than this

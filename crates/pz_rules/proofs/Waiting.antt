@@ -2,13 +2,13 @@
 use Rattle.std.proofs.Common.{◌≡◌, ◌<◌, ◌+◌, ◌-◌, ℕ, zero, suc, Bool, true, List, [], ◌∷◌, length, Some, Result, Ok, refl, sym, subst, ap, ◌∙◌, arith}
 use Rattle.std.specs.Prelude.{slice_get}
 use Rattle.pz_syntax.specs.declared.tokens.Pos.{Pos}
-use Rattle.pz_bind_levels.specs.Places.{Place as Standing}
+use Rattle.pz_bind_levels.specs.Places.{Address as Standing}
 use Rattle.pz_bind.specs.Nest.{processes, class_at}
 use Rattle.pz_offer.specs.declared.end.End.{End}
-use Rattle.pz_offer.specs.PlaceOrder.{Place}
+use Rattle.pz_offer.specs.PlaceOrder.{Address}
 use Rattle.pz_offer.specs.declared.trouble.Trouble.{Trouble}
 use Rattle.pz_rules.specs.Terms.{Term, done, leaf, wait, sequence, parallel, select, guarded, frame, abort, idle, handling, Terms, no_terms, and, term_at, child, count, frame_in}
-use Rattle.pz_rules.specs.Settings.{Setting, Process, At}
+use Rattle.pz_rules.specs.Settings.{Setting, Process, Context}
 use Rattle.pz_rules.specs.Active as active
 use Rattle.pz_rules.specs.Active.{Active, Reached}
 use Rattle.pz_rules.specs.Delays as delays
@@ -26,7 +26,7 @@ use Rattle.pz_rules.proofs.Moments.{NoTrouble, no_trouble, least_passes}
 module _ (setting : Setting) (c : Config) (d : ℕ) where
   -- The configuration afterwards
 
-  abbrev at_place : ℕ → Standing → Process → At
+  abbrev at_place : ℕ → Standing → Process → Context
   at_place i place p = record { setting = setting; process = i; class = class_at setting.model place; clock = c.clock; state = p.state }
 
   abbrev later : ℕ → Standing → Process → Process
@@ -58,19 +58,19 @@ module _ (setting : Setting) (c : Config) (d : ℕ) where
   next_config = record { clock = c.clock + d; processes = all_later 0 (processes setting.model) c.processes }
 
   module _ (none : NoTrouble setting c) where
-    calm : (i : ℕ) (p : Process) (a : At) → Stands setting c i p a → Untroubled a d 0 p.term
+    calm : (i : ℕ) (p : Process) (a : Context) → Stands setting c i p a → Untroubled a d 0 p.term
     calm i p a stands place g x trouble h asks =
         let e : End = record { process = i; place = place } in
         none (part e) trouble (asked e a g x trouble (record { process = p; stands = stands; active = h }) asks)
 
-    each_passes : (i : ℕ) (p : Process) (a : At) → Stands setting c i p a → (x : Term) × Passes a d 0 p.term x × (slice_get next_config.processes i ≡ Some (record { term = x; state = p.state }))
+    each_passes : (i : ℕ) (p : Process) (a : Context) → Stands setting c i p a → (x : Term) × Passes a d 0 p.term x × (slice_get next_config.processes i ≡ Some (record { term = x; state = p.state }))
     each_passes i p a stands =
         let n : 0 + i ≡ i = omega arith in (
           passed a d 0 p.term,
           passes_some a d 0 p.term (calm i p a stands),
           later_at 0 i (processes setting.model) c.processes stands.place p stands.is_process stands.is_here
               ∙ ap (λ (k : ℕ). Some (later k stands.place p)) n
-              ∙ ap (λ (b : At). let q : Process = record { term = passed b d 0 p.term; state = p.state } in Some q) (sym stands.seen),
+              ∙ ap (λ (b : Context). let q : Process = record { term = passed b d 0 p.term; state = p.state } in Some q) (sym stands.seen),
         )
 
     pub passing_there : PassesTo setting c d next_config
@@ -81,7 +81,7 @@ passing_some setting c d wires is = (next_config setting c d, passing_there sett
 
 -- What is left of a delay
 
-module _ (a : At) (d : ℕ) where
+module _ (a : Context) (d : ℕ) where
   all_passed_at : (f : ℕ) (ts : Terms) (i : ℕ) → i < count ts → term_at (passed_all a d f ts) i ≡ passed a d f (term_at ts i)
   all_passed_at f no_terms i within = absurd (omega (arith, within))
   all_passed_at f (and t ts) zero within = refl
@@ -114,7 +114,7 @@ module _ (a : At) (d : ℕ) where
   delay_passed f _ _ (delays.not_begun at e left lasts) = (at, ap (begun d at e) (sym (lasts_only a f at e (Ok left) lasts)))
   delay_passed f _ _ (delays.begun left at) = (at, refl)
 
-  part_passed : (f : ℕ) (t : Term) (place : Place) (g : ℕ) (x : Term) (left : ℕ) → Active a f t place g x → Delays a g x left → (pos : Pos) × (part_of (passed a d f t) place ≡ wait (left - d) pos)
+  part_passed : (f : ℕ) (t : Term) (place : Address) (g : ℕ) (x : Term) (left : ℕ) → Active a f t place g x → Delays a g x left → (pos : Pos) × (part_of (passed a d f t) place ≡ wait (left - d) pos)
   part_passed _ _ _ _ _ left (active.here f t) h = delay_passed f t left h
   part_passed _ _ _ _ _ left (active.inside f t i place g x r k) h =
       let inner = part_passed (frame_in t f) (child t i) place g x left k h in

@@ -7,26 +7,26 @@ use Rattle.pz_syntax.specs.declared.tokens.Pos.{Pos}
 use Rattle.pz_offer.specs.PlaceOrder.{Place, PlaceBefore}
 use Rattle.pz_offer.specs.declared.trouble.Trouble.{Trouble}
 use Rattle.pz_rules.specs.Terms.{Code, Term, done, leaf, wait, sequence, parallel, select, guarded, frame, abort, idle, handling, Terms, no_terms, and, term_at, child, count, frame_in}
-use Rattle.pz_rules.specs.Settings.{At}
+use Rattle.pz_rules.specs.Settings.{Context}
 use Rattle.pz_rules.specs.Evaluations.{Tests}
 use Rattle.pz_rules.specs.Active as active
 use Rattle.pz_rules.specs.Active.{Reached, Active}
 use Rattle.pz_rules.specs.devices.Found.{tested}
-use Rattle.pz_rules.specs.devices.Walk.{Part, here, under, behind, active_parts, active_children}
+use Rattle.pz_rules.specs.devices.Walk.{ActivePart, here, under, behind, active_parts, active_children}
 use Rattle.pz_rules.proofs.Found.{tests_found, tests_only}
 use Rattle.pz_rules.proofs.Lists.{Contains-map, Contains-later, AllPairs-nil, AllPairs-map, AllPairs-append}
 
-abbrev pub part_at : Place → ℕ → Term → Part
+abbrev pub part_at : Place → ℕ → Term → ActivePart
 part_at place f t = record { place = place; frame = f; part = t }
 
 -- an active part of a term
-abbrev pub IsPart : At → ℕ → Term → Part → Type 0
+abbrev pub IsPart : Context → ℕ → Term → ActivePart → Type 0
 IsPart a f t p = Active a f t p.place p.frame p.part
 
-abbrev pub PartBefore : Part → Part → Type 0
+abbrev pub PartBefore : ActivePart → ActivePart → Type 0
 PartBefore p q = PlaceBefore p.place q.place
 
-module _ (a : At) where
+module _ (a : Context) where
   -- What is active is listed
 
   first_part : (f : ℕ) (t : Term) → Contains (active_parts a f t) (here f t)
@@ -43,7 +43,7 @@ module _ (a : At) where
   first_part f (handling t u again) = (0, omega arith, refl)
 
   -- in the child of number k + i
-  among : (f k : ℕ) (ts : Terms) (i : ℕ) (p : Part) → i < count ts → Contains (active_parts a f (term_at ts i)) p → Contains (active_children a f k ts) (under (k + i) p)
+  among : (f k : ℕ) (ts : Terms) (i : ℕ) (p : ActivePart) → i < count ts → Contains (active_parts a f (term_at ts i)) p → Contains (active_children a f k ts) (under (k + i) p)
   among f k no_terms i p within h = absurd (omega (arith, within))
   among f k (and t ts) zero p within h =
       let n : k + 0 ≡ k = omega arith in
@@ -52,19 +52,19 @@ module _ (a : At) where
       let n : k + suc i ≡ suc k + i = omega arith in
       rw n (Contains-append_right (map (under k) (active_parts a f t)) (active_children a f (suc k) ts) (under (suc k + i) p) (among f (suc k) ts i p (omega (arith, within)) h))
 
-  among_all : (f : ℕ) (ts : Terms) (i : ℕ) (p : Part) → i < count ts → Contains (active_parts a f (term_at ts i)) p → Contains (active_children a f 0 ts) (under i p)
+  among_all : (f : ℕ) (ts : Terms) (i : ℕ) (p : ActivePart) → i < count ts → Contains (active_parts a f (term_at ts i)) p → Contains (active_children a f 0 ts) (under i p)
   among_all f ts i p within h = let n : 0 + i ≡ i = omega arith in subst (λ (m : ℕ). Contains (active_children a f 0 ts) (under m p)) n (among f 0 ts i p within h)
 
-  opened_by : (r : Result Bool Trouble) (ps : List Part) (p : Part) → r ≡ Ok true → Contains ps p → Contains (behind r ps) p
+  opened_by : (r : Result Bool Trouble) (ps : List ActivePart) (p : ActivePart) → r ≡ Ok true → Contains ps p → Contains (behind r ps) p
   opened_by r ps p is h = rw is h
 
-  first_of : (ps qs : List Part) (p : Part) → Contains ps p → Contains (map (under 0) ps ++ map (under 1) qs) (under 0 p)
+  first_of : (ps qs : List ActivePart) (p : ActivePart) → Contains ps p → Contains (map (under 0) ps ++ map (under 1) qs) (under 0 p)
   first_of ps qs p h = Contains-append_left (map (under 0) ps) (map (under 1) qs) (under 0 p) (Contains-map (under 0) ps p h)
 
-  second_of : (ps qs : List Part) (p : Part) → Contains qs p → Contains (map (under 0) ps ++ map (under 1) qs) (under 1 p)
+  second_of : (ps qs : List ActivePart) (p : ActivePart) → Contains qs p → Contains (map (under 0) ps ++ map (under 1) qs) (under 1 p)
   second_of ps qs p h = Contains-append_right (map (under 0) ps) (map (under 1) qs) (under 1 p) (Contains-map (under 1) qs p h)
 
-  within_child : (f : ℕ) (t : Term) (i : ℕ) (p : Part) → Reached a f t i → Contains (active_parts a (frame_in t f) (child t i)) p → Contains (active_parts a f t) (under i p)
+  within_child : (f : ℕ) (t : Term) (i : ℕ) (p : ActivePart) → Reached a f t i → Contains (active_parts a (frame_in t f) (child t i)) p → Contains (active_parts a f t) (under i p)
   within_child f done i p r h = absurd r
   within_child f (leaf s) i p r h = absurd r
   within_child f (wait left at) i p r h = absurd r
@@ -93,10 +93,10 @@ module _ (a : At) where
 
   -- What is listed is active
 
-  children : (f : ℕ) (t : Term) (i : ℕ) (ps : List Part) → Reached a f t i → All (IsPart a (frame_in t f) (child t i)) ps → All (IsPart a f t) (map (under i) ps)
+  children : (f : ℕ) (t : Term) (i : ℕ) (ps : List ActivePart) → Reached a f t i → All (IsPart a (frame_in t f) (child t i)) ps → All (IsPart a f t) (map (under i) ps)
   children f t i ps r all = All-map (IsPart a f t) (under i) ps (λ k d within. active.inside f t i _ _ _ r (all k d within))
 
-  if_open : (f : ℕ) (test : Code) (at : Pos) (t : Term) (r : Result Bool Trouble) (ps : List Part) → tested a f at test ≡ r → (Tests a f at test (Ok true) → All (IsPart a f (guarded test at t)) ps) → All (IsPart a f (guarded test at t)) (behind r ps)
+  if_open : (f : ℕ) (test : Code) (at : Pos) (t : Term) (r : Result Bool Trouble) (ps : List ActivePart) → tested a f at test ≡ r → (Tests a f at test (Ok true) → All (IsPart a f (guarded test at t)) ps) → All (IsPart a f (guarded test at t)) (behind r ps)
   if_open f test at t (Ok true) ps is all = all (subst (λ (r : Result Bool Trouble). Tests a f at test r) is (tests_found a f at test))
   if_open f test at t (Ok false) ps is all = All-nil (IsPart a f (guarded test at t))
   if_open f test at t (Err trouble) ps is all = All-nil (IsPart a f (guarded test at t))
@@ -162,28 +162,28 @@ module _ (a : At) where
       weaker (i ∷ place) h = omega (arith, h)
 
   -- what stands in children comes after their parent
-  after_parent : (f k : ℕ) (t : Term) (ps : List Part) → All (PartBefore (here f t)) (map (under k) ps)
+  after_parent : (f k : ℕ) (t : Term) (ps : List ActivePart) → All (PartBefore (here f t)) (map (under k) ps)
   after_parent f k t ps = All-map (PartBefore (here f t)) (under k) ps (λ n d within. tt)
 
-  later_child : (k : ℕ) (p : Part) (q : Place) → FromOn (suc k) q → PlaceBefore (k ∷ p.place) q
+  later_child : (k : ℕ) (p : ActivePart) (q : Place) → FromOn (suc k) q → PlaceBefore (k ∷ p.place) q
   later_child k p [] h = absurd h
   later_child k p (i ∷ place) h = inl (omega (arith, h))
 
-  in_one : (k : ℕ) (ps : List Part) → AllPairs PartBefore ps → AllPairs PartBefore (map (under k) ps)
+  in_one : (k : ℕ) (ps : List ActivePart) → AllPairs PartBefore ps → AllPairs PartBefore (map (under k) ps)
   in_one k ps pairs = AllPairs-map PartBefore (under k) ps (λ i j d before within. inr (refl, pairs i j d before within))
 
-  in_two : (ps qs : List Part) → AllPairs PartBefore ps → AllPairs PartBefore qs → AllPairs PartBefore (map (under 0) ps ++ map (under 1) qs)
+  in_two : (ps qs : List ActivePart) → AllPairs PartBefore ps → AllPairs PartBefore qs → AllPairs PartBefore (map (under 0) ps ++ map (under 1) qs)
   in_two ps qs first second =
       AllPairs-append PartBefore (map (under 0) ps) (map (under 1) qs) (in_one 0 ps first) (in_one 1 qs second)
       (All-map (λ p. All (PartBefore p) (map (under 1) qs)) (under 0) ps (λ k d within. All-map (PartBefore (under 0 (get_or ps k d))) (under 1) qs (λ n e later. inl (omega arith))))
 
-  under_parent : (f : ℕ) (t : Term) (ps : List Part) → All (PartBefore (here f t)) ps → AllPairs PartBefore ps → AllPairs PartBefore (here f t ∷ ps)
+  under_parent : (f : ℕ) (t : Term) (ps : List ActivePart) → All (PartBefore (here f t)) ps → AllPairs PartBefore ps → AllPairs PartBefore (here f t ∷ ps)
   under_parent f t ps first pairs = AllPairs-cons PartBefore (here f t) ps first pairs
 
   alone : (f : ℕ) (t : Term) → AllPairs PartBefore (here f t ∷ [])
   alone f t = under_parent f t [] (All-nil (PartBefore (here f t))) (AllPairs-nil PartBefore)
 
-  after_both : (f : ℕ) (t : Term) (ps qs : List Part) → All (PartBefore (here f t)) (map (under 0) ps ++ map (under 1) qs)
+  after_both : (f : ℕ) (t : Term) (ps qs : List ActivePart) → All (PartBefore (here f t)) (map (under 0) ps ++ map (under 1) qs)
   after_both f t ps qs = All-append (PartBefore (here f t)) (map (under 0) ps) (map (under 1) qs) (after_parent f 0 t ps) (after_parent f 1 t qs)
 
   after_children : (f : ℕ) (t : Term) (ts : Terms) → All (PartBefore (here f t)) (active_children a f 0 ts)
@@ -193,7 +193,7 @@ module _ (a : At) where
       by [] h = h
       by (i ∷ place) h = tt
 
-  kept_open : (r : Result Bool Trouble) (P : List Part → Type 0) (ps : List Part) → P [] → P ps → P (behind r ps)
+  kept_open : (r : Result Bool Trouble) (P : List ActivePart → Type 0) (ps : List ActivePart) → P [] → P ps → P (behind r ps)
   kept_open (Ok true) P ps none all = all
   kept_open (Ok false) P ps none all = none
   kept_open (Err t) P ps none all = none

@@ -7,10 +7,10 @@ use Rattle.pz_value.specs.declared.value.Value.{Value}
 use Rattle.pz_state.specs.States.{StateView}
 use Rattle.pz_offer.specs.declared.trouble.Trouble.{Trouble}
 use Rattle.pz_rules.specs.Terms.{Step, Term, leaf}
-use Rattle.pz_rules.specs.Settings.{At}
+use Rattle.pz_rules.specs.Settings.{Context}
 use Rattle.pz_rules.specs.Evaluations.{GivesPart}
 use Rattle.pz_rules.specs.devices.Found.{found_part, left_part}
-use Rattle.pz_rules.specs.devices.Walk.{Noted, noted, active_parts, does, Sending, sending, sent_by, statement_sends, received_by, waiting, troubled_by}
+use Rattle.pz_rules.specs.devices.Walk.{Noted, noted, active_parts, does, ActiveSend, sending, sent_by, statement_sends, received_by, waiting, troubled_by}
 use Rattle.pz_rules.specs.devices.Walks.{IsThere, Lists, Offering, offering, InternalActionsAreListed, SendsAreListed, SendsHaveParcels, ReceivesAreListed, DelaysAreListed, TroublesAreListed}
 use Rattle.pz_rules.proofs.Found.{gives_part_found, gives_part_only}
 use Rattle.pz_rules.proofs.Locals.{some_is, no_some, does_complete, does_sound, sends_complete, sends_sound, receives_complete, receives_sound, delays_complete, delays_sound, asks_complete, asks_sound}
@@ -18,7 +18,7 @@ use Rattle.pz_rules.proofs.Noted.{noted_complete, noted_sound, noted_ordered}
 use Rattle.pz_rules.proofs.Parcels.{the_parcel, parcel_is, parcel_once}
 
 -- what is noted of each part is what holds of it
-pub lists : {X : Type 0} (a : At) (t : Term) (holds : X → ℕ → Term → Type 0) (h : ℕ → Term → Option X)
+pub lists : {X : Type 0} (a : Context) (t : Term) (holds : X → ℕ → Term → Type 0) (h : ℕ → Term → Option X)
     → ((f : ℕ) (part : Term) (x : X) → h f part ≡ Some x → holds x f part) → ((f : ℕ) (part : Term) (x : X) → holds x f part → h f part ≡ Some x)
     → Lists a t holds (noted h (active_parts a 0 t))
 lists {X} a t holds h sound complete = record {
@@ -30,13 +30,13 @@ lists {X} a t holds h sound complete = record {
     each : (n : Noted X) → Contains (noted h (active_parts a 0 t)) n → IsThere a t n.place (holds n.what)
     each n within = let at = noted_sound a h 0 t n within in record { frame = at.frame; part = at.part; active = at.active; it_holds = sound at.frame at.part n.what at.is }
 
-module _ (a : At) (f : ℕ) where
-  offering_complete : (t : Term) (x : Sending) → Offering a f t x → sent_by a f t ≡ Some x
+module _ (a : Context) (f : ℕ) where
+  offering_complete : (t : Term) (x : ActiveSend) → Offering a f t x → sent_by a f t ≡ Some x
   offering_complete _ _ (offering at port name args after values s gives) =
       let only = gives_part_only a f at args (Ok values) s gives in
       ap (sending at port name.name (left_part a f args)) (sym only.0) ∙ ap (λ (z : StateView). sending at port name.name z (Ok values)) (sym only.1)
 
-  statement_offering : (s : Step) (x : Sending) → statement_sends a f s ≡ Some x → Offering a f (leaf s) x
+  statement_offering : (s : Step) (x : ActiveSend) → statement_sends a f s ≡ Some x → Offering a f (leaf s) x
   statement_offering (send at port name args after) x is = by (found_part a f at args) refl is
     where
       by : (r : Result (List Value) Trouble) → found_part a f at args ≡ r → sending at port name.name (left_part a f args) r ≡ Some x → Offering a f (leaf (send at port name args after)) x
@@ -46,7 +46,7 @@ module _ (a : At) (f : ℕ) where
       by (Err trouble) e some = no_some some
   statement_offering s x is = no_some is
 
-  offering_sound : (t : Term) (x : Sending) → sent_by a f t ≡ Some x → Offering a f t x
+  offering_sound : (t : Term) (x : ActiveSend) → sent_by a f t ≡ Some x → Offering a f t x
   offering_sound (leaf s) x is = statement_offering s x is
   offering_sound t x is = no_some is
 
@@ -65,7 +65,7 @@ sends_have_parcels a f part x h =
         packed = parcel_is x.state x.values;
         only = λ other sends.
             let packs = sends_complete a f part x.pos x.port x.message other sends in
-            parcel_once packs.state packs.values other packs.packed ∙ ap (λ (z : Sending). the_parcel z.state z.values) (some_is (sym packs.is ∙ is));
+            parcel_once packs.state packs.values other packs.packed ∙ ap (λ (z : ActiveSend). the_parcel z.state z.values) (some_is (sym packs.is ∙ is));
       },
     )
 

@@ -11,10 +11,10 @@ use Rattle.pz_syntax.specs.declared.clusters.ChannelEnd.TheVariants.{Inner, Oute
 use Rattle.pz_syntax.specs.Classes.{ModelTree}
 use Rattle.pz_classes.specs.Members.{ports, spelled}
 use Rattle.pz_classes.specs.Soundness.{IsSound}
-use Rattle.pz_bind_levels.specs.Places.{Place}
+use Rattle.pz_bind_levels.specs.Places.{Address}
 use Rattle.pz_bind_levels.specs.Wires.{Channel, channel}
 use Rattle.pz_bind.specs.Nest.{processes, class_at, instance_at, channels_at}
-use Rattle.pz_bind.specs.Connections.{End, end, is_outer, names_inner, IsIn, is_in, Joined, joined, Leads, itself, outwards, Reaches}
+use Rattle.pz_bind.specs.Connections.{PortEnd, end, is_outer, names_inner, IsIn, is_in, Joined, joined, Leads, itself, outwards, Reaches}
 use Rattle.pz_bind.specs.Wires.{wires, HasWire, EndsShareWires}
 use Rattle.pz_rules.specs.Ports.{IsWire, HasWires}
 use Rattle.pz_rules.proofs.Locals.{some_is, no_some}
@@ -66,7 +66,7 @@ channel_known : (c d : Channel) → Known (c ≡ d)
 channel_known c d = by (name_known c.place d.place) (number_known c.number d.number)
   where
     by : Known (c.place ≡ d.place) → Known (c.number ≡ d.number) → Known (c ≡ d)
-    by (inl place) (inl number) = inl (ap (λ (p : Place). channel p c.number) place ∙ ap (λ (n : ℕ). channel d.place n) number)
+    by (inl place) (inl number) = inl (ap (λ (p : Address). channel p c.number) place ∙ ap (λ (n : ℕ). channel d.place n) number)
     by (inl place) (inr other) = inr (λ e. other (ap (λ (x : Channel). x.number) e))
     by (inr other) number = inr (λ e. other (ap (λ (x : Channel). x.place) e))
 
@@ -77,52 +77,52 @@ module _ (m : ModelTree) where
   abbrev Named : Instance → List ℕ → Written → Type 0
   Named x port h = IsTrue (names_inner x.name.name port h)
 
-  abbrev WrittenIn : Place → ℕ → List ℕ → Instance → ℕ → Channel → Type 0
+  abbrev WrittenIn : Address → ℕ → List ℕ → Instance → ℕ → Channel → Type 0
   WrittenIn up i port x k c = (h : Written) × (slice_get (channels_at m up) k ≡ Some h) × (Named x port h × (c ≡ channel up k))
 
-  abbrev NumberedIn : Place → ℕ → List ℕ → Instance → Channel → Type 0
+  abbrev NumberedIn : Address → ℕ → List ℕ → Instance → Channel → Type 0
   NumberedIn up i port x c = (k : ℕ) × (k < length (channels_at m up)) × WrittenIn up i port x k c
 
-  abbrev pub InLevel : Place → ℕ → List ℕ → Channel → Type 0
+  abbrev pub InLevel : Address → ℕ → List ℕ → Channel → Type 0
   InLevel up i port c = (x : Instance) × (instance_at m up i ≡ Some x) × NumberedIn up i port x c
 
-  written_in : (up : Place) (i : ℕ) (port : List ℕ) (x : Instance) (k : ℕ) → Finite (WrittenIn up i port x k)
+  written_in : (up : Address) (i : ℕ) (port : List ℕ) (x : Instance) (k : ℕ) → Finite (WrittenIn up i port x k)
   written_in up i port x k =
       bind {P = λ h. slice_get (channels_at m up) k ≡ Some h} {Q = λ h c. Named x port h × (c ≡ channel up k)} (from_option (slice_get (channels_at m up) k))
       (λ h. where_known (true_known (names_inner x.name.name port h)) (just (channel up k) refl (λ c e. e)))
 
-  numbered_in : (up : Place) (i : ℕ) (port : List ℕ) (x : Instance) → Finite (NumberedIn up i port x)
+  numbered_in : (up : Address) (i : ℕ) (port : List ℕ) (x : Instance) → Finite (NumberedIn up i port x)
   numbered_in up i port x = bind {P = λ k. k < length (channels_at m up)} {Q = WrittenIn up i port x} (below (length (channels_at m up))) (written_in up i port x)
 
-  in_level : (up : Place) (i : ℕ) (port : List ℕ) → Finite (InLevel up i port)
+  in_level : (up : Address) (i : ℕ) (port : List ℕ) → Finite (InLevel up i port)
   in_level up i port = bind {P = λ x. instance_at m up i ≡ Some x} {Q = NumberedIn up i port} (from_option (instance_at m up i)) (numbered_in up i port)
 
-  in_by : (up : Place) (i : ℕ) (port : List ℕ) (c : Channel) → InLevel up i port c → IsIn m (end (i ∷ up) port) c
+  in_by : (up : Address) (i : ℕ) (port : List ℕ) (c : Channel) → InLevel up i port c → IsIn m (end (i ∷ up) port) c
   in_by up i port c h =
       let at = h.2.2 in
       subst (IsIn m (end (i ∷ up) port)) (sym at.2.1) (is_in up i h.2.0 h.0 at.0 port h.1 at.1 at.2.0)
 
   -- what a channel that an end is in says of it
-  abbrev InParts : End → Channel → Type 0
-  InParts e c = (i : ℕ) × (up : Place) × (e.place ≡ i ∷ up) × InLevel up i e.port c
+  abbrev InParts : PortEnd → Channel → Type 0
+  InParts e c = (i : ℕ) × (up : Address) × (e.place ≡ i ∷ up) × InLevel up i e.port c
 
-  in_parts : (e : End) (c : Channel) → IsIn m e c → InParts e c
+  in_parts : (e : PortEnd) (c : Channel) → IsIn m e c → InParts e c
   in_parts _ _ (is_in up i k x h port stands there named) = (i, up, refl, (x, stands, (k, slice_get_within (channels_at m up) k h there, (h, there, (named, refl)))))
 
-  pub by_in : (i : ℕ) (up : Place) (port : List ℕ) (c : Channel) → IsIn m (end (i ∷ up) port) c → InLevel up i port c
+  pub by_in : (i : ℕ) (up : Address) (port : List ℕ) (c : Channel) → IsIn m (end (i ∷ up) port) c → InLevel up i port c
   by_in i up port c h = by (in_parts (end (i ∷ up) port) c h)
     where
       by : InParts (end (i ∷ up) port) c → InLevel up i port c
       by (j, far, same, inside) =
           let number : j ≡ i = (heads same).0 in
           let place : far ≡ up = (heads same).1 in
-          subst (λ (n : ℕ). InLevel up n port c) number (subst (λ (p : Place). InLevel p j port c) place inside)
+          subst (λ (n : ℕ). InLevel up n port c) number (subst (λ (p : Address). InLevel p j port c) place inside)
         where
           heads : {x y : ℕ} {xs ys : List ℕ} → x ∷ xs ≡ y ∷ ys → (y ≡ x) × (ys ≡ xs)
           heads e = (cc, cc)
 
   -- the channels that an end of a place is in
-  pub in_channels : (place : Place) (port : List ℕ) → Finite (IsIn m (end place port))
+  pub in_channels : (place : Address) (port : List ℕ) → Finite (IsIn m (end place port))
   in_channels [] port = nothing (λ c h. nowhere (in_parts (end [] port) c h))
     where
       nowhere : {c : Channel} → InParts (end [] port) c → ⊥
@@ -145,25 +145,25 @@ module _ (m : ModelTree) where
       alike {P = λ port. IsTrue (is_outer port x) ⊎ IsOuter es port} {Q = IsOuter (x ∷ es)} (λ port h. or_of (is_outer port x) (list_any (is_outer port) es) h) (λ port h. of_or (is_outer port x) (list_any (is_outer port) es) h)
       (either (outer_of x) (outer_ports es))
 
-  abbrev ByPort : Place → Written → Channel → Type 0
+  abbrev ByPort : Address → Written → Channel → Type 0
   ByPort place h c = (port : List ℕ) × IsOuter h.ends port × IsIn m (end place port) c
 
-  abbrev JoinedBy : Place → ℕ → Channel → Type 0
+  abbrev JoinedBy : Address → ℕ → Channel → Type 0
   JoinedBy place k c = (h : Written) × (slice_get (channels_at m place) k ≡ Some h) × ByPort place h c
 
-  by_port : (place : Place) (h : Written) → Finite (ByPort place h)
+  by_port : (place : Address) (h : Written) → Finite (ByPort place h)
   by_port place h = bind {P = IsOuter h.ends} {Q = λ port c. IsIn m (end place port) c} (outer_ports h.ends) (λ port. in_channels place port)
 
   by_joined : (c d : Channel) → Joined m c d → JoinedBy c.place c.number d
   by_joined _ _ (joined place k h port d there outer inside) = (h, there, (port, outer, inside))
 
-  pub joined_channels : (place : Place) (k : ℕ) → Finite (Joined m (channel place k))
+  pub joined_channels : (place : Address) (k : ℕ) → Finite (Joined m (channel place k))
   joined_channels place k =
       alike {P = JoinedBy place k} {Q = Joined m (channel place k)} (λ c h. joined place k h.0 h.2.0 c h.1 h.2.1 h.2.2) (λ c h. by_joined (channel place k) c h)
       (bind {P = λ h. slice_get (channels_at m place) k ≡ Some h} {Q = ByPort place} (from_option (slice_get (channels_at m place) k)) (by_port place))
 
   -- the next channel is in the level around this one
-  joined_place : (i : ℕ) (up : Place) (k : ℕ) (c : Channel) → Joined m (channel (i ∷ up) k) c → c.place ≡ up
+  joined_place : (i : ℕ) (up : Address) (k : ℕ) (c : Channel) → Joined m (channel (i ∷ up) k) c → c.place ≡ up
   joined_place i up k c h =
       let port = (by_joined (channel (i ∷ up) k) c h).2 in
       let inside = by_in i up port.0 c port.2 in
@@ -193,20 +193,20 @@ module _ (m : ModelTree) where
       neither (inl same) = other same
       neither (inr on) = none on
 
-  leads_known : (place : Place) (k : ℕ) (d : Channel) → Known (Leads m (channel place k) d)
+  leads_known : (place : Address) (k : ℕ) (d : Channel) → Known (Leads m (channel place k) d)
   leads_known [] k d = lead_by (channel [] k) d (channel_known (channel [] k) d) (inr (λ h. joined_top k h.0 h.1))
   leads_known (i ∷ up) k d = lead_by (channel (i ∷ up) k) d (channel_known (channel (i ∷ up) k) d) (forget (some_of {P = Joined m (channel (i ∷ up) k)} {Q = λ x. (x.place ≡ up) × Leads m x d} (joined_channels (i ∷ up) k) (λ x. there x (name_known x.place up) (leads_known up x.number d))))
     where
       there : (x : Channel) → Known (x.place ≡ up) → Known (Leads m (channel up x.number) d) → Known ((x.place ≡ up) × Leads m x d)
       there x (inr other) l = inr (λ h. other h.0)
-      there x (inl same) (inl l) = inl (same, subst (λ (p : Place). Leads m (channel p x.number) d) (sym same) l)
-      there x (inl same) (inr none) = inr (λ h. none (subst (λ (p : Place). Leads m (channel p x.number) d) same h.1))
+      there x (inl same) (inl l) = inl (same, subst (λ (p : Address). Leads m (channel p x.number) d) (sym same) l)
+      there x (inl same) (inr none) = inr (λ h. none (subst (λ (p : Address). Leads m (channel p x.number) d) same h.1))
 
       forget : Known ((x : Channel) × Joined m (channel (i ∷ up) k) x × ((x.place ≡ up) × Leads m x d)) → Known (Onwards (channel (i ∷ up) k) d)
       forget (inl h) = inl (h.0, h.1, h.2.1)
       forget (inr none) = inr (λ h. none (h.0, h.1, (joined_place i up k h.0 h.1, h.2)))
 
-  reaches_known : (place : Place) (port : List ℕ) (c : Channel) → Known (Reaches m (end place port) c)
+  reaches_known : (place : Address) (port : List ℕ) (c : Channel) → Known (Reaches m (end place port) c)
   reaches_known place port c = by (some_of {P = IsIn m (end place port)} {Q = λ x. Leads m x c} (in_channels place port) (λ x. leads_known x.place x.number c))
     where
       by : Known ((x : Channel) × IsIn m (end place port) x × Leads m x c) → Known (Reaches m (end place port) c)
@@ -222,7 +222,7 @@ module _ (m : ModelTree) where
 
   -- Wires
 
-  has_by : (place : Place) (port : List ℕ) (w : ℕ) (o : Option Channel) → slice_get (wires m) w ≡ o → Known (HasWire m (end place port) w)
+  has_by : (place : Address) (port : List ℕ) (w : ℕ) (o : Option Channel) → slice_get (wires m) w ≡ o → Known (HasWire m (end place port) w)
   has_by place port w None e = inr (λ h. no_some (sym e ∙ h.there))
   has_by place port w (Some c) e = both (reaches_known place port c) (last_known c)
     where
@@ -231,36 +231,36 @@ module _ (m : ModelTree) where
       both (inr none) last = inr (λ h. none (subst (Reaches m (end place port)) (some_is (sym h.there ∙ e)) h.reached))
       both (inl r) (inr more) = inr (λ h. more (subst (λ (x : Channel). (d : Channel) → Joined m x d → ⊥) (some_is (sym h.there ∙ e)) h.ends))
 
-  has_known : (place : Place) (port : List ℕ) (w : ℕ) → Known (HasWire m (end place port) w)
+  has_known : (place : Address) (port : List ℕ) (w : ℕ) → Known (HasWire m (end place port) w)
   has_known place port w = has_by place port w (slice_get (wires m) w) refl
 
-  abbrev SomeWire : Place → List ℕ → Type 0
+  abbrev SomeWire : Address → List ℕ → Type 0
   SomeWire place port = (w : ℕ) × (w < length (wires m)) × HasWire m (end place port) w
 
-  some_wire : (place : Place) (port : List ℕ) → Known (SomeWire place port)
+  some_wire : (place : Address) (port : List ℕ) → Known (SomeWire place port)
   some_wire place port = some_of {P = λ w. w < length (wires m)} {Q = HasWire m (end place port)} (below (length (wires m))) (λ w. has_known place port w)
 
-  abbrev number_of : {place : Place} {port : List ℕ} → Known (SomeWire place port) → Option ℕ
+  abbrev number_of : {place : Address} {port : List ℕ} → Known (SomeWire place port) → Option ℕ
   number_of (inl h) = Some h.0
   number_of (inr none) = None
 
-  number_has : (place : Place) (port : List ℕ) (w : ℕ) (o : Known (SomeWire place port)) → number_of o ≡ Some w → HasWire m (end place port) w
+  number_has : (place : Address) (port : List ℕ) (w : ℕ) (o : Known (SomeWire place port)) → number_of o ≡ Some w → HasWire m (end place port) w
   number_has place port w (inl h) e = subst (HasWire m (end place port)) (some_is e) h.2
   number_has place port w (inr none) e = no_some e
 
   module _ (sound : IsSound m) (share : EndsShareWires m) where
-    number_only : (place : Place) (port : List ℕ) (w : ℕ) (o : Known (SomeWire place port)) → HasWire m (end place port) w → number_of o ≡ Some w
+    number_only : (place : Address) (port : List ℕ) (w : ℕ) (o : Known (SomeWire place port)) → HasWire m (end place port) w → number_of o ≡ Some w
     number_only place port w (inl h) x =
         ap (λ (n : ℕ). Some n) ((share sound (end place port) (end place port) h.0 w h.2 x).1 (record { met = h.2.last; one = h.2.reached; other = h.2.reached }))
     number_only place port w (inr none) x = absurd (none (w, slice_get_within (wires m) w x.last x.there, x))
 
     -- of a port of a process
 
-    abbrev of_name : Place → Option (List ℕ) → Option ℕ
+    abbrev of_name : Address → Option (List ℕ) → Option ℕ
     of_name place None = None
     of_name place (Some name) = number_of (some_wire place name)
 
-    abbrev of_place : ℕ → Option Place → Option ℕ
+    abbrev of_place : ℕ → Option Address → Option ℕ
     of_place port None = None
     of_place port (Some place) = of_name place (slice_get (spelled (ports m (class_at m place))) port)
 
@@ -270,11 +270,11 @@ module _ (m : ModelTree) where
     wire_only : (i port w : ℕ) → IsWire m i port w → the_wire i port ≡ Some w
     wire_only i port w x = ap (of_place port) x.is_process ∙ ap (of_name x.place) x.named ∙ number_only x.place x.name w (some_wire x.place x.name) x.has_wire
 
-    has_named : (i port w : ℕ) (place : Place) (o : Option (List ℕ)) → slice_get (processes m) i ≡ Some place → slice_get (spelled (ports m (class_at m place))) port ≡ o → of_name place o ≡ Some w → IsWire m i port w
+    has_named : (i port w : ℕ) (place : Address) (o : Option (List ℕ)) → slice_get (processes m) i ≡ Some place → slice_get (spelled (ports m (class_at m place))) port ≡ o → of_name place o ≡ Some w → IsWire m i port w
     has_named i port w place None there e found = no_some found
     has_named i port w place (Some name) there e found = record { place = place; is_process = there; name = name; named = e; has_wire = number_has place name w (some_wire place name) found }
 
-    has_placed : (i port w : ℕ) (o : Option Place) → slice_get (processes m) i ≡ o → of_place port o ≡ Some w → IsWire m i port w
+    has_placed : (i port w : ℕ) (o : Option Address) → slice_get (processes m) i ≡ o → of_place port o ≡ Some w → IsWire m i port w
     has_placed i port w None e found = no_some found
     has_placed i port w (Some place) e found = has_named i port w place (slice_get (spelled (ports m (class_at m place))) port) e refl found
 

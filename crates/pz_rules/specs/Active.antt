@@ -2,12 +2,12 @@
 use Rattle.std.specs.Prelude.{◌≡◌, ◌<◌, ℕ, true, [], ◌∷◌, Ok}
 use Rattle.pz_offer.specs.PlaceOrder.{Place}
 use Rattle.pz_rules.specs.Terms.{Term, sequence, parallel, select, guarded, frame, abort, idle, handling, count, child, frame_in}
-use Rattle.pz_rules.specs.Settings.{At}
+use Rattle.pz_rules.specs.Settings.{Context}
 use Rattle.pz_rules.specs.Evaluations.{Tests}
 
 -- The child of this number goes on with the term. The statements behind an open one are no child, a
 -- guard lets its body go on where its test is true, and what is interrupted stands still.
-abbrev pub Reached : At → ℕ → Term → ℕ → Type 0
+abbrev pub Reached : Context → ℕ → Term → ℕ → Type 0
 Reached a f (sequence t rest) i = i ≡ 0
 Reached a f (parallel ts) i = i < count ts
 Reached a f (select ts) i = i < count ts
@@ -19,10 +19,10 @@ Reached a f (handling t u again) i = i ≡ 1
 Reached a f _ i = ⊥
 
 -- In a term that stands in frame f: at this place stands this active part, in frame g.
-pub data Active (a : At) : ℕ → Term → Place → ℕ → Term → Type 0 where
+pub data Active (a : Context) : ℕ → Term → Place → ℕ → Term → Type 0 where
   here : (f : ℕ) (t : Term) → Active a f t [] f t
   inside : (f : ℕ) (t : Term) (i : ℕ) (place : Place) (g : ℕ) (part : Term) → Reached a f t i → Active a (frame_in t f) (child t i) place g part → Active a f t (i ∷ place) g part
 
 -- in the whole term of a process, which stands in no frame
-abbrev pub IsActive : At → Term → Place → ℕ → Term → Type 0
+abbrev pub IsActive : Context → Term → Place → ℕ → Term → Type 0
 IsActive a t place g part = Active a 0 t place g part

@@ -10,10 +10,10 @@ use Rattle.pz_classes_code.specs.declared.slot.Slot.{Slot}
 use Rattle.pz_state.specs.States.{StateView}
 use Rattle.pz_offer.specs.declared.trouble.Trouble.{Trouble}
 use Rattle.pz_rules.specs.Terms.{Code, Term, leaf, guarded}
-use Rattle.pz_rules.specs.Settings.{At}
+use Rattle.pz_rules.specs.Settings.{Context}
 use Rattle.pz_rules.specs.Evaluations.{GivesPart, Lasts, Tests}
 
-pub data Asks (a : At) (f : ℕ) : Term → Trouble → Type 0 where
+pub data Asks (a : Context) (f : ℕ) : Term → Trouble → Type 0 where
   guard : (test : Code) (at : Pos) (t : Term) (trouble : Trouble) → Tests a f at test (Err trouble) → Asks a f (guarded test at t) trouble
   time : (at : Pos) (e : Code) (trouble : Trouble) → Lasts a f at e (Err trouble) → Asks a f (leaf (delay at e)) trouble
   arguments : (at : Pos) (port : ℕ) (name : Id) (args block : Part Slot ClassId) (trouble : Trouble) (s : StateView) → GivesPart a f at args (Err trouble) s → Asks a f (leaf (send at port name args block)) trouble

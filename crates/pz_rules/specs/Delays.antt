@@ -4,11 +4,11 @@ use Rattle.pz_syntax.specs.declared.tokens.Pos.{Pos}
 use Rattle.pz_syntax.specs.Statements.{delay}
 use Rattle.pz_classes_code.specs.declared.slot.Slot.{Slot}
 use Rattle.pz_rules.specs.Terms.{Code, Step, Steps, Term, done, leaf, wait, sequence, parallel, select, guarded, frame, abort, idle, handling, Terms, no_terms, and}
-use Rattle.pz_rules.specs.Settings.{At}
+use Rattle.pz_rules.specs.Settings.{Context}
 use Rattle.pz_rules.specs.Evaluations.{Lasts, Tests}
 
 -- a delay of which so much is left; one that has not begun is evaluated at every moment
-pub data Delays (a : At) (f : ℕ) : Term → ℕ → Type 0 where
+pub data Delays (a : Context) (f : ℕ) : Term → ℕ → Type 0 where
   not_begun : (at : Pos) (e : Code) (left : ℕ) → Lasts a f at e (Ok left) → Delays a f (leaf (delay at e)) left
   begun : (left : ℕ) (at : Pos) → Delays a f (wait left at) left
 
@@ -19,7 +19,7 @@ is_timeless s = true
 
 mutual
   -- Time d passes: each active delay begins or goes on, and has so much less left. All else stays.
-  pub data Passes (a : At) (d : ℕ) : ℕ → Term → Term → Type 0 where
+  pub data Passes (a : Context) (d : ℕ) : ℕ → Term → Term → Type 0 where
     is_done : (f : ℕ) → Passes a d f done done
     stays : (f : ℕ) (s : Step) → is_timeless s ≡ true → Passes a d f (leaf s) (leaf s)
     begins : (f : ℕ) (at : Pos) (e : Code) (left : ℕ) → Lasts a f at e (Ok left) → Passes a d f (leaf (delay at e)) (wait (left - d) at)
@@ -35,6 +35,6 @@ mutual
     -- what is interrupted stands still
     in_handling : (f : ℕ) (t u y : Term) (again : Step) → Passes a d f u y → Passes a d f (handling t u again) (handling t y again)
 
-  pub data PassesAll (a : At) (d : ℕ) : ℕ → Terms → Terms → Type 0 where
+  pub data PassesAll (a : Context) (d : ℕ) : ℕ → Terms → Terms → Type 0 where
     none : (f : ℕ) → PassesAll a d f no_terms no_terms
     both : (f : ℕ) (t x : Term) (ts xs : Terms) → Passes a d f t x → PassesAll a d f ts xs → PassesAll a d f (and t ts) (and x xs)

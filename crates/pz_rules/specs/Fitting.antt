@@ -3,7 +3,7 @@
 use Rattle.std.specs.Prelude.{◌≡◌, ℕ, All, Some, slice_get}
 use Rattle.pz_syntax.specs.Classes.{ModelTree}
 use Rattle.pz_classes.specs.FitBodies.{process_code, SlotFits, ExpressionFits, StatementFits, StatementsFit}
-use Rattle.pz_bind_levels.specs.Places.{Place}
+use Rattle.pz_bind_levels.specs.Places.{Address}
 use Rattle.pz_bind.specs.Nest.{processes, class_at}
 use Rattle.pz_rules.specs.Terms.{Term, done, leaf, wait, sequence, parallel, select, guarded, frame, abort, idle, handling, Terms, no_terms, and}
 use Rattle.pz_rules.specs.Settings.{Setting, Process}
@@ -31,4 +31,4 @@ module _ (m : ModelTree) (c : ℕ) where
 
 -- the term of each process stands in no frame
 abbrev pub IsFit : Setting → Config → Type 0
-IsFit setting c = (i : ℕ) (place : Place) (p : Process) → slice_get (processes setting.model) i ≡ Some place → slice_get c.processes i ≡ Some p → TermFits setting.model (class_at setting.model place) 0 p.term
+IsFit setting c = (i : ℕ) (place : Address) (p : Process) → slice_get (processes setting.model) i ≡ Some place → slice_get c.processes i ≡ Some p → TermFits setting.model (class_at setting.model place) 0 p.term

@@ -13,14 +13,14 @@ use Rattle.pz_rules.specs.declared.action.Kind.{Kind}
 use Rattle.pz_rules.specs.declared.action.Kind.TheVariants.{Skip, Eval, Test, Expire, Call}
 use Rattle.pz_rules.specs.Terms.{Code, Codes, Step, Steps, Term, done, leaf, wait, sequence, frame}
 use Rattle.pz_rules.specs.Opening.{opened_all, opened_part}
-use Rattle.pz_rules.specs.Settings.{At, Process}
+use Rattle.pz_rules.specs.Settings.{Context, Process}
 use Rattle.pz_rules.specs.Slots.{set_slots, first_slots}
 use Rattle.pz_rules.specs.Meanings.{and_then, truth}
 use Rattle.pz_rules.specs.Evaluations.{Gives, GivesAll, Lasts}
 use Rattle.pz_rules.specs.Methods.{IsMethod}
 
 -- in frame f this part can act, by an action of this kind, at this place of the text
-pub data Can (a : At) (f : ℕ) : Term → Kind → Pos → Type 0 where
+pub data Can (a : Context) (f : ℕ) : Term → Kind → Pos → Type 0 where
   skips : (at : Pos) → Can a f (leaf (skip at)) Skip at
   evaluates : (at : Pos) (e : Code) → Can a f (leaf (value at e)) Eval at
   evaluates_block : (at : Pos) (es : Codes) → Can a f (leaf (block at es)) Eval at
@@ -51,7 +51,7 @@ entered s number locals results body inputs = record {
 
 -- What the acting part becomes, and the state afterwards; or the trouble of its evaluation. Each action
 -- has the place of its statement.
-pub data Performs (a : At) (f : ℕ) : Term → Pos → Result Process Trouble → Type 0 where
+pub data Performs (a : Context) (f : ℕ) : Term → Pos → Result Process Trouble → Type 0 where
   skips : (at : Pos) → Performs a f (leaf (skip at)) at (Ok (done_in a.state))
   evaluates : (at : Pos) (e : Code) (r : Result Value Trouble) (s : StateView) → Gives a f at e r s
       → Performs a f (leaf (value at e)) at (and_then r (λ _. Ok (done_in s)))

@@ -12,7 +12,7 @@ use Rattle.pz_rules.specs.declared.moment.Moment.TheVariants.{Actions, Time}
 use Rattle.pz_copy.specs.Parcels.{ParcelView}
 use Rattle.pz_rules.specs.declared.action.Kind.{Kind}
 use Rattle.pz_rules.specs.Terms.{Term, wait, child}
-use Rattle.pz_rules.specs.Settings.{Setting, Process, At}
+use Rattle.pz_rules.specs.Settings.{Setting, Process, Context}
 use Rattle.pz_rules.specs.Acting.{IsActing, IsSend, IsReceive}
 use Rattle.pz_rules.specs.InternalActions.{Can}
 use Rattle.pz_rules.specs.Messages.{Sends, Receives}
@@ -87,13 +87,13 @@ pub record HasLeft (c : Config) (at : End) (left : ℕ) : Type 0 where
 
 -- the passing of time takes so much from each active delay
 abbrev pub PassingTakes : Type 0
-PassingTakes = (setting : Setting) (c next : Config) (d : ℕ) (at : End) (a : At) (frame : ℕ) (part : Term) (left : ℕ)
+PassingTakes = (setting : Setting) (c next : Config) (d : ℕ) (at : End) (a : Context) (frame : ℕ) (part : Term) (left : ℕ)
     → PassesTo setting c d next → PartAt setting c at a frame part → Delays a frame part left → HasLeft next at (left - d)
 
 -- and leaves nothing of some active delay, of which the least was left
 pub record Elapses (setting : Setting) (c next : Config) (d : ℕ) : Type 0 where
   pub at : End
-  pub seen : At
+  pub seen : Context
   pub frame : ℕ
   pub part : Term
   pub active : PartAt setting c at seen frame part
@@ -163,10 +163,10 @@ ChosenRunsAreRuns = (setting : Setting) (policy : Policy) (j : ℕ) (c : Config)
 -- what can act by itself is an acting part; what sends is a send; what receives is a receive
 
 abbrev pub WhatCanActs : Type 0
-WhatCanActs = (a : At) (f : ℕ) (t : Term) (kind : Kind) (pos : Pos) → Can a f t kind pos → IsActing t
+WhatCanActs = (a : Context) (f : ℕ) (t : Term) (kind : Kind) (pos : Pos) → Can a f t kind pos → IsActing t
 
 abbrev pub WhatSendsIsASend : Type 0
-WhatSendsIsASend = (a : At) (f : ℕ) (t : Term) (pos : Pos) (port : ℕ) (message : List ℕ) (parcel : ParcelView) → Sends a f t pos port message parcel → IsSend t
+WhatSendsIsASend = (a : Context) (f : ℕ) (t : Term) (pos : Pos) (port : ℕ) (message : List ℕ) (parcel : ParcelView) → Sends a f t pos port message parcel → IsSend t
 
 abbrev pub WhatReceivesIsAReceive : Type 0
 WhatReceivesIsAReceive = (t : Term) (pos : Pos) (port : ℕ) (message : List ℕ) (count : ℕ) → Receives t pos port message count → IsReceive t

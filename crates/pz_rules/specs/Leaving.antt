@@ -10,7 +10,7 @@ use Rattle.pz_offer.specs.declared.trouble.Trouble.{Trouble}
 use Rattle.pz_offer.specs.declared.trouble.Trouble.TheVariants.{High}
 use Rattle.pz_rules.specs.Terms.{Step, Term, done, sequence, parallel, select, guarded, frame, abort, idle, handling, Terms, no_terms, and, child, height, frames_in, frame_in}
 use Rattle.pz_rules.specs.Opening.{opened, opened_all}
-use Rattle.pz_rules.specs.Settings.{At, Process}
+use Rattle.pz_rules.specs.Settings.{Context, Process}
 use Rattle.pz_rules.specs.Slots.{set_slots}
 
 abbrev pub replaced : Terms → ℕ → Term → Terms
@@ -88,9 +88,9 @@ abbrev pub swept : Process → Process
 swept p = record p { state = only_frames (frames_in p.term) p.state }
 
 -- the process, unless its term is too high: at the place of the statement that acted
-abbrev pub not_too_high : At → Pos → Process → Result Process Trouble
+abbrev pub not_too_high : Context → Pos → Process → Result Process Trouble
 not_too_high a at p = if nat_le (height p.term) a.setting.limits.height then Ok p else Err (High a.process at)
 
 -- the whole process, when the part at the place has become this
-abbrev pub settled : At → Pos → Term → Place → Process → Result Process Trouble
+abbrev pub settled : Context → Pos → Term → Place → Process → Result Process Trouble
 settled a at whole place x = not_too_high a at (swept (residual 0 whole place x))

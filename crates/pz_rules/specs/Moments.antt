@@ -8,7 +8,7 @@ use Rattle.pz_rules.specs.declared.action.Action.{Action}
 use Rattle.pz_rules.specs.declared.moment.Moment.{Moment}
 use Rattle.pz_rules.specs.declared.moment.Moment.TheVariants.{Actions, Time, Finished, Deadlock, Faulty, Stopped, Broken}
 use Rattle.pz_rules.specs.Terms.{Term, done}
-use Rattle.pz_rules.specs.Settings.{Setting, At}
+use Rattle.pz_rules.specs.Settings.{Setting, Context}
 use Rattle.pz_rules.specs.Asking.{Asks}
 use Rattle.pz_rules.specs.Delays.{Delays}
 use Rattle.pz_rules.specs.Configurations.{Config}
@@ -27,7 +27,7 @@ SourceBefore (pair w s r) (part b) = ⊥
 SourceBefore (pair w s r) (pair w' s' r') = PairBefore w s r w' s' r'
 
 pub data Troubles (setting : Setting) (c : Config) : Source → Trouble → Type 0 where
-  asked : (at : End) (a : At) (frame : ℕ) (t : Term) (trouble : Trouble)
+  asked : (at : End) (a : Context) (frame : ℕ) (t : Term) (trouble : Trouble)
       → PartAt setting c at a frame t → Asks a frame t trouble → Troubles setting c (part at) trouble
   judged : (number : ℕ) (sender receiver : End) (message : List ℕ) (parcel : ParcelView) (trouble : Trouble)
       → IsPair setting c number sender receiver message parcel → IsJudged setting c receiver parcel (Err trouble) → Troubles setting c (pair number sender receiver) trouble
@@ -40,7 +40,7 @@ pub record IsLeastTrouble (setting : Setting) (c : Config) (trouble : Trouble) :
 -- some process has an active delay of which so much is left
 pub record IsLeft (setting : Setting) (c : Config) (left : ℕ) : Type 0 where
   pub at : End
-  pub seen : At
+  pub seen : Context
   pub frame : ℕ
   pub part : Term
   pub active : PartAt setting c at seen frame part
@@ -55,17 +55,17 @@ abbrev pub AllDone : Config → Type 0
 AllDone c = All (λ p. p.term ≡ done) c.processes
 
 -- what may be said of a configuration
-pub data Says (setting : Setting) (c : Config) : Moment → Type 0 where
+pub data Candidate (setting : Setting) (c : Config) : Moment → Type 0 where
   -- what an active part is asked, or a condition, has no answer
-  faulty : (trouble : Trouble) → IsLeastTrouble setting c trouble → Says setting c (Faulty trouble)
+  faulty : (trouble : Trouble) → IsLeastTrouble setting c trouble → Candidate setting c (Faulty trouble)
   -- there are offers
-  acting : (actions : List Action) → IsOffers setting c actions → 1 ≤ length actions → Says setting c (Actions (length actions))
+  acting : (actions : List Action) → IsOffers setting c actions → 1 ≤ length actions → Candidate setting c (Actions (length actions))
   -- a delay is active
-  passing : (d : ℕ) → IsLeast setting c d → Says setting c (Time d)
+  passing : (d : ℕ) → IsLeast setting c d → Candidate setting c (Time d)
   -- every process is done
-  finished : AllDone c → Says setting c Finished
+  finished : AllDone c → Candidate setting c Finished
   -- there may be nothing of these
-  deadlock : Says setting c Deadlock
+  deadlock : Candidate setting c Deadlock
 
 -- which comes first
 abbrev pub rank : Moment → ℕ
@@ -79,5 +79,5 @@ rank Broken = 6
 
 -- the first that applies
 pub record IsMoment (setting : Setting) (c : Config) (m : Moment) : Type 0 where
-  pub applies : Says setting c m
-  pub first : (n : Moment) → Says setting c n → rank m ≤ rank n
+  pub applies : Candidate setting c m
+  pub first : (n : Moment) → Candidate setting c n → rank m ≤ rank n

@@ -9,7 +9,7 @@ use Rattle.pz_rules.specs.declared.action.Kind.{Kind}
 use Rattle.pz_rules.specs.declared.action.Action.{Action}
 use Rattle.pz_rules.specs.declared.action.Action.TheVariants.{Internal, Comm}
 use Rattle.pz_rules.specs.Terms.{Term}
-use Rattle.pz_rules.specs.Settings.{Setting, Process, At}
+use Rattle.pz_rules.specs.Settings.{Setting, Process, Context}
 use Rattle.pz_rules.specs.Active.{IsActive}
 use Rattle.pz_rules.specs.InternalActions.{Can}
 use Rattle.pz_rules.specs.Messages.{Sends, Receives, Judges}
@@ -18,7 +18,7 @@ use Rattle.pz_rules.specs.Configurations.{Config, Stands}
 
 -- an active part of a process: the process as its statements see it, and the frame in which the part
 -- stands
-pub record PartAt (setting : Setting) (c : Config) (end : End) (a : At) (frame : ℕ) (part : Term) : Type 0 where
+pub record PartAt (setting : Setting) (c : Config) (end : End) (a : Context) (frame : ℕ) (part : Term) : Type 0 where
   pub process : Process
   pub stands : Stands setting c end.process process a
   pub active : IsActive a process.term end.place frame part
@@ -26,14 +26,14 @@ pub record PartAt (setting : Setting) (c : Config) (end : End) (a : At) (frame :
 -- A send and a receive that fit: they stand in two processes, their ports have the same wire, and
 -- message and number of values are the same.
 pub record IsPair (setting : Setting) (c : Config) (number : ℕ) (sender receiver : End) (message : List ℕ) (parcel : ParcelView) : Type 0 where
-  pub sends_at : At
+  pub sends_at : Context
   pub sends_frame : ℕ
   pub sends_part : Term
   pub sender_active : PartAt setting c sender sends_at sends_frame sends_part
   pub sends_pos : Pos
   pub sends_port : ℕ
   pub sends : Sends sends_at sends_frame sends_part sends_pos sends_port message parcel
-  pub receives_at : At
+  pub receives_at : Context
   pub receives_frame : ℕ
   pub receives_part : Term
   pub receiver_active : PartAt setting c receiver receives_at receives_frame receives_part
@@ -46,7 +46,7 @@ pub record IsPair (setting : Setting) (c : Config) (number : ℕ) (sender receiv
 
 -- whether the receive of a pair takes the parcel
 pub record IsJudged (setting : Setting) (c : Config) (receiver : End) (parcel : ParcelView) (verdict : Result Bool Trouble) : Type 0 where
-  pub seen : At
+  pub seen : Context
   pub frame : ℕ
   pub part : Term
   pub active : PartAt setting c receiver seen frame part
@@ -54,7 +54,7 @@ pub record IsJudged (setting : Setting) (c : Config) (receiver : End) (parcel : 
 
 -- what the rules derive: an internal action of a process, or a communication of two
 pub data Offers (setting : Setting) (c : Config) : Action → Type 0 where
-  internal : (at : End) (a : At) (frame : ℕ) (part : Term) (kind : Kind) (pos : Pos)
+  internal : (at : End) (a : Context) (frame : ℕ) (part : Term) (kind : Kind) (pos : Pos)
       → PartAt setting c at a frame part → Can a frame part kind pos → Offers setting c (Internal at kind pos)
   communication : (number : ℕ) (sender receiver : End) (message : List ℕ) (parcel : ParcelView)
       → IsPair setting c number sender receiver message parcel → IsJudged setting c receiver parcel (Ok true) → Offers setting c (Comm number sender receiver message parcel)

@@ -2,14 +2,14 @@
 use Rattle.std.specs.Prelude.{◌≡◌, ℕ, List, Option, Some, slice_get}
 use Rattle.pz_syntax.specs.Classes.{ModelTree}
 use Rattle.pz_classes.specs.Members.{ports, spelled}
-use Rattle.pz_bind_levels.specs.Places.{Place}
+use Rattle.pz_bind_levels.specs.Places.{Address}
 use Rattle.pz_bind.specs.Nest.{processes, class_at}
 use Rattle.pz_bind.specs.Connections.{end}
 use Rattle.pz_bind.specs.Wires.{HasWire}
 
 -- the port of this number of process i has this wire
 pub record IsWire (m : ModelTree) (i port wire : ℕ) : Type 0 where
-  pub place : Place
+  pub place : Address
   pub is_process : slice_get (processes m) i ≡ Some place
   pub name : List ℕ
   pub named : slice_get (spelled (ports m (class_at m place))) port ≡ Some name

@@ -16,7 +16,7 @@ pub record Process : Type 0 where
   pub state : StateView
 
 -- A process as its statements see it: its number, the number of its class, the clock and its state.
-pub record At : Type 0 where
+pub record Context : Type 0 where
   pub setting : Setting
   pub process : ℕ
   pub class : ℕ
@@ -24,5 +24,5 @@ pub record At : Type 0 where
   pub state : StateView
 
 -- the process in another state
-abbrev pub in_state : At → StateView → At
+abbrev pub in_state : Context → StateView → Context
 in_state a s = record a { state = s }

@@ -2,7 +2,7 @@
 -- given parameters and all other variables nil.
 use Rattle.std.specs.Prelude.{◌≡◌, ℕ, [], length, Some, slice_get}
 use Rattle.pz_classes.specs.Starts.{init}
-use Rattle.pz_bind_levels.specs.Places.{Place}
+use Rattle.pz_bind_levels.specs.Places.{Address}
 use Rattle.pz_bind.specs.Nest.{processes, class_at}
 use Rattle.pz_bind.specs.Values.{values_at}
 use Rattle.pz_rules.specs.Terms.{Step, leaf}
@@ -10,7 +10,7 @@ use Rattle.pz_rules.specs.Settings.{Setting, Process}
 use Rattle.pz_rules.specs.Configurations.{Config}
 
 -- the process that stands at this place of the system
-pub record StartsAs (setting : Setting) (place : Place) (p : Process) : Type 0 where
+pub record StartsAs (setting : Setting) (place : Address) (p : Process) : Type 0 where
   pub call : Step
   pub is_call : init setting.model (class_at setting.model place) ≡ Some call
   pub stands : p ≡ record { term = leaf call; state = record { vars = values_at setting.model place; frames = []; objects = [] } }
@@ -18,4 +18,4 @@ pub record StartsAs (setting : Setting) (place : Place) (p : Process) : Type 0 w
 pub record IsStart (setting : Setting) (c : Config) : Type 0 where
   pub clock : c.clock ≡ 0
   pub all : length c.processes ≡ length (processes setting.model)
-  pub each : (i : ℕ) (place : Place) (p : Process) → slice_get (processes setting.model) i ≡ Some place → slice_get c.processes i ≡ Some p → StartsAs setting place p
+  pub each : (i : ℕ) (place : Address) (p : Process) → slice_get (processes setting.model) i ≡ Some place → slice_get c.processes i ≡ Some p → StartsAs setting place p

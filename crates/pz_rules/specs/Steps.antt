@@ -8,7 +8,7 @@ use Rattle.pz_rules.specs.declared.action.Kind.{Kind}
 use Rattle.pz_rules.specs.declared.action.Action.{Action}
 use Rattle.pz_rules.specs.declared.action.Action.TheVariants.{Internal, Comm}
 use Rattle.pz_rules.specs.Terms.{Term}
-use Rattle.pz_rules.specs.Settings.{Setting, Process, At}
+use Rattle.pz_rules.specs.Settings.{Setting, Process, Context}
 use Rattle.pz_rules.specs.Active.{IsActive}
 use Rattle.pz_rules.specs.InternalActions.{Performs}
 use Rattle.pz_rules.specs.Leaving.{settled}
@@ -19,12 +19,12 @@ use Rattle.pz_rules.specs.Configurations.{Config, Stands}
 
 -- what parts of some kind leave of themselves, in a frame, with the place of their statement
 abbrev pub Deed : Type 1
-Deed = At → ℕ → Term → Pos → Result Process Trouble → Type 0
+Deed = Context → ℕ → Term → Pos → Result Process Trouble → Type 0
 
 -- what the part at this end leaves of its process by a deed
 pub record Acts (setting : Setting) (c : Config) (does : Deed) (at : End) (result : Result Process Trouble) : Type 0 where
   pub process : Process
-  pub seen : At
+  pub seen : Context
   pub stands : Stands setting c at.process process seen
   pub frame : ℕ
   pub part : Term
@@ -53,5 +53,5 @@ pub data Next (setting : Setting) (c : Config) : Action → Result Config Troubl
 pub record PassesTo (setting : Setting) (c : Config) (d : ℕ) (next : Config) : Type 0 where
   pub clock : next.clock ≡ c.clock + d
   pub all : length next.processes ≡ length c.processes
-  pub each : (i : ℕ) (p : Process) (a : At) → Stands setting c i p a
+  pub each : (i : ℕ) (p : Process) (a : Context) → Stands setting c i p a
       → (x : Term) × Passes a d 0 p.term x × (slice_get next.processes i ≡ Some (record { term = x; state = p.state }))

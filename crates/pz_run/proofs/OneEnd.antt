@@ -4,7 +4,7 @@ use Rattle.std.specs.Prelude.{slice_get}
 use Rattle.std.proofs.lemmas.Option.{slice_get_within}
 use Rattle.pz_syntax.specs.Classes.{ModelTree}
 use Rattle.pz_classes.specs.Soundness.{IsSound}
-use Rattle.pz_bind_levels.specs.Places.{Place}
+use Rattle.pz_bind_levels.specs.Places.{Address}
 use Rattle.pz_bind.specs.Nest.{processes}
 use Rattle.pz_bind.specs.Values.{values_at}
 use Rattle.pz_rules.specs.Terms.{Step, leaf}
@@ -39,7 +39,7 @@ same_list (x ∷ xs) (y ∷ ys) long same =
     ap (λ z. z ∷ xs) (same 0 x y refl refl) ∙ ap (λ zs. y ∷ zs) rest
 
 module _ (setting : Setting) where
-  one_process : (place : Place) (p q : Process) → StartsAs setting place p → StartsAs setting place q → p ≡ q
+  one_process : (place : Address) (p q : Process) → StartsAs setting place p → StartsAs setting place q → p ≡ q
   one_process place p q a b =
       let same : a.call ≡ b.call = some_is a.call b.call (sym a.is_call ∙ b.is_call) in
       a.stands ∙ ap (λ (s : Step). let x : Process = record { term = leaf s; state = record { vars = values_at setting.model place; frames = []; objects = [] } } in x) same ∙ sym b.stands

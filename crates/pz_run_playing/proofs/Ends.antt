@@ -8,7 +8,7 @@ use Rattle.pz_rules.specs.declared.moment.Moment.{Moment}
 use Rattle.pz_rules.specs.declared.moment.Moment.TheVariants.{Actions, Time, Finished, Deadlock, Faulty, Stopped, Broken}
 use Rattle.pz_rules.specs.Settings.{Setting}
 use Rattle.pz_rules.specs.Configurations.{Config}
-use Rattle.pz_rules.specs.Moments.{Says, faulty, acting, passing, finished, deadlock, IsMoment}
+use Rattle.pz_rules.specs.Moments.{Candidate, faulty, acting, passing, finished, deadlock, IsMoment}
 use Rattle.pz_rules.specs.Runs.{Event, Ending, ended, deadlocked, troubled, halted, refused}
 use Rattle.pz_rules.specs.ChosenRuns as chosen
 use Rattle.pz_rules.specs.ChosenRuns.{Policy, Decision, stops_with, takes, waits, is_beyond, used_up, entry_of, decided, IsChosenRun}
@@ -45,7 +45,7 @@ troubles : (d : Decision) (t : Trouble) → NoTrouble d → d ≡ stops_with (tr
 troubles d t none is = subst NoTrouble is none
 
 module _ (known : Known) (setting : Setting) (policy : Policy) (net : Net) (is_net : ∥ IsNet setting.model net ∥₁) where
-  says_nothing : (c : Config) (m : Moment) (t : Trouble) → m ≡ Stopped t → Says setting c m → ⊥
+  says_nothing : (c : Config) (m : Moment) (t : Trouble) → m ≡ Stopped t → Candidate setting c m → ⊥
   says_nothing c _ t e (faulty u least) = cc
   says_nothing c _ t e (acting offers are some) = cc
   says_nothing c _ t e (passing d least) = cc

@@ -6,7 +6,7 @@ use Rattle.pz_rules.specs.declared.moment.Moment.TheVariants.{Actions, Time, Fin
 use Rattle.pz_rules.specs.Settings.{Setting}
 use Rattle.pz_rules.specs.Ports.{HasWires}
 use Rattle.pz_rules.specs.Configurations.{Config}
-use Rattle.pz_rules.specs.Moments.{Says, faulty, acting, passing, finished, deadlock}
+use Rattle.pz_rules.specs.Moments.{Candidate, faulty, acting, passing, finished, deadlock}
 use Rattle.pz_rules.specs.Runs as runs
 use Rattle.pz_rules.specs.Runs.{Standing, whole, stopped, Ending as RunEnding, ended, deadlocked, troubled, halted, Ends}
 use Rattle.pz_rules.specs.Laws.{EveryMoment}
@@ -81,14 +81,14 @@ one_end Broken e f x y = absurd x
 
 -- what is never said of a configuration
 
-pub never_stopped : (setting : Setting) (c : Config) (m : Moment) (t : Trouble) → m ≡ Stopped t → Says setting c m → ⊥
+pub never_stopped : (setting : Setting) (c : Config) (m : Moment) (t : Trouble) → m ≡ Stopped t → Candidate setting c m → ⊥
 never_stopped setting c _ t e (faulty u least) = cc
 never_stopped setting c _ t e (acting offers are some) = cc
 never_stopped setting c _ t e (passing d least) = cc
 never_stopped setting c _ t e (finished all) = cc
 never_stopped setting c _ t e deadlock = cc
 
-pub never_broken : (setting : Setting) (c : Config) (m : Moment) → m ≡ Broken → Says setting c m → ⊥
+pub never_broken : (setting : Setting) (c : Config) (m : Moment) → m ≡ Broken → Candidate setting c m → ⊥
 never_broken setting c _ e (faulty u least) = cc
 never_broken setting c _ e (acting offers are some) = cc
 never_broken setting c _ e (passing d least) = cc

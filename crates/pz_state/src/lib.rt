@@ -12,5 +12,5 @@ mod values;
 
 pub use fault::FaultKind;
 pub use object::{ARRAY_LIMIT, Object};
-pub use state::{FrameId, MakeError, OBJECT_LIMIT, Point, State};
+pub use state::{FrameId, MakeError, OBJECT_LIMIT, Savepoint, State};
 pub use values::nil_values;

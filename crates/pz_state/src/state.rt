@@ -21,12 +21,12 @@ pub struct FrameId(pub u64);
 
 /// A mark of a state, to which its changes can be undone.
 #[derive(Clone, Copy, Debug)]
-pub struct Point {
+pub struct Savepoint {
     // where the mark stands in the journal
     place: usize,
 }
 
-impl Model for Point {
+impl Model for Savepoint {
     ghost use Rattle.std.specs.Prelude.{ℕ};
 
     ghost Value = { ℕ };
@@ -248,16 +248,16 @@ impl State {
     }
 
     /// Marks the state as it is. The only error is want of memory, and then all is as before.
-    pub fn mark(&mut self) -> Result<Point, AllocError>
+    pub fn mark(&mut self) -> Result<Savepoint, AllocError>
         ensures ok { IfOk result (λ point. self.new ≡ marked self.old point) }
         ensures err { OnErr result (self.new ≡ self.old) }
     {
         let place = self.journal.mark()?;
-        Ok(Point { place })
+        Ok(Savepoint { place })
     }
 
     /// Undoes the changes since the latest open mark, and leaves the mark. Takes no memory.
-    pub fn undo_to(&mut self, point: Point)
+    pub fn undo_to(&mut self, point: Savepoint)
         requires { IsLatest self.old point }
         ensures { self.new ≡ undone self.old }
     {
@@ -267,7 +267,7 @@ impl State {
     }
 
     /// Leaves the latest open mark; the changes since it stay. Takes no memory.
-    pub fn keep(&mut self, point: Point)
+    pub fn keep(&mut self, point: Savepoint)
         requires { IsLatest self.old point }
         ensures { self.new ≡ kept self.old }
     {

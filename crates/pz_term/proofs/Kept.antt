@@ -15,7 +15,7 @@ use Rattle.pz_rules.specs.Ports.{HasWires}
 use Rattle.pz_rules.specs.Configurations.{Config}
 use Rattle.pz_rules.specs.Offers.{IsOffers}
 use Rattle.pz_rules.specs.Moments as moments
-use Rattle.pz_rules.specs.Moments.{Says, IsMoment}
+use Rattle.pz_rules.specs.Moments.{Candidate, IsMoment}
 use Rattle.pz_rules.specs.Runs.{whole, IsChoice}
 use Rattle.pz_rules.specs.Laws.{OneMoment, EveryMoment, OneListOfOffers}
 use Rattle.pz_term_processes.specs.declared.process.Process.{Process}
@@ -69,7 +69,7 @@ abbrev pub OfActions : Setting → Config → Moment → Type 0
 OfActions setting c (Actions n) = (xs : List Action) × IsOffers setting c xs × (n ≡ length xs)
 OfActions setting c m = Unit {0}
 
-pub of_actions : (setting : Setting) (c : Config) (m : Moment) → Says setting c m → OfActions setting c m
+pub of_actions : (setting : Setting) (c : Config) (m : Moment) → Candidate setting c m → OfActions setting c m
 of_actions setting c _ (moments.faulty trouble is) = tt
 of_actions setting c _ (moments.acting xs is some) = (xs, is, refl)
 of_actions setting c _ (moments.passing d is) = tt

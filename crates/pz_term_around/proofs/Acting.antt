@@ -1,14 +1,14 @@
 -- Active parts stand where a part may act.
 use Rattle.std.proofs.Common.{ℕ}
 use Rattle.pz_rules.specs.Terms.{Term, done, leaf, wait, sequence, parallel, select, guarded, frame, abort, idle, handling}
-use Rattle.pz_rules.specs.Settings.{At}
+use Rattle.pz_rules.specs.Settings.{Context}
 use Rattle.pz_offer.specs.PlaceOrder.{Place}
 use Rattle.pz_rules.specs.Active as active
 use Rattle.pz_rules.specs.Active.{Reached, Active}
 use Rattle.pz_rules.specs.Places.{MayActIn, MayAct}
 use Rattle.pz_term_around.specs.Laws.{ActivePartsMayAct}
 
-module _ (a : At) where
+module _ (a : Context) where
   reached : (f : ℕ) (t : Term) (i : ℕ) → Reached a f t i → MayActIn t i
   reached f done i r = r
   reached f (leaf s) i r = r

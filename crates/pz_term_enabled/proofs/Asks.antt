@@ -13,14 +13,14 @@ use Rattle.pz_copy.specs.Parcels.{ParcelView}
 use Rattle.pz_offer.specs.PlaceOrder.{Place}
 use Rattle.pz_offer.specs.declared.trouble.Trouble.{Trouble}
 use Rattle.pz_rules.specs.Terms.{Code, leaf}
-use Rattle.pz_rules.specs.Settings.{At}
+use Rattle.pz_rules.specs.Settings.{Context}
 use Rattle.pz_rules.specs.Evaluations.{Lasts, GivesPart}
 use Rattle.pz_rules.specs.devices.Found.{left_part}
 use Rattle.pz_rules.specs.devices.Computed.{TimesAreComputed, PartsAreComputed}
 use Rattle.pz_rules.specs.devices.Walk as walk
 use Rattle.pz_rules.specs.devices.Walk.{here, expiry, answered, trouble_of, sending}
 use Rattle.pz_part_queries.specs.Parcels.{Packs, packs, fails}
-use Rattle.pz_term_enabled.specs.declared.found.Sending.{Sending}
+use Rattle.pz_term_enabled.specs.declared.found.ActiveSend.{ActiveSend}
 use Rattle.pz_term_enabled.specs.declared.found.Found.{Found}
 use Rattle.pz_term_enabled.specs.devices.Listings.{Adds, Notes, notes_of, only_waits, only_troubles}
 use Rattle.pz_term_enabled.proofs.OnePart.{only_sends, grows_send, adds_one}
@@ -28,26 +28,26 @@ use Rattle.pz_term_enabled.proofs.OnePart.{only_sends, grows_send, adds_one}
 abbrev delayed : Pos → Result ℕ Trouble → Notes
 delayed at r = record { does = expiry at r; sends = None; receives = None; left = answered r; trouble = trouble_of r }
 
-pub delay_waits : TimesAreComputed → (a : At) (f : ℕ) (at : Pos) (e : Code) (left : ℕ) → Lasts a f at e (Ok left) → notes_of a f (leaf (delay at e)) ≡ only_waits left at
+pub delay_waits : TimesAreComputed → (a : Context) (f : ℕ) (at : Pos) (e : Code) (left : ℕ) → Lasts a f at e (Ok left) → notes_of a f (leaf (delay at e)) ≡ only_waits left at
 delay_waits law a f at e left lasts = ap (delayed at) (sym (law a f at e (Ok left) lasts))
 
-pub delay_troubled : TimesAreComputed → (a : At) (f : ℕ) (at : Pos) (e : Code) (u : Trouble) → Lasts a f at e (Err u) → notes_of a f (leaf (delay at e)) ≡ only_troubles u
+pub delay_troubled : TimesAreComputed → (a : Context) (f : ℕ) (at : Pos) (e : Code) (u : Trouble) → Lasts a f at e (Err u) → notes_of a f (leaf (delay at e)) ≡ only_troubles u
 delay_troubled law a f at e u lasts = ap (delayed at) (sym (law a f at e (Err u) lasts))
 
 abbrev sent : Pos → ℕ → List ℕ → StateView → Result (List Value) Trouble → Notes
 sent at port message s r = record { does = None; sends = sending at port message s r; receives = None; left = None; trouble = trouble_of r }
 
-module _ (law : PartsAreComputed) (a : At) (f : ℕ) (at : Pos) (port : ℕ) (name : Id) (args after : ours.Part Slot ClassId) where
+module _ (law : PartsAreComputed) (a : Context) (f : ℕ) (at : Pos) (port : ℕ) (name : Id) (args after : ours.Part Slot ClassId) where
   noted_as : (r : Result (List Value) Trouble) (s : StateView) → GivesPart a f at args r s → notes_of a f (leaf (send at port name args after)) ≡ sent at port name.name s r
   noted_as r s gives =
       let only = law a f at args r s gives in
       ap (λ (x : Result (List Value) Trouble). sent at port name.name (left_part a f args) x) (sym only.0) ∙ ap (λ (x : StateView). sent at port name.name x r) (sym only.1)
 
-  pub send_added : (place copy : Place) (message : List ℕ) (parcel : ParcelView) (o : Found) (v : Vec Sending Global) → Packs a f at args (Ok parcel) → copy ≡ place → message ≡ name.name
+  pub send_added : (place copy : Place) (message : List ℕ) (parcel : ParcelView) (o : Found) (v : Vec ActiveSend Global) → Packs a f at args (Ok parcel) → copy ≡ place → message ≡ name.name
       → v.items ≡ o.sends.items ++ record { place = copy; pos = at; port = port; message = message; parcel = parcel } ∷ []
       → Adds a place (here f (leaf (send at port name args after)) ∷ []) o (record o { sends = v })
   send_added place copy message _ o v (packs values s parcel gives packed) same spelled grown =
-      let x : walk.Sending = record { pos = at; port = port; message = name.name; values = values; state = s } in
+      let x : walk.ActiveSend = record { pos = at; port = port; message = name.name; values = values; state = s } in
       adds_one a place f (leaf (send at port name args after)) (only_sends x) o (record o { sends = v }) (noted_as (Ok values) s gives) (grows_send place copy x message parcel o v same spelled packed grown)
 
   pub send_troubled : (u : Trouble) → Packs a f at args (Err u) → notes_of a f (leaf (send at port name args after)) ≡ only_troubles u

@@ -10,7 +10,7 @@ use Rattle.pz_offer.specs.PlaceOrder.{Place}
 use Rattle.pz_rules.specs.declared.action.Action.{Action}
 use Rattle.pz_rules.specs.declared.action.Action.TheVariants.{Internal}
 use Rattle.pz_rules.specs.Terms.{Term}
-use Rattle.pz_rules.specs.Settings.{Setting, Process, At}
+use Rattle.pz_rules.specs.Settings.{Setting, Process, Context}
 use Rattle.pz_rules.specs.Active.{IsActive}
 use Rattle.pz_rules.specs.InternalActions.{Can}
 use Rattle.pz_rules.specs.Messages.{Sends, Receives}
@@ -22,8 +22,8 @@ use Rattle.pz_rules.specs.devices.Walks.{IsThere}
 use Rattle.pz_term_matching.specs.declared.ends.Sender.{Sender}
 use Rattle.pz_term_matching.specs.declared.ends.Receiver.{Receiver}
 use Rattle.pz_term_enabled.specs.declared.found.Doing.{Doing}
-use Rattle.pz_term_enabled.specs.declared.found.Sending.{Sending}
-use Rattle.pz_term_enabled.specs.declared.found.Receiving.{Receiving}
+use Rattle.pz_term_enabled.specs.declared.found.ActiveSend.{ActiveSend}
+use Rattle.pz_term_enabled.specs.declared.found.ActiveReceive.{ActiveReceive}
 use Rattle.pz_term_enabled.specs.Surveyed.{IsInternal, IsSender, IsReceiver}
 use Rattle.pz_term_enabled.specs.devices.Adding.{end_at, action_of, sender_over, sender_of, receiver_over, receiver_of}
 use Rattle.pz_term_enabled.specs.devices.Below.{Listed, end_of, IsOffered}
@@ -31,35 +31,35 @@ use Rattle.pz_term_enabled.proofs.Lists.{map_kept}
 use Rattle.pz_term_enabled.proofs.Listed.{Here, Becomes, ComesFrom, listed_at}
 use Rattle.pz_term_enabled.proofs.OneProcess.{DoesThere, SendsThere, ReceivesThere}
 
-pub record IsSame (p q : Process) (a b : At) : Type 0 where
+pub record IsSame (p q : Process) (a b : Context) : Type 0 where
   pub process : p ≡ q
   pub seen : a ≡ b
 
 -- one process stands under a number
-stands_once : (setting : Setting) (c : Config) (i : ℕ) (p q : Process) (a b : At) → Stands setting c i p a → Stands setting c i q b → IsSame p q a b
+stands_once : (setting : Setting) (c : Config) (i : ℕ) (p q : Process) (a b : Context) → Stands setting c i p a → Stands setting c i q b → IsSame p q a b
 stands_once setting c i p q a b x y =
     let places : x.place ≡ y.place = same_Some x.place y.place (sym x.is_process ∙ y.is_process) in
     let both : p ≡ q = same_Some p q (sym x.is_here ∙ y.is_here) in
     record {
       process = both;
-      seen = x.seen ∙ ap (λ (l : levels.Place). record { setting = setting; process = i; class = class_at setting.model l; clock = c.clock; state = p.state }) places
+      seen = x.seen ∙ ap (λ (l : levels.Address). record { setting = setting; process = i; class = class_at setting.model l; clock = c.clock; state = p.state }) places
           ∙ ap (λ (r : Process). record { setting = setting; process = i; class = class_at setting.model y.place; clock = c.clock; state = r.state }) both ∙ sym y.seen;
     }
 
-module _ (setting : Setting) (c : Config) (i : ℕ) (p : Process) (a : At) (stands : Stands setting c i p a) where
+module _ (setting : Setting) (c : Config) (i : ℕ) (p : Process) (a : Context) (stands : Stands setting c i p a) where
   pub part_there : (place : Place) (frame : ℕ) (part : Term) → IsActive a p.term place frame part → PartAt setting c (end_at i place) a frame part
   part_there place frame part active = record { process = p; stands = stands; active = active }
 
   -- what holds at an end of the process, holds in its term
-  pub there : (holds : At → ℕ → Term → Type 0) (at : End) (b : At) (f : ℕ) (part : Term) → at.process ≡ i → PartAt setting c at b f part → holds b f part
+  pub there : (holds : Context → ℕ → Term → Type 0) (at : End) (b : Context) (f : ℕ) (part : Term) → at.process ≡ i → PartAt setting c at b f part → holds b f part
       → IsThere a p.term at.place (λ g t. holds a g t)
   there holds at b f part same x h =
       let one = stands_once setting c i x.process p b a (subst (λ (k : ℕ). Stands setting c k x.process b) same x.stands) stands in
       record {
         frame = f;
         part = part;
-        active = subst (λ (z : At). IsActive z p.term at.place f part) one.seen (subst (λ (q : Process). IsActive b q.term at.place f part) one.process x.active);
-        it_holds = subst (λ (z : At). holds z f part) one.seen h;
+        active = subst (λ (z : Context). IsActive z p.term at.place f part) one.seen (subst (λ (q : Process). IsActive b q.term at.place f part) one.process x.active);
+        it_holds = subst (λ (z : Context). holds z f part) one.seen h;
       }
 
   -- Internal actions
@@ -70,7 +70,7 @@ module _ (setting : Setting) (c : Config) (i : ℕ) (p : Process) (a : At) (stan
   action_from : (x : Action) → IsInternal x → Offers setting c x → (end_of x).process ≡ i → OfDoing x
   action_from _ is (offers.internal at b f part kind pos active can) same = record {
     one = record { place = at.place; kind = kind; pos = pos };
-    holds = there (λ (z : At) (g : ℕ) (t : Term). Can z g t kind pos) at b f part same active can;
+    holds = there (λ (z : Context) (g : ℕ) (t : Term). Can z g t kind pos) at b f part same active can;
     is = ap (λ (k : ℕ). Some (Internal (record { process = k; place = at.place }) kind pos)) (sym same);
   }
   action_from _ is (offers.communication number sender receiver message parcel pair judged) same = absurd is
@@ -91,10 +91,10 @@ module _ (setting : Setting) (c : Config) (i : ℕ) (p : Process) (a : At) (stan
     abbrev wire : ℕ → Option ℕ
     wire port = wires.wire i port
 
-    abbrev Sender_of : Sending → Sender → Type 0
-    Sender_of x s = Becomes (λ (y : Sending). y.place) (SendsThere a p.term) (λ (r : Sender). r.end) (IsSender setting c) i (sender_of wire i) x s
+    abbrev Sender_of : ActiveSend → Sender → Type 0
+    Sender_of x s = Becomes (λ (y : ActiveSend). y.place) (SendsThere a p.term) (λ (r : Sender). r.end) (IsSender setting c) i (sender_of wire i) x s
 
-    sender_so : (x : Sending) (s : Sender) (o : Option ℕ) → wire x.port ≡ o → sender_over i x o ≡ Some s → SendsThere a p.term x → Sender_of x s
+    sender_so : (x : ActiveSend) (s : Sender) (o : Option ℕ) → wire x.port ≡ o → sender_over i x o ≡ Some s → SendsThere a p.term x → Sender_of x s
     sender_so x s None e is h = absurd (none-some s is)
     sender_so x s (Some w) e is h =
         subst (λ (r : Sender). Sender_of x r) (same_Some _ s is) (record {
@@ -111,23 +111,23 @@ module _ (setting : Setting) (c : Config) (i : ℕ) (p : Process) (a : At) (stan
           at = refl;
         })
 
-    sender_from : (s : Sender) → IsSender setting c s → s.end.process ≡ i → ComesFrom (λ (y : Sending). y.place) (SendsThere a p.term) (λ (r : Sender). r.end) (IsSender setting c) i (sender_of wire i) s
+    sender_from : (s : Sender) → IsSender setting c s → s.end.process ≡ i → ComesFrom (λ (y : ActiveSend). y.place) (SendsThere a p.term) (λ (r : Sender). r.end) (IsSender setting c) i (sender_of wire i) s
     sender_from s h same = record {
       one = record { place = s.end.place; pos = h.pos; port = h.port; message = s.message; parcel = s.parcel };
-      holds = there (λ (z : At) (g : ℕ) (t : Term). Sends z g t h.pos h.port s.message s.parcel) s.end h.seen h.frame h.part same h.active h.sends;
+      holds = there (λ (z : Context) (g : ℕ) (t : Term). Sends z g t h.pos h.port s.message s.parcel) s.end h.seen h.frame h.part same h.active h.sends;
       is = ap (λ (o : Option ℕ). sender_over i (record { place = s.end.place; pos = h.pos; port = h.port; message = s.message; parcel = s.parcel }) o)
           (ap (λ (k : ℕ). wires.wire k h.port) (sym same) ∙ wires.only s.end.process h.port s.wire h.over)
           ∙ ap (λ (k : ℕ). Some (record { end = record { process = k; place = s.end.place }; wire = s.wire; message = s.message; parcel = s.parcel })) (sym same);
     }
 
-    pub senders_listed : (xs : List Sending) → Here (λ (x : Sending). x.place) (SendsThere a p.term) xs → Listed (λ (s : Sender). s.end) (IsSender setting c) (λ k. k ≡ i) (filter_map (sender_of wire i) xs)
+    pub senders_listed : (xs : List ActiveSend) → Here (λ (x : ActiveSend). x.place) (SendsThere a p.term) xs → Listed (λ (s : Sender). s.end) (IsSender setting c) (λ k. k ≡ i) (filter_map (sender_of wire i) xs)
     senders_listed xs here =
-        listed_at (λ (x : Sending). x.place) (SendsThere a p.term) (λ (s : Sender). s.end) (IsSender setting c) i (sender_of wire i) (λ x s is h. sender_so x s (wire x.port) refl is h) sender_from xs here
+        listed_at (λ (x : ActiveSend). x.place) (SendsThere a p.term) (λ (s : Sender). s.end) (IsSender setting c) i (sender_of wire i) (λ x s is h. sender_so x s (wire x.port) refl is h) sender_from xs here
 
-    abbrev Receiver_of : Receiving → Receiver → Type 0
-    Receiver_of x r = Becomes (λ (y : Receiving). y.place) (ReceivesThere a p.term) (λ (q : Receiver). q.end) (IsReceiver setting c) i (receiver_of wire i) x r
+    abbrev Receiver_of : ActiveReceive → Receiver → Type 0
+    Receiver_of x r = Becomes (λ (y : ActiveReceive). y.place) (ReceivesThere a p.term) (λ (q : Receiver). q.end) (IsReceiver setting c) i (receiver_of wire i) x r
 
-    receiver_so : (x : Receiving) (r : Receiver) (o : Option ℕ) → wire x.port ≡ o → receiver_over i x o ≡ Some r → ReceivesThere a p.term x → Receiver_of x r
+    receiver_so : (x : ActiveReceive) (r : Receiver) (o : Option ℕ) → wire x.port ≡ o → receiver_over i x o ≡ Some r → ReceivesThere a p.term x → Receiver_of x r
     receiver_so x r None e is h = absurd (none-some r is)
     receiver_so x r (Some w) e is h =
         subst (λ (q : Receiver). Receiver_of x q) (same_Some _ r is) (record {
@@ -144,16 +144,16 @@ module _ (setting : Setting) (c : Config) (i : ℕ) (p : Process) (a : At) (stan
           at = refl;
         })
 
-    receiver_from : (r : Receiver) → IsReceiver setting c r → r.end.process ≡ i → ComesFrom (λ (y : Receiving). y.place) (ReceivesThere a p.term) (λ (q : Receiver). q.end) (IsReceiver setting c) i (receiver_of wire i) r
+    receiver_from : (r : Receiver) → IsReceiver setting c r → r.end.process ≡ i → ComesFrom (λ (y : ActiveReceive). y.place) (ReceivesThere a p.term) (λ (q : Receiver). q.end) (IsReceiver setting c) i (receiver_of wire i) r
     receiver_from r h same = record {
       one = record { place = r.end.place; pos = h.pos; port = h.port; message = r.message; count = r.count };
-      holds = there (λ (z : At) (g : ℕ) (t : Term). Receives t h.pos h.port r.message r.count) r.end h.seen h.frame h.part same h.active h.receives;
+      holds = there (λ (z : Context) (g : ℕ) (t : Term). Receives t h.pos h.port r.message r.count) r.end h.seen h.frame h.part same h.active h.receives;
       is = ap (λ (o : Option ℕ). receiver_over i (record { place = r.end.place; pos = h.pos; port = h.port; message = r.message; count = r.count }) o)
           (ap (λ (k : ℕ). wires.wire k h.port) (sym same) ∙ wires.only r.end.process h.port r.wire h.over)
           ∙ ap (λ (k : ℕ). Some (record { end = record { process = k; place = r.end.place }; wire = r.wire; message = r.message; count = r.count })) (sym same);
     }
 
-    pub receivers_listed : (xs : List Receiving) → Here (λ (x : Receiving). x.place) (ReceivesThere a p.term) xs
+    pub receivers_listed : (xs : List ActiveReceive) → Here (λ (x : ActiveReceive). x.place) (ReceivesThere a p.term) xs
         → Listed (λ (r : Receiver). r.end) (IsReceiver setting c) (λ k. k ≡ i) (filter_map (receiver_of wire i) xs)
     receivers_listed xs here =
-        listed_at (λ (x : Receiving). x.place) (ReceivesThere a p.term) (λ (r : Receiver). r.end) (IsReceiver setting c) i (receiver_of wire i) (λ x r is h. receiver_so x r (wire x.port) refl is h) receiver_from xs here
+        listed_at (λ (x : ActiveReceive). x.place) (ReceivesThere a p.term) (λ (r : Receiver). r.end) (IsReceiver setting c) i (receiver_of wire i) (λ x r is h. receiver_so x r (wire x.port) refl is h) receiver_from xs here

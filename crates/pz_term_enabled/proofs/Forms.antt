@@ -15,7 +15,7 @@ use Rattle.pz_classes_code.specs.StepView as step
 use Rattle.pz_rules.specs.declared.action.Kind.TheVariants as kind
 use Rattle.pz_rules.specs.Terms as terms
 use Rattle.pz_rules.specs.Terms.{leaf}
-use Rattle.pz_rules.specs.Settings.{At}
+use Rattle.pz_rules.specs.Settings.{Context}
 use Rattle.pz_rules.specs.Messages.{variables_of}
 use Rattle.pz_term_enabled.specs.devices.Listings.{Notes, notes_of, nothing, only_does, only_receives}
 
@@ -72,7 +72,7 @@ pub shows_Receive : (pos : Pos) (port : ℕ) (name : Id) (into : Option (List Sl
     → step.form_view (form.Receive port name into test after) pos ≡ receive pos port name into (option_map code.view test) (code.part_view after)
 shows_Receive pos port name into test after = search (rules, the_lemmas)
 
-module _ (a : At) (f : ℕ) (s : Step) where
+module _ (a : Context) (f : ℕ) (s : Step) where
   noted : (t : terms.Step) (x : Notes) → step.view s ≡ t → notes_of a f (leaf t) ≡ x → notes_of a f (leaf (step.view s)) ≡ x
   noted t x is notes = ap (λ (u : terms.Step). notes_of a f (leaf u)) is ∙ notes
 

@@ -11,7 +11,7 @@ use Rattle.pz_offer.specs.declared.trouble.Trouble.{Trouble}
 use Rattle.pz_offer.specs.PlaceOrder.{Place, PlaceBefore, EndBefore}
 use Rattle.pz_rules.specs.declared.action.Action.{Action}
 use Rattle.pz_rules.specs.Terms.{Term, done}
-use Rattle.pz_rules.specs.Settings.{Setting, Process, At}
+use Rattle.pz_rules.specs.Settings.{Setting, Process, Context}
 use Rattle.pz_rules.specs.Leaving.{is_done}
 use Rattle.pz_rules.specs.Delays.{Delays}
 use Rattle.pz_rules.specs.Asking.{Asks}
@@ -59,7 +59,7 @@ done_is t e = absurd (true≢false (sym e))
 module _ (setting : Setting) (c : Config) where
   -- the part that has a trouble, where that comes from a part
   record IsAsked (at : End) (trouble : Trouble) : Type 0 where
-    pub seen : At
+    pub seen : Context
     pub frame : ℕ
     pub it : Term
     pub active : PartAt setting c at seen frame it
@@ -74,18 +74,18 @@ module _ (setting : Setting) (c : Config) where
   asked_at _ _ (judged number sender receiver message parcel trouble is_pair is_judged) = tt
 
   -- what is found stands in a process
-  pub part_within : (at : End) (a : At) (f : ℕ) (t : Term) → PartAt setting c at a f t → at.process < length c.processes
+  pub part_within : (at : End) (a : Context) (f : ℕ) (t : Term) → PartAt setting c at a f t → at.process < length c.processes
   part_within at a f t x = slice_get_within c.processes at.process x.process x.stands.is_here
 
   pub trouble_within : (at : End) (t : Trouble) → Troubles setting c (part at) t → at.process < length c.processes
   trouble_within at t troubles = let x : IsAsked at t = asked_at (part at) t troubles in part_within at x.seen x.frame x.it x.active
 
-  module _ (i : ℕ) (p : Process) (a : At) (stands : Stands setting c i p a) where
+  module _ (i : ℕ) (p : Process) (a : Context) (stands : Stands setting c i p a) where
     -- What is left of delays
 
     left_there : DelaysAreListed → (n : ℕ) (l : IsLeft setting c n) → l.at.process ≡ i → Contains (whats (active_delays a p.term)) n
     left_there law n l same =
-        let is = there setting c i p a stands (λ (z : At) (g : ℕ) (t : Term). Delays z g t n) l.at l.seen l.frame l.part same l.active l.delays in
+        let is = there setting c i p a stands (λ (z : Context) (g : ℕ) (t : Term). Delays z g t n) l.at l.seen l.frame l.part same l.active l.delays in
         Contains-map (λ (m : Noted ℕ). m.what) (active_delays a p.term) (record { place = l.at.place; what = n }) ((law a p.term).every l.at.place n is)
 
     there_left : DelaysAreListed → (n : ℕ) → Contains (whats (active_delays a p.term)) n → IsLeftBelow setting c (i + 1) n
@@ -125,7 +125,7 @@ module _ (setting : Setting) (c : Config) where
     asked_there : (at : End) (t : Trouble) → Troubles setting c (part at) t → at.process ≡ i → AsksThere (record { place = at.place; what = t })
     asked_there at t troubles same =
         let x : IsAsked at t = asked_at (part at) t troubles in
-        there setting c i p a stands (λ (z : At) (g : ℕ) (u : Term). Asks z g u t) at x.seen x.frame x.it same x.active x.asks
+        there setting c i p a stands (λ (z : Context) (g : ℕ) (u : Term). Asks z g u t) at x.seen x.frame x.it same x.active x.asks
 
     -- nothing of the process is before the first
     not_among : (n it : Noted Trouble) (ns : List (Noted Trouble)) → Lists a p.term (λ t f u. Asks a f u t) (n ∷ ns) → PlaceBefore it.place n.place → (it ≡ n) ⊎ Contains ns it → ⊥

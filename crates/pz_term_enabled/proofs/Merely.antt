@@ -9,7 +9,7 @@ use Rattle.std.proofs.lemmas.Option.{same_Some, slice_get-get_or}
 use Rattle.pz_syntax.specs.Classes.{ModelTree}
 use Rattle.pz_syntax.specs.declared.names.Id.{Id}
 use Rattle.pz_classes.specs.Members.{ports, spelled}
-use Rattle.pz_bind_levels.specs.Places.{Place}
+use Rattle.pz_bind_levels.specs.Places.{Address}
 use Rattle.pz_bind.specs.Nest.{processes, class_at}
 use Rattle.pz_bind.specs.Connections.{end, IsIn, IsInNone}
 use Rattle.pz_bind.specs.Wires.{HasWire}
@@ -31,9 +31,9 @@ module _ (m : ModelTree) (net : Net) (i port : ℕ) (wired : Wired m net i) (nam
   no_wire : (w : ℕ) → IsInNone m (end wired.place name) → IsWire m i port w → ⊥
   no_wire w none is =
       let place : is.place ≡ wired.place = same_Some is.place wired.place (sym is.is_process ∙ wired.is_process) in
-      let same : is.name ≡ name = same_Some is.name name (sym is.named ∙ ap (λ (l : Place). slice_get (spelled (ports m (class_at m l))) port) place ∙ named) in
+      let same : is.name ≡ name = same_Some is.name name (sym is.named ∙ ap (λ (l : Address). slice_get (spelled (ports m (class_at m l))) port) place ∙ named) in
       let first = is.has_wire.reached.first in
-      none first (subst (λ (n : List ℕ). IsIn m (end wired.place n) first) same (subst (λ (l : Place). IsIn m (end l is.name) first) place is.has_wire.reached.starts))
+      none first (subst (λ (n : List ℕ). IsIn m (end wired.place n) first) same (subst (λ (l : Address). IsIn m (end l is.name) first) place is.has_wire.reached.starts))
 
   none_is : (o : Option ℕ) → wire_at wired port ≡ o → IsInNone m (end wired.place name) → None ≡ o
   none_is None e none = refl
@@ -45,7 +45,7 @@ module _ (m : ModelTree) (net : Net) (i port : ℕ) (wired : Wired m net i) (nam
 
 -- what the net says is the wire of the port
 pub wire_is : (m : ModelTree) (net : Net) (i port : ℕ) (wired : Wired m net i) (r : Option ℕ) → HasPort wired port
-    → ((t : ModelTree) (place : Place) (name : List ℕ) → IsNet t net → slice_get (processes t) i ≡ Some place → slice_get (spelled (ports t (class_at t place))) port ≡ Some name
+    → ((t : ModelTree) (place : Address) (name : List ℕ) → IsNet t net → slice_get (processes t) i ≡ Some place → slice_get (spelled (ports t (class_at t place))) port ≡ Some name
     → MatchOption r (IsInNone t (end place name)) (HasWire t (end place name)))
     → r ≡ wire_at wired port
 wire_is m net i port wired r has says =

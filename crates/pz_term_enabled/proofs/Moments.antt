@@ -13,7 +13,7 @@ use Rattle.pz_rules.specs.Settings.{Setting}
 use Rattle.pz_rules.specs.Configurations.{Config}
 use Rattle.pz_rules.specs.Offers.{Offers, Before, IsOffers}
 use Rattle.pz_rules.specs.Moments as moments
-use Rattle.pz_rules.specs.Moments.{Source, SourceBefore, part, pair, Troubles, IsLeastTrouble, IsLeft, AllDone, Says, rank, IsMoment}
+use Rattle.pz_rules.specs.Moments.{Source, SourceBefore, part, pair, Troubles, IsLeastTrouble, IsLeft, AllDone, Candidate, rank, IsMoment}
 use Rattle.pz_rules.specs.Laws.{OneListOfOffers}
 use Rattle.pz_term_enabled.specs.Surveyed.{IsInternal, AreInternal, IsLeastLeft, IsFirstAsked, IsAsked, TellsDone, IsSurveyed}
 use Rattle.pz_term_enabled.specs.declared.findings.Survey.{Survey}
@@ -106,7 +106,7 @@ module _ (setting : Setting) (c : Config) where
 
   -- The first that applies
 
-  rank_one : (n : Moment) → Says setting c n → 1 ≤ rank n
+  rank_one : (n : Moment) → Candidate setting c n → 1 ≤ rank n
   rank_one _ (moments.faulty t x) = omega arith
   rank_one _ (moments.acting xs x some) = omega arith
   rank_one _ (moments.passing d x) = omega arith
@@ -119,7 +119,7 @@ module _ (setting : Setting) (c : Config) where
   pub troubled_moment : (found : Survey) (trouble : Option Trouble) (t : Trouble) → trouble ≡ Some t → Decides setting c found trouble → IsMoment setting c (Faulty t)
   troubled_moment found trouble t is x = faulty_is t (subst (λ (o : Option Trouble). IsTrouble setting c o) is x.trouble_is)
 
-  rank_two : NoTrouble setting c → (n : Moment) → Says setting c n → 2 ≤ rank n
+  rank_two : NoTrouble setting c → (n : Moment) → Candidate setting c n → 2 ≤ rank n
   rank_two calm _ (moments.faulty t x) = absurd (calm x.source t x.occurs)
   rank_two calm _ (moments.acting xs x some) = omega arith
   rank_two calm _ (moments.passing d x) = omega arith
@@ -131,21 +131,21 @@ module _ (setting : Setting) (c : Config) where
     no_offers xs none is some = omega (arith, some, ap length (law setting c xs [] is none))
 
     module _ (calm : NoTrouble setting c) (none : IsOffers setting c []) where
-      rank_three : (n : Moment) → Says setting c n → 3 ≤ rank n
+      rank_three : (n : Moment) → Candidate setting c n → 3 ≤ rank n
       rank_three _ (moments.faulty t x) = absurd (calm x.source t x.occurs)
       rank_three _ (moments.acting xs x some) = absurd (no_offers xs none x some)
       rank_three _ (moments.passing d x) = omega arith
       rank_three _ (moments.finished x) = omega arith
       rank_three _ moments.deadlock = omega arith
 
-      rank_four : ((d : ℕ) → IsLeft setting c d → ⊥) → (n : Moment) → Says setting c n → 4 ≤ rank n
+      rank_four : ((d : ℕ) → IsLeft setting c d → ⊥) → (n : Moment) → Candidate setting c n → 4 ≤ rank n
       rank_four still _ (moments.faulty t x) = absurd (calm x.source t x.occurs)
       rank_four still _ (moments.acting xs x some) = absurd (no_offers xs none x some)
       rank_four still _ (moments.passing d x) = absurd (still d x.is_left)
       rank_four still _ (moments.finished x) = omega arith
       rank_four still _ moments.deadlock = omega arith
 
-      rank_five : ((d : ℕ) → IsLeft setting c d → ⊥) → (AllDone c → ⊥) → (n : Moment) → Says setting c n → 5 ≤ rank n
+      rank_five : ((d : ℕ) → IsLeft setting c d → ⊥) → (AllDone c → ⊥) → (n : Moment) → Candidate setting c n → 5 ≤ rank n
       rank_five still more _ (moments.faulty t x) = absurd (calm x.source t x.occurs)
       rank_five still more _ (moments.acting xs x some) = absurd (no_offers xs none x some)
       rank_five still more _ (moments.passing d x) = absurd (still d x.is_left)

@@ -8,7 +8,7 @@ use Rattle.pz_rules.specs.declared.term.Term.{Term}
 use Rattle.pz_rules.specs.Terms.{Code, guarded}
 use Rattle.pz_rules.specs.Terms as terms
 use Rattle.pz_rules.specs.View.{term_view, terms_view}
-use Rattle.pz_rules.specs.Settings.{At}
+use Rattle.pz_rules.specs.Settings.{Context}
 use Rattle.pz_rules.specs.devices.Found.{tested}
 use Rattle.pz_rules.specs.devices.Walk.{under, active_parts, active_children}
 use Rattle.pz_term_enabled.specs.declared.found.Found.{Found}
@@ -17,7 +17,7 @@ use Rattle.pz_term_enabled.specs.devices.Listings.{Adds}
 use Rattle.pz_term_enabled.proofs.Adding.{adds_both}
 use Rattle.pz_term_enabled.proofs.Walks.{child_added, guard_open, walked}
 
-module _ (at : Seen → At) (f : ℕ) where
+module _ (at : Seen → Context) (f : ℕ) where
   pub both_added : {R E : Type 0} (r : Result R E) (s later : Seen) (place there : Place) (first second : terms.Term) (o m n : Found) → later ≡ s → there ≡ place
       → Adds (at s) place (map (under 0) (active_parts (at s) f first)) o m
       → OnOk r (Adds (at later) there (map (under 1) (active_parts (at later) f second)) m n)
@@ -43,7 +43,7 @@ module _ (at : Seen → At) (f : ℕ) where
       on_ok_weaker r (guard_open (at s) f place test pos t o n is)
       (subst (λ (x : Seen). OnOk r (Adds (at x) place (map (under 0) (active_parts (at x) f t)) o n)) same more)
 
-pub walked_at : (a : At) (t : terms.Term) (place : Place) (o n : Found) → place ≡ [] → o.internal.items ≡ [] → o.sends.items ≡ [] → o.receives.items ≡ [] → o.delays.items ≡ [] → o.troubles.items ≡ []
+pub walked_at : (a : Context) (t : terms.Term) (place : Place) (o n : Found) → place ≡ [] → o.internal.items ≡ [] → o.sends.items ≡ [] → o.receives.items ≡ [] → o.delays.items ≡ [] → o.troubles.items ≡ []
     → Adds a place (active_parts a 0 t) o n → IsWalked a t n
 walked_at a t place o n root internal sends receives delays troubles adds =
     walked a t o n internal sends receives delays troubles (subst (λ (p : Place). Adds a p (active_parts a 0 t) o n) root adds)

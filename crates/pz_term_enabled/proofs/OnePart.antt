@@ -10,12 +10,12 @@ use Rattle.pz_offer.specs.declared.trouble.Trouble.{Trouble}
 use Rattle.pz_rules.specs.declared.action.Kind.{Kind}
 use Rattle.pz_rules.specs.declared.action.Kind.TheVariants.{Expire}
 use Rattle.pz_rules.specs.Terms.{Term}
-use Rattle.pz_rules.specs.Settings.{At}
+use Rattle.pz_rules.specs.Settings.{Context}
 use Rattle.pz_rules.specs.devices.Walk as walk
-use Rattle.pz_rules.specs.devices.Walk.{Part, here, Noted, noted_at, noted, does, sent_by, received_by, waiting, troubled_by, doing, expiry}
+use Rattle.pz_rules.specs.devices.Walk.{ActivePart, here, Noted, noted_at, noted, does, sent_by, received_by, waiting, troubled_by, doing, expiry}
 use Rattle.pz_term_enabled.specs.declared.found.Doing.{Doing}
-use Rattle.pz_term_enabled.specs.declared.found.Sending.{Sending}
-use Rattle.pz_term_enabled.specs.declared.found.Receiving.{Receiving}
+use Rattle.pz_term_enabled.specs.declared.found.ActiveSend.{ActiveSend}
+use Rattle.pz_term_enabled.specs.declared.found.ActiveReceive.{ActiveReceive}
 use Rattle.pz_term_enabled.specs.declared.found.Found.{Found}
 use Rattle.pz_term_enabled.specs.Walked.{doing_view, receiving_view, CarryAll, whats}
 use Rattle.pz_term_enabled.specs.devices.Listings.{below, Adds, Notes, notes_of, nothing, only_does, only_waits, only_troubles, only_receives}
@@ -46,22 +46,22 @@ just_is {X} h f t = by (h f t)
 -- the lists have grown by what is noted
 pub record Grows (place : Place) (x : Notes) (o n : Found) : Type 0 where
   pub internal : map doing_view n.internal.items ≡ map doing_view o.internal.items ++ one place x.does
-  pub more : List Sending
+  pub more : List ActiveSend
   pub sends : n.sends.items ≡ o.sends.items ++ more
   pub carried : CarryAll more (one place x.sends)
   pub receives : map receiving_view n.receives.items ≡ map receiving_view o.receives.items ++ one place x.receives
   pub delays : n.delays.items ≡ o.delays.items ++ just x.left
   pub troubles : n.troubles.items ≡ o.troubles.items ++ just x.trouble
 
-pub adds_one : (a : At) (place : Place) (f : ℕ) (t : Term) (x : Notes) (o n : Found) → notes_of a f t ≡ x → Grows place x o n → Adds a place (here f t ∷ []) o n
+pub adds_one : (a : Context) (place : Place) (f : ℕ) (t : Term) (x : Notes) (o n : Found) → notes_of a f t ≡ x → Grows place x o n → Adds a place (here f t ∷ []) o n
 adds_one a place f t x o n is grows = record {
   internal = grows.internal ∙ ap (λ (l : List (Noted walk.Doing)). map doing_view o.internal.items ++ l) (ap (λ (y : Notes). one place y.does) (sym is) ∙ sym (one_is (does a) place f t));
   sends = record {
     more = grows.more;
     added = grows.sends;
-    carried = subst (λ (l : List (Noted walk.Sending)). CarryAll grows.more l) (ap (λ (y : Notes). one place y.sends) (sym is) ∙ sym (one_is (sent_by a) place f t)) grows.carried;
+    carried = subst (λ (l : List (Noted walk.ActiveSend)). CarryAll grows.more l) (ap (λ (y : Notes). one place y.sends) (sym is) ∙ sym (one_is (sent_by a) place f t)) grows.carried;
   };
-  receives = grows.receives ∙ ap (λ (l : List (Noted walk.Receiving)). map receiving_view o.receives.items ++ l) (ap (λ (y : Notes). one place y.receives) (sym is) ∙ sym (one_is (λ f. received_by) place f t));
+  receives = grows.receives ∙ ap (λ (l : List (Noted walk.ActiveReceive)). map receiving_view o.receives.items ++ l) (ap (λ (y : Notes). one place y.receives) (sym is) ∙ sym (one_is (λ f. received_by) place f t));
   delays = grows.delays ∙ ap (λ (l : List ℕ). o.delays.items ++ l) (ap (λ (y : Notes). just y.left) (sym is) ∙ sym (just_is (waiting a) f t));
   troubles = grows.troubles ∙ ap (λ (l : List Trouble). o.troubles.items ++ l) (ap (λ (y : Notes). just y.trouble) (sym is) ∙ sym (just_is (troubled_by a) f t));
 }
@@ -94,7 +94,7 @@ grows_action place copy kind pos o v same grown =
 pub grows_trouble : (place : Place) (u : Trouble) (o : Found) (v : Vec Trouble Global) → v.items ≡ o.troubles.items ++ u ∷ [] → Grows place (only_troubles u) o (record o { troubles = v })
 grows_trouble place u o v grown = let s = stays place o in record { internal = s.internal; more = []; sends = s.sends; carried = tt; receives = s.receives; delays = s.delays; troubles = grown }
 
-pub grows_receive : (place copy : Place) (pos : Pos) (port : ℕ) (message name : List ℕ) (count : ℕ) (o : Found) (v : Vec Receiving Global) → copy ≡ place → message ≡ name
+pub grows_receive : (place copy : Place) (pos : Pos) (port : ℕ) (message name : List ℕ) (count : ℕ) (o : Found) (v : Vec ActiveReceive Global) → copy ≡ place → message ≡ name
     → v.items ≡ o.receives.items ++ record { place = copy; pos = pos; port = port; message = message; count = count } ∷ [] → Grows place (only_receives pos port name count) o (record o { receives = v })
 grows_receive place copy pos port message name count o v same spelled grown =
     let s = stays place o in record {
@@ -102,7 +102,7 @@ grows_receive place copy pos port message name count o v same spelled grown =
       more = [];
       sends = s.sends;
       carried = tt;
-      receives = ap (λ (l : List Receiving). map receiving_view l) grown ∙ map-push receiving_view o.receives.items (record { place = copy; pos = pos; port = port; message = message; count = count })
+      receives = ap (λ (l : List ActiveReceive). map receiving_view l) grown ∙ map-push receiving_view o.receives.items (record { place = copy; pos = pos; port = port; message = message; count = count })
           ∙ ap (λ (p : Place). map receiving_view o.receives.items ++ record { place = p; what = record { pos = pos; port = port; message = message; count = count } } ∷ []) same
           ∙ ap (λ (m : List ℕ). map receiving_view o.receives.items ++ record { place = place; what = record { pos = pos; port = port; message = m; count = count } } ∷ []) spelled;
       delays = s.delays;
@@ -119,10 +119,10 @@ pub grows_elapsed : (place copy : Place) (pos : Pos) (o : Found) (d : Vec Doing 
 grows_elapsed place copy pos o d v same grown waits =
     let s = stays place o in record { internal = (grows_action place copy Expire pos o d same grown).internal; more = []; sends = s.sends; carried = tt; receives = s.receives; delays = waits; troubles = s.troubles }
 
-abbrev pub only_sends : walk.Sending → Notes
+abbrev pub only_sends : walk.ActiveSend → Notes
 only_sends x = record nothing { sends = Some x }
 
-pub grows_send : (place copy : Place) (x : walk.Sending) (message : List ℕ) (parcel : ParcelView) (o : Found) (v : Vec Sending Global) → copy ≡ place → message ≡ x.message → IsParcelOf x.state x.values parcel
+pub grows_send : (place copy : Place) (x : walk.ActiveSend) (message : List ℕ) (parcel : ParcelView) (o : Found) (v : Vec ActiveSend Global) → copy ≡ place → message ≡ x.message → IsParcelOf x.state x.values parcel
     → v.items ≡ o.sends.items ++ record { place = copy; pos = x.pos; port = x.port; message = message; parcel = parcel } ∷ [] → Grows place (only_sends x) o (record o { sends = v })
 grows_send place copy x message parcel o v same spelled packed grown =
     let s = stays place o in record { internal = s.internal; more = record { place = copy; pos = x.pos; port = x.port; message = message; parcel = parcel } ∷ []; sends = grown; carried = (record { place = same; pos = refl; port = refl; message = spelled; parcel = packed }, tt); receives = s.receives; delays = s.delays; troubles = s.troubles }

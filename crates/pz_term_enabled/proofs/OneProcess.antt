@@ -6,7 +6,7 @@ use Rattle.pz_copy.specs.Parcels.{ParcelView}
 use Rattle.pz_copy.specs.Packing.{IsParcelOf}
 use Rattle.pz_offer.specs.PlaceOrder.{Place, PlaceBefore}
 use Rattle.pz_rules.specs.Terms.{Term}
-use Rattle.pz_rules.specs.Settings.{At}
+use Rattle.pz_rules.specs.Settings.{Context}
 use Rattle.pz_rules.specs.Active.{IsActive}
 use Rattle.pz_rules.specs.InternalActions.{Can}
 use Rattle.pz_rules.specs.Messages.{Sends, sends, Receives}
@@ -14,15 +14,15 @@ use Rattle.pz_rules.specs.devices.Walk as walk
 use Rattle.pz_rules.specs.devices.Walk.{Noted, internal_actions, active_sends, active_receives}
 use Rattle.pz_rules.specs.devices.Walks.{IsThere, Lists, Offering, offering, InternalActionsAreListed, SendsAreListed, SendsHaveParcels, ReceivesAreListed}
 use Rattle.pz_term_enabled.specs.declared.found.Doing.{Doing}
-use Rattle.pz_term_enabled.specs.declared.found.Sending.{Sending}
-use Rattle.pz_term_enabled.specs.declared.found.Receiving.{Receiving}
+use Rattle.pz_term_enabled.specs.declared.found.ActiveSend.{ActiveSend}
+use Rattle.pz_term_enabled.specs.declared.found.ActiveReceive.{ActiveReceive}
 use Rattle.pz_term_enabled.specs.Walked.{doing_view, receiving_view, Carries, CarryAll}
 use Rattle.pz_term_enabled.proofs.Paired.{zip_ordered, zip_all, zip_contains, zip_view}
 use Rattle.pz_term_enabled.proofs.Listed.{Here}
 
 -- Of two lists, of which the one has what the rules derive, and each element of the other stands for
 -- that of the one.
-module _ {X W : Type 0} (a : At) (t : Term) (holds : W → ℕ → Term → Type 0) (place : X → Place) (Holds : X → Type 0) (C : X → Noted W → Type 0) where
+module _ {X W : Type 0} (a : Context) (t : Term) (holds : W → ℕ → Term → Type 0) (place : X → Place) (Holds : X → Type 0) (C : X → Noted W → Type 0) where
   -- what is noted there, for which nothing else stands
   record IsTold (x : X) : Type 0 where
     pub what : W
@@ -44,7 +44,7 @@ module _ {X W : Type 0} (a : At) (t : Term) (holds : W → ℕ → Term → Type
       before x y m n one other first =
           subst (λ (q : Place). PlaceBefore q (place y)) (sym (placed x m one)) (subst (λ (q : Place). PlaceBefore m.place q) (sym (placed y n other)) first)
 
-module _ (a : At) (t : Term) where
+module _ (a : Context) (t : Term) where
   -- Internal actions
 
   abbrev pub DoesThere : Doing → Type 0
@@ -63,21 +63,21 @@ module _ (a : At) (t : Term) where
 
   -- Sends
 
-  abbrev pub SendsThere : Sending → Type 0
+  abbrev pub SendsThere : ActiveSend → Type 0
   SendsThere x = IsThere a t x.place (λ f part. Sends a f part x.pos x.port x.message x.parcel)
 
-  zip_carried : (xs : List Sending) (ns : List (Noted walk.Sending)) → CarryAll xs ns → AllZip Carries xs ns
+  zip_carried : (xs : List ActiveSend) (ns : List (Noted walk.ActiveSend)) → CarryAll xs ns → AllZip Carries xs ns
   zip_carried [] [] h = tt
   zip_carried [] (n ∷ ns) h = absurd h
   zip_carried (x ∷ xs) [] h = absurd h
   zip_carried (x ∷ xs) (n ∷ ns) h = (h.0, zip_carried xs ns h.1)
 
-  sends_of : (f : ℕ) (part : Term) (w : walk.Sending) (parcel : ParcelView) → Offering a f part w → IsParcelOf w.state w.values parcel → Sends a f part w.pos w.port w.message parcel
+  sends_of : (f : ℕ) (part : Term) (w : walk.ActiveSend) (parcel : ParcelView) → Offering a f part w → IsParcelOf w.state w.values parcel → Sends a f part w.pos w.port w.message parcel
   sends_of f _ _ parcel (offering at port name args block values s gives) packed = sends at port name args block values s parcel gives packed
 
   -- a send, as the walk notes it
   record IsOffered (f : ℕ) (part : Term) (pos : Pos) (port : ℕ) (message : List ℕ) (parcel : ParcelView) : Type 0 where
-    pub what : walk.Sending
+    pub what : walk.ActiveSend
     pub offers : Offering a f part what
     pub pos_is : what.pos ≡ pos
     pub port_is : what.port ≡ port
@@ -94,7 +94,7 @@ module _ (a : At) (t : Term) where
     packed = packed;
   }
 
-  sends_sound : (x : Sending) (n : Noted walk.Sending) → Carries x n → IsThere a t n.place (λ f part. Offering a f part n.what) → SendsThere x
+  sends_sound : (x : ActiveSend) (n : Noted walk.ActiveSend) → Carries x n → IsThere a t n.place (λ f part. Offering a f part n.what) → SendsThere x
   sends_sound x n carries is = record {
     frame = is.frame;
     part = is.part;
@@ -104,18 +104,18 @@ module _ (a : At) (t : Term) where
         (subst (λ (s : List ℕ). Sends a is.frame is.part n.what.pos n.what.port s x.parcel) (sym carries.message) (sends_of is.frame is.part n.what x.parcel is.it_holds carries.parcel)));
   }
 
-  abbrev sending : Place → Pos → ℕ → List ℕ → ParcelView → Sending
+  abbrev sending : Place → Pos → ℕ → List ℕ → ParcelView → ActiveSend
   sending place pos port message parcel = record { place = place; pos = pos; port = port; message = message; parcel = parcel }
 
-  same_sending : (y x : Sending) → y.place ≡ x.place → y.pos ≡ x.pos → y.port ≡ x.port → y.message ≡ x.message → y.parcel ≡ x.parcel → y ≡ x
+  same_sending : (y x : ActiveSend) → y.place ≡ x.place → y.pos ≡ x.pos → y.port ≡ x.port → y.message ≡ x.message → y.parcel ≡ x.parcel → y ≡ x
   same_sending y x place pos port message parcel =
       ap (λ (q : Place). sending q y.pos y.port y.message y.parcel) place ∙ ap (λ (q : Pos). sending x.place q y.port y.message y.parcel) pos
       ∙ ap (λ (k : ℕ). sending x.place x.pos k y.message y.parcel) port ∙ ap (λ (s : List ℕ). sending x.place x.pos x.port s y.parcel) message
       ∙ ap (λ (p : ParcelView). sending x.place x.pos x.port x.message p) parcel
 
-  pub sends_here : SendsAreListed → SendsHaveParcels → (xs : List Sending) → CarryAll xs (active_sends a t) → Here (λ (x : Sending). x.place) SendsThere xs
+  pub sends_here : SendsAreListed → SendsHaveParcels → (xs : List ActiveSend) → CarryAll xs (active_sends a t) → Here (λ (x : ActiveSend). x.place) SendsThere xs
   sends_here law parcels xs carried =
-      here a t (λ (w : walk.Sending) (f : ℕ) (part : Term). Offering a f part w) (λ (x : Sending). x.place) SendsThere Carries (λ x n carries. carries.place) sends_sound
+      here a t (λ (w : walk.ActiveSend) (f : ℕ) (part : Term). Offering a f part w) (λ (x : ActiveSend). x.place) SendsThere Carries (λ x n carries. carries.place) sends_sound
       (λ x h.
       let is = offered h.frame h.part x.pos x.port x.message x.parcel h.it_holds in
       let one = (parcels a h.frame h.part is.what is.offers).1.only in
@@ -128,16 +128,16 @@ module _ (a : At) (t : Term) where
 
   -- Receives
 
-  abbrev pub ReceivesThere : Receiving → Type 0
+  abbrev pub ReceivesThere : ActiveReceive → Type 0
   ReceivesThere x = IsThere a t x.place (λ f part. Receives part x.pos x.port x.message x.count)
 
-  abbrev receiving_of : Noted walk.Receiving → Receiving
+  abbrev receiving_of : Noted walk.ActiveReceive → ActiveReceive
   receiving_of n = record { place = n.place; pos = n.what.pos; port = n.what.port; message = n.what.message; count = n.what.count }
 
-  pub receives_here : ReceivesAreListed → (xs : List Receiving) → map receiving_view xs ≡ active_receives a t → Here (λ (x : Receiving). x.place) ReceivesThere xs
+  pub receives_here : ReceivesAreListed → (xs : List ActiveReceive) → map receiving_view xs ≡ active_receives a t → Here (λ (x : ActiveReceive). x.place) ReceivesThere xs
   receives_here law xs is =
-      here a t (λ (w : walk.Receiving) (f : ℕ) (part : Term). Receives part w.pos w.port w.message w.count) (λ (x : Receiving). x.place) ReceivesThere (λ (x : Receiving) (n : Noted walk.Receiving). receiving_view x ≡ n)
-      (λ x n e. ap (λ (m : Noted walk.Receiving). m.place) e)
-      (λ x n e h. subst (λ (m : Noted walk.Receiving). IsThere a t m.place (λ f part. Receives part m.what.pos m.what.port m.what.message m.what.count)) (sym e) h)
+      here a t (λ (w : walk.ActiveReceive) (f : ℕ) (part : Term). Receives part w.pos w.port w.message w.count) (λ (x : ActiveReceive). x.place) ReceivesThere (λ (x : ActiveReceive) (n : Noted walk.ActiveReceive). receiving_view x ≡ n)
+      (λ x n e. ap (λ (m : Noted walk.ActiveReceive). m.place) e)
+      (λ x n e h. subst (λ (m : Noted walk.ActiveReceive). IsThere a t m.place (λ f part. Receives part m.what.pos m.what.port m.what.message m.what.count)) (sym e) h)
       (λ x h. record { what = record { pos = x.pos; port = x.port; message = x.message; count = x.count }; is_there = h; only = λ y e. ap receiving_of e })
       xs (active_receives a t) (zip_view receiving_view xs (active_receives a t) is) (law a t)

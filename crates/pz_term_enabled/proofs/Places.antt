@@ -3,7 +3,7 @@ use Rattle.std.proofs.Common.{◌≡◌, ℕ, List, [], ◌∷◌, ◌++◌, map
 use Rattle.std.specs.List.{cons_option}
 use Rattle.pz_offer.specs.PlaceOrder.{Place}
 use Rattle.pz_rules.specs.Terms.{Term}
-use Rattle.pz_rules.specs.devices.Walk.{Part, here, under, Noted, noted_at, noted}
+use Rattle.pz_rules.specs.devices.Walk.{ActivePart, here, under, Noted, noted_at, noted}
 use Rattle.pz_term_enabled.specs.Walked.{whats}
 use Rattle.pz_term_enabled.specs.devices.Listings.{below}
 
@@ -12,7 +12,7 @@ abbrev pub further : {X : Type 0} → ℕ → Noted X → Noted X
 further i n = record { place = i ∷ n.place; what = n.what }
 
 module _ {X : Type 0} (h : ℕ → Term → Option X) where
-  pub noted_append : (ps qs : List Part) → noted h (ps ++ qs) ≡ noted h ps ++ noted h qs
+  pub noted_append : (ps qs : List ActivePart) → noted h (ps ++ qs) ≡ noted h ps ++ noted h qs
   noted_append [] qs = refl
   noted_append (p ∷ ps) qs = by (noted_at p.place (h p.frame p.part)) (noted_append ps qs)
     where
@@ -20,7 +20,7 @@ module _ {X : Type 0} (h : ℕ → Term → Option X) where
       by None rest = rest
       by (Some n) rest = ap (λ (ns : List (Noted X)). n ∷ ns) rest
 
-  pub noted_under : (i : ℕ) (ps : List Part) → noted h (map (under i) ps) ≡ map (further i) (noted h ps)
+  pub noted_under : (i : ℕ) (ps : List ActivePart) → noted h (map (under i) ps) ≡ map (further i) (noted h ps)
   noted_under i [] = refl
   noted_under i (p ∷ ps) = by (h p.frame p.part) (noted_under i ps)
     where
@@ -29,7 +29,7 @@ module _ {X : Type 0} (h : ℕ → Term → Option X) where
       by (Some x) rest = ap (λ (ns : List (Noted X)). record { place = i ∷ p.place; what = x } ∷ ns) rest
 
   -- of a part of which nothing is noted, and of one of which this is
-  pub noted_none : (f : ℕ) (t : Term) (ps : List Part) → h f t ≡ None → noted h (here f t ∷ ps) ≡ noted h ps
+  pub noted_none : (f : ℕ) (t : Term) (ps : List ActivePart) → h f t ≡ None → noted h (here f t ∷ ps) ≡ noted h ps
   noted_none f t ps is = ap (λ (o : Option X). cons_option (noted_at [] o) (noted h ps)) is
 
   pub noted_some : (f : ℕ) (t : Term) (x : X) → h f t ≡ Some x → noted h (here f t ∷ []) ≡ record { place = []; what = x } ∷ []

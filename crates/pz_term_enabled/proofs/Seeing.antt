@@ -13,7 +13,7 @@ use Rattle.pz_bind.specs.declared.net.Net.{Net}
 use Rattle.pz_offer.specs.PlaceOrder.{Place}
 use Rattle.pz_rules.specs.View.{term_view}
 use Rattle.pz_rules.specs.Terms.{Term}
-use Rattle.pz_rules.specs.Settings.{At}
+use Rattle.pz_rules.specs.Settings.{Context}
 use Rattle.pz_rules.specs.Active.{IsActive}
 use Rattle.pz_rules.specs.Messages.{Sends, sends, Receives, receives}
 use Rattle.pz_rules.specs.Leaving.{is_done}
@@ -25,8 +25,8 @@ use Rattle.pz_term_processes.specs.declared.process.Process.{Process}
 use Rattle.pz_term_processes.specs.Standing.{setting_of, process_view}
 use Rattle.pz_part_queries.specs.declared.standpoint.Standpoint.{Standpoint}
 use Rattle.pz_part_queries.specs.Standpoints.{seen_from}
-use Rattle.pz_term_enabled.specs.declared.found.Sending.{Sending}
-use Rattle.pz_term_enabled.specs.declared.found.Receiving.{Receiving}
+use Rattle.pz_term_enabled.specs.declared.found.ActiveSend.{ActiveSend}
+use Rattle.pz_term_enabled.specs.declared.found.ActiveReceive.{ActiveReceive}
 use Rattle.pz_term_enabled.specs.declared.found.Found.{Found}
 use Rattle.pz_term_enabled.specs.Walked.{IsWalked}
 use Rattle.pz_term_enabled.specs.declared.findings.Survey.{Survey}
@@ -37,7 +37,7 @@ use Rattle.pz_term_enabled.proofs.OneProcess.{SendsThere, ReceivesThere, sends_h
 use Rattle.pz_term_enabled.proofs.Further.{WalkLaws, surveyed_further}
 
 -- the port of a send or a receive that fits a class
-send_port : (m : ModelTree) (class inner : ℕ) (a : At) (f : ℕ) (part : Term) (pos : Pos) (port : ℕ) (message : List ℕ) (parcel : ParcelView)
+send_port : (m : ModelTree) (class inner : ℕ) (a : Context) (f : ℕ) (part : Term) (pos : Pos) (port : ℕ) (message : List ℕ) (parcel : ParcelView)
     → Sends a f part pos port message parcel → TermFits m class inner part → port < length (ports m class)
 send_port m class inner a f _ _ _ _ _ (sends at port name args block values s parcel gives packed) fits = fits.0
 
@@ -46,7 +46,7 @@ receive_port m class inner _ _ _ _ _ (receives at port name into condition block
 
 module _ (m : ModelTree) (c : Config) (net : Net) (here : Standpoint) (process : Process) (seen : IsSeen m c net here process) where
   -- the process as its statements see it
-  abbrev pub seen_at : At
+  abbrev pub seen_at : Context
   seen_at = seen_from m here (class_at m seen.place) process.state.held
 
   stands : Stands (setting_of m here.limits) c here.process (process_view process) seen_at
@@ -70,13 +70,13 @@ module _ (m : ModelTree) (c : Config) (net : Net) (here : Standpoint) (process :
 
     pub sends_fit : WalkLaws → ActivePartsFit → (found : Found) → IsWalked seen_at (term_view process.term) found → All (λ x. HasPort wired x.port) found.sends.items
     sends_fit laws law found walked =
-        All-weaker (SendsThere seen_at (term_view process.term)) (λ (x : Sending). HasPort wired x.port)
+        All-weaker (SendsThere seen_at (term_view process.term)) (λ (x : ActiveSend). HasPort wired x.port)
         (λ x h. port_merely law x.place h.frame h.part x.port h.active (λ inner fits. send_port m (class_at m seen.place) inner seen_at h.frame h.part x.pos x.port x.message x.parcel h.it_holds fits))
         found.sends.items (sends_here seen_at (term_view process.term) laws.sends laws.parcels found.sends.items walked.sends).derivable
 
     pub receives_fit : WalkLaws → ActivePartsFit → (found : Found) → IsWalked seen_at (term_view process.term) found → All (λ x. HasPort wired x.port) found.receives.items
     receives_fit laws law found walked =
-        All-weaker (ReceivesThere seen_at (term_view process.term)) (λ (x : Receiving). HasPort wired x.port)
+        All-weaker (ReceivesThere seen_at (term_view process.term)) (λ (x : ActiveReceive). HasPort wired x.port)
         (λ x h. port_merely law x.place h.frame h.part x.port h.active (λ inner fits. receive_port m (class_at m seen.place) inner h.part x.pos x.port x.message x.count h.it_holds fits))
         found.receives.items (receives_here seen_at (term_view process.term) laws.receives found.receives.items walked.receives).derivable
 

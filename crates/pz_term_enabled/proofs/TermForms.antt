@@ -13,7 +13,7 @@ use Rattle.pz_rules.specs.declared.term.Term.TheVariants as form
 use Rattle.pz_rules.specs.declared.term.Term.TheFolds.{the_lemmas}
 use Rattle.pz_rules.specs.Terms as terms
 use Rattle.pz_rules.specs.View.{term_view, terms_view}
-use Rattle.pz_rules.specs.Settings.{At}
+use Rattle.pz_rules.specs.Settings.{Context}
 use Rattle.pz_rules.specs.devices.Walk.{under, active_parts, active_children}
 use Rattle.pz_term_enabled.specs.declared.found.Found.{Found}
 use Rattle.pz_term_enabled.specs.devices.Listings.{Adds}
@@ -43,7 +43,7 @@ shows_Idle t u again = search (rules, the_lemmas)
 shows_Handling : (t u : Term) (again : Step) → term_view (form.Handling t u again) ≡ terms.handling (term_view t) (term_view u) (step.view again)
 shows_Handling t u again = search (rules, the_lemmas)
 
-module _ (a : At) (f : ℕ) (place : Place) (o n : Found) where
+module _ (a : Context) (f : ℕ) (place : Place) (o n : Found) where
   seen_as : (t : Term) (u : terms.Term) → term_view t ≡ u → Adds a place (active_parts a f u) o n → Adds a place (active_parts a f (term_view t)) o n
   seen_as t u is adds = subst (λ (x : terms.Term). Adds a place (active_parts a f x) o n) (sym is) adds
 

@@ -8,15 +8,15 @@ use Rattle.pz_syntax.specs.Classes.{ModelTree}
 use Rattle.pz_classes.specs.declared.classes.Classes.{Classes}
 use Rattle.pz_classes.specs.Tables.{AreClasses}
 use Rattle.pz_copy.specs.Parcels.{ParcelView}
-use Rattle.pz_bind_levels.specs.Places.{Place as ProcessPlace}
+use Rattle.pz_bind_levels.specs.Places.{Address as ProcessPlace}
 use Rattle.pz_bind.specs.Nest.{class_at}
 use Rattle.pz_offer.specs.declared.end.End.{End}
 use Rattle.pz_offer.specs.declared.trouble.Trouble.{Trouble}
-use Rattle.pz_offer.specs.PlaceOrder.{Place}
+use Rattle.pz_offer.specs.PlaceOrder.{Address}
 use Rattle.pz_rules.specs.declared.limits.Limits.{Limits}
 use Rattle.pz_rules.specs.Terms.{Term}
 use Rattle.pz_rules.specs.Settings as rules
-use Rattle.pz_rules.specs.Settings.{Setting, At}
+use Rattle.pz_rules.specs.Settings.{Setting, Context}
 use Rattle.pz_rules.specs.Active as active
 use Rattle.pz_rules.specs.Active.{Active, IsActive}
 use Rattle.pz_rules.specs.Messages.{Judges}
@@ -42,20 +42,20 @@ record SamePart (g h : ℕ) (x y : Term) : Type 0 where
   frame : g ≡ h
   part : x ≡ y
 
-active_once : {a : At} {f : ℕ} {t : Term} {place : Place} {g h : ℕ} {x y : Term} → Active a f t place g x → Active a f t place h y → SamePart g h x y
+active_once : {a : Context} {f : ℕ} {t : Term} {place : Address} {g h : ℕ} {x y : Term} → Active a f t place g x → Active a f t place h y → SamePart g h x y
 active_once (active.here f t) (active.here _ _) = record { frame = refl; part = refl }
 active_once (active.inside f t i place g x r k) (active.inside _ _ _ _ h y r' l) = active_once k l
 
 module _ (setting : Setting) (c : Config) where
-  record SameStands (a b : At) (p q : rules.Process) : Type 0 where
+  record SameStands (a b : Context) (p q : rules.Process) : Type 0 where
     seen : a ≡ b
     process : p ≡ q
 
-  stands_once : (i : ℕ) (p q : rules.Process) (a b : At) → Stands setting c i p a → Stands setting c i q b → SameStands a b p q
+  stands_once : (i : ℕ) (p q : rules.Process) (a b : Context) → Stands setting c i p a → Stands setting c i q b → SameStands a b p q
   stands_once i p q a b x y =
       let place : x.place ≡ y.place = same_Some x.place y.place (sym x.is_process ∙ y.is_process) in
       let process : p ≡ q = same_Some p q (sym x.is_here ∙ y.is_here) in
-      let seen_at : ProcessPlace → rules.Process → At = λ l z. record { setting = setting; process = i; class = class_at setting.model l; clock = c.clock; state = z.state } in
+      let seen_at : ProcessPlace → rules.Process → Context = λ l z. record { setting = setting; process = i; class = class_at setting.model l; clock = c.clock; state = z.state } in
       record {
         seen = x.seen ∙ ap (λ (l : ProcessPlace). seen_at l p) place ∙ ap (λ (z : rules.Process). seen_at y.place z) process ∙ sym y.seen;
         process = process;
@@ -65,28 +65,28 @@ module _ (setting : Setting) (c : Config) where
   verdict_once law receiver parcel v w x y =
       let same = stands_once receiver.process x.active.process y.active.process x.seen y.seen x.active.stands y.active.stands in
       let here : IsActive y.seen y.active.process.term receiver.place x.frame x.part =
-      subst (λ (a : At). IsActive a y.active.process.term receiver.place x.frame x.part) same.seen
+      subst (λ (a : Context). IsActive a y.active.process.term receiver.place x.frame x.part) same.seen
       (subst (λ (p : rules.Process). IsActive x.seen p.term receiver.place x.frame x.part) same.process x.active.active) in
       let one = active_once here y.active.active in
       let judges : Judges y.seen y.frame parcel y.part v =
       subst (λ (t : Term). Judges y.seen y.frame parcel t v) one.part
-      (subst (λ (f : ℕ). Judges y.seen f parcel x.part v) one.frame (subst (λ (a : At). Judges a x.frame parcel x.part v) same.seen x.judges)) in
+      (subst (λ (f : ℕ). Judges y.seen f parcel x.part v) one.frame (subst (λ (a : Context). Judges a x.frame parcel x.part v) same.seen x.judges)) in
       law y.seen y.frame parcel y.part v w judges y.judges
 
 -- What is asked of the part at a place
 
-pub may_act : ActivePartsMayAct → (t : Term) (place slice : Place) → slice ≡ place → HasReceive t place → MayAct t slice
-may_act law t place slice same x = subst (λ (p : Place). MayAct t p) (sym same) (law x.seen t place x.frame x.part x.active)
+pub may_act : ActivePartsMayAct → (t : Term) (place slice : Address) → slice ≡ place → HasReceive t place → MayAct t slice
+may_act law t place slice same x = subst (λ (p : Address). MayAct t p) (sym same) (law x.seen t place x.frame x.part x.active)
 
-pub receives_there : (t part : Term) (place slice : Place) (frame : ℕ) → slice ≡ place → HasReceive t place → IsPartAt 0 t slice frame part → IsReceive part
+pub receives_there : (t part : Term) (place slice : Address) (frame : ℕ) → slice ≡ place → HasReceive t place → IsPartAt 0 t slice frame part → IsReceive part
 receives_there t part place slice frame same x is =
-    let there = is x.seen x.frame x.part (subst (λ (p : Place). IsActive x.seen t p x.frame x.part) (sym same) x.active) in
+    let there = is x.seen x.frame x.part (subst (λ (p : Address). IsActive x.seen t p x.frame x.part) (sym same) x.active) in
     subst (λ (y : Term). IsReceive y) (sym there.1) x.receive
 
-pub judges_at : (a : At) (t part : Term) (place slice : Place) (frame : ℕ) (parcel : ParcelView) (verdict : Result Bool Trouble) → slice ≡ place → IsPartAt 0 t slice frame part
+pub judges_at : (a : Context) (t part : Term) (place slice : Address) (frame : ℕ) (parcel : ParcelView) (verdict : Result Bool Trouble) → slice ≡ place → IsPartAt 0 t slice frame part
     → Judges a frame parcel part verdict → JudgesAt a t place parcel verdict
 judges_at a t part place slice frame parcel verdict same is judges f x active =
-    let there = is a f x (subst (λ (p : Place). IsActive a t p f x) (sym same) active) in
+    let there = is a f x (subst (λ (p : Address). IsActive a t p f x) (sym same) active) in
     subst (λ (y : Term). Judges a f parcel y verdict) there.1 (subst (λ (g : ℕ). Judges a g parcel part verdict) there.0 judges)
 
 -- The process of a receive, among those of the code
@@ -116,7 +116,7 @@ module _ (m : ModelTree) (limits : Limits) (clock : ℕ) (ps : List Process) whe
   }
 
   -- as its statements see it
-  abbrev pub seen_as : (r : Receiver) → IsReceiver (setting_of m limits) (config_of clock ps) r → rules.Process → At
+  abbrev pub seen_as : (r : Receiver) → IsReceiver (setting_of m limits) (config_of clock ps) r → rules.Process → Context
   seen_as r x q = record { setting = setting_of m limits; process = r.end.process; class = class_at m x.active.stands.place; clock = clock; state = q.state }
 
   -- the verdict of the part at its place is that of the rules
@@ -133,6 +133,6 @@ module _ (m : ModelTree) (limits : Limits) (clock : ℕ) (ps : List Process) whe
         part = x.part;
         active = x.active;
         judges =
-            subst (λ (a : At). Judges a x.frame parcel x.part verdict) (sym seen)
-            (judges x.frame x.part (subst (λ (a : At). IsActive a (term_view p.term) r.end.place x.frame x.part) seen (subst (λ (q : rules.Process). IsActive x.seen q.term r.end.place x.frame x.part) same x.active.active)));
+            subst (λ (a : Context). Judges a x.frame parcel x.part verdict) (sym seen)
+            (judges x.frame x.part (subst (λ (a : Context). IsActive a (term_view p.term) r.end.place x.frame x.part) seen (subst (λ (q : rules.Process). IsActive x.seen q.term r.end.place x.frame x.part) same x.active.active)));
       }

@@ -8,17 +8,17 @@ use Rattle.pz_rules.specs.declared.term.Term.{Term}
 use Rattle.pz_rules.specs.Terms.{Code, Terms, guarded}
 use Rattle.pz_rules.specs.Terms as terms
 use Rattle.pz_rules.specs.View.{term_view, terms_view}
-use Rattle.pz_rules.specs.Settings.{At}
+use Rattle.pz_rules.specs.Settings.{Context}
 use Rattle.pz_rules.specs.devices.Found.{tested}
 use Rattle.pz_rules.specs.devices.Walk as walk
-use Rattle.pz_rules.specs.devices.Walk.{Part, here, under, behind, active_parts, active_children, trouble_of, Noted, internal_actions, active_sends, active_receives, active_delays, active_troubles}
+use Rattle.pz_rules.specs.devices.Walk.{ActivePart, here, under, behind, active_parts, active_children, trouble_of, Noted, internal_actions, active_sends, active_receives, active_delays, active_troubles}
 use Rattle.pz_term_enabled.specs.declared.found.Found.{Found}
 use Rattle.pz_term_enabled.specs.Walked.{IsWalked, CarryAll, doing_view, receiving_view, whats}
 use Rattle.pz_term_enabled.specs.devices.Listings.{Adds, Notes, notes_of, nothing, only_troubles, below}
 use Rattle.pz_term_enabled.proofs.Places.{below_root}
 use Rattle.pz_term_enabled.proofs.Adding.{adds_none, adds_both, adds_after}
 
-module _ (a : At) (f : ℕ) where
+module _ (a : Context) (f : ℕ) where
   -- further children
 
   pub children_push : (k : ℕ) (ts : List Term) (t : Term) → active_children a f k (terms_view (ts ++ t ∷ [])) ≡ active_children a f k (terms_view ts) ++ map (under (k + length ts)) (active_parts a f (term_view t))
@@ -27,7 +27,7 @@ module _ (a : At) (f : ℕ) where
       append-nil (map (under k) (active_parts a f (term_view t))) ∙ ap (λ (m : ℕ). map (under m) (active_parts a f (term_view t))) n
   children_push k (x ∷ ts) t =
       let n : suc k + length ts ≡ k + suc (length ts) = omega arith in
-      ap (λ (l : List Part). map (under k) (active_parts a f (term_view x)) ++ l) (children_push (suc k) ts t)
+      ap (λ (l : List ActivePart). map (under k) (active_parts a f (term_view x)) ++ l) (children_push (suc k) ts t)
       ∙ sym (append_assoc (map (under k) (active_parts a f (term_view x))) (active_children a f (suc k) (terms_view ts)) (map (under (suc k + length ts)) (active_parts a f (term_view t))))
       ∙ ap (λ (m : ℕ). map (under k) (active_parts a f (term_view x)) ++ active_children a f (suc k) (terms_view ts) ++ map (under m) (active_parts a f (term_view t))) n
 
@@ -42,7 +42,7 @@ module _ (a : At) (f : ℕ) where
       ap (λ (k : ℕ). active_children a f 0 (terms_view (take i ts)) ++ map (under k) (active_parts a f (term_view t))) (sym count)
       ∙ sym (children_push 0 (take i ts) t)
       ∙ ap (λ (l : List Term). active_children a f 0 (terms_view l)) (sym more) in
-      subst (λ (ps : List Part). Adds a place ps o n) parts (adds_both a place (active_children a f 0 (terms_view (take i ts))) (map (under i) (active_parts a f (term_view t))) o m n so_far added)
+      subst (λ (ps : List ActivePart). Adds a place ps o n) parts (adds_both a place (active_children a f 0 (terms_view (take i ts))) (map (under i) (active_parts a f (term_view t))) o m n so_far added)
 
   -- a guard
 
@@ -69,12 +69,12 @@ module _ (a : At) (f : ℕ) where
       subst (λ (r : Result Bool Trouble). Adds a place (here f (guarded test at t) ∷ behind r (map (under 0) (active_parts a f t))) o n) is adds
 
 -- from nothing, of a whole term
-pub walked : (a : At) (t : terms.Term) (o n : Found) → o.internal.items ≡ [] → o.sends.items ≡ [] → o.receives.items ≡ [] → o.delays.items ≡ [] → o.troubles.items ≡ []
+pub walked : (a : Context) (t : terms.Term) (o n : Found) → o.internal.items ≡ [] → o.sends.items ≡ [] → o.receives.items ≡ [] → o.delays.items ≡ [] → o.troubles.items ≡ []
     → Adds a [] (active_parts a 0 t) o n → IsWalked a t n
 walked a t o n internal sends receives delays troubles adds = record {
   internal = adds.internal ∙ ap (λ (l : List _). map doing_view l ++ map (below []) (internal_actions a t)) internal ∙ below_root (internal_actions a t);
   sends = subst (λ (l : List _). CarryAll l (active_sends a t)) (sym (adds.sends.added ∙ ap (λ (l : List _). l ++ adds.sends.more) sends))
-      (subst (λ (l : List (Noted walk.Sending)). CarryAll adds.sends.more l) (below_root (active_sends a t)) adds.sends.carried);
+      (subst (λ (l : List (Noted walk.ActiveSend)). CarryAll adds.sends.more l) (below_root (active_sends a t)) adds.sends.carried);
   receives = adds.receives ∙ ap (λ (l : List _). map receiving_view l ++ map (below []) (active_receives a t)) receives ∙ below_root (active_receives a t);
   delays = adds.delays ∙ ap (λ (l : List ℕ). l ++ whats (active_delays a t)) delays;
   troubles = adds.troubles ∙ ap (λ (l : List Trouble). l ++ whats (active_troubles a t)) troubles;

@@ -7,7 +7,7 @@ use Rattle.pz_offer.specs.PlaceOrder.{EndBefore}
 use Rattle.pz_rules.specs.declared.action.Action.{Action}
 use Rattle.pz_rules.specs.declared.action.Action.TheVariants.{Internal, Comm}
 use Rattle.pz_rules.specs.Terms.{Term}
-use Rattle.pz_rules.specs.Settings.{Setting, At}
+use Rattle.pz_rules.specs.Settings.{Setting, Context}
 use Rattle.pz_rules.specs.Messages.{Sends, Receives}
 use Rattle.pz_rules.specs.Ports.{IsWire}
 use Rattle.pz_rules.specs.Configurations.{Config}
@@ -30,7 +30,7 @@ module _ (setting : Setting) (c : Config) where
 
   -- an active send over a wire, with the parcel that it would hand over
   pub record IsSender (s : Sender) : Type 0 where
-    pub seen : At
+    pub seen : Context
     pub frame : ℕ
     pub part : Term
     pub active : PartAt setting c s.end seen frame part
@@ -47,7 +47,7 @@ module _ (setting : Setting) (c : Config) where
 
   -- an active receive over a wire, of so many values
   pub record IsReceiver (r : Receiver) : Type 0 where
-    pub seen : At
+    pub seen : Context
     pub frame : ℕ
     pub part : Term
     pub active : PartAt setting c r.end seen frame part

@@ -2,22 +2,22 @@
 use Rattle.std.specs.Prelude.{◌≡◌, List, [], ◌∷◌, map}
 use Rattle.pz_copy.specs.Packing.{IsParcelOf}
 use Rattle.pz_rules.specs.Terms.{Term}
-use Rattle.pz_rules.specs.Settings.{At}
+use Rattle.pz_rules.specs.Settings.{Context}
 use Rattle.pz_rules.specs.devices.Walk as walk
 use Rattle.pz_rules.specs.devices.Walk.{Noted, internal_actions, active_sends, active_receives, active_delays, active_troubles}
 use Rattle.pz_term_enabled.specs.declared.found.Doing.{Doing}
-use Rattle.pz_term_enabled.specs.declared.found.Sending.{Sending}
-use Rattle.pz_term_enabled.specs.declared.found.Receiving.{Receiving}
+use Rattle.pz_term_enabled.specs.declared.found.ActiveSend.{ActiveSend}
+use Rattle.pz_term_enabled.specs.declared.found.ActiveReceive.{ActiveReceive}
 use Rattle.pz_term_enabled.specs.declared.found.Found.{Found}
 
 abbrev pub doing_view : Doing → Noted walk.Doing
 doing_view d = record { place = d.place; what = record { kind = d.kind; pos = d.pos } }
 
-abbrev pub receiving_view : Receiving → Noted walk.Receiving
+abbrev pub receiving_view : ActiveReceive → Noted walk.ActiveReceive
 receiving_view r = record { place = r.place; what = record { pos = r.pos; port = r.port; message = r.message; count = r.count } }
 
 -- a send, with the parcel of its values
-pub record Carries (x : Sending) (n : Noted walk.Sending) : Type 0 where
+pub record Carries (x : ActiveSend) (n : Noted walk.ActiveSend) : Type 0 where
   pub place : x.place ≡ n.place
   pub pos : x.pos ≡ n.what.pos
   pub port : x.port ≡ n.what.port
@@ -25,7 +25,7 @@ pub record Carries (x : Sending) (n : Noted walk.Sending) : Type 0 where
   pub parcel : IsParcelOf n.what.state n.what.values x.parcel
 
 -- each of them, in order
-abbrev pub CarryAll : List Sending → List (Noted walk.Sending) → Type 0
+abbrev pub CarryAll : List ActiveSend → List (Noted walk.ActiveSend) → Type 0
 CarryAll [] [] = Unit {0}
 CarryAll (x ∷ xs) (n ∷ ns) = Carries x n × CarryAll xs ns
 CarryAll xs ns = ⊥
@@ -34,7 +34,7 @@ abbrev pub whats : {X : Type 0} → List (Noted X) → List X
 whats ns = map (λ n. n.what) ns
 
 -- all that is listed is what the walk of the whole term lists
-pub record IsWalked (a : At) (t : Term) (found : Found) : Type 0 where
+pub record IsWalked (a : Context) (t : Term) (found : Found) : Type 0 where
   pub internal : map doing_view found.internal.items ≡ internal_actions a t
   pub sends : CarryAll found.sends.items (active_sends a t)
   pub receives : map receiving_view found.receives.items ≡ active_receives a t

@@ -10,7 +10,7 @@ ghost use Rattle.pz_term_enabled.specs.devices.Adding.{action_of, sender_of, rec
 ghost use Rattle.pz_term_enabled.specs.devices.Seen.{Wired, HasPort, wire_at};
 
 use crate::findings::Survey;
-use crate::found::{Doing, Found, Receiving, Sending};
+use crate::found::{ActiveReceive, ActiveSend, Doing, Found};
 use pz_bind::Net;
 use pz_offer::{End, Trouble};
 use pz_rules::Action;
@@ -45,7 +45,7 @@ fn wire_of(net: &Net, process: u32, port: u32) -> Option<u32>
 fn add_sender(
     net: &Net,
     process: u32,
-    sending: Sending,
+    sending: ActiveSend,
     senders: &mut Vec<Sender>,
 ) -> Result<(), AllocError>
     requires { HasProcess net.now process }
@@ -55,7 +55,7 @@ fn add_sender(
     let Some(wire) = wire_of(net, process, sending.port) else {
         return Ok(());
     };
-    let Sending {
+    let ActiveSend {
         place,
         pos: _,
         port: _,
@@ -76,7 +76,7 @@ fn add_sender(
 fn add_senders(
     net: &Net,
     process: u32,
-    sends: Vec<Sending>,
+    sends: Vec<ActiveSend>,
     senders: &mut Vec<Sender>,
 ) -> Result<(), AllocError>
     requires { HasProcess net.now process }
@@ -93,7 +93,7 @@ fn add_senders(
 fn add_receiver(
     net: &Net,
     process: u32,
-    receiving: Receiving,
+    receiving: ActiveReceive,
     receivers: &mut Vec<Receiver>,
 ) -> Result<(), AllocError>
     requires { HasProcess net.now process }
@@ -103,7 +103,7 @@ fn add_receiver(
     let Some(wire) = wire_of(net, process, receiving.port) else {
         return Ok(());
     };
-    let Receiving {
+    let ActiveReceive {
         place,
         pos: _,
         port: _,
@@ -124,7 +124,7 @@ fn add_receiver(
 fn add_receivers(
     net: &Net,
     process: u32,
-    receives: Vec<Receiving>,
+    receives: Vec<ActiveReceive>,
     receivers: &mut Vec<Receiver>,
 ) -> Result<(), AllocError>
     requires { HasProcess net.now process }

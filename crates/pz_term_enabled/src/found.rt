@@ -16,7 +16,7 @@ pub struct Doing {
 
 /// An active send, with the parcel that it would hand over now.
 #[derive(Drop)]
-pub struct Sending {
+pub struct ActiveSend {
     pub place: Place,
     pub pos: Pos,
     pub port: u32,
@@ -26,7 +26,7 @@ pub struct Sending {
 
 /// An active receive, of so many values.
 #[derive(Drop)]
-pub struct Receiving {
+pub struct ActiveReceive {
     pub place: Place,
     pub pos: Pos,
     pub port: u32,
@@ -38,8 +38,8 @@ pub struct Receiving {
 #[derive(Drop)]
 pub struct Found {
     pub internal: Vec<Doing>,
-    pub sends: Vec<Sending>,
-    pub receives: Vec<Receiving>,
+    pub sends: Vec<ActiveSend>,
+    pub receives: Vec<ActiveReceive>,
     /// What is left of the active delays, in clock units.
     pub delays: Vec<u128>,
     /// The troubles of what is asked.

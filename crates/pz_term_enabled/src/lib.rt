@@ -16,7 +16,7 @@ mod surveying;
 mod walking;
 
 pub use findings::Survey;
-pub use found::{Doing, Found, Receiving, Sending};
+pub use found::{ActiveReceive, ActiveSend, Doing, Found};
 pub use looking::{Outlook, look};
 pub use surveying::survey;
 pub use walking::walk;

@@ -9,14 +9,14 @@ ghost use Rattle.pz_classes_code.specs.declared.slot.Slot.{Slot as Variable};
 ghost use Rattle.pz_classes_code.specs.StepView.{view};
 ghost use Rattle.pz_classes_code.specs.CodeView as code;
 ghost use Rattle.pz_rules.specs.Terms as terms;
-ghost use Rattle.pz_rules.specs.Settings.{At};
+ghost use Rattle.pz_rules.specs.Settings.{Context};
 ghost use Rattle.pz_rules.specs.Messages.{variables_of};
 ghost use Rattle.pz_rules.specs.devices.Walk.{here as part_here};
 ghost use Rattle.pz_eval.specs.Known.{AreKnown};
 ghost use Rattle.pz_part_queries.specs.Standpoints.{Knows, seen_from};
 ghost use Rattle.pz_term_enabled.specs.devices.Listings.{Adds, notes_of, nothing, only_does, only_waits, only_troubles, only_receives};
 
-use crate::found::{Doing, Found, Receiving, Sending};
+use crate::found::{ActiveReceive, ActiveSend, Doing, Found};
 use pz_classes_code::{Code, Slot, Step, StepForm};
 use pz_items::Items;
 use pz_offer::{Place, Trouble};
@@ -28,7 +28,7 @@ use std::alloc::{AllocError, Global};
 
 /// A part that can act by itself.
 fn note_action(found: &mut Found, place: &Place, kind: Kind, pos: Pos) -> Result<(), AllocError>
-    ensures { (a : At) (f : ℕ) (t : terms.Term) → notes_of a f t ≡ only_does kind pos → OnOk result (Adds a place.now (part_here f t ∷ []) found.old found.new) }
+    ensures { (a : Context) (f : ℕ) (t : terms.Term) → notes_of a f t ≡ only_does kind pos → OnOk result (Adds a place.now (part_here f t ∷ []) found.old found.new) }
 {
     let place = place.copy()?;
     found.internal.push(Doing { place, kind, pos })?;
@@ -40,7 +40,7 @@ pub(crate) fn note_trouble(
     place: &Place,
     trouble: Trouble,
 ) -> Result<(), AllocError>
-    ensures { (a : At) (f : ℕ) (t : terms.Term) → notes_of a f t ≡ only_troubles trouble → OnOk result (Adds a place.now (part_here f t ∷ []) found.old found.new) }
+    ensures { (a : Context) (f : ℕ) (t : terms.Term) → notes_of a f t ≡ only_troubles trouble → OnOk result (Adds a place.now (part_here f t ∷ []) found.old found.new) }
 {
     found.troubles.push(trouble)?;
     Ok(())
@@ -48,7 +48,7 @@ pub(crate) fn note_trouble(
 
 /// An active delay of which nothing is left, which can expire.
 fn note_elapsed(found: &mut Found, place: &Place, pos: Pos) -> Result<(), AllocError>
-    ensures { (a : At) (f : ℕ) (t : terms.Term) → notes_of a f t ≡ only_waits 0 pos → OnOk result (Adds a place.now (part_here f t ∷ []) found.old found.new) }
+    ensures { (a : Context) (f : ℕ) (t : terms.Term) → notes_of a f t ≡ only_waits 0 pos → OnOk result (Adds a place.now (part_here f t ∷ []) found.old found.new) }
 {
     let place = place.copy()?;
     let kind = Kind::Expire;
@@ -64,7 +64,7 @@ pub(crate) fn note_left(
     left: u128,
     pos: Pos,
 ) -> Result<(), AllocError>
-    ensures { (a : At) (f : ℕ) (t : terms.Term) → notes_of a f t ≡ only_waits left pos → OnOk result (Adds a place.now (part_here f t ∷ []) found.old found.new) }
+    ensures { (a : Context) (f : ℕ) (t : terms.Term) → notes_of a f t ≡ only_waits left pos → OnOk result (Adds a place.now (part_here f t ∷ []) found.old found.new) }
 {
     if left == 0 {
         return note_elapsed(found, place, pos);
@@ -118,7 +118,7 @@ fn note_send(
         Ok(parcel) => {
             let message = name.name.copy()?;
             let place = place.copy()?;
-            found.sends.push(Sending {
+            found.sends.push(ActiveSend {
                 place,
                 pos,
                 port,
@@ -150,11 +150,11 @@ fn note_receive(
     place: &Place,
     found: &mut Found,
 ) -> Result<(), AllocError>
-    ensures { (a : At) (f : ℕ) (t : terms.Term) → notes_of a f t ≡ only_receives pos port name.now count → OnOk result (Adds a place.now (part_here f t ∷ []) found.old found.new) }
+    ensures { (a : Context) (f : ℕ) (t : terms.Term) → notes_of a f t ≡ only_receives pos port name.now count → OnOk result (Adds a place.now (part_here f t ∷ []) found.old found.new) }
 {
     let message = name.copy()?;
     let place = place.copy()?;
-    found.receives.push(Receiving {
+    found.receives.push(ActiveReceive {
         place,
         pos,
         port,

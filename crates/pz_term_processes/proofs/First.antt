@@ -21,7 +21,7 @@ use Rattle.pz_state.specs.References.{RefersWithin}
 use Rattle.pz_classes.specs.declared.classes.Classes.{Classes}
 use Rattle.pz_classes.specs.Tables.{AreClasses, class_id}
 use Rattle.pz_classes.specs.Starts.{init}
-use Rattle.pz_bind_levels.specs.Places.{Place}
+use Rattle.pz_bind_levels.specs.Places.{Address}
 use Rattle.pz_bind.specs.Nest.{processes, class_at}
 use Rattle.pz_bind.specs.Values.{values_at}
 use Rattle.pz_bind.specs.NetView.{IsNet, HasProcess, node_at}
@@ -43,7 +43,7 @@ there (x ∷ xs) zero within = (x, refl)
 there (x ∷ xs) (suc i) within = there xs i (omega (arith, within))
 
 -- each process of a net stands somewhere
-stands : (m : ModelTree) (net : Net) (i : ℕ) → IsNet m net → HasProcess net i → (place : Place) × (slice_get (processes m) i ≡ Some place)
+stands : (m : ModelTree) (net : Net) (i : ℕ) → IsNet m net → HasProcess net i → (place : Address) × (slice_get (processes m) i ≡ Some place)
 stands m net i known within =
     let count : length net.nodes ≡ length (processes m) = ap (λ xs. length xs) known.nodes ∙ length-map (processes m) (node_at m) in
     there (processes m) i (subst (λ (n : ℕ). i < n) count within)
@@ -57,7 +57,7 @@ refers_prop count (value.Char c) = λ x y. refl
 refers_prop count (value.Str t) = λ x y. refl
 
 abbrev AreValues : Net → ℕ → List Value → Type 0
-AreValues net i values = (m : ModelTree) (place : Place) → IsNet m net → slice_get (processes m) i ≡ Some place → values ≡ values_at m place
+AreValues net i values = (m : ModelTree) (place : Address) → IsNet m net → slice_get (processes m) i ≡ Some place → values ≡ values_at m place
 
 -- the values that a process has at first are no references
 pub plain_values : (m : ModelTree) (net : Net) (i : ℕ) (values : List Value) → ∥ IsNet m net ∥₁ → HasProcess net i → AreValues net i values → All (RefersWithin 0) values
@@ -76,19 +76,19 @@ some_is : {X : Type 0} {x y : X} → Some x ≡ Some y → x ≡ y
 some_is e = cc
 
 abbrev IsClassOf : Net → ℕ → ClassId → Type 0
-IsClassOf net i class = (m : ModelTree) (place : Place) → IsNet m net → slice_get (processes m) i ≡ Some place → class ≡ class_id (class_at m place)
+IsClassOf net i class = (m : ModelTree) (place : Address) → IsNet m net → slice_get (processes m) i ≡ Some place → class ≡ class_id (class_at m place)
 
 abbrev IsCallOf : Classes → ClassId → Option Step → Type 0
 IsCallOf classes class call = (m : ModelTree) → AreClasses m classes → option_map step.view call ≡ init m class.0
 
 -- the class and the call are those of the model
-call_is : (set : IsSet (Option terms.Step)) (m : ModelTree) (classes : Classes) (net : Net) (i : ℕ) (class : ClassId) (call : Step) (place : Place) → ∥ AreClasses m classes ∥₁ → ∥ IsNet m net ∥₁
+call_is : (set : IsSet (Option terms.Step)) (m : ModelTree) (classes : Classes) (net : Net) (i : ℕ) (class : ClassId) (call : Step) (place : Address) → ∥ AreClasses m classes ∥₁ → ∥ IsNet m net ∥₁
     → slice_get (processes m) i ≡ Some place → IsClassOf net i class → IsCallOf classes class (Some call) → init m (class_at m place) ≡ Some (step.view call)
 call_is set m classes net i class call place tabled known at is calls =
     let here : class.0 ≡ class_at m place = ∥∥₁_elim known (ℕ_set class.0 (class_at m place)) (λ k. ap (λ (c : ClassId). c.0) (is m place k at)) in
     ∥∥₁_elim tabled (set (init m (class_at m place)) (Some (step.view call))) (λ k. sym (calls m k ∙ ap (init m) here))
 
-pub starts_as : (set : IsSet (Option terms.Step)) (m : ModelTree) (classes : Classes) (net : Net) (limits : Limits) (i : ℕ) (class : ClassId) (call copy : Step) (values : List Value) (state : Seen) (place : Place)
+pub starts_as : (set : IsSet (Option terms.Step)) (m : ModelTree) (classes : Classes) (net : Net) (limits : Limits) (i : ℕ) (class : ClassId) (call copy : Step) (values : List Value) (state : Seen) (place : Address)
     → ∥ AreClasses m classes ∥₁ → ∥ IsNet m net ∥₁ → slice_get (processes m) i ≡ Some place → IsClassOf net i class → IsCallOf classes class (Some call) → AreValues net i values
     → copy ≡ call → state.held ≡ record { vars = values; frames = []; objects = [] }
     → StartsAs (setting_of m limits) place (record { term = term_view (Leaf copy); state = state.held })

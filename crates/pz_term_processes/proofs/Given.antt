@@ -16,7 +16,7 @@ use Rattle.pz_value.specs.declared.value.Value.{Value}
 use Rattle.pz_value.specs.declared.value.Value.TheVariants.{Nil}
 use Rattle.pz_state.specs.References.{RefersWithin}
 use Rattle.pz_classes.specs.Members.{variables, spelled}
-use Rattle.pz_bind_levels.specs.Places.{Place}
+use Rattle.pz_bind_levels.specs.Places.{Address}
 use Rattle.pz_bind.specs.Nest.{class_at, instance_at}
 use Rattle.pz_bind.specs.Values.{literal_value, argument_value, given_value, parameter_at, values_at}
 
@@ -50,7 +50,7 @@ module _ (count : ℕ) where
       by false later = later
 
   module _ (m : ModelTree) where
-    parameter_plain : (place : Place) → ArePlain (parameter_at m place)
+    parameter_plain : (place : Address) → ArePlain (parameter_at m place)
     parameter_plain [] name = tt
     parameter_plain (i ∷ up) name = by (instance_at m up i) (parameter_plain up)
       where
@@ -58,8 +58,8 @@ module _ (count : ℕ) where
         by None around = tt
         by (Some x) around = given_plain (parameter_at m up) around (unwrap_or x.given []) name
 
-    all_plain : (place : Place) (names : List (List ℕ)) → All IsPlain (map (parameter_at m place) names)
+    all_plain : (place : Address) (names : List (List ℕ)) → All IsPlain (map (parameter_at m place) names)
     all_plain place names = All-map IsPlain (parameter_at m place) names (λ k d within. parameter_plain place (slice_index_or names k d))
 
-    pub values_plain : (place : Place) → All IsPlain (values_at m place)
+    pub values_plain : (place : Address) → All IsPlain (values_at m place)
     values_plain place = all_plain place (spelled (variables m (class_at m place)))

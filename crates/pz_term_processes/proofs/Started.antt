@@ -5,7 +5,7 @@ use Rattle.std.proofs.Math.Logic.{∥∥₁_elim}
 use Rattle.std.proofs.Math.Nat.{ℕ_set}
 use Rattle.std.proofs.lemmas.List.{length-map, length-append}
 use Rattle.pz_syntax.specs.Classes.{ModelTree}
-use Rattle.pz_bind_levels.specs.Places.{Place}
+use Rattle.pz_bind_levels.specs.Places.{Address}
 use Rattle.pz_classes.specs.Soundness.{IsSound}
 use Rattle.pz_bind.specs.Nest.{processes}
 use Rattle.pz_bind.specs.NetView.{IsNet}
@@ -20,7 +20,7 @@ use Rattle.pz_term_processes.specs.Standing.{setting_of, process_view, config_of
 -- the first n processes stand at their start
 pub record AreStarted (m : ModelTree) (n : ℕ) (ps : List Process) : Type 0 where
   pub count : length ps ≡ n
-  pub each : (limits : Limits) (i : ℕ) (place : Place) (p : Process) → slice_get (processes m) i ≡ Some place → slice_get ps i ≡ Some p → StartsAs (setting_of m limits) place (process_view p)
+  pub each : (limits : Limits) (i : ℕ) (place : Address) (p : Process) → slice_get (processes m) i ≡ Some place → slice_get ps i ≡ Some p → StartsAs (setting_of m limits) place (process_view p)
 
 no_some : (i : ℕ) (p : Process) → slice_get [] i ≡ Some p → ⊥
 no_some i p e = cc
@@ -40,12 +40,12 @@ last_or_before P (z ∷ zs) x before last zero y is = before 0 y is
 last_or_before P (z ∷ zs) x before last (suc i) y is = last_or_before (λ j. P (suc j)) zs x (λ j w. before (suc j) w) last i y is
 
 pub next_started : (m : ModelTree) (n : ℕ) (ps : List Process) (p : Process) → AreStarted m n ps
-    → ((limits : Limits) (place : Place) → slice_get (processes m) n ≡ Some place → StartsAs (setting_of m limits) place (process_view p))
+    → ((limits : Limits) (place : Address) → slice_get (processes m) n ≡ Some place → StartsAs (setting_of m limits) place (process_view p))
     → AreStarted m (n + 1) (ps ++ p ∷ [])
 next_started m n ps p were starts = record {
   count = length-append ps (p ∷ []) ∙ ap (λ (k : ℕ). k + 1) were.count;
   each = λ limits i place q at is.
-      last_or_before (λ j x. (here : Place) → slice_get (processes m) j ≡ Some here → StartsAs (setting_of m limits) here (process_view x)) ps p
+      last_or_before (λ j x. (here : Address) → slice_get (processes m) j ≡ Some here → StartsAs (setting_of m limits) here (process_view x)) ps p
       (λ j x x_is here h. were.each limits j here x h x_is)
       (λ here h. starts limits here (subst (λ (k : ℕ). slice_get (processes m) k ≡ Some here) were.count h)) i q is place at;
 }

@@ -3,7 +3,7 @@
 ghost use Rattle.std.specs.Prelude.{◌≡◌, ℕ, [], Some, length, slice_get, All, IfOk};
 ghost use Rattle.pz_classes.specs.CheckedView.{checked_model};
 ghost use Rattle.pz_state.specs.References.{RefersWithin};
-ghost use Rattle.pz_bind_levels.specs.Places.{Place};
+ghost use Rattle.pz_bind_levels.specs.Places.{Address};
 ghost use Rattle.pz_bind.specs.Nest as nest;
 ghost use Rattle.pz_bind.specs.NetView.{IsNet, HasProcess};
 ghost use Rattle.pz_rules.specs.declared.limits.Limits.{Limits};
@@ -40,7 +40,7 @@ fn first_of(
 ) -> Result<Process, AllocError>
     requires of_model { ∥ IsNet (checked_model checked.now) net.now ∥₁ }
     requires there { HasProcess net.now process }
-    ensures { IfOk result (λ first. (limits : Limits) (place : Place) → slice_get (nest.processes (checked_model checked.now)) process ≡ Some place →
+    ensures { IfOk result (λ first. (limits : Limits) (place : Address) → slice_get (nest.processes (checked_model checked.now)) process ≡ Some place →
         StartsAs (setting_of (checked_model checked.now) limits) place (process_view first)) }
 {
     sound_classes_fit();

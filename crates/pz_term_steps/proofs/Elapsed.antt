@@ -13,7 +13,7 @@ use Rattle.pz_rules.specs.declared.action.Action.TheVariants.{Internal}
 use Rattle.pz_rules.specs.declared.action.Kind.TheVariants.{Skip}
 use Rattle.pz_rules.specs.Terms.{Term}
 use Rattle.pz_rules.specs.Settings as rules
-use Rattle.pz_rules.specs.Settings.{Setting, At}
+use Rattle.pz_rules.specs.Settings.{Setting, Context}
 use Rattle.pz_rules.specs.Delays.{Passes}
 use Rattle.pz_rules.specs.Configurations.{Config, Stands}
 use Rattle.pz_rules.specs.Steps.{PassesTo}
@@ -70,7 +70,7 @@ module _ (setting : Setting) (clock time : ℕ) where
     each = each;
   }
     where
-      each : (i : ℕ) (p : rules.Process) (a : At) → Stands setting (config_of clock old) i p a
+      each : (i : ℕ) (p : rules.Process) (a : Context) → Stands setting (config_of clock old) i p a
           → (x : Term) × Passes a time 0 p.term x × (slice_get (map process_view new) i ≡ Some (record { term = x; state = p.state }))
       each i p a stands =
           let it = passes.each i p a stands in
@@ -84,7 +84,7 @@ module _ (setting : Setting) (clock time : ℕ) where
             it.1,
             image_there process_view new i here.process here.stands
                 ∙ ap (λ (q : rules.Process). Some q) (here.passed class
-                ∙ ap (λ (b : At). let q : rules.Process = record { term = passed b time 0 (term_view home.0.term); state = home.0.state.held } in q) (sym seen)
+                ∙ ap (λ (b : Context). let q : rules.Process = record { term = passed b time 0 (term_view home.0.term); state = home.0.state.held } in q) (sym seen)
                 ∙ ap (λ (q : rules.Process). let r : rules.Process = record { term = passed a time 0 q.term; state = q.state } in r) home.2
                 ∙ ap (λ (t : Term). let q : rules.Process = record { term = t; state = p.state } in q) (sym only_this)),
           )

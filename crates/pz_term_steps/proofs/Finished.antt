@@ -10,7 +10,7 @@ use Rattle.pz_offer.specs.declared.trouble.Trouble.{Trouble}
 use Rattle.pz_rules.specs.declared.term.Term as code
 use Rattle.pz_rules.specs.Terms.{Term}
 use Rattle.pz_rules.specs.Settings as rules
-use Rattle.pz_rules.specs.Settings.{Setting, At}
+use Rattle.pz_rules.specs.Settings.{Setting, Context}
 use Rattle.pz_rules.specs.Leaving.{left_by, residual, swept}
 use Rattle.pz_rules.specs.Steps.{Deed, Acts}
 use Rattle.pz_rules.specs.View.{term_view}
@@ -46,7 +46,7 @@ begun_trouble old new r trouble is state = subst (IsBegun old new) is state
 pub acts_still : (p q : Process) (place : Place) → q.term ≡ p.term → MayAct (term_view p.term) place → MayAct (term_view q.term) place
 acts_still p q place same may = subst (λ (t : code.Term). MayAct (term_view t) place) (sym same) may
 
-module _ (a : At) (does : Deed) (p q : Process) (place : Place) (r : Result Begun Trouble) (leaves : Leaves a does (term_view p.term) place (begun_process (term_view p.term) place q.state.held r)) where
+module _ (a : Context) (does : Deed) (p q : Process) (place : Place) (r : Result Begun Trouble) (leaves : Leaves a does (term_view p.term) place (begun_process (term_view p.term) place q.state.held r)) where
   pub leaves_trouble : (trouble : Trouble) → r ≡ Err trouble → Leaves a does (term_view p.term) place (Err trouble)
   leaves_trouble trouble is = subst (λ (x : Result Begun Trouble). Leaves a does (term_view p.term) place (begun_process (term_view p.term) place q.state.held x)) is leaves
 

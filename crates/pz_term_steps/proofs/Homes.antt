@@ -22,7 +22,7 @@ use Rattle.pz_offer.specs.PlaceOrder.{Place}
 use Rattle.pz_rules.specs.declared.limits.Limits.{Limits}
 use Rattle.pz_rules.specs.Terms.{Term}
 use Rattle.pz_rules.specs.Settings as rules
-use Rattle.pz_rules.specs.Settings.{Setting, At}
+use Rattle.pz_rules.specs.Settings.{Setting, Context}
 use Rattle.pz_rules.specs.Configurations.{Stands}
 use Rattle.pz_rules.specs.Fitting.{TermFits}
 use Rattle.pz_rules.specs.Offers.{PartAt}
@@ -38,13 +38,13 @@ use Rattle.pz_term_steps.proofs.Lists.{some_is, image_there}
 
 -- the net and the processes of a model
 
-pub net_has : (m : ModelTree) (net : Net) (i : ℕ) (home : levels.Place) → ∥ IsNet m net ∥₁ → slice_get (processes m) i ≡ Some home → HasProcess net i
+pub net_has : (m : ModelTree) (net : Net) (i : ℕ) (home : levels.Address) → ∥ IsNet m net ∥₁ → slice_get (processes m) i ≡ Some home → HasProcess net i
 net_has m net i home is there = ∥∥₁_elim is le_prop (λ known.
     let count : length net.nodes ≡ length (processes m) = ap (λ xs. length xs) known.nodes ∙ length-map (processes m) (node_at m) in
     subst (λ (n : ℕ). i < n) (sym count) (slice_get_within (processes m) i home there))
 
-pub class_is : (m : ModelTree) (net : Net) (i : ℕ) (home : levels.Place) (class : ClassId) → ∥ IsNet m net ∥₁ → slice_get (processes m) i ≡ Some home
-    → ((n : ModelTree) (place : levels.Place) → IsNet n net → slice_get (processes n) i ≡ Some place → class ≡ class_id (class_at n place))
+pub class_is : (m : ModelTree) (net : Net) (i : ℕ) (home : levels.Address) (class : ClassId) → ∥ IsNet m net ∥₁ → slice_get (processes m) i ≡ Some home
+    → ((n : ModelTree) (place : levels.Address) → IsNet n net → slice_get (processes n) i ≡ Some place → class ≡ class_id (class_at n place))
     → class.0 ≡ class_at m home
 class_is m net i home class is there told = ∥∥₁_elim is (ℕ_set class.0 (class_at m home)) (λ known. ap (λ (c : ClassId). c.0) (told m home known there))
 
@@ -54,7 +54,7 @@ count_is m limits clock net ps count is are counted =
     ∥∥₁_elim is (ℕ_set count (length ps)) (λ known.
     ∥∥₁_elim are (ℕ_set count (length ps)) (λ all. counted m known ∙ sym all.whole ∙ length-map ps process_view))
 
-pub term_fits : (m : ModelTree) (limits : Limits) (clock : ℕ) (net : Net) (here : Standpoint) (ps : List Process) (i : ℕ) (home : levels.Place) (p : Process) (class : ClassId)
+pub term_fits : (m : ModelTree) (limits : Limits) (clock : ℕ) (net : Net) (here : Standpoint) (ps : List Process) (i : ℕ) (home : levels.Address) (p : Process) (class : ClassId)
     → SoundBodiesFit → IsSound m → ∥ IsNet m net ∥₁ → ∥ AreProcesses (setting_of m limits) clock ps ∥₁ → Knows m here
     → ((n : ModelTree) (table : Classes) → IsNet n net → AreClasses n table → HasClass table class)
     → slice_get (processes m) i ≡ Some home → slice_get ps i ≡ Some p → class.0 ≡ class_at m home
@@ -71,11 +71,11 @@ term_fits m limits clock net here ps i home p class law sound is are known belon
 
 -- an end of a configuration
 module _ (setting : Setting) (clock : ℕ) (ps : List Process) (i : ℕ) where
-  end_within : (q : rules.Process) (a : At) → Stands setting (config_of clock ps) i q a → i < length ps
+  end_within : (q : rules.Process) (a : Context) → Stands setting (config_of clock ps) i q a → i < length ps
   end_within q a x = subst (λ (n : ℕ). i < n) (length-map ps process_view) (slice_get_within (map process_view ps) i q x.is_here)
 
   module _ (p : Process) (there : slice_get ps i ≡ Some p) where
-    pub stands_at : (home : levels.Place) → slice_get (processes setting.model) i ≡ Some home
+    pub stands_at : (home : levels.Address) → slice_get (processes setting.model) i ≡ Some home
         → Stands setting (config_of clock ps) i (process_view p) (seen_at setting i (class_at setting.model home) clock p.state.held)
     stands_at home at_home = record {
       place = home;
@@ -84,21 +84,21 @@ module _ (setting : Setting) (clock : ℕ) (ps : List Process) (i : ℕ) where
       seen = refl;
     }
 
-    same_process : (q : rules.Process) (a : At) → Stands setting (config_of clock ps) i q a → q ≡ process_view p
+    same_process : (q : rules.Process) (a : Context) → Stands setting (config_of clock ps) i q a → q ≡ process_view p
     same_process q a x = some_is q (process_view p) (sym x.is_here ∙ image_there process_view ps i p there)
 
-    pub seen_is : (q : rules.Process) (a : At) (x : Stands setting (config_of clock ps) i q a) → a ≡ seen_at setting i (class_at setting.model x.place) clock p.state.held
+    pub seen_is : (q : rules.Process) (a : Context) (x : Stands setting (config_of clock ps) i q a) → a ≡ seen_at setting i (class_at setting.model x.place) clock p.state.held
     seen_is q a x = x.seen ∙ ap (λ (r : rules.Process). seen_at setting i (class_at setting.model x.place) clock r.state) (same_process q a x)
 
 -- An end at which a part can do this, whatever process of the code stands there, seen from its standpoint.
 pub record Ready (setting : Setting) (clock : ℕ) (ps : List Process) (end : End) (can : Ability) : Type 0 where
-  pub home : levels.Place
+  pub home : levels.Address
   pub at_home : slice_get (processes setting.model) end.process ≡ Some home
   pub within : end.process < length ps
   pub able : (p : Process) → slice_get ps end.process ≡ Some p → (class : ℕ) → class ≡ class_at setting.model home → (place : Place) → place ≡ end.place
       → CanDo can (seen_at setting end.process class clock p.state.held) (term_view p.term) place
 
-pub ready : (setting : Setting) (clock : ℕ) (ps : List Process) (end : End) (can : Ability) (a : At) (f : ℕ) (x : Term) (pos : Pos)
+pub ready : (setting : Setting) (clock : ℕ) (ps : List Process) (end : End) (can : Ability) (a : Context) (f : ℕ) (x : Term) (pos : Pos)
     → PartAt setting (config_of clock ps) end a f x → can a f x pos → Ready setting clock ps end can
 ready setting clock ps end can a f x pos part it = record {
   home = part.stands.place;
@@ -116,4 +116,4 @@ ready setting clock ps end can a f x pos part it = record {
         let here : CanDo can a (term_view p.term) end.place = record { frame = f; part = x; active = active; it_holds = (pos, it) } in
         subst (λ (q : Place). CanDo can (seen_at setting end.process class clock p.state.held) (term_view p.term) q) (sym is_place)
         (subst (λ (k : ℕ). CanDo can (seen_at setting end.process k clock p.state.held) (term_view p.term) end.place) (sym is_class)
-        (subst (λ (b : At). CanDo can b (term_view p.term) end.place) seen here))
+        (subst (λ (b : Context). CanDo can b (term_view p.term) end.place) seen here))

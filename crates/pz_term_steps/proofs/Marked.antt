@@ -10,7 +10,7 @@ use Rattle.pz_state.specs.Marks.{Seen, marked, undone}
 use Rattle.pz_offer.specs.PlaceOrder.{Place}
 use Rattle.pz_offer.specs.declared.trouble.Trouble.{Trouble}
 use Rattle.pz_rules.specs.Terms.{Term}
-use Rattle.pz_rules.specs.Settings.{Process, At}
+use Rattle.pz_rules.specs.Settings.{Process, Context}
 use Rattle.pz_rules.specs.Leaving.{left_by, residual, swept, settled}
 use Rattle.pz_rules.specs.Meanings.{and_then}
 use Rattle.pz_rules.specs.Steps.{Deed}
@@ -32,7 +32,7 @@ pub known_is : (m : ModelTree) (here : Standpoint) → Knows m here → AreKnown
 known_is m here known = ∥∥₁_map known (λ k. (m, k))
 
 -- of a part that can do this
-module _ (can : Ability) (a : At) (t : Term) (place : Place) (there : CanDo can a t place) where
+module _ (can : Ability) (a : Context) (t : Term) (place : Place) (there : CanDo can a t place) where
   pub may_act : ActivePartsMayAct → MayAct t place
   may_act law = law a t place there.frame there.part there.active
 
@@ -55,7 +55,7 @@ module _ (can : Ability) (a : At) (t : Term) (place : Place) (there : CanDo can 
         record { model = w.model; knows = w.knows; bodies = w.bodies; belongs = w.belongs; locals = fits.0; fits = fits.1 }))
 
 -- in an equal state, of an equal part in an equal frame
-moved : (P : At → ℕ → Term → Type 0) (m : ModelTree) (here : Standpoint) (class : ℕ) (s s' : StateView) (f g : ℕ) (y x : Term)
+moved : (P : Context → ℕ → Term → Type 0) (m : ModelTree) (here : Standpoint) (class : ℕ) (s s' : StateView) (f g : ℕ) (y x : Term)
     → s ≡ s' → f ≡ g → y ≡ x → P (seen_from m here class s) f y → P (seen_from m here class s') g x
 moved P m here class s s' f g y x states frames parts holds =
     subst (λ (z : Term). P (seen_from m here class s') g z) parts
@@ -68,7 +68,7 @@ begun_held t place s2 s3 point (Ok b) held = ap (λ (s : Seen). let r : Result P
 begun_held t place s2 s3 point (Err e) held = refl
 
 -- what a part leaves of its process, done in the marked state
-pub leaves_begun : (can : Ability) (does : Deed) → ((a : At) (g : ℕ) (x : Term) (pos : Pos) → can a g x pos → IsFrom pos x)
+pub leaves_begun : (can : Ability) (does : Deed) → ((a : Context) (g : ℕ) (x : Term) (pos : Pos) → can a g x pos → IsFrom pos x)
     → (m : ModelTree) (here : Standpoint) (class : ℕ) (t : Term) (place : Place) (s0 s1 s2 s3 : Seen) (point f : ℕ) (y : Term) (p : Pos) (left : Result Process Trouble) (r : Result Begun Trouble)
     → s1 ≡ marked s0 point → IsPartAt 0 t place f y → IsFrom p y
     → ((pos : Pos) → can (seen_from m here class s1.held) f y pos → does (seen_from m here class s1.held) f y pos left)

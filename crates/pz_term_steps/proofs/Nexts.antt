@@ -24,7 +24,7 @@ use Rattle.pz_rules.specs.declared.action.Action.TheVariants.{Internal, Comm}
 use Rattle.pz_rules.specs.Terms as terms
 use Rattle.pz_rules.specs.Terms.{Term}
 use Rattle.pz_rules.specs.Settings as rules
-use Rattle.pz_rules.specs.Settings.{Setting, At}
+use Rattle.pz_rules.specs.Settings.{Setting, Context}
 use Rattle.pz_rules.specs.Evaluations.{allowance, values_or_trouble, GivesPart}
 use Rattle.pz_rules.specs.InternalActions.{Performs}
 use Rattle.pz_rules.specs.Leaving.{settled}
@@ -40,18 +40,18 @@ use Rattle.pz_rules.specs.Laws.{StaysWhole, StaysFit}
 use Rattle.pz_term_processes.specs.declared.process.Process.{Process}
 use Rattle.pz_term_processes.specs.Standing.{process_view, config_of, AreProcesses}
 use Rattle.pz_term_steps.specs.Stepping.{reached}
-use Rattle.pz_term_steps.specs.devices.Deeds.{Acting, Sending, Receiving}
+use Rattle.pz_term_steps.specs.devices.Deeds.{CanAct, CanSend, CanReceive}
 use Rattle.pz_term_steps.proofs.Lists.{both_set}
 use Rattle.pz_term_steps.proofs.Homes.{Ready, ready}
 
 -- what is offered
 
 pub act_ready : (setting : Setting) (clock : ℕ) (ps : List Process) (at : End) → ((kind : Kind) × (pos : Pos) × Offers setting (config_of clock ps) (Internal at kind pos))
-    → Ready setting clock ps at Acting
+    → Ready setting clock ps at CanAct
 act_ready setting clock ps at offered = from offered.0 offered.1 offered.2
   where
-    from : (kind : Kind) (pos : Pos) → Offers setting (config_of clock ps) (Internal at kind pos) → Ready setting clock ps at Acting
-    from _ _ (offers.internal _ a f x kind pos part can) = ready setting clock ps at Acting a f x pos part (kind, can)
+    from : (kind : Kind) (pos : Pos) → Offers setting (config_of clock ps) (Internal at kind pos) → Ready setting clock ps at CanAct
+    from _ _ (offers.internal _ a f x kind pos part can) = ready setting clock ps at CanAct a f x pos part (kind, can)
 
 pub pair_offered : (setting : Setting) (c : Config) (number : ℕ) (sender receiver : End) (message : List ℕ) (parcel : ParcelView)
     → Offers setting c (Comm number sender receiver message parcel) → IsPair setting c number sender receiver message parcel
@@ -59,8 +59,8 @@ pair_offered setting c _ _ _ _ _ (offers.communication number sender receiver me
 
 -- two parts that are about to communicate, in two processes
 pub record Talk (setting : Setting) (clock : ℕ) (ps : List Process) (sender receiver : End) (parcel : ParcelView) : Type 0 where
-  pub sends : Ready setting clock ps sender (Sending parcel)
-  pub receives : Ready setting clock ps receiver Receiving
+  pub sends : Ready setting clock ps sender (CanSend parcel)
+  pub receives : Ready setting clock ps receiver CanReceive
   pub apart : sender.process ≢ receiver.process
 
 pub talk : (setting : Setting) (clock : ℕ) (ps : List Process) (sender receiver : End) (parcel : ParcelView)
@@ -68,21 +68,21 @@ pub talk : (setting : Setting) (clock : ℕ) (ps : List Process) (sender receive
 talk setting clock ps sender receiver parcel offered =
     let pair = offered.2 in
     record {
-      sends = ready setting clock ps sender (Sending parcel) pair.sends_at pair.sends_frame pair.sends_part pair.sends_pos pair.sender_active (pair.sends_port, offered.1, pair.sends);
-      receives = ready setting clock ps receiver Receiving pair.receives_at pair.receives_frame pair.receives_part pair.receives_pos pair.receiver_active
+      sends = ready setting clock ps sender (CanSend parcel) pair.sends_at pair.sends_frame pair.sends_part pair.sends_pos pair.sender_active (pair.sends_port, offered.1, pair.sends);
+      receives = ready setting clock ps receiver CanReceive pair.receives_at pair.receives_frame pair.receives_part pair.receives_pos pair.receiver_active
           (pair.receives_port, offered.1, length parcel.values, pair.receives);
       apart = pair.two;
     }
 
 -- a receive takes each parcel somehow
 
-part_some : EachListHasAnOutcome → (a : At) (f : ℕ) (at : Pos) (es : Part Slot ClassId) → (r : Result (List Value) Trouble) × (s : StateView) × GivesPart a f at es r s
+part_some : EachListHasAnOutcome → (a : Context) (f : ℕ) (at : Pos) (es : Part Slot ClassId) → (r : Result (List Value) Trouble) × (s : StateView) × GivesPart a f at es r s
 part_some law a f at left_out = (Ok [], a.state, (refl, refl))
 part_some law a f at (written es) =
     let found = law a.setting.model a.clock f a.state es (allowance a.setting.limits) in
     (values_or_trouble a.process at found.0.listed, found.0.state, record { outcome = found.0.listed; finds = found.1; means = refl })
 
-pub takes_some : EachListHasAnOutcome → (a : At) (f : ℕ) (parcel : ParcelView) (part : Term) (pos : Pos) (port : ℕ) (message : List ℕ) (count : ℕ)
+pub takes_some : EachListHasAnOutcome → (a : Context) (f : ℕ) (parcel : ParcelView) (part : Term) (pos : Pos) (port : ℕ) (message : List ℕ) (count : ℕ)
     → Receives part pos port message count → (r : Result rules.Process Trouble) × Takes a f parcel part pos r
 takes_some law a f parcel _ _ _ _ _ (messages.receives at port name into condition block) = by_room (cases_lt OBJECT_LIMIT (length a.state.objects + length parcel.objects))
   where

@@ -13,7 +13,7 @@ use Rattle.pz_rules.specs.declared.term.Term.TheOpen.{Term-F}
 use Rattle.pz_rules.specs.declared.term.Term.TheVariants.{Leaf, Wait, rolls-Leaf, rolls-Wait}
 use Rattle.pz_rules.specs.declared.term.Term.TheViews.{out-Term, roll-Term, roll-out-Term}
 use Rattle.pz_rules.specs.Terms as terms
-use Rattle.pz_rules.specs.Settings.{At}
+use Rattle.pz_rules.specs.Settings.{Context}
 use Rattle.pz_rules.specs.InternalActions as internals
 use Rattle.pz_rules.specs.InternalActions.{Can}
 use Rattle.pz_rules.specs.Messages as messages
@@ -102,7 +102,7 @@ one_place (terms.abort t u) p q here there = absurd here
 one_place (terms.idle t u again) p q here there = absurd here
 one_place (terms.handling t u again) p q here there = absurd here
 
-pub acting_place : (a : At) (f : ℕ) (part : terms.Term) (kind : Kind) (pos : Pos) → Can a f part kind pos → IsFrom pos part
+pub acting_place : (a : Context) (f : ℕ) (part : terms.Term) (kind : Kind) (pos : Pos) → Can a f part kind pos → IsFrom pos part
 acting_place a f _ _ _ (internals.skips at) = refl
 acting_place a f _ _ _ (internals.evaluates at e) = refl
 acting_place a f _ _ _ (internals.evaluates_block at es) = refl
@@ -112,7 +112,7 @@ acting_place a f _ _ _ (internals.elapses at e lasts) = refl
 acting_place a f _ _ _ (internals.expires at) = refl
 acting_place a f _ _ _ (internals.calls at method args results) = refl
 
-pub sending_place : (a : At) (f : ℕ) (part : terms.Term) (pos : Pos) (port : ℕ) (message : List ℕ) (parcel : ParcelView) → Sends a f part pos port message parcel → IsFrom pos part
+pub sending_place : (a : Context) (f : ℕ) (part : terms.Term) (pos : Pos) (port : ℕ) (message : List ℕ) (parcel : ParcelView) → Sends a f part pos port message parcel → IsFrom pos part
 sending_place a f _ _ _ _ _ (messages.sends at port name args block values s parcel gives packed) = refl
 
 pub receiving_place : (part : terms.Term) (pos : Pos) (port : ℕ) (message : List ℕ) (count : ℕ) → Receives part pos port message count → IsFrom pos part

@@ -16,7 +16,7 @@ ghost use Rattle.pz_term_steps.specs.devices.Deeds.{begun_process};
 use pz_offer::Trouble;
 use pz_part_queries::Standpoint;
 use pz_rules::Term;
-use pz_state::Point;
+use pz_state::Savepoint;
 use pz_syntax::Pos;
 use pz_term_processes::Process;
 use pz_term_residual::{settle, stays_low};
@@ -26,7 +26,7 @@ use std::mem;
 /// What a part has become by what it did, and the mark from before, which is open.
 #[derive(Drop)]
 pub(crate) struct Begun {
-    pub(crate) point: Point,
+    pub(crate) point: Savepoint,
     pub(crate) part: Term,
 }
 
@@ -36,7 +36,7 @@ pub(crate) fn hold(
     here: &Standpoint<'_>,
     process: &mut Process,
     place: &[usize],
-    point: Point,
+    point: Savepoint,
     pos: Pos,
     left: Result<Term, Trouble>,
 ) -> Result<Begun, Trouble>

@@ -12,7 +12,7 @@ use Rattle.pz_classes_code.specs.CodeView as code
 use Rattle.pz_classes_code.specs.StepView as step
 use Rattle.pz_offer.specs.declared.trouble.Trouble.{Trouble}
 use Rattle.pz_rules.specs.Terms as terms
-use Rattle.pz_rules.specs.Settings.{At}
+use Rattle.pz_rules.specs.Settings.{Context}
 use Rattle.pz_rules.specs.devices.Found.{lasting}
 use Rattle.pz_rules.specs.devices.Passing.{begun, statement_passed}
 use Rattle.pz_term_time.specs.devices.Begun.{begun_with}
@@ -30,7 +30,7 @@ begins : (d : ℕ) (at : Pos) (e : terms.Code) (r : Result ℕ Trouble) → begu
 begins d at e (Ok left) = refl
 begins d at e (Err trouble) = refl
 
-pub delay_begins : (a : At) (d f : ℕ) (s : Step) (e : Code) (r : Result ℕ Trouble) (left : Option ℕ) → s.form ≡ form.Delay e → r ≡ lasting a f s.pos (code.view e) → left ≡ result_ok r
+pub delay_begins : (a : Context) (d f : ℕ) (s : Step) (e : Code) (r : Result ℕ Trouble) (left : Option ℕ) → s.form ≡ form.Delay e → r ≡ lasting a f s.pos (code.view e) → left ≡ result_ok r
     → begun_with d s.pos (step.view s) left ≡ statement_passed a d f (step.view s)
 delay_begins a d f s e r left is lasts known =
     ap (λ (x : terms.Step). begun_with d s.pos x left) (is_delay s e is)

@@ -16,7 +16,7 @@ use Rattle.pz_rules.specs.declared.term.Term.TheVariants as form
 use Rattle.pz_rules.specs.declared.term.Term.TheFolds.{the_lemmas}
 use Rattle.pz_rules.specs.Terms as terms
 use Rattle.pz_rules.specs.View.{term_view, terms_view}
-use Rattle.pz_rules.specs.Settings.{At}
+use Rattle.pz_rules.specs.Settings.{Context}
 use Rattle.pz_rules.specs.Delays.{Passes}
 use Rattle.pz_rules.specs.devices.Found.{tested}
 use Rattle.pz_rules.specs.devices.Passing.{passed, passed_all, statement_passed, if_open}
@@ -54,7 +54,7 @@ shows_Idle t u again = search (rules, the_lemmas)
 shows_Handling : (t u : Term) (again : Step) → term_view (form.Handling t u again) ≡ terms.handling (term_view t) (term_view u) (step.view again)
 shows_Handling t u again = search (rules, the_lemmas)
 
-module _ (a : At) (d f : ℕ) where
+module _ (a : Context) (d f : ℕ) where
   -- of a term that is seen as this
   as_seen : (t : Term) (u : terms.Term) → term_view t ≡ u → passed a d f u ≡ passed a d f (term_view t)
   as_seen t u is = ap (λ (x : terms.Term). passed a d f x) (sym is)
@@ -118,7 +118,7 @@ module _ (a : At) (d f : ℕ) where
       (ap (λ (b : Bool). if b then passed a d f (term_view t) else term_view t) (sym closed) ∙ open_as r goes test pos t is opens)
 
 -- a second call begins with the state of the first
-module _ (at : Seen → At) (d f : ℕ) where
+module _ (at : Seen → Context) (d f : ℕ) where
   pub open_left : (s later : Seen) (r : Result Bool Trouble) (goes : Bool) (test : Code) (pos : Pos) (t x : Term) → later ≡ s → r ≡ tested (at s) f pos (code.view test)
       → ((y u : terms.Term) → if_open r y u ≡ (if goes then y else u)) → goes ≡ true → term_view x ≡ passed (at later) d f (term_view t)
       → term_view (form.Guard test pos x) ≡ passed (at s) d f (terms.guarded (code.view test) pos (term_view t))
@@ -143,6 +143,6 @@ module _ (at : Seen → At) (d f : ℕ) where
       ∙ as_seen (at s) d f t (terms.idle (term_view first) (term_view second) (step.view again)) (ap term_view is ∙ shows_Idle first second again)
 
 -- what is computed of a passing is what the rules say of it
-pub passes_as : (a : At) (d : ℕ) (t : terms.Term) → Passes a d 0 t (passed a d 0 t) → {E : Type 0} (r : Result Term E) → IfOk r (λ (x : Term). term_view x ≡ passed a d 0 t) → IfOk r (λ (x : Term). Passes a d 0 t (term_view x))
+pub passes_as : (a : Context) (d : ℕ) (t : terms.Term) → Passes a d 0 t (passed a d 0 t) → {E : Type 0} (r : Result Term E) → IfOk r (λ (x : Term). term_view x ≡ passed a d 0 t) → IfOk r (λ (x : Term). Passes a d 0 t (term_view x))
 passes_as a d t passes r left =
     IfOk-weaker r (λ (x : Term). term_view x ≡ passed a d 0 t) (λ (x : Term). Passes a d 0 t (term_view x)) (λ x e. subst (λ (y : terms.Term). Passes a d 0 t y) (sym e) passes) left

@@ -5,7 +5,7 @@ use denote.Param.Weighed.{most, at_most}
 use Rattle.pz_state.specs.Marks.{Seen}
 use Rattle.pz_rules.specs.declared.term.Term.{Term}
 use Rattle.pz_rules.specs.Terms as terms
-use Rattle.pz_rules.specs.Settings.{At}
+use Rattle.pz_rules.specs.Settings.{Context}
 use Rattle.pz_rules.specs.View.{term_view, terms_of, terms_view}
 use Rattle.pz_rules.specs.devices.Passing.{passed, passed_all}
 
@@ -29,7 +29,7 @@ module _ {A : Type 0} (all now : List A) (i : ℕ) (still : drop i now ≡ drop 
 pub as_many : {A : Type 0} (now one two : List A) (i : ℕ) (x y : A) → one ≡ set now i x → two ≡ set one i y → length two ≡ length now
 as_many now one two i x y first second = ap length second ∙ length-set one i y ∙ ap length first ∙ length-set now i x
 
-module _ (a : At) (d f : ℕ) where
+module _ (a : Context) (d f : ℕ) where
   abbrev left_of : Term → terms.Term
   left_of t = passed a d f (term_view t)
 
@@ -44,7 +44,7 @@ module _ (a : At) (d f : ℕ) where
       ∙ each_passed all
 
 -- a call begins with the state of the one before
-module _ (at : Seen → At) (d f : ℕ) where
+module _ (at : Seen → Context) (d f : ℕ) where
   pub one_passed : (s later : Seen) (all now one two : List Term) (i : ℕ) (part x y : Term) → later ≡ s → i < length all → length now ≡ length all → drop i now ≡ drop i all
       → part ≡ get_or now i part → one ≡ set now i x → two ≡ set one i y → term_view y ≡ passed (at later) d f (term_view part)
       → map term_view (take i now) ≡ map (λ t. passed (at s) d f (term_view t)) (take i all)

@@ -13,7 +13,7 @@ use Rattle.pz_value.specs.declared.value.Value.{Value}
 use Rattle.pz_value.specs.declared.value.Value.TheVariants as value
 use Rattle.pz_classes_code.specs.declared.slot.Slot.{Slot}
 use Rattle.pz_state.specs.States.{StateView}
-use Rattle.pz_bind_levels.specs.Places.{Place}
+use Rattle.pz_bind_levels.specs.Places.{Address}
 use Rattle.pz_bind_levels.specs.Wires.{Channel}
 use Rattle.pz_bind.specs.declared.net.Net.{Net}
 use Rattle.pz_bind.specs.Nest.{processes}
@@ -32,7 +32,7 @@ use Rattle.pz_rules.specs.declared.action.Action.{Action}
 use Rattle.pz_rules.specs.declared.moment.Moment.{Moment}
 use Rattle.pz_rules.specs.declared.moment.Moment.TheVariants.{Faulty}
 use Rattle.pz_rules.specs.Terms.{Code, Codes, Term}
-use Rattle.pz_rules.specs.Settings.{Setting, Process, At}
+use Rattle.pz_rules.specs.Settings.{Setting, Process, Context}
 use Rattle.pz_rules.specs.Meanings.{and_then, truth, duration}
 use Rattle.pz_rules.specs.Evaluations.{value_or_trouble, values_or_trouble, Gives, GivesAll, GivesPart, Tests, Lasts}
 use Rattle.pz_rules.specs.Asking as asking
@@ -48,7 +48,7 @@ use Rattle.pz_rules.specs.Offers.{PartAt, Offers}
 use Rattle.pz_rules.specs.Steps as steps
 use Rattle.pz_rules.specs.Steps.{Deed, Acts, Next}
 use Rattle.pz_rules.specs.Moments as moments
-use Rattle.pz_rules.specs.Moments.{Source, Troubles, Says, IsMoment}
+use Rattle.pz_rules.specs.Moments.{Source, Troubles, Candidate, IsMoment}
 use Rattle.pz_trace.specs.Named.{IsNamed, HasTroubled}
 
 -- the process that a trouble names
@@ -100,39 +100,39 @@ duration_blames i at (value.Ref r) = fault_blames i _ refl
 
 -- evaluations
 
-gives_blames : (a : At) (f : ℕ) (at : Pos) (e : Code) (r : Result Value Trouble) (s : StateView) → Gives a f at e r s → Blames a.process r
+gives_blames : (a : Context) (f : ℕ) (at : Pos) (e : Code) (r : Result Value Trouble) (s : StateView) → Gives a f at e r s → Blames a.process r
 gives_blames a f at e r s g t same = value_blames a.process at g.outcome t (sym g.means ∙ same)
 
-all_blame : (a : At) (f : ℕ) (at : Pos) (es : Codes) (r : Result (List Value) Trouble) (s : StateView) → GivesAll a f at es r s → Blames a.process r
+all_blame : (a : Context) (f : ℕ) (at : Pos) (es : Codes) (r : Result (List Value) Trouble) (s : StateView) → GivesAll a f at es r s → Blames a.process r
 all_blame a f at es r s g t same = values_blame a.process at g.outcome t (sym g.means ∙ same)
 
-part_blames : (a : At) (f : ℕ) (at : Pos) (part : Part Slot ClassId) (r : Result (List Value) Trouble) (s : StateView) → GivesPart a f at part r s → Blames a.process r
+part_blames : (a : Context) (f : ℕ) (at : Pos) (part : Part Slot ClassId) (r : Result (List Value) Trouble) (s : StateView) → GivesPart a f at part r s → Blames a.process r
 part_blames a f at left_out r s g t same = ok_blames a.process [] t (sym g.0 ∙ same)
 part_blames a f at (written es) r s g t same = all_blame a f at es r s g t same
 
-tests_blame : (a : At) (f : ℕ) (at : Pos) (e : Code) (r : Result Bool Trouble) → Tests a f at e r → Blames a.process r
+tests_blame : (a : Context) (f : ℕ) (at : Pos) (e : Code) (r : Result Bool Trouble) → Tests a f at e r → Blames a.process r
 tests_blame a f at e r x t same =
     then_blames a.process x.found (truth a.process at) (gives_blames a f at e x.found x.left x.gives) (truth_blames a.process at) t (sym x.means ∙ same)
 
-lasts_blames : (a : At) (f : ℕ) (at : Pos) (e : Code) (r : Result ℕ Trouble) → Lasts a f at e r → Blames a.process r
+lasts_blames : (a : Context) (f : ℕ) (at : Pos) (e : Code) (r : Result ℕ Trouble) → Lasts a f at e r → Blames a.process r
 lasts_blames a f at e r x t same =
     then_blames a.process x.found (duration a.process at) (gives_blames a f at e x.found x.left x.gives) (duration_blames a.process at) t (sym x.means ∙ same)
 
 -- what active parts are asked
 
-asks_blames : (a : At) (f : ℕ) (part : Term) (t : Trouble) → Asks a f part t → troubled t ≡ a.process
+asks_blames : (a : Context) (f : ℕ) (part : Term) (t : Trouble) → Asks a f part t → troubled t ≡ a.process
 asks_blames a f _ t (asking.guard test at body _ x) = tests_blame a f at test (Err t) x t refl
 asks_blames a f _ t (asking.time at e _ x) = lasts_blames a f at e (Err t) x t refl
 asks_blames a f _ t (asking.arguments at port name args block _ s x) = part_blames a f at args (Err t) s x t refl
 
-judges_blame : (a : At) (f : ℕ) (p : ParcelView) (part : Term) (r : Result Bool Trouble) → Judges a f p part r → Blames a.process r
+judges_blame : (a : Context) (f : ℕ) (p : ParcelView) (part : Term) (r : Result Bool Trouble) → Judges a f p part r → Blames a.process r
 judges_blame a f p _ _ (messages.free at port name into block) = ok_blames a.process true
 judges_blame a f p _ r (messages.asks at port name into condition block _ fits x) = tests_blame _ f at condition r x
 judges_blame a f p _ _ (messages.unfit at port name into condition block fits) = fault_blames a.process _ refl
 
 -- what they do
 
-performs_blames : (a : At) (f : ℕ) (part : Term) (at : Pos) (r : Result Process Trouble) → Performs a f part at r → Blames a.process r
+performs_blames : (a : Context) (f : ℕ) (part : Term) (at : Pos) (r : Result Process Trouble) → Performs a f part at r → Blames a.process r
 performs_blames a f _ _ _ (internals.skips at) = ok_blames a.process _
 performs_blames a f _ _ _ (internals.evaluates at e r s x) = then_blames a.process r _ (gives_blames a f at e r s x) (λ v. ok_blames a.process _)
 performs_blames a f _ _ _ (internals.evaluates_block at es r s x) = then_blames a.process r _ (all_blame a f at es r s x) (λ vs. ok_blames a.process _)
@@ -144,10 +144,10 @@ performs_blames a f _ _ _ (internals.elapses at e) = ok_blames a.process _
 performs_blames a f _ _ _ (internals.expires left at) = ok_blames a.process _
 performs_blames a f _ _ _ (internals.calls at method args results r s locals number body x is free) = then_blames a.process r _ (all_blame a f at args r s x) (λ vs. ok_blames a.process _)
 
-hands_blame : (p : ParcelView) (a : At) (f : ℕ) (part : Term) (at : Pos) (r : Result Process Trouble) → Hands a f p part at r → Blames a.process r
+hands_blame : (p : ParcelView) (a : Context) (f : ℕ) (part : Term) (at : Pos) (r : Result Process Trouble) → Hands a f p part at r → Blames a.process r
 hands_blame p a f _ _ _ (messages.hands at port name args block values s r left x is y) = then_blames a.process r _ (part_blames _ f at block r left y) (λ vs. ok_blames a.process _)
 
-takes_blame : (p : ParcelView) (a : At) (f : ℕ) (part : Term) (at : Pos) (r : Result Process Trouble) → Takes a f p part at r → Blames a.process r
+takes_blame : (p : ParcelView) (a : Context) (f : ℕ) (part : Term) (at : Pos) (r : Result Process Trouble) → Takes a f p part at r → Blames a.process r
 takes_blame p a f _ _ _ (messages.takes at port name into condition block r left fits x) = then_blames a.process r _ (part_blames _ f at block r left x) (λ vs. ok_blames a.process _)
 takes_blame p a f _ _ _ (messages.full at port name into condition block fits) = fault_blames a.process _ refl
 
@@ -155,12 +155,12 @@ either_blames : {A : Type 0} (i : ℕ) (b : Bool) (x y : Result A Trouble) → B
 either_blames i true x y one other = one
 either_blames i false x y one other = other
 
-settled_blames : (a : At) (at : Pos) (whole : Term) (place : List ℕ) (x : Process) → Blames a.process (settled a at whole place x)
+settled_blames : (a : Context) (at : Pos) (whole : Term) (place : List ℕ) (x : Process) → Blames a.process (settled a at whole place x)
 settled_blames a at whole place x = either_blames a.process _ (Ok _) (Err (High a.process at)) (ok_blames a.process _) (fault_blames a.process (High a.process at) refl)
 
 -- what stands
 
-process_stands : (m : ModelTree) (net : Net) (i : ℕ) (place : Place) → ∥ IsNet m net ∥₁ → slice_get (processes m) i ≡ Some place → HasProcess net i
+process_stands : (m : ModelTree) (net : Net) (i : ℕ) (place : Address) → ∥ IsNet m net ∥₁ → slice_get (processes m) i ≡ Some place → HasProcess net i
 process_stands m net i place is there = ∥∥₁_elim is le_prop (λ known.
     let count : length net.nodes ≡ length (processes m) = ap (λ xs. length xs) known.nodes ∙ length-map (processes m) (node_at m) in
     subst (λ (n : ℕ). i < n) (sym count) (slice_get_within (processes m) i place there))
@@ -171,10 +171,10 @@ wire_stands m net w c is there = ∥∥₁_elim is le_prop (λ known.
     subst (λ (n : ℕ). w < n) (sym count) (slice_get_within (wires m) w c there))
 
 module _ (setting : Setting) (c : Config) (net : Net) (is : ∥ IsNet setting.model net ∥₁) where
-  stands_named : (i : ℕ) (p : Process) (a : At) → Stands setting c i p a → HasProcess net i
+  stands_named : (i : ℕ) (p : Process) (a : Context) → Stands setting c i p a → HasProcess net i
   stands_named i p a x = process_stands setting.model net i x.place is x.is_process
 
-  part_named : (end : End) (a : At) (f : ℕ) (part : Term) → PartAt setting c end a f part → HasProcess net end.process
+  part_named : (end : End) (a : Context) (f : ℕ) (part : Term) → PartAt setting c end a f part → HasProcess net end.process
   part_named end a f part x = stands_named end.process x.process a x.stands
 
   offer_named : (a : Action) → Offers setting c a → IsNamed net a
@@ -191,8 +191,8 @@ module _ (setting : Setting) (c : Config) (net : Net) (is : ∥ IsNet setting.mo
   named_trouble (High j at) i same there = subst (HasProcess net) (sym same) there
 
   -- a part of this process, as its statements see it
-  seen_named : (i : ℕ) (p : Process) (a : At) (t : Trouble) → Stands setting c i p a → troubled t ≡ a.process → HasTroubled net t
-  seen_named i p a t x same = named_trouble t i (same ∙ ap (λ (s : At). s.process) x.seen) (stands_named i p a x)
+  seen_named : (i : ℕ) (p : Process) (a : Context) (t : Trouble) → Stands setting c i p a → troubled t ≡ a.process → HasTroubled net t
+  seen_named i p a t x same = named_trouble t i (same ∙ ap (λ (s : Context). s.process) x.seen) (stands_named i p a x)
 
   source_named : (source : Source) (t : Trouble) → Troubles setting c source t → HasTroubled net t
   source_named _ t (moments.asked at a f part _ x asks) = seen_named at.process x.process a t x.stands (asks_blames a f part t asks)
@@ -200,14 +200,14 @@ module _ (setting : Setting) (c : Config) (net : Net) (is : ∥ IsNet setting.mo
       let active = judged.active in
       seen_named receiver.process active.process judged.seen t active.stands (judges_blame judged.seen judged.frame parcel judged.part (Err t) judged.judges t refl)
 
-  says_named : (m : Moment) (t : Trouble) → Says setting c m → m ≡ Faulty t → HasTroubled net t
+  says_named : (m : Moment) (t : Trouble) → Candidate setting c m → m ≡ Faulty t → HasTroubled net t
   says_named _ t (moments.faulty u least) same = let equal : u ≡ t = cc in subst (HasTroubled net) equal (source_named least.source u least.occurs)
   says_named _ t (moments.acting actions is_offers some) same = cc
   says_named _ t (moments.passing d least) same = cc
   says_named _ t (moments.finished done) same = cc
   says_named _ t moments.deadlock same = cc
 
-  acts_named : (does : Deed) (at : End) (r : Result Process Trouble) → ((a : At) (f : ℕ) (part : Term) (place : Pos) (q : Result Process Trouble) → does a f part place q → Blames a.process q)
+  acts_named : (does : Deed) (at : End) (r : Result Process Trouble) → ((a : Context) (f : ℕ) (part : Term) (place : Pos) (q : Result Process Trouble) → does a f part place q → Blames a.process q)
       → Acts setting c does at r → (t : Trouble) → r ≡ Err t → HasTroubled net t
   acts_named does at r blames x t same =
       seen_named at.process x.process x.seen t x.stands

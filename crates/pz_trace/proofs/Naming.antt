@@ -8,7 +8,7 @@ use Rattle.std.specs.Option.{option_map_or}
 use Rattle.std.proofs.lemmas.List.{length-map}
 use Rattle.std.proofs.lemmas.Option.{slice_get-get_or}
 use Rattle.pz_syntax.specs.Classes.{ModelTree}
-use Rattle.pz_bind_levels.specs.Places.{Place}
+use Rattle.pz_bind_levels.specs.Places.{Address}
 use Rattle.pz_bind_levels.specs.Wires.{Channel, channel}
 use Rattle.pz_bind.specs.declared.net.Net.{Net}
 use Rattle.pz_bind.specs.Nest.{processes}
@@ -29,7 +29,7 @@ process_there m net is i below =
     let count : length net.nodes ≡ length (processes m) = ap (λ xs. length xs) is.nodes ∙ length-map (processes m) (node_at m) in
     slice_get-get_or (processes m) i [] (subst (λ (n : ℕ). i < n) count below)
 
-pub path_is : (m : ModelTree) (net : Net) (i : ℕ) (text : List ℕ) → HasProcess net i → ((t : ModelTree) (place : Place) → IsNet t net → slice_get (processes t) i ≡ Some place → text ≡ path t place) → ∥ IsNet m net ∥₁ → text ≡ path_of m i
+pub path_is : (m : ModelTree) (net : Net) (i : ℕ) (text : List ℕ) → HasProcess net i → ((t : ModelTree) (place : Address) → IsNet t net → slice_get (processes t) i ≡ Some place → text ≡ path t place) → ∥ IsNet m net ∥₁ → text ≡ path_of m i
 path_is m net i text below says is = text_merely text (path_of m i) is (λ known.
     let there = process_there m net known i below in
     says m (get_or (processes m) i []) known there ∙ sym (ap (λ o. option_map_or (path m) o []) there))

@@ -14,7 +14,7 @@ use Rattle.pz_state.specs.declared.fault.FaultKind.{FaultKind}
 use Rattle.pz_state.specs.declared.fault.FaultKind.TheVariants as fault
 use Rattle.pz_state.specs.Objects.{ObjectView}
 use Rattle.pz_classes.specs.Tables.{class_names}
-use Rattle.pz_bind_levels.specs.Places.{Place}
+use Rattle.pz_bind_levels.specs.Places.{Address}
 use Rattle.pz_bind_levels.specs.Wires.{Channel}
 use Rattle.pz_bind.specs.Nest.{processes}
 use Rattle.pz_bind.specs.Names.{path, wire_name, name_at}
@@ -141,7 +141,7 @@ parcel_unbroken m whole p =
 
 -- names
 
-name_unbroken : (m : ModelTree) → HasUnbrokenNames m → (place : Place) → Unbroken (path m place)
+name_unbroken : (m : ModelTree) → HasUnbrokenNames m → (place : Address) → Unbroken (path m place)
 name_unbroken m whole [] = refl
 name_unbroken m whole (i ∷ []) = whole.instances [] i
 name_unbroken m whole (i ∷ j ∷ up) =

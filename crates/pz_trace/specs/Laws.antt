@@ -6,7 +6,7 @@ use Rattle.std.specs.List.{list_any}
 use Rattle.pz_syntax.specs.Classes.{ModelTree}
 use Rattle.pz_value.specs.declared.value.ClassId.{ClassId}
 use Rattle.pz_classes.specs.Tables.{class_names}
-use Rattle.pz_bind_levels.specs.Places.{Place}
+use Rattle.pz_bind_levels.specs.Places.{Address}
 use Rattle.pz_bind.specs.declared.net.Net.{Net}
 use Rattle.pz_bind.specs.Names.{name_at}
 use Rattle.pz_bind.specs.NetView.{IsNet}
@@ -39,7 +39,7 @@ pub record IsLine (text : List ℕ) : Type 0 where
 
 -- the names of instances and of classes
 pub record HasUnbrokenNames (m : ModelTree) : Type 0 where
-  pub instances : (up : Place) (i : ℕ) → Unbroken (name_at m up i)
+  pub instances : (up : Address) (i : ℕ) → Unbroken (name_at m up i)
   pub classes : (class : ClassId) → Unbroken (name_of (class_names m) class)
 
 -- the name of the message

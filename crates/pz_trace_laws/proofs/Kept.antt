@@ -21,7 +21,7 @@ use Rattle.pz_offer.specs.declared.trouble.Trouble.TheVariants.{High}
 use Rattle.pz_rules.specs.declared.action.Action.{Action}
 use Rattle.pz_rules.specs.Terms.{Step, Steps, Term, Terms, height}
 use Rattle.pz_rules.specs.Opening.{opened_all}
-use Rattle.pz_rules.specs.Settings.{Setting, Process, At}
+use Rattle.pz_rules.specs.Settings.{Setting, Process, Context}
 use Rattle.pz_rules.specs.Meanings.{and_then, truth}
 use Rattle.pz_rules.specs.InternalActions as actions
 use Rattle.pz_rules.specs.InternalActions.{Performs, done_in, chosen, turned, entered}
@@ -77,7 +77,7 @@ turned_whole s loop ts true h k = (opened_rest ts h, (k, tt))
 turned_whole s loop ts false h k = tt
 
 abbrev KeepsUnbroken : ModelTree → Deed → Type 0
-KeepsUnbroken m does = (a : At) (f : ℕ) (t : Term) (pos : Pos) (q : Result Process Trouble) → a.setting.model ≡ m → does a f t pos q → TermUnbroken t → LeftUnbroken q
+KeepsUnbroken m does = (a : Context) (f : ℕ) (t : Term) (pos : Pos) (q : Result Process Trouble) → a.setting.model ≡ m → does a f t pos q → TermUnbroken t → LeftUnbroken q
 
 performs_whole : (m : ModelTree) → HasUnbrokenMessages m → KeepsUnbroken m Performs
 performs_whole m whole a f _ _ _ same (actions.skips at) h = tt
@@ -119,14 +119,14 @@ abbrev OutcomeUnbroken : Result Config Trouble → Type 0
 OutcomeUnbroken (Ok next) = AllUnbroken next
 OutcomeUnbroken (Err t) = Unit {0}
 
-high_whole : (a : At) (pos : Pos) (p : Process) → TermUnbroken p.term → LeftUnbroken (not_too_high a pos (swept p))
+high_whole : (a : Context) (pos : Pos) (p : Process) → TermUnbroken p.term → LeftUnbroken (not_too_high a pos (swept p))
 high_whole a pos p h = by (nat_le (height p.term) a.setting.limits.height)
   where
     by : (b : Bool) → LeftUnbroken (if b then Ok (swept p) else Err (High a.process pos))
     by true = h
     by false = tt
 
-settled_whole : (a : At) (pos : Pos) (t : Term) (place : Place) (left : Result Process Trouble) → LeftUnbroken left → ((y : Process) → TermUnbroken y.term → TermUnbroken (residual 0 t place y).term) → LeftUnbroken (and_then left (settled a pos t place))
+settled_whole : (a : Context) (pos : Pos) (t : Term) (place : Place) (left : Result Process Trouble) → LeftUnbroken left → ((y : Process) → TermUnbroken y.term → TermUnbroken (residual 0 t place y).term) → LeftUnbroken (and_then left (settled a pos t place))
 settled_whole a pos t place (Ok y) h leaves = high_whole a pos (residual 0 t place y) (leaves y h)
 settled_whole a pos t place (Err e) h leaves = tt
 
@@ -134,7 +134,7 @@ module _ (setting : Setting) (c : Config) (all : AllUnbroken c) where
   acts_whole : (does : Deed) → KeepsUnbroken setting.model does → (end : End) (q : Result Process Trouble) → Acts setting c does end q → LeftUnbroken q
   acts_whole does keeps end q x =
       let part = part_of x.active (all end.process x.process x.stands.is_here) in
-      let left = keeps x.seen x.frame x.part x.pos x.left (ap (λ (b : At). b.setting.model) x.stands.seen) x.acts part.whole in
+      let left = keeps x.seen x.frame x.part x.pos x.left (ap (λ (b : Context). b.setting.model) x.stands.seen) x.acts part.whole in
       subst LeftUnbroken (sym x.leaves) (settled_whole x.seen x.pos x.process.term end.place x.left left (λ y h. part.leaves 0 y h))
 
   internal_whole : (i : ℕ) (q : Result Process Trouble) → LeftUnbroken q → OutcomeUnbroken (and_then q (λ p. Ok (with_process c i p)))
@@ -158,7 +158,7 @@ module _ (setting : Setting) (c : Config) (all : AllUnbroken c) where
 
   -- what is offered
 
-  sent_whole : (a : At) (f : ℕ) (t : Term) (pos : Pos) (port : ℕ) (message : List ℕ) (parcel : ParcelView) → Sends a f t pos port message parcel → TermUnbroken t → Unbroken message
+  sent_whole : (a : Context) (f : ℕ) (t : Term) (pos : Pos) (port : ℕ) (message : List ℕ) (parcel : ParcelView) → Sends a f t pos port message parcel → TermUnbroken t → Unbroken message
   sent_whole a f _ _ _ _ _ (messages.sends at port name args after values s parcel gives packed) h = h
 
   pub offer_whole : (action : Action) → Offers setting c action → HasUnbrokenMessage action
@@ -170,7 +170,7 @@ module _ (setting : Setting) (c : Config) (all : AllUnbroken c) where
 -- the passing of time
 
 mutual
-  passes_whole : (a : At) (d f : ℕ) (t x : Term) → Passes a d f t x → TermUnbroken t → TermUnbroken x
+  passes_whole : (a : Context) (d f : ℕ) (t x : Term) → Passes a d f t x → TermUnbroken t → TermUnbroken x
   passes_whole a d _ _ _ (delays.is_done f) h = h
   passes_whole a d _ _ _ (delays.stays f s is) h = h
   passes_whole a d _ _ _ (delays.begins f at e left lasts) h = tt
@@ -185,7 +185,7 @@ mutual
   passes_whole a d _ _ _ (delays.in_idle f t x u y again p q) h = (passes_whole a d f t x p h.0, passes_whole a d f u y q h.1, h.2)
   passes_whole a d _ _ _ (delays.in_handling f t u y again p) h = (h.0, passes_whole a d f u y p h.1, h.2)
 
-  all_pass_whole : (a : At) (d f : ℕ) (ts xs : Terms) → PassesAll a d f ts xs → TermsUnbroken ts → TermsUnbroken xs
+  all_pass_whole : (a : Context) (d f : ℕ) (ts xs : Terms) → PassesAll a d f ts xs → TermsUnbroken ts → TermsUnbroken xs
   all_pass_whole a d _ _ _ (delays.none f) h = h
   all_pass_whole a d _ _ _ (delays.both f t x ts xs p q) h = (passes_whole a d f t x p h.0, all_pass_whole a d f ts xs q h.1)
 
@@ -194,7 +194,7 @@ passing_whole setting c next d counted all passes i q is =
     let below : i < length c.processes = subst (λ (n : ℕ). i < n) passes.all (slice_get_within next.processes i q is) in
     let p = there c.processes i below in
     let place = there (processes setting.model) i (subst (λ (n : ℕ). i < n) counted below) in
-    let a : At = record { setting = setting; process = i; class = class_at setting.model place.0; clock = c.clock; state = p.0.state } in
+    let a : Context = record { setting = setting; process = i; class = class_at setting.model place.0; clock = c.clock; state = p.0.state } in
     let one = passes.each i p.0 a (record { place = place.0; is_process = place.1; is_here = p.1; seen = refl }) in
     let same : (let r : Process = record { term = one.0; state = p.0.state } in r) ≡ q = some_is (sym one.2 ∙ is) in
     subst (λ (r : Process). TermUnbroken r.term) same (passes_whole a d 0 p.0.term one.0 one.1 (all i p.0 p.1))

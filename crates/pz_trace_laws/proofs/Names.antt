@@ -10,7 +10,7 @@ use Rattle.pz_value.specs.declared.value.ClassId.{ClassId}
 use Rattle.pz_classes.specs.Numbers.{declaration, spelling}
 use Rattle.pz_classes.specs.Instances.{instances}
 use Rattle.pz_classes.specs.Tables.{class_names}
-use Rattle.pz_bind_levels.specs.Places.{Place}
+use Rattle.pz_bind_levels.specs.Places.{Address}
 use Rattle.pz_bind.specs.Nest.{instances_in, class_at}
 use Rattle.pz_bind.specs.Names.{name_at}
 use Rattle.pz_copy.specs.ParcelText.{name_of}
@@ -58,7 +58,7 @@ module _ (m : ModelTree) (whole : Each DeclWhole m.decls) where
   instances_of None h = tt
   instances_of (Some d) h = instances_named d h
 
-  instance_unbroken : (up : Place) (i : ℕ) → Unbroken (name_at m up i)
+  instance_unbroken : (up : Address) (i : ℕ) → Unbroken (name_at m up i)
   instance_unbroken up i =
       let c = class_at m up in
       instance_unwrapped (slice_get (instances_in m c) i) (each_at InstanceUnbroken (instances_in m c) i (instances_of (declaration m c) (declared c)))

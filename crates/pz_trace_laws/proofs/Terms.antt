@@ -8,7 +8,7 @@ use Rattle.pz_state.specs.States.{StateView}
 use Rattle.pz_offer.specs.PlaceOrder.{Place}
 use Rattle.pz_rules.specs.Terms.{Step, Steps, Term, done, leaf, wait, sequence, parallel, select, guarded, frame, abort, idle, handling, Terms, no_terms, and, term_at, child, frame_in}
 use Rattle.pz_rules.specs.Opening.{opened, opened_all, opened_branches, opened_part}
-use Rattle.pz_rules.specs.Settings.{Process, At}
+use Rattle.pz_rules.specs.Settings.{Process, Context}
 use Rattle.pz_rules.specs.Leaving.{replaced, joined, all_done, handled, aborted, interrupted, framed, around, residual}
 use Rattle.pz_rules.specs.Active as active
 use Rattle.pz_rules.specs.Active.{Active}
@@ -135,7 +135,7 @@ pub record Part (t : Term) (place : Place) (x : Term) : Type 0 where
   pub whole : TermUnbroken x
   pub leaves : (f : ℕ) (y : Process) → TermUnbroken y.term → TermUnbroken (residual f t place y).term
 
-pub part_of : {a : At} {f : ℕ} {t : Term} {place : Place} {g : ℕ} {x : Term} → Active a f t place g x → TermUnbroken t → Part t place x
+pub part_of : {a : Context} {f : ℕ} {t : Term} {place : Place} {g : ℕ} {x : Term} → Active a f t place g x → TermUnbroken t → Part t place x
 part_of (active.here f t) h = record { whole = h; leaves = λ f y k. k }
 part_of (active.inside f t i place g x r k) h =
     let below = child_of t i h in

@@ -4,8 +4,8 @@ use Rattle.std.specs.Prelude.{◌⊎◌, if◌then◌else◌, bytes_eq, eqb, cod
 use Rattle.std.specs.List.{slice_split}
 use Rattle.std.specs.Fmt.{decimal}
 use Rattle.pz_words.specs.declared.jobs.Choice.TheVariants as choice
-use Rattle.pz_words.specs.declared.options.Setting.{Setting}
-use Rattle.pz_words.specs.declared.options.Setting.TheVariants.{Chooses, Steps, Until, Units, Summary}
+use Rattle.pz_words.specs.declared.options.OptionWord.{OptionWord}
+use Rattle.pz_words.specs.declared.options.OptionWord.TheVariants.{Chooses, Steps, Until, Units, Summary}
 use Rattle.pz_words.specs.declared.options.TheConstants.{MOST_STEPS, MOST_UNITS}
 use Rattle.pz_words.specs.declared.names.Valued.{Valued}
 use Rattle.pz_words.specs.declared.names.Valued.TheVariants as option
@@ -31,12 +31,12 @@ awaiting None = []
 awaiting (Some v) = name_text v ∷ []
 
 -- the option is written as these words, and its value is allowed
-pub record IsWritten (words : List (List ℕ)) (s : Setting) : Type 0 where
+pub record IsWritten (words : List (List ℕ)) (s : OptionWord) : Type 0 where
   pub written : words_of s ≡ words
   pub allowed : IsAllowed s
 
 module _ where
-  flag_written : (w : List ℕ) (s : Setting) → flag w ≡ Some s → IsWritten (w ∷ []) s
+  flag_written : (w : List ℕ) (s : OptionWord) → flag w ≡ Some s → IsWritten (w ∷ []) s
   flag_written w s e = first (by_word w (codes "--first") (Some (Chooses choice.First)) _ (Some s) e)
     where
       second : ((w ≡ codes "--summary") × (Some Summary ≡ Some s)) ⊎ (None ≡ Some s) → IsWritten (w ∷ []) s
@@ -77,7 +77,7 @@ module _ where
   numbered : (name w : List ℕ) (n : ℕ) → w ≡ decimal n → (name ∷ decimal n ∷ []) ≡ (name ∷ w ∷ [])
   numbered name w n is = ap (λ (x : List ℕ). name ∷ x ∷ []) (sym is)
 
-  pub value_written : (v : Valued) (w : List ℕ) (s : Setting) → value_of v w ≡ Some s → IsWritten (name_text v ∷ w ∷ []) s
+  pub value_written : (v : Valued) (w : List ℕ) (s : OptionWord) → value_of v w ≡ Some s → IsWritten (name_text v ∷ w ∷ []) s
   value_written option.Seed w s e =
       let told = map_some (λ n. Chooses (choice.Seed n)) (number_of w) s e in
       let is = is_number told.0 w told.1 in
@@ -99,7 +99,7 @@ module _ where
       let is = is_between 1 MOST_UNITS told.0 w told.1 in
       subst (IsWritten (codes "--units" ∷ w ∷ [])) told.2 (record { written = numbered _ w told.0 is.0.digits; allowed = (is.1, is.2) })
 
-  abbrev says : Heard → Setting → Setting
+  abbrev says : Heard → OptionWord → OptionWord
   says (Says s) other = s
   says (Names v) other = other
   says Nothing other = other
@@ -109,23 +109,23 @@ module _ where
   names (Says s) other = other
   names Nothing other = other
 
-  setting_heard : (o : Option Setting) (s : Setting) → heard_setting o ≡ Says s → o ≡ Some s
+  setting_heard : (o : Option OptionWord) (s : OptionWord) → heard_setting o ≡ Says s → o ≡ Some s
   setting_heard None s e = cc
   setting_heard (Some t) s e = ap (λ h. Some (says h t)) e
 
-  name_not_said : (o : Option Valued) (s : Setting) → heard_name o ≡ Says s → ⊥
+  name_not_said : (o : Option Valued) (s : OptionWord) → heard_name o ≡ Says s → ⊥
   name_not_said None s e = cc
   name_not_said (Some v) s e = cc
 
-  first_heard : (f : Option Setting) (v : Option Valued) (s : Setting) → heard_first f v ≡ Says s → f ≡ Some s
+  first_heard : (f : Option OptionWord) (v : Option Valued) (s : OptionWord) → heard_first f v ≡ Says s → f ≡ Some s
   first_heard (Some t) v s e = ap (λ h. Some (says h t)) e
   first_heard None v s e = absurd (name_not_said v s e)
 
-  pub said_written : (a : Option Valued) (w : List ℕ) (s : Setting) → heard a w ≡ Says s → IsWritten (awaiting a ++ w ∷ []) s
+  pub said_written : (a : Option Valued) (w : List ℕ) (s : OptionWord) → heard a w ≡ Says s → IsWritten (awaiting a ++ w ∷ []) s
   said_written None w s e = flag_written w s (first_heard (flag w) (option_named w) s e)
   said_written (Some v) w s e = value_written v w s (setting_heard (value_of v w) s e)
 
-  setting_not_named : (o : Option Setting) (v : Valued) → heard_setting o ≡ Names v → ⊥
+  setting_not_named : (o : Option OptionWord) (v : Valued) → heard_setting o ≡ Names v → ⊥
   setting_not_named None v e = cc
   setting_not_named (Some s) v e = cc
 
@@ -133,7 +133,7 @@ module _ where
   name_heard None v e = cc
   name_heard (Some u) v e = ap (λ h. Some (names h u)) e
 
-  first_named : (f : Option Setting) (o : Option Valued) (v : Valued) → heard_first f o ≡ Names v → o ≡ Some v
+  first_named : (f : Option OptionWord) (o : Option Valued) (v : Valued) → heard_first f o ≡ Names v → o ≡ Some v
   first_named (Some s) o v e = cc
   first_named None o v e = name_heard o v e
 

@@ -3,14 +3,14 @@ use Rattle.std.specs.Prelude.{◌≡◌, ◌≢◌, ◌≤◌, ⊤, ℕ, true, f
 use Rattle.std.specs.List.{flat_map, AllPairs}
 use Rattle.std.specs.Fmt.{decimal}
 use Rattle.pz_words.specs.declared.jobs.Choice.TheVariants as choice
-use Rattle.pz_words.specs.declared.options.Setting.{Setting}
-use Rattle.pz_words.specs.declared.options.Setting.TheVariants.{Chooses, Steps, Until, Units, Summary}
+use Rattle.pz_words.specs.declared.options.OptionWord.{OptionWord}
+use Rattle.pz_words.specs.declared.options.OptionWord.TheVariants.{Chooses, Steps, Until, Units, Summary}
 use Rattle.pz_words.specs.declared.options.Options.{Options}
 use Rattle.pz_words.specs.declared.options.TheConstants.{MOST_STEPS, MOST_UNITS}
 use Rattle.pz_words.specs.Numbers.{IsShort, listed, AreEntries}
 
 -- an option and its value are two words
-abbrev pub words_of : Setting → List (List ℕ)
+abbrev pub words_of : OptionWord → List (List ℕ)
 words_of (Chooses choice.First) = codes "--first" ∷ []
 words_of (Chooses (choice.Seed n)) = codes "--seed" ∷ decimal n ∷ []
 words_of (Chooses (choice.List entries)) = codes "--choices" ∷ listed entries ∷ []
@@ -20,7 +20,7 @@ words_of (Units n) = codes "--units" ∷ decimal n ∷ []
 words_of Summary = codes "--summary" ∷ []
 
 -- the values that an option may have
-abbrev pub IsAllowed : Setting → Type 0
+abbrev pub IsAllowed : OptionWord → Type 0
 IsAllowed (Chooses choice.First) = ⊤
 IsAllowed (Chooses (choice.Seed n)) = IsShort n
 IsAllowed (Chooses (choice.List entries)) = AreEntries entries
@@ -37,7 +37,7 @@ pub data Subject : Type 0 where
   units_each : Subject
   printing : Subject
 
-abbrev pub subject_of : Setting → Subject
+abbrev pub subject_of : OptionWord → Subject
 subject_of (Chooses c) = choosing
 subject_of (Steps n) = most_steps
 subject_of (Until n) = last_clock
@@ -47,25 +47,25 @@ subject_of Summary = printing
 abbrev pub nothing_said : Options
 nothing_said = record { choice = None; steps = None; until = None; units = None; summary = false }
 
-abbrev pub with_setting : Setting → Options → Options
-with_setting (Chooses c) o = record o { choice = Some c }
-with_setting (Steps n) o = record o { steps = Some n }
-with_setting (Until n) o = record o { until = Some n }
-with_setting (Units n) o = record o { units = Some n }
-with_setting Summary o = record o { summary = true }
+abbrev pub with_option : OptionWord → Options → Options
+with_option (Chooses c) o = record o { choice = Some c }
+with_option (Steps n) o = record o { steps = Some n }
+with_option (Until n) o = record o { until = Some n }
+with_option (Units n) o = record o { units = Some n }
+with_option Summary o = record o { summary = true }
 
 -- what is said once these have been added
-abbrev pub said_with : Options → List Setting → Options
+abbrev pub said_with : Options → List OptionWord → Options
 said_with o [] = o
-said_with o (s ∷ ss) = said_with (with_setting s o) ss
+said_with o (s ∷ ss) = said_with (with_option s o) ss
 
-abbrev pub DifferInSubject : Setting → Setting → Type 0
+abbrev pub DifferInSubject : OptionWord → OptionWord → Type 0
 DifferInSubject s t = subject_of s ≢ subject_of t
 
 -- The words are those of some options, in any order, no two of which speak of the same; and this is
 -- what they say.
 pub record AreOptions (words : List (List ℕ)) (o : Options) : Type 0 where
-  pub settings : List Setting
+  pub settings : List OptionWord
   pub written : words ≡ flat_map words_of settings
   pub allowed : All IsAllowed settings
   pub once : AllPairs DifferInSubject settings

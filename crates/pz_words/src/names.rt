@@ -4,7 +4,7 @@ ghost use Rattle.std.specs.Prelude.{◌≡◌};
 ghost use Rattle.pz_words.specs.devices.Reading as device;
 
 use crate::jobs::Choice;
-use crate::options::Setting;
+use crate::options::OptionWord;
 
 /// An option whose value is the next word.
 #[derive(Clone, Copy, Debug, PartialEq, Eq)]
@@ -17,14 +17,14 @@ pub enum Valued {
 }
 
 /// The option without a value that is written so.
-pub fn flag(word: &str) -> Option<Setting>
+pub fn flag(word: &str) -> Option<OptionWord>
     ensures { result ≡ device.flag word.now }
 {
     if word == "--first" {
-        return Some(Setting::Chooses(Choice::First));
+        return Some(OptionWord::Chooses(Choice::First));
     }
     if word == "--summary" {
-        return Some(Setting::Summary);
+        return Some(OptionWord::Summary);
     }
     None
 }

@@ -1,5 +1,5 @@
 ghost use Rattle.std.specs.Prelude.{◌≡◌};
-ghost use Rattle.pz_words.specs.Options.{with_setting, nothing_said};
+ghost use Rattle.pz_words.specs.Options.{with_option, nothing_said};
 ghost use Rattle.pz_words.specs.Jobs.{choice_or, limits_of, units_of};
 ghost use Rattle.pz_words.specs.devices.Reading.{is_free};
 
@@ -14,7 +14,7 @@ pub const MOST_UNITS: u64 = 1_000_000_000;
 
 /// What one option says.
 #[derive(Debug, Drop)]
-pub enum Setting {
+pub enum OptionWord {
     /// How offers are chosen.
     Chooses(Choice),
     /// How many actions are chosen at most.
@@ -52,16 +52,16 @@ impl Options {
     }
 
     /// Adds what one option says, and tells whether none before it spoke of the same.
-    pub(crate) fn add(&mut self, setting: Setting) -> bool
+    pub(crate) fn add(&mut self, setting: OptionWord) -> bool
         ensures free { result ≡ is_free setting self.old }
-        ensures added { self.new ≡ with_setting setting self.old }
+        ensures added { self.new ≡ with_option setting self.old }
     {
         match setting {
-            Setting::Chooses(choice) => self.choice.replace(choice).is_none(),
-            Setting::Steps(steps) => self.steps.replace(steps).is_none(),
-            Setting::Until(until) => self.until.replace(until).is_none(),
-            Setting::Units(units) => self.units.replace(units).is_none(),
-            Setting::Summary => !mem::replace(&mut self.summary, true),
+            OptionWord::Chooses(choice) => self.choice.replace(choice).is_none(),
+            OptionWord::Steps(steps) => self.steps.replace(steps).is_none(),
+            OptionWord::Until(until) => self.until.replace(until).is_none(),
+            OptionWord::Units(units) => self.units.replace(units).is_none(),
+            OptionWord::Summary => !mem::replace(&mut self.summary, true),
         }
     }
 

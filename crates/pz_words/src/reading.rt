@@ -5,7 +5,7 @@ ghost use Rattle.pz_words.specs.Options.{nothing_said};
 ghost use Rattle.pz_words.specs.devices.Reading as device;
 
 use crate::names::{Valued, flag, option_named};
-use crate::options::{Options, Setting};
+use crate::options::{OptionWord, Options};
 use crate::values::value;
 use std::alloc::{AllocError, Global};
 
@@ -13,7 +13,7 @@ use std::alloc::{AllocError, Global};
 #[derive(Drop)]
 pub enum Heard {
     /// What its option says.
-    Says(Setting),
+    Says(OptionWord),
     /// That the value of this option comes next.
     Names(Valued),
     Nothing,

@@ -3,12 +3,12 @@
 
 use crate::reading::model_in;
 use pz_classes::{channels_of, instances_of};
-use pz_classes_mentions::{Part, parts_of};
+use pz_classes_mentions::{LocalScope, parts_of};
 use pz_items::Items;
 use pz_syntax::{Arg, Channel, ChannelEnd, Decl, Given, Id, Instance, Message, Model};
 use std::io;
 
-fn show_parts(rt: &HostRuntime, parts: &[Part]) -> io::Result<()> {
+fn show_parts(rt: &HostRuntime, parts: &[LocalScope]) -> io::Result<()> {
     for part in parts {
         let locals = part.locals.len();
         let mentions = part.mentions.len();

@@ -3,7 +3,7 @@ ghost use Rattle.std.specs.Option.{option_map};
 ghost use Rattle.pz_state.specs.States.{HasItem, locals_in};
 
 use crate::show;
-use pz_state::{FrameId, MakeError, Point, State, nil_values};
+use pz_state::{FrameId, MakeError, Savepoint, State, nil_values};
 use pz_value::{ClassId, Value};
 use std::alloc::{AllocError, Global};
 use std::io;
@@ -19,7 +19,7 @@ struct Frame {
 /// An open mark, and the frame that was named when it was made.
 #[derive(Clone, Copy, Debug)]
 struct Saved {
-    point: Point,
+    point: Savepoint,
     frame: Option<Frame>,
 }
 

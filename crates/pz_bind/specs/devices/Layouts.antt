@@ -11,7 +11,7 @@ use Rattle.pz_classes.specs.Numbers.{declaration}
 use Rattle.pz_classes.specs.Kinds.{is_cluster}
 use Rattle.pz_classes.specs.Members.{ports, spelled}
 use Rattle.pz_classes.specs.Bodies.{place_in}
-use Rattle.pz_bind_levels.specs.declared.plan.Part.{Part}
+use Rattle.pz_bind_levels.specs.declared.plan.LevelPart.{LevelPart}
 use Rattle.pz_bind_levels.specs.Layouts.{Layout}
 use Rattle.pz_bind.specs.Nest.{instances_in, channels_in, class_of}
 
@@ -37,7 +37,7 @@ module _ (m : ModelTree) where
   abbrev pub is_cluster_class : ℕ → Bool
   is_cluster_class c = option_map_or is_cluster (declaration m c) false
 
-  abbrev pub part_of : Instance → Part
+  abbrev pub part_of : Instance → LevelPart
   part_of x = record { class = class_of m x; is_level = is_cluster_class (class_of m x) }
 
   abbrev pub port_number : ℕ → List ℕ → Option ℕ

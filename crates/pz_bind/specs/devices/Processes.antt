@@ -3,14 +3,14 @@ use Rattle.std.specs.Prelude.{◌≡◌, ◌<◌, ℕ, List, ◌∷◌, length, 
 use Rattle.pz_syntax.specs.Classes.{ModelTree}
 use Rattle.pz_bind_levels.specs.declared.expansion.Process.{Process}
 use Rattle.pz_bind_levels.specs.declared.expansion.Wire.{Wire}
-use Rattle.pz_bind_levels.specs.Places.{Place}
+use Rattle.pz_bind_levels.specs.Places.{Address}
 use Rattle.pz_bind_levels.specs.Wires.{Channel}
 use Rattle.pz_bind.specs.Nest.{class_at, instances_at, levels, processes}
 use Rattle.pz_bind.specs.Wires.{wires}
 
 -- a process of the expansion stands at this place
-pub record IsProcessAt (m : ModelTree) (p : Process) (place : Place) : Type 0 where
-  pub up : Place
+pub record IsProcessAt (m : ModelTree) (p : Process) (place : Address) : Type 0 where
+  pub up : Address
   pub level : slice_get (levels m) p.standing.level ≡ Some up
   pub place_is : place ≡ p.standing.part ∷ up
   pub part : p.standing.part < length (instances_at m up)
@@ -18,7 +18,7 @@ pub record IsProcessAt (m : ModelTree) (p : Process) (place : Place) : Type 0 wh
 
 pub record AreProcesses (m : ModelTree) (ps : List Process) : Type 0 where
   pub counted : length ps ≡ length (processes m)
-  pub each : (n : ℕ) (p : Process) (place : Place) → slice_get ps n ≡ Some p → slice_get (processes m) n ≡ Some place → IsProcessAt m p place
+  pub each : (n : ℕ) (p : Process) (place : Address) → slice_get ps n ≡ Some p → slice_get (processes m) n ≡ Some place → IsProcessAt m p place
 
 -- a wire of the expansion is this channel
 pub record IsWireAt (m : ModelTree) (w : Wire) (c : Channel) : Type 0 where

@@ -3,7 +3,7 @@ use Rattle.std.specs.Prelude.{◌≡◌, ◌<◌, ℕ, Bool, true, false, List, 
 use Rattle.pz_syntax.specs.Classes.{ModelTree}
 use Rattle.pz_bind_levels.specs.declared.expansion.Standing.{Standing}
 use Rattle.pz_bind_levels.specs.declared.expansion.Level.{Level}
-use Rattle.pz_bind_levels.specs.Places.{Place}
+use Rattle.pz_bind_levels.specs.Places.{Address}
 use Rattle.pz_bind_levels.specs.Expanded.{EachOf}
 use Rattle.pz_value.specs.declared.value.Value.TheVariants.{Nil}
 use Rattle.pz_bind.specs.Nest.{class_at, instances_in, instances_at, levels}
@@ -12,12 +12,12 @@ use Rattle.pz_bind.specs.Values.{parameter_at}
 use Rattle.pz_bind.specs.devices.Bindings.{value_in}
 use Rattle.pz_bind.specs.declared.sites.Site.{Site}
 
-abbrev pub is_top : Place → Bool
+abbrev pub is_top : Address → Bool
 is_top [] = true
 is_top (i ∷ up) = false
 
 -- this is known of the level at this place
-pub record IsSite (m : ModelTree) (place : Place) (s : Site) : Type 0 where
+pub record IsSite (m : ModelTree) (place : Address) (s : Site) : Type 0 where
   pub class : s.class ≡ class_at m place
   pub top : s.is_system ≡ is_top place
   pub path_is : s.path ≡ path m place
@@ -43,24 +43,24 @@ MayStand m sites None = Unit {0}
 MayStand m sites (Some s) = IsPlaced m sites s
 
 -- something stands at this place, in one of these levels
-pub data StandsIn (m : ModelTree) (sites : List Site) : Option Standing → Place → Type 0 where
+pub data StandsIn (m : ModelTree) (sites : List Site) : Option Standing → Address → Type 0 where
   at_top : StandsIn m sites None []
-  in_level : (s : Standing) (up : Place) (site : Site) → slice_get sites s.level ≡ Some site → IsSite m up site → StandsIn m sites (Some s) (s.part ∷ up)
+  in_level : (s : Standing) (up : Address) (site : Site) → slice_get sites s.level ≡ Some site → IsSite m up site → StandsIn m sites (Some s) (s.part ∷ up)
 
 -- where a level of the expansion stands
-pub data LevelAt (m : ModelTree) (n : ℕ) : Option Standing → Place → Type 0 where
+pub data LevelAt (m : ModelTree) (n : ℕ) : Option Standing → Address → Type 0 where
   the_system : LevelAt m n None []
-  a_cluster : (s : Standing) (up : Place) → s.level < n → slice_get (levels m) s.level ≡ Some up → s.part < length (instances_at m up) → LevelAt m n (Some s) (s.part ∷ up)
+  a_cluster : (s : Standing) (up : Address) → s.level < n → slice_get (levels m) s.level ≡ Some up → s.part < length (instances_at m up) → LevelAt m n (Some s) (s.part ∷ up)
 
-pub record IsLevelAt (m : ModelTree) (n : ℕ) (l : Level) (place : Place) : Type 0 where
+pub record IsLevelAt (m : ModelTree) (n : ℕ) (l : Level) (place : Address) : Type 0 where
   pub class : l.class ≡ class_at m place
   pub stands : LevelAt m n l.standing place
 
 -- these are the levels of the system, in order
 pub record AreLevels (m : ModelTree) (ls : List Level) : Type 0 where
   pub counted : length ls ≡ length (levels m)
-  pub each : (n : ℕ) (l : Level) (place : Place) → slice_get ls n ≡ Some l → slice_get (levels m) n ≡ Some place → IsLevelAt m n l place
+  pub each : (n : ℕ) (l : Level) (place : Address) → slice_get ls n ≡ Some l → slice_get (levels m) n ≡ Some place → IsLevelAt m n l place
 
 -- this is known of the levels at these places
-abbrev pub AreSites : ModelTree → List Place → List Site → Type 0
+abbrev pub AreSites : ModelTree → List Address → List Site → Type 0
 AreSites m places sites = EachOf (λ s place. IsSite m place s) sites places

@@ -4,7 +4,7 @@ use Rattle.std.specs.Bool.{MatchBool}
 use Rattle.std.specs.Option.{MatchOption, option_and_then, unwrap_or, is_some}
 use Rattle.std.specs.List.{filter, flat_map}
 use Rattle.indexmap.specs.IndexMap.{get_by}
-use Rattle.pz_bind_levels.specs.declared.plan.Part.{Part}
+use Rattle.pz_bind_levels.specs.declared.plan.LevelPart.{LevelPart}
 use Rattle.pz_bind_levels.specs.declared.plan.Plan.{Plan}
 use Rattle.pz_bind_levels.specs.declared.links.Links.{Links}
 use Rattle.pz_bind_levels.specs.declared.expansion.Standing.{Standing}
@@ -26,11 +26,11 @@ layout_of p = record { parts = p.parts; outer = p.outer; linked = linked_in p.li
 abbrev pub layouts_of : List Plan → List Layout
 layouts_of plans = map layout_of plans
 
-abbrev pub part_at : List Layout → ℕ → ℕ → Option Part
+abbrev pub part_at : List Layout → ℕ → ℕ → Option LevelPart
 part_at layouts class i = slice_get (layout layouts class).parts i
 
 -- the part that is next in an open level
-abbrev pub next_of : List Layout → List Level → Open → Option Part
+abbrev pub next_of : List Layout → List Level → Open → Option LevelPart
 next_of layouts ls o = option_and_then (λ l. part_at layouts l.class o.part) (slice_get ls o.level)
 
 -- the wire that a port of a part of the level leads to, by what is known of the level
@@ -95,7 +95,7 @@ pub record Meets (class : ℕ) (standing : Standing) (opens : List Open) (old ne
   pub wires : new.wires ≡ old.wires
   pub opened : new.path.items ≡ opens
 
-abbrev pub Visits : List Layout → Part → Standing → ℕ → List Open → Walk → Walk → Type 0
+abbrev pub Visits : List Layout → LevelPart → Standing → ℕ → List Open → Walk → Walk → Type 0
 Visits layouts p standing below opens old new = MatchBool p.is_level (Enters layouts p.class (Some standing) below opens old new) (Meets p.class standing opens old new)
 
 abbrev pub standing_of : Open → Standing

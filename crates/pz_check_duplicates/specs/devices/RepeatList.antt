@@ -7,7 +7,7 @@ use Rattle.pz_syntax.specs.declared.clusters.Instance.{Instance}
 use Rattle.pz_syntax.specs.Classes.{DeclTree, ModelTree}
 use Rattle.pz_check_violations.specs.declared.violation.Violation.{Violation}
 use Rattle.pz_classes_lineage.specs.declared.visit.Visit.{Visit}
-use Rattle.pz_classes_mentions.specs.declared.part.Part.{Part}
+use Rattle.pz_classes_mentions.specs.declared.local_scope.LocalScope.{LocalScope}
 use Rattle.pz_classes_mentions.specs.Declarations.{parts}
 use Rattle.pz_classes.specs.Numbers.{declaration}
 use Rattle.pz_classes.specs.Ancestors.{ancestors}
@@ -44,10 +44,10 @@ of_visits m sort visits = flat_map (λ v. of_line m sort (ancestors m v.class)) 
 abbrev pub of_names : List Id → List Violation
 of_names ids = repeats same_name id_place 4 ids
 
-abbrev pub of_part : Part → List Violation
+abbrev pub of_part : LocalScope → List Violation
 of_part p = of_names p.locals
 
-abbrev pub of_parts : List Part → List Violation
+abbrev pub of_parts : List LocalScope → List Violation
 of_parts ps = flat_map of_part ps
 
 -- those of what a class itself declares

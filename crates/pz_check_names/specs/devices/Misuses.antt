@@ -8,7 +8,7 @@ use Rattle.pz_check_violations.specs.declared.violation.Violation.{Violation}
 use Rattle.pz_check_violations.specs.Order.{violation}
 use Rattle.pz_check_violations.specs.Least.{listed}
 use Rattle.pz_classes_mentions.specs.declared.mention.Mention.{Mention}
-use Rattle.pz_classes_mentions.specs.declared.part.Part.{Part}
+use Rattle.pz_classes_mentions.specs.declared.local_scope.LocalScope.{LocalScope}
 use Rattle.pz_classes_mentions.specs.Declarations.{parts}
 use Rattle.pz_classes.specs.Numbers.{declaration}
 use Rattle.pz_classes.specs.Words.{place}
@@ -33,10 +33,10 @@ module _ (m : ModelTree) (c : ℕ) (d : DeclTree) where
   abbrev pub at_word : List Id → Mention → List Violation
   at_word locals x = of_name locals x ++ of_word x
 
-  abbrev pub of_part : Part → List Violation
+  abbrev pub of_part : LocalScope → List Violation
   of_part p = flat_map (at_word p.locals) p.mentions
 
-  abbrev pub of_parts : List Part → List Violation
+  abbrev pub of_parts : List LocalScope → List Violation
   of_parts ps = flat_map of_part ps
 
 abbrev pub of_class : ModelTree → ℕ → DeclTree → List Violation

@@ -3,14 +3,14 @@ use Rattle.std.specs.Prelude.{Bool, ◌||◌}
 use Rattle.std.specs.List.{list_any}
 use Rattle.pz_syntax.specs.Classes.{DeclTree, ModelTree}
 use Rattle.pz_classes_mentions.specs.declared.mention.Mention.{Mention}
-use Rattle.pz_classes_mentions.specs.declared.part.Part.{Part}
+use Rattle.pz_classes_mentions.specs.declared.local_scope.LocalScope.{LocalScope}
 use Rattle.pz_classes_mentions.specs.Declarations.{parts}
 use Rattle.pz_classes.specs.NameRules.{breaks_c13, breaks_c18}
 
 abbrev pub is_unsized : ModelTree → Mention → Bool
 is_unsized m x = breaks_c13 m x || breaks_c18 x
 
-abbrev pub is_unsized_part : ModelTree → Part → Bool
+abbrev pub is_unsized_part : ModelTree → LocalScope → Bool
 is_unsized_part m p = list_any (is_unsized m) p.mentions
 
 abbrev pub is_unsized_class : ModelTree → DeclTree → Bool

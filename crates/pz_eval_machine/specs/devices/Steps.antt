@@ -1,7 +1,7 @@
 -- What a step of the code does to what is to come.
 use Rattle.std.specs.Prelude.{◌≡◌, ℕ, List, [], ◌∷◌, Result, Ok, Err}
 use Rattle.pz_value.specs.declared.value.Value.{Value}
-use Rattle.pz_eval_rules.specs.Memories.{Memory, Place}
+use Rattle.pz_eval_rules.specs.Memories.{Memory, Location}
 use Rattle.pz_eval_rules.specs.Answers.{Answer, ends, fault, gives, stops}
 use Rattle.pz_eval_rules.specs.devices.Computed.{Reached, done, spent}
 use Rattle.pz_eval_operations.specs.declared.stop.Stop.{Stop}
@@ -59,6 +59,6 @@ Finishes (Ok f) m r before = before ≡ done (finished f m) r
 Finishes (Err e) m r before = Stops e before r
 
 -- where the first of these methods runs, and then one more
-abbrev pub root : List Activation → Place → Place
+abbrev pub root : List Activation → Location → Location
 root [] p = p
 root (a ∷ as_) p = place_of a.site

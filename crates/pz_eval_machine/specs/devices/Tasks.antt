@@ -9,7 +9,7 @@ use Rattle.pz_value.specs.declared.value.Value.{Value}
 use Rattle.pz_value.specs.declared.value.Value.TheVariants.{Nil}
 use Rattle.pz_classes_code.specs.declared.slot.Slot.{Slot}
 use Rattle.pz_classes_code.specs.CodeView.{Tree, view, list_view, part_view}
-use Rattle.pz_eval_rules.specs.Memories.{Place, write}
+use Rattle.pz_eval_rules.specs.Memories.{Location, write}
 use Rattle.pz_eval_rules.specs.Answers.{ends, gives, stops, ended}
 use Rattle.pz_eval_rules.specs.Steps.{Codes, truth, chosen, applied, applied_alone, reply}
 use Rattle.pz_eval_rules.specs.devices.Computed.{Reached, done, Computation, follow, and_then, seen_by, tick, tested, sequence, arguments, operators, replied, selectors, going, turns, evaluated}
@@ -24,16 +24,16 @@ use Rattle.pz_eval_operations.specs.devices.Views.{links_view, sendings_view}
 
 module _ (model : ModelTree) (now : ℕ) where
   -- the turns of a `while`, of which there are no more than units
-  abbrev pub turning : ℕ → Place → Pos → Tree → Codes → Computation Value
+  abbrev pub turning : ℕ → Location → Pos → Tree → Codes → Computation Value
   turning d p at t ts m r = turns model now (evaluated model now d) r p at t ts m r
 
   -- a selector is sent with these arguments, and then those behind it
-  abbrev pub sent : ℕ → Place → Value → Id → Sendings Slot ClassId → List Value → Computation Value
+  abbrev pub sent : ℕ → Location → Value → Id → Sendings Slot ClassId → List Value → Computation Value
   sent d p y selector ss ws =
       tick (λ m r. and_then (replied model now (evaluated model now d) (reply model y selector ws m) ws m r) (λ z. selectors model now (evaluated model now d) p z ss))
 
   -- what a task comes to with a value
-  abbrev pub resumed : Place → Task → Value → Computation Value
+  abbrev pub resumed : Location → Task → Value → Computation Value
   resumed p (task.Sequence d rest) y m r = sequence model now (evaluated model now d) p y (list_view rest.now) m r
   resumed p (task.Operators d links) y m r = operators model now (evaluated model now d) p y (links_view links.now) m r
   resumed p (task.Operand d left l rest) w m r =
@@ -52,15 +52,15 @@ module _ (model : ModelTree) (now : ℕ) where
   resumed p (task.Turn d at test body) y m r = turning d p at (view test.now) (list_view body.now) m r
 
   -- tasks, the latest of which is last, and then something else
-  unfoldable pub pending_before : Place → (Value → Computation Value) → List Task → Value → Computation Value
+  unfoldable pub pending_before : Location → (Value → Computation Value) → List Task → Value → Computation Value
   pending_before p next [] = next
   pending_before p next (k ∷ ks) = pending_before p (λ y m r. and_then (resumed p k y m r) next) ks
 
-  abbrev pub pending : Place → List Task → Value → Computation Value
+  abbrev pub pending : Location → List Task → Value → Computation Value
   pending p ks = pending_before p (λ y m r. done (gives y m) r) ks
 
   -- what is done next in a method, and then these tasks
-  abbrev pub meant : Place → List Task → Control → Computation Value
+  abbrev pub meant : Location → List Task → Control → Computation Value
   meant p ks (control.Evaluate d code) m r = and_then (evaluated model now d p (view code.now) m r) (pending p ks)
   meant p ks (control.Give y) m r = pending p ks y m r
   meant p ks (control.Send q) m r = and_then (sent q.value.depth p q.value.receiver q.value.selector.now (sendings_view q.value.more.now) q.value.arguments.items m r) (pending p ks)

@@ -2,12 +2,12 @@
 use Rattle.std.specs.Prelude.{List, []}
 use Rattle.pz_value.specs.declared.value.Value.{Value}
 use Rattle.pz_state.specs.States.{StateView}
-use Rattle.pz_eval_rules.specs.Memories.{Memory, Place, in_process, in_object}
+use Rattle.pz_eval_rules.specs.Memories.{Memory, Location, in_process, in_object}
 use Rattle.pz_eval_operations.specs.declared.task.Site.{Site}
 use Rattle.pz_eval_operations.specs.declared.task.Site.TheVariants.{Process, Object}
 use Rattle.pz_eval_operations.specs.declared.task.Activation.{Activation}
 
-abbrev pub place_of : Site → Place
+abbrev pub place_of : Site → Location
 place_of (Process frame) = in_process frame.0
 place_of (Object r) = in_object r
 

@@ -10,7 +10,7 @@ use Rattle.pz_value.specs.declared.value.Value.TheVariants.{Nil}
 use Rattle.pz_classes_code.specs.declared.slot.Slot.{Slot}
 use Rattle.pz_classes_code.specs.CodeView.{Tree}
 use Rattle.pz_state.specs.declared.fault.FaultKind.TheVariants.{NotBoolean}
-use Rattle.pz_eval_rules.specs.Memories.{Memory, Place, in_object, read, write, self_at, started}
+use Rattle.pz_eval_rules.specs.Memories.{Memory, Location, in_object, read, write, self_at, started}
 use Rattle.pz_eval_rules.specs.Answers.{ends, fault, Answer, gives, stops, ended}
 use Rattle.pz_eval_rules.specs.Steps.{Codes, constant, time, created, truth, chosen, applied, applied_alone, Reply, answers, runs, reply}
 use Rattle.pz_eval_rules.specs.Evaluation.{arguments_of}
@@ -47,16 +47,16 @@ abbrev pub tested : {A : Type 0} → Pos → Option Bool → (Bool → Computati
 tested at None f m r = done (stops (fault NotBoolean at)) r
 tested at (Some b) f m r = f b m r
 
-module _ (model : ModelTree) (now : ℕ) (below : Place → Tree → Computation Value) where
-  unfoldable pub sequence : Place → Value → Codes → Computation Value
+module _ (model : ModelTree) (now : ℕ) (below : Location → Tree → Computation Value) where
+  unfoldable pub sequence : Location → Value → Codes → Computation Value
   sequence p y none m r = done (gives y m) r
   sequence p y (more t ts) m r = and_then (below p t m r) (λ z. sequence p z ts)
 
-  unfoldable pub arguments : Place → List Value → Codes → Computation (List Value)
+  unfoldable pub arguments : Location → List Value → Codes → Computation (List Value)
   arguments p ys none m r = done (gives ys m) r
   arguments p ys (more t ts) m r = and_then (below p t m r) (λ y. arguments p (ys ++ y ∷ []) ts)
 
-  unfoldable pub operators : Place → Value → Links Slot ClassId → Computation Value
+  unfoldable pub operators : Location → Value → Links Slot ClassId → Computation Value
   operators p y no_links m r = done (gives y m) r
   operators p y (link op at t ls) m r =
       and_then (below p t m r) (λ w. tick (λ m1 r1. follow (applied op at y w m1) r1 (λ z. operators p z ls)))
@@ -66,23 +66,23 @@ module _ (model : ModelTree) (now : ℕ) (below : Place → Tree → Computation
   replied (answers a) ws m r = done a r
   replied (runs o count body) ws m r = seen_by (ended m.locals) (sequence (in_object o) Nil body (started count ws m) r)
 
-  unfoldable pub selectors : Place → Value → Sendings Slot ClassId → Computation Value
+  unfoldable pub selectors : Location → Value → Sendings Slot ClassId → Computation Value
   selectors p y no_sendings m r = done (gives y m) r
   selectors p y (sending selector args ss) m r =
       and_then (arguments p [] (arguments_of args) m r) (λ ws. tick (λ m1 r1. and_then (replied (reply model y selector ws m1) ws m1 r1) (λ z. selectors p z ss)))
 
   -- after a test, the body and what follows it, or nothing
-  unfoldable pub going : Place → Codes → Computation Value → Bool → Computation Value
+  unfoldable pub going : Location → Codes → Computation Value → Bool → Computation Value
   going p ts next true m r = and_then (sequence p Nil ts m r) (λ _. next)
   going p ts next false m r = done (gives Nil m) r
 
   -- at most so many turns
-  unfoldable pub turns : ℕ → Place → Pos → Tree → Codes → Computation Value
+  unfoldable pub turns : ℕ → Location → Pos → Tree → Codes → Computation Value
   turns zero p at t ts m r = spent
   turns (suc n) p at t ts m r =
       tick (λ m1 r1. and_then (below p t m1 r1) (λ y. tested at (truth y) (going p ts (turns n p at t ts)))) m r
 
-  unfoldable pub step : Place → Tree → Computation Value
+  unfoldable pub step : Location → Tree → Computation Value
   step p (literal at x) m r = tick (λ m1 r1. done (gives (constant x) m1) r1) m r
   step p (variable at x) m r = tick (λ m1 r1. done (gives (read p x m1) m1) r1) m r
   step p (me at) m r = tick (λ m1 r1. done (gives (self_at p) m1) r1) m r
@@ -99,6 +99,6 @@ module _ (model : ModelTree) (now : ℕ) (below : Place → Tree → Computation
   step p (loop at t ts) m r = turns r p at t ts m r
 
 -- within this depth
-unfoldable pub evaluated : ModelTree → ℕ → ℕ → Place → Tree → Computation Value
+unfoldable pub evaluated : ModelTree → ℕ → ℕ → Location → Tree → Computation Value
 evaluated model now zero p t m r = spent
 evaluated model now (suc d) p t m r = step model now (evaluated model now d) p t m r

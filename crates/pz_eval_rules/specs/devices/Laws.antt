@@ -5,7 +5,7 @@ use Rattle.pz_syntax.specs.Classes.{ModelTree}
 use Rattle.pz_classes_code.specs.CodeView.{Tree}
 use Rattle.pz_state.specs.States.{StateView}
 use Rattle.pz_eval_rules.specs.declared.allowance.Allowance.{Allowance}
-use Rattle.pz_eval_rules.specs.Memories.{Memory, Place}
+use Rattle.pz_eval_rules.specs.Memories.{Memory, Location}
 use Rattle.pz_eval_rules.specs.Steps.{Codes, truth}
 use Rattle.pz_eval_rules.specs.Outcomes.{Finds, FindsAll}
 use Rattle.pz_eval_rules.specs.devices.Computed.{and_then, tested, going, turns, evaluated}
@@ -24,6 +24,6 @@ ComputedListIsFound = (model : ModelTree) (now frame : ℕ) (s : StateView) (ts 
 -- A turn of a `while`, and then those after it: each counts a unit, so there are no more turns than
 -- units.
 abbrev pub TurnsGoOn : Type 0
-TurnsGoOn = (model : ModelTree) (now depth : ℕ) (p : Place) (at : Pos) (t : Tree) (ts : Codes) (m : Memory) (r : ℕ)
+TurnsGoOn = (model : ModelTree) (now depth : ℕ) (p : Location) (at : Pos) (t : Tree) (ts : Codes) (m : Memory) (r : ℕ)
     → turns model now (evaluated model now depth) (suc r) p at t ts m (suc r)
     ≡ and_then (evaluated model now depth p t m r) (λ y. tested at (truth y) (going model now (evaluated model now depth) p ts (λ m1 r1. turns model now (evaluated model now depth) r1 p at t ts m1 r1)))

@@ -26,7 +26,7 @@ use Rattle.pz_offer.specs.declared.trouble.Trouble.{Trouble}
 use Rattle.pz_rules.specs.declared.action.Action.{Action}
 use Rattle.pz_rules.specs.declared.action.Action.TheVariants.{Internal, Comm}
 use Rattle.pz_rules.specs.Terms.{Codes, Step, Term, leaf, wait}
-use Rattle.pz_rules.specs.Settings.{Setting, Process, At, in_state}
+use Rattle.pz_rules.specs.Settings.{Setting, Process, Context, in_state}
 use Rattle.pz_rules.specs.Meanings.{and_then, truth, fault}
 use Rattle.pz_rules.specs.Evaluations.{GivesPart}
 use Rattle.pz_rules.specs.InternalActions as actions
@@ -38,7 +38,7 @@ use Rattle.pz_rules.specs.Configurations.{Config}
 use Rattle.pz_rules.specs.Steps as steps
 use Rattle.pz_rules.specs.Steps.{Deed, Acts, with_process, with_both, Next}
 use Rattle.pz_rules.specs.devices.Found.{found, left, found_all, left_all, found_part, left_part}
-use Rattle.pz_rules.specs.devices.Walk.{Part, active_parts}
+use Rattle.pz_rules.specs.devices.Walk.{ActivePart, active_parts}
 use Rattle.pz_rules.proofs.Found.{gives_found, gives_all_found, gives_part_found}
 use Rattle.pz_rules.proofs.Lists.{Contains-first, Contains-later}
 use Rattle.pz_rules.proofs.Locals.{some_is, no_some}
@@ -59,7 +59,7 @@ pub record Handing : Type 0 where
   pub parcel : ParcelView
   pub outcome : Outcome
 
-module _ (a : At) (f : ℕ) where
+module _ (a : Context) (f : ℕ) where
   abbrev called : Pos → Codes → List Slot → Option BodyTree → Option Outcome
   called at args results None = None
   called at args results (Some (data_body locals body)) = None
@@ -148,7 +148,7 @@ module _ (a : At) (f : ℕ) where
     abbrev fits : Bool
     fits = nat_le (length a.state.objects + length p.objects) OBJECT_LIMIT
 
-    abbrev bound_in : Option (List Slot) → At
+    abbrev bound_in : Option (List Slot) → Context
     bound_in into = in_state a (bound a f into p)
 
     abbrev left_taken : Pos → Option (List Slot) → ours.Part Slot ClassId → Bool → Result Process Trouble
@@ -213,17 +213,17 @@ module _ (setting : Setting) (c : Config) where
   abbrev process_at : ℕ → Option Standing
   process_at i = first_that (λ (s : Standing). nat_eq s.number i) (here setting c)
 
-  abbrev part_at : Standing → Place → Option Part
-  part_at s place = first_that (λ (p : Part). bytes_eq p.place place) (active_parts s.seen 0 s.process.term)
+  abbrev part_at : Standing → Place → Option ActivePart
+  part_at s place = first_that (λ (p : ActivePart). bytes_eq p.place place) (active_parts s.seen 0 s.process.term)
 
   -- what the part at an end leaves of its process
   abbrev settles : Standing → Place → Outcome → Result Process Trouble
   settles s place d = and_then d.left (settled s.seen d.pos s.process.term place)
 
-  acts_by : (does : Deed) (at : End) (s : Standing) (p : Part) (d : Outcome) → process_at at.process ≡ Some s → part_at s at.place ≡ Some p → does s.seen p.frame p.part d.pos d.left → Acts setting c does at (settles s at.place d)
+  acts_by : (does : Deed) (at : End) (s : Standing) (p : ActivePart) (d : Outcome) → process_at at.process ≡ Some s → part_at s at.place ≡ Some p → does s.seen p.frame p.part d.pos d.left → Acts setting c does at (settles s at.place d)
   acts_by does at s p d stands_so part_so is =
       let there = first_that_is (λ (z : Standing). nat_eq z.number at.process) (here setting c) s stands_so in
-      let inside = first_that_is (λ (q : Part). bytes_eq q.place at.place) (active_parts s.seen 0 s.process.term) p part_so in
+      let inside = first_that_is (λ (q : ActivePart). bytes_eq q.place at.place) (active_parts s.seen 0 s.process.term) p part_so in
       let number : s.number ≡ at.process = eqb-true s.number at.process there.passes in
       let place : p.place ≡ at.place = (bytes_eq-Decides p.place at.place).0 inside.passes in
       let stands = stands_here setting c s (All-contains (IsHere setting c) (here setting c) s (all_stand setting c) there.within) in
@@ -233,7 +233,7 @@ module _ (setting : Setting) (c : Config) where
 
   -- Internal actions
 
-  abbrev performs_in : Standing → Place → Part → Option (Result Process Trouble)
+  abbrev performs_in : Standing → Place → ActivePart → Option (Result Process Trouble)
   performs_in s place p = option_and_then (λ (d : Outcome). Some (settles s place d)) (performed s.seen p.frame p.part)
 
   abbrev performs_of : Place → Standing → Option (Result Process Trouble)
@@ -255,7 +255,7 @@ module _ (setting : Setting) (c : Config) where
     pub parcel : ParcelView
     pub result : Result Process Trouble
 
-  abbrev sends_in : Standing → Place → Part → Option Sent
+  abbrev sends_in : Standing → Place → ActivePart → Option Sent
   sends_in s place p = option_and_then (λ (h : Handing). let r : Sent = record { parcel = h.parcel; result = settles s place h.outcome } in Some r) (handed s.seen p.frame p.part)
 
   abbrev sends_of : Place → Standing → Option Sent
@@ -278,7 +278,7 @@ module _ (setting : Setting) (c : Config) where
       sent_as at (record { parcel = h.from.parcel; result = settles s.from at.place h.from.outcome }) q h.leads
       (acts_by (λ a f. Hands a f h.from.parcel) at s.from p.from h.from.outcome s.is p.is (handed_is s.from.seen p.from.frame p.from.part h.from h.is))
 
-  abbrev takes_in : ParcelView → Standing → Place → Part → Option (Result Process Trouble)
+  abbrev takes_in : ParcelView → Standing → Place → ActivePart → Option (Result Process Trouble)
   takes_in q s place p = option_and_then (λ (d : Outcome). Some (settles s place d)) (taken s.seen p.frame q p.part)
 
   abbrev takes_of : ParcelView → Place → Standing → Option (Result Process Trouble)

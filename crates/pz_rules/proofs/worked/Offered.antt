@@ -17,7 +17,7 @@ use Rattle.pz_classes_code.specs.declared.slot.Slot.{Slot}
 use Rattle.pz_state.specs.declared.state.TheConstants.{OBJECT_LIMIT}
 use Rattle.pz_state.specs.declared.fault.FaultKind.TheVariants.{StoreFull}
 use Rattle.pz_copy.specs.Parcels.{ParcelView}
-use Rattle.pz_bind_levels.specs.Places.{Place}
+use Rattle.pz_bind_levels.specs.Places.{Address}
 use Rattle.pz_bind.specs.Nest.{processes, class_at}
 use Rattle.pz_bind.specs.Wires.{wires}
 use Rattle.pz_offer.specs.declared.end.End.{End}
@@ -25,7 +25,7 @@ use Rattle.pz_offer.specs.declared.trouble.Trouble.{Trouble}
 use Rattle.pz_rules.specs.declared.action.Action.{Action}
 use Rattle.pz_rules.specs.declared.action.Action.TheVariants.{Internal, Comm}
 use Rattle.pz_rules.specs.Terms.{Code, Step, Term, leaf}
-use Rattle.pz_rules.specs.Settings.{Setting, Process, At, in_state}
+use Rattle.pz_rules.specs.Settings.{Setting, Process, Context, in_state}
 use Rattle.pz_rules.specs.Meanings.{fault}
 use Rattle.pz_rules.specs.Messages as messages
 use Rattle.pz_rules.specs.Messages.{Receives, bound, Judges}
@@ -34,7 +34,7 @@ use Rattle.pz_rules.specs.Configurations.{Config, Stands}
 use Rattle.pz_rules.specs.Offers.{IsPair, IsJudged, Offers, internal, communication, IsOffers}
 use Rattle.pz_rules.specs.Moments.{Source, Troubles, asked, judged, IsLeft}
 use Rattle.pz_rules.specs.devices.Found.{tested}
-use Rattle.pz_rules.specs.devices.Walk.{Part, active_parts, Doing, does, Sending, sent_by, Receiving, received_by, waiting, trouble_of, troubled_by}
+use Rattle.pz_rules.specs.devices.Walk.{ActivePart, active_parts, Doing, does, ActiveSend, sent_by, ActiveReceive, received_by, waiting, trouble_of, troubled_by}
 use Rattle.pz_rules.proofs.Found.{tests_found}
 use Rattle.pz_rules.proofs.Lists.{Contains-later, Contains-map, Contains-filter_map, All-filter_map}
 use Rattle.pz_rules.proofs.Locals.{some_is, no_some, does_complete, does_sound, sends_complete, sends_sound, delays_complete, delays_sound, asks_complete, receives_complete, receives_sound}
@@ -49,37 +49,37 @@ use Rattle.pz_rules.proofs.worked.Ordered.{ordered, is_ordered}
 
 -- The processes, each at its place
 
-abbrev pub standing : Setting → ℕ → ℕ → Place → Process → Standing
+abbrev pub standing : Setting → ℕ → ℕ → Address → Process → Standing
 standing setting clock i place p = record { number = i; process = p; seen = record { setting = setting; process = i; class = class_at setting.model place; clock = clock; state = p.state } }
 
 abbrev next_number : Standing → Standing
 next_number s = record { number = suc s.number; process = s.process; seen = record s.seen { process = suc s.seen.process } }
 
-abbrev standings : Setting → ℕ → List Place → List Process → List Standing
+abbrev standings : Setting → ℕ → List Address → List Process → List Standing
 standings setting clock [] ps = []
 standings setting clock (place ∷ places) [] = []
 standings setting clock (place ∷ places) (p ∷ ps) = standing setting clock 0 place p ∷ map next_number (standings setting clock places ps)
 
 module _ (setting : Setting) (clock : ℕ) where
-  standing_there : (places : List Place) (ps : List Process) (i : ℕ) (place : Place) (p : Process) → slice_get places i ≡ Some place → slice_get ps i ≡ Some p → Contains (standings setting clock places ps) (standing setting clock i place p)
+  standing_there : (places : List Address) (ps : List Process) (i : ℕ) (place : Address) (p : Process) → slice_get places i ≡ Some place → slice_get ps i ≡ Some p → Contains (standings setting clock places ps) (standing setting clock i place p)
   standing_there [] ps i place p at is = no_some at
   standing_there (q ∷ places) [] i place p at is = no_some is
   standing_there (q ∷ places) (r ∷ ps) zero place p at is =
-      (0, omega arith, ap (λ (z : Place). standing setting clock 0 z r) (some_is at) ∙ ap (λ (z : Process). standing setting clock 0 place z) (some_is is))
+      (0, omega arith, ap (λ (z : Address). standing setting clock 0 z r) (some_is at) ∙ ap (λ (z : Process). standing setting clock 0 place z) (some_is is))
   standing_there (q ∷ places) (r ∷ ps) (suc i) place p at is =
       Contains-later (standing setting clock 0 q r) (map next_number (standings setting clock places ps)) (standing setting clock (suc i) place p)
       (Contains-map next_number (standings setting clock places ps) (standing setting clock i place p) (standing_there places ps i place p at is))
 
-  pub record Here (places : List Place) (ps : List Process) (s : Standing) : Type 0 where
-    pub place : Place
+  pub record Here (places : List Address) (ps : List Process) (s : Standing) : Type 0 where
+    pub place : Address
     pub is_place : slice_get places s.number ≡ Some place
     pub is_process : slice_get ps s.number ≡ Some s.process
     pub seen : s.seen ≡ record { setting = setting; process = s.number; class = class_at setting.model place; clock = clock; state = s.process.state }
 
-  here_later : (q : Place) (r : Process) (places : List Place) (ps : List Process) (s : Standing) → Here places ps s → Here (q ∷ places) (r ∷ ps) (next_number s)
-  here_later q r places ps s h = record { place = h.place; is_place = h.is_place; is_process = h.is_process; seen = ap (λ (a : At). let b : At = record a { process = suc a.process } in b) h.seen }
+  here_later : (q : Address) (r : Process) (places : List Address) (ps : List Process) (s : Standing) → Here places ps s → Here (q ∷ places) (r ∷ ps) (next_number s)
+  here_later q r places ps s h = record { place = h.place; is_place = h.is_place; is_process = h.is_process; seen = ap (λ (a : Context). let b : Context = record a { process = suc a.process } in b) h.seen }
 
-  all_here : (places : List Place) (ps : List Process) → All (Here places ps) (standings setting clock places ps)
+  all_here : (places : List Address) (ps : List Process) → All (Here places ps) (standings setting clock places ps)
   all_here [] ps = All-nil (Here [] ps)
   all_here (q ∷ places) [] = All-nil (Here (q ∷ places) [])
   all_here (q ∷ places) (r ∷ ps) =
@@ -90,7 +90,7 @@ module _ (setting : Setting) (clock : ℕ) where
 
 -- What a receive says of a parcel
 
-module _ (a : At) (f : ℕ) (p : ParcelView) where
+module _ (a : Context) (f : ℕ) (p : ParcelView) where
   abbrev fits : Bool
   fits = nat_le (length a.state.objects + length p.objects) OBJECT_LIMIT
 
@@ -146,7 +146,7 @@ module _ (setting : Setting) (c : Config) where
 
   -- Active parts
 
-  abbrev located_at : Standing → Part → Located
+  abbrev located_at : Standing → ActivePart → Located
   located_at s p = record { end = record { process = s.number; place = p.place }; seen = s.seen; frame = p.frame; part = p.part }
 
   abbrev parts_of : Standing → List Located
@@ -168,7 +168,7 @@ module _ (setting : Setting) (c : Config) where
   every_located l x =
       let s : Standing = record { number = l.end.process; process = x.process; seen = l.seen } in
       let there : Contains here s =
-      subst (λ (a : At). let z : Standing = record { number = l.end.process; process = x.process; seen = a } in Contains here z) (sym x.stands.seen)
+      subst (λ (a : Context). let z : Standing = record { number = l.end.process; process = x.process; seen = a } in Contains here z) (sym x.stands.seen)
       (standing_there setting c.clock (processes setting.model) c.processes l.end.process x.stands.place x.process x.stands.is_process x.stands.is_here) in
       is_in parts_of here s l there (Contains-map (located_at s) (active_parts l.seen 0 x.process.term) (part_at l.end.place l.frame l.part) (listed l.seen 0 x.process.term l.end.place l.frame l.part x.active))
 
@@ -219,7 +219,7 @@ module _ (setting : Setting) (c : Config) where
 
   -- Sends and receives
 
-  abbrev sender_of : Located → Option Sending → Option Sender
+  abbrev sender_of : Located → Option ActiveSend → Option Sender
   sender_of l None = None
   sender_of l (Some x) = Some (record { at = l; sending = x })
 
@@ -229,7 +229,7 @@ module _ (setting : Setting) (c : Config) where
   abbrev senders : List Sender
   senders = filter_map sender_by parts
 
-  sender_sound : (l : Located) (s : Sender) (o : Option Sending) → IsLocated setting c l → sent_by l.seen l.frame l.part ≡ o → sender_of l o ≡ Some s → IsSender setting c s
+  sender_sound : (l : Located) (s : Sender) (o : Option ActiveSend) → IsLocated setting c l → sent_by l.seen l.frame l.part ≡ o → sender_of l o ≡ Some s → IsSender setting c s
   sender_sound l s None h is e = no_some e
   sender_sound l s (Some x) h is e = subst (IsSender setting c) (some_is e) (h, is)
 
@@ -239,7 +239,7 @@ module _ (setting : Setting) (c : Config) where
   every_sender : (s : Sender) → IsSender setting c s → Contains senders s
   every_sender s h = Contains-filter_map sender_by parts s.at s (every_located s.at h.0) (ap (sender_of s.at) h.1)
 
-  abbrev receiver_of : Located → Option Receiving → Option Receiver
+  abbrev receiver_of : Located → Option ActiveReceive → Option Receiver
   receiver_of l None = None
   receiver_of l (Some x) = Some (record { at = l; receiving = x })
 
@@ -249,7 +249,7 @@ module _ (setting : Setting) (c : Config) where
   abbrev receivers : List Receiver
   receivers = filter_map receiver_by parts
 
-  receiver_sound : (l : Located) (r : Receiver) (o : Option Receiving) → IsLocated setting c l → received_by l.part ≡ o → receiver_of l o ≡ Some r → IsReceiver setting c r
+  receiver_sound : (l : Located) (r : Receiver) (o : Option ActiveReceive) → IsLocated setting c l → received_by l.part ≡ o → receiver_of l o ≡ Some r → IsReceiver setting c r
   receiver_sound l r None h is e = no_some e
   receiver_sound l r (Some x) h is e = subst (IsReceiver setting c) (some_is e) (h, is)
 

@@ -5,7 +5,7 @@ use Rattle.std.specs.List.{All, Contains, list_any, list_all}
 use Rattle.std.proofs.lemmas.Bool.{and_parts, and_cases}
 use Rattle.std.proofs.lemmas.List.Elements.{All-nil, All-cons, All-contains}
 use Rattle.pz_classes.specs.Starts.{init}
-use Rattle.pz_bind_levels.specs.Places.{Place}
+use Rattle.pz_bind_levels.specs.Places.{Address}
 use Rattle.pz_bind.specs.Nest.{processes, class_at}
 use Rattle.pz_bind.specs.Values.{values_at}
 use Rattle.pz_copy.specs.Parcels.{ParcelView}
@@ -66,11 +66,11 @@ module _ (setting : Setting) where
 -- Where a model starts, computed
 
 module _ (setting : Setting) where
-  abbrev first_process : Place → Option Step → Option Process
+  abbrev first_process : Address → Option Step → Option Process
   first_process place None = None
   first_process place (Some s) = Some (record { term = leaf s; state = record { vars = values_at setting.model place; frames = []; objects = [] } })
 
-  abbrev first_at : Place → Option Process
+  abbrev first_at : Address → Option Process
   first_at place = first_process place (init setting.model (class_at setting.model place))
 
   abbrev joined_to : Option Process → Option (List Process) → Option (List Process)
@@ -78,19 +78,19 @@ module _ (setting : Setting) where
   joined_to (Some p) None = None
   joined_to (Some p) (Some ps) = Some (p ∷ ps)
 
-  abbrev first_processes : List Place → Option (List Process)
+  abbrev first_processes : List Address → Option (List Process)
   first_processes [] = Some []
   first_processes (place ∷ places) = joined_to (first_at place) (first_processes places)
 
-  pub record AllStart (places : List Place) (ps : List Process) : Type 0 where
+  pub record AllStart (places : List Address) (ps : List Process) : Type 0 where
     pub all : length ps ≡ length places
-    pub each : (i : ℕ) (place : Place) (p : Process) → slice_get places i ≡ Some place → slice_get ps i ≡ Some p → StartsAs setting place p
+    pub each : (i : ℕ) (place : Address) (p : Process) → slice_get places i ≡ Some place → slice_get ps i ≡ Some p → StartsAs setting place p
 
-  starts_as : (place : Place) (p : Process) (o : Option Step) → init setting.model (class_at setting.model place) ≡ o → first_process place o ≡ Some p → StartsAs setting place p
+  starts_as : (place : Address) (p : Process) (o : Option Step) → init setting.model (class_at setting.model place) ≡ o → first_process place o ≡ Some p → StartsAs setting place p
   starts_as place p None is e = no_some e
   starts_as place p (Some s) is e = record { call = s; is_call = is; stands = sym (some_is e) }
 
-  all_start : (places : List Place) (ps : List Process) → first_processes places ≡ Some ps → AllStart places ps
+  all_start : (places : List Address) (ps : List Process) → first_processes places ≡ Some ps → AllStart places ps
   all_start [] ps e = record { all = ap length (sym (some_is e)); each = λ i place p at is. no_some at }
   all_start (q ∷ places) ps e = by (first_at q) refl (first_processes places) refl e (λ rs more. all_start places rs more)
     where
@@ -101,9 +101,9 @@ module _ (setting : Setting) where
           let others = more rs rest in
           subst (AllStart (q ∷ places)) (some_is found) (record { all = ap suc others.all; each = one })
         where
-          one : (i : ℕ) (place : Place) (z : Process) → slice_get (q ∷ places) i ≡ Some place → slice_get (p ∷ rs) i ≡ Some z → StartsAs setting place z
+          one : (i : ℕ) (place : Address) (z : Process) → slice_get (q ∷ places) i ≡ Some place → slice_get (p ∷ rs) i ≡ Some z → StartsAs setting place z
           one zero place z at here =
-              subst (λ (x : Place). StartsAs setting x z) (some_is at) (subst (λ (y : Process). StartsAs setting q y) (some_is here) (starts_as q p (init setting.model (class_at setting.model q)) refl is))
+              subst (λ (x : Address). StartsAs setting x z) (some_is at) (subst (λ (y : Process). StartsAs setting q y) (some_is here) (starts_as q p (init setting.model (class_at setting.model q)) refl is))
           one (suc i) place z at here = (more rs rest).each i place z at here
 
   abbrev pub IsFirst : List Process → Type 0

@@ -6,7 +6,7 @@ use Rattle.pz_syntax.specs.declared.clusters.Instance.{Instance}
 use Rattle.pz_syntax.specs.declared.clusters.Channel.{Channel as Written}
 use Rattle.pz_syntax.specs.Classes.{ModelTree}
 use Rattle.pz_classes.specs.Members.{ports, spelled}
-use Rattle.pz_bind_levels.specs.Places.{Place}
+use Rattle.pz_bind_levels.specs.Places.{Address}
 use Rattle.pz_bind_levels.specs.Wires.{Channel, channel}
 use Rattle.pz_bind.specs.Nest.{processes, class_at, instance_at, channels_at}
 use Rattle.pz_bind.specs.Connections.{end, names_inner, is_in, Leads, itself}
@@ -22,16 +22,16 @@ no_true {P} e = absurd (differ e)
     differ d = cc
 
 -- in the system itself
-abbrev outer : Place → Bool
+abbrev outer : Address → Bool
 outer [] = false
 outer (j ∷ []) = true
 outer (j ∷ i ∷ up) = false
 
-abbrev all_outer : List Place → Bool
+abbrev all_outer : List Address → Bool
 all_outer [] = true
 all_outer (place ∷ places) = outer place && all_outer places
 
-outer_at : (places : List Place) (i : ℕ) (place : Place) → all_outer places ≡ true → slice_get places i ≡ Some place → outer place ≡ true
+outer_at : (places : List Address) (i : ℕ) (place : Address) → all_outer places ≡ true → slice_get places i ≡ Some place → outer place ≡ true
 outer_at [] i place all e = absurd (differ e)
   where
     differ : None ≡ Some place → ⊥
@@ -51,7 +51,7 @@ module _ (m : ModelTree) where
   names_it (Some x) name (Some h) = names_inner x.name.name name h
 
   -- that of instance j of the system, where the channel is one of the system
-  abbrev in_channel : ℕ → List ℕ → Place → ℕ → Bool
+  abbrev in_channel : ℕ → List ℕ → Address → ℕ → Bool
   in_channel j name [] k = names_it (instance_at m [] j) name (slice_get (channels_at m []) k)
   in_channel j name (i ∷ up) k = false
 
@@ -59,16 +59,16 @@ module _ (m : ModelTree) where
   in_wire j name None = false
   in_wire j name (Some c) = in_channel j name c.place c.number
 
-  abbrev named_in : Place → List ℕ → ℕ → Bool
+  abbrev named_in : Address → List ℕ → ℕ → Bool
   named_in [] name w = false
   named_in (j ∷ []) name w = in_wire j name (slice_get (wires m) w)
   named_in (j ∷ i ∷ up) name w = false
 
-  abbrev port_in : Place → Option (List ℕ) → ℕ → Bool
+  abbrev port_in : Address → Option (List ℕ) → ℕ → Bool
   port_in place None w = false
   port_in place (Some name) w = named_in place name w
 
-  abbrev placed_in : Option Place → ℕ → ℕ → Bool
+  abbrev placed_in : Option Address → ℕ → ℕ → Bool
   placed_in None port w = false
   placed_in (Some place) port w = port_in place (slice_get (spelled (ports m (class_at m place))) port) w
 
@@ -77,7 +77,7 @@ module _ (m : ModelTree) where
 
   -- What is computed is so
 
-  channel_sound : (j : ℕ) (name : List ℕ) (w : ℕ) (place : Place) (k : ℕ) → slice_get (wires m) w ≡ Some (channel place k) → in_channel j name place k ≡ true → HasWire m (end (j ∷ []) name) w
+  channel_sound : (j : ℕ) (name : List ℕ) (w : ℕ) (place : Address) (k : ℕ) → slice_get (wires m) w ≡ Some (channel place k) → in_channel j name place k ≡ true → HasWire m (end (j ∷ []) name) w
   channel_sound j name w (i ∷ up) k there is = no_true is
   channel_sound j name w [] k there is = by (instance_at m [] j) refl (slice_get (channels_at m []) k) refl is
     where
@@ -95,16 +95,16 @@ module _ (m : ModelTree) where
   wire_sound j name w None there is = no_true is
   wire_sound j name w (Some c) there is = channel_sound j name w c.place c.number there is
 
-  named_sound : (place : Place) (name : List ℕ) (w : ℕ) → named_in place name w ≡ true → HasWire m (end place name) w
+  named_sound : (place : Address) (name : List ℕ) (w : ℕ) → named_in place name w ≡ true → HasWire m (end place name) w
   named_sound [] name w is = no_true is
   named_sound (j ∷ []) name w is = wire_sound j name w (slice_get (wires m) w) refl is
   named_sound (j ∷ i ∷ up) name w is = no_true is
 
-  port_sound : (i port w : ℕ) (place : Place) (o : Option (List ℕ)) → slice_get (processes m) i ≡ Some place → slice_get (spelled (ports m (class_at m place))) port ≡ o → port_in place o w ≡ true → IsWire m i port w
+  port_sound : (i port w : ℕ) (place : Address) (o : Option (List ℕ)) → slice_get (processes m) i ≡ Some place → slice_get (spelled (ports m (class_at m place))) port ≡ o → port_in place o w ≡ true → IsWire m i port w
   port_sound i port w place None stands named is = no_true is
   port_sound i port w place (Some name) stands named is = record { place = place; is_process = stands; name = name; named = named; has_wire = named_sound place name w is }
 
-  placed_sound : (i port w : ℕ) (o : Option Place) → slice_get (processes m) i ≡ o → placed_in o port w ≡ true → IsWire m i port w
+  placed_sound : (i port w : ℕ) (o : Option Address) → slice_get (processes m) i ≡ o → placed_in o port w ≡ true → IsWire m i port w
   placed_sound i port w None stands is = no_true is
   placed_sound i port w (Some place) stands is = port_sound i port w place (slice_get (spelled (ports m (class_at m place))) port) stands refl is
 
@@ -121,7 +121,7 @@ module _ (m : ModelTree) where
       by (inl same) = sym same
       by (inr on) = absurd (joined_top m k on.0 on.1)
 
-  named_complete : (place : Place) (name : List ℕ) (w : ℕ) → outer place ≡ true → HasWire m (end place name) w → named_in place name w ≡ true
+  named_complete : (place : Address) (name : List ℕ) (w : ℕ) → outer place ≡ true → HasWire m (end place name) w → named_in place name w ≡ true
   named_complete [] name w is has = no_true is
   named_complete (j ∷ i ∷ up) name w is has = no_true is
   named_complete (j ∷ []) name w is has =
@@ -138,6 +138,6 @@ module _ (m : ModelTree) where
 
   pub wired_complete : IsFlat → (i port w : ℕ) → IsWire m i port w → wired i port w ≡ true
   wired_complete flat i port w x =
-      ap (λ (o : Option Place). placed_in o port w) x.is_process
+      ap (λ (o : Option Address). placed_in o port w) x.is_process
       ∙ ap (λ (o : Option (List ℕ)). port_in x.place o w) x.named
       ∙ named_complete x.place x.name w (outer_at (processes m) i x.place flat x.is_process) x.has_wire

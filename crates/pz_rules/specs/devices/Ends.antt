@@ -4,7 +4,7 @@ use Rattle.pz_syntax.specs.Classes.{ModelTree}
 use Rattle.pz_offer.specs.PlaceOrder.{Place}
 use Rattle.pz_rules.specs.declared.moment.Moment.TheVariants.{Time}
 use Rattle.pz_rules.specs.Terms.{Term}
-use Rattle.pz_rules.specs.Settings.{Setting, At}
+use Rattle.pz_rules.specs.Settings.{Setting, Context}
 use Rattle.pz_rules.specs.Active.{Active}
 use Rattle.pz_rules.specs.Ports.{HasWires}
 use Rattle.pz_rules.specs.Fitting.{TermFits}
@@ -20,5 +20,5 @@ PassingsEnd = (setting : Setting) (c next : Config) (d : ℕ) → HasWires setti
 
 -- an active part of a term that fits a class fits it too, with so many locals around it
 abbrev pub ActivePartsFit : Type 0
-ActivePartsFit = (m : ModelTree) (class locals : ℕ) (a : At) (f : ℕ) (t : Term) (place : Place) (g : ℕ) (part : Term)
+ActivePartsFit = (m : ModelTree) (class locals : ℕ) (a : Context) (f : ℕ) (t : Term) (place : Place) (g : ℕ) (part : Term)
     → Active a f t place g part → TermFits m class locals t → (inner : ℕ) × TermFits m class inner part

@@ -4,7 +4,7 @@ use Rattle.pz_syntax.specs.declared.tokens.Pos.{Pos}
 use Rattle.pz_syntax.specs.Statements.{delay}
 use Rattle.pz_offer.specs.declared.trouble.Trouble.{Trouble}
 use Rattle.pz_rules.specs.Terms.{Code, Step, Term, done, leaf, wait, sequence, parallel, select, guarded, frame, abort, idle, handling, Terms, no_terms, and}
-use Rattle.pz_rules.specs.Settings.{At}
+use Rattle.pz_rules.specs.Settings.{Context}
 use Rattle.pz_rules.specs.devices.Found.{tested, lasting}
 
 -- a delay of which so much is left begins; without an answer it stays
@@ -12,7 +12,7 @@ abbrev pub begun : ℕ → Pos → Code → Result ℕ Trouble → Term
 begun d at e (Ok left) = wait (left - d) at
 begun d at e (Err t) = leaf (delay at e)
 
-abbrev pub statement_passed : At → ℕ → ℕ → Step → Term
+abbrev pub statement_passed : Context → ℕ → ℕ → Step → Term
 statement_passed a d f (delay at e) = begun d at e (lasting a f at e)
 statement_passed a d f s = leaf s
 
@@ -23,7 +23,7 @@ if_open (Ok false) x t = t
 if_open (Err u) x t = t
 
 abbrev mutual
-  pub passed : At → ℕ → ℕ → Term → Term
+  pub passed : Context → ℕ → ℕ → Term → Term
   passed a d f done = done
   passed a d f (leaf s) = statement_passed a d f s
   passed a d f (wait left at) = wait (left - d) at
@@ -36,6 +36,6 @@ abbrev mutual
   passed a d f (idle t u again) = idle (passed a d f t) (passed a d f u) again
   passed a d f (handling t u again) = handling t (passed a d f u) again
 
-  pub passed_all : At → ℕ → ℕ → Terms → Terms
+  pub passed_all : Context → ℕ → ℕ → Terms → Terms
   passed_all a d f no_terms = no_terms
   passed_all a d f (and t ts) = and (passed a d f t) (passed_all a d f ts)

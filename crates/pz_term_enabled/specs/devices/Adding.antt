@@ -9,8 +9,8 @@ use Rattle.pz_rules.specs.declared.action.Action.TheVariants.{Internal}
 use Rattle.pz_term_matching.specs.declared.ends.Sender.{Sender}
 use Rattle.pz_term_matching.specs.declared.ends.Receiver.{Receiver}
 use Rattle.pz_term_enabled.specs.declared.found.Doing.{Doing}
-use Rattle.pz_term_enabled.specs.declared.found.Sending.{Sending}
-use Rattle.pz_term_enabled.specs.declared.found.Receiving.{Receiving}
+use Rattle.pz_term_enabled.specs.declared.found.ActiveSend.{ActiveSend}
+use Rattle.pz_term_enabled.specs.declared.found.ActiveReceive.{ActiveReceive}
 use Rattle.pz_term_enabled.specs.declared.found.Found.{Found}
 use Rattle.pz_term_enabled.specs.declared.findings.Survey.{Survey}
 
@@ -22,17 +22,17 @@ abbrev pub action_of : ℕ → Doing → Action
 action_of i d = Internal (end_at i d.place) d.kind d.pos
 
 -- a send of process i over this wire, if there is one
-abbrev pub sender_over : ℕ → Sending → Option ℕ → Option Sender
+abbrev pub sender_over : ℕ → ActiveSend → Option ℕ → Option Sender
 sender_over i x wire = option_map (λ w. record { end = end_at i x.place; wire = w; message = x.message; parcel = x.parcel }) wire
 
-abbrev pub receiver_over : ℕ → Receiving → Option ℕ → Option Receiver
+abbrev pub receiver_over : ℕ → ActiveReceive → Option ℕ → Option Receiver
 receiver_over i x wire = option_map (λ w. record { end = end_at i x.place; wire = w; message = x.message; count = x.count }) wire
 
 -- over the wire of its port
-abbrev pub sender_of : (ℕ → Option ℕ) → ℕ → Sending → Option Sender
+abbrev pub sender_of : (ℕ → Option ℕ) → ℕ → ActiveSend → Option Sender
 sender_of wire i x = sender_over i x (wire x.port)
 
-abbrev pub receiver_of : (ℕ → Option ℕ) → ℕ → Receiving → Option Receiver
+abbrev pub receiver_of : (ℕ → Option ℕ) → ℕ → ActiveReceive → Option Receiver
 receiver_of wire i x = receiver_over i x (wire x.port)
 
 -- of what was the least so far, if there was something, and what is left of a further delay

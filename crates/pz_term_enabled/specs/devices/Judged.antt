@@ -6,7 +6,7 @@ use Rattle.pz_offer.specs.declared.trouble.Trouble.{Trouble}
 use Rattle.pz_rules.specs.declared.action.Action.{Action}
 use Rattle.pz_rules.specs.declared.action.Action.TheVariants.{Comm}
 use Rattle.pz_rules.specs.Terms.{Term}
-use Rattle.pz_rules.specs.Settings.{Setting, At}
+use Rattle.pz_rules.specs.Settings.{Setting, Context}
 use Rattle.pz_rules.specs.Active.{IsActive}
 use Rattle.pz_rules.specs.Messages.{Judges}
 use Rattle.pz_rules.specs.Configurations.{Config}
@@ -18,14 +18,14 @@ use Rattle.pz_term_matching.specs.declared.ends.Pair.{Pair}
 
 -- at this place of a term stands an active receive
 pub record HasReceive (t : Term) (place : Place) : Type 0 where
-  pub seen : At
+  pub seen : Context
   pub frame : ℕ
   pub part : Term
   pub active : IsActive seen t place frame part
   pub receive : IsReceive part
 
 -- an active part at this place says this to the parcel
-abbrev pub JudgesAt : At → Term → Place → ParcelView → Result Bool Trouble → Type 0
+abbrev pub JudgesAt : Context → Term → Place → ParcelView → Result Bool Trouble → Type 0
 JudgesAt a t place parcel verdict = (frame : ℕ) (part : Term) → IsActive a t place frame part → Judges a frame parcel part verdict
 
 -- of a send and a receive that fit

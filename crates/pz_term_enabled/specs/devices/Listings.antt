@@ -5,10 +5,10 @@ use Rattle.pz_offer.specs.PlaceOrder.{Place}
 use Rattle.pz_offer.specs.declared.trouble.Trouble.{Trouble}
 use Rattle.pz_rules.specs.declared.action.Kind.{Kind}
 use Rattle.pz_rules.specs.Terms.{Term}
-use Rattle.pz_rules.specs.Settings.{At}
+use Rattle.pz_rules.specs.Settings.{Context}
 use Rattle.pz_rules.specs.devices.Walk as walk
-use Rattle.pz_rules.specs.devices.Walk.{Part, Noted, does, sent_by, received_by, waiting, troubled_by, noted, doing, expiry}
-use Rattle.pz_term_enabled.specs.declared.found.Sending.{Sending}
+use Rattle.pz_rules.specs.devices.Walk.{ActivePart, Noted, does, sent_by, received_by, waiting, troubled_by, noted, doing, expiry}
+use Rattle.pz_term_enabled.specs.declared.found.ActiveSend.{ActiveSend}
 use Rattle.pz_term_enabled.specs.declared.found.Found.{Found}
 use Rattle.pz_term_enabled.specs.Walked.{doing_view, receiving_view, CarryAll, whats}
 
@@ -17,12 +17,12 @@ abbrev pub below : {X : Type 0} → Place → Noted X → Noted X
 below place n = record { place = place ++ n.place; what = n.what }
 
 -- the sends that are added
-pub record AddsSends (a : At) (place : Place) (ps : List Part) (old new : List Sending) : Type 0 where
-  pub more : List Sending
+pub record AddsSends (a : Context) (place : Place) (ps : List ActivePart) (old new : List ActiveSend) : Type 0 where
+  pub more : List ActiveSend
   pub added : new ≡ old ++ more
   pub carried : CarryAll more (map (below place) (noted (sent_by a) ps))
 
-pub record Adds (a : At) (place : Place) (ps : List Part) (old new : Found) : Type 0 where
+pub record Adds (a : Context) (place : Place) (ps : List ActivePart) (old new : Found) : Type 0 where
   pub internal : map doing_view new.internal.items ≡ map doing_view old.internal.items ++ map (below place) (noted (does a) ps)
   pub sends : AddsSends a place ps old.sends.items new.sends.items
   pub receives : map receiving_view new.receives.items ≡ map receiving_view old.receives.items ++ map (below place) (noted (λ f. received_by) ps)
@@ -32,12 +32,12 @@ pub record Adds (a : At) (place : Place) (ps : List Part) (old new : Found) : Ty
 -- what is noted of one part
 pub record Notes : Type 0 where
   pub does : Option walk.Doing
-  pub sends : Option walk.Sending
-  pub receives : Option walk.Receiving
+  pub sends : Option walk.ActiveSend
+  pub receives : Option walk.ActiveReceive
   pub left : Option ℕ
   pub trouble : Option Trouble
 
-abbrev pub notes_of : At → ℕ → Term → Notes
+abbrev pub notes_of : Context → ℕ → Term → Notes
 notes_of a f t = record { does = does a f t; sends = sent_by a f t; receives = received_by t; left = waiting a f t; trouble = troubled_by a f t }
 
 abbrev pub nothing : Notes

@@ -3,7 +3,7 @@ use Rattle.std.specs.Prelude.{◌≡◌, ◌<◌, ℕ, length, Option, Some, sli
 use Rattle.pz_syntax.specs.Classes.{ModelTree}
 use Rattle.pz_classes.specs.Soundness.{IsSound}
 use Rattle.pz_classes.specs.Members.{ports}
-use Rattle.pz_bind_levels.specs.Places.{Place}
+use Rattle.pz_bind_levels.specs.Places.{Address}
 use Rattle.pz_bind.specs.Nest.{processes, class_at}
 use Rattle.pz_bind.specs.NetView.{IsNet}
 use Rattle.pz_bind.specs.declared.net.Net.{Net}
@@ -18,7 +18,7 @@ use Rattle.pz_part_queries.specs.Standpoints.{Knows}
 -- Process i of the model of this net stands at a place of the system, and the wires are known.
 pub record Wired (m : ModelTree) (net : Net) (i : ℕ) : Type 0 where
   pub of_model : ∥ IsNet m net ∥₁
-  pub place : Place
+  pub place : Address
   pub is_process : slice_get (processes m) i ≡ Some place
   pub wires : HasWires m
 
@@ -38,6 +38,6 @@ pub record IsSeen (m : ModelTree) (c : Config) (net : Net) (here : Standpoint) (
   pub of_model : ∥ IsNet m net ∥₁
   pub fit : ∥ IsFit (setting_of m here.limits) c ∥₁
   pub clock : here.clock ≡ c.clock
-  pub place : Place
+  pub place : Address
   pub is_process : slice_get (processes m) here.process ≡ Some place
   pub is_here : slice_get c.processes here.process ≡ Some (process_view process)

@@ -8,7 +8,7 @@ use Rattle.pz_offer.specs.PlaceOrder.{Place}
 use Rattle.pz_offer.specs.declared.trouble.Trouble.{Trouble}
 use Rattle.pz_rules.specs.declared.action.Kind.{Kind}
 use Rattle.pz_rules.specs.Terms.{Term}
-use Rattle.pz_rules.specs.Settings.{Setting, Process, At}
+use Rattle.pz_rules.specs.Settings.{Setting, Process, Context}
 use Rattle.pz_rules.specs.Active.{IsActive}
 use Rattle.pz_rules.specs.InternalActions.{Can}
 use Rattle.pz_rules.specs.Leaving.{left_by, residual, swept, settled}
@@ -20,28 +20,28 @@ use Rattle.pz_rules.specs.devices.Walks.{IsThere}
 use Rattle.pz_term_steps.specs.declared.begun.Begun.{Begun}
 
 -- process i of this class, as its statements see it
-abbrev pub seen_at : Setting → ℕ → ℕ → ℕ → StateView → At
+abbrev pub seen_at : Setting → ℕ → ℕ → ℕ → StateView → Context
 seen_at setting i class clock s = record { setting = setting; process = i; class = class; clock = clock; state = s }
 
 -- What a part can do, with the place of its statement: act by itself, send this parcel, receive.
 abbrev pub Ability : Type 1
-Ability = At → ℕ → Term → Pos → Type 0
+Ability = Context → ℕ → Term → Pos → Type 0
 
-abbrev pub Acting : Ability
-Acting a f part pos = (kind : Kind) × Can a f part kind pos
+abbrev pub CanAct : Ability
+CanAct a f part pos = (kind : Kind) × Can a f part kind pos
 
-abbrev pub Sending : ParcelView → Ability
-Sending parcel a f part pos = (port : ℕ) × (message : List ℕ) × Sends a f part pos port message parcel
+abbrev pub CanSend : ParcelView → Ability
+CanSend parcel a f part pos = (port : ℕ) × (message : List ℕ) × Sends a f part pos port message parcel
 
-abbrev pub Receiving : Ability
-Receiving a f part pos = (port : ℕ) × (message : List ℕ) × (count : ℕ) × Receives part pos port message count
+abbrev pub CanReceive : Ability
+CanReceive a f part pos = (port : ℕ) × (message : List ℕ) × (count : ℕ) × Receives part pos port message count
 
 -- the active part at a place can do it
-abbrev pub CanDo : Ability → At → Term → Place → Type 0
+abbrev pub CanDo : Ability → Context → Term → Place → Type 0
 CanDo can a t place = IsThere a t place (λ f part. (pos : Pos) × can a f part pos)
 
 -- what the part at a place leaves of its process by a deed
-pub record Leaves (a : At) (does : Deed) (t : Term) (place : Place) (result : Result Process Trouble) : Type 0 where
+pub record Leaves (a : Context) (does : Deed) (t : Term) (place : Place) (result : Result Process Trouble) : Type 0 where
   pub frame : ℕ
   pub part : Term
   pub active : IsActive a t place frame part

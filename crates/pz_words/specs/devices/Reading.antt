@@ -7,15 +7,15 @@ use Rattle.pz_words.specs.declared.jobs.Choice.TheVariants as choice
 use Rattle.pz_words.specs.declared.jobs.Job.{Job}
 use Rattle.pz_words.specs.declared.jobs.Job.TheVariants.{Run, Menu, Replay, Check, Make, Ring}
 use Rattle.pz_words.specs.declared.jobs.TheConstants.{MOST_STATIONS}
-use Rattle.pz_words.specs.declared.options.Setting.{Setting}
-use Rattle.pz_words.specs.declared.options.Setting.TheVariants.{Chooses, Steps, Until, Units, Summary}
+use Rattle.pz_words.specs.declared.options.OptionWord.{OptionWord}
+use Rattle.pz_words.specs.declared.options.OptionWord.TheVariants.{Chooses, Steps, Until, Units, Summary}
 use Rattle.pz_words.specs.declared.options.Options.{Options}
 use Rattle.pz_words.specs.declared.options.TheConstants.{MOST_STEPS, MOST_UNITS}
 use Rattle.pz_words.specs.declared.names.Valued.{Valued}
 use Rattle.pz_words.specs.declared.names.Valued.TheVariants as option
 use Rattle.pz_words.specs.declared.reading.Heard.{Heard}
 use Rattle.pz_words.specs.declared.reading.Heard.TheVariants.{Says, Names, Nothing}
-use Rattle.pz_words.specs.Options.{nothing_said, with_setting}
+use Rattle.pz_words.specs.Options.{nothing_said, with_option}
 use Rattle.pz_words.specs.Jobs.{choice_or, units_of, limits_of, is_name}
 
 -- Numbers
@@ -45,14 +45,14 @@ numbers_of (w ∷ ws) = then_maybe (number_of w) (λ n. option_map (λ ns. n ∷
 
 -- Options
 
-abbrev pub value_of : Valued → List ℕ → Option Setting
+abbrev pub value_of : Valued → List ℕ → Option OptionWord
 value_of option.Seed word = option_map (λ n. Chooses (choice.Seed n)) (number_of word)
 value_of option.Choices word = option_map (λ ns. Chooses (choice.List ns)) (numbers_of (slice_split (λ b. eqb b 44) word))
 value_of option.Steps word = option_map (λ n. Steps n) (number_between 0 MOST_STEPS word)
 value_of option.Until word = option_map (λ n. Until n) (number_of word)
 value_of option.Units word = option_map (λ n. Units n) (number_between 1 MOST_UNITS word)
 
-abbrev pub flag : List ℕ → Option Setting
+abbrev pub flag : List ℕ → Option OptionWord
 flag word =
     if bytes_eq word (codes "--first") then Some (Chooses choice.First)
     else (if bytes_eq word (codes "--summary") then Some Summary else None)
@@ -65,7 +65,7 @@ option_named word =
     else (if bytes_eq word (codes "--until") then Some option.Until
     else (if bytes_eq word (codes "--units") then Some option.Units else None))))
 
-abbrev pub heard_setting : Option Setting → Heard
+abbrev pub heard_setting : Option OptionWord → Heard
 heard_setting None = Nothing
 heard_setting (Some s) = Says s
 
@@ -73,7 +73,7 @@ abbrev pub heard_name : Option Valued → Heard
 heard_name None = Nothing
 heard_name (Some o) = Names o
 
-abbrev pub heard_first : Option Setting → Option Valued → Heard
+abbrev pub heard_first : Option OptionWord → Option Valued → Heard
 heard_first (Some s) o = Says s
 heard_first None o = heard_name o
 
@@ -86,7 +86,7 @@ is_none None = true
 is_none (Some x) = false
 
 -- nothing is said yet of what the option speaks of
-abbrev pub is_free : Setting → Options → Bool
+abbrev pub is_free : OptionWord → Options → Bool
 is_free (Chooses c) o = is_none o.choice
 is_free (Steps n) o = is_none o.steps
 is_free (Until n) o = is_none o.until
@@ -98,7 +98,7 @@ if_so good o = only_if good o
 
 -- what is read behind a word, by what it says
 abbrev pub behind : (Options → Option Valued → Option Options) → Options → Heard → Option Options
-behind rest o (Says s) = if is_free s o then rest (with_setting s o) None else None
+behind rest o (Says s) = if is_free s o then rest (with_option s o) None else None
 behind rest o (Names v) = rest o (Some v)
 behind rest o Nothing = None
 

@@ -11,9 +11,9 @@ use Rattle.pz_eval.proofs.listing.evaluate_list.Given as goal
 
 abbrev pub invariant-loop-code : goal.invariant-loop-code
 invariant-loop-code l = record {
-  gathers : (model : ModelTree) → AreClasses model l.fn.setting.classes.now
-      → arguments model l.fn.setting.clock (evaluated model l.fn.setting.clock l.depth) (in_process l.frame.0) l.values (list_view (drop l.code-index l.codes)) (outside l.state.held) l.units
-      ≡ arguments model l.fn.setting.clock (evaluated model l.fn.setting.clock l.depth) (in_process l.frame.0) [] (list_view l.codes) (outside l.fn.state.held) l.fn.units;
+  gathers : (model : ModelTree) → AreClasses model l.fn.basis.classes.now
+      → arguments model l.fn.basis.clock (evaluated model l.fn.basis.clock l.depth) (in_process l.frame.0) l.values (list_view (drop l.code-index l.codes)) (outside l.state.held) l.units
+      ≡ arguments model l.fn.basis.clock (evaluated model l.fn.basis.clock l.depth) (in_process l.frame.0) [] (list_view l.codes) (outside l.fn.state.held) l.fn.units;
   marks : l.state.marks ≡ l.fn.state.marks;
   within : All (RefersWithin (length l.state.held.objects)) l.values;
 }

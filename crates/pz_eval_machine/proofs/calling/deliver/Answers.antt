@@ -30,10 +30,10 @@ go_on_selectors-requires-clause-within c = subst (λ (n : ℕ). ActivationWithin
 pub returns-in-Ok-Answers-clause-goes : goal.returns-in-Ok-Answers-clause-goes
 returns-in-Ok-Answers-clause-goes c model known =
     let answered = is_answer c.ask.result c.in-Ok-Answers.value (reply model c.args.request.receiver c.args.request.selector.now c.args.request.arguments.items (memory_of c.args.activation.now c.args.state.now.held)) (memory_of c.args.activation.now c.ask.new.state.held) (c.in-Ok-Answers.is ∙ ap (λ (x : Got). Ok x) c.in-Ok-Answers.field-0-is) (c.ask.ensures.replies model (locals_at c.args.activation.now.site c.args.activation.now.locals.items) known) in
-    goes_same (λ k. unwound model c.args.setting.clock c.args.callers.now.items (coming model c.args.setting.clock c.go_on_selectors.new.activation c.ask.new.state.held c.go_on_selectors.new.units k)) c.go_on_selectors.result c.go_on_selectors.new.units
-    (ap (λ (x : Reached Value). unwound model c.args.setting.clock c.args.callers.now.items (and_then x (pending model c.args.setting.clock (place_of c.args.activation.now.site) c.args.activation.now.tasks.items))) (sym (got_answer model c.args.setting.clock c.args.request.depth c.args.request.receiver c.args.request.selector.now c.args.request.arguments.items (memory_of c.args.activation.now c.args.state.now.held) c.args.units.now (λ z. selectors model c.args.setting.clock (evaluated model c.args.setting.clock c.args.request.depth) (place_of c.args.activation.now.site) z (sendings_view c.args.request.more.now)) c.in-Ok-Answers.value (memory_of c.args.activation.now c.ask.new.state.held) answered)))
-    (goes_unwound model c.args.setting.clock c.args.callers.now.items (coming model c.args.setting.clock c.go_on_selectors.new.activation c.ask.new.state.held c.go_on_selectors.new.units) c.go_on_selectors.result c.go_on_selectors.new.units
-    (and_then (selectors model c.args.setting.clock (evaluated model c.args.setting.clock c.args.request.depth) (place_of c.args.activation.now.site) c.in-Ok-Answers.value (sendings_view c.args.request.more.now) (memory_of c.args.activation.now c.ask.new.state.held) c.args.units.now) (pending model c.args.setting.clock (place_of c.args.activation.now.site) c.args.activation.now.tasks.items)) (c.go_on_selectors.ensures.goes model c.args.setting.clock))
+    goes_same (λ k. unwound model c.args.basis.clock c.args.callers.now.items (coming model c.args.basis.clock c.go_on_selectors.new.activation c.ask.new.state.held c.go_on_selectors.new.units k)) c.go_on_selectors.result c.go_on_selectors.new.units
+    (ap (λ (x : Reached Value). unwound model c.args.basis.clock c.args.callers.now.items (and_then x (pending model c.args.basis.clock (place_of c.args.activation.now.site) c.args.activation.now.tasks.items))) (sym (got_answer model c.args.basis.clock c.args.request.depth c.args.request.receiver c.args.request.selector.now c.args.request.arguments.items (memory_of c.args.activation.now c.args.state.now.held) c.args.units.now (λ z. selectors model c.args.basis.clock (evaluated model c.args.basis.clock c.args.request.depth) (place_of c.args.activation.now.site) z (sendings_view c.args.request.more.now)) c.in-Ok-Answers.value (memory_of c.args.activation.now c.ask.new.state.held) answered)))
+    (goes_unwound model c.args.basis.clock c.args.callers.now.items (coming model c.args.basis.clock c.go_on_selectors.new.activation c.ask.new.state.held c.go_on_selectors.new.units) c.go_on_selectors.result c.go_on_selectors.new.units
+    (and_then (selectors model c.args.basis.clock (evaluated model c.args.basis.clock c.args.request.depth) (place_of c.args.activation.now.site) c.in-Ok-Answers.value (sendings_view c.args.request.more.now) (memory_of c.args.activation.now c.ask.new.state.held) c.args.units.now) (pending model c.args.basis.clock (place_of c.args.activation.now.site) c.args.activation.now.tasks.items)) (c.go_on_selectors.ensures.goes model c.args.basis.clock))
 
 pub returns-in-Ok-Answers-clause-root : goal.returns-in-Ok-Answers-clause-root
 returns-in-Ok-Answers-clause-root c = on_ok c.go_on_selectors.result (ap (λ (s : Site). root c.args.callers.now.items (place_of s)) c.go_on_selectors.ensures.site)
@@ -50,10 +50,10 @@ returns-in-Ok-Runs-clause-goes c model known =
     let is : c.ask.result ≡ Ok (got.Runs c.in-Ok-Runs.object c.in-Ok-Runs.method) = c.in-Ok-Runs.is ∙ ap (λ (x : Got). Ok x) c.in-Ok-Runs.field-0-is in
     let run = is_run c.ask.result c.in-Ok-Runs.object c.in-Ok-Runs.method (reply model c.args.request.receiver c.args.request.selector.now c.args.request.arguments.items (memory_of c.args.activation.now c.args.state.now.held)) (memory_of c.args.activation.now c.ask.new.state.held) is (c.ask.ensures.replies model (locals_at c.args.activation.now.site c.args.activation.now.locals.items) known) in
     let same = run_same c.ask.result c.in-Ok-Runs.object c.in-Ok-Runs.method (c.ask.new.state ≡ c.args.state.now) is c.ask.ensures.same in
-    goes_same (λ k. unwound model c.args.setting.clock c.call.new.callers.items (coming model c.args.setting.clock c.call.new.activation c.ask.new.state.held c.args.units.now k)) c.call.result c.args.units.now
-    (ap (λ (t : Seen). unwound model c.args.setting.clock c.args.callers.now.items (and_then (and_then (replied model c.args.setting.clock (evaluated model c.args.setting.clock c.args.request.depth) (runs c.in-Ok-Runs.object c.in-Ok-Runs.method.locals (list_view c.in-Ok-Runs.method.code.now)) c.args.request.arguments.items (memory_of c.args.activation.now t.held) c.args.units.now) (λ z. selectors model c.args.setting.clock (evaluated model c.args.setting.clock c.args.request.depth) (place_of c.args.activation.now.site) z (sendings_view c.args.request.more.now))) (pending model c.args.setting.clock (place_of c.args.activation.now.site) c.args.activation.now.tasks.items))) same
-    ∙ ap (λ (x : Reached Value). unwound model c.args.setting.clock c.args.callers.now.items (and_then x (pending model c.args.setting.clock (place_of c.args.activation.now.site) c.args.activation.now.tasks.items))) (sym (got_run model c.args.setting.clock c.args.request.depth c.args.request.receiver c.args.request.selector.now c.args.request.arguments.items (memory_of c.args.activation.now c.args.state.now.held) c.args.units.now (λ z. selectors model c.args.setting.clock (evaluated model c.args.setting.clock c.args.request.depth) (place_of c.args.activation.now.site) z (sendings_view c.args.request.more.now)) c.in-Ok-Runs.object c.in-Ok-Runs.method.locals (list_view c.in-Ok-Runs.method.code.now) run)))
-    (c.call.ensures.goes model c.args.setting.clock c.ask.new.state.held c.args.units.now)
+    goes_same (λ k. unwound model c.args.basis.clock c.call.new.callers.items (coming model c.args.basis.clock c.call.new.activation c.ask.new.state.held c.args.units.now k)) c.call.result c.args.units.now
+    (ap (λ (t : Seen). unwound model c.args.basis.clock c.args.callers.now.items (and_then (and_then (replied model c.args.basis.clock (evaluated model c.args.basis.clock c.args.request.depth) (runs c.in-Ok-Runs.object c.in-Ok-Runs.method.locals (list_view c.in-Ok-Runs.method.code.now)) c.args.request.arguments.items (memory_of c.args.activation.now t.held) c.args.units.now) (λ z. selectors model c.args.basis.clock (evaluated model c.args.basis.clock c.args.request.depth) (place_of c.args.activation.now.site) z (sendings_view c.args.request.more.now))) (pending model c.args.basis.clock (place_of c.args.activation.now.site) c.args.activation.now.tasks.items))) same
+    ∙ ap (λ (x : Reached Value). unwound model c.args.basis.clock c.args.callers.now.items (and_then x (pending model c.args.basis.clock (place_of c.args.activation.now.site) c.args.activation.now.tasks.items))) (sym (got_run model c.args.basis.clock c.args.request.depth c.args.request.receiver c.args.request.selector.now c.args.request.arguments.items (memory_of c.args.activation.now c.args.state.now.held) c.args.units.now (λ z. selectors model c.args.basis.clock (evaluated model c.args.basis.clock c.args.request.depth) (place_of c.args.activation.now.site) z (sendings_view c.args.request.more.now)) c.in-Ok-Runs.object c.in-Ok-Runs.method.locals (list_view c.in-Ok-Runs.method.code.now) run)))
+    (c.call.ensures.goes model c.args.basis.clock c.ask.new.state.held c.args.units.now)
 
 pub returns-in-Ok-Runs-clause-within : goal.returns-in-Ok-Runs-clause-within
 returns-in-Ok-Runs-clause-within c =
@@ -68,5 +68,5 @@ returns-in-Ok-Runs-clause-units c = on_ok c.call.result (omega arith)
 
 pub returns-clause-goes : goal.returns-clause-goes
 returns-clause-goes c model known =
-    stops_unwound model c.args.setting.clock c.in-Err.stop c.args.callers.now.items (and_then (and_then (replied model c.args.setting.clock (evaluated model c.args.setting.clock c.args.request.depth) (reply model c.args.request.receiver c.args.request.selector.now c.args.request.arguments.items (memory_of c.args.activation.now c.args.state.now.held)) c.args.request.arguments.items (memory_of c.args.activation.now c.args.state.now.held) c.args.units.now) (λ z. selectors model c.args.setting.clock (evaluated model c.args.setting.clock c.args.request.depth) (place_of c.args.activation.now.site) z (sendings_view c.args.request.more.now))) (pending model c.args.setting.clock (place_of c.args.activation.now.site) c.args.activation.now.tasks.items)) c.args.units.now
-    (got_stop model c.args.setting.clock c.args.request.depth c.args.request.receiver c.args.request.selector.now c.args.request.arguments.items (memory_of c.args.activation.now c.args.state.now.held) c.args.units.now (λ z. selectors model c.args.setting.clock (evaluated model c.args.setting.clock c.args.request.depth) (place_of c.args.activation.now.site) z (sendings_view c.args.request.more.now)) c.in-Err.stop (memory_of c.args.activation.now c.ask.new.state.held) (pending model c.args.setting.clock (place_of c.args.activation.now.site) c.args.activation.now.tasks.items) (is_stop c.ask.result c.in-Err.stop (reply model c.args.request.receiver c.args.request.selector.now c.args.request.arguments.items (memory_of c.args.activation.now c.args.state.now.held)) (memory_of c.args.activation.now c.ask.new.state.held) c.in-Err.is (c.ask.ensures.replies model (locals_at c.args.activation.now.site c.args.activation.now.locals.items) known)))
+    stops_unwound model c.args.basis.clock c.in-Err.stop c.args.callers.now.items (and_then (and_then (replied model c.args.basis.clock (evaluated model c.args.basis.clock c.args.request.depth) (reply model c.args.request.receiver c.args.request.selector.now c.args.request.arguments.items (memory_of c.args.activation.now c.args.state.now.held)) c.args.request.arguments.items (memory_of c.args.activation.now c.args.state.now.held) c.args.units.now) (λ z. selectors model c.args.basis.clock (evaluated model c.args.basis.clock c.args.request.depth) (place_of c.args.activation.now.site) z (sendings_view c.args.request.more.now))) (pending model c.args.basis.clock (place_of c.args.activation.now.site) c.args.activation.now.tasks.items)) c.args.units.now
+    (got_stop model c.args.basis.clock c.args.request.depth c.args.request.receiver c.args.request.selector.now c.args.request.arguments.items (memory_of c.args.activation.now c.args.state.now.held) c.args.units.now (λ z. selectors model c.args.basis.clock (evaluated model c.args.basis.clock c.args.request.depth) (place_of c.args.activation.now.site) z (sendings_view c.args.request.more.now)) c.in-Err.stop (memory_of c.args.activation.now c.ask.new.state.held) (pending model c.args.basis.clock (place_of c.args.activation.now.site) c.args.activation.now.tasks.items) (is_stop c.ask.result c.in-Err.stop (reply model c.args.request.receiver c.args.request.selector.now c.args.request.arguments.items (memory_of c.args.activation.now c.args.state.now.held)) (memory_of c.args.activation.now c.ask.new.state.held) c.in-Err.is (c.ask.ensures.replies model (locals_at c.args.activation.now.site c.args.activation.now.locals.items) known)))

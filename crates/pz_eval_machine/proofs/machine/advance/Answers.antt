@@ -25,12 +25,12 @@ use Rattle.pz_eval_machine.proofs.machine.advance.Goals as goal
 
 pub returns-in-Evaluate-clause-goes : goal.returns-in-Evaluate-clause-goes
 returns-in-Evaluate-clause-goes c model known =
-    advanced_in c.begin.result c.on.result c.on.ensures model c.args.setting.clock c.args.callers.now.items
-    (λ k. meant model c.args.setting.clock (place_of c.begin.new.activation.site) c.begin.new.activation.tasks.items k (memory_at c.begin.new.activation.site c.begin.new.state.held c.begin.new.activation.locals.items) c.begin.new.units) (memory_at c.begin.new.activation.site c.begin.new.state.held c.begin.new.activation.locals.items) c.begin.new.units
-    (and_then (evaluated model c.args.setting.clock c.in-Evaluate.depth (place_of c.args.activation.now.site) (view c.in-Evaluate.code.now) (memory_at c.args.activation.now.site c.args.state.now.held c.args.activation.now.locals.items) c.args.units.now) (pending model c.args.setting.clock (place_of c.args.activation.now.site) c.args.activation.now.tasks.items))
-    (meant model c.args.setting.clock (place_of c.args.activation.now.site) c.args.activation.now.tasks.items c.args.control (memory_at c.args.activation.now.site c.args.state.now.held c.args.activation.now.locals.items) c.args.units.now)
+    advanced_in c.begin.result c.on.result c.on.ensures model c.args.basis.clock c.args.callers.now.items
+    (λ k. meant model c.args.basis.clock (place_of c.begin.new.activation.site) c.begin.new.activation.tasks.items k (memory_at c.begin.new.activation.site c.begin.new.state.held c.begin.new.activation.locals.items) c.begin.new.units) (memory_at c.begin.new.activation.site c.begin.new.state.held c.begin.new.activation.locals.items) c.begin.new.units
+    (and_then (evaluated model c.args.basis.clock c.in-Evaluate.depth (place_of c.args.activation.now.site) (view c.in-Evaluate.code.now) (memory_at c.args.activation.now.site c.args.state.now.held c.args.activation.now.locals.items) c.args.units.now) (pending model c.args.basis.clock (place_of c.args.activation.now.site) c.args.activation.now.tasks.items))
+    (meant model c.args.basis.clock (place_of c.args.activation.now.site) c.args.activation.now.tasks.items c.args.control (memory_at c.args.activation.now.site c.args.state.now.held c.args.activation.now.locals.items) c.args.units.now)
     (c.begin.ensures.goes model known)
-    (sym (ap (λ (k : Control). meant model c.args.setting.clock (place_of c.args.activation.now.site) c.args.activation.now.tasks.items k (memory_at c.args.activation.now.site c.args.state.now.held c.args.activation.now.locals.items) c.args.units.now) c.in-Evaluate.is))
+    (sym (ap (λ (k : Control). meant model c.args.basis.clock (place_of c.args.activation.now.site) c.args.activation.now.tasks.items k (memory_at c.args.activation.now.site c.args.state.now.held c.args.activation.now.locals.items) c.args.units.now) c.in-Evaluate.is))
 
 pub returns-in-Evaluate-clause-root : goal.returns-in-Evaluate-clause-root
 returns-in-Evaluate-clause-root c =
@@ -60,12 +60,12 @@ resume-requires-clause-within c = record {
 
 pub returns-in-Some-clause-goes : goal.returns-in-Some-clause-goes
 returns-in-Some-clause-goes c model known =
-    advanced_in c.resume.result c.on-in-Some.result c.on-in-Some.ensures model c.args.setting.clock c.args.callers.now.items
-    (λ k. meant model c.args.setting.clock (place_of c.resume.new.activation.site) c.resume.new.activation.tasks.items k (memory_at c.resume.new.activation.site c.resume.new.state.held c.resume.new.activation.locals.items) c.resume.new.units) (memory_at c.resume.new.activation.site c.resume.new.state.held c.resume.new.activation.locals.items) c.resume.new.units
-    (and_then (resumed model c.args.setting.clock (place_of c.args.activation.now.site) c.in-Some.task c.in-Give.value (memory_at c.args.activation.now.site c.args.state.now.held c.args.activation.now.locals.items) c.args.units.now) (pending model c.args.setting.clock (place_of c.args.activation.now.site) c.pop.new.self.items))
-    (meant model c.args.setting.clock (place_of c.args.activation.now.site) c.args.activation.now.tasks.items c.args.control (memory_at c.args.activation.now.site c.args.state.now.held c.args.activation.now.locals.items) c.args.units.now)
-    (c.resume.ensures.goes model c.args.setting.clock)
-    (given_some model c.args.setting.clock (place_of c.args.activation.now.site) c.args.control c.in-Give.value c.in-Some.task c.pop.new.self.items c.args.activation.now.tasks.items (memory_at c.args.activation.now.site c.args.state.now.held c.args.activation.now.locals.items) c.args.units.now c.in-Give.is (popped c.args.activation.now.tasks.items c.pop.new.self.items c.pop.result c.in-Some.task c.pop.ensures.items c.in-Some.is))
+    advanced_in c.resume.result c.on-in-Some.result c.on-in-Some.ensures model c.args.basis.clock c.args.callers.now.items
+    (λ k. meant model c.args.basis.clock (place_of c.resume.new.activation.site) c.resume.new.activation.tasks.items k (memory_at c.resume.new.activation.site c.resume.new.state.held c.resume.new.activation.locals.items) c.resume.new.units) (memory_at c.resume.new.activation.site c.resume.new.state.held c.resume.new.activation.locals.items) c.resume.new.units
+    (and_then (resumed model c.args.basis.clock (place_of c.args.activation.now.site) c.in-Some.task c.in-Give.value (memory_at c.args.activation.now.site c.args.state.now.held c.args.activation.now.locals.items) c.args.units.now) (pending model c.args.basis.clock (place_of c.args.activation.now.site) c.pop.new.self.items))
+    (meant model c.args.basis.clock (place_of c.args.activation.now.site) c.args.activation.now.tasks.items c.args.control (memory_at c.args.activation.now.site c.args.state.now.held c.args.activation.now.locals.items) c.args.units.now)
+    (c.resume.ensures.goes model c.args.basis.clock)
+    (given_some model c.args.basis.clock (place_of c.args.activation.now.site) c.args.control c.in-Give.value c.in-Some.task c.pop.new.self.items c.args.activation.now.tasks.items (memory_at c.args.activation.now.site c.args.state.now.held c.args.activation.now.locals.items) c.args.units.now c.in-Give.is (popped c.args.activation.now.tasks.items c.pop.new.self.items c.pop.result c.in-Some.task c.pop.ensures.items c.in-Some.is))
 
 pub returns-in-Some-clause-root : goal.returns-in-Some-clause-root
 returns-in-Some-clause-root c =
@@ -82,9 +82,9 @@ returns-in-Some-clause-within c =
 
 pub returns-in-None-clause-goes : goal.returns-in-None-clause-goes
 returns-in-None-clause-goes c model known =
-    subst (λ (x : Reached Value). Progresses (λ k. unwound model c.args.setting.clock c.give_back.new.callers.items (meant model c.args.setting.clock (place_of c.give_back.new.activation.site) c.give_back.new.activation.tasks.items k (memory_at c.give_back.new.activation.site c.args.state.now.held c.give_back.new.activation.locals.items) c.args.units.now)) c.give_back.result (memory_at c.give_back.new.activation.site c.args.state.now.held c.give_back.new.activation.locals.items) c.args.units.now (unwound model c.args.setting.clock c.args.callers.now.items x))
-    (given_none model c.args.setting.clock (place_of c.args.activation.now.site) c.args.control c.in-Give.value c.args.activation.now.tasks.items (memory_at c.args.activation.now.site c.args.state.now.held c.args.activation.now.locals.items) c.args.units.now c.in-Give.is (nothing_left c.args.activation.now.tasks.items (omega (arith, c.in-None.ensures.cases.0, c.args.activation.now.tasks.ok.0))))
-    (c.give_back.ensures.goes model c.args.setting.clock c.args.state.now.held c.args.units.now)
+    subst (λ (x : Reached Value). Progresses (λ k. unwound model c.args.basis.clock c.give_back.new.callers.items (meant model c.args.basis.clock (place_of c.give_back.new.activation.site) c.give_back.new.activation.tasks.items k (memory_at c.give_back.new.activation.site c.args.state.now.held c.give_back.new.activation.locals.items) c.args.units.now)) c.give_back.result (memory_at c.give_back.new.activation.site c.args.state.now.held c.give_back.new.activation.locals.items) c.args.units.now (unwound model c.args.basis.clock c.args.callers.now.items x))
+    (given_none model c.args.basis.clock (place_of c.args.activation.now.site) c.args.control c.in-Give.value c.args.activation.now.tasks.items (memory_at c.args.activation.now.site c.args.state.now.held c.args.activation.now.locals.items) c.args.units.now c.in-Give.is (nothing_left c.args.activation.now.tasks.items (omega (arith, c.in-None.ensures.cases.0, c.args.activation.now.tasks.ok.0))))
+    (c.give_back.ensures.goes model c.args.basis.clock c.args.state.now.held c.args.units.now)
 
 pub returns-in-None-clause-root : goal.returns-in-None-clause-root
 returns-in-None-clause-root c = c.give_back.ensures.root
@@ -105,11 +105,11 @@ send-requires-clause-request c = subst (λ (q : Request). RequestWithin (length 
 
 pub returns-in-Send-clause-goes : goal.returns-in-Send-clause-goes
 returns-in-Send-clause-goes c model known =
-    subst (λ (j : Control). Advances (λ k. unwound model c.args.setting.clock c.send.new.callers.items (coming model c.args.setting.clock c.send.new.activation c.send.new.state.held c.send.new.units k)) c.on-in-Send.result (memory_of c.send.new.activation c.send.new.state.held) c.send.new.units (unwound model c.args.setting.clock c.args.callers.now.items (coming model c.args.setting.clock c.args.activation.now c.args.state.now.held c.args.units.now j)))
+    subst (λ (j : Control). Advances (λ k. unwound model c.args.basis.clock c.send.new.callers.items (coming model c.args.basis.clock c.send.new.activation c.send.new.state.held c.send.new.units k)) c.on-in-Send.result (memory_of c.send.new.activation c.send.new.state.held) c.send.new.units (unwound model c.args.basis.clock c.args.callers.now.items (coming model c.args.basis.clock c.args.activation.now c.args.state.now.held c.args.units.now j)))
     (sym c.in-Send.is)
-    (subst (λ (q : Request). Advances (λ k. unwound model c.args.setting.clock c.send.new.callers.items (coming model c.args.setting.clock c.send.new.activation c.send.new.state.held c.send.new.units k)) c.on-in-Send.result (memory_of c.send.new.activation c.send.new.state.held) c.send.new.units (unwound model c.args.setting.clock c.args.callers.now.items (and_then (sent model c.args.setting.clock q.depth (place_of c.args.activation.now.site) q.receiver q.selector.now (sendings_view q.more.now) q.arguments.items (memory_of c.args.activation.now c.args.state.now.held) c.args.units.now) (pending model c.args.setting.clock (place_of c.args.activation.now.site) c.args.activation.now.tasks.items))))
+    (subst (λ (q : Request). Advances (λ k. unwound model c.args.basis.clock c.send.new.callers.items (coming model c.args.basis.clock c.send.new.activation c.send.new.state.held c.send.new.units k)) c.on-in-Send.result (memory_of c.send.new.activation c.send.new.state.held) c.send.new.units (unwound model c.args.basis.clock c.args.callers.now.items (and_then (sent model c.args.basis.clock q.depth (place_of c.args.activation.now.site) q.receiver q.selector.now (sendings_view q.more.now) q.arguments.items (memory_of c.args.activation.now c.args.state.now.held) c.args.units.now) (pending model c.args.basis.clock (place_of c.args.activation.now.site) c.args.activation.now.tasks.items))))
     c.into_inner-request.ensures
-    (advanced (λ k. unwound model c.args.setting.clock c.send.new.callers.items (coming model c.args.setting.clock c.send.new.activation c.send.new.state.held c.send.new.units k)) c.send.result c.on-in-Send.result (memory_of c.send.new.activation c.send.new.state.held) c.send.new.units (unwound model c.args.setting.clock c.args.callers.now.items (and_then (sent model c.args.setting.clock c.into_inner-request.result.depth (place_of c.args.activation.now.site) c.into_inner-request.result.receiver c.into_inner-request.result.selector.now (sendings_view c.into_inner-request.result.more.now) c.into_inner-request.result.arguments.items (memory_of c.args.activation.now c.args.state.now.held) c.args.units.now) (pending model c.args.setting.clock (place_of c.args.activation.now.site) c.args.activation.now.tasks.items))) c.on-in-Send.ensures (c.send.ensures.goes model known)))
+    (advanced (λ k. unwound model c.args.basis.clock c.send.new.callers.items (coming model c.args.basis.clock c.send.new.activation c.send.new.state.held c.send.new.units k)) c.send.result c.on-in-Send.result (memory_of c.send.new.activation c.send.new.state.held) c.send.new.units (unwound model c.args.basis.clock c.args.callers.now.items (and_then (sent model c.args.basis.clock c.into_inner-request.result.depth (place_of c.args.activation.now.site) c.into_inner-request.result.receiver c.into_inner-request.result.selector.now (sendings_view c.into_inner-request.result.more.now) c.into_inner-request.result.arguments.items (memory_of c.args.activation.now c.args.state.now.held) c.args.units.now) (pending model c.args.basis.clock (place_of c.args.activation.now.site) c.args.activation.now.tasks.items))) c.on-in-Send.ensures (c.send.ensures.goes model known)))
 
 pub returns-in-Send-clause-root : goal.returns-in-Send-clause-root
 returns-in-Send-clause-root c = went_root (root c.send.new.callers.items (place_of c.send.new.activation.site) ≡ root c.args.callers.now.items (place_of c.args.activation.now.site)) c.send.result c.on-in-Send.result c.on-in-Send.ensures c.send.ensures.root
@@ -124,9 +124,9 @@ returns-in-Send-clause-within c =
 
 pub returns-in-Leave-clause-goes : goal.returns-in-Leave-clause-goes
 returns-in-Leave-clause-goes c model known =
-    subst (λ (j : Control). Progresses (λ k. unwound model c.args.setting.clock c.give_result.new.callers.items (meant model c.args.setting.clock (place_of c.give_result.new.activation.site) c.give_result.new.activation.tasks.items k (memory_at c.give_result.new.activation.site c.args.state.now.held c.give_result.new.activation.locals.items) c.args.units.now)) c.give_result.result (memory_at c.give_result.new.activation.site c.args.state.now.held c.give_result.new.activation.locals.items) c.args.units.now (unwound model c.args.setting.clock c.args.callers.now.items (meant model c.args.setting.clock (place_of c.args.activation.now.site) c.args.activation.now.tasks.items j (memory_at c.args.activation.now.site c.args.state.now.held c.args.activation.now.locals.items) c.args.units.now)))
+    subst (λ (j : Control). Progresses (λ k. unwound model c.args.basis.clock c.give_result.new.callers.items (meant model c.args.basis.clock (place_of c.give_result.new.activation.site) c.give_result.new.activation.tasks.items k (memory_at c.give_result.new.activation.site c.args.state.now.held c.give_result.new.activation.locals.items) c.args.units.now)) c.give_result.result (memory_at c.give_result.new.activation.site c.args.state.now.held c.give_result.new.activation.locals.items) c.args.units.now (unwound model c.args.basis.clock c.args.callers.now.items (meant model c.args.basis.clock (place_of c.args.activation.now.site) c.args.activation.now.tasks.items j (memory_at c.args.activation.now.site c.args.state.now.held c.args.activation.now.locals.items) c.args.units.now)))
     (sym c.in-Leave.is)
-    (c.give_result.ensures.goes model c.args.setting.clock c.args.state.now.held c.args.units.now)
+    (c.give_result.ensures.goes model c.args.basis.clock c.args.state.now.held c.args.units.now)
 
 pub returns-in-Leave-clause-root : goal.returns-in-Leave-clause-root
 returns-in-Leave-clause-root c = c.give_result.ensures.root

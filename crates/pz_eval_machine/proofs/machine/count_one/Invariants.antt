@@ -12,8 +12,8 @@ use Rattle.pz_eval_machine.proofs.machine.count_one.Given as goal
 
 abbrev pub invariant-steps : goal.invariant-steps
 invariant-steps l = record {
-  goes : (model : ModelTree) → AreClasses model l.fn.setting.classes.now → unwound model l.fn.setting.clock l.callers.items (meant model l.fn.setting.clock (place_of l.activation.site) l.activation.tasks.items l.control (memory_at l.activation.site l.state.held l.activation.locals.items) l.units)
-      ≡ unwound model l.fn.setting.clock l.fn.callers.items (meant model l.fn.setting.clock (place_of l.fn.activation.site) l.fn.activation.tasks.items l.fn.first (memory_at l.fn.activation.site l.fn.state.held l.fn.activation.locals.items) l.fn.units);
+  goes : (model : ModelTree) → AreClasses model l.fn.basis.classes.now → unwound model l.fn.basis.clock l.callers.items (meant model l.fn.basis.clock (place_of l.activation.site) l.activation.tasks.items l.control (memory_at l.activation.site l.state.held l.activation.locals.items) l.units)
+      ≡ unwound model l.fn.basis.clock l.fn.callers.items (meant model l.fn.basis.clock (place_of l.fn.activation.site) l.fn.activation.tasks.items l.fn.first (memory_at l.fn.activation.site l.fn.state.held l.fn.activation.locals.items) l.fn.units);
   marks : l.state.marks ≡ l.fn.state.marks;
   count : length l.fn.state.held.objects ≤ length l.state.held.objects;
   root : root l.callers.items (place_of l.activation.site) ≡ root l.fn.callers.items (place_of l.fn.activation.site);

@@ -23,9 +23,9 @@ run-requires-clause-callers c = c.new-callers.ensures.items
 pub returns-clause-goes : goal.returns-clause-goes
 returns-clause-goes c model known =
     ended_outside c.run.result c.run.new.activation.site c.run.new.state.held c.run.new.activation.locals.items c.args.frame.0 c.run.new.units
-    (meant model c.args.setting.clock (in_process c.args.frame.0) c.new-2.result.items (control.Evaluate c.args.depth c.args.code) (outside c.args.state.now.held) c.args.units.now)
-    (evaluated model c.args.setting.clock c.args.depth (in_process c.args.frame.0) (view c.args.code.now) (outside c.args.state.now.held) c.args.units.now)
-    (begun model c.args.setting.clock (in_process c.args.frame.0) c.args.depth c.args.code c.new-2.result.items (outside c.args.state.now.held) c.args.units.now c.new-2.ensures.items)
+    (meant model c.args.basis.clock (in_process c.args.frame.0) c.new-2.result.items (control.Evaluate c.args.depth c.args.code) (outside c.args.state.now.held) c.args.units.now)
+    (evaluated model c.args.basis.clock c.args.depth (in_process c.args.frame.0) (view c.args.code.now) (outside c.args.state.now.held) c.args.units.now)
+    (begun model c.args.basis.clock (in_process c.args.frame.0) c.args.depth c.args.code c.new-2.result.items (outside c.args.state.now.held) c.args.units.now c.new-2.ensures.items)
     c.run.ensures.place (c.run.ensures.goes model known)
 
 pub returns-clause-marks : goal.returns-clause-marks

@@ -10,7 +10,7 @@ use Rattle.pz_eval_machine.proofs.machine.run.Goals as goal
 
 pub units-init : goal.units-init
 units-init c = record {
-  goes = λ model known. unwound_none model c.args.setting.clock c.args.callers.now.items (meant model c.args.setting.clock (place_of c.args.activation.now.site) c.args.activation.now.tasks.items c.args.first (memory_at c.args.activation.now.site c.args.state.now.held c.args.activation.now.locals.items) c.args.units.now) c.requires.callers;
+  goes = λ model known. unwound_none model c.args.basis.clock c.args.callers.now.items (meant model c.args.basis.clock (place_of c.args.activation.now.site) c.args.activation.now.tasks.items c.args.first (memory_at c.args.activation.now.site c.args.state.now.held c.args.activation.now.locals.items) c.args.units.now) c.requires.callers;
   marks = refl;
   count = omega arith;
   place = ap (λ (cs : List Activation). root cs (place_of c.args.activation.now.site)) c.requires.callers;

@@ -3,7 +3,7 @@ use Rattle.std.specs.List.{All}
 use Rattle.std.specs.Vec.Iter.{into_iter_items}
 use Rattle.std.proofs.lemmas.List.{nil_from_length}
 use Rattle.std.proofs.lemmas.List.Elements.{All-head, All-rest}
-use Rattle.pz_term_enabled.specs.declared.found.Receiving.{Receiving}
+use Rattle.pz_term_enabled.specs.declared.found.ActiveReceive.{ActiveReceive}
 use Rattle.pz_term_enabled.specs.devices.Adding.{receiver_of}
 use Rattle.pz_term_enabled.specs.devices.Seen.{HasPort, wire_at}
 use Rattle.pz_term_enabled.proofs.Moving.{kept_one, kept_all}
@@ -17,11 +17,11 @@ loop-receiving-preserved c =
     let steps : left ≡ x ∷ rest = c.in-Some.ensures.steps.0 in
     record {
       counted = let was = c.loop-receiving.invariant.counted in let gone = c.in-Some.ensures.steps.1 in let short = ap length steps in omega arith;
-      left = λ m wired has. All-rest (λ (y : Receiving). HasPort wired y.port) x rest left steps (c.loop-receiving.invariant.left m wired has);
+      left = λ m wired has. All-rest (λ (y : ActiveReceive). HasPort wired y.port) x rest left steps (c.loop-receiving.invariant.left m wired has);
       added = λ m wired has.
-          let all : All (λ (y : Receiving). HasPort wired y.port) (x ∷ rest) = subst (λ (xs : List Receiving). All (λ (y : Receiving). HasPort wired y.port) xs) steps (c.loop-receiving.invariant.left m wired has) in
+          let all : All (λ (y : ActiveReceive). HasPort wired y.port) (x ∷ rest) = subst (λ (xs : List ActiveReceive). All (λ (y : ActiveReceive). HasPort wired y.port) xs) steps (c.loop-receiving.invariant.left m wired has) in
           kept_one (receiver_of (wire_at wired) c.args.process) left rest x c.loop-receiving.receivers.items c.add_receiver.new.receivers.items _ steps
-          (c.in_ok-add_receiver.ensures m wired (All-head (λ (y : Receiving). HasPort wired y.port) x rest all)) (c.loop-receiving.invariant.added m wired has);
+          (c.in_ok-add_receiver.ensures m wired (All-head (λ (y : ActiveReceive). HasPort wired y.port) x rest all)) (c.loop-receiving.invariant.added m wired has);
     }
 
 pub returns : goal.returns

@@ -3,7 +3,7 @@ use Rattle.std.specs.List.{All}
 use Rattle.std.specs.Vec.Iter.{into_iter_items}
 use Rattle.std.proofs.lemmas.List.{nil_from_length}
 use Rattle.std.proofs.lemmas.List.Elements.{All-head, All-rest}
-use Rattle.pz_term_enabled.specs.declared.found.Sending.{Sending}
+use Rattle.pz_term_enabled.specs.declared.found.ActiveSend.{ActiveSend}
 use Rattle.pz_term_enabled.specs.devices.Adding.{sender_of}
 use Rattle.pz_term_enabled.specs.devices.Seen.{HasPort, wire_at}
 use Rattle.pz_term_enabled.proofs.Moving.{kept_one, kept_all}
@@ -17,11 +17,11 @@ loop-sending-preserved c =
     let steps : left ≡ x ∷ rest = c.in-Some.ensures.steps.0 in
     record {
       counted = let was = c.loop-sending.invariant.counted in let gone = c.in-Some.ensures.steps.1 in let short = ap length steps in omega arith;
-      left = λ m wired has. All-rest (λ (y : Sending). HasPort wired y.port) x rest left steps (c.loop-sending.invariant.left m wired has);
+      left = λ m wired has. All-rest (λ (y : ActiveSend). HasPort wired y.port) x rest left steps (c.loop-sending.invariant.left m wired has);
       added = λ m wired has.
-          let all : All (λ (y : Sending). HasPort wired y.port) (x ∷ rest) = subst (λ (xs : List Sending). All (λ (y : Sending). HasPort wired y.port) xs) steps (c.loop-sending.invariant.left m wired has) in
+          let all : All (λ (y : ActiveSend). HasPort wired y.port) (x ∷ rest) = subst (λ (xs : List ActiveSend). All (λ (y : ActiveSend). HasPort wired y.port) xs) steps (c.loop-sending.invariant.left m wired has) in
           kept_one (sender_of (wire_at wired) c.args.process) left rest x c.loop-sending.senders.items c.add_sender.new.senders.items _ steps
-          (c.in_ok-add_sender.ensures m wired (All-head (λ (y : Sending). HasPort wired y.port) x rest all)) (c.loop-sending.invariant.added m wired has);
+          (c.in_ok-add_sender.ensures m wired (All-head (λ (y : ActiveSend). HasPort wired y.port) x rest all)) (c.loop-sending.invariant.added m wired has);
     }
 
 pub returns : goal.returns

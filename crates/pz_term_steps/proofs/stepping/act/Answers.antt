@@ -7,7 +7,7 @@ use Rattle.pz_rules.specs.InternalActions.{Performs}
 use Rattle.pz_rules.specs.View.{term_view}
 use Rattle.pz_term_processes.specs.declared.process.Process.{Process}
 use Rattle.pz_term_processes.specs.Standing.{setting_of, process_view}
-use Rattle.pz_term_steps.specs.devices.Deeds.{Acting, seen_at}
+use Rattle.pz_term_steps.specs.devices.Deeds.{CanAct, seen_at}
 use Rattle.pz_term_steps.proofs.Lists.{set_back}
 use Rattle.pz_term_steps.proofs.Marked.{may_act}
 use Rattle.pz_term_steps.proofs.Homes.{net_has, class_is, term_fits}
@@ -62,7 +62,7 @@ finish-requires-clause-may_act c =
     let there = slice_get-get_or ps c.args.at.now.process c.index-processes-at.result at.within in
     let can = at.able p there c.class-class.result.0 class c.as_slice-place.result.now c.as_slice-place.ensures in
     acts_still p c.begin_internal.new.process c.as_slice-place.result.now c.begin_internal.ensures.term
-    (may_act Acting (seen_at (setting_of m c.args.limits) c.args.at.now.process c.class-class.result.0 c.args.clock p.state.held) (term_view p.term) c.as_slice-place.result.now can c.active_parts_may_act.ensures.law)
+    (may_act CanAct (seen_at (setting_of m c.args.limits) c.args.at.now.process c.class-class.result.0 c.args.clock p.state.held) (term_view p.term) c.as_slice-place.result.now can c.active_parts_may_act.ensures.law)
 
 pub returns-in_ok-finish-in-Ok-clause-steps : goal.returns-in_ok-finish-in-Ok-clause-steps
 returns-in_ok-finish-in-Ok-clause-steps c =
@@ -76,7 +76,7 @@ returns-in_ok-finish-in-Ok-clause-steps c =
     let a = seen_at (setting_of m c.args.limits) c.args.at.now.process c.class-class.result.0 c.args.clock p.state.held in
     let leaves = c.in_ok-begun.ensures.leaves m c.classes.ensures.tabled can in
     acted (setting_of m c.args.limits) c.args.clock ps c.args.at.now c.finish.new.process
-    (acts_at (setting_of m c.args.limits) c.args.clock ps c.args.at.now Acting at p there Performs c.class-class.result.0 class c.as_slice-place.result.now c.as_slice-place.ensures (Ok (process_view c.finish.new.process))
+    (acts_at (setting_of m c.args.limits) c.args.clock ps c.args.at.now CanAct at p there Performs c.class-class.result.0 class c.as_slice-place.result.now c.as_slice-place.ensures (Ok (process_view c.finish.new.process))
     (leaves_finished a Performs p c.begin_internal.new.process c.as_slice-place.result.now c.in_ok-begun.field-0 leaves c.in-Ok.begun c.begin_internal.new.process c.finish.new.process
     c.in-Ok.is refl c.begin_internal.ensures.term c.in_ok-finish-in-Ok.ensures))
 
@@ -92,7 +92,7 @@ returns-in-Err-clause-steps c =
     let a = seen_at (setting_of m c.args.limits) c.args.at.now.process c.class-class.result.0 c.args.clock p.state.held in
     let leaves = c.in_ok-begun.ensures.leaves m c.classes.ensures.tabled can in
     acted_trouble (setting_of m c.args.limits) c.args.clock ps c.args.at.now c.in-Err.trouble
-    (acts_at (setting_of m c.args.limits) c.args.clock ps c.args.at.now Acting at p there Performs c.class-class.result.0 class c.as_slice-place.result.now c.as_slice-place.ensures (Err c.in-Err.trouble)
+    (acts_at (setting_of m c.args.limits) c.args.clock ps c.args.at.now CanAct at p there Performs c.class-class.result.0 class c.as_slice-place.result.now c.as_slice-place.ensures (Err c.in-Err.trouble)
     (leaves_trouble a Performs p c.begin_internal.new.process c.as_slice-place.result.now c.in_ok-begun.field-0 leaves c.in-Err.trouble c.in-Err.is))
 
 pub returns-in-Err-clause-stays : goal.returns-in-Err-clause-stays

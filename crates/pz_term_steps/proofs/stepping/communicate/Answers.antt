@@ -9,7 +9,7 @@ use Rattle.pz_rules.specs.Messages.{Hands, Takes}
 use Rattle.pz_rules.specs.View.{term_view}
 use Rattle.pz_term_processes.specs.declared.process.Process.{Process}
 use Rattle.pz_term_processes.specs.Standing.{setting_of, process_view}
-use Rattle.pz_term_steps.specs.devices.Deeds.{Sending, Receiving, seen_at}
+use Rattle.pz_term_steps.specs.devices.Deeds.{CanSend, CanReceive, seen_at}
 use Rattle.pz_term_steps.proofs.Lists.{get_other, set_back, set_within, first_still, second_still, both_back}
 use Rattle.pz_term_steps.proofs.Marked.{may_act}
 use Rattle.pz_term_steps.proofs.Finished.{process_is, begun_latest, begun_undone, begun_trouble, acts_still, leaves_so_far, leaves_finished, leaves_trouble, acts_at}
@@ -32,7 +32,7 @@ returns-in-Err-clause-steps c =
     let can_send = t.sends.able p at_p class_p refl place_p c.as_slice-sends_at.ensures in
     let leaves_p = c.in_ok-sent.ensures.leaves setting.model class_p c.args.parcel.now c.classes.ensures.tabled can_send in
     sender_trouble setting c.args.clock ps c.args.sender.now c.args.receiver.now c.args.parcel.now c.each_list_has_an_outcome.ensures.law c.requires.pair c.in-Err.trouble
-    (acts_at setting c.args.clock ps c.args.sender.now (Sending c.args.parcel.now) t.sends p at_p (λ a f. Hands a f c.args.parcel.now) class_p refl place_p c.as_slice-sends_at.ensures (Err c.in-Err.trouble)
+    (acts_at setting c.args.clock ps c.args.sender.now (CanSend c.args.parcel.now) t.sends p at_p (λ a f. Hands a f c.args.parcel.now) class_p refl place_p c.as_slice-sends_at.ensures (Err c.in-Err.trouble)
     (leaves_trouble seen_p (λ a f. Hands a f c.args.parcel.now) p p1 place_p c.in_ok-sent.field-0 leaves_p c.in-Err.trouble c.in-Err.is))
 
 pub returns-in-Err-clause-stays : goal.returns-in-Err-clause-stays
@@ -107,7 +107,7 @@ finish-requires-clause-may_act c =
     let now_p = slice_index_or (slice_set ps1 j q1) i c.index-processes-from-in-Ok-2.result in
     let still_p = first_still ps i j p1 q1 c.index-processes-from-in-Ok-2.result t.apart t.sends.within in
     acts_still p now_p place_p (ap (λ (x : Process). x.term) still_p ∙ c.begin_send.ensures.term)
-    (may_act (Sending c.args.parcel.now) seen_p (term_view p.term) place_p can_send c.active_parts_may_act.ensures.law)
+    (may_act (CanSend c.args.parcel.now) seen_p (term_view p.term) place_p can_send c.active_parts_may_act.ensures.law)
 
 pub finish-requires-clause-latest : goal.finish-requires-clause-latest
 finish-requires-clause-latest c =
@@ -163,7 +163,7 @@ finish-requires-in-Ok-2-clause-may_act c =
     let now_q = slice_index_or (slice_set (slice_set ps1 j q1) i p2) j c.index-processes-to-in-Ok-2.result in
     let still_q = second_still ps i j p1 q1 p2 c.index-processes-to-in-Ok-2.result t.apart t.receives.within in
     acts_still q now_q place_q (ap (λ (x : Process). x.term) still_q ∙ c.begin_receive.ensures.term)
-    (may_act Receiving seen_q (term_view q.term) place_q can_receive c.active_parts_may_act.ensures.law)
+    (may_act CanReceive seen_q (term_view q.term) place_q can_receive c.active_parts_may_act.ensures.law)
 
 pub finish-requires-in-Ok-2-clause-latest : goal.finish-requires-in-Ok-2-clause-latest
 finish-requires-in-Ok-2-clause-latest c =
@@ -244,9 +244,9 @@ returns-in_ok-finish-in-Ok-2-2-clause-steps c =
     let still_q = second_still ps i j p1 q1 p2 c.index-processes-to-in-Ok-2.result t.apart t.receives.within in
     let q2 = c.finish-in-Ok-2.new.process in
     communicated setting c.args.clock ps c.args.sender.now c.args.receiver.now c.args.parcel.now p1 q1 p2 q2 t.apart
-    (acts_at setting c.args.clock ps c.args.sender.now (Sending c.args.parcel.now) t.sends p at_p (λ a f. Hands a f c.args.parcel.now) class_p refl place_p c.as_slice-sends_at.ensures (Ok (process_view p2))
+    (acts_at setting c.args.clock ps c.args.sender.now (CanSend c.args.parcel.now) t.sends p at_p (λ a f. Hands a f c.args.parcel.now) class_p refl place_p c.as_slice-sends_at.ensures (Ok (process_view p2))
     (leaves_finished seen_p (λ a f. Hands a f c.args.parcel.now) p p1 place_p c.in_ok-sent.field-0 leaves_p c.in-Ok.sent now_p p2 c.in-Ok.is still_p c.begin_send.ensures.term c.in_ok-finish-in-Ok-2.ensures))
-    (acts_at setting c.args.clock ps c.args.receiver.now Receiving t.receives q at_q (λ a f. Takes a f c.args.parcel.now) class_q refl place_q c.as_slice-receives_at.ensures (Ok (process_view q2))
+    (acts_at setting c.args.clock ps c.args.receiver.now CanReceive t.receives q at_q (λ a f. Takes a f c.args.parcel.now) class_q refl place_q c.as_slice-receives_at.ensures (Ok (process_view q2))
     (leaves_finished seen_q (λ a f. Takes a f c.args.parcel.now) q q1 place_q c.in_ok-taken.field-0 leaves_q c.in-Ok-2.taken now_q q2 c.in-Ok-2.is still_q c.begin_receive.ensures.term c.in_ok-finish-in-Ok-2-2.ensures))
 
 pub returns-in-Err-2-clause-steps : goal.returns-in-Err-2-clause-steps
@@ -275,8 +275,8 @@ returns-in-Err-2-clause-steps c =
     let leaves_q = c.in_ok-taken.ensures.leaves setting.model class_q c.classes.ensures.tabled can_receive in
     let so_far = swept (residual 0 (term_view p.term) place_p (left_by p1.state.held (term_view c.in-Ok.sent.part))) in
     receiver_trouble setting c.args.clock ps c.args.sender.now c.args.receiver.now c.args.parcel.now so_far c.in-Err-2.trouble
-    (acts_at setting c.args.clock ps c.args.sender.now (Sending c.args.parcel.now) t.sends p at_p (λ a f. Hands a f c.args.parcel.now) class_p refl place_p c.as_slice-sends_at.ensures (Ok so_far) (leaves_so_far seen_p (λ a f. Hands a f c.args.parcel.now) p p1 place_p c.in_ok-sent.field-0 leaves_p c.in-Ok.sent c.in-Ok.is))
-    (acts_at setting c.args.clock ps c.args.receiver.now Receiving t.receives q at_q (λ a f. Takes a f c.args.parcel.now) class_q refl place_q c.as_slice-receives_at.ensures (Err c.in-Err-2.trouble)
+    (acts_at setting c.args.clock ps c.args.sender.now (CanSend c.args.parcel.now) t.sends p at_p (λ a f. Hands a f c.args.parcel.now) class_p refl place_p c.as_slice-sends_at.ensures (Ok so_far) (leaves_so_far seen_p (λ a f. Hands a f c.args.parcel.now) p p1 place_p c.in_ok-sent.field-0 leaves_p c.in-Ok.sent c.in-Ok.is))
+    (acts_at setting c.args.clock ps c.args.receiver.now CanReceive t.receives q at_q (λ a f. Takes a f c.args.parcel.now) class_q refl place_q c.as_slice-receives_at.ensures (Err c.in-Err-2.trouble)
     (leaves_trouble seen_q (λ a f. Takes a f c.args.parcel.now) q q1 place_q c.in_ok-taken.field-0 leaves_q c.in-Err-2.trouble c.in-Err-2.is))
 
 pub returns-in-Err-2-clause-stays : goal.returns-in-Err-2-clause-stays

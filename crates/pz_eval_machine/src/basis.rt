@@ -3,7 +3,7 @@ use std::alloc::Global;
 
 /// What an evaluation stands on.
 #[derive(Clone, Copy)]
-pub struct Setting<'a> {
+pub struct Basis<'a> {
     pub alloc: Global,
     pub classes: &'a Classes,
     pub clock: u128,

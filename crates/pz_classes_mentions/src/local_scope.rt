@@ -4,7 +4,7 @@ use pz_syntax::Id;
 
 /// A stretch of a declaration in which the same local names are known.
 #[derive(Drop)]
-pub struct Part {
+pub struct LocalScope {
     /// The local names, in the order of the text.
     pub locals: Items<Id>,
     /// What the stretch mentions, in the order of the text.
