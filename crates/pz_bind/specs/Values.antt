@@ -3,31 +3,20 @@ use Rattle.std.specs.Prelude.{ℕ, true, false, List, [], ◌∷◌, map, if◌t
 use Rattle.std.specs.Option.{option_map_or, unwrap_or}
 use Rattle.std.specs.Int.{w64, int_wrapping_neg}
 use Rattle.std.specs.Str.{bytes_eq}
-use Rattle.pz_syntax.specs.declared.exprs.Literal.{Literal}
-use Rattle.pz_syntax.specs.declared.exprs.Literal.TheVariants as literal
 use Rattle.pz_syntax.specs.declared.clusters.Arg.{Arg}
 use Rattle.pz_syntax.specs.declared.clusters.Arg.TheVariants.{Plain, Negated, Parameter}
 use Rattle.pz_syntax.specs.declared.clusters.Given.{Given}
 use Rattle.pz_syntax.specs.Classes.{ModelTree}
 use Rattle.pz_value.specs.declared.value.Value.{Value}
-use Rattle.pz_value.specs.declared.value.Value.TheVariants.{Nil, Bool, Int, Char, Str}
+use Rattle.pz_value.specs.declared.value.Value.TheVariants.{Nil, Int}
+use Rattle.pz_classes_code.specs.Literals.{constant}
 use Rattle.pz_classes.specs.Members.{variables, spelled}
 use Rattle.pz_bind_levels.specs.Places.{Address}
 use Rattle.pz_bind.specs.Nest.{class_at, instance_at}
 
--- a float stands in no checked model
-abbrev pub literal_value : Literal → Value
-literal_value (literal.Int n) = Int n
-literal_value literal.Float = Nil
-literal_value (literal.Char c) = Char c
-literal_value (literal.Str text) = Str text
-literal_value literal.True = Bool true
-literal_value literal.False = Bool false
-literal_value literal.Nil = Nil
-
 -- the value of an argument, where the parameters of the cluster around the instance have these values
 abbrev pub argument_value : (List ℕ → Value) → Arg → Value
-argument_value outer (Plain l pos) = literal_value l
+argument_value outer (Plain l pos) = constant l
 argument_value outer (Negated n pos) = Int (int_wrapping_neg w64 n)
 argument_value outer (Parameter x) = outer x.name
 

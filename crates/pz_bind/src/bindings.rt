@@ -7,9 +7,10 @@ ghost use Rattle.pz_bind.specs.Values as spec;
 ghost use Rattle.pz_bind.specs.devices.Bindings.{meaning_value, bound_in, value_in};
 
 use indexmap::IndexMap;
+use pz_classes_code::constant;
 use pz_items::Items;
 use pz_syntax::{Arg, Given, Instance, Literal, Name};
-use pz_value::{Text, Value};
+use pz_value::Value;
 use std::alloc::{AllocError, Global};
 
 /// What a parameter is given, handed down from where it is written. `Negated` has the integer behind
@@ -21,21 +22,6 @@ pub(crate) enum Meaning<'a> {
     Negated(i64),
 }
 
-/// The value of a literal. The only error is want of memory.
-fn literal_value(alloc: Global, literal: &Literal) -> Result<Value, AllocError>
-    ensures { IfOk result (λ value. value ≡ spec.literal_value literal.now) }
-{
-    Ok(match literal {
-        Literal::Int(n) => Value::Int(*n),
-        Literal::Float => Value::Nil,
-        Literal::Char(byte) => Value::Char(*byte),
-        Literal::Str(text) => Value::Str(Text::new(text.as_bytes().to_vec(alloc)?)),
-        Literal::True => Value::Bool(true),
-        Literal::False => Value::Bool(false),
-        Literal::Nil => Value::Nil,
-    })
-}
-
 impl<'a> Meaning<'a> {
     /// The value itself. The only error is want of memory.
     pub(crate) fn value(self, alloc: Global) -> Result<Value, AllocError>
@@ -43,7 +29,7 @@ impl<'a> Meaning<'a> {
     {
         match self {
             Meaning::Nothing => Ok(Value::Nil),
-            Meaning::Plain(literal) => literal_value(alloc, literal),
+            Meaning::Plain(literal) => constant(alloc, literal),
             Meaning::Negated(n) => Ok(Value::Int(n.wrapping_neg())),
         }
     }

@@ -1,4 +1,5 @@
 pub mod CodeView
+pub mod Literals
 pub mod StepView
 pub mod Resolution
 pub mod ScopeView

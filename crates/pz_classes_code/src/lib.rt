@@ -4,6 +4,7 @@
 
 mod body;
 mod code;
+mod literals;
 mod numbering;
 mod reserved;
 mod resolving;
@@ -13,6 +14,7 @@ mod step;
 
 pub use body::Body;
 pub use code::{Code, CodeForm, CodeLink, CodeSending};
+pub use literals::constant;
 pub use numbering::Numbering;
 pub use reserved::{is_array, is_object, is_primitive, is_unsupported};
 pub use resolving::{resolve_list, resolve_statements};

@@ -22,7 +22,7 @@ use Rattle.pz_eval_rules.specs.Outcomes.{FindsAll}
 use Rattle.pz_eval.specs.declared.parcels.Parceled.{Parceled}
 use Rattle.pz_eval.specs.Promises.{NameWithin}
 use Rattle.pz_eval.specs.Parcels.{FindsParcel, a_parcel}
-use Rattle.pz_eval.specs.Binding.{set_slot, set_slots}
+use Rattle.pz_eval_rules.specs.Binding.{set_slots}
 use Rattle.pz_eval.specs.devices.Parceled.{parceled}
 
 pub listed_within : {E : Type 0} (result : Result Listed E) (ys : List Value) (count : ℕ) → result ≡ Ok (listed.Values ys) → IfOk result (NameWithin count) → All (RefersWithin count) ys
@@ -36,33 +36,6 @@ module _ (model : ModelTree) (now frame : ℕ) (s : StateView) (ts : Codes) (all
       → FindsAll model now frame s ts allowed (listed.Values ys) left → IfOk parcel (λ p. IsParcelOf left zs p) → IfOk result (FindsParcel model now frame s ts allowed)
   found_parcel ys zs (Ok p) result e same found h = rw e (a_parcel found (subst (λ (vs : List Value). IsParcelOf left vs p) same h))
   found_parcel ys zs (Err error) result e same found h = rw e tt
-
--- the next pair
-pub next_set : (frame : ℕ) (xs : List Slot) (ys : List Value) (i : ℕ) (d : Slot) (y z : Value) (s s1 : StateView) → i < length xs → i < length ys → z ≡ get_or ys i z → y ≡ z → s1 ≡ set_slot frame (get_or xs i d) y s
-    → set_slots frame (drop (i + 1) xs) (drop (i + 1) ys) s1 ≡ set_slots frame (drop i xs) (drop i ys) s
-next_set frame xs ys i d y z s s1 in_xs in_ys z_is y_is e =
-    ap (λ (t : StateView). set_slots frame (drop (i + 1) xs) (drop (i + 1) ys) t) e
-    ∙ sym (ap (λ (ps : List Slot). set_slots frame ps (drop i ys) s) (drop_more xs i d in_xs)
-    ∙ ap (λ (vs : List Value). set_slots frame (get_or xs i d ∷ drop (i + 1) xs) vs s) (drop_more ys i z in_ys ∙ ap (λ (v : Value). v ∷ drop (i + 1) ys) (sym z_is ∙ sym y_is)))
-
-no_values_left : (frame : ℕ) (xs : List Slot) (s : StateView) → set_slots frame xs [] s ≡ s
-no_values_left frame [] s = refl
-no_values_left frame (x ∷ xs) s = refl
-
-pub no_slots : (frame : ℕ) (xs : List Slot) (ys : List Value) (i : ℕ) (s : StateView) → length xs ≤ i → set_slots frame (drop i xs) (drop i ys) s ≡ s
-no_slots frame xs ys i s past = ap (λ (ps : List Slot). set_slots frame ps (drop i ys) s) (drop_all i xs past)
-
-pub no_values_more : (frame : ℕ) (xs : List Slot) (ys : List Value) (i : ℕ) (s : StateView) → length ys ≤ i → set_slots frame (drop i xs) (drop i ys) s ≡ s
-no_values_more frame xs ys i s past = ap (λ (vs : List Value). set_slots frame (drop i xs) vs s) (drop_all i ys past) ∙ no_values_left frame (drop i xs) s
-
--- no write makes or removes an object
-objects_kept : (frame : ℕ) (x : Slot) (y : Value) (s : StateView) → length (set_slot frame x y s).objects ≡ length s.objects
-objects_kept frame (Local i) y s = refl
-objects_kept frame (Shared i) y s = refl
-objects_kept frame Unknown y s = refl
-
-pub count_stays : (frame : ℕ) (xs : List Slot) (i : ℕ) (d : Slot) (y : Value) (s s1 : StateView) → s1 ≡ set_slot frame (get_or xs i d) y s → length s1.objects ≡ length s.objects
-count_stays frame xs i d y s s1 e = ap (λ (t : StateView). length t.objects) e ∙ objects_kept frame (get_or xs i d) y s
 
 pub bound_changed : (frame : ℕ) (xs : List Slot) (s0 s1 s2 : Seen) (u : StateView) (vs ws : List Value) → s1 ≡ changed s0 u → vs ≡ ws → s2 ≡ changed s1 (set_slots frame xs vs s1.held) → s2 ≡ changed s0 (set_slots frame xs ws u)
 bound_changed frame xs s0 s1 s2 u vs ws e h g =
@@ -81,14 +54,6 @@ fits_of result x e n limit h refused = by (cases_lt limit n)
     by : (limit < n) ⊎ (n ≤ limit) → n ≤ limit
     by (inl over) = absurd (ok_not_err result x e h (refused over))
     by (inr within) = within
-
--- no pair is left
-pub no_pairs : (frame : ℕ) (xs : List Slot) (ys : List Value) (i n : ℕ) (s : StateView) → n ≤ i → (n < length xs → n ≡ length ys) → set_slots frame (drop i xs) (drop i ys) s ≡ s
-no_pairs frame xs ys i n s past all = by (cases_lt n (length xs))
-  where
-    by : (n < length xs) ⊎ (length xs ≤ n) → set_slots frame (drop i xs) (drop i ys) s ≡ s
-    by (inl more) = no_values_more frame xs ys i s (omega (arith, past, all more))
-    by (inr over) = no_slots frame xs ys i s (omega (arith, past, over))
 
 is_want : UnpackError → Type 0
 is_want NoMemory = Unit {0}

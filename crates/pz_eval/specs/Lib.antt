@@ -2,6 +2,5 @@ pub use Rattle.pz_eval_operations.specs.Known
 pub mod Promises
 pub mod Tentative
 pub mod Parcels
-pub mod Binding
 pub mod Conditions
 pub mod devices

@@ -1,80 +1,35 @@
 //! The condition of a receive.
 
-ghost use Rattle.std.specs.Prelude.{◌≡◌, length, Err, ◌<◌, ◌≤◌, IfOk, OnOk, OnErr, All};
+ghost use Rattle.std.specs.Prelude.{◌≡◌, length, Err, IfOk, OnOk, OnErr, All};
 ghost use Rattle.pz_syntax.specs.Classes.{ModelTree};
 ghost use Rattle.pz_classes_code.specs.CodeView.{view};
 ghost use Rattle.pz_classes.specs.Tables.{AreClasses};
 ghost use Rattle.pz_state.specs.References.{RefersWithin};
 ghost use Rattle.pz_state.specs.Marks.{changed};
 ghost use Rattle.pz_eval_operations.specs.Known.{AreKnown};
-ghost use Rattle.pz_eval.specs.Binding.{set_slot, set_slots, bound};
+ghost use Rattle.pz_eval_rules.specs.Binding.{set_slots, bound};
 ghost use Rattle.pz_eval.specs.Conditions.{Fits, FindsCondition};
 
 use crate::evaluating::try_eval;
 use pz_classes::Classes;
 use pz_classes_code::{Code, Slot};
 use pz_copy::{Parcel, UnpackError, unpack};
-use pz_eval_operations::{write_local, write_variable};
+use pz_eval_operations::set_slots;
 use pz_eval_rules::{Allowance, Outcome};
 use pz_state::{FaultKind, FrameId, State};
 use pz_syntax::Pos;
 use pz_value::Value;
 use std::alloc::{AllocError, Global};
 
-/// Gives a variable of the process a value. The only error is want of memory.
-fn set_slot(state: &mut State, frame: FrameId, slot: &Slot, value: Value) -> Result<(), AllocError>
-    requires { RefersWithin (length state.old.held.objects) value }
-    ensures ok { OnOk result (state.new ≡ changed state.old (set_slot frame.0 slot.now value state.old.held)) }
-    ensures marks { state.new.marks ≡ state.old.marks }
-{
-    match slot {
-        Slot::Local(i) => write_local(state, frame, *i as usize, value),
-        Slot::Shared(i) => write_variable(state, *i, value),
-        Slot::Unknown => Ok(()),
-    }
-}
-
-/// How many pairs there are.
-fn pairs(into: &[Slot], values: &[Value]) -> usize
-    ensures into { result ≤ length into.now }
-    ensures values { result ≤ length values.now }
-    ensures all { result < length into.now → result ≡ length values.now }
-{
-    if into.len() < values.len() {
-        return into.len();
-    }
-    values.len()
-}
-
-/// Gives variables of the process these values from left to right, as far as there are both. The only
-/// error is want of memory.
-fn set_slots(
-    state: &mut State,
-    frame: FrameId,
-    into: &[Slot],
-    values: &[Value],
-) -> Result<(), AllocError>
-    requires { All (RefersWithin (length state.old.held.objects)) values.now }
-    ensures ok { OnOk result (state.new ≡ changed state.old (set_slots frame.0 into.now values.now state.old.held)) }
-    ensures marks { state.new.marks ≡ state.old.marks }
-{
-    for i in 0..pairs(into, values) {
-        let slot = &into[i];
-        let value = values[i].copy()?;
-        set_slot(state, frame, slot, value)?;
-    }
-    Ok(())
-}
-
-/// The same, where the only error is want of memory.
+/// Gives variables of the process these values, from left to right.
 fn bind_values(
     state: &mut State,
     frame: FrameId,
     into: &[Slot],
-    values: &[Value],
+    values: Vec<Value>,
 ) -> Result<(), UnpackError>
-    requires { All (RefersWithin (length state.old.held.objects)) values.now }
-    ensures ok { OnOk result (state.new ≡ changed state.old (set_slots frame.0 into.now values.now state.old.held)) }
+    requires { All (RefersWithin (length state.old.held.objects)) values.items }
+    ensures ok { OnOk result (state.new ≡ changed state.old (set_slots frame.0 into.now values.items state.old.held)) }
     ensures marks { state.new.marks ≡ state.old.marks }
     ensures err { OnErr result (result ≡ Err UnpackError.NoMemory) }
 {
@@ -98,7 +53,7 @@ fn bind(
     ensures marks { state.new.marks ≡ state.old.marks }
 {
     match unpack(alloc, state, parcel) {
-        Ok(values) => bind_values(state, frame, into, values.as_slice()),
+        Ok(values) => bind_values(state, frame, into, values),
         Err(error) => Err(error),
     }
 }

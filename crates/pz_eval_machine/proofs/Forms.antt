@@ -16,9 +16,10 @@ use Rattle.pz_classes_code.specs.declared.code.CodeForm.TheFolds.{the_lemmas}
 use Rattle.pz_classes_code.specs.declared.code.CodeLink.{CodeLink}
 use Rattle.pz_classes_code.specs.declared.code.CodeSending.{CodeSending}
 use Rattle.pz_classes_code.specs.CodeView.{Tree, view, form_view, list_view, part_view}
+use Rattle.pz_classes_code.specs.Literals.{constant}
 use Rattle.pz_eval_rules.specs.Memories.{Memory, Location, read, self_at}
 use Rattle.pz_eval_rules.specs.Answers.{gives}
-use Rattle.pz_eval_rules.specs.Steps.{constant, time, created, truth, chosen}
+use Rattle.pz_eval_rules.specs.Steps.{time, created, truth, chosen}
 use Rattle.pz_eval_rules.specs.devices.Computed.{done, Computation, and_then, tick, tested, sequence, evaluated, step, spent}
 use Rattle.pz_eval_operations.specs.declared.task.Task.TheVariants as task
 use Rattle.pz_eval_operations.specs.devices.Views.{sendings_view}

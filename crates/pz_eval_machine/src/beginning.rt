@@ -7,6 +7,7 @@ ghost use Rattle.pz_value.specs.declared.value.Value.{Value as Values};
 ghost use Rattle.pz_value.specs.declared.value.Value.TheVariants.{Nil};
 ghost use Rattle.pz_state.specs.References.{RefersWithin};
 ghost use Rattle.pz_classes.specs.Tables.{AreClasses};
+ghost use Rattle.pz_classes_code.specs.Literals as literals;
 ghost use Rattle.pz_eval_rules.specs.Memories.{Memory, Location};
 ghost use Rattle.pz_eval_rules.specs.Memories as memories;
 ghost use Rattle.pz_eval_rules.specs.Answers.{ends, gives, stops};
@@ -29,9 +30,9 @@ use crate::control::Control;
 use crate::operators::go_on_operators;
 use crate::resuming::assign;
 use pz_classes::Classes;
-use pz_classes_code::{Code, CodeForm, CodeLink, CodeSending, Slot};
+use pz_classes_code::{Code, CodeForm, CodeLink, CodeSending, Slot, constant};
 use pz_eval_operations::{
-    Activation, Site, Stop, Task, at_once, constant, create, read, self_at, tick, time,
+    Activation, Site, Stop, Task, at_once, create, read, self_at, tick, time,
 };
 use pz_items::Items;
 use pz_state::State;
@@ -41,7 +42,7 @@ use std::alloc::Global;
 
 /// A constant counts one unit.
 fn give_constant<'a>(alloc: Global, units: &mut u64, literal: &Literal) -> Result<Control<'a>, Stop>
-    ensures goes { (model : ModelTree) (now : ℕ) (p : Location) (ks : List Tasks) (m : Memory) → Goes (λ c. meant model now p ks c m units.new) result units.new (and_then (ticked (λ m1 r1. done (gives (steps.constant literal.now) m1) r1) m units.old) (pending model now p ks)) }
+    ensures goes { (model : ModelTree) (now : ℕ) (p : Location) (ks : List Tasks) (m : Memory) → Goes (λ c. meant model now p ks c m units.new) result units.new (and_then (ticked (λ m1 r1. done (gives (literals.constant literal.now) m1) r1) m units.old) (pending model now p ks)) }
     ensures within { (count : ℕ) → IfOk result (ControlWithin count) }
     ensures counted { OnOk result (units.new < units.old) }
 {

@@ -1,4 +1,5 @@
 pub mod Absent
+mod Bound
 pub mod Applied
 pub mod Views
 pub mod Worth

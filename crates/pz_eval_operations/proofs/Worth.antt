@@ -12,7 +12,7 @@ use Rattle.pz_classes_code.specs.declared.code.CodeForm.TheVariants as form
 use Rattle.pz_classes_code.specs.declared.code.CodeLink.{CodeLink}
 use Rattle.pz_classes_code.specs.CodeView.{Tree, view}
 use Rattle.pz_eval_rules.specs.Memories.{Memory, Location, read, self_at, write}
-use Rattle.pz_eval_rules.specs.Steps.{constant}
+use Rattle.pz_classes_code.specs.Literals.{constant}
 use Rattle.pz_eval_rules.specs.devices.Computed.{operators, evaluated, step}
 use Rattle.pz_eval_operations.specs.devices.Views.{links_view}
 use Rattle.pz_eval_operations.specs.devices.AtOnce.{IsWorth, IsWorthThree, Attempt, Assigned}

@@ -7,8 +7,8 @@ ghost use Rattle.pz_syntax.specs.Expressions.{chain};
 ghost use Rattle.pz_classes_code.specs.CodeView.{view};
 ghost use Rattle.pz_value.specs.declared.value.Value.TheVariants.{Int};
 ghost use Rattle.pz_state.specs.References.{RefersWithin};
+ghost use Rattle.pz_classes_code.specs.Literals as literals;
 ghost use Rattle.pz_eval_rules.specs.Memories as memories;
-ghost use Rattle.pz_eval_rules.specs.Steps as steps;
 ghost use Rattle.pz_eval_operations.specs.devices.Sites.{place_of, memory_of};
 ghost use Rattle.pz_eval_operations.specs.devices.Views.{links_view};
 ghost use Rattle.pz_eval_operations.specs.devices.AtOnce.{IsWorth, IsWorthThree, Attempt};
@@ -59,7 +59,7 @@ fn plain(state: &State, activation: &Activation<'_>, code: &Code) -> Option<Valu
 
 /// A constant that is a number.
 fn number_of(literal: &Literal) -> Option<i64>
-    ensures { IfSome result (λ n. steps.constant literal.now ≡ Int n) }
+    ensures { IfSome result (λ n. literals.constant literal.now ≡ Int n) }
 {
     match literal {
         Literal::Int(n) => Some(*n),

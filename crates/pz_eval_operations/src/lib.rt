@@ -5,6 +5,7 @@
 
 mod assigning;
 mod attempts;
+mod binding;
 mod creating;
 mod operating;
 mod reading;
@@ -16,9 +17,10 @@ mod writing;
 
 pub use assigning::assign_at_once;
 pub use attempts::{at_once, self_at};
+pub use binding::{set_slot, set_slots};
 pub use creating::{create, time};
 pub use operating::{apply, apply_counted};
-pub use reading::{constant, copy, read};
+pub use reading::{copy, read};
 pub use replying::{Method, Reply, ask};
 pub use stop::Stop;
 pub use task::{Activation, Request, Site, Task};

@@ -3,37 +3,22 @@
 ghost use Rattle.std.specs.Prelude.{◌≡◌, length, unwrap_or, IfOk, IfSome, All};
 ghost use Rattle.std.specs.Option.{option_copied};
 ghost use Rattle.pz_value.specs.declared.value.Value.TheVariants.{Nil};
+ghost use Rattle.pz_classes_code.specs.Literals as literals;
 ghost use Rattle.pz_state.specs.States.{variable, local, item};
 ghost use Rattle.pz_state.specs.References.{RefersWithin};
 ghost use Rattle.pz_eval_rules.specs.Memories.{read};
-ghost use Rattle.pz_eval_rules.specs.Steps as steps;
 ghost use Rattle.pz_eval_operations.specs.devices.Sites.{place_of, memory_at};
 
 use crate::task::Site;
 use pz_classes_code::Slot;
 use pz_state::{FrameId, State};
 use pz_syntax::Literal;
-use pz_value::{Text, Value};
+use pz_value::Value;
 use std::alloc::{AllocError, Global};
-
-/// The value of a constant. The only error is want of memory.
-pub fn constant(alloc: Global, literal: &Literal) -> Result<Value, AllocError>
-    ensures { IfOk result (λ value. value ≡ steps.constant literal.now) }
-{
-    Ok(match literal {
-        Literal::Int(n) => Value::Int(*n),
-        Literal::Float => Value::Nil,
-        Literal::Char(byte) => Value::Char(*byte),
-        Literal::Str(text) => Value::Str(Text::new(text.as_bytes().to_vec(alloc)?)),
-        Literal::True => Value::Bool(true),
-        Literal::False => Value::Bool(false),
-        Literal::Nil => Value::Nil,
-    })
-}
 
 /// The value of a constant, if it is no text.
 pub(crate) fn plain_constant(literal: &Literal) -> Option<Value>
-    ensures { IfSome result (λ value. value ≡ steps.constant literal.now) }
+    ensures { IfSome result (λ value. value ≡ literals.constant literal.now) }
 {
     match literal {
         Literal::Int(n) => Some(Value::Int(*n)),

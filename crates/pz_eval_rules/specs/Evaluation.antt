@@ -19,9 +19,10 @@ use Rattle.pz_value.specs.declared.value.Value.TheVariants.{Nil}
 use Rattle.pz_classes_code.specs.declared.slot.Slot.{Slot}
 use Rattle.pz_classes_code.specs.CodeView.{Tree}
 use Rattle.pz_state.specs.declared.fault.FaultKind.TheVariants.{NotBoolean}
+use Rattle.pz_classes_code.specs.Literals.{constant}
 use Rattle.pz_eval_rules.specs.Memories.{Memory, Location, in_object, read, write, self_at, started}
 use Rattle.pz_eval_rules.specs.Answers.{Stop, ends, fault, Answer, gives, stops, ended}
-use Rattle.pz_eval_rules.specs.Steps.{Codes, constant, time, created, truth, chosen, applied, applied_alone, answers, runs, reply}
+use Rattle.pz_eval_rules.specs.Steps.{Codes, time, created, truth, chosen, applied, applied_alone, answers, runs, reply}
 
 -- the arguments that are written; none without brackets
 abbrev pub arguments_of : Part Slot ClassId → Codes

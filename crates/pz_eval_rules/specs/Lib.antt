@@ -1,4 +1,5 @@
 pub mod Memories
+pub mod Binding
 pub mod Answers
 pub mod Steps
 pub mod Evaluation

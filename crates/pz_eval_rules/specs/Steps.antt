@@ -5,8 +5,6 @@ use Rattle.pz_syntax.specs.declared.tokens.Pos.{Pos}
 use Rattle.pz_syntax.specs.declared.tokens.Symbol.{Symbol}
 use Rattle.pz_syntax.specs.declared.tokens.Symbol.TheVariants.{Plus, Minus, Star, Slash, Equal, Same, Unequal, Distinct, Less, LessEqual, Greater, GreaterEqual, Ampersand, Bar, Bang}
 use Rattle.pz_syntax.specs.declared.names.Id.{Id}
-use Rattle.pz_syntax.specs.declared.exprs.Literal.{Literal}
-use Rattle.pz_syntax.specs.declared.exprs.Literal.TheVariants as literal
 use Rattle.pz_syntax.specs.Expressions.{Expressions, none, Part, left_out, written}
 use Rattle.pz_syntax.specs.Classes.{ModelTree}
 use Rattle.pz_value.specs.declared.value.ClassId.{ClassId}
@@ -27,16 +25,6 @@ use Rattle.pz_eval_rules.specs.Answers.{Answer, gives, stops, fault}
 -- Code is expressions whose variables are slots and whose classes are numbers.
 abbrev pub Codes : Type 0
 Codes = Expressions Slot ClassId
-
--- the value of a constant; a float, which no sound model has, counts as nil
-abbrev pub constant : Literal → Value
-constant (literal.Int n) = Int n
-constant literal.Float = Nil
-constant (literal.Char c) = Char c
-constant (literal.Str text) = Str text
-constant literal.True = Boolean true
-constant literal.False = Boolean false
-constant literal.Nil = Nil
 
 -- the clock, as long as an Integer holds it
 abbrev pub time : ℕ → Pos → Memory → Answer Value

@@ -1,9 +1,11 @@
-//! Lists and boxes that contracts see as what they hold, so that a tree made of them is plain
+//! Lists, boxes and texts that contracts see as what they hold, so that a tree made of them is plain
 //! data: a copy can equal what it copies, though it lies elsewhere in memory.
 #![tactic(auto)]
 
 mod boxed;
 mod items;
+mod text;
 
 pub use boxed::Boxed;
 pub use items::Items;
+pub use text::Text;

@@ -5,7 +5,6 @@ ghost use Rattle.pz_syntax.specs.Classes.{ModelTree};
 ghost use Rattle.pz_syntax.specs.Expressions.{written};
 ghost use Rattle.pz_classes_code.specs.CodeView.{view, list_view, part_view};
 ghost use Rattle.pz_state.specs.References.{RefersWithin};
-ghost use Rattle.pz_rules.specs.Meanings as meanings;
 ghost use Rattle.pz_rules.specs.Evaluations.{Gives, GivesAll};
 ghost use Rattle.pz_eval.specs.Known.{AreKnown};
 ghost use Rattle.pz_part_queries.specs.Standpoints.{Knows, seen_from};
@@ -15,7 +14,7 @@ use pz_classes_code::Code;
 use pz_eval::{eval, eval_list};
 use pz_items::Items;
 use pz_offer::Trouble;
-use pz_part_queries::{Standpoint, allowance, truth, value_or_trouble, values_or_trouble};
+use pz_part_queries::{Standpoint, allowance, truth_of, value_or_trouble, values_or_trouble};
 use pz_state::{FrameId, State};
 use pz_syntax::Pos;
 use pz_value::Value;
@@ -64,12 +63,6 @@ pub(crate) fn evaluate_all(
         allowed,
     )?;
     Ok(values_or_trouble(here.process, pos, listed))
-}
-
-fn truth_of(process: u32, pos: Pos, found: Result<Value, Trouble>) -> Result<bool, Trouble>
-    ensures { result ≡ meanings.and_then found (meanings.truth process pos) }
-{
-    truth(process, pos, found?)
 }
 
 /// Whether a test of the statement at this place is true, or the trouble of it.

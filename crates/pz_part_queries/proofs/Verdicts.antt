@@ -9,23 +9,19 @@ use Rattle.pz_value.specs.declared.value.ClassId.{ClassId}
 use Rattle.pz_value.specs.declared.value.Value.{Value}
 use Rattle.pz_classes_code.specs.declared.code.Code.{Code}
 use Rattle.pz_classes_code.specs.declared.slot.Slot.{Slot}
-use Rattle.pz_classes_code.specs.declared.slot.Slot.TheVariants.{Local, Shared, Unknown}
 use Rattle.pz_classes_code.specs.CodeView as code
 use Rattle.pz_state.specs.declared.fault.FaultKind.TheVariants.{StoreFull}
 use Rattle.pz_state.specs.States.{StateView}
 use Rattle.pz_copy.specs.Parcels.{ParcelView}
-use Rattle.pz_copy.specs.Unpacking.{unpacked, unpacked_values}
 use Rattle.pz_offer.specs.declared.trouble.Trouble.{Trouble}
 use Rattle.pz_eval_rules.specs.declared.allowance.Allowance.{Allowance}
 use Rattle.pz_eval_rules.specs.declared.outcome.Outcome.{Outcome}
-use Rattle.pz_eval.specs.Binding as eval
 use Rattle.pz_eval.specs.Conditions as conditions
 use Rattle.pz_eval.specs.Conditions.{FindsCondition}
 use Rattle.pz_eval.specs.Tentative.{WouldFind}
 use Rattle.pz_rules.specs.Terms as terms
 use Rattle.pz_rules.specs.Terms.{leaf}
 use Rattle.pz_rules.specs.Settings.{Context, in_state}
-use Rattle.pz_rules.specs.Slots.{set_slot, set_slots}
 use Rattle.pz_rules.specs.Meanings.{and_then, truth, fault}
 use Rattle.pz_rules.specs.Evaluations.{allowance, value_or_trouble}
 use Rattle.pz_rules.specs.Messages as messages
@@ -33,18 +29,6 @@ use Rattle.pz_rules.specs.Messages.{Fits, bound, variables_of, Judges, Receives}
 use Rattle.pz_rules.specs.devices.Computed.{TestsAreComputed}
 use Rattle.pz_rules.specs.devices.Found.{tested}
 use Rattle.pz_part_queries.specs.Laws.{OneVerdict}
-
--- Binding is the same to evaluation as to execution.
-
-slot_same : (f : ℕ) (x : Slot) (v : Value) (s : StateView) → eval.set_slot f x v s ≡ set_slot f x v s
-slot_same f (Local i) v s = refl
-slot_same f (Shared i) v s = refl
-slot_same f Unknown v s = refl
-
-slots_same : (f : ℕ) (xs : List Slot) (vs : List Value) (s : StateView) → eval.set_slots f xs vs s ≡ set_slots f xs vs s
-slots_same f [] vs s = refl
-slots_same f (x ∷ xs) [] s = refl
-slots_same f (x ∷ xs) (v ∷ vs) s = slots_same f xs vs (eval.set_slot f x v s) ∙ ap (set_slots f xs vs) (slot_same f x v s)
 
 -- The verdict of a receive
 
@@ -65,9 +49,7 @@ module _ (a : Context) (f : ℕ) (parcel : ParcelView) (pos : Pos) (port : ℕ) 
 
   found : (test : Code) (o : Outcome) → FindsCondition a.setting.model a.clock f a.state parcel (variables_of into) pos (code.view test) (allowance a.setting.limits) o → JudgesCode (Some test) (Verdict o)
   found test o (conditions.asked fits would) =
-      asked test o fits
-      (subst (λ (s : StateView). WouldFind a.setting.model a.clock f s (code.view test) (allowance a.setting.limits) o)
-      (slots_same f (variables_of into) (unpacked_values a.state parcel) (unpacked a.state parcel)) would)
+      asked test o fits would
   found test _ (conditions.full not_fits) = messages.unfit pos port name into (code.view test) after not_fits
 
   pub condition_judges : (condition : Option Code) (test : Code) (slots : List Slot) (allowed : Allowance) (o : Outcome) (r : Result Bool Trouble) → condition ≡ Some test → slots ≡ variables_of into → allowed ≡ allowance a.setting.limits

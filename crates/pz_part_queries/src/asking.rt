@@ -11,7 +11,7 @@ ghost use Rattle.pz_part_queries.specs.Standpoints.{Knows, seen_from};
 ghost use Rattle.pz_part_queries.specs.Parcels.{Packs};
 ghost use Rattle.pz_part_queries.specs.devices.Outcomes as outcomes;
 
-use crate::meanings::{duration, truth, value_or_trouble};
+use crate::meanings::{duration, tested, value_or_trouble};
 use crate::standpoint::Standpoint;
 use pz_classes_code::Code;
 use pz_copy::{Parcel, pack};
@@ -31,12 +31,6 @@ pub fn allowance(limits: Limits) -> Allowance
         units: limits.units,
         depth: limits.depth,
     }
-}
-
-fn truth_of(process: u32, pos: Pos, outcome: Outcome) -> Result<bool, Trouble>
-    ensures { result ≡ meanings.and_then (evaluations.value_or_trouble process pos outcome) (meanings.truth process pos) }
-{
-    truth(process, pos, value_or_trouble(process, pos, outcome)?)
 }
 
 fn duration_of(process: u32, pos: Pos, outcome: Outcome) -> Result<u128, Trouble>
@@ -60,7 +54,7 @@ pub fn ask_test(
 {
     let allowed = allowance(here.limits);
     let outcome = try_eval(alloc, here.classes, state, frame, here.clock, test, allowed)?;
-    Ok(truth_of(here.process, pos, outcome))
+    Ok(tested(here.process, pos, outcome))
 }
 
 /// The time that the delay at this place takes, in clock units, or the trouble of it.

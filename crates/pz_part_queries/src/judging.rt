@@ -11,31 +11,23 @@ ghost use Rattle.pz_classes_code.specs.declared.slot.Slot.{Slot as Variable};
 ghost use Rattle.pz_classes_code.specs.CodeView as code;
 ghost use Rattle.pz_rules.specs.Terms.{leaf};
 ghost use Rattle.pz_rules.specs.View.{term_view};
-ghost use Rattle.pz_rules.specs.Meanings as meanings;
-ghost use Rattle.pz_rules.specs.Evaluations as evaluations;
 ghost use Rattle.pz_rules.specs.Messages.{variables_of, Judges};
 ghost use Rattle.pz_eval.specs.Known.{AreKnown};
 ghost use Rattle.pz_part_queries.specs.Standpoints.{Knows, seen_from};
 ghost use Rattle.pz_rules.specs.Acting.{IsReceive};
 
 use crate::asking::allowance;
-use crate::meanings::{truth, value_or_trouble};
+use crate::meanings::tested;
 use crate::standpoint::Standpoint;
 use pz_classes_code::{Code, Slot, StepForm};
 use pz_copy::Parcel;
-use pz_eval::{Outcome, try_condition};
+use pz_eval::try_condition;
 use pz_items::Items;
 use pz_offer::Trouble;
 use pz_rules::Term;
 use pz_state::{FrameId, State};
 use pz_syntax::Pos;
 use std::alloc::{AllocError, Global};
-
-fn verdict_of(process: u32, pos: Pos, outcome: Outcome) -> Result<bool, Trouble>
-    ensures { result ≡ meanings.and_then (evaluations.value_or_trouble process pos outcome) (meanings.truth process pos) }
-{
-    truth(process, pos, value_or_trouble(process, pos, outcome)?)
-}
 
 fn slots_of(into: &Option<Items<Slot>>) -> &[Slot]
     ensures { result.now ≡ variables_of into.now }
@@ -79,7 +71,7 @@ fn judge_receive(
         condition,
         allowed,
     )?;
-    Ok(verdict_of(here.process, pos, outcome))
+    Ok(tested(here.process, pos, outcome))
 }
 
 /// Whether a receive takes the parcel, or the trouble of its condition: where it has a condition, what

@@ -70,3 +70,17 @@ pub fn duration(process: u32, pos: Pos, value: Value) -> Result<u128, Trouble>
         _ => Err(fault(FaultKind::NotInteger, process, pos)),
     }
 }
+
+/// A value that was found is true or false.
+pub fn truth_of(process: u32, pos: Pos, found: Result<Value, Trouble>) -> Result<bool, Trouble>
+    ensures { result ≡ meanings.and_then found (meanings.truth process pos) }
+{
+    truth(process, pos, found?)
+}
+
+/// What a test came to.
+pub(crate) fn tested(process: u32, pos: Pos, outcome: Outcome) -> Result<bool, Trouble>
+    ensures { result ≡ meanings.and_then (evaluations.value_or_trouble process pos outcome) (meanings.truth process pos) }
+{
+    truth(process, pos, value_or_trouble(process, pos, outcome)?)
+}

@@ -1,5 +1,5 @@
 -- The run that a policy chooses.
-use Rattle.std.specs.Prelude.{◌≡◌, ℕ, suc, ◌+◌, ◌%◌, nat_lt, nat_le, Bool, false, if◌then◌else◌, List, [], ◌∷◌, Option, Some, None, Ok, Err, slice_get}
+use Rattle.std.specs.Prelude.{◌≡◌, ℕ, suc, ◌+◌, nat_lt, nat_le, Bool, false, if◌then◌else◌, List, [], ◌∷◌, Option, Some, None, Ok, Err, slice_get}
 use Rattle.pz_offer.specs.declared.trouble.Trouble.{Trouble}
 use Rattle.pz_rules.specs.declared.action.Action.{Action}
 use Rattle.pz_rules.specs.declared.moment.Moment.{Moment}
@@ -18,18 +18,6 @@ pub record Policy : Type 0 where
   pub ahead : ℕ → Option ℕ
   pub steps : ℕ
   pub until : Option ℕ
-
--- the first offer, always
-abbrev pub first : ℕ → Option ℕ → Policy
-first steps until = record { choose = λ j n. Some 0; ahead = λ j. None; steps = steps; until = until }
-
--- by the words of a generator, of which the j-th decides the j-th choice
-abbrev pub by_words : (ℕ → ℕ) → ℕ → Option ℕ → Policy
-by_words word steps until = record { choose = λ j n. Some (word j % n); ahead = λ j. None; steps = steps; until = until }
-
--- by a list of entries, until it is used up
-abbrev pub by_list : List ℕ → ℕ → Option ℕ → Policy
-by_list entries steps until = record { choose = λ j n. slice_get entries j; ahead = slice_get entries; steps = steps; until = until }
 
 -- what is decided at a moment: the end of the run, the action of number k among n offers, or a passing
 -- of so much time

@@ -2,7 +2,6 @@ pub mod devices
 pub mod Terms
 pub mod Opening
 pub mod Settings
-pub mod Slots
 pub mod Meanings
 pub mod Evaluations
 pub mod Active

@@ -16,7 +16,7 @@ use Rattle.pz_copy.specs.Unpacking.{unpacked, unpacked_values}
 use Rattle.pz_offer.specs.declared.trouble.Trouble.{Trouble}
 use Rattle.pz_rules.specs.Terms.{Code, Term, leaf}
 use Rattle.pz_rules.specs.Settings.{Context, Process, in_state}
-use Rattle.pz_rules.specs.Slots.{set_slots}
+use Rattle.pz_eval_rules.specs.Binding as binding
 use Rattle.pz_rules.specs.Meanings.{and_then, fault}
 use Rattle.pz_rules.specs.Evaluations.{GivesPart, Tests}
 use Rattle.pz_rules.specs.InternalActions.{done_in}
@@ -41,7 +41,7 @@ Fits a parcel = length a.state.objects + length parcel.objects ≤ OBJECT_LIMIT
 
 -- the parcel unpacked, and its values bound from left to right
 abbrev pub bound : Context → ℕ → Option (List Slot) → ParcelView → StateView
-bound a f into parcel = set_slots f (variables_of into) (unpacked_values a.state parcel) (unpacked a.state parcel)
+bound a f into parcel = binding.bound f (variables_of into) parcel a.state
 
 -- whether a receive takes the parcel: where it has a condition, its value once the parcel is bound
 pub data Judges (a : Context) (f : ℕ) (parcel : ParcelView) : Term → Result Bool Trouble → Type 0 where

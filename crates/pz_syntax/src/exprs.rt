@@ -1,6 +1,6 @@
 ghost use Rattle.std.specs.Prelude.{◌≡◌, IfOk};
 
-use crate::{Id, Name, Pos, Symbol, Text};
+use crate::{Id, Name, Pos, Symbol};
 use pz_items::{Boxed, Items};
 use std::alloc::AllocError;
 

@@ -14,6 +14,7 @@ pub use clusters::{
     Arg, Channel, ChannelEnd, ClusterClass, Decl, Given, Instance, Model, SystemDecl,
 };
 pub use exprs::{Expr, ExprForm, Link, Literal, Sending};
-pub use names::{Id, Name, Text};
+pub use names::{Id, Name};
+pub use pz_items::Text;
 pub use stmts::{Stmt, StmtForm};
 pub use tokens::{Keyword, Mark, Pos, Symbol, Token, TokenKind};

@@ -1,4 +1,4 @@
-use crate::{Name, Text};
+use crate::Name;
 
 /// A place in the text of a model: the line and the column, both from 1. A line ends after an LF,
 /// and a column counts bytes.

@@ -1,3 +1,3 @@
-pub mod devices
+pub mod Bare
 pub mod Becoming
 pub mod Laws

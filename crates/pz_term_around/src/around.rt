@@ -8,10 +8,11 @@ ghost use Rattle.pz_rules.specs.Opening.{opened};
 ghost use Rattle.pz_rules.specs.Leaving as leaving;
 ghost use Rattle.pz_rules.specs.View.{term_view, terms_view};
 ghost use Rattle.pz_term_around.specs.Becoming.{Became};
-ghost use Rattle.pz_term_around.specs.devices.Bare.{is_bare as bare};
+ghost use Rattle.pz_term_around.specs.Bare.{is_bare as bare};
 
-use crate::slots::{copy_locals, set_slots};
+use crate::slots::copy_locals;
 use pz_classes_code::{Slot, Step};
+use pz_eval_operations::set_slots;
 use pz_items::{Boxed, Items};
 use pz_rules::{Rest, Term, open_rest, open_step};
 use pz_state::{FrameId, State};
@@ -25,7 +26,7 @@ pub fn is_done(term: &Term) -> bool
 }
 
 /// Whether nothing is left of any of these.
-fn all_done(parts: &[Term]) -> bool
+pub fn all_done(parts: &[Term]) -> bool
     ensures { result ≡ leaving.all_done (terms_view parts.now) }
 {
     for part in parts {
@@ -119,7 +120,7 @@ pub fn in_handling(
 }
 
 /// Whether the term is a frame without outputs.
-fn is_bare(term: &Term) -> bool
+pub fn is_bare(term: &Term) -> bool
     ensures { result ≡ bare (term_view term.now) }
 {
     match term {

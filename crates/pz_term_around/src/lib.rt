@@ -7,7 +7,8 @@ mod laws;
 mod slots;
 
 pub use around::{
-    in_abort, in_frame, in_handling, in_interrupt, in_parallel, in_sequence, is_done,
+    all_done, in_abort, in_frame, in_handling, in_interrupt, in_parallel, in_sequence, is_bare,
+    is_done,
 };
 pub use laws::active_parts_may_act;
-pub use slots::{copy_locals, set_inputs, set_slot, set_slots};
+pub use slots::{copy_locals, set_inputs};

@@ -17,14 +17,15 @@ use Rattle.pz_value.specs.declared.value.Value.TheVariants.{Nil}
 use Rattle.pz_state.specs.References.{RefersWithin}
 use Rattle.pz_classes.specs.Members.{variables, spelled}
 use Rattle.pz_bind_levels.specs.Places.{Address}
+use Rattle.pz_classes_code.specs.Literals.{constant}
 use Rattle.pz_bind.specs.Nest.{class_at, instance_at}
-use Rattle.pz_bind.specs.Values.{literal_value, argument_value, given_value, parameter_at, values_at}
+use Rattle.pz_bind.specs.Values.{argument_value, given_value, parameter_at, values_at}
 
 module _ (count : ℕ) where
   abbrev IsPlain : Value → Type 0
   IsPlain v = RefersWithin count v
 
-  literal_plain : (l : Literal) → IsPlain (literal_value l)
+  literal_plain : (l : Literal) → IsPlain (constant l)
   literal_plain (literal.Int n) = tt
   literal_plain literal.Float = tt
   literal_plain (literal.Char c) = tt

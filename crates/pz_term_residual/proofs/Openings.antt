@@ -10,7 +10,7 @@ use Rattle.pz_classes_code.specs.StepView as step
 use Rattle.pz_rules.specs.Terms as terms
 use Rattle.pz_rules.specs.Opening.{opened, opened_all}
 use Rattle.pz_rules.specs.Leaving.{is_done}
-use Rattle.pz_term_around.specs.devices.Bare.{is_bare}
+use Rattle.pz_term_around.specs.Bare.{is_bare}
 
 shows_step : (pos : Pos) (x : StepForm) → step.view (record { pos = pos; form = x }) ≡ step.form_view x pos
 shows_step pos x = search (rules, the_lemmas)

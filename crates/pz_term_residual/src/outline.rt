@@ -8,14 +8,13 @@ ghost use Rattle.pz_rules.specs.Opening.{opened, opened_all};
 ghost use Rattle.pz_rules.specs.Leaving as leaving;
 ghost use Rattle.pz_rules.specs.View.{term_view, terms_view};
 ghost use Rattle.pz_term_residual.specs.devices.Capped.{capped};
-ghost use Rattle.pz_term_around.specs.devices.Bare.{is_bare as bare};
 ghost use Rattle.pz_term_residual.specs.devices.Outlines.{outline, IsAbove, IsRound};
 
 use crate::heights::{above, greatest_of, height_of};
 use crate::opening::{opened_height, opens_done};
 use pz_classes_code::{Slot, Step};
 use pz_rules::{Rest, Term};
-use pz_term_around::is_done;
+use pz_term_around::{all_done, is_bare, is_done};
 
 /// What matters of a term for the height of what is around it.
 #[derive(Clone, Copy)]
@@ -26,16 +25,6 @@ pub(crate) struct Outline {
     pub(crate) done: bool,
     /// Whether it is a frame without outputs.
     pub(crate) bare: bool,
-}
-
-/// Whether the term is a frame without outputs.
-fn is_bare(term: &Term) -> bool
-    ensures { result ≡ bare (term_view term.now) }
-{
-    match term {
-        Term::Frame { results, .. } => results.is_empty(),
-        _ => false,
-    }
 }
 
 pub(crate) fn outline_of(term: &Term) -> Outline
@@ -102,18 +91,6 @@ pub(crate) fn outline_sequence(left: Outline, rest: &Rest) -> Outline
     } else {
         outline_above(left.height)
     }
-}
-
-/// Whether nothing is left of any part.
-fn all_done(parts: &[Term]) -> bool
-    ensures { result ≡ leaving.all_done (terms_view parts.now) }
-{
-    for part in parts {
-        if !is_done(part) {
-            return false;
-        }
-    }
-    true
 }
 
 /// Whether nothing is left of parts side by side, of which one is done or not.

@@ -1,6 +1,6 @@
 ghost use Rattle.std.specs.Prelude.{◌≡◌, IfOk};
 
-use crate::Text;
+use pz_items::Text;
 use std::alloc::AllocError;
 
 /// The number of a class: 0 is Array, and the classes of a model are numbered from 1 in the order

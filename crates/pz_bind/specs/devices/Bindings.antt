@@ -9,11 +9,11 @@ use Rattle.pz_value.specs.declared.value.Value.TheVariants.{Nil, Int}
 use Rattle.pz_bind.specs.declared.bindings.Meaning.{Meaning}
 use Rattle.pz_bind.specs.declared.bindings.Meaning.TheVariants.{Nothing, Plain, Negated}
 use Rattle.pz_bind.specs.declared.bindings.Bindings.{Bindings}
-use Rattle.pz_bind.specs.Values.{literal_value}
+use Rattle.pz_classes_code.specs.Literals.{constant}
 
 abbrev pub meaning_value : Meaning → Value
 meaning_value Nothing = Nil
-meaning_value (Plain l) = literal_value l.now
+meaning_value (Plain l) = constant l.now
 meaning_value (Negated n) = Int (int_wrapping_neg w64 n)
 
 -- what the parameter of this name is given, if anything is

@@ -11,12 +11,12 @@ use Rattle.pz_eval_machine.proofs.Unwinding.{on_ok}
 use Rattle.pz_eval.proofs.conditions.bind.Goals as goal
 
 pub bind_values-requires : goal.bind_values-requires
-bind_values-requires c = subst (λ (ys : List Value). All (RefersWithin (length c.unpack.new.state.held.objects)) ys) (sym c.as_slice.ensures.value) c.in-Ok.ensures.within
+bind_values-requires c = c.in-Ok.ensures.within
 
 pub returns-in-Ok-clause-ok : goal.returns-in-Ok-clause-ok
 returns-in-Ok-clause-ok c =
-    on_ok_map c.bind_values.result (bound_changed c.args.frame.0 c.args.into.now c.args.state.now c.unpack.new.state c.bind_values.new.state (unpacked c.args.state.now.held c.args.parcel.now) c.as_slice.result.now (unpacked_values c.args.state.now.held c.args.parcel.now)
-    c.in-Ok.ensures.ok (c.as_slice.ensures.value ∙ c.in-Ok.ensures.values)) c.bind_values.ensures.ok
+    on_ok_map c.bind_values.result (bound_changed c.args.frame.0 c.args.into.now c.args.state.now c.unpack.new.state c.bind_values.new.state (unpacked c.args.state.now.held c.args.parcel.now) c.in-Ok.values.items (unpacked_values c.args.state.now.held c.args.parcel.now)
+    c.in-Ok.ensures.ok c.in-Ok.ensures.values) c.bind_values.ensures.ok
 
 pub returns-in-Ok-clause-fits : goal.returns-in-Ok-clause-fits
 returns-in-Ok-clause-fits c = on_ok c.bind_values.result (fits_of c.unpack.result c.in-Ok.values StoreFull (length c.args.state.now.held.objects + length c.args.parcel.now.objects) OBJECT_LIMIT c.in-Ok.is c.unpack.ensures.full.1)

@@ -9,4 +9,4 @@ returns-in_default-clause-judges c = λ m class port name after known.
 pub returns-clause-judges : goal.returns-clause-judges
 returns-clause-judges c = λ m class port name after known.
     condition_judges (seen_from m c.args.here.now class c.args.state.now.held) c.args.frame.0 c.args.parcel.now c.args.pos port name c.args.into.now after c.args.condition.now c.in-Some.condition c.slots_of-into.result.now
-    c.allowance-allowed.result c.in_ok-outcome.outcome c.verdict_of.result c.in-Some.is c.slots_of-into.ensures c.allowance-allowed.ensures (c.in_ok-outcome.ensures.finds m known) c.verdict_of.ensures
+    c.allowance-allowed.result c.in_ok-outcome.outcome c.tested.result c.in-Some.is c.slots_of-into.ensures c.allowance-allowed.ensures (c.in_ok-outcome.ensures.finds m known) c.tested.ensures

@@ -4,6 +4,8 @@ use Rattle.pz_value.specs.declared.value.Value.{Value}
 use Rattle.pz_classes_code.specs.declared.slot.Slot.{Slot}
 use Rattle.pz_classes_code.specs.declared.slot.Slot.TheVariants.{Local, Shared, Unknown}
 use Rattle.pz_state.specs.States.{StateView, set_variable, set_local}
+use Rattle.pz_copy.specs.Parcels.{ParcelView}
+use Rattle.pz_copy.specs.Unpacking.{unpacked, unpacked_values}
 
 -- a variable of the process, or a local of frame f
 abbrev pub set_slot : ℕ → Slot → Value → StateView → StateView
@@ -21,3 +23,7 @@ set_slots f (x ∷ xs) (v ∷ vs) s = set_slots f xs vs (set_slot f x v s)
 abbrev pub first_slots : ℕ → List Value → List Slot
 first_slots n [] = []
 first_slots n (v ∷ vs) = Local n ∷ first_slots (suc n) vs
+
+-- a parcel unpacked, and its values bound
+abbrev pub bound : ℕ → List Slot → ParcelView → StateView → StateView
+bound f into parcel s = set_slots f into (unpacked_values s parcel) (unpacked s parcel)
