@@ -22,7 +22,7 @@ use Rattle.pz_eval_rules.specs.Outcomes.{FindsAll}
 use Rattle.pz_eval.specs.declared.parcels.Parceled.{Parceled}
 use Rattle.pz_eval.specs.Promises.{NameWithin}
 use Rattle.pz_eval.specs.Parcels.{FindsParcel, a_parcel}
-use Rattle.pz_eval_rules.specs.Binding.{set_slots}
+use Rattle.pz_eval_binding.specs.Binding.{set_slots}
 use Rattle.pz_eval.specs.devices.Parceled.{parceled}
 
 pub listed_within : {E : Type 0} (result : Result Listed E) (ys : List Value) (count : ℕ) → result ≡ Ok (listed.Values ys) → IfOk result (NameWithin count) → All (RefersWithin count) ys

@@ -11,7 +11,7 @@ use Rattle.pz_copy.specs.Parcels.{ParcelView}
 use Rattle.pz_eval_rules.specs.declared.allowance.Allowance.{Allowance}
 use Rattle.pz_eval_rules.specs.declared.outcome.Outcome.{Outcome}
 use Rattle.pz_eval_rules.specs.declared.outcome.Outcome.TheVariants as outcome
-use Rattle.pz_eval_rules.specs.Binding.{bound}
+use Rattle.pz_eval_binding.specs.Binding.{bound}
 use Rattle.pz_eval.specs.Tentative.{WouldFind}
 
 -- the objects of the parcel find room beside those of the state

@@ -7,14 +7,14 @@ ghost use Rattle.pz_classes.specs.Tables.{AreClasses};
 ghost use Rattle.pz_state.specs.References.{RefersWithin};
 ghost use Rattle.pz_state.specs.Marks.{changed};
 ghost use Rattle.pz_eval_operations.specs.Known.{AreKnown};
-ghost use Rattle.pz_eval_rules.specs.Binding.{set_slots, bound};
+ghost use Rattle.pz_eval_binding.specs.Binding.{set_slots, bound};
 ghost use Rattle.pz_eval.specs.Conditions.{Fits, FindsCondition};
 
 use crate::evaluating::try_eval;
 use pz_classes::Classes;
 use pz_classes_code::{Code, Slot};
 use pz_copy::{Parcel, UnpackError, unpack};
-use pz_eval_operations::set_slots;
+use pz_eval_binding::set_slots;
 use pz_eval_rules::{Allowance, Outcome};
 use pz_state::{FaultKind, FrameId, State};
 use pz_syntax::Pos;

@@ -1,13 +1,13 @@
 -- A write to what is not there changes nothing; no write makes or removes an object; a new object.
-use Rattle.std.proofs.Common.{◌≡◌, ℕ, zero, suc, ◌<◌, ◌≤◌, List, [], ◌∷◌, length, nat_eq, lt-ltb, Some, Result, Ok, Err, refl, sym, ap, ◌∙◌, arith}
-use Rattle.std.specs.Prelude.{OnOk, OnErr, slice_set, unwrap_or, if◌then◌else◌, Bool, true, false}
+use Rattle.std.proofs.Common.{◌≡◌, ℕ, zero, suc, ◌<◌, ◌≤◌, List, [], ◌∷◌, length, lt-ltb, Some, Result, Ok, Err, refl, sym, ap, ◌∙◌, arith}
+use Rattle.std.specs.Prelude.{OnOk, OnErr, slice_set}
 use Rattle.pz_syntax.specs.declared.tokens.Pos.{Pos}
 use Rattle.pz_syntax.specs.Classes.{ModelTree}
 use Rattle.pz_value.specs.declared.value.ClassId.{ClassId}
 use Rattle.pz_value.specs.declared.value.Value.{Value}
 use Rattle.pz_value.specs.declared.value.Value.TheVariants.{Ref}
 use Rattle.pz_state.specs.Objects.{ObjectView}
-use Rattle.pz_state.specs.States.{StateView, Frames, locals_in, locals_of, at_frame, at_object, object, made, set_local, set_item}
+use Rattle.pz_state.specs.States.{StateView, at_object, object, made, set_item}
 use Rattle.pz_state.specs.declared.state.TheConstants.{OBJECT_LIMIT}
 use Rattle.pz_state.specs.Marks.{Seen, changed}
 use Rattle.pz_classes.specs.Members.{fields}
@@ -18,18 +18,6 @@ pub set_past : (values : List Value) (i : ℕ) (y : Value) → length values ≤
 set_past [] i y past = refl
 set_past (x ∷ xs) zero y past = absurd (omega arith)
 set_past (x ∷ xs) (suc i) y past = ap (λ (vs : List Value). x ∷ vs) (set_past xs i y (omega arith))
-
-no_local_in : (fs : Frames) (number i : ℕ) (y : Value) → length (locals_of fs number) ≤ i → at_frame number (λ vs. slice_set vs i y) fs ≡ fs
-no_local_in [] number i y past = refl
-no_local_in (f ∷ fs) number i y past = by (nat_eq f.0 number) past (no_local_in fs number i y)
-  where
-    by : (b : Bool) → length (unwrap_or (if b then Some f.1 else locals_in fs number) []) ≤ i → (length (locals_of fs number) ≤ i → at_frame number (λ vs. slice_set vs i y) fs ≡ fs)
-        → (if b then (f.0, slice_set f.1 i y) ∷ fs else f ∷ at_frame number (λ vs. slice_set vs i y) fs) ≡ f ∷ fs
-    by true past later = ap (λ (vs : List Value). (f.0, vs) ∷ fs) (set_past f.1 i y past)
-    by false past later = ap (λ (gs : Frames). f ∷ gs) (later past)
-
-pub no_local : (s : StateView) (number i : ℕ) (y : Value) → length (locals_of s.frames number) ≤ i → s ≡ set_local s number i y
-no_local s number i y past = ap (λ (fs : Frames). record s { frames = fs }) (sym (no_local_in s.frames number i y past))
 
 no_object_in : (os : List ObjectView) (r : ℕ) (change : List Value → List Value) → length os ≤ r → at_object r change os ≡ os
 no_object_in [] r change past = refl

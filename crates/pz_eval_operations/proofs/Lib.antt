@@ -1,5 +1,4 @@
 pub mod Absent
-mod Bound
 pub mod Applied
 pub mod Views
 pub mod Worth

@@ -5,7 +5,6 @@
 
 mod assigning;
 mod attempts;
-mod binding;
 mod creating;
 mod operating;
 mod reading;
@@ -17,7 +16,6 @@ mod writing;
 
 pub use assigning::assign_at_once;
 pub use attempts::{at_once, self_at};
-pub use binding::{set_slot, set_slots};
 pub use creating::{create, time};
 pub use operating::{apply, apply_counted};
 pub use reading::{copy, read};
@@ -25,4 +23,4 @@ pub use replying::{Method, Reply, ask};
 pub use stop::Stop;
 pub use task::{Activation, Request, Site, Task};
 pub use units::tick;
-pub use writing::{write, write_local, write_variable};
+pub use writing::write;

@@ -2,45 +2,17 @@
 
 ghost use Rattle.std.specs.Prelude.{◌≡◌, length, slice_set, OnOk, OnErr, All};
 ghost use Rattle.pz_state.specs.Marks.{changed};
-ghost use Rattle.pz_state.specs.States.{set_variable, set_local, set_item};
+ghost use Rattle.pz_state.specs.States.{set_item};
 ghost use Rattle.pz_state.specs.References.{RefersWithin};
 ghost use Rattle.pz_eval_rules.specs.Memories.{write};
 ghost use Rattle.pz_eval_operations.specs.devices.Sites.{place_of, memory_at};
 
 use crate::task::Site;
 use pz_classes_code::Slot;
-use pz_state::{FrameId, State};
+use pz_eval_binding::{write_local, write_variable};
+use pz_state::State;
 use pz_value::Value;
 use std::alloc::AllocError;
-
-/// Gives a variable of the process a value, if it is there.
-pub fn write_variable(state: &mut State, slot: u32, value: Value) -> Result<(), AllocError>
-    requires { RefersWithin (length state.old.held.objects) value }
-    ensures ok { OnOk result (state.new ≡ changed state.old (set_variable state.old.held slot value)) }
-    ensures err { OnErr result (state.new ≡ state.old) }
-{
-    if slot as usize >= state.variables() {
-        return Ok(());
-    }
-    state.set_var(slot, value)
-}
-
-/// Gives a local of a frame a value, if it is there.
-pub fn write_local(
-    state: &mut State,
-    frame: FrameId,
-    slot: usize,
-    value: Value,
-) -> Result<(), AllocError>
-    requires { RefersWithin (length state.old.held.objects) value }
-    ensures ok { OnOk result (state.new ≡ changed state.old (set_local state.old.held frame.0 slot value)) }
-    ensures err { OnErr result (state.new ≡ state.old) }
-{
-    if slot >= state.locals(frame).len() {
-        return Ok(());
-    }
-    state.set_local(frame, slot, value)
-}
 
 /// Gives a field of an object a value, if it is there.
 fn write_field(state: &mut State, r: u32, place: u32, value: Value) -> Result<(), AllocError>

@@ -1,5 +1,4 @@
 pub mod Memories
-pub mod Binding
 pub mod Answers
 pub mod Steps
 pub mod Evaluation

@@ -24,7 +24,7 @@ use Rattle.pz_copy.specs.declared.unpacking.UnpackError.TheVariants as unpacking
 use Rattle.pz_offer.specs.declared.trouble.Trouble.{Trouble}
 use Rattle.pz_rules.specs.Terms.{Code, Term, leaf}
 use Rattle.pz_rules.specs.Settings.{Context, Process, in_state}
-use Rattle.pz_eval_rules.specs.Binding.{set_slots}
+use Rattle.pz_eval_binding.specs.Binding.{set_slots}
 use Rattle.pz_rules.specs.Meanings.{fault}
 use Rattle.pz_rules.specs.Evaluations.{GivesPart}
 use Rattle.pz_rules.specs.Messages as messages

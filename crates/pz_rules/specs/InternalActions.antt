@@ -14,7 +14,7 @@ use Rattle.pz_rules.specs.declared.action.Kind.TheVariants.{Skip, Eval, Test, Ex
 use Rattle.pz_rules.specs.Terms.{Code, Codes, Step, Steps, Term, done, leaf, wait, sequence, frame}
 use Rattle.pz_rules.specs.Opening.{opened_all, opened_part}
 use Rattle.pz_rules.specs.Settings.{Context, Process}
-use Rattle.pz_eval_rules.specs.Binding.{set_slots, first_slots}
+use Rattle.pz_eval_binding.specs.Binding.{set_slots, first_slots}
 use Rattle.pz_rules.specs.Meanings.{and_then, truth}
 use Rattle.pz_rules.specs.Evaluations.{Gives, GivesAll, Lasts}
 use Rattle.pz_rules.specs.Methods.{IsMethod}

@@ -11,7 +11,7 @@ use Rattle.pz_offer.specs.declared.trouble.Trouble.TheVariants.{High}
 use Rattle.pz_rules.specs.Terms.{Step, Term, done, sequence, parallel, select, guarded, frame, abort, idle, handling, Terms, no_terms, and, child, height, frames_in, frame_in}
 use Rattle.pz_rules.specs.Opening.{opened, opened_all}
 use Rattle.pz_rules.specs.Settings.{Context, Process}
-use Rattle.pz_eval_rules.specs.Binding.{set_slots}
+use Rattle.pz_eval_binding.specs.Binding.{set_slots}
 
 abbrev pub replaced : Terms → ℕ → Term → Terms
 replaced no_terms i x = no_terms

@@ -16,7 +16,7 @@ use Rattle.pz_copy.specs.Unpacking.{unpacked, unpacked_values}
 use Rattle.pz_offer.specs.declared.trouble.Trouble.{Trouble}
 use Rattle.pz_rules.specs.Terms.{Code, Term, leaf}
 use Rattle.pz_rules.specs.Settings.{Context, Process, in_state}
-use Rattle.pz_eval_rules.specs.Binding as binding
+use Rattle.pz_eval_binding.specs.Binding as binding
 use Rattle.pz_rules.specs.Meanings.{and_then, fault}
 use Rattle.pz_rules.specs.Evaluations.{GivesPart, Tests}
 use Rattle.pz_rules.specs.InternalActions.{done_in}

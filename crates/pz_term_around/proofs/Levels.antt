@@ -13,7 +13,7 @@ use Rattle.pz_rules.specs.declared.term.Term.TheVariants.{Done, Par, rolls-Done}
 use Rattle.pz_rules.specs.Terms as terms
 use Rattle.pz_rules.specs.Terms.{Terms}
 use Rattle.pz_rules.specs.Settings.{Process}
-use Rattle.pz_eval_rules.specs.Binding.{set_slots}
+use Rattle.pz_eval_binding.specs.Binding.{set_slots}
 use Rattle.pz_rules.specs.Leaving.{is_done, all_done, joined, left_by, returned, around}
 use Rattle.pz_rules.specs.View.{term_view, term_step, terms_view}
 use Rattle.pz_term_around.specs.Becoming.{Became}

@@ -12,7 +12,7 @@ use Rattle.pz_classes_code.specs.declared.slot.Slot.TheVariants.{Local, Shared, 
 use Rattle.pz_state.specs.States.{StateView, Frames, locals_of, locals, value_at, at_frame, set_variable, set_local}
 use Rattle.pz_state.specs.References.{RefersWithin}
 use Rattle.pz_state.specs.Marks.{Seen, changed}
-use Rattle.pz_eval_rules.specs.Binding.{set_slot, set_slots, first_slots}
+use Rattle.pz_eval_binding.specs.Binding.{set_slot, set_slots, first_slots}
 
 drop_past : {A : Type 0} (n : ℕ) (xs : List A) → length xs ≤ n → drop n xs ≡ []
 drop_past zero [] past = refl

@@ -12,7 +12,7 @@ ghost use Rattle.pz_term_around.specs.Bare.{is_bare as bare};
 
 use crate::slots::copy_locals;
 use pz_classes_code::{Slot, Step};
-use pz_eval_operations::set_slots;
+use pz_eval_binding::set_slots;
 use pz_items::{Boxed, Items};
 use pz_rules::{Rest, Term, open_rest, open_step};
 use pz_state::{FrameId, State};

@@ -4,9 +4,9 @@ ghost use Rattle.std.specs.Prelude.{◌≡◌, length, take, drop, All, IfOk, On
 ghost use Rattle.pz_state.specs.References.{RefersWithin};
 ghost use Rattle.pz_state.specs.States.{locals};
 ghost use Rattle.pz_state.specs.Marks.{changed};
-ghost use Rattle.pz_eval_rules.specs.Binding.{set_slots, first_slots};
+ghost use Rattle.pz_eval_binding.specs.Binding.{set_slots, first_slots};
 
-use pz_eval_operations::write_local;
+use pz_eval_binding::write_local;
 use pz_state::{FrameId, State};
 use pz_value::Value;
 use std::alloc::{AllocError, Global};

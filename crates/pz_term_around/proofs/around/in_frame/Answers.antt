@@ -2,7 +2,7 @@ use Rattle.std.proofs.Common.{List, ℕ, take, drop, ap, ◌∙◌}
 use Rattle.pz_classes_code.specs.declared.slot.Slot.{Slot}
 use Rattle.pz_state.specs.States.{locals}
 use Rattle.pz_state.specs.Marks.{changed}
-use Rattle.pz_eval_rules.specs.Binding.{set_slots}
+use Rattle.pz_eval_binding.specs.Binding.{set_slots}
 use Rattle.pz_term_around.proofs.Levels.{frame_ends}
 use Rattle.pz_term_around.proofs.around.in_frame.Goals as goal
 

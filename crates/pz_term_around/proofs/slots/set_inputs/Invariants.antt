@@ -1,7 +1,7 @@
 use Rattle.std.proofs.Common.{◌≡◌, length, drop}
 use Rattle.std.specs.List.{All}
 use Rattle.pz_state.specs.References.{RefersWithin}
-use Rattle.pz_eval_rules.specs.Binding.{set_slots, first_slots}
+use Rattle.pz_eval_binding.specs.Binding.{set_slots, first_slots}
 use Rattle.pz_term_around.proofs.slots.set_inputs.Given as goal
 
 abbrev pub invariant-loop-place : goal.invariant-loop-place

@@ -3,7 +3,7 @@
 ghost use Rattle.std.specs.Prelude.{◌≡◌, length, All, OnOk};
 ghost use Rattle.pz_state.specs.References.{RefersWithin};
 ghost use Rattle.pz_state.specs.Marks.{changed};
-ghost use Rattle.pz_eval_rules.specs.Binding.{set_slot, set_slots};
+ghost use Rattle.pz_eval_binding.specs.Binding.{set_slot, set_slots};
 
 use crate::writing::{write_local, write_variable};
 use pz_classes_code::Slot;

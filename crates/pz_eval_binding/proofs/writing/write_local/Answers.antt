@@ -2,8 +2,8 @@ use Rattle.std.proofs.Common.{◌≡◌, List, length, ap, arith}
 use Rattle.pz_value.specs.declared.value.Value.{Value}
 use Rattle.pz_state.specs.States.{StateView, locals}
 use Rattle.pz_state.specs.Marks.{changed}
-use Rattle.pz_eval_operations.proofs.Absent.{no_local}
-use Rattle.pz_eval_operations.proofs.writing.write_local.Goals as goal
+use Rattle.pz_eval_binding.proofs.Absent.{no_local}
+use Rattle.pz_eval_binding.proofs.writing.write_local.Goals as goal
 
 pub returns-then-slot-locals-clause-ok : goal.returns-then-slot-locals-clause-ok
 returns-then-slot-locals-clause-ok c =

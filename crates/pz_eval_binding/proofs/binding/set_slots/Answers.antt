@@ -1,7 +1,7 @@
 use Rattle.std.proofs.Common.{◌∙◌, sym, arith}
-use Rattle.pz_eval_rules.specs.Binding.{set_slots}
-use Rattle.pz_eval_operations.proofs.Bound.{values_over, seen_is}
-use Rattle.pz_eval_operations.proofs.binding.set_slots.Goals as goal
+use Rattle.pz_eval_binding.specs.Binding.{set_slots}
+use Rattle.pz_eval_binding.proofs.Bound.{values_over, seen_is}
+use Rattle.pz_eval_binding.proofs.binding.set_slots.Goals as goal
 
 pub returns-then-place-len-clause-ok : goal.returns-then-place-len-clause-ok
 returns-then-place-len-clause-ok c =

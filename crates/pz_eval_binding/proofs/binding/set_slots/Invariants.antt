@@ -1,8 +1,8 @@
 use Rattle.std.proofs.Common.{◌≡◌, length, drop}
 use Rattle.std.specs.List.{All}
 use Rattle.pz_state.specs.References.{RefersWithin}
-use Rattle.pz_eval_rules.specs.Binding.{set_slots}
-use Rattle.pz_eval_operations.proofs.binding.set_slots.Given as goal
+use Rattle.pz_eval_binding.specs.Binding.{set_slots}
+use Rattle.pz_eval_binding.proofs.binding.set_slots.Given as goal
 
 abbrev pub invariant-loop-place : goal.invariant-loop-place
 invariant-loop-place l = record {
