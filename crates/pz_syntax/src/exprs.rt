@@ -1,7 +1,7 @@
 ghost use Rattle.std.specs.Prelude.{◌≡◌, IfOk};
 
 use crate::{Id, Name, Pos, Symbol};
-use pz_items::{Boxed, Items};
+use pz_items::{Boxed, Items, Text};
 use std::alloc::AllocError;
 
 /// A constant of the text. Of a float only its presence is kept.

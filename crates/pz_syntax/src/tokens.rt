@@ -1,4 +1,5 @@
 use crate::Name;
+use pz_items::Text;
 
 /// A place in the text of a model: the line and the column, both from 1. A line ends after an LF,
 /// and a column counts bytes.
