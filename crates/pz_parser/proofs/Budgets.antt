@@ -18,7 +18,7 @@ use Rattle.pz_parser_declarations.specs.devices.Sections.{parent_section, messag
 use Rattle.pz_parser_declarations.specs.devices.DataClasses as classes
 use Rattle.pz_parser_declarations.proofs.Budgets.{parent_section_budget, messages_section_budget, variables_section_budget, start_section_budget, data_class_budget}
 use Rattle.pz_parser_declarations.specs.devices.Clusters as clusters
-use Rattle.pz_parser_declarations.proofs.Budgets.{cluster_class_budget, system_budget}
+use Rattle.pz_parser_declarations.proofs.ClusterBudgets.{cluster_class_budget, system_budget}
 use Rattle.pz_parser.specs.devices.Processes as processes
 use Rattle.pz_parser.specs.devices.Models as spec
 

@@ -13,7 +13,7 @@ use Rattle.pz_parser_statements.specs.StatementPlaces.{place_all}
 use Rattle.pz_parser_statements.proofs.Erasing.{erase_place_sequence}
 use Rattle.pz_parser_declarations.specs.DeclarationPlaces.{place_messages, place_start}
 use Rattle.pz_parser_declarations.proofs.Erasing.{erased_parent_section, erased_messages_section, erased_variables_section, erased_start_section, erased_data_class}
-use Rattle.pz_parser_declarations.proofs.Erasing.{erased_cluster_class, erased_system}
+use Rattle.pz_parser_declarations.proofs.ClusterErasing.{erased_cluster_class, erased_system}
 use Rattle.pz_parser.specs.ProcessPlaces.{outputs_at, locals_at, body_at, place_process_method, place_process_methods, parent_at, ports_at, messages_at, variables_at, start_at, methods_at, place_process_class}
 use Rattle.pz_parser.specs.ModelPlaces.{place_decl, place_model}
 

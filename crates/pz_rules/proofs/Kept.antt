@@ -9,7 +9,7 @@ use Rattle.pz_classes.specs.SoundBodies.{BodiesFit}
 use Rattle.pz_bind_levels.specs.Places.{Address as Standing}
 use Rattle.pz_bind.specs.Nest.{processes, class_at}
 use Rattle.pz_offer.specs.declared.end.End.{End}
-use Rattle.pz_offer.specs.PlaceOrder.{Address}
+use Rattle.pz_offer.specs.PlaceOrder.{Place}
 use Rattle.pz_offer.specs.declared.trouble.Trouble.{Trouble}
 use Rattle.pz_offer.specs.declared.trouble.Trouble.TheVariants.{High}
 use Rattle.pz_rules.specs.declared.action.Action.{Action}
@@ -115,7 +115,7 @@ module _ (setting : Setting) (c : Config) (sound : BodiesFit setting.model) (fit
       by true = h
       by false = tt
 
-  settled_fits : (m : ModelTree) (class : ℕ) (a : Context) (pos : Pos) (t : Term) (place : Address) (l : ℕ) (left : Result Process Trouble) → LeavesFit m class l left → ((y : Process) → TermFits m class l y.term → TermFits m class 0 (residual 0 t place y).term)
+  settled_fits : (m : ModelTree) (class : ℕ) (a : Context) (pos : Pos) (t : Term) (place : Place) (l : ℕ) (left : Result Process Trouble) → LeavesFit m class l left → ((y : Process) → TermFits m class l y.term → TermFits m class 0 (residual 0 t place y).term)
       → LeavesFit m class 0 (and_then left (settled a pos t place))
   settled_fits m class a pos t place l (Ok y) h leaves = high_fits m class a pos (residual 0 t place y) (leaves y h)
   settled_fits m class a pos t place l (Err e) h leaves = tt

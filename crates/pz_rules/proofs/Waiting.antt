@@ -5,7 +5,7 @@ use Rattle.pz_syntax.specs.declared.tokens.Pos.{Pos}
 use Rattle.pz_bind_levels.specs.Places.{Address as Standing}
 use Rattle.pz_bind.specs.Nest.{processes, class_at}
 use Rattle.pz_offer.specs.declared.end.End.{End}
-use Rattle.pz_offer.specs.PlaceOrder.{Address}
+use Rattle.pz_offer.specs.PlaceOrder.{Place}
 use Rattle.pz_offer.specs.declared.trouble.Trouble.{Trouble}
 use Rattle.pz_rules.specs.Terms.{Term, done, leaf, wait, sequence, parallel, select, guarded, frame, abort, idle, handling, Terms, no_terms, and, term_at, child, count, frame_in}
 use Rattle.pz_rules.specs.Settings.{Setting, Process, Context}
@@ -114,7 +114,7 @@ module _ (a : Context) (d : ℕ) where
   delay_passed f _ _ (delays.not_begun at e left lasts) = (at, ap (begun d at e) (sym (lasts_only a f at e (Ok left) lasts)))
   delay_passed f _ _ (delays.begun left at) = (at, refl)
 
-  part_passed : (f : ℕ) (t : Term) (place : Address) (g : ℕ) (x : Term) (left : ℕ) → Active a f t place g x → Delays a g x left → (pos : Pos) × (part_of (passed a d f t) place ≡ wait (left - d) pos)
+  part_passed : (f : ℕ) (t : Term) (place : Place) (g : ℕ) (x : Term) (left : ℕ) → Active a f t place g x → Delays a g x left → (pos : Pos) × (part_of (passed a d f t) place ≡ wait (left - d) pos)
   part_passed _ _ _ _ _ left (active.here f t) h = delay_passed f t left h
   part_passed _ _ _ _ _ left (active.inside f t i place g x r k) h =
       let inner = part_passed (frame_in t f) (child t i) place g x left k h in

@@ -12,7 +12,7 @@ use Rattle.pz_bind_levels.specs.Places.{Address as ProcessPlace}
 use Rattle.pz_bind.specs.Nest.{class_at}
 use Rattle.pz_offer.specs.declared.end.End.{End}
 use Rattle.pz_offer.specs.declared.trouble.Trouble.{Trouble}
-use Rattle.pz_offer.specs.PlaceOrder.{Address}
+use Rattle.pz_offer.specs.PlaceOrder.{Place}
 use Rattle.pz_rules.specs.declared.limits.Limits.{Limits}
 use Rattle.pz_rules.specs.Terms.{Term}
 use Rattle.pz_rules.specs.Settings as rules
@@ -42,7 +42,7 @@ record SamePart (g h : ℕ) (x y : Term) : Type 0 where
   frame : g ≡ h
   part : x ≡ y
 
-active_once : {a : Context} {f : ℕ} {t : Term} {place : Address} {g h : ℕ} {x y : Term} → Active a f t place g x → Active a f t place h y → SamePart g h x y
+active_once : {a : Context} {f : ℕ} {t : Term} {place : Place} {g h : ℕ} {x y : Term} → Active a f t place g x → Active a f t place h y → SamePart g h x y
 active_once (active.here f t) (active.here _ _) = record { frame = refl; part = refl }
 active_once (active.inside f t i place g x r k) (active.inside _ _ _ _ h y r' l) = active_once k l
 
@@ -75,18 +75,18 @@ module _ (setting : Setting) (c : Config) where
 
 -- What is asked of the part at a place
 
-pub may_act : ActivePartsMayAct → (t : Term) (place slice : Address) → slice ≡ place → HasReceive t place → MayAct t slice
-may_act law t place slice same x = subst (λ (p : Address). MayAct t p) (sym same) (law x.seen t place x.frame x.part x.active)
+pub may_act : ActivePartsMayAct → (t : Term) (place slice : Place) → slice ≡ place → HasReceive t place → MayAct t slice
+may_act law t place slice same x = subst (λ (p : Place). MayAct t p) (sym same) (law x.seen t place x.frame x.part x.active)
 
-pub receives_there : (t part : Term) (place slice : Address) (frame : ℕ) → slice ≡ place → HasReceive t place → IsPartAt 0 t slice frame part → IsReceive part
+pub receives_there : (t part : Term) (place slice : Place) (frame : ℕ) → slice ≡ place → HasReceive t place → IsPartAt 0 t slice frame part → IsReceive part
 receives_there t part place slice frame same x is =
-    let there = is x.seen x.frame x.part (subst (λ (p : Address). IsActive x.seen t p x.frame x.part) (sym same) x.active) in
+    let there = is x.seen x.frame x.part (subst (λ (p : Place). IsActive x.seen t p x.frame x.part) (sym same) x.active) in
     subst (λ (y : Term). IsReceive y) (sym there.1) x.receive
 
-pub judges_at : (a : Context) (t part : Term) (place slice : Address) (frame : ℕ) (parcel : ParcelView) (verdict : Result Bool Trouble) → slice ≡ place → IsPartAt 0 t slice frame part
+pub judges_at : (a : Context) (t part : Term) (place slice : Place) (frame : ℕ) (parcel : ParcelView) (verdict : Result Bool Trouble) → slice ≡ place → IsPartAt 0 t slice frame part
     → Judges a frame parcel part verdict → JudgesAt a t place parcel verdict
 judges_at a t part place slice frame parcel verdict same is judges f x active =
-    let there = is a f x (subst (λ (p : Address). IsActive a t p f x) (sym same) active) in
+    let there = is a f x (subst (λ (p : Place). IsActive a t p f x) (sym same) active) in
     subst (λ (y : Term). Judges a f parcel y verdict) there.1 (subst (λ (g : ℕ). Judges a g parcel part verdict) there.0 judges)
 
 -- The process of a receive, among those of the code
