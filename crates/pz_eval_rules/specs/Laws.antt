@@ -1,7 +1,8 @@
 -- Laws of evaluation.
-use Rattle.std.specs.Prelude.{◌≡◌, ◌≤◌, ℕ}
+use Rattle.std.specs.Prelude.{◌≡◌, ◌≤◌, ℕ, false}
 use Rattle.pz_syntax.specs.Classes.{ModelTree}
 use Rattle.pz_classes_code.specs.CodeView.{Tree}
+use Rattle.pz_classes.specs.Soundness.{IsSound}
 use Rattle.pz_state.specs.States.{StateView}
 use Rattle.pz_eval_rules.specs.declared.allowance.Allowance.{Allowance}
 use Rattle.pz_eval_rules.specs.declared.outcome.Outcome.{Outcome}
@@ -10,6 +11,7 @@ use Rattle.pz_eval_rules.specs.declared.outcome.Listed.{Listed}
 use Rattle.pz_eval_rules.specs.declared.outcome.Listed.TheVariants as listed
 use Rattle.pz_eval_rules.specs.Steps.{Codes}
 use Rattle.pz_eval_rules.specs.Outcomes.{Finds, FindsAll}
+use Rattle.pz_eval_rules.specs.Clocks.{names_clock, list_names_clock, DataIsTimeless}
 
 pub record SomeOutcome : Type 0 where
   pub outcome : Outcome
@@ -48,3 +50,18 @@ abbrev pub MoreFindsTheSameList : Type 0
 MoreFindsTheSameList = (model : ModelTree) (now frame : ℕ) (s : StateView) (ts : Codes) (less enough : Allowance) (o : Listed) (s1 : StateView)
     → less.units ≤ enough.units → less.depth ≤ enough.depth → (o ≡ listed.Spent → ⊥)
     → FindsAll model now frame s ts less o s1 → FindsAll model now frame s ts enough o s1
+
+-- no data method of a sound model names the clock
+abbrev pub SoundDataIsTimeless : Type 0
+SoundDataIsTimeless = (model : ModelTree) → IsSound model → DataIsTimeless model
+
+-- what does not name the clock comes to the same at each clock
+abbrev pub UnclockedIsTimeless : Type 0
+UnclockedIsTimeless = (model : ModelTree) (now later frame : ℕ) (s : StateView) (t : Tree) (allowed : Allowance) (o : Outcome) (s1 : StateView)
+    → IsSound model → names_clock t ≡ false
+    → Finds model now frame s t allowed o s1 → Finds model later frame s t allowed o s1
+
+abbrev pub UnclockedListIsTimeless : Type 0
+UnclockedListIsTimeless = (model : ModelTree) (now later frame : ℕ) (s : StateView) (ts : Codes) (allowed : Allowance) (o : Listed) (s1 : StateView)
+    → IsSound model → list_names_clock ts ≡ false
+    → FindsAll model now frame s ts allowed o s1 → FindsAll model later frame s ts allowed o s1

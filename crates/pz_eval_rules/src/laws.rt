@@ -1,7 +1,9 @@
 // Laws of evaluation, each the contract of a function that does nothing.
 
-ghost use Rattle.pz_eval_rules.specs.Laws.{EachHasAnOutcome, HasOneOutcome, MoreFindsTheSame, EachListHasAnOutcome, ListHasOneOutcome, MoreFindsTheSameList};
-ghost use Rattle.pz_eval_rules.specs.devices.Laws.{ComputedIsFound, ComputedListIsFound, TurnsGoOn};
+ghost use Rattle.pz_eval_rules.specs.Laws.{EachHasAnOutcome, HasOneOutcome, MoreFindsTheSame, EachListHasAnOutcome, ListHasOneOutcome, MoreFindsTheSameList, SoundDataIsTimeless, UnclockedIsTimeless, UnclockedListIsTimeless};
+ghost use Rattle.pz_eval_rules.specs.devices.Laws.{ComputedIsFound, ComputedListIsFound, TurnsGoOn, UnclockedIsComputedTheSame, UnclockedListIsComputedTheSame};
+
+use pz_classes::sound_bodies_fit;
 
 /// Each evaluation has an outcome and a state afterwards.
 pub fn each_evaluation_has_an_outcome()
@@ -43,3 +45,15 @@ pub fn computed_is_found()
 pub fn turns_go_on()
     ensures law { TurnsGoOn }
 {}
+
+/// In a sound model no data method names the clock, and what does not name the clock comes to the same
+/// at each clock, an expression and a list alike; and is computed to the same.
+pub fn unclocked_is_timeless()
+    ensures methods { SoundDataIsTimeless }
+    ensures value { UnclockedIsTimeless }
+    ensures list { UnclockedListIsTimeless }
+    ensures computed { UnclockedIsComputedTheSame }
+    ensures computed_list { UnclockedListIsComputedTheSame }
+{
+    sound_bodies_fit();
+}

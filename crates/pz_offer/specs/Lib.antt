@@ -1,1 +1,2 @@
 pub mod PlaceOrder
+pub mod Summaries

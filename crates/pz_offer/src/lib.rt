@@ -1,12 +1,17 @@
-//! Where something happens in a process, and what is wrong there.
+//! Where something happens in a process, what is wrong there, what a process offers to others, and what
+//! a term can do in short.
 #![tactic(auto)]
 
 mod end;
 mod ends;
+mod laws;
 mod place;
+mod summary;
 mod trouble;
 
 pub use end::End;
 pub use ends::{ReceiveOffer, SendOffer, Verdict};
+pub use laws::summaries_join;
 pub use place::Place;
+pub use summary::Summary;
 pub use trouble::Trouble;

@@ -1,0 +1,13 @@
+//! The shapes of nodes, each of which has others below it, and what is so of them when some are changed,
+//! whatever a node holds.
+#![tactic(auto)]
+
+mod dropping;
+mod kids;
+mod laws;
+mod node;
+
+pub use dropping::drop_part;
+pub use kids::Kids;
+pub use laws::{changes_compose, nodes_are_taken_and_put, shapes_are_read, shapes_are_seen};
+pub use node::{Node, kid_at};
