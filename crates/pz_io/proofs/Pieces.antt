@@ -1,54 +1,70 @@
 -- Texts that are written piece by piece.
-use Rattle.std.proofs.Common.{◌≡◌, ◌≤◌, inl, inr, ℕ, List, ◌++◌, take, drop, Some, None, refl, sym, ◌∙◌, ap, arith, append_assoc, take-append-drop}
+use Rattle.std.proofs.Common.{◌≡◌, ℕ, List, ◌++◌, take, drop, Some, None, refl, sym, ◌∙◌, ap, append_assoc, take-append-drop}
 use Rattle.std.proofs.lemmas.List.{append-nil}
-use Rattle.pz_io.specs.Outside.{SinkState, Rose}
-use Rattle.pz_io.specs.Writing.{TookFront}
+use Rattle.pz_io.specs.Outside.{SinkState, raised}
+use Rattle.pz_io.specs.declared.writing.Halt.{Halt}
+use Rattle.pz_io.specs.declared.writing.Halt.TheVariants.{NoMemory, WriteFault}
+use Rattle.pz_io.specs.Writing.{TookAll, TookFront, Failed}
 use Rattle.pz_io.specs.Laws.{NothingIsWritten, PiecesJoin, HaltsBeforeMore, MemoryMayBeWanting}
 
 -- a part of a text that was sent
 pub front_of_part : (before now : SinkState) (text : List ℕ) (sent : ℕ) → now.taken ≡ before.taken ++ take sent text → TookFront before now text
-front_of_part before now text sent is =
-    (drop sent text, ap (λ (l : List ℕ). l ++ drop sent text) is ∙ append_assoc before.taken (take sent text) (drop sent text) ∙ ap (λ (l : List ℕ). before.taken ++ l) (take-append-drop sent text))
+front_of_part before now text sent is = record {
+  front = take sent text;
+  rest = drop sent text;
+  parts = sym (take-append-drop sent text);
+  taken = is;
+}
 
 -- a front of a piece is one of what begins with it
 front_within : (before now : SinkState) (piece more : List ℕ) → TookFront before now piece → TookFront before now (piece ++ more)
-front_within before now piece more front =
-    (front.0 ++ more, sym (append_assoc now.taken front.0 more) ∙ ap (λ (l : List ℕ). l ++ more) front.1 ∙ append_assoc before.taken piece more)
+front_within before now piece more x = record {
+  front = x.front;
+  rest = x.rest ++ more;
+  parts = ap (λ (l : List ℕ). l ++ more) x.parts ∙ append_assoc x.front x.rest more;
+  taken = x.taken;
+}
 
-rose_from : (a b c : ℕ) → a ≤ b → Rose b c → Rose a c
-rose_from a b c le (inl less) = inl (omega (arith, less))
-rose_from a b c le (inr end) = inr end
+-- two texts that were taken, one after the other
+took_both : (before mid now : SinkState) (piece more : List ℕ) → TookAll before mid piece → TookAll mid now more → TookAll before now (piece ++ more)
+took_both before mid now piece more first then =
+    then ∙ ap (λ (l : List ℕ). l ++ more) first ∙ append_assoc before.taken piece more
+
+-- after a part in which no write failed
+failed_then : (before mid now : SinkState) (halt : Halt) → mid.faults ≡ before.faults → Failed (Some halt) mid now → Failed (Some halt) before now
+failed_then before mid now NoMemory same failed = failed ∙ same
+failed_then before mid now WriteFault same failed = (failed.0 ∙ ap raised same, failed.1)
 
 pub nothing : NothingIsWritten
-nothing s = record { tells = refl; faults = omega arith; taken = λ _. sym (append-nil s.taken); cause = λ is. cc }
+nothing s = record { tells = refl; taken = λ _. sym (append-nil s.taken); failed = refl }
 
 pub joins : PiecesJoin
 joins before mid now piece more None first then = record {
   tells = then.tells ∙ first.tells;
-  faults = omega (arith, first.faults, then.faults);
-  taken = λ told. then.taken (first.tells ∙ told) ∙ ap (λ (l : List ℕ). l ++ more) (first.taken told) ∙ append_assoc before.taken piece more;
-  cause = λ is. cc;
+  taken = λ told. took_both before mid now piece more (first.taken told) (then.taken (first.tells ∙ told));
+  failed = then.failed ∙ first.failed;
 }
 joins before mid now piece more (Some halt) first then = record {
   tells = then.tells ∙ first.tells;
-  faults = omega (arith, first.faults, then.faults);
-  taken = λ told. let front = then.taken (first.tells ∙ told) in
-      (front.0, front.1 ∙ ap (λ (l : List ℕ). l ++ more) (first.taken told) ∙ append_assoc before.taken piece more);
-  cause = λ is. rose_from before.faults mid.faults now.faults first.faults (then.cause is);
+  taken = λ told. let x = then.taken (first.tells ∙ told) in record {
+    front = piece ++ x.front;
+    rest = x.rest;
+    parts = ap (λ (l : List ℕ). piece ++ l) x.parts ∙ sym (append_assoc piece x.front x.rest);
+    taken = took_both before mid now piece x.front (first.taken told) x.taken;
+  };
+  failed = failed_then before mid now halt first.failed then.failed;
 }
 
 pub halts : HaltsBeforeMore
 halts before now piece more halt wrote = record {
   tells = wrote.tells;
-  faults = wrote.faults;
   taken = λ told. front_within before now piece more (wrote.taken told);
-  cause = wrote.cause;
+  failed = wrote.failed;
 }
 
 pub wants : MemoryMayBeWanting
 wants before now piece more wrote = record {
   tells = wrote.tells;
-  faults = wrote.faults;
-  taken = λ told. (more, ap (λ (l : List ℕ). l ++ more) (wrote.taken told) ∙ append_assoc before.taken piece more);
-  cause = λ is. cc;
+  taken = λ told. record { front = piece; rest = more; parts = refl; taken = wrote.taken told };
+  failed = wrote.failed;
 }

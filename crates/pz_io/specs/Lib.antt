@@ -5,6 +5,7 @@ pub mod Mem
 pub mod Failing
 pub mod Roomy
 pub mod Os
+pub mod Answers
 pub mod devices
 pub mod Writing
 pub mod Laws

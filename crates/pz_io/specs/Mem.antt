@@ -11,6 +11,8 @@ mem_state files = record {
   rest = rest_of files.entries.items files.current files.handed;
   faults = 0;
   opens = files.opens;
+  opened = files.names.list;
   handed = files.handed;
   ended = files.ended;
+  failed = files.failed;
 }

@@ -11,9 +11,11 @@ os_files_state files = record {
   rest = [];
   faults = files.faults;
   opens = files.opens;
+  opened = files.names.list;
   handed = files.handed;
   ended = files.ended;
+  failed = files.failed;
 }
 
 abbrev pub os_sink_state : OsSink → SinkState
-os_sink_state sink = record { told = false; taken = []; faults = sink.faults }
+os_sink_state sink = record { told = false; taken = []; faults = sink.faults; failed = sink.failed }

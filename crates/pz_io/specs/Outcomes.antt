@@ -1,11 +1,13 @@
--- The answers of files, of a sink, and of a write of all bytes, by cases.
-use Rattle.std.specs.Prelude.{ℕ, Bool, true, false}
+-- The answers of files, of a sink, of a file that is read whole, and of a write of all bytes, by cases.
+use Rattle.std.specs.Prelude.{ℕ, Bool, true, false, Result, Ok, Err}
 use Rattle.pz_io.specs.declared.outside.Opened.{Opened}
 use Rattle.pz_io.specs.declared.outside.Opened.TheVariants as opened
 use Rattle.pz_io.specs.declared.outside.Got.{Got}
 use Rattle.pz_io.specs.declared.outside.Got.TheVariants as got
 use Rattle.pz_io.specs.declared.outside.Put.{Put}
 use Rattle.pz_io.specs.declared.outside.Put.TheVariants as put
+use Rattle.pz_io.specs.declared.whole.ReadError.{ReadError}
+use Rattle.pz_io.specs.declared.whole.ReadError.TheVariants as read
 use Rattle.pz_io.specs.declared.whole.WriteError.{WriteError}
 use Rattle.pz_io.specs.declared.whole.WriteError.TheVariants.{Fault}
 
@@ -63,6 +65,13 @@ OnWriteFailed put.Failed P = P
 abbrev pub is_write_failed : Put → Bool
 is_write_failed (put.Took n) = false
 is_write_failed put.Failed = true
+
+-- whether the files failed, or lack the name
+abbrev pub is_fault : {A : Type 0} → Result A ReadError → Bool
+is_fault (Ok bytes) = false
+is_fault (Err read.NoMemory) = false
+is_fault (Err read.Fault) = true
+is_fault (Err read.TooLong) = false
 
 -- how many bytes the sink took before its fault
 abbrev pub sent_of : WriteError → ℕ

@@ -1,5 +1,5 @@
 -- What files and a sink are at some moment, and counts that stand still at their end.
-use Rattle.std.specs.Prelude.{◌≡◌, ◌⊎◌, ◌<◌, ◌≤◌, ◌+◌, ◌-◌, ◌^◌, min, if◌then◌else◌, Bool, false, ℕ, List, [], ◌∷◌, length, Option, Some, None}
+use Rattle.std.specs.Prelude.{◌≡◌, ◌⊎◌, ◌<◌, ◌≤◌, ◌+◌, ◌-◌, ◌^◌, min, if◌then◌else◌, Bool, true, false, ℕ, List, [], ◌∷◌, length, Option, Some, None}
 use Rattle.std.specs.Str.{bytes_eq}
 
 -- the names of the files, each with the bytes of its file
@@ -27,10 +27,14 @@ pub record FilesState : Type 0 where
   pub faults : ℕ
   -- how many calls of `open` there were
   pub opens : ℕ
+  -- the names that these were given, in their order
+  pub opened : List (List ℕ)
   -- how many bytes were handed out since the last `open`
   pub handed : ℕ
   -- whether the last call was a `read` that answered `End`
   pub ended : Bool
+  -- whether the last call was one that failed
+  pub failed : Bool
 
 -- what takes bytes
 pub record SinkState : Type 0 where
@@ -40,14 +44,26 @@ pub record SinkState : Type 0 where
   pub taken : List ℕ
   -- how many faults there were
   pub faults : ℕ
+  -- whether the last call was one that failed
+  pub failed : Bool
 
 -- files of which nothing was asked yet
 abbrev pub new_files : Bool → Entries → FilesState
-new_files told held = record { told = told; held = held; rest = []; faults = 0; opens = 0; handed = 0; ended = false }
+new_files told held = record {
+  told = told;
+  held = held;
+  rest = [];
+  faults = 0;
+  opens = 0;
+  opened = [];
+  handed = 0;
+  ended = false;
+  failed = false;
+}
 
 -- a sink that was given nothing yet
 abbrev pub new_sink : Bool → SinkState
-new_sink told = record { told = told; taken = []; faults = 0 }
+new_sink told = record { told = told; taken = []; faults = 0; failed = false }
 
 -- one more, but a count that is kept in a u64 stands still at its end
 abbrev pub raised : ℕ → ℕ
@@ -60,3 +76,15 @@ raised_if happened count = if happened then raised count else count
 -- the count is higher now, or stands at its end, where it is taken as having risen
 abbrev pub Rose : ℕ → ℕ → Type 0
 Rose before now = (before < now) ⊎ (2 ^ 64 - 1 ≤ now)
+
+-- told files lack the name
+abbrev pub LacksName : FilesState → List ℕ → Type 0
+LacksName files name = (files.told ≡ true) × (lookup files.held name ≡ None)
+
+-- the files failed, once since before and in their last call
+abbrev pub FilesFailedLast : FilesState → FilesState → Type 0
+FilesFailedLast before now = (now.faults ≡ raised before.faults) × (now.failed ≡ true)
+
+-- the sink failed, once since before and in its last call
+abbrev pub SinkFailedLast : SinkState → SinkState → Type 0
+SinkFailedLast before now = (now.faults ≡ raised before.faults) × (now.failed ≡ true)

@@ -5,7 +5,7 @@ use Rattle.pz_io.specs.Outside.{SinkState, raised}
 use Rattle.pz_io.specs.declared.roomy.RoomySink.{RoomySink}
 
 abbrev pub roomy_state : RoomySink → SinkState
-roomy_state sink = record { told = true; taken = sink.bytes.items; faults = sink.faults }
+roomy_state sink = record { told = true; taken = sink.bytes.items; faults = sink.faults; failed = sink.failed }
 
 -- how many more bytes the sink takes
 abbrev pub roomy_room : RoomySink → ℕ

@@ -1,7 +1,7 @@
 // Files in memory that fail at given calls.
-ghost use Rattle.std.specs.Prelude.{◌≡◌, ◌⊎◌, ◌≤◌, ◌<◌, ◌+◌, ◌++◌, [], true, false, None, Some, length, take, min};
-ghost use Rattle.pz_io.specs.Outside.{lookup, raised, raised_if, Rose};
-ghost use Rattle.pz_io.specs.Outcomes.{OnReady, OnOpenFailed, IfBytes, OnEnd, OnReadFailed, is_end, is_read_failed, bytes_got};
+ghost use Rattle.std.specs.Prelude.{◌≡◌, ◌⊎◌, ◌≤◌, ◌<◌, ◌+◌, ◌++◌, [], ◌∷◌, true, false, None, Some, length, take, min};
+ghost use Rattle.pz_io.specs.Outside.{lookup, raised, raised_if};
+ghost use Rattle.pz_io.specs.Outcomes.{OnReady, OnOpenFailed, is_open_failed, IfBytes, OnEnd, OnReadFailed, is_end, is_read_failed, bytes_got};
 
 use crate::mem::MemFiles;
 use crate::outside::{Files, Got, Opened};
@@ -63,14 +63,14 @@ impl Files for FailingFiles {
     fn open(&mut self, name: &str) -> Opened
         ensures held { (failing_state self.new).held ≡ (failing_state self.old).held }
         ensures opens { (failing_state self.new).opens ≡ raised (failing_state self.old).opens }
+        ensures opened { (failing_state self.new).opened ≡
+            (failing_state self.old).opened ++ (name.now ∷ []) }
         ensures handed { (failing_state self.new).handed ≡ 0 }
         ensures ended { (failing_state self.new).ended ≡ false }
+        ensures last { (failing_state self.new).failed ≡ is_open_failed result }
         ensures faults { (failing_state self.old).faults ≤ (failing_state self.new).faults }
         ensures ready { OnReady result
             (lookup (failing_state self.old).held name.now ≡ Some (failing_state self.new).rest) }
-        ensures failed { OnOpenFailed result
-            (Rose (failing_state self.old).faults (failing_state self.new).faults
-            ⊎ (lookup (failing_state self.old).held name.now ≡ None)) }
         ensures closed { OnOpenFailed result ((failing_state self.new).rest ≡ []) }
 
         // which calls fail
@@ -83,7 +83,7 @@ impl Files for FailingFiles {
             OnOpenFailed result (lookup (failing_state self.old).held name.now ≡ None) }
     {
         if self.count_call() {
-            self.inner.refuse_open();
+            self.inner.refuse_open(name);
             return Opened::Failed;
         }
         self.inner.open(name)
@@ -94,9 +94,11 @@ impl Files for FailingFiles {
         requires { 0 < length buf.old }
         ensures held { (failing_state self.new).held ≡ (failing_state self.old).held }
         ensures opens { (failing_state self.new).opens ≡ (failing_state self.old).opens }
+        ensures opened { (failing_state self.new).opened ≡ (failing_state self.old).opened }
         ensures handed { (failing_state self.new).handed ≡
             (failing_state self.old).handed + bytes_got result }
         ensures ended { (failing_state self.new).ended ≡ is_end result }
+        ensures last { (failing_state self.new).failed ≡ is_read_failed result }
         ensures faults { (failing_state self.old).faults ≤ (failing_state self.new).faults }
         ensures count { IfBytes result
             (λ n. (1 ≤ n) × (n ≡ min (length (failing_state self.old).rest) (length buf.new))) }
@@ -104,8 +106,6 @@ impl Files for FailingFiles {
             (λ n. (failing_state self.old).rest ≡ take n buf.new ++ (failing_state self.new).rest) }
         ensures end { OnEnd result
             (((failing_state self.old).rest ≡ []) × ((failing_state self.new).rest ≡ [])) }
-        ensures failed { OnReadFailed result
-            (Rose (failing_state self.old).faults (failing_state self.new).faults) }
         ensures failed_rest { OnReadFailed result
             ((failing_state self.new).rest ≡ (failing_state self.old).rest) }
 

@@ -8,9 +8,11 @@
 //! Text that is written to a sink piece by piece: what was written, also where that had to stop.
 #![tactic(auto)]
 
+mod answers;
 mod failing;
 mod laws;
 mod mem;
+mod names;
 mod os;
 mod outside;
 mod roomy;
@@ -20,6 +22,7 @@ mod writing;
 pub use failing::FailingFiles;
 pub use laws::pieces_join;
 pub use mem::MemFiles;
+pub use names::Names;
 pub use os::{OsFiles, OsSink};
 pub use outside::{Files, Got, Opened, Put, Sink};
 pub use roomy::RoomySink;

@@ -1,9 +1,11 @@
 // The files and the standard output of the system: the edge to what is trusted. They tell nothing
 // of what they hold.
-ghost use Rattle.std.specs.Prelude.{◌≡◌, ◌≤◌, ◌<◌, ◌+◌, [], false, length};
-ghost use Rattle.pz_io.specs.Outside.{new_files, new_sink, raised, raised_if, Rose};
-ghost use Rattle.pz_io.specs.Outcomes.{OnOpenFailed, is_open_failed, IfBytes, OnReadFailed, is_end, is_read_failed, bytes_got, IfTook, OnWriteFailed, is_write_failed};
+ghost use Rattle.std.specs.Prelude.{◌≡◌, ◌≤◌, ◌<◌, ◌+◌, ◌++◌, [], ◌∷◌, false, length};
+ghost use Rattle.pz_io.specs.Outside.{new_files, new_sink, raised, raised_if};
+ghost use Rattle.pz_io.specs.Outcomes.{is_open_failed, IfBytes, is_end, is_read_failed, bytes_got, IfTook, is_write_failed};
 
+use crate::answers::{got_of, put_of};
+use crate::names::Names;
 use crate::outside::{Files, Got, Opened, Put, Sink};
 use std::fs::File;
 use std::io;
@@ -18,8 +20,10 @@ pub struct OsFiles {
     file: Option<File>,
     faults: u64,
     opens: u64,
+    names: Names,
     handed: u64,
     ended: bool,
+    failed: bool,
 }
 
 impl OsFiles {
@@ -34,8 +38,10 @@ impl OsFiles {
             file: None,
             faults: 0,
             opens: 0,
+            names: Names::none(),
             handed: 0,
             ended: false,
+            failed: false,
         }
     }
 }
@@ -47,18 +53,21 @@ impl Files for OsFiles {
 
     fn open(&mut self, name: &str) -> Opened
         ensures opens { (os_files_state self.new).opens ≡ raised (os_files_state self.old).opens }
+        ensures opened { (os_files_state self.new).opened ≡
+            (os_files_state self.old).opened ++ (name.now ∷ []) }
         ensures handed { (os_files_state self.new).handed ≡ 0 }
         ensures ended { (os_files_state self.new).ended ≡ false }
+        ensures last { (os_files_state self.new).failed ≡ is_open_failed result }
         ensures faults { (os_files_state self.old).faults ≤ (os_files_state self.new).faults }
-        ensures failed { OnOpenFailed result
-            (Rose (os_files_state self.old).faults (os_files_state self.new).faults) }
         ensures counted { (os_files_state self.new).faults ≡
             raised_if (is_open_failed result) (os_files_state self.old).faults }
     {
         self.file = None;
         self.opens = self.opens.saturating_add(1);
+        self.names = self.names.with(name);
         self.handed = 0;
         self.ended = false;
+        self.failed = false;
         match File::open(&self.rt, name) {
             Ok(file) => {
                 self.file = Some(file);
@@ -66,6 +75,7 @@ impl Files for OsFiles {
             }
             Err(_) => {
                 self.faults = self.faults.saturating_add(1);
+                self.failed = true;
                 Opened::Failed
             }
         }
@@ -74,35 +84,31 @@ impl Files for OsFiles {
     fn read(&mut self, buf: &mut [u8]) -> Got
         requires { 0 < length buf.old }
         ensures opens { (os_files_state self.new).opens ≡ (os_files_state self.old).opens }
+        ensures opened { (os_files_state self.new).opened ≡ (os_files_state self.old).opened }
         ensures handed { (os_files_state self.new).handed ≡
             (os_files_state self.old).handed + bytes_got result }
         ensures ended { (os_files_state self.new).ended ≡ is_end result }
+        ensures last { (os_files_state self.new).failed ≡ is_read_failed result }
         ensures count { IfBytes result (λ n. (1 ≤ n) × (n ≤ length buf.new)) }
         ensures faults { (os_files_state self.old).faults ≤ (os_files_state self.new).faults }
-        ensures failed { OnReadFailed result
-            (Rose (os_files_state self.old).faults (os_files_state self.new).faults) }
         ensures counted { (os_files_state self.new).faults ≡
             raised_if (is_read_failed result) (os_files_state self.old).faults }
     {
         self.ended = false;
-        let Some(file) = &mut self.file else {
-            self.ended = true;
-            return Got::End;
+        self.failed = false;
+        let got = match &mut self.file {
+            Some(file) => got_of(file.read(buf), self.handed),
+            None => Got::End,
         };
-        match file.read(buf) {
-            Ok(0) => {
-                self.ended = true;
-                Got::End
-            }
-            Ok(n) if n as u64 <= u64::MAX - self.handed => {
-                self.handed += n as u64;
-                Got::Bytes(n)
-            }
-            Ok(_) | Err(_) => {
+        match got {
+            Got::Bytes(n) => self.handed += n as u64,
+            Got::End => self.ended = true,
+            Got::Failed => {
                 self.faults = self.faults.saturating_add(1);
-                Got::Failed
+                self.failed = true;
             }
         }
+        got
     }
 }
 
@@ -112,6 +118,7 @@ impl Files for OsFiles {
 pub struct OsSink {
     rt: HostRuntime,
     faults: u64,
+    failed: bool,
 }
 
 impl OsSink {
@@ -121,7 +128,11 @@ impl OsSink {
     pub fn new(rt: HostRuntime) -> OsSink
         ensures { os_sink_state result ≡ new_sink false }
     {
-        OsSink { rt, faults: 0 }
+        OsSink {
+            rt,
+            faults: 0,
+            failed: false,
+        }
     }
 }
 
@@ -133,18 +144,17 @@ impl Sink for OsSink {
     fn write(&mut self, piece: &[u8]) -> Put
         requires { 0 < length piece.now }
         ensures count { IfTook result (λ n. (1 ≤ n) × (n ≤ length piece.now)) }
+        ensures last { (os_sink_state self.new).failed ≡ is_write_failed result }
         ensures faults { (os_sink_state self.old).faults ≤ (os_sink_state self.new).faults }
-        ensures failed { OnWriteFailed result
-            (Rose (os_sink_state self.old).faults (os_sink_state self.new).faults) }
         ensures counted { (os_sink_state self.new).faults ≡
             raised_if (is_write_failed result) (os_sink_state self.old).faults }
     {
-        match io::writer(&self.rt).write(piece) {
-            Ok(0) | Err(_) => {
-                self.faults = self.faults.saturating_add(1);
-                Put::Failed
-            }
-            Ok(n) => Put::Took(n),
+        self.failed = false;
+        let put = put_of(io::writer(&self.rt).write(piece));
+        if put == Put::Failed {
+            self.faults = self.faults.saturating_add(1);
+            self.failed = true;
         }
+        put
     }
 }

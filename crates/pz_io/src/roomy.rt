@@ -1,6 +1,6 @@
 // A sink in memory, with room that is taken when it is made.
 ghost use Rattle.std.specs.Prelude.{◌≡◌, ◌≤◌, ◌<◌, ◌+◌, ◌++◌, true, IfOk, vec_len, vec_capacity, min, length, take};
-ghost use Rattle.pz_io.specs.Outside.{new_sink, raised, raised_if, Rose};
+ghost use Rattle.pz_io.specs.Outside.{new_sink, raised, raised_if};
 ghost use Rattle.pz_io.specs.Outcomes.{IfTook, OnWriteFailed, is_write_failed};
 
 use crate::outside::{Put, Sink};
@@ -17,6 +17,7 @@ pub struct RoomySink {
     calls: Vec<u64>,
     made: u64,
     faults: u64,
+    failed: bool,
     ghost fits: { vec_len bytes + room ≤ vec_capacity bytes },
 }
 
@@ -37,6 +38,7 @@ impl RoomySink {
             calls,
             made: 0,
             faults: 0,
+            failed: false,
         })
     }
 
@@ -56,14 +58,13 @@ impl Sink for RoomySink {
     /// A write that does not fail takes as much of the piece as there is room.
     fn write(&mut self, piece: &[u8]) -> Put
         requires { 0 < length piece.now }
+        ensures last { (roomy_state self.new).failed ≡ is_write_failed result }
         ensures faults { (roomy_state self.old).faults ≤ (roomy_state self.new).faults }
         ensures count { IfTook result
             (λ n. (1 ≤ n) × (n ≡ min (length piece.now) (roomy_room self.old))) }
         ensures bytes { IfTook result
             (λ n. (roomy_state self.new).taken ≡ (roomy_state self.old).taken ++ take n piece.now) }
         ensures room { IfTook result (λ n. roomy_room self.new + n ≡ roomy_room self.old) }
-        ensures failed { OnWriteFailed result
-            (Rose (roomy_state self.old).faults (roomy_state self.new).faults) }
         ensures nothing { OnWriteFailed result
             ((roomy_state self.new).taken ≡ (roomy_state self.old).taken) }
         ensures same_room { OnWriteFailed result (roomy_room self.new ≡ roomy_room self.old) }
@@ -78,8 +79,10 @@ impl Sink for RoomySink {
         self.made = self.made.saturating_add(1);
         if self.room == 0 || self.calls.contains(&self.made) {
             self.faults = self.faults.saturating_add(1);
+            self.failed = true;
             return Put::Failed;
         }
+        self.failed = false;
         let n = piece.len().min(self.room);
         match self.bytes.extend_from_slice(&piece[..n]) {
             Ok(()) => {

@@ -29,7 +29,7 @@ impl From<AllocError> for Halt {
 ///
 /// # Errors
 ///
-/// The sink failed, and its count of faults rose in this call. It took a front of the bytes.
+/// The sink failed, and took a front of the bytes. Nothing is written after a write that failed.
 pub fn put<W: Sink>(out: &mut W, bytes: &[u8]) -> Result<(), Halt>
     ensures wrote { Wrote (W.state out.old) (W.state out.new) bytes.now (result_err result) }
     ensures fault { IsOkUnless result Halt.WriteFault }

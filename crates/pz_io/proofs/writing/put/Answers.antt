@@ -7,7 +7,6 @@ returns-in-Err-clause-wrote g c =
     let sent = sent_of c.in-Err.field-0 in
     record {
       tells = c.in-Err.ensures.told;
-      faults = c.in-Err.ensures.faults;
       taken = λ told. front_of_part (g.W.Sink.state c.args.out.now) (g.W.Sink.state c.write_all.new.sink) c.args.bytes.now sent (c.in-Err.ensures.front told);
-      cause = λ _. c.in-Err.ensures.cause;
+      failed = c.in-Err.ensures.cause;
     }
