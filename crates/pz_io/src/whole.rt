@@ -45,9 +45,10 @@ const BUFFER_LEN: usize = 4096;
 /// # Errors
 ///
 /// `Fault` comes only where the count of faults was raised in this call, or where the files tell and
-/// lack the name; the call that failed is the last. `TooLong` comes only where more than `limit` bytes were handed out since the `open` of
-/// this call, and, where the files tell, only where the named file is longer than `limit`. So where
-/// the files tell and their count did not rise, each comes exactly there, but for `NoMemory`.
+/// lack the name; the call that failed is the last. `TooLong` comes only where more than `limit`
+/// bytes were handed out since the `open` of this call, and, where the files tell, only where the
+/// named file is longer than `limit`. So where the files tell and their count did not rise, each
+/// comes exactly there, but for `NoMemory`.
 pub fn read_all<F: Files>(
     alloc: Global,
     files: &mut F,
