@@ -7,7 +7,7 @@ use Rattle.pz_syntax.specs.Classes.{DeclTree, ModelTree}
 use Rattle.pz_classes.specs.Numbers.{declaration}
 use Rattle.pz_classes.specs.Kinds.{is_process}
 use Rattle.pz_classes.specs.declared.classes.Classes.{Classes}
-use Rattle.pz_classes.specs.Tables.{Row, rows_from, row_view, AreClasses}
+use Rattle.pz_classes.specs.devices.Rows.{Row, rows_from, row_view, AreClasses}
 use Rattle.pz_classes.specs.Members.{ports, spelled}
 use Rattle.pz_classes.specs.SoundClasses.{ClassesFit}
 use Rattle.pz_bind_levels.specs.declared.expansion.Process.{Process}
@@ -17,14 +17,14 @@ use Rattle.pz_bind_levels.specs.Places.{Address, Spot}
 use Rattle.pz_bind_levels.specs.Places as by_number
 use Rattle.pz_bind_levels.specs.Wires.{Channel}
 use Rattle.pz_bind_levels.specs.Connections as numbers
-use Rattle.pz_bind_levels.specs.Expanded.{StandsAt, IsExpansion}
+use Rattle.pz_bind_levels.specs.devices.Expanded.{StandsAt, IsExpansion}
 use Rattle.pz_bind_levels.proofs.Each.{there}
 use Rattle.pz_bind_levels.specs.devices.Walking.{layouts_of}
 use Rattle.pz_bind.specs.Nest.{system_class, class_at, is_process_at, places, processes}
 use Rattle.pz_bind.specs.Connections.{end, IsInNone}
 use Rattle.pz_bind.specs.Wires.{wires, HasWire}
 use Rattle.pz_bind.specs.Names.{wire_name}
-use Rattle.pz_bind.specs.NetView.{node_at, IsNet}
+use Rattle.pz_bind.specs.devices.Nets.{node_at, IsNet}
 use Rattle.pz_bind.specs.declared.net.Net.{Net}
 use Rattle.pz_bind.specs.declared.net.Node.{Node}
 use Rattle.pz_bind.specs.devices.Layouts.{layouts}

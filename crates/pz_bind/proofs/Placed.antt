@@ -12,7 +12,7 @@ use Rattle.pz_bind_levels.specs.declared.expansion.Expansion.{Expansion}
 use Rattle.pz_bind_levels.specs.Places.{Address, Spot}
 use Rattle.pz_bind_levels.specs.Places as by_number
 use Rattle.pz_bind_levels.specs.Wires.{Channel}
-use Rattle.pz_bind_levels.specs.Expanded.{StandsAt, at_top, in_level, IsExpansion}
+use Rattle.pz_bind_levels.specs.devices.Expanded.{StandsAt, at_top, in_level, IsExpansion}
 use Rattle.pz_bind.specs.Nest.{system_class, class_at, instances_at, inside, is_level, is_process_at, places, levels, processes}
 use Rattle.pz_bind.specs.devices.Layouts.{layouts}
 use Rattle.pz_bind.specs.devices.Sites.{LevelAt, the_system, a_cluster, AreLevels}

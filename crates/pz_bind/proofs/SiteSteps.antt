@@ -22,7 +22,7 @@ use Rattle.pz_bind.specs.Nest.{instances_in, class_at, instance_at, levels, proc
 use Rattle.pz_bind.specs.Names.{path, wire_name}
 use Rattle.pz_bind.specs.Values.{given_value, parameter_at, values_at}
 use Rattle.pz_bind.specs.Wires.{wires}
-use Rattle.pz_bind.specs.NetView.{node_at}
+use Rattle.pz_bind.specs.devices.Nets.{node_at}
 use Rattle.pz_bind.specs.declared.bindings.Bindings.{Bindings}
 use Rattle.pz_bind.specs.declared.sites.Site.{Site}
 use Rattle.pz_bind.specs.devices.Bindings.{value_in}

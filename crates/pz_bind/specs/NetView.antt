@@ -1,33 +1,6 @@
--- What is kept of the net of a model.
-use Rattle.std.specs.Prelude.{◌≡◌, ◌<◌, ℕ, length, map}
-use Rattle.pz_syntax.specs.Classes.{ModelTree}
-use Rattle.pz_classes.specs.Tables.{class_id}
-use Rattle.pz_classes.specs.SoundSystem.{SystemFits}
-use Rattle.pz_classes.specs.SoundClasses.{ClassesFit}
-use Rattle.pz_bind_levels.specs.Places.{Address}
-use Rattle.pz_bind_levels.specs.Expanded.{IsExpansion}
-use Rattle.pz_bind_levels.specs.devices.Walking.{layouts_of}
-use Rattle.pz_bind.specs.Nest.{system_class, class_at, processes}
-use Rattle.pz_bind.specs.Names.{path, wire_name}
-use Rattle.pz_bind.specs.Values.{values_at}
-use Rattle.pz_bind.specs.Wires.{wires}
-use Rattle.pz_bind.specs.devices.Layouts.{layouts}
-use Rattle.pz_bind.specs.declared.net.Node.{Node}
+-- The processes and the wires that a net has.
+use Rattle.std.specs.Prelude.{◌<◌, ℕ, length}
 use Rattle.pz_bind.specs.declared.net.Net.{Net}
-
--- the process at this place
-abbrev pub node_at : ModelTree → Address → Node
-node_at m place = record { path = path m place; class = class_id (class_at m place); values = values_at m place }
-
--- This is the net of the model, which is sound: its processes and the names of its wires, each in
--- order, and the levels by which wires are found.
-pub record IsNet (m : ModelTree) (net : Net) : Type 0 where
-  pub system_fits : SystemFits m
-  pub classes_fit : ClassesFit m
-  pub nodes : net.nodes ≡ map (node_at m) (processes m)
-  pub wire_names : net.wire_names ≡ map (wire_name m) (wires m)
-  pub plans : layouts_of net.plans ≡ layouts m
-  pub expansion : IsExpansion (layouts m) (system_class m) net.expansion
 
 -- the process is one of these
 abbrev pub HasProcess : Net → ℕ → Type 0

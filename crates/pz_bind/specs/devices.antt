@@ -3,3 +3,4 @@ pub mod Numberings
 pub mod Bindings
 pub mod Sites
 pub mod Processes
+pub mod Nets

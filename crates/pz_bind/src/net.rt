@@ -6,7 +6,8 @@ ghost use Rattle.pz_classes.specs.Members.{ports, spelled};
 ghost use Rattle.pz_classes.specs.Kinds.{is_process};
 ghost use Rattle.pz_classes.specs.Numbers.{declaration};
 ghost use Rattle.pz_classes.specs.declared.classes.Classes.{Classes as Table};
-ghost use Rattle.pz_classes.specs.Tables.{AreClasses, HasClass, class_id};
+ghost use Rattle.pz_classes.specs.Tables.{HasClass, class_id};
+ghost use Rattle.pz_classes.specs.devices.Rows.{AreClasses};
 ghost use Rattle.pz_bind_levels.specs.Places.{Address};
 ghost use Rattle.pz_bind_levels.specs.Wires.{Channel};
 ghost use Rattle.pz_bind.specs.Nest as nest;
@@ -60,7 +61,8 @@ fn narrowed(wire: Option<usize>) -> Option<u32>
 }
 
 impl Net {
-    ghost use Rattle.pz_bind.specs.NetView.{IsNet, HasProcess, IsWireOf};
+    ghost use Rattle.pz_bind.specs.NetView.{HasProcess, IsWireOf};
+    ghost use Rattle.pz_bind.specs.devices.Nets.{IsNet};
 
     /// The net of a checked model. The time is linear in what stands in the system and in the names
     /// in full. The only error is want of memory.

@@ -8,7 +8,7 @@ ghost use Rattle.pz_bind.specs.Nest.{class_at, levels};
 ghost use Rattle.pz_bind.specs.Nest as nest;
 ghost use Rattle.pz_bind.specs.Names as spec_names;
 ghost use Rattle.pz_bind.specs.Wires as spec_wires;
-ghost use Rattle.pz_bind.specs.NetView.{node_at};
+ghost use Rattle.pz_bind.specs.devices.Nets.{node_at};
 ghost use Rattle.pz_bind.specs.devices.Sites.{AreSites, IsPlaced, StandsIn};
 ghost use Rattle.pz_bind.specs.declared.sites.Site.{Site as Known};
 ghost use Rattle.pz_bind.specs.devices.Processes.{AreProcesses, AreWires};

@@ -1,7 +1,7 @@
 -- Lists whose elements fit each other, place by place.
 use Rattle.std.proofs.Common.{◌≡◌, refl, ap, subst, ℕ, zero, suc, ◌<◌, List, [], ◌∷◌, ◌++◌, length, get_or, Some, slice_get, arith, ◌⊎◌, inl, inr}
 use Rattle.std.proofs.lemmas.Option.{slice_get_within, slice_get-get_or}
-use Rattle.pz_bind_levels.specs.Expanded.{EachOf}
+use Rattle.pz_bind_levels.specs.devices.Expanded.{EachOf}
 
 module _ {A : Type 0} where
   pub in_first : (xs ys : List A) (n : ℕ) (x : A) → slice_get xs n ≡ Some x → slice_get (xs ++ ys) n ≡ Some x

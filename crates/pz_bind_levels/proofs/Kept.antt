@@ -11,7 +11,7 @@ use Rattle.pz_bind_levels.specs.declared.walk.Walk.{Walk}
 use Rattle.pz_bind_levels.specs.Layouts.{Layout, layout, AreLinked}
 use Rattle.pz_bind_levels.specs.Places.{Address, Spot, layout_at}
 use Rattle.pz_bind_levels.specs.Wires.{Channel, joined_by, ending, wires_of}
-use Rattle.pz_bind_levels.specs.Expanded.{EachOf, StandsAt, at_top, in_level, IsLevel, IsProcess, IsWire, AreInwards}
+use Rattle.pz_bind_levels.specs.devices.Expanded.{EachOf, StandsAt, at_top, in_level, IsLevel, IsProcess, IsWire, AreInwards}
 use Rattle.pz_bind_levels.specs.devices.Tops.{top}
 use Rattle.pz_bind_levels.specs.devices.Walking.{wire_at, wire_above, new_wires, own_wires, levels_among, processes_among, wires_among, IsKept, Enters, Meets}
 use Rattle.pz_bind_levels.proofs.Each.{in_first, at_end, pushed_at, there, both, pushed, implied, partner}

@@ -8,7 +8,7 @@ use Rattle.pz_bind_levels.specs.Layouts.{Layout, layout, AreLinked}
 use Rattle.pz_bind_levels.specs.Places.{Address, Spot, levels}
 use Rattle.pz_bind_levels.specs.Wires.{wires}
 use Rattle.pz_bind_levels.specs.Connections.{HasWire, IsInNone}
-use Rattle.pz_bind_levels.specs.Expanded.{StandsAt, in_level, IsLevel, IsExpansion}
+use Rattle.pz_bind_levels.specs.devices.Expanded.{StandsAt, in_level, IsLevel, IsExpansion}
 use Rattle.pz_bind_levels.specs.devices.Walking.{wire_at}
 use Rattle.pz_bind_levels.proofs.Each.{there, partner}
 use Rattle.pz_bind_levels.proofs.Connected.{has_wire, in_none}

@@ -12,7 +12,7 @@ use Rattle.pz_bind_levels.specs.declared.walk.Open.{Open}
 use Rattle.pz_bind_levels.specs.declared.walk.Walk.{Walk}
 use Rattle.pz_bind_levels.specs.Layouts.{Layout, layout, AreLinked}
 use Rattle.pz_bind_levels.specs.Places.{Spot, spot, the_system, with_inside, inside, spots, layout_at}
-use Rattle.pz_bind_levels.specs.Expanded.{at_top, in_level, IsLevel, IsProcess, IsWire, AreInwards, IsExpansion}
+use Rattle.pz_bind_levels.specs.devices.Expanded.{at_top, in_level, IsLevel, IsProcess, IsWire, AreInwards, IsExpansion}
 use Rattle.pz_bind_levels.specs.devices.Walking.{still_in, IsLeft, part_at, next_of, standing_of, after, opened, levels_among, processes_among, wires_among, IsKept, Enters, Meets, Visits, Steps, IsWalk, Goes}
 use Rattle.pz_bind_levels.proofs.Each.{at_end, none, partner}
 use Rattle.pz_bind_levels.proofs.Left.{next_first, none_next, First, first, one_more, grown, opens_inside}

@@ -5,7 +5,7 @@ use Rattle.std.proofs.lemmas.List.{length_push}
 use Rattle.pz_bind_levels.specs.Layouts.{Layout}
 use Rattle.pz_bind_levels.specs.Places.{Address, Spot}
 use Rattle.pz_bind_levels.specs.Wires.{Channel, channel, joined_by, ending}
-use Rattle.pz_bind_levels.specs.Expanded.{EachOf, IsWire}
+use Rattle.pz_bind_levels.specs.devices.Expanded.{EachOf, IsWire}
 use Rattle.pz_bind_levels.specs.devices.Tops.{top}
 use Rattle.pz_bind_levels.specs.devices.Walking.{wire, new_wires, own_wires}
 use Rattle.pz_bind_levels.proofs.Each.{in_first, at_end, none, one_first}

@@ -2,7 +2,7 @@ ghost use Rattle.std.specs.Prelude.{◌≡◌, ℕ, MatchOption, Some};
 ghost use Rattle.pz_bind_levels.specs.Layouts.{AreLinked};
 ghost use Rattle.pz_bind_levels.specs.Places.{Address, levels};
 ghost use Rattle.pz_bind_levels.specs.Connections.{HasWire, IsInNone};
-ghost use Rattle.pz_bind_levels.specs.Expanded.{IsExpansion, StandsAt};
+ghost use Rattle.pz_bind_levels.specs.devices.Expanded.{IsExpansion, StandsAt};
 ghost use Rattle.pz_bind_levels.specs.devices.Walking as spec;
 ghost use Rattle.pz_bind_levels.specs.devices.Walking.{layouts_of};
 

@@ -4,7 +4,7 @@
 ghost use Rattle.std.specs.Prelude.{◌≡◌, ◌<◌, ◌+◌, ◌^◌, ◌++◌, ◌∷◌, [], length, IfOk, OnOk, OnSome, if◌then◌else◌};
 ghost use Rattle.std.specs.Option.{unwrap_or, is_some};
 ghost use Rattle.pz_bind_levels.specs.Layouts.{layout, AreLinked};
-ghost use Rattle.pz_bind_levels.specs.Expanded.{IsExpansion};
+ghost use Rattle.pz_bind_levels.specs.devices.Expanded.{IsExpansion};
 ghost use Rattle.pz_bind_levels.specs.devices.Walking as spec;
 ghost use Rattle.pz_bind_levels.specs.devices.Walking.{layouts_of, Goes};
 

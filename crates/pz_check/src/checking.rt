@@ -6,7 +6,7 @@ ghost use Rattle.pz_syntax.specs.ModelText.{HasFewMarks};
 ghost use Rattle.pz_check_violations.specs.declared.violation.Violation.{Violation as Found};
 ghost use Rattle.pz_check_violations.specs.Order.{IsLeast};
 ghost use Rattle.pz_check_violations.specs.Least.{LeastOf};
-ghost use Rattle.pz_classes.specs.Tables.{AreClasses};
+ghost use Rattle.pz_classes.specs.devices.Rows.{AreClasses};
 ghost use Rattle.pz_classes.specs.Violations.{Violates};
 ghost use Rattle.pz_classes.specs.Soundness.{Breaks};
 ghost use Rattle.pz_classes.specs.CheckedView.{checked_model, checked_classes};

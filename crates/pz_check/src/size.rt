@@ -5,7 +5,7 @@ ghost use Rattle.pz_syntax.specs.ClassView.{model_view};
 ghost use Rattle.pz_check_violations.specs.Least.{LeastOf};
 ghost use Rattle.pz_classes.specs.InstanceRules.{BreaksC15};
 ghost use Rattle.pz_classes.specs.SizeRules.{BreaksC19, BreaksC20};
-ghost use Rattle.pz_classes.specs.Tables.{AreClasses};
+ghost use Rattle.pz_classes.specs.devices.Rows.{AreClasses};
 ghost use Rattle.pz_check.specs.Together.{BreaksSize};
 
 use pz_check_duplicates::least_system;

@@ -7,7 +7,7 @@ ghost use Rattle.pz_syntax.specs.ModelText.{HasFewMarks, decl_text};
 ghost use Rattle.pz_classes_mentions.specs.Declarations.{parts};
 ghost use Rattle.pz_check_violations.specs.Least.{LeastOf, least_from};
 ghost use Rattle.pz_classes.specs.RepeatRules.{BreaksC4};
-ghost use Rattle.pz_classes.specs.Tables.{AreClasses};
+ghost use Rattle.pz_classes.specs.devices.Rows.{AreClasses};
 ghost use Rattle.pz_check_duplicates.specs.devices.RepeatList.{of_parts, of_own};
 
 use crate::inherited::Inherited;

@@ -11,7 +11,7 @@ use Rattle.pz_classes.specs.Numbers.{declaration, class, first_named, is_named}
 use Rattle.pz_classes.specs.NameRules.{has_instances}
 use Rattle.pz_classes.specs.Instances.{instance_class}
 use Rattle.pz_classes.specs.Preorder.{IsPreorderOf}
-use Rattle.pz_classes.specs.Tables.{Row, rows_from, row_view, AreClasses}
+use Rattle.pz_classes.specs.devices.Rows.{Row, rows_from, row_view, AreClasses}
 use Rattle.pz_classes.specs.declared.classes.Classes.{Classes}
 use Rattle.pz_check_instances.proofs.Contained.{first_of, later_of, either_of, in_none}
 

@@ -6,7 +6,7 @@ ghost use Rattle.pz_syntax.specs.ClassView.{decl_view, model_view};
 ghost use Rattle.pz_syntax.specs.ModelText.{HasFewMarks, decl_text};
 ghost use Rattle.pz_check_violations.specs.Least.{LeastOf, least_from};
 ghost use Rattle.pz_classes.specs.ChannelRules as rules;
-ghost use Rattle.pz_classes.specs.Tables.{AreClasses};
+ghost use Rattle.pz_classes.specs.devices.Rows.{AreClasses};
 ghost use Rattle.pz_check_instances.specs.devices.NameSets.{names_in};
 ghost use Rattle.pz_check_instances.specs.devices.Ends as spec;
 ghost use Rattle.pz_check_instances.specs.devices.Ends.{over, missing_at, wanted_at, absent};

@@ -5,7 +5,7 @@ ghost use Rattle.std.specs.List.{flat_map};
 ghost use Rattle.pz_syntax.specs.ClassView.{model_view};
 ghost use Rattle.pz_check_violations.specs.Least.{LeastOf, least_from};
 ghost use Rattle.pz_classes.specs.InstanceRules.{BreaksC14, given_names};
-ghost use Rattle.pz_classes.specs.Tables.{AreClasses};
+ghost use Rattle.pz_classes.specs.devices.Rows.{AreClasses};
 ghost use Rattle.pz_check_instances.specs.devices.NameSets.{names_in};
 ghost use Rattle.pz_check_instances.specs.devices.ClassRows.{row, row_count};
 ghost use Rattle.pz_check_instances.specs.devices.Given as spec;

@@ -5,7 +5,7 @@ ghost use Rattle.std.specs.Option.{option_copied};
 ghost use Rattle.pz_syntax.specs.ClassView.{decl_view, model_view};
 ghost use Rattle.pz_classes_code.specs.NumberIn.{number_in};
 ghost use Rattle.pz_classes.specs.ChannelRules as rules;
-ghost use Rattle.pz_classes.specs.Tables.{AreClasses};
+ghost use Rattle.pz_classes.specs.devices.Rows.{AreClasses};
 ghost use Rattle.pz_check_instances.specs.devices.Ends.{place_named};
 ghost use Rattle.pz_check_instances.specs.devices.Needs as spec;
 ghost use Rattle.pz_check_instances.specs.devices.Inside.{IsInside};

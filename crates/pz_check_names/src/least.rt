@@ -5,7 +5,7 @@ ghost use Rattle.pz_syntax.specs.ClassView.{model_view};
 ghost use Rattle.pz_syntax.specs.ModelText.{HasFewMarks};
 ghost use Rattle.pz_classes.specs.Ancestors.{ancestors};
 ghost use Rattle.pz_classes.specs.Preorder.{Opens};
-ghost use Rattle.pz_classes.specs.Tables.{AreClasses};
+ghost use Rattle.pz_classes.specs.devices.Rows.{AreClasses};
 ghost use Rattle.pz_classes.specs.WordRules.{BreaksWord};
 ghost use Rattle.pz_classes_lineage.specs.Preorder.{visited};
 ghost use Rattle.pz_check_violations.specs.Least.{LeastOf, least_from};

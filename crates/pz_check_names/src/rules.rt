@@ -8,7 +8,7 @@ ghost use Rattle.pz_classes.specs.Kinds as kinds;
 ghost use Rattle.pz_classes.specs.NameRules as names;
 ghost use Rattle.pz_classes.specs.Numbers as numbers;
 ghost use Rattle.pz_classes.specs.CallRules as calls;
-ghost use Rattle.pz_classes.specs.Tables.{AreClasses};
+ghost use Rattle.pz_classes.specs.devices.Rows.{AreClasses};
 
 use pz_classes::{Classes, declaration};
 use pz_classes_code::{is_array, is_primitive};

@@ -4,7 +4,7 @@ ghost use Rattle.std.specs.Prelude.{◌≡◌, ◌⊎◌, true, false, IfOk};
 ghost use Rattle.std.specs.List.{list_any};
 ghost use Rattle.pz_syntax.specs.declared.tokens.Pos.{Pos as Place};
 ghost use Rattle.pz_syntax.specs.ClassView.{model_view};
-ghost use Rattle.pz_classes.specs.Tables.{AreClasses};
+ghost use Rattle.pz_classes.specs.devices.Rows.{AreClasses};
 ghost use Rattle.pz_classes.specs.WordRules.{BreaksWord};
 ghost use Rattle.pz_check_violations.specs.Order.{violation};
 ghost use Rattle.pz_check_names.specs.devices.Unsized as spec;

@@ -2,7 +2,7 @@
 
 ghost use Rattle.std.specs.Prelude.{◌≡◌, ◌++◌, IfOk, OnOk};
 ghost use Rattle.pz_syntax.specs.ClassView.{decl_view, model_view};
-ghost use Rattle.pz_classes.specs.Tables.{AreClasses};
+ghost use Rattle.pz_classes.specs.devices.Rows.{AreClasses};
 ghost use Rattle.pz_check_size.specs.devices.Nodes as spec;
 
 use crate::totals::Totals;

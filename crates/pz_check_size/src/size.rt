@@ -5,7 +5,7 @@ ghost use Rattle.pz_syntax.specs.ClassView.{model_view};
 ghost use Rattle.pz_check_violations.specs.Least as least;
 ghost use Rattle.pz_check_violations.specs.Least.{LeastOf};
 ghost use Rattle.pz_classes.specs.SizeRules.{BreaksC19, HasNoSize};
-ghost use Rattle.pz_classes.specs.Tables.{AreClasses};
+ghost use Rattle.pz_classes.specs.devices.Rows.{AreClasses};
 ghost use Rattle.pz_check_size.specs.devices.Oversized as spec;
 
 use crate::counting::all_totals;

@@ -17,7 +17,8 @@ use Rattle.pz_classes.specs.Bodies.{BodyTree, own_bodies, bodies_from, bodies, d
 use Rattle.pz_classes.specs.BodyView.{body_view}
 use Rattle.pz_classes.specs.declared.classes.Classes.{Classes}
 use Rattle.pz_value.specs.declared.value.ClassId.{ClassId}
-use Rattle.pz_classes.specs.Tables.{rows, rows_from, row_view, AreClasses, HasClass, HasMethod, class_id}
+use Rattle.pz_classes.specs.Tables.{HasClass, HasMethod, class_id}
+use Rattle.pz_classes.specs.devices.Rows.{rows, rows_from, row_view, AreClasses}
 
 some_is : {A : Type 0} (x y : A) → Some x ≡ Some y → x ≡ y
 some_is x y same = cc

@@ -8,7 +8,7 @@ use Rattle.pz_classes.specs.declared.entry.Entry.{Entry}
 use Rattle.pz_classes.specs.Ancestors.{ancestors}
 use Rattle.pz_classes.specs.devices.Inherited.{HasMembers}
 use Rattle.pz_classes.specs.Bodies.{BodyTree, own_bodies, bodies_from}
-use Rattle.pz_classes.specs.Tables.{Row, row, rows, row_view}
+use Rattle.pz_classes.specs.devices.Rows.{Row, row, rows, row_view}
 use Rattle.pz_classes.proofs.Belongs.{entries_length}
 use Rattle.pz_classes.proofs.RowLookups.{entry_is, rows_length, row_at}
 

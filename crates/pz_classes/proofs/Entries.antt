@@ -11,7 +11,7 @@ use Rattle.pz_classes.specs.devices.Inherited.{HasMembers}
 use Rattle.pz_classes.specs.Methods.{Signature, own_method}
 use Rattle.pz_classes.specs.devices.MethodIn.{method_in, HasMethodsOf}
 use Rattle.pz_classes.specs.Starts.{own_call}
-use Rattle.pz_classes.specs.Tables.{row, row_view}
+use Rattle.pz_classes.specs.devices.Rows.{row, row_view}
 use Rattle.pz_classes.proofs.Agreeing.{agreeing}
 
 pub row_is : (m : ModelTree) (c : ℕ) (up : Option ℕ) (members : Members) (start : Option Step) (methods : Methods) → up ≡ parent m c

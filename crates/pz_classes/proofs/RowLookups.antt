@@ -7,7 +7,7 @@ use Rattle.pz_classes.specs.declared.entry.Entry.{Entry}
 use Rattle.pz_classes.specs.Ancestors.{parent, parent_of, followed}
 use Rattle.pz_classes.specs.Methods.{Signature, own_method, nearest, method_with}
 use Rattle.pz_classes.specs.Starts.{own_call, init}
-use Rattle.pz_classes.specs.Tables.{Row, row, rows_from, rows, row_view}
+use Rattle.pz_classes.specs.devices.Rows.{Row, row, rows_from, rows, row_view}
 use Rattle.pz_classes.specs.devices.Found.{up_in, own_in, found_in, start_in, start_found}
 use Rattle.pz_classes.proofs.Lines.{line_same}
 

@@ -4,3 +4,4 @@ pub mod ViolationList
 pub mod Inherited
 pub mod Rounds
 pub mod Found
+pub mod Rows

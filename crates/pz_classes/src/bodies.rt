@@ -13,7 +13,7 @@ ghost use Rattle.pz_classes.specs.devices.Inherited.{HasMembers, AreFew};
 ghost use Rattle.pz_classes.specs.Bodies as spec;
 ghost use Rattle.pz_classes.specs.BodyView.{body_view};
 ghost use Rattle.pz_classes.specs.devices.Surrounding.{scope_around, Numbers};
-ghost use Rattle.pz_classes.specs.Tables.{row_view, rows};
+ghost use Rattle.pz_classes.specs.devices.Rows.{row_view, rows};
 
 use crate::Body;
 use crate::entry::Entry;

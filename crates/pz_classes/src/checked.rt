@@ -6,7 +6,7 @@ ghost use Rattle.pz_syntax.specs.ModelText.{HasFewMarks};
 ghost use Rattle.pz_check_violations.specs.declared.violation.Violation.{Violation};
 ghost use Rattle.pz_classes.specs.Violations.{Violates};
 ghost use Rattle.pz_classes.specs.Soundness.{Breaks};
-ghost use Rattle.pz_classes.specs.Tables.{AreClasses};
+ghost use Rattle.pz_classes.specs.devices.Rows.{AreClasses};
 
 use crate::Classes;
 use pz_syntax::Model;

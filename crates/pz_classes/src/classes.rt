@@ -20,7 +20,8 @@ ghost use Rattle.pz_classes.specs.Violations.{Violates};
 ghost use Rattle.pz_check_violations.specs.Order.{IsLeast};
 ghost use Rattle.pz_classes.specs.Preorder.{IsPreorderOf};
 ghost use Rattle.pz_classes.specs.Refusals.{OnRefused};
-ghost use Rattle.pz_classes.specs.Tables.{AreClasses, HasClass, HasMethod, class_names, row, row_view, class_id};
+ghost use Rattle.pz_classes.specs.Tables.{HasClass, HasMethod, class_names, class_id};
+ghost use Rattle.pz_classes.specs.devices.Rows.{AreClasses, row, row_view};
 
 use crate::ancestry::{number_classes, parents_of};
 use crate::bodies::bodies_of;

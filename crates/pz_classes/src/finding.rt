@@ -2,7 +2,7 @@
 
 ghost use Rattle.std.specs.Prelude.{◌≡◌, map, slice_get};
 ghost use Rattle.std.specs.Option.{option_copied, option_map};
-ghost use Rattle.pz_classes.specs.Tables.{row_view};
+ghost use Rattle.pz_classes.specs.devices.Rows.{row_view};
 ghost use Rattle.pz_classes.specs.devices.Found.{found_in, start_found};
 ghost use Rattle.pz_classes_code.specs.StepView as step;
 

@@ -7,7 +7,8 @@ ghost use Rattle.pz_classes.specs.Numbers as numbers;
 ghost use Rattle.pz_classes.specs.Kinds as kinds;
 ghost use Rattle.pz_classes.specs.Kinds.{is_process, is_cluster};
 ghost use Rattle.pz_classes.specs.Instances as spec;
-ghost use Rattle.pz_classes.specs.Tables.{AreClasses, HasClass, class_id};
+ghost use Rattle.pz_classes.specs.Tables.{HasClass, class_id};
+ghost use Rattle.pz_classes.specs.devices.Rows.{AreClasses};
 
 use crate::Classes;
 use crate::declarations::declaration;

@@ -12,7 +12,7 @@ ghost use Rattle.pz_classes.specs.devices.MethodIn.{HasMethodsOf};
 ghost use Rattle.pz_classes_lineage.specs.Parents.{parent_in};
 ghost use Rattle.pz_classes_lineage.specs.Reached.{GoesRound};
 ghost use Rattle.pz_classes.specs.devices.Surrounding.{Numbers};
-ghost use Rattle.pz_classes.specs.Tables.{row, rows, row_view};
+ghost use Rattle.pz_classes.specs.devices.Rows.{row, rows, row_view};
 
 use crate::ancestry::parent_at;
 use crate::declarations::declaration;

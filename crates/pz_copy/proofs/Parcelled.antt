@@ -4,7 +4,7 @@ use Rattle.std.specs.Prelude.{All, slice_get}
 use Rattle.std.proofs.Math.Seq.{take-suc, take-append_seam}
 use Rattle.std.proofs.lemmas.List.{append_assoc, length-append, length-map, map-append}
 use Rattle.std.proofs.lemmas.List.Elements.{All-cons, All-append}
-use Rattle.pz_state.specs.declared.state.TheConstants.{OBJECT_LIMIT}
+use Rattle.pz_state.specs.States.{object_limit}
 use Rattle.pz_value.specs.declared.value.ClassId.{ClassId}
 use Rattle.pz_value.specs.declared.value.Value.{Value}
 use Rattle.pz_value.specs.declared.value.Value.TheVariants as value
@@ -41,7 +41,7 @@ all_objects s n number (q ∷ qs) below =
     (all_objects s n number qs (λ p r hp h. below p r (in_right p (q ∷ []) qs hp) h))
 
 -- what is packed is a parcel
-pub parcel_fine : (s : StateView) (vs : List Value) (listed : List ℕ) → IsListing s vs listed → (values : List Value) (objects : List ObjectView) → values ≡ map (renumbered (place_in listed)) vs → objects ≡ packed_objects s listed → length listed ≤ OBJECT_LIMIT → All (λ o. length o.items < 2 ^ 32) objects → IsParcel (record { values = values; objects = objects })
+pub parcel_fine : (s : StateView) (vs : List Value) (listed : List ℕ) → IsListing s vs listed → (values : List Value) (objects : List ObjectView) → values ≡ map (renumbered (place_in listed)) vs → objects ≡ packed_objects s listed → length listed ≤ object_limit → All (λ o. length o.items < 2 ^ 32) objects → IsParcel (record { values = values; objects = objects })
 parcel_fine s vs listed is_one values objects values_are objects_are few sizes =
     let long : length objects ≡ length listed = ap (λ (os : List ObjectView). length os) objects_are ∙ length-map listed (λ r. renumbered_object (place_in listed) (object s r)) in
     let in_values : All (RefersWithin (length listed)) (map (renumbered (place_in listed)) vs) = all_renumbered (length listed) (place_in listed) vs (λ r h. place_within listed r (listed_values s vs listed is_one r h)) in

@@ -1,6 +1,6 @@
 -- What a parcel is seen as, and what its type keeps.
 use Rattle.std.specs.Prelude.{◌<◌, ◌≤◌, ◌^◌, List, length, All, map}
-use Rattle.pz_state.specs.declared.state.TheConstants.{OBJECT_LIMIT}
+use Rattle.pz_state.specs.States.{object_limit}
 use Rattle.pz_value.specs.declared.value.Value.{Value}
 use Rattle.pz_state.specs.Objects.{ObjectView, StoredObject}
 use Rattle.pz_state.specs.References.{RefersWithin}
@@ -18,5 +18,5 @@ plain_objects objects = map (λ o. o.object) objects
 pub record IsParcel (p : ParcelView) : Type 0 where
   pub values : All (RefersWithin (length p.objects)) p.values
   pub items : All (λ o. All (RefersWithin (length p.objects)) o.items) p.objects
-  pub few : length p.objects ≤ OBJECT_LIMIT
+  pub few : length p.objects ≤ object_limit
   pub sizes : All (λ o. length o.items < 2 ^ 32) p.objects

@@ -5,9 +5,10 @@ ghost use Rattle.pz_state.specs.References.{RefersWithin};
 ghost use Rattle.pz_copy.specs.References.{references};
 ghost use Rattle.pz_copy.specs.Packing.{IsListing, HasOneListing};
 ghost use Rattle.pz_copy.specs.devices.Gathering.{gathered};
+ghost use Rattle.pz_state.specs.States.{object_limit};
 
 use indexmap::IndexSet;
-use pz_state::{OBJECT_LIMIT, State};
+use pz_state::State;
 use pz_value::Value;
 use std::alloc::{AllocError, Global};
 
@@ -33,7 +34,7 @@ pub fn list_reached(
     requires { All (RefersWithin (length state.now.held.objects)) values.now }
     ensures one { HasOneListing state.now.held values.now }
     ensures listing { IfOk result (λ listed. IsListing state.now.held values.now listed.keys) }
-    ensures few { IfOk result (λ listed. length listed.keys ≤ OBJECT_LIMIT) }
+    ensures few { IfOk result (λ listed. length listed.keys ≤ object_limit) }
     ensures there { IfOk result (λ listed. All (λ r. r < length state.now.held.objects) listed.keys) }
 {
     // Each reference in a state names an object, so the list is never longer than this.

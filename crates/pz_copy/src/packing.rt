@@ -6,17 +6,18 @@ ghost use Rattle.pz_state.specs.References.{RefersWithin};
 ghost use Rattle.pz_copy.specs.References.{renumbered, renumbered_object};
 ghost use Rattle.pz_copy.specs.Packing.{IsParcelOf, HasOneListing, place_in, packed_objects};
 ghost use Rattle.pz_copy.specs.Parcels.{plain_objects};
+ghost use Rattle.pz_state.specs.States.{object_limit};
 
 use crate::listing::list_reached;
 use crate::parcel::Parcel;
 use indexmap::IndexSet;
-use pz_state::{OBJECT_LIMIT, Object, State};
+use pz_state::{Object, State};
 use pz_value::Value;
 use std::alloc::{AllocError, Global};
 
 /// The place of a number in the list; how long the list is where it is not there.
 fn place_of(listed: &IndexSet<u32>, r: u32) -> u32
-    requires { length listed.now.keys ≤ OBJECT_LIMIT }
+    requires { length listed.now.keys ≤ object_limit }
     ensures { result ≡ place_in listed.now.keys r }
 {
     listed.get_index_of(&r).unwrap_or(listed.len()) as u32
@@ -25,7 +26,7 @@ fn place_of(listed: &IndexSet<u32>, r: u32) -> u32
 /// An equal value, but for a reference, which is its place in the list. The only error is want of
 /// memory.
 fn packed(value: &Value, listed: &IndexSet<u32>) -> Result<Value, AllocError>
-    requires { length listed.now.keys ≤ OBJECT_LIMIT }
+    requires { length listed.now.keys ≤ object_limit }
     ensures { IfOk result (λ packed. packed ≡ renumbered (place_in listed.now.keys) value.now) }
 {
     match value {
@@ -40,7 +41,7 @@ fn pack_values(
     values: &[Value],
     listed: &IndexSet<u32>,
 ) -> Result<Vec<Value>, AllocError>
-    requires { length listed.now.keys ≤ OBJECT_LIMIT }
+    requires { length listed.now.keys ≤ object_limit }
     ensures { IfOk result (λ copies. copies.items ≡ map (renumbered (place_in listed.now.keys)) values.now) }
 {
     let mut copies = Vec::with_capacity(alloc, values.len())?;
@@ -57,7 +58,7 @@ fn pack_objects(
     state: &State,
     listed: &IndexSet<u32>,
 ) -> Result<Vec<Object>, AllocError>
-    requires few { length listed.now.keys ≤ OBJECT_LIMIT }
+    requires few { length listed.now.keys ≤ object_limit }
     requires there { All (λ r. r < length state.now.held.objects) listed.now.keys }
     ensures objects { IfOk result (λ objects. plain_objects objects.items ≡ packed_objects state.now.held listed.now.keys) }
     ensures sizes { IfOk result (λ objects. All (λ o. length o.items < 2 ^ 32) (plain_objects objects.items)) }

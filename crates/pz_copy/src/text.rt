@@ -6,9 +6,10 @@ ghost use Rattle.std.specs.List.{flat_map};
 ghost use Rattle.pz_copy.specs.Parcels.{plain_objects};
 ghost use Rattle.pz_copy.specs.ParcelText as spec;
 ghost use Rattle.pz_copy.specs.ParcelText.{hex_digit, item_text, quoted, value_text, values_text, object_text, object_texts, objects_text, separated, parcel_text};
+ghost use Rattle.pz_state.specs.States.{object_limit};
 
 use crate::parcel::Parcel;
-use pz_state::{OBJECT_LIMIT, Object};
+use pz_state::Object;
 use pz_value::{ClassId, Text, Value};
 use std::alloc::AllocError;
 
@@ -121,7 +122,7 @@ fn put_object(
 
 /// The objects in braces, separated by semicolons; nothing where there is none.
 fn put_objects(out: &mut Vec<u8>, names: &[Text], objects: &[Object]) -> Result<(), AllocError>
-    requires { length objects.now ≤ OBJECT_LIMIT }
+    requires { length objects.now ≤ object_limit }
     ensures { OnOk result (out.new.items ≡ out.old.items ++ objects_text names.now (plain_objects objects.now)) }
 {
     let Some((first, rest)) = objects.split_first() else {

@@ -11,6 +11,7 @@ ghost use Rattle.pz_copy.specs.Packing.{IsParcelOf};
 ghost use Rattle.pz_copy.specs.Unpacking.{shifted_values, shifted_objects, unpacked, unpacked_values};
 ghost use Rattle.pz_copy.specs.Sharing.{SameUpToNumbers};
 ghost use Rattle.pz_copy.specs.devices.Filling.{blank_of, with_blanks, filled};
+ghost use Rattle.pz_state.specs.States.{object_limit};
 
 use crate::parcel::Parcel;
 use pz_state::{MakeError, OBJECT_LIMIT, Object, State};
@@ -39,8 +40,8 @@ impl From<AllocError> for UnpackError {
 
 /// An equal value, but for a reference, which is so much greater. The only error is want of memory.
 fn shifted(value: &Value, count: u32) -> Result<Value, AllocError>
-    requires room { count ≤ OBJECT_LIMIT }
-    requires within { RefersWithin (OBJECT_LIMIT - count) value.now }
+    requires room { count ≤ object_limit }
+    requires within { RefersWithin (object_limit - count) value.now }
     ensures { IfOk result (λ shifted. shifted ≡ renumbered (λ r. count + r) value.now) }
 {
     match value {
@@ -51,8 +52,8 @@ fn shifted(value: &Value, count: u32) -> Result<Value, AllocError>
 
 /// Equal values, but for references, which are so much greater. The only error is want of memory.
 fn shift_values(alloc: Global, values: &[Value], count: u32) -> Result<Vec<Value>, AllocError>
-    requires room { count ≤ OBJECT_LIMIT }
-    requires within { All (RefersWithin (OBJECT_LIMIT - count)) values.now }
+    requires room { count ≤ object_limit }
+    requires within { All (RefersWithin (object_limit - count)) values.now }
     ensures { IfOk result (λ copies. copies.items ≡ shifted_values count values.now) }
 {
     let mut copies = Vec::with_capacity(alloc, values.len())?;
@@ -65,7 +66,7 @@ fn shift_values(alloc: Global, values: &[Value], count: u32) -> Result<Vec<Value
 /// Makes an object without values for each of these. The only error is want of memory.
 fn make_objects(state: &mut State, objects: &[Object]) -> Result<(), AllocError>
     requires sizes { All (λ o. length o.items < 2 ^ 32) (plain_objects objects.now) }
-    requires room { length state.old.held.objects + length (plain_objects objects.now) ≤ OBJECT_LIMIT }
+    requires room { length state.old.held.objects + length (plain_objects objects.now) ≤ object_limit }
     ensures ok { OnOk result (state.new ≡ changed state.old (with_blanks state.old.held (plain_objects objects.now))) }
     ensures marks { state.new.marks ≡ state.old.marks }
 {
@@ -85,7 +86,7 @@ fn fill_object(state: &mut State, r: u32, items: &[Value], count: u32) -> Result
     requires there { r < length state.old.held.objects }
     requires blank { (object state.old.held r).items ≡ nils (length items.now) }
     requires size { length items.now < 2 ^ 32 }
-    requires room { length state.old.held.objects ≤ OBJECT_LIMIT }
+    requires room { length state.old.held.objects ≤ object_limit }
     requires below { count ≤ length state.old.held.objects }
     requires within { All (RefersWithin (length state.old.held.objects - count)) items.now }
     ensures ok { OnOk result (state.new ≡ changed state.old (filled r (shifted_values count items.now) state.old.held)) }
@@ -103,7 +104,7 @@ fn fill_object(state: &mut State, r: u32, items: &[Value], count: u32) -> Result
 fn fill_objects(state: &mut State, objects: &[Object], count: u32) -> Result<(), AllocError>
     requires blank { state.old.held.objects ≡ take count state.old.held.objects ++ map blank_of (plain_objects objects.now) }
     requires number { length (take count state.old.held.objects) ≡ count }
-    requires room { length state.old.held.objects ≤ OBJECT_LIMIT }
+    requires room { length state.old.held.objects ≤ object_limit }
     requires within { All (λ o. All (RefersWithin (length (plain_objects objects.now))) o.items) (plain_objects objects.now) }
     requires sizes { All (λ o. length o.items < 2 ^ 32) (plain_objects objects.now) }
     ensures ok { OnOk result (state.new ≡ changed state.old (record state.old.held { objects = take count state.old.held.objects ++ shifted_objects count (plain_objects objects.now) })) }
@@ -119,7 +120,7 @@ fn fill_objects(state: &mut State, objects: &[Object], count: u32) -> Result<(),
 /// want of memory, and then the marks are as before.
 fn append(state: &mut State, parcel: &Parcel, count: u32) -> Result<(), AllocError>
     requires number { count ≡ length state.old.held.objects }
-    requires room { count + length parcel.now.objects ≤ OBJECT_LIMIT }
+    requires room { count + length parcel.now.objects ≤ object_limit }
     requires contained { IsParcel parcel.now }
     ensures ok { OnOk result (state.new ≡ changed state.old (unpacked state.old.held parcel.now)) }
     ensures marks { state.new.marks ≡ state.old.marks }
@@ -136,7 +137,7 @@ pub fn unpack(alloc: Global, state: &mut State, parcel: &Parcel) -> Result<Vec<V
     ensures within { IfOk result (λ values. All (RefersWithin (length state.new.held.objects)) values.items) }
     ensures ok { OnOk result (state.new ≡ changed state.old (unpacked state.old.held parcel.now)) }
     ensures err { OnErr result (state.new ≡ state.old) }
-    ensures full { result ≡ Err UnpackError.StoreFull ↔ OBJECT_LIMIT < length state.old.held.objects + length parcel.now.objects }
+    ensures full { result ≡ Err UnpackError.StoreFull ↔ object_limit < length state.old.held.objects + length parcel.now.objects }
     ensures sharing { IfOk result (λ values. (s : StateView) (packed : List Value) → IsParcelOf s packed parcel.now → SameUpToNumbers s packed state.new.held values.items) }
 {
     let count = state.objects();

@@ -5,7 +5,7 @@ use Rattle.pz_syntax.specs.Classes.{ModelTree}
 use Rattle.pz_classes_code.specs.declared.slot.Slot.{Slot}
 use Rattle.pz_classes_code.specs.CodeView.{Tree}
 use Rattle.pz_state.specs.declared.fault.FaultKind.TheVariants.{StoreFull}
-use Rattle.pz_state.specs.declared.state.TheConstants.{OBJECT_LIMIT}
+use Rattle.pz_state.specs.States.{object_limit}
 use Rattle.pz_state.specs.States.{StateView}
 use Rattle.pz_copy.specs.Parcels.{ParcelView}
 use Rattle.pz_eval_rules.specs.declared.allowance.Allowance.{Allowance}
@@ -16,7 +16,7 @@ use Rattle.pz_eval.specs.Tentative.{WouldFind}
 
 -- the objects of the parcel find room beside those of the state
 abbrev pub Fits : StateView → ParcelView → Type 0
-Fits s parcel = length s.objects + length parcel.objects ≤ OBJECT_LIMIT
+Fits s parcel = length s.objects + length parcel.objects ≤ object_limit
 
 -- of a receive at this place
 pub data FindsCondition (model : ModelTree) (now frame : ℕ) (s : StateView) (parcel : ParcelView) (into : List Slot) (receive : Pos) (t : Tree) (allowed : Allowance) : Outcome → Type 0 where

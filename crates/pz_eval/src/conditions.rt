@@ -3,7 +3,7 @@
 ghost use Rattle.std.specs.Prelude.{◌≡◌, length, Err, IfOk, OnOk, OnErr, All};
 ghost use Rattle.pz_syntax.specs.Classes.{ModelTree};
 ghost use Rattle.pz_classes_code.specs.CodeView.{view};
-ghost use Rattle.pz_classes.specs.Tables.{AreClasses};
+ghost use Rattle.pz_classes.specs.devices.Rows.{AreClasses};
 ghost use Rattle.pz_state.specs.References.{RefersWithin};
 ghost use Rattle.pz_state.specs.Marks.{changed};
 ghost use Rattle.pz_eval_operations.specs.Known.{AreKnown};

@@ -3,7 +3,7 @@
 ghost use Rattle.std.specs.Prelude.{◌≡◌, length, IfOk, OnErr};
 ghost use Rattle.pz_syntax.specs.Classes.{ModelTree};
 ghost use Rattle.pz_classes_code.specs.CodeView.{view, list_view};
-ghost use Rattle.pz_classes.specs.Tables.{AreClasses};
+ghost use Rattle.pz_classes.specs.devices.Rows.{AreClasses};
 ghost use Rattle.pz_eval_rules.specs.Outcomes.{Finds, FindsAll};
 ghost use Rattle.pz_eval_operations.specs.Known.{AreKnown};
 ghost use Rattle.pz_eval.specs.Tentative.{WouldFind};

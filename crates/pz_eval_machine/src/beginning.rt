@@ -6,7 +6,7 @@ ghost use Rattle.pz_classes_code.specs.CodeView.{view, form_view, list_view, par
 ghost use Rattle.pz_value.specs.declared.value.Value.{Value as Values};
 ghost use Rattle.pz_value.specs.declared.value.Value.TheVariants.{Nil};
 ghost use Rattle.pz_state.specs.References.{RefersWithin};
-ghost use Rattle.pz_classes.specs.Tables.{AreClasses};
+ghost use Rattle.pz_classes.specs.devices.Rows.{AreClasses};
 ghost use Rattle.pz_classes_code.specs.Literals as literals;
 ghost use Rattle.pz_eval_rules.specs.Memories.{Memory, Location};
 ghost use Rattle.pz_eval_rules.specs.Memories as memories;

@@ -4,7 +4,7 @@ ghost use Rattle.std.specs.Prelude.{◌≡◌, ◌<◌, ◌≤◌, ◌-◌, ◌+
 ghost use Rattle.pz_syntax.specs.Classes.{ModelTree};
 ghost use Rattle.pz_classes_code.specs.CodeView.{list_view};
 ghost use Rattle.pz_state.specs.States.{StateView, nils};
-ghost use Rattle.pz_classes.specs.Tables.{AreClasses};
+ghost use Rattle.pz_classes.specs.devices.Rows.{AreClasses};
 ghost use Rattle.pz_eval_rules.specs.Steps.{reply, runs};
 ghost use Rattle.pz_eval_rules.specs.devices.Computed.{and_then, replied, selectors, evaluated};
 ghost use Rattle.pz_eval_operations.specs.Known.{AreKnown};

@@ -6,7 +6,7 @@ ghost use Rattle.pz_syntax.specs.Classes.{ModelTree};
 ghost use Rattle.pz_classes_code.specs.CodeView.{view};
 ghost use Rattle.pz_state.specs.States.{StateView};
 ghost use Rattle.pz_state.specs.References.{RefersWithin};
-ghost use Rattle.pz_classes.specs.Tables.{AreClasses};
+ghost use Rattle.pz_classes.specs.devices.Rows.{AreClasses};
 ghost use Rattle.pz_eval_rules.specs.Memories.{in_process};
 ghost use Rattle.pz_eval_rules.specs.Outcomes.{outside};
 ghost use Rattle.pz_eval_rules.specs.Answers.{ends, gives, stops};

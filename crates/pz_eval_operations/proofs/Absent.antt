@@ -8,7 +8,7 @@ use Rattle.pz_value.specs.declared.value.Value.{Value}
 use Rattle.pz_value.specs.declared.value.Value.TheVariants.{Ref}
 use Rattle.pz_state.specs.Objects.{ObjectView}
 use Rattle.pz_state.specs.States.{StateView, at_object, object, made, set_item}
-use Rattle.pz_state.specs.declared.state.TheConstants.{OBJECT_LIMIT}
+use Rattle.pz_state.specs.States.{object_limit}
 use Rattle.pz_state.specs.Marks.{Seen, changed}
 use Rattle.pz_classes.specs.Members.{fields}
 use Rattle.pz_eval_rules.specs.Answers.{gives}
@@ -46,7 +46,7 @@ pub count_kept : {E : Type 0} (result : Result Unit E) (s s1 : Seen) (h : StateV
 count_kept (Ok x) s s1 h ok err same = ap (λ (t : Seen). length t.held.objects) ok ∙ same
 count_kept (Err e) s s1 h ok err same = ap (λ (t : Seen). length t.held.objects) err
 
-pub created_as : (m : ModelTree) (class : ClassId) (at : Pos) (s s1 : Seen) (locals : List Value) (r n : ℕ) → length s.held.objects < OBJECT_LIMIT → r ≡ length s.held.objects
+pub created_as : (m : ModelTree) (class : ClassId) (at : Pos) (s s1 : Seen) (locals : List Value) (r n : ℕ) → length s.held.objects < object_limit → r ≡ length s.held.objects
     → n ≡ length (fields m class.0) → s1 ≡ changed s (made s.held class n)
     → created m class at (record { state = s.held; locals = locals }) ≡ gives (Ref r) (record { state = s1.held; locals = locals })
-created_as m class at s s1 locals r n below r_is n_is s1_is = rw (lt-ltb (length s.held.objects) OBJECT_LIMIT below, s1_is, r_is, n_is) refl
+created_as m class at s s1 locals r n below r_is n_is s1_is = rw (lt-ltb (length s.held.objects) object_limit below, s1_is, r_is, n_is) refl

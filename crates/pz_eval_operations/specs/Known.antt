@@ -1,7 +1,7 @@
 -- The classes of a model.
 use Rattle.pz_syntax.specs.Classes.{ModelTree}
 use Rattle.pz_classes.specs.declared.classes.Classes.{Classes}
-use Rattle.pz_classes.specs.Tables.{AreClasses}
+use Rattle.pz_classes.specs.devices.Rows.{AreClasses}
 
 -- these are the classes of some model, as a bare fact
 abbrev pub AreKnown : Classes → Type 0

@@ -5,7 +5,7 @@ ghost use Rattle.std.specs.Option.{option_map};
 ghost use Rattle.pz_syntax.specs.Classes.{ModelTree};
 ghost use Rattle.pz_value.specs.declared.value.Value.{Value};
 ghost use Rattle.pz_state.specs.References.{RefersWithin};
-ghost use Rattle.pz_classes.specs.Tables.{AreClasses};
+ghost use Rattle.pz_classes.specs.devices.Rows.{AreClasses};
 ghost use Rattle.pz_classes.specs.Members.{fields};
 ghost use Rattle.pz_eval_rules.specs.Memories.{Memory};
 ghost use Rattle.pz_eval_rules.specs.Steps as steps;

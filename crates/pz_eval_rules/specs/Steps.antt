@@ -12,7 +12,7 @@ use Rattle.pz_value.specs.declared.value.Value.{Value}
 use Rattle.pz_value.specs.declared.value.Value.TheVariants.{Nil, Bool as Boolean, Int, Char, Str, Ref}
 use Rattle.pz_classes_code.specs.declared.slot.Slot.{Slot}
 use Rattle.pz_state.specs.declared.fault.FaultKind.TheVariants.{NotUnderstood, StoreFull, ClockTooLarge}
-use Rattle.pz_state.specs.declared.state.TheConstants.{OBJECT_LIMIT}
+use Rattle.pz_state.specs.States.{object_limit}
 use Rattle.pz_state.specs.States.{object, made}
 use Rattle.pz_prims.specs.declared.answer.Prim.{Prim}
 use Rattle.pz_prims.specs.Table.{Outcome, outcome}
@@ -33,7 +33,7 @@ time now at m = if nat_lt now (2 ^ 63) then gives (Int (pos now)) m else stops (
 -- a new object of the class, whose fields are nil; an Array has no items
 abbrev pub created : ModelTree → ClassId → Pos → Memory → Answer Value
 created model class at m =
-    if nat_lt (length m.state.objects) OBJECT_LIMIT
+    if nat_lt (length m.state.objects) object_limit
     then gives (Ref (length m.state.objects)) (with_state m (made m.state class (length (fields model class.0))))
     else stops (fault StoreFull at)
 

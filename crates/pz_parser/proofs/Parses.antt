@@ -23,7 +23,8 @@ use Rattle.pz_parser.specs.declared.error.ParseError.{ParseError}
 use Rattle.pz_parser.specs.declared.error.ParseError.TheVariants.{NoMemory, Syntax, TooNested}
 use Rattle.pz_parser.specs.devices.Models as spec
 use Rattle.pz_parser.specs.ModelPlaces.{place_model}
-use Rattle.pz_parser.specs.Parsing.{IsTextOf, ReadsAs, IsInPlace, IsPlace, MayRefuse, first_or, place_left, error_of}
+use Rattle.pz_parser.specs.Parsing.{IsTextOf, ReadsAs, IsInPlace, IsPlace, MayRefuse}
+use Rattle.pz_parser.specs.devices.Refused.{first_or, place_left, error_of}
 use Rattle.pz_parser.proofs.ModelRules.{model_sound, model_complete}
 use Rattle.pz_parser.proofs.Budgets.{model_budget}
 use Rattle.pz_parser.proofs.Erasing.{erased_model}

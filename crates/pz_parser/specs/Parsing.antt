@@ -1,5 +1,5 @@
 -- What the call that parses promises.
-use Rattle.std.specs.Prelude.{◌≡◌, ◌<◌, ◌≤◌, ◌⊎◌, ◌-◌, ℕ, List, [], ◌∷◌, length, drop, ⊤, Result, MatchResult}
+use Rattle.std.specs.Prelude.{◌≡◌, ◌<◌, ◌≤◌, ◌⊎◌, ℕ, List, length, ⊤, Result, MatchResult}
 use Rattle.pz_syntax.specs.declared.tokens.Pos.{Pos}
 use Rattle.pz_syntax.specs.declared.tokens.Token.{Token}
 use Rattle.pz_syntax.specs.declared.clusters.Model.{Model}
@@ -8,11 +8,8 @@ use Rattle.pz_syntax.specs.ClassView.{model_view}
 use Rattle.pz_syntax.specs.ModelText.{text}
 use Rattle.pz_syntax.specs.ModelForm.{IsModel}
 use Rattle.pz_syntax.specs.ModelNesting.{nesting}
-use Rattle.pz_parser_cursor.specs.devices.Input.{marks}
-use Rattle.pz_parser_cursor.specs.Places.{positions}
+use Rattle.pz_parser_cursor.specs.Places.{marks, positions}
 use Rattle.pz_parser_cursor.specs.Openers.{openers}
-use Rattle.pz_parser_cursor.specs.declared.refusal.Refusal.{Refusal}
-use Rattle.pz_parser_cursor.specs.declared.refusal.Refusal.TheVariants as refusal
 use Rattle.pz_parser.specs.declared.error.ParseError.{ParseError}
 use Rattle.pz_parser.specs.declared.error.ParseError.TheVariants.{NoMemory, Syntax, TooNested}
 use Rattle.pz_parser.specs.ModelPlaces.{place_model}
@@ -38,18 +35,3 @@ abbrev pub MayRefuse : ℕ → List Token → Pos → ParseError → Type 0
 MayRefuse limit tokens end NoMemory = ⊤
 MayRefuse limit tokens end (Syntax p) = IsPlace tokens p ⊎ (p ≡ end)
 MayRefuse limit tokens end (TooNested p) = IsPlace tokens p × (limit < openers (marks tokens))
-
--- ---- refusals with places
-
-abbrev pub first_or : Pos → List Token → Pos
-first_or end [] = end
-first_or end (t ∷ ts) = t.pos
-
--- the place of the token from which on so many are left; the end where none is
-unfoldable pub place_left : List Token → Pos → ℕ → Pos
-place_left tokens end left = first_or end (drop (length tokens - left) tokens)
-
-abbrev pub error_of : List Token → Pos → Refusal → ParseError
-error_of tokens end refusal.NoMemory = NoMemory
-error_of tokens end (refusal.Syntax left) = Syntax (place_left tokens end left)
-error_of tokens end (refusal.TooNested left) = TooNested (place_left tokens end left)

@@ -4,7 +4,7 @@ ghost use Rattle.std.specs.Prelude.{◌≡◌, ◌<◌, ◌-◌, ◌^◌, IfOk, 
 ghost use Rattle.pz_syntax.specs.Classes.{ModelTree};
 ghost use Rattle.pz_syntax.specs.ClassView.{model_view};
 ghost use Rattle.pz_parser.specs.Parsing.{IsTextOf, ReadsAs, IsInPlace, MayRefuse};
-ghost use Rattle.pz_parser.specs.Parsing as spec;
+ghost use Rattle.pz_parser.specs.devices.Refused as spec;
 
 use crate::ParseError;
 use crate::models::model;
@@ -54,7 +54,7 @@ fn error_of(tokens: &[Token], end: Pos, refusal: Refusal) -> ParseError
 }
 
 /// The place of the token from which on so many are left, or `end` where none is.
-#[tactic(auto, unfolding(crate::specs::Parsing::place_left))]
+#[tactic(auto, unfolding(crate::specs::devices::Refused::place_left))]
 fn place(tokens: &[Token], end: Pos, left: usize) -> Pos
     ensures { result ≡ spec.place_left tokens.now end left }
 {

@@ -15,7 +15,7 @@ use Rattle.pz_classes_code.specs.CodeView.{part_view}
 use Rattle.pz_state.specs.States.{StateView}
 use Rattle.pz_state.specs.Marks.{Seen, changed}
 use Rattle.pz_state.specs.declared.fault.FaultKind.TheVariants.{StoreFull}
-use Rattle.pz_state.specs.declared.state.TheConstants.{OBJECT_LIMIT}
+use Rattle.pz_state.specs.States.{object_limit}
 use Rattle.pz_copy.specs.Parcels.{ParcelView}
 use Rattle.pz_copy.specs.Packing.{IsParcelOf}
 use Rattle.pz_copy.specs.Unpacking.{unpacked, unpacked_values}
@@ -128,10 +128,10 @@ no_error : {T : Type 0} (x : T) (e : UnpackError) → Ok x ≡ Err e → ⊥
 no_error x e is = cc
 
 -- whether there is room
-pub has_room : {T : Type 0} (r : Result T UnpackError) (x : T) (n : ℕ) → r ≡ Ok x → (OBJECT_LIMIT < n → r ≡ Err unpacking.StoreFull) → n ≤ OBJECT_LIMIT
-has_room r x n is full = by (cases_lt OBJECT_LIMIT n)
+pub has_room : {T : Type 0} (r : Result T UnpackError) (x : T) (n : ℕ) → r ≡ Ok x → (object_limit < n → r ≡ Err unpacking.StoreFull) → n ≤ object_limit
+has_room r x n is full = by (cases_lt object_limit n)
   where
-    by : (OBJECT_LIMIT < n) ⊎ (n ≤ OBJECT_LIMIT) → n ≤ OBJECT_LIMIT
+    by : (object_limit < n) ⊎ (n ≤ object_limit) → n ≤ object_limit
     by (inl more) = absurd (no_error x unpacking.StoreFull (sym is ∙ full more))
     by (inr less) = less
 

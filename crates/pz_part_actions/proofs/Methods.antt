@@ -23,7 +23,8 @@ use Rattle.pz_classes.specs.BodyView.{body_view}
 use Rattle.pz_classes.specs.FitBodies.{how_many}
 use Rattle.pz_classes.specs.MethodBodies.{HasBody, process_method_body}
 use Rattle.pz_classes.specs.Methods.{process_method}
-use Rattle.pz_classes.specs.Tables.{AreClasses, HasMethod}
+use Rattle.pz_classes.specs.Tables.{HasMethod}
+use Rattle.pz_classes.specs.devices.Rows.{AreClasses}
 use Rattle.pz_rules.specs.Terms.{leaf}
 use Rattle.pz_rules.specs.Methods.{IsMethod}
 use Rattle.pz_part_queries.specs.declared.standpoint.Standpoint.{Standpoint}

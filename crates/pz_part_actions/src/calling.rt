@@ -6,7 +6,7 @@ ghost use Rattle.pz_syntax.specs.Statements as statements;
 ghost use Rattle.pz_classes_code.specs.CodeView.{list_view};
 ghost use Rattle.pz_classes_code.specs.StepView.{sequence_view};
 ghost use Rattle.pz_state.specs.References.{RefersWithin};
-ghost use Rattle.pz_classes.specs.Tables.{AreClasses};
+ghost use Rattle.pz_classes.specs.devices.Rows.{AreClasses};
 ghost use Rattle.pz_rules.specs.Terms as terms;
 ghost use Rattle.pz_rules.specs.Opening.{opened_all};
 ghost use Rattle.pz_rules.specs.Methods.{IsMethod};

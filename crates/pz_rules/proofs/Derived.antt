@@ -9,7 +9,7 @@ use Rattle.pz_syntax.specs.Expressions as ours
 use Rattle.pz_syntax.specs.Statements.{receive}
 use Rattle.pz_value.specs.declared.value.ClassId.{ClassId}
 use Rattle.pz_classes_code.specs.declared.slot.Slot.{Slot}
-use Rattle.pz_state.specs.declared.state.TheConstants.{OBJECT_LIMIT}
+use Rattle.pz_state.specs.States.{object_limit}
 use Rattle.pz_state.specs.declared.fault.FaultKind.TheVariants.{StoreFull}
 use Rattle.pz_copy.specs.Parcels.{ParcelView}
 use Rattle.pz_bind_levels.specs.Places.{Address}
@@ -149,7 +149,7 @@ err_of (Err u) t e = ap (λ x. Err x) (some_is e)
 -- What a receive says of a parcel
 module _ (a : Context) (f : ℕ) (parcel : ParcelView) where
   fits_known : Known (Fits a parcel)
-  fits_known = at_most_known (length a.state.objects + length parcel.objects) OBJECT_LIMIT
+  fits_known = at_most_known (length a.state.objects + length parcel.objects) object_limit
 
   asked_now : (at : Pos) (port : ℕ) (name : Id) (into : Option (List Slot)) (test : Code) (after : ours.Part Slot ClassId) → Known (Fits a parcel) → Finite (Judges a f parcel (leaf (receive at port name into (Some test) after)))
   asked_now at port name into test after (inl fits) =

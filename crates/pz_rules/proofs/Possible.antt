@@ -12,7 +12,7 @@ use Rattle.pz_value.specs.declared.value.ClassId.{ClassId}
 use Rattle.pz_value.specs.declared.value.Value.{Value}
 use Rattle.pz_classes_code.specs.declared.slot.Slot.{Slot}
 use Rattle.pz_state.specs.States.{StateView, Frames, locals_in, IsLeastFree}
-use Rattle.pz_state.specs.declared.state.TheConstants.{OBJECT_LIMIT}
+use Rattle.pz_state.specs.States.{object_limit}
 use Rattle.pz_state.specs.declared.fault.FaultKind.TheVariants.{StoreFull}
 use Rattle.pz_classes.specs.declared.method_id.Counts.TheVariants.{Process as process_counts}
 use Rattle.pz_classes.specs.Bodies.{BodyTree, data_body, process_body}
@@ -187,4 +187,4 @@ module _ (a : Context) (f : ℕ) where
   taking parcel at port name into condition after (inr unfit) = record { pos = at; left = fault StoreFull a.process at; is = messages.full at port name into condition after unfit }
 
   pub takes_some : (parcel : ParcelView) (t : Term) (pos : Pos) (port : ℕ) (message : List ℕ) (count : ℕ) → Receives t pos port message count → SomeDeed (Takes a f parcel t)
-  takes_some parcel _ _ _ _ _ (messages.receives at port name into condition after) = taking parcel at port name into condition after (at_most_known (length a.state.objects + length parcel.objects) OBJECT_LIMIT)
+  takes_some parcel _ _ _ _ _ (messages.receives at port name into condition after) = taking parcel at port name into condition after (at_most_known (length a.state.objects + length parcel.objects) object_limit)

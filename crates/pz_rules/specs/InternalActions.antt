@@ -50,7 +50,8 @@ entered s number locals results body inputs = record {
 }
 
 -- What the acting part becomes, and the state afterwards; or the trouble of its evaluation. Each action
--- has the place of its statement.
+-- has the place of its statement. It holds of a delay whatever is left of it, and so of parts that cannot
+-- act: those that can are those of `Can`, which alone are offered.
 pub data Performs (a : Context) (f : ℕ) : Term → Pos → Result Process Trouble → Type 0 where
   skips : (at : Pos) → Performs a f (leaf (skip at)) at (Ok (done_in a.state))
   evaluates : (at : Pos) (e : Code) (r : Result Value Trouble) (s : StateView) → Gives a f at e r s

@@ -7,7 +7,7 @@ use Rattle.pz_syntax.specs.Statements.{send, receive}
 use Rattle.pz_value.specs.declared.value.ClassId.{ClassId}
 use Rattle.pz_value.specs.declared.value.Value.{Value}
 use Rattle.pz_classes_code.specs.declared.slot.Slot.{Slot}
-use Rattle.pz_state.specs.declared.state.TheConstants.{OBJECT_LIMIT}
+use Rattle.pz_state.specs.States.{object_limit}
 use Rattle.pz_state.specs.declared.fault.FaultKind.TheVariants.{StoreFull}
 use Rattle.pz_state.specs.States.{StateView}
 use Rattle.pz_copy.specs.Parcels.{ParcelView}
@@ -37,7 +37,7 @@ pub data Receives : Term → Pos → ℕ → List ℕ → ℕ → Type 0 where
 
 -- the objects of the parcel go into the store
 abbrev pub Fits : Context → ParcelView → Type 0
-Fits a parcel = length a.state.objects + length parcel.objects ≤ OBJECT_LIMIT
+Fits a parcel = length a.state.objects + length parcel.objects ≤ object_limit
 
 -- the parcel unpacked, and its values bound from left to right
 abbrev pub bound : Context → ℕ → Option (List Slot) → ParcelView → StateView

@@ -54,7 +54,8 @@ pub record IsLeast (setting : Setting) (c : Config) (d : ℕ) : Type 0 where
 abbrev pub AllDone : Config → Type 0
 AllDone c = All (λ p. p.term ≡ done) c.processes
 
--- what may be said of a configuration
+-- What may be said of a configuration. None is at `Stopped`, where the last action did not take place, or
+-- at `Broken`: these are moments of a simulator.
 pub data Candidate (setting : Setting) (c : Config) : Moment → Type 0 where
   -- what an active part is asked, or a condition, has no answer
   faulty : (trouble : Trouble) → IsLeastTrouble setting c trouble → Candidate setting c (Faulty trouble)

@@ -41,7 +41,9 @@ with_process c i p = record c { processes = slice_set c.processes i p }
 abbrev pub with_both : Config → End → End → Process → Process → Config
 with_both c sender receiver p q = with_process (with_process c sender.process p) receiver.process q
 
--- the next configuration; or a trouble, that of a sender before any of the receiver
+-- The next configuration; or a trouble, that of a sender before any of the receiver. It says what an
+-- action does and not whether it is possible: it holds of some that are not offered, as of a receive
+-- whose condition is false. A run takes offers alone (`Reaches` of `Runs`).
 pub data Next (setting : Setting) (c : Config) : Action → Result Config Trouble → Type 0 where
   internal : (at : End) (kind : Kind) (pos : Pos) (result : Result Process Trouble)
       → Acts setting c Performs at result → Next setting c (Internal at kind pos) (and_then result (λ p. Ok (with_process c at.process p)))
@@ -49,7 +51,9 @@ pub data Next (setting : Setting) (c : Config) : Action → Result Config Troubl
       → Acts setting c (λ a f. Hands a f parcel) sender sent → Acts setting c (λ a f. Takes a f parcel) receiver taken
       → Next setting c (Comm number sender receiver message parcel) (and_then sent (λ p. and_then taken (λ q. Ok (with_both c sender receiver p q))))
 
--- time d has passed, for all processes alike; what is active is decided before
+-- Time d has passed, for all processes alike; what is active is decided before. It holds of any d, and
+-- also where there are offers. In a run time passes only where that is the moment, and by its d (`Reaches`
+-- of `Runs`).
 pub record PassesTo (setting : Setting) (c : Config) (d : ℕ) (next : Config) : Type 0 where
   pub clock : next.clock ≡ c.clock + d
   pub all : length next.processes ≡ length c.processes

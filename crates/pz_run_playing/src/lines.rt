@@ -3,7 +3,7 @@
 ghost use Rattle.std.specs.Prelude.{◌≡◌, ◌++◌, IfOk};
 ghost use Rattle.pz_syntax.specs.Classes.{ModelTree};
 ghost use Rattle.pz_classes.specs.CheckedView.{checked_model};
-ghost use Rattle.pz_bind.specs.NetView.{IsNet};
+ghost use Rattle.pz_bind.specs.devices.Nets.{IsNet};
 ghost use Rattle.pz_trace.specs.Lines.{newline};
 ghost use Rattle.pz_trace.specs.Named.{IsNamed, IsNamedAtEnd};
 ghost use Rattle.pz_trace.specs.TraceText.{run_ending};

@@ -1,7 +1,7 @@
 -- What a `State` keeps at each call, and what is seen of it then.
 use Rattle.std.proofs.Common.{◌≡◌, ℕ, zero, suc, ◌+◌, ◌-◌, ◌≤◌, ◌<◌, List, [], ◌∷◌, ◌++◌, length, slice_set, Some, refl, ap, subst, sym, ◌∙◌, arith}
 use Rattle.std.specs.Prelude.{All}
-use Rattle.pz_state.specs.declared.state.TheConstants.{OBJECT_LIMIT}
+use Rattle.pz_state.specs.States.{object_limit}
 use Rattle.pz_state.specs.declared.journal.Change.{Change}
 use Rattle.pz_state.specs.declared.journal.Entry.{Entry}
 use Rattle.pz_state.specs.declared.journal.Entry.TheVariants as entry
@@ -67,7 +67,7 @@ noted_by s k c change b (suc marks) e = let es = s.journal.entries.items in reco
 
 pub changes : {now : Seen} (s : Inside) → seen s ≡ now → IsKept s → (c : StoredState) (change : Change) (j1 j2 : Journal) (new : StateView) → c.state ≡ new → LeadsBack s.contents c change
     → j1.entries.items ≡ s.journal.entries.items → j1.marks ≡ s.journal.marks → j2.entries.items ≡ noted j1.marks change j1.entries.items → j2.marks ≡ j1.marks
-    → IsSelfContained new → length new.objects ≤ OBJECT_LIMIT → Becomes (changed now new) (inside c j2)
+    → IsSelfContained new → length new.objects ≤ object_limit → Becomes (changed now new) (inside c j2)
 changes {now} s v k c change j1 j2 new ce b e1 m1 e2 m2 contained limit =
     let n = noted_by s k c change b j1.marks m1 in
     let es : j2.entries.items ≡ noted j1.marks change s.journal.entries.items = e2 ∙ ap (λ (z : List Entry). noted j1.marks change z) e1 in
@@ -86,7 +86,7 @@ changes {now} s v k c change j1 j2 new ce b e1 m1 e2 m2 contained limit =
 -- the same, where the change is named by what it makes of the state that is seen
 pub changes_by : {now : Seen} (s : Inside) → seen s ≡ now → IsKept s → (c : StoredState) (change : Change) (j1 j2 : Journal) (by : StateView → StateView) → c.state ≡ by s.contents.state → LeadsBack s.contents c change
     → j1.entries.items ≡ s.journal.entries.items → j1.marks ≡ s.journal.marks → j2.entries.items ≡ noted j1.marks change j1.entries.items → j2.marks ≡ j1.marks
-    → IsSelfContained (by s.contents.state) → length (by s.contents.state).objects ≤ OBJECT_LIMIT → Becomes (changed now (by now.held)) (inside c j2)
+    → IsSelfContained (by s.contents.state) → length (by s.contents.state).objects ≤ object_limit → Becomes (changed now (by now.held)) (inside c j2)
 changes_by {now} s v k c change j1 j2 by ce b e1 m1 e2 m2 contained limit = let t = changes s v k c change j1 j2 (by s.contents.state) ce b e1 m1 e2 m2 contained limit in
     record { kept = t.kept; is = t.is ∙ ap (λ (z : Seen). changed now (by z.held)) v }
 
@@ -156,7 +156,7 @@ while_marked_marks zero es s e = sym (no_marks 0 es s (sym e))
 while_marked_marks (suc marks) es s e = refl
 
 -- once one mark fewer is open, with these entries
-closes : (c : StoredState) (j : Journal) (es : List Entry) → j.marks ≡ count_of_marks es → j.entries.items ≡ while_marked j.marks es → AreReady c.room es c.state → IsSelfContained c.state → length c.state.objects ≤ OBJECT_LIMIT
+closes : (c : StoredState) (j : Journal) (es : List Entry) → j.marks ≡ count_of_marks es → j.entries.items ≡ while_marked j.marks es → AreReady c.room es c.state → IsSelfContained c.state → length c.state.objects ≤ object_limit
     → (ms : List (ℕ × StateView)) → marks_from 0 es c.state ≡ ms → All (λ x. IsSelfContained x.1) ms → Becomes (seen_at c.state ms) (inside c j)
 closes c j es counts je ready contained limit ms me all = let same : marks_from 0 j.entries.items c.state ≡ ms = ap (λ (z : List Entry). marks_from 0 z c.state) je ∙ while_marked_marks j.marks es c.state counts ∙ me in record {
   kept = record {
@@ -175,7 +175,7 @@ marked_open s v k p q = let l = latest_of s v p q in let t = settles 0 s.journal
 
 -- Undoing. The marked state had no more objects than there may be, as the one that is undone.
 
-pub fewer : (s : Inside) → IsKept s → (c : StateView) → length c.objects ≤ length s.contents.state.objects → length c.objects ≤ OBJECT_LIMIT
+pub fewer : (s : Inside) → IsKept s → (c : StateView) → length c.objects ≤ length s.contents.state.objects → length c.objects ≤ object_limit
 fewer s k c le = let l = k.limit in omega arith
 
 pub undoes : {now : Seen} (s : Inside) → seen s ≡ now → IsKept s → (p : ℕ) → IsLatest now p → (c : StoredState) (es : List Entry) (j : Journal) → Undoes s.contents.state s.journal.entries.items c.state es → AreReady c.room es c.state

@@ -15,6 +15,10 @@ pub record StateView : Type 0 where
   pub frames : Frames
   pub objects : List ObjectView
 
+-- the most objects that a state may have
+abbrev pub object_limit : ℕ
+object_limit = 16777216
+
 abbrev pub nils : ℕ → List Value
 nils n = replicate n value.Nil
 

@@ -1,7 +1,7 @@
 //! The state of a process.
 
 ghost use Rattle.std.specs.Prelude.{◌≡◌, ◌<◌, ◌≤◌, ◌↔◌, ◌^◌, [], length, map, All, AllPairs, Err, IfOk, OnOk, OnErr};
-ghost use Rattle.pz_state.specs.States.{initial, variable, locals, local, object, HasVariable, HasFrame, HasLocal, HasObject, HasItem, IsLeastFree, set_variable, set_local, set_item, resized, opened, closed, made};
+ghost use Rattle.pz_state.specs.States.{object_limit, initial, variable, locals, local, object, HasVariable, HasFrame, HasLocal, HasObject, HasItem, IsLeastFree, set_variable, set_local, set_item, resized, opened, closed, made};
 ghost use Rattle.pz_state.specs.References.{RefersWithin, IsSelfContained};
 ghost use Rattle.pz_state.specs.Marks.{IsLatest, changed, marked, undone, kept};
 
@@ -144,7 +144,7 @@ impl State {
     /// How many objects there are. Takes no memory.
     pub fn objects(&self) -> u32
         ensures count { result ≡ length self.now.held.objects }
-        ensures limit { result ≤ OBJECT_LIMIT }
+        ensures limit { result ≤ object_limit }
         ensures contained { IsSelfContained self.now.held }
     {
         self.contents.objects() as u32
@@ -235,7 +235,7 @@ impl State {
         ensures number { IfOk result (λ r. r ≡ length self.old.held.objects) }
         ensures ok { OnOk result (self.new ≡ changed self.old (made self.old.held class items)) }
         ensures err { OnErr result (self.new ≡ self.old) }
-        ensures full { result ≡ Err MakeError.StoreFull ↔ (length self.old.held.objects ≡ OBJECT_LIMIT) }
+        ensures full { result ≡ Err MakeError.StoreFull ↔ (length self.old.held.objects ≡ object_limit) }
     {
         let count = self.objects();
         if count == OBJECT_LIMIT {

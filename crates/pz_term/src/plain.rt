@@ -1,6 +1,6 @@
 ghost use Rattle.std.specs.Prelude.{◌≡◌, ◌≤◌, ◌<◌, Err, IfOk, OnOk, IfErr, OnErr};
 ghost use Rattle.pz_classes.specs.CheckedView.{checked_model};
-ghost use Rattle.pz_bind.specs.NetView.{IsNet};
+ghost use Rattle.pz_bind.specs.devices.Nets.{IsNet};
 ghost use Rattle.pz_term_processes.specs.Standing.{setting_of, config_of, AreProcesses};
 ghost use Rattle.pz_rules.specs.Runs.{whole};
 ghost use Rattle.pz_term.specs.devices.Holding.{Holds};

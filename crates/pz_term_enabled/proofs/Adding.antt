@@ -8,7 +8,7 @@ use Rattle.pz_rules.specs.devices.Walk as walk
 use Rattle.pz_rules.specs.devices.Walk.{ActivePart, here, under, Noted, does, sent_by, received_by, waiting, troubled_by, noted}
 use Rattle.pz_term_enabled.specs.declared.found.ActiveSend.{ActiveSend}
 use Rattle.pz_term_enabled.specs.declared.found.Found.{Found}
-use Rattle.pz_term_enabled.specs.Walked.{doing_view, receiving_view, CarryAll, whats}
+use Rattle.pz_term_enabled.specs.devices.Walked.{doing_view, receiving_view, CarryAll, whats}
 use Rattle.pz_term_enabled.specs.devices.Listings.{below, Adds, Notes, notes_of, nothing}
 use Rattle.pz_term_enabled.proofs.Places.{noted_append, noted_under, noted_none, below_further, whats_further, below_append, whats_append}
 

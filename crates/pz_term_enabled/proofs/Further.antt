@@ -24,7 +24,7 @@ use Rattle.pz_rules.specs.devices.Walks.{IsThere, Lists, InternalActionsAreListe
 use Rattle.pz_term_matching.specs.declared.ends.Sender.{Sender}
 use Rattle.pz_term_matching.specs.declared.ends.Receiver.{Receiver}
 use Rattle.pz_term_enabled.specs.declared.found.Found.{Found}
-use Rattle.pz_term_enabled.specs.Walked.{IsWalked, whats}
+use Rattle.pz_term_enabled.specs.devices.Walked.{IsWalked, whats}
 use Rattle.pz_term_enabled.specs.declared.findings.Survey.{Survey}
 use Rattle.pz_term_enabled.specs.Surveyed.{IsSender, IsReceiver}
 use Rattle.pz_term_enabled.specs.devices.Adding.{end_at, action_of, sender_of, receiver_of, least_of, Adds}

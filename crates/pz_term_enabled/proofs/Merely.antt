@@ -13,7 +13,7 @@ use Rattle.pz_bind_levels.specs.Places.{Address}
 use Rattle.pz_bind.specs.Nest.{processes, class_at}
 use Rattle.pz_bind.specs.Connections.{end, IsIn, IsInNone}
 use Rattle.pz_bind.specs.Wires.{HasWire}
-use Rattle.pz_bind.specs.NetView.{IsNet}
+use Rattle.pz_bind.specs.devices.Nets.{IsNet}
 use Rattle.pz_bind.specs.declared.net.Net.{Net}
 use Rattle.pz_rules.specs.Ports.{IsWire}
 use Rattle.pz_term_enabled.specs.devices.Seen.{Wired, HasPort, wire_at}

@@ -12,7 +12,7 @@ use Rattle.pz_rules.specs.Settings.{Context}
 use Rattle.pz_rules.specs.devices.Found.{tested}
 use Rattle.pz_rules.specs.devices.Walk.{under, active_parts, active_children}
 use Rattle.pz_term_enabled.specs.declared.found.Found.{Found}
-use Rattle.pz_term_enabled.specs.Walked.{IsWalked}
+use Rattle.pz_term_enabled.specs.devices.Walked.{IsWalked}
 use Rattle.pz_term_enabled.specs.devices.Listings.{Adds}
 use Rattle.pz_term_enabled.proofs.Adding.{adds_both}
 use Rattle.pz_term_enabled.proofs.Walks.{child_added, guard_open, walked}

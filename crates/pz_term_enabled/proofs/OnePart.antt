@@ -17,7 +17,7 @@ use Rattle.pz_term_enabled.specs.declared.found.Doing.{Doing}
 use Rattle.pz_term_enabled.specs.declared.found.ActiveSend.{ActiveSend}
 use Rattle.pz_term_enabled.specs.declared.found.ActiveReceive.{ActiveReceive}
 use Rattle.pz_term_enabled.specs.declared.found.Found.{Found}
-use Rattle.pz_term_enabled.specs.Walked.{doing_view, receiving_view, CarryAll, whats}
+use Rattle.pz_term_enabled.specs.devices.Walked.{doing_view, receiving_view, CarryAll, whats}
 use Rattle.pz_term_enabled.specs.devices.Listings.{below, Adds, Notes, notes_of, nothing, only_does, only_waits, only_troubles, only_receives}
 
 -- what is noted at this place, if something is

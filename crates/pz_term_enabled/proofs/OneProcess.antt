@@ -16,7 +16,7 @@ use Rattle.pz_rules.specs.devices.Walks.{IsThere, Lists, Offering, offering, Int
 use Rattle.pz_term_enabled.specs.declared.found.Doing.{Doing}
 use Rattle.pz_term_enabled.specs.declared.found.ActiveSend.{ActiveSend}
 use Rattle.pz_term_enabled.specs.declared.found.ActiveReceive.{ActiveReceive}
-use Rattle.pz_term_enabled.specs.Walked.{doing_view, receiving_view, Carries, CarryAll}
+use Rattle.pz_term_enabled.specs.devices.Walked.{doing_view, receiving_view, Carries, CarryAll}
 use Rattle.pz_term_enabled.proofs.Paired.{zip_ordered, zip_all, zip_contains, zip_view}
 use Rattle.pz_term_enabled.proofs.Listed.{Here}
 

@@ -4,7 +4,7 @@ use Rattle.std.specs.List.{cons_option}
 use Rattle.pz_offer.specs.PlaceOrder.{Place}
 use Rattle.pz_rules.specs.Terms.{Term}
 use Rattle.pz_rules.specs.devices.Walk.{ActivePart, here, under, Noted, noted_at, noted}
-use Rattle.pz_term_enabled.specs.Walked.{whats}
+use Rattle.pz_term_enabled.specs.devices.Walked.{whats}
 use Rattle.pz_term_enabled.specs.devices.Listings.{below}
 
 -- in a child of this number

@@ -28,7 +28,7 @@ use Rattle.pz_part_queries.specs.Standpoints.{seen_from}
 use Rattle.pz_term_enabled.specs.declared.found.ActiveSend.{ActiveSend}
 use Rattle.pz_term_enabled.specs.declared.found.ActiveReceive.{ActiveReceive}
 use Rattle.pz_term_enabled.specs.declared.found.Found.{Found}
-use Rattle.pz_term_enabled.specs.Walked.{IsWalked}
+use Rattle.pz_term_enabled.specs.devices.Walked.{IsWalked}
 use Rattle.pz_term_enabled.specs.declared.findings.Survey.{Survey}
 use Rattle.pz_term_enabled.specs.devices.Adding.{Adds}
 use Rattle.pz_term_enabled.specs.devices.Below.{SurveyedBelow}

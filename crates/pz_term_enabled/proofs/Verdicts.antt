@@ -6,7 +6,7 @@ use Rattle.std.proofs.lemmas.Option.{same_Some, slice_get_within, slice_get-get_
 use Rattle.std.proofs.lemmas.List.{length-map}
 use Rattle.pz_syntax.specs.Classes.{ModelTree}
 use Rattle.pz_classes.specs.declared.classes.Classes.{Classes}
-use Rattle.pz_classes.specs.Tables.{AreClasses}
+use Rattle.pz_classes.specs.devices.Rows.{AreClasses}
 use Rattle.pz_copy.specs.Parcels.{ParcelView}
 use Rattle.pz_bind_levels.specs.Places.{Address as ProcessPlace}
 use Rattle.pz_bind.specs.Nest.{class_at}

@@ -13,7 +13,7 @@ use Rattle.pz_rules.specs.devices.Found.{tested}
 use Rattle.pz_rules.specs.devices.Walk as walk
 use Rattle.pz_rules.specs.devices.Walk.{ActivePart, here, under, behind, active_parts, active_children, trouble_of, Noted, internal_actions, active_sends, active_receives, active_delays, active_troubles}
 use Rattle.pz_term_enabled.specs.declared.found.Found.{Found}
-use Rattle.pz_term_enabled.specs.Walked.{IsWalked, CarryAll, doing_view, receiving_view, whats}
+use Rattle.pz_term_enabled.specs.devices.Walked.{IsWalked, CarryAll, doing_view, receiving_view, whats}
 use Rattle.pz_term_enabled.specs.devices.Listings.{Adds, Notes, notes_of, nothing, only_troubles, below}
 use Rattle.pz_term_enabled.proofs.Places.{below_root}
 use Rattle.pz_term_enabled.proofs.Adding.{adds_none, adds_both, adds_after}

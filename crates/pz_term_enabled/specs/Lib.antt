@@ -1,4 +1,3 @@
 pub mod devices
-pub mod Walked
 pub mod Surveyed
 pub mod Looking

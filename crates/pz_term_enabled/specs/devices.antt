@@ -1,4 +1,5 @@
 pub mod Listings
+pub mod Walked
 pub mod Adding
 pub mod Below
 pub mod Seen

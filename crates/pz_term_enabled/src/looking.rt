@@ -1,6 +1,6 @@
 ghost use Rattle.std.specs.Prelude.{◌≡◌, IfOk};
 ghost use Rattle.pz_classes.specs.CheckedView.{checked_model};
-ghost use Rattle.pz_bind.specs.NetView.{IsNet};
+ghost use Rattle.pz_bind.specs.devices.Nets.{IsNet};
 ghost use Rattle.pz_rules.specs.Settings.{Setting};
 ghost use Rattle.pz_rules.specs.Configurations.{Config};
 ghost use Rattle.pz_rules.specs.Moments.{IsMoment};

@@ -8,7 +8,7 @@ ghost use Rattle.pz_rules.specs.View.{term_view, terms_view};
 ghost use Rattle.pz_rules.specs.devices.Walk.{active_parts, active_children, under};
 ghost use Rattle.pz_eval.specs.Known.{AreKnown};
 ghost use Rattle.pz_part_queries.specs.Standpoints.{Knows, seen_from};
-ghost use Rattle.pz_term_enabled.specs.Walked.{IsWalked};
+ghost use Rattle.pz_term_enabled.specs.devices.Walked.{IsWalked};
 ghost use Rattle.pz_term_enabled.specs.devices.Listings.{Adds};
 
 use crate::found::Found;

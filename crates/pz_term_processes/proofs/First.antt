@@ -19,12 +19,14 @@ use Rattle.pz_state.specs.Marks.{Seen}
 use Rattle.pz_state.specs.States.{StateView}
 use Rattle.pz_state.specs.References.{RefersWithin}
 use Rattle.pz_classes.specs.declared.classes.Classes.{Classes}
-use Rattle.pz_classes.specs.Tables.{AreClasses, class_id}
+use Rattle.pz_classes.specs.Tables.{class_id}
+use Rattle.pz_classes.specs.devices.Rows.{AreClasses}
 use Rattle.pz_classes.specs.Starts.{init}
 use Rattle.pz_bind_levels.specs.Places.{Address}
 use Rattle.pz_bind.specs.Nest.{processes, class_at}
 use Rattle.pz_bind.specs.Values.{values_at}
-use Rattle.pz_bind.specs.NetView.{IsNet, HasProcess, node_at}
+use Rattle.pz_bind.specs.NetView.{HasProcess}
+use Rattle.pz_bind.specs.devices.Nets.{IsNet, node_at}
 use Rattle.pz_bind.specs.declared.net.Net.{Net}
 use Rattle.pz_rules.specs.declared.limits.Limits.{Limits}
 use Rattle.pz_rules.specs.declared.term.Term.{fold-roll-Term}

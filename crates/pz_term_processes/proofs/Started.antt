@@ -8,7 +8,7 @@ use Rattle.pz_syntax.specs.Classes.{ModelTree}
 use Rattle.pz_bind_levels.specs.Places.{Address}
 use Rattle.pz_classes.specs.Soundness.{IsSound}
 use Rattle.pz_bind.specs.Nest.{processes}
-use Rattle.pz_bind.specs.NetView.{IsNet}
+use Rattle.pz_bind.specs.devices.Nets.{IsNet}
 use Rattle.pz_bind.specs.declared.net.Net.{Net}
 use Rattle.pz_rules.specs.declared.limits.Limits.{Limits}
 use Rattle.pz_rules.specs.Settings as rules

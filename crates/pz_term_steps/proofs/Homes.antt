@@ -12,11 +12,13 @@ use Rattle.pz_value.specs.declared.value.ClassId.{ClassId}
 use Rattle.pz_classes.specs.declared.classes.Classes.{Classes}
 use Rattle.pz_classes.specs.Soundness.{IsSound}
 use Rattle.pz_classes.specs.SoundBodies.{SoundBodiesFit}
-use Rattle.pz_classes.specs.Tables.{AreClasses, HasClass, class_id}
+use Rattle.pz_classes.specs.Tables.{HasClass, class_id}
+use Rattle.pz_classes.specs.devices.Rows.{AreClasses}
 use Rattle.pz_bind_levels.specs.Places as levels
 use Rattle.pz_bind.specs.declared.net.Net.{Net}
 use Rattle.pz_bind.specs.Nest.{processes, class_at}
-use Rattle.pz_bind.specs.NetView.{IsNet, HasProcess, node_at}
+use Rattle.pz_bind.specs.NetView.{HasProcess}
+use Rattle.pz_bind.specs.devices.Nets.{IsNet, node_at}
 use Rattle.pz_offer.specs.declared.end.End.{End}
 use Rattle.pz_offer.specs.PlaceOrder.{Place}
 use Rattle.pz_rules.specs.declared.limits.Limits.{Limits}

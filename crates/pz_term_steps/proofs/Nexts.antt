@@ -14,7 +14,7 @@ use Rattle.pz_classes_code.specs.declared.slot.Slot.{Slot}
 use Rattle.pz_classes.specs.Soundness.{IsSound}
 use Rattle.pz_copy.specs.Parcels.{ParcelView}
 use Rattle.pz_state.specs.States.{StateView}
-use Rattle.pz_state.specs.declared.state.TheConstants.{OBJECT_LIMIT}
+use Rattle.pz_state.specs.States.{object_limit}
 use Rattle.pz_offer.specs.declared.end.End.{End}
 use Rattle.pz_offer.specs.declared.trouble.Trouble.{Trouble}
 use Rattle.pz_eval_rules.specs.Laws.{EachListHasAnOutcome}
@@ -84,9 +84,9 @@ part_some law a f at (written es) =
 
 pub takes_some : EachListHasAnOutcome → (a : Context) (f : ℕ) (parcel : ParcelView) (part : Term) (pos : Pos) (port : ℕ) (message : List ℕ) (count : ℕ)
     → Receives part pos port message count → (r : Result rules.Process Trouble) × Takes a f parcel part pos r
-takes_some law a f parcel _ _ _ _ _ (messages.receives at port name into condition block) = by_room (cases_lt OBJECT_LIMIT (length a.state.objects + length parcel.objects))
+takes_some law a f parcel _ _ _ _ _ (messages.receives at port name into condition block) = by_room (cases_lt object_limit (length a.state.objects + length parcel.objects))
   where
-    by_room : (OBJECT_LIMIT < length a.state.objects + length parcel.objects) ⊎ (length a.state.objects + length parcel.objects ≤ OBJECT_LIMIT)
+    by_room : (object_limit < length a.state.objects + length parcel.objects) ⊎ (length a.state.objects + length parcel.objects ≤ object_limit)
         → (r : Result rules.Process Trouble) × Takes a f parcel (terms.leaf (statements.receive at port name into condition block)) at r
     by_room (inl over) = (_, messages.full at port name into condition block (λ fits. absurd (omega (arith, over, fits))))
     by_room (inr fits) =

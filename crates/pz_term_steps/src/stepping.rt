@@ -2,7 +2,7 @@ ghost use Rattle.std.specs.Prelude.{◌≡◌, ◌+◌, ℕ, List, IfOk, OnOk, O
 ghost use Rattle.pz_syntax.specs.declared.tokens.Pos.{Pos};
 ghost use Rattle.pz_syntax.specs.Classes.{ModelTree};
 ghost use Rattle.pz_classes.specs.CheckedView.{checked_model};
-ghost use Rattle.pz_bind.specs.NetView.{IsNet};
+ghost use Rattle.pz_bind.specs.devices.Nets.{IsNet};
 ghost use Rattle.pz_rules.specs.declared.action.Kind.{Kind};
 ghost use Rattle.pz_rules.specs.Offers.{IsPair, Offers};
 ghost use Rattle.pz_rules.specs.Steps.{Next, PassesTo};

@@ -19,7 +19,8 @@ use Rattle.pz_bind.specs.declared.net.Net.{Net}
 use Rattle.pz_bind.specs.Nest.{processes}
 use Rattle.pz_bind.specs.Names.{wire_name}
 use Rattle.pz_bind.specs.Wires.{wires}
-use Rattle.pz_bind.specs.NetView.{IsNet, HasProcess, IsWireOf, node_at}
+use Rattle.pz_bind.specs.NetView.{HasProcess, IsWireOf}
+use Rattle.pz_bind.specs.devices.Nets.{IsNet, node_at}
 use Rattle.pz_copy.specs.Parcels.{ParcelView}
 use Rattle.pz_eval_rules.specs.declared.outcome.Outcome.{Outcome}
 use Rattle.pz_eval_rules.specs.declared.outcome.Outcome.TheVariants as outcome

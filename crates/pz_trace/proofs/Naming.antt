@@ -14,7 +14,8 @@ use Rattle.pz_bind.specs.declared.net.Net.{Net}
 use Rattle.pz_bind.specs.Nest.{processes}
 use Rattle.pz_bind.specs.Names.{path, wire_name}
 use Rattle.pz_bind.specs.Wires.{wires}
-use Rattle.pz_bind.specs.NetView.{IsNet, HasProcess, IsWireOf, node_at}
+use Rattle.pz_bind.specs.NetView.{HasProcess, IsWireOf}
+use Rattle.pz_bind.specs.devices.Nets.{IsNet, node_at}
 use Rattle.pz_trace.specs.Labels.{path_of, wire_of}
 
 -- a text and a list of names are those of a set

@@ -3,7 +3,8 @@
 ghost use Rattle.std.specs.Prelude.{◌≡◌, ◌++◌, IfOk, OnOk};
 ghost use Rattle.pz_syntax.specs.Classes.{ModelTree};
 ghost use Rattle.pz_classes.specs.CheckedView.{checked_model};
-ghost use Rattle.pz_bind.specs.NetView.{IsNet, HasProcess, IsWireOf};
+ghost use Rattle.pz_bind.specs.NetView.{HasProcess, IsWireOf};
+ghost use Rattle.pz_bind.specs.devices.Nets.{IsNet};
 ghost use Rattle.pz_trace.specs.Labels as spec;
 ghost use Rattle.pz_trace.specs.Named.{IsNamed};
 

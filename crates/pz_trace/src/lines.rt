@@ -4,7 +4,8 @@ ghost use Rattle.std.specs.Prelude.{◌≡◌, ◌++◌, ℕ, List, IfOk, codes}
 ghost use Rattle.std.specs.Fmt.{decimal};
 ghost use Rattle.pz_syntax.specs.Classes.{ModelTree};
 ghost use Rattle.pz_classes.specs.CheckedView.{checked_model};
-ghost use Rattle.pz_bind.specs.NetView.{IsNet, HasProcess};
+ghost use Rattle.pz_bind.specs.NetView.{HasProcess};
+ghost use Rattle.pz_bind.specs.devices.Nets.{IsNet};
 ghost use Rattle.pz_trace.specs.Labels.{spot};
 ghost use Rattle.pz_trace.specs.Lines as lines;
 ghost use Rattle.pz_trace.specs.Named.{IsNamed, IsNamedAtEnd, HasTroubled};

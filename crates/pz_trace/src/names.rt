@@ -4,7 +4,8 @@ ghost use Rattle.std.specs.Prelude.{◌≡◌};
 ghost use Rattle.pz_syntax.specs.Classes.{ModelTree};
 ghost use Rattle.pz_classes.specs.CheckedView.{checked_model};
 ghost use Rattle.pz_classes.specs.Tables as tables;
-ghost use Rattle.pz_bind.specs.NetView.{IsNet, HasProcess, IsWireOf};
+ghost use Rattle.pz_bind.specs.NetView.{HasProcess, IsWireOf};
+ghost use Rattle.pz_bind.specs.devices.Nets.{IsNet};
 ghost use Rattle.pz_trace.specs.Labels.{path_of, wire_of};
 
 use pz_bind::Net;

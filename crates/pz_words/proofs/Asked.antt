@@ -7,7 +7,7 @@ use Rattle.std.proofs.lemmas.List.{take_all}
 use Rattle.pz_words.specs.declared.jobs.Choice.TheVariants as choice
 use Rattle.pz_words.specs.declared.jobs.Job.{Job}
 use Rattle.pz_words.specs.declared.jobs.Job.TheVariants.{Run, Menu, Replay, Check, Make, Ring}
-use Rattle.pz_words.specs.declared.jobs.TheConstants.{MOST_STATIONS}
+use Rattle.pz_words.specs.Jobs.{station_limit}
 use Rattle.pz_words.specs.declared.options.Options.{Options}
 use Rattle.pz_words.specs.Options.{nothing_said}
 use Rattle.pz_words.specs.Jobs.{choice_or, units_of, limits_of, is_name, IsRingSize, OnlyUnits, Asks, IsAsked, run, menu, replay, check, make, ring}
@@ -24,11 +24,11 @@ module _ where
   is_there w v e = only_if_some (is_name w) w v e
 
   size_there : (n : ℕ) → IsRingSize n → stations_of (decimal n) ≡ Some n
-  size_there n is = between_found 2 MOST_STATIONS n (decimal n) (record { digits = refl; short = let high = is.most in omega (arith, high) }) is.least is.most
+  size_there n is = between_found 2 station_limit n (decimal n) (record { digits = refl; short = let high = is.most in omega (arith, high) }) is.least is.most
 
   is_size : (w : List ℕ) (n : ℕ) → stations_of w ≡ Some n → (w ≡ decimal n) × IsRingSize n
   is_size w n e =
-      let is = is_between 2 MOST_STATIONS n w e in
+      let is = is_between 2 station_limit n w e in
       (is.0.digits, record { least = is.1; most = is.2 })
 
   only_units : (o : Options) → OnlyUnits o → says_only_units o ≡ true

@@ -6,7 +6,7 @@ use Rattle.std.specs.Fmt.{decimal}
 use Rattle.pz_words.specs.declared.jobs.Choice.TheVariants as choice
 use Rattle.pz_words.specs.declared.options.OptionWord.{OptionWord}
 use Rattle.pz_words.specs.declared.options.OptionWord.TheVariants.{Chooses, Steps, Until, Units, Summary}
-use Rattle.pz_words.specs.declared.options.TheConstants.{MOST_STEPS, MOST_UNITS}
+use Rattle.pz_words.specs.Options.{step_limit, unit_limit}
 use Rattle.pz_words.specs.declared.names.Valued.{Valued}
 use Rattle.pz_words.specs.declared.names.Valued.TheVariants as option
 use Rattle.pz_words.specs.declared.reading.Heard.{Heard}
@@ -87,16 +87,16 @@ module _ where
       let are = are_entries w told.0 told.1 in
       subst (IsWritten (codes "--choices" ∷ w ∷ [])) told.2 (record { written = ap (λ (x : List ℕ). codes "--choices" ∷ x ∷ []) (sym are.0); allowed = are.1 })
   value_written option.Steps w s e =
-      let told = map_some (λ n. Steps n) (number_between 0 MOST_STEPS w) s e in
-      let is = is_between 0 MOST_STEPS told.0 w told.1 in
+      let told = map_some (λ n. Steps n) (number_between 0 step_limit w) s e in
+      let is = is_between 0 step_limit told.0 w told.1 in
       subst (IsWritten (codes "--steps" ∷ w ∷ [])) told.2 (record { written = numbered _ w told.0 is.0.digits; allowed = is.2 })
   value_written option.Until w s e =
       let told = map_some (λ n. Until n) (number_of w) s e in
       let is = is_number told.0 w told.1 in
       subst (IsWritten (codes "--until" ∷ w ∷ [])) told.2 (record { written = numbered _ w told.0 is.digits; allowed = is.short })
   value_written option.Units w s e =
-      let told = map_some (λ n. Units n) (number_between 1 MOST_UNITS w) s e in
-      let is = is_between 1 MOST_UNITS told.0 w told.1 in
+      let told = map_some (λ n. Units n) (number_between 1 unit_limit w) s e in
+      let is = is_between 1 unit_limit told.0 w told.1 in
       subst (IsWritten (codes "--units" ∷ w ∷ [])) told.2 (record { written = numbered _ w told.0 is.0.digits; allowed = (is.1, is.2) })
 
   abbrev says : Heard → OptionWord → OptionWord
@@ -150,7 +150,7 @@ module _ where
   name_read option.Until = refl
   name_read option.Units = refl
 
-  short_steps : (n : ℕ) → n ≤ MOST_STEPS → IsNumber (decimal n) n
+  short_steps : (n : ℕ) → n ≤ step_limit → IsNumber (decimal n) n
   short_steps n low = record { digits = refl; short = omega (arith, low) }
 
   pub seed_read : (n : ℕ) → IsAllowed (Chooses (choice.Seed n)) → value_of option.Seed (decimal n) ≡ Some (Chooses (choice.Seed n))
@@ -160,10 +160,10 @@ module _ where
   choices_read ns are = ap (option_map (λ ks. Chooses (choice.List ks))) (entries_found ns are)
 
   pub steps_read : (n : ℕ) → IsAllowed (Steps n) → value_of option.Steps (decimal n) ≡ Some (Steps n)
-  steps_read n low = ap (option_map (λ k. Steps k)) (between_found 0 MOST_STEPS n (decimal n) (short_steps n low) (omega arith) low)
+  steps_read n low = ap (option_map (λ k. Steps k)) (between_found 0 step_limit n (decimal n) (short_steps n low) (omega arith) low)
 
   pub until_read : (n : ℕ) → IsAllowed (Until n) → value_of option.Until (decimal n) ≡ Some (Until n)
   until_read n short = ap (option_map (λ k. Until k)) (found n (decimal n) (record { digits = refl; short = short }))
 
   pub units_read : (n : ℕ) → IsAllowed (Units n) → value_of option.Units (decimal n) ≡ Some (Units n)
-  units_read n within = ap (option_map (λ k. Units k)) (between_found 1 MOST_UNITS n (decimal n) (short_steps n within.1) within.0 within.1)
+  units_read n within = ap (option_map (λ k. Units k)) (between_found 1 unit_limit n (decimal n) (short_steps n within.1) within.0 within.1)

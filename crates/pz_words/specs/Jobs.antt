@@ -7,7 +7,6 @@ use Rattle.pz_words.specs.declared.jobs.Choice.TheVariants as choice
 use Rattle.pz_words.specs.declared.jobs.RunLimits.{RunLimits}
 use Rattle.pz_words.specs.declared.jobs.Job.{Job}
 use Rattle.pz_words.specs.declared.jobs.Job.TheVariants.{Run, Menu, Replay, Check, Make, Ring}
-use Rattle.pz_words.specs.declared.jobs.TheConstants.{DEFAULT_STEPS, DEFAULT_UNITS, MOST_STATIONS}
 use Rattle.pz_words.specs.declared.options.Options.{Options}
 use Rattle.pz_words.specs.Options.{AreOptions}
 
@@ -15,14 +14,25 @@ abbrev pub or_else : {A : Type 0} → A → Option A → A
 or_else default None = default
 or_else default (Some x) = x
 
+-- where no option says how many actions are chosen at most, and how many units an evaluation has
+abbrev pub usual_steps : ℕ
+usual_steps = 1000
+
+abbrev pub usual_units : ℕ
+usual_units = 100000
+
+-- the most stations of a ring
+abbrev pub station_limit : ℕ
+station_limit = 1000
+
 abbrev pub choice_or : Choice → Options → Choice
 choice_or default o = or_else default o.choice
 
 abbrev pub units_of : Options → ℕ
-units_of o = or_else DEFAULT_UNITS o.units
+units_of o = or_else usual_units o.units
 
 abbrev pub limits_of : Options → RunLimits
-limits_of o = record { steps = or_else DEFAULT_STEPS o.steps; until = o.until; units = units_of o }
+limits_of o = record { steps = or_else usual_steps o.steps; until = o.until; units = units_of o }
 
 -- not empty, and it does not begin with `-`
 abbrev pub is_name : List ℕ → Bool
@@ -32,7 +42,7 @@ is_name (b ∷ bs) = not (b == 45)
 -- the stations of a ring
 pub record IsRingSize (n : ℕ) : Type 0 where
   pub least : 2 ≤ n
-  pub most : n ≤ MOST_STATIONS
+  pub most : n ≤ station_limit
 
 -- of options, only units are said
 pub record OnlyUnits (o : Options) : Type 0 where

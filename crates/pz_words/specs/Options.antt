@@ -6,7 +6,6 @@ use Rattle.pz_words.specs.declared.jobs.Choice.TheVariants as choice
 use Rattle.pz_words.specs.declared.options.OptionWord.{OptionWord}
 use Rattle.pz_words.specs.declared.options.OptionWord.TheVariants.{Chooses, Steps, Until, Units, Summary}
 use Rattle.pz_words.specs.declared.options.Options.{Options}
-use Rattle.pz_words.specs.declared.options.TheConstants.{MOST_STEPS, MOST_UNITS}
 use Rattle.pz_words.specs.Numbers.{IsShort, listed, AreEntries}
 
 -- an option and its value are two words
@@ -19,14 +18,21 @@ words_of (Until n) = codes "--until" ∷ decimal n ∷ []
 words_of (Units n) = codes "--units" ∷ decimal n ∷ []
 words_of Summary = codes "--summary" ∷ []
 
+-- the most actions that may be chosen, and the most units of an evaluation
+abbrev pub step_limit : ℕ
+step_limit = 1000000000
+
+abbrev pub unit_limit : ℕ
+unit_limit = 1000000000
+
 -- the values that an option may have
 abbrev pub IsAllowed : OptionWord → Type 0
 IsAllowed (Chooses choice.First) = ⊤
 IsAllowed (Chooses (choice.Seed n)) = IsShort n
 IsAllowed (Chooses (choice.List entries)) = AreEntries entries
-IsAllowed (Steps n) = n ≤ MOST_STEPS
+IsAllowed (Steps n) = n ≤ step_limit
 IsAllowed (Until n) = IsShort n
-IsAllowed (Units n) = (1 ≤ n) × (n ≤ MOST_UNITS)
+IsAllowed (Units n) = (1 ≤ n) × (n ≤ unit_limit)
 IsAllowed Summary = ⊤
 
 -- what an option speaks of; the three choices speak of one thing

@@ -3,7 +3,8 @@
 ghost use Rattle.std.specs.Prelude.{IfSome};
 ghost use Rattle.pz_syntax.specs.ClassView.{model_view};
 ghost use Rattle.pz_syntax.specs.ModelText.{HasFewMarks};
-ghost use Rattle.pz_classes.specs.Tables.{AreClasses, HasClass, HasMethod};
+ghost use Rattle.pz_classes.specs.Tables.{HasClass, HasMethod};
+ghost use Rattle.pz_classes.specs.devices.Rows.{AreClasses};
 
 use crate::bodies::{show_body, show_step};
 use crate::reading::model_in;

@@ -3,7 +3,7 @@
 
 ghost use Rattle.pz_syntax.specs.ClassView.{model_view};
 ghost use Rattle.pz_syntax.specs.ModelText.{HasFewMarks};
-ghost use Rattle.pz_classes.specs.Tables.{AreClasses};
+ghost use Rattle.pz_classes.specs.devices.Rows.{AreClasses};
 
 use crate::reading::{is_short, model_in};
 use pz_check_duplicates::{least_double_end, least_repeat, least_system};

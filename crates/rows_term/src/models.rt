@@ -1,7 +1,7 @@
 //! From a text to the simulator of its model.
 
 ghost use Rattle.pz_classes.specs.CheckedView.{checked_model};
-ghost use Rattle.pz_bind.specs.NetView.{IsNet};
+ghost use Rattle.pz_bind.specs.devices.Nets.{IsNet};
 
 use crate::plays::{Play, show_play};
 use pz_bind::Net;

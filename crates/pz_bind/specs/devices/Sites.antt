@@ -4,7 +4,7 @@ use Rattle.pz_syntax.specs.Classes.{ModelTree}
 use Rattle.pz_bind_levels.specs.declared.expansion.Standing.{Standing}
 use Rattle.pz_bind_levels.specs.declared.expansion.Level.{Level}
 use Rattle.pz_bind_levels.specs.Places.{Address}
-use Rattle.pz_bind_levels.specs.Expanded.{EachOf}
+use Rattle.pz_bind_levels.specs.devices.Expanded.{EachOf}
 use Rattle.pz_value.specs.declared.value.Value.TheVariants.{Nil}
 use Rattle.pz_bind.specs.Nest.{class_at, instances_in, instances_at, levels}
 use Rattle.pz_bind.specs.Names.{path}

@@ -15,7 +15,7 @@ use Rattle.pz_bind_levels.specs.declared.walk.Walk.{Walk}
 use Rattle.pz_bind_levels.specs.Layouts.{Layout, layout}
 use Rattle.pz_bind_levels.specs.Places.{Spot, with_inside, each_part, inside, spots}
 use Rattle.pz_bind_levels.specs.Wires.{Channel, wires_of}
-use Rattle.pz_bind_levels.specs.Expanded.{EachOf, IsLevel, IsProcess, IsWire, AreInwards}
+use Rattle.pz_bind_levels.specs.devices.Expanded.{EachOf, IsLevel, IsProcess, IsWire, AreInwards}
 
 abbrev pub linked_in : Links → ℕ → ℕ → Option ℕ
 linked_in links part port = get_by (λ k. nat_eq part k.part && nat_eq port k.port) links.map

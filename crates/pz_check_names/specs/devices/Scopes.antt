@@ -7,7 +7,7 @@ use Rattle.pz_classes.specs.declared.method_id.Counts.TheVariants.{Data}
 use Rattle.pz_classes.specs.Ancestors.{ancestors}
 use Rattle.pz_classes.specs.Methods.{Signature, same_signature}
 use Rattle.pz_classes.specs.CallRules.{is_declared}
-use Rattle.pz_classes.specs.Tables.{AreClasses}
+use Rattle.pz_classes.specs.devices.Rows.{AreClasses}
 use Rattle.pz_check_names.specs.devices.Sets.{has_selector}
 use Rattle.pz_check_names.specs.devices.Shown.{ShowsNames}
 use Rattle.pz_check_names.specs.devices.Inherited.{IsOpen}

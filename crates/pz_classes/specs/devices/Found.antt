@@ -5,7 +5,7 @@ use Rattle.pz_classes_code.specs.StepView.{Tree}
 use Rattle.pz_classes.specs.declared.method_id.MethodId.{MethodId}
 use Rattle.pz_classes.specs.Ancestors.{followed}
 use Rattle.pz_classes.specs.Methods.{Signature, nearest}
-use Rattle.pz_classes.specs.Tables.{Row}
+use Rattle.pz_classes.specs.devices.Rows.{Row}
 
 abbrev pub up_in : List Row → ℕ → Option ℕ
 up_in rows c = option_and_then (λ r. r.parent) (slice_get rows c)

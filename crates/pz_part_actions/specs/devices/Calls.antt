@@ -8,7 +8,8 @@ use Rattle.pz_classes.specs.declared.classes.Classes.{Classes}
 use Rattle.pz_classes.specs.declared.method_id.Counts.TheVariants.{Process}
 use Rattle.pz_classes.specs.MethodBodies.{HasBody}
 use Rattle.pz_classes.specs.SoundBodies.{BodiesFit}
-use Rattle.pz_classes.specs.Tables.{AreClasses, HasClass}
+use Rattle.pz_classes.specs.Tables.{HasClass}
+use Rattle.pz_classes.specs.devices.Rows.{AreClasses}
 use Rattle.pz_state.specs.States.{IsLeastFree}
 use Rattle.pz_state.specs.Marks.{Seen}
 use Rattle.pz_rules.specs.Terms.{Steps, Term}

@@ -14,7 +14,7 @@ use Rattle.pz_syntax.specs.Statements.{skip, delay, block, conditional, repeated
 use Rattle.pz_value.specs.declared.value.ClassId.{ClassId}
 use Rattle.pz_value.specs.declared.value.Value.{Value}
 use Rattle.pz_classes_code.specs.declared.slot.Slot.{Slot}
-use Rattle.pz_state.specs.declared.state.TheConstants.{OBJECT_LIMIT}
+use Rattle.pz_state.specs.States.{object_limit}
 use Rattle.pz_state.specs.declared.fault.FaultKind.TheVariants.{StoreFull}
 use Rattle.pz_classes.specs.Bodies.{BodyTree, data_body, process_body}
 use Rattle.pz_classes.specs.MethodBodies.{process_method_body}
@@ -146,7 +146,7 @@ module _ (a : Context) (f : ℕ) where
 
   module _ (p : ParcelView) where
     abbrev fits : Bool
-    fits = nat_le (length a.state.objects + length p.objects) OBJECT_LIMIT
+    fits = nat_le (length a.state.objects + length p.objects) object_limit
 
     abbrev bound_in : Option (List Slot) → Context
     bound_in into = in_state a (bound a f into p)
@@ -169,9 +169,9 @@ module _ (a : Context) (f : ℕ) where
     left_taken_is : (at : Pos) (port : ℕ) (name : Id) (into : Option (List Slot)) (condition : Option (ours.Expression Slot ClassId)) (after : ours.Part Slot ClassId) (b : Bool) → fits ≡ b → Takes a f p (leaf (receive at port name into condition after)) at (left_taken at into after b)
     left_taken_is at port name into condition after true is =
         messages.takes at port name into condition after (found_part (bound_in into) f at after) (left_part (bound_in into) f after)
-        (leb-true (length a.state.objects + length p.objects) OBJECT_LIMIT is) (gives_part_found (bound_in into) f at after)
+        (leb-true (length a.state.objects + length p.objects) object_limit is) (gives_part_found (bound_in into) f at after)
     left_taken_is at port name into condition after false is =
-        messages.full at port name into condition after (λ h. omega (arith, h, leb-false (length a.state.objects + length p.objects) OBJECT_LIMIT is))
+        messages.full at port name into condition after (λ h. omega (arith, h, leb-false (length a.state.objects + length p.objects) object_limit is))
 
     step_taken_is : (s : Step) (d : Outcome) → step_taken s ≡ Some d → Accepts (leaf s) d
     step_taken_is (receive at port name into condition after) d e = subst (Accepts (leaf (receive at port name into condition after))) (some_is e) (left_taken_is at port name into condition after fits refl)

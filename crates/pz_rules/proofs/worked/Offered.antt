@@ -14,7 +14,7 @@ use Rattle.pz_syntax.specs.Expressions as ours
 use Rattle.pz_syntax.specs.Statements.{receive}
 use Rattle.pz_value.specs.declared.value.ClassId.{ClassId}
 use Rattle.pz_classes_code.specs.declared.slot.Slot.{Slot}
-use Rattle.pz_state.specs.declared.state.TheConstants.{OBJECT_LIMIT}
+use Rattle.pz_state.specs.States.{object_limit}
 use Rattle.pz_state.specs.declared.fault.FaultKind.TheVariants.{StoreFull}
 use Rattle.pz_copy.specs.Parcels.{ParcelView}
 use Rattle.pz_bind_levels.specs.Places.{Address}
@@ -92,7 +92,7 @@ module _ (setting : Setting) (clock : ℕ) where
 
 module _ (a : Context) (f : ℕ) (p : ParcelView) where
   abbrev fits : Bool
-  fits = nat_le (length a.state.objects + length p.objects) OBJECT_LIMIT
+  fits = nat_le (length a.state.objects + length p.objects) object_limit
 
   abbrev condition_says : Pos → Option (List Slot) → Option Code → Result Bool Trouble
   condition_says at into None = Ok true
@@ -113,8 +113,8 @@ module _ (a : Context) (f : ℕ) (p : ParcelView) where
       by : (b : Bool) → fits ≡ b → Judges a f p (leaf (receive at port name into (Some test) after)) (if b then tested (in_state a (bound a f into p)) f at test else fault StoreFull a.process at)
       by true is =
           messages.asks at port name into test after (tested (in_state a (bound a f into p)) f at test)
-          (leb-true (length a.state.objects + length p.objects) OBJECT_LIMIT is) (tests_found (in_state a (bound a f into p)) f at test)
-      by false is = messages.unfit at port name into test after (λ h. omega (arith, h, leb-false (length a.state.objects + length p.objects) OBJECT_LIMIT is))
+          (leb-true (length a.state.objects + length p.objects) object_limit is) (tests_found (in_state a (bound a f into p)) f at test)
+      by false is = messages.unfit at port name into test after (λ h. omega (arith, h, leb-false (length a.state.objects + length p.objects) object_limit is))
 
   says_is : (t : Term) (pos : Pos) (port : ℕ) (message : List ℕ) (count : ℕ) → Receives t pos port message count → Judges a f p t (says t)
   says_is _ _ _ _ _ (messages.receives at port name into condition after) = condition_is at port name into condition after

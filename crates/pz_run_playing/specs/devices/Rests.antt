@@ -4,7 +4,7 @@ use Rattle.pz_syntax.specs.Classes.{ModelTree}
 use Rattle.pz_classes.specs.Soundness.{IsSound}
 use Rattle.pz_offer.specs.declared.trouble.Trouble.{Trouble}
 use Rattle.pz_bind.specs.declared.net.Net.{Net}
-use Rattle.pz_bind.specs.NetView.{IsNet}
+use Rattle.pz_bind.specs.devices.Nets.{IsNet}
 use Rattle.pz_rules.specs.declared.action.Action.{Action}
 use Rattle.pz_rules.specs.declared.moment.Moment.TheVariants.{Time}
 use Rattle.pz_rules.specs.Settings.{Setting}

@@ -2,7 +2,7 @@
 use Rattle.std.specs.Prelude.{◌≡◌, ◌≢◌, ◌<◌, ◌^◌, ℕ, Err}
 use Rattle.pz_classes.specs.Soundness.{IsSound}
 use Rattle.pz_bind.specs.declared.net.Net.{Net}
-use Rattle.pz_bind.specs.NetView.{IsNet}
+use Rattle.pz_bind.specs.devices.Nets.{IsNet}
 use Rattle.pz_rules.specs.declared.action.Action.{Action}
 use Rattle.pz_rules.specs.declared.moment.Moment.{Moment}
 use Rattle.pz_rules.specs.declared.moment.Moment.TheVariants.{Actions, Time, Finished, Deadlock, Faulty, Stopped, Broken}

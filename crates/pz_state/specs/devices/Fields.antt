@@ -1,6 +1,6 @@
 -- What the fields of a `State` stand for, and what they keep.
 use Rattle.std.specs.Prelude.{◌≡◌, ◌≤◌, [], length, All}
-use Rattle.pz_state.specs.declared.state.TheConstants.{OBJECT_LIMIT}
+use Rattle.pz_state.specs.States.{object_limit}
 use Rattle.pz_state.specs.declared.state.State.TheInside.{Inside}
 use Rattle.pz_state.specs.References.{IsSelfContained}
 use Rattle.pz_state.specs.Marks.{Seen}
@@ -18,4 +18,4 @@ pub record IsKept (s : Inside) : Type 0 where
   -- references name objects that are there, also in the marked states
   pub contained : IsSelfContained s.contents.state
   pub marked : All (λ m. IsSelfContained m.1) (marks_from 0 s.journal.entries.items s.contents.state)
-  pub limit : length s.contents.state.objects ≤ OBJECT_LIMIT
+  pub limit : length s.contents.state.objects ≤ object_limit

@@ -10,7 +10,7 @@ use Rattle.pz_rules.specs.devices.Walk as walk
 use Rattle.pz_rules.specs.devices.Walk.{ActivePart, Noted, does, sent_by, received_by, waiting, troubled_by, noted, doing, expiry}
 use Rattle.pz_term_enabled.specs.declared.found.ActiveSend.{ActiveSend}
 use Rattle.pz_term_enabled.specs.declared.found.Found.{Found}
-use Rattle.pz_term_enabled.specs.Walked.{doing_view, receiving_view, CarryAll, whats}
+use Rattle.pz_term_enabled.specs.devices.Walked.{doing_view, receiving_view, CarryAll, whats}
 
 -- seen from a term of which it stands in the part at this place
 abbrev pub below : {X : Type 0} → Place → Noted X → Noted X

@@ -5,7 +5,7 @@ use Rattle.pz_classes.specs.Soundness.{IsSound}
 use Rattle.pz_classes.specs.Members.{ports}
 use Rattle.pz_bind_levels.specs.Places.{Address}
 use Rattle.pz_bind.specs.Nest.{processes, class_at}
-use Rattle.pz_bind.specs.NetView.{IsNet}
+use Rattle.pz_bind.specs.devices.Nets.{IsNet}
 use Rattle.pz_bind.specs.declared.net.Net.{Net}
 use Rattle.pz_rules.specs.Ports.{HasWires}
 use Rattle.pz_rules.specs.Configurations.{Config}

@@ -6,11 +6,11 @@ use Rattle.std.specs.Str.Parse.{digits_value}
 use Rattle.pz_words.specs.declared.jobs.Choice.TheVariants as choice
 use Rattle.pz_words.specs.declared.jobs.Job.{Job}
 use Rattle.pz_words.specs.declared.jobs.Job.TheVariants.{Run, Menu, Replay, Check, Make, Ring}
-use Rattle.pz_words.specs.declared.jobs.TheConstants.{MOST_STATIONS}
+use Rattle.pz_words.specs.Jobs.{station_limit}
 use Rattle.pz_words.specs.declared.options.OptionWord.{OptionWord}
 use Rattle.pz_words.specs.declared.options.OptionWord.TheVariants.{Chooses, Steps, Until, Units, Summary}
 use Rattle.pz_words.specs.declared.options.Options.{Options}
-use Rattle.pz_words.specs.declared.options.TheConstants.{MOST_STEPS, MOST_UNITS}
+use Rattle.pz_words.specs.Options.{step_limit, unit_limit}
 use Rattle.pz_words.specs.declared.names.Valued.{Valued}
 use Rattle.pz_words.specs.declared.names.Valued.TheVariants as option
 use Rattle.pz_words.specs.declared.reading.Heard.{Heard}
@@ -48,9 +48,9 @@ numbers_of (w ∷ ws) = then_maybe (number_of w) (λ n. option_map (λ ns. n ∷
 abbrev pub value_of : Valued → List ℕ → Option OptionWord
 value_of option.Seed word = option_map (λ n. Chooses (choice.Seed n)) (number_of word)
 value_of option.Choices word = option_map (λ ns. Chooses (choice.List ns)) (numbers_of (slice_split (λ b. eqb b 44) word))
-value_of option.Steps word = option_map (λ n. Steps n) (number_between 0 MOST_STEPS word)
+value_of option.Steps word = option_map (λ n. Steps n) (number_between 0 step_limit word)
 value_of option.Until word = option_map (λ n. Until n) (number_of word)
-value_of option.Units word = option_map (λ n. Units n) (number_between 1 MOST_UNITS word)
+value_of option.Units word = option_map (λ n. Units n) (number_between 1 unit_limit word)
 
 abbrev pub flag : List ℕ → Option OptionWord
 flag word =
@@ -113,7 +113,7 @@ abbrev pub name_of : List ℕ → Option (List ℕ)
 name_of word = only_if (is_name word) word
 
 abbrev pub stations_of : List ℕ → Option ℕ
-stations_of word = number_between 2 MOST_STATIONS word
+stations_of word = number_between 2 station_limit word
 
 abbrev pub run_of : List (List ℕ) → Option Job
 run_of [] = None

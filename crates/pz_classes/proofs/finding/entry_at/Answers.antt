@@ -2,7 +2,7 @@ use Rattle.std.proofs.Common.{◌≡◌, ap, ◌∙◌, sym, Option, slice_get}
 use Rattle.std.specs.Option.{option_map, option_copied}
 use Rattle.std.proofs.lemmas.Option.{slice_get-map}
 use Rattle.pz_classes.specs.declared.entry.Entry.{Entry}
-use Rattle.pz_classes.specs.Tables.{row_view}
+use Rattle.pz_classes.specs.devices.Rows.{row_view}
 use Rattle.pz_classes.proofs.Gets.{got}
 use Rattle.pz_classes.proofs.finding.entry_at.Goals as goal
 

@@ -3,7 +3,7 @@ use Rattle.std.specs.Vec.Iter.{into_iter_items}
 use Rattle.std.proofs.lemmas.Option.{slice_get_within}
 use Rattle.pz_syntax.specs.ClassView.{model_view}
 use Rattle.pz_classes.specs.declared.entry.Entry.{Entry}
-use Rattle.pz_classes.specs.Tables.{rows, row_view}
+use Rattle.pz_classes.specs.devices.Rows.{rows, row_view}
 use Rattle.pz_classes.proofs.Counting.{rows_step, all_rows, one_further, nothing_left}
 use Rattle.pz_classes.proofs.tabling.entries_of.Goals as goal
 

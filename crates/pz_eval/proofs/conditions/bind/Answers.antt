@@ -5,7 +5,7 @@ use Rattle.pz_copy.specs.declared.unpacking.UnpackError.TheVariants.{StoreFull}
 use Rattle.pz_copy.specs.Unpacking.{unpacked, unpacked_values}
 use Rattle.pz_state.specs.Marks.{Seen}
 use Rattle.pz_state.specs.References.{RefersWithin}
-use Rattle.pz_state.specs.declared.state.TheConstants.{OBJECT_LIMIT}
+use Rattle.pz_state.specs.States.{object_limit}
 use Rattle.pz_eval.proofs.Parceling.{bound_changed, on_ok_map, fits_of, not_full_of, same_error}
 use Rattle.pz_eval_machine.proofs.Unwinding.{on_ok}
 use Rattle.pz_eval.proofs.conditions.bind.Goals as goal
@@ -19,7 +19,7 @@ returns-in-Ok-clause-ok c =
     c.in-Ok.ensures.ok c.in-Ok.ensures.values) c.bind_values.ensures.ok
 
 pub returns-in-Ok-clause-fits : goal.returns-in-Ok-clause-fits
-returns-in-Ok-clause-fits c = on_ok c.bind_values.result (fits_of c.unpack.result c.in-Ok.values StoreFull (length c.args.state.now.held.objects + length c.args.parcel.now.objects) OBJECT_LIMIT c.in-Ok.is c.unpack.ensures.full.1)
+returns-in-Ok-clause-fits c = on_ok c.bind_values.result (fits_of c.unpack.result c.in-Ok.values StoreFull (length c.args.state.now.held.objects + length c.args.parcel.now.objects) object_limit c.in-Ok.is c.unpack.ensures.full.1)
 
 pub returns-in-Ok-clause-full : goal.returns-in-Ok-clause-full
 returns-in-Ok-clause-full c e = absurd (not_full_of c.bind_values.result c.bind_values.ensures.err e)

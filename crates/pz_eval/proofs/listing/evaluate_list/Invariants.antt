@@ -3,7 +3,7 @@ use Rattle.std.specs.Prelude.{All}
 use Rattle.pz_syntax.specs.Classes.{ModelTree}
 use Rattle.pz_classes_code.specs.CodeView.{list_view}
 use Rattle.pz_state.specs.References.{RefersWithin}
-use Rattle.pz_classes.specs.Tables.{AreClasses}
+use Rattle.pz_classes.specs.devices.Rows.{AreClasses}
 use Rattle.pz_eval_rules.specs.Memories.{in_process}
 use Rattle.pz_eval_rules.specs.Outcomes.{outside}
 use Rattle.pz_eval_rules.specs.devices.Computed.{arguments, evaluated}

@@ -6,7 +6,7 @@ use Rattle.pz_bind_levels.specs.devices.Walking.{layouts_of}
 use Rattle.pz_bind.specs.Nest.{processes}
 use Rattle.pz_bind.specs.Names.{wire_name}
 use Rattle.pz_bind.specs.Wires.{wires}
-use Rattle.pz_bind.specs.NetView.{node_at}
+use Rattle.pz_bind.specs.devices.Nets.{node_at}
 use Rattle.pz_bind.specs.declared.net.Node.{Node}
 use Rattle.pz_bind.specs.devices.Layouts.{layouts}
 use Rattle.pz_bind.specs.devices.Sites.{AreLevels}

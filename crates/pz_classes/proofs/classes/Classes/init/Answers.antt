@@ -1,5 +1,5 @@
 use Rattle.std.proofs.Common.{◌≡◌, map, ◌∙◌}
-use Rattle.pz_classes.specs.Tables.{row_view, rows}
+use Rattle.pz_classes.specs.devices.Rows.{row_view, rows}
 use Rattle.pz_classes.proofs.RowLookups.{start_found_is}
 use Rattle.pz_classes.proofs.classes.Classes.init.Goals as goal
 

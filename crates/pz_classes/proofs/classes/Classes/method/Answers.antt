@@ -4,7 +4,7 @@ use Rattle.pz_classes.specs.declared.method_id.Counts.TheVariants.{Data}
 use Rattle.pz_classes.specs.declared.method_id.MethodId.{MethodId}
 use Rattle.pz_classes.specs.Methods.{Signature}
 use Rattle.pz_classes.specs.Bodies.{bodies}
-use Rattle.pz_classes.specs.Tables.{row_view, rows}
+use Rattle.pz_classes.specs.devices.Rows.{row_view, rows}
 use Rattle.pz_classes.proofs.MethodBodies.{body_is}
 use Rattle.pz_classes.proofs.RowLookups.{found_is}
 use Rattle.pz_classes.proofs.Belongs.{method_belongs}
