@@ -11,7 +11,7 @@ BEGIN {
 }
 
 NR == 1 {
-  if ($0 != "poosl-trace 1") refuse("line 1 does not begin a trace")
+  if ($0 !~ /^poosl-trace [0-9]+( [0-9]+)*$/) refuse("line 1 does not begin a trace")
   next
 }
 wrong != "" { next }
@@ -125,7 +125,7 @@ function width_of(label) { return length(label) * LETTER + 26 }
 function spread(   i, p, q, low, high, span, has, want, longest, it) {
   longest = 0
   for (i = 1; i <= lanes; i++) { it = fold(name[i]); if (it > longest) longest = it }
-  for (p = 1; p < lanes; p++) gap[p] = longest * LETTER * 1.1 + 16 > 92 ? longest * LETTER * 1.1 + 16 : 92
+  for (p = 1; p < lanes; p++) gap[p] = longest * LETTER * 1.1 + 22 > 92 ? longest * LETTER * 1.1 + 22 : 92
   for (span = 1; span < lanes && span <= 3; span++)
     for (i = 1; i <= count; i++) {
       if (sort[i] != "message") continue
@@ -291,12 +291,13 @@ function style() {
   print ".bad path{stroke:#c1121f;stroke-width:2.2}.bad path.on{stroke-dasharray:1 4}.bad text{fill:#c1121f;font-weight:bold}"
 }
 
+function many(number, thing) { return number + 0 " " thing (number == 1 ? "" : "s") }
 function summary(   how) {
   how = count ? sort[count] : ""
   how = how == "end" ? "every process is done" : how == "deadlock" ? "a deadlock" : how == "stop" ? "stopped" : \
     how == "trouble" ? said[count] " in " name[from[count]] : how == "refused" ? "no such choice" : "the trace breaks off"
-  return messages + 0 " messages, " steps + 0 " steps of one process, " passes + 0 " times that time passes; clock " \
-    (count ? clock[count] : 0) "; " how
+  return many(messages, "message") ", " many(steps, "step") " of one process, " many(passes, "gap") " in which time passes; at " \
+    (count ? clock[count] : 0) ": " how
 }
 
 # how many rows from `first` on go onto one sheet
@@ -306,8 +307,9 @@ function sheet(first, room,   i) {
 }
 
 function page(   first, last, room, broad) {
+  # (so that a piece fits onto a sheet of A4 and of Letter, what is broader being made smaller)
   broad = wide > 760
-  room = broad ? 620 * (wide > 1040 ? wide / 1040 : 1) : 880 * (wide > 710 ? wide / 710 : 1)
+  room = broad ? 0.675 * (wide > 1040 ? wide : 1040) : 1.3 * (wide > 740 ? wide : 740)
   room -= above + 8
   print "<!doctype html>\n<html lang=\"en\">\n<head>\n<meta charset=\"utf-8\">\n<title>" safe(ENVIRON["CHARTED"]) "</title>\n<style>"
   print "body{margin:0;background:#fff;color:#222;font:14px system-ui,sans-serif}"
@@ -316,9 +318,9 @@ function page(   first, last, room, broad) {
   style()
   print "@page{margin:10mm" (broad ? ";size:landscape" : "") "}"
   print "@media screen{.again{display:none}}"
-  print "@media print{header{padding:0 0 6px}.chart{width:auto}.names{display:none}section{break-inside:avoid}svg{max-width:100%;height:auto}section+section{break-before:page}}"
+  print "@media print{.jump{display:none}header{padding:0 0 6px}.chart{width:auto}.names{display:none}section{break-inside:avoid}svg{max-width:100%;height:auto}section+section{break-before:page}}"
   print "</style>\n</head>\n<body>\n<header>\n<h1>" safe(ENVIRON["CHARTED"]) "</h1>"
-  print "<p>" safe(summary()) ".</p>"
+  print "<p>" safe(summary()) ". <a class=\"jump\" href=\"#end\">To the end</a></p>"
   print "<p class=\"how\">From top to bottom in the order of the trace. Arrows are messages; dots are actions of one process, at a line and column of the model, rings delays that are over; in the gaps time passes. At the right stands which of several possible actions was taken. Point at anything for its line of the trace.</p>"
   print "</header>\n<div class=\"chart\">"
   printf "<div class=\"names\"><svg xmlns=\"http://www.w3.org/2000/svg\" width=\"%d\" height=\"%d\">\n", wide, above
@@ -333,7 +335,7 @@ function page(   first, last, room, broad) {
     draw(first, last)
     print "</svg>\n</section>"
   }
-  print "</div>\n</body>\n</html>"
+  print "<div id=\"end\"></div>\n</div>\n</body>\n</html>"
 }
 
 function alone(   down) {
