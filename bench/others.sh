@@ -91,7 +91,7 @@ fi
 spin=''
 if command -v spin >/dev/null; then spin=1; else echo 'no Spin here (apt-get install spin)'; fi
 
-for shape in "2 20000 400000" "20 2000 40000" "200 200 4000"; do
+for shape in "2 60000 400000" "20 10000 40000" "200 1000 4000"; do
   read -r stations hops spinning <<<"$shape"
   hops=$((many * hops))
   ring "$stations" >"$room/ring.poosl"

@@ -200,27 +200,25 @@ function draw_lanes(   p, i, l) {
   print "</g>"
 }
 
-# the lifelines of the rows `first` to `last`: dashed where time passes, and none behind the end
-function draw_lifelines(first, last,   i, p, solid, dashed, y, down) {
-  for (i = first; i <= last; i++)
-    if (sort[i] == "time")
-      printf "<rect class=\"gap\" x=\"%d\" y=\"%d\" width=\"%d\" height=\"%d\"/>\n", clocks + 12, top_of[i], wide - clocks - 84, height(i)
-  for (p = 1; p <= lanes; p++) {
-    solid = dashed = ""
-    y = top_of[first]
-    for (i = first; i <= last; i++) {
-      down = top_of[i] + height(i)
-      if (sort[i] == "time") {
-        if (top_of[i] > y) solid = solid "M" x[at_place[p]] " " y "V" top_of[i]
-        dashed = dashed "M" x[at_place[p]] " " top_of[i] "V" down
-        y = down
-      }
-    }
-    down = top_of[last] + height(last) - (sort[last] ~ /^(message|step|time)$/ ? 0 : height(last) - 12)
-    if (down > y) solid = solid "M" x[at_place[p]] " " y "V" down
-    if (solid != "") print "<path class=\"life\" d=\"" solid "\"/>"
-    if (dashed != "") print "<path class=\"wait\" d=\"" dashed "\"/>"
+# a gap of each height that there is, for rows to use: the lifelines are dashed in it
+function draw_gaps(   i, p, high, dashed, drawn) {
+  print "<defs>"
+  for (i = 1; i <= count; i++) {
+    high = height(i)
+    if (sort[i] != "time" || high in drawn) continue
+    drawn[high] = 1
+    dashed = ""
+    for (p = 1; p <= lanes; p++) dashed = dashed "M" x[at_place[p]] " 0v" high
+    printf "<g id=\"gap%d\"><rect class=\"gap\" x=\"%d\" width=\"%d\" height=\"%d\"/><path class=\"wait\" d=\"%s\"/></g>\n", high, clocks + 12, wide - clocks - 84, high, dashed
   }
+  print "</defs>"
+}
+
+# the lifelines of the rows `first` to `last`, which end where the run does
+function draw_lifelines(first, last,   p, down, lines) {
+  down = top_of[last] + height(last) - (sort[last] ~ /^(message|step|time)$/ ? 0 : height(last) - 12)
+  for (p = 1; p <= lanes; p++) lines = lines "M" x[at_place[p]] " " top_of[first] "V" down
+  print "<path class=\"life\" d=\"" lines "\"/>"
 }
 
 function draw_message(i, y,   a, b, way, span) {
@@ -269,7 +267,7 @@ function draw_row(i, y) {
   if (sort[i] == "message") draw_message(i, y)
   else if (sort[i] == "step") draw_step(i, y)
   else if (sort[i] == "time")
-    printf "<g class=\"passing\">%s<text x=\"%d\" y=\"%d\">+%s</text></g>\n", tip(i), clocks, y + height(i) / 2 + 3, passed[i]
+    printf "<g class=\"passing\">%s<use href=\"#gap%d\" y=\"%d\"/><text x=\"%d\" y=\"%d\">+%s</text></g>\n", tip(i), height(i), y, clocks, y + height(i) / 2 + 3, passed[i]
   else draw_end(i, y)
 }
 
@@ -325,6 +323,7 @@ function page(   first, last, room, broad) {
   print "</header>\n<div class=\"chart\">"
   printf "<div class=\"names\"><svg xmlns=\"http://www.w3.org/2000/svg\" width=\"%d\" height=\"%d\">\n", wide, above
   draw_lanes()
+  draw_gaps()
   print "</svg></div>"
   # (the first sheet has the head of the page too)
   for (first = 1; first <= count; first = last + 1) {
@@ -345,6 +344,7 @@ function alone(   down) {
   style()
   printf "</style>\n<rect width=\"%d\" height=\"%d\" fill=\"#fff\"/>\n", wide, down
   draw_lanes()
+  draw_gaps()
   if (count) draw(1, count)
   print "</svg>"
 }
