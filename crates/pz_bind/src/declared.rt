@@ -41,7 +41,8 @@ pub(crate) fn is_numbered(checked: &Checked)
 
 /// The declaration of a class.
 fn declared(checked: &Checked, class: usize) -> Option<&Decl>
-    ensures { option_map decl_view (option_copied result) ≡ numbers.declaration (checked_model checked.now) class }
+    ensures { option_map decl_view (option_copied result) ≡ numbers.declaration
+        (checked_model checked.now) class }
 {
     if class == 0 {
         return None;

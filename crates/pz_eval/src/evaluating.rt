@@ -63,7 +63,9 @@ pub fn eval(
     allowance: Allowance,
 ) -> Result<Outcome, AllocError>
     requires { AreKnown classes.now }
-    ensures finds { (m : ModelTree) → ∥ AreClasses m classes.now ∥₁ → IfOk result (λ outcome. Finds m clock frame.0 state.old.held (view code.now) allowance outcome state.new.held) }
+    ensures finds { (m : ModelTree) → ∥ AreClasses m classes.now ∥₁ →
+        IfOk result (λ outcome. Finds m clock frame.0 state.old.held
+        (view code.now) allowance outcome state.new.held) }
     ensures within { IfOk result (NamesWithin (length state.new.held.objects)) }
     ensures kept { IfOk result (UnlessValue (state.new ≡ state.old)) }
     ensures marks { state.new.marks ≡ state.old.marks }
@@ -101,7 +103,8 @@ pub fn try_eval(
     allowance: Allowance,
 ) -> Result<Outcome, AllocError>
     requires { AreKnown classes.now }
-    ensures finds { (m : ModelTree) → ∥ AreClasses m classes.now ∥₁ → IfOk result (WouldFind m clock frame.0 state.old.held (view code.now) allowance) }
+    ensures finds { (m : ModelTree) → ∥ AreClasses m classes.now ∥₁ →
+        IfOk result (WouldFind m clock frame.0 state.old.held (view code.now) allowance) }
     ensures state { state.new ≡ state.old }
 {
     computed_is_found();
@@ -132,7 +135,9 @@ pub fn eval_list(
     allowance: Allowance,
 ) -> Result<Listed, AllocError>
     requires { AreKnown classes.now }
-    ensures finds { (m : ModelTree) → ∥ AreClasses m classes.now ∥₁ → IfOk result (λ listed. FindsAll m clock frame.0 state.old.held (list_view codes.now) allowance listed state.new.held) }
+    ensures finds { (m : ModelTree) → ∥ AreClasses m classes.now ∥₁ →
+        IfOk result (λ listed. FindsAll m clock frame.0 state.old.held
+        (list_view codes.now) allowance listed state.new.held) }
     ensures within { IfOk result (NameWithin (length state.new.held.objects)) }
     ensures kept { IfOk result (UnlessValues (state.new ≡ state.old)) }
     ensures marks { state.new.marks ≡ state.old.marks }

@@ -35,7 +35,9 @@ fn judge_part(
 ) -> Result<Result<bool, Trouble>, AllocError>
     requires known { AreKnown here.now.classes.now }
     requires receives { HasReceive (term_view process.old.term) place.now }
-    ensures judges { (m : ModelTree) (class : ℕ) → Knows m here.now → IfOk result (JudgesAt (seen_from m here.now class process.old.state.held) (term_view process.old.term) place.now parcel.now) }
+    ensures judges { (m : ModelTree) (class : ℕ) → Knows m here.now →
+        IfOk result (JudgesAt (seen_from m here.now class process.old.state.held)
+        (term_view process.old.term) place.now parcel.now) }
     ensures unchanged { process.new ≡ process.old }
 {
     active_parts_may_act();
@@ -54,8 +56,10 @@ fn judge_receive(
     receiver: &Receiver,
     parcel: &Parcel,
 ) -> Result<Result<bool, Trouble>, AllocError>
-    requires { IsReceiver (setting_of (checked_model checked.now) limits) (config_of clock processes.old) receiver.now }
-    ensures judged { IfOk result (IsJudged (setting_of (checked_model checked.now) limits) (config_of clock processes.old) receiver.now.end parcel.now) }
+    requires { IsReceiver (setting_of (checked_model checked.now) limits)
+        (config_of clock processes.old) receiver.now }
+    ensures judged { IfOk result (IsJudged (setting_of (checked_model checked.now) limits)
+        (config_of clock processes.old) receiver.now.end parcel.now) }
     ensures unchanged { processes.new ≡ processes.old }
 {
     one_verdict();
@@ -100,8 +104,11 @@ fn add_pair(
     receiver: &Receiver,
     actions: &mut Vec<Action>,
 ) -> Result<Option<Trouble>, AllocError>
-    requires { IsReceiver (setting_of (checked_model checked.now) limits) (config_of clock processes.old) receiver.now }
-    ensures judged { IfOk result (OfOne (setting_of (checked_model checked.now) limits) (config_of clock processes.old) sender.now receiver.now actions.old.items actions.new.items) }
+    requires { IsReceiver (setting_of (checked_model checked.now) limits)
+        (config_of clock processes.old) receiver.now }
+    ensures judged { IfOk result (OfOne (setting_of (checked_model checked.now) limits)
+        (config_of clock processes.old) sender.now receiver.now actions.old.items
+        actions.new.items) }
     ensures unchanged { processes.new ≡ processes.old }
 {
     match judge_receive(
@@ -134,9 +141,12 @@ fn add_pairs(
     pairs: &[Pair],
     actions: &mut Vec<Action>,
 ) -> Result<Option<Trouble>, AllocError>
-    requires receivers { All (IsReceiver (setting_of (checked_model checked.now) limits) (config_of clock processes.old)) receivers.now }
+    requires receivers { All (IsReceiver (setting_of (checked_model checked.now) limits)
+        (config_of clock processes.old)) receivers.now }
     requires fit { All (Fits senders.now receivers.now) pairs.now }
-    ensures judged { IfOk result (OfPairs (setting_of (checked_model checked.now) limits) (config_of clock processes.old) senders.now receivers.now pairs.now actions.old.items actions.new.items) }
+    ensures judged { IfOk result (OfPairs (setting_of (checked_model checked.now) limits)
+        (config_of clock processes.old) senders.now receivers.now pairs.now actions.old.items
+        actions.new.items) }
     ensures unchanged { processes.new ≡ processes.old }
 {
     for pair in pairs {
@@ -164,9 +174,12 @@ pub(crate) fn add_communications(
     receivers: &[Receiver],
     actions: &mut Vec<Action>,
 ) -> Result<Option<Trouble>, AllocError>
-    requires senders { AreSenders (setting_of (checked_model checked.now) limits) (config_of clock processes.old) senders.now }
-    requires receivers { AreReceivers (setting_of (checked_model checked.now) limits) (config_of clock processes.old) receivers.now }
-    ensures judged { IfOk result (OfAll (setting_of (checked_model checked.now) limits) (config_of clock processes.old) actions.old.items actions.new.items) }
+    requires senders { AreSenders (setting_of (checked_model checked.now) limits)
+        (config_of clock processes.old) senders.now }
+    requires receivers { AreReceivers (setting_of (checked_model checked.now) limits)
+        (config_of clock processes.old) receivers.now }
+    ensures judged { IfOk result (OfAll (setting_of (checked_model checked.now) limits)
+        (config_of clock processes.old) actions.old.items actions.new.items) }
     ensures unchanged { processes.new ≡ processes.old }
 {
     one_verdict();

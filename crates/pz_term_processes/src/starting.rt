@@ -41,7 +41,8 @@ fn first_of(
 ) -> Result<Process, AllocError>
     requires of_model { ∥ IsNet (checked_model checked.now) net.now ∥₁ }
     requires there { HasProcess net.now process }
-    ensures { IfOk result (λ first. (limits : Limits) (place : Address) → slice_get (nest.processes (checked_model checked.now)) process ≡ Some place →
+    ensures { IfOk result (λ first. (limits : Limits) (place : Address) →
+        slice_get (nest.processes (checked_model checked.now)) process ≡ Some place →
         StartsAs (setting_of (checked_model checked.now) limits) place (process_view first)) }
 {
     sound_classes_fit();
@@ -59,8 +60,10 @@ fn first_of(
 /// parameters are given and all other variables nil. The only error is want of memory.
 pub fn start(alloc: Global, checked: &Checked, net: &Net) -> Result<Vec<Process>, AllocError>
     requires of_model { ∥ IsNet (checked_model checked.now) net.now ∥₁ }
-    ensures start { IfOk result (λ processes. (limits : Limits) → IsStart (setting_of (checked_model checked.now) limits) (config_of 0 processes.items)) }
-    ensures processes { IfOk result (λ processes. (limits : Limits) → AreProcesses (setting_of (checked_model checked.now) limits) 0 processes.items) }
+    ensures start { IfOk result (λ processes. (limits : Limits) →
+        IsStart (setting_of (checked_model checked.now) limits) (config_of 0 processes.items)) }
+    ensures processes { IfOk result (λ processes. (limits : Limits) →
+        AreProcesses (setting_of (checked_model checked.now) limits) 0 processes.items) }
 {
     what_fits_goes_on();
     let _model = checked.model();

@@ -59,10 +59,16 @@ pub(crate) fn begin_internal(
     process: &mut Process,
     place: &[usize],
 ) -> Result<Result<Begun, Trouble>, AllocError>
-    requires can { (m : ModelTree) × Knows m here.now × CanDo CanAct (seen_from m here.now class.0 process.old.state.held) (term_view process.old.term) place.now }
+    requires can { (m : ModelTree) × Knows m here.now
+        × CanDo CanAct (seen_from m here.now class.0 process.old.state.held)
+        (term_view process.old.term) place.now }
     requires fits { ∥ FitsHere here.now class (term_view process.old.term) ∥₁ }
-    ensures leaves { (m : ModelTree) → Knows m here.now → CanDo CanAct (seen_from m here.now class.0 process.old.state.held) (term_view process.old.term) place.now
-        → IfOk result (λ begun. Leaves (seen_from m here.now class.0 process.old.state.held) Performs (term_view process.old.term) place.now (begun_process (term_view process.old.term) place.now process.new.state.held begun)) }
+    ensures leaves { (m : ModelTree) → Knows m here.now →
+        CanDo CanAct (seen_from m here.now class.0 process.old.state.held)
+        (term_view process.old.term) place.now → IfOk result
+        (λ begun. Leaves (seen_from m here.now class.0 process.old.state.held) Performs
+        (term_view process.old.term) place.now (begun_process
+        (term_view process.old.term) place.now process.new.state.held begun)) }
     ensures state { IfOk result (IsBegun process.old.state process.new.state) }
     ensures term { process.new.term ≡ process.old.term }
 {
@@ -83,9 +89,15 @@ pub(crate) fn begin_send(
     process: &mut Process,
     place: &[usize],
 ) -> Result<Result<Begun, Trouble>, AllocError>
-    requires can { (m : ModelTree) × (class : ℕ) × (parcel : ParcelView) × Knows m here.now × CanDo (CanSend parcel) (seen_from m here.now class process.old.state.held) (term_view process.old.term) place.now }
-    ensures leaves { (m : ModelTree) (class : ℕ) (parcel : ParcelView) → Knows m here.now → CanDo (CanSend parcel) (seen_from m here.now class process.old.state.held) (term_view process.old.term) place.now
-        → IfOk result (λ begun. Leaves (seen_from m here.now class process.old.state.held) (λ a f. Hands a f parcel) (term_view process.old.term) place.now (begun_process (term_view process.old.term) place.now process.new.state.held begun)) }
+    requires can { (m : ModelTree) × (class : ℕ) × (parcel : ParcelView) × Knows m here.now
+        × CanDo (CanSend parcel) (seen_from m here.now class process.old.state.held)
+        (term_view process.old.term) place.now }
+    ensures leaves { (m : ModelTree) (class : ℕ) (parcel : ParcelView) → Knows m here.now →
+        CanDo (CanSend parcel) (seen_from m here.now class process.old.state.held)
+        (term_view process.old.term) place.now → IfOk result
+        (λ begun. Leaves (seen_from m here.now class process.old.state.held)
+        (λ a f. Hands a f parcel) (term_view process.old.term) place.now
+        (begun_process (term_view process.old.term) place.now process.new.state.held begun)) }
     ensures state { IfOk result (IsBegun process.old.state process.new.state) }
     ensures term { process.new.term ≡ process.old.term }
 {
@@ -106,9 +118,15 @@ pub(crate) fn begin_receive(
     place: &[usize],
     parcel: &Parcel,
 ) -> Result<Result<Begun, Trouble>, AllocError>
-    requires can { (m : ModelTree) × (class : ℕ) × Knows m here.now × CanDo CanReceive (seen_from m here.now class process.old.state.held) (term_view process.old.term) place.now }
-    ensures leaves { (m : ModelTree) (class : ℕ) → Knows m here.now → CanDo CanReceive (seen_from m here.now class process.old.state.held) (term_view process.old.term) place.now
-        → IfOk result (λ begun. Leaves (seen_from m here.now class process.old.state.held) (λ a f. Takes a f parcel.now) (term_view process.old.term) place.now (begun_process (term_view process.old.term) place.now process.new.state.held begun)) }
+    requires can { (m : ModelTree) × (class : ℕ) × Knows m here.now
+        × CanDo CanReceive (seen_from m here.now class process.old.state.held)
+        (term_view process.old.term) place.now }
+    ensures leaves { (m : ModelTree) (class : ℕ) → Knows m here.now →
+        CanDo CanReceive (seen_from m here.now class process.old.state.held)
+        (term_view process.old.term) place.now → IfOk result
+        (λ begun. Leaves (seen_from m here.now class process.old.state.held)
+        (λ a f. Takes a f parcel.now) (term_view process.old.term) place.now
+        (begun_process (term_view process.old.term) place.now process.new.state.held begun)) }
     ensures state { IfOk result (IsBegun process.old.state process.new.state) }
     ensures term { process.new.term ≡ process.old.term }
 {

@@ -43,9 +43,15 @@ fn act(
     at: &End,
 ) -> Result<Result<(), Trouble>, AllocError>
     requires of_model { ∥ IsNet (checked_model checked.now) net.now ∥₁ }
-    requires processes { ∥ AreProcesses (setting_of (checked_model checked.now) limits) clock processes.old ∥₁ }
-    requires offered { (kind : Kind) × (pos : Pos) × Offers (setting_of (checked_model checked.now) limits) (config_of clock processes.old) (Action.Internal at.now kind pos) }
-    ensures steps { (kind : Kind) (pos : Pos) → IfOk result (λ left. Next (setting_of (checked_model checked.now) limits) (config_of clock processes.old) (Action.Internal at.now kind pos) (reached clock processes.new left)) }
+    requires processes { ∥ AreProcesses (setting_of (checked_model checked.now) limits) clock
+        processes.old ∥₁ }
+    requires offered { (kind : Kind) × (pos : Pos)
+        × Offers (setting_of (checked_model checked.now) limits) (config_of clock processes.old)
+        (Action.Internal at.now kind pos) }
+    ensures steps { (kind : Kind) (pos : Pos) → IfOk result
+        (λ left. Next (setting_of (checked_model checked.now) limits)
+        (config_of clock processes.old) (Action.Internal at.now kind pos)
+        (reached clock processes.new left)) }
     ensures stays { IfOk result (λ left. OnErr left (processes.new ≡ processes.old)) }
 {
     sound_bodies_fit();
@@ -81,8 +87,13 @@ fn communicate(
     receiver: &End,
     parcel: &Parcel,
 ) -> Result<Result<(), Trouble>, AllocError>
-    requires pair { (number : ℕ) × (message : List ℕ) × IsPair (setting_of (checked_model checked.now) limits) (config_of clock processes.old) number sender.now receiver.now message parcel.now }
-    ensures steps { (number : ℕ) (message : List ℕ) → IfOk result (λ left. Next (setting_of (checked_model checked.now) limits) (config_of clock processes.old) (Action.Comm number sender.now receiver.now message parcel.now) (reached clock processes.new left)) }
+    requires pair { (number : ℕ) × (message : List ℕ)
+        × IsPair (setting_of (checked_model checked.now) limits)
+        (config_of clock processes.old) number sender.now receiver.now message parcel.now }
+    ensures steps { (number : ℕ) (message : List ℕ) →
+        IfOk result (λ left. Next (setting_of (checked_model checked.now) limits)
+        (config_of clock processes.old) (Action.Comm number sender.now receiver.now message
+        parcel.now) (reached clock processes.new left)) }
     ensures stays { IfOk result (λ left. OnErr left (processes.new ≡ processes.old)) }
 {
     active_parts_may_act();
@@ -130,11 +141,15 @@ pub fn step(
     action: &Action,
 ) -> Result<Result<(), Trouble>, AllocError>
     requires of_model { ∥ IsNet (checked_model checked.now) net.now ∥₁ }
-    requires processes { ∥ AreProcesses (setting_of (checked_model checked.now) limits) clock processes.old ∥₁ }
-    requires offered { Offers (setting_of (checked_model checked.now) limits) (config_of clock processes.old) action.now }
-    ensures steps { IfOk result (λ left. Next (setting_of (checked_model checked.now) limits) (config_of clock processes.old) action.now (reached clock processes.new left)) }
+    requires processes { ∥ AreProcesses (setting_of (checked_model checked.now) limits) clock
+        processes.old ∥₁ }
+    requires offered { Offers (setting_of (checked_model checked.now) limits)
+        (config_of clock processes.old) action.now }
+    ensures steps { IfOk result (λ left. Next (setting_of (checked_model checked.now) limits)
+        (config_of clock processes.old) action.now (reached clock processes.new left)) }
     ensures stays { IfOk result (λ left. OnErr left (processes.new ≡ processes.old)) }
-    ensures processes { OnOk result (∥ AreProcesses (setting_of (checked_model checked.now) limits) clock processes.new ∥₁) }
+    ensures processes { OnOk result (∥ AreProcesses
+        (setting_of (checked_model checked.now) limits) clock processes.new ∥₁) }
 {
     one_next();
     what_fits_goes_on();
@@ -160,7 +175,9 @@ fn pass_process(
     time: u128,
 ) -> Result<(), AllocError>
     requires { AreKnown here.now.classes.now }
-    ensures term { (m : ModelTree) (class : ℕ) → Knows m here.now → OnOk result (term_view process.new.term ≡ passed (seen_from m here.now class process.old.state.held) time 0 (term_view process.old.term)) }
+    ensures term { (m : ModelTree) (class : ℕ) → Knows m here.now →
+        OnOk result (term_view process.new.term ≡ passed
+        (seen_from m here.now class process.old.state.held) time 0 (term_view process.old.term)) }
     ensures state { process.new.state ≡ process.old.state }
 {
     let term = mem::replace(&mut process.term, Term::Done);
@@ -180,10 +197,14 @@ pub fn elapse(
     time: u128,
 ) -> Result<(), AllocError>
     requires of_model { ∥ IsNet (checked_model checked.now) net.now ∥₁ }
-    requires processes { ∥ AreProcesses (setting_of (checked_model checked.now) limits) clock processes.old ∥₁ }
-    requires moment { IsMoment (setting_of (checked_model checked.now) limits) (config_of clock processes.old) (Moment.Time time) }
-    ensures passes { OnOk result (PassesTo (setting_of (checked_model checked.now) limits) (config_of clock processes.old) time (config_of (clock + time) processes.new)) }
-    ensures processes { OnOk result (∥ AreProcesses (setting_of (checked_model checked.now) limits) (clock + time) processes.new ∥₁) }
+    requires processes { ∥ AreProcesses (setting_of (checked_model checked.now) limits) clock
+        processes.old ∥₁ }
+    requires moment { IsMoment (setting_of (checked_model checked.now) limits)
+        (config_of clock processes.old) (Moment.Time time) }
+    ensures passes { OnOk result (PassesTo (setting_of (checked_model checked.now) limits)
+        (config_of clock processes.old) time (config_of (clock + time) processes.new)) }
+    ensures processes { OnOk result (∥ AreProcesses (setting_of (checked_model checked.now) limits)
+        (clock + time) processes.new ∥₁) }
 {
     wires_are_known();
     least_passes();

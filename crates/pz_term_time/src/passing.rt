@@ -43,7 +43,9 @@ fn time_left(
     step: &Step,
 ) -> Result<Option<u128>, AllocError>
     requires { AreKnown here.now.classes.now }
-    ensures left { (m : ModelTree) (class time : ℕ) → Knows m here.now → IfOk result (λ left. begun_with time step.now.pos (view step.now) left ≡ statement_passed (seen_from m here.now class state.old.held) time frame.0 (view step.now)) }
+    ensures left { (m : ModelTree) (class time : ℕ) → Knows m here.now →
+        IfOk result (λ left. begun_with time step.now.pos (view step.now) left ≡ statement_passed
+        (seen_from m here.now class state.old.held) time frame.0 (view step.now)) }
     ensures state { state.new ≡ state.old }
 {
     evaluations_are_computed();
@@ -66,7 +68,9 @@ fn pass_step(
     time: u128,
 ) -> Result<Term, AllocError>
     requires { AreKnown here.now.classes.now }
-    ensures passed { (m : ModelTree) (class : ℕ) → Knows m here.now → IfOk result (λ left. term_view left ≡ statement_passed (seen_from m here.now class state.old.held) time frame.0 (view step)) }
+    ensures passed { (m : ModelTree) (class : ℕ) → Knows m here.now →
+        IfOk result (λ left. term_view left ≡ statement_passed
+        (seen_from m here.now class state.old.held) time frame.0 (view step)) }
     ensures state { state.new ≡ state.old }
 {
     match time_left(alloc, here, state, frame, &step)? {
@@ -101,7 +105,9 @@ fn pass_part(
     time: u128,
 ) -> Result<Term, AllocError>
     requires { AreKnown here.now.classes.now }
-    ensures passed { (m : ModelTree) (class : ℕ) → Knows m here.now → IfOk result (λ left. term_view left ≡ passed (seen_from m here.now class state.old.held) time frame.0 (term_view term)) }
+    ensures passed { (m : ModelTree) (class : ℕ) → Knows m here.now →
+        IfOk result (λ left. term_view left ≡ passed
+        (seen_from m here.now class state.old.held) time frame.0 (term_view term)) }
     ensures state { state.new ≡ state.old }
 {
     match term {
@@ -165,7 +171,9 @@ fn pass_boxed(
     time: u128,
 ) -> Result<Boxed<Term>, AllocError>
     requires { AreKnown here.now.classes.now }
-    ensures passed { (m : ModelTree) (class : ℕ) → Knows m here.now → IfOk result (λ left. term_view left ≡ passed (seen_from m here.now class state.old.held) time frame.0 (term_view term)) }
+    ensures passed { (m : ModelTree) (class : ℕ) → Knows m here.now →
+        IfOk result (λ left. term_view left ≡ passed
+        (seen_from m here.now class state.old.held) time frame.0 (term_view term)) }
     ensures state { state.new ≡ state.old }
 {
     let left = pass_part(alloc, here, state, frame, term.into_inner(), time)?;
@@ -183,7 +191,9 @@ fn pass_all(
     time: u128,
 ) -> Result<Items<Term>, AllocError>
     requires { AreKnown here.now.classes.now }
-    ensures passed { (m : ModelTree) (class : ℕ) → Knows m here.now → IfOk result (λ left. terms_view left ≡ passed_all (seen_from m here.now class state.old.held) time frame.0 (terms_view parts)) }
+    ensures passed { (m : ModelTree) (class : ℕ) → Knows m here.now →
+        IfOk result (λ left. terms_view left ≡ passed_all
+        (seen_from m here.now class state.old.held) time frame.0 (terms_view parts)) }
     ensures state { state.new ≡ state.old }
 {
     let mut left = parts.into_vec();
@@ -208,7 +218,10 @@ fn pass_guarded(
     time: u128,
 ) -> Result<Term, AllocError>
     requires { AreKnown here.now.classes.now }
-    ensures passed { (m : ModelTree) (class : ℕ) → Knows m here.now → IfOk result (λ left. term_view left ≡ passed (seen_from m here.now class state.old.held) time frame.0 (terms.guarded (code.view test) pos (term_view body))) }
+    ensures passed { (m : ModelTree) (class : ℕ) → Knows m here.now →
+        IfOk result (λ left. term_view left ≡ passed
+        (seen_from m here.now class state.old.held) time frame.0
+        (terms.guarded (code.view test) pos (term_view body))) }
     ensures state { state.new ≡ state.old }
 {
     evaluations_are_computed();
@@ -231,9 +244,14 @@ pub fn pass(
     time: u128,
 ) -> Result<Term, AllocError>
     requires { AreKnown here.now.classes.now }
-    ensures passes { (m : ModelTree) (class : ℕ) → Knows m here.now → IsUntroubled (seen_from m here.now class state.old.held) 0 (term_view term) → IfOk result (λ left. Passes (seen_from m here.now class state.old.held) time 0 (term_view term) (term_view left)) }
+    ensures passes { (m : ModelTree) (class : ℕ) → Knows m here.now →
+        IsUntroubled (seen_from m here.now class state.old.held) 0 (term_view term) →
+        IfOk result (λ left. Passes (seen_from m here.now class state.old.held) time 0
+        (term_view term) (term_view left)) }
     // The same, computed, also where something has a trouble.
-    ensures computed { (m : ModelTree) (class : ℕ) → Knows m here.now → IfOk result (λ left. term_view left ≡ passed (seen_from m here.now class state.old.held) time 0 (term_view term)) }
+    ensures computed { (m : ModelTree) (class : ℕ) → Knows m here.now →
+        IfOk result (λ left. term_view left ≡ passed
+        (seen_from m here.now class state.old.held) time 0 (term_view term)) }
     ensures state { state.new ≡ state.old }
 {
     passing_is_computed();
