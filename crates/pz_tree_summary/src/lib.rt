@@ -4,4 +4,4 @@
 
 mod laws;
 
-pub use laws::summaries_by_form;
+pub use laws::{steady_terms_keep_summaries, summaries_by_form, unasked_is_steady};
