@@ -15,7 +15,7 @@ use pz_classes::Classes;
 use pz_classes_code::Code;
 use pz_eval_machine::{Basis, Finish, evaluate};
 use pz_eval_operations::Stop;
-use pz_eval_rules::{Allowance, Listed, Outcome, computed_is_found};
+use pz_eval_rules::{Allowance, Listed, Outcome};
 use pz_state::{FrameId, State};
 use std::alloc::{AllocError, Global};
 
@@ -71,7 +71,7 @@ pub fn eval(
     ensures marks { state.new.marks ≡ state.old.marks }
     ensures err { OnErr result (state.new ≡ state.old) }
 {
-    computed_is_found();
+    pz_eval_rules::laws::computed_is_found();
     let point = state.mark()?;
     let basis = Basis {
         alloc,
@@ -107,7 +107,7 @@ pub fn try_eval(
         IfOk result (WouldFind m clock frame.0 state.old.held (view code.now) allowance) }
     ensures state { state.new ≡ state.old }
 {
-    computed_is_found();
+    pz_eval_rules::laws::computed_is_found();
     let point = state.mark()?;
     let basis = Basis {
         alloc,
@@ -143,7 +143,7 @@ pub fn eval_list(
     ensures marks { state.new.marks ≡ state.old.marks }
     ensures err { OnErr result (state.new ≡ state.old) }
 {
-    computed_is_found();
+    pz_eval_rules::laws::computed_is_found();
     let point = state.mark()?;
     let basis = Basis {
         alloc,

@@ -18,7 +18,6 @@ use crate::continuing::{add_task, descend, go_on_list, run_list};
 use crate::control::Control;
 use pz_classes_code::Code;
 use pz_eval_operations::{Activation, Stop, Task, at_once, tick};
-use pz_eval_rules::turns_go_on;
 use pz_items::Items;
 use pz_state::{FaultKind, State};
 use pz_syntax::Pos;
@@ -177,6 +176,6 @@ pub(crate) fn go_on_turns<'a>(
         × ControlWithin (length state.new.held.objects) c) }
     ensures counted { OnOk result (units.new < units.old) }
 {
-    turns_go_on();
+    pz_eval_rules::laws::turns_go_on();
     begin_turn(state, units, activation, depth, at, test, body)
 }

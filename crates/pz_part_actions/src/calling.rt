@@ -29,7 +29,6 @@ use pz_rules::Term;
 use pz_state::{FrameId, State};
 use pz_syntax::{Id, Pos};
 use pz_term_around::set_inputs;
-use pz_term_processes::trees_are_sets;
 use pz_value::{ClassId, Value};
 use std::alloc::{AllocError, Global};
 
@@ -52,7 +51,7 @@ fn find_method<'a>(
     ensures { (m : ModelTree) → ∥ AreClasses m classes.now ∥₁ →
         IsMethod m class.0 name.now inputs outputs result.locals (sequence_view result.steps.now) }
 {
-    trees_are_sets();
+    pz_term_processes::laws::trees_are_sets();
     let Some(method) = classes.process_method(class, name, inputs, outputs) else {
         unreachable!();
     };

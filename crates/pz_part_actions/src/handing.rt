@@ -18,7 +18,7 @@ use pz_classes_code::{Code, StepForm};
 use pz_items::Items;
 use pz_offer::Trouble;
 use pz_part_queries::Standpoint;
-use pz_rules::{Term, evaluations_are_computed};
+use pz_rules::Term;
 use pz_state::{FrameId, State};
 use pz_syntax::Pos;
 use std::alloc::{AllocError, Global};
@@ -66,7 +66,7 @@ pub fn hand(
         (term_view part.now) pos (done_left state.new.held left)) }
     ensures marks { OnOk result (state.new.marks ≡ state.old.marks) }
 {
-    evaluations_are_computed();
+    pz_rules::laws::evaluations_are_computed();
     let Term::Leaf(step) = part else {
         unreachable!();
     };

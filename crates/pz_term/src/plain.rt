@@ -12,7 +12,7 @@ use crate::vector::{elapse_at, look_at, step_at};
 use pz_bind::Net;
 use pz_classes::Checked;
 use pz_offer::Trouble;
-use pz_rules::{Action, Limits, Moment, one_list_of_offers, one_moment, wires_are_known};
+use pz_rules::{Action, Limits, Moment};
 use pz_term_processes::{Process, start};
 use std::alloc::{AllocError, Global};
 use std::mem::{self, drop};
@@ -87,8 +87,8 @@ impl Plain {
     pub fn moment(&self) -> Moment
         ensures { IsMomentOf (simulation_of self.now) result }
     {
-        one_moment();
-        wires_are_known();
+        pz_rules::laws::one_moment();
+        pz_rules::laws::wires_are_known();
         let _model = self.checked.model();
         match &self.standing {
             Standing::Whole(outlook) => outlook.moment,
@@ -124,9 +124,9 @@ impl Plain {
     pub fn offers(&self) -> &[Action]
         ensures { AreOffersOf (simulation_of self.now) result.now }
     {
-        one_moment();
-        one_list_of_offers();
-        wires_are_known();
+        pz_rules::laws::one_moment();
+        pz_rules::laws::one_list_of_offers();
+        pz_rules::laws::wires_are_known();
         let _model = self.checked.model();
         match &self.standing {
             Standing::Whole(outlook) => outlook.actions.as_slice(),
@@ -186,9 +186,9 @@ impl Plain {
         ensures setting { setting_in (simulation_of self.new) ≡ setting_in
             (simulation_of self.old) }
     {
-        one_moment();
-        one_list_of_offers();
-        wires_are_known();
+        pz_rules::laws::one_moment();
+        pz_rules::laws::one_list_of_offers();
+        pz_rules::laws::wires_are_known();
         let _model = self.checked.model();
         let Standing::Whole(outlook) = mem::replace(&mut self.standing, Standing::Broken) else {
             unreachable!()

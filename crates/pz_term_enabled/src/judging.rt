@@ -17,10 +17,9 @@ ghost use Rattle.pz_term_enabled.specs.devices.Communications.{OfAll};
 use pz_classes::Checked;
 use pz_copy::Parcel;
 use pz_offer::{Place, Trouble};
-use pz_part_queries::{Standpoint, judge, one_verdict, part_at};
-use pz_rules::{Action, Limits, offered_parts_act};
+use pz_part_queries::{Standpoint, judge, part_at};
+use pz_rules::{Action, Limits};
 use pz_state::FrameId;
-use pz_term_around::active_parts_may_act;
 use pz_term_matching::{Pair, Receiver, Sender, match_ends};
 use pz_term_processes::Process;
 use std::alloc::{AllocError, Global};
@@ -40,7 +39,7 @@ fn judge_part(
         (term_view process.old.term) place.now parcel.now) }
     ensures unchanged { process.new ≡ process.old }
 {
-    active_parts_may_act();
+    pz_term_around::laws::active_parts_may_act();
     // A process stands in no frame.
     let (frame, part) = part_at(&process.term, FrameId(0), place.as_slice());
     judge(alloc, here, &mut process.state, frame, part, parcel)
@@ -62,8 +61,8 @@ fn judge_receive(
         (config_of clock processes.old) receiver.now.end parcel.now) }
     ensures unchanged { processes.new ≡ processes.old }
 {
-    one_verdict();
-    offered_parts_act();
+    pz_part_queries::laws::one_verdict();
+    pz_rules::laws::offered_parts_act();
     let process = receiver.end.process;
     let here = Standpoint {
         classes: checked.classes(),
@@ -182,7 +181,7 @@ pub(crate) fn add_communications(
         (config_of clock processes.old) actions.old.items actions.new.items) }
     ensures unchanged { processes.new ≡ processes.old }
 {
-    one_verdict();
+    pz_part_queries::laws::one_verdict();
     let pairs = match_ends(alloc, senders, receivers)?;
     add_pairs(
         alloc,

@@ -15,7 +15,7 @@ use crate::surveying::survey;
 use pz_bind::Net;
 use pz_classes::Checked;
 use pz_offer::Trouble;
-use pz_rules::{Action, Limits, Moment, one_list_of_offers};
+use pz_rules::{Action, Limits, Moment};
 use pz_term_processes::Process;
 use std::alloc::{AllocError, Global};
 use std::mem;
@@ -81,7 +81,7 @@ fn decide(alloc: Global, found: &mut Survey, trouble: Option<Trouble>) -> Outloo
     ensures actions { (setting : Setting) (c : Config) → Decides setting c found.old trouble →
         AreActionsAt setting c result.moment result.actions.items }
 {
-    one_list_of_offers();
+    pz_rules::laws::one_list_of_offers();
     if let Some(trouble) = trouble {
         return Outlook {
             moment: Moment::Faulty(trouble),

@@ -21,7 +21,7 @@ use pz_classes_code::{Code, Slot, Step, StepForm};
 use pz_items::Items;
 use pz_offer::{Place, Trouble};
 use pz_part_queries::{Standpoint, ask_parcel, ask_time};
-use pz_rules::{Kind, evaluations_are_computed};
+use pz_rules::Kind;
 use pz_state::{FrameId, State};
 use pz_syntax::{Id, Name, Pos};
 use std::alloc::{AllocError, Global};
@@ -95,7 +95,7 @@ fn note_delay(
         found.new) }
     ensures state { state.new ≡ state.old }
 {
-    evaluations_are_computed();
+    pz_rules::laws::evaluations_are_computed();
     match ask_time(alloc, here, state, frame, pos, time)? {
         Ok(left) => note_left(found, place, left, pos),
         Err(trouble) => note_trouble(found, place, trouble),
@@ -122,7 +122,7 @@ fn note_send(
         (code.part_view args.now) after)) ∷ []) found.old found.new) }
     ensures state { state.new ≡ state.old }
 {
-    evaluations_are_computed();
+    pz_rules::laws::evaluations_are_computed();
     match ask_parcel(alloc, here, state, frame, pos, args)? {
         Ok(parcel) => {
             let message = name.name.copy()?;

@@ -18,7 +18,7 @@ use crate::walking::walk;
 use pz_bind::Net;
 use pz_classes::Checked;
 use pz_part_queries::Standpoint;
-use pz_rules::{Limits, active_parts_fit, walks_list_what_is_active, wires_are_known};
+use pz_rules::Limits;
 use pz_term_around::is_done;
 use pz_term_processes::Process;
 use std::alloc::{AllocError, Global};
@@ -39,9 +39,9 @@ fn survey_process(
         (here.now.process + 1) survey.new) }
     ensures unchanged { process.new ≡ process.old }
 {
-    walks_list_what_is_active();
-    wires_are_known();
-    active_parts_fit();
+    pz_rules::laws::walks_list_what_is_active();
+    pz_rules::laws::wires_are_known();
+    pz_rules::laws::active_parts_fit();
     let found = walk(alloc, here, &mut process.state, &process.term)?;
     let done = is_done(&process.term);
     add_found(net, here.process, found, done, survey)

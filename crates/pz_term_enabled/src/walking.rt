@@ -16,7 +16,7 @@ use crate::noting::{note_left, note_step, note_trouble};
 use pz_classes_code::Code;
 use pz_offer::Place;
 use pz_part_queries::{Standpoint, ask_test};
-use pz_rules::{Term, evaluations_are_computed};
+use pz_rules::Term;
 use pz_state::{FrameId, State};
 use pz_syntax::Pos;
 use std::alloc::{AllocError, Global};
@@ -190,7 +190,7 @@ fn walk_guarded(
     ensures place { OnOk result (place.new ≡ place.old) }
     ensures state { state.new ≡ state.old }
 {
-    evaluations_are_computed();
+    pz_rules::laws::evaluations_are_computed();
     match ask_test(alloc, here, state, frame, pos, test)? {
         Ok(true) => walk_child(alloc, here, state, frame, body, 0, place, found),
         Ok(false) => Ok(()),

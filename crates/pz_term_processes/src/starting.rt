@@ -11,12 +11,11 @@ ghost use Rattle.pz_rules.specs.declared.limits.Limits.{Limits};
 ghost use Rattle.pz_rules.specs.Starting.{StartsAs, IsStart};
 ghost use Rattle.pz_term_processes.specs.Standing.{setting_of, process_view, config_of, AreProcesses};
 
-use crate::laws::trees_are_sets;
 use crate::process::Process;
 use pz_bind::Net;
-use pz_classes::{Checked, sound_classes_fit};
+use pz_classes::Checked;
 use pz_classes_copies::copy_step;
-use pz_rules::{Term, what_fits_goes_on};
+use pz_rules::Term;
 use pz_state::State;
 use pz_value::Value;
 use std::alloc::{AllocError, Global};
@@ -45,8 +44,8 @@ fn first_of(
         slice_get (nest.processes (checked_model checked.now)) process ≡ Some place →
         StartsAs (setting_of (checked_model checked.now) limits) place (process_view first)) }
 {
-    sound_classes_fit();
-    trees_are_sets();
+    pz_classes::laws::sound_classes_fit();
+    crate::laws::trees_are_sets();
     let _model = checked.model();
     let Some(call) = checked.classes().init(net.class(process)) else {
         unreachable!()
@@ -65,7 +64,7 @@ pub fn start(alloc: Global, checked: &Checked, net: &Net) -> Result<Vec<Process>
     ensures processes { IfOk result (λ processes. (limits : Limits) →
         AreProcesses (setting_of (checked_model checked.now) limits) 0 processes.items) }
 {
-    what_fits_goes_on();
+    pz_rules::laws::what_fits_goes_on();
     let _model = checked.model();
     let mut processes = Vec::new(alloc);
     for process in 0..net.processes() {

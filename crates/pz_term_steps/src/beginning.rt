@@ -21,10 +21,9 @@ use pz_copy::Parcel;
 use pz_offer::Trouble;
 use pz_part_actions::{hand, perform, take};
 use pz_part_queries::{Standpoint, part_at};
-use pz_rules::{Term, active_parts_fit, offered_parts_act};
+use pz_rules::Term;
 use pz_state::FrameId;
 use pz_syntax::Pos;
-use pz_term_around::active_parts_may_act;
 use pz_term_processes::Process;
 use pz_value::ClassId;
 use std::alloc::{AllocError, Global};
@@ -72,9 +71,9 @@ pub(crate) fn begin_internal(
     ensures state { IfOk result (IsBegun process.old.state process.new.state) }
     ensures term { process.new.term ≡ process.old.term }
 {
-    active_parts_may_act();
-    offered_parts_act();
-    active_parts_fit();
+    pz_term_around::laws::active_parts_may_act();
+    pz_rules::laws::offered_parts_act();
+    pz_rules::laws::active_parts_fit();
     let point = process.state.mark()?;
     let (frame, part) = part_at(&process.term, FrameId(0), place);
     let pos = pos_of(part);
@@ -101,8 +100,8 @@ pub(crate) fn begin_send(
     ensures state { IfOk result (IsBegun process.old.state process.new.state) }
     ensures term { process.new.term ≡ process.old.term }
 {
-    active_parts_may_act();
-    offered_parts_act();
+    pz_term_around::laws::active_parts_may_act();
+    pz_rules::laws::offered_parts_act();
     let point = process.state.mark()?;
     let (frame, part) = part_at(&process.term, FrameId(0), place);
     let pos = pos_of(part);
@@ -130,8 +129,8 @@ pub(crate) fn begin_receive(
     ensures state { IfOk result (IsBegun process.old.state process.new.state) }
     ensures term { process.new.term ≡ process.old.term }
 {
-    active_parts_may_act();
-    offered_parts_act();
+    pz_term_around::laws::active_parts_may_act();
+    pz_rules::laws::offered_parts_act();
     let point = process.state.mark()?;
     let (frame, part) = part_at(&process.term, FrameId(0), place);
     let pos = pos_of(part);

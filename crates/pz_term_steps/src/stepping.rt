@@ -17,16 +17,11 @@ ghost use Rattle.pz_term_steps.specs.Stepping.{reached};
 use crate::beginning::{begin_internal, begin_receive, begin_send};
 use crate::begun::{finish, withdraw};
 use pz_bind::Net;
-use pz_classes::{Checked, sound_bodies_fit};
+use pz_classes::Checked;
 use pz_copy::Parcel;
-use pz_eval_rules::each_list_has_an_outcome;
 use pz_offer::{End, Trouble};
 use pz_part_queries::Standpoint;
-use pz_rules::{
-    Action, Limits, Moment, Term, least_passes, one_next, passing_is_computed, what_fits_goes_on,
-    wires_are_known,
-};
-use pz_term_around::active_parts_may_act;
+use pz_rules::{Action, Limits, Moment, Term};
 use pz_term_processes::Process;
 use pz_term_time::pass;
 use std::alloc::{AllocError, Global};
@@ -54,8 +49,8 @@ fn act(
         (reached clock processes.new left)) }
     ensures stays { IfOk result (λ left. OnErr left (processes.new ≡ processes.old)) }
 {
-    sound_bodies_fit();
-    active_parts_may_act();
+    pz_classes::laws::sound_bodies_fit();
+    pz_term_around::laws::active_parts_may_act();
     let _model = checked.model();
     let here = Standpoint {
         classes: checked.classes(),
@@ -96,8 +91,8 @@ fn communicate(
         parcel.now) (reached clock processes.new left)) }
     ensures stays { IfOk result (λ left. OnErr left (processes.new ≡ processes.old)) }
 {
-    active_parts_may_act();
-    each_list_has_an_outcome();
+    pz_term_around::laws::active_parts_may_act();
+    pz_eval_rules::laws::each_list_has_an_outcome();
     let (from, to) = (sender.process as usize, receiver.process as usize);
     let sends_at = sender.place.as_slice();
     let receives_at = receiver.place.as_slice();
@@ -151,8 +146,8 @@ pub fn step(
     ensures processes { OnOk result (∥ AreProcesses
         (setting_of (checked_model checked.now) limits) clock processes.new ∥₁) }
 {
-    one_next();
-    what_fits_goes_on();
+    pz_rules::laws::one_next();
+    pz_rules::laws::what_fits_goes_on();
     let _model = checked.model();
     match action {
         Action::Internal { at, .. } => act(alloc, checked, net, limits, clock, processes, at),
@@ -206,11 +201,11 @@ pub fn elapse(
     ensures processes { OnOk result (∥ AreProcesses (setting_of (checked_model checked.now) limits)
         (clock + time) processes.new ∥₁) }
 {
-    wires_are_known();
-    least_passes();
-    passing_is_computed();
-    one_next();
-    what_fits_goes_on();
+    pz_rules::laws::wires_are_known();
+    pz_rules::laws::least_passes();
+    pz_rules::laws::passing_is_computed();
+    pz_rules::laws::one_next();
+    pz_rules::laws::what_fits_goes_on();
     let _model = checked.model();
     for number in 0..net.processes() {
         let here = Standpoint {

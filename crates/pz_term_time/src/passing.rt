@@ -17,7 +17,7 @@ use pz_classes_code::{Code, Step, StepForm};
 use pz_items::{Boxed, Items};
 use pz_offer::Trouble;
 use pz_part_queries::{Standpoint, ask_test, ask_time};
-use pz_rules::{Term, evaluations_are_computed, passing_is_computed};
+use pz_rules::Term;
 use pz_state::{FrameId, State};
 use pz_syntax::Pos;
 use std::alloc::{AllocError, Global};
@@ -48,7 +48,7 @@ fn time_left(
         (seen_from m here.now class state.old.held) time frame.0 (view step.now)) }
     ensures state { state.new ≡ state.old }
 {
-    evaluations_are_computed();
+    pz_rules::laws::evaluations_are_computed();
     match &step.form {
         StepForm::Delay(lasting) => {
             let left = ask_time(alloc, here, state, frame, step.pos, lasting)?;
@@ -224,7 +224,7 @@ fn pass_guarded(
         (terms.guarded (code.view test) pos (term_view body))) }
     ensures state { state.new ≡ state.old }
 {
-    evaluations_are_computed();
+    pz_rules::laws::evaluations_are_computed();
     let answer = ask_test(alloc, here, state, frame, pos, &test)?;
     if !is_open(answer) {
         return Ok(Term::Guard { test, pos, body });
@@ -254,7 +254,7 @@ pub fn pass(
         (seen_from m here.now class state.old.held) time 0 (term_view term)) }
     ensures state { state.new ≡ state.old }
 {
-    passing_is_computed();
+    pz_rules::laws::passing_is_computed();
     // A process stands in no frame.
     pass_part(alloc, here, state, FrameId(0), term, time)
 }

@@ -30,13 +30,13 @@ module _ (value_same : UnclockedIsComputedTheSame) (list_same : UnclockedListIsC
   pub tested_same : (f : ℕ) (at : Pos) (e : Code) → names_clock e ≡ false → tested (later a d) f at e ≡ tested a f at e
   tested_same f at e h =
       ap (λ r. and_then (value_or_trouble a.process at (outcome_of r)) (truth a.process at))
-        (value_same a.setting.model a.clock (a.clock + d) f a.state e (allowance a.setting.limits) methods h)
+      (value_same a.setting.model a.clock (a.clock + d) f a.state e (allowance a.setting.limits) methods h)
 
   part_same : (f : ℕ) (at : Pos) (es : Part Slot ClassId) → part_names_clock es ≡ false → found_part (later a d) f at es ≡ found_part a f at es
   part_same f at left_out h = refl
   part_same f at (written es) h =
       ap (λ r. values_or_trouble a.process at (listed_of r))
-        (list_same a.setting.model a.clock (a.clock + d) f a.state es (allowance a.setting.limits) methods h)
+      (list_same a.setting.model a.clock (a.clock + d) f a.state es (allowance a.setting.limits) methods h)
 
   left_same : (f : ℕ) (es : Part Slot ClassId) → part_names_clock es ≡ false → left_part (later a d) f es ≡ left_part a f es
   left_same f left_out h = refl

@@ -3,9 +3,6 @@
 ghost use Rattle.pz_tree_summary.specs.Laws.{OfSequence, OfFrame, OfGuard, OfAbort, OfIdle, OfHandling, OfParallel, OfSelect, OfLaterClock, UnaskedIsSteady, SteadySummary};
 ghost use Rattle.pz_tree_summary.specs.devices.Laws.{TestIsSteady, SteadySummaryIsComputed};
 
-use pz_eval_rules::unclocked_is_timeless;
-use pz_rules::passing_is_computed;
-
 /// The summary of a term from those of its parts, form by form, and that by a clock that is ahead.
 pub fn summaries_by_form()
     ensures sequence { OfSequence }
@@ -32,6 +29,6 @@ pub fn steady_terms_keep_summaries()
     ensures computed { SteadySummaryIsComputed }
     ensures tests { TestIsSteady }
 {
-    unclocked_is_timeless();
-    passing_is_computed();
+    pz_eval_rules::laws::unclocked_is_timeless();
+    pz_rules::laws::passing_is_computed();
 }

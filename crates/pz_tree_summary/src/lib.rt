@@ -2,6 +2,4 @@
 //! first trouble of what they are asked.
 #![tactic(auto)]
 
-mod laws;
-
-pub use laws::{steady_terms_keep_summaries, summaries_by_form, unasked_is_steady};
+pub mod laws;
