@@ -1,6 +1,7 @@
 -- What the call that parses promises.
-use Rattle.std.specs.Prelude.{◌≡◌, ◌<◌, ◌≤◌, ◌⊎◌, ℕ, List, length, ⊤, Result, MatchResult}
+use Rattle.std.specs.Prelude.{◌≡◌, ◌<◌, ◌≤◌, ◌⊎◌, ℕ, List, length, map, ⊤, Result, MatchResult}
 use Rattle.pz_syntax.specs.declared.tokens.Pos.{Pos}
+use Rattle.pz_syntax.specs.declared.tokens.Mark.{Mark}
 use Rattle.pz_syntax.specs.declared.tokens.Token.{Token}
 use Rattle.pz_syntax.specs.declared.clusters.Model.{Model}
 use Rattle.pz_syntax.specs.Classes.{ModelTree}
@@ -8,11 +9,15 @@ use Rattle.pz_syntax.specs.ClassView.{model_view}
 use Rattle.pz_syntax.specs.ModelText.{text}
 use Rattle.pz_syntax.specs.ModelForm.{IsModel}
 use Rattle.pz_syntax.specs.ModelNesting.{nesting}
-use Rattle.pz_parser_cursor.specs.Places.{marks, positions}
+use Rattle.pz_parser_cursor.specs.Places.{positions}
 use Rattle.pz_parser_cursor.specs.Openers.{openers}
 use Rattle.pz_parser.specs.declared.error.ParseError.{ParseError}
 use Rattle.pz_parser.specs.declared.error.ParseError.TheVariants.{NoMemory, Syntax, TooNested}
 use Rattle.pz_parser.specs.ModelPlaces.{place_model}
+
+-- the marks of tokens, without their positions
+abbrev pub marks : List Token → List Mark
+marks = map (λ t. t.mark)
 
 -- the model is one that the grammar has, no deeper than the limit, and the tokens are its text
 abbrev pub IsTextOf : ℕ → List Token → ModelTree → Type 0

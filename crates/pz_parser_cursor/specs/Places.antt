@@ -1,5 +1,5 @@
 -- Where the parts of a text stand. `at` gives the position of each token by its number.
-use Rattle.std.specs.Prelude.{ℕ, zero, suc, ◌+◌, List, [], ◌∷◌, length, map, Option, Some, None}
+use Rattle.std.specs.Prelude.{ℕ, zero, suc, ◌+◌, List, [], ◌∷◌, length, Option, Some, None}
 use Rattle.pz_syntax.specs.declared.tokens.Pos.{Pos}
 use Rattle.pz_syntax.specs.declared.tokens.Mark.{Mark}
 use Rattle.pz_syntax.specs.declared.tokens.Token.{Token}
@@ -8,10 +8,6 @@ use Rattle.pz_syntax.specs.declared.classes.VarGroup.{VarGroup}
 use Rattle.pz_syntax.specs.ExpressionErasure.{origin}
 use Rattle.pz_syntax.specs.Marks.{word_text}
 use Rattle.pz_syntax.specs.ClassText.{group_names, group_text}
-
--- the marks of tokens, without their positions
-abbrev pub marks : List Token → List Mark
-marks = map (λ t. t.mark)
 
 -- the tokens of a text that begins at token n
 abbrev pub located : (ℕ → Pos) → ℕ → List Mark → List Token

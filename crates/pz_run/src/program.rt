@@ -40,58 +40,77 @@ pub fn run_program<F: Files, W: Sink>(
 ) -> Status
     // The status, and what is printed, are those of the definitions: the text of the run of a sound model
     // that the words choose, or a trace tells, by the rules, or what else is to be said.
-    ensures output { (F.state files.old).told ≡ true → result ≢ Status.WriteFault → result ≢ Status.NoMemory →
-        ¬ ((result ≡ Status.ReadFault) × Rose (F.state files.old).faults (F.state files.new).faults) →
-        PrintsAll (asked (map string_bytes words.now)) (F.state files.old).held (W.state out.old) (W.state out.new) result }
+    ensures output { (F.state files.old).told ≡ true → result ≢ Status.WriteFault →
+        result ≢ Status.NoMemory → ¬ ((result ≡ Status.ReadFault)
+        × Rose (F.state files.old).faults (F.state files.new).faults) →
+        PrintsAll (asked (map string_bytes words.now)) (F.state files.old).held (W.state out.old)
+        (W.state out.new) result }
     // Where the files failed, the line that says so names the last file that was opened.
-    ensures read_fault { result ≡ Status.ReadFault → Rose (F.state files.old).faults (F.state files.new).faults →
-        SaysFault (files_of (asked (map string_bytes words.now))) (F.state files.old) (F.state files.new) (W.state out.old) (W.state out.new) }
+    ensures read_fault { result ≡ Status.ReadFault →
+        Rose (F.state files.old).faults (F.state files.new).faults →
+        SaysFault (files_of (asked (map string_bytes words.now))) (F.state files.old)
+        (F.state files.new) (W.state out.old) (W.state out.new) }
     // Without a file nothing is opened, also not before the usage line.
-    ensures opens { OpensFiles (files_of (asked (map string_bytes words.now))) (F.state files.old) (F.state files.new) result }
+    ensures opens { OpensFiles (files_of (asked (map string_bytes words.now))) (F.state files.old)
+        (F.state files.new) result }
     // What is printed before a write fails, or memory is wanting, is a front of what is to be printed.
-    ensures write_fault { (F.state files.old).told ≡ true → (W.state out.old).told ≡ true → result ≡ Status.WriteFault →
-        PrintsFront (asked (map string_bytes words.now)) (F.state files.old) (F.state files.new) (W.state out.old) (W.state out.new) }
-    ensures no_memory { (F.state files.old).told ≡ true → (W.state out.old).told ≡ true → result ≡ Status.NoMemory →
-        PrintsFront (asked (map string_bytes words.now)) (F.state files.old) (F.state files.new) (W.state out.old) (W.state out.new) }
+    ensures write_fault { (F.state files.old).told ≡ true → (W.state out.old).told ≡ true →
+        result ≡ Status.WriteFault → PrintsFront (asked (map string_bytes words.now))
+        (F.state files.old) (F.state files.new) (W.state out.old) (W.state out.new) }
+    ensures no_memory { (F.state files.old).told ≡ true → (W.state out.old).told ≡ true →
+        result ≡ Status.NoMemory → PrintsFront (asked (map string_bytes words.now))
+        (F.state files.old) (F.state files.new) (W.state out.old) (W.state out.new) }
 
     // When each answer comes.
     ensures statuses { CanEnd (asked (map string_bytes words.now)) result }
     ensures usage { result ≡ Status.Usage → asked (map string_bytes words.now) ≡ None }
-    ensures no_job { asked (map string_bytes words.now) ≡ None → result ≢ Status.WriteFault → result ≢ Status.NoMemory → result ≡ Status.Usage }
+    ensures no_job { asked (map string_bytes words.now) ≡ None → result ≢ Status.WriteFault →
+        result ≢ Status.NoMemory → result ≡ Status.Usage }
     ensures model_refused { (F.state files.old).told ≡ true → result ≡ Status.ModelRefused →
         IsNoModel (asked (map string_bytes words.now)) (F.state files.old).held }
     ensures deadlock { (F.state files.old).told ≡ true → result ≡ Status.Deadlock →
         RunEnds (asked (map string_bytes words.now)) (F.state files.old).held deadlocked }
     ensures model_fault { (F.state files.old).told ≡ true → result ≡ Status.ModelFault →
-        (trouble : Trouble) × RunEnds (asked (map string_bytes words.now)) (F.state files.old).held (troubled trouble) }
+        (trouble : Trouble) × RunEnds (asked (map string_bytes words.now)) (F.state files.old).held
+        (troubled trouble) }
     ensures choice_refused { (F.state files.old).told ≡ true → result ≡ Status.ChoiceRefused →
-        (entry : ℕ) × (count : ℕ) × RunEnds (asked (map string_bytes words.now)) (F.state files.old).held (refused entry count) }
+        (entry : ℕ) × (count : ℕ) × RunEnds (asked (map string_bytes words.now))
+        (F.state files.old).held (refused entry count) }
     // These three come exactly there: the run that is asked for, by a choice or by its trace, gives its own
     // status.
-    ensures run_end { (ending : Ending) → RunEnds (asked (map string_bytes words.now)) (F.state files.old).held ending →
-        (F.state files.old).told ≡ true → result ≢ Status.WriteFault → result ≢ Status.NoMemory →
-        ¬ ((result ≡ Status.ReadFault) × Rose (F.state files.old).faults (F.state files.new).faults) →
-        result ≡ status_of ending }
+    ensures run_end { (ending : Ending) → RunEnds (asked (map string_bytes words.now))
+        (F.state files.old).held ending → (F.state files.old).told ≡ true →
+        result ≢ Status.WriteFault → result ≢ Status.NoMemory →
+        ¬ ((result ≡ Status.ReadFault) × Rose (F.state files.old).faults (F.state files.new).faults)
+        → result ≡ status_of ending }
     // A trace is refused exactly where it is the text of no run of the model.
     ensures trace_refused { (F.state files.old).told ≡ true → result ≡ Status.TraceRefused →
         IsNoTrace (asked (map string_bytes words.now)) (F.state files.old).held }
     ensures no_trace { IsNoTrace (asked (map string_bytes words.now)) (F.state files.old).held →
         (F.state files.old).told ≡ true → result ≢ Status.WriteFault → result ≢ Status.NoMemory →
-        ¬ ((result ≡ Status.ReadFault) × Rose (F.state files.old).faults (F.state files.new).faults) →
-        result ≡ Status.TraceRefused }
+        ¬ ((result ≡ Status.ReadFault) × Rose (F.state files.old).faults (F.state files.new).faults)
+        → result ≡ Status.TraceRefused }
     // A second file is opened only once the model is accepted.
-    ensures trace_opened { (F.state files.old).told ≡ true → (F.state files.old).opens + 1 < (F.state files.new).opens →
+    ensures trace_opened { (F.state files.old).told ≡ true →
+        (F.state files.old).opens + 1 < (F.state files.new).opens →
         HasModelText (asked (map string_bytes words.now)) (F.state files.old).held }
-    ensures too_long { result ≡ Status.TooLong → IsPastLimit (files_of (asked (map string_bytes words.now))) (F.state files.old) (F.state files.new) }
+    ensures too_long { result ≡ Status.TooLong →
+        IsPastLimit (files_of (asked (map string_bytes words.now))) (F.state files.old)
+        (F.state files.new) }
     ensures longer { (F.state files.old).told ≡ true → result ≡ Status.TooLong →
         IsLonger (files_of (asked (map string_bytes words.now))) (F.state files.old).held }
-    ensures read_cause { result ≡ Status.ReadFault → Rose (F.state files.old).faults (F.state files.new).faults
-        ⊎ (((F.state files.old).told ≡ true) × Lacks (files_of (asked (map string_bytes words.now))) (F.state files.old).held) }
-    ensures write_cause { result ≡ Status.WriteFault → Rose (W.state out.old).faults (W.state out.new).faults }
+    ensures read_cause { result ≡ Status.ReadFault →
+        Rose (F.state files.old).faults (F.state files.new).faults
+        ⊎ (((F.state files.old).told ≡ true) × Lacks (files_of (asked (map string_bytes words.now)))
+        (F.state files.old).held) }
+    ensures write_cause { result ≡ Status.WriteFault →
+        Rose (W.state out.old).faults (W.state out.new).faults }
     // Where neither count rose, the output is whole and the status is its own, or memory was wanting.
     ensures complete { (F.state files.old).told ≡ true →
-        ¬ Rose (F.state files.old).faults (F.state files.new).faults → ¬ Rose (W.state out.old).faults (W.state out.new).faults → result ≢ Status.NoMemory →
-        PrintsAll (asked (map string_bytes words.now)) (F.state files.old).held (W.state out.old) (W.state out.new) result }
+        ¬ Rose (F.state files.old).faults (F.state files.new).faults →
+        ¬ Rose (W.state out.old).faults (W.state out.new).faults → result ≢ Status.NoMemory →
+        PrintsAll (asked (map string_bytes words.now)) (F.state files.old).held (W.state out.old)
+        (W.state out.new) result }
 {
     run_words(alloc, words, files, out)
 }
@@ -103,7 +122,8 @@ fn run_words<F: Files, W: Sink>(
     files: &mut F,
     out: &mut W,
 ) -> Status
-    ensures { KeepsPromises (asked (map string_bytes words.now)) (F.state files.old) (F.state files.new) (W.state out.old) (W.state out.new) result }
+    ensures { KeepsPromises (asked (map string_bytes words.now)) (F.state files.old)
+        (F.state files.new) (W.state out.old) (W.state out.new) result }
 {
     job_is_computed();
     match read_words(alloc, words) {

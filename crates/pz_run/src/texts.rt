@@ -8,7 +8,6 @@ use crate::play::Play;
 use crate::playing::run_model;
 use crate::printing::say_made;
 use pz_io::Sink;
-use pz_rules::{one_chosen_run, what_fits_goes_on};
 use pz_run_lines::{accepted_line, model_refused_line};
 use pz_run_reading::{ReadModelError, measure, read_model};
 use std::alloc::Global;
@@ -18,8 +17,8 @@ pub fn run_text<W: Sink>(alloc: Global, text: &[u8], play: Play, out: &mut W) ->
     requires { length text.now < 2 ^ 32 - 1 }
     ensures { Answers (PrintsPlay play text.now) (W.state out.old) (W.state out.new) result }
 {
-    one_chosen_run();
-    what_fits_goes_on();
+    pz_rules::laws::one_chosen_run();
+    pz_rules::laws::what_fits_goes_on();
     match read_model(alloc, text) {
         Ok(checked) => run_model(alloc, checked, play, out),
         Err(error) => say_refused(alloc, error, out),

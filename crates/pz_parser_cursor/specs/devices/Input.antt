@@ -1,22 +1,25 @@
 -- The first token of a list, and what it says.
-use Rattle.std.specs.Prelude.{ℕ, ℤ, pos, Bool, true, false, not, List, [], ◌∷◌, bytes_eq, codes}
+use Rattle.std.specs.Prelude.{ℕ, ℤ, pos, Bool, true, false, not, List, [], ◌∷◌, map, bytes_eq, codes}
 use Rattle.pz_syntax.specs.declared.tokens.Keyword.{Keyword}
 use Rattle.pz_syntax.specs.declared.tokens.Keyword.TheVariants as k
 use Rattle.pz_syntax.specs.declared.tokens.TokenKind.{TokenKind}
 use Rattle.pz_syntax.specs.declared.tokens.TokenKind.TheVariants as kind
+use Rattle.pz_syntax.specs.declared.tokens.Mark.{Mark}
 use Rattle.pz_syntax.specs.declared.tokens.Pos.{Pos}
 use Rattle.pz_syntax.specs.declared.tokens.Token.{Token}
 use Rattle.pz_syntax.specs.declared.names.Id.{Id}
 use Rattle.pz_syntax.specs.declared.exprs.Literal.{Literal}
 use Rattle.pz_syntax.specs.declared.exprs.Literal.TheVariants as lit
 use Rattle.pz_syntax.specs.ExpressionErasure.{origin}
-pub use Rattle.pz_parser_cursor.specs.Places.{marks}
 use Rattle.pz_parser_cursor.specs.declared.ahead.Next.{Next}
 use Rattle.pz_parser_cursor.specs.declared.ahead.Next.TheVariants as n
 use Rattle.pz_parser_cursor.specs.devices.LookAhead.{next, same}
 
 abbrev pub Tokens : Type 0
 Tokens = List Token
+
+abbrev pub marks : Tokens → List Mark
+marks = map (λ t. t.mark)
 
 unfoldable pub after : Tokens → Tokens
 after [] = []
