@@ -46,7 +46,7 @@ spend() { # command
 }
 
 # One number less another, and not below 0.
-less() { awk -v a="$1" -v b="$2" 'BEGIN { printf "%.2f", a > b ? a - b : 0 }'; }
+less() { awk -v a="$1" -v b="$2" 'BEGIN { printf "%.2f", (a > b ? a - b : 0) }'; }
 
 # A number for readers, to three digits: 1,230,000 or 0.0123 (in awk).
 # shellcheck disable=SC2016,SC2034
@@ -62,6 +62,7 @@ nice='function nice(x,   power, s, i, text) {
 
 # The line of a case. What took less than a tenth of a second tells no speed.
 report() { # case, amount, unit, seconds, kilobytes
+  [[ $2 =~ ^[1-9][0-9]*$ && $4 =~ ^[0-9.]+$ && $5 =~ ^[0-9]+$ ]] || fail "$1: these are no figures: $*"
   if [[ -n ${BENCH_RESULTS:-} ]]; then
     (IFS=$'\t' && echo "$bench	$*") >>"$BENCH_RESULTS"
   fi
@@ -81,8 +82,16 @@ measure() { # case, amount, unit, command
 
 # So many pieces of text, each with its number for % and the number before it for @.
 pieces() { # count, piece
+  # (gsub would take mawk a time that grows with the square of the count)
   awk -v count="$1" -v piece="$2" 'BEGIN {
-    for (i = 1; i <= count; i++) { line = piece; gsub(/%/, i, line); gsub(/@/, i - 1, line); printf "%s", line }
+    n = split(piece, part, /[%@]/)
+    at = 0
+    for (k = 1; k < n; k++) { at += length(part[k]) + 1; back[k] = (substr(piece, at, 1) == "@") }
+    for (i = 1; i <= count; i++) {
+      line = part[1]
+      for (k = 1; k < n; k++) line = line (i - back[k]) part[k + 1]
+      printf "%s", line
+    }
   }'
 }
 
