@@ -5,5 +5,5 @@
 mod changes;
 mod summaries;
 
-pub use changes::{abort_after, interrupt_after, Change};
-pub use summaries::{abort_summary, guard_summary, interrupt_summary, Gate, Mode};
+pub use changes::{Change, abort_after, interrupt_after};
+pub use summaries::{Gate, Mode, abort_summary, guard_summary, interrupt_summary};

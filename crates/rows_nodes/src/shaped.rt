@@ -1,10 +1,7 @@
 ghost use Rattle.std.specs.Prelude.{◌≡◌, ◌+◌, ◌<◌, ◌≤◌, [], ◌∷◌, Some, None, IfOk};
 
 use pz_nodes::{Key, Nodes, Steps};
-use pz_nodes_shapes::{
-    Kids, Node, changes_compose, drop_part, kid_at, nodes_are_taken_and_put, shapes_are_read,
-    shapes_are_seen,
-};
+use pz_nodes_shapes::{Kids, Node, drop_part, kid_at, laws};
 use std::alloc::{AllocError, Global};
 use std::sync::ledger::{Blank, Ledger};
 
@@ -78,10 +75,10 @@ pub fn plant_and_cut<L: Ledger>(alloc: Global, ledger: Blank) -> Result<(Found, 
     requires parts { ledger.parts ≡ L.parts }
     requires some { 0 < L.parts }
 {
-    nodes_are_taken_and_put::<u32>();
-    changes_compose::<u32>();
-    shapes_are_read::<u32>();
-    shapes_are_seen::<u32, u32>();
+    laws::nodes_are_taken_and_put::<u32>();
+    laws::changes_compose::<u32>();
+    laws::shapes_are_read::<u32>();
+    laws::shapes_are_seen::<u32, u32>();
     let mut steps = Steps::<L>::new(ledger);
     let mut nodes = Nodes::new(alloc);
     nodes.reserve(4)?;
