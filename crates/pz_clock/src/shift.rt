@@ -34,6 +34,20 @@ impl Shift {
         }
     }
 
+    /// How many clock units it is behind, but for those since which it stands still.
+    pub fn behind(&self) -> u128
+        ensures { result ≡ self.now.behind }
+    {
+        self.behind
+    }
+
+    /// Since which moment of the clock around it it stands still, if it does.
+    pub fn since(&self) -> Option<u128>
+        ensures { result ≡ self.now.since }
+    {
+        self.since
+    }
+
     /// Stands still from now on, where `outer` is what the clock around it shows. One that stands still
     /// stays as it is.
     pub fn freeze(&self, outer: u128) -> Shift

@@ -4,10 +4,9 @@
 
 mod dropping;
 mod kids;
-mod laws;
+pub mod laws;
 mod node;
 
 pub use dropping::drop_part;
 pub use kids::Kids;
-pub use laws::{changes_compose, nodes_are_taken_and_put, shapes_are_read, shapes_are_seen};
 pub use node::{Node, kid_at};

@@ -9,8 +9,7 @@ mod reading;
 mod refusal;
 mod size;
 
-pub use flat_model::FlatModel;
-pub use flattening::{measure, read_net};
+pub use flattening::measure;
 pub use read_error::ReadModelError;
 pub use reading::read_model;
 pub use refusal::Refusal;

@@ -1,0 +1,85 @@
+-- Rows of guards, aborts and interrupts, worked out.
+use Rattle.std.proofs.Common.{◌≡◌, true, false, [], ◌∷◌, Some, None, Ok, Err, refl}
+use Rattle.pz_syntax.specs.declared.tokens.Pos.{Pos}
+use Rattle.pz_syntax.specs.Statements.{skip}
+use Rattle.pz_state.specs.States.{StateView}
+use Rattle.pz_offer.specs.declared.trouble.Trouble.{Trouble}
+use Rattle.pz_offer.specs.declared.trouble.Trouble.TheVariants.{High}
+use Rattle.pz_offer.specs.declared.summary.Summary.{Summary}
+use Rattle.pz_offer.specs.Summaries.{nothing, join}
+use Rattle.pz_clock.specs.Shifts.{ShiftView, new_shift, frozen, thawed, local}
+use Rattle.pz_rules.specs.Terms.{Step, Term, done, leaf, wait, abort, idle, handling}
+use Rattle.pz_rules.specs.Leaving.{left_by, around}
+use Rattle.pz_preempt.specs.declared.summaries.Gate.TheVariants.{Open, Shut}
+use Rattle.pz_preempt.specs.declared.summaries.Mode.TheVariants.{Idle, Handling}
+use Rattle.pz_preempt.specs.declared.changes.Change.TheVariants.{Same, KeepSecond, Suspend, Resume, End}
+use Rattle.pz_preempt.specs.Tables.{gate_of, guarded_summary, interrupted_summary, abort_change, interrupt_change}
+use Rattle.pz_preempt.specs.Forms.{with_trouble, changed}
+
+abbrev at : Pos
+at = record { line = 1; column = 1 }
+
+abbrev again : Step
+again = skip at
+
+-- a delay with 6 left where the clock of its part shows 4, and a part that can take a step
+abbrev waits : Summary
+waits = record nothing { due = Some 10 }
+
+abbrev steps : Summary
+steps = record nothing { internal = 1 }
+
+-- its clock stood still from 4 to 11, and is 7 behind: by the clock around it the delay is over at 17
+abbrev stood : ShiftView
+stood = thawed (frozen new_shift 4) 11
+
+behind_open_gate : guarded_summary Open stood waits ≡ record nothing { due = Some 17 }
+behind_open_gate = refl
+
+behind_shut_gate : guarded_summary Shut (frozen stood 11) waits ≡ nothing
+behind_shut_gate = refl
+
+-- a test with a trouble shuts the gate, and its trouble is all that is seen
+troubled : with_trouble (Err (High 2 at)) (guarded_summary (gate_of (Err (High 2 at))) stood steps) ≡ record nothing { trouble = Some (High 2 at) }
+troubled = refl
+
+both_parts : interrupted_summary Idle stood waits steps ≡ record nothing { internal = 1; due = Some 17 }
+both_parts = refl
+
+-- while the second part acts, the first is not seen
+only_the_second : interrupted_summary Handling (frozen stood 11) waits steps ≡ steps
+only_the_second = refl
+
+-- ------------------------------------------------------------ what becomes of them
+
+abbrev t : Term
+t = wait 6 at
+
+abbrev u : Term
+u = leaf again
+
+-- the first part of an abort goes on, or ends it, and the second takes its place
+first_goes_on : (s : StateView) → around 0 s (abort t u) 0 u ≡ left_by s (changed (abort_change 0 false) (abort t u) u)
+first_goes_on s = refl
+
+first_ends : (s : StateView) → around 0 s (abort t u) 0 done ≡ left_by s done
+first_ends s = refl
+
+second_stays : changed (abort_change 1 false) (abort t u) t ≡ t
+second_stays = refl
+
+-- a handler that is done by its first action has the first part go on, and stands open afresh
+at_once : changed (interrupt_change Idle 1 true) (idle t u again) done ≡ idle t (leaf again) again
+at_once = refl
+
+suspends : changed (interrupt_change Idle 1 false) (idle t u again) t ≡ handling t t again
+suspends = refl
+
+goes_on : changed (interrupt_change Handling 1 false) (handling t u again) t ≡ handling t t again
+goes_on = refl
+
+resumes : changed (interrupt_change Handling 1 true) (handling t u again) done ≡ idle t (leaf again) again
+resumes = refl
+
+ends : changed (interrupt_change Idle 0 true) (idle t u again) done ≡ done
+ends = refl
