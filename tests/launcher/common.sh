@@ -1,0 +1,79 @@
+# What the tests of this folder share. A test begins with
+#   source "$(dirname "${BASH_SOURCE[0]}")/common.sh"
+# calls 'same', 'has' and 'ends' as often as it likes, and ends with 'done_testing'.
+# shellcheck shell=bash disable=SC2034
+set -u
+top=$(cd "$(dirname "${BASH_SOURCE[0]}")/../.." && pwd) || exit 2
+scratch=$(mktemp -d "${TMPDIR:-/tmp}/poosl-test-XXXXXX") || exit 2
+trap 'rm -rf "$scratch"' EXIT
+export LC_ALL=C
+failures=0
+
+# Something is not as it should be. The test goes on, and fails at its end.
+wrong() { # what
+  failures=$((failures + 1))
+  echo "  $*"
+}
+
+# Ends the test as one that this machine cannot run.
+skip() { # what it lacks
+  echo "$*"
+  exit 77
+}
+
+# The test cannot do without these commands.
+needs() { # commands
+  local it
+  for it; do
+    command -v "$it" >/dev/null || skip "this machine has no $it"
+  done
+}
+
+# Two texts are the same.
+same() { # what they are, the one that is wanted, the one that was had
+  [[ $2 == "$3" ]] && return
+  wrong "$1: wanted (-), had (+):"
+  diff -u <(printf '%s\n' "$2") <(printf '%s\n' "$3") | tail -n +3 | sed 's/^/    /'
+}
+
+# A text has a part.
+has() { # what it is, the part, the text
+  [[ $3 == *"$2"* ]] && return
+  wrong "$1: wanted '$2' in:"
+  printf '%s\n' "$3" | sed 's/^/    /'
+}
+
+# A command ends with a status. What it prints is in $out, what it says on standard error in $err; that is
+# without the LFs at their end, and whole in the files $scratch/out and $scratch/err.
+ends() { # status, command and its words
+  local wanted=$1 status
+  shift
+  "$@" >"$scratch/out" 2>"$scratch/err"
+  status=$?
+  # (an output that is no text has bytes 0, which a variable cannot hold)
+  out=$(tr -d '\0' <"$scratch/out") err=$(tr -d '\0' <"$scratch/err")
+  [[ $status == "$wanted" ]] && return
+  wrong "$*: wanted status $wanted, had $status; it said:"
+  sed 's/^/    /' "$scratch/err"
+}
+
+# A launcher in a place of its own, as 'install' makes it, over the program that is given; its path is
+# in $launcher. So a test need not wait for a proof, and can say what the program prints.
+installed() { # program
+  mkdir -p "$scratch/installed"/{bin,libexec/poosl,share}
+  cp "$top/poosl" "$scratch/installed/bin/poosl"
+  ln -sfn "$top/share/poosl" "$scratch/installed/share/poosl"
+  cp "$1" "$scratch/installed/libexec/poosl/poosl_run"
+  launcher=$scratch/installed/bin/poosl
+}
+
+# The proved program, built from the sources as they stand: its path is in $program. Where there is none,
+# the test is skipped, or, if POOSL_UNPROVED names a program, that one is tested.
+proved() {
+  program=${POOSL_UNPROVED:-$("$top/share/poosl/program" 2>/dev/null)} || skip "the program is not proved here: ./poosl proves it"
+}
+
+# The last line of a test.
+done_testing() {
+  exit $((failures > 0))
+}
