@@ -18,6 +18,7 @@ wrong() { # what
 # Ends the test as one that this machine cannot run.
 skip() { # what it lacks
   echo "$*"
+  ((failures == 0)) || exit 1
   exit 77
 }
 
@@ -71,6 +72,21 @@ installed() { # program
 # the test is skipped, or, if POOSL_UNPROVED names a program, that one is tested.
 proved() {
   program=${POOSL_UNPROVED:-$("$top/share/poosl/program" 2>/dev/null)} || skip "the program is not proved here: ./poosl proves it"
+}
+
+causes=$top/share/poosl/causes
+# The entries of the file of causes of a sort, a line each: the fields that are named, separated by tabs.
+entries() { # sort, words of fields, or 'entry' for the name
+  awk -v of="$1" -v words="${*:2}" -f "$top/share/poosl/entries.awk" -f <(cat <<'A'
+    END {
+        n = split(words, word, " ")
+        for (i = 1; i <= entries; i++)
+            if (sort[i] == of)
+                for (k = 1; k <= n; k++)
+                    printf "%s%s", (word[k] == "entry" ? name[i] : field[i, word[k], 1]), (k < n ? "\t" : "\n")
+    }
+A
+  ) "$causes"
 }
 
 # The last line of a test.
