@@ -74,6 +74,11 @@ keep() {
   [[ -x $program ]]
 }
 
+# The commit of the clone, with a word where its files differ from it.
+commit() {
+  git -C "$here" describe --always --dirty=', with changes' --exclude '*' 2>/dev/null || echo 'that is not known'
+}
+
 # How many crates rt works on at once. Some of them wait for others, so there are more of them than
 # processors: two for each, and no more than one for each 3 GB of free memory.
 at_once() {
@@ -122,7 +127,7 @@ look() {
   # (what an earlier build left is done at once, and tells nothing of the pace)
   ((whole || SECONDS < 5)) || whole=$left
   # (and the first crates tell little: before a tenth of the chain is done nothing is guessed)
-  ((left == before || 10 * (whole - left) < whole)) || due=$((SECONDS * whole / (whole - left)))
+  ((left == before || whole <= left || 10 * (whole - left) < whole)) || due=$((SECONDS * whole / (whole - left)))
   state="in hand:${hand:- the sources}; $count of ${#needed[@]} crates done, $(length_of $SECONDS) so far"
   ((due <= SECONDS)) || state+=", about $(length_of $((due - SECONDS))) left"
 }

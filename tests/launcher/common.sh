@@ -68,6 +68,55 @@ installed() { # program
   launcher=$scratch/installed/bin/poosl
 }
 
+# A clone with a few small crates, in $clone, and an rt of its own on the PATH that proves nothing: it notes how
+# it was called in $scratch/calls, and what it builds prints the first line of each crate's src/lib.rt. Where
+# $scratch/fails is there, its checks fail; $scratch/meanwhile is run while it checks.
+cloned() {
+  local it
+  clone=$scratch/clone
+  mkdir -p "$clone/crates" "$scratch/bin"
+  cp -r "$top/poosl" "$top/share" "$clone/"
+  mkdir "$clone/docs" && cp "$top/docs/poosl.1" "$clone/docs/"
+  printf '# crates\npoosl_run: pz_high\npz_high: pz_low std\npz_low:\nother: pz_low\n' >"$clone/crates.txt"
+  for it in poosl_run pz_high pz_low other; do
+    mkdir -p "$clone/crates/$it"/{src,specs,proofs}
+    echo "// $it" >"$clone/crates/$it/src/lib.rt"
+    echo "-- $it" >"$clone/crates/$it/specs/Lib.antt"
+  done
+  cat >"$scratch/bin/rt" <<'R'
+#!/usr/bin/env bash
+echo "$*" >>"$SCRATCH/calls"
+case $1 in
+  version) echo 'kit-of-a-test' ;;
+  all)
+    [[ ! -e $SCRATCH/meanwhile ]] || source "$SCRATCH/meanwhile"
+    if [[ -e $SCRATCH/fails ]]; then
+      printf '== pz_low\nerror: it is wrong\npz_low: failed (1)\n'
+      exit 1
+    fi
+    for it in pz_low pz_high poosl_run; do
+      mkdir -p "../$it/out/rlib"
+      touch "../$it/out/rlib/stamp"
+      echo "== $it"
+    done
+    ;;
+  run)
+    mkdir -p out
+    { echo '#!/bin/sh'; echo 'echo "$@"'; for it in ../p*/src/lib.rt; do echo "echo '$(head -n 1 "$it")'"; done; } >out/poosl_run
+    chmod +x out/poosl_run
+    ;;
+  *) exit 2 ;;
+esac
+R
+  chmod +x "$scratch/bin/rt"
+  export SCRATCH=$scratch PATH=$scratch/bin:$PATH
+}
+
+# How often it was called to prove.
+proofs() {
+  cat "$scratch/calls" 2>/dev/null | grep -c '^all check'
+}
+
 # The proved program, built from the sources as they stand: its path is in $program. Where there is none,
 # the test is skipped, or, if POOSL_UNPROVED names a program, that one is tested.
 proved() {
