@@ -73,6 +73,7 @@ installed() { # program
 # $scratch/fails is there, its checks fail; $scratch/meanwhile is run while it checks.
 cloned() {
   local it
+  needs git flock
   clone=$scratch/clone
   mkdir -p "$clone/crates" "$scratch/bin"
   cp -r "$top/poosl" "$top/share" "$clone/"
