@@ -5,7 +5,8 @@
 _poosl_options() { # job
   case $1 in
     run) echo --first --seed --choices --steps --until --units --summary ;;
-    menu | ring | chart) echo --first --seed --choices --steps --until --units ;;
+    chart) echo --first --seed --choices --steps --until --units --svg ;;
+    menu | ring) echo --first --seed --choices --steps --until --units ;;
     replay) echo --units ;;
   esac
 }
@@ -49,7 +50,7 @@ _poosl() {
   if ((COMP_CWORD - at <= files)); then
     compopt -o filenames 2>/dev/null
     # (a trace may have any name)
-    if ((COMP_CWORD - at == 2)); then
+    if [[ $job == chart ]] || ((COMP_CWORD - at == 2)); then
       mapfile -t COMPREPLY < <(compgen -f -- "$word")
     else
       mapfile -t COMPREPLY < <(compgen -f -X '!*.poosl' -- "$word"; compgen -d -- "$word")
