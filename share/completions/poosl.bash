@@ -33,8 +33,8 @@ _poosl() {
   local jobs='run menu replay check make ring' own='chart explain now install help version'
   local word=${COMP_WORDS[COMP_CWORD]} at=1 job files=0
   COMPREPLY=()
-  # (behind 'now' stands a job of the program)
-  [[ ${COMP_WORDS[1]-} != now || $COMP_CWORD -lt 2 ]] || at=2 own=''
+  # (behind 'now' stands a job of the program, or a chart)
+  [[ ${COMP_WORDS[1]-} != now || $COMP_CWORD -lt 2 ]] || at=2 own=chart
   if ((COMP_CWORD == at)); then
     mapfile -t COMPREPLY < <(compgen -W "$jobs $own" -- "$word")
     return
