@@ -8,5 +8,5 @@ mod parser;
 mod processes;
 
 pub use error::ParseError;
-pub use laws::{one_tree, places_alone};
+pub use laws::{one_placed_tree, one_tree, places_alone};
 pub use parser::parse;

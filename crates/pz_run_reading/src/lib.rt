@@ -4,6 +4,7 @@
 
 mod flat_model;
 mod flattening;
+mod laws;
 mod read_error;
 mod reading;
 mod refusal;
@@ -11,6 +12,7 @@ mod size;
 
 pub use flat_model::FlatModel;
 pub use flattening::{measure, read_net};
+pub use laws::one_model;
 pub use read_error::ReadModelError;
 pub use reading::read_model;
 pub use refusal::Refusal;
