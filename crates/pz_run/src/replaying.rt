@@ -21,7 +21,7 @@ use crate::starting::start;
 use crate::texts::say_refused;
 use pz_classes::Checked;
 use pz_io::{Files, Sink, read_all};
-use pz_run_reading::read_model;
+use pz_run_reading::{one_model, read_model};
 use pz_run_replaying::replay;
 use pz_term::Plain;
 use std::alloc::Global;
@@ -57,6 +57,7 @@ fn replay_text<F: Files, W: Sink>(
     ensures { ReplaysText trace.now units (F.state files.old) (F.state files.new) (W.state out.old) (W.state out.new) result text.now }
 {
     traces_are_known();
+    one_model();
     match read_model(alloc, text) {
         Ok(checked) => replay_model(alloc, checked, trace, units, files, out),
         Err(error) => say_refused(alloc, error, out),

@@ -1,6 +1,6 @@
 // Laws, each the contract of a function that does nothing.
 
-ghost use Rattle.pz_run_playing.specs.Laws.{RunTextsAreTraceTexts, ChosenRunsAreTraces};
+ghost use Rattle.pz_run_playing.specs.Laws.{HasOneRun, RunTextsAreTraceTexts, ChosenRunsAreTraces};
 ghost use Rattle.pz_run_playing.specs.devices.Known.{Known};
 
 use pz_io::pieces_join;
@@ -10,6 +10,15 @@ use pz_rules::{
 };
 use pz_term::simulators_show_one_moment;
 use pz_trace::what_happens_is_named;
+
+/// A policy chooses one run of a sound model: it has one list of events, one configuration at its end,
+/// and one ending.
+pub fn one_run()
+    ensures { HasOneRun }
+{
+    one_chosen_run();
+    what_fits_goes_on();
+}
 
 /// The text of a run in which no entry is refused is a trace of the model.
 pub fn run_texts_are_traces()

@@ -12,5 +12,5 @@ mod runs;
 mod telling;
 
 pub use finale::Finale;
-pub use laws::run_texts_are_traces;
+pub use laws::{one_run, run_texts_are_traces};
 pub use runs::{play_menu, play_summary, play_trace};
