@@ -1,5 +1,6 @@
 -- What the table of a model's classes holds.
 use Rattle.std.specs.Prelude.{◌≡◌, ℕ, suc, List, [], ◌∷◌, map, Option}
+use Rattle.std.specs.Option.{option_map}
 use Rattle.pz_syntax.specs.Classes.{DeclTree, ModelTree}
 use Rattle.pz_classes.specs.Numbers.{class}
 use Rattle.pz_classes.specs.Tables.{class_names}
