@@ -1,7 +1,7 @@
 use Rattle.std.proofs.Common.{Err, ap, refl}
 use Rattle.pz_run.specs.Files.{model_file}
 use Rattle.pz_run.specs.devices.Replaying.{PrintsRefusal, no_model}
-use Rattle.pz_run.proofs.Unread.{unread}
+use Rattle.pz_run.proofs.Unread.{not_fault, unread}
 use Rattle.pz_run.proofs.Replayed.{from_text}
 use Rattle.pz_run.proofs.replaying.replay_file.Goals as goal
 
@@ -22,5 +22,5 @@ returns-in-Err g c = no_model (record {
   opened = c.in-Err.ensures.opens;
   names = c.in-Err.ensures.opened;
   outcome = unread (model_file c.args.model.now) PrintsRefusal _ _ _ _ c.say_unread.result c.in-Err.error
-      c.in-Err.ensures.counted (λ is. c.in-Err.ensures.fault (ap Err is)) (λ is. c.in-Err.ensures.too_long (ap Err is)) (λ is. c.in-Err.ensures.longer (ap Err is)) c.say_unread.ensures;
+      (λ other. c.in-Err.ensures.counted (not_fault c.in-Err.error other)) (λ is. c.in-Err.ensures.fault (ap Err is)) (λ is. c.in-Err.ensures.too_long (ap Err is)) (λ is. c.in-Err.ensures.longer (ap Err is)) c.say_unread.ensures;
 })
