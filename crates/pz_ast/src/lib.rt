@@ -4,12 +4,11 @@
 
 mod copying;
 mod depth;
-mod laws;
+pub mod laws;
 mod printing;
 
 pub use copying::{copy_expression, copy_statement, copy_statements};
 pub use depth::nesting;
-pub use laws::text_has_its_heads;
 pub use printing::tokens_of;
 pub use pz_syntax::{
     Arg, Channel, ChannelEnd, ClusterClass, DataClass, DataMethod, Decl, Expr, ExprForm, Given, Id,

@@ -63,7 +63,8 @@ impl<'a> Bindings<'a> {
 
     /// Gives a parameter this, unless it is given something. The only error is want of memory.
     fn add(&mut self, name: &'a [u8], meaning: Meaning<'a>) -> Result<(), AllocError>
-        ensures { OnOk result ((q : List ℕ) → bound_in self.new q ≡ option_or (bound_in self.old q) (if bytes_eq q name.now then Some (meaning_value meaning.entry) else None)) }
+        ensures { OnOk result ((q : List ℕ) → bound_in self.new q ≡ option_or (bound_in self.old q)
+            (if bytes_eq q name.now then Some (meaning_value meaning.entry) else None)) }
     {
         if self.map.get(name).is_none() {
             self.map.insert(name, meaning)?;
@@ -89,7 +90,9 @@ impl<'a> Bindings<'a> {
         alloc: Global,
         instance: &'a Instance,
     ) -> Result<Bindings<'a>, AllocError>
-        ensures { IfOk result (λ inner. (q : List ℕ) → value_in inner q ≡ spec.given_value (value_in self.now) (unwrap_or instance.now.given []) q) }
+        ensures { IfOk result (λ inner. (q : List ℕ) →
+            value_in inner q ≡ spec.given_value (value_in self.now)
+            (unwrap_or instance.now.given []) q) }
     {
         let mut inner = Bindings::new(alloc);
         let all = given_to(instance);

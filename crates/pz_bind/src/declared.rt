@@ -14,10 +14,7 @@ ghost use Rattle.pz_classes.specs.SoundSystem.{SystemFits};
 ghost use Rattle.pz_bind.specs.Nest as spec;
 ghost use Rattle.pz_bind.specs.devices.Layouts as layouts;
 
-use pz_classes::{
-    Checked, channels_of, class_of_instance, instances_of, is_cluster, sound_classes_fit,
-    sound_numbers_fit, sound_systems_fit,
-};
+use pz_classes::{Checked, channels_of, class_of_instance, instances_of, is_cluster};
 use pz_syntax::{Channel, Decl, Instance, Name};
 use pz_value::ClassId;
 
@@ -26,8 +23,8 @@ pub(crate) fn is_sound(checked: &Checked)
     ensures system { SystemFits (checked_model checked.now) }
     ensures classes { ClassesFit (checked_model checked.now) }
 {
-    sound_systems_fit();
-    sound_classes_fit();
+    pz_classes::laws::sound_systems_fit();
+    pz_classes::laws::sound_classes_fit();
     let _model = checked.model();
 }
 
@@ -35,13 +32,14 @@ pub(crate) fn is_sound(checked: &Checked)
 pub(crate) fn is_numbered(checked: &Checked)
     ensures { NumbersFit (checked_model checked.now) }
 {
-    sound_numbers_fit();
+    pz_classes::laws::sound_numbers_fit();
     let _model = checked.model();
 }
 
 /// The declaration of a class.
 fn declared(checked: &Checked, class: usize) -> Option<&Decl>
-    ensures { option_map decl_view (option_copied result) ≡ numbers.declaration (checked_model checked.now) class }
+    ensures { option_map decl_view (option_copied result) ≡ numbers.declaration
+        (checked_model checked.now) class }
 {
     if class == 0 {
         return None;

@@ -3,14 +3,12 @@
 ghost use Rattle.pz_syntax.specs.Classes.{ModelTree};
 ghost use Rattle.pz_bind.specs.Wires.{EndsShareWires};
 
-use pz_classes::{sound_classes_fit, sound_systems_fit};
-
 /// In a sound model two ends that are in channels have the same wire exactly where they are
 /// connected: where some channel is reached by both.
 pub fn ends_share_wires()
     ensures law { (m : ModelTree) → EndsShareWires m }
 {
-    sound_systems_fit();
-    sound_classes_fit();
-    pz_bind_levels::ends_share_wires();
+    pz_classes::laws::sound_systems_fit();
+    pz_classes::laws::sound_classes_fit();
+    pz_bind_levels::laws::ends_share_wires();
 }

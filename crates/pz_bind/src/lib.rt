@@ -3,7 +3,7 @@
 
 mod bindings;
 mod declared;
-mod laws;
+pub mod laws;
 mod naming;
 mod net;
 mod nodes;
@@ -11,6 +11,5 @@ mod plans;
 mod port_numbers;
 mod sites;
 
-pub use laws::ends_share_wires;
 pub use net::Net;
 pub use pz_value::{ClassId, Value};

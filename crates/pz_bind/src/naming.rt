@@ -28,7 +28,8 @@ pub(crate) struct Naming<'a> {
 impl Naming<'_> {
     /// The number of the instance of this name.
     fn part(&self, name: &[u8]) -> Option<usize>
-        ensures { (m : ModelTree) (xs : List Stood) → IsNaming m xs self.now → result ≡ instance_number xs name.now }
+        ensures { (m : ModelTree) (xs : List Stood) → IsNaming m xs self.now →
+            result ≡ instance_number xs name.now }
     {
         let number = self.numbers.get(name)?;
         Some(number as usize)
@@ -36,7 +37,8 @@ impl Naming<'_> {
 
     /// The number of the port of this name of the instance of this number.
     fn port(&self, part: usize, name: &[u8]) -> Option<usize>
-        ensures { (m : ModelTree) (xs : List Stood) → IsNaming m xs self.now → result ≡ port_of m xs part name.now }
+        ensures { (m : ModelTree) (xs : List Stood) → IsNaming m xs self.now →
+            result ≡ port_of m xs part name.now }
     {
         let class = self.parts.get(part)?.class;
         self.ports.get(class as usize, name)
@@ -44,8 +46,9 @@ impl Naming<'_> {
 
     /// Puts an end into a channel. The only error is want of memory.
     fn add_end(&self, links: &mut Links, channel: usize, end: &ChannelEnd) -> Result<(), AllocError>
-        ensures { OnOk result ((m : ModelTree) (xs : List Stood) → IsNaming m xs self.now
-            → (i p : ℕ) → linked_in links.new i p ≡ option_or (linked_in links.old i p) (linked_by (link_of m xs channel end.now) i p)) }
+        ensures { OnOk result ((m : ModelTree) (xs : List Stood) → IsNaming m xs self.now →
+            (i p : ℕ) → linked_in links.new i p ≡ option_or (linked_in links.old i p)
+            (linked_by (link_of m xs channel end.now) i p)) }
     {
         let ChannelEnd::Inner(instance, port) = end else {
             return Ok(());
@@ -66,8 +69,9 @@ impl Naming<'_> {
         channel: usize,
         ends: &[ChannelEnd],
     ) -> Result<(), AllocError>
-        ensures { OnOk result ((m : ModelTree) (xs : List Stood) → IsNaming m xs self.now
-            → (i p : ℕ) → linked_in links.new i p ≡ option_or (linked_in links.old i p) (linked_by (flat_map (link_of m xs channel) ends.now) i p)) }
+        ensures { OnOk result ((m : ModelTree) (xs : List Stood) → IsNaming m xs self.now →
+            (i p : ℕ) → linked_in links.new i p ≡ option_or (linked_in links.old i p)
+            (linked_by (flat_map (link_of m xs channel) ends.now) i p)) }
     {
         for end in ends {
             self.add_end(links, channel, end)?;

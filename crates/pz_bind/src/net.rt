@@ -114,7 +114,8 @@ impl Net {
     /// The path of a process: the names of the instances from the system down, joined by dots.
     pub fn path(&self, process: u32) -> &[u8]
         requires { HasProcess self.now process }
-        ensures { (m : ModelTree) (place : Address) → IsNet m self.now → slice_get (nest.processes m) process ≡ Some place → result.now ≡ names.path m place }
+        ensures { (m : ModelTree) (place : Address) → IsNet m self.now →
+            slice_get (nest.processes m) process ≡ Some place → result.now ≡ names.path m place }
     {
         self.nodes.as_slice()[process as usize]
             .path
@@ -125,9 +126,13 @@ impl Net {
     /// The class of a process: a process class of the model.
     pub fn class(&self, process: u32) -> ClassId
         requires { HasProcess self.now process }
-        ensures is { (m : ModelTree) (place : Address) → IsNet m self.now → slice_get (nest.processes m) process ≡ Some place → result ≡ class_id (nest.class_at m place) }
-        ensures process { (m : ModelTree) → IsNet m self.now → IsTrue (option_map_or is_process (declaration m result.0) false) }
-        ensures belongs { (m : ModelTree) (classes : Table) → IsNet m self.now → AreClasses m classes → HasClass classes result }
+        ensures is { (m : ModelTree) (place : Address) → IsNet m self.now →
+            slice_get (nest.processes m) process ≡ Some place →
+            result ≡ class_id (nest.class_at m place) }
+        ensures process { (m : ModelTree) → IsNet m self.now →
+            IsTrue (option_map_or is_process (declaration m result.0) false) }
+        ensures belongs { (m : ModelTree) (classes : Table) → IsNet m self.now →
+            AreClasses m classes → HasClass classes result }
     {
         self.nodes.as_slice()[process as usize].class
     }
@@ -136,7 +141,9 @@ impl Net {
     /// those of its class: what is given to a parameter, nil for a variable.
     pub fn values(&self, process: u32) -> &[Value]
         requires { HasProcess self.now process }
-        ensures { (m : ModelTree) (place : Address) → IsNet m self.now → slice_get (nest.processes m) process ≡ Some place → result.now ≡ values.values_at m place }
+        ensures { (m : ModelTree) (place : Address) → IsNet m self.now →
+            slice_get (nest.processes m) process ≡ Some place →
+            result.now ≡ values.values_at m place }
     {
         self.nodes.as_slice()[process as usize].values.as_slice()
     }
@@ -145,7 +152,8 @@ impl Net {
     /// cluster, from 1.
     pub fn wire_name(&self, wire: u32) -> &[u8]
         requires { IsWireOf self.now wire }
-        ensures { (m : ModelTree) (channel : Channel) → IsNet m self.now → slice_get (wires.wires m) wire ≡ Some channel → result.now ≡ names.wire_name m channel }
+        ensures { (m : ModelTree) (channel : Channel) → IsNet m self.now →
+            slice_get (wires.wires m) wire ≡ Some channel → result.now ≡ names.wire_name m channel }
     {
         self.wire_names.as_slice()[wire as usize]
             .as_str()
@@ -156,8 +164,10 @@ impl Net {
     /// channel that it reaches. None exactly where the port is in no channel.
     pub fn wire(&self, process: u32, port: u32) -> Option<u32>
         requires { HasProcess self.now process }
-        ensures { (m : ModelTree) (place : Address) (name : List ℕ) → IsNet m self.now → slice_get (nest.processes m) process ≡ Some place → slice_get (spelled (ports m (nest.class_at m place))) port ≡ Some name
-            → MatchOption result (IsInNone m (end place name)) (HasWire m (end place name)) }
+        ensures { (m : ModelTree) (place : Address) (name : List ℕ) → IsNet m self.now →
+            slice_get (nest.processes m) process ≡ Some place →
+            slice_get (spelled (ports m (nest.class_at m place))) port ≡ Some name →
+            MatchOption result (IsInNone m (end place name)) (HasWire m (end place name)) }
     {
         let standing = self.expansion.processes.as_slice()[process as usize].standing;
         narrowed(

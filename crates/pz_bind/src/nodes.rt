@@ -31,7 +31,10 @@ fn node_of<'a>(
     process: Process,
 ) -> Result<Node, AllocError>
     requires { IsPlaced (checked_model checked.now) sites.now process.standing }
-    ensures { IfOk result (λ node. (place : Address) → StandsIn (checked_model checked.now) sites.now (Some process.standing) place → process.class ≡ class_at (checked_model checked.now) place → node ≡ node_at (checked_model checked.now) place) }
+    ensures { IfOk result (λ node. (place : Address) →
+        StandsIn (checked_model checked.now) sites.now (Some process.standing) place →
+        process.class ≡ class_at (checked_model checked.now) place →
+        node ≡ node_at (checked_model checked.now) place) }
 {
     let up = &sites[process.standing.level];
     let instance = up.instance(checked, process.standing.part);
@@ -52,9 +55,11 @@ pub(crate) fn nodes_of<'a>(
     sites: &[Site<'a>],
     processes: &[Process],
 ) -> Result<Items<Node>, AllocError>
-    requires known { AreSites (checked_model checked.now) (levels (checked_model checked.now)) sites.now }
+    requires known { AreSites (checked_model checked.now)
+        (levels (checked_model checked.now)) sites.now }
     requires expanded { AreProcesses (checked_model checked.now) processes.now }
-    ensures { IfOk result (λ nodes. nodes ≡ map (node_at (checked_model checked.now)) (nest.processes (checked_model checked.now))) }
+    ensures { IfOk result (λ nodes. nodes ≡ map (node_at (checked_model checked.now))
+        (nest.processes (checked_model checked.now))) }
 {
     let mut nodes = Items::new(alloc);
     for process in processes {
@@ -66,7 +71,8 @@ pub(crate) fn nodes_of<'a>(
 /// The name of a wire. The only error is want of memory.
 fn wire_name(alloc: Global, sites: &[Site], wire: Wire) -> Result<Name, AllocError>
     requires { wire.level < length sites.now }
-    ensures { IfOk result (λ name. (site : Known) → slice_get sites.now wire.level ≡ Some site → name ≡ site.path ++ (codes "#" ++ decimal (suc wire.channel))) }
+    ensures { IfOk result (λ name. (site : Known) → slice_get sites.now wire.level ≡ Some site →
+        name ≡ site.path ++ (codes "#" ++ decimal (suc wire.channel))) }
 {
     let path = sites[wire.level].path.as_str();
     // Wide enough for one more.
@@ -82,9 +88,11 @@ pub(crate) fn wire_names_of(
     sites: &[Site],
     wires: &[Wire],
 ) -> Result<Items<Name>, AllocError>
-    requires known { AreSites (checked_model checked.now) (levels (checked_model checked.now)) sites.now }
+    requires known { AreSites (checked_model checked.now)
+        (levels (checked_model checked.now)) sites.now }
     requires expanded { AreWires (checked_model checked.now) wires.now }
-    ensures { IfOk result (λ names. names ≡ map (spec_names.wire_name (checked_model checked.now)) (spec_wires.wires (checked_model checked.now))) }
+    ensures { IfOk result (λ names. names ≡ map (spec_names.wire_name (checked_model checked.now))
+        (spec_wires.wires (checked_model checked.now))) }
 {
     let mut names = Items::new(alloc);
     for wire in wires {

@@ -36,7 +36,8 @@ fn parts_of(
     checked: &Checked,
     instances: &[Instance],
 ) -> Result<Items<LevelPart>, AllocError>
-    ensures { IfOk result (λ parts. parts ≡ map (spec.part_of (checked_model checked.now)) instances.now) }
+    ensures { IfOk result (λ parts. parts ≡ map (spec.part_of (checked_model checked.now))
+        instances.now) }
 {
     let mut parts = Items::new(alloc);
     for instance in instances {
@@ -64,7 +65,8 @@ fn outers_of(
     class: usize,
     channels: &[Channel],
 ) -> Result<Items<Option<usize>>, AllocError>
-    ensures { IfOk result (λ outers. (m : ModelTree) → AreNumbers m ports.now → outers ≡ map (λ (h : Written). spec.outer_from m class h.ends) channels.now) }
+    ensures { IfOk result (λ outers. (m : ModelTree) → AreNumbers m ports.now →
+        outers ≡ map (λ (h : Written). spec.outer_from m class h.ends) channels.now) }
 {
     let mut outers = Items::new(alloc);
     for channel in channels {
@@ -83,8 +85,9 @@ fn links_of(
     channels: &[Channel],
 ) -> Result<Links, AllocError>
     requires { length instances.now < 2 ^ 32 }
-    ensures { IfOk result (λ links. (m : ModelTree) → AreNumbers m ports.now → parts.now ≡ map (spec.part_of m) instances.now
-        → (i p : ℕ) → linked_in links i p ≡ linked_by (links_from m instances.now 0 channels.now) i p) }
+    ensures { IfOk result (λ links. (m : ModelTree) → AreNumbers m ports.now →
+        parts.now ≡ map (spec.part_of m) instances.now → (i p : ℕ) →
+        linked_in links i p ≡ linked_by (links_from m instances.now 0 channels.now) i p) }
 {
     let naming = Naming {
         parts,
@@ -103,7 +106,8 @@ fn plan_of(
 ) -> Result<Plan, AllocError>
     requires ports { AreNumbers (checked_model checked.now) ports.now }
     requires numbers { NumbersFit (checked_model checked.now) }
-    ensures { IfOk result (λ plan. layout_of plan ≡ class_layout (checked_model checked.now) class) }
+    ensures { IfOk result (λ plan. layout_of plan ≡ class_layout
+        (checked_model checked.now) class) }
 {
     let instances = instances_in(checked, class);
     let channels = channels_in(checked, class);

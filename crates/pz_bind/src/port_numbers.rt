@@ -36,7 +36,8 @@ pub(crate) fn number_instances(
     instances: &[Instance],
 ) -> Result<Numbering, AllocError>
     requires { length instances.now < 2 ^ 32 }
-    ensures { IfOk result (λ numbers. (q : List ℕ) → number_in numbers q ≡ instance_number instances.now q) }
+    ensures { IfOk result (λ numbers. (q : List ℕ) →
+        number_in numbers q ≡ instance_number instances.now q) }
 {
     let mut numbers = Numbering::new(alloc);
     let mut number = 0u32;

@@ -41,7 +41,8 @@ impl<'a> Site<'a> {
     /// The instance of this number in the level.
     pub(crate) fn instance<'b>(&self, checked: &'b Checked, part: usize) -> &'b Instance
         requires { part < length (nest.instances_in (checked_model checked.now) self.now.class) }
-        ensures { slice_get (nest.instances_in (checked_model checked.now) self.now.class) part ≡ Some result.now }
+        ensures { slice_get (nest.instances_in (checked_model checked.now) self.now.class) part ≡
+            Some result.now }
     {
         &instances_in(checked, self.class)[part]
     }
@@ -69,7 +70,10 @@ fn site_at<'a>(
     class: usize,
 ) -> Result<Site<'a>, AllocError>
     requires { IsPlaced (checked_model checked.now) sites.now standing }
-    ensures { IfOk result (λ site. (place : Address) → StandsIn (checked_model checked.now) sites.now (Some standing) place → class ≡ class_at (checked_model checked.now) place → IsSite (checked_model checked.now) place site) }
+    ensures { IfOk result (λ site. (place : Address) →
+        StandsIn (checked_model checked.now) sites.now (Some standing) place →
+        class ≡ class_at (checked_model checked.now) place →
+        IsSite (checked_model checked.now) place site) }
 {
     let up = &sites[standing.level];
     let instance = up.instance(checked, standing.part);
@@ -90,7 +94,10 @@ fn site_of<'a>(
     level: &Level,
 ) -> Result<Site<'a>, AllocError>
     requires { spec.MayStand (checked_model checked.now) sites.now level.now.standing }
-    ensures { IfOk result (λ site. (place : Address) → StandsIn (checked_model checked.now) sites.now level.now.standing place → level.now.class ≡ class_at (checked_model checked.now) place → IsSite (checked_model checked.now) place site) }
+    ensures { IfOk result (λ site. (place : Address) →
+        StandsIn (checked_model checked.now) sites.now level.now.standing place →
+        level.now.class ≡ class_at (checked_model checked.now) place →
+        IsSite (checked_model checked.now) place site) }
 {
     match level.standing {
         None => Ok(Site::system(alloc, level.class)),
@@ -105,7 +112,8 @@ pub(crate) fn sites_of<'a>(
     levels: &[Level],
 ) -> Result<Items<Site<'a>>, AllocError>
     requires { spec.AreLevels (checked_model checked.now) levels.now }
-    ensures { IfOk result (spec.AreSites (checked_model checked.now) (nest.levels (checked_model checked.now))) }
+    ensures { IfOk result (spec.AreSites (checked_model checked.now)
+        (nest.levels (checked_model checked.now))) }
 {
     let mut sites = Items::new(alloc);
     for level in levels {

@@ -54,8 +54,12 @@ impl Expansion {
     /// The wire of a port of a part: the last channel that it reaches. None where it is in no channel
     /// of the part's level.
     pub fn wire(&self, plans: &[Plan], standing: Standing, port: usize) -> Option<usize>
-        ensures { (system : ℕ) (place : Address) → AreLinked (layouts_of plans.now) → IsExpansion (layouts_of plans.now) system self.now → StandsAt (levels (layouts_of plans.now) system) (Some standing) place
-            → MatchOption result (IsInNone (layouts_of plans.now) system (record { place = place; port = port })) (HasWire (layouts_of plans.now) system (record { place = place; port = port })) }
+        ensures { (system : ℕ) (place : Address) → AreLinked (layouts_of plans.now) →
+            IsExpansion (layouts_of plans.now) system self.now →
+            StandsAt (levels (layouts_of plans.now) system) (Some standing) place →
+            MatchOption result (IsInNone (layouts_of plans.now) system
+            (record { place = place; port = port }))
+            (HasWire (layouts_of plans.now) system (record { place = place; port = port })) }
     {
         wire_at(plans, self.levels.as_slice(), standing, port)
     }

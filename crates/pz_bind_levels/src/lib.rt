@@ -3,13 +3,12 @@
 #![tactic(auto)]
 
 mod expansion;
-mod laws;
+pub mod laws;
 mod links;
 mod plan;
 mod walk;
 
 pub use expansion::{Expansion, Level, Process, Standing, Wire};
-pub use laws::ends_share_wires;
 pub use links::Links;
 pub use plan::{LevelPart, Plan};
 pub use walk::expand;

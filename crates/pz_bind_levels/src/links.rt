@@ -37,7 +37,9 @@ impl Links {
 
     /// Puts a port of a part into a channel, unless it is in one. The only error is want of memory.
     pub fn add(&mut self, part: usize, port: usize, channel: usize) -> Result<(), AllocError>
-        ensures { OnOk result ((i p : ℕ) → linked_in self.new i p ≡ option_or (linked_in self.old i p) (if nat_eq i part && nat_eq p port then Some channel else None)) }
+        ensures { OnOk result ((i p : ℕ) → linked_in self.new i p ≡ option_or
+            (linked_in self.old i p) (if nat_eq i part && nat_eq p port then Some channel else
+            None)) }
     {
         if self.get(part, port).is_none() {
             self.map.insert(PartPort { part, port }, channel)?;

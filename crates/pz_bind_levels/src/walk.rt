@@ -58,8 +58,12 @@ fn own_wires(
     class: usize,
     standing: Option<Standing>,
 ) -> Result<Items<usize>, AllocError>
-    ensures own { IfOk result (λ ws. ws ≡ spec.own_wires (spec.wire_above (layouts_of plans.now) levels.now standing) (length wires.old) (layout (layouts_of plans.now) class).outer) }
-    ensures new { OnOk result (wires.new ≡ wires.old ++ spec.new_wires (spec.wire_above (layouts_of plans.now) levels.now standing) (length levels.now) 0 (layout (layouts_of plans.now) class).outer) }
+    ensures own { IfOk result (λ ws. ws ≡ spec.own_wires
+        (spec.wire_above (layouts_of plans.now) levels.now standing) (length wires.old)
+        (layout (layouts_of plans.now) class).outer) }
+    ensures new { OnOk result (wires.new ≡ wires.old ++ spec.new_wires
+        (spec.wire_above (layouts_of plans.now) levels.now standing) (length levels.now) 0
+        (layout (layouts_of plans.now) class).outer) }
 {
     let level = levels.len();
     let mut own = Items::new(alloc);
@@ -81,7 +85,8 @@ impl Walk {
         standing: Option<Standing>,
         below: usize,
     ) -> Result<(), AllocError>
-        ensures { OnOk result (spec.Enters (layouts_of plans.now) class standing below self.old.path.items self.old self.new) }
+        ensures { OnOk result (spec.Enters (layouts_of plans.now) class standing below
+            self.old.path.items self.old self.new) }
     {
         let level = self.levels.len();
         let own = own_wires(
@@ -116,7 +121,8 @@ impl Walk {
         standing: Standing,
         below: usize,
     ) -> Result<(), AllocError>
-        ensures { OnOk result (spec.Visits (layouts_of plans.now) part standing below self.old.path.items self.old self.new) }
+        ensures { OnOk result (spec.Visits (layouts_of plans.now) part standing below
+            self.old.path.items self.old self.new) }
     {
         if part.is_level {
             self.enter(alloc, plans, part.class as usize, Some(standing), below)

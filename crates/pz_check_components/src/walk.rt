@@ -130,7 +130,8 @@ impl Walk {
     /// The vertex comes to the path, as a group of its own, and its edges are to be followed. The
     /// only error is want of memory.
     fn open(&mut self, edges: &[Items<u32>], vertex: usize) -> Result<(), AllocError>
-        ensures { OnOk result (walk_view self.new ≡ spec.opened edges.now (walk_view self.old) vertex) }
+        ensures { OnOk result (walk_view self.new ≡ spec.opened edges.now
+            (walk_view self.old) vertex) }
     {
         let start = self.path.len();
         self.groups.push(Group {
@@ -179,8 +180,9 @@ impl Walk {
 
     /// Follows the next edge, where the last group has one. The only error is want of memory.
     fn follow(&mut self, edges: &[Items<u32>]) -> Result<(), AllocError>
-        ensures { OnOk result (IsWalk edges.now (walk_view self.old) → IsOpenEnded (walk_view self.old)
-            → Advances edges.now (walk_view self.old) (walk_view self.new)) }
+        ensures { OnOk result (IsWalk edges.now (walk_view self.old) →
+            IsOpenEnded (walk_view self.old) → Advances edges.now (walk_view self.old)
+            (walk_view self.new)) }
     {
         let Some(vertex) = self.pending.pop() else {
             return Ok(());
@@ -196,7 +198,8 @@ impl Walk {
     /// One step of the walk. The only error is want of memory.
     pub(crate) fn step(&mut self, edges: &[Items<u32>]) -> Result<(), AllocError>
         requires { IsWalk edges.now (walk_view self.old) }
-        ensures { OnOk result (spec.is_at_end (walk_view self.old) ≡ false → Advances edges.now (walk_view self.old) (walk_view self.new)) }
+        ensures { OnOk result (spec.is_at_end (walk_view self.old) ≡ false →
+            Advances edges.now (walk_view self.old) (walk_view self.new)) }
     {
         match self.followed_group() {
             Some(group) => {

@@ -53,7 +53,8 @@ pub(crate) fn least_again<K: Hash + Eq + Copy>(
     things: &[Thing<K>],
     before: Option<Violation>,
 ) -> Result<Option<Violation>, AllocError>
-    ensures { IfOk result (λ least. least ≡ least_from before (repeats (same_key K.eq) thing_place rule things.now)) }
+    ensures { IfOk result (λ least. least ≡ least_from before
+        (repeats (same_key K.eq) thing_place rule things.now)) }
 {
     let mut places = IndexMap::new(alloc);
     let mut least = before;

@@ -22,8 +22,11 @@ fn declare<'a>(
     name: &Thing<&'a [u8]>,
     before: Option<Violation>,
 ) -> Result<Option<Violation>, AllocError>
-    ensures known { (own : List Id) (outer : List (List Id)) → Knows (own ∷ outer) known.old → OnOk result (Knows ((own ++ (id_of name.now ∷ [])) ∷ outer) known.new) }
-    ensures found { (names : List (List Id)) → Knows names known.old → IfOk result (λ least. least ≡ least_from before (later_of 4 (earliest None name.now.key.now (spread names)) name.now.place)) }
+    ensures known { (own : List Id) (outer : List (List Id)) → Knows (own ∷ outer) known.old →
+        OnOk result (Knows ((own ++ (id_of name.now ∷ [])) ∷ outer) known.new) }
+    ensures found { (names : List (List Id)) → Knows names known.old →
+        IfOk result (λ least. least ≡ least_from before
+        (later_of 4 (earliest None name.now.key.now (spread names)) name.now.place)) }
 {
     let first = known.get(name.key);
     known.note(name.key, earlier_place(first, name.place))?;
@@ -36,8 +39,11 @@ pub(crate) fn declare_all<'a>(
     names: &[Thing<&'a [u8]>],
     before: Option<Violation>,
 ) -> Result<Option<Violation>, AllocError>
-    ensures known { (own : List Id) (outer : List (List Id)) → Knows (own ∷ outer) known.old → OnOk result (Knows ((own ++ map id_of names.now) ∷ outer) known.new) }
-    ensures found { (own : List Id) (outer : List (List Id)) → Knows (own ∷ outer) known.old → IfOk result (λ least. least ≡ least_from before (found_in (spread (own ∷ outer)) (map id_of names.now))) }
+    ensures known { (own : List Id) (outer : List (List Id)) → Knows (own ∷ outer) known.old →
+        OnOk result (Knows ((own ++ map id_of names.now) ∷ outer) known.new) }
+    ensures found { (own : List Id) (outer : List (List Id)) → Knows (own ∷ outer) known.old →
+        IfOk result (λ least. least ≡ least_from before
+        (found_in (spread (own ∷ outer)) (map id_of names.now))) }
 {
     let mut least = before;
     for name in names {

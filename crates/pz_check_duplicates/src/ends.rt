@@ -64,7 +64,8 @@ fn least_end(
     channels: &[Channel],
     before: Option<Violation>,
 ) -> Result<Option<Violation>, AllocError>
-    ensures { IfOk result (λ least. least ≡ least_from before (repeats same_end end_place 17 (flat_map (λ (h : Tree). h.ends) channels.now))) }
+    ensures { IfOk result (λ least. least ≡ least_from before
+        (repeats same_end end_place 17 (flat_map (λ (h : Tree). h.ends) channels.now))) }
 {
     let mut things = Items::new(alloc);
     for channel in channels {

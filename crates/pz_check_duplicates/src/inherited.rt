@@ -23,7 +23,8 @@ pub(crate) enum Inherited {
 }
 
 fn push_fields<'a>(names: &mut Items<Thing<&'a [u8]>>, decl: &'a Decl) -> Result<(), AllocError>
-    ensures { OnOk result (map id_of names.new ≡ map id_of names.old ++ own_of Fields (decl_view decl.now)) }
+    ensures { OnOk result (map id_of names.new ≡ map id_of names.old ++ own_of Fields
+        (decl_view decl.now)) }
 {
     match decl {
         Decl::Data(class) => push_section(names, &class.variables),
@@ -32,7 +33,8 @@ fn push_fields<'a>(names: &mut Items<Thing<&'a [u8]>>, decl: &'a Decl) -> Result
 }
 
 fn push_variables<'a>(names: &mut Items<Thing<&'a [u8]>>, decl: &'a Decl) -> Result<(), AllocError>
-    ensures { OnOk result (map id_of names.new ≡ map id_of names.old ++ own_of Variables (decl_view decl.now)) }
+    ensures { OnOk result (map id_of names.new ≡ map id_of names.old ++ own_of Variables
+        (decl_view decl.now)) }
 {
     match decl {
         Decl::Process(class) => {
@@ -44,7 +46,8 @@ fn push_variables<'a>(names: &mut Items<Thing<&'a [u8]>>, decl: &'a Decl) -> Res
 }
 
 fn push_ports<'a>(names: &mut Items<Thing<&'a [u8]>>, decl: &'a Decl) -> Result<(), AllocError>
-    ensures { OnOk result (map id_of names.new ≡ map id_of names.old ++ own_of Ports (decl_view decl.now)) }
+    ensures { OnOk result (map id_of names.new ≡ map id_of names.old ++ own_of Ports
+        (decl_view decl.now)) }
 {
     match decl {
         Decl::Process(class) => push_optional(names, &class.ports),
@@ -59,7 +62,8 @@ fn push_own<'a>(
     decl: &'a Decl,
     sort: Inherited,
 ) -> Result<(), AllocError>
-    ensures { OnOk result (map id_of names.new ≡ map id_of names.old ++ own_of sort (decl_view decl.now)) }
+    ensures { OnOk result (map id_of names.new ≡ map id_of names.old ++ own_of sort
+        (decl_view decl.now)) }
 {
     match sort {
         Inherited::Fields => push_fields(names, decl),

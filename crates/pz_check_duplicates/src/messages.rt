@@ -75,7 +75,8 @@ pub(crate) fn least_message(
     decl: &Decl,
     before: Option<Violation>,
 ) -> Result<Option<Violation>, AllocError>
-    ensures { IfOk result (λ least. least ≡ least_from before (repeats same_message message_place 4 (own_messages (decl_view decl.now)))) }
+    ensures { IfOk result (λ least. least ≡ least_from before
+        (repeats same_message message_place 4 (own_messages (decl_view decl.now)))) }
 {
     let things = message_things(alloc, messages_of(decl))?;
     least_again(alloc, 4, things.as_slice(), before)

@@ -36,7 +36,8 @@ fn data_things<'a>(
     methods: &'a [DataMethod],
 ) -> Result<Items<Thing<MethodKey<'a>>>, AllocError>
     requires { All (λ r. length (section r.inputs) < 2 ^ 32) methods.now }
-    ensures { IfOk result (λ things. map heading_of things ≡ map data_heading (map data_method_view methods.now)) }
+    ensures { IfOk result (λ things. map heading_of things ≡ map data_heading
+        (map data_method_view methods.now)) }
 {
     let mut things = Items::new(alloc);
     for method in methods {
@@ -57,7 +58,8 @@ fn process_things<'a>(
 ) -> Result<Items<Thing<MethodKey<'a>>>, AllocError>
     requires inputs { All (λ r. length (grouped r.inputs) < 2 ^ 32) methods.now }
     requires outputs { All (λ r. length (grouped r.outputs) < 2 ^ 32) methods.now }
-    ensures { IfOk result (λ things. map heading_of things ≡ map process_heading (map process_method_view methods.now)) }
+    ensures { IfOk result (λ things. map heading_of things ≡ map process_heading
+        (map process_method_view methods.now)) }
 {
     let mut things = Items::new(alloc);
     for method in methods {
@@ -99,7 +101,8 @@ pub(crate) fn least_method(
     before: Option<Violation>,
 ) -> Result<Option<Violation>, AllocError>
     requires { length (decl_text (decl_view decl.now)) < 2 ^ 32 }
-    ensures { IfOk result (λ least. least ≡ least_from before (repeats same_heading heading_place 4 (headings (decl_view decl.now)))) }
+    ensures { IfOk result (λ least. least ≡ least_from before
+        (repeats same_heading heading_place 4 (headings (decl_view decl.now)))) }
 {
     let things = method_things(alloc, decl)?;
     least_again(alloc, 4, things.as_slice(), before)

@@ -83,7 +83,8 @@ pub(crate) fn least_name(
     names: &[Thing<&[u8]>],
     before: Option<Violation>,
 ) -> Result<Option<Violation>, AllocError>
-    ensures { IfOk result (λ least. least ≡ least_from before (repeats same_name id_place 4 (map id_of names.now))) }
+    ensures { IfOk result (λ least. least ≡ least_from before
+        (repeats same_name id_place 4 (map id_of names.now))) }
 {
     least_again(alloc, 4, names, before)
 }
@@ -94,7 +95,8 @@ pub(crate) fn least_id(
     ids: &[Id],
     before: Option<Violation>,
 ) -> Result<Option<Violation>, AllocError>
-    ensures { IfOk result (λ least. least ≡ least_from before (repeats same_name id_place 4 ids.now)) }
+    ensures { IfOk result (λ least. least ≡ least_from before
+        (repeats same_name id_place 4 ids.now)) }
 {
     let mut names = Items::new(alloc);
     push_ids(&mut names, ids)?;
@@ -107,7 +109,8 @@ pub(crate) fn least_instance(
     instances: &[Instance],
     before: Option<Violation>,
 ) -> Result<Option<Violation>, AllocError>
-    ensures { IfOk result (λ least. least ≡ least_from before (repeats same_name id_place 4 (map (λ (i : Tree). i.name) instances.now))) }
+    ensures { IfOk result (λ least. least ≡ least_from before
+        (repeats same_name id_place 4 (map (λ (i : Tree). i.name) instances.now))) }
 {
     let mut names = Items::new(alloc);
     for instance in instances {

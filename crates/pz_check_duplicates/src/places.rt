@@ -42,7 +42,9 @@ pub(crate) fn note<K: Hash + Eq + Copy>(
     thing: &Thing<K>,
 ) -> Result<Option<Pos>, AllocError>
     ensures first { IfOk result (λ first. first ≡ get K.eq places.old thing.now.key) }
-    ensures noted { OnOk result ((key : K) → get K.eq places.new key ≡ (if K.eq key thing.now.key then earlier (get K.eq places.old key) thing.now.place else get K.eq places.old key)) }
+    ensures noted { OnOk result ((key : K) → get K.eq places.new key ≡
+        (if K.eq key thing.now.key then earlier (get K.eq places.old key) thing.now.place else get
+        K.eq places.old key)) }
 {
     let first = places.get(&thing.key).copied();
     let place = earlier_place(first, thing.place);

@@ -27,7 +27,8 @@ fn least_local(
     decl: &Decl,
     before: Option<Violation>,
 ) -> Result<Option<Violation>, AllocError>
-    ensures { IfOk result (λ least. least ≡ least_from before (of_parts (parts (decl_view decl.now)))) }
+    ensures { IfOk result (λ least. least ≡ least_from before
+        (of_parts (parts (decl_view decl.now)))) }
 {
     let parts = parts_of(alloc, decl)?;
     let mut least = before;
@@ -60,7 +61,8 @@ fn least_of_each(
     before: Option<Violation>,
 ) -> Result<Option<Violation>, AllocError>
     requires { HasFewMarks (record { decls = map decl_view decls.now }) }
-    ensures { IfOk result (λ least. least ≡ least_from before (flat_map (λ d. of_own (decl_view d)) decls.now)) }
+    ensures { IfOk result (λ least. least ≡ least_from before
+        (flat_map (λ d. of_own (decl_view d)) decls.now)) }
 {
     let mut least = before;
     for decl in decls {

@@ -18,7 +18,8 @@ const THE_SYSTEM: u8 = 20;
 
 /// Where systems stand. The only error is want of memory.
 fn system_things(alloc: Global, model: &Model) -> Result<Items<Thing<Alike>>, AllocError>
-    ensures { IfOk result (λ things. map thing_place things ≡ map system_place (systems (model_view model.now))) }
+    ensures { IfOk result (λ things. map thing_place things ≡ map system_place
+        (systems (model_view model.now))) }
 {
     let mut things = Items::new(alloc);
     for decl in model.decls.as_slice() {

@@ -26,8 +26,11 @@ fn enter<'a>(
     known: &mut Nested<&'a [u8], Pos>,
     before: Option<Violation>,
 ) -> Result<Option<Violation>, AllocError>
-    ensures known { (outer : List (List Id)) → Knows outer known.old → OnOk result (Knows (own_at sort (model_view model.now) class ∷ outer) known.new) }
-    ensures found { (outer : List (List Id)) → Knows outer known.old → IfOk result (λ least. least ≡ least_from before (found_in (spread outer) (own_at sort (model_view model.now) class))) }
+    ensures known { (outer : List (List Id)) → Knows outer known.old →
+        OnOk result (Knows (own_at sort (model_view model.now) class ∷ outer) known.new) }
+    ensures found { (outer : List (List Id)) → Knows outer known.old →
+        IfOk result (λ least. least ≡ least_from before
+        (found_in (spread outer) (own_at sort (model_view model.now) class))) }
 {
     let names = own_names(alloc, model, class, sort)?;
     known.open()?;
@@ -44,7 +47,8 @@ pub(crate) fn least_inherited(
     before: Option<Violation>,
 ) -> Result<Option<Violation>, AllocError>
     requires { IsPreorderOf (model_view model.now) visits.now }
-    ensures { IfOk result (λ least. least ≡ least_from before (of_visits (model_view model.now) sort visits.now)) }
+    ensures { IfOk result (λ least. least ≡ least_from before
+        (of_visits (model_view model.now) sort visits.now)) }
 {
     let mut known = Nested::new(alloc);
     let mut least = before;

@@ -26,7 +26,8 @@ impl<T: Copy> ByClass<T> {
     pub(crate) fn add(&mut self, class: u32, thing: T) -> Result<(), AllocError>
         requires { class < row_count self.old }
         ensures counted { OnOk result (row_count self.new ≡ row_count self.old) }
-        ensures added { OnOk result ((k : ℕ) → row self.new k ≡ row self.old k ++ (if class == k then thing ∷ [] else [])) }
+        ensures added { OnOk result ((k : ℕ) → row self.new k ≡ row self.old k ++
+            (if class == k then thing ∷ [] else [])) }
     {
         self.rows[class as usize].push(thing)?;
         Ok(())

@@ -71,8 +71,12 @@ impl<'a> Search<'a> {
         requires within { inside.now.number ≤ length model.now.decls }
         requires placed { IsInside inside.now }
         ensures counted { OnOk result (search_count self.new ≡ search_count self.old) }
-        ensures asked { OnOk result ((k : ℕ) → wanted_of self.new k ≡ wanted_of self.old k ++ wanted_at (model_view model.now) k inside.now.number (decl_view inside.now.decl.now) end.now) }
-        ensures least { OnOk result (self.new.least ≡ least_from self.old.least (missing_at (model_view model.now) inside.now.number (decl_view inside.now.decl.now) end.now)) }
+        ensures asked { OnOk result ((k : ℕ) → wanted_of self.new k ≡
+            wanted_of self.old k ++ wanted_at (model_view model.now) k inside.now.number
+            (decl_view inside.now.decl.now) end.now) }
+        ensures least { OnOk result (self.new.least ≡ least_from self.old.least
+            (missing_at (model_view model.now) inside.now.number
+            (decl_view inside.now.decl.now) end.now)) }
     {
         let place = place(end);
         match inside.need(model, classes, end) {
@@ -105,8 +109,12 @@ impl<'a> Search<'a> {
         requires within { inside.now.number ≤ length model.now.decls }
         requires placed { IsInside inside.now }
         ensures counted { OnOk result (search_count self.new ≡ search_count self.old) }
-        ensures asked { OnOk result ((k : ℕ) → wanted_of self.new k ≡ wanted_of self.old k ++ flat_map (wanted_at (model_view model.now) k inside.now.number (decl_view inside.now.decl.now)) ends.now) }
-        ensures least { OnOk result (self.new.least ≡ least_from self.old.least (flat_map (missing_at (model_view model.now) inside.now.number (decl_view inside.now.decl.now)) ends.now)) }
+        ensures asked { OnOk result ((k : ℕ) → wanted_of self.new k ≡
+            wanted_of self.old k ++ flat_map (wanted_at (model_view model.now) k inside.now.number
+            (decl_view inside.now.decl.now)) ends.now) }
+        ensures least { OnOk result (self.new.least ≡ least_from self.old.least
+            (flat_map (missing_at (model_view model.now) inside.now.number
+            (decl_view inside.now.decl.now)) ends.now)) }
     {
         for end in ends {
             self.add_end(model, classes, inside, end)?;
@@ -128,8 +136,12 @@ impl<'a> Search<'a> {
         requires within { number ≤ length model.now.decls }
         requires marks { length (decl_text (decl_view decl.now)) < 2 ^ 32 }
         ensures counted { OnOk result (search_count self.new ≡ search_count self.old) }
-        ensures asked { OnOk result ((k : ℕ) → wanted_of self.new k ≡ wanted_of self.old k ++ flat_map (wanted_at (model_view model.now) k number (decl_view decl.now)) (rules.ends (decl_view decl.now))) }
-        ensures least { OnOk result (self.new.least ≡ least_from self.old.least (flat_map (missing_at (model_view model.now) number (decl_view decl.now)) (rules.ends (decl_view decl.now)))) }
+        ensures asked { OnOk result ((k : ℕ) → wanted_of self.new k ≡
+            wanted_of self.old k ++ flat_map (wanted_at (model_view model.now) k number
+            (decl_view decl.now)) (rules.ends (decl_view decl.now))) }
+        ensures least { OnOk result (self.new.least ≡ least_from self.old.least
+            (flat_map (missing_at (model_view model.now) number (decl_view decl.now))
+            (rules.ends (decl_view decl.now)))) }
     {
         let places = places_of(alloc, instances_of(decl))?;
         let inside = Inside {
@@ -154,8 +166,11 @@ fn search_ends<'a>(
     requires few { HasFewMarks (model_view model.now) }
     requires classes { AreClasses (model_view model.now) classes.now }
     ensures counted { IfOk result (λ found. search_count found ≡ suc (length model.now.decls)) }
-    ensures asked { IfOk result (λ found. (k : ℕ) → wanted_of found k ≡ over (wanted_at (model_view model.now) k) 1 (map decl_view model.now.decls)) }
-    ensures least { IfOk result (λ found. found.least ≡ least_from None (over (missing_at (model_view model.now)) 1 (map decl_view model.now.decls))) }
+    ensures asked { IfOk result (λ found. (k : ℕ) →
+        wanted_of found k ≡ over (wanted_at (model_view model.now) k) 1
+        (map decl_view model.now.decls)) }
+    ensures least { IfOk result (λ found. found.least ≡ least_from None
+        (over (missing_at (model_view model.now)) 1 (map decl_view model.now.decls))) }
 {
     let mut found = Search {
         asked: ByClass::new(alloc, classes.count())?,
@@ -187,7 +202,8 @@ fn least_of_asked(ports: &NameSet, asked: &Asked, before: Option<Violation>) -> 
 /// The least of what was found before and the violations at ends, where the port that they ask for
 /// is none of these.
 fn least_of_class(ports: &NameSet, asked: &[Asked], before: Option<Violation>) -> Option<Violation>
-    ensures { result ≡ least_from before (flat_map (λ a. absent (names_in ports.now) (wanted a)) asked.now) }
+    ensures { result ≡ least_from before (flat_map
+        (λ a. absent (names_in ports.now) (wanted a)) asked.now) }
 {
     let mut least = before;
     for one in asked {

@@ -22,7 +22,8 @@ use std::alloc::{AllocError, Global};
 
 /// Whether each of these names is wanted, and none is given twice. The only error is want of memory.
 fn all_new(alloc: Global, given: &[Given], wanted: &NameSet) -> Result<bool, AllocError>
-    ensures { IfOk result (λ are. are ≡ spec.all_new (names_in wanted.now) [] (map (λ g. g.name.name) given.now)) }
+    ensures { IfOk result (λ are. are ≡ spec.all_new (names_in wanted.now) []
+        (map (λ g. g.name.name) given.now)) }
 {
     let mut seen = NameSet::new(alloc);
     for item in given {
@@ -40,7 +41,8 @@ fn all_new(alloc: Global, given: &[Given], wanted: &NameSet) -> Result<bool, All
 /// Whether an instance gives each of the wanted names once, and no other: as many as there are,
 /// and all of them different. The only error is want of memory.
 fn gives_each(alloc: Global, instance: &Instance, wanted: &NameSet) -> Result<bool, AllocError>
-    ensures { IfOk result (λ gives. gives ≡ gives_wanted (given_names instance.now) (names_in wanted.now)) }
+    ensures { IfOk result (λ gives. gives ≡ gives_wanted (given_names instance.now)
+        (names_in wanted.now)) }
 {
     let given = given_of(instance);
     if given.len() != wanted.len() {
@@ -57,7 +59,8 @@ fn least_of_instance(
     instance: &Instance,
     before: Option<Violation>,
 ) -> Result<Option<Violation>, AllocError>
-    ensures { IfOk result (λ least. least ≡ least_from before (lacking (names_in wanted.now) instance.now)) }
+    ensures { IfOk result (λ least. least ≡ least_from before
+        (lacking (names_in wanted.now) instance.now)) }
 {
     if gives_each(alloc, instance, wanted)? {
         return Ok(before);
@@ -77,7 +80,8 @@ fn least_of_class(
     instances: &[&Instance],
     before: Option<Violation>,
 ) -> Result<Option<Violation>, AllocError>
-    ensures { IfOk result (λ least. least ≡ least_from before (flat_map (λ i. lacking (names_in wanted.now) i.now) instances.now)) }
+    ensures { IfOk result (λ least. least ≡ least_from before
+        (flat_map (λ i. lacking (names_in wanted.now) i.now) instances.now)) }
 {
     let mut least = before;
     for instance in instances {
@@ -97,7 +101,8 @@ fn add_instance<'a>(
     requires known { AreClasses (model_view model.now) classes.now }
     requires rows { row_count rows.old ≡ suc (length model.now.decls) }
     ensures counted { OnOk result (row_count rows.new ≡ row_count rows.old) }
-    ensures added { OnOk result ((k : ℕ) → map (λ i. i.now) (row rows.new k) ≡ map (λ i. i.now) (row rows.old k) ++ if_of_class (model_view model.now) k instance.now) }
+    ensures added { OnOk result ((k : ℕ) → map (λ i. i.now) (row rows.new k) ≡ map (λ i. i.now)
+        (row rows.old k) ++ if_of_class (model_view model.now) k instance.now) }
 {
     match class_of_instance(model, classes, &instance.class.name) {
         Some(class) => rows.add(class.0, instance),
@@ -115,7 +120,8 @@ fn add_instances<'a>(
     requires known { AreClasses (model_view model.now) classes.now }
     requires rows { row_count rows.old ≡ suc (length model.now.decls) }
     ensures counted { OnOk result (row_count rows.new ≡ row_count rows.old) }
-    ensures added { OnOk result ((k : ℕ) → map (λ i. i.now) (row rows.new k) ≡ map (λ i. i.now) (row rows.old k) ++ of_class (model_view model.now) k instances.now) }
+    ensures added { OnOk result ((k : ℕ) → map (λ i. i.now) (row rows.new k) ≡ map (λ i. i.now)
+        (row rows.old k) ++ of_class (model_view model.now) k instances.now) }
 {
     for instance in instances {
         add_instance(rows, model, classes, instance)?;
@@ -131,7 +137,9 @@ fn instances_by_class<'a>(
 ) -> Result<ByClass<&'a Instance>, AllocError>
     requires { AreClasses (model_view model.now) classes.now }
     ensures counted { IfOk result (λ rows. row_count rows ≡ suc (length model.now.decls)) }
-    ensures listed { IfOk result (λ rows. (k : ℕ) → map (λ i. i.now) (row rows k) ≡ of_class (model_view model.now) k (all_instances (model_view model.now))) }
+    ensures listed { IfOk result (λ rows. (k : ℕ) →
+        map (λ i. i.now) (row rows k) ≡ of_class (model_view model.now) k
+        (all_instances (model_view model.now))) }
 {
     let mut rows = ByClass::new(alloc, classes.count())?;
     for decl in model.decls.as_slice() {

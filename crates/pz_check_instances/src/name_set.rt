@@ -38,7 +38,8 @@ impl<'a> NameSet<'a> {
     /// Adds a name, and tells whether it is new. The only error is want of memory.
     pub(crate) fn add(&mut self, name: &'a [u8]) -> Result<bool, AllocError>
         ensures added { OnOk result (names_in self.new ≡ with_name (names_in self.old) name.now) }
-        ensures fresh { IfOk result (λ is_new. is_new ≡ not (has_name (names_in self.old) name.now)) }
+        ensures fresh { IfOk result (λ is_new. is_new ≡ not
+            (has_name (names_in self.old) name.now)) }
     {
         Ok(self.set.insert(name)?)
     }
@@ -55,7 +56,8 @@ impl<'a> NameSet<'a> {
 
     /// Adds the names of these groups. The only error is want of memory.
     pub(crate) fn add_groups(&mut self, groups: &'a [VarGroup]) -> Result<(), AllocError>
-        ensures { OnOk result (names_in self.new ≡ with_all (names_in self.old) (spelled (grouped groups.now))) }
+        ensures { OnOk result (names_in self.new ≡ with_all (names_in self.old)
+            (spelled (grouped groups.now))) }
     {
         for group in groups {
             self.add_ids(group.names.as_slice())?;

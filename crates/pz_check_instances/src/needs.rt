@@ -38,7 +38,8 @@ pub(crate) struct Inside<'a> {
 /// want of memory.
 pub(crate) fn places_of(alloc: Global, instances: &[Instance]) -> Result<Numbering, AllocError>
     requires { length instances.now < 2 ^ 32 }
-    ensures { IfOk result (λ places. (q : List ℕ) → number_in places q ≡ place_named 0 instances.now q) }
+    ensures { IfOk result (λ places. (q : List ℕ) →
+        number_in places q ≡ place_named 0 instances.now q) }
 {
     let mut places = Numbering::new(alloc);
     let mut place = 0u32;
@@ -70,7 +71,8 @@ impl Inside<'_> {
     /// The instance of this name.
     fn instance(&self, name: &Name) -> Option<&Instance>
         requires { IsInside self.now }
-        ensures { option_copied result ≡ rules.instance_named (decl_view self.now.decl.now) name.now }
+        ensures { option_copied result ≡ rules.instance_named
+            (decl_view self.now.decl.now) name.now }
     {
         let place = self.places.get(name.as_str().as_bytes())?;
         instance_at(instances_of(self.decl), place)
@@ -80,7 +82,8 @@ impl Inside<'_> {
     fn need_of_inner(&self, model: &Model, classes: &Classes, name: &Name) -> Need
         requires known { AreClasses (model_view model.now) classes.now }
         requires placed { IsInside self.now }
-        ensures { result ≡ spec.need_of_inner (model_view model.now) (decl_view self.now.decl.now) name.now }
+        ensures { result ≡ spec.need_of_inner (model_view model.now)
+            (decl_view self.now.decl.now) name.now }
     {
         match self.instance(name) {
             Some(instance) => need_of_instance(model, classes, instance),
@@ -102,7 +105,8 @@ impl Inside<'_> {
     pub(crate) fn need(&self, model: &Model, classes: &Classes, end: &ChannelEnd) -> Need
         requires known { AreClasses (model_view model.now) classes.now }
         requires placed { IsInside self.now }
-        ensures { result ≡ spec.need (model_view model.now) self.now.number (decl_view self.now.decl.now) end.now }
+        ensures { result ≡ spec.need (model_view model.now) self.now.number
+            (decl_view self.now.decl.now) end.now }
     {
         match end {
             ChannelEnd::Inner(name, _) => self.need_of_inner(model, classes, &name.name),

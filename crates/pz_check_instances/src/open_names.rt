@@ -32,7 +32,8 @@ impl<'a> OpenNames<'a> {
 
     /// Leaves all classes but the outermost so many.
     fn close_to(&mut self, depth: usize)
-        ensures { (scopes : List (List (List ℕ))) → HasOpen scopes self.old → HasOpen (outermost depth scopes) self.new }
+        ensures { (scopes : List (List (List ℕ))) → HasOpen scopes self.old →
+            HasOpen (outermost depth scopes) self.new }
     {
         if depth < self.starts.len() {
             let start = self.starts[depth];
@@ -44,7 +45,8 @@ impl<'a> OpenNames<'a> {
     /// Opens a class that has so many ancestors, which stay open; the others are left. The only
     /// error is want of memory.
     pub(crate) fn enter(&mut self, depth: usize) -> Result<(), AllocError>
-        ensures { (scopes : List (List (List ℕ))) → HasOpen scopes self.old → OnOk result (HasOpen ([] ∷ outermost depth scopes) self.new) }
+        ensures { (scopes : List (List (List ℕ))) → HasOpen scopes self.old →
+            OnOk result (HasOpen ([] ∷ outermost depth scopes) self.new) }
     {
         self.close_to(depth);
         self.starts.push(self.names.len())?;
@@ -53,7 +55,9 @@ impl<'a> OpenNames<'a> {
 
     /// Adds what the innermost class declares in these groups. The only error is want of memory.
     pub(crate) fn add_groups(&mut self, groups: &'a [VarGroup]) -> Result<(), AllocError>
-        ensures { (scope : List (List ℕ)) (outer : List (List (List ℕ))) → HasOpen (scope ∷ outer) self.old → OnOk result (HasOpen ((scope ++ spelled (grouped groups.now)) ∷ outer) self.new) }
+        ensures { (scope : List (List ℕ)) (outer : List (List (List ℕ))) →
+            HasOpen (scope ∷ outer) self.old → OnOk result
+            (HasOpen ((scope ++ spelled (grouped groups.now)) ∷ outer) self.new) }
     {
         self.names.add_groups(groups)?;
         Ok(())
@@ -61,7 +65,9 @@ impl<'a> OpenNames<'a> {
 
     /// Adds these that the innermost class declares. The only error is want of memory.
     pub(crate) fn add_ids(&mut self, ids: &'a [Id]) -> Result<(), AllocError>
-        ensures { (scope : List (List ℕ)) (outer : List (List (List ℕ))) → HasOpen (scope ∷ outer) self.old → OnOk result (HasOpen ((scope ++ spelled ids.now) ∷ outer) self.new) }
+        ensures { (scope : List (List ℕ)) (outer : List (List (List ℕ))) →
+            HasOpen (scope ∷ outer) self.old → OnOk result
+            (HasOpen ((scope ++ spelled ids.now) ∷ outer) self.new) }
     {
         self.names.add_ids(ids)?;
         Ok(())
@@ -69,7 +75,8 @@ impl<'a> OpenNames<'a> {
 
     /// The names of all classes that are open.
     pub(crate) fn names(&self) -> &NameSet<'a>
-        ensures { (scopes : List (List (List ℕ))) → HasOpen scopes self.now → names_in result.now ≡ kept scopes }
+        ensures { (scopes : List (List (List ℕ))) → HasOpen scopes self.now →
+            names_in result.now ≡ kept scopes }
     {
         &self.names
     }

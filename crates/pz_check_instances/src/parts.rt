@@ -48,7 +48,8 @@ fn own_ports(decl: &Decl) -> &[Id]
 
 /// The parameters that the class of this number itself declares.
 pub(crate) fn parameters_at(model: &Model, class: u32) -> &[VarGroup]
-    ensures { grouped result.now ≡ option_map_or spec.own_parameters (declared (model_view model.now) class) [] }
+    ensures { grouped result.now ≡ option_map_or spec.own_parameters
+        (declared (model_view model.now) class) [] }
 {
     match declaration(model, class) {
         Some(decl) => own_parameters(decl),
@@ -58,7 +59,8 @@ pub(crate) fn parameters_at(model: &Model, class: u32) -> &[VarGroup]
 
 /// The ports that the class of this number itself declares.
 pub(crate) fn ports_at(model: &Model, class: u32) -> &[Id]
-    ensures { result.now ≡ option_map_or members.own_ports (declared (model_view model.now) class) [] }
+    ensures { result.now ≡ option_map_or members.own_ports
+        (declared (model_view model.now) class) [] }
 {
     match declaration(model, class) {
         Some(decl) => own_ports(decl),

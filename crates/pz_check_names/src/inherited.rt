@@ -38,7 +38,9 @@ pub(crate) struct Inherited<'a> {
 
 /// Notes that there is an `init`, if there is one. The only error is want of memory.
 fn note_start(starts: &mut Nested<(), ()>, start: &Option<Start>) -> Result<(), AllocError>
-    ensures { (outer : List (List StartTree)) → ShowsStarts ([] ∷ outer) starts.old → OnOk result (ShowsStarts (option_to_list (option_map start_view start.now) ∷ outer) starts.new) }
+    ensures { (outer : List (List StartTree)) → ShowsStarts ([] ∷ outer) starts.old →
+        OnOk result (ShowsStarts (option_to_list (option_map start_view start.now) ∷ outer)
+        starts.new) }
 {
     let Some(_) = start else {
         return Ok(());
@@ -64,7 +66,8 @@ impl<'a> Inherited<'a> {
 
     /// Leaves all classes but the outermost so many.
     fn close_to(&mut self, depth: usize)
-        ensures { (decls : List (Option Tree)) → AreOpen decls self.old → AreOpen (outermost depth decls) self.new }
+        ensures { (decls : List (Option Tree)) → AreOpen decls self.old →
+            AreOpen (outermost depth decls) self.new }
     {
         self.fields.close_to(depth);
         self.variables.close_to(depth);
@@ -76,7 +79,8 @@ impl<'a> Inherited<'a> {
 
     /// Opens a class that declares nothing so far. The only error is want of memory.
     fn open(&mut self) -> Result<(), AllocError>
-        ensures { (decls : List (Option Tree)) → AreOpen decls self.old → OnOk result (AreOpen (None ∷ decls) self.new) }
+        ensures { (decls : List (Option Tree)) → AreOpen decls self.old →
+            OnOk result (AreOpen (None ∷ decls) self.new) }
     {
         self.fields.open()?;
         self.variables.open()?;
@@ -89,9 +93,13 @@ impl<'a> Inherited<'a> {
 
     /// Notes what a process class declares itself. The only error is want of memory.
     fn note_process(&mut self, class: &'a ProcessClass) -> Result<(), AllocError>
-        requires inputs { All (λ r. length (grouped r.inputs) < 2 ^ 32) (unwrap_or class.now.methods []) }
-        requires outputs { All (λ r. length (grouped r.outputs) < 2 ^ 32) (unwrap_or class.now.methods []) }
-        ensures { (outer : List (Option Tree)) → AreOpen (None ∷ outer) self.old → OnOk result (AreOpen (Some (process_class (process_class_view class.now)) ∷ outer) self.new) }
+        requires inputs { All (λ r. length (grouped r.inputs) < 2 ^ 32)
+            (unwrap_or class.now.methods []) }
+        requires outputs { All (λ r. length (grouped r.outputs) < 2 ^ 32)
+            (unwrap_or class.now.methods []) }
+        ensures { (outer : List (Option Tree)) → AreOpen (None ∷ outer) self.old →
+            OnOk result (AreOpen (Some (process_class (process_class_view class.now)) ∷ outer)
+            self.new) }
     {
         note_section(&mut self.variables, &class.parameters)?;
         note_section(&mut self.variables, &class.variables)?;
@@ -105,7 +113,8 @@ impl<'a> Inherited<'a> {
     /// Notes what a class declares itself. The only error is want of memory.
     fn note_own(&mut self, decl: &'a Decl) -> Result<(), AllocError>
         requires { length (decl_text (decl_view decl.now)) < 2 ^ 32 }
-        ensures { (outer : List (Option Tree)) → AreOpen (None ∷ outer) self.old → OnOk result (AreOpen (Some (decl_view decl.now) ∷ outer) self.new) }
+        ensures { (outer : List (Option Tree)) → AreOpen (None ∷ outer) self.old →
+            OnOk result (AreOpen (Some (decl_view decl.now) ∷ outer) self.new) }
     {
         match decl {
             Decl::Data(class) => note_section(&mut self.fields, &class.variables),
@@ -119,7 +128,9 @@ impl<'a> Inherited<'a> {
     /// memory.
     pub(crate) fn enter(&mut self, model: &'a Model, visit: Visit) -> Result<(), AllocError>
         requires { HasFewMarks (model_view model.now) }
-        ensures { (line : List ℕ) → IsOpen (model_view model.now) line self.old → OnOk result (IsOpen (model_view model.now) (visit.class ∷ outermost visit.depth line) self.new) }
+        ensures { (line : List ℕ) → IsOpen (model_view model.now) line self.old →
+            OnOk result (IsOpen (model_view model.now)
+            (visit.class ∷ outermost visit.depth line) self.new) }
     {
         self.close_to(visit.depth);
         self.open()?;
@@ -131,21 +142,24 @@ impl<'a> Inherited<'a> {
 
     /// Whether a data class has this field.
     pub(crate) fn has_field(&self, name: &Name) -> bool
-        ensures { (m : ModelTree) (line : List ℕ) → IsOpen m line self.now → result ≡ is_among (from_root own_fields m line) name.now }
+        ensures { (m : ModelTree) (line : List ℕ) → IsOpen m line self.now →
+            result ≡ is_among (from_root own_fields m line) name.now }
     {
         has_name(&self.fields, name)
     }
 
     /// Whether a process class has this parameter or variable.
     pub(crate) fn has_variable(&self, name: &Name) -> bool
-        ensures { (m : ModelTree) (line : List ℕ) → IsOpen m line self.now → result ≡ is_among (from_root own_variables m line) name.now }
+        ensures { (m : ModelTree) (line : List ℕ) → IsOpen m line self.now →
+            result ≡ is_among (from_root own_variables m line) name.now }
     {
         has_name(&self.variables, name)
     }
 
     /// Whether the class has this port.
     pub(crate) fn has_port(&self, name: &Name) -> bool
-        ensures { (m : ModelTree) (line : List ℕ) → IsOpen m line self.now → result ≡ is_among (from_root own_ports m line) name.now }
+        ensures { (m : ModelTree) (line : List ℕ) → IsOpen m line self.now →
+            result ≡ is_among (from_root own_ports m line) name.now }
     {
         has_name(&self.ports, name)
     }
@@ -153,7 +167,8 @@ impl<'a> Inherited<'a> {
     /// Whether the class has a message on this port, of this direction and name, with so many
     /// parameters.
     pub(crate) fn has_message(&self, port: &Name, out: bool, name: &Name, count: usize) -> bool
-        ensures { (m : ModelTree) (line : List ℕ) → IsOpen m line self.now → result ≡ list_any (is_message port.now out name.now count) (messages_along m line) }
+        ensures { (m : ModelTree) (line : List ℕ) → IsOpen m line self.now →
+            result ≡ list_any (is_message port.now out name.now count) (messages_along m line) }
     {
         let sought = Signal::new(port, out, name, count);
         self.messages.get(sought).is_some()
@@ -161,14 +176,16 @@ impl<'a> Inherited<'a> {
 
     /// Whether a process class has a method of this name, with so many inputs and outputs.
     pub(crate) fn has_method(&self, name: &Name, inputs: usize, outputs: usize) -> bool
-        ensures { (m : ModelTree) (line : List ℕ) → IsOpen m line self.now → result ≡ is_some (method_along m (called name.now inputs outputs) line) }
+        ensures { (m : ModelTree) (line : List ℕ) → IsOpen m line self.now →
+            result ≡ is_some (method_along m (called name.now inputs outputs) line) }
     {
         self.methods.get(Call::new(name, inputs, outputs)).is_some()
     }
 
     /// Whether the class has an `init`.
     pub(crate) fn has_start(&self) -> bool
-        ensures { (m : ModelTree) (line : List ℕ) → IsOpen m line self.now → result ≡ is_some (start_along m line) }
+        ensures { (m : ModelTree) (line : List ℕ) → IsOpen m line self.now →
+            result ≡ is_some (start_along m line) }
     {
         self.starts.get(()).is_some()
     }

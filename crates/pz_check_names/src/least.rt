@@ -37,7 +37,8 @@ fn least_of_part(
 ) -> Result<Option<Violation>, AllocError>
     requires declares { AreDeclared declared.now }
     requires scoped { IsScope declared.now scope.now }
-    ensures { IfOk result (λ least. least ≡ least_from before (of_part (model_of declared.now) scope.now.class.0 (decl_of scope.now) part.now)) }
+    ensures { IfOk result (λ least. least ≡ least_from before
+        (of_part (model_of declared.now) scope.now.class.0 (decl_of scope.now) part.now)) }
 {
     let stretch = stretch_of(alloc, part)?;
     let mut least = before;
@@ -58,7 +59,8 @@ fn least_of_parts(
 ) -> Result<Option<Violation>, AllocError>
     requires declares { AreDeclared declared.now }
     requires scoped { IsScope declared.now scope.now }
-    ensures { IfOk result (λ least. least ≡ least_from before (of_parts (model_of declared.now) scope.now.class.0 (decl_of scope.now) parts.now)) }
+    ensures { IfOk result (λ least. least ≡ least_from before
+        (of_parts (model_of declared.now) scope.now.class.0 (decl_of scope.now) parts.now)) }
 {
     let mut least = before;
     for part in parts {
@@ -77,8 +79,10 @@ fn least_of_class(
     before: Option<Violation>,
 ) -> Result<Option<Violation>, AllocError>
     requires declares { AreDeclared declared.now }
-    requires opened { IsOpen (model_of declared.now) (ancestors (model_of declared.now) number) inherited.now }
-    ensures { IfOk result (λ least. least ≡ least_from before (of_number (model_of declared.now) number)) }
+    requires opened { IsOpen (model_of declared.now)
+        (ancestors (model_of declared.now) number) inherited.now }
+    ensures { IfOk result (λ least. least ≡ least_from before
+        (of_number (model_of declared.now) number)) }
 {
     let Some(decl) = declaration(declared.model, number) else {
         return Ok(before);
@@ -102,7 +106,8 @@ fn least_of_visits(
     requires few { HasFewMarks (model_of declared.now) }
     requires declares { AreDeclared declared.now }
     requires opens { Opens (model_of declared.now) [] visits.now }
-    ensures { IfOk result (λ least. least ≡ least_from None (misuses (model_of declared.now) (visited visits.now))) }
+    ensures { IfOk result (λ least. least ≡ least_from None
+        (misuses (model_of declared.now) (visited visits.now))) }
 {
     let mut inherited = Inherited::new(alloc);
     let least = least_of_each(alloc, declared, visits, &mut inherited);
@@ -121,7 +126,8 @@ fn least_of_each<'a>(
     requires declares { AreDeclared declared.now }
     requires opens { Opens (model_of declared.now) [] visits.now }
     requires empty { IsOpen (model_of declared.now) [] inherited.old }
-    ensures { IfOk result (λ least. least ≡ least_from None (misuses (model_of declared.now) (visited visits.now))) }
+    ensures { IfOk result (λ least. least ≡ least_from None
+        (misuses (model_of declared.now) (visited visits.now))) }
 {
     let mut least = None;
     for visit in visits {

@@ -50,7 +50,9 @@ fn note_each<'a>(
     noted: &mut Nested<Signal<'a>, ()>,
     messages: &'a [Message],
 ) -> Result<(), AllocError>
-    ensures { (own : List Declared) (outer : List (List Declared)) → ShowsMessages (own ∷ outer) noted.old → OnOk result (ShowsMessages ((own ++ messages.now) ∷ outer) noted.new) }
+    ensures { (own : List Declared) (outer : List (List Declared)) →
+        ShowsMessages (own ∷ outer) noted.old → OnOk result
+        (ShowsMessages ((own ++ messages.now) ∷ outer) noted.new) }
 {
     for message in messages {
         let count = count_types(&message.types);
@@ -65,7 +67,9 @@ pub(crate) fn note_messages<'a>(
     noted: &mut Nested<Signal<'a>, ()>,
     messages: &'a Option<Items<Message>>,
 ) -> Result<(), AllocError>
-    ensures { (own : List Declared) (outer : List (List Declared)) → ShowsMessages (own ∷ outer) noted.old → OnOk result (ShowsMessages ((own ++ unwrap_or messages.now []) ∷ outer) noted.new) }
+    ensures { (own : List Declared) (outer : List (List Declared)) →
+        ShowsMessages (own ∷ outer) noted.old → OnOk result
+        (ShowsMessages ((own ++ unwrap_or messages.now []) ∷ outer) noted.new) }
 {
     match messages {
         Some(messages) => note_each(noted, messages.as_slice()),

@@ -51,7 +51,9 @@ fn note_each<'a>(
 ) -> Result<(), AllocError>
     requires inputs { All (λ r. length (grouped r.inputs) < 2 ^ 32) methods.now }
     requires outputs { All (λ r. length (grouped r.outputs) < 2 ^ 32) methods.now }
-    ensures { (own : List Tree) (outer : List (List Tree)) → ShowsMethods (own ∷ outer) noted.old → OnOk result (ShowsMethods ((own ++ map process_method_view methods.now) ∷ outer) noted.new) }
+    ensures { (own : List Tree) (outer : List (List Tree)) → ShowsMethods (own ∷ outer) noted.old →
+        OnOk result (ShowsMethods ((own ++ map process_method_view methods.now) ∷ outer)
+        noted.new) }
 {
     for method in methods {
         noted.note(call_of(method), ())?;
@@ -66,7 +68,9 @@ pub(crate) fn note_methods<'a>(
 ) -> Result<(), AllocError>
     requires inputs { All (λ r. length (grouped r.inputs) < 2 ^ 32) (unwrap_or methods.now []) }
     requires outputs { All (λ r. length (grouped r.outputs) < 2 ^ 32) (unwrap_or methods.now []) }
-    ensures { (own : List Tree) (outer : List (List Tree)) → ShowsMethods (own ∷ outer) noted.old → OnOk result (ShowsMethods ((own ++ unwrap_or (option_map (map process_method_view) methods.now) []) ∷ outer) noted.new) }
+    ensures { (own : List Tree) (outer : List (List Tree)) → ShowsMethods (own ∷ outer) noted.old →
+        OnOk result (ShowsMethods ((own ++ unwrap_or
+        (option_map (map process_method_view) methods.now) []) ∷ outer) noted.new) }
 {
     match methods {
         Some(methods) => note_each(noted, methods.as_slice()),

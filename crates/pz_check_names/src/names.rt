@@ -25,7 +25,8 @@ pub(crate) fn scope_of(alloc: Global, ids: &[Id]) -> Result<Nested<&[u8], ()>, A
 
 /// Notes these names. The only error is want of memory.
 fn note_ids<'a>(names: &mut Nested<&'a [u8], ()>, ids: &'a [Id]) -> Result<(), AllocError>
-    ensures { (own : List Named) (outer : List (List Named)) → ShowsNames (own ∷ outer) names.old → OnOk result (ShowsNames ((own ++ ids.now) ∷ outer) names.new) }
+    ensures { (own : List Named) (outer : List (List Named)) → ShowsNames (own ∷ outer) names.old →
+        OnOk result (ShowsNames ((own ++ ids.now) ∷ outer) names.new) }
 {
     for id in ids {
         names.note(id.name.as_str().as_bytes(), ())?;
@@ -37,7 +38,8 @@ fn note_groups<'a>(
     names: &mut Nested<&'a [u8], ()>,
     groups: &'a [VarGroup],
 ) -> Result<(), AllocError>
-    ensures { (own : List Named) (outer : List (List Named)) → ShowsNames (own ∷ outer) names.old → OnOk result (ShowsNames ((own ++ grouped groups.now) ∷ outer) names.new) }
+    ensures { (own : List Named) (outer : List (List Named)) → ShowsNames (own ∷ outer) names.old →
+        OnOk result (ShowsNames ((own ++ grouped groups.now) ∷ outer) names.new) }
 {
     for group in groups {
         note_ids(names, group.names.as_slice())?;
@@ -50,7 +52,8 @@ pub(crate) fn note_section<'a>(
     names: &mut Nested<&'a [u8], ()>,
     groups: &'a Option<Items<VarGroup>>,
 ) -> Result<(), AllocError>
-    ensures { (own : List Named) (outer : List (List Named)) → ShowsNames (own ∷ outer) names.old → OnOk result (ShowsNames ((own ++ section groups.now) ∷ outer) names.new) }
+    ensures { (own : List Named) (outer : List (List Named)) → ShowsNames (own ∷ outer) names.old →
+        OnOk result (ShowsNames ((own ++ section groups.now) ∷ outer) names.new) }
 {
     match groups {
         None => Ok(()),
@@ -63,7 +66,8 @@ pub(crate) fn note_optional<'a>(
     names: &mut Nested<&'a [u8], ()>,
     ids: &'a Option<Items<Id>>,
 ) -> Result<(), AllocError>
-    ensures { (own : List Named) (outer : List (List Named)) → ShowsNames (own ∷ outer) names.old → OnOk result (ShowsNames ((own ++ unwrap_or ids.now []) ∷ outer) names.new) }
+    ensures { (own : List Named) (outer : List (List Named)) → ShowsNames (own ∷ outer) names.old →
+        OnOk result (ShowsNames ((own ++ unwrap_or ids.now []) ∷ outer) names.new) }
 {
     match ids {
         None => Ok(()),
@@ -73,7 +77,8 @@ pub(crate) fn note_optional<'a>(
 
 /// Whether the name is noted in a scope.
 pub(crate) fn has_name(names: &Nested<&[u8], ()>, name: &Name) -> bool
-    ensures { (lists : List (List Named)) → ShowsNames lists names.now → result ≡ list_any (λ ids. is_among ids name.now) lists }
+    ensures { (lists : List (List Named)) → ShowsNames lists names.now →
+        result ≡ list_any (λ ids. is_among ids name.now) lists }
 {
     names.get(name.as_str().as_bytes()).is_some()
 }

@@ -27,7 +27,9 @@ fn number_of(classes: &Classes, name: &Name) -> Option<u32>
 /// The declaration of the class of this name.
 fn class_named<'a>(model: &'a Model, classes: &Classes, name: &Name) -> Option<&'a Decl>
     requires { AreClasses (model_view model.now) classes.now }
-    ensures { option_map decl_view (option_copied result) ≡ option_and_then (numbers.declaration (model_view model.now)) (numbers.class (model_view model.now) name.now) }
+    ensures { option_map decl_view (option_copied result) ≡ option_and_then
+        (numbers.declaration (model_view model.now))
+        (numbers.class (model_view model.now) name.now) }
 {
     match number_of(classes, name) {
         Some(number) => declaration(model, number),

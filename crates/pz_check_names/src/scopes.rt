@@ -27,7 +27,8 @@ pub(crate) fn is_data(decl: &Decl) -> bool
 /// Whether a process class has no `init`, of its own or inherited.
 pub(crate) fn never_starts(declared: &Declared, scope: &ClassScope) -> bool
     requires { IsScope declared.now scope.now }
-    ensures { result ≡ (kinds.is_process (decl_of scope.now) && is_none (calls.start (model_of declared.now) scope.now.class.0)) }
+    ensures { result ≡ (kinds.is_process (decl_of scope.now) && is_none
+        (calls.start (model_of declared.now) scope.now.class.0)) }
 {
     match scope.decl {
         Decl::Process(_) => !scope.inherited.has_start(),
@@ -39,7 +40,8 @@ pub(crate) fn never_starts(declared: &Declared, scope: &ClassScope) -> bool
 /// class.
 fn has_shared(declared: &Declared, scope: &ClassScope, name: &Name) -> bool
     requires { IsScope declared.now scope.now }
-    ensures { result ≡ is_among (names.shared (model_of declared.now) scope.now.class.0 (decl_of scope.now)) name.now }
+    ensures { result ≡ is_among (names.shared (model_of declared.now) scope.now.class.0
+        (decl_of scope.now)) name.now }
 {
     match scope.decl {
         Decl::Data(_) => scope.inherited.has_field(name),
@@ -58,7 +60,9 @@ pub(crate) fn lacks_variable(
 ) -> bool
     requires scoped { IsScope declared.now scope.now }
     requires local { HasLocals stretch.now }
-    ensures { result ≡ (not (is_among stretch.now.part.now.locals name.now) && not (is_among (names.shared (model_of declared.now) scope.now.class.0 (decl_of scope.now)) name.now)) }
+    ensures { result ≡ (not (is_among stretch.now.part.now.locals name.now) && not
+        (is_among (names.shared (model_of declared.now) scope.now.class.0 (decl_of scope.now))
+        name.now)) }
 {
     !stretch.has_local(name) && !has_shared(declared, scope, name)
 }
@@ -72,7 +76,8 @@ pub(crate) fn lacks_method(
     outputs: usize,
 ) -> bool
     requires { IsScope declared.now scope.now }
-    ensures { result ≡ is_none (methods.process_method (model_of declared.now) scope.now.class.0 name.now inputs outputs) }
+    ensures { result ≡ is_none (methods.process_method
+        (model_of declared.now) scope.now.class.0 name.now inputs outputs) }
 {
     !scope.inherited.has_method(name, inputs, outputs)
 }
@@ -81,7 +86,8 @@ pub(crate) fn lacks_method(
 /// arguments.
 pub(crate) fn lacks_selector(declared: &Declared, name: &Name, count: usize) -> bool
     requires { AreDeclared declared.now }
-    ensures { result ≡ (not (calls.is_primitive_selector name.now count) && not (calls.is_declared (model_of declared.now) (asked name.now count))) }
+    ensures { result ≡ (not (calls.is_primitive_selector name.now count) && not
+        (calls.is_declared (model_of declared.now) (asked name.now count))) }
 {
     !is_primitive_selector(name, count) && !declared.selectors.has(name, count)
 }
@@ -89,7 +95,8 @@ pub(crate) fn lacks_selector(declared: &Declared, name: &Name, count: usize) -> 
 /// Whether neither the class nor an ancestor has this port.
 pub(crate) fn lacks_port(declared: &Declared, scope: &ClassScope, name: &Name) -> bool
     requires { IsScope declared.now scope.now }
-    ensures { result ≡ not (is_among (members.ports (model_of declared.now) scope.now.class.0) name.now) }
+    ensures { result ≡ not (is_among (members.ports (model_of declared.now) scope.now.class.0)
+        name.now) }
 {
     !scope.inherited.has_port(name)
 }
@@ -105,7 +112,8 @@ pub(crate) fn lacks_message(
     count: usize,
 ) -> bool
     requires { IsScope declared.now scope.now }
-    ensures { result ≡ not (list_any (calls.is_message port.now out name.now count) (calls.messages (model_of declared.now) scope.now.class.0)) }
+    ensures { result ≡ not (list_any (calls.is_message port.now out name.now count)
+        (calls.messages (model_of declared.now) scope.now.class.0)) }
 {
     !scope.inherited.has_message(port, out, name, count)
 }

@@ -58,7 +58,9 @@ impl<'a> Selectors<'a> {
 
     /// Adds a selector. The only error is want of memory.
     fn add(&mut self, name: &'a Name, count: usize) -> Result<(), AllocError>
-        ensures { OnOk result ((q : List ℕ) (n : ℕ) → has_selector self.new q n ≡ (has_selector self.old q n || (nat_eq n count && bytes_eq q name.now))) }
+        ensures { OnOk result ((q : List ℕ) (n : ℕ) →
+            has_selector self.new q n ≡ (has_selector self.old q n ||
+            (nat_eq n count && bytes_eq q name.now))) }
     {
         self.set.insert(key_of(name, count))?;
         Ok(())
@@ -67,7 +69,9 @@ impl<'a> Selectors<'a> {
     /// Adds the selector of each method. The only error is want of memory.
     fn add_methods(&mut self, methods: &'a [DataMethod]) -> Result<(), AllocError>
         requires { All (λ r. length (section r.inputs) < 2 ^ 32) methods.now }
-        ensures { OnOk result ((q : List ℕ) (n : ℕ) → has_selector self.new q n ≡ (has_selector self.old q n || is_one_of (asked q n) (map data_signature (map data_method_view methods.now)))) }
+        ensures { OnOk result ((q : List ℕ) (n : ℕ) →
+            has_selector self.new q n ≡ (has_selector self.old q n || is_one_of (asked q n)
+            (map data_signature (map data_method_view methods.now)))) }
     {
         for method in methods {
             let count = count_section(&method.inputs);
@@ -81,7 +85,9 @@ impl<'a> Selectors<'a> {
     #[tactic(auto, using(crate::proofs::Sets::or_none, crate::proofs::Foreign::no_selector))]
     fn add_declared(&mut self, decl: &'a Decl) -> Result<(), AllocError>
         requires { length (decl_text (decl_view decl.now)) < 2 ^ 32 }
-        ensures { OnOk result ((q : List ℕ) (n : ℕ) → has_selector self.new q n ≡ (has_selector self.old q n || is_one_of (asked q n) (signatures (decl_view decl.now)))) }
+        ensures { OnOk result ((q : List ℕ) (n : ℕ) →
+            has_selector self.new q n ≡ (has_selector self.old q n || is_one_of (asked q n)
+            (signatures (decl_view decl.now)))) }
     {
         match decl {
             Decl::Data(class) => match &class.methods {
@@ -98,7 +104,8 @@ impl<'a> Selectors<'a> {
 /// The selectors of all data classes of the model. The only error is want of memory.
 pub(crate) fn selectors_of(alloc: Global, model: &Model) -> Result<Selectors, AllocError>
     requires { HasFewMarks (model_view model.now) }
-    ensures { IfOk result (λ s. (q : List ℕ) (n : ℕ) → has_selector s q n ≡ is_declared (model_view model.now) (asked q n)) }
+    ensures { IfOk result (λ s. (q : List ℕ) (n : ℕ) →
+        has_selector s q n ≡ is_declared (model_view model.now) (asked q n)) }
 {
     let mut selectors = Selectors::new(alloc);
     for decl in model.decls.as_slice() {

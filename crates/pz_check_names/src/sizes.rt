@@ -79,8 +79,12 @@ pub fn has_unsized_words(
     classes: &Classes,
 ) -> Result<bool, AllocError>
     requires { AreClasses (model_view model.now) classes.now }
-    ensures found { IfOk result (λ has. has ≡ true → (pos : Place) × (BreaksWord (model_view model.now) (violation 13 pos) ⊎ BreaksWord (model_view model.now) (violation 18 pos))) }
-    ensures none { IfOk result (λ has. has ≡ false → (pos : Place) → BreaksWord (model_view model.now) (violation 13 pos) ⊎ BreaksWord (model_view model.now) (violation 18 pos) → ⊥) }
+    ensures found { IfOk result (λ has. has ≡ true →
+        (pos : Place) × (BreaksWord (model_view model.now) (violation 13 pos)
+        ⊎ BreaksWord (model_view model.now) (violation 18 pos))) }
+    ensures none { IfOk result (λ has. has ≡ false → (pos : Place) →
+        BreaksWord (model_view model.now) (violation 13 pos)
+        ⊎ BreaksWord (model_view model.now) (violation 18 pos) → ⊥) }
 {
     has_unsized_class(alloc, model, classes)
 }

@@ -33,7 +33,10 @@ fn noted(before: Option<Violation>, broken: bool, rule: u8, pos: Pos) -> Option<
 /// Where a class is named that is left out of the language only C18 is broken, elsewhere this rule
 /// if it is broken.
 fn noted_class(before: Option<Violation>, class: &Id, broken: bool, rule: u8) -> Option<Violation>
-    ensures { result ≡ least_from before (listed (not (reserved.is_unsupported class.now.name) && broken) (violation rule class.now.pos) ++ listed (reserved.is_unsupported class.now.name) (violation 18 class.now.pos)) }
+    ensures { result ≡ least_from before (listed
+        (not (reserved.is_unsupported class.now.name) && broken)
+        (violation rule class.now.pos) ++ listed (reserved.is_unsupported class.now.name)
+        (violation 18 class.now.pos)) }
 {
     if is_unsupported(&class.name) {
         noted(before, true, 18, class.pos)
@@ -54,7 +57,8 @@ pub(crate) fn least_at_word(
     requires declares { AreDeclared declared.now }
     requires scoped { IsScope declared.now scope.now }
     requires local { HasLocals stretch.now }
-    ensures { result ≡ least_from before (at_word (model_of declared.now) scope.now.class.0 (decl_of scope.now) stretch.now.part.now.locals word.now) }
+    ensures { result ≡ least_from before (at_word (model_of declared.now) scope.now.class.0
+        (decl_of scope.now) stretch.now.part.now.locals word.now) }
 {
     let model = declared.model;
     let classes = declared.classes;

@@ -41,7 +41,8 @@ impl<K: Hash + Eq + Copy, V: Copy> Nested<K, V> {
 
     /// Begins a scope inside the others. The only error is want of memory.
     pub fn open(&mut self) -> Result<(), AllocError>
-        ensures opened { (scopes : List (List (Note K V))) → Holds K.eq scopes self.old → OnOk result (Holds K.eq ([] ∷ scopes) self.new) }
+        ensures opened { (scopes : List (List (Note K V))) → Holds K.eq scopes self.old →
+            OnOk result (Holds K.eq ([] ∷ scopes) self.new) }
     {
         self.starts.push(self.changes.len())?;
         Ok(())
@@ -49,8 +50,10 @@ impl<K: Hash + Eq + Copy, V: Copy> Nested<K, V> {
 
     /// Takes back the last note, if there is one.
     fn take_back(&mut self)
-        ensures back { (last : Note K V) (notes : List (Note K V)) → Keeps K.eq (last ∷ notes) self.old → Keeps K.eq notes self.new }
-        ensures shorter { 0 < vec_len self.old.changes → vec_len self.new.changes + 1 ≡ vec_len self.old.changes }
+        ensures back { (last : Note K V) (notes : List (Note K V)) →
+            Keeps K.eq (last ∷ notes) self.old → Keeps K.eq notes self.new }
+        ensures shorter { 0 < vec_len self.old.changes →
+            vec_len self.new.changes + 1 ≡ vec_len self.old.changes }
         ensures starts { self.new.starts ≡ self.old.starts }
     {
         let Some(change) = self.changes.pop() else {
@@ -63,7 +66,8 @@ impl<K: Hash + Eq + Copy, V: Copy> Nested<K, V> {
 
     /// Takes back all notes but the first so many.
     fn take_back_to(&mut self, count: usize)
-        ensures back { (notes : List (Note K V)) → Keeps K.eq notes self.old → Keeps K.eq (outermost count notes) self.new }
+        ensures back { (notes : List (Note K V)) → Keeps K.eq notes self.old →
+            Keeps K.eq (outermost count notes) self.new }
         ensures starts { self.new.starts ≡ self.old.starts }
     {
         while self.changes.len() > count {
@@ -74,7 +78,8 @@ impl<K: Hash + Eq + Copy, V: Copy> Nested<K, V> {
     /// Leaves all scopes but the outermost so many, and takes back what was noted in those that it
     /// leaves. Where no more than so many are open, all of them stay.
     pub fn close_to(&mut self, depth: usize)
-        ensures closed { (scopes : List (List (Note K V))) → Holds K.eq scopes self.old → Holds K.eq (outermost depth scopes) self.new }
+        ensures closed { (scopes : List (List (Note K V))) → Holds K.eq scopes self.old →
+            Holds K.eq (outermost depth scopes) self.new }
     {
         if depth < self.starts.len() {
             let start = self.starts[depth];
@@ -86,7 +91,9 @@ impl<K: Hash + Eq + Copy, V: Copy> Nested<K, V> {
     /// Notes a value for a key, in the innermost scope; some scope is open. The only error is want of
     /// memory, and then what is noted is not to be asked any more.
     pub fn note(&mut self, key: K, value: V) -> Result<(), AllocError>
-        ensures noted { (scope : List (Note K V)) (outer : List (List (Note K V))) → Holds K.eq (scope ∷ outer) self.old → OnOk result (Holds K.eq ((record { key = key; value = value } ∷ scope) ∷ outer) self.new) }
+        ensures noted { (scope : List (Note K V)) (outer : List (List (Note K V))) →
+            Holds K.eq (scope ∷ outer) self.old → OnOk result
+            (Holds K.eq ((record { key = key; value = value } ∷ scope) ∷ outer) self.new) }
     {
         let before = self.get(key);
         self.changes.push(Change { key, before })?;
@@ -96,7 +103,8 @@ impl<K: Hash + Eq + Copy, V: Copy> Nested<K, V> {
 
     /// What was noted last for the key, in the innermost of the open scopes where something was.
     pub fn get(&self, key: K) -> Option<V>
-        ensures value { (scopes : List (List (Note K V))) → Holds K.eq scopes self.now → result ≡ value_in K.eq scopes key }
+        ensures value { (scopes : List (List (Note K V))) → Holds K.eq scopes self.now →
+            result ≡ value_in K.eq scopes key }
     {
         match self.notes.get(&key) {
             Some(value) => *value,

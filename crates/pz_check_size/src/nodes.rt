@@ -36,7 +36,8 @@ fn push_held(
     instance: &Instance,
 ) -> Result<(), AllocError>
     requires { AreClasses (model_view model.now) classes.now }
-    ensures { OnOk result (held.new ≡ held.old ++ spec.held_of (model_view model.now) instance.now) }
+    ensures { OnOk result (held.new ≡ held.old ++ spec.held_of
+        (model_view model.now) instance.now) }
 {
     match class_of_instance(model, classes, &instance.class.name) {
         Some(class) => held.push(Held {

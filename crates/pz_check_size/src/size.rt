@@ -21,7 +21,8 @@ const TOO_LARGE: u8 = 19;
 /// The rule at the earliest system whose totals are above a limit.
 #[tactic(auto, using(pz_check_violations::proofs::Leasts::least_from_append))]
 fn least_oversized(model: &Model, totals: &[Totals]) -> Option<Violation>
-    ensures { result ≡ least.least_from None (spec.oversized_among totals.now 1 (model_view model.now).decls) }
+    ensures { result ≡ least.least_from None (spec.oversized_among totals.now 1
+        (model_view model.now).decls) }
 {
     let mut least = None;
     let mut number = 0usize;

@@ -46,7 +46,8 @@ impl Chooser {
     /// used up. Takes no memory.
     pub fn next(&mut self, offers: u64) -> Option<u64>
         requires { 1 ≤ offers }
-        ensures chooses { (r : Resolver) (j : ℕ) → Stands self.old r j → result ≡ choice r j offers }
+        ensures chooses { (r : Resolver) (j : ℕ) → Stands self.old r j →
+            result ≡ choice r j offers }
         ensures goes_on { (r : Resolver) (j : ℕ) → Stands self.old r j → Stands self.new r (suc j) }
     {
         match self {

@@ -49,7 +49,8 @@ pub(crate) fn parents_of(
     numbering: &Numbering,
 ) -> Result<Vec<Option<u32>>, AllocError>
     requires { (q : List ℕ) → number_in numbering.now q ≡ class (model_view model.now) q }
-    ensures each { IfOk result (λ parents. (c : ℕ) → parent_in parents.items c ≡ parent (model_view model.now) c) }
+    ensures each { IfOk result (λ parents. (c : ℕ) →
+        parent_in parents.items c ≡ parent (model_view model.now) c) }
     ensures counted { IfOk result (λ parents. length parents.items ≡ length model.now.decls + 1) }
 {
     let mut parents = Vec::new(alloc);

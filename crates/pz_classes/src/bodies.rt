@@ -26,7 +26,8 @@ use std::alloc::{AllocError, Global};
 
 /// The names of inputs and locals.
 fn data_names(alloc: Global, method: &DataMethod) -> Result<Items<Name>, AllocError>
-    ensures { IfOk result (λ names. names ≡ spelled (spec.data_locals (data_method_view method.now))) }
+    ensures { IfOk result (λ names. names ≡ spelled
+        (spec.data_locals (data_method_view method.now))) }
 {
     let mut names = Items::new(alloc);
     push_section(&mut names, &method.inputs)?;
@@ -36,7 +37,8 @@ fn data_names(alloc: Global, method: &DataMethod) -> Result<Items<Name>, AllocEr
 
 /// The names of inputs, outputs and locals.
 fn process_names(alloc: Global, method: &ProcessMethod) -> Result<Items<Name>, AllocError>
-    ensures { IfOk result (λ names. names ≡ spelled (spec.process_locals (process_method_view method.now))) }
+    ensures { IfOk result (λ names. names ≡ spelled
+        (spec.process_locals (process_method_view method.now))) }
 {
     let mut names = Items::new(alloc);
     push_groups(&mut names, method.inputs.as_slice())?;
@@ -52,7 +54,8 @@ fn data_body(
     method: &DataMethod,
 ) -> Result<Body, AllocError>
     requires { length (spec.data_locals (data_method_view method.now)) < 2 ^ 32 }
-    ensures { IfOk result (λ b. body_view b ≡ spec.data_body_in (scope_around around.now classes.now) (data_method_view method.now)) }
+    ensures { IfOk result (λ b. body_view b ≡ spec.data_body_in
+        (scope_around around.now classes.now) (data_method_view method.now)) }
 {
     let names = data_names(alloc, method)?;
     let places = places_of(alloc, names.as_slice())?;
@@ -74,7 +77,8 @@ fn process_body(
     method: &ProcessMethod,
 ) -> Result<Body, AllocError>
     requires { length (spec.process_locals (process_method_view method.now)) < 2 ^ 32 }
-    ensures { IfOk result (λ b. body_view b ≡ spec.process_body_in (scope_around around.now classes.now) (process_method_view method.now)) }
+    ensures { IfOk result (λ b. body_view b ≡ spec.process_body_in
+        (scope_around around.now classes.now) (process_method_view method.now)) }
 {
     let names = process_names(alloc, method)?;
     let places = places_of(alloc, names.as_slice())?;
@@ -97,7 +101,9 @@ fn push_data_bodies(
     bodies: &mut Items<Body>,
 ) -> Result<(), AllocError>
     requires { All (λ r. length (spec.data_locals (data_method_view r)) < 2 ^ 32) methods.now }
-    ensures { OnOk result (map body_view bodies.new ≡ map body_view bodies.old ++ map (spec.data_body_in (scope_around around.now classes.now)) (map data_method_view methods.now)) }
+    ensures { OnOk result (map body_view bodies.new ≡ map body_view bodies.old ++ map
+        (spec.data_body_in (scope_around around.now classes.now))
+        (map data_method_view methods.now)) }
 {
     for method in methods {
         bodies.push(data_body(alloc, around, classes, method)?)?;
@@ -112,8 +118,11 @@ fn push_process_bodies(
     methods: &[ProcessMethod],
     bodies: &mut Items<Body>,
 ) -> Result<(), AllocError>
-    requires { All (λ r. length (spec.process_locals (process_method_view r)) < 2 ^ 32) methods.now }
-    ensures { OnOk result (map body_view bodies.new ≡ map body_view bodies.old ++ map (spec.process_body_in (scope_around around.now classes.now)) (map process_method_view methods.now)) }
+    requires { All (λ r. length (spec.process_locals (process_method_view r)) < 2 ^ 32)
+        methods.now }
+    ensures { OnOk result (map body_view bodies.new ≡ map body_view bodies.old ++ map
+        (spec.process_body_in (scope_around around.now classes.now))
+        (map process_method_view methods.now)) }
 {
     for method in methods {
         bodies.push(process_body(alloc, around, classes, method)?)?;
@@ -131,7 +140,10 @@ fn push_bodies(
 ) -> Result<(), AllocError>
     requires members { AreFew members.now }
     requires marks { length (decl_text (decl_view decl.now)) < 2 ^ 32 }
-    ensures { OnOk result ((m : ModelTree) (c : ℕ) → Numbers m classes.now → HasMembers m (ancestors m c) members.now → map body_view bodies.new ≡ map body_view bodies.old ++ spec.own_bodies m c (decl_view decl.now)) }
+    ensures { OnOk result ((m : ModelTree) (c : ℕ) → Numbers m classes.now →
+        HasMembers m (ancestors m c) members.now →
+        map body_view bodies.new ≡ map body_view bodies.old ++ spec.own_bodies m c
+        (decl_view decl.now)) }
 {
     let ports = members.ports.as_slice();
     match decl {

@@ -109,7 +109,8 @@ fn least_of_class(
 ) -> Option<Violation>
     requires numbered { (q : List ℕ) → number_in numbering.now q ≡ class (model_view model.now) q }
     requires rounds { AreRound (model_view model.now) round.now }
-    ensures { result ≡ least.least_from before (list.of_class (model_view model.now) number (decl_view decl.now)) }
+    ensures { result ≡ least.least_from before (list.of_class (model_view model.now) number
+        (decl_view decl.now)) }
 {
     let mut least = before;
     if let Some(id) = declared_name(decl) {

@@ -120,8 +120,10 @@ impl Classes {
 
     /// The class of this name; None where no class of the model has it.
     pub fn class(&self, name: &[u8]) -> Option<ClassId>
-        ensures class { (m : ModelTree) → AreClasses m self.now → result ≡ option_map class_id (numbers.class m name.now) }
-        ensures belongs { (m : ModelTree) → AreClasses m self.now → IfSome result (HasClass self.now) }
+        ensures class { (m : ModelTree) → AreClasses m self.now →
+            result ≡ option_map class_id (numbers.class m name.now) }
+        ensures belongs { (m : ModelTree) → AreClasses m self.now →
+            IfSome result (HasClass self.now) }
     {
         self.numbering.get(name).map(ClassId)
     }
@@ -144,8 +146,10 @@ impl Classes {
     /// The class that this one extends, if that is one of these.
     pub fn parent(&self, class: ClassId) -> Option<ClassId>
         requires { HasClass self.now class }
-        ensures parent { (m : ModelTree) → AreClasses m self.now → result ≡ option_map class_id (ancestors.parent m class.0) }
-        ensures belongs { (m : ModelTree) → AreClasses m self.now → IfSome result (HasClass self.now) }
+        ensures parent { (m : ModelTree) → AreClasses m self.now →
+            result ≡ option_map class_id (ancestors.parent m class.0) }
+        ensures belongs { (m : ModelTree) → AreClasses m self.now →
+            IfSome result (HasClass self.now) }
     {
         self.entry(class).parent.map(ClassId)
     }
@@ -169,7 +173,8 @@ impl Classes {
     /// text. 32 bits number them.
     pub fn fields(&self, class: ClassId) -> &[Name]
         requires { HasClass self.now class }
-        ensures fields { (m : ModelTree) → AreClasses m self.now → result.now ≡ spelled (members.fields m class.0) }
+        ensures fields { (m : ModelTree) → AreClasses m self.now →
+            result.now ≡ spelled (members.fields m class.0) }
         ensures few { length result.now < 2 ^ 32 }
     {
         self.entry(class).members.fields.as_slice()
@@ -178,7 +183,8 @@ impl Classes {
     /// The parameters and variables of a process class, those of its ancestors first.
     pub fn variables(&self, class: ClassId) -> &[Name]
         requires { HasClass self.now class }
-        ensures { (m : ModelTree) → AreClasses m self.now → result.now ≡ spelled (members.variables m class.0) }
+        ensures { (m : ModelTree) → AreClasses m self.now →
+            result.now ≡ spelled (members.variables m class.0) }
     {
         self.entry(class).members.variables.as_slice()
     }
@@ -186,7 +192,8 @@ impl Classes {
     /// The ports of a class, those of its ancestors first.
     pub fn ports(&self, class: ClassId) -> &[Name]
         requires { HasClass self.now class }
-        ensures { (m : ModelTree) → AreClasses m self.now → result.now ≡ spelled (members.ports m class.0) }
+        ensures { (m : ModelTree) → AreClasses m self.now →
+            result.now ≡ spelled (members.ports m class.0) }
     {
         self.entry(class).members.ports.as_slice()
     }
@@ -195,9 +202,13 @@ impl Classes {
     /// that has it. None where none has.
     pub fn method(&self, class: ClassId, name: &[u8], inputs: usize) -> Option<MethodId>
         requires { HasClass self.now class }
-        ensures method { (m : ModelTree) → AreClasses m self.now → result ≡ methods.method m class.0 name.now inputs }
-        ensures body { (m : ModelTree) → AreClasses m self.now → option_and_then (λ n. slice_get (bodies m) n.0) result ≡ method_body m class.0 name.now inputs }
-        ensures belongs { (m : ModelTree) → AreClasses m self.now → IfSome result (HasMethod self.now) }
+        ensures method { (m : ModelTree) → AreClasses m self.now →
+            result ≡ methods.method m class.0 name.now inputs }
+        ensures body { (m : ModelTree) → AreClasses m self.now →
+            option_and_then (λ n. slice_get (bodies m) n.0) result ≡
+            method_body m class.0 name.now inputs }
+        ensures belongs { (m : ModelTree) → AreClasses m self.now →
+            IfSome result (HasMethod self.now) }
     {
         find(
             self.entries.as_slice(),
@@ -217,9 +228,13 @@ impl Classes {
         outputs: usize,
     ) -> Option<MethodId>
         requires { HasClass self.now class }
-        ensures method { (m : ModelTree) → AreClasses m self.now → result ≡ methods.process_method m class.0 name.now inputs outputs }
-        ensures body { (m : ModelTree) → AreClasses m self.now → option_and_then (λ n. slice_get (bodies m) n.0) result ≡ process_method_body m class.0 name.now inputs outputs }
-        ensures belongs { (m : ModelTree) → AreClasses m self.now → IfSome result (HasMethod self.now) }
+        ensures method { (m : ModelTree) → AreClasses m self.now →
+            result ≡ methods.process_method m class.0 name.now inputs outputs }
+        ensures body { (m : ModelTree) → AreClasses m self.now →
+            option_and_then (λ n. slice_get (bodies m) n.0) result ≡
+            process_method_body m class.0 name.now inputs outputs }
+        ensures belongs { (m : ModelTree) → AreClasses m self.now →
+            IfSome result (HasMethod self.now) }
     {
         find(
             self.entries.as_slice(),
@@ -232,7 +247,8 @@ impl Classes {
     /// The body of a method, with slots in place of names.
     pub fn body(&self, method: MethodId) -> &Body
         requires { HasMethod self.now method }
-        ensures { (m : ModelTree) → AreClasses m self.now → slice_get (bodies m) method.0 ≡ Some (body_view result.now) }
+        ensures { (m : ModelTree) → AreClasses m self.now →
+            slice_get (bodies m) method.0 ≡ Some (body_view result.now) }
     {
         &self.bodies.as_slice()[method.0 as usize]
     }
@@ -241,7 +257,8 @@ impl Classes {
     /// at the place of the method's name. None where no ancestor has an `init`.
     pub fn init(&self, class: ClassId) -> Option<&Step>
         requires { HasClass self.now class }
-        ensures { (m : ModelTree) → AreClasses m self.now → option_map step.view (option_copied result) ≡ init m class.0 }
+        ensures { (m : ModelTree) → AreClasses m self.now →
+            option_map step.view (option_copied result) ≡ init m class.0 }
     {
         find_start(self.entries.as_slice(), class.0)
     }

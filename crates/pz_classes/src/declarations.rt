@@ -53,7 +53,8 @@ pub(crate) fn same_sort(decl: &Decl, other: &Decl) -> bool
 
 /// The declaration of the class of this number.
 pub fn declaration(model: &Model, number: u32) -> Option<&Decl>
-    ensures { option_map decl_view (option_copied result) ≡ numbers.declaration (model_view model.now) number }
+    ensures { option_map decl_view (option_copied result) ≡ numbers.declaration
+        (model_view model.now) number }
 {
     if number == 0 {
         return None;

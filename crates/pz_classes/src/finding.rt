@@ -10,14 +10,16 @@ use crate::entry::Entry;
 use crate::{Counts, MethodId, Step};
 
 fn entry_at(entries: &[Entry], class: u32) -> Option<&Entry>
-    ensures { option_map row_view (option_copied result) ≡ slice_get (map row_view entries.now) class }
+    ensures { option_map row_view (option_copied result) ≡ slice_get
+        (map row_view entries.now) class }
 {
     entries.get(class as usize)
 }
 
 /// The method of the nearest ancestor that has one with the name and the counts.
 pub(crate) fn find(entries: &[Entry], class: u32, name: &[u8], counts: Counts) -> Option<MethodId>
-    ensures { result ≡ found_in (map row_view entries.now) (record { name = name.now; counts = counts }) class }
+    ensures { result ≡ found_in (map row_view entries.now)
+        (record { name = name.now; counts = counts }) class }
 {
     let mut at = Some(class);
     let mut left = entries.len();
@@ -34,7 +36,8 @@ pub(crate) fn find(entries: &[Entry], class: u32, name: &[u8], counts: Counts) -
 
 /// The call of the `init` of the nearest ancestor that has one.
 pub(crate) fn find_start(entries: &[Entry], class: u32) -> Option<&Step>
-    ensures { option_map step.view (option_copied result) ≡ start_found (map row_view entries.now) class }
+    ensures { option_map step.view (option_copied result) ≡ start_found
+        (map row_view entries.now) class }
 {
     let mut here = Some(class);
     let mut left = entries.len();

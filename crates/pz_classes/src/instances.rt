@@ -66,7 +66,9 @@ pub fn is_cluster(decl: &Decl) -> bool
 
 /// Whether it is a process class or a cluster class.
 fn may_have_instances(model: &Model, class: ClassId) -> bool
-    ensures { result ≡ (option_map_or is_process (numbers.declaration (model_view model.now) class.0) false || option_map_or is_cluster (numbers.declaration (model_view model.now) class.0) false) }
+    ensures { result ≡ (option_map_or is_process
+        (numbers.declaration (model_view model.now) class.0) false || option_map_or is_cluster
+        (numbers.declaration (model_view model.now) class.0) false) }
 {
     match declaration(model, class.0) {
         Some(decl) => is_process(decl) || is_cluster(decl),
@@ -77,7 +79,8 @@ fn may_have_instances(model: &Model, class: ClassId) -> bool
 /// The class of this name, if it may have instances: a process class or a cluster class.
 pub fn class_of_instance(model: &Model, classes: &Classes, name: &Name) -> Option<ClassId>
     requires { ∥ AreClasses (model_view model.now) classes.now ∥₁ }
-    ensures class { result ≡ option_map class_id (spec.instance_class (model_view model.now) name.now) }
+    ensures class { result ≡ option_map class_id
+        (spec.instance_class (model_view model.now) name.now) }
     ensures belongs { IfSome result (HasClass classes.now) }
 {
     if is_unsupported(name) || is_primitive(name) {

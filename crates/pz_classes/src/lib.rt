@@ -12,7 +12,7 @@ mod entry;
 mod error;
 mod finding;
 mod instances;
-mod laws;
+pub mod laws;
 mod members;
 mod method_id;
 mod method_index;
@@ -26,10 +26,6 @@ pub use classes::Classes;
 pub use declarations::{declaration, extended};
 pub use error::BuildError;
 pub use instances::{channels_of, class_of_instance, instances_of, is_cluster};
-pub use laws::{
-    ancestors_are_reached, sound_bodies_fit, sound_classes_fit, sound_numbers_fit,
-    sound_systems_fit,
-};
 pub use method_id::{Counts, MethodId};
 pub use methods::{count_names, count_section};
 pub use pz_check_violations::Violation;

@@ -151,7 +151,8 @@ fn members_at(
     class: u32,
 ) -> Result<Members, AllocError>
     requires { IfSome (parent_in parents.now class) (λ p. p < length table.now) }
-    ensures { IfOk result (AddsAt (model_view model.now) class (inherited_in table.now (parent_in parents.now class))) }
+    ensures { IfOk result (AddsAt (model_view model.now) class
+        (inherited_in table.now (parent_in parents.now class))) }
 {
     let mut members = Members::new(alloc);
     members.add_inherited(table, parent_at(parents, class))?;
@@ -180,7 +181,8 @@ pub(crate) fn members_of_classes(
 ) -> Result<Vec<Members>, AllocError>
     requires extending { (c : ℕ) → parent_in parents.now c ≡ parent (model_view model.now) c }
     requires counted { length parents.now ≡ length model.now.decls + 1 }
-    requires preorder { IsPreorder (parent (model_view model.now)) (length model.now.decls + 1) visits.now }
+    requires preorder { IsPreorder (parent (model_view model.now))
+        (length model.now.decls + 1) visits.now }
     requires acyclic { (c : ℕ) → GoesRound (parent (model_view model.now)) c → ⊥ }
     ensures { IfOk result (λ table. AreMembers (model_view model.now) table.items) }
 {

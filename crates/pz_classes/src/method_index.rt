@@ -85,7 +85,9 @@ impl Methods {
 
     /// Puts a method behind the others of its name. The only error is want of memory.
     fn put(&mut self, alloc: Global, name: &[u8], overload: Overload) -> Result<(), AllocError>
-        ensures put { OnOk result ((q : List ℕ) → overloads_in self.new q ≡ (if bytes_eq q name.now then overloads_in self.old q ++ overload ∷ [] else overloads_in self.old q)) }
+        ensures put { OnOk result ((q : List ℕ) → overloads_in self.new q ≡
+            (if bytes_eq q name.now then overloads_in self.old q ++ overload ∷ [] else overloads_in
+            self.old q)) }
         ensures next { OnOk result (self.new.next ≡ self.old.next) }
     {
         if let Some(overloads) = self.by_name.get_mut(name) {
@@ -106,7 +108,10 @@ impl Methods {
         counts: Counts,
     ) -> Result<(), AllocError>
         requires { self.now.next + 1 < 2 ^ 32 }
-        ensures added { OnOk result ((s : Signature) → method_in self.new s ≡ option_or (method_in self.old s) (if same_signature s (record { name = name.now; counts = counts }) then Some (method_id self.old.next) else None)) }
+        ensures added { OnOk result ((s : Signature) →
+            method_in self.new s ≡ option_or (method_in self.old s)
+            (if same_signature s (record { name = name.now; counts = counts }) then Some
+            (method_id self.old.next) else None)) }
         ensures next { OnOk result (self.new.next ≡ suc self.old.next) }
     {
         let id = MethodId(self.next);

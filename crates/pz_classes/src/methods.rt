@@ -41,7 +41,8 @@ pub fn count_section(groups: &Option<Items<VarGroup>>) -> u32
 fn data_methods(alloc: Global, first: u32, methods: &[DataMethod]) -> Result<Methods, AllocError>
     requires room { first + length methods.now < 2 ^ 32 }
     requires inputs { All (λ r. length (section r.inputs) < 2 ^ 32) methods.now }
-    ensures { IfOk result (HasMethods first (map data_signature (map data_method_view methods.now))) }
+    ensures { IfOk result (HasMethods first (map data_signature
+        (map data_method_view methods.now))) }
 {
     let mut named = Methods::new(alloc, first);
     for method in methods {
@@ -62,7 +63,8 @@ fn process_methods(
     requires room { first + length methods.now < 2 ^ 32 }
     requires inputs { All (λ r. length (grouped r.inputs) < 2 ^ 32) methods.now }
     requires outputs { All (λ r. length (grouped r.outputs) < 2 ^ 32) methods.now }
-    ensures { IfOk result (HasMethods first (map process_signature (map process_method_view methods.now))) }
+    ensures { IfOk result (HasMethods first (map process_signature
+        (map process_method_view methods.now))) }
 {
     let mut named = Methods::new(alloc, first);
     for method in methods {

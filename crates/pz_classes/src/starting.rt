@@ -24,7 +24,8 @@ use std::alloc::{AllocError, Global};
 
 /// The `init` that the class of this number itself declares.
 fn declared_start(model: &Model, class: u32) -> Option<&Start>
-    ensures { option_map start_view (option_copied result) ≡ option_and_then own_start (declared (model_view model.now) class) }
+    ensures { option_map start_view (option_copied result) ≡ option_and_then own_start
+        (declared (model_view model.now) class) }
 {
     match declaration(model, class)? {
         Decl::Process(declared) => declared.start.as_ref(),
@@ -39,7 +40,8 @@ fn start_call(
     classes: &Numbering,
     start: &Start,
 ) -> Result<Step, AllocError>
-    ensures { IfOk result (λ s. step.view s ≡ call start.now.method.pos start.now.method (resolved_all (scope_around around.now classes.now []) (start_view start.now).args) []) }
+    ensures { IfOk result (λ s. step.view s ≡ call start.now.method.pos start.now.method
+        (resolved_all (scope_around around.now classes.now []) (start_view start.now).args) []) }
 {
     let none = Numbering::new(alloc);
     let scope = Scope {
@@ -70,7 +72,8 @@ pub(crate) fn start_at(
 ) -> Result<Option<Step>, AllocError>
     requires numbered { Numbers (model_view model.now) classes.now }
     requires few { AreFew members.now }
-    requires inherited { HasMembers (model_view model.now) (ancestors (model_view model.now) class) members.now }
+    requires inherited { HasMembers (model_view model.now)
+        (ancestors (model_view model.now) class) members.now }
     ensures { IfOk result (λ s. option_map step.view s ≡ own_call (model_view model.now) class) }
 {
     match declared_start(model, class) {

@@ -51,7 +51,8 @@ pub(crate) fn surround(
 ) -> Result<Surroundings, AllocError>
     requires shared { length shared.now < 2 ^ 32 }
     requires ports { length ports.now < 2 ^ 32 }
-    ensures { IfOk result (λ around. (m : ModelTree) (classes : Names) → Numbers m classes → scope_around around classes ≡ scope_of m shared.now ports.now) }
+    ensures { IfOk result (λ around. (m : ModelTree) (classes : Names) → Numbers m classes →
+        scope_around around classes ≡ scope_of m shared.now ports.now) }
 {
     let shared = places_of(alloc, shared)?;
     let ports = places_of(alloc, ports)?;

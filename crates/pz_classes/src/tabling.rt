@@ -56,9 +56,11 @@ fn entry_of(
     requires acyclic { (c : ℕ) → GoesRound (parent (model_view model.now)) c → ⊥ }
     requires within { class < length model.now.decls + 1 }
     requires counted { first ≡ methods_before (model_view model.now) class }
-    requires inherited { HasMembers (model_view model.now) (ancestors (model_view model.now) class) members }
+    requires inherited { HasMembers (model_view model.now)
+        (ancestors (model_view model.now) class) members }
     ensures row { IfOk result (λ e. row_view e ≡ row (model_view model.now) class) }
-    ensures next { IfOk result (λ e. e.methods.next ≡ methods_before (model_view model.now) (class + 1)) }
+    ensures next { IfOk result (λ e. e.methods.next ≡ methods_before (model_view model.now)
+        (class + 1)) }
 {
     let methods = methods_at(alloc, model, class, first)?;
     let start = start_at(alloc, model, numbering, &members, class)?;

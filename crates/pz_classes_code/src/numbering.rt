@@ -39,7 +39,8 @@ impl Numbering {
 
     /// Gives a name the number, unless it has one. The only error is want of memory.
     pub fn add(&mut self, alloc: Global, name: &Name, number: u32) -> Result<(), AllocError>
-        ensures { OnOk result ((q : List ℕ) → number_in self.new q ≡ option_or (number_in self.old q) (if bytes_eq q name.now then Some number else None)) }
+        ensures { OnOk result ((q : List ℕ) → number_in self.new q ≡ option_or
+            (number_in self.old q) (if bytes_eq q name.now then Some number else None)) }
     {
         let bytes = name.as_str().as_bytes();
         if self.get(bytes).is_none() {

@@ -120,7 +120,8 @@ fn copy_receive(
     condition: &Option<Code>,
     block: &Option<Items<Code>>,
 ) -> Result<StepForm, AllocError>
-    ensures { IfOk result (λ copy. copy ≡ StepForm.Receive port name.now into.now condition.now block.now) }
+    ensures { IfOk result (λ copy. copy ≡ StepForm.Receive port name.now into.now condition.now
+        block.now) }
 {
     let head = both(name.copy(), copy_into(alloc, into));
     let parts = both(copy_condition(alloc, condition), copy_part(alloc, block));

@@ -42,7 +42,8 @@ fn mark_up(parents: &[Option<u32>], marks: &mut [bool], start: usize)
     requires sized { length marks.old ≡ length parents.now }
     requires inside { start < length parents.now }
     requires closed { AreMarkedUp (parent_in parents.now) marks.old }
-    ensures { (c : ℕ) → IsMarked marks.new c ↔ (IsMarked marks.old c ⊎ Reaches (parent_in parents.now) start c) }
+    ensures { (c : ℕ) → IsMarked marks.new c ↔ (IsMarked marks.old c
+        ⊎ Reaches (parent_in parents.now) start c) }
 {
     let mut at = start;
     while !marks[at] {
@@ -75,7 +76,8 @@ fn search_from(parents: &[Option<u32>], walks: &mut [usize], marks: &mut [bool],
 pub fn go_round(alloc: Global, parents: &[Option<u32>]) -> Result<Vec<bool>, AllocError>
     requires { AreWithin parents.now }
     ensures counted { IfOk result (λ round. length round.items ≡ length parents.now) }
-    ensures exact { IfOk result (λ round. (c : ℕ) → (slice_get round.items c ≡ Some true) ↔ GoesRound (parent_in parents.now) c) }
+    ensures exact { IfOk result (λ round. (c : ℕ) →
+        (slice_get round.items c ≡ Some true) ↔ GoesRound (parent_in parents.now) c) }
 {
     let mut walks = vec![in alloc; 0usize; parents.len()]?;
     let mut round = vec![in alloc; false; parents.len()]?;

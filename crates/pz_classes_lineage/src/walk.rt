@@ -25,7 +25,8 @@ fn empty_rows(alloc: Global, count: usize) -> Result<Vec<Vec<u32>>, AllocError>
 fn add_child(rows: &mut Vec<Vec<u32>>, parent: Option<u32>, class: u32) -> Result<(), AllocError>
     requires { IfSome parent (λ p. p < length rows.old.items) }
     ensures counted { OnOk result (length rows.new.items ≡ length rows.old.items) }
-    ensures added { OnOk result ((p c : ℕ) → times c (row rows.new.items p) ≡ times c (row rows.old.items p) + (if is_child_of p parent then one_if c class else 0)) }
+    ensures added { OnOk result ((p c : ℕ) → times c (row rows.new.items p) ≡ times c
+        (row rows.old.items p) + (if is_child_of p parent then one_if c class else 0)) }
 {
     let Some(parent) = parent else {
         return Ok(());
@@ -39,7 +40,8 @@ fn children_of(alloc: Global, parents: &[Option<u32>]) -> Result<Vec<Vec<u32>>, 
     requires within { AreWithin parents.now }
     requires room { length parents.now < 2 ^ 32 }
     ensures counted { IfOk result (λ rows. length rows.items ≡ length parents.now) }
-    ensures exact { IfOk result (λ rows. (p c : ℕ) → times c (row rows.items p) ≡ as_child parents.now p c) }
+    ensures exact { IfOk result (λ rows. (p c : ℕ) →
+        times c (row rows.items p) ≡ as_child parents.now p c) }
 {
     let mut rows = empty_rows(alloc, parents.len())?;
     for class in (0..parents.len()).rev() {
@@ -50,7 +52,8 @@ fn children_of(alloc: Global, parents: &[Option<u32>]) -> Result<Vec<Vec<u32>>, 
 
 /// Puts the class among the roots, if it has no parent. The only error is want of memory.
 fn add_root(roots: &mut Vec<Visit>, parent: Option<u32>, class: u32) -> Result<(), AllocError>
-    ensures { OnOk result (roots.new.items ≡ roots.old.items ++ (if is_none parent then at_depth 0 class ∷ [] else [])) }
+    ensures { OnOk result (roots.new.items ≡ roots.old.items ++
+        (if is_none parent then at_depth 0 class ∷ [] else [])) }
 {
     if parent.is_some() {
         return Ok(());
@@ -62,8 +65,10 @@ fn add_root(roots: &mut Vec<Visit>, parent: Option<u32>, class: u32) -> Result<(
 /// The classes with no parent, the last first. The only error is want of memory.
 fn roots_of(alloc: Global, parents: &[Option<u32>]) -> Result<Vec<Visit>, AllocError>
     requires { length parents.now < 2 ^ 32 }
-    ensures exact { IfOk result (λ roots. (c : ℕ) → times c (visited roots.items) ≡ as_root parents.now c) }
-    ensures outermost { IfOk result (λ roots. roots.items ≡ map (at_depth 0) (visited roots.items)) }
+    ensures exact { IfOk result (λ roots. (c : ℕ) →
+        times c (visited roots.items) ≡ as_root parents.now c) }
+    ensures outermost { IfOk result (λ roots. roots.items ≡ map (at_depth 0)
+        (visited roots.items)) }
 {
     let mut roots = Vec::new(alloc);
     for class in (0..parents.len()).rev() {
@@ -91,7 +96,8 @@ pub fn preorder(alloc: Global, parents: &[Option<u32>]) -> Result<Vec<Visit>, Al
     requires within { AreWithin parents.now }
     requires acyclic { (c : ℕ) → GoesRound (parent_in parents.now) c → ⊥ }
     requires room { length parents.now < 2 ^ 32 }
-    ensures { IfOk result (λ visits. IsPreorder (parent_in parents.now) (length parents.now) visits.items) }
+    ensures { IfOk result (λ visits. IsPreorder (parent_in parents.now)
+        (length parents.now) visits.items) }
 {
     let rows = children_of(alloc, parents)?;
     let mut stack = roots_of(alloc, parents)?;

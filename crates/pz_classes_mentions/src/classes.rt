@@ -117,7 +117,8 @@ fn push_data_methods(
     out: &mut Items<LocalScope>,
     methods: &[DataMethod],
 ) -> Result<(), AllocError>
-    ensures { OnOk result (out.new ≡ out.old ++ map data_method (map data_method_view methods.now)) }
+    ensures { OnOk result (out.new ≡ out.old ++ map data_method
+        (map data_method_view methods.now)) }
 {
     for method in methods {
         out.push(data_method_of(alloc, method)?)?;
@@ -173,7 +174,8 @@ fn push_process_methods(
     out: &mut Items<LocalScope>,
     methods: &[ProcessMethod],
 ) -> Result<(), AllocError>
-    ensures { OnOk result (out.new ≡ out.old ++ map process_method (map process_method_view methods.now)) }
+    ensures { OnOk result (out.new ≡ out.old ++ map process_method
+        (map process_method_view methods.now)) }
 {
     for method in methods {
         out.push(process_method_of(alloc, method)?)?;

@@ -41,7 +41,8 @@ pub(crate) fn add_literal(
 }
 
 fn add_name(out: &mut Items<Mention>, name: &Name, pos: Pos) -> Result<(), AllocError>
-    ensures { OnOk result (out.new ≡ out.old ++ m.Variable (record { name = name.now; pos = pos }) ∷ []) }
+    ensures { OnOk result (out.new ≡ out.old ++ m.Variable
+        (record { name = name.now; pos = pos }) ∷ []) }
 {
     let name = name.copy()?;
     out.push(Mention::Variable(Id { name, pos }))
@@ -108,7 +109,8 @@ pub(crate) fn add_exprs(out: &mut Items<Mention>, es: &[Expr]) -> Result<(), All
 
 #[cycle(add)]
 fn add_links(out: &mut Items<Mention>, links: &[Link]) -> Result<(), AllocError>
-    ensures { OnOk result (out.new ≡ out.old ++ mentioned_links (links_of (map link_view links.now))) }
+    ensures { OnOk result (out.new ≡ out.old ++ mentioned_links
+        (links_of (map link_view links.now))) }
 {
     for link in links {
         add_expr(out, &link.operand)?;
@@ -121,7 +123,8 @@ fn add_selector(
     selector: &Id,
     args: &Option<Items<Expr>>,
 ) -> Result<(), AllocError>
-    ensures { OnOk result (out.new ≡ out.old ++ m.Selector selector.now (count_written (part_view args.now)) ∷ []) }
+    ensures { OnOk result (out.new ≡ out.old ++ m.Selector selector.now
+        (count_written (part_view args.now)) ∷ []) }
 {
     let name = selector.copy()?;
     let count = count_args(args);
@@ -130,7 +133,8 @@ fn add_selector(
 
 #[cycle(add)]
 fn add_sendings(out: &mut Items<Mention>, sendings: &[Sending]) -> Result<(), AllocError>
-    ensures { OnOk result (out.new ≡ out.old ++ mentioned_sendings (sendings_of (map sending_view sendings.now))) }
+    ensures { OnOk result (out.new ≡ out.old ++ mentioned_sendings
+        (sendings_of (map sending_view sendings.now))) }
 {
     for sending in sendings {
         add_selector(out, &sending.selector, &sending.args)?;

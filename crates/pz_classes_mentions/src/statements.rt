@@ -80,7 +80,8 @@ pub(crate) fn add_statements(
     out: &mut Items<Mention>,
     statements: &[Stmt],
 ) -> Result<(), AllocError>
-    ensures { OnOk result (out.new ≡ out.old ++ mentioned_statements (sequence_view statements.now)) }
+    ensures { OnOk result (out.new ≡ out.old ++ mentioned_statements
+        (sequence_view statements.now)) }
 {
     for statement in statements {
         add_statement(out, statement)?;
@@ -91,7 +92,8 @@ pub(crate) fn add_statements(
 /// The branches of a `par` or a `sel`.
 #[cycle(add)]
 fn add_branches(out: &mut Items<Mention>, branches: &[Items<Stmt>]) -> Result<(), AllocError>
-    ensures { OnOk result (out.new ≡ out.old ++ mentioned_branches (branches_of (map (map view) branches.now))) }
+    ensures { OnOk result (out.new ≡ out.old ++ mentioned_branches
+        (branches_of (map (map view) branches.now))) }
 {
     for branch in branches {
         add_statements(out, branch.as_slice())?;
@@ -106,7 +108,9 @@ fn add_send(
     args: &Option<Items<Expr>>,
     block: &Option<Items<Expr>>,
 ) -> Result<(), AllocError>
-    ensures { OnOk result (out.new ≡ out.old ++ m.Port port.now ∷ m.Sent port.now name.now (count_written (part_view args.now)) ∷ (mentioned_part (part_view args.now) ++ mentioned_part (part_view block.now))) }
+    ensures { OnOk result (out.new ≡ out.old ++ m.Port port.now ∷ m.Sent port.now name.now
+        (count_written (part_view args.now)) ∷ (mentioned_part
+        (part_view args.now) ++ mentioned_part (part_view block.now))) }
 {
     add_port(out, port)?;
     out.push(Mention::Sent {
@@ -138,7 +142,8 @@ fn add_received(out: &mut Items<Mention>, into: &Option<Items<Id>>) -> Result<()
 }
 
 fn add_condition(out: &mut Items<Mention>, condition: &Option<Expr>) -> Result<(), AllocError>
-    ensures { OnOk result (out.new ≡ out.old ++ mentioned_condition (option_map expression_view.view condition.now)) }
+    ensures { OnOk result (out.new ≡ out.old ++ mentioned_condition
+        (option_map expression_view.view condition.now)) }
 {
     match condition {
         None => Ok(()),
@@ -154,7 +159,10 @@ fn add_receive(
     condition: &Option<Expr>,
     block: &Option<Items<Expr>>,
 ) -> Result<(), AllocError>
-    ensures { OnOk result (out.new ≡ out.old ++ m.Port port.now ∷ m.Received port.now name.now (length (received into.now)) ∷ (variables (received into.now) ++ (mentioned_condition (option_map expression_view.view condition.now) ++ mentioned_part (part_view block.now)))) }
+    ensures { OnOk result (out.new ≡ out.old ++ m.Port port.now ∷ m.Received port.now name.now
+        (length (received into.now)) ∷ (variables (received into.now) ++
+        (mentioned_condition (option_map expression_view.view condition.now) ++ mentioned_part
+        (part_view block.now)))) }
 {
     add_port(out, port)?;
     out.push(Mention::Received {
@@ -173,7 +181,8 @@ fn add_call(
     args: &[Expr],
     results: &[Id],
 ) -> Result<(), AllocError>
-    ensures { OnOk result (out.new ≡ out.old ++ m.Called method.now (count (list_view args.now)) (length results.now) ∷ (mentioned_all (list_view args.now) ++ variables results.now)) }
+    ensures { OnOk result (out.new ≡ out.old ++ m.Called method.now (count (list_view args.now))
+        (length results.now) ∷ (mentioned_all (list_view args.now) ++ variables results.now)) }
 {
     out.push(Mention::Called {
         name: method.copy()?,

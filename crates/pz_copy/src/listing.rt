@@ -35,7 +35,8 @@ pub fn list_reached(
     ensures one { HasOneListing state.now.held values.now }
     ensures listing { IfOk result (λ listed. IsListing state.now.held values.now listed.keys) }
     ensures few { IfOk result (λ listed. length listed.keys ≤ object_limit) }
-    ensures there { IfOk result (λ listed. All (λ r. r < length state.now.held.objects) listed.keys) }
+    ensures there { IfOk result (λ listed. All (λ r. r < length state.now.held.objects)
+        listed.keys) }
 {
     // Each reference in a state names an object, so the list is never longer than this.
     let _count = state.objects();

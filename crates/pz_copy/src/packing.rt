@@ -42,7 +42,8 @@ fn pack_values(
     listed: &IndexSet<u32>,
 ) -> Result<Vec<Value>, AllocError>
     requires { length listed.now.keys ≤ object_limit }
-    ensures { IfOk result (λ copies. copies.items ≡ map (renumbered (place_in listed.now.keys)) values.now) }
+    ensures { IfOk result (λ copies. copies.items ≡ map
+        (renumbered (place_in listed.now.keys)) values.now) }
 {
     let mut copies = Vec::with_capacity(alloc, values.len())?;
     for value in values {
@@ -60,8 +61,10 @@ fn pack_objects(
 ) -> Result<Vec<Object>, AllocError>
     requires few { length listed.now.keys ≤ object_limit }
     requires there { All (λ r. r < length state.now.held.objects) listed.now.keys }
-    ensures objects { IfOk result (λ objects. plain_objects objects.items ≡ packed_objects state.now.held listed.now.keys) }
-    ensures sizes { IfOk result (λ objects. All (λ o. length o.items < 2 ^ 32) (plain_objects objects.items)) }
+    ensures objects { IfOk result (λ objects. plain_objects objects.items ≡
+        packed_objects state.now.held listed.now.keys) }
+    ensures sizes { IfOk result (λ objects. All (λ o. length o.items < 2 ^ 32)
+        (plain_objects objects.items)) }
 {
     let mut objects = Vec::with_capacity(alloc, listed.len())?;
     for place in 0..listed.len() {

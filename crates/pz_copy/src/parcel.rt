@@ -27,7 +27,10 @@ impl Model for Parcel {
 impl Parcel {
     /// A parcel of these values and objects, whose references are numbers of these objects.
     pub(crate) fn new(values: Vec<Value>, objects: Vec<Object>) -> Parcel
-        requires { IsParcel (record { values = values.items; objects = plain_objects objects.items }) }
+        requires { IsParcel (record {
+          values = values.items;
+          objects = plain_objects objects.items;
+        }) }
         ensures { result ≡ record { values = values.items; objects = plain_objects objects.items } }
     {
         Parcel { values, objects }

@@ -109,7 +109,8 @@ fn put_object(
     number: u32,
     object: &Object,
 ) -> Result<(), AllocError>
-    ensures { OnOk result (out.new.items ≡ out.old.items ++ object_text names.now number object.now.object) }
+    ensures { OnOk result (out.new.items ≡ out.old.items ++ object_text names.now number
+        object.now.object) }
 {
     put_number(out, number)?;
     out.push(b'=')?;
@@ -123,7 +124,8 @@ fn put_object(
 /// The objects in braces, separated by semicolons; nothing where there is none.
 fn put_objects(out: &mut Vec<u8>, names: &[Text], objects: &[Object]) -> Result<(), AllocError>
     requires { length objects.now ≤ object_limit }
-    ensures { OnOk result (out.new.items ≡ out.old.items ++ objects_text names.now (plain_objects objects.now)) }
+    ensures { OnOk result (out.new.items ≡ out.old.items ++ objects_text names.now
+        (plain_objects objects.now)) }
 {
     let Some((first, rest)) = objects.split_first() else {
         return Ok(());

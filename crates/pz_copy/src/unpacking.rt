@@ -66,8 +66,10 @@ fn shift_values(alloc: Global, values: &[Value], count: u32) -> Result<Vec<Value
 /// Makes an object without values for each of these. The only error is want of memory.
 fn make_objects(state: &mut State, objects: &[Object]) -> Result<(), AllocError>
     requires sizes { All (λ o. length o.items < 2 ^ 32) (plain_objects objects.now) }
-    requires room { length state.old.held.objects + length (plain_objects objects.now) ≤ object_limit }
-    ensures ok { OnOk result (state.new ≡ changed state.old (with_blanks state.old.held (plain_objects objects.now))) }
+    requires room { length state.old.held.objects + length (plain_objects objects.now) ≤
+        object_limit }
+    ensures ok { OnOk result (state.new ≡ changed state.old
+        (with_blanks state.old.held (plain_objects objects.now))) }
     ensures marks { state.new.marks ≡ state.old.marks }
 {
     for object in objects {
@@ -89,7 +91,8 @@ fn fill_object(state: &mut State, r: u32, items: &[Value], count: u32) -> Result
     requires room { length state.old.held.objects ≤ object_limit }
     requires below { count ≤ length state.old.held.objects }
     requires within { All (RefersWithin (length state.old.held.objects - count)) items.now }
-    ensures ok { OnOk result (state.new ≡ changed state.old (filled r (shifted_values count items.now) state.old.held)) }
+    ensures ok { OnOk result (state.new ≡ changed state.old
+        (filled r (shifted_values count items.now) state.old.held)) }
     ensures marks { state.new.marks ≡ state.old.marks }
 {
     for (place, item) in items.iter().enumerate() {
@@ -102,12 +105,18 @@ fn fill_object(state: &mut State, r: u32, items: &[Value], count: u32) -> Result
 /// Gives the last objects, of which the first has this number, the items of these, with references
 /// that are so much greater. The only error is want of memory.
 fn fill_objects(state: &mut State, objects: &[Object], count: u32) -> Result<(), AllocError>
-    requires blank { state.old.held.objects ≡ take count state.old.held.objects ++ map blank_of (plain_objects objects.now) }
+    requires blank { state.old.held.objects ≡ take count state.old.held.objects ++ map blank_of
+        (plain_objects objects.now) }
     requires number { length (take count state.old.held.objects) ≡ count }
     requires room { length state.old.held.objects ≤ object_limit }
-    requires within { All (λ o. All (RefersWithin (length (plain_objects objects.now))) o.items) (plain_objects objects.now) }
+    requires within { All (λ o. All (RefersWithin (length (plain_objects objects.now))) o.items)
+        (plain_objects objects.now) }
     requires sizes { All (λ o. length o.items < 2 ^ 32) (plain_objects objects.now) }
-    ensures ok { OnOk result (state.new ≡ changed state.old (record state.old.held { objects = take count state.old.held.objects ++ shifted_objects count (plain_objects objects.now) })) }
+    ensures ok { OnOk result (state.new ≡ changed state.old
+        (record state.old.held {
+          objects = take count state.old.held.objects ++ shifted_objects
+              count (plain_objects objects.now);
+        })) }
     ensures marks { state.new.marks ≡ state.old.marks }
 {
     for (place, object) in objects.iter().enumerate() {
@@ -133,12 +142,16 @@ fn append(state: &mut State, parcel: &Parcel, count: u32) -> Result<(), AllocErr
 /// Puts a parcel into a state: its objects behind those that are there, with references to them there,
 /// and gives its values in order, likewise. At a refusal all is as before.
 pub fn unpack(alloc: Global, state: &mut State, parcel: &Parcel) -> Result<Vec<Value>, UnpackError>
-    ensures values { IfOk result (λ values. values.items ≡ unpacked_values state.old.held parcel.now) }
-    ensures within { IfOk result (λ values. All (RefersWithin (length state.new.held.objects)) values.items) }
+    ensures values { IfOk result (λ values. values.items ≡
+        unpacked_values state.old.held parcel.now) }
+    ensures within { IfOk result (λ values. All (RefersWithin (length state.new.held.objects))
+        values.items) }
     ensures ok { OnOk result (state.new ≡ changed state.old (unpacked state.old.held parcel.now)) }
     ensures err { OnErr result (state.new ≡ state.old) }
-    ensures full { result ≡ Err UnpackError.StoreFull ↔ object_limit < length state.old.held.objects + length parcel.now.objects }
-    ensures sharing { IfOk result (λ values. (s : StateView) (packed : List Value) → IsParcelOf s packed parcel.now → SameUpToNumbers s packed state.new.held values.items) }
+    ensures full { result ≡ Err UnpackError.StoreFull
+        ↔ object_limit < length state.old.held.objects + length parcel.now.objects }
+    ensures sharing { IfOk result (λ values. (s : StateView) (packed : List Value) →
+        IsParcelOf s packed parcel.now → SameUpToNumbers s packed state.new.held values.items) }
 {
     let count = state.objects();
     if parcel.objects().len() > (OBJECT_LIMIT - count) as usize {

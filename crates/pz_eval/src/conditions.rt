@@ -29,7 +29,8 @@ fn bind_values(
     values: Vec<Value>,
 ) -> Result<(), UnpackError>
     requires { All (RefersWithin (length state.old.held.objects)) values.items }
-    ensures ok { OnOk result (state.new ≡ changed state.old (set_slots frame.0 into.now values.items state.old.held)) }
+    ensures ok { OnOk result (state.new ≡ changed state.old
+        (set_slots frame.0 into.now values.items state.old.held)) }
     ensures marks { state.new.marks ≡ state.old.marks }
     ensures err { OnErr result (result ≡ Err UnpackError.NoMemory) }
 {
@@ -47,7 +48,8 @@ fn bind(
     parcel: &Parcel,
     into: &[Slot],
 ) -> Result<(), UnpackError>
-    ensures ok { OnOk result (state.new ≡ changed state.old (bound frame.0 into.now parcel.now state.old.held)) }
+    ensures ok { OnOk result (state.new ≡ changed state.old
+        (bound frame.0 into.now parcel.now state.old.held)) }
     ensures fits { OnOk result (Fits state.old.held parcel.now) }
     ensures full { result ≡ Err UnpackError.StoreFull → ¬ Fits state.old.held parcel.now }
     ensures marks { state.new.marks ≡ state.old.marks }
@@ -72,7 +74,9 @@ fn condition_of(
     allowance: Allowance,
 ) -> Result<Outcome, AllocError>
     requires { AreKnown classes.now }
-    ensures finds { (m : ModelTree) → ∥ AreClasses m classes.now ∥₁ → IfOk result (FindsCondition m clock frame.0 state.old.held parcel.now into.now receive (view code.now) allowance) }
+    ensures finds { (m : ModelTree) → ∥ AreClasses m classes.now ∥₁ →
+        IfOk result (FindsCondition m clock frame.0 state.old.held parcel.now into.now receive
+        (view code.now) allowance) }
     ensures marks { state.new.marks ≡ state.old.marks }
 {
     match bind(alloc, state, frame, parcel, into) {
@@ -98,7 +102,9 @@ pub fn try_condition(
     allowance: Allowance,
 ) -> Result<Outcome, AllocError>
     requires { AreKnown classes.now }
-    ensures finds { (m : ModelTree) → ∥ AreClasses m classes.now ∥₁ → IfOk result (FindsCondition m clock frame.0 state.old.held parcel.now into.now receive (view code.now) allowance) }
+    ensures finds { (m : ModelTree) → ∥ AreClasses m classes.now ∥₁ →
+        IfOk result (FindsCondition m clock frame.0 state.old.held parcel.now into.now receive
+        (view code.now) allowance) }
     ensures state { state.new ≡ state.old }
 {
     let point = state.mark()?;

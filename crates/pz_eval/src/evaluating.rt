@@ -15,7 +15,7 @@ use pz_classes::Classes;
 use pz_classes_code::Code;
 use pz_eval_machine::{Basis, Finish, evaluate};
 use pz_eval_operations::Stop;
-use pz_eval_rules::{Allowance, Listed, Outcome, computed_is_found};
+use pz_eval_rules::{Allowance, Listed, Outcome};
 use pz_state::{FrameId, State};
 use std::alloc::{AllocError, Global};
 
@@ -63,13 +63,15 @@ pub fn eval(
     allowance: Allowance,
 ) -> Result<Outcome, AllocError>
     requires { AreKnown classes.now }
-    ensures finds { (m : ModelTree) → ∥ AreClasses m classes.now ∥₁ → IfOk result (λ outcome. Finds m clock frame.0 state.old.held (view code.now) allowance outcome state.new.held) }
+    ensures finds { (m : ModelTree) → ∥ AreClasses m classes.now ∥₁ →
+        IfOk result (λ outcome. Finds m clock frame.0 state.old.held
+        (view code.now) allowance outcome state.new.held) }
     ensures within { IfOk result (NamesWithin (length state.new.held.objects)) }
     ensures kept { IfOk result (UnlessValue (state.new ≡ state.old)) }
     ensures marks { state.new.marks ≡ state.old.marks }
     ensures err { OnErr result (state.new ≡ state.old) }
 {
-    computed_is_found();
+    pz_eval_rules::laws::computed_is_found();
     let point = state.mark()?;
     let basis = Basis {
         alloc,
@@ -101,10 +103,11 @@ pub fn try_eval(
     allowance: Allowance,
 ) -> Result<Outcome, AllocError>
     requires { AreKnown classes.now }
-    ensures finds { (m : ModelTree) → ∥ AreClasses m classes.now ∥₁ → IfOk result (WouldFind m clock frame.0 state.old.held (view code.now) allowance) }
+    ensures finds { (m : ModelTree) → ∥ AreClasses m classes.now ∥₁ →
+        IfOk result (WouldFind m clock frame.0 state.old.held (view code.now) allowance) }
     ensures state { state.new ≡ state.old }
 {
-    computed_is_found();
+    pz_eval_rules::laws::computed_is_found();
     let point = state.mark()?;
     let basis = Basis {
         alloc,
@@ -132,13 +135,15 @@ pub fn eval_list(
     allowance: Allowance,
 ) -> Result<Listed, AllocError>
     requires { AreKnown classes.now }
-    ensures finds { (m : ModelTree) → ∥ AreClasses m classes.now ∥₁ → IfOk result (λ listed. FindsAll m clock frame.0 state.old.held (list_view codes.now) allowance listed state.new.held) }
+    ensures finds { (m : ModelTree) → ∥ AreClasses m classes.now ∥₁ →
+        IfOk result (λ listed. FindsAll m clock frame.0 state.old.held
+        (list_view codes.now) allowance listed state.new.held) }
     ensures within { IfOk result (NameWithin (length state.new.held.objects)) }
     ensures kept { IfOk result (UnlessValues (state.new ≡ state.old)) }
     ensures marks { state.new.marks ≡ state.old.marks }
     ensures err { OnErr result (state.new ≡ state.old) }
 {
-    computed_is_found();
+    pz_eval_rules::laws::computed_is_found();
     let point = state.mark()?;
     let basis = Basis {
         alloc,

@@ -39,9 +39,13 @@ pub(crate) fn evaluate_list(
     codes: &[Code],
 ) -> Result<Items<Value>, Stop>
     requires { AreKnown basis.classes.now }
-    ensures gathers { (model : ModelTree) → AreClasses model basis.entry.classes.now → Gathers result state.new.held units.new (arguments model basis.entry.clock (evaluated model basis.entry.clock depth) (in_process frame.0) [] (list_view codes.now) (outside state.old.held) units.old) }
+    ensures gathers { (model : ModelTree) → AreClasses model basis.entry.classes.now →
+        Gathers result state.new.held units.new (arguments model basis.entry.clock
+        (evaluated model basis.entry.clock depth) (in_process frame.0) [] (list_view codes.now)
+        (outside state.old.held) units.old) }
     ensures marks { state.new.marks ≡ state.old.marks }
-    ensures within { IfOk result (λ values. All (RefersWithin (length state.new.held.objects)) values) }
+    ensures within { IfOk result (λ values. All (RefersWithin (length state.new.held.objects))
+        values) }
 {
     let mut values = Items::new(basis.alloc);
     for code in codes {

@@ -48,7 +48,8 @@ fn parcel_of(
     allowance: Allowance,
 ) -> Result<Parceled, AllocError>
     requires { AreKnown classes.now }
-    ensures finds { (m : ModelTree) → ∥ AreClasses m classes.now ∥₁ → IfOk result (FindsParcel m clock frame.0 state.old.held (list_view codes.now) allowance) }
+    ensures finds { (m : ModelTree) → ∥ AreClasses m classes.now ∥₁ →
+        IfOk result (FindsParcel m clock frame.0 state.old.held (list_view codes.now) allowance) }
     ensures marks { state.new.marks ≡ state.old.marks }
 {
     match eval_list(alloc, classes, state, frame, clock, codes, allowance) {
@@ -71,7 +72,8 @@ pub fn try_parcel(
     allowance: Allowance,
 ) -> Result<Parceled, AllocError>
     requires { AreKnown classes.now }
-    ensures finds { (m : ModelTree) → ∥ AreClasses m classes.now ∥₁ → IfOk result (FindsParcel m clock frame.0 state.old.held (list_view codes.now) allowance) }
+    ensures finds { (m : ModelTree) → ∥ AreClasses m classes.now ∥₁ →
+        IfOk result (FindsParcel m clock frame.0 state.old.held (list_view codes.now) allowance) }
     ensures state { state.new ≡ state.old }
 {
     let point = state.mark()?;

@@ -20,7 +20,8 @@ pub fn set_slot(
     value: Value,
 ) -> Result<(), AllocError>
     requires { RefersWithin (length state.old.held.objects) value }
-    ensures ok { OnOk result (state.new ≡ changed state.old (set_slot frame.0 slot value state.old.held)) }
+    ensures ok { OnOk result (state.new ≡ changed state.old
+        (set_slot frame.0 slot value state.old.held)) }
     ensures marks { state.new.marks ≡ state.old.marks }
 {
     match slot {
@@ -38,7 +39,8 @@ pub fn set_slots(
     mut values: Vec<Value>,
 ) -> Result<(), AllocError>
     requires { All (RefersWithin (length state.old.held.objects)) values.items }
-    ensures ok { OnOk result (state.new ≡ changed state.old (set_slots frame.0 slots.now values.items state.old.held)) }
+    ensures ok { OnOk result (state.new ≡ changed state.old
+        (set_slots frame.0 slots.now values.items state.old.held)) }
     ensures marks { state.new.marks ≡ state.old.marks }
 {
     for (place, slot) in slots.iter().enumerate() {

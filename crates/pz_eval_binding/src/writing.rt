@@ -12,7 +12,8 @@ use std::alloc::AllocError;
 /// Gives a variable of the process a value, if it is there.
 pub fn write_variable(state: &mut State, slot: u32, value: Value) -> Result<(), AllocError>
     requires { RefersWithin (length state.old.held.objects) value }
-    ensures ok { OnOk result (state.new ≡ changed state.old (set_variable state.old.held slot value)) }
+    ensures ok { OnOk result (state.new ≡ changed state.old
+        (set_variable state.old.held slot value)) }
     ensures err { OnErr result (state.new ≡ state.old) }
 {
     if slot as usize >= state.variables() {
@@ -29,7 +30,8 @@ pub fn write_local(
     value: Value,
 ) -> Result<(), AllocError>
     requires { RefersWithin (length state.old.held.objects) value }
-    ensures ok { OnOk result (state.new ≡ changed state.old (set_local state.old.held frame.0 slot value)) }
+    ensures ok { OnOk result (state.new ≡ changed state.old
+        (set_local state.old.held frame.0 slot value)) }
     ensures err { OnErr result (state.new ≡ state.old) }
 {
     if slot >= state.locals(frame).len() {

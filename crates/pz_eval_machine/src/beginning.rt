@@ -42,7 +42,10 @@ use std::alloc::Global;
 
 /// A constant counts one unit.
 fn give_constant<'a>(alloc: Global, units: &mut u64, literal: &Literal) -> Result<Control<'a>, Stop>
-    ensures goes { (model : ModelTree) (now : ℕ) (p : Location) (ks : List Tasks) (m : Memory) → Goes (λ c. meant model now p ks c m units.new) result units.new (and_then (ticked (λ m1 r1. done (gives (literals.constant literal.now) m1) r1) m units.old) (pending model now p ks)) }
+    ensures goes { (model : ModelTree) (now : ℕ) (p : Location) (ks : List Tasks) (m : Memory) →
+        Goes (λ c. meant model now p ks c m units.new) result units.new
+        (and_then (ticked (λ m1 r1. done (gives (literals.constant literal.now) m1) r1) m units.old)
+        (pending model now p ks)) }
     ensures within { (count : ℕ) → IfOk result (ControlWithin count) }
     ensures counted { OnOk result (units.new < units.old) }
 {
@@ -59,7 +62,12 @@ fn give_variable<'a>(
     slot: Slot,
 ) -> Result<Control<'a>, Stop>
     requires { All (RefersWithin (length state.now.held.objects)) locals.now }
-    ensures goes { (model : ModelTree) (now : ℕ) (ks : List Tasks) → Goes (λ c. meant model now (place_of site) ks c (memory_at site state.now.held locals.now) units.new) result units.new (and_then (ticked (λ m1 r1. done (gives (memories.read (place_of site) slot m1) m1) r1) (memory_at site state.now.held locals.now) units.old) (pending model now (place_of site) ks)) }
+    ensures goes { (model : ModelTree) (now : ℕ) (ks : List Tasks) →
+        Goes (λ c. meant model now (place_of site) ks c
+        (memory_at site state.now.held locals.now) units.new) result units.new
+        (and_then (ticked (λ m1 r1. done (gives (memories.read (place_of site) slot m1) m1) r1)
+        (memory_at site state.now.held locals.now) units.old)
+        (pending model now (place_of site) ks)) }
     ensures within { IfOk result (ControlWithin (length state.now.held.objects)) }
     ensures counted { OnOk result (units.new < units.old) }
 {
@@ -69,7 +77,10 @@ fn give_variable<'a>(
 
 /// `self` counts one unit; outside data methods it is nil.
 fn give_self<'a>(units: &mut u64, site: Site) -> Result<Control<'a>, Stop>
-    ensures goes { (model : ModelTree) (now : ℕ) (ks : List Tasks) (m : Memory) → Goes (λ c. meant model now (place_of site) ks c m units.new) result units.new (and_then (ticked (λ m1 r1. done (gives (memories.self_at (place_of site)) m1) r1) m units.old) (pending model now (place_of site) ks)) }
+    ensures goes { (model : ModelTree) (now : ℕ) (ks : List Tasks) (m : Memory) →
+        Goes (λ c. meant model now (place_of site) ks c m units.new) result units.new
+        (and_then (ticked (λ m1 r1. done (gives (memories.self_at (place_of site)) m1) r1) m
+        units.old) (pending model now (place_of site) ks)) }
     ensures within { (count : ℕ) → SiteWithin count site → IfOk result (ControlWithin count) }
     ensures counted { OnOk result (units.new < units.old) }
 {
@@ -79,7 +90,10 @@ fn give_self<'a>(units: &mut u64, site: Site) -> Result<Control<'a>, Stop>
 
 /// The time counts one unit.
 fn give_time<'a>(clock: u128, units: &mut u64, at: Pos) -> Result<Control<'a>, Stop>
-    ensures goes { (model : ModelTree) (now : ℕ) (p : Location) (ks : List Tasks) (m : Memory) → Goes (λ c. meant model now p ks c m units.new) result units.new (and_then (ticked (λ m1 r1. done (steps.time clock at m1) r1) m units.old) (pending model now p ks)) }
+    ensures goes { (model : ModelTree) (now : ℕ) (p : Location) (ks : List Tasks) (m : Memory) →
+        Goes (λ c. meant model now p ks c m units.new) result units.new
+        (and_then (ticked (λ m1 r1. done (steps.time clock at m1) r1) m units.old)
+        (pending model now p ks)) }
     ensures within { (count : ℕ) → IfOk result (ControlWithin count) }
     ensures counted { OnOk result (units.new < units.old) }
 {
@@ -105,7 +119,12 @@ fn give_new<'a>(
     class: ClassId,
     at: Pos,
 ) -> Result<Control<'a>, Stop>
-    ensures goes { (model : ModelTree) (now : ℕ) (p : Location) (ks : List Tasks) (locals : List Values) → AreClasses model classes.now → Goes (λ c. meant model now p ks c (record { state = state.new.held; locals = locals }) units.new) result units.new (and_then (ticked (λ m1 r1. done (steps.created model class at m1) r1) (record { state = state.old.held; locals = locals }) units.old) (pending model now p ks)) }
+    ensures goes { (model : ModelTree) (now : ℕ) (p : Location) (ks : List Tasks)
+        (locals : List Values) → AreClasses model classes.now →
+        Goes (λ c. meant model now p ks c (record { state = state.new.held; locals = locals })
+        units.new) result units.new (and_then (ticked
+        (λ m1 r1. done (steps.created model class at m1) r1)
+        (record { state = state.old.held; locals = locals }) units.old) (pending model now p ks)) }
     ensures marks { state.new.marks ≡ state.old.marks }
     ensures count { length state.old.held.objects ≤ length state.new.held.objects }
     ensures within { IfOk result (ControlWithin (length state.new.held.objects)) }
@@ -122,8 +141,12 @@ fn begin_group<'a>(
     depth: u32,
     codes: &'a [Code],
 ) -> Result<Control<'a>, Stop>
-    ensures goes { (model : ModelTree) (now : ℕ) (p : Location) (m : Memory) → Goes (λ c. meant model now p tasks.new.items c m units.new) result units.new (and_then (ticked (sequence model now (evaluated model now depth) p Nil (list_view codes.now)) m units.old) (pending model now p tasks.old.items)) }
-    ensures within { IfOk result (λ c. (count : ℕ) → All (TaskWithin count) tasks.old.items → All (TaskWithin count) tasks.new.items × ControlWithin count c) }
+    ensures goes { (model : ModelTree) (now : ℕ) (p : Location) (m : Memory) →
+        Goes (λ c. meant model now p tasks.new.items c m units.new) result units.new
+        (and_then (ticked (sequence model now (evaluated model now depth) p Nil
+        (list_view codes.now)) m units.old) (pending model now p tasks.old.items)) }
+    ensures within { IfOk result (λ c. (count : ℕ) → All (TaskWithin count) tasks.old.items →
+        All (TaskWithin count) tasks.new.items × ControlWithin count c) }
     ensures counted { OnOk result (units.new < units.old) }
 {
     tick(units)?;
@@ -141,13 +164,23 @@ fn begin_chain<'a>(
     links: &'a [CodeLink],
 ) -> Result<Control<'a>, Stop>
     requires { ActivationWithin (length state.old.held.objects) activation.old }
-    ensures goes { (model : ModelTree) (now : ℕ) → Goes (coming model now activation.new state.new.held units.new) result units.new (then_tasks model now activation.old (and_then (evaluated model now depth (place_of activation.old.site) (view first.now) (memory_of activation.old state.old.held) units.old) (λ y. operators model now (evaluated model now depth) (place_of activation.old.site) y (links_view links.now)))) }
+    ensures goes { (model : ModelTree) (now : ℕ) →
+        Goes (coming model now activation.new state.new.held units.new) result units.new
+        (then_tasks model now activation.old (and_then
+        (evaluated model now depth (place_of activation.old.site) (view first.now)
+        (memory_of activation.old state.old.held) units.old)
+        (λ y. operators model now (evaluated model now depth) (place_of activation.old.site) y
+        (links_view links.now)))) }
     ensures marks { state.new.marks ≡ state.old.marks }
     ensures count { length state.new.held.objects ≡ length state.old.held.objects }
     ensures site { activation.new.site ≡ activation.old.site }
     ensures locals { activation.new.locals ≡ activation.old.locals }
-    ensures within { IfOk result (λ c. ActivationWithin (length state.new.held.objects) activation.new × ControlWithin (length state.new.held.objects) c) }
-    ensures falls { IfOk result (λ c. Falls units.old (suc (weight (view first.now) + suc (links_weight (links_view links.now))) + tasks_weight activation.old.tasks.items) units.new (load c activation.new.tasks.items)) }
+    ensures within { IfOk result (λ c. ActivationWithin
+        (length state.new.held.objects) activation.new
+        × ControlWithin (length state.new.held.objects) c) }
+    ensures falls { IfOk result (λ c. Falls units.old
+        (suc (weight (view first.now) + suc (links_weight (links_view links.now))) + tasks_weight
+        activation.old.tasks.items) units.new (load c activation.new.tasks.items)) }
 {
     match at_once(state, units, activation, depth, first) {
         Some(left) => go_on_operators(alloc, state, units, activation, depth, left, links),
@@ -171,11 +204,21 @@ fn begin_sends<'a>(
     sendings: &'a [CodeSending],
 ) -> Result<Control<'a>, Stop>
     requires { ActivationWithin (length state.now.held.objects) activation.old }
-    ensures goes { (model : ModelTree) (now : ℕ) → Goes (coming model now activation.new state.now.held units.new) result units.new (then_tasks model now activation.old (and_then (evaluated model now depth (place_of activation.old.site) (view first.now) (memory_of activation.old state.now.held) units.old) (λ y. selectors model now (evaluated model now depth) (place_of activation.old.site) y (sendings_view sendings.now)))) }
+    ensures goes { (model : ModelTree) (now : ℕ) →
+        Goes (coming model now activation.new state.now.held units.new) result units.new
+        (then_tasks model now activation.old (and_then
+        (evaluated model now depth (place_of activation.old.site) (view first.now)
+        (memory_of activation.old state.now.held) units.old)
+        (λ y. selectors model now (evaluated model now depth) (place_of activation.old.site) y
+        (sendings_view sendings.now)))) }
     ensures site { activation.new.site ≡ activation.old.site }
     ensures locals { activation.new.locals ≡ activation.old.locals }
-    ensures within { IfOk result (λ c. ActivationWithin (length state.now.held.objects) activation.new × ControlWithin (length state.now.held.objects) c) }
-    ensures falls { IfOk result (λ c. Falls units.old (suc (weight (view first.now) + suc (sendings_weight (sendings_view sendings.now))) + tasks_weight activation.old.tasks.items) units.new (load c activation.new.tasks.items)) }
+    ensures within { IfOk result (λ c. ActivationWithin
+        (length state.now.held.objects) activation.new
+        × ControlWithin (length state.now.held.objects) c) }
+    ensures falls { IfOk result (λ c. Falls units.old
+        (suc (weight (view first.now) + suc (sendings_weight (sendings_view sendings.now)))
+        + tasks_weight activation.old.tasks.items) units.new (load c activation.new.tasks.items)) }
 {
     match at_once(state, units, activation, depth, first) {
         Some(receiver) => {
@@ -200,11 +243,19 @@ fn begin_assign<'a>(
     code: &'a Code,
 ) -> Result<Control<'a>, Stop>
     requires { ActivationWithin (length state.old.held.objects) activation.old }
-    ensures goes { (model : ModelTree) (now : ℕ) → Goes (coming model now activation.new state.new.held units.new) result units.new (then_tasks model now activation.old (ticked (λ m r. and_then (evaluated model now depth (place_of activation.old.site) (view code.now) m r) (λ y m1 r1. done (gives y (memories.write (place_of activation.old.site) slot y m1)) r1)) (memory_of activation.old state.old.held) units.old)) }
+    ensures goes { (model : ModelTree) (now : ℕ) →
+        Goes (coming model now activation.new state.new.held units.new) result units.new
+        (then_tasks model now activation.old (ticked
+        (λ m r. and_then (evaluated model now depth (place_of activation.old.site)
+        (view code.now) m r) (λ y m1 r1. done (gives y
+        (memories.write (place_of activation.old.site) slot y m1)) r1))
+        (memory_of activation.old state.old.held) units.old)) }
     ensures marks { state.new.marks ≡ state.old.marks }
     ensures count { length state.new.held.objects ≡ length state.old.held.objects }
     ensures site { activation.new.site ≡ activation.old.site }
-    ensures within { IfOk result (λ c. ActivationWithin (length state.new.held.objects) activation.new × ControlWithin (length state.new.held.objects) c) }
+    ensures within { IfOk result (λ c. ActivationWithin
+        (length state.new.held.objects) activation.new
+        × ControlWithin (length state.new.held.objects) c) }
     ensures counted { OnOk result (units.new < units.old) }
 {
     tick(units)?;
@@ -223,10 +274,17 @@ fn begin_return<'a>(
     code: &'a Code,
 ) -> Result<Control<'a>, Stop>
     requires { ActivationWithin (length state.now.held.objects) activation.old }
-    ensures goes { (model : ModelTree) (now : ℕ) → Goes (coming model now activation.new state.now.held units.new) result units.new (then_tasks model now activation.old (ticked (λ m r. and_then (evaluated model now depth (place_of activation.old.site) (view code.now) m r) (λ y m1 r1. done (stops (ends y m1)) r1)) (memory_of activation.old state.now.held) units.old)) }
+    ensures goes { (model : ModelTree) (now : ℕ) →
+        Goes (coming model now activation.new state.now.held units.new) result units.new
+        (then_tasks model now activation.old (ticked
+        (λ m r. and_then (evaluated model now depth (place_of activation.old.site)
+        (view code.now) m r) (λ y m1 r1. done (stops (ends y m1)) r1))
+        (memory_of activation.old state.now.held) units.old)) }
     ensures site { activation.new.site ≡ activation.old.site }
     ensures locals { activation.new.locals ≡ activation.old.locals }
-    ensures within { IfOk result (λ c. ActivationWithin (length state.now.held.objects) activation.new × ControlWithin (length state.now.held.objects) c) }
+    ensures within { IfOk result (λ c. ActivationWithin
+        (length state.now.held.objects) activation.new
+        × ControlWithin (length state.now.held.objects) c) }
     ensures counted { OnOk result (units.new < units.old) }
 {
     tick(units)?;
@@ -248,10 +306,19 @@ fn begin_if<'a>(
     other: &'a Option<Items<Code>>,
 ) -> Result<Control<'a>, Stop>
     requires { ActivationWithin (length state.now.held.objects) activation.old }
-    ensures goes { (model : ModelTree) (now : ℕ) → Goes (coming model now activation.new state.now.held units.new) result units.new (then_tasks model now activation.old (ticked (λ m r. and_then (evaluated model now depth (place_of activation.old.site) (view test.now) m r) (λ y. tested at (truth y) (λ b. sequence model now (evaluated model now depth) (place_of activation.old.site) Nil (chosen b (list_view part.now) (part_view other.now))))) (memory_of activation.old state.now.held) units.old)) }
+    ensures goes { (model : ModelTree) (now : ℕ) →
+        Goes (coming model now activation.new state.now.held units.new) result units.new
+        (then_tasks model now activation.old (ticked
+        (λ m r. and_then (evaluated model now depth (place_of activation.old.site)
+        (view test.now) m r) (λ y. tested at (truth y)
+        (λ b. sequence model now (evaluated model now depth) (place_of activation.old.site) Nil
+        (chosen b (list_view part.now) (part_view other.now)))))
+        (memory_of activation.old state.now.held) units.old)) }
     ensures site { activation.new.site ≡ activation.old.site }
     ensures locals { activation.new.locals ≡ activation.old.locals }
-    ensures within { IfOk result (λ c. ActivationWithin (length state.now.held.objects) activation.new × ControlWithin (length state.now.held.objects) c) }
+    ensures within { IfOk result (λ c. ActivationWithin
+        (length state.now.held.objects) activation.new
+        × ControlWithin (length state.now.held.objects) c) }
     ensures counted { OnOk result (units.new < units.old) }
 {
     tick(units)?;
@@ -282,12 +349,24 @@ fn begin_form<'a>(
     form: &'a CodeForm,
 ) -> Result<Control<'a>, Stop>
     requires { ActivationWithin (length state.old.held.objects) activation.old }
-    ensures goes { (model : ModelTree) → AreClasses model basis.entry.classes.now → Goes (λ c. meant model basis.entry.clock (place_of activation.new.site) activation.new.tasks.items c (memory_at activation.new.site state.new.held activation.new.locals.items) units.new) result units.new (and_then (step model basis.entry.clock (evaluated model basis.entry.clock depth) (place_of activation.old.site) (form_view form.now at) (memory_at activation.old.site state.old.held activation.old.locals.items) units.old) (pending model basis.entry.clock (place_of activation.old.site) activation.old.tasks.items)) }
+    ensures goes { (model : ModelTree) → AreClasses model basis.entry.classes.now →
+        Goes (λ c. meant model basis.entry.clock (place_of activation.new.site)
+        activation.new.tasks.items c (memory_at activation.new.site state.new.held
+        activation.new.locals.items) units.new) result units.new
+        (and_then (step model basis.entry.clock (evaluated model basis.entry.clock depth)
+        (place_of activation.old.site) (form_view form.now at)
+        (memory_at activation.old.site state.old.held activation.old.locals.items) units.old)
+        (pending model basis.entry.clock (place_of activation.old.site)
+        activation.old.tasks.items)) }
     ensures marks { state.new.marks ≡ state.old.marks }
     ensures count { length state.old.held.objects ≤ length state.new.held.objects }
     ensures site { activation.new.site ≡ activation.old.site }
-    ensures within { IfOk result (λ c. ActivationWithin (length state.new.held.objects) activation.new × ControlWithin (length state.new.held.objects) c) }
-    ensures falls { IfOk result (λ c. Falls units.old (weight (form_view form.now at) + tasks_weight activation.old.tasks.items) units.new (load c activation.new.tasks.items)) }
+    ensures within { IfOk result (λ c. ActivationWithin
+        (length state.new.held.objects) activation.new
+        × ControlWithin (length state.new.held.objects) c) }
+    ensures falls { IfOk result (λ c. Falls units.old
+        (weight (form_view form.now at) + tasks_weight activation.old.tasks.items) units.new
+        (load c activation.new.tasks.items)) }
 {
     match form {
         CodeForm::Lit(literal) => give_constant(basis.alloc, units, literal),
@@ -367,12 +446,23 @@ pub(crate) fn begin<'a>(
     code: &'a Code,
 ) -> Result<Control<'a>, Stop>
     requires { ActivationWithin (length state.old.held.objects) activation.old }
-    ensures goes { (model : ModelTree) → AreClasses model basis.entry.classes.now → Goes (λ c. meant model basis.entry.clock (place_of activation.new.site) activation.new.tasks.items c (memory_at activation.new.site state.new.held activation.new.locals.items) units.new) result units.new (and_then (evaluated model basis.entry.clock depth (place_of activation.old.site) (view code.now) (memory_at activation.old.site state.old.held activation.old.locals.items) units.old) (pending model basis.entry.clock (place_of activation.old.site) activation.old.tasks.items)) }
+    ensures goes { (model : ModelTree) → AreClasses model basis.entry.classes.now →
+        Goes (λ c. meant model basis.entry.clock (place_of activation.new.site)
+        activation.new.tasks.items c (memory_at activation.new.site state.new.held
+        activation.new.locals.items) units.new) result units.new
+        (and_then (evaluated model basis.entry.clock depth (place_of activation.old.site)
+        (view code.now) (memory_at activation.old.site state.old.held activation.old.locals.items)
+        units.old) (pending model basis.entry.clock
+        (place_of activation.old.site) activation.old.tasks.items)) }
     ensures marks { state.new.marks ≡ state.old.marks }
     ensures count { length state.old.held.objects ≤ length state.new.held.objects }
     ensures site { activation.new.site ≡ activation.old.site }
-    ensures within { IfOk result (λ c. ActivationWithin (length state.new.held.objects) activation.new × ControlWithin (length state.new.held.objects) c) }
-    ensures falls { IfOk result (λ c. Falls units.old (weight (view code.now) + tasks_weight activation.old.tasks.items) units.new (load c activation.new.tasks.items)) }
+    ensures within { IfOk result (λ c. ActivationWithin
+        (length state.new.held.objects) activation.new
+        × ControlWithin (length state.new.held.objects) c) }
+    ensures falls { IfOk result (λ c. Falls units.old
+        (weight (view code.now) + tasks_weight activation.old.tasks.items) units.new
+        (load c activation.new.tasks.items)) }
 {
     if depth == 0 {
         return Err(Stop::Spent);

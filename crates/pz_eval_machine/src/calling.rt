@@ -27,7 +27,8 @@ use std::mem;
 
 /// Adds nils until there are so many values. The only error is want of memory.
 fn fill_up(values: &mut Vec<Value>, count: u32) -> Result<(), AllocError>
-    ensures { OnOk result (values.new.items ≡ values.old.items ++ nils (count - length values.old.items)) }
+    ensures { OnOk result (values.new.items ≡ values.old.items ++ nils
+        (count - length values.old.items)) }
 {
     while values.len() < count as usize {
         values.push(Value::Nil)?;
@@ -44,7 +45,8 @@ fn start_method<'a>(
     count: u32,
 ) -> Result<Activation<'a>, AllocError>
     ensures site { IfOk result (λ a. a.site ≡ Object object) }
-    ensures locals { IfOk result (λ a. a.locals.items ≡ arguments.items ++ nils (count - length arguments.items)) }
+    ensures locals { IfOk result (λ a. a.locals.items ≡ arguments.items ++ nils
+        (count - length arguments.items)) }
     ensures tasks { IfOk result (λ a. a.tasks.items ≡ []) }
 {
     let mut locals = arguments;
@@ -66,9 +68,23 @@ fn call<'a>(
     object: u32,
     method: Method<'a>,
 ) -> Result<Control<'a>, Stop>
-    ensures goes { (model : ModelTree) (now : ℕ) (s : StateView) (r : ℕ) → Goes (λ c. unwound model now callers.new.items (meant model now (place_of activation.new.site) activation.new.tasks.items c (memory_at activation.new.site s activation.new.locals.items) r)) result r (unwound model now callers.old.items (and_then (and_then (replied model now (evaluated model now request.entry.depth) (runs object method.entry.locals (list_view method.entry.code.now)) request.entry.arguments.items (memory_at activation.old.site s activation.old.locals.items) r) (λ z. selectors model now (evaluated model now request.entry.depth) (place_of activation.old.site) z (sendings_view request.entry.more.now))) (pending model now (place_of activation.old.site) activation.old.tasks.items))) }
-    ensures root { OnOk result (root callers.new.items (place_of activation.new.site) ≡ root callers.old.items (place_of activation.old.site)) }
-    ensures within { IfOk result (λ c. (count : ℕ) → object < count → All (ActivationWithin count) callers.old.items → ActivationWithin count activation.old → RequestWithin count request.entry → All (ActivationWithin count) callers.new.items × ActivationWithin count activation.new × ControlWithin count c) }
+    ensures goes { (model : ModelTree) (now : ℕ) (s : StateView) (r : ℕ) →
+        Goes (λ c. unwound model now callers.new.items
+        (meant model now (place_of activation.new.site) activation.new.tasks.items c
+        (memory_at activation.new.site s activation.new.locals.items) r)) result r
+        (unwound model now callers.old.items (and_then
+        (and_then (replied model now (evaluated model now request.entry.depth)
+        (runs object method.entry.locals (list_view method.entry.code.now))
+        request.entry.arguments.items (memory_at activation.old.site s activation.old.locals.items)
+        r) (λ z. selectors model now (evaluated model now request.entry.depth)
+        (place_of activation.old.site) z (sendings_view request.entry.more.now)))
+        (pending model now (place_of activation.old.site) activation.old.tasks.items))) }
+    ensures root { OnOk result (root callers.new.items (place_of activation.new.site) ≡
+        root callers.old.items (place_of activation.old.site)) }
+    ensures within { IfOk result (λ c. (count : ℕ) → object < count →
+        All (ActivationWithin count) callers.old.items → ActivationWithin count activation.old →
+        RequestWithin count request.entry → All (ActivationWithin count) callers.new.items
+        × ActivationWithin count activation.new × ControlWithin count c) }
 {
     let Request {
         depth,
@@ -101,11 +117,26 @@ fn deliver<'a>(
     requires request { RequestWithin (length state.old.held.objects) request }
     requires within { ActivationWithin (length state.old.held.objects) activation.old }
     requires callers { All (ActivationWithin (length state.old.held.objects)) callers.old.items }
-    ensures goes { (model : ModelTree) → AreClasses model basis.entry.classes.now → Goes (λ c. unwound model basis.entry.clock callers.new.items (coming model basis.entry.clock activation.new state.new.held units.new c)) result units.new (unwound model basis.entry.clock callers.old.items (then_tasks model basis.entry.clock activation.old (and_then (replied model basis.entry.clock (evaluated model basis.entry.clock request.entry.depth) (reply model request.entry.receiver request.entry.selector.now request.entry.arguments.items (memory_of activation.old state.old.held)) request.entry.arguments.items (memory_of activation.old state.old.held) units.old) (λ z. selectors model basis.entry.clock (evaluated model basis.entry.clock request.entry.depth) (place_of activation.old.site) z (sendings_view request.entry.more.now))))) }
+    ensures goes { (model : ModelTree) → AreClasses model basis.entry.classes.now →
+        Goes (λ c. unwound model basis.entry.clock callers.new.items
+        (coming model basis.entry.clock activation.new state.new.held units.new c)) result units.new
+        (unwound model basis.entry.clock callers.old.items
+        (then_tasks model basis.entry.clock activation.old
+        (and_then (replied model basis.entry.clock
+        (evaluated model basis.entry.clock request.entry.depth)
+        (reply model request.entry.receiver request.entry.selector.now request.entry.arguments.items
+        (memory_of activation.old state.old.held)) request.entry.arguments.items
+        (memory_of activation.old state.old.held) units.old)
+        (λ z. selectors model basis.entry.clock (evaluated model basis.entry.clock
+        request.entry.depth) (place_of activation.old.site) z
+        (sendings_view request.entry.more.now))))) }
     ensures marks { state.new.marks ≡ state.old.marks }
     ensures count { length state.new.held.objects ≡ length state.old.held.objects }
-    ensures root { OnOk result (root callers.new.items (place_of activation.new.site) ≡ root callers.old.items (place_of activation.old.site)) }
-    ensures within { IfOk result (λ c. All (ActivationWithin (length state.new.held.objects)) callers.new.items × ActivationWithin (length state.new.held.objects) activation.new × ControlWithin (length state.new.held.objects) c) }
+    ensures root { OnOk result (root callers.new.items (place_of activation.new.site) ≡
+        root callers.old.items (place_of activation.old.site)) }
+    ensures within { IfOk result (λ c. All (ActivationWithin (length state.new.held.objects))
+        callers.new.items × ActivationWithin (length state.new.held.objects) activation.new
+        × ControlWithin (length state.new.held.objects) c) }
     ensures units { OnOk result (units.new ≤ units.old) }
 {
     match ask(basis.alloc, basis.classes, state, &request) {
@@ -138,11 +169,22 @@ pub(crate) fn send<'a>(
     requires request { RequestWithin (length state.old.held.objects) request }
     requires within { ActivationWithin (length state.old.held.objects) activation.old }
     requires callers { All (ActivationWithin (length state.old.held.objects)) callers.old.items }
-    ensures goes { (model : ModelTree) → AreClasses model basis.entry.classes.now → Goes (λ c. unwound model basis.entry.clock callers.new.items (coming model basis.entry.clock activation.new state.new.held units.new c)) result units.new (unwound model basis.entry.clock callers.old.items (then_tasks model basis.entry.clock activation.old (sent model basis.entry.clock request.entry.depth (place_of activation.old.site) request.entry.receiver request.entry.selector.now (sendings_view request.entry.more.now) request.entry.arguments.items (memory_of activation.old state.old.held) units.old))) }
+    ensures goes { (model : ModelTree) → AreClasses model basis.entry.classes.now →
+        Goes (λ c. unwound model basis.entry.clock callers.new.items
+        (coming model basis.entry.clock activation.new state.new.held units.new c)) result units.new
+        (unwound model basis.entry.clock callers.old.items
+        (then_tasks model basis.entry.clock activation.old
+        (sent model basis.entry.clock request.entry.depth
+        (place_of activation.old.site) request.entry.receiver request.entry.selector.now
+        (sendings_view request.entry.more.now) request.entry.arguments.items
+        (memory_of activation.old state.old.held) units.old))) }
     ensures marks { state.new.marks ≡ state.old.marks }
     ensures count { length state.new.held.objects ≡ length state.old.held.objects }
-    ensures root { OnOk result (root callers.new.items (place_of activation.new.site) ≡ root callers.old.items (place_of activation.old.site)) }
-    ensures within { IfOk result (λ c. All (ActivationWithin (length state.new.held.objects)) callers.new.items × ActivationWithin (length state.new.held.objects) activation.new × ControlWithin (length state.new.held.objects) c) }
+    ensures root { OnOk result (root callers.new.items (place_of activation.new.site) ≡
+        root callers.old.items (place_of activation.old.site)) }
+    ensures within { IfOk result (λ c. All (ActivationWithin (length state.new.held.objects))
+        callers.new.items × ActivationWithin (length state.new.held.objects) activation.new
+        × ControlWithin (length state.new.held.objects) c) }
     ensures counted { OnOk result (units.new < units.old) }
 {
     match tick(units) {
@@ -154,7 +196,8 @@ pub(crate) fn send<'a>(
 /// Goes back to the caller; says whether there is one.
 pub(crate) fn leave<'a>(activation: &mut Activation<'a>, callers: &mut Vec<Activation<'a>>) -> bool
     ensures returns { IsTrue result → callers.old.items ≡ callers.new.items ++ activation.new ∷ [] }
-    ensures stays { result ≡ false → (callers.old.items ≡ []) × (callers.new.items ≡ []) × (activation.new ≡ activation.old) }
+    ensures stays { result ≡ false → (callers.old.items ≡ []) × (callers.new.items ≡ [])
+        × (activation.new ≡ activation.old) }
 {
     match callers.pop() {
         Some(caller) => {

@@ -18,7 +18,6 @@ use crate::continuing::{add_task, descend, go_on_list, run_list};
 use crate::control::Control;
 use pz_classes_code::Code;
 use pz_eval_operations::{Activation, Stop, Task, at_once, tick};
-use pz_eval_rules::turns_go_on;
 use pz_items::Items;
 use pz_state::{FaultKind, State};
 use pz_syntax::Pos;
@@ -46,9 +45,15 @@ pub(crate) fn choose<'a>(
     other: &'a Option<Items<Code>>,
     value: Value,
 ) -> Result<Control<'a>, Stop>
-    ensures goes { (model : ModelTree) (now : ℕ) (p : Location) (m : Memory) (r : ℕ) → Goes (λ c. meant model now p tasks.new.items c m r) result r (and_then (tested at (truth value) (λ b. sequence model now (evaluated model now depth) p Nil (chosen b (list_view part.now) (part_view other.now))) m r) (pending model now p tasks.old.items)) }
-    ensures within { IfOk result (λ c. (count : ℕ) → All (TaskWithin count) tasks.old.items → All (TaskWithin count) tasks.new.items × ControlWithin count c) }
-    ensures weighs { IfOk result (λ c. load c tasks.new.items ≤ list_weight (list_view part.now) + part_weight (part_view other.now) + tasks_weight tasks.old.items) }
+    ensures goes { (model : ModelTree) (now : ℕ) (p : Location) (m : Memory) (r : ℕ) →
+        Goes (λ c. meant model now p tasks.new.items c m r) result r
+        (and_then (tested at (truth value) (λ b. sequence model now
+        (evaluated model now depth) p Nil (chosen b (list_view part.now) (part_view other.now))) m
+        r) (pending model now p tasks.old.items)) }
+    ensures within { IfOk result (λ c. (count : ℕ) → All (TaskWithin count) tasks.old.items →
+        All (TaskWithin count) tasks.new.items × ControlWithin count c) }
+    ensures weighs { IfOk result (λ c. load c tasks.new.items ≤ list_weight
+        (list_view part.now) + part_weight (part_view other.now) + tasks_weight tasks.old.items) }
 {
     let Value::Bool(test) = value else {
         return Err(Stop::Fault(FaultKind::NotBoolean, at));
@@ -69,12 +74,22 @@ pub(crate) fn turn_or_end<'a>(
     value: Value,
 ) -> Result<Control<'a>, Stop>
     requires { ActivationWithin (length state.old.held.objects) activation.old }
-    ensures goes { (model : ModelTree) (now : ℕ) → Goes (coming model now activation.new state.new.held units.new) result units.new (then_tasks model now activation.old (tested at (truth value) (going model now (evaluated model now depth) (place_of activation.old.site) (list_view body.now) (turning model now depth (place_of activation.old.site) at (view test.now) (list_view body.now))) (memory_of activation.old state.old.held) units.old)) }
+    ensures goes { (model : ModelTree) (now : ℕ) →
+        Goes (coming model now activation.new state.new.held units.new) result units.new
+        (then_tasks model now activation.old (tested at (truth value)
+        (going model now (evaluated model now depth) (place_of activation.old.site)
+        (list_view body.now) (turning model now depth (place_of activation.old.site) at
+        (view test.now) (list_view body.now))) (memory_of activation.old state.old.held)
+        units.old)) }
     ensures marks { state.new.marks ≡ state.old.marks }
     ensures count { length state.new.held.objects ≡ length state.old.held.objects }
     ensures site { activation.new.site ≡ activation.old.site }
-    ensures within { IfOk result (λ c. ActivationWithin (length state.new.held.objects) activation.new × ControlWithin (length state.new.held.objects) c) }
-    ensures weighs { IfOk result (λ c. NoMore units.old (list_weight (list_view body.now) + tasks_weight activation.old.tasks.items) units.new (load c activation.new.tasks.items)) }
+    ensures within { IfOk result (λ c. ActivationWithin
+        (length state.new.held.objects) activation.new
+        × ControlWithin (length state.new.held.objects) c) }
+    ensures weighs { IfOk result (λ c. NoMore units.old
+        (list_weight (list_view body.now) + tasks_weight activation.old.tasks.items) units.new
+        (load c activation.new.tasks.items)) }
 {
     let Value::Bool(goes) = value else {
         return Err(Stop::Fault(FaultKind::NotBoolean, at));
@@ -103,11 +118,21 @@ fn begin_turn<'a>(
     body: &'a [Code],
 ) -> Result<Control<'a>, Stop>
     requires { ActivationWithin (length state.old.held.objects) activation.old }
-    ensures goes { (model : ModelTree) (now : ℕ) → Goes (coming model now activation.new state.new.held units.new) result units.new (then_tasks model now activation.old (ticked (λ m r. and_then (evaluated model now depth (place_of activation.old.site) (view test.now) m r) (λ y. tested at (truth y) (going model now (evaluated model now depth) (place_of activation.old.site) (list_view body.now) (turning model now depth (place_of activation.old.site) at (view test.now) (list_view body.now))))) (memory_of activation.old state.old.held) units.old)) }
+    ensures goes { (model : ModelTree) (now : ℕ) →
+        Goes (coming model now activation.new state.new.held units.new) result units.new
+        (then_tasks model now activation.old (ticked
+        (λ m r. and_then (evaluated model now depth (place_of activation.old.site)
+        (view test.now) m r) (λ y. tested at (truth y)
+        (going model now (evaluated model now depth) (place_of activation.old.site)
+        (list_view body.now) (turning model now depth (place_of activation.old.site) at
+        (view test.now) (list_view body.now))))) (memory_of activation.old state.old.held)
+        units.old)) }
     ensures marks { state.new.marks ≡ state.old.marks }
     ensures count { length state.new.held.objects ≡ length state.old.held.objects }
     ensures site { activation.new.site ≡ activation.old.site }
-    ensures within { IfOk result (λ c. ActivationWithin (length state.new.held.objects) activation.new × ControlWithin (length state.new.held.objects) c) }
+    ensures within { IfOk result (λ c. ActivationWithin
+        (length state.new.held.objects) activation.new
+        × ControlWithin (length state.new.held.objects) c) }
     ensures counted { OnOk result (units.new < units.old) }
 {
     tick(units)?;
@@ -138,13 +163,19 @@ pub(crate) fn go_on_turns<'a>(
     body: &'a [Code],
 ) -> Result<Control<'a>, Stop>
     requires { ActivationWithin (length state.old.held.objects) activation.old }
-    ensures goes { (model : ModelTree) (now : ℕ) → Goes (coming model now activation.new state.new.held units.new) result units.new (then_tasks model now activation.old (turning model now depth (place_of activation.old.site) at (view test.now) (list_view body.now) (memory_of activation.old state.old.held) units.old)) }
+    ensures goes { (model : ModelTree) (now : ℕ) →
+        Goes (coming model now activation.new state.new.held units.new) result units.new
+        (then_tasks model now activation.old (turning model now depth
+        (place_of activation.old.site) at (view test.now) (list_view body.now)
+        (memory_of activation.old state.old.held) units.old)) }
     ensures marks { state.new.marks ≡ state.old.marks }
     ensures count { length state.new.held.objects ≡ length state.old.held.objects }
     ensures site { activation.new.site ≡ activation.old.site }
-    ensures within { IfOk result (λ c. ActivationWithin (length state.new.held.objects) activation.new × ControlWithin (length state.new.held.objects) c) }
+    ensures within { IfOk result (λ c. ActivationWithin
+        (length state.new.held.objects) activation.new
+        × ControlWithin (length state.new.held.objects) c) }
     ensures counted { OnOk result (units.new < units.old) }
 {
-    turns_go_on();
+    pz_eval_rules::laws::turns_go_on();
     begin_turn(state, units, activation, depth, at, test, body)
 }

@@ -40,9 +40,15 @@ pub(crate) fn descend<'a>(
     code: &'a Code,
     task: Task<'a>,
 ) -> Result<Control<'a>, Stop>
-    ensures goes { (model : ModelTree) (now : ℕ) (p : Location) (m : Memory) (r : ℕ) → Goes (λ c. meant model now p tasks.new.items c m r) result r (and_then (and_then (evaluated model now depth p (view code.now) m r) (resumed model now p task.entry)) (pending model now p tasks.old.items)) }
-    ensures within { IfOk result (λ c. (count : ℕ) → TaskWithin count task.entry → All (TaskWithin count) tasks.old.items → All (TaskWithin count) tasks.new.items × ControlWithin count c) }
-    ensures weighs { IfOk result (λ c. load c tasks.new.items ≡ weight (view code.now) + (task_weight task.entry + tasks_weight tasks.old.items)) }
+    ensures goes { (model : ModelTree) (now : ℕ) (p : Location) (m : Memory) (r : ℕ) →
+        Goes (λ c. meant model now p tasks.new.items c m r) result r
+        (and_then (and_then (evaluated model now depth p (view code.now) m r)
+        (resumed model now p task.entry)) (pending model now p tasks.old.items)) }
+    ensures within { IfOk result (λ c. (count : ℕ) → TaskWithin count task.entry →
+        All (TaskWithin count) tasks.old.items → All (TaskWithin count) tasks.new.items
+        × ControlWithin count c) }
+    ensures weighs { IfOk result (λ c. load c tasks.new.items ≡ weight (view code.now) +
+        (task_weight task.entry + tasks_weight tasks.old.items)) }
 {
     add_task(tasks, task)?;
     Ok(Control::Evaluate { depth, code })
@@ -56,8 +62,13 @@ pub(crate) fn descend_counted<'a>(
     code: &'a Code,
     task: Task<'a>,
 ) -> Result<Control<'a>, Stop>
-    ensures goes { (model : ModelTree) (now : ℕ) (p : Location) (m : Memory) → Goes (λ c. meant model now p tasks.new.items c m units.new) result units.new (and_then (ticked (λ m1 r1. and_then (evaluated model now depth p (view code.now) m1 r1) (resumed model now p task.entry)) m units.old) (pending model now p tasks.old.items)) }
-    ensures within { IfOk result (λ c. (count : ℕ) → TaskWithin count task.entry → All (TaskWithin count) tasks.old.items → All (TaskWithin count) tasks.new.items × ControlWithin count c) }
+    ensures goes { (model : ModelTree) (now : ℕ) (p : Location) (m : Memory) →
+        Goes (λ c. meant model now p tasks.new.items c m units.new) result units.new
+        (and_then (ticked (λ m1 r1. and_then (evaluated model now depth p (view code.now) m1 r1)
+        (resumed model now p task.entry)) m units.old) (pending model now p tasks.old.items)) }
+    ensures within { IfOk result (λ c. (count : ℕ) → TaskWithin count task.entry →
+        All (TaskWithin count) tasks.old.items → All (TaskWithin count) tasks.new.items
+        × ControlWithin count c) }
     ensures counted { OnOk result (units.new < units.old) }
 {
     tick(units)?;
@@ -71,9 +82,15 @@ pub(crate) fn go_on_list<'a>(
     value: Value,
     codes: &'a [Code],
 ) -> Result<Control<'a>, Stop>
-    ensures goes { (model : ModelTree) (now : ℕ) (p : Location) (m : Memory) (r : ℕ) → Goes (λ c. meant model now p tasks.new.items c m r) result r (and_then (sequence model now (evaluated model now depth) p value (list_view codes.now) m r) (pending model now p tasks.old.items)) }
-    ensures within { IfOk result (λ c. (count : ℕ) → RefersWithin count value → All (TaskWithin count) tasks.old.items → All (TaskWithin count) tasks.new.items × ControlWithin count c) }
-    ensures weighs { IfOk result (λ c. load c tasks.new.items ≤ list_weight (list_view codes.now) + tasks_weight tasks.old.items) }
+    ensures goes { (model : ModelTree) (now : ℕ) (p : Location) (m : Memory) (r : ℕ) →
+        Goes (λ c. meant model now p tasks.new.items c m r) result r
+        (and_then (sequence model now (evaluated model now depth) p value (list_view codes.now) m r)
+        (pending model now p tasks.old.items)) }
+    ensures within { IfOk result (λ c. (count : ℕ) → RefersWithin count value →
+        All (TaskWithin count) tasks.old.items → All (TaskWithin count) tasks.new.items
+        × ControlWithin count c) }
+    ensures weighs { IfOk result (λ c. load c tasks.new.items ≤ list_weight
+        (list_view codes.now) + tasks_weight tasks.old.items) }
 {
     let Some((first, rest)) = codes.split_first() else {
         return Ok(Control::Give(value));
@@ -95,12 +112,20 @@ pub(crate) fn run_list<'a>(
 ) -> Result<Control<'a>, Stop>
     requires value { RefersWithin (length state.old.held.objects) value }
     requires within { ActivationWithin (length state.old.held.objects) activation.old }
-    ensures goes { (model : ModelTree) (now : ℕ) → Goes (coming model now activation.new state.new.held units.new) result units.new (then_tasks model now activation.old (sequence model now (evaluated model now depth) (place_of activation.old.site) value (list_view codes.now) (memory_of activation.old state.old.held) units.old)) }
+    ensures goes { (model : ModelTree) (now : ℕ) →
+        Goes (coming model now activation.new state.new.held units.new) result units.new
+        (then_tasks model now activation.old (sequence model now (evaluated model now depth)
+        (place_of activation.old.site) value (list_view codes.now)
+        (memory_of activation.old state.old.held) units.old)) }
     ensures marks { state.new.marks ≡ state.old.marks }
     ensures count { length state.new.held.objects ≡ length state.old.held.objects }
     ensures site { activation.new.site ≡ activation.old.site }
-    ensures within { IfOk result (λ c. ActivationWithin (length state.new.held.objects) activation.new × ControlWithin (length state.new.held.objects) c) }
-    ensures weighs { IfOk result (λ c. NoMore units.old (list_weight (list_view codes.now) + tasks_weight activation.old.tasks.items) units.new (load c activation.new.tasks.items)) }
+    ensures within { IfOk result (λ c. ActivationWithin
+        (length state.new.held.objects) activation.new
+        × ControlWithin (length state.new.held.objects) c) }
+    ensures weighs { IfOk result (λ c. NoMore units.old
+        (list_weight (list_view codes.now) + tasks_weight activation.old.tasks.items) units.new
+        (load c activation.new.tasks.items)) }
 {
     let mut last = value;
     let mut left = codes;
@@ -135,11 +160,23 @@ pub(crate) fn go_on_arguments<'a>(
 ) -> Result<Control<'a>, Stop>
     requires request { RequestWithin (length state.now.held.objects) request.value }
     requires within { ActivationWithin (length state.now.held.objects) activation.old }
-    ensures goes { (model : ModelTree) (now : ℕ) → Goes (coming model now activation.new state.now.held units.new) result units.new (then_tasks model now activation.old (and_then (arguments model now (evaluated model now request.entry.value.depth) (place_of activation.old.site) request.entry.value.arguments.items (list_view codes.now) (memory_of activation.old state.now.held) units.old) (sent model now request.entry.value.depth (place_of activation.old.site) request.entry.value.receiver request.entry.value.selector.now (sendings_view request.entry.value.more.now)))) }
+    ensures goes { (model : ModelTree) (now : ℕ) →
+        Goes (coming model now activation.new state.now.held units.new) result units.new
+        (then_tasks model now activation.old (and_then
+        (arguments model now (evaluated model now request.entry.value.depth)
+        (place_of activation.old.site) request.entry.value.arguments.items (list_view codes.now)
+        (memory_of activation.old state.now.held) units.old)
+        (sent model now request.entry.value.depth (place_of activation.old.site)
+        request.entry.value.receiver request.entry.value.selector.now
+        (sendings_view request.entry.value.more.now)))) }
     ensures site { activation.new.site ≡ activation.old.site }
     ensures locals { activation.new.locals ≡ activation.old.locals }
-    ensures within { IfOk result (λ c. ActivationWithin (length state.now.held.objects) activation.new × ControlWithin (length state.now.held.objects) c) }
-    ensures weighs { IfOk result (λ c. NoMore units.old (list_weight (list_view codes.now) + tasks_weight activation.old.tasks.items) units.new (load c activation.new.tasks.items)) }
+    ensures within { IfOk result (λ c. ActivationWithin
+        (length state.now.held.objects) activation.new
+        × ControlWithin (length state.now.held.objects) c) }
+    ensures weighs { IfOk result (λ c. NoMore units.old
+        (list_weight (list_view codes.now) + tasks_weight activation.old.tasks.items) units.new
+        (load c activation.new.tasks.items)) }
 {
     let mut request = request;
     let mut left = codes;
@@ -182,11 +219,19 @@ pub(crate) fn go_on_selectors<'a>(
 ) -> Result<Control<'a>, Stop>
     requires receiver { RefersWithin (length state.now.held.objects) receiver }
     requires within { ActivationWithin (length state.now.held.objects) activation.old }
-    ensures goes { (model : ModelTree) (now : ℕ) → Goes (coming model now activation.new state.now.held units.new) result units.new (then_tasks model now activation.old (selectors model now (evaluated model now depth) (place_of activation.old.site) receiver (sendings_view sendings.now) (memory_of activation.old state.now.held) units.old)) }
+    ensures goes { (model : ModelTree) (now : ℕ) →
+        Goes (coming model now activation.new state.now.held units.new) result units.new
+        (then_tasks model now activation.old (selectors model now (evaluated model now depth)
+        (place_of activation.old.site) receiver (sendings_view sendings.now)
+        (memory_of activation.old state.now.held) units.old)) }
     ensures site { activation.new.site ≡ activation.old.site }
     ensures locals { activation.new.locals ≡ activation.old.locals }
-    ensures within { IfOk result (λ c. ActivationWithin (length state.now.held.objects) activation.new × ControlWithin (length state.now.held.objects) c) }
-    ensures weighs { IfOk result (λ c. NoMore units.old (sendings_weight (sendings_view sendings.now) + tasks_weight activation.old.tasks.items) units.new (load c activation.new.tasks.items)) }
+    ensures within { IfOk result (λ c. ActivationWithin
+        (length state.now.held.objects) activation.new
+        × ControlWithin (length state.now.held.objects) c) }
+    ensures weighs { IfOk result (λ c. NoMore units.old
+        (sendings_weight (sendings_view sendings.now) + tasks_weight activation.old.tasks.items)
+        units.new (load c activation.new.tasks.items)) }
 {
     let Some((sending, more)) = sendings.split_first() else {
         return Ok(Control::Give(receiver));

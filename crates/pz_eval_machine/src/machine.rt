@@ -35,11 +35,22 @@ fn give_back<'a>(
     callers: &mut Vec<Activation<'a>>,
     value: Value,
 ) -> Progress<'a>
-    ensures goes { (model : ModelTree) (now : ℕ) (s : StateView) (r : ℕ) → Progresses (λ c. unwound model now callers.new.items (meant model now (place_of activation.new.site) activation.new.tasks.items c (memory_at activation.new.site s activation.new.locals.items) r)) result (memory_at activation.new.site s activation.new.locals.items) r (unwound model now callers.old.items (done (gives value (memory_at activation.old.site s activation.old.locals.items)) r)) }
-    ensures root { root callers.new.items (place_of activation.new.site) ≡ root callers.old.items (place_of activation.old.site) }
+    ensures goes { (model : ModelTree) (now : ℕ) (s : StateView) (r : ℕ) →
+        Progresses (λ c. unwound model now callers.new.items
+        (meant model now (place_of activation.new.site) activation.new.tasks.items c
+        (memory_at activation.new.site s activation.new.locals.items) r)) result
+        (memory_at activation.new.site s activation.new.locals.items) r
+        (unwound model now callers.old.items (done
+        (gives value (memory_at activation.old.site s activation.old.locals.items)) r)) }
+    ensures root { root callers.new.items (place_of activation.new.site) ≡ root callers.old.items
+        (place_of activation.old.site) }
     ensures bottom { OnOver (callers.new.items ≡ []) result }
-    ensures within { (count : ℕ) → RefersWithin count value → All (ActivationWithin count) callers.old.items → ActivationWithin count activation.old → All (ActivationWithin count) callers.new.items × ActivationWithin count activation.new × ProgressWithin count result }
-    ensures lighter { WhileOn (λ c. total c activation.new callers.new.items < callers_weight callers.old.items) result }
+    ensures within { (count : ℕ) → RefersWithin count value →
+        All (ActivationWithin count) callers.old.items → ActivationWithin count activation.old →
+        All (ActivationWithin count) callers.new.items × ActivationWithin count activation.new
+        × ProgressWithin count result }
+    ensures lighter { WhileOn (λ c. total c activation.new callers.new.items <
+        callers_weight callers.old.items) result }
 {
     if leave(activation, callers) {
         return Progress::On(Control::Give(value));
@@ -53,11 +64,22 @@ fn give_result<'a>(
     callers: &mut Vec<Activation<'a>>,
     value: Value,
 ) -> Progress<'a>
-    ensures goes { (model : ModelTree) (now : ℕ) (s : StateView) (r : ℕ) → Progresses (λ c. unwound model now callers.new.items (meant model now (place_of activation.new.site) activation.new.tasks.items c (memory_at activation.new.site s activation.new.locals.items) r)) result (memory_at activation.new.site s activation.new.locals.items) r (unwound model now callers.old.items (done (stops (ends value (memory_at activation.old.site s activation.old.locals.items))) r)) }
-    ensures root { root callers.new.items (place_of activation.new.site) ≡ root callers.old.items (place_of activation.old.site) }
+    ensures goes { (model : ModelTree) (now : ℕ) (s : StateView) (r : ℕ) →
+        Progresses (λ c. unwound model now callers.new.items
+        (meant model now (place_of activation.new.site) activation.new.tasks.items c
+        (memory_at activation.new.site s activation.new.locals.items) r)) result
+        (memory_at activation.new.site s activation.new.locals.items) r
+        (unwound model now callers.old.items (done
+        (stops (ends value (memory_at activation.old.site s activation.old.locals.items))) r)) }
+    ensures root { root callers.new.items (place_of activation.new.site) ≡ root callers.old.items
+        (place_of activation.old.site) }
     ensures bottom { OnOver (callers.new.items ≡ []) result }
-    ensures within { (count : ℕ) → RefersWithin count value → All (ActivationWithin count) callers.old.items → ActivationWithin count activation.old → All (ActivationWithin count) callers.new.items × ActivationWithin count activation.new × ProgressWithin count result }
-    ensures lighter { WhileOn (λ c. total c activation.new callers.new.items < callers_weight callers.old.items) result }
+    ensures within { (count : ℕ) → RefersWithin count value →
+        All (ActivationWithin count) callers.old.items → ActivationWithin count activation.old →
+        All (ActivationWithin count) callers.new.items × ActivationWithin count activation.new
+        × ProgressWithin count result }
+    ensures lighter { WhileOn (λ c. total c activation.new callers.new.items <
+        callers_weight callers.old.items) result }
 {
     if leave(activation, callers) {
         return Progress::On(Control::Give(value));
@@ -88,13 +110,26 @@ fn advance<'a>(
     requires control { ControlWithin (length state.old.held.objects) control }
     requires within { ActivationWithin (length state.old.held.objects) activation.old }
     requires callers { All (ActivationWithin (length state.old.held.objects)) callers.old.items }
-    ensures goes { (model : ModelTree) → AreClasses model basis.entry.classes.now → Advances (λ c. unwound model basis.entry.clock callers.new.items (meant model basis.entry.clock (place_of activation.new.site) activation.new.tasks.items c (memory_at activation.new.site state.new.held activation.new.locals.items) units.new)) result (memory_at activation.new.site state.new.held activation.new.locals.items) units.new (unwound model basis.entry.clock callers.old.items (meant model basis.entry.clock (place_of activation.old.site) activation.old.tasks.items control.entry (memory_at activation.old.site state.old.held activation.old.locals.items) units.old)) }
+    ensures goes { (model : ModelTree) → AreClasses model basis.entry.classes.now →
+        Advances (λ c. unwound model basis.entry.clock callers.new.items
+        (meant model basis.entry.clock (place_of activation.new.site) activation.new.tasks.items c
+        (memory_at activation.new.site state.new.held activation.new.locals.items) units.new))
+        result (memory_at activation.new.site state.new.held activation.new.locals.items) units.new
+        (unwound model basis.entry.clock callers.old.items
+        (meant model basis.entry.clock (place_of activation.old.site) activation.old.tasks.items
+        control.entry (memory_at activation.old.site state.old.held activation.old.locals.items)
+        units.old)) }
     ensures marks { state.new.marks ≡ state.old.marks }
     ensures count { length state.old.held.objects ≤ length state.new.held.objects }
-    ensures root { OnOk result (root callers.new.items (place_of activation.new.site) ≡ root callers.old.items (place_of activation.old.site)) }
+    ensures root { OnOk result (root callers.new.items (place_of activation.new.site) ≡
+        root callers.old.items (place_of activation.old.site)) }
     ensures bottom { IfOk result (OnOver (callers.new.items ≡ [])) }
-    ensures within { IfOk result (λ p. All (ActivationWithin (length state.new.held.objects)) callers.new.items × ActivationWithin (length state.new.held.objects) activation.new × ProgressWithin (length state.new.held.objects) p) }
-    ensures falls { IfOk result (WhileOn (λ c. Falls units.old (total control.entry activation.old callers.old.items) units.new (total c activation.new callers.new.items))) }
+    ensures within { IfOk result (λ p. All (ActivationWithin (length state.new.held.objects))
+        callers.new.items × ActivationWithin (length state.new.held.objects) activation.new
+        × ProgressWithin (length state.new.held.objects) p) }
+    ensures falls { IfOk result (WhileOn (λ c. Falls units.old
+        (total control.entry activation.old callers.old.items) units.new
+        (total c activation.new callers.new.items))) }
 {
     match control {
         Control::Evaluate { depth, code } => {
@@ -126,12 +161,23 @@ fn count_one<'a>(
     requires control { ControlWithin (length state.old.held.objects) first }
     requires within { ActivationWithin (length state.old.held.objects) activation.old }
     requires callers { All (ActivationWithin (length state.old.held.objects)) callers.old.items }
-    ensures goes { (model : ModelTree) → AreClasses model basis.entry.classes.now → Advances (λ c. unwound model basis.entry.clock callers.new.items (meant model basis.entry.clock (place_of activation.new.site) activation.new.tasks.items c (memory_at activation.new.site state.new.held activation.new.locals.items) units.new)) result (memory_at activation.new.site state.new.held activation.new.locals.items) units.new (unwound model basis.entry.clock callers.old.items (meant model basis.entry.clock (place_of activation.old.site) activation.old.tasks.items first.entry (memory_at activation.old.site state.old.held activation.old.locals.items) units.old)) }
+    ensures goes { (model : ModelTree) → AreClasses model basis.entry.classes.now →
+        Advances (λ c. unwound model basis.entry.clock callers.new.items
+        (meant model basis.entry.clock (place_of activation.new.site) activation.new.tasks.items c
+        (memory_at activation.new.site state.new.held activation.new.locals.items) units.new))
+        result (memory_at activation.new.site state.new.held activation.new.locals.items) units.new
+        (unwound model basis.entry.clock callers.old.items
+        (meant model basis.entry.clock (place_of activation.old.site) activation.old.tasks.items
+        first.entry (memory_at activation.old.site state.old.held activation.old.locals.items)
+        units.old)) }
     ensures marks { state.new.marks ≡ state.old.marks }
     ensures count { length state.old.held.objects ≤ length state.new.held.objects }
-    ensures root { OnOk result (root callers.new.items (place_of activation.new.site) ≡ root callers.old.items (place_of activation.old.site)) }
+    ensures root { OnOk result (root callers.new.items (place_of activation.new.site) ≡
+        root callers.old.items (place_of activation.old.site)) }
     ensures bottom { IfOk result (OnOver (callers.new.items ≡ [])) }
-    ensures within { IfOk result (λ p. All (ActivationWithin (length state.new.held.objects)) callers.new.items × ActivationWithin (length state.new.held.objects) activation.new × ProgressWithin (length state.new.held.objects) p) }
+    ensures within { IfOk result (λ p. All (ActivationWithin (length state.new.held.objects))
+        callers.new.items × ActivationWithin (length state.new.held.objects) activation.new
+        × ProgressWithin (length state.new.held.objects) p) }
     ensures counted { IfOk result (WhileOn (λ _. units.new < units.old)) }
 {
     let before = *units;
@@ -163,7 +209,11 @@ fn run<'a>(
     requires control { ControlWithin (length state.old.held.objects) first }
     requires within { ActivationWithin (length state.old.held.objects) activation.old }
     requires callers { callers.old.items ≡ [] }
-    ensures goes { (model : ModelTree) → AreClasses model basis.entry.classes.now → Finishes result (memory_at activation.new.site state.new.held activation.new.locals.items) units.new (meant model basis.entry.clock (place_of activation.old.site) activation.old.tasks.items first.entry (memory_at activation.old.site state.old.held activation.old.locals.items) units.old) }
+    ensures goes { (model : ModelTree) → AreClasses model basis.entry.classes.now →
+        Finishes result (memory_at activation.new.site state.new.held activation.new.locals.items)
+        units.new (meant model basis.entry.clock (place_of activation.old.site)
+        activation.old.tasks.items first.entry (memory_at activation.old.site state.old.held
+        activation.old.locals.items) units.old) }
     ensures marks { state.new.marks ≡ state.old.marks }
     ensures count { length state.old.held.objects ≤ length state.new.held.objects }
     ensures place { OnOk result (place_of activation.new.site ≡ place_of activation.old.site) }
@@ -190,7 +240,10 @@ pub fn evaluate(
     code: &Code,
 ) -> Result<Finish, Stop>
     requires { AreKnown basis.classes.now }
-    ensures goes { (model : ModelTree) → AreClasses model basis.entry.classes.now → Finishes result (outside state.new.held) units.new (evaluated model basis.entry.clock depth (in_process frame.0) (view code.now) (outside state.old.held) units.old) }
+    ensures goes { (model : ModelTree) → AreClasses model basis.entry.classes.now →
+        Finishes result (outside state.new.held) units.new
+        (evaluated model basis.entry.clock depth (in_process frame.0) (view code.now)
+        (outside state.old.held) units.old) }
     ensures marks { state.new.marks ≡ state.old.marks }
     ensures count { length state.old.held.objects ≤ length state.new.held.objects }
     ensures within { IfOk result (FinishWithin (length state.new.held.objects)) }

@@ -30,8 +30,13 @@ fn more_operators<'a>(
     value: Value,
     links: &'a [CodeLink],
 ) -> Result<Control<'a>, Stop>
-    ensures goes { (model : ModelTree) (now : ℕ) (p : Location) (m : Memory) (r : ℕ) → Goes (λ c. meant model now p tasks.new.items c m r) result r (and_then (operators model now (evaluated model now depth) p value (links_view links.now) m r) (pending model now p tasks.old.items)) }
-    ensures within { IfOk result (λ c. (count : ℕ) → RefersWithin count value → All (TaskWithin count) tasks.old.items → All (TaskWithin count) tasks.new.items × ControlWithin count c) }
+    ensures goes { (model : ModelTree) (now : ℕ) (p : Location) (m : Memory) (r : ℕ) →
+        Goes (λ c. meant model now p tasks.new.items c m r) result r
+        (and_then (operators model now (evaluated model now depth) p value
+        (links_view links.now) m r) (pending model now p tasks.old.items)) }
+    ensures within { IfOk result (λ c. (count : ℕ) → RefersWithin count value →
+        All (TaskWithin count) tasks.old.items → All (TaskWithin count) tasks.new.items
+        × ControlWithin count c) }
 {
     if links.is_empty() {
         return Ok(Control::Give(value));
@@ -54,10 +59,18 @@ pub(crate) fn operate<'a>(
 ) -> Result<Control<'a>, Stop>
     requires left { RefersWithin (length state.old.held.objects) left }
     requires right { RefersWithin (length state.old.held.objects) right }
-    ensures goes { (model : ModelTree) (now : ℕ) (p : Location) (locals : List Values) → Goes (λ c. meant model now p tasks.new.items c (record { state = state.new.held; locals = locals }) units.new) result units.new (and_then (ticked (λ m r. follow (applied link.now.op link.now.pos left right m) r (λ z. operators model now (evaluated model now depth) p z (links_view rest.now))) (record { state = state.old.held; locals = locals }) units.old) (pending model now p tasks.old.items)) }
+    ensures goes { (model : ModelTree) (now : ℕ) (p : Location) (locals : List Values) →
+        Goes (λ c. meant model now p tasks.new.items c
+        (record { state = state.new.held; locals = locals }) units.new) result units.new
+        (and_then (ticked (λ m r. follow (applied link.now.op link.now.pos left right m) r
+        (λ z. operators model now (evaluated model now depth) p z (links_view rest.now)))
+        (record { state = state.old.held; locals = locals }) units.old)
+        (pending model now p tasks.old.items)) }
     ensures marks { state.new.marks ≡ state.old.marks }
     ensures count { length state.new.held.objects ≡ length state.old.held.objects }
-    ensures within { IfOk result (λ c. All (TaskWithin (length state.old.held.objects)) tasks.old.items → All (TaskWithin (length state.new.held.objects)) tasks.new.items × ControlWithin (length state.new.held.objects) c) }
+    ensures within { IfOk result (λ c. All (TaskWithin (length state.old.held.objects))
+        tasks.old.items → All (TaskWithin (length state.new.held.objects)) tasks.new.items
+        × ControlWithin (length state.new.held.objects) c) }
     ensures counted { OnOk result (units.new < units.old) }
 {
     match apply_counted(alloc, state, units, link.op, link.pos, &left, right) {
@@ -78,13 +91,21 @@ pub(crate) fn go_on_operators<'a>(
 ) -> Result<Control<'a>, Stop>
     requires left { RefersWithin (length state.old.held.objects) left }
     requires within { ActivationWithin (length state.old.held.objects) activation.old }
-    ensures goes { (model : ModelTree) (now : ℕ) → Goes (coming model now activation.new state.new.held units.new) result units.new (then_tasks model now activation.old (operators model now (evaluated model now depth) (place_of activation.old.site) left (links_view links.now) (memory_of activation.old state.old.held) units.old)) }
+    ensures goes { (model : ModelTree) (now : ℕ) →
+        Goes (coming model now activation.new state.new.held units.new) result units.new
+        (then_tasks model now activation.old (operators model now (evaluated model now depth)
+        (place_of activation.old.site) left (links_view links.now)
+        (memory_of activation.old state.old.held) units.old)) }
     ensures marks { state.new.marks ≡ state.old.marks }
     ensures count { length state.new.held.objects ≡ length state.old.held.objects }
     ensures site { activation.new.site ≡ activation.old.site }
     ensures locals { activation.new.locals ≡ activation.old.locals }
-    ensures within { IfOk result (λ c. ActivationWithin (length state.new.held.objects) activation.new × ControlWithin (length state.new.held.objects) c) }
-    ensures weighs { IfOk result (λ c. NoMore units.old (links_weight (links_view links.now) + tasks_weight activation.old.tasks.items) units.new (load c activation.new.tasks.items)) }
+    ensures within { IfOk result (λ c. ActivationWithin
+        (length state.new.held.objects) activation.new
+        × ControlWithin (length state.new.held.objects) c) }
+    ensures weighs { IfOk result (λ c. NoMore units.old
+        (links_weight (links_view links.now) + tasks_weight activation.old.tasks.items) units.new
+        (load c activation.new.tasks.items)) }
 {
     let Some((link, rest)) = links.split_first() else {
         return Ok(Control::Give(left));

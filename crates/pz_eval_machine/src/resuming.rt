@@ -41,7 +41,11 @@ fn operate_alone<'a>(
     operand: Value,
 ) -> Result<Control<'a>, Stop>
     requires { RefersWithin (length state.old.held.objects) operand }
-    ensures goes { (model : ModelTree) (now : ℕ) (p : Location) (ks : List Tasks) (locals : List Values) (r : ℕ) → Goes (λ c. meant model now p ks c (record { state = state.new.held; locals = locals }) r) result r (and_then (done (steps.applied_alone op at operand (record { state = state.old.held; locals = locals })) r) (pending model now p ks)) }
+    ensures goes { (model : ModelTree) (now : ℕ) (p : Location) (ks : List Tasks)
+        (locals : List Values) (r : ℕ) → Goes (λ c. meant model now p ks c
+        (record { state = state.new.held; locals = locals }) r) result r
+        (and_then (done (steps.applied_alone op at operand
+        (record { state = state.old.held; locals = locals })) r) (pending model now p ks)) }
     ensures marks { state.new.marks ≡ state.old.marks }
     ensures count { length state.new.held.objects ≡ length state.old.held.objects }
     ensures within { IfOk result (ControlWithin (length state.new.held.objects)) }
@@ -59,12 +63,20 @@ pub(crate) fn assign<'a>(
 ) -> Result<Control<'a>, Stop>
     requires value { RefersWithin (length state.old.held.objects) value }
     requires within { ActivationWithin (length state.old.held.objects) activation.old }
-    ensures goes { (model : ModelTree) (now : ℕ) (r : ℕ) → Goes (λ c. meant model now (place_of activation.new.site) activation.new.tasks.items c (memory_at activation.new.site state.new.held activation.new.locals.items) r) result r (and_then (done (gives value (memories.write (place_of activation.old.site) slot value (memory_at activation.old.site state.old.held activation.old.locals.items))) r) (pending model now (place_of activation.old.site) activation.old.tasks.items)) }
+    ensures goes { (model : ModelTree) (now : ℕ) (r : ℕ) →
+        Goes (λ c. meant model now (place_of activation.new.site) activation.new.tasks.items c
+        (memory_at activation.new.site state.new.held activation.new.locals.items) r) result r
+        (and_then (done (gives value (memories.write (place_of activation.old.site) slot value
+        (memory_at activation.old.site state.old.held activation.old.locals.items))) r)
+        (pending model now (place_of activation.old.site) activation.old.tasks.items)) }
     ensures marks { state.new.marks ≡ state.old.marks }
     ensures count { length state.new.held.objects ≡ length state.old.held.objects }
     ensures site { activation.new.site ≡ activation.old.site }
-    ensures within { IfOk result (λ c. ActivationWithin (length state.new.held.objects) activation.new × ControlWithin (length state.new.held.objects) c) }
-    ensures weighs { IfOk result (λ c. load c activation.new.tasks.items ≡ tasks_weight activation.old.tasks.items) }
+    ensures within { IfOk result (λ c. ActivationWithin
+        (length state.new.held.objects) activation.new
+        × ControlWithin (length state.new.held.objects) c) }
+    ensures weighs { IfOk result (λ c. load c activation.new.tasks.items ≡
+        tasks_weight activation.old.tasks.items) }
 {
     let copy = copy(&value)?;
     write(state, activation.site, &mut activation.locals, slot, copy)?;
@@ -83,11 +95,23 @@ fn take_argument<'a>(
     requires request { RequestWithin (length state.now.held.objects) request.value }
     requires value { RefersWithin (length state.now.held.objects) value }
     requires within { ActivationWithin (length state.now.held.objects) activation.old }
-    ensures goes { (model : ModelTree) (now : ℕ) → Goes (coming model now activation.new state.now.held units.new) result units.new (then_tasks model now activation.old (and_then (arguments model now (evaluated model now request.entry.value.depth) (place_of activation.old.site) (request.entry.value.arguments.items ++ value ∷ []) (list_view rest.now) (memory_of activation.old state.now.held) units.old) (sent model now request.entry.value.depth (place_of activation.old.site) request.entry.value.receiver request.entry.value.selector.now (sendings_view request.entry.value.more.now)))) }
+    ensures goes { (model : ModelTree) (now : ℕ) →
+        Goes (coming model now activation.new state.now.held units.new) result units.new
+        (then_tasks model now activation.old (and_then
+        (arguments model now (evaluated model now request.entry.value.depth)
+        (place_of activation.old.site) (request.entry.value.arguments.items ++ value ∷ [])
+        (list_view rest.now) (memory_of activation.old state.now.held) units.old)
+        (sent model now request.entry.value.depth (place_of activation.old.site)
+        request.entry.value.receiver request.entry.value.selector.now
+        (sendings_view request.entry.value.more.now)))) }
     ensures site { activation.new.site ≡ activation.old.site }
     ensures locals { activation.new.locals ≡ activation.old.locals }
-    ensures within { IfOk result (λ c. ActivationWithin (length state.now.held.objects) activation.new × ControlWithin (length state.now.held.objects) c) }
-    ensures weighs { IfOk result (λ c. NoMore units.old (list_weight (list_view rest.now) + tasks_weight activation.old.tasks.items) units.new (load c activation.new.tasks.items)) }
+    ensures within { IfOk result (λ c. ActivationWithin
+        (length state.now.held.objects) activation.new
+        × ControlWithin (length state.now.held.objects) c) }
+    ensures weighs { IfOk result (λ c. NoMore units.old
+        (list_weight (list_view rest.now) + tasks_weight activation.old.tasks.items) units.new
+        (load c activation.new.tasks.items)) }
 {
     add_argument(&mut request.arguments, value)?;
     go_on_arguments(state, units, activation, request, rest)
@@ -105,12 +129,21 @@ pub(crate) fn resume<'a>(
     requires task { TaskWithin (length state.old.held.objects) task }
     requires value { RefersWithin (length state.old.held.objects) value }
     requires within { ActivationWithin (length state.old.held.objects) activation.old }
-    ensures goes { (model : ModelTree) (now : ℕ) → Goes (λ c. meant model now (place_of activation.new.site) activation.new.tasks.items c (memory_at activation.new.site state.new.held activation.new.locals.items) units.new) result units.new (and_then (resumed model now (place_of activation.old.site) task.entry value (memory_at activation.old.site state.old.held activation.old.locals.items) units.old) (pending model now (place_of activation.old.site) activation.old.tasks.items)) }
+    ensures goes { (model : ModelTree) (now : ℕ) →
+        Goes (λ c. meant model now (place_of activation.new.site) activation.new.tasks.items c
+        (memory_at activation.new.site state.new.held activation.new.locals.items) units.new) result
+        units.new (and_then (resumed model now (place_of activation.old.site) task.entry value
+        (memory_at activation.old.site state.old.held activation.old.locals.items) units.old)
+        (pending model now (place_of activation.old.site) activation.old.tasks.items)) }
     ensures marks { state.new.marks ≡ state.old.marks }
     ensures count { length state.new.held.objects ≡ length state.old.held.objects }
     ensures site { activation.new.site ≡ activation.old.site }
-    ensures within { IfOk result (λ c. ActivationWithin (length state.new.held.objects) activation.new × ControlWithin (length state.new.held.objects) c) }
-    ensures falls { IfOk result (λ c. Falls units.old (task_weight task.entry + tasks_weight activation.old.tasks.items) units.new (load c activation.new.tasks.items)) }
+    ensures within { IfOk result (λ c. ActivationWithin
+        (length state.new.held.objects) activation.new
+        × ControlWithin (length state.new.held.objects) c) }
+    ensures falls { IfOk result (λ c. Falls units.old
+        (task_weight task.entry + tasks_weight activation.old.tasks.items) units.new
+        (load c activation.new.tasks.items)) }
 {
     let alloc = basis.alloc;
     match task {

@@ -27,7 +27,8 @@ fn assigned(
     requires value { RefersWithin (length state.old.held.objects) value }
     requires within { ActivationWithin (length state.old.held.objects) activation.old }
     ensures value { IfOk result (λ y. y ≡ value) }
-    ensures memory { OnOk result (memory_of activation.new state.new.held ≡ memories.write (place_of activation.old.site) slot value (memory_of activation.old state.old.held)) }
+    ensures memory { OnOk result (memory_of activation.new state.new.held ≡ memories.write
+        (place_of activation.old.site) slot value (memory_of activation.old state.old.held)) }
     ensures marks { state.new.marks ≡ state.old.marks }
     ensures count { length state.new.held.objects ≡ length state.old.held.objects }
     ensures site { activation.new.site ≡ activation.old.site }
@@ -49,8 +50,11 @@ pub fn assign_at_once(
     code: &Code,
 ) -> Result<Option<Value>, AllocError>
     requires { ActivationWithin (length state.old.held.objects) activation.old }
-    ensures assigned { IfOk result (Assigned depth (place_of activation.old.site) (view code.now) (memory_of activation.old state.old.held) units.old (memory_of activation.new state.new.held) units.new) }
-    ensures value { IfOk result (λ found. IfSome found (RefersWithin (length state.new.held.objects))) }
+    ensures assigned { IfOk result (Assigned depth (place_of activation.old.site) (view code.now)
+        (memory_of activation.old state.old.held) units.old
+        (memory_of activation.new state.new.held) units.new) }
+    ensures value { IfOk result (λ found. IfSome found
+        (RefersWithin (length state.new.held.objects))) }
     ensures marks { state.new.marks ≡ state.old.marks }
     ensures count { length state.new.held.objects ≡ length state.old.held.objects }
     ensures site { activation.new.site ≡ activation.old.site }

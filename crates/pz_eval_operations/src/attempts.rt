@@ -24,8 +24,10 @@ use pz_value::Value;
 
 /// What a variable holds, if it is no text; nil if there is none.
 fn plain_variable(state: &State, activation: &Activation<'_>, slot: Slot) -> Option<Value>
-    ensures value { IfSome result (λ y. y ≡ memories.read (place_of activation.now.site) slot (memory_of activation.now state.now.held)) }
-    ensures within { ActivationWithin (length state.now.held.objects) activation.now → IfSome result (RefersWithin (length state.now.held.objects)) }
+    ensures value { IfSome result (λ y. y ≡ memories.read (place_of activation.now.site) slot
+        (memory_of activation.now state.now.held)) }
+    ensures within { ActivationWithin (length state.now.held.objects) activation.now →
+        IfSome result (RefersWithin (length state.now.held.objects)) }
 {
     match held(state, activation.site, activation.locals.as_slice(), slot) {
         Some(value) => plain_copy(value),
@@ -46,8 +48,10 @@ pub fn self_at(site: Site) -> Value
 
 /// A constant, a variable or `self`, but for texts.
 fn plain(state: &State, activation: &Activation<'_>, code: &Code) -> Option<Value>
-    ensures worth { IfSome result (IsWorth (place_of activation.now.site) (memory_of activation.now state.now.held) (view code.now)) }
-    ensures within { ActivationWithin (length state.now.held.objects) activation.now → IfSome result (RefersWithin (length state.now.held.objects)) }
+    ensures worth { IfSome result (IsWorth (place_of activation.now.site)
+        (memory_of activation.now state.now.held) (view code.now)) }
+    ensures within { ActivationWithin (length state.now.held.objects) activation.now →
+        IfSome result (RefersWithin (length state.now.held.objects)) }
 {
     match &code.form {
         CodeForm::Lit(literal) => plain_constant(literal),
@@ -69,7 +73,8 @@ fn number_of(literal: &Literal) -> Option<i64>
 
 /// A number that a variable holds.
 fn number_in(state: &State, activation: &Activation<'_>, slot: Slot) -> Option<i64>
-    ensures { IfSome result (λ n. memories.read (place_of activation.now.site) slot (memory_of activation.now state.now.held) ≡ Int n) }
+    ensures { IfSome result (λ n. memories.read (place_of activation.now.site) slot
+        (memory_of activation.now state.now.held) ≡ Int n) }
 {
     match held(state, activation.site, activation.locals.as_slice(), slot)? {
         Value::Int(n) => Some(*n),
@@ -79,7 +84,8 @@ fn number_in(state: &State, activation: &Activation<'_>, slot: Slot) -> Option<i
 
 /// A number that is a constant or a variable.
 fn number(state: &State, activation: &Activation<'_>, code: &Code) -> Option<i64>
-    ensures { IfSome result (λ n. IsWorth (place_of activation.now.site) (memory_of activation.now state.now.held) (view code.now) (Int n)) }
+    ensures { IfSome result (λ n. IsWorth (place_of activation.now.site)
+        (memory_of activation.now state.now.held) (view code.now) (Int n)) }
 {
     match &code.form {
         CodeForm::Lit(literal) => number_of(literal),
@@ -95,7 +101,9 @@ fn of_numbers(
     first: &Code,
     links: &[CodeLink],
 ) -> Option<Value>
-    ensures worth { IfSome result (λ y. (at : Pos) → IsWorthThree (place_of activation.now.site) (memory_of activation.now state.now.held) (chain at (view first.now) (links_view links.now)) y) }
+    ensures worth { IfSome result (λ y. (at : Pos) →
+        IsWorthThree (place_of activation.now.site) (memory_of activation.now state.now.held)
+        (chain at (view first.now) (links_view links.now)) y) }
     ensures within { (count : ℕ) → IfSome result (RefersWithin count) }
 {
     let (link, rest) = links.split_first()?;
@@ -115,8 +123,10 @@ fn plain_at_once(
     depth: u32,
     code: &Code,
 ) -> Option<Value>
-    ensures finds { Attempt depth (place_of activation.now.site) (memory_of activation.now state.now.held) (view code.now) units.old units.new result }
-    ensures within { ActivationWithin (length state.now.held.objects) activation.now → IfSome result (RefersWithin (length state.now.held.objects)) }
+    ensures finds { Attempt depth (place_of activation.now.site)
+        (memory_of activation.now state.now.held) (view code.now) units.old units.new result }
+    ensures within { ActivationWithin (length state.now.held.objects) activation.now →
+        IfSome result (RefersWithin (length state.now.held.objects)) }
 {
     if depth == 0 {
         return None;
@@ -138,7 +148,9 @@ fn numbers_at_once(
     first: &Code,
     links: &[CodeLink],
 ) -> Option<Value>
-    ensures finds { (at : Pos) → Attempt depth (place_of activation.now.site) (memory_of activation.now state.now.held) (chain at (view first.now) (links_view links.now)) units.old units.new result }
+    ensures finds { (at : Pos) → Attempt depth (place_of activation.now.site)
+        (memory_of activation.now state.now.held) (chain at (view first.now) (links_view links.now))
+        units.old units.new result }
     ensures within { (count : ℕ) → IfSome result (RefersWithin count) }
 {
     if depth < 2 {
@@ -161,8 +173,10 @@ pub fn at_once(
     depth: u32,
     code: &Code,
 ) -> Option<Value>
-    ensures finds { Attempt depth (place_of activation.now.site) (memory_of activation.now state.now.held) (view code.now) units.old units.new result }
-    ensures within { ActivationWithin (length state.now.held.objects) activation.now → IfSome result (RefersWithin (length state.now.held.objects)) }
+    ensures finds { Attempt depth (place_of activation.now.site)
+        (memory_of activation.now state.now.held) (view code.now) units.old units.new result }
+    ensures within { ActivationWithin (length state.now.held.objects) activation.now →
+        IfSome result (RefersWithin (length state.now.held.objects)) }
 {
     match &code.form {
         CodeForm::Chain(first, links) => numbers_at_once(

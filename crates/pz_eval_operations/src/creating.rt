@@ -40,7 +40,9 @@ fn count_fields(classes: &Classes, class: ClassId) -> u32
 
 /// A new object of a class, its fields nil.
 pub fn create(classes: &Classes, state: &mut State, class: ClassId, at: Pos) -> Result<Value, Stop>
-    ensures tells { (m : ModelTree) (locals : List Value) → AreClasses m classes.now → Tells result (steps.created m class at (record { state = state.old.held; locals = locals })) (record { state = state.new.held; locals = locals }) }
+    ensures tells { (m : ModelTree) (locals : List Value) → AreClasses m classes.now →
+        Tells result (steps.created m class at (record { state = state.old.held; locals = locals }))
+        (record { state = state.new.held; locals = locals }) }
     ensures marks { state.new.marks ≡ state.old.marks }
     ensures count { length state.old.held.objects ≤ length state.new.held.objects }
     ensures within { IfOk result (RefersWithin (length state.new.held.objects)) }

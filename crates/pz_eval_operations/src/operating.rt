@@ -56,7 +56,10 @@ pub fn apply(
 ) -> Result<Value, Stop>
     requires left { RefersWithin (length state.old.held.objects) left.now }
     requires others { All (RefersWithin (length state.old.held.objects)) others.now }
-    ensures tells { (locals : List Value) → Tells result (told_outcome at (record { state = state.old.held; locals = locals }) (outcome state.old.held left.now (steps.spelling op) others.now)) (record { state = state.new.held; locals = locals }) }
+    ensures tells { (locals : List Value) → Tells result
+        (told_outcome at (record { state = state.old.held; locals = locals })
+        (outcome state.old.held left.now (steps.spelling op) others.now))
+        (record { state = state.new.held; locals = locals }) }
     ensures marks { state.new.marks ≡ state.old.marks }
     ensures count { length state.new.held.objects ≡ length state.old.held.objects }
     ensures within { IfOk result (RefersWithin (length state.new.held.objects)) }
@@ -81,7 +84,8 @@ fn number(n: Option<i64>) -> Option<Value>
 /// What an operator between two numbers gives, without the table of primitive values; None where that
 /// has to say.
 pub(crate) fn between_numbers(op: Symbol, a: i64, b: i64) -> Option<Value>
-    ensures applied { IfSome result (λ y. (at : Positions) (m : Memory) → steps.applied op at (Int a) (Int b) m ≡ gives y m) }
+    ensures applied { IfSome result (λ y. (at : Positions) (m : Memory) →
+        steps.applied op at (Int a) (Int b) m ≡ gives y m) }
     ensures within { (count : ℕ) → IfSome result (RefersWithin count) }
 {
     match op {
@@ -100,7 +104,8 @@ pub(crate) fn between_numbers(op: Symbol, a: i64, b: i64) -> Option<Value>
 
 /// The same of two Booleans.
 fn between_booleans(op: Symbol, a: bool, b: bool) -> Option<Value>
-    ensures applied { IfSome result (λ y. (at : Positions) (m : Memory) → steps.applied op at (Boolean a) (Boolean b) m ≡ gives y m) }
+    ensures applied { IfSome result (λ y. (at : Positions) (m : Memory) →
+        steps.applied op at (Boolean a) (Boolean b) m ≡ gives y m) }
     ensures within { (count : ℕ) → IfSome result (RefersWithin count) }
 {
     match op {
@@ -112,7 +117,8 @@ fn between_booleans(op: Symbol, a: bool, b: bool) -> Option<Value>
 
 /// The same of values.
 fn without_table(op: Symbol, left: &Value, right: &Value) -> Option<Value>
-    ensures applied { IfSome result (λ y. (at : Positions) (m : Memory) → steps.applied op at left.now right.now m ≡ gives y m) }
+    ensures applied { IfSome result (λ y. (at : Positions) (m : Memory) →
+        steps.applied op at left.now right.now m ≡ gives y m) }
     ensures within { (count : ℕ) → IfSome result (RefersWithin count) }
 {
     match (left, right) {
@@ -133,7 +139,9 @@ fn apply_between(
 ) -> Result<Value, Stop>
     requires left { RefersWithin (length state.old.held.objects) left.now }
     requires right { RefersWithin (length state.old.held.objects) right }
-    ensures tells { (locals : List Value) → Tells result (steps.applied op at left.now right (record { state = state.old.held; locals = locals })) (record { state = state.new.held; locals = locals }) }
+    ensures tells { (locals : List Value) → Tells result
+        (steps.applied op at left.now right (record { state = state.old.held; locals = locals }))
+        (record { state = state.new.held; locals = locals }) }
     ensures marks { state.new.marks ≡ state.old.marks }
     ensures count { length state.new.held.objects ≡ length state.old.held.objects }
     ensures within { IfOk result (RefersWithin (length state.new.held.objects)) }
@@ -156,7 +164,9 @@ pub fn apply_counted(
 ) -> Result<Value, Stop>
     requires left { RefersWithin (length state.old.held.objects) left.now }
     requires right { RefersWithin (length state.old.held.objects) right }
-    ensures counts { (locals : List Value) → Counts result (steps.applied op at left.now right (record { state = state.old.held; locals = locals })) (record { state = state.new.held; locals = locals }) units.old units.new }
+    ensures counts { (locals : List Value) → Counts result
+        (steps.applied op at left.now right (record { state = state.old.held; locals = locals }))
+        (record { state = state.new.held; locals = locals }) units.old units.new }
     ensures marks { state.new.marks ≡ state.old.marks }
     ensures count { length state.new.held.objects ≡ length state.old.held.objects }
     ensures within { IfOk result (RefersWithin (length state.new.held.objects)) }

@@ -57,7 +57,8 @@ pub fn copy(value: &Value) -> Result<Value, AllocError>
 /// A variable of the process, if it is there.
 fn variable_in(state: &State, slot: u32) -> Option<&Value>
     ensures value { unwrap_or (option_copied result) Nil ≡ variable state.now.held slot }
-    ensures within { IfSome result (λ value. RefersWithin (length state.now.held.objects) value.now) }
+    ensures within { IfSome result (λ value. RefersWithin
+        (length state.now.held.objects) value.now) }
 {
     if slot as usize >= state.variables() {
         return None;
@@ -68,7 +69,8 @@ fn variable_in(state: &State, slot: u32) -> Option<&Value>
 /// A local of a frame, if it is there.
 fn local_in(state: &State, frame: FrameId, slot: u32) -> Option<&Value>
     ensures value { unwrap_or (option_copied result) Nil ≡ local state.now.held frame.0 slot }
-    ensures within { IfSome result (λ value. RefersWithin (length state.now.held.objects) value.now) }
+    ensures within { IfSome result (λ value. RefersWithin
+        (length state.now.held.objects) value.now) }
 {
     state.locals(frame).get(slot as usize)
 }
@@ -76,7 +78,8 @@ fn local_in(state: &State, frame: FrameId, slot: u32) -> Option<&Value>
 /// A field of an object, if it is there.
 fn field_in(state: &State, r: u32, place: u32) -> Option<&Value>
     ensures value { unwrap_or (option_copied result) Nil ≡ item state.now.held r place }
-    ensures within { IfSome result (λ value. RefersWithin (length state.now.held.objects) value.now) }
+    ensures within { IfSome result (λ value. RefersWithin
+        (length state.now.held.objects) value.now) }
 {
     if r >= state.objects() {
         return None;
@@ -91,8 +94,10 @@ pub(crate) fn held<'a>(
     locals: &'a [Value],
     slot: Slot,
 ) -> Option<&'a Value>
-    ensures value { unwrap_or (option_copied result) Nil ≡ read (place_of site) slot (memory_at site state.now.held locals.now) }
-    ensures within { All (RefersWithin (length state.now.held.objects)) locals.now → IfSome result (λ value. RefersWithin (length state.now.held.objects) value.now) }
+    ensures value { unwrap_or (option_copied result) Nil ≡ read (place_of site) slot
+        (memory_at site state.now.held locals.now) }
+    ensures within { All (RefersWithin (length state.now.held.objects)) locals.now →
+        IfSome result (λ value. RefersWithin (length state.now.held.objects) value.now) }
 {
     match (site, slot) {
         (Site::Process(frame), Slot::Local(i)) => local_in(state, frame, i),
@@ -106,8 +111,10 @@ pub(crate) fn held<'a>(
 /// What a variable holds where the code stands; nil if there is none. The only error is want of
 /// memory.
 pub fn read(state: &State, site: Site, locals: &[Value], slot: Slot) -> Result<Value, AllocError>
-    ensures within { All (RefersWithin (length state.now.held.objects)) locals.now → IfOk result (RefersWithin (length state.now.held.objects)) }
-    ensures value { IfOk result (λ value. value ≡ read (place_of site) slot (memory_at site state.now.held locals.now)) }
+    ensures within { All (RefersWithin (length state.now.held.objects)) locals.now →
+        IfOk result (RefersWithin (length state.now.held.objects)) }
+    ensures value { IfOk result (λ value. value ≡ read (place_of site) slot
+        (memory_at site state.now.held locals.now)) }
 {
     match held(state, site, locals, slot) {
         Some(value) => copy(value),

@@ -46,7 +46,8 @@ fn find_method<'a>(
     count: usize,
 ) -> Option<Method<'a>>
     requires { AreKnown classes.now }
-    ensures { (m : ModelTree) → AreClasses m classes.now → option_map method_found result ≡ steps.data_method m class name.now count }
+    ensures { (m : ModelTree) → AreClasses m classes.now →
+        option_map method_found result ≡ steps.data_method m class name.now count }
 {
     if class.0 as usize >= classes.count() {
         return None;
@@ -71,7 +72,9 @@ fn class_reply<'a>(
 ) -> Result<Reply<'a>, Stop>
     requires known { AreKnown classes.now }
     requires receiver { RefersWithin (length state.now.held.objects) receiver.now }
-    ensures replies { (m : ModelTree) (locals : List Value) → AreClasses m classes.now → Replies result (steps.class_reply m (record { state = state.now.held; locals = locals }) receiver.now selector.now count) (record { state = state.now.held; locals = locals }) }
+    ensures replies { (m : ModelTree) (locals : List Value) → AreClasses m classes.now →
+        Replies result (steps.class_reply m (record { state = state.now.held; locals = locals })
+        receiver.now selector.now count) (record { state = state.now.held; locals = locals }) }
     ensures within { IfOk result (ReplyWithin (length state.now.held.objects)) }
 {
     let Value::Ref(r) = receiver else {
@@ -94,7 +97,10 @@ pub fn ask<'a>(
 ) -> Result<Reply<'a>, Stop>
     requires known { AreKnown classes.now }
     requires within { RequestWithin (length state.old.held.objects) request.now }
-    ensures replies { (m : ModelTree) (locals : List Value) → AreClasses m classes.now → Replies result (steps.reply m request.now.receiver request.now.selector.now request.now.arguments.items (record { state = state.old.held; locals = locals })) (record { state = state.new.held; locals = locals }) }
+    ensures replies { (m : ModelTree) (locals : List Value) → AreClasses m classes.now →
+        Replies result (steps.reply m request.now.receiver request.now.selector.now
+        request.now.arguments.items (record { state = state.old.held; locals = locals }))
+        (record { state = state.new.held; locals = locals }) }
     ensures marks { state.new.marks ≡ state.old.marks }
     ensures count { length state.new.held.objects ≡ length state.old.held.objects }
     ensures within { IfOk result (ReplyWithin (length state.new.held.objects)) }

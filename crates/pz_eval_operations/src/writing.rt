@@ -17,7 +17,8 @@ use std::alloc::AllocError;
 /// Gives a field of an object a value, if it is there.
 fn write_field(state: &mut State, r: u32, place: u32, value: Value) -> Result<(), AllocError>
     requires { RefersWithin (length state.old.held.objects) value }
-    ensures ok { OnOk result (state.new ≡ changed state.old (set_item state.old.held r place value)) }
+    ensures ok { OnOk result (state.new ≡ changed state.old
+        (set_item state.old.held r place value)) }
     ensures err { OnErr result (state.new ≡ state.old) }
 {
     if r >= state.objects() {
@@ -48,7 +49,8 @@ pub fn write(
 ) -> Result<(), AllocError>
     requires value { RefersWithin (length state.old.held.objects) value }
     requires locals { All (RefersWithin (length state.old.held.objects)) locals.old.items }
-    ensures memory { OnOk result (memory_at site state.new.held locals.new.items ≡ write (place_of site) slot value (memory_at site state.old.held locals.old.items)) }
+    ensures memory { OnOk result (memory_at site state.new.held locals.new.items ≡ write
+        (place_of site) slot value (memory_at site state.old.held locals.old.items)) }
     ensures marks { state.new.marks ≡ state.old.marks }
     ensures count { length state.new.held.objects ≡ length state.old.held.objects }
     ensures within { All (RefersWithin (length state.new.held.objects)) locals.new.items }

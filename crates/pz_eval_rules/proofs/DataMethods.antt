@@ -61,7 +61,7 @@ module _ (m : ModelTree) (c locals : ℕ) where
     sendings_fit no_sendings h = refl
     sendings_fit (sending selector args ss) h = none_of _ _ (part_fits args h.0) (sendings_fit ss h.1)
 
-second : Option (ℕ × Codes) → Codes
+abbrev second : Option (ℕ × Codes) → Codes
 second None = none
 second (Some p) = p.1
 
@@ -80,7 +80,7 @@ module _ (model : ModelTree) (bodies : BodiesFit model) where
 
 -- A receiver runs no other bodies.
 module _ (model : ModelTree) (methods : DataIsTimeless model) where
-  body_in : Reply → Codes
+  abbrev body_in : Reply → Codes
   body_in (answers a) = none
   body_in (runs o count ts) = ts
 

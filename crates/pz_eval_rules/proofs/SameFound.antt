@@ -24,18 +24,18 @@ module _ (model : ModelTree) (now later frame : ℕ) (s : StateView) (allowed : 
   list_same ts e =
       let replies = replies_are_timeless model methods in
       arguments_same model later now (evaluated model later allowed.depth) (evaluated model now allowed.depth) replies
-        (λ p t m r f. evaluated_same model later now allowed.depth replies p t m r f) (in_process frame) [] ts (outside s) allowed.units e
+      (λ p t m r f. evaluated_same model later now allowed.depth replies p t m r f) (in_process frame) [] ts (outside s) allowed.units e
 
   pub value_found : (t : Tree) (o : Outcome) (s1 : StateView) → names_clock t ≡ false → Finds model now frame s t allowed o s1 → Finds model later frame s t allowed o s1
   value_found t o s1 e f =
       let q = only_found model now frame s t allowed f in
       let g = subst (λ r. Finds model later frame s t allowed (outcome_of r) (state_after s r)) (value_same t e) (found model later frame s t allowed) in
       subst (λ x. Finds model later frame s t allowed x s1) (sym q.0)
-        (subst (λ x. Finds model later frame s t allowed (outcome_of (reached_value model now frame s t allowed)) x) (sym q.1) g)
+      (subst (λ x. Finds model later frame s t allowed (outcome_of (reached_value model now frame s t allowed)) x) (sym q.1) g)
 
   pub list_found : (ts : Codes) (o : Listed) (s1 : StateView) → list_names_clock ts ≡ false → FindsAll model now frame s ts allowed o s1 → FindsAll model later frame s ts allowed o s1
   list_found ts o s1 e f =
       let q = only_found_list model now frame s ts allowed f in
       let g = subst (λ r. FindsAll model later frame s ts allowed (listed_of r) (state_after s r)) (list_same ts e) (found_list model later frame s ts allowed) in
       subst (λ x. FindsAll model later frame s ts allowed x s1) (sym q.0)
-        (subst (λ x. FindsAll model later frame s ts allowed (listed_of (reached_list model now frame s ts allowed)) x) (sym q.1) g)
+      (subst (λ x. FindsAll model later frame s ts allowed (listed_of (reached_list model now frame s ts allowed)) x) (sym q.1) g)

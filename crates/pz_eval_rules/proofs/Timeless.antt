@@ -54,14 +54,13 @@ RepliesAreTimeless model = (y : Value) (selector : Id) (ws : List Value) (m : Me
 -- Two clocks, where the parts that do not name the clock come to the same.
 module _ (model : ModelTree) (now later : ℕ) (below beside : Location → Tree → Computation Value) (replies : RepliesAreTimeless model)
     (same : (p : Location) (t : Tree) (m : Memory) (r : ℕ) → names_clock t ≡ false → below p t m r ≡ beside p t m r) where
-
   sequence_same : (p : Location) (y : Value) (ts : Codes) (m : Memory) (r : ℕ) → list_names_clock ts ≡ false
       → sequence model now below p y ts m r ≡ sequence model later beside p y ts m r
   unfolding sequence
   sequence_same p y none m r e = refl
   sequence_same p y (more t ts) m r e = let q = neither (names_clock t) (list_names_clock ts) e in
       then_same (below p t m r) (beside p t m r) (λ z. sequence model now below p z ts) (λ z. sequence model later beside p z ts)
-        (same p t m r q.0) (λ z m1 r1. sequence_same p z ts m1 r1 q.1)
+      (same p t m r q.0) (λ z m1 r1. sequence_same p z ts m1 r1 q.1)
 
   pub arguments_same : (p : Location) (ys : List Value) (ts : Codes) (m : Memory) (r : ℕ) → list_names_clock ts ≡ false
       → arguments model now below p ys ts m r ≡ arguments model later beside p ys ts m r
@@ -69,8 +68,8 @@ module _ (model : ModelTree) (now later : ℕ) (below beside : Location → Tree
   arguments_same p ys none m r e = refl
   arguments_same p ys (more t ts) m r e = let q = neither (names_clock t) (list_names_clock ts) e in
       then_same (below p t m r) (beside p t m r)
-        (λ y. arguments model now below p (ys ++ y ∷ []) ts) (λ y. arguments model later beside p (ys ++ y ∷ []) ts)
-        (same p t m r q.0) (λ y m1 r1. arguments_same p (ys ++ y ∷ []) ts m1 r1 q.1)
+      (λ y. arguments model now below p (ys ++ y ∷ []) ts) (λ y. arguments model later beside p (ys ++ y ∷ []) ts)
+      (same p t m r q.0) (λ y m1 r1. arguments_same p (ys ++ y ∷ []) ts m1 r1 q.1)
 
   operators_same : (p : Location) (y : Value) (ls : Links Slot ClassId) (m : Memory) (r : ℕ) → links_name_clock ls ≡ false
       → operators model now below p y ls m r ≡ operators model later beside p y ls m r
@@ -78,9 +77,9 @@ module _ (model : ModelTree) (now later : ℕ) (below beside : Location → Tree
   operators_same p y no_links m r e = refl
   operators_same p y (link op at t ls) m r e = let q = neither (names_clock t) (links_name_clock ls) e in
       then_same (below p t m r) (beside p t m r) _ _ (same p t m r q.0)
-        (λ w m1 r1. tick_same _ _ (λ m2 r2. follow_same (applied op at y w m2) r2
-          (λ z. operators model now below p z ls) (λ z. operators model later beside p z ls)
-          (λ z m3 r3. operators_same p z ls m3 r3 q.1)) m1 r1)
+      (λ w m1 r1. tick_same _ _ (λ m2 r2. follow_same (applied op at y w m2) r2
+      (λ z. operators model now below p z ls) (λ z. operators model later beside p z ls)
+      (λ z m3 r3. operators_same p z ls m3 r3 q.1)) m1 r1)
 
   replied_same : (x : Reply) (ws : List Value) (m : Memory) (r : ℕ)
       → ((o count : ℕ) (body : Codes) → x ≡ runs o count body → list_names_clock body ≡ false)
@@ -100,9 +99,9 @@ module _ (model : ModelTree) (now later : ℕ) (below beside : Location → Tree
   selectors_same p y no_sendings m r e = refl
   selectors_same p y (sending selector args ss) m r e = let q = neither (part_names_clock args) (sendings_name_clock ss) e in
       then_same _ _ _ _ (arguments_same p [] (arguments_of args) m r (arguments_timeless args q.0))
-        (λ ws m1 r1. tick_same _ _ (λ m2 r2. then_same _ _ (λ z. selectors model now below p z ss) (λ z. selectors model later beside p z ss)
-          (replied_same (reply model y selector ws m2) ws m2 r2 (λ o count body f. replies y selector ws m2 o count body f))
-          (λ z m3 r3. selectors_same p z ss m3 r3 q.1)) m1 r1)
+      (λ ws m1 r1. tick_same _ _ (λ m2 r2. then_same _ _ (λ z. selectors model now below p z ss) (λ z. selectors model later beside p z ss)
+      (replied_same (reply model y selector ws m2) ws m2 r2 (λ o count body f. replies y selector ws m2 o count body f))
+      (λ z m3 r3. selectors_same p z ss m3 r3 q.1)) m1 r1)
 
   going_same : (p : Location) (ts : Codes) (next other : Computation Value) → ((m : Memory) (r : ℕ) → next m r ≡ other m r)
       → list_names_clock ts ≡ false → (b : Bool) (m : Memory) (r : ℕ) → going model now below p ts next b m r ≡ going model later beside p ts other b m r
@@ -116,8 +115,8 @@ module _ (model : ModelTree) (now later : ℕ) (below beside : Location → Tree
   turns_same zero p at t ts m r e f = refl
   turns_same (suc n) p at t ts m r e f =
       tick_same _ _ (λ m1 r1. then_same (below p t m1 r1) (beside p t m1 r1) _ _ (same p t m1 r1 e)
-        (λ y m2 r2. tested_same at (truth y) _ _
-          (going_same p ts (turns model now below n p at t ts) (turns model later beside n p at t ts) (λ m3 r3. turns_same n p at t ts m3 r3 e f) f) m2 r2)) m r
+      (λ y m2 r2. tested_same at (truth y) _ _
+      (going_same p ts (turns model now below n p at t ts) (turns model later beside n p at t ts) (λ m3 r3. turns_same n p at t ts m3 r3 e f) f) m2 r2)) m r
 
   chosen_timeless : (b : Bool) (ts : Codes) (other : Part Slot ClassId) → list_names_clock ts ≡ false → part_names_clock other ≡ false
       → list_names_clock (chosen b ts other) ≡ false
@@ -140,10 +139,10 @@ module _ (model : ModelTree) (now later : ℕ) (below beside : Location → Tree
   step_same p (group at ts) m r e = tick_same _ _ (λ m1 r1. sequence_same p Nil ts m1 r1 e) m r
   step_same p (chain at t ls) m r e = let q = neither (names_clock t) (links_name_clock ls) e in
       then_same (below p t m r) (beside p t m r) (λ y. operators model now below p y ls) (λ y. operators model later beside p y ls)
-        (same p t m r q.0) (λ y m1 r1. operators_same p y ls m1 r1 q.1)
+      (same p t m r q.0) (λ y m1 r1. operators_same p y ls m1 r1 q.1)
   step_same p (sends at t ss) m r e = let q = neither (names_clock t) (sendings_name_clock ss) e in
       then_same (below p t m r) (beside p t m r) (λ y. selectors model now below p y ss) (λ y. selectors model later beside p y ss)
-        (same p t m r q.0) (λ y m1 r1. selectors_same p y ss m1 r1 q.1)
+      (same p t m r q.0) (λ y m1 r1. selectors_same p y ss m1 r1 q.1)
   step_same p (unary at op t) m r e = alone_same p t (λ y m2 r2. done (applied_alone op at y m2) r2) m r e
   step_same p (assign at x t) m r e = alone_same p t (λ y m2 r2. done (gives y (write p x y m2)) r2) m r e
   step_same p (returned at t) m r e = alone_same p t (λ y m2 r2. done (stops (ends y m2)) r2) m r e
@@ -151,7 +150,7 @@ module _ (model : ModelTree) (now later : ℕ) (below beside : Location → Tree
       let q = neither (names_clock t) (list_names_clock ts || part_names_clock other) e in
       let q' = neither (list_names_clock ts) (part_names_clock other) q.1 in
       tick_same _ _ (λ m1 r1. then_same (below p t m1 r1) (beside p t m1 r1) _ _ (same p t m1 r1 q.0)
-        (λ y m2 r2. tested_same at (truth y) _ _ (λ b m3 r3. sequence_same p Nil (chosen b ts other) m3 r3 (chosen_timeless b ts other q'.0 q'.1)) m2 r2)) m r
+      (λ y m2 r2. tested_same at (truth y) _ _ (λ b m3 r3. sequence_same p Nil (chosen b ts other) m3 r3 (chosen_timeless b ts other q'.0 q'.1)) m2 r2)) m r
   step_same p (loop at t ts) m r e = let q = neither (names_clock t) (list_names_clock ts) e in turns_same r p at t ts m r q.0 q.1
 
 -- within any depth

@@ -3,8 +3,6 @@
 ghost use Rattle.pz_eval_rules.specs.Laws.{EachHasAnOutcome, HasOneOutcome, MoreFindsTheSame, EachListHasAnOutcome, ListHasOneOutcome, MoreFindsTheSameList, SoundDataIsTimeless, UnclockedIsTimeless, UnclockedListIsTimeless};
 ghost use Rattle.pz_eval_rules.specs.devices.Laws.{ComputedIsFound, ComputedListIsFound, TurnsGoOn, UnclockedIsComputedTheSame, UnclockedListIsComputedTheSame};
 
-use pz_classes::sound_bodies_fit;
-
 /// Each evaluation has an outcome and a state afterwards.
 pub fn each_evaluation_has_an_outcome()
     ensures law { EachHasAnOutcome }
@@ -55,5 +53,5 @@ pub fn unclocked_is_timeless()
     ensures computed { UnclockedIsComputedTheSame }
     ensures computed_list { UnclockedListIsComputedTheSame }
 {
-    sound_bodies_fit();
+    pz_classes::laws::sound_bodies_fit();
 }

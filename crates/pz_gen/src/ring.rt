@@ -39,7 +39,8 @@ pub fn make(alloc: Global, n: u32) -> Result<Vec<u8>, AllocError>
 
 /// Adds the instances of the stations. The only error is want of memory.
 fn add_stations(alloc: Global, text: &mut String, n: u32) -> Result<(), AllocError>
-    ensures { OnOk result (string_bytes text.new ≡ string_bytes text.old ++ ring.each n ring.station) }
+    ensures { OnOk result (string_bytes text.new ≡
+        string_bytes text.old ++ ring.each n ring.station) }
 {
     for i in 0..n {
         let first = i == 0;
@@ -59,7 +60,8 @@ fn station_behind(n: u32, i: u32) -> u32
 
 /// Adds the channels from each station to the next. The only error is want of memory.
 fn add_channels(alloc: Global, text: &mut String, n: u32) -> Result<(), AllocError>
-    ensures { OnOk result (string_bytes text.new ≡ string_bytes text.old ++ ring.each n (ring.channel n)) }
+    ensures { OnOk result (string_bytes text.new ≡ string_bytes text.old ++ ring.each n
+        (ring.channel n)) }
 {
     for i in 0..n {
         let next = station_behind(n, i);

@@ -10,7 +10,7 @@
 
 mod answers;
 mod failing;
-mod laws;
+pub mod laws;
 mod mem;
 mod names;
 mod os;
@@ -20,7 +20,6 @@ mod whole;
 mod writing;
 
 pub use failing::FailingFiles;
-pub use laws::pieces_join;
 pub use mem::MemFiles;
 pub use names::Names;
 pub use os::{OsFiles, OsSink};

@@ -21,7 +21,8 @@ pub fn lex(alloc: Global, text: &[u8]) -> Result<Items<Token>, LexError>
     requires { length text.now < 2 ^ 32 - 1 }
     ensures tokens { IfOk result (λ tokens. AreTokens text.now tokens) }
     ensures counted { IfOk result (λ tokens. length tokens ≤ length text.now) }
-    ensures refusal { IfErr result (λ error. (error ≡ LexError.NoMemory) ⊎ IsRefused text.now error) }
+    ensures refusal { IfErr result (λ error. (error ≡ LexError.NoMemory)
+        ⊎ IsRefused text.now error) }
     // The definition computes: this is the answer that it gives.
     ensures computed { Answers result (lexed text.now) }
 {
@@ -32,21 +33,28 @@ pub fn lex(alloc: Global, text: &[u8]) -> Result<Items<Token>, LexError>
 
 /// Each text has one list of tokens or one refusal, and no text has both.
 pub fn one_answer()
-    ensures one_list { (text : List ℕ) (a b : List Token) → AreTokens text a → AreTokens text b → a ≡ b }
-    ensures one_refusal { (text : List ℕ) (a b : LexError) → IsRefused text a → IsRefused text b → a ≡ b }
-    ensures not_both { (text : List ℕ) (tokens : List Token) (error : LexError) → AreTokens text tokens → IsRefused text error → ⊥ }
-    ensures either { (text : List ℕ) → ((tokens : List Token) × AreTokens text tokens) ⊎ ((error : LexError) × IsRefused text error) }
+    ensures one_list { (text : List ℕ) (a b : List Token) → AreTokens text a → AreTokens text b →
+        a ≡ b }
+    ensures one_refusal { (text : List ℕ) (a b : LexError) → IsRefused text a → IsRefused text b →
+        a ≡ b }
+    ensures not_both { (text : List ℕ) (tokens : List Token) (error : LexError) →
+        AreTokens text tokens → IsRefused text error → ⊥ }
+    ensures either { (text : List ℕ) → ((tokens : List Token) × AreTokens text tokens)
+        ⊎ ((error : LexError) × IsRefused text error) }
 
     // The definition computes.
-    ensures tokens_computed { (text : List ℕ) (tokens : List Token) → AreTokens text tokens ↔ (lexed text ≡ Ok tokens) }
-    ensures refusal_computed { (text : List ℕ) (error : LexError) → IsRefused text error ↔ (lexed text ≡ Err error) }
+    ensures tokens_computed { (text : List ℕ) (tokens : List Token) →
+        AreTokens text tokens ↔ (lexed text ≡ Ok tokens) }
+    ensures refusal_computed { (text : List ℕ) (error : LexError) →
+        IsRefused text error ↔ (lexed text ≡ Err error) }
 {}
 
 /// The tokens of a text, none of them marked as a head.
 fn cut(alloc: Global, text: &[u8]) -> Result<Vec<Token>, LexError>
     requires { length text.now < 2 ^ 32 - 1 }
     ensures tokens { IfOk result (λ tokens. AreCutInto text.now tokens.items) }
-    ensures refusal { IfErr result (λ error. (error ≡ LexError.NoMemory) ⊎ IsRefused text.now error) }
+    ensures refusal { IfErr result (λ error. (error ≡ LexError.NoMemory)
+        ⊎ IsRefused text.now error) }
 {
     let mut tokens = Vec::new(alloc);
     let mut rest = text;

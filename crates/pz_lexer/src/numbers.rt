@@ -24,7 +24,8 @@ pub fn number(text: &[u8]) -> Result<Found, Stop>
 
 /// What follows the `.` where a `.` and a digit stand first.
 fn fraction(text: &[u8]) -> Option<&[u8]>
-    ensures some { IfSome result (λ decimals. (begins_fraction text.now ≡ true) × (decimals.now ≡ drop 1 text.now)) }
+    ensures some { IfSome result (λ decimals. (begins_fraction text.now ≡ true)
+        × (decimals.now ≡ drop 1 text.now)) }
     ensures none { IfNone result (begins_fraction text.now ≡ false) }
 {
     let (dot, decimals) = text.split_first()?;

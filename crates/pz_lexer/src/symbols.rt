@@ -53,7 +53,8 @@ pub fn symbol(text: &[u8]) -> Result<Found, Stop>
 
 /// The symbol that the first so many bytes spell, or the whole text if it is shorter.
 fn front_symbol(text: &[u8], most: usize) -> Option<Found>
-    ensures { result ≡ option_map (found_symbol (length (take most text.now))) (spelled symbols (take most text.now)) }
+    ensures { result ≡ option_map (found_symbol (length (take most text.now)))
+        (spelled symbols (take most text.now)) }
 {
     let len = most.min(text.len());
     let (spelling, _) = text.split_at(len);

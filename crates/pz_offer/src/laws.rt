@@ -10,5 +10,6 @@ pub fn summaries_join()
     ensures associative { (s t u : Summary) → join (join s t) u ≡ join s (join t u) }
     ensures left { (s : Summary) → join nothing s ≡ s }
     ensures right { (s : Summary) → join s nothing ≡ s }
-    ensures shifts { (by : ℕ) (s t : Summary) → shifted by (join s t) ≡ join (shifted by s) (shifted by t) }
+    ensures shifts { (by : ℕ) (s t : Summary) → shifted by (join s t) ≡ join (shifted by s)
+        (shifted by t) }
 {}

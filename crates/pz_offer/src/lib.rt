@@ -4,14 +4,13 @@
 
 mod end;
 mod ends;
-mod laws;
+pub mod laws;
 mod place;
 mod summary;
 mod trouble;
 
 pub use end::End;
 pub use ends::{ReceiveOffer, SendOffer, Verdict};
-pub use laws::summaries_join;
 pub use place::Place;
 pub use summary::Summary;
 pub use trouble::Trouble;

@@ -53,7 +53,8 @@ fn more_decls(
     mut found: Items<Decl>,
 ) -> Result<Items<Decl>, Refusal>
     requires room { depth < 2 ^ 64 - 1 }
-    ensures { Reads (map decl_view) (spec.more_decls depth (map decl_view found) cursor.old) result cursor.new }
+    ensures { Reads (map decl_view) (spec.more_decls depth (map decl_view found) cursor.old) result
+        cursor.new }
 {
     for _turn in 0..cursor.left() {
         if !begins_decl(cursor) {

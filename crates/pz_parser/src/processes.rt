@@ -24,7 +24,8 @@ pub fn process_class(
     depth: usize,
 ) -> Result<ProcessClass, Refusal>
     requires room { depth < 2 ^ 64 - 1 }
-    ensures reads { Reads process_class_view (spec.process_class depth cursor.old) result cursor.new }
+    ensures reads { Reads process_class_view (spec.process_class depth cursor.old) result
+        cursor.new }
 {
     cursor.expect(Next::Process)?;
     cursor.expect(Next::Class)?;
@@ -55,7 +56,8 @@ fn methods_section(
     depth: usize,
 ) -> Result<Option<Items<ProcessMethod>>, Refusal>
     requires room { depth < 2 ^ 64 - 1 }
-    ensures { Reads (option_map (map process_method_view)) (spec.process_methods_section depth cursor.old) result cursor.new }
+    ensures { Reads (option_map (map process_method_view))
+        (spec.process_methods_section depth cursor.old) result cursor.new }
 {
     if cursor.sees(Next::Methods) {
         Ok(Some(methods_behind(alloc, cursor, depth)?))
@@ -70,7 +72,8 @@ fn methods_behind(
     depth: usize,
 ) -> Result<Items<ProcessMethod>, Refusal>
     requires room { depth < 2 ^ 64 - 1 }
-    ensures { Reads (map process_method_view) (behind n.Methods (spec.process_methods depth) cursor.old) result cursor.new }
+    ensures { Reads (map process_method_view) (behind n.Methods
+        (spec.process_methods depth) cursor.old) result cursor.new }
 {
     cursor.expect(Next::Methods)?;
     process_methods(alloc, cursor, depth)
@@ -84,7 +87,8 @@ fn process_methods(
     depth: usize,
 ) -> Result<Items<ProcessMethod>, Refusal>
     requires room { depth < 2 ^ 64 - 1 }
-    ensures { Reads (map process_method_view) (spec.process_methods depth cursor.old) result cursor.new }
+    ensures { Reads (map process_method_view) (spec.process_methods depth cursor.old) result
+        cursor.new }
 {
     let mut found = Items::new(alloc);
     for _turn in 0..cursor.left() {

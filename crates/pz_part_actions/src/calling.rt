@@ -29,7 +29,6 @@ use pz_rules::Term;
 use pz_state::{FrameId, State};
 use pz_syntax::{Id, Pos};
 use pz_term_around::set_inputs;
-use pz_term_processes::trees_are_sets;
 use pz_value::{ClassId, Value};
 use std::alloc::{AllocError, Global};
 
@@ -49,9 +48,10 @@ fn find_method<'a>(
     outputs: usize,
 ) -> Method<'a>
     requires { ∥ IsCallable classes.now class name.now inputs outputs ∥₁ }
-    ensures { (m : ModelTree) → ∥ AreClasses m classes.now ∥₁ → IsMethod m class.0 name.now inputs outputs result.locals (sequence_view result.steps.now) }
+    ensures { (m : ModelTree) → ∥ AreClasses m classes.now ∥₁ →
+        IsMethod m class.0 name.now inputs outputs result.locals (sequence_view result.steps.now) }
 {
-    trees_are_sets();
+    pz_term_processes::laws::trees_are_sets();
     let Some(method) = classes.process_method(class, name, inputs, outputs) else {
         unreachable!();
     };
@@ -72,7 +72,8 @@ fn framed(
     results: &[Slot],
     steps: &[Step],
 ) -> Result<Term, AllocError>
-    ensures { IfOk result (λ term. term_view term ≡ terms.frame frame.0 inputs results.now (opened_all (sequence_view steps.now))) }
+    ensures { IfOk result (λ term. term_view term ≡ terms.frame frame.0 inputs results.now
+        (opened_all (sequence_view steps.now))) }
 {
     let results = Items::from_vec(Vec::from_slice(alloc, results)?);
     let body = Boxed::new(alloc, open_steps(alloc, steps)?)?;
@@ -93,7 +94,8 @@ fn enter(
     results: &[Slot],
 ) -> Result<Term, AllocError>
     requires { All (RefersWithin (length state.old.held.objects)) inputs }
-    ensures { IfOk result (λ term. Enters method.entry.locals results.now (sequence_view method.entry.steps.now) inputs (term_view term) state.old state.new) }
+    ensures { IfOk result (λ term. Enters method.entry.locals results.now
+        (sequence_view method.entry.steps.now) inputs (term_view term) state.old state.new) }
 {
     let count = inputs.len();
     let frame = state.open_frame(method.locals)?;
@@ -114,9 +116,12 @@ pub(crate) fn perform_call(
     results: &[Slot],
 ) -> Result<Result<Term, Trouble>, AllocError>
     requires known { AreKnown here.now.classes.now }
-    requires fits { ∥ FitsHere here.now class (terms.leaf (statements.call pos method.now (list_view args.now) results.now)) ∥₁ }
-    ensures performs { (m : ModelTree) → Knows m here.now → IfOk result (λ left. Performs (seen_from m here.now class.0 state.old.held) frame.0
-        (terms.leaf (statements.call pos method.now (list_view args.now) results.now)) pos (process_left state.new.held left)) }
+    requires fits { ∥ FitsHere here.now class (terms.leaf
+        (statements.call pos method.now (list_view args.now) results.now)) ∥₁ }
+    ensures performs { (m : ModelTree) → Knows m here.now →
+        IfOk result (λ left. Performs (seen_from m here.now class.0 state.old.held) frame.0
+        (terms.leaf (statements.call pos method.now (list_view args.now) results.now)) pos
+        (process_left state.new.held left)) }
     ensures marks { OnOk result (state.new.marks ≡ state.old.marks) }
 {
     let name = method.name.as_str().as_bytes();

@@ -30,7 +30,9 @@ pub(crate) fn evaluate(
     code: &Code,
 ) -> Result<Result<Value, Trouble>, AllocError>
     requires { AreKnown here.now.classes.now }
-    ensures gives { (m : ModelTree) (class : ℕ) → Knows m here.now → IfOk result (λ found. Gives (seen_from m here.now class state.old.held) frame.0 pos (view code.now) found state.new.held) }
+    ensures gives { (m : ModelTree) (class : ℕ) → Knows m here.now →
+        IfOk result (λ found. Gives (seen_from m here.now class state.old.held) frame.0 pos
+        (view code.now) found state.new.held) }
     ensures marks { state.new.marks ≡ state.old.marks }
 {
     let allowed = allowance(here.limits);
@@ -48,8 +50,11 @@ pub(crate) fn evaluate_all(
     codes: &[Code],
 ) -> Result<Result<Items<Value>, Trouble>, AllocError>
     requires { AreKnown here.now.classes.now }
-    ensures gives { (m : ModelTree) (class : ℕ) → Knows m here.now → IfOk result (λ found. GivesAll (seen_from m here.now class state.old.held) frame.0 pos (list_view codes.now) found state.new.held) }
-    ensures within { IfOk result (λ found. IfOk found (All (RefersWithin (length state.new.held.objects)))) }
+    ensures gives { (m : ModelTree) (class : ℕ) → Knows m here.now →
+        IfOk result (λ found. GivesAll (seen_from m here.now class state.old.held) frame.0 pos
+        (list_view codes.now) found state.new.held) }
+    ensures within { IfOk result (λ found. IfOk found
+        (All (RefersWithin (length state.new.held.objects)))) }
     ensures marks { state.new.marks ≡ state.old.marks }
 {
     let allowed = allowance(here.limits);
@@ -75,7 +80,9 @@ pub(crate) fn test(
     code: &Code,
 ) -> Result<Result<bool, Trouble>, AllocError>
     requires { AreKnown here.now.classes.now }
-    ensures tests { (m : ModelTree) (class : ℕ) → Knows m here.now → IfOk result (λ found. Tested (seen_from m here.now class state.old.held) frame.0 pos (view code.now) found state.new.held) }
+    ensures tests { (m : ModelTree) (class : ℕ) → Knows m here.now →
+        IfOk result (λ found. Tested (seen_from m here.now class state.old.held) frame.0 pos
+        (view code.now) found state.new.held) }
     ensures marks { state.new.marks ≡ state.old.marks }
 {
     let found = evaluate(alloc, here, state, frame, pos, code)?;
@@ -100,7 +107,9 @@ pub(crate) fn run(
     codes: &[Code],
 ) -> Result<Result<(), Trouble>, AllocError>
     requires { AreKnown here.now.classes.now }
-    ensures runs { (m : ModelTree) (class : ℕ) → Knows m here.now → IfOk result (λ end. Ran (seen_from m here.now class state.old.held) frame.0 pos (written (list_view codes.now)) end state.new.held) }
+    ensures runs { (m : ModelTree) (class : ℕ) → Knows m here.now →
+        IfOk result (λ end. Ran (seen_from m here.now class state.old.held) frame.0 pos
+        (written (list_view codes.now)) end state.new.held) }
     ensures marks { state.new.marks ≡ state.old.marks }
 {
     let found = evaluate_all(alloc, here, state, frame, pos, codes)?;
@@ -117,7 +126,9 @@ pub(crate) fn run_part(
     part: &Option<Items<Code>>,
 ) -> Result<Result<(), Trouble>, AllocError>
     requires { AreKnown here.now.classes.now }
-    ensures runs { (m : ModelTree) (class : ℕ) → Knows m here.now → IfOk result (λ end. Ran (seen_from m here.now class state.old.held) frame.0 pos (part_view part.now) end state.new.held) }
+    ensures runs { (m : ModelTree) (class : ℕ) → Knows m here.now →
+        IfOk result (λ end. Ran (seen_from m here.now class state.old.held) frame.0 pos
+        (part_view part.now) end state.new.held) }
     ensures marks { state.new.marks ≡ state.old.marks }
 {
     match part {

@@ -18,7 +18,7 @@ use pz_classes_code::{Code, StepForm};
 use pz_items::Items;
 use pz_offer::Trouble;
 use pz_part_queries::Standpoint;
-use pz_rules::{Term, evaluations_are_computed};
+use pz_rules::Term;
 use pz_state::{FrameId, State};
 use pz_syntax::Pos;
 use std::alloc::{AllocError, Global};
@@ -34,7 +34,9 @@ fn hand_over(
     block: &Option<Items<Code>>,
 ) -> Result<Result<(), Trouble>, AllocError>
     requires { AreKnown here.now.classes.now }
-    ensures runs { (m : ModelTree) (class : ℕ) → Knows m here.now → IfOk result (λ end. RunsBoth (seen_from m here.now class state.old.held) frame.0 pos (part_view args.now) (part_view block.now) end state.new.held) }
+    ensures runs { (m : ModelTree) (class : ℕ) → Knows m here.now →
+        IfOk result (λ end. RunsBoth (seen_from m here.now class state.old.held) frame.0 pos
+        (part_view args.now) (part_view block.now) end state.new.held) }
     ensures marks { state.new.marks ≡ state.old.marks }
 {
     match run_part(alloc, here, state, frame, pos, args)? {
@@ -56,12 +58,15 @@ pub fn hand(
 ) -> Result<Result<(), Trouble>, AllocError>
     requires known { AreKnown here.now.classes.now }
     requires sends { IsSend (term_view part.now) }
-    ensures hands { (m : ModelTree) (class : ℕ) (pos : Position) (port : ℕ) (message : List ℕ) (parcel : ParcelView) →
-        Knows m here.now → Sends (seen_from m here.now class state.old.held) frame.0 (term_view part.now) pos port message parcel →
-        IfOk result (λ left. Hands (seen_from m here.now class state.old.held) frame.0 parcel (term_view part.now) pos (done_left state.new.held left)) }
+    ensures hands { (m : ModelTree) (class : ℕ) (pos : Position) (port : ℕ) (message : List ℕ)
+        (parcel : ParcelView) → Knows m here.now →
+        Sends (seen_from m here.now class state.old.held) frame.0
+        (term_view part.now) pos port message parcel →
+        IfOk result (λ left. Hands (seen_from m here.now class state.old.held) frame.0 parcel
+        (term_view part.now) pos (done_left state.new.held left)) }
     ensures marks { OnOk result (state.new.marks ≡ state.old.marks) }
 {
-    evaluations_are_computed();
+    pz_rules::laws::evaluations_are_computed();
     let Term::Leaf(step) = part else {
         unreachable!();
     };

@@ -47,7 +47,10 @@ fn perform_value(
     code: &Code,
 ) -> Result<Result<Term, Trouble>, AllocError>
     requires { AreKnown here.now.classes.now }
-    ensures performs { (m : ModelTree) (class : ℕ) → Knows m here.now → IfOk result (λ left. Performs (seen_from m here.now class state.old.held) frame.0 (terms.leaf (statements.value pos (code_view code.now))) pos (process_left state.new.held left)) }
+    ensures performs { (m : ModelTree) (class : ℕ) → Knows m here.now →
+        IfOk result (λ left. Performs (seen_from m here.now class state.old.held) frame.0
+        (terms.leaf (statements.value pos (code_view code.now))) pos
+        (process_left state.new.held left)) }
     ensures marks { state.new.marks ≡ state.old.marks }
 {
     let found = evaluate(alloc, here, state, frame, pos, code)?;
@@ -64,7 +67,10 @@ fn perform_block(
     codes: &[Code],
 ) -> Result<Result<Term, Trouble>, AllocError>
     requires { AreKnown here.now.classes.now }
-    ensures performs { (m : ModelTree) (class : ℕ) → Knows m here.now → IfOk result (λ left. Performs (seen_from m here.now class state.old.held) frame.0 (terms.leaf (statements.block pos (list_view codes.now))) pos (process_left state.new.held left)) }
+    ensures performs { (m : ModelTree) (class : ℕ) → Knows m here.now →
+        IfOk result (λ left. Performs (seen_from m here.now class state.old.held) frame.0
+        (terms.leaf (statements.block pos (list_view codes.now))) pos
+        (process_left state.new.held left)) }
     ensures marks { state.new.marks ≡ state.old.marks }
 {
     let end = run(alloc, here, state, frame, pos, codes)?;
@@ -83,7 +89,9 @@ fn perform_step(
     requires known { AreKnown here.now.classes.now }
     requires acts { IsActing (terms.leaf (view step.now)) }
     requires fits { ∥ FitsHere here.now class (terms.leaf (view step.now)) ∥₁ }
-    ensures performs { (m : ModelTree) → Knows m here.now → IfOk result (λ left. Performs (seen_from m here.now class.0 state.old.held) frame.0 (terms.leaf (view step.now)) step.now.pos (process_left state.new.held left)) }
+    ensures performs { (m : ModelTree) → Knows m here.now →
+        IfOk result (λ left. Performs (seen_from m here.now class.0 state.old.held) frame.0
+        (terms.leaf (view step.now)) step.now.pos (process_left state.new.held left)) }
     ensures marks { OnOk result (state.new.marks ≡ state.old.marks) }
 {
     let pos = step.pos;
@@ -141,8 +149,10 @@ pub fn perform(
     requires known { AreKnown here.now.classes.now }
     requires acts { IsActing (term_view part.now) }
     requires fits { ∥ FitsHere here.now class (term_view part.now) ∥₁ }
-    ensures performs { (m : ModelTree) (kind : Kind) (pos : Position) → Knows m here.now → Can (seen_from m here.now class.0 state.old.held) frame.0 (term_view part.now) kind pos →
-        IfOk result (λ left. Performs (seen_from m here.now class.0 state.old.held) frame.0 (term_view part.now) pos (process_left state.new.held left)) }
+    ensures performs { (m : ModelTree) (kind : Kind) (pos : Position) → Knows m here.now →
+        Can (seen_from m here.now class.0 state.old.held) frame.0 (term_view part.now) kind pos →
+        IfOk result (λ left. Performs (seen_from m here.now class.0 state.old.held) frame.0
+        (term_view part.now) pos (process_left state.new.held left)) }
     ensures marks { OnOk result (state.new.marks ≡ state.old.marks) }
 {
     match part {

@@ -53,7 +53,10 @@ fn bind(
 ) -> Result<Result<(), Trouble>, AllocError>
     requires known { AreKnown here.now.classes.now }
     requires within { All (RefersWithin (length state.old.held.objects)) values.items }
-    ensures runs { (m : ModelTree) (class : ℕ) → Knows m here.now → IfOk result (λ end. Ran (seen_from m here.now class (slots.set_slots frame.0 into.now values.items state.old.held)) frame.0 pos (part_view block.now) end state.new.held) }
+    ensures runs { (m : ModelTree) (class : ℕ) → Knows m here.now →
+        IfOk result (λ end. Ran (seen_from m here.now class
+        (slots.set_slots frame.0 into.now values.items state.old.held)) frame.0 pos
+        (part_view block.now) end state.new.held) }
     ensures marks { OnOk result (state.new.marks ≡ state.old.marks) }
 {
     set_slots(state, frame, into, values)?;
@@ -72,8 +75,11 @@ fn receive(
     parcel: &Parcel,
 ) -> Result<Result<(), Trouble>, AllocError>
     requires { AreKnown here.now.classes.now }
-    ensures takes { (m : ModelTree) (class port : ℕ) (name : Id) (condition : Option terms.Code) → Knows m here.now →
-        IfOk result (λ left. Takes (seen_from m here.now class state.old.held) frame.0 parcel.now (terms.leaf (statements.receive pos port name into.now condition (part_view block.now))) pos (done_left state.new.held left)) }
+    ensures takes { (m : ModelTree) (class port : ℕ) (name : Id) (condition : Option terms.Code) →
+        Knows m here.now → IfOk result (λ left. Takes
+        (seen_from m here.now class state.old.held) frame.0 parcel.now
+        (terms.leaf (statements.receive pos port name into.now condition (part_view block.now))) pos
+        (done_left state.new.held left)) }
     ensures marks { OnOk result (state.new.marks ≡ state.old.marks) }
 {
     match unpack(alloc, state, parcel) {
@@ -104,8 +110,10 @@ pub fn take(
 ) -> Result<Result<(), Trouble>, AllocError>
     requires known { AreKnown here.now.classes.now }
     requires receives { IsReceive (term_view part.now) }
-    ensures takes { (m : ModelTree) (class : ℕ) (pos : Position) (port : ℕ) (message : List ℕ) (count : ℕ) → Knows m here.now → Receives (term_view part.now) pos port message count →
-        IfOk result (λ left. Takes (seen_from m here.now class state.old.held) frame.0 parcel.now (term_view part.now) pos (done_left state.new.held left)) }
+    ensures takes { (m : ModelTree) (class : ℕ) (pos : Position) (port : ℕ) (message : List ℕ)
+        (count : ℕ) → Knows m here.now → Receives (term_view part.now) pos port message count →
+        IfOk result (λ left. Takes (seen_from m here.now class state.old.held) frame.0 parcel.now
+        (term_view part.now) pos (done_left state.new.held left)) }
     ensures marks { OnOk result (state.new.marks ≡ state.old.marks) }
 {
     let Term::Leaf(step) = part else {

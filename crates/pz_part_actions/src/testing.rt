@@ -35,7 +35,9 @@ fn chosen(
     steps: &[Step],
     other: &Option<Items<Step>>,
 ) -> Result<Term, AllocError>
-    ensures { IfOk result (λ term. (s : StateView) → actions.chosen s (sequence_view steps.now) (otherwise_view other.now) truth ≡ left_by s (term_view term)) }
+    ensures { IfOk result (λ term. (s : StateView) →
+        actions.chosen s (sequence_view steps.now) (otherwise_view other.now) truth ≡ left_by s
+        (term_view term)) }
 {
     if truth {
         open_steps(alloc, steps)
@@ -56,8 +58,10 @@ pub(crate) fn perform_if(
     other: &Option<Items<Step>>,
 ) -> Result<Result<Term, Trouble>, AllocError>
     requires { AreKnown here.now.classes.now }
-    ensures performs { (m : ModelTree) (class : ℕ) → Knows m here.now → IfOk result (λ left. Performs (seen_from m here.now class state.old.held) frame.0
-        (terms.leaf (statements.conditional pos (code.view condition.now) (sequence_view steps.now) (otherwise_view other.now))) pos (process_left state.new.held left)) }
+    ensures performs { (m : ModelTree) (class : ℕ) → Knows m here.now →
+        IfOk result (λ left. Performs (seen_from m here.now class state.old.held) frame.0
+        (terms.leaf (statements.conditional pos (code.view condition.now) (sequence_view steps.now)
+        (otherwise_view other.now))) pos (process_left state.new.held left)) }
     ensures marks { state.new.marks ≡ state.old.marks }
 {
     match test(alloc, here, state, frame, pos, condition)? {
@@ -68,7 +72,9 @@ pub(crate) fn perform_if(
 
 /// The body of a `while` and then the same `while`, or nothing.
 fn turned(alloc: Global, truth: bool, again: &Step, body: &[Step]) -> Result<Term, AllocError>
-    ensures { IfOk result (λ term. (s : StateView) → actions.turned s (view again.now) (sequence_view body.now) truth ≡ left_by s (term_view term)) }
+    ensures { IfOk result (λ term. (s : StateView) →
+        actions.turned s (view again.now) (sequence_view body.now) truth ≡ left_by s
+        (term_view term)) }
 {
     if !truth {
         return Ok(Term::Done);
@@ -89,8 +95,11 @@ pub(crate) fn perform_while(
     body: &[Step],
 ) -> Result<Result<Term, Trouble>, AllocError>
     requires known { AreKnown here.now.classes.now }
-    requires is { view step.now ≡ statements.repeated step.now.pos (code.view condition.now) (sequence_view body.now) }
-    ensures performs { (m : ModelTree) (class : ℕ) → Knows m here.now → IfOk result (λ left. Performs (seen_from m here.now class state.old.held) frame.0 (terms.leaf (view step.now)) step.now.pos (process_left state.new.held left)) }
+    requires is { view step.now ≡ statements.repeated step.now.pos (code.view condition.now)
+        (sequence_view body.now) }
+    ensures performs { (m : ModelTree) (class : ℕ) → Knows m here.now →
+        IfOk result (λ left. Performs (seen_from m here.now class state.old.held) frame.0
+        (terms.leaf (view step.now)) step.now.pos (process_left state.new.held left)) }
     ensures marks { state.new.marks ≡ state.old.marks }
 {
     match test(alloc, here, state, frame, step.pos, condition)? {

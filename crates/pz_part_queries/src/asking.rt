@@ -34,7 +34,8 @@ pub fn allowance(limits: Limits) -> Allowance
 }
 
 fn duration_of(process: u32, pos: Pos, outcome: Outcome) -> Result<u128, Trouble>
-    ensures { result ≡ meanings.and_then (evaluations.value_or_trouble process pos outcome) (meanings.duration process pos) }
+    ensures { result ≡ meanings.and_then (evaluations.value_or_trouble process pos outcome)
+        (meanings.duration process pos) }
 {
     duration(process, pos, value_or_trouble(process, pos, outcome)?)
 }
@@ -49,7 +50,9 @@ pub fn ask_test(
     test: &Code,
 ) -> Result<Result<bool, Trouble>, AllocError>
     requires { AreKnown here.now.classes.now }
-    ensures tests { (m : ModelTree) (class : ℕ) → Knows m here.now → IfOk result (Tests (seen_from m here.now class state.old.held) frame.0 pos (view test.now)) }
+    ensures tests { (m : ModelTree) (class : ℕ) → Knows m here.now →
+        IfOk result (Tests (seen_from m here.now class state.old.held) frame.0 pos
+        (view test.now)) }
     ensures state { state.new ≡ state.old }
 {
     let allowed = allowance(here.limits);
@@ -67,7 +70,9 @@ pub fn ask_time(
     time: &Code,
 ) -> Result<Result<u128, Trouble>, AllocError>
     requires { AreKnown here.now.classes.now }
-    ensures lasts { (m : ModelTree) (class : ℕ) → Knows m here.now → IfOk result (Lasts (seen_from m here.now class state.old.held) frame.0 pos (view time.now)) }
+    ensures lasts { (m : ModelTree) (class : ℕ) → Knows m here.now →
+        IfOk result (Lasts (seen_from m here.now class state.old.held) frame.0 pos
+        (view time.now)) }
     ensures state { state.new ≡ state.old }
 {
     let allowed = allowance(here.limits);
@@ -99,7 +104,9 @@ pub fn ask_parcel(
     args: &Option<Items<Code>>,
 ) -> Result<Result<Parcel, Trouble>, AllocError>
     requires { AreKnown here.now.classes.now }
-    ensures packs { (m : ModelTree) (class : ℕ) → Knows m here.now → IfOk result (Packs (seen_from m here.now class state.old.held) frame.0 pos (part_view args.now)) }
+    ensures packs { (m : ModelTree) (class : ℕ) → Knows m here.now →
+        IfOk result (Packs (seen_from m here.now class state.old.held) frame.0 pos
+        (part_view args.now)) }
     ensures state { state.new ≡ state.old }
 {
     let Some(codes) = args else {

@@ -50,8 +50,10 @@ fn judge_receive(
     parcel: &Parcel,
 ) -> Result<Result<bool, Trouble>, AllocError>
     requires { AreKnown here.now.classes.now }
-    ensures judges { (m : ModelTree) (class port : ℕ) (name : Id) (after : Part Variable ClassId) → Knows m here.now →
-        IfOk result (Judges (seen_from m here.now class state.old.held) frame.0 parcel.now (leaf (receive pos port name into.now (option_map code.view condition.now) after))) }
+    ensures judges { (m : ModelTree) (class port : ℕ) (name : Id) (after : Part Variable ClassId) →
+        Knows m here.now → IfOk result (Judges (seen_from m here.now class state.old.held) frame.0
+        parcel.now (leaf (receive pos port name into.now
+        (option_map code.view condition.now) after))) }
     ensures state { state.new ≡ state.old }
 {
     let Some(condition) = condition else {
@@ -87,7 +89,9 @@ pub fn judge(
 ) -> Result<Result<bool, Trouble>, AllocError>
     requires known { AreKnown here.now.classes.now }
     requires receives { IsReceive (term_view part.now) }
-    ensures judges { (m : ModelTree) (class : ℕ) → Knows m here.now → IfOk result (Judges (seen_from m here.now class state.old.held) frame.0 parcel.now (term_view part.now)) }
+    ensures judges { (m : ModelTree) (class : ℕ) → Knows m here.now →
+        IfOk result (Judges (seen_from m here.now class state.old.held) frame.0 parcel.now
+        (term_view part.now)) }
     ensures state { state.new ≡ state.old }
 {
     let Term::Leaf(step) = part else {

@@ -2,11 +2,9 @@
 
 ghost use Rattle.pz_part_queries.specs.Laws.{OneVerdict};
 
-use pz_rules::evaluations_are_computed;
-
 /// A receive says one thing to a parcel.
 pub fn one_verdict()
     ensures law { OneVerdict }
 {
-    evaluations_are_computed();
+    pz_rules::laws::evaluations_are_computed();
 }

@@ -6,14 +6,13 @@
 
 mod asking;
 mod judging;
-mod laws;
+pub mod laws;
 mod meanings;
 mod parts;
 mod standpoint;
 
 pub use asking::{allowance, ask_parcel, ask_test, ask_time};
 pub use judging::judge;
-pub use laws::one_verdict;
 pub use meanings::{duration, truth, truth_of, value_or_trouble, values_or_trouble};
 pub use parts::part_at;
 pub use standpoint::Standpoint;

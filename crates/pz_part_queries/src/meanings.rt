@@ -80,7 +80,8 @@ pub fn truth_of(process: u32, pos: Pos, found: Result<Value, Trouble>) -> Result
 
 /// What a test came to.
 pub(crate) fn tested(process: u32, pos: Pos, outcome: Outcome) -> Result<bool, Trouble>
-    ensures { result ≡ meanings.and_then (evaluations.value_or_trouble process pos outcome) (meanings.truth process pos) }
+    ensures { result ≡ meanings.and_then (evaluations.value_or_trouble process pos outcome)
+        (meanings.truth process pos) }
 {
     truth(process, pos, value_or_trouble(process, pos, outcome)?)
 }

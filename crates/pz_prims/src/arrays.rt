@@ -31,8 +31,10 @@ fn request_for(selector: &[u8]) -> Option<Request>
 /// Cuts the Array to a size, or fills it with nil.
 fn resize(state: &mut State, r: u32, size: &Value) -> Result<Answer, AllocError>
     requires { HasObject state.old.held r }
-    ensures answer { IfOk result (λ answer. answer ≡ value_of (of_integer (resize state.old.held r) size.now)) }
-    ensures state { OnOk result (state.new ≡ changed state.old (state_after state.old.held (Some (of_integer (resize state.old.held r) size.now)))) }
+    ensures answer { IfOk result (λ answer. answer ≡ value_of
+        (of_integer (resize state.old.held r) size.now)) }
+    ensures state { OnOk result (state.new ≡ changed state.old
+        (state_after state.old.held (Some (of_integer (resize state.old.held r) size.now)))) }
     ensures err { OnErr result (state.new ≡ state.old) }
 {
     let Value::Int(size) = size else {
@@ -48,7 +50,8 @@ fn resize(state: &mut State, r: u32, size: &Value) -> Result<Answer, AllocError>
 
 fn get(state: &State, r: u32, place: &Value) -> Result<Answer, AllocError>
     requires { HasObject state.now.held r }
-    ensures { IfOk result (λ answer. answer ≡ value_of (of_integer (item_at state.now.held r) place.now)) }
+    ensures { IfOk result (λ answer. answer ≡ value_of
+        (of_integer (item_at state.now.held r) place.now)) }
 {
     let Value::Int(place) = place else {
         return Ok(Err(FaultKind::NotInteger));
@@ -63,8 +66,11 @@ fn get(state: &State, r: u32, place: &Value) -> Result<Answer, AllocError>
 fn put(state: &mut State, r: u32, place: &Value, value: &Value) -> Result<Answer, AllocError>
     requires there { HasObject state.old.held r }
     requires within { RefersWithin (length state.old.held.objects) value.now }
-    ensures answer { IfOk result (λ answer. answer ≡ value_of (of_integer (put state.old.held r value.now) place.now)) }
-    ensures state { OnOk result (state.new ≡ changed state.old (state_after state.old.held (Some (of_integer (put state.old.held r value.now) place.now)))) }
+    ensures answer { IfOk result (λ answer. answer ≡ value_of
+        (of_integer (put state.old.held r value.now) place.now)) }
+    ensures state { OnOk result (state.new ≡ changed state.old
+        (state_after state.old.held (Some (of_integer
+        (put state.old.held r value.now) place.now)))) }
     ensures err { OnErr result (state.new ≡ state.old) }
 {
     let Value::Int(place) = place else {
@@ -86,8 +92,10 @@ fn apply(
     argument: &Value,
 ) -> Result<Answer, AllocError>
     requires { HasObject state.old.held r }
-    ensures answer { IfOk result (λ answer. answer ≡ value_of (request_row state.old.held r request argument.now)) }
-    ensures state { OnOk result (state.new ≡ changed state.old (state_after state.old.held (Some (request_row state.old.held r request argument.now)))) }
+    ensures answer { IfOk result (λ answer. answer ≡ value_of
+        (request_row state.old.held r request argument.now)) }
+    ensures state { OnOk result (state.new ≡ changed state.old
+        (state_after state.old.held (Some (request_row state.old.held r request argument.now)))) }
     ensures err { OnErr result (state.new ≡ state.old) }
 {
     match request {
@@ -100,8 +108,10 @@ fn apply(
 #[tactic(auto, unfolding(crate::specs::Rows::answered, crate::specs::Arrays::arrays))]
 fn alone(state: &State, r: u32, selector: &[u8]) -> Option<Answer>
     requires { HasObject state.now.held r }
-    ensures answer { result ≡ option_map value_of (answered (arrays state.now.held r) selector.now []) }
-    ensures state { state_after state.now.held (answered (arrays state.now.held r) selector.now []) ≡ state.now.held }
+    ensures answer { result ≡ option_map value_of
+        (answered (arrays state.now.held r) selector.now []) }
+    ensures state { state_after state.now.held (answered (arrays state.now.held r) selector.now [])
+        ≡ state.now.held }
 {
     if selector == b"size".as_slice() {
         return Some(Ok(Value::Int(state.object(r).items().len() as i64)));
@@ -118,8 +128,11 @@ fn with_one(
     argument: &Value,
 ) -> Result<Option<Answer>, AllocError>
     requires { HasObject state.old.held r }
-    ensures answer { IfOk result (λ answer. answer ≡ option_map value_of (answered (arrays state.old.held r) selector.now (argument.now ∷ []))) }
-    ensures state { OnOk result (state.new ≡ changed state.old (state_after state.old.held (answered (arrays state.old.held r) selector.now (argument.now ∷ [])))) }
+    ensures answer { IfOk result (λ answer. answer ≡ option_map value_of
+        (answered (arrays state.old.held r) selector.now (argument.now ∷ []))) }
+    ensures state { OnOk result (state.new ≡ changed state.old
+        (state_after state.old.held (answered (arrays state.old.held r) selector.now
+        (argument.now ∷ [])))) }
     ensures err { OnErr result (state.new ≡ state.old) }
 {
     match request_for(selector) {
@@ -139,8 +152,11 @@ fn with_two(
 ) -> Result<Option<Answer>, AllocError>
     requires there { HasObject state.old.held r }
     requires within { RefersWithin (length state.old.held.objects) value.now }
-    ensures answer { IfOk result (λ answer. answer ≡ option_map value_of (answered (arrays state.old.held r) selector.now (place.now ∷ value.now ∷ []))) }
-    ensures state { OnOk result (state.new ≡ changed state.old (state_after state.old.held (answered (arrays state.old.held r) selector.now (place.now ∷ value.now ∷ [])))) }
+    ensures answer { IfOk result (λ answer. answer ≡ option_map value_of
+        (answered (arrays state.old.held r) selector.now (place.now ∷ value.now ∷ []))) }
+    ensures state { OnOk result (state.new ≡ changed state.old
+        (state_after state.old.held (answered (arrays state.old.held r) selector.now
+        (place.now ∷ value.now ∷ [])))) }
     ensures err { OnErr result (state.new ≡ state.old) }
 {
     if selector == b"put".as_slice() {
@@ -160,8 +176,10 @@ pub fn answer(
 ) -> Result<Option<Answer>, AllocError>
     requires there { HasObject state.old.held r }
     requires within { All (RefersWithin (length state.old.held.objects)) args.now }
-    ensures answer { IfOk result (λ answer. answer ≡ option_map value_of (answered (arrays state.old.held r) selector.now args.now)) }
-    ensures state { OnOk result (state.new ≡ changed state.old (state_after state.old.held (answered (arrays state.old.held r) selector.now args.now))) }
+    ensures answer { IfOk result (λ answer. answer ≡ option_map value_of
+        (answered (arrays state.old.held r) selector.now args.now)) }
+    ensures state { OnOk result (state.new ≡ changed state.old
+        (state_after state.old.held (answered (arrays state.old.held r) selector.now args.now))) }
     ensures err { OnErr result (state.new ≡ state.old) }
 {
     match args {

@@ -104,7 +104,8 @@ fn with_one(
     selector: &[u8],
     argument: &Value,
 ) -> Result<Option<Answer>, AllocError>
-    ensures { IfOk result (λ answer. answer ≡ answered (strings a.now) selector.now (argument.now ∷ [])) }
+    ensures { IfOk result (λ answer. answer ≡ answered (strings a.now) selector.now
+        (argument.now ∷ [])) }
 {
     match operation_for(selector) {
         Some(operation) => Ok(Some(apply(alloc, operation, a, argument)?)),

@@ -44,10 +44,13 @@ fn object_answer(
 ) -> Result<Prim, AllocError>
     requires there { HasObject state.old.held r }
     requires within { All (RefersWithin (length state.old.held.objects)) args.now }
-    ensures answer { IfOk result (λ prim. prim ≡ (of_itself state.old.held (Value.Ref r) selector.now args.now).answer) }
-    ensures state { OnOk result (state.new ≡ changed state.old (of_itself state.old.held (Value.Ref r) selector.now args.now).state) }
+    ensures answer { IfOk result (λ prim. prim ≡
+        (of_itself state.old.held (Value.Ref r) selector.now args.now).answer) }
+    ensures state { OnOk result (state.new ≡ changed state.old
+        (of_itself state.old.held (Value.Ref r) selector.now args.now).state) }
     ensures err { OnErr result (state.new ≡ state.old) }
-    ensures items { All (RefersWithin (length state.old.held.objects)) (object state.old.held r).items }
+    ensures items { All (RefersWithin (length state.old.held.objects))
+        (object state.old.held r).items }
 {
     if state.object(r).class().0 != ARRAY {
         return Ok(Prim::Other);
@@ -97,10 +100,13 @@ fn own_answer(
 ) -> Result<Prim, AllocError>
     requires receiver { RefersWithin (length state.old.held.objects) receiver.now }
     requires args { All (RefersWithin (length state.old.held.objects)) args.now }
-    ensures answer { IfOk result (λ prim. prim ≡ (of_itself state.old.held receiver.now selector.now args.now).answer) }
-    ensures state { OnOk result (state.new ≡ changed state.old (of_itself state.old.held receiver.now selector.now args.now).state) }
+    ensures answer { IfOk result (λ prim. prim ≡
+        (of_itself state.old.held receiver.now selector.now args.now).answer) }
+    ensures state { OnOk result (state.new ≡ changed state.old
+        (of_itself state.old.held receiver.now selector.now args.now).state) }
     ensures err { OnErr result (state.new ≡ state.old) }
-    ensures within { StaysWithin state.old.held (of_itself state.old.held receiver.now selector.now args.now) }
+    ensures within { StaysWithin state.old.held (of_itself state.old.held receiver.now selector.now
+        args.now) }
 {
     match receiver {
         Value::Ref(r) => object_answer(state, *r, selector, args),
@@ -119,13 +125,16 @@ pub fn prim(
 ) -> Result<Prim, AllocError>
     requires receiver { RefersWithin (length state.old.held.objects) receiver.now }
     requires args { All (RefersWithin (length state.old.held.objects)) args.now }
-    ensures answer { IfOk result (λ prim. prim ≡ (outcome state.old.held receiver.now selector.now args.now).answer) }
-    ensures state { OnOk result (state.new ≡ changed state.old (outcome state.old.held receiver.now selector.now args.now).state) }
+    ensures answer { IfOk result (λ prim. prim ≡
+        (outcome state.old.held receiver.now selector.now args.now).answer) }
+    ensures state { OnOk result (state.new ≡ changed state.old
+        (outcome state.old.held receiver.now selector.now args.now).state) }
     ensures err { OnErr result (state.new ≡ state.old) }
 
     // The state changes only where there is a value.
     ensures kept { IfOk result (UnlessValue (state.new ≡ state.old)) }
-    ensures other { IfOk result (λ prim. (prim ≡ Prim.Other) ↔ IsOther state.old.held receiver.now selector.now args.now) }
+    ensures other { IfOk result (λ prim. (prim ≡ Prim.Other)
+        ↔ IsOther state.old.held receiver.now selector.now args.now) }
     ensures count { length state.new.held.objects ≡ length state.old.held.objects }
     ensures within { IfOk result (AnswersWithin (length state.old.held.objects)) }
 {

@@ -5,9 +5,6 @@ ghost use Rattle.pz_rules.specs.devices.Computed.{TestsAreComputed, TimesAreComp
 ghost use Rattle.pz_rules.specs.devices.Ends.{PassingsEnd, ActivePartsFit};
 ghost use Rattle.pz_rules.specs.devices.Walks.{InternalActionsAreListed, SendsAreListed, SendsHaveParcels, ReceivesAreListed, DelaysAreListed, TroublesAreListed};
 
-use pz_bind::ends_share_wires;
-use pz_classes::sound_bodies_fit;
-
 /// A configuration has no more than one list of offers, and has one where the wires of its model are
 /// known.
 pub fn one_list_of_offers()
@@ -20,7 +17,7 @@ pub fn one_list_of_offers()
 pub fn wires_are_known()
     ensures law { WiresAreKnown }
 {
-    ends_share_wires();
+    pz_bind::laws::ends_share_wires();
 }
 
 /// A configuration has no more than one moment, and has one where the wires of its model are known. A
@@ -62,7 +59,7 @@ pub fn what_fits_goes_on()
     ensures stays { StaysFit }
     ensures some { EveryNext }
 {
-    sound_bodies_fit();
+    pz_classes::laws::sound_bodies_fit();
 }
 
 /// What a policy chooses is a run of the rules. Where as many processes stand as the model has, it
@@ -73,7 +70,7 @@ pub fn one_chosen_run()
     ensures some { EveryChosenRun }
     ensures is_run { ChosenRunsAreRuns }
 {
-    sound_bodies_fit();
+    pz_classes::laws::sound_bodies_fit();
 }
 
 /// One walk of a term lists the internal actions, sends, receives, delays and troubles of its active

@@ -65,7 +65,8 @@ fn open_all(alloc: Global, steps: &[Step]) -> Result<Term, AllocError>
 
 #[cycle(opening)]
 fn open_branches(alloc: Global, branches: &[Items<Step>]) -> Result<Items<Term>, AllocError>
-    ensures { IfOk result (λ terms. terms_view terms ≡ opened_branches (branches_view branches.now)) }
+    ensures { IfOk result (λ terms. terms_view terms ≡ opened_branches
+        (branches_view branches.now)) }
 {
     let mut terms = Items::new(alloc);
     for branch in branches {
@@ -103,7 +104,8 @@ pub fn open_term(
 ) -> Result<Term, AllocError>
     requires process { IsProcessClass (checked_model checked.now) class.0 }
     requires variables { HasItsVariables (checked_model checked.now) class.0 state.old.held }
-    requires there { MayOpen (checked_model checked.now) class.0 state.old.held frame.0 (sequence_view steps.now) }
+    requires there { MayOpen (checked_model checked.now) class.0 state.old.held frame.0
+        (sequence_view steps.now) }
     ensures opened { IfOk result (λ term. term_view term ≡ opened_all (sequence_view steps.now)) }
     ensures stays { state.new ≡ state.old }
 {

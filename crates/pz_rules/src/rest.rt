@@ -41,7 +41,8 @@ impl Rest {
 
     /// Takes the next statement. Takes no memory.
     pub fn next(&mut self) -> Option<Step>
-        ensures { MatchOption result ((self.old ≡ []) × (self.new ≡ [])) (λ next. self.old ≡ next ∷ self.new) }
+        ensures { MatchOption result ((self.old ≡ []) × (self.new ≡ []))
+            (λ next. self.old ≡ next ∷ self.new) }
     {
         self.reversed.pop()
     }

@@ -15,7 +15,8 @@ use std::alloc::Global;
 /// Does the job, over the files, and prints to the sink.
 pub fn do_job<F: Files, W: Sink>(alloc: Global, job: Job, files: &mut F, out: &mut W) -> Status
     requires { HasRingSize job }
-    ensures { KeepsPromises (Some job) (F.state files.old) (F.state files.new) (W.state out.old) (W.state out.new) result }
+    ensures { KeepsPromises (Some job) (F.state files.old) (F.state files.new) (W.state out.old)
+        (W.state out.new) result }
 {
     match job {
         Job::Run {

@@ -20,7 +20,8 @@ pub fn run_file<F: Files, W: Sink>(
     files: &mut F,
     out: &mut W,
 ) -> Status
-    ensures { ReadsFile (model_file name.now) (PrintsPlay play) (F.state files.old) (F.state files.new) (W.state out.old) (W.state out.new) result }
+    ensures { ReadsFile (model_file name.now) (PrintsPlay play) (F.state files.old)
+        (F.state files.new) (W.state out.old) (W.state out.new) result }
 {
     match read_all(alloc, files, name, MODEL_LIMIT) {
         Ok(text) => run_text(alloc, text.as_slice(), play, out),
@@ -35,7 +36,8 @@ pub fn check_file<F: Files, W: Sink>(
     files: &mut F,
     out: &mut W,
 ) -> Status
-    ensures { ReadsFile (model_file name.now) PrintsCheck (F.state files.old) (F.state files.new) (W.state out.old) (W.state out.new) result }
+    ensures { ReadsFile (model_file name.now) PrintsCheck (F.state files.old) (F.state files.new)
+        (W.state out.old) (W.state out.new) result }
 {
     match read_all(alloc, files, name, MODEL_LIMIT) {
         Ok(text) => check_text(alloc, text.as_slice(), out),

@@ -2,16 +2,13 @@
 
 ghost use Rattle.pz_run.specs.devices.Replaying.{TracesKnown};
 
-use pz_trace::{lines_differ, lines_stand_apart};
-use pz_trace_laws::{names_are_unbroken, runs_tell_lines};
-
 /// Each event of a run of a model that was read has a line of its own, and a text is the trace of runs with
 /// one ending alone.
 pub(crate) fn traces_are_known()
     ensures { TracesKnown }
 {
-    names_are_unbroken();
-    runs_tell_lines();
-    lines_stand_apart();
-    lines_differ();
+    pz_trace_laws::laws::names_are_unbroken();
+    pz_trace_laws::laws::runs_tell_lines();
+    pz_trace::laws::lines_stand_apart();
+    pz_trace::laws::lines_differ();
 }

@@ -28,7 +28,8 @@ fn play_from<W: Sink>(
 ) -> Result<Finale, Halt>
     requires { (setting : Setting) × Starts setting (simulation_of plain.old) }
     ensures { (setting : Setting) → Starts setting (simulation_of plain.old) →
-        Plays setting (policy_for play) (told_of play.telling) (simulation_of plain.new) (W.state out.old) (W.state out.new) result }
+        Plays setting (policy_for play) (told_of play.telling) (simulation_of plain.new)
+        (W.state out.old) (W.state out.new) result }
 {
     let Play {
         choice,
@@ -55,7 +56,8 @@ fn play_plain<W: Sink>(alloc: Global, mut plain: Plain, play: Play, out: &mut W)
 
 /// Runs the model, prints what is told of its run, and gives the status of the run.
 pub fn run_model<W: Sink>(alloc: Global, checked: Checked, play: Play, out: &mut W) -> Status
-    ensures { Answers (PrintsRun play (checked_model checked)) (W.state out.old) (W.state out.new) result }
+    ensures { Answers (PrintsRun play (checked_model checked)) (W.state out.old)
+        (W.state out.new) result }
 {
     match start(alloc, checked, play.limits.units) {
         Ok(plain) => play_plain(alloc, plain, play, out),

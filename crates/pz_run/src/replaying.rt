@@ -21,7 +21,7 @@ use crate::starting::start;
 use crate::texts::say_refused;
 use pz_classes::Checked;
 use pz_io::{Files, Sink, read_all};
-use pz_run_reading::{one_model, read_model};
+use pz_run_reading::read_model;
 use pz_run_replaying::replay;
 use pz_term::Plain;
 use std::alloc::Global;
@@ -36,7 +36,8 @@ pub fn replay_file<F: Files, W: Sink>(
     files: &mut F,
     out: &mut W,
 ) -> Status
-    ensures { ReplaysFiles model.now trace.now units (F.state files.old) (F.state files.new) (W.state out.old) (W.state out.new) result }
+    ensures { ReplaysFiles model.now trace.now units (F.state files.old) (F.state files.new)
+        (W.state out.old) (W.state out.new) result }
 {
     match read_all(alloc, files, model, MODEL_LIMIT) {
         Ok(text) => replay_text(alloc, text.as_slice(), trace, units, files, out),
@@ -54,10 +55,11 @@ fn replay_text<F: Files, W: Sink>(
     out: &mut W,
 ) -> Status
     requires { length text.now < 2 ^ 32 - 1 }
-    ensures { ReplaysText trace.now units (F.state files.old) (F.state files.new) (W.state out.old) (W.state out.new) result text.now }
+    ensures { ReplaysText trace.now units (F.state files.old) (F.state files.new) (W.state out.old)
+        (W.state out.new) result text.now }
 {
     traces_are_known();
-    one_model();
+    pz_run_reading::laws::one_model();
     match read_model(alloc, text) {
         Ok(checked) => replay_model(alloc, checked, trace, units, files, out),
         Err(error) => say_refused(alloc, error, out),
@@ -74,7 +76,8 @@ fn replay_model<F: Files, W: Sink>(
     out: &mut W,
 ) -> Status
     requires { TellsLines (setting_with (checked_model checked) units) }
-    ensures { ReadsFile (trace_file trace.now) (PrintsReplay units (checked_model checked)) (F.state files.old) (F.state files.new) (W.state out.old) (W.state out.new) result }
+    ensures { ReadsFile (trace_file trace.now) (PrintsReplay units (checked_model checked))
+        (F.state files.old) (F.state files.new) (W.state out.old) (W.state out.new) result }
 {
     match read_all(alloc, files, trace, TRACE_LIMIT) {
         Ok(bytes) => replay_trace(alloc, checked, bytes.as_slice(), units, out),
@@ -94,7 +97,8 @@ fn replay_trace<W: Sink>(
     out: &mut W,
 ) -> Status
     requires { TellsLines (setting_with (checked_model checked) units) }
-    ensures { Answers (PrintsReplay units (checked_model checked) trace.now) (W.state out.old) (W.state out.new) result }
+    ensures { Answers (PrintsReplay units (checked_model checked) trace.now) (W.state out.old)
+        (W.state out.new) result }
 {
     match start(alloc, checked, units) {
         Ok(plain) => replay_plain(alloc, plain, trace, out),
@@ -105,8 +109,9 @@ fn replay_trace<W: Sink>(
 // The same from the start of a simulator on.
 fn replay_plain<W: Sink>(alloc: Global, mut plain: Plain, trace: &[u8], out: &mut W) -> Status
     requires { (setting : Setting) × Starts setting (simulation_of plain) }
-    ensures { (m : ModelTree) (units : ℕ) → Starts (setting_with m units) (simulation_of plain) → TellsLines (setting_with m units) →
-        Says (PrintsReplay units m trace.now) (W.state out.old) (W.state out.new) result }
+    ensures { (m : ModelTree) (units : ℕ) → Starts (setting_with m units) (simulation_of plain) →
+        TellsLines (setting_with m units) → Says (PrintsReplay units m trace.now) (W.state out.old)
+        (W.state out.new) result }
 {
     let ended = replay(alloc, &mut plain, trace, out);
     drop(plain);

@@ -15,7 +15,8 @@ use std::mem::drop;
 /// The simulator of the model at its start, with so many units for each evaluation. The only error is want
 /// of memory.
 pub(crate) fn start(alloc: Global, checked: Checked, units: u64) -> Result<Plain, AllocError>
-    ensures { IfOk result (λ plain. Starts (setting_with (checked_model checked) units) (simulation_of plain)) }
+    ensures { IfOk result (λ plain. Starts (setting_with (checked_model checked) units)
+        (simulation_of plain)) }
 {
     let limits = Limits {
         units,

@@ -8,9 +8,8 @@ use crate::play::Play;
 use crate::playing::run_model;
 use crate::printing::say_made;
 use pz_io::Sink;
-use pz_run_playing::one_run;
 use pz_run_lines::{accepted_line, model_refused_line};
-use pz_run_reading::{ReadModelError, measure, one_model, read_model};
+use pz_run_reading::{ReadModelError, measure, read_model};
 use std::alloc::Global;
 
 /// Runs the model of this text, or says why that is refused.
@@ -18,8 +17,8 @@ pub fn run_text<W: Sink>(alloc: Global, text: &[u8], play: Play, out: &mut W) ->
     requires { length text.now < 2 ^ 32 - 1 }
     ensures { Answers (PrintsPlay play text.now) (W.state out.old) (W.state out.new) result }
 {
-    one_run();
-    one_model();
+    pz_run_playing::laws::one_run();
+    pz_run_reading::laws::one_model();
     match read_model(alloc, text) {
         Ok(checked) => run_model(alloc, checked, play, out),
         Err(error) => say_refused(alloc, error, out),
@@ -31,7 +30,7 @@ pub fn check_text<W: Sink>(alloc: Global, text: &[u8], out: &mut W) -> Status
     requires { length text.now < 2 ^ 32 - 1 }
     ensures { Answers (PrintsCheck text.now) (W.state out.old) (W.state out.new) result }
 {
-    one_model();
+    pz_run_reading::laws::one_model();
     match measure(alloc, text) {
         Ok(size) => say_made(out, accepted_line(alloc, size), Status::Done),
         Err(error) => say_refused(alloc, error, out),

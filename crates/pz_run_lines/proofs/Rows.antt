@@ -3,7 +3,7 @@ use Rattle.std.proofs.Common.{◌≡◌, refl, codes}
 use Rattle.std.specs.Fmt.{digits}
 use Rattle.pz_check_violations.specs.Order.{violation}
 use Rattle.pz_run_reading.specs.declared.refusal.Refusal.TheVariants.{Syntax, Violates}
-use Rattle.pz_run_lines.specs.Lines.{read_fault_line, too_long_line, accepted_line, model_refused_line, trace_refused_line, expected_line}
+use Rattle.pz_run_lines.specs.Lines.{read_fault_line, too_long_line, accepted_line, model_refused_line}
 
 no_file : read_fault_line (codes "m") ≡ codes "read fault: m\n"
 no_file = refl
@@ -25,11 +25,3 @@ empty = refl
 no_class : model_refused_line (Violates (violation 13 (record { line = 1; column = 22 }))) ≡ codes "model refused: C13 1:22\n"
 unfolding digits
 no_class = refl
-
--- a trace without its last line
-cut : trace_refused_line 7 ≡ codes "refused line 7\n"
-unfolding digits
-cut = refl
-
-cut_before : expected_line (codes "5 end\n") ≡ codes "expected 5 end\n"
-cut_before = refl

@@ -1,13 +1,13 @@
 -- The lines that the program prints beside those of a trace. Words are separated by one blank, numbers
 -- are decimal, and every line ends with LF.
-use Rattle.std.specs.Prelude.{ℕ, List, [], ◌∷◌, ◌++◌, codes}
+use Rattle.std.specs.Prelude.{ℕ, List, ◌++◌, codes}
 use Rattle.std.specs.Fmt.{decimal}
 use Rattle.pz_syntax.specs.declared.tokens.Pos.{Pos}
 use Rattle.pz_run_reading.specs.declared.refusal.Refusal.{Refusal}
 use Rattle.pz_run_reading.specs.declared.refusal.Refusal.TheVariants as refusal
 
 abbrev pub newline : List ℕ
-newline = 10 ∷ []
+newline = codes "\n"
 
 -- how the program is called
 abbrev pub usage_line : List ℕ
@@ -41,11 +41,3 @@ model_refused_line (refusal.BadNumber at) = kind_line (codes "BadNumber") at
 model_refused_line (refusal.Syntax at) = kind_line (codes "Syntax") at
 model_refused_line (refusal.TooNested at) = kind_line (codes "TooNested") at
 model_refused_line (refusal.Violates v) = kind_line (rule_name v.rule) v.pos
-
--- a trace that is refused, at its line of this number, from 1
-abbrev pub trace_refused_line : ℕ → List ℕ
-trace_refused_line number = codes "refused line " ++ (decimal number ++ newline)
-
--- the line of the rules in the place of one that is refused
-abbrev pub expected_line : List ℕ → List ℕ
-expected_line line = codes "expected " ++ line

@@ -3,7 +3,4 @@
 
 mod lines;
 
-pub use lines::{
-    accepted_line, expected_line, model_refused_line, read_fault_line, too_long_line,
-    trace_refused_line, usage_line,
-};
+pub use lines::{accepted_line, model_refused_line, read_fault_line, too_long_line, usage_line};

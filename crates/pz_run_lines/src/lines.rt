@@ -67,21 +67,3 @@ fn kind_line(alloc: Global, kind: &str, at: Pos) -> Result<Vec<u8>, AllocError>
     let (line, column) = (at.line, at.column);
     Ok(format!(in alloc; "model refused: {kind} {line}:{column}\n")?.into_bytes())
 }
-
-/// A trace is refused at the line of this number, from 1. The only error is want of memory.
-pub fn trace_refused_line(alloc: Global, number: u64) -> Result<Vec<u8>, AllocError>
-    ensures { IfOk result (λ line. line.items ≡ lines.trace_refused_line number) }
-{
-    Ok(format!(in alloc; "refused line {number}\n")?.into_bytes())
-}
-
-/// The line of the rules, with its LF, in the place of one that is refused. The only error is want of
-/// memory.
-pub fn expected_line(alloc: Global, line: &[u8]) -> Result<Vec<u8>, AllocError>
-    ensures { IfOk result (λ whole. whole.items ≡ lines.expected_line line.now) }
-{
-    let mut whole = Vec::new(alloc);
-    whole.extend_from_slice(b"expected ")?;
-    whole.extend_from_slice(line)?;
-    Ok(whole)
-}

@@ -37,7 +37,9 @@ pub(crate) fn is_beyond(until: Option<u64>, clock: u128, time: u128) -> bool
 
 // How a run ends that ends by itself: an entry may be left over.
 fn end_of(finale: Finale, chooser: &Chooser) -> Finale
-    ensures { (r : Resolver) (chosen : ℕ) → Stands chooser.now r chosen → chosen_runs.stops_with (ending_of result) ≡ chosen_runs.used_up (ending_of finale) (left_over r chosen) }
+    ensures { (r : Resolver) (chosen : ℕ) → Stands chooser.now r chosen →
+        chosen_runs.stops_with (ending_of result) ≡ chosen_runs.used_up (ending_of finale)
+        (left_over r chosen) }
 {
     match chooser.ahead() {
         None => finale,
@@ -48,8 +50,10 @@ fn end_of(finale: Finale, chooser: &Chooser) -> Finale
 // There may be no further entry, or one that is no offer.
 fn choose(offers: u64, chooser: &mut Chooser) -> Decision
     requires { 1 ≤ offers }
-    ensures decided { (r : Resolver) (chosen : ℕ) → Stands chooser.old r chosen → decision_of result ≡ chosen_runs.entry_of offers (choice r chosen offers) }
-    ensures goes_on { (r : Resolver) (chosen : ℕ) → Stands chooser.old r chosen → Stands chooser.new r (chosen + 1) }
+    ensures decided { (r : Resolver) (chosen : ℕ) → Stands chooser.old r chosen →
+        decision_of result ≡ chosen_runs.entry_of offers (choice r chosen offers) }
+    ensures goes_on { (r : Resolver) (chosen : ℕ) → Stands chooser.old r chosen →
+        Stands chooser.new r (chosen + 1) }
     ensures takes { IfTake result (λ n k. (n ≡ offers) × (k < offers)) }
 {
     match chooser.next(offers) {
@@ -70,8 +74,11 @@ fn choose(offers: u64, chooser: &mut Chooser) -> Decision
 // The decision where there are offers.
 fn decide_action(offers: u64, chooser: &mut Chooser, limits: RunLimits, chosen: u64) -> Decision
     requires { 1 ≤ offers }
-    ensures decided { (r : Resolver) (clock : ℕ) → Stands chooser.old r chosen → chosen_runs.decided (policy_of r limits) chosen clock (Moment.Actions offers) ≡ decision_of result }
-    ensures goes_on { IfTake result (λ n k. (r : Resolver) → Stands chooser.old r chosen → Stands chooser.new r (chosen + 1)) }
+    ensures decided { (r : Resolver) (clock : ℕ) → Stands chooser.old r chosen →
+        chosen_runs.decided (policy_of r limits) chosen clock (Moment.Actions offers) ≡
+        decision_of result }
+    ensures goes_on { IfTake result (λ n k. (r : Resolver) → Stands chooser.old r chosen →
+        Stands chooser.new r (chosen + 1)) }
     ensures takes { IfTake result (λ n k. MayTake (Moment.Actions offers) limits.steps chosen n k) }
 {
     if limits.steps <= chosen {
@@ -90,9 +97,11 @@ pub(crate) fn decide(
 ) -> Decision
     requires known { moment ≢ Moment.Broken }
     requires some { (n : ℕ) → moment ≡ Moment.Actions n → 1 ≤ n }
-    ensures decided { (r : Resolver) (clock : ℕ) → Stands chooser.old r chosen → ((d : ℕ) → moment ≡ Moment.Time d → chosen_runs.is_beyond limits.until clock d ≡ true) →
+    ensures decided { (r : Resolver) (clock : ℕ) → Stands chooser.old r chosen →
+        ((d : ℕ) → moment ≡ Moment.Time d → chosen_runs.is_beyond limits.until clock d ≡ true) →
         chosen_runs.decided (policy_of r limits) chosen clock moment ≡ decision_of result }
-    ensures goes_on { IfTake result (λ n k. (r : Resolver) → Stands chooser.old r chosen → Stands chooser.new r (chosen + 1)) }
+    ensures goes_on { IfTake result (λ n k. (r : Resolver) → Stands chooser.old r chosen →
+        Stands chooser.new r (chosen + 1)) }
     ensures takes { IfTake result (λ n k. MayTake moment limits.steps chosen n k) }
 {
     match moment {

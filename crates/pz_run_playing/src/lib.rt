@@ -5,12 +5,11 @@
 mod choosing;
 mod deciding;
 mod finale;
-mod laws;
+pub mod laws;
 mod lines;
 mod playing;
 mod runs;
 mod telling;
 
 pub use finale::Finale;
-pub use laws::{one_run, run_texts_are_traces};
 pub use runs::{play_menu, play_summary, play_trace};

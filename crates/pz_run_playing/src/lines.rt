@@ -25,7 +25,8 @@ use std::alloc::{AllocError, Global};
 fn trace_words(alloc: Global, net: &Net, end: &Ending) -> Result<Vec<u8>, AllocError>
     requires of_model { IsSomeNet net.now }
     requires named { IsNamedAtEnd net.now end.now }
-    ensures { (m : ModelTree) → ∥ IsNet m net.now ∥₁ → IfOk result (λ words. words.items ≡ ending_words m (run_ending end.now) ++ newline) }
+    ensures { (m : ModelTree) → ∥ IsNet m net.now ∥₁ →
+        IfOk result (λ words. words.items ≡ ending_words m (run_ending end.now) ++ newline) }
 {
     // At clock 0 the line begins with `0 `.
     let mut words = end_line(alloc, net, 0, end)?;
@@ -38,7 +39,8 @@ fn trace_words(alloc: Global, net: &Net, end: &Ending) -> Result<Vec<u8>, AllocE
 fn words(alloc: Global, net: &Net, finale: Finale) -> Result<Vec<u8>, AllocError>
     requires of_model { IsSomeNet net.now }
     requires named { HasTroubledAtEnd net.now (ending_of finale) }
-    ensures { (m : ModelTree) → ∥ IsNet m net.now ∥₁ → IfOk result (λ words. words.items ≡ ending_words m (ending_of finale) ++ newline) }
+    ensures { (m : ModelTree) → ∥ IsNet m net.now ∥₁ →
+        IfOk result (λ words. words.items ≡ ending_words m (ending_of finale) ++ newline) }
 {
     match finale {
         Finale::End => trace_words(alloc, net, &Ending::End),
@@ -60,7 +62,8 @@ pub(crate) fn last_line(
 ) -> Result<Vec<u8>, AllocError>
     requires of_model { IsSomeNet net.now }
     requires named { HasTroubledAtEnd net.now (ending_of finale) }
-    ensures { (m : ModelTree) → ∥ IsNet m net.now ∥₁ → IfOk result (λ line. line.items ≡ endings.last_line m clock (ending_of finale)) }
+    ensures { (m : ModelTree) → ∥ IsNet m net.now ∥₁ →
+        IfOk result (λ line. line.items ≡ endings.last_line m clock (ending_of finale)) }
 {
     let words = words(alloc, net, finale)?;
     let mut line = format!(in alloc; "{clock} ")?.into_bytes();
@@ -77,7 +80,9 @@ pub(crate) fn summary_line(
 ) -> Result<Vec<u8>, AllocError>
     requires of_model { IsSomeNet net.now }
     requires named { HasTroubledAtEnd net.now (ending_of played.finale) }
-    ensures { (m : ModelTree) → ∥ IsNet m net.now ∥₁ → IfOk result (λ line. line.items ≡ summary_of m played.actions played.passes clock (ending_of played.finale)) }
+    ensures { (m : ModelTree) → ∥ IsNet m net.now ∥₁ →
+        IfOk result (λ line. line.items ≡ summary_of m played.actions played.passes clock
+        (ending_of played.finale)) }
 {
     let Played {
         finale,
@@ -101,7 +106,8 @@ pub(crate) fn offer_line(
 ) -> Result<Vec<u8>, AllocError>
     requires of_model { ∥ IsNet (checked_model checked.now) net.now ∥₁ }
     requires named { IsNamed net.now action.now }
-    ensures { IfOk result (λ line. line.items ≡ menus.offer_line (checked_model checked.now) number action.now) }
+    ensures { IfOk result (λ line. line.items ≡ menus.offer_line
+        (checked_model checked.now) number action.now) }
 {
     let label = label(alloc, checked, net, action)?;
     let mut line = format!(in alloc; "offer {number} ")?.into_bytes();

@@ -50,7 +50,9 @@ fn pass<W: Sink>(
     requires { IsMomentOf (simulation_of plain.old) (Moment.Time time) }
     ensures passes { OnOk result (Passes (simulation_of plain.old) (simulation_of plain.new)) }
     ensures setting { setting_in (simulation_of plain.new) ≡ setting_in (simulation_of plain.old) }
-    ensures wrote { Wrote (W.state out.old) (W.state out.new) (told lines (trace_lines.time_line (clock_in (simulation_of plain.old)) time)) (result_err result) }
+    ensures wrote { Wrote (W.state out.old) (W.state out.new)
+        (told lines (trace_lines.time_line (clock_in (simulation_of plain.old)) time))
+        (result_err result) }
 {
     rules_are_known();
     tell_passing(alloc, plain.clock(), time, lines, out)?;
@@ -72,10 +74,13 @@ fn act<W: Sink>(
 ) -> Result<(), Halt>
     requires moment { IsMomentOf (simulation_of plain.old) (Moment.Actions offers) }
     requires there { number < offers }
-    ensures chooses { OnOk result (Chooses number (simulation_of plain.old) (simulation_of plain.new)) }
+    ensures chooses { OnOk result (Chooses number (simulation_of plain.old)
+        (simulation_of plain.new)) }
     ensures setting { setting_in (simulation_of plain.new) ≡ setting_in (simulation_of plain.old) }
     ensures wrote { (a : TheAction) → IsOffer (simulation_of plain.old) number a →
-        Wrote (W.state out.old) (W.state out.new) (told lines (trace_lines.action_line (model_in (simulation_of plain.old)) (clock_in (simulation_of plain.old)) offers number a)) (result_err result) }
+        Wrote (W.state out.old) (W.state out.new) (told lines
+        (trace_lines.action_line (model_in (simulation_of plain.old))
+        (clock_in (simulation_of plain.old)) offers number a)) (result_err result) }
 {
     rules_are_known();
     tell_action(alloc, plain, offers, number, lines, out)?;
@@ -99,10 +104,12 @@ fn pass_time<W: Sink>(
 ) -> Result<u128, Halt>
     requires ready { IsReady (simulation_of plain.old) }
     requires within { passes ≤ clock_in (simulation_of plain.old) }
-    ensures passing { IfOk result (λ all. Passing until lines (simulation_of plain.old) (W.state out.old) passes all (simulation_of plain.new) (W.state out.new)) }
+    ensures passing { IfOk result (λ all. Passing until lines (simulation_of plain.old)
+        (W.state out.old) passes all (simulation_of plain.new) (W.state out.new)) }
     ensures held { OnOk result (IsHeld until (simulation_of plain.new)) }
-    ensures cut { IfErr result (λ halt. (policy : Policy) (m : ModelTree) (actions : ℕ) → policy.until ≡ until →
-        CutShort policy m lines actions (simulation_of plain.old) (W.state out.old) (W.state out.new) halt) }
+    ensures cut { IfErr result (λ halt. (policy : Policy) (m : ModelTree) (actions : ℕ) →
+        policy.until ≡ until → CutShort policy m lines actions (simulation_of plain.old)
+        (W.state out.old) (W.state out.new) halt) }
 {
     rules_are_known();
     let mut all = passes;
@@ -131,9 +138,11 @@ fn play_on<W: Sink>(
 ) -> Result<Played, Halt>
     requires { IsReady (simulation_of plain.old) }
     ensures ended { IfOk result (λ played. (r : Resolver) → Stands chooser.old r 0 →
-        Ended (policy_of r limits) lines (simulation_of plain.old) (simulation_of plain.new) (W.state out.old) (W.state out.new) played) }
+        Ended (policy_of r limits) lines (simulation_of plain.old) (simulation_of plain.new)
+        (W.state out.old) (W.state out.new) played) }
     ensures cut { IfErr result (λ halt. (r : Resolver) → Stands chooser.old r 0 →
-        CutShort (policy_of r limits) (model_in (simulation_of plain.old)) lines 0 (simulation_of plain.old) (W.state out.old) (W.state out.new) halt) }
+        CutShort (policy_of r limits) (model_in (simulation_of plain.old)) lines 0
+        (simulation_of plain.old) (W.state out.old) (W.state out.new) halt) }
 {
     rules_are_known();
     let mut actions = 0;
@@ -167,10 +176,11 @@ pub(crate) fn play<W: Sink>(
     out: &mut W,
 ) -> Result<Played, Halt>
     requires { Starts (setting_in (simulation_of plain.old)) (simulation_of plain.old) }
-    ensures through { IfOk result (λ played.
-        PlayedThrough (setting_in (simulation_of plain.old)) (policy_of (resolver_of choice) limits) lines (simulation_of plain.new) (W.state out.old) (W.state out.new) played) }
-    ensures broken { IfErr result (λ halt.
-        BrokenOff (setting_in (simulation_of plain.old)) (policy_of (resolver_of choice) limits) lines (W.state out.old) (W.state out.new) halt) }
+    ensures through { IfOk result (λ played. PlayedThrough (setting_in (simulation_of plain.old))
+        (policy_of (resolver_of choice) limits) lines (simulation_of plain.new) (W.state out.old)
+        (W.state out.new) played) }
+    ensures broken { IfErr result (λ halt. BrokenOff (setting_in (simulation_of plain.old))
+        (policy_of (resolver_of choice) limits) lines (W.state out.old) (W.state out.new) halt) }
 {
     rules_are_known();
     let _model = plain.checked().model();

@@ -31,7 +31,8 @@ pub fn play_trace<W: Sink>(
 ) -> Result<Finale, Halt>
     requires { (setting : Setting) × Starts setting (simulation_of plain.old) }
     ensures { (setting : Setting) → Starts setting (simulation_of plain.old) →
-        Plays setting (policy_of (resolver_of choice) limits) trace (simulation_of plain.new) (W.state out.old) (W.state out.new) result }
+        Plays setting (policy_of (resolver_of choice) limits) trace (simulation_of plain.new)
+        (W.state out.old) (W.state out.new) result }
 {
     rules_are_known();
     let played = play(alloc, plain, choice, limits, true, out)?;
@@ -53,7 +54,8 @@ pub fn play_summary<W: Sink>(
 ) -> Result<Finale, Halt>
     requires { (setting : Setting) × Starts setting (simulation_of plain.old) }
     ensures { (setting : Setting) → Starts setting (simulation_of plain.old) →
-        Plays setting (policy_of (resolver_of choice) limits) summary (simulation_of plain.new) (W.state out.old) (W.state out.new) result }
+        Plays setting (policy_of (resolver_of choice) limits) summary (simulation_of plain.new)
+        (W.state out.old) (W.state out.new) result }
 {
     rules_are_known();
     let played = play(alloc, plain, choice, limits, false, out)?;
@@ -76,7 +78,8 @@ pub fn play_menu<W: Sink>(
 ) -> Result<Finale, Halt>
     requires { (setting : Setting) × Starts setting (simulation_of plain.old) }
     ensures { (setting : Setting) → Starts setting (simulation_of plain.old) →
-        Plays setting (policy_of (resolver_of choice) limits) menu (simulation_of plain.new) (W.state out.old) (W.state out.new) result }
+        Plays setting (policy_of (resolver_of choice) limits) menu (simulation_of plain.new)
+        (W.state out.old) (W.state out.new) result }
 {
     rules_are_known();
     let _model = plain.checked().model();

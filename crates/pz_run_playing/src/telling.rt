@@ -30,7 +30,8 @@ use std::alloc::{AllocError, Global};
 
 /// Writes the first line, if lines are told.
 pub(crate) fn tell_header<W: Sink>(alloc: Global, lines: bool, out: &mut W) -> Result<(), Halt>
-    ensures { Wrote (W.state out.old) (W.state out.new) (told lines trace_lines.header) (result_err result) }
+    ensures { Wrote (W.state out.old) (W.state out.new) (told lines trace_lines.header)
+        (result_err result) }
 {
     rules_are_known();
     if !lines {
@@ -48,7 +49,8 @@ pub(crate) fn tell_passing<W: Sink>(
     lines: bool,
     out: &mut W,
 ) -> Result<(), Halt>
-    ensures { Wrote (W.state out.old) (W.state out.new) (told lines (trace_lines.time_line clock time)) (result_err result) }
+    ensures { Wrote (W.state out.old) (W.state out.new)
+        (told lines (trace_lines.time_line clock time)) (result_err result) }
 {
     rules_are_known();
     if !lines {
@@ -63,7 +65,8 @@ fn line_of(alloc: Global, plain: &Plain, offers: u64, number: u64) -> Result<Vec
     requires moment { IsMomentOf (simulation_of plain.now) (Moment.Actions offers) }
     requires there { number < offers }
     ensures { IfOk result (λ line. (a : TheAction) → IsOffer (simulation_of plain.now) number a →
-        line.items ≡ trace_lines.action_line (model_in (simulation_of plain.now)) (clock_in (simulation_of plain.now)) offers number a) }
+        line.items ≡ trace_lines.action_line (model_in (simulation_of plain.now))
+        (clock_in (simulation_of plain.now)) offers number a) }
 {
     rules_are_known();
     let actions = plain.offers();
@@ -92,7 +95,9 @@ pub(crate) fn tell_action<W: Sink>(
     requires moment { IsMomentOf (simulation_of plain.now) (Moment.Actions offers) }
     requires there { number < offers }
     ensures { (a : TheAction) → IsOffer (simulation_of plain.now) number a →
-        Wrote (W.state out.old) (W.state out.new) (told lines (trace_lines.action_line (model_in (simulation_of plain.now)) (clock_in (simulation_of plain.now)) offers number a)) (result_err result) }
+        Wrote (W.state out.old) (W.state out.new) (told lines
+        (trace_lines.action_line (model_in (simulation_of plain.now))
+        (clock_in (simulation_of plain.now)) offers number a)) (result_err result) }
 {
     rules_are_known();
     if !lines {
@@ -110,8 +115,10 @@ pub(crate) fn tell_last<W: Sink>(
     out: &mut W,
 ) -> Result<(), Halt>
     requires { IsTroubledIn (model_in (simulation_of plain.now)) (ending_of finale) }
-    ensures { (setting : Setting) (end : Config) (standing : Standing) → simulation_of plain.now ≡ stands setting end standing →
-        Wrote (W.state out.old) (W.state out.new) (endings.last_line setting.model end.clock (ending_of finale)) (result_err result) }
+    ensures { (setting : Setting) (end : Config) (standing : Standing) →
+        simulation_of plain.now ≡ stands setting end standing →
+        Wrote (W.state out.old) (W.state out.new) (endings.last_line setting.model end.clock
+        (ending_of finale)) (result_err result) }
 {
     rules_are_known();
     let line = last_line(alloc, plain.net(), plain.clock(), finale)?;
@@ -126,8 +133,10 @@ pub(crate) fn tell_summary<W: Sink>(
     out: &mut W,
 ) -> Result<(), Halt>
     requires { IsTroubledIn (model_in (simulation_of plain.now)) (ending_of played.finale) }
-    ensures { (setting : Setting) (end : Config) (standing : Standing) → simulation_of plain.now ≡ stands setting end standing →
-        Wrote (W.state out.old) (W.state out.new) (summary_of setting.model played.actions played.passes end.clock (ending_of played.finale)) (result_err result) }
+    ensures { (setting : Setting) (end : Config) (standing : Standing) →
+        simulation_of plain.now ≡ stands setting end standing →
+        Wrote (W.state out.old) (W.state out.new) (summary_of setting.model played.actions
+        played.passes end.clock (ending_of played.finale)) (result_err result) }
 {
     rules_are_known();
     let line = summary_line(alloc, plain.net(), plain.clock(), played)?;
@@ -143,7 +152,9 @@ fn tell_offer<W: Sink>(
     out: &mut W,
 ) -> Result<(), Halt>
     requires { IsNamedIn (model_in (simulation_of plain.now)) action.now }
-    ensures { Wrote (W.state out.old) (W.state out.new) (menus.offer_line (model_in (simulation_of plain.now)) number action.now) (result_err result) }
+    ensures { Wrote (W.state out.old) (W.state out.new)
+        (menus.offer_line (model_in (simulation_of plain.now)) number action.now)
+        (result_err result) }
 {
     rules_are_known();
     let line = offer_line(alloc, plain.checked(), plain.net(), number, action)?;
@@ -153,7 +164,8 @@ fn tell_offer<W: Sink>(
 /// Writes a line for each offer in order.
 pub(crate) fn tell_offers<W: Sink>(alloc: Global, plain: &Plain, out: &mut W) -> Result<(), Halt>
     ensures { (offers : List TheAction) × AreOffersOf (simulation_of plain.now) offers
-        × Wrote (W.state out.old) (W.state out.new) (offers_text (model_in (simulation_of plain.now)) 0 offers) (result_err result) }
+        × Wrote (W.state out.old) (W.state out.new)
+        (offers_text (model_in (simulation_of plain.now)) 0 offers) (result_err result) }
 {
     rules_are_known();
     let actions = plain.offers();

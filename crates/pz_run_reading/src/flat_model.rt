@@ -7,7 +7,7 @@ use pz_classes::Checked;
 
 /// A model that violates no rule, and its net: the processes of its system, each cluster expanded, and
 /// the wires between them.
-pub struct FlatModel {
+pub(crate) struct FlatModel {
     pub checked: Checked,
     pub net: Net,
     ghost of_model: { ∥ IsNet (checked_model checked) net ∥₁ },
@@ -26,7 +26,7 @@ impl FlatModel {
     ghost use Rattle.pz_run_reading.specs.Sizes.{HasSize};
 
     /// How many processes and wires there are. Takes no memory.
-    pub fn size(&self) -> Size
+    pub(crate) fn size(&self) -> Size
         ensures { HasSize (checked_model self.now.checked) result.processes result.wires }
     {
         Size {

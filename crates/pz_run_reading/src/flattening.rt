@@ -18,7 +18,7 @@ use std::mem::drop;
 
 /// The model of a text with its net. The errors are those of `read_model`. Beyond the reading the time is
 /// linear in what stands in the system and in the names in full.
-pub fn read_net(alloc: Global, text: &[u8]) -> Result<FlatModel, ReadModelError>
+fn read_net(alloc: Global, text: &[u8]) -> Result<FlatModel, ReadModelError>
     requires { length text.now < 2 ^ 32 - 1 }
     ensures found { IfOk result (λ flat. IsModelOf text.now (checked_model flat.checked)) }
     // The text of a model is refused for want of memory alone.

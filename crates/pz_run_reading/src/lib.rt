@@ -4,15 +4,13 @@
 
 mod flat_model;
 mod flattening;
-mod laws;
+pub mod laws;
 mod read_error;
 mod reading;
 mod refusal;
 mod size;
 
-pub use flat_model::FlatModel;
-pub use flattening::{measure, read_net};
-pub use laws::one_model;
+pub use flattening::measure;
 pub use read_error::ReadModelError;
 pub use reading::read_model;
 pub use refusal::Refusal;

@@ -9,7 +9,8 @@ use pz_trace::{Heading, first_line, read_line};
 
 /// How long the line is, if the text begins with it.
 pub(crate) fn front_len(text: &[u8], line: &[u8]) -> Option<usize>
-    ensures { MatchOption result ((rest : List ℕ) → text.now ≡ line.now ++ rest → ⊥) (StartsWith text.now line.now) }
+    ensures { MatchOption result ((rest : List ℕ) → text.now ≡ line.now ++ rest →
+        ⊥) (StartsWith text.now line.now) }
 {
     if text.starts_with(line) {
         Some(line.len())
@@ -39,7 +40,8 @@ pub(crate) fn behind(text: &[u8], len: usize) -> &[u8]
 
 /// The number of the offer, from 0, that the next line of a trace names, if it is one of so many.
 pub(crate) fn named_offer(rest: &[u8], offers: u64) -> Option<u64>
-    ensures { MatchOption result ((k : ℕ) → k < offers → NamesOffer rest.now k → ⊥) (λ k. (k < offers) × NamesOffer rest.now k) }
+    ensures { MatchOption result ((k : ℕ) → k < offers → NamesOffer rest.now k →
+        ⊥) (λ k. (k < offers) × NamesOffer rest.now k) }
 {
     rules_are_known();
     let line = first_line(rest)?;

@@ -40,7 +40,8 @@ pub(crate) enum Judged {
 fn last_line(alloc: Global, plain: &Plain, ending: Ending) -> Result<Vec<u8>, AllocError>
     requires ready { IsReady (simulation_of plain.now) }
     requires named { IsNamedLast (simulation_of plain.now) ending }
-    ensures { IfOk result (λ line. line.items ≡ trace_lines.end_line (model_in (simulation_of plain.now)) (clock_in (simulation_of plain.now)) ending) }
+    ensures { IfOk result (λ line. line.items ≡ trace_lines.end_line
+        (model_in (simulation_of plain.now)) (clock_in (simulation_of plain.now)) ending) }
 {
     end_line(alloc, plain.net(), plain.clock(), &ending)
 }
@@ -48,9 +49,11 @@ fn last_line(alloc: Global, plain: &Plain, ending: Ending) -> Result<Vec<u8>, Al
 // How long the line of a stop is, if what is left begins with it. The only error is want of memory.
 fn stop_len(alloc: Global, plain: &Plain, rest: &[u8]) -> Result<Option<usize>, AllocError>
     requires { IsReady (simulation_of plain.now) }
-    ensures { IfOk result (λ found. MatchOption found
-        ((left : List ℕ) → rest.now ≡ trace_lines.end_line (model_in (simulation_of plain.now)) (clock_in (simulation_of plain.now)) Ending.Stop ++ left → ⊥)
-        (StartsWith rest.now (trace_lines.end_line (model_in (simulation_of plain.now)) (clock_in (simulation_of plain.now)) Ending.Stop))) }
+    ensures { IfOk result (λ found. MatchOption found ((left : List ℕ) →
+        rest.now ≡ trace_lines.end_line (model_in (simulation_of plain.now))
+        (clock_in (simulation_of plain.now)) Ending.Stop ++ left →
+        ⊥) (StartsWith rest.now (trace_lines.end_line (model_in (simulation_of plain.now))
+        (clock_in (simulation_of plain.now)) Ending.Stop))) }
 {
     let line = last_line(alloc, plain, Ending::Stop)?;
     Ok(front_len(rest, line.as_slice()))
@@ -68,7 +71,8 @@ fn offer_line(
     requires moment { IsMomentOf (simulation_of plain.now) (Moment.Actions offers) }
     requires there { number < offers }
     ensures { IfOk result (λ line. (a : TheAction) → IsOffer (simulation_of plain.now) number a →
-        line.items ≡ trace_lines.action_line (model_in (simulation_of plain.now)) (clock_in (simulation_of plain.now)) offers number a) }
+        line.items ≡ trace_lines.action_line (model_in (simulation_of plain.now))
+        (clock_in (simulation_of plain.now)) offers number a) }
 {
     rules_are_known();
     let actions = plain.offers();

@@ -15,7 +15,8 @@ use pz_term::{ChooseError, PassError, Plain};
 // Takes an offer that is there.
 fn act(plain: &mut Plain, offers: u64, number: u64) -> Result<(), Halt>
     requires { MayMove (simulation_of plain.old) (Move.Act offers number) }
-    ensures chooses { OnOk result (Chooses number (simulation_of plain.old) (simulation_of plain.new)) }
+    ensures chooses { OnOk result (Chooses number (simulation_of plain.old)
+        (simulation_of plain.new)) }
     ensures setting { setting_in (simulation_of plain.new) ≡ setting_in (simulation_of plain.old) }
     ensures memory { IsOkUnless result Halt.NoMemory }
 {

@@ -17,7 +17,8 @@ use std::alloc::Global;
 
 // Writes the line of the rules in the place of one that is refused.
 fn say_expected<W: Sink>(alloc: Global, line: &[u8], out: &mut W) -> Result<(), Halt>
-    ensures { Wrote (W.state out.old) (W.state out.new) (lines.expected_line line.now) (result_err result) }
+    ensures { Wrote (W.state out.old) (W.state out.new) (lines.expected_line line.now)
+        (result_err result) }
 {
     rules_are_known();
     let whole = expected_line(alloc, line)?;
@@ -26,7 +27,8 @@ fn say_expected<W: Sink>(alloc: Global, line: &[u8], out: &mut W) -> Result<(), 
 
 // Writes at which line the trace is refused, counted from 1.
 fn say_refused<W: Sink>(alloc: Global, number: u64, out: &mut W) -> Result<(), Halt>
-    ensures { Wrote (W.state out.old) (W.state out.new) (lines.refused_line number) (result_err result) }
+    ensures { Wrote (W.state out.old) (W.state out.new) (lines.refused_line number)
+        (result_err result) }
 {
     rules_are_known();
     let line = refused_line(alloc, number)?;
@@ -40,7 +42,8 @@ pub(crate) fn refuse<W: Sink>(
     expected: Option<Vec<u8>>,
     out: &mut W,
 ) -> Result<Replayed, Halt>
-    ensures wrote { Wrote (W.state out.old) (W.state out.new) (refusal_text number (option_map (λ line. line.items) expected)) (result_err result) }
+    ensures wrote { Wrote (W.state out.old) (W.state out.new)
+        (refusal_text number (option_map (λ line. line.items) expected)) (result_err result) }
     ensures refused { IfOk result (λ replayed. replayed ≡ Replayed.Refused number) }
 {
     rules_are_known();

@@ -29,9 +29,12 @@ fn follow<W: Sink>(
 ) -> Result<Replayed, Halt>
     requires ready { IsReady (simulation_of plain.old) }
     requires short { first + length trace.now < 2 ^ 64 }
-    ensures { (whole : List ℕ) (lines : List (List ℕ)) → TellsLines (setting_in (simulation_of plain.old)) →
-        Progress (setting_in (simulation_of plain.old)) whole lines (stage_of (simulation_of plain.old)) trace.now → first ≡ suc (length lines) →
-        Answers (setting_in (simulation_of plain.old)) whole lines (W.state out.old) (W.state out.new) (simulation_of plain.new) result }
+    ensures { (whole : List ℕ) (lines : List (List ℕ)) →
+        TellsLines (setting_in (simulation_of plain.old)) →
+        Progress (setting_in (simulation_of plain.old)) whole lines
+        (stage_of (simulation_of plain.old)) trace.now → first ≡ suc (length lines) →
+        Answers (setting_in (simulation_of plain.old)) whole lines (W.state out.old)
+        (W.state out.new) (simulation_of plain.new) result }
 {
     rules_are_known();
     let mut rest = trace;
@@ -61,7 +64,8 @@ fn replay_lines<W: Sink>(
 ) -> Result<Replayed, Halt>
     requires { (setting : Setting) × Starts setting (simulation_of plain.old) }
     ensures { (setting : Setting) → Starts setting (simulation_of plain.old) → TellsLines setting →
-        Answers setting trace.now [] (W.state out.old) (W.state out.new) (simulation_of plain.new) result }
+        Answers setting trace.now [] (W.state out.old) (W.state out.new)
+        (simulation_of plain.new) result }
 {
     rules_are_known();
     let _model = plain.checked().model();
@@ -94,7 +98,8 @@ pub fn replay<W: Sink>(
 ) -> Result<Replayed, Halt>
     requires { (setting : Setting) × Starts setting (simulation_of plain.old) }
     ensures { (setting : Setting) → Starts setting (simulation_of plain.old) → TellsLines setting →
-        IsReplayed setting trace.now (simulation_of plain.new) (W.state out.old) (W.state out.new) result }
+        IsReplayed setting trace.now (simulation_of plain.new) (W.state out.old)
+        (W.state out.new) result }
 {
     rules_are_known();
     let _model = plain.checked().model();

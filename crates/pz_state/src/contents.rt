@@ -57,7 +57,8 @@ impl Contents {
 
     /// The numbers of the open frames, in increasing order. The only error is want of memory.
     pub fn frames(&self) -> Result<Vec<FrameId>, AllocError>
-        ensures frames { IfOk result (λ frames. map (λ n. n.0) frames.items ≡ map (λ f. f.0) self.now.state.frames) }
+        ensures frames { IfOk result (λ frames. map (λ n. n.0) frames.items ≡ map
+            (λ f. f.0) self.now.state.frames) }
         ensures ordered { AllPairs (λ m n. m < n) (map (λ f. f.0) self.now.state.frames) }
     {
         self.frames.numbers()
@@ -126,7 +127,8 @@ impl Contents {
     /// Opens a frame of so many nils. The only error is want of memory, and then the state stays.
     pub fn open_frame(&mut self, locals: u32) -> Result<u64, AllocError>
         ensures least { IfOk result (λ number. IsLeastFree self.old.state.frames number) }
-        ensures state { IfOk result (λ number. self.new.state ≡ opened self.old.state number locals) }
+        ensures state { IfOk result (λ number. self.new.state ≡
+            opened self.old.state number locals) }
         ensures back { IfOk result (λ number. LeadsBack self.old self.new (Change.Opened number)) }
         ensures err { OnErr result (self.new.state ≡ self.old.state) }
         ensures room { IsWider self.old.room self.new.room }
@@ -208,7 +210,8 @@ impl Contents {
     /// Leaves the first so many items of an object.
     fn shorten(&mut self, r: u32, count: usize)
         requires { HasObject self.old.state r }
-        ensures state { self.new.state ≡ record self.old.state { objects = at_object r (take count) self.old.state.objects } }
+        ensures state { self.new.state ≡ record self.old.state
+            { objects = at_object r (take count) self.old.state.objects } }
         ensures room { IsWider self.old.room self.new.room }
     {
         let object = &mut self.objects[r as usize];
@@ -218,8 +221,10 @@ impl Contents {
     /// Adds the items of a list in reverse to an object, which has room for them.
     fn lengthen(&mut self, r: u32, cut: Vec<Value>)
         requires there { HasObject self.old.state r }
-        requires room { length (object self.old.state r).items + length cut.items ≤ get_or self.old.room.items r 0 }
-        ensures state { self.new.state ≡ record self.old.state { objects = at_object r (λ items. items ++ reverse cut.items) self.old.state.objects } }
+        requires room { length (object self.old.state r).items + length cut.items ≤
+            get_or self.old.room.items r 0 }
+        ensures state { self.new.state ≡ record self.old.state
+            { objects = at_object r (λ items. items ++ reverse cut.items) self.old.state.objects } }
         ensures room { IsWider self.old.room self.new.room }
     {
         let object = &mut self.objects[r as usize];
@@ -228,7 +233,8 @@ impl Contents {
 
     /// Drops the object that was made last.
     fn unmake(&mut self)
-        ensures state { self.new.state ≡ record self.old.state { objects = without_last self.old.state.objects } }
+        ensures state { self.new.state ≡ record self.old.state
+            { objects = without_last self.old.state.objects } }
         ensures room { KeepsRoom self.old.room self.new }
     {
         let _object = self.objects.pop();

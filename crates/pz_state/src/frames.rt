@@ -24,7 +24,8 @@ pub struct FrameTable {
 
 /// The numbers of the open frames of a table, in increasing order.
 fn numbers_of(alloc: Global, table: &[Option<Vec<Value>>]) -> Result<Vec<FrameId>, AllocError>
-    ensures { IfOk result (λ numbers. map (λ n. n.0) numbers.items ≡ map (λ f. f.0) (frames_from 1 table.now)) }
+    ensures { IfOk result (λ numbers. map (λ n. n.0) numbers.items ≡ map (λ f. f.0)
+        (frames_from 1 table.now)) }
 {
     let mut numbers = Vec::new(alloc);
     for (place, locals) in table.iter().enumerate() {
@@ -93,7 +94,8 @@ impl FrameTable {
 
     /// The numbers of the open frames, in increasing order. The only error is want of memory.
     pub fn numbers(&self) -> Result<Vec<FrameId>, AllocError>
-        ensures numbers { IfOk result (λ numbers. map (λ n. n.0) numbers.items ≡ map (λ f. f.0) self.now.frames) }
+        ensures numbers { IfOk result (λ numbers. map (λ n. n.0) numbers.items ≡ map
+            (λ f. f.0) self.now.frames) }
         ensures ordered { AllPairs (λ m n. m < n) (map (λ f. f.0) self.now.frames) }
     {
         numbers_of(*self.table.allocator(), self.table.as_slice())
@@ -102,8 +104,10 @@ impl FrameTable {
     /// Gives a local another value, and hands out the one before.
     pub fn replace(&mut self, number: u64, slot: usize, value: Value) -> Value
         requires { slot < length (locals_of self.old.frames number) }
-        ensures frames { self.new.frames ≡ at_frame number (λ locals. slice_set locals slot value) self.old.frames }
-        ensures back { at_frame number (λ locals. slice_set locals slot result) self.new.frames ≡ self.old.frames }
+        ensures frames { self.new.frames ≡ at_frame number
+            (λ locals. slice_set locals slot value) self.old.frames }
+        ensures back { at_frame number (λ locals. slice_set locals slot result) self.new.frames ≡
+            self.old.frames }
         ensures there { slot < length (locals_of self.new.frames number) }
         ensures room { self.new.room ≡ self.old.room }
     {
@@ -169,8 +173,10 @@ impl FrameTable {
     /// error is want of memory, and then the frames stay.
     pub fn open(&mut self, locals: Vec<Value>) -> Result<u64, AllocError>
         ensures least { IfOk result (λ number. IsLeastFree self.old.frames number) }
-        ensures frames { IfOk result (λ number. self.new.frames ≡ with_frame number locals.items self.old.frames) }
-        ensures back { IfOk result (λ number. without_frame number self.new.frames ≡ self.old.frames) }
+        ensures frames { IfOk result (λ number. self.new.frames ≡
+            with_frame number locals.items self.old.frames) }
+        ensures back { IfOk result (λ number. without_frame number self.new.frames ≡
+            self.old.frames) }
         ensures there { IfOk result (λ number. IsSome (locals_in self.new.frames number)) }
         ensures err { OnErr result (self.new.frames ≡ self.old.frames) }
         ensures room { self.old.room ≤ self.new.room }

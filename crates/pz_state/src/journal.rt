@@ -56,7 +56,8 @@ impl Journal {
     pub fn reserve(&mut self) -> Result<(), AllocError>
         ensures entries { self.new.entries.items ≡ self.old.entries.items }
         ensures marks { self.new.marks ≡ self.old.marks }
-        ensures room { OnOk result (0 < self.new.marks → vec_len self.new.entries < vec_capacity self.new.entries) }
+        ensures room { OnOk result (0 < self.new.marks →
+            vec_len self.new.entries < vec_capacity self.new.entries) }
     {
         if self.marks == 0 {
             return Ok(());
@@ -67,7 +68,8 @@ impl Journal {
     /// Notes a change, if a mark is open; there is room for it then.
     pub fn note(&mut self, change: Change)
         requires { 0 < self.old.marks → vec_len self.old.entries < vec_capacity self.old.entries }
-        ensures entries { self.new.entries.items ≡ noted self.old.marks change self.old.entries.items }
+        ensures entries { self.new.entries.items ≡
+            noted self.old.marks change self.old.entries.items }
         ensures marks { self.new.marks ≡ self.old.marks }
     {
         if self.marks > 0 {
@@ -79,7 +81,8 @@ impl Journal {
     pub fn mark(&mut self) -> Result<usize, AllocError>
         requires { self.old.marks ≤ length self.old.entries.items }
         ensures place { IfOk result (λ place. place ≡ length self.old.entries.items) }
-        ensures entries { OnOk result (self.new.entries.items ≡ self.old.entries.items ++ Entry.Mark ∷ []) }
+        ensures entries { OnOk result (self.new.entries.items ≡
+            self.old.entries.items ++ Entry.Mark ∷ []) }
         ensures marks { OnOk result (self.new.marks ≡ self.old.marks + 1) }
         ensures err_entries { OnErr result (self.new.entries.items ≡ self.old.entries.items) }
         ensures err_marks { OnErr result (self.new.marks ≡ self.old.marks) }
@@ -93,7 +96,8 @@ impl Journal {
     /// One mark fewer is open. Without any, nothing is kept.
     pub fn close_mark(&mut self)
         requires { 0 < self.old.marks }
-        ensures entries { self.new.entries.items ≡ while_marked self.new.marks self.old.entries.items }
+        ensures entries { self.new.entries.items ≡
+            while_marked self.new.marks self.old.entries.items }
         ensures marks { self.new.marks + 1 ≡ self.old.marks }
     {
         self.marks -= 1;
@@ -106,7 +110,8 @@ impl Journal {
     pub fn keep(&mut self, place: usize)
         requires within { place < length self.old.entries.items }
         requires marked { 0 < self.old.marks }
-        ensures entries { self.new.entries.items ≡ while_marked self.new.marks (slice_set self.old.entries.items place Entry.Kept) }
+        ensures entries { self.new.entries.items ≡ while_marked self.new.marks
+            (slice_set self.old.entries.items place Entry.Kept) }
         ensures marks { self.new.marks + 1 ≡ self.old.marks }
     {
         self.entries[place] = Entry::Kept;
@@ -134,7 +139,8 @@ fn undo_entry(contents: &mut Contents, entry: Entry) -> bool
 /// Takes entries back until an open mark has been taken. Takes no memory.
 pub fn undo_last(contents: &mut Contents, entries: &mut Vec<Entry>)
     requires { AreReady contents.old.room entries.old.items contents.old.state }
-    ensures undone { Undoes contents.old.state entries.old.items contents.new.state entries.new.items }
+    ensures undone { Undoes contents.old.state entries.old.items contents.new.state
+        entries.new.items }
     ensures ready { AreReady contents.new.room entries.new.items contents.new.state }
     ensures fewer { length contents.new.state.objects ≤ length contents.old.state.objects }
 {

@@ -73,7 +73,11 @@ impl Object {
     pub(crate) fn replace(&mut self, place: usize, value: Value) -> Value
         requires { place < length self.old.object.items }
         ensures old { slice_get self.old.object.items place ≡ Some result }
-        ensures new { self.new.object ≡ record { class = self.old.object.class; items = slice_set self.old.object.items place value } }
+        ensures new { self.new.object ≡ record {
+          class = self.old.object.class;
+          items = slice_set
+              self.old.object.items place value;
+        } }
         ensures room { self.new.room ≡ self.old.room }
     {
         replace(&mut self.items, place, value)
@@ -83,7 +87,12 @@ impl Object {
     /// stays.
     pub(crate) fn grow(&mut self, count: usize) -> Result<(), AllocError>
         requires { length self.old.object.items ≤ count }
-        ensures ok { IfOk result (λ _. self.new.object ≡ record { class = self.old.object.class; items = self.old.object.items ++ nils (count - length self.old.object.items) }) }
+        ensures ok { IfOk result (λ _. self.new.object ≡
+            record {
+              class = self.old.object.class;
+              items = self.old.object.items ++ nils
+                  (count - length self.old.object.items);
+            }) }
         ensures err { OnErr result (self.new.object ≡ self.old.object) }
         ensures room { self.old.room ≤ self.new.room }
     {
@@ -94,9 +103,12 @@ impl Object {
     /// error is want of memory, and then the object stays.
     pub(crate) fn cut(&mut self, count: usize) -> Result<Vec<Value>, AllocError>
         requires { count ≤ length self.old.object.items }
-        ensures ok { IfOk result (λ cut. self.new.object ≡ record { class = self.old.object.class; items = take count self.old.object.items }) }
-        ensures back { IfOk result (λ cut. self.new.object.items ++ reverse cut.items ≡ self.old.object.items) }
-        ensures fits { IfOk result (λ cut. length self.new.object.items + length cut.items ≤ self.new.room) }
+        ensures ok { IfOk result (λ cut. self.new.object ≡
+            record { class = self.old.object.class; items = take count self.old.object.items }) }
+        ensures back { IfOk result (λ cut. self.new.object.items ++ reverse cut.items ≡
+            self.old.object.items) }
+        ensures fits { IfOk result (λ cut. length self.new.object.items + length cut.items ≤
+            self.new.room) }
         ensures err { OnErr result (self.new.object ≡ self.old.object) }
         ensures room { self.new.room ≡ self.old.room }
     {
@@ -105,7 +117,11 @@ impl Object {
 
     /// Leaves the first so many items. Takes no memory.
     pub(crate) fn truncate(&mut self, count: usize)
-        ensures object { self.new.object ≡ record { class = self.old.object.class; items = take count self.old.object.items } }
+        ensures object { self.new.object ≡ record {
+          class = self.old.object.class;
+          items = take
+              count self.old.object.items;
+        } }
         ensures room { self.new.room ≡ self.old.room }
     {
         self.items.truncate(count);
@@ -114,7 +130,11 @@ impl Object {
     /// Adds the items of a list in reverse, for which there is room. Takes no memory.
     pub(crate) fn restore(&mut self, cut: Vec<Value>)
         requires { length self.old.object.items + length cut.items ≤ self.old.room }
-        ensures object { self.new.object ≡ record { class = self.old.object.class; items = self.old.object.items ++ reverse cut.items } }
+        ensures object { self.new.object ≡ record {
+          class = self.old.object.class;
+          items =
+              self.old.object.items ++ reverse cut.items;
+        } }
         ensures room { self.new.room ≡ self.old.room }
     {
         restore(&mut self.items, cut);

@@ -107,7 +107,8 @@ impl State {
 
     /// The numbers of the open frames, in increasing order. The only error is want of memory.
     pub fn frames(&self) -> Result<Vec<FrameId>, AllocError>
-        ensures frames { IfOk result (λ frames. map (λ n. n.0) frames.items ≡ map (λ f. f.0) self.now.held.frames) }
+        ensures frames { IfOk result (λ frames. map (λ n. n.0) frames.items ≡ map
+            (λ f. f.0) self.now.held.frames) }
         ensures ordered { AllPairs (λ m n. m < n) (map (λ f. f.0) self.now.held.frames) }
     {
         self.contents.frames()
@@ -154,7 +155,8 @@ impl State {
     pub fn set_var(&mut self, slot: u32, value: Value) -> Result<(), AllocError>
         requires there { HasVariable self.old.held slot }
         requires within { RefersWithin (length self.old.held.objects) value }
-        ensures ok { OnOk result (self.new ≡ changed self.old (set_variable self.old.held slot value)) }
+        ensures ok { OnOk result (self.new ≡ changed self.old
+            (set_variable self.old.held slot value)) }
         ensures err { OnErr result (self.new ≡ self.old) }
     {
         self.journal.reserve()?;
@@ -168,7 +170,8 @@ impl State {
     pub fn set_local(&mut self, frame: FrameId, slot: usize, value: Value) -> Result<(), AllocError>
         requires there { HasLocal self.old.held frame.0 slot }
         requires within { RefersWithin (length self.old.held.objects) value }
-        ensures ok { OnOk result (self.new ≡ changed self.old (set_local self.old.held frame.0 slot value)) }
+        ensures ok { OnOk result (self.new ≡ changed self.old
+            (set_local self.old.held frame.0 slot value)) }
         ensures err { OnErr result (self.new ≡ self.old) }
     {
         self.journal.reserve()?;
@@ -182,7 +185,8 @@ impl State {
     pub fn set_item(&mut self, r: u32, item: u32, value: Value) -> Result<(), AllocError>
         requires there { HasItem self.old.held r item }
         requires within { RefersWithin (length self.old.held.objects) value }
-        ensures ok { OnOk result (self.new ≡ changed self.old (set_item self.old.held r item value)) }
+        ensures ok { OnOk result (self.new ≡ changed self.old
+            (set_item self.old.held r item value)) }
         ensures err { OnErr result (self.new ≡ self.old) }
     {
         self.journal.reserve()?;
@@ -208,7 +212,8 @@ impl State {
     /// has. The only error is want of memory, and then all is as before.
     pub fn open_frame(&mut self, locals: u32) -> Result<FrameId, AllocError>
         ensures least { IfOk result (λ frame. IsLeastFree self.old.held.frames frame.0) }
-        ensures ok { IfOk result (λ frame. self.new ≡ changed self.old (opened self.old.held frame.0 locals)) }
+        ensures ok { IfOk result (λ frame. self.new ≡ changed self.old
+            (opened self.old.held frame.0 locals)) }
         ensures err { OnErr result (self.new ≡ self.old) }
     {
         self.journal.reserve()?;
@@ -235,7 +240,8 @@ impl State {
         ensures number { IfOk result (λ r. r ≡ length self.old.held.objects) }
         ensures ok { OnOk result (self.new ≡ changed self.old (made self.old.held class items)) }
         ensures err { OnErr result (self.new ≡ self.old) }
-        ensures full { result ≡ Err MakeError.StoreFull ↔ (length self.old.held.objects ≡ object_limit) }
+        ensures full { result ≡ Err MakeError.StoreFull
+            ↔ (length self.old.held.objects ≡ object_limit) }
     {
         let count = self.objects();
         if count == OBJECT_LIMIT {

@@ -22,7 +22,8 @@ pub fn push_nils(values: &mut Vec<Value>, count: usize)
 /// So many nils. The only error is want of memory.
 pub fn nil_values(alloc: Global, count: u32) -> Result<Vec<Value>, AllocError>
     ensures items { IfOk result (λ values. values.items ≡ nils count) }
-    ensures within { (objects : ℕ) → IfOk result (λ values. All (RefersWithin objects) values.items) }
+    ensures within { (objects : ℕ) → IfOk result
+        (λ values. All (RefersWithin objects) values.items) }
 {
     let mut values = Vec::with_capacity(alloc, count as usize)?;
     push_nils(&mut values, count as usize);
@@ -43,7 +44,8 @@ pub fn replace(values: &mut Vec<Value>, place: usize, value: Value) -> Value
 /// stay.
 pub fn grow(values: &mut Vec<Value>, count: usize) -> Result<(), AllocError>
     requires { length values.old.items ≤ count }
-    ensures ok { IfOk result (λ _. values.new.items ≡ values.old.items ++ nils (count - length values.old.items)) }
+    ensures ok { IfOk result (λ _. values.new.items ≡ values.old.items ++ nils
+        (count - length values.old.items)) }
     ensures err { OnErr result (values.new.items ≡ values.old.items) }
     ensures room { vec_capacity values.old ≤ vec_capacity values.new }
 {
@@ -76,7 +78,8 @@ pub fn cut(values: &mut Vec<Value>, count: usize) -> Result<Vec<Value>, AllocErr
     requires { count ≤ length values.old.items }
     ensures items { IfOk result (λ cut. values.new.items ≡ take count values.old.items) }
     ensures back { IfOk result (λ cut. values.new.items ++ reverse cut.items ≡ values.old.items) }
-    ensures fits { IfOk result (λ cut. length values.new.items + length cut.items ≤ vec_capacity values.new) }
+    ensures fits { IfOk result (λ cut. length values.new.items + length cut.items ≤
+        vec_capacity values.new) }
     ensures err { OnErr result (values.new.items ≡ values.old.items) }
     ensures room { vec_capacity values.new ≡ vec_capacity values.old }
 {

@@ -74,7 +74,8 @@ impl Flags {
     /// Sets or clears a flag. Takes no memory.
     pub fn set(&mut self, number: usize, flag: bool)
         requires { number < room self.old }
-        ensures flags { (i : ℕ) → is_set self.new i ≡ if nat_eq i number then flag else is_set self.old i }
+        ensures flags { (i : ℕ) → is_set self.new i ≡
+            if nat_eq i number then flag else is_set self.old i }
         ensures room { room self.new ≡ room self.old }
     {
         let place = number / 64;

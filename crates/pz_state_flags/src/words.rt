@@ -23,8 +23,10 @@ fn with_flag(word: u64, bit: usize, flag: bool) -> u64
 /// Sets or clears a flag, and tells whether its word is full then.
 pub fn set_flag(words: &mut Vec<u64>, place: usize, flag: bool) -> bool
     requires { place / 64 < length words.old.items }
-    ensures flags { (i : ℕ) → is_set words.new.items i ≡ if nat_eq i place then flag else is_set words.old.items i }
-    ensures words { (k : ℕ) → k ≢ place / 64 → word_at words.new.items k ≡ word_at words.old.items k }
+    ensures flags { (i : ℕ) → is_set words.new.items i ≡
+        if nat_eq i place then flag else is_set words.old.items i }
+    ensures words { (k : ℕ) → k ≢ place / 64 → word_at words.new.items k ≡
+        word_at words.old.items k }
     ensures full { result ≡ is_full (word_at words.new.items (place / 64)) }
     ensures length { length words.new.items ≡ length words.old.items }
 {

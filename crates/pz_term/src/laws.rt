@@ -2,8 +2,6 @@
 
 ghost use Rattle.pz_term.specs.Laws.{OneMomentOf, OffersAreCounted, OffersAreNumbered, OffersAreDerived};
 
-use pz_rules::{one_list_of_offers, one_moment};
-
 /// A simulator has no more than one moment. Its offers are as many as that counts, each has its number,
 /// and each is one by the rules, in the configuration at which it stands.
 pub fn simulators_show_one_moment()
@@ -12,6 +10,6 @@ pub fn simulators_show_one_moment()
     ensures numbered { OffersAreNumbered }
     ensures derived { OffersAreDerived }
 {
-    one_moment();
-    one_list_of_offers();
+    pz_rules::laws::one_moment();
+    pz_rules::laws::one_list_of_offers();
 }

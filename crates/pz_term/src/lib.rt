@@ -2,13 +2,12 @@
 #![tactic(auto)]
 
 mod copying;
-mod laws;
+pub mod laws;
 mod plain;
 mod refusal;
 mod standing;
 mod vector;
 
-pub use laws::simulators_show_one_moment;
 pub use plain::Plain;
 pub use pz_offer::{End, Place, Trouble};
 pub use pz_rules::{Action, Kind, Limits, Moment, Term, open_term};

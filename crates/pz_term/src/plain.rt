@@ -12,7 +12,7 @@ use crate::vector::{elapse_at, look_at, step_at};
 use pz_bind::Net;
 use pz_classes::Checked;
 use pz_offer::Trouble;
-use pz_rules::{Action, Limits, Moment, one_list_of_offers, one_moment, wires_are_known};
+use pz_rules::{Action, Limits, Moment};
 use pz_term_processes::{Process, start};
 use std::alloc::{AllocError, Global};
 use std::mem::{self, drop};
@@ -65,7 +65,8 @@ impl Plain {
         limits: Limits,
     ) -> Result<Plain, AllocError>
         requires of_model { ∥ IsNet (checked_model checked) net ∥₁ }
-        ensures starts { IfOk result (λ plain. Starts (setting_of (checked_model checked) limits) (simulation_of plain)) }
+        ensures starts { IfOk result (λ plain. Starts (setting_of (checked_model checked) limits)
+            (simulation_of plain)) }
         ensures checked { IfOk result (λ plain. plain.checked ≡ checked) }
         ensures net { IfOk result (λ plain. plain.net ≡ net) }
     {
@@ -86,8 +87,8 @@ impl Plain {
     pub fn moment(&self) -> Moment
         ensures { IsMomentOf (simulation_of self.now) result }
     {
-        one_moment();
-        wires_are_known();
+        pz_rules::laws::one_moment();
+        pz_rules::laws::wires_are_known();
         let _model = self.checked.model();
         match &self.standing {
             Standing::Whole(outlook) => outlook.moment,
@@ -123,9 +124,9 @@ impl Plain {
     pub fn offers(&self) -> &[Action]
         ensures { AreOffersOf (simulation_of self.now) result.now }
     {
-        one_moment();
-        one_list_of_offers();
-        wires_are_known();
+        pz_rules::laws::one_moment();
+        pz_rules::laws::one_list_of_offers();
+        pz_rules::laws::wires_are_known();
         let _model = self.checked.model();
         match &self.standing {
             Standing::Whole(outlook) => outlook.actions.as_slice(),
@@ -136,7 +137,8 @@ impl Plain {
     /// Copies of the offers in their order: none unless the moment is `Actions`. The only error is want
     /// of memory, and it breaks nothing.
     pub fn actions(&mut self) -> Result<Vec<Action>, AllocError>
-        ensures offers { IfOk result (λ actions. AreOffersOf (simulation_of self.old) actions.items) }
+        ensures offers { IfOk result (λ actions. AreOffersOf
+            (simulation_of self.old) actions.items) }
         ensures unchanged { self.new ≡ self.old }
     {
         copy_actions(self.alloc, self.offers())
@@ -152,11 +154,15 @@ impl Plain {
     /// `NoMemory` the simulator is broken.
     pub fn choose(&mut self, k: u64) -> Result<(), ChooseError>
         ensures ok { OnOk result (Chooses k (simulation_of self.old) (simulation_of self.new)) }
-        ensures no_such_offer { IfErr result (OnNoSuchOffer (λ offers. IsMomentOf (simulation_of self.old) (Moment.Actions offers) × (offers ≤ k))) }
-        ensures not_now { IfErr result (OnChooseNotNow (λ moment. IsMomentOf (simulation_of self.old) moment × NoActions moment)) }
+        ensures no_such_offer { IfErr result (OnNoSuchOffer
+            (λ offers. IsMomentOf (simulation_of self.old) (Moment.Actions offers)
+            × (offers ≤ k))) }
+        ensures not_now { IfErr result (OnChooseNotNow
+            (λ moment. IsMomentOf (simulation_of self.old) moment × NoActions moment)) }
         ensures refused { IfErr result (OnChooseRefused (self.new ≡ self.old)) }
         ensures broken { IfErr result (OnChooseNoMemory (IsBroken (simulation_of self.new))) }
-        ensures setting { setting_in (simulation_of self.new) ≡ setting_in (simulation_of self.old) }
+        ensures setting { setting_in (simulation_of self.new) ≡ setting_in
+            (simulation_of self.old) }
     {
         match self.moment() {
             Moment::Actions(offers) => {
@@ -172,15 +178,17 @@ impl Plain {
 
     // Takes an offer that is there.
     fn take(&mut self, k: u64) -> Result<(), ChooseError>
-        requires there { (n : ℕ) × IsMomentOf (simulation_of self.old) (Moment.Actions n) × (k < n) }
+        requires there { (n : ℕ) × IsMomentOf (simulation_of self.old) (Moment.Actions n)
+            × (k < n) }
         ensures ok { OnOk result (Chooses k (simulation_of self.old) (simulation_of self.new)) }
         ensures memory { OnErr result (result ≡ Err ChooseError.NoMemory) }
         ensures broken { OnErr result (IsBroken (simulation_of self.new)) }
-        ensures setting { setting_in (simulation_of self.new) ≡ setting_in (simulation_of self.old) }
+        ensures setting { setting_in (simulation_of self.new) ≡ setting_in
+            (simulation_of self.old) }
     {
-        one_moment();
-        one_list_of_offers();
-        wires_are_known();
+        pz_rules::laws::one_moment();
+        pz_rules::laws::one_list_of_offers();
+        pz_rules::laws::wires_are_known();
         let _model = self.checked.model();
         let Standing::Whole(outlook) = mem::replace(&mut self.standing, Standing::Broken) else {
             unreachable!()
@@ -213,10 +221,14 @@ impl Plain {
     // Looks where it stands now. The only error is want of memory, and then it stays broken.
     fn look_on(&mut self) -> Result<(), AllocError>
         requires broken { self.old.standing ≡ Standing.Broken }
-        requires are { ∥ AreProcesses (setting_of (model_of self.old) self.old.limits) self.old.clock self.old.processes.items ∥₁ }
-        ensures ok { OnOk result (simulation_of self.new ≡ stands (setting_of (model_of self.old) self.old.limits) (config_of self.old.clock self.old.processes.items) whole) }
+        requires are { ∥ AreProcesses (setting_of (model_of self.old) self.old.limits)
+            self.old.clock self.old.processes.items ∥₁ }
+        ensures ok { OnOk result (simulation_of self.new ≡ stands
+            (setting_of (model_of self.old) self.old.limits)
+            (config_of self.old.clock self.old.processes.items) whole) }
         ensures err { OnErr result (self.new.standing ≡ Standing.Broken) }
-        ensures setting { setting_in (simulation_of self.new) ≡ setting_in (simulation_of self.old) }
+        ensures setting { setting_in (simulation_of self.new) ≡ setting_in
+            (simulation_of self.old) }
     {
         let outlook = look_at(
             self.alloc,
@@ -239,10 +251,12 @@ impl Plain {
     /// comes, is taken for want of memory.
     pub fn pass(&mut self) -> Result<(), PassError>
         ensures ok { OnOk result (Passes (simulation_of self.old) (simulation_of self.new)) }
-        ensures not_now { IfErr result (OnPassNotNow (λ moment. IsMomentOf (simulation_of self.old) moment × NoTime moment)) }
+        ensures not_now { IfErr result (OnPassNotNow
+            (λ moment. IsMomentOf (simulation_of self.old) moment × NoTime moment)) }
         ensures refused { IfErr result (OnPassRefused (self.new ≡ self.old)) }
         ensures broken { IfErr result (OnPassNoMemory (IsBroken (simulation_of self.new))) }
-        ensures setting { setting_in (simulation_of self.new) ≡ setting_in (simulation_of self.old) }
+        ensures setting { setting_in (simulation_of self.new) ≡ setting_in
+            (simulation_of self.old) }
     {
         match self.moment() {
             Moment::Time(time) => match self.wait(time) {
@@ -258,7 +272,8 @@ impl Plain {
         requires there { IsMomentOf (simulation_of self.old) (Moment.Time time) }
         ensures ok { OnOk result (Passes (simulation_of self.old) (simulation_of self.new)) }
         ensures broken { OnErr result (IsBroken (simulation_of self.new)) }
-        ensures setting { setting_in (simulation_of self.new) ≡ setting_in (simulation_of self.old) }
+        ensures setting { setting_in (simulation_of self.new) ≡ setting_in
+            (simulation_of self.old) }
     {
         self.standing = Standing::Broken;
         let Some(clock) = self.clock.checked_add(time) else {

@@ -29,9 +29,14 @@ pub(crate) fn look_at(
     processes: &mut Vec<Process>,
 ) -> Result<Outlook, AllocError>
     requires of_model { ∥ IsNet (checked_model checked.now) net.now ∥₁ }
-    requires processes { ∥ AreProcesses (setting_of (checked_model checked.now) limits) clock processes.old.items ∥₁ }
-    ensures moment { IfOk result (λ outlook. IsMoment (setting_of (checked_model checked.now) limits) (config_of clock processes.old.items) outlook.moment) }
-    ensures actions { IfOk result (λ outlook. AreActionsAt (setting_of (checked_model checked.now) limits) (config_of clock processes.old.items) outlook.moment outlook.actions.items) }
+    requires processes { ∥ AreProcesses (setting_of (checked_model checked.now) limits) clock
+        processes.old.items ∥₁ }
+    ensures moment { IfOk result (λ outlook. IsMoment
+        (setting_of (checked_model checked.now) limits)
+        (config_of clock processes.old.items) outlook.moment) }
+    ensures actions { IfOk result (λ outlook. AreActionsAt
+        (setting_of (checked_model checked.now) limits)
+        (config_of clock processes.old.items) outlook.moment outlook.actions.items) }
     ensures unchanged { processes.new.items ≡ processes.old.items }
 {
     look(alloc, checked, net, limits, clock, processes.as_mut_slice())
@@ -48,11 +53,15 @@ pub(crate) fn step_at(
     action: &Action,
 ) -> Result<Result<(), Trouble>, AllocError>
     requires of_model { ∥ IsNet (checked_model checked.now) net.now ∥₁ }
-    requires processes { ∥ AreProcesses (setting_of (checked_model checked.now) limits) clock processes.old.items ∥₁ }
-    requires offered { Offers (setting_of (checked_model checked.now) limits) (config_of clock processes.old.items) action.now }
-    ensures steps { IfOk result (λ left. Next (setting_of (checked_model checked.now) limits) (config_of clock processes.old.items) action.now (reached clock processes.new.items left)) }
+    requires processes { ∥ AreProcesses (setting_of (checked_model checked.now) limits) clock
+        processes.old.items ∥₁ }
+    requires offered { Offers (setting_of (checked_model checked.now) limits)
+        (config_of clock processes.old.items) action.now }
+    ensures steps { IfOk result (λ left. Next (setting_of (checked_model checked.now) limits)
+        (config_of clock processes.old.items) action.now (reached clock processes.new.items left)) }
     ensures stays { IfOk result (λ left. OnErr left (processes.new.items ≡ processes.old.items)) }
-    ensures processes { OnOk result (∥ AreProcesses (setting_of (checked_model checked.now) limits) clock processes.new.items ∥₁) }
+    ensures processes { OnOk result (∥ AreProcesses
+        (setting_of (checked_model checked.now) limits) clock processes.new.items ∥₁) }
 {
     step(
         alloc,
@@ -76,10 +85,14 @@ pub(crate) fn elapse_at(
     time: u128,
 ) -> Result<(), AllocError>
     requires of_model { ∥ IsNet (checked_model checked.now) net.now ∥₁ }
-    requires processes { ∥ AreProcesses (setting_of (checked_model checked.now) limits) clock processes.old.items ∥₁ }
-    requires moment { IsMoment (setting_of (checked_model checked.now) limits) (config_of clock processes.old.items) (Moment.Time time) }
-    ensures passes { OnOk result (PassesTo (setting_of (checked_model checked.now) limits) (config_of clock processes.old.items) time (config_of (clock + time) processes.new.items)) }
-    ensures processes { OnOk result (∥ AreProcesses (setting_of (checked_model checked.now) limits) (clock + time) processes.new.items ∥₁) }
+    requires processes { ∥ AreProcesses (setting_of (checked_model checked.now) limits) clock
+        processes.old.items ∥₁ }
+    requires moment { IsMoment (setting_of (checked_model checked.now) limits)
+        (config_of clock processes.old.items) (Moment.Time time) }
+    ensures passes { OnOk result (PassesTo (setting_of (checked_model checked.now) limits)
+        (config_of clock processes.old.items) time (config_of (clock + time) processes.new.items)) }
+    ensures processes { OnOk result (∥ AreProcesses (setting_of (checked_model checked.now) limits)
+        (clock + time) processes.new.items ∥₁) }
 {
     elapse(
         alloc,

@@ -40,7 +40,8 @@ pub fn all_done(parts: &[Term]) -> bool
 /// What is open, and the statements behind it; once it is done, these stand open.
 pub fn in_sequence(alloc: Global, left: Term, rest: Rest) -> Result<Term, AllocError>
     ensures { IfOk result (λ term. (f : ℕ) (s : StateView) (first : terms.Term) (i : ℕ) →
-        leaving.around f s (terms.sequence first (sequence_view rest)) i (term_view left) ≡ leaving.left_by s (term_view term)) }
+        leaving.around f s (terms.sequence first (sequence_view rest)) i (term_view left) ≡
+        leaving.left_by s (term_view term)) }
 {
     if is_done(&left) {
         return open_rest(alloc, rest);
@@ -62,7 +63,8 @@ pub fn in_parallel(parts: Items<Term>) -> Term
 
 /// The first part, until the second acts; when the first is done, the whole is.
 pub fn in_abort(alloc: Global, left: Term, second: Boxed<Term>) -> Result<Term, AllocError>
-    ensures { IfOk result (λ term. term_view term ≡ leaving.aborted (term_view second) (term_view left)) }
+    ensures { IfOk result (λ term. term_view term ≡ leaving.aborted (term_view second)
+        (term_view left)) }
 {
     if is_done(&left) {
         return Ok(Term::Done);
@@ -78,7 +80,8 @@ pub fn in_interrupt(
     second: Boxed<Term>,
     again: Step,
 ) -> Result<Term, AllocError>
-    ensures { IfOk result (λ term. term_view term ≡ leaving.interrupted (term_view second) (view again) (term_view left)) }
+    ensures { IfOk result (λ term. term_view term ≡ leaving.interrupted (term_view second)
+        (view again) (term_view left)) }
 {
     if is_done(&left) {
         return Ok(Term::Done);
@@ -89,7 +92,8 @@ pub fn in_interrupt(
 
 /// What is interrupted goes on, and the second part stands open afresh.
 fn reopened(alloc: Global, first: Boxed<Term>, again: Step) -> Result<Term, AllocError>
-    ensures { IfOk result (λ term. term_view term ≡ terms.idle (term_view first) (opened (view again)) (view again)) }
+    ensures { IfOk result (λ term. term_view term ≡ terms.idle (term_view first)
+        (opened (view again)) (view again)) }
 {
     let second = boxed_step(alloc, &again)?;
     Ok(Term::Idle(first, second, again))
@@ -110,7 +114,8 @@ pub fn in_handling(
     left: Term,
     again: Step,
 ) -> Result<Term, AllocError>
-    ensures { IfOk result (λ term. term_view term ≡ leaving.handled (term_view first) (view again) (term_view left)) }
+    ensures { IfOk result (λ term. term_view term ≡ leaving.handled (term_view first) (view again)
+        (term_view left)) }
 {
     if is_done(&left) {
         return reopened(alloc, first, again);
@@ -138,7 +143,8 @@ fn framed(
     results: Items<Slot>,
     left: Term,
 ) -> Result<Term, AllocError>
-    ensures { IfOk result (λ term. term_view term ≡ leaving.framed frame.0 inputs results (term_view left)) }
+    ensures { IfOk result (λ term. term_view term ≡ leaving.framed frame.0 inputs results
+        (term_view left)) }
 {
     if results.is_empty() && is_bare(&left) {
         return Ok(left);
@@ -163,7 +169,8 @@ pub fn in_frame(
     state: &mut State,
 ) -> Result<Term, AllocError>
     ensures { IfOk result (λ term. (body : terms.Term) (i : ℕ) →
-        Became (leaving.around outer.0 state.old.held (terms.frame frame.0 inputs results body) i (term_view left)) (term_view term) state.old state.new) }
+        Became (leaving.around outer.0 state.old.held (terms.frame frame.0 inputs results body) i
+        (term_view left)) (term_view term) state.old state.new) }
 {
     if is_done(&left) {
         let outputs = copy_locals(alloc, state, frame, inputs, results.len())?;

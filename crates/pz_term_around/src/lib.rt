@@ -3,12 +3,11 @@
 #![tactic(auto)]
 
 mod around;
-mod laws;
+pub mod laws;
 mod slots;
 
 pub use around::{
     all_done, in_abort, in_frame, in_handling, in_interrupt, in_parallel, in_sequence, is_bare,
     is_done,
 };
-pub use laws::active_parts_may_act;
 pub use slots::{copy_locals, set_inputs};

@@ -19,7 +19,8 @@ pub fn set_inputs(
     mut values: Vec<Value>,
 ) -> Result<(), AllocError>
     requires { All (RefersWithin (length state.old.held.objects)) values.items }
-    ensures { OnOk result (state.new ≡ changed state.old (set_slots frame.0 (first_slots 0 values.items) values.items state.old.held)) }
+    ensures { OnOk result (state.new ≡ changed state.old
+        (set_slots frame.0 (first_slots 0 values.items) values.items state.old.held)) }
 {
     for place in 0..values.len() {
         let value = mem::replace(&mut values[place], Value::Nil);
@@ -36,8 +37,10 @@ pub fn copy_locals(
     first: usize,
     wanted: usize,
 ) -> Result<Vec<Value>, AllocError>
-    ensures values { IfOk result (λ values. values.items ≡ take wanted (drop first (locals state.now.held frame.0))) }
-    ensures within { IfOk result (λ values. All (RefersWithin (length state.now.held.objects)) values.items) }
+    ensures values { IfOk result (λ values. values.items ≡ take wanted
+        (drop first (locals state.now.held frame.0))) }
+    ensures within { IfOk result (λ values. All (RefersWithin (length state.now.held.objects))
+        values.items) }
 {
     let mut values = Vec::new(alloc);
     let there = state.locals(frame).len().saturating_sub(first);

@@ -23,7 +23,8 @@ fn add_actions(
     doings: Vec<Doing>,
     actions: &mut Vec<Action>,
 ) -> Result<(), AllocError>
-    ensures { OnOk result (actions.new.items ≡ actions.old.items ++ map (action_of process) doings.items) }
+    ensures { OnOk result (actions.new.items ≡ actions.old.items ++ map
+        (action_of process) doings.items) }
 {
     for doing in doings {
         let Doing { place, kind, pos } = doing;
@@ -36,7 +37,8 @@ fn add_actions(
 /// The wire of a port of a process, by the port's number in the class of the process.
 fn wire_of(net: &Net, process: u32, port: u32) -> Option<u32>
     requires { HasProcess net.now process }
-    ensures { (m : ModelTree) (wired : Wired m net.now process) → HasPort wired port → result ≡ wire_at wired port }
+    ensures { (m : ModelTree) (wired : Wired m net.now process) → HasPort wired port →
+        result ≡ wire_at wired port }
 {
     net.wire(process, port)
 }
@@ -49,8 +51,9 @@ fn add_sender(
     senders: &mut Vec<Sender>,
 ) -> Result<(), AllocError>
     requires { HasProcess net.now process }
-    ensures { (m : ModelTree) (wired : Wired m net.now process) → HasPort wired sending.port
-        → OnOk result (senders.new.items ≡ senders.old.items ++ option_to_list (sender_of (wire_at wired) process sending)) }
+    ensures { (m : ModelTree) (wired : Wired m net.now process) → HasPort wired sending.port →
+        OnOk result (senders.new.items ≡ senders.old.items ++ option_to_list
+        (sender_of (wire_at wired) process sending)) }
 {
     let Some(wire) = wire_of(net, process, sending.port) else {
         return Ok(());
@@ -80,8 +83,10 @@ fn add_senders(
     senders: &mut Vec<Sender>,
 ) -> Result<(), AllocError>
     requires { HasProcess net.now process }
-    ensures { (m : ModelTree) (wired : Wired m net.now process) → All (λ x. HasPort wired x.port) sends.items
-        → OnOk result (senders.new.items ≡ senders.old.items ++ filter_map (sender_of (wire_at wired) process) sends.items) }
+    ensures { (m : ModelTree) (wired : Wired m net.now process) →
+        All (λ x. HasPort wired x.port) sends.items →
+        OnOk result (senders.new.items ≡ senders.old.items ++ filter_map
+        (sender_of (wire_at wired) process) sends.items) }
 {
     for sending in sends {
         add_sender(net, process, sending, senders)?;
@@ -97,8 +102,9 @@ fn add_receiver(
     receivers: &mut Vec<Receiver>,
 ) -> Result<(), AllocError>
     requires { HasProcess net.now process }
-    ensures { (m : ModelTree) (wired : Wired m net.now process) → HasPort wired receiving.port
-        → OnOk result (receivers.new.items ≡ receivers.old.items ++ option_to_list (receiver_of (wire_at wired) process receiving)) }
+    ensures { (m : ModelTree) (wired : Wired m net.now process) → HasPort wired receiving.port →
+        OnOk result (receivers.new.items ≡ receivers.old.items ++ option_to_list
+        (receiver_of (wire_at wired) process receiving)) }
 {
     let Some(wire) = wire_of(net, process, receiving.port) else {
         return Ok(());
@@ -128,8 +134,10 @@ fn add_receivers(
     receivers: &mut Vec<Receiver>,
 ) -> Result<(), AllocError>
     requires { HasProcess net.now process }
-    ensures { (m : ModelTree) (wired : Wired m net.now process) → All (λ x. HasPort wired x.port) receives.items
-        → OnOk result (receivers.new.items ≡ receivers.old.items ++ filter_map (receiver_of (wire_at wired) process) receives.items) }
+    ensures { (m : ModelTree) (wired : Wired m net.now process) →
+        All (λ x. HasPort wired x.port) receives.items →
+        OnOk result (receivers.new.items ≡ receivers.old.items ++ filter_map
+        (receiver_of (wire_at wired) process) receives.items) }
 {
     for receiving in receives {
         add_receiver(net, process, receiving, receivers)?;
@@ -173,8 +181,10 @@ pub(crate) fn add_found(
     survey: &mut Survey,
 ) -> Result<(), AllocError>
     requires { HasProcess net.now process }
-    ensures { (m : ModelTree) (wired : Wired m net.now process) → All (λ x. HasPort wired x.port) found.sends.items → All (λ x. HasPort wired x.port) found.receives.items
-        → OnOk result (Adds (wire_at wired) process found done survey.old survey.new) }
+    ensures { (m : ModelTree) (wired : Wired m net.now process) →
+        All (λ x. HasPort wired x.port) found.sends.items →
+        All (λ x. HasPort wired x.port) found.receives.items →
+        OnOk result (Adds (wire_at wired) process found done survey.old survey.new) }
 {
     let Found {
         internal,

@@ -17,10 +17,9 @@ ghost use Rattle.pz_term_enabled.specs.devices.Communications.{OfAll};
 use pz_classes::Checked;
 use pz_copy::Parcel;
 use pz_offer::{Place, Trouble};
-use pz_part_queries::{Standpoint, judge, one_verdict, part_at};
-use pz_rules::{Action, Limits, offered_parts_act};
+use pz_part_queries::{Standpoint, judge, part_at};
+use pz_rules::{Action, Limits};
 use pz_state::FrameId;
-use pz_term_around::active_parts_may_act;
 use pz_term_matching::{Pair, Receiver, Sender, match_ends};
 use pz_term_processes::Process;
 use std::alloc::{AllocError, Global};
@@ -35,10 +34,12 @@ fn judge_part(
 ) -> Result<Result<bool, Trouble>, AllocError>
     requires known { AreKnown here.now.classes.now }
     requires receives { HasReceive (term_view process.old.term) place.now }
-    ensures judges { (m : ModelTree) (class : ℕ) → Knows m here.now → IfOk result (JudgesAt (seen_from m here.now class process.old.state.held) (term_view process.old.term) place.now parcel.now) }
+    ensures judges { (m : ModelTree) (class : ℕ) → Knows m here.now →
+        IfOk result (JudgesAt (seen_from m here.now class process.old.state.held)
+        (term_view process.old.term) place.now parcel.now) }
     ensures unchanged { process.new ≡ process.old }
 {
-    active_parts_may_act();
+    pz_term_around::laws::active_parts_may_act();
     // A process stands in no frame.
     let (frame, part) = part_at(&process.term, FrameId(0), place.as_slice());
     judge(alloc, here, &mut process.state, frame, part, parcel)
@@ -54,12 +55,14 @@ fn judge_receive(
     receiver: &Receiver,
     parcel: &Parcel,
 ) -> Result<Result<bool, Trouble>, AllocError>
-    requires { IsReceiver (setting_of (checked_model checked.now) limits) (config_of clock processes.old) receiver.now }
-    ensures judged { IfOk result (IsJudged (setting_of (checked_model checked.now) limits) (config_of clock processes.old) receiver.now.end parcel.now) }
+    requires { IsReceiver (setting_of (checked_model checked.now) limits)
+        (config_of clock processes.old) receiver.now }
+    ensures judged { IfOk result (IsJudged (setting_of (checked_model checked.now) limits)
+        (config_of clock processes.old) receiver.now.end parcel.now) }
     ensures unchanged { processes.new ≡ processes.old }
 {
-    one_verdict();
-    offered_parts_act();
+    pz_part_queries::laws::one_verdict();
+    pz_rules::laws::offered_parts_act();
     let process = receiver.end.process;
     let here = Standpoint {
         classes: checked.classes(),
@@ -100,8 +103,11 @@ fn add_pair(
     receiver: &Receiver,
     actions: &mut Vec<Action>,
 ) -> Result<Option<Trouble>, AllocError>
-    requires { IsReceiver (setting_of (checked_model checked.now) limits) (config_of clock processes.old) receiver.now }
-    ensures judged { IfOk result (OfOne (setting_of (checked_model checked.now) limits) (config_of clock processes.old) sender.now receiver.now actions.old.items actions.new.items) }
+    requires { IsReceiver (setting_of (checked_model checked.now) limits)
+        (config_of clock processes.old) receiver.now }
+    ensures judged { IfOk result (OfOne (setting_of (checked_model checked.now) limits)
+        (config_of clock processes.old) sender.now receiver.now actions.old.items
+        actions.new.items) }
     ensures unchanged { processes.new ≡ processes.old }
 {
     match judge_receive(
@@ -134,9 +140,12 @@ fn add_pairs(
     pairs: &[Pair],
     actions: &mut Vec<Action>,
 ) -> Result<Option<Trouble>, AllocError>
-    requires receivers { All (IsReceiver (setting_of (checked_model checked.now) limits) (config_of clock processes.old)) receivers.now }
+    requires receivers { All (IsReceiver (setting_of (checked_model checked.now) limits)
+        (config_of clock processes.old)) receivers.now }
     requires fit { All (Fits senders.now receivers.now) pairs.now }
-    ensures judged { IfOk result (OfPairs (setting_of (checked_model checked.now) limits) (config_of clock processes.old) senders.now receivers.now pairs.now actions.old.items actions.new.items) }
+    ensures judged { IfOk result (OfPairs (setting_of (checked_model checked.now) limits)
+        (config_of clock processes.old) senders.now receivers.now pairs.now actions.old.items
+        actions.new.items) }
     ensures unchanged { processes.new ≡ processes.old }
 {
     for pair in pairs {
@@ -164,12 +173,15 @@ pub(crate) fn add_communications(
     receivers: &[Receiver],
     actions: &mut Vec<Action>,
 ) -> Result<Option<Trouble>, AllocError>
-    requires senders { AreSenders (setting_of (checked_model checked.now) limits) (config_of clock processes.old) senders.now }
-    requires receivers { AreReceivers (setting_of (checked_model checked.now) limits) (config_of clock processes.old) receivers.now }
-    ensures judged { IfOk result (OfAll (setting_of (checked_model checked.now) limits) (config_of clock processes.old) actions.old.items actions.new.items) }
+    requires senders { AreSenders (setting_of (checked_model checked.now) limits)
+        (config_of clock processes.old) senders.now }
+    requires receivers { AreReceivers (setting_of (checked_model checked.now) limits)
+        (config_of clock processes.old) receivers.now }
+    ensures judged { IfOk result (OfAll (setting_of (checked_model checked.now) limits)
+        (config_of clock processes.old) actions.old.items actions.new.items) }
     ensures unchanged { processes.new ≡ processes.old }
 {
-    one_verdict();
+    pz_part_queries::laws::one_verdict();
     let pairs = match_ends(alloc, senders, receivers)?;
     add_pairs(
         alloc,

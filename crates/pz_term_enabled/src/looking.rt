@@ -15,7 +15,7 @@ use crate::surveying::survey;
 use pz_bind::Net;
 use pz_classes::Checked;
 use pz_offer::Trouble;
-use pz_rules::{Action, Limits, Moment, one_list_of_offers};
+use pz_rules::{Action, Limits, Moment};
 use pz_term_processes::Process;
 use std::alloc::{AllocError, Global};
 use std::mem;
@@ -38,8 +38,10 @@ fn find_trouble(
     processes: &mut [Process],
     found: &mut Survey,
 ) -> Result<Option<Trouble>, AllocError>
-    requires { IsSurveyed (setting_of (checked_model checked.now) limits) (config_of clock processes.old) found.old }
-    ensures decides { IfOk result (Decides (setting_of (checked_model checked.now) limits) (config_of clock processes.old) found.new) }
+    requires { IsSurveyed (setting_of (checked_model checked.now) limits)
+        (config_of clock processes.old) found.old }
+    ensures decides { IfOk result (Decides (setting_of (checked_model checked.now) limits)
+        (config_of clock processes.old) found.new) }
     ensures unchanged { processes.new ≡ processes.old }
 {
     if found.trouble.is_some() {
@@ -74,10 +76,12 @@ fn calm_moment(offers: usize, least: Option<u128>, done: bool) -> Moment
 /// The moment, with the actions that are offered, which are taken out of what was found. Takes no
 /// memory.
 fn decide(alloc: Global, found: &mut Survey, trouble: Option<Trouble>) -> Outlook
-    ensures moment { (setting : Setting) (c : Config) → Decides setting c found.old trouble → IsMoment setting c result.moment }
-    ensures actions { (setting : Setting) (c : Config) → Decides setting c found.old trouble → AreActionsAt setting c result.moment result.actions.items }
+    ensures moment { (setting : Setting) (c : Config) → Decides setting c found.old trouble →
+        IsMoment setting c result.moment }
+    ensures actions { (setting : Setting) (c : Config) → Decides setting c found.old trouble →
+        AreActionsAt setting c result.moment result.actions.items }
 {
-    one_list_of_offers();
+    pz_rules::laws::one_list_of_offers();
     if let Some(trouble) = trouble {
         return Outlook {
             moment: Moment::Faulty(trouble),
@@ -102,9 +106,14 @@ pub fn look(
     processes: &mut [Process],
 ) -> Result<Outlook, AllocError>
     requires of_model { ∥ IsNet (checked_model checked.now) net.now ∥₁ }
-    requires processes { ∥ AreProcesses (setting_of (checked_model checked.now) limits) clock processes.old ∥₁ }
-    ensures moment { IfOk result (λ outlook. IsMoment (setting_of (checked_model checked.now) limits) (config_of clock processes.old) outlook.moment) }
-    ensures actions { IfOk result (λ outlook. AreActionsAt (setting_of (checked_model checked.now) limits) (config_of clock processes.old) outlook.moment outlook.actions.items) }
+    requires processes { ∥ AreProcesses (setting_of (checked_model checked.now) limits) clock
+        processes.old ∥₁ }
+    ensures moment { IfOk result (λ outlook. IsMoment
+        (setting_of (checked_model checked.now) limits)
+        (config_of clock processes.old) outlook.moment) }
+    ensures actions { IfOk result (λ outlook. AreActionsAt
+        (setting_of (checked_model checked.now) limits)
+        (config_of clock processes.old) outlook.moment outlook.actions.items) }
     ensures unchanged { processes.new ≡ processes.old }
 {
     let mut found = survey(alloc, checked, net, limits, clock, processes)?;

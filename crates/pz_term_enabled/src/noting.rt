@@ -21,14 +21,15 @@ use pz_classes_code::{Code, Slot, Step, StepForm};
 use pz_items::Items;
 use pz_offer::{Place, Trouble};
 use pz_part_queries::{Standpoint, ask_parcel, ask_time};
-use pz_rules::{Kind, evaluations_are_computed};
+use pz_rules::Kind;
 use pz_state::{FrameId, State};
 use pz_syntax::{Id, Name, Pos};
 use std::alloc::{AllocError, Global};
 
 /// A part that can act by itself.
 fn note_action(found: &mut Found, place: &Place, kind: Kind, pos: Pos) -> Result<(), AllocError>
-    ensures { (a : Context) (f : ℕ) (t : terms.Term) → notes_of a f t ≡ only_does kind pos → OnOk result (Adds a place.now (part_here f t ∷ []) found.old found.new) }
+    ensures { (a : Context) (f : ℕ) (t : terms.Term) → notes_of a f t ≡ only_does kind pos →
+        OnOk result (Adds a place.now (part_here f t ∷ []) found.old found.new) }
 {
     let place = place.copy()?;
     found.internal.push(Doing { place, kind, pos })?;
@@ -40,7 +41,8 @@ pub(crate) fn note_trouble(
     place: &Place,
     trouble: Trouble,
 ) -> Result<(), AllocError>
-    ensures { (a : Context) (f : ℕ) (t : terms.Term) → notes_of a f t ≡ only_troubles trouble → OnOk result (Adds a place.now (part_here f t ∷ []) found.old found.new) }
+    ensures { (a : Context) (f : ℕ) (t : terms.Term) → notes_of a f t ≡ only_troubles trouble →
+        OnOk result (Adds a place.now (part_here f t ∷ []) found.old found.new) }
 {
     found.troubles.push(trouble)?;
     Ok(())
@@ -48,7 +50,8 @@ pub(crate) fn note_trouble(
 
 /// An active delay of which nothing is left, which can expire.
 fn note_elapsed(found: &mut Found, place: &Place, pos: Pos) -> Result<(), AllocError>
-    ensures { (a : Context) (f : ℕ) (t : terms.Term) → notes_of a f t ≡ only_waits 0 pos → OnOk result (Adds a place.now (part_here f t ∷ []) found.old found.new) }
+    ensures { (a : Context) (f : ℕ) (t : terms.Term) → notes_of a f t ≡ only_waits 0 pos →
+        OnOk result (Adds a place.now (part_here f t ∷ []) found.old found.new) }
 {
     let place = place.copy()?;
     let kind = Kind::Expire;
@@ -64,7 +67,8 @@ pub(crate) fn note_left(
     left: u128,
     pos: Pos,
 ) -> Result<(), AllocError>
-    ensures { (a : Context) (f : ℕ) (t : terms.Term) → notes_of a f t ≡ only_waits left pos → OnOk result (Adds a place.now (part_here f t ∷ []) found.old found.new) }
+    ensures { (a : Context) (f : ℕ) (t : terms.Term) → notes_of a f t ≡ only_waits left pos →
+        OnOk result (Adds a place.now (part_here f t ∷ []) found.old found.new) }
 {
     if left == 0 {
         return note_elapsed(found, place, pos);
@@ -85,10 +89,13 @@ fn note_delay(
     found: &mut Found,
 ) -> Result<(), AllocError>
     requires { AreKnown here.now.classes.now }
-    ensures adds { (m : ModelTree) (class : ℕ) → Knows m here.now → OnOk result (Adds (seen_from m here.now class state.old.held) place.now (part_here frame.0 (terms.leaf (statements.delay pos (code.view time.now))) ∷ []) found.old found.new) }
+    ensures adds { (m : ModelTree) (class : ℕ) → Knows m here.now →
+        OnOk result (Adds (seen_from m here.now class state.old.held) place.now
+        (part_here frame.0 (terms.leaf (statements.delay pos (code.view time.now))) ∷ []) found.old
+        found.new) }
     ensures state { state.new ≡ state.old }
 {
-    evaluations_are_computed();
+    pz_rules::laws::evaluations_are_computed();
     match ask_time(alloc, here, state, frame, pos, time)? {
         Ok(left) => note_left(found, place, left, pos),
         Err(trouble) => note_trouble(found, place, trouble),
@@ -110,10 +117,12 @@ fn note_send(
 ) -> Result<(), AllocError>
     requires { AreKnown here.now.classes.now }
     ensures adds { (m : ModelTree) (class : ℕ) (after : Part Variable ClassId) → Knows m here.now →
-        OnOk result (Adds (seen_from m here.now class state.old.held) place.now (part_here frame.0 (terms.leaf (statements.send pos port name.now (code.part_view args.now) after)) ∷ []) found.old found.new) }
+        OnOk result (Adds (seen_from m here.now class state.old.held) place.now
+        (part_here frame.0 (terms.leaf (statements.send pos port name.now
+        (code.part_view args.now) after)) ∷ []) found.old found.new) }
     ensures state { state.new ≡ state.old }
 {
-    evaluations_are_computed();
+    pz_rules::laws::evaluations_are_computed();
     match ask_parcel(alloc, here, state, frame, pos, args)? {
         Ok(parcel) => {
             let message = name.name.copy()?;
@@ -150,7 +159,9 @@ fn note_receive(
     place: &Place,
     found: &mut Found,
 ) -> Result<(), AllocError>
-    ensures { (a : Context) (f : ℕ) (t : terms.Term) → notes_of a f t ≡ only_receives pos port name.now count → OnOk result (Adds a place.now (part_here f t ∷ []) found.old found.new) }
+    ensures { (a : Context) (f : ℕ) (t : terms.Term) →
+        notes_of a f t ≡ only_receives pos port name.now count →
+        OnOk result (Adds a place.now (part_here f t ∷ []) found.old found.new) }
 {
     let message = name.copy()?;
     let place = place.copy()?;
@@ -175,7 +186,9 @@ pub(crate) fn note_step(
     found: &mut Found,
 ) -> Result<(), AllocError>
     requires { AreKnown here.now.classes.now }
-    ensures adds { (m : ModelTree) (class : ℕ) → Knows m here.now → OnOk result (Adds (seen_from m here.now class state.old.held) place.now (part_here frame.0 (terms.leaf (view step.now)) ∷ []) found.old found.new) }
+    ensures adds { (m : ModelTree) (class : ℕ) → Knows m here.now →
+        OnOk result (Adds (seen_from m here.now class state.old.held) place.now
+        (part_here frame.0 (terms.leaf (view step.now)) ∷ []) found.old found.new) }
     ensures state { state.new ≡ state.old }
 {
     let pos = step.pos;

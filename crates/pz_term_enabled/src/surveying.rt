@@ -18,7 +18,7 @@ use crate::walking::walk;
 use pz_bind::Net;
 use pz_classes::Checked;
 use pz_part_queries::Standpoint;
-use pz_rules::{Limits, active_parts_fit, walks_list_what_is_active, wires_are_known};
+use pz_rules::Limits;
 use pz_term_around::is_done;
 use pz_term_processes::Process;
 use std::alloc::{AllocError, Global};
@@ -33,13 +33,15 @@ fn survey_process(
 ) -> Result<(), AllocError>
     requires known { AreKnown here.now.classes.now }
     requires there { HasProcess net.now here.now.process }
-    ensures surveyed { (m : ModelTree) (c : Config) → IsSeen m c net.now here.now process.old → SurveyedBelow (setting_of m here.now.limits) c here.now.process survey.old
-        → OnOk result (SurveyedBelow (setting_of m here.now.limits) c (here.now.process + 1) survey.new) }
+    ensures surveyed { (m : ModelTree) (c : Config) → IsSeen m c net.now here.now process.old →
+        SurveyedBelow (setting_of m here.now.limits) c here.now.process survey.old →
+        OnOk result (SurveyedBelow (setting_of m here.now.limits) c
+        (here.now.process + 1) survey.new) }
     ensures unchanged { process.new ≡ process.old }
 {
-    walks_list_what_is_active();
-    wires_are_known();
-    active_parts_fit();
+    pz_rules::laws::walks_list_what_is_active();
+    pz_rules::laws::wires_are_known();
+    pz_rules::laws::active_parts_fit();
     let found = walk(alloc, here, &mut process.state, &process.term)?;
     let done = is_done(&process.term);
     add_found(net, here.process, found, done, survey)
@@ -56,9 +58,12 @@ fn survey_all(
     survey: &mut Survey,
 ) -> Result<(), AllocError>
     requires of_model { ∥ IsNet (checked_model checked.now) net.now ∥₁ }
-    requires processes { ∥ AreProcesses (setting_of (checked_model checked.now) limits) clock processes.old ∥₁ }
-    ensures surveyed { SurveyedBelow (setting_of (checked_model checked.now) limits) (config_of clock processes.old) 0 survey.old
-        → OnOk result (IsSurveyed (setting_of (checked_model checked.now) limits) (config_of clock processes.old) survey.new) }
+    requires processes { ∥ AreProcesses (setting_of (checked_model checked.now) limits) clock
+        processes.old ∥₁ }
+    ensures surveyed { SurveyedBelow (setting_of (checked_model checked.now) limits)
+        (config_of clock processes.old) 0 survey.old →
+        OnOk result (IsSurveyed (setting_of (checked_model checked.now) limits)
+        (config_of clock processes.old) survey.new) }
     ensures unchanged { processes.new ≡ processes.old }
 {
     let _model = checked.model();
@@ -88,8 +93,10 @@ pub fn survey(
     processes: &mut [Process],
 ) -> Result<Survey, AllocError>
     requires of_model { ∥ IsNet (checked_model checked.now) net.now ∥₁ }
-    requires processes { ∥ AreProcesses (setting_of (checked_model checked.now) limits) clock processes.old ∥₁ }
-    ensures surveyed { IfOk result (IsSurveyed (setting_of (checked_model checked.now) limits) (config_of clock processes.old)) }
+    requires processes { ∥ AreProcesses (setting_of (checked_model checked.now) limits) clock
+        processes.old ∥₁ }
+    ensures surveyed { IfOk result (IsSurveyed (setting_of (checked_model checked.now) limits)
+        (config_of clock processes.old)) }
     ensures unchanged { processes.new ≡ processes.old }
 {
     let mut survey = Survey::new(alloc);

@@ -16,7 +16,7 @@ use crate::noting::{note_left, note_step, note_trouble};
 use pz_classes_code::Code;
 use pz_offer::Place;
 use pz_part_queries::{Standpoint, ask_test};
-use pz_rules::{Term, evaluations_are_computed};
+use pz_rules::Term;
 use pz_state::{FrameId, State};
 use pz_syntax::Pos;
 use std::alloc::{AllocError, Global};
@@ -32,7 +32,10 @@ fn walk_part(
     found: &mut Found,
 ) -> Result<(), AllocError>
     requires { AreKnown here.now.classes.now }
-    ensures adds { (m : ModelTree) (class : ℕ) → Knows m here.now → OnOk result (Adds (seen_from m here.now class state.old.held) place.old (active_parts (seen_from m here.now class state.old.held) frame.0 (term_view term.now)) found.old found.new) }
+    ensures adds { (m : ModelTree) (class : ℕ) → Knows m here.now →
+        OnOk result (Adds (seen_from m here.now class state.old.held) place.old
+        (active_parts (seen_from m here.now class state.old.held) frame.0 (term_view term.now))
+        found.old found.new) }
     ensures place { OnOk result (place.new ≡ place.old) }
     ensures state { state.new ≡ state.old }
 {
@@ -104,7 +107,10 @@ fn walk_child(
     found: &mut Found,
 ) -> Result<(), AllocError>
     requires { AreKnown here.now.classes.now }
-    ensures adds { (m : ModelTree) (class : ℕ) → Knows m here.now → OnOk result (Adds (seen_from m here.now class state.old.held) place.old (map (under number) (active_parts (seen_from m here.now class state.old.held) frame.0 (term_view child.now))) found.old found.new) }
+    ensures adds { (m : ModelTree) (class : ℕ) → Knows m here.now →
+        OnOk result (Adds (seen_from m here.now class state.old.held) place.old
+        (map (under number) (active_parts (seen_from m here.now class state.old.held) frame.0
+        (term_view child.now))) found.old found.new) }
     ensures place { OnOk result (place.new ≡ place.old) }
     ensures state { state.new ≡ state.old }
 {
@@ -126,8 +132,12 @@ fn walk_both(
     found: &mut Found,
 ) -> Result<(), AllocError>
     requires { AreKnown here.now.classes.now }
-    ensures adds { (m : ModelTree) (class : ℕ) → Knows m here.now → OnOk result (Adds (seen_from m here.now class state.old.held) place.old
-        (map (under 0) (active_parts (seen_from m here.now class state.old.held) frame.0 (term_view first.now)) ++ map (under 1) (active_parts (seen_from m here.now class state.old.held) frame.0 (term_view second.now))) found.old found.new) }
+    ensures adds { (m : ModelTree) (class : ℕ) → Knows m here.now →
+        OnOk result (Adds (seen_from m here.now class state.old.held) place.old
+        (map (under 0) (active_parts (seen_from m here.now class state.old.held) frame.0
+        (term_view first.now)) ++ map (under 1) (active_parts
+        (seen_from m here.now class state.old.held) frame.0 (term_view second.now))) found.old
+        found.new) }
     ensures place { OnOk result (place.new ≡ place.old) }
     ensures state { state.new ≡ state.old }
 {
@@ -146,7 +156,10 @@ fn walk_children(
     found: &mut Found,
 ) -> Result<(), AllocError>
     requires { AreKnown here.now.classes.now }
-    ensures adds { (m : ModelTree) (class : ℕ) → Knows m here.now → OnOk result (Adds (seen_from m here.now class state.old.held) place.old (active_children (seen_from m here.now class state.old.held) frame.0 0 (terms_view parts.now)) found.old found.new) }
+    ensures adds { (m : ModelTree) (class : ℕ) → Knows m here.now →
+        OnOk result (Adds (seen_from m here.now class state.old.held) place.old
+        (active_children (seen_from m here.now class state.old.held) frame.0 0
+        (terms_view parts.now)) found.old found.new) }
     ensures place { OnOk result (place.new ≡ place.old) }
     ensures state { state.new ≡ state.old }
 {
@@ -170,11 +183,14 @@ fn walk_guarded(
     found: &mut Found,
 ) -> Result<(), AllocError>
     requires { AreKnown here.now.classes.now }
-    ensures adds { (m : ModelTree) (class : ℕ) → Knows m here.now → OnOk result (Adds (seen_from m here.now class state.old.held) place.old (active_parts (seen_from m here.now class state.old.held) frame.0 (terms.guarded (code.view test.now) pos (term_view body.now))) found.old found.new) }
+    ensures adds { (m : ModelTree) (class : ℕ) → Knows m here.now →
+        OnOk result (Adds (seen_from m here.now class state.old.held) place.old
+        (active_parts (seen_from m here.now class state.old.held) frame.0
+        (terms.guarded (code.view test.now) pos (term_view body.now))) found.old found.new) }
     ensures place { OnOk result (place.new ≡ place.old) }
     ensures state { state.new ≡ state.old }
 {
-    evaluations_are_computed();
+    pz_rules::laws::evaluations_are_computed();
     match ask_test(alloc, here, state, frame, pos, test)? {
         Ok(true) => walk_child(alloc, here, state, frame, body, 0, place, found),
         Ok(false) => Ok(()),
@@ -193,7 +209,8 @@ pub fn walk(
     term: &Term,
 ) -> Result<Found, AllocError>
     requires { AreKnown here.now.classes.now }
-    ensures walked { (m : ModelTree) (class : ℕ) → Knows m here.now → IfOk result (IsWalked (seen_from m here.now class state.old.held) (term_view term.now)) }
+    ensures walked { (m : ModelTree) (class : ℕ) → Knows m here.now →
+        IfOk result (IsWalked (seen_from m here.now class state.old.held) (term_view term.now)) }
     ensures state { state.new ≡ state.old }
 {
     let mut found = Found::new(alloc);

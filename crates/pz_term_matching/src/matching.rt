@@ -21,7 +21,8 @@ fn match_sender(
     pairs: &mut Vec<Pair>,
 ) -> Result<(), AllocError>
     requires { AreChains receivers.now chains.now }
-    ensures { OnOk result (pairs.new.items ≡ pairs.old.items ++ pairs_from sender.now number 0 receivers.now) }
+    ensures { OnOk result (pairs.new.items ≡ pairs.old.items ++ pairs_from sender.now number 0
+        receivers.now) }
 {
     let mut place = chains.first(key_of_sender(sender));
     while place < receivers.len() {
@@ -49,7 +50,8 @@ fn match_all(
 ) -> Result<Vec<Pair>, AllocError>
     requires turns { AreTurns senders.now turns.now }
     requires chains { AreChains receivers.now chains.now }
-    ensures { IfOk result (λ pairs. pairs.items ≡ flat_map (pairs_of senders.now receivers.now) turns.now) }
+    ensures { IfOk result (λ pairs. pairs.items ≡ flat_map
+        (pairs_of senders.now receivers.now) turns.now) }
 {
     let mut pairs = Vec::new(alloc);
     for turn in turns {

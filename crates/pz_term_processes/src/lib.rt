@@ -3,10 +3,9 @@
 //! The processes of a model before the first step.
 #![tactic(auto)]
 
-mod laws;
+pub mod laws;
 mod process;
 mod starting;
 
-pub use laws::trees_are_sets;
 pub use process::Process;
 pub use starting::start;

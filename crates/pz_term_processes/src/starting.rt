@@ -11,12 +11,11 @@ ghost use Rattle.pz_rules.specs.declared.limits.Limits.{Limits};
 ghost use Rattle.pz_rules.specs.Starting.{StartsAs, IsStart};
 ghost use Rattle.pz_term_processes.specs.Standing.{setting_of, process_view, config_of, AreProcesses};
 
-use crate::laws::trees_are_sets;
 use crate::process::Process;
 use pz_bind::Net;
-use pz_classes::{Checked, sound_classes_fit};
+use pz_classes::Checked;
 use pz_classes_copies::copy_step;
-use pz_rules::{Term, what_fits_goes_on};
+use pz_rules::Term;
 use pz_state::State;
 use pz_value::Value;
 use std::alloc::{AllocError, Global};
@@ -41,11 +40,12 @@ fn first_of(
 ) -> Result<Process, AllocError>
     requires of_model { ∥ IsNet (checked_model checked.now) net.now ∥₁ }
     requires there { HasProcess net.now process }
-    ensures { IfOk result (λ first. (limits : Limits) (place : Address) → slice_get (nest.processes (checked_model checked.now)) process ≡ Some place →
+    ensures { IfOk result (λ first. (limits : Limits) (place : Address) →
+        slice_get (nest.processes (checked_model checked.now)) process ≡ Some place →
         StartsAs (setting_of (checked_model checked.now) limits) place (process_view first)) }
 {
-    sound_classes_fit();
-    trees_are_sets();
+    pz_classes::laws::sound_classes_fit();
+    crate::laws::trees_are_sets();
     let _model = checked.model();
     let Some(call) = checked.classes().init(net.class(process)) else {
         unreachable!()
@@ -59,10 +59,12 @@ fn first_of(
 /// parameters are given and all other variables nil. The only error is want of memory.
 pub fn start(alloc: Global, checked: &Checked, net: &Net) -> Result<Vec<Process>, AllocError>
     requires of_model { ∥ IsNet (checked_model checked.now) net.now ∥₁ }
-    ensures start { IfOk result (λ processes. (limits : Limits) → IsStart (setting_of (checked_model checked.now) limits) (config_of 0 processes.items)) }
-    ensures processes { IfOk result (λ processes. (limits : Limits) → AreProcesses (setting_of (checked_model checked.now) limits) 0 processes.items) }
+    ensures start { IfOk result (λ processes. (limits : Limits) →
+        IsStart (setting_of (checked_model checked.now) limits) (config_of 0 processes.items)) }
+    ensures processes { IfOk result (λ processes. (limits : Limits) →
+        AreProcesses (setting_of (checked_model checked.now) limits) 0 processes.items) }
 {
-    what_fits_goes_on();
+    pz_rules::laws::what_fits_goes_on();
     let _model = checked.model();
     let mut processes = Vec::new(alloc);
     for process in 0..net.processes() {

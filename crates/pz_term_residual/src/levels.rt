@@ -117,7 +117,8 @@ fn into_idle(
     child: usize,
 ) -> Inside
     requires { child < 2 }
-    ensures { IsInside frame.0 (terms.idle (term_view first) (term_view second) (view again)) child result }
+    ensures { IsInside frame.0 (terms.idle (term_view first) (term_view second) (view again)) child
+        result }
 {
     if child == 0 {
         return Inside {
@@ -199,7 +200,8 @@ pub(crate) fn put_around(
     state: &mut State,
 ) -> Result<Term, AllocError>
     requires { HasItsPlace level }
-    ensures { IfOk result (λ term. Became (put_round level (left_by state.old.held (term_view left))) (term_view term) state.old state.new) }
+    ensures { IfOk result (λ term. Became (put_round level
+        (left_by state.old.held (term_view left))) (term_view term) state.old state.new) }
 {
     match level {
         Level::Gone => Ok(left),

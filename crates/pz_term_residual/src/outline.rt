@@ -84,7 +84,8 @@ fn outline_rest(rest: &Rest) -> Outline
 
 /// Of what is open, with statements behind it.
 pub(crate) fn outline_sequence(left: Outline, rest: &Rest) -> Outline
-    ensures { (t : terms.Term) (i : ℕ) → IsRound left (terms.sequence t (sequence_view rest.now)) i result }
+    ensures { (t : terms.Term) (i : ℕ) → IsRound left
+        (terms.sequence t (sequence_view rest.now)) i result }
 {
     if left.done {
         outline_rest(rest)
@@ -95,14 +96,16 @@ pub(crate) fn outline_sequence(left: Outline, rest: &Rest) -> Outline
 
 /// Whether nothing is left of parts side by side, of which one is done or not.
 fn stand_done(before: &[Term], left: bool, behind: &[Term]) -> bool
-    ensures { result ≡ (leaving.all_done (terms_view before.now) && (left && leaving.all_done (terms_view behind.now))) }
+    ensures { result ≡ (leaving.all_done (terms_view before.now) &&
+        (left && leaving.all_done (terms_view behind.now))) }
 {
     all_done(before) && left && all_done(behind)
 }
 
 /// Of parts side by side, of which one has become another.
 pub(crate) fn outline_parallel(before: &[Term], left: Outline, behind: &[Term]) -> Outline
-    ensures { (t : Part) → IsRound left (terms.parallel (terms_view (before.now ++ t ∷ behind.now))) (length before.now) result }
+    ensures { (t : Part) → IsRound left (terms.parallel (terms_view (before.now ++ t ∷ behind.now)))
+        (length before.now) result }
 {
     if stand_done(before, left.done, behind) {
         return outline_done();
@@ -113,8 +116,10 @@ pub(crate) fn outline_parallel(before: &[Term], left: Outline, behind: &[Term]) 
 
 /// Of two parts, of which the first has become another; when that is done, the whole is.
 pub(crate) fn outline_first(left: Outline, second: &Term) -> Outline
-    ensures abort { (t : terms.Term) → IsRound left (terms.abort t (term_view second.now)) 0 result }
-    ensures idle { (t : terms.Term) (again : terms.Step) → IsRound left (terms.idle t (term_view second.now) again) 0 result }
+    ensures abort { (t : terms.Term) → IsRound left
+        (terms.abort t (term_view second.now)) 0 result }
+    ensures idle { (t : terms.Term) (again : terms.Step) →
+        IsRound left (terms.idle t (term_view second.now) again) 0 result }
 {
     if left.done {
         return left;
@@ -124,7 +129,8 @@ pub(crate) fn outline_first(left: Outline, second: &Term) -> Outline
 
 /// Of what is interrupted, whose second part has become another.
 pub(crate) fn outline_second(first: &Term, left: Outline, again: &Step) -> Outline
-    ensures { (x : terms.Term) → left ≡ outline x → result ≡ outline (leaving.handled (term_view first.now) (view again.now) x) }
+    ensures { (x : terms.Term) → left ≡ outline x →
+        result ≡ outline (leaving.handled (term_view first.now) (view again.now) x) }
 {
     if left.done {
         return outline_above(height_of(first).max(opened_height(again)));
@@ -135,7 +141,8 @@ pub(crate) fn outline_second(first: &Term, left: Outline, again: &Step) -> Outli
 /// Of a frame without outputs whose body has become another, where a frame without outputs that is
 /// all of it stands in its place.
 fn outline_bare(left: Outline) -> Outline
-    ensures { (x : terms.Term) (number inputs : ℕ) → left ≡ outline x → result ≡ outline (leaving.framed number inputs [] x) }
+    ensures { (x : terms.Term) (number inputs : ℕ) → left ≡ outline x →
+        result ≡ outline (leaving.framed number inputs [] x) }
 {
     if left.bare {
         return left;
@@ -149,7 +156,8 @@ fn outline_bare(left: Outline) -> Outline
 
 /// Of a frame whose body has become another.
 pub(crate) fn outline_frame(results: &[Slot], left: Outline) -> Outline
-    ensures { (number inputs : ℕ) (t : terms.Term) (i : ℕ) → IsRound left (terms.frame number inputs results.now t) i result }
+    ensures { (number inputs : ℕ) (t : terms.Term) (i : ℕ) →
+        IsRound left (terms.frame number inputs results.now t) i result }
 {
     if left.done {
         return left;

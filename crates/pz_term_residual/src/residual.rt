@@ -81,8 +81,10 @@ fn outline_abort(
     inner: &[usize],
     part: Outline,
 ) -> Outline
-    requires { MayAct (terms.abort (term_view first.now) (term_view second.now)) (child ∷ inner.now) }
-    ensures { IsLeft part (terms.abort (term_view first.now) (term_view second.now)) (child ∷ inner.now) result }
+    requires { MayAct (terms.abort (term_view first.now) (term_view second.now))
+        (child ∷ inner.now) }
+    ensures { IsLeft part (terms.abort (term_view first.now) (term_view second.now))
+        (child ∷ inner.now) result }
 {
     if child == 0 {
         return outline_first(outline_after(first, inner, part), second);
@@ -100,8 +102,10 @@ fn outline_idle(
     inner: &[usize],
     part: Outline,
 ) -> Outline
-    requires { MayAct (terms.idle (term_view first.now) (term_view second.now) (view again.now)) (child ∷ inner.now) }
-    ensures { IsLeft part (terms.idle (term_view first.now) (term_view second.now) (view again.now)) (child ∷ inner.now) result }
+    requires { MayAct (terms.idle (term_view first.now) (term_view second.now) (view again.now))
+        (child ∷ inner.now) }
+    ensures { IsLeft part (terms.idle (term_view first.now) (term_view second.now) (view again.now))
+        (child ∷ inner.now) result }
 {
     if child == 0 {
         return outline_first(outline_after(first, inner, part), second);
@@ -115,7 +119,9 @@ fn outline_idle(
 /// A part at the place may act.
 pub fn stays_low(term: &Term, place: &[usize], part: &Term, limit: u32) -> bool
     requires { MayAct (term_view term.now) place.now }
-    ensures { (f : ℕ) (s : StateView) → result ≡ nat_le (height (residual f (term_view term.now) place.now (left_by s (term_view part.now))).term) limit }
+    ensures { (f : ℕ) (s : StateView) → result ≡ nat_le
+        (height (residual f (term_view term.now) place.now (left_by s (term_view part.now))).term)
+        limit }
 {
     outline_after(term, place, outline_of(part)).height <= u64::from(limit)
 }

@@ -18,7 +18,8 @@ use std::alloc::{AllocError, Global};
 /// part, which is gone. The only error is want of memory.
 fn take_apart(alloc: Global, mut term: Term, place: &[usize]) -> Result<Vec<Level>, AllocError>
     requires { MayAct (term_view term) place.now }
-    ensures around { IfOk result (λ levels. (p : Process) → unwound levels.items p ≡ residual 0 (term_view term) place.now p) }
+    ensures around { IfOk result (λ levels. (p : Process) →
+        unwound levels.items p ≡ residual 0 (term_view term) place.now p) }
     ensures places { IfOk result (λ levels. All HasItsPlace levels.items) }
 {
     let mut levels = Vec::new(alloc);
@@ -46,7 +47,8 @@ fn put_together(
     state: &mut State,
 ) -> Result<Term, AllocError>
     requires { All HasItsPlace levels.items }
-    ensures { IfOk result (λ term. Became (unwound levels.items (left_by state.old.held (term_view left))) (term_view term) state.old state.new) }
+    ensures { IfOk result (λ term. Became (unwound levels.items
+        (left_by state.old.held (term_view left))) (term_view term) state.old state.new) }
 {
     while let Some(level) = levels.pop() {
         left = put_around(alloc, level, left, state)?;
@@ -67,7 +69,9 @@ pub fn settle(
     state: &mut State,
 ) -> Result<Term, AllocError>
     requires { MayAct (term_view term) place.now }
-    ensures left { IfOk result (λ left. Became (swept (residual 0 (term_view term) place.now (left_by state.old.held (term_view part)))) (term_view left) state.old state.new) }
+    ensures left { IfOk result (λ left. Became (swept
+        (residual 0 (term_view term) place.now (left_by state.old.held (term_view part))))
+        (term_view left) state.old state.new) }
 {
     let levels = take_apart(alloc, term, place)?;
     let left = put_together(alloc, levels, part, state)?;

@@ -38,7 +38,8 @@ fn list_frames(term: &Term, frames: &mut Vec<u64>) -> Result<(), AllocError>
 
 #[cycle(listing)]
 fn list_both(first: &Term, second: &Term, frames: &mut Vec<u64>) -> Result<(), AllocError>
-    ensures { OnOk result (frames.new.items ≡ frames.old.items ++ (frames_in (term_view first.now) ++ frames_in (term_view second.now))) }
+    ensures { OnOk result (frames.new.items ≡ frames.old.items ++
+        (frames_in (term_view first.now) ++ frames_in (term_view second.now))) }
 {
     list_frames(first, frames)?;
     list_frames(second, frames)
@@ -46,7 +47,8 @@ fn list_both(first: &Term, second: &Term, frames: &mut Vec<u64>) -> Result<(), A
 
 #[cycle(listing)]
 fn list_all(parts: &[Term], frames: &mut Vec<u64>) -> Result<(), AllocError>
-    ensures { OnOk result (frames.new.items ≡ frames.old.items ++ frames_in_all (terms_view parts.now)) }
+    ensures { OnOk result (frames.new.items ≡ frames.old.items ++ frames_in_all
+        (terms_view parts.now)) }
 {
     for part in parts {
         list_frames(part, frames)?;
@@ -56,7 +58,8 @@ fn list_all(parts: &[Term], frames: &mut Vec<u64>) -> Result<(), AllocError>
 
 /// The numbers of the frames that stand in a term, in order. The only error is want of memory.
 fn standing_frames(alloc: Global, term: &Term) -> Result<Vec<u64>, AllocError>
-    ensures frames { IfOk result (λ frames. IsPermutation (frames_in (term_view term.now)) frames.items) }
+    ensures frames { IfOk result (λ frames. IsPermutation
+        (frames_in (term_view term.now)) frames.items) }
     ensures sorted { IfOk result (λ frames. IsNonDecreasing frames.items) }
 {
     let mut frames = Vec::new(alloc);
@@ -77,7 +80,9 @@ fn is_among(frame: FrameId, standing: &[u64]) -> bool
 fn close_unless(frame: FrameId, standing: &[u64], state: &mut State) -> Result<(), AllocError>
     requires sorted { IsNonDecreasing standing.now }
     requires there { HasFrame state.old.held frame.0 }
-    ensures { OnOk result (state.new ≡ changed state.old (if list_any (nat_eq frame.0) standing.now then state.old.held else closed state.old.held frame.0)) }
+    ensures { OnOk result (state.new ≡ changed state.old
+        (if list_any (nat_eq frame.0) standing.now then state.old.held else closed state.old.held
+        frame.0)) }
 {
     if is_among(frame, standing) {
         return Ok(());
@@ -88,7 +93,8 @@ fn close_unless(frame: FrameId, standing: &[u64], state: &mut State) -> Result<(
 /// Closes all open frames but these, which are in order. The only error is want of memory.
 fn close_others(standing: &[u64], state: &mut State) -> Result<(), AllocError>
     requires { IsNonDecreasing standing.now }
-    ensures { OnOk result (state.new ≡ changed state.old (only_frames standing.now state.old.held)) }
+    ensures { OnOk result (state.new ≡ changed state.old
+        (only_frames standing.now state.old.held)) }
 {
     let frames = state.frames()?;
     for frame in &frames {
@@ -101,7 +107,8 @@ fn close_others(standing: &[u64], state: &mut State) -> Result<(), AllocError>
 /// and in the open frames, but for a logarithm. The only error is want of memory, and of the state
 /// nothing is said then.
 pub fn sweep(alloc: Global, term: &Term, state: &mut State) -> Result<(), AllocError>
-    ensures { OnOk result (state.new ≡ changed state.old (only_frames (frames_in (term_view term.now)) state.old.held)) }
+    ensures { OnOk result (state.new ≡ changed state.old
+        (only_frames (frames_in (term_view term.now)) state.old.held)) }
 {
     let standing = standing_frames(alloc, term)?;
     close_others(&standing, state)

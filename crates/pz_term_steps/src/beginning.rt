@@ -21,10 +21,9 @@ use pz_copy::Parcel;
 use pz_offer::Trouble;
 use pz_part_actions::{hand, perform, take};
 use pz_part_queries::{Standpoint, part_at};
-use pz_rules::{Term, active_parts_fit, offered_parts_act};
+use pz_rules::Term;
 use pz_state::FrameId;
 use pz_syntax::Pos;
-use pz_term_around::active_parts_may_act;
 use pz_term_processes::Process;
 use pz_value::ClassId;
 use std::alloc::{AllocError, Global};
@@ -59,16 +58,22 @@ pub(crate) fn begin_internal(
     process: &mut Process,
     place: &[usize],
 ) -> Result<Result<Begun, Trouble>, AllocError>
-    requires can { (m : ModelTree) × Knows m here.now × CanDo CanAct (seen_from m here.now class.0 process.old.state.held) (term_view process.old.term) place.now }
+    requires can { (m : ModelTree) × Knows m here.now
+        × CanDo CanAct (seen_from m here.now class.0 process.old.state.held)
+        (term_view process.old.term) place.now }
     requires fits { ∥ FitsHere here.now class (term_view process.old.term) ∥₁ }
-    ensures leaves { (m : ModelTree) → Knows m here.now → CanDo CanAct (seen_from m here.now class.0 process.old.state.held) (term_view process.old.term) place.now
-        → IfOk result (λ begun. Leaves (seen_from m here.now class.0 process.old.state.held) Performs (term_view process.old.term) place.now (begun_process (term_view process.old.term) place.now process.new.state.held begun)) }
+    ensures leaves { (m : ModelTree) → Knows m here.now →
+        CanDo CanAct (seen_from m here.now class.0 process.old.state.held)
+        (term_view process.old.term) place.now → IfOk result
+        (λ begun. Leaves (seen_from m here.now class.0 process.old.state.held) Performs
+        (term_view process.old.term) place.now (begun_process
+        (term_view process.old.term) place.now process.new.state.held begun)) }
     ensures state { IfOk result (IsBegun process.old.state process.new.state) }
     ensures term { process.new.term ≡ process.old.term }
 {
-    active_parts_may_act();
-    offered_parts_act();
-    active_parts_fit();
+    pz_term_around::laws::active_parts_may_act();
+    pz_rules::laws::offered_parts_act();
+    pz_rules::laws::active_parts_fit();
     let point = process.state.mark()?;
     let (frame, part) = part_at(&process.term, FrameId(0), place);
     let pos = pos_of(part);
@@ -83,14 +88,20 @@ pub(crate) fn begin_send(
     process: &mut Process,
     place: &[usize],
 ) -> Result<Result<Begun, Trouble>, AllocError>
-    requires can { (m : ModelTree) × (class : ℕ) × (parcel : ParcelView) × Knows m here.now × CanDo (CanSend parcel) (seen_from m here.now class process.old.state.held) (term_view process.old.term) place.now }
-    ensures leaves { (m : ModelTree) (class : ℕ) (parcel : ParcelView) → Knows m here.now → CanDo (CanSend parcel) (seen_from m here.now class process.old.state.held) (term_view process.old.term) place.now
-        → IfOk result (λ begun. Leaves (seen_from m here.now class process.old.state.held) (λ a f. Hands a f parcel) (term_view process.old.term) place.now (begun_process (term_view process.old.term) place.now process.new.state.held begun)) }
+    requires can { (m : ModelTree) × (class : ℕ) × (parcel : ParcelView) × Knows m here.now
+        × CanDo (CanSend parcel) (seen_from m here.now class process.old.state.held)
+        (term_view process.old.term) place.now }
+    ensures leaves { (m : ModelTree) (class : ℕ) (parcel : ParcelView) → Knows m here.now →
+        CanDo (CanSend parcel) (seen_from m here.now class process.old.state.held)
+        (term_view process.old.term) place.now → IfOk result
+        (λ begun. Leaves (seen_from m here.now class process.old.state.held)
+        (λ a f. Hands a f parcel) (term_view process.old.term) place.now
+        (begun_process (term_view process.old.term) place.now process.new.state.held begun)) }
     ensures state { IfOk result (IsBegun process.old.state process.new.state) }
     ensures term { process.new.term ≡ process.old.term }
 {
-    active_parts_may_act();
-    offered_parts_act();
+    pz_term_around::laws::active_parts_may_act();
+    pz_rules::laws::offered_parts_act();
     let point = process.state.mark()?;
     let (frame, part) = part_at(&process.term, FrameId(0), place);
     let pos = pos_of(part);
@@ -106,14 +117,20 @@ pub(crate) fn begin_receive(
     place: &[usize],
     parcel: &Parcel,
 ) -> Result<Result<Begun, Trouble>, AllocError>
-    requires can { (m : ModelTree) × (class : ℕ) × Knows m here.now × CanDo CanReceive (seen_from m here.now class process.old.state.held) (term_view process.old.term) place.now }
-    ensures leaves { (m : ModelTree) (class : ℕ) → Knows m here.now → CanDo CanReceive (seen_from m here.now class process.old.state.held) (term_view process.old.term) place.now
-        → IfOk result (λ begun. Leaves (seen_from m here.now class process.old.state.held) (λ a f. Takes a f parcel.now) (term_view process.old.term) place.now (begun_process (term_view process.old.term) place.now process.new.state.held begun)) }
+    requires can { (m : ModelTree) × (class : ℕ) × Knows m here.now
+        × CanDo CanReceive (seen_from m here.now class process.old.state.held)
+        (term_view process.old.term) place.now }
+    ensures leaves { (m : ModelTree) (class : ℕ) → Knows m here.now →
+        CanDo CanReceive (seen_from m here.now class process.old.state.held)
+        (term_view process.old.term) place.now → IfOk result
+        (λ begun. Leaves (seen_from m here.now class process.old.state.held)
+        (λ a f. Takes a f parcel.now) (term_view process.old.term) place.now
+        (begun_process (term_view process.old.term) place.now process.new.state.held begun)) }
     ensures state { IfOk result (IsBegun process.old.state process.new.state) }
     ensures term { process.new.term ≡ process.old.term }
 {
-    active_parts_may_act();
-    offered_parts_act();
+    pz_term_around::laws::active_parts_may_act();
+    pz_rules::laws::offered_parts_act();
     let point = process.state.mark()?;
     let (frame, part) = part_at(&process.term, FrameId(0), place);
     let pos = pos_of(part);

@@ -42,8 +42,12 @@ pub(crate) fn hold(
 ) -> Result<Begun, Trouble>
     requires may_act { MayAct (term_view process.old.term) place.now }
     requires latest { IsLatest process.old.state point }
-    ensures left { (m : ModelTree) (class : ℕ) (s : StateView) → begun_process (term_view process.old.term) place.now process.old.state.held result ≡ and_then (process_left process.old.state.held left) (settled (seen_from m here.now class s) pos (term_view process.old.term) place.now) }
-    ensures state { MatchResult result (λ begun. (process.new.state ≡ process.old.state) × (begun.point ≡ point)) (λ trouble. process.new.state ≡ undone process.old.state) }
+    ensures left { (m : ModelTree) (class : ℕ) (s : StateView) →
+        begun_process (term_view process.old.term) place.now process.old.state.held result ≡
+        and_then (process_left process.old.state.held left)
+        (settled (seen_from m here.now class s) pos (term_view process.old.term) place.now) }
+    ensures state { MatchResult result (λ begun. (process.new.state ≡ process.old.state)
+        × (begun.point ≡ point)) (λ trouble. process.new.state ≡ undone process.old.state) }
     ensures term { process.new.term ≡ process.old.term }
 {
     let part = match left {
@@ -81,7 +85,9 @@ pub(crate) fn finish(
 ) -> Result<(), AllocError>
     requires may_act { MayAct (term_view process.old.term) place.now }
     requires latest { IsLatest process.old.state begun.point }
-    ensures { OnOk result (Became (swept (residual 0 (term_view process.old.term) place.now (left_by process.old.state.held (term_view begun.part)))) (term_view process.new.term) (kept process.old.state) process.new.state) }
+    ensures { OnOk result (Became (swept (residual 0 (term_view process.old.term) place.now
+        (left_by process.old.state.held (term_view begun.part)))) (term_view process.new.term)
+        (kept process.old.state) process.new.state) }
 {
     let Begun { point, part } = begun;
     process.state.keep(point);

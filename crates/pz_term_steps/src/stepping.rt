@@ -17,16 +17,11 @@ ghost use Rattle.pz_term_steps.specs.Stepping.{reached};
 use crate::beginning::{begin_internal, begin_receive, begin_send};
 use crate::begun::{finish, withdraw};
 use pz_bind::Net;
-use pz_classes::{Checked, sound_bodies_fit};
+use pz_classes::Checked;
 use pz_copy::Parcel;
-use pz_eval_rules::each_list_has_an_outcome;
 use pz_offer::{End, Trouble};
 use pz_part_queries::Standpoint;
-use pz_rules::{
-    Action, Limits, Moment, Term, least_passes, one_next, passing_is_computed, what_fits_goes_on,
-    wires_are_known,
-};
-use pz_term_around::active_parts_may_act;
+use pz_rules::{Action, Limits, Moment, Term};
 use pz_term_processes::Process;
 use pz_term_time::pass;
 use std::alloc::{AllocError, Global};
@@ -43,13 +38,19 @@ fn act(
     at: &End,
 ) -> Result<Result<(), Trouble>, AllocError>
     requires of_model { ∥ IsNet (checked_model checked.now) net.now ∥₁ }
-    requires processes { ∥ AreProcesses (setting_of (checked_model checked.now) limits) clock processes.old ∥₁ }
-    requires offered { (kind : Kind) × (pos : Pos) × Offers (setting_of (checked_model checked.now) limits) (config_of clock processes.old) (Action.Internal at.now kind pos) }
-    ensures steps { (kind : Kind) (pos : Pos) → IfOk result (λ left. Next (setting_of (checked_model checked.now) limits) (config_of clock processes.old) (Action.Internal at.now kind pos) (reached clock processes.new left)) }
+    requires processes { ∥ AreProcesses (setting_of (checked_model checked.now) limits) clock
+        processes.old ∥₁ }
+    requires offered { (kind : Kind) × (pos : Pos)
+        × Offers (setting_of (checked_model checked.now) limits) (config_of clock processes.old)
+        (Action.Internal at.now kind pos) }
+    ensures steps { (kind : Kind) (pos : Pos) → IfOk result
+        (λ left. Next (setting_of (checked_model checked.now) limits)
+        (config_of clock processes.old) (Action.Internal at.now kind pos)
+        (reached clock processes.new left)) }
     ensures stays { IfOk result (λ left. OnErr left (processes.new ≡ processes.old)) }
 {
-    sound_bodies_fit();
-    active_parts_may_act();
+    pz_classes::laws::sound_bodies_fit();
+    pz_term_around::laws::active_parts_may_act();
     let _model = checked.model();
     let here = Standpoint {
         classes: checked.classes(),
@@ -81,12 +82,17 @@ fn communicate(
     receiver: &End,
     parcel: &Parcel,
 ) -> Result<Result<(), Trouble>, AllocError>
-    requires pair { (number : ℕ) × (message : List ℕ) × IsPair (setting_of (checked_model checked.now) limits) (config_of clock processes.old) number sender.now receiver.now message parcel.now }
-    ensures steps { (number : ℕ) (message : List ℕ) → IfOk result (λ left. Next (setting_of (checked_model checked.now) limits) (config_of clock processes.old) (Action.Comm number sender.now receiver.now message parcel.now) (reached clock processes.new left)) }
+    requires pair { (number : ℕ) × (message : List ℕ)
+        × IsPair (setting_of (checked_model checked.now) limits)
+        (config_of clock processes.old) number sender.now receiver.now message parcel.now }
+    ensures steps { (number : ℕ) (message : List ℕ) →
+        IfOk result (λ left. Next (setting_of (checked_model checked.now) limits)
+        (config_of clock processes.old) (Action.Comm number sender.now receiver.now message
+        parcel.now) (reached clock processes.new left)) }
     ensures stays { IfOk result (λ left. OnErr left (processes.new ≡ processes.old)) }
 {
-    active_parts_may_act();
-    each_list_has_an_outcome();
+    pz_term_around::laws::active_parts_may_act();
+    pz_eval_rules::laws::each_list_has_an_outcome();
     let (from, to) = (sender.process as usize, receiver.process as usize);
     let sends_at = sender.place.as_slice();
     let receives_at = receiver.place.as_slice();
@@ -130,14 +136,18 @@ pub fn step(
     action: &Action,
 ) -> Result<Result<(), Trouble>, AllocError>
     requires of_model { ∥ IsNet (checked_model checked.now) net.now ∥₁ }
-    requires processes { ∥ AreProcesses (setting_of (checked_model checked.now) limits) clock processes.old ∥₁ }
-    requires offered { Offers (setting_of (checked_model checked.now) limits) (config_of clock processes.old) action.now }
-    ensures steps { IfOk result (λ left. Next (setting_of (checked_model checked.now) limits) (config_of clock processes.old) action.now (reached clock processes.new left)) }
+    requires processes { ∥ AreProcesses (setting_of (checked_model checked.now) limits) clock
+        processes.old ∥₁ }
+    requires offered { Offers (setting_of (checked_model checked.now) limits)
+        (config_of clock processes.old) action.now }
+    ensures steps { IfOk result (λ left. Next (setting_of (checked_model checked.now) limits)
+        (config_of clock processes.old) action.now (reached clock processes.new left)) }
     ensures stays { IfOk result (λ left. OnErr left (processes.new ≡ processes.old)) }
-    ensures processes { OnOk result (∥ AreProcesses (setting_of (checked_model checked.now) limits) clock processes.new ∥₁) }
+    ensures processes { OnOk result (∥ AreProcesses
+        (setting_of (checked_model checked.now) limits) clock processes.new ∥₁) }
 {
-    one_next();
-    what_fits_goes_on();
+    pz_rules::laws::one_next();
+    pz_rules::laws::what_fits_goes_on();
     let _model = checked.model();
     match action {
         Action::Internal { at, .. } => act(alloc, checked, net, limits, clock, processes, at),
@@ -160,7 +170,9 @@ fn pass_process(
     time: u128,
 ) -> Result<(), AllocError>
     requires { AreKnown here.now.classes.now }
-    ensures term { (m : ModelTree) (class : ℕ) → Knows m here.now → OnOk result (term_view process.new.term ≡ passed (seen_from m here.now class process.old.state.held) time 0 (term_view process.old.term)) }
+    ensures term { (m : ModelTree) (class : ℕ) → Knows m here.now →
+        OnOk result (term_view process.new.term ≡ passed
+        (seen_from m here.now class process.old.state.held) time 0 (term_view process.old.term)) }
     ensures state { process.new.state ≡ process.old.state }
 {
     let term = mem::replace(&mut process.term, Term::Done);
@@ -180,16 +192,20 @@ pub fn elapse(
     time: u128,
 ) -> Result<(), AllocError>
     requires of_model { ∥ IsNet (checked_model checked.now) net.now ∥₁ }
-    requires processes { ∥ AreProcesses (setting_of (checked_model checked.now) limits) clock processes.old ∥₁ }
-    requires moment { IsMoment (setting_of (checked_model checked.now) limits) (config_of clock processes.old) (Moment.Time time) }
-    ensures passes { OnOk result (PassesTo (setting_of (checked_model checked.now) limits) (config_of clock processes.old) time (config_of (clock + time) processes.new)) }
-    ensures processes { OnOk result (∥ AreProcesses (setting_of (checked_model checked.now) limits) (clock + time) processes.new ∥₁) }
+    requires processes { ∥ AreProcesses (setting_of (checked_model checked.now) limits) clock
+        processes.old ∥₁ }
+    requires moment { IsMoment (setting_of (checked_model checked.now) limits)
+        (config_of clock processes.old) (Moment.Time time) }
+    ensures passes { OnOk result (PassesTo (setting_of (checked_model checked.now) limits)
+        (config_of clock processes.old) time (config_of (clock + time) processes.new)) }
+    ensures processes { OnOk result (∥ AreProcesses (setting_of (checked_model checked.now) limits)
+        (clock + time) processes.new ∥₁) }
 {
-    wires_are_known();
-    least_passes();
-    passing_is_computed();
-    one_next();
-    what_fits_goes_on();
+    pz_rules::laws::wires_are_known();
+    pz_rules::laws::least_passes();
+    pz_rules::laws::passing_is_computed();
+    pz_rules::laws::one_next();
+    pz_rules::laws::what_fits_goes_on();
     let _model = checked.model();
     for number in 0..net.processes() {
         let here = Standpoint {

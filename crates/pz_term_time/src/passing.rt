@@ -17,7 +17,7 @@ use pz_classes_code::{Code, Step, StepForm};
 use pz_items::{Boxed, Items};
 use pz_offer::Trouble;
 use pz_part_queries::{Standpoint, ask_test, ask_time};
-use pz_rules::{Term, evaluations_are_computed, passing_is_computed};
+use pz_rules::Term;
 use pz_state::{FrameId, State};
 use pz_syntax::Pos;
 use std::alloc::{AllocError, Global};
@@ -43,10 +43,12 @@ fn time_left(
     step: &Step,
 ) -> Result<Option<u128>, AllocError>
     requires { AreKnown here.now.classes.now }
-    ensures left { (m : ModelTree) (class time : ℕ) → Knows m here.now → IfOk result (λ left. begun_with time step.now.pos (view step.now) left ≡ statement_passed (seen_from m here.now class state.old.held) time frame.0 (view step.now)) }
+    ensures left { (m : ModelTree) (class time : ℕ) → Knows m here.now →
+        IfOk result (λ left. begun_with time step.now.pos (view step.now) left ≡ statement_passed
+        (seen_from m here.now class state.old.held) time frame.0 (view step.now)) }
     ensures state { state.new ≡ state.old }
 {
-    evaluations_are_computed();
+    pz_rules::laws::evaluations_are_computed();
     match &step.form {
         StepForm::Delay(lasting) => {
             let left = ask_time(alloc, here, state, frame, step.pos, lasting)?;
@@ -66,7 +68,9 @@ fn pass_step(
     time: u128,
 ) -> Result<Term, AllocError>
     requires { AreKnown here.now.classes.now }
-    ensures passed { (m : ModelTree) (class : ℕ) → Knows m here.now → IfOk result (λ left. term_view left ≡ statement_passed (seen_from m here.now class state.old.held) time frame.0 (view step)) }
+    ensures passed { (m : ModelTree) (class : ℕ) → Knows m here.now →
+        IfOk result (λ left. term_view left ≡ statement_passed
+        (seen_from m here.now class state.old.held) time frame.0 (view step)) }
     ensures state { state.new ≡ state.old }
 {
     match time_left(alloc, here, state, frame, &step)? {
@@ -101,7 +105,9 @@ fn pass_part(
     time: u128,
 ) -> Result<Term, AllocError>
     requires { AreKnown here.now.classes.now }
-    ensures passed { (m : ModelTree) (class : ℕ) → Knows m here.now → IfOk result (λ left. term_view left ≡ passed (seen_from m here.now class state.old.held) time frame.0 (term_view term)) }
+    ensures passed { (m : ModelTree) (class : ℕ) → Knows m here.now →
+        IfOk result (λ left. term_view left ≡ passed
+        (seen_from m here.now class state.old.held) time frame.0 (term_view term)) }
     ensures state { state.new ≡ state.old }
 {
     match term {
@@ -165,7 +171,9 @@ fn pass_boxed(
     time: u128,
 ) -> Result<Boxed<Term>, AllocError>
     requires { AreKnown here.now.classes.now }
-    ensures passed { (m : ModelTree) (class : ℕ) → Knows m here.now → IfOk result (λ left. term_view left ≡ passed (seen_from m here.now class state.old.held) time frame.0 (term_view term)) }
+    ensures passed { (m : ModelTree) (class : ℕ) → Knows m here.now →
+        IfOk result (λ left. term_view left ≡ passed
+        (seen_from m here.now class state.old.held) time frame.0 (term_view term)) }
     ensures state { state.new ≡ state.old }
 {
     let left = pass_part(alloc, here, state, frame, term.into_inner(), time)?;
@@ -183,7 +191,9 @@ fn pass_all(
     time: u128,
 ) -> Result<Items<Term>, AllocError>
     requires { AreKnown here.now.classes.now }
-    ensures passed { (m : ModelTree) (class : ℕ) → Knows m here.now → IfOk result (λ left. terms_view left ≡ passed_all (seen_from m here.now class state.old.held) time frame.0 (terms_view parts)) }
+    ensures passed { (m : ModelTree) (class : ℕ) → Knows m here.now →
+        IfOk result (λ left. terms_view left ≡ passed_all
+        (seen_from m here.now class state.old.held) time frame.0 (terms_view parts)) }
     ensures state { state.new ≡ state.old }
 {
     let mut left = parts.into_vec();
@@ -208,10 +218,13 @@ fn pass_guarded(
     time: u128,
 ) -> Result<Term, AllocError>
     requires { AreKnown here.now.classes.now }
-    ensures passed { (m : ModelTree) (class : ℕ) → Knows m here.now → IfOk result (λ left. term_view left ≡ passed (seen_from m here.now class state.old.held) time frame.0 (terms.guarded (code.view test) pos (term_view body))) }
+    ensures passed { (m : ModelTree) (class : ℕ) → Knows m here.now →
+        IfOk result (λ left. term_view left ≡ passed
+        (seen_from m here.now class state.old.held) time frame.0
+        (terms.guarded (code.view test) pos (term_view body))) }
     ensures state { state.new ≡ state.old }
 {
-    evaluations_are_computed();
+    pz_rules::laws::evaluations_are_computed();
     let answer = ask_test(alloc, here, state, frame, pos, &test)?;
     if !is_open(answer) {
         return Ok(Term::Guard { test, pos, body });
@@ -231,12 +244,17 @@ pub fn pass(
     time: u128,
 ) -> Result<Term, AllocError>
     requires { AreKnown here.now.classes.now }
-    ensures passes { (m : ModelTree) (class : ℕ) → Knows m here.now → IsUntroubled (seen_from m here.now class state.old.held) 0 (term_view term) → IfOk result (λ left. Passes (seen_from m here.now class state.old.held) time 0 (term_view term) (term_view left)) }
+    ensures passes { (m : ModelTree) (class : ℕ) → Knows m here.now →
+        IsUntroubled (seen_from m here.now class state.old.held) 0 (term_view term) →
+        IfOk result (λ left. Passes (seen_from m here.now class state.old.held) time 0
+        (term_view term) (term_view left)) }
     // The same, computed, also where something has a trouble.
-    ensures computed { (m : ModelTree) (class : ℕ) → Knows m here.now → IfOk result (λ left. term_view left ≡ passed (seen_from m here.now class state.old.held) time 0 (term_view term)) }
+    ensures computed { (m : ModelTree) (class : ℕ) → Knows m here.now →
+        IfOk result (λ left. term_view left ≡ passed
+        (seen_from m here.now class state.old.held) time 0 (term_view term)) }
     ensures state { state.new ≡ state.old }
 {
-    passing_is_computed();
+    pz_rules::laws::passing_is_computed();
     // A process stands in no frame.
     pass_part(alloc, here, state, FrameId(0), term, time)
 }

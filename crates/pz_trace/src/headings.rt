@@ -31,7 +31,8 @@ fn place_of(text: &[u8], byte: u8) -> Option<usize>
 
 /// The first line of a text, with its LF. None where no LF stands in the text.
 pub fn first_line(text: &[u8]) -> Option<&[u8]>
-    ensures { MatchOption result (Unbroken text.now) (λ line. IsLine line.now × ((rest : List ℕ) × (text.now ≡ line.now ++ rest))) }
+    ensures { MatchOption result (Unbroken text.now)
+        (λ line. IsLine line.now × ((rest : List ℕ) × (text.now ≡ line.now ++ rest))) }
 {
     let end = place_of(text, b'\n')?;
     let (line, _rest) = text.split_at(end + 1);
@@ -42,7 +43,8 @@ pub fn first_line(text: &[u8]) -> Option<&[u8]>
 /// zero that fit, a blank after each. None where what is given is no line, with LF at its end and none
 /// before.
 pub fn read_line(line: &[u8]) -> Option<Heading>
-    ensures { MatchOption result (IsLine line.now → ⊥) (λ heading. IsLine line.now × IsHeading line.now heading) }
+    ensures { MatchOption result (IsLine line.now →
+        ⊥) (λ heading. IsLine line.now × IsHeading line.now heading) }
 {
     let first = first_line(line)?;
     if first.len() < line.len() {
@@ -62,7 +64,8 @@ fn heading_of(line: &[u8]) -> Heading
 
 // The three numbers that the line begins with.
 fn numbers(line: &[u8]) -> Option<(u128, u64, u64)>
-    ensures { MatchOption result ((clock n k : ℕ) → BeginsWithNumbers line.now clock n k → ⊥) (λ found. BeginsWithNumbers line.now found.0 found.1 found.2) }
+    ensures { MatchOption result ((clock n k : ℕ) → BeginsWithNumbers line.now clock n k →
+        ⊥) (λ found. BeginsWithNumbers line.now found.0 found.1 found.2) }
 {
     let (clock, rest) = number(line)?;
     let (n, rest) = short_number(rest)?;
@@ -72,7 +75,9 @@ fn numbers(line: &[u8]) -> Option<(u128, u64, u64)>
 
 // The same as `number`, of a number below 2^64.
 fn short_number(text: &[u8]) -> Option<(u64, &[u8])>
-    ensures { MatchOption result ((n : ℕ) (rest : List ℕ) → BeginsWithNumber text.now n rest → n < 2 ^ 64 → ⊥) (λ found. (found.0 < 2 ^ 64) × BeginsWithNumber text.now found.0 found.1.now) }
+    ensures { MatchOption result ((n : ℕ) (rest : List ℕ) → BeginsWithNumber text.now n rest →
+        n < 2 ^ 64 → ⊥) (λ found. (found.0 < 2 ^ 64)
+        × BeginsWithNumber text.now found.0 found.1.now) }
 {
     let (n, rest) = number(text)?;
     match u64::try_from(n) {
@@ -83,7 +88,8 @@ fn short_number(text: &[u8]) -> Option<(u64, &[u8])>
 
 // The number that stands before the first blank, and what follows the blank.
 fn number(text: &[u8]) -> Option<(u128, &[u8])>
-    ensures { MatchOption result ((n : ℕ) (rest : List ℕ) → BeginsWithNumber text.now n rest → ⊥) (λ found. BeginsWithNumber text.now found.0 found.1.now) }
+    ensures { MatchOption result ((n : ℕ) (rest : List ℕ) → BeginsWithNumber text.now n rest →
+        ⊥) (λ found. BeginsWithNumber text.now found.0 found.1.now) }
 {
     let end = place_of(text, b' ')?;
     let (digits, _blank) = text.split_at(end);
@@ -94,7 +100,8 @@ fn number(text: &[u8]) -> Option<(u128, &[u8])>
 
 // The number that these digits write, without a leading zero.
 fn value_of(digits: &[u8]) -> Option<u128>
-    ensures { MatchOption result ((n : ℕ) → n < 2 ^ 128 → digits.now ≡ decimal n → ⊥) (λ n. (n < 2 ^ 128) × (digits.now ≡ decimal n)) }
+    ensures { MatchOption result ((n : ℕ) → n < 2 ^ 128 → digits.now ≡ decimal n →
+        ⊥) (λ n. (n < 2 ^ 128) × (digits.now ≡ decimal n)) }
 {
     let (first, rest) = digits.split_first()?;
     if *first == b'0' && !rest.is_empty() {
@@ -109,7 +116,8 @@ fn value_of(digits: &[u8]) -> Option<u128>
 
 // The number with one digit more at its end.
 fn with_digit(value: u128, digit: u8) -> Option<u128>
-    ensures { SomeIff result ((digit_value digit < 10) × (value * 10 + digit_value digit < 2 ^ 128)) (value * 10 + digit_value digit) }
+    ensures { SomeIff result ((digit_value digit < 10) × (value * 10 + digit_value digit < 2 ^ 128))
+        (value * 10 + digit_value digit) }
 {
     if !digit.is_ascii_digit() {
         return None;

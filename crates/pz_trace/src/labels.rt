@@ -26,7 +26,8 @@ fn put_internal(
     pos: Pos,
 ) -> Result<(), AllocError>
     requires { HasProcess net.now process }
-    ensures { (m : ModelTree) → ∥ IsNet m net.now ∥₁ → OnOk result (out.new.items ≡ out.old.items ++ spec.internal_label m process kind pos) }
+    ensures { (m : ModelTree) → ∥ IsNet m net.now ∥₁ →
+        OnOk result (out.new.items ≡ out.old.items ++ spec.internal_label m process kind pos) }
 {
     let kind = kind_word(kind);
     let (line, column) = (pos.line, pos.column);
@@ -46,7 +47,8 @@ fn put_sending(
 ) -> Result<(), AllocError>
     requires of_model { ∥ IsNet (checked_model checked.now) net.now ∥₁ }
     requires sender { HasProcess net.now sender }
-    ensures { OnOk result (out.new.items ≡ out.old.items ++ spec.sending (checked_model checked.now) sender message.now parcel.now) }
+    ensures { OnOk result (out.new.items ≡ out.old.items ++ spec.sending
+        (checked_model checked.now) sender message.now parcel.now) }
 {
     let parcel = parcel.text(class_names(checked))?;
     out.extend_from_slice(path(net, sender))?;
@@ -64,7 +66,8 @@ pub(crate) fn put_label(
 ) -> Result<(), AllocError>
     requires of_model { ∥ IsNet (checked_model checked.now) net.now ∥₁ }
     requires named { IsNamed net.now action.now }
-    ensures { OnOk result (out.new.items ≡ out.old.items ++ spec.label (checked_model checked.now) action.now) }
+    ensures { OnOk result (out.new.items ≡ out.old.items ++ spec.label
+        (checked_model checked.now) action.now) }
 {
     match action {
         Action::Internal { at, kind, pos } => put_internal(out, net, at.process, *kind, *pos),

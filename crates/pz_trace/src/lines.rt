@@ -43,7 +43,8 @@ pub fn action_line(
 ) -> Result<Vec<u8>, AllocError>
     requires of_model { ∥ IsNet (checked_model checked.now) net.now ∥₁ }
     requires named { IsNamed net.now action.now }
-    ensures { IfOk result (λ line. line.items ≡ lines.action_line (checked_model checked.now) clock offers number action.now) }
+    ensures { IfOk result (λ line. line.items ≡ lines.action_line
+        (checked_model checked.now) clock offers number action.now) }
 {
     let mut line = format!(in alloc; "{clock} {offers} {number} ")?.into_bytes();
     put_label(&mut line, checked, net, action)?;
@@ -65,7 +66,8 @@ pub fn time_line(alloc: Global, clock: u128, time: u128) -> Result<Vec<u8>, Allo
 /// A trouble names a process of the net. The only error is want of memory.
 pub fn end_line(alloc: Global, net: &Net, clock: u128, end: &Ending) -> Result<Vec<u8>, AllocError>
     requires { IsNamedAtEnd net.now end.now }
-    ensures { (m : ModelTree) → ∥ IsNet m net.now ∥₁ → IfOk result (λ line. line.items ≡ lines.end_line m clock end.now) }
+    ensures { (m : ModelTree) → ∥ IsNet m net.now ∥₁ →
+        IfOk result (λ line. line.items ≡ lines.end_line m clock end.now) }
 {
     match end {
         Ending::End => word_line(alloc, clock, "end"),
@@ -76,7 +78,8 @@ pub fn end_line(alloc: Global, net: &Net, clock: u128, end: &Ending) -> Result<V
 }
 
 fn word_line(alloc: Global, clock: u128, word: &str) -> Result<Vec<u8>, AllocError>
-    ensures { IfOk result (λ line. line.items ≡ decimal clock ++ (codes " " ++ (word.now ++ lines.newline))) }
+    ensures { IfOk result (λ line. line.items ≡ decimal clock ++
+        (codes " " ++ (word.now ++ lines.newline))) }
 {
     Ok(format!(in alloc; "{clock} {word}\n")?.into_bytes())
 }
@@ -88,7 +91,8 @@ fn trouble_line(
     trouble: &Trouble,
 ) -> Result<Vec<u8>, AllocError>
     requires { HasTroubled net.now trouble.now }
-    ensures { (m : ModelTree) → ∥ IsNet m net.now ∥₁ → IfOk result (λ line. line.items ≡ lines.trouble_line m clock trouble.now) }
+    ensures { (m : ModelTree) → ∥ IsNet m net.now ∥₁ →
+        IfOk result (λ line. line.items ≡ lines.trouble_line m clock trouble.now) }
 {
     match trouble {
         Trouble::Fault { kind, process, pos } => {
@@ -110,7 +114,8 @@ fn trouble_line(
 // The line that begins so and ends with the path of a process and a place of the text.
 fn spot_line(mut begun: Vec<u8>, net: &Net, process: u32, pos: Pos) -> Result<Vec<u8>, AllocError>
     requires { HasProcess net.now process }
-    ensures { (m : ModelTree) → ∥ IsNet m net.now ∥₁ → IfOk result (λ line. line.items ≡ begun.items ++ (spot m process pos ++ lines.newline)) }
+    ensures { (m : ModelTree) → ∥ IsNet m net.now ∥₁ →
+        IfOk result (λ line. line.items ≡ begun.items ++ (spot m process pos ++ lines.newline)) }
 {
     let (line, column) = (pos.line, pos.column);
     let rest = format!(in *begun.allocator(); " {line}:{column}\n")?;

@@ -3,9 +3,6 @@
 
 ghost use Rattle.pz_trace_laws.specs.Laws.{NamesAreUnbroken, MessagesAreUnbroken, StartIsUnbroken, StaysUnbroken, OffersAreUnbroken, RunsTellLines};
 
-use pz_rules::one_next;
-use pz_trace::lines_stand_apart;
-
 /// No LF stands in the name of an instance, a class or a message of a model that was read.
 pub fn names_are_unbroken()
     ensures names { NamesAreUnbroken }
@@ -22,6 +19,6 @@ pub fn runs_tell_lines()
     ensures events { RunsTellLines }
 {
     names_are_unbroken();
-    lines_stand_apart();
-    one_next();
+    pz_trace::laws::lines_stand_apart();
+    pz_rules::laws::one_next();
 }

@@ -2,6 +2,4 @@
 //! lines at each LF.
 #![tactic(auto)]
 
-mod laws;
-
-pub use laws::{names_are_unbroken, runs_tell_lines};
+pub mod laws;

@@ -48,12 +48,12 @@ module _ (a : Context) where
   pub summary_is_tally : (c : ℕ) (ps : List ActivePart) → summary_in a c ps ≡ tally a c ps
   summary_is_tally c [] = refl
   summary_is_tally c (p ∷ ps) = (λ i. record {
-      internal = more_noted p.place (does a p.frame p.part) (noted (does a) ps) i;
-      sends = more_noted p.place (sent_by a p.frame p.part) (noted (sent_by a) ps) i;
-      receives = more_noted p.place (received_by p.part) (noted (λ f. received_by) ps) i;
-      due = sooner c p.place (waiting a p.frame p.part) (noted (waiting a) ps) i;
-      trouble = first_noted p.place (troubled_by a p.frame p.part) (noted (troubled_by a) ps) i;
-    }) ∙ ap (join (own_summary a c p.frame p.part)) (summary_is_tally c ps)
+    internal = more_noted p.place (does a p.frame p.part) (noted (does a) ps) i;
+    sends = more_noted p.place (sent_by a p.frame p.part) (noted (sent_by a) ps) i;
+    receives = more_noted p.place (received_by p.part) (noted (λ f. received_by) ps) i;
+    due = sooner c p.place (waiting a p.frame p.part) (noted (waiting a) ps) i;
+    trouble = first_noted p.place (troubled_by a p.frame p.part) (noted (troubled_by a) ps) i;
+  }) ∙ ap (join (own_summary a c p.frame p.part)) (summary_is_tally c ps)
 
   pub tallied : ℕ → ℕ → Term → Summary
   tallied c f t = tally a c (active_parts a f t)

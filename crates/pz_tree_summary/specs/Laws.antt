@@ -1,12 +1,16 @@
--- The summary of a term from those of its parts.
-use Rattle.std.specs.Prelude.{◌≡◌, ◌+◌, ℕ, List}
+-- The summary of a term from those of its parts; and when it stays as it is.
+use Rattle.std.specs.Prelude.{◌≡◌, ◌+◌, ℕ, false, List}
 use Rattle.pz_syntax.specs.declared.tokens.Pos.{Pos}
 use Rattle.pz_classes_code.specs.declared.slot.Slot.{Slot}
+use Rattle.pz_classes.specs.Soundness.{IsSound}
 use Rattle.pz_offer.specs.Summaries.{join, shifted}
 use Rattle.pz_rules.specs.Terms.{Code, Step, Steps, Term, sequence, parallel, select, guarded, frame, abort, idle, handling, Terms}
 use Rattle.pz_rules.specs.Settings.{Context}
+use Rattle.pz_rules.specs.Delays.{Passes}
 use Rattle.pz_rules.specs.devices.Found.{tested}
 use Rattle.pz_tree_summary.specs.Summaries.{summary_of, summaries_of, gated}
+use Rattle.pz_tree_summary.specs.Asked.{asks}
+use Rattle.pz_tree_summary.specs.Steady.{later, Steady}
 
 -- the statements behind an open one add nothing
 abbrev pub OfSequence : Type 0
@@ -38,3 +42,12 @@ OfSelect = (a : Context) (c f : ℕ) (ts : Terms) → summary_of a c f (select t
 -- by a clock that is ahead, all is due so much later
 abbrev pub OfLaterClock : Type 0
 OfLaterClock = (a : Context) (c by f : ℕ) (t : Term) → summary_of a (c + by) f t ≡ shifted by (summary_of a c f t)
+
+-- what is asked nothing has one summary, whatever the state and the clock of the process
+abbrev pub UnaskedIsSteady : Type 0
+UnaskedIsSteady = (a b : Context) (c f : ℕ) (t : Term) → asks t ≡ false → summary_of a c f t ≡ summary_of b c f t
+
+-- in a sound model, what time leaves of a steady term has the summary from before
+abbrev pub SteadySummary : Type 0
+SteadySummary = (a : Context) (d c f : ℕ) (t x : Term) → IsSound a.setting.model → Steady a d f t → Passes a d f t x
+    → summary_of (later a d) (c + d) f x ≡ summary_of a c f t

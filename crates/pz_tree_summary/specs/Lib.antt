@@ -1,3 +1,5 @@
 pub mod Summaries
+pub mod Asked
+pub mod Steady
 pub mod Laws
 pub mod devices

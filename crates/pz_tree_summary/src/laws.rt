@@ -1,6 +1,7 @@
-// Laws of summaries, the contract of a function that does nothing.
+// Laws of summaries, each the contract of a function that does nothing.
 
-ghost use Rattle.pz_tree_summary.specs.Laws.{OfSequence, OfFrame, OfGuard, OfAbort, OfIdle, OfHandling, OfParallel, OfSelect, OfLaterClock};
+ghost use Rattle.pz_tree_summary.specs.Laws.{OfSequence, OfFrame, OfGuard, OfAbort, OfIdle, OfHandling, OfParallel, OfSelect, OfLaterClock, UnaskedIsSteady, SteadySummary};
+ghost use Rattle.pz_tree_summary.specs.devices.Laws.{TestIsSteady, SteadySummaryIsComputed};
 
 /// The summary of a term from those of its parts, form by form, and that by a clock that is ahead.
 pub fn summaries_by_form()
@@ -14,3 +15,20 @@ pub fn summaries_by_form()
     ensures select { OfSelect }
     ensures shifted { OfLaterClock }
 {}
+
+/// What is asked nothing has one summary by a clock of its own, whatever the state and the clock of the
+/// process.
+pub fn unasked_is_steady()
+    ensures law { UnaskedIsSteady }
+{}
+
+/// In a sound model a term of which no delay begins or is over, and no test or argument names the clock,
+/// has the same summary when so much time has passed.
+pub fn steady_terms_keep_summaries()
+    ensures summary { SteadySummary }
+    ensures computed { SteadySummaryIsComputed }
+    ensures tests { TestIsSteady }
+{
+    pz_eval_rules::laws::unclocked_is_timeless();
+    pz_rules::laws::passing_is_computed();
+}

@@ -2,6 +2,4 @@
 //! first trouble of what they are asked.
 #![tactic(auto)]
 
-mod laws;
-
-pub use laws::summaries_by_form;
+pub mod laws;

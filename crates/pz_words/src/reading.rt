@@ -42,7 +42,8 @@ fn hear(alloc: Global, awaited: Option<Valued>, word: &str) -> Result<Heard, All
 /// Adds what the words say to the options, and tells whether they are those of options that nothing
 /// before spoke of. The only error is want of memory.
 fn add_options(alloc: Global, options: &mut Options, words: &[String]) -> Result<bool, AllocError>
-    ensures { IfOk result (λ good. device.read_on options.old None (map string_bytes words.now) ≡ device.if_so good options.new) }
+    ensures { IfOk result (λ good. device.read_on options.old None (map string_bytes words.now) ≡
+        device.if_so good options.new) }
 {
     let mut awaited = None;
     for word in words {
@@ -62,7 +63,8 @@ fn add_options(alloc: Global, options: &mut Options, words: &[String]) -> Result
 
 /// What the options say that the words are. The only error is want of memory.
 pub fn read_options(alloc: Global, words: &[String]) -> Result<Option<Options>, AllocError>
-    ensures { IfOk result (λ found. found ≡ device.read_on nothing_said None (map string_bytes words.now)) }
+    ensures { IfOk result (λ found. found ≡ device.read_on nothing_said None
+        (map string_bytes words.now)) }
 {
     let mut options = Options::new();
     if add_options(alloc, &mut options, words)? {

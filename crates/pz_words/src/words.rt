@@ -32,7 +32,8 @@ pub fn job_is_computed()
 {}
 
 fn read_job(alloc: Global, command: &str, words: &[String]) -> Result<Option<Job>, AllocError>
-    ensures { IfOk result (λ found. found ≡ device.job_of command.now (map string_bytes words.now)) }
+    ensures { IfOk result (λ found. found ≡ device.job_of command.now
+        (map string_bytes words.now)) }
 {
     if command == "run" {
         return read_run(alloc, words);

@@ -130,7 +130,8 @@ fn copy_receive(
     condition: &Option<Expr>,
     block: &Option<Items<Expr>>,
 ) -> Result<StmtForm, AllocError>
-    ensures { IfOk result (λ copy. copy ≡ StmtForm.Receive port.now name.now into.now condition.now block.now) }
+    ensures { IfOk result (λ copy. copy ≡ StmtForm.Receive port.now name.now into.now condition.now
+        block.now) }
 {
     let port = port.copy()?;
     let name = name.copy()?;

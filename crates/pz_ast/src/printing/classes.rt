@@ -157,7 +157,8 @@ fn put_group_names(out: &mut Items<Mark>, names: &[Id]) -> Result<(), AllocError
 }
 
 fn put_group_name(out: &mut Items<Mark>, name: &Id, last: bool) -> Result<(), AllocError>
-    ensures { OnOk result (out.new ≡ out.old ++ (if last then head name.now ∷ [] else word name.now ∷ symbol Symbol.Comma ∷ [])) }
+    ensures { OnOk result (out.new ≡ out.old ++ (if last then head name.now ∷ [] else word name.now
+        ∷ symbol Symbol.Comma ∷ [])) }
 {
     if last {
         return put_head(out, name);

@@ -24,7 +24,8 @@ pub(crate) fn put_literal(out: &mut Items<Mark>, literal: &Literal) -> Result<()
 }
 
 fn put_creation(out: &mut Items<Mark>, class: &Id) -> Result<(), AllocError>
-    ensures { OnOk result (out.new ≡ out.old ++ keyword Keyword.New ∷ in_parentheses (word class.now ∷ [])) }
+    ensures { OnOk result (out.new ≡ out.old ++ keyword Keyword.New ∷ in_parentheses
+        (word class.now ∷ [])) }
 {
     put_keyword(out, Keyword::New)?;
     put_symbol(out, Symbol::LeftParen)?;
@@ -103,7 +104,8 @@ pub(crate) fn put_bracketed(
     separator: Symbol,
     es: &[Expr],
 ) -> Result<(), AllocError>
-    ensures { OnOk result (out.new ≡ out.old ++ in_parentheses (texts separator (list_view es.now))) }
+    ensures { OnOk result (out.new ≡ out.old ++ in_parentheses
+        (texts separator (list_view es.now))) }
 {
     put_symbol(out, Symbol::LeftParen)?;
     put_exprs(out, separator, es)?;
@@ -118,7 +120,8 @@ pub(crate) fn put_test(
     test: &Expr,
     after: Keyword,
 ) -> Result<(), AllocError>
-    ensures { OnOk result (out.new ≡ out.old ++ keyword before ∷ (text (view test.now) ++ keyword after ∷ [])) }
+    ensures { OnOk result (out.new ≡ out.old ++ keyword before ∷
+        (text (view test.now) ++ keyword after ∷ [])) }
 {
     put_keyword(out, before)?;
     put_expr(out, test)?;
@@ -127,7 +130,8 @@ pub(crate) fn put_test(
 
 #[cycle(put)]
 fn put_otherwise(out: &mut Items<Mark>, es: &[Expr]) -> Result<(), AllocError>
-    ensures { OnOk result (out.new ≡ out.old ++ keyword Keyword.Else ∷ texts Symbol.Semicolon (list_view es.now)) }
+    ensures { OnOk result (out.new ≡ out.old ++ keyword Keyword.Else ∷ texts Symbol.Semicolon
+        (list_view es.now)) }
 {
     put_keyword(out, Keyword::Else)?;
     put_exprs(out, Symbol::Semicolon, es)
@@ -146,7 +150,8 @@ fn put_links(out: &mut Items<Mark>, links: &[Link]) -> Result<(), AllocError>
 
 #[cycle(put)]
 fn put_sendings(out: &mut Items<Mark>, sendings: &[Sending]) -> Result<(), AllocError>
-    ensures { OnOk result (out.new ≡ out.old ++ sendings_text (sendings_of (map sending_view sendings.now))) }
+    ensures { OnOk result (out.new ≡ out.old ++ sendings_text
+        (sendings_of (map sending_view sendings.now))) }
 {
     for sending in sendings {
         put_selector(out, &sending.selector)?;

@@ -99,7 +99,8 @@ fn put_group(out: &mut Items<Mark>, body: &[Stmt]) -> Result<(), AllocError>
 
 #[cycle(put)]
 fn put_otherwise(out: &mut Items<Mark>, body: &[Stmt]) -> Result<(), AllocError>
-    ensures { OnOk result (out.new ≡ out.old ++ keyword Keyword.Else ∷ texts (sequence_view body.now)) }
+    ensures { OnOk result (out.new ≡ out.old ++ keyword Keyword.Else ∷ texts
+        (sequence_view body.now)) }
 {
     put_keyword(out, Keyword::Else)?;
     put_stmts(out, body)
@@ -107,7 +108,9 @@ fn put_otherwise(out: &mut Items<Mark>, body: &[Stmt]) -> Result<(), AllocError>
 
 #[cycle(put)]
 fn put_par(out: &mut Items<Mark>, branches: &[Items<Stmt>]) -> Result<(), AllocError>
-    ensures { OnOk result (out.new ≡ out.old ++ keyword Keyword.Par ∷ (branches_text Keyword.And (branches_of (map (map view) branches.now)) ++ keyword Keyword.Rap ∷ [])) }
+    ensures { OnOk result (out.new ≡ out.old ++ keyword Keyword.Par ∷
+        (branches_text Keyword.And (branches_of (map (map view) branches.now)) ++ keyword
+        Keyword.Rap ∷ [])) }
 {
     put_keyword(out, Keyword::Par)?;
     put_branches(out, Keyword::And, branches)?;
@@ -116,7 +119,9 @@ fn put_par(out: &mut Items<Mark>, branches: &[Items<Stmt>]) -> Result<(), AllocE
 
 #[cycle(put)]
 fn put_sel(out: &mut Items<Mark>, branches: &[Items<Stmt>]) -> Result<(), AllocError>
-    ensures { OnOk result (out.new ≡ out.old ++ keyword Keyword.Sel ∷ (branches_text Keyword.Or (branches_of (map (map view) branches.now)) ++ keyword Keyword.Les ∷ [])) }
+    ensures { OnOk result (out.new ≡ out.old ++ keyword Keyword.Sel ∷
+        (branches_text Keyword.Or (branches_of (map (map view) branches.now)) ++ keyword Keyword.Les
+        ∷ [])) }
 {
     put_keyword(out, Keyword::Sel)?;
     put_branches(out, Keyword::Or, branches)?;
@@ -130,7 +135,8 @@ fn put_branches(
     separator: Keyword,
     branches: &[Items<Stmt>],
 ) -> Result<(), AllocError>
-    ensures { OnOk result (out.new ≡ out.old ++ branches_text separator (branches_of (map (map view) branches.now))) }
+    ensures { OnOk result (out.new ≡ out.old ++ branches_text separator
+        (branches_of (map (map view) branches.now))) }
 {
     for (i, branch) in branches.iter().enumerate() {
         if i > 0 {
@@ -144,7 +150,8 @@ fn put_branches(
 /// What `abort` and `interrupt` have before the second statement.
 #[cycle(put)]
 fn put_first(out: &mut Items<Mark>, begin: Keyword, body: &[Stmt]) -> Result<(), AllocError>
-    ensures { OnOk result (out.new ≡ out.old ++ keyword begin ∷ (texts (sequence_view body.now) ++ keyword Keyword.With ∷ [])) }
+    ensures { OnOk result (out.new ≡ out.old ++ keyword begin ∷
+        (texts (sequence_view body.now) ++ keyword Keyword.With ∷ [])) }
 {
     put_keyword(out, begin)?;
     put_stmts(out, body)?;
@@ -160,7 +167,8 @@ fn put_block(out: &mut Items<Mark>, es: &[Expr]) -> Result<(), AllocError>
 }
 
 fn put_guard(out: &mut Items<Mark>, test: &Expr) -> Result<(), AllocError>
-    ensures { OnOk result (out.new ≡ out.old ++ symbol Symbol.LeftBracket ∷ (expression.text (expression_view.view test.now) ++ symbol Symbol.RightBracket ∷ [])) }
+    ensures { OnOk result (out.new ≡ out.old ++ symbol Symbol.LeftBracket ∷
+        (expression.text (expression_view.view test.now) ++ symbol Symbol.RightBracket ∷ [])) }
 {
     put_symbol(out, Symbol::LeftBracket)?;
     put_expr(out, test)?;
@@ -168,7 +176,8 @@ fn put_guard(out: &mut Items<Mark>, test: &Expr) -> Result<(), AllocError>
 }
 
 fn put_assignment(out: &mut Items<Mark>, variable: &Id, value: &Expr) -> Result<(), AllocError>
-    ensures { OnOk result (out.new ≡ out.old ++ word variable.now ∷ symbol Symbol.Assign ∷ expression.text (expression_view.view value.now)) }
+    ensures { OnOk result (out.new ≡ out.old ++ word variable.now ∷ symbol Symbol.Assign
+        ∷ expression.text (expression_view.view value.now)) }
 {
     put_word(out, variable)?;
     put_symbol(out, Symbol::Assign)?;
@@ -192,7 +201,8 @@ fn put_send(
     args: &Option<Items<Expr>>,
     block: &Option<Items<Expr>>,
 ) -> Result<(), AllocError>
-    ensures { OnOk result (out.new ≡ out.old ++ word port.now ∷ symbol Symbol.Bang ∷ word name.now ∷ (arguments_text (part_view args.now) ++ after_text (part_view block.now))) }
+    ensures { OnOk result (out.new ≡ out.old ++ word port.now ∷ symbol Symbol.Bang ∷ word name.now ∷
+        (arguments_text (part_view args.now) ++ after_text (part_view block.now))) }
 {
     put_word(out, port)?;
     put_symbol(out, Symbol::Bang)?;
@@ -209,7 +219,9 @@ fn put_receive(
     condition: &Option<Expr>,
     block: &Option<Items<Expr>>,
 ) -> Result<(), AllocError>
-    ensures { OnOk result (out.new ≡ out.old ++ word port.now ∷ symbol Symbol.Query ∷ word name.now ∷ (reception_text into.now (option_map expression_view.view condition.now) ++ after_text (part_view block.now))) }
+    ensures { OnOk result (out.new ≡ out.old ++ word port.now ∷ symbol Symbol.Query ∷ word name.now
+        ∷ (reception_text into.now (option_map expression_view.view condition.now) ++ after_text
+        (part_view block.now))) }
 {
     put_word(out, port)?;
     put_symbol(out, Symbol::Query)?;
@@ -225,7 +237,8 @@ fn put_reception(
     into: &Items<Id>,
     condition: &Option<Expr>,
 ) -> Result<(), AllocError>
-    ensures { OnOk result (out.new ≡ out.old ++ in_parentheses (names_text into.now ++ condition_text (option_map expression_view.view condition.now))) }
+    ensures { OnOk result (out.new ≡ out.old ++ in_parentheses
+        (names_text into.now ++ condition_text (option_map expression_view.view condition.now))) }
 {
     put_symbol(out, Symbol::LeftParen)?;
     into.print(out)?;
@@ -242,7 +255,9 @@ fn put_call(
     args: &[Expr],
     results: &Items<Id>,
 ) -> Result<(), AllocError>
-    ensures { OnOk result (out.new ≡ out.old ++ head method.now ∷ (in_parentheses (expression.texts Symbol.Comma (list_view args.now)) ++ in_parentheses (names_text results.now))) }
+    ensures { OnOk result (out.new ≡ out.old ++ head method.now ∷
+        (in_parentheses (expression.texts Symbol.Comma (list_view args.now)) ++ in_parentheses
+        (names_text results.now))) }
 {
     put_head(out, method)?;
     put_bracketed(out, Symbol::Comma, args)?;

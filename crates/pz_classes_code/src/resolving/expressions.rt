@@ -12,7 +12,8 @@ use std::alloc::{AllocError, Global};
 
 #[cycle(resolve_expr)]
 pub(crate) fn resolve(alloc: Global, scope: &Scope, expr: &Expr) -> Result<Code, AllocError>
-    ensures { IfOk result (λ c. code.view c ≡ resolved (scope_view scope.now) (tree.view expr.now)) }
+    ensures { IfOk result (λ c. code.view c ≡ resolved (scope_view scope.now)
+        (tree.view expr.now)) }
 {
     Ok(Code {
         pos: expr.pos,
@@ -27,7 +28,8 @@ fn resolve_form(
     form: &ExprForm,
     pos: Pos,
 ) -> Result<CodeForm, AllocError>
-    ensures { IfOk result (λ f. code.form_view f pos ≡ resolved (scope_view scope.now) (tree.form_view form.now pos)) }
+    ensures { IfOk result (λ f. code.form_view f pos ≡ resolved (scope_view scope.now)
+        (tree.form_view form.now pos)) }
 {
     match form {
         ExprForm::Lit(literal) => Ok(CodeForm::Lit(literal.copy()?)),
@@ -81,7 +83,8 @@ fn resolve_form(
 /// is want of memory.
 #[cycle(resolve_expr)]
 pub fn resolve_list(alloc: Global, scope: &Scope, list: &[Expr]) -> Result<Items<Code>, AllocError>
-    ensures { IfOk result (λ cs. code.list_view cs ≡ resolved_all (scope_view scope.now) (tree.list_view list.now)) }
+    ensures { IfOk result (λ cs. code.list_view cs ≡ resolved_all (scope_view scope.now)
+        (tree.list_view list.now)) }
 {
     let mut codes = Items::new(alloc);
     for expr in list {
@@ -96,7 +99,8 @@ fn resolve_links(
     scope: &Scope,
     links: &[Link],
 ) -> Result<Items<CodeLink>, AllocError>
-    ensures { IfOk result (λ ls. code.links_of (map code.link_view ls) ≡ resolved_links (scope_view scope.now) (tree.links_of (map tree.link_view links.now))) }
+    ensures { IfOk result (λ ls. code.links_of (map code.link_view ls) ≡ resolved_links
+        (scope_view scope.now) (tree.links_of (map tree.link_view links.now))) }
 {
     let mut codes = Items::new(alloc);
     for link in links {
@@ -115,7 +119,8 @@ fn resolve_sendings(
     scope: &Scope,
     sendings: &[Sending],
 ) -> Result<Items<CodeSending>, AllocError>
-    ensures { IfOk result (λ ss. code.sendings_of (map code.sending_view ss) ≡ resolved_sendings (scope_view scope.now) (tree.sendings_of (map tree.sending_view sendings.now))) }
+    ensures { IfOk result (λ ss. code.sendings_of (map code.sending_view ss) ≡ resolved_sendings
+        (scope_view scope.now) (tree.sendings_of (map tree.sending_view sendings.now))) }
 {
     let mut codes = Items::new(alloc);
     for sending in sendings {
@@ -135,7 +140,8 @@ pub(crate) fn resolve_part(
     scope: &Scope,
     part: &Option<Items<Expr>>,
 ) -> Result<Option<Items<Code>>, AllocError>
-    ensures { IfOk result (λ p. code.part_view p ≡ resolved_part (scope_view scope.now) (tree.part_view part.now)) }
+    ensures { IfOk result (λ p. code.part_view p ≡ resolved_part (scope_view scope.now)
+        (tree.part_view part.now)) }
 {
     match part {
         None => Ok(None),

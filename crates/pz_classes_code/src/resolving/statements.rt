@@ -15,7 +15,8 @@ use std::alloc::{AllocError, Global};
 
 #[cycle(resolve_stmt)]
 fn resolve_statement(alloc: Global, scope: &Scope, stmt: &Stmt) -> Result<Step, AllocError>
-    ensures { IfOk result (λ s. step.view s ≡ resolved_statement (scope_view scope.now) (tree.view stmt.now)) }
+    ensures { IfOk result (λ s. step.view s ≡ resolved_statement (scope_view scope.now)
+        (tree.view stmt.now)) }
 {
     Ok(Step {
         pos: stmt.pos,
@@ -30,7 +31,8 @@ fn resolve_form(
     form: &StmtForm,
     pos: Pos,
 ) -> Result<StepForm, AllocError>
-    ensures { IfOk result (λ f. step.form_view f pos ≡ resolved_statement (scope_view scope.now) (tree.form_view form.now pos)) }
+    ensures { IfOk result (λ f. step.form_view f pos ≡ resolved_statement (scope_view scope.now)
+        (tree.form_view form.now pos)) }
 {
     match form {
         StmtForm::Skip => Ok(StepForm::Skip),
@@ -109,7 +111,8 @@ fn resolve_assignment(
     value: &Expr,
     pos: Pos,
 ) -> Result<StepForm, AllocError>
-    ensures { IfOk result (λ f. step.form_view f pos ≡ resolved_statement (scope_view scope.now) (tree.form_view (StmtForm.Assign target.now value.now) pos)) }
+    ensures { IfOk result (λ f. step.form_view f pos ≡ resolved_statement (scope_view scope.now)
+        (tree.form_view (StmtForm.Assign target.now value.now) pos)) }
 {
     let value = Boxed::new(alloc, resolve(alloc, scope, value)?)?;
     Ok(StepForm::Eval(Code {
@@ -127,7 +130,8 @@ fn resolve_send(
     block: &Option<Items<Expr>>,
     pos: Pos,
 ) -> Result<StepForm, AllocError>
-    ensures { IfOk result (λ f. step.form_view f pos ≡ resolved_statement (scope_view scope.now) (tree.form_view (StmtForm.Send port.now name.now args.now block.now) pos)) }
+    ensures { IfOk result (λ f. step.form_view f pos ≡ resolved_statement (scope_view scope.now)
+        (tree.form_view (StmtForm.Send port.now name.now args.now block.now) pos)) }
 {
     Ok(StepForm::Send {
         port: scope.port(&port.name),
@@ -147,7 +151,9 @@ fn resolve_receive(
     block: &Option<Items<Expr>>,
     pos: Pos,
 ) -> Result<StepForm, AllocError>
-    ensures { IfOk result (λ f. step.form_view f pos ≡ resolved_statement (scope_view scope.now) (tree.form_view (StmtForm.Receive port.now name.now into.now condition.now block.now) pos)) }
+    ensures { IfOk result (λ f. step.form_view f pos ≡ resolved_statement (scope_view scope.now)
+        (tree.form_view (StmtForm.Receive port.now name.now into.now condition.now block.now)
+        pos)) }
 {
     Ok(StepForm::Receive {
         port: scope.port(&port.name),
@@ -178,7 +184,8 @@ fn resolve_condition(
     scope: &Scope,
     condition: &Option<Expr>,
 ) -> Result<Option<Code>, AllocError>
-    ensures { IfOk result (λ c. option_map code.view c ≡ option_map (resolved (scope_view scope.now)) (option_map expression.view condition.now)) }
+    ensures { IfOk result (λ c. option_map code.view c ≡ option_map
+        (resolved (scope_view scope.now)) (option_map expression.view condition.now)) }
 {
     match condition {
         None => Ok(None),
@@ -194,7 +201,8 @@ pub fn resolve_statements(
     scope: &Scope,
     list: &[Stmt],
 ) -> Result<Items<Step>, AllocError>
-    ensures { IfOk result (λ ss. step.sequence_view ss ≡ resolved_statements (scope_view scope.now) (tree.sequence_view list.now)) }
+    ensures { IfOk result (λ ss. step.sequence_view ss ≡ resolved_statements (scope_view scope.now)
+        (tree.sequence_view list.now)) }
 {
     let mut steps = Items::new(alloc);
     for stmt in list {
@@ -209,7 +217,8 @@ fn resolve_branches(
     scope: &Scope,
     branches: &[Items<Stmt>],
 ) -> Result<Items<Items<Step>>, AllocError>
-    ensures { IfOk result (λ bs. step.branches_of (map (map step.view) bs) ≡ resolved_branches (scope_view scope.now) (tree.branches_of (map (map tree.view) branches.now))) }
+    ensures { IfOk result (λ bs. step.branches_of (map (map step.view) bs) ≡ resolved_branches
+        (scope_view scope.now) (tree.branches_of (map (map tree.view) branches.now))) }
 {
     let mut steps = Items::new(alloc);
     for branch in branches {
