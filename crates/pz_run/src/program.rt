@@ -42,19 +42,22 @@ pub fn run_program<F: Files, W: Sink>(
     // are those of the definitions, the text of the run of a sound model that the words choose, or a trace
     // tells, by the rules, or what else is to be said.
     ensures output { OfAsked (map string_bytes words.now) (λ a.
-        (F.state files.old).told ≡ true → CameThrough (F.state files.old) (F.state files.new) result →
+        (F.state files.old).told ≡ true →
+        CameThrough (F.state files.old) (F.state files.new) result →
         PrintsAll a (F.state files.old).held (W.state out.old) (W.state out.new) result) }
     // Where the files failed, the line that says so names the last file that was opened.
     ensures read_fault { OfAsked (map string_bytes words.now) (λ a.
         result ≡ Status.ReadFault → Rose (F.state files.old).faults (F.state files.new).faults →
-        SaysFault (files_of a) (F.state files.old) (F.state files.new) (W.state out.old) (W.state out.new)) }
+        SaysFault (files_of a) (F.state files.old) (F.state files.new) (W.state out.old)
+        (W.state out.new)) }
     // The files of the job are opened in their order and no others; without a file nothing is, also not
     // before the usage line.
     ensures opens { OfAsked (map string_bytes words.now) (λ a.
         OpensFiles (files_of a) (F.state files.old) (F.state files.new) result) }
     // What is printed before a write fails, or memory is wanting, is a front of what is to be printed.
     ensures write_fault { OfAsked (map string_bytes words.now) (λ a.
-        (F.state files.old).told ≡ true → (W.state out.old).told ≡ true → result ≡ Status.WriteFault →
+        (F.state files.old).told ≡ true → (W.state out.old).told ≡ true →
+        result ≡ Status.WriteFault →
         PrintsFront a (F.state files.old) (F.state files.new) (W.state out.old) (W.state out.new)) }
     ensures no_memory { OfAsked (map string_bytes words.now) (λ a.
         (F.state files.old).told ≡ true → (W.state out.old).told ≡ true → result ≡ Status.NoMemory →
@@ -74,12 +77,14 @@ pub fn run_program<F: Files, W: Sink>(
         result ≡ Status.Usage) }
     // A model is refused exactly where its text is.
     ensures model_refused { OfAsked (map string_bytes words.now) (λ a.
-        (F.state files.old).told ≡ true → result ≡ Status.ModelRefused → IsNoModel a (F.state files.old).held) }
+        (F.state files.old).told ≡ true → result ≡ Status.ModelRefused →
+        IsNoModel a (F.state files.old).held) }
     ensures no_model { OfAsked (map string_bytes words.now) (λ a.
         IsNoModel a (F.state files.old).held → (F.state files.old).told ≡ true →
         CameThrough (F.state files.old) (F.state files.new) result → result ≡ Status.ModelRefused) }
     ensures deadlock { OfAsked (map string_bytes words.now) (λ a.
-        (F.state files.old).told ≡ true → result ≡ Status.Deadlock → RunEnds a (F.state files.old).held deadlocked) }
+        (F.state files.old).told ≡ true → result ≡ Status.Deadlock →
+        RunEnds a (F.state files.old).held deadlocked) }
     ensures model_fault { OfAsked (map string_bytes words.now) (λ a.
         (F.state files.old).told ≡ true → result ≡ Status.ModelFault →
         (trouble : Trouble) × RunEnds a (F.state files.old).held (troubled trouble)) }
@@ -89,22 +94,27 @@ pub fn run_program<F: Files, W: Sink>(
     // These three come exactly there: the run that is asked for, by a choice or by its trace, gives its own
     // status.
     ensures run_end { OfAsked (map string_bytes words.now) (λ a.
-        (ending : Ending) → RunEnds a (F.state files.old).held ending → (F.state files.old).told ≡ true →
+        (ending : Ending) → RunEnds a (F.state files.old).held ending →
+        (F.state files.old).told ≡ true →
         CameThrough (F.state files.old) (F.state files.new) result → result ≡ status_of ending) }
     // A trace is refused exactly where it is the text of no run of the model.
     ensures trace_refused { OfAsked (map string_bytes words.now) (λ a.
-        (F.state files.old).told ≡ true → result ≡ Status.TraceRefused → IsNoTrace a (F.state files.old).held) }
+        (F.state files.old).told ≡ true → result ≡ Status.TraceRefused →
+        IsNoTrace a (F.state files.old).held) }
     ensures no_trace { OfAsked (map string_bytes words.now) (λ a.
         IsNoTrace a (F.state files.old).held → (F.state files.old).told ≡ true →
         CameThrough (F.state files.old) (F.state files.new) result → result ≡ Status.TraceRefused) }
     // A second file is opened only once the model is accepted.
     ensures trace_opened { OfAsked (map string_bytes words.now) (λ a.
-        (F.state files.old).told ≡ true → length (F.state files.old).opened + 1 < length (F.state files.new).opened →
+        (F.state files.old).told ≡ true →
+        length (F.state files.old).opened + 1 < length (F.state files.new).opened →
         HasModelText a (F.state files.old).held) }
     ensures too_long { OfAsked (map string_bytes words.now) (λ a.
-        result ≡ Status.TooLong → IsPastLimit (files_of a) (F.state files.old) (F.state files.new)) }
+        result ≡ Status.TooLong → IsPastLimit (files_of a) (F.state files.old)
+        (F.state files.new)) }
     ensures longer { OfAsked (map string_bytes words.now) (λ a.
-        (F.state files.old).told ≡ true → result ≡ Status.TooLong → IsLonger (files_of a) (F.state files.old).held) }
+        (F.state files.old).told ≡ true → result ≡ Status.TooLong →
+        IsLonger (files_of a) (F.state files.old).held) }
     ensures read_cause { OfAsked (map string_bytes words.now) (λ a.
         result ≡ Status.ReadFault → Rose (F.state files.old).faults (F.state files.new).faults
         ⊎ (((F.state files.old).told ≡ true) × Lacks (files_of a) (F.state files.old).held)) }
@@ -112,7 +122,8 @@ pub fn run_program<F: Files, W: Sink>(
         Rose (W.state out.old).faults (W.state out.new).faults }
     // Where neither count rose, the output is whole and the status is its own, or memory was wanting.
     ensures complete { OfAsked (map string_bytes words.now) (λ a.
-        (F.state files.old).told ≡ true → ¬ Rose (F.state files.old).faults (F.state files.new).faults →
+        (F.state files.old).told ≡ true →
+        ¬ Rose (F.state files.old).faults (F.state files.new).faults →
         ¬ Rose (W.state out.old).faults (W.state out.new).faults → result ≢ Status.NoMemory →
         PrintsAll a (F.state files.old).held (W.state out.old) (W.state out.new) result) }
 {
@@ -128,7 +139,7 @@ fn run_words<F: Files, W: Sink>(
 ) -> Status
     ensures kept { OfAsked (map string_bytes words.now) (λ a.
         KeepsPromises a (F.state files.old) (F.state files.new) (W.state out.old) (W.state out.new)
-            result) }
+        result) }
     ensures reading { (F.state files.new).faults ≢ (F.state files.old).faults →
         EndsReading (F.state files.old) (F.state files.new) result }
     ensures writing { EndsWriting (W.state out.old) (W.state out.new) result }
