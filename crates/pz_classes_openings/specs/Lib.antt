@@ -1,0 +1,4 @@
+pub mod Beginning
+pub mod Methods
+pub mod Openings
+pub mod OpeningRules
