@@ -2,10 +2,10 @@
 //! a method opens as.
 #![tactic(auto)]
 
+mod counting;
 mod graph;
 mod rounds;
-mod totals;
 
+pub use counting::{MANY, total_with, totals};
 pub use graph::{Call, Method};
 pub use rounds::least_round;
-pub use totals::{MANY, Totals};

@@ -7,7 +7,7 @@ ghost use Rattle.pz_check_violations.specs.Least.{LeastOf};
 ghost use Rattle.pz_check_components.specs.Graph.{number_of};
 ghost use Rattle.pz_check_calls.specs.Calls as spec;
 ghost use Rattle.pz_check_calls.specs.Calls.{IsRound};
-ghost use Rattle.pz_check_calls.specs.devices.Rounds as device;
+ghost use Rattle.pz_check_calls.specs.devices.LeadingBack as device;
 
 use crate::{Call, Method};
 use pz_check_components::components;

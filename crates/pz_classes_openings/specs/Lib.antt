@@ -1,4 +1,3 @@
-pub mod Beginning
 pub mod Methods
 pub mod Openings
 pub mod OpeningRules

@@ -7,7 +7,7 @@ use Rattle.pz_syntax.specs.declared.names.Id.{Id}
 use Rattle.pz_syntax.specs.Classes.{ModelTree}
 use Rattle.pz_classes.specs.declared.method_id.MethodId.{MethodId}
 use Rattle.pz_classes.specs.Methods.{Signature, method_id, method_with, process_method}
-use Rattle.pz_classes_openings.specs.Beginning.{begun_all, all_plain_calls, statements_in_all}
+use Rattle.pz_classes_beginnings.specs.Beginning.{begun_all, all_plain_calls, statements_in_all}
 use Rattle.pz_classes_openings.specs.Methods.{body_at}
 
 -- the plain calls with which method k begins, all plain calls in its body, and how many statements

@@ -1,0 +1,178 @@
+-- Totals that grow until they stand still.
+use Rattle.std.proofs.Common.{◌≡◌, ◌≢◌, refl, sym, ap, subst, ◌∙◌, ℕ, zero, suc, ◌+◌, ◌-◌, ◌<◌, ◌≤◌, ◌⊎◌, inl, inr, Bool, true, false, ◌||◌, nat_lt, min, List, [], ◌∷◌, length, get_or, if◌then◌else◌, arith, get_or-set_same, get_or-set_other}
+use Rattle.std.specs.List.{sum_by}
+use Rattle.std.proofs.Math.ListN.{set, length-set}
+use Rattle.std.proofs.lemmas.Bool.Decides.{nat_tests}
+use Rattle.std.proofs.lemmas.List.{get_or_past}
+use Rattle.std.proofs.lemmas.List.Sums.{sum_by-cons, sum_by-set, sum_by-le-sum_by}
+use Rattle.std.proofs.lemmas.Option.{unwrap_or-slice_get}
+use Rattle.pz_check_calls.specs.declared.graph.Call.{Call}
+use Rattle.pz_check_calls.specs.declared.graph.Method.{Method}
+use Rattle.pz_check_calls.specs.Calls.{begun_by, statements_of, opened_in, total_in, AreTotals}
+use Rattle.pz_check_calls.specs.devices.Raising.{next, raised, IsReached, room, Raises}
+
+two_ways : (u v : ℕ) → (u < v) ⊎ (v ≤ u)
+two_ways u v = grind arith
+
+same_number : (u v : ℕ) → (u ≡ v) ⊎ (u ≢ v)
+same_number u v = grind arith
+
+total_is : (ts : List ℕ) (k : ℕ) → total_in ts k ≡ get_or ts k 0
+total_is ts k = unwrap_or-slice_get ts k 0
+
+-- what a total is no more than, where one total is set
+set_bounded : (ts : List ℕ) (k j v bound : ℕ) → total_in ts j ≤ bound → (j ≡ k → v ≤ bound) → total_in (set ts k v) j ≤ bound
+set_bounded ts k j v bound old new = by_place (same_number j k) (two_ways k (length ts))
+  where
+    by_place : (j ≡ k) ⊎ (j ≢ k) → (k < length ts) ⊎ (length ts ≤ k) → total_in (set ts k v) j ≤ bound
+    by_place (inr other) _ =
+        let e : total_in (set ts k v) j ≡ total_in ts j = total_is (set ts k v) j ∙ (get_or-set_other ts k j v 0 other ∙ sym (total_is ts j)) in
+        omega (arith, e)
+    by_place (inl same) (inl below) =
+        let e : total_in (set ts k v) k ≡ v = total_is (set ts k v) k ∙ get_or-set_same ts k v 0 below in
+        let less : v ≤ bound = new same in
+        subst (λ (i : ℕ). total_in (set ts k v) i ≤ bound) (sym same) (omega (arith, e))
+    by_place (inl same) (inr beyond) =
+        let size : length (set ts k v) ≡ length ts = length-set ts k v in
+        let e : total_in (set ts k v) j ≡ 0 = total_is (set ts k v) j ∙ get_or_past (set ts k v) j 0 (omega (arith, size)) in
+        omega (arith, e)
+
+room_less : (ts : List ℕ) (k v : ℕ) → k < length ts → total_in ts k < v → v ≤ 1000001 → room (set ts k v) < room ts
+room_less ts k v below less most =
+    let s : room (set ts k v) + (1000001 - get_or ts k 0) ≡ room ts + (1000001 - v) = sum_by-set (λ (t : ℕ). 1000001 - t) ts k v 0 below in
+    let e : total_in ts k ≡ get_or ts k 0 = total_is ts k in
+    omega (arith, s, e)
+
+-- beyond the last method nothing is begun
+none_beyond : (ms : List Method) (k : ℕ) → length ms ≤ k → (statements_of ms k ≡ 0) × (begun_by ms k ≡ [])
+none_beyond [] k beyond = (refl, refl)
+none_beyond (r ∷ ms) zero beyond = absurd (omega arith)
+none_beyond (r ∷ ms) (suc k) beyond = none_beyond ms k (omega arith)
+
+-- sums of what is no more, where it is known to be no more while it is small
+sums_below : (ts : List ℕ) (o : ℕ → ℕ) → ((k : ℕ) → total_in ts k < 1000001 → o k ≤ total_in ts k) → (xs : List Call)
+    → sum_by (λ x. total_in ts x.method) xs < 1000001 → sum_by (λ x. o x.method) xs ≤ sum_by (λ x. total_in ts x.method) xs
+sums_below ts o each [] low = omega arith
+sums_below ts o each (x ∷ xs) low =
+    let a : sum_by (λ (y : Call). total_in ts y.method) (x ∷ xs) ≡ total_in ts x.method + sum_by (λ (y : Call). total_in ts y.method) xs = sum_by-cons (λ (y : Call). total_in ts y.method) x xs in
+    let b : sum_by (λ (y : Call). o y.method) (x ∷ xs) ≡ o x.method + sum_by (λ (y : Call). o y.method) xs = sum_by-cons (λ (y : Call). o y.method) x xs in
+    let here : o x.method ≤ total_in ts x.method = each x.method (omega (arith, a)) in
+    let rest : sum_by (λ (y : Call). o y.method) xs ≤ sum_by (λ (y : Call). total_in ts y.method) xs = sums_below ts o each xs (omega (arith, a)) in
+    omega (arith, a, b)
+
+module _ (ms : List Method) where
+  -- calls that are followed deeper give no less
+  pub deeper : (depth k : ℕ) → opened_in ms depth k ≤ opened_in ms (suc depth) k
+  deeper zero k = omega arith
+  deeper (suc depth) k =
+      let more : sum_by (λ (x : Call). opened_in ms depth x.method) (begun_by ms k) ≤ sum_by (λ (x : Call). opened_in ms (suc depth) x.method) (begun_by ms k) =
+      sum_by-le-sum_by (λ (x : Call). opened_in ms depth x.method) (λ (x : Call). opened_in ms (suc depth) x.method) (begun_by ms k) (λ (x : Call). deeper depth x.method) in
+      omega (arith, more)
+
+  pub nothing_reached : (ts : List ℕ) → ((k : ℕ) → total_in ts k ≡ 0) → IsReached ms ts
+  nothing_reached ts none = (0, λ k. (let e : total_in ts k ≡ 0 = none k in omega (arith, e)))
+
+  pub still_reached : (ts : List ℕ) (k : ℕ) → IsReached ms ts → IsReached ms (raised ms ts k)
+  still_reached ts k (depth, below) = by_test (nat_lt (total_in ts k) (next ms ts k)) refl
+    where
+      most : next ms ts k ≤ opened_in ms (suc depth) k
+      most =
+          let s : sum_by (λ (x : Call). total_in ts x.method) (begun_by ms k) ≤ sum_by (λ (x : Call). opened_in ms depth x.method) (begun_by ms k) =
+          sum_by-le-sum_by (λ (x : Call). total_in ts x.method) (λ (x : Call). opened_in ms depth x.method) (begun_by ms k) (λ (x : Call). below x.method) in
+          omega (arith, s)
+
+      grown : (j : ℕ) → total_in (set ts k (next ms ts k)) j ≤ opened_in ms (suc depth) j
+      grown j =
+          let old : total_in ts j ≤ opened_in ms depth j = below j in
+          let more : opened_in ms depth j ≤ opened_in ms (suc depth) j = deeper depth j in
+          set_bounded ts k j (next ms ts k) (opened_in ms (suc depth) j) (omega arith) (λ same. subst (λ (i : ℕ). next ms ts k ≤ opened_in ms (suc depth) i) (sym same) most)
+
+      by_test : (b : Bool) → nat_lt (total_in ts k) (next ms ts k) ≡ b → IsReached ms (if b then set ts k (next ms ts k) else ts)
+      by_test true is = (suc depth, grown)
+      by_test false is = (depth, below)
+
+  pub still_sized : (ts : List ℕ) (k : ℕ) → length (raised ms ts k) ≡ length ts
+  still_sized ts k = by_test (nat_lt (total_in ts k) (next ms ts k))
+    where
+      by_test : (b : Bool) → length (if b then set ts k (next ms ts k) else ts) ≡ length ts
+      by_test true = length-set ts k (next ms ts k)
+      by_test false = refl
+
+  pub none_raised : (ts : List ℕ) → length ts ≡ length ms → Raises ms ts ts false 0
+  none_raised ts size = record {
+    sized = size; reached = λ r. r; no_more = omega arith; less = λ (wrong : false ≡ true). absurd (cc_false wrong); same = λ _. refl; stable = λ _ k below. absurd (omega arith);
+  }
+    where
+      cc_false : false ≡ true → ⊥
+      cc_false wrong = cc
+
+  -- one method further
+  pub one_raised : (old now : List ℕ) (grew did : Bool) (count : ℕ) → count < length ms → did ≡ nat_lt (total_in now count) (next ms now count)
+      → Raises ms old now grew count → Raises ms old (raised ms now count) (did || grew) (count + 1)
+  one_raised old now grew did count within is before = by_test did is
+    where
+      size : length now ≡ length ms
+      size = before.sized
+
+      fewer : nat_lt (total_in now count) (next ms now count) ≡ true → room (set now count (next ms now count)) < room old
+      fewer grows =
+          let less : total_in now count < next ms now count = grind (arith, nat_tests) in
+          let r : room (set now count (next ms now count)) < room now = room_less now count (next ms now count) (omega arith) less (omega arith) in
+          let no_more : room now ≤ room old = before.no_more in
+          omega arith
+
+      stands : nat_lt (total_in now count) (next ms now count) ≡ false → next ms now count ≤ total_in now count
+      stands no = grind (arith, nat_tests)
+
+      by_test : (b : Bool) → b ≡ nat_lt (total_in now count) (next ms now count) → Raises ms old (raised ms now count) (b || grew) (count + 1)
+      by_test true yes = rw (← yes) (record {
+        sized = length-set now count (next ms now count) ∙ size;
+        reached = λ r. subst (IsReached ms) (ap (λ (b : Bool). if b then set now count (next ms now count) else now) (sym yes)) (still_reached now count (before.reached r));
+        no_more = (let f = fewer (sym yes) in omega (arith, f));
+        less = λ _. fewer (sym yes);
+        same = λ wrong. absurd (never wrong);
+        stable = λ wrong. absurd (never wrong);
+      })
+        where
+          never : true ≡ false → ⊥
+          never wrong = cc
+      by_test false no = rw (← no) (record {
+        sized = size;
+        reached = before.reached;
+        no_more = before.no_more;
+        less = before.less;
+        same = before.same;
+        stable = λ none k below. by_place none k (two_ways k count) below;
+      })
+        where
+          by_place : grew ≡ false → (k : ℕ) → (k < count) ⊎ (count ≤ k) → k < count + 1 → next ms old k ≤ total_in old k
+          by_place none k (inl earlier) _ = before.stable none k earlier
+          by_place none k (inr last) below =
+              let place : count ≡ k = omega arith in
+              let kept : now ≡ old = before.same none in
+              subst (λ (j : ℕ). next ms old j ≤ total_in old j) place (subst (λ (ts : List ℕ). next ms ts count ≤ total_in ts count) kept (stands (sym no)))
+
+  -- totals that stand still are no less than what calls give
+  fixed : (ts : List ℕ) → ((k : ℕ) → k < length ms → next ms ts k ≤ total_in ts k) → (depth k : ℕ) → total_in ts k < 1000001 → opened_in ms depth k ≤ total_in ts k
+  fixed ts stable zero k low = omega arith
+  fixed ts stable (suc depth) k low = by_place (two_ways k (length ms))
+    where
+      below : sum_by (λ x. total_in ts x.method) (begun_by ms k) < 1000001 → sum_by (λ x. opened_in ms depth x.method) (begun_by ms k) ≤ sum_by (λ x. total_in ts x.method) (begun_by ms k)
+      below small = sums_below ts (opened_in ms depth) (fixed ts stable depth) (begun_by ms k) small
+
+      by_place : (k < length ms) ⊎ (length ms ≤ k) → opened_in ms (suc depth) k ≤ total_in ts k
+      by_place (inl within) =
+          let still : next ms ts k ≤ total_in ts k = stable k within in
+          let s = below (omega arith) in
+          omega (arith, s)
+      by_place (inr beyond) =
+          let none = none_beyond ms k beyond in
+          let nothing : opened_in ms (suc depth) k ≡ 0 = rw (none.0, none.1) refl in
+          omega (arith, nothing)
+
+  -- what the code ends with
+  pub standing : (old new : List ℕ) → Raises ms old new false (length ms) → IsReached ms old → AreTotals ms new
+  standing old new r reached = record {
+    least = r.reached reached;
+    most = λ k depth low. subst (λ (ts : List ℕ). total_in ts k < 1000001 → opened_in ms depth k ≤ total_in ts k) (sym (r.same refl)) (fixed old (r.stable refl) depth k) low;
+  }
