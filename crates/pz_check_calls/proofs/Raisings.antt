@@ -8,7 +8,7 @@ use Rattle.std.proofs.lemmas.List.Sums.{sum_by-cons, sum_by-set, sum_by-le-sum_b
 use Rattle.std.proofs.lemmas.Option.{unwrap_or-slice_get}
 use Rattle.pz_check_calls.specs.declared.graph.Call.{Call}
 use Rattle.pz_check_calls.specs.declared.graph.Method.{Method}
-use Rattle.pz_check_calls.specs.Calls.{begun_by, statements_of, opened_in, total_in, AreTotals}
+use Rattle.pz_check_calls.specs.Calls.{begun_by, calls_by, statements_of, opened_in, total_in, AreTotals, IsLarge}
 use Rattle.pz_check_calls.specs.devices.Raising.{next, raised, IsReached, room, Raises}
 
 two_ways : (u v : ℕ) → (u < v) ⊎ (v ≤ u)
@@ -122,7 +122,7 @@ module _ (ms : List Method) where
           omega arith
 
       stands : nat_lt (total_in now count) (next ms now count) ≡ false → next ms now count ≤ total_in now count
-      stands no = grind (arith, nat_tests)
+      stands falls = grind (arith, nat_tests)
 
       by_test : (b : Bool) → b ≡ nat_lt (total_in now count) (next ms now count) → Raises ms old (raised ms now count) (b || grew) (count + 1)
       by_test true yes = rw (← yes) (record {
@@ -136,7 +136,7 @@ module _ (ms : List Method) where
         where
           never : true ≡ false → ⊥
           never wrong = cc
-      by_test false no = rw (← no) (record {
+      by_test false falls = rw (← falls) (record {
         sized = size;
         reached = before.reached;
         no_more = before.no_more;
@@ -150,22 +150,19 @@ module _ (ms : List Method) where
           by_place none k (inr last) below =
               let place : count ≡ k = omega arith in
               let kept : now ≡ old = before.same none in
-              subst (λ (j : ℕ). next ms old j ≤ total_in old j) place (subst (λ (ts : List ℕ). next ms ts count ≤ total_in ts count) kept (stands (sym no)))
+              subst (λ (j : ℕ). next ms old j ≤ total_in old j) place (subst (λ (ts : List ℕ). next ms ts count ≤ total_in ts count) kept (stands (sym falls)))
 
   -- totals that stand still are no less than what calls give
   fixed : (ts : List ℕ) → ((k : ℕ) → k < length ms → next ms ts k ≤ total_in ts k) → (depth k : ℕ) → total_in ts k < 1000001 → opened_in ms depth k ≤ total_in ts k
   fixed ts stable zero k low = omega arith
-  fixed ts stable (suc depth) k low = by_place (two_ways k (length ms))
+  fixed ts stable (suc depth) k low = by_place (fixed ts stable depth) (two_ways k (length ms))
     where
-      below : sum_by (λ x. total_in ts x.method) (begun_by ms k) < 1000001 → sum_by (λ x. opened_in ms depth x.method) (begun_by ms k) ≤ sum_by (λ x. total_in ts x.method) (begun_by ms k)
-      below small = sums_below ts (opened_in ms depth) (fixed ts stable depth) (begun_by ms k) small
-
-      by_place : (k < length ms) ⊎ (length ms ≤ k) → opened_in ms (suc depth) k ≤ total_in ts k
-      by_place (inl within) =
+      by_place : ((j : ℕ) → total_in ts j < 1000001 → opened_in ms depth j ≤ total_in ts j) → (k < length ms) ⊎ (length ms ≤ k) → opened_in ms (suc depth) k ≤ total_in ts k
+      by_place before (inl within) =
           let still : next ms ts k ≤ total_in ts k = stable k within in
-          let s = below (omega arith) in
+          let s : sum_by (λ x. opened_in ms depth x.method) (begun_by ms k) ≤ sum_by (λ x. total_in ts x.method) (begun_by ms k) = sums_below ts (opened_in ms depth) before (begun_by ms k) (omega arith) in
           omega (arith, s)
-      by_place (inr beyond) =
+      by_place before (inr beyond) =
           let none = none_beyond ms k beyond in
           let nothing : opened_in ms (suc depth) k ≡ 0 = rw (none.0, none.1) refl in
           omega (arith, nothing)
@@ -176,3 +173,34 @@ module _ (ms : List Method) where
     least = r.reached reached;
     most = λ k depth low. subst (λ (ts : List ℕ). total_in ts k < 1000001 → opened_in ms depth k ≤ total_in ts k) (sym (r.same refl)) (fixed old (r.stable refl) depth k) low;
   }
+
+  pub raised_sized : (old new : List ℕ) (k : ℕ) → new ≡ raised ms old k → length old ≡ length ms → length new ≡ length ms
+  raised_sized old new k is size = ap length is ∙ (still_sized old k ∙ size)
+
+  pub raised_reached : (old new : List ℕ) (k : ℕ) → new ≡ raised ms old k → IsReached ms old → IsReached ms new
+  raised_reached old new k is reached = subst (IsReached ms) (sym is) (still_reached old k reached)
+
+  pub raises_on : (old now new : List ℕ) (grew did after : Bool) (count : ℕ) → count < length ms → did ≡ nat_lt (total_in now count) (next ms now count) → new ≡ raised ms now count
+      → after ≡ (did || grew) → Raises ms old now grew count → Raises ms old new after (count + 1)
+  raises_on old now new grew did after count within is made joined before = rw (made, joined) (one_raised old now grew did count within is before)
+
+  -- the test on all calls
+  module _ (ts : List ℕ) (are : AreTotals ms ts) (k : ℕ) where
+    abbrev spread : ℕ
+    spread = statements_of ms k + sum_by (λ x. total_in ts x.method) (calls_by ms k)
+
+    pub large_is : 1000001 ≤ min spread 1000001 → IsLarge ms k
+    large_is much =
+        let most : sum_by (λ (x : Call). total_in ts x.method) (calls_by ms k) ≤ sum_by (λ (x : Call). opened_in ms are.least.0 x.method) (calls_by ms k) =
+        sum_by-le-sum_by (λ (x : Call). total_in ts x.method) (λ (x : Call). opened_in ms are.least.0 x.method) (calls_by ms k) (λ (x : Call). are.least.1 x.method) in
+        (are.least.0, omega (arith, most))
+
+    pub is_large : IsLarge ms k → 1000001 ≤ min spread 1000001
+    is_large (depth, much) = by_size (two_ways spread 1000001)
+      where
+        by_size : (spread < 1000001) ⊎ (1000001 ≤ spread) → 1000001 ≤ min spread 1000001
+        by_size (inl low) =
+            let s : sum_by (λ (x : Call). opened_in ms depth x.method) (calls_by ms k) ≤ sum_by (λ (x : Call). total_in ts x.method) (calls_by ms k) =
+            sums_below ts (opened_in ms depth) (λ j small. are.most j depth small) (calls_by ms k) (omega arith) in
+            omega (arith, s)
+        by_size (inr high) = omega arith

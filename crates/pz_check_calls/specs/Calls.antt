@@ -15,6 +15,10 @@ begun_by ms k = option_map_or (λ r. r.begun) (slice_get ms k) []
 abbrev pub statements_of : List Method → ℕ → ℕ
 statements_of ms k = option_map_or (λ r. r.statements) (slice_get ms k) 0
 
+-- all its calls that can open
+abbrev pub calls_by : List Method → ℕ → List Call
+calls_by ms k = option_map_or (λ r. r.calls) (slice_get ms k) []
+
 abbrev pub targets_of : List Call → List ℕ
 targets_of xs = map (λ x. x.method) xs
 
@@ -30,6 +34,14 @@ pub data IsRound (ms : List Method) : Violation → Type 0 where
 abbrev pub opened_in : List Method → ℕ → ℕ → ℕ
 opened_in ms zero k = 0
 opened_in ms (suc depth) k = statements_of ms k + sum_by (λ x. opened_in ms depth x.method) (begun_by ms k)
+
+-- the same where all its calls open
+abbrev pub spread_in : List Method → ℕ → ℕ → ℕ
+spread_in ms depth k = statements_of ms k + sum_by (λ x. opened_in ms depth x.method) (calls_by ms k)
+
+-- too large with all that opens out of it
+abbrev pub IsLarge : List Method → ℕ → Type 0
+IsLarge ms k = (depth : ℕ) × (1000000 < spread_in ms depth k)
 
 abbrev pub total_in : List ℕ → ℕ → ℕ
 total_in totals k = unwrap_or (slice_get totals k) 0

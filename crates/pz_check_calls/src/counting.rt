@@ -1,10 +1,10 @@
 // How many statements methods open as. Totals grow from nothing, method by method, until none grows
 // any more.
 
-ghost use Rattle.std.specs.Prelude.{◌≡◌, ◌<◌, ◌≤◌, ◌+◌, ℕ, length, min, nat_lt, false, IsTrue, IfOk};
+ghost use Rattle.std.specs.Prelude.{◌≡◌, ◌<◌, ◌≤◌, ◌+◌, ℕ, length, min, nat_lt, false, ◌||◌, ◌↔◌, IsTrue, IfOk};
 ghost use Rattle.std.specs.List.{sum_by};
 ghost use Rattle.pz_check_calls.specs.Calls as spec;
-ghost use Rattle.pz_check_calls.specs.Calls.{AreTotals};
+ghost use Rattle.pz_check_calls.specs.Calls.{AreTotals, IsLarge};
 ghost use Rattle.pz_check_calls.specs.devices.Raising as device;
 ghost use Rattle.pz_check_calls.specs.devices.Raising.{IsReached, Raises};
 
@@ -28,7 +28,7 @@ fn total_in(totals: &[u32], method: usize) -> u32
 }
 
 /// So many statements with those as which these calls open, each call counted.
-pub fn total_with(statements: u32, calls: &[Call], totals: &[u32]) -> u32
+fn total_with(statements: u32, calls: &[Call], totals: &[u32]) -> u32
     ensures { result ≡ min (statements + sum_by (λ x. spec.total_in totals.now x.method) calls.now) 1000001 }
 {
     let mut total = statements.min(MANY);
@@ -57,6 +57,18 @@ fn raise(methods: &[Method], totals: &mut Vec<u32>, method: usize) -> bool
     true
 }
 
+/// Raises the total of the method, if there is such a method.
+fn raise_one(methods: &[Method], totals: &mut Vec<u32>, method: usize)
+    requires { length totals.old.items ≡ length methods.now }
+    ensures sized { length totals.new.items ≡ length methods.now }
+    ensures reached { IsReached methods.now totals.old.items → IsReached methods.now totals.new.items }
+{
+    if method >= methods.len() {
+        return;
+    }
+    let _ = raise(methods, totals, method);
+}
+
 /// Raises the totals of these methods in this order.
 fn raise_in_order(methods: &[Method], order: &[usize], totals: &mut Vec<u32>)
     requires { length totals.old.items ≡ length methods.now }
@@ -64,10 +76,14 @@ fn raise_in_order(methods: &[Method], order: &[usize], totals: &mut Vec<u32>)
     ensures reached { IsReached methods.now totals.old.items → IsReached methods.now totals.new.items }
 {
     for method in order {
-        if *method < methods.len() {
-            let _ = raise(methods, totals, *method);
-        }
+        raise_one(methods, totals, *method);
     }
+}
+
+fn either(first: bool, second: bool) -> bool
+    ensures { result ≡ (first || second) }
+{
+    first || second
 }
 
 /// Raises the totals of all methods, each once. Whether one grew.
@@ -77,8 +93,7 @@ fn raise_all(methods: &[Method], totals: &mut Vec<u32>) -> bool
 {
     let mut grew = false;
     for method in 0..methods.len() {
-        let did = raise(methods, totals, method);
-        grew = did || grew;
+        grew = either(raise(methods, totals, method), grew);
     }
     grew
 }
@@ -96,6 +111,17 @@ fn order_of(alloc: Global, methods: &[Method]) -> Result<Vec<usize>, AllocError>
         }
     }
     Ok(order)
+}
+
+/// Whether the method is too large with all that opens out of it: more than 1,000,000 statements.
+pub fn is_large(methods: &[Method], totals: &[u32], method: usize) -> bool
+    requires { AreTotals methods.now totals.now }
+    ensures { IsTrue result ↔ IsLarge methods.now method }
+{
+    match methods.get(method) {
+        Some(found) => total_with(found.statements, found.calls.as_slice(), totals) >= MANY,
+        None => false,
+    }
 }
 
 /// How many statements each method opens as. The only error is want of memory.

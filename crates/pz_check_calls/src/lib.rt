@@ -6,6 +6,6 @@ mod counting;
 mod graph;
 mod rounds;
 
-pub use counting::{MANY, total_with, totals};
+pub use counting::{MANY, is_large, totals};
 pub use graph::{Call, Method};
 pub use rounds::least_round;
