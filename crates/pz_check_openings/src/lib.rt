@@ -3,8 +3,9 @@
 
 mod each_class;
 mod estimate;
-mod inherited;
+mod in_class;
 mod least;
+mod lookup;
 mod outline;
 mod settled;
 

@@ -1,8 +1,13 @@
 -- The plain calls of statements: the calls of process methods without inputs and without results.
 use Rattle.std.specs.Prelude.{ℕ, suc, ◌+◌, List, [], ◌∷◌, ◌++◌}
 use Rattle.pz_syntax.specs.declared.names.Id.{Id}
-use Rattle.pz_syntax.specs.Expressions.{none}
+use Rattle.pz_syntax.specs.Expressions.{Expressions, none}
 use Rattle.pz_syntax.specs.Statements.{Statement, skip, delay, bracketed, block, guarded, parallel, select, conditional, repeated, abort, interrupt, send, receive, call, assignment, value, Statements, no_statements, then, StatementPart, not_written, otherwise, Branches, no_branches, branch}
+
+-- the method of a call, if the call is plain
+abbrev pub if_plain : {X K : Type 0} → Id → Expressions X K → List X → List Id
+if_plain method none [] = method ∷ []
+if_plain method _ _ = []
 
 -- The plain calls with which statements begin, each as often as it stands there. The rest of a
 -- sequence begins only when the first statement is done, what `if` and `while` choose only when they
@@ -15,7 +20,7 @@ abbrev mutual
   begun (select pos bs) = begun_each bs
   begun (abort pos ts t) = begun_all ts ++ begun t
   begun (interrupt pos ts t) = begun_all ts ++ begun t
-  begun (call pos method none []) = method ∷ []
+  begun (call pos method args results) = if_plain method args results
   begun _ = []
 
   -- of a sequence those of the first statement
@@ -38,7 +43,7 @@ abbrev mutual
   plain_calls (repeated pos e ts) = all_plain_calls ts
   plain_calls (abort pos ts t) = all_plain_calls ts ++ plain_calls t
   plain_calls (interrupt pos ts t) = all_plain_calls ts ++ plain_calls t
-  plain_calls (call pos method none []) = method ∷ []
+  plain_calls (call pos method args results) = if_plain method args results
   plain_calls _ = []
 
   pub all_plain_calls : {X K Q : Type 0} → Statements X K Q → List Id

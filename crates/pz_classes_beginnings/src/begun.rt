@@ -31,7 +31,15 @@ fn add_begun_by(out: &mut Items<Id>, statement: &Stmt) -> Result<(), AllocError>
             args,
             results,
         } => add_call(out, method, args.as_slice(), results.as_slice()),
-        _ => Ok(()),
+        StmtForm::If(_, _, _) => Ok(()),
+        StmtForm::While(_, _) => Ok(()),
+        StmtForm::Skip => Ok(()),
+        StmtForm::Delay(_) => Ok(()),
+        StmtForm::Block(_) => Ok(()),
+        StmtForm::Send { .. } => Ok(()),
+        StmtForm::Receive { .. } => Ok(()),
+        StmtForm::Assign(_, _) => Ok(()),
+        StmtForm::Value(_) => Ok(()),
     }
 }
 

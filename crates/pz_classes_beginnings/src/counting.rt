@@ -39,7 +39,14 @@ fn count_of(statement: &Stmt, most: u32) -> u32
             let count = plus(1, count_up_to(first.as_slice(), most), most);
             plus(count, count_of(second.get(), most), most)
         }
-        _ => most.min(1),
+        StmtForm::Skip => most.min(1),
+        StmtForm::Delay(_) => most.min(1),
+        StmtForm::Block(_) => most.min(1),
+        StmtForm::Send { .. } => most.min(1),
+        StmtForm::Receive { .. } => most.min(1),
+        StmtForm::Assign(_, _) => most.min(1),
+        StmtForm::Value(_) => most.min(1),
+        StmtForm::Call { .. } => most.min(1),
     }
 }
 

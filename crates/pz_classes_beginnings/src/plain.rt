@@ -1,12 +1,10 @@
 // The plain calls that stand in statements.
 
 ghost use Rattle.std.specs.Prelude.{◌≡◌, ◌++◌, map, OnOk};
-ghost use Rattle.pz_syntax.specs.declared.tokens.Pos.{Pos as Place};
-ghost use Rattle.pz_syntax.specs.Statements.{call};
 ghost use Rattle.pz_syntax.specs.ExpressionView.{list_view};
 ghost use Rattle.pz_syntax.specs.StatementView.{view, sequence_view, branches_of};
 ghost use Rattle.pz_classes_beginnings.specs.Beginning as spec;
-ghost use Rattle.pz_classes_beginnings.specs.Beginning.{all_plain_calls, plain_calls_of_each};
+ghost use Rattle.pz_classes_beginnings.specs.Beginning.{if_plain, all_plain_calls, plain_calls_of_each};
 
 use pz_items::Items;
 use pz_syntax::{Expr, Id, Stmt, StmtForm};
@@ -19,8 +17,7 @@ pub(crate) fn add_call(
     args: &[Expr],
     results: &[Id],
 ) -> Result<(), AllocError>
-    ensures begun { (pos : Place) → OnOk result (out.new ≡ out.old ++ spec.begun (call pos method.now (list_view args.now) results.now)) }
-    ensures plain { (pos : Place) → OnOk result (out.new ≡ out.old ++ spec.plain_calls (call pos method.now (list_view args.now) results.now)) }
+    ensures { OnOk result (out.new ≡ out.old ++ if_plain method.now (list_view args.now) results.now) }
 {
     match (args, results) {
         ([], []) => out.push(method.copy()?),
@@ -58,7 +55,13 @@ fn add_plain_calls_of(out: &mut Items<Id>, statement: &Stmt) -> Result<(), Alloc
             args,
             results,
         } => add_call(out, method, args.as_slice(), results.as_slice()),
-        _ => Ok(()),
+        StmtForm::Skip => Ok(()),
+        StmtForm::Delay(_) => Ok(()),
+        StmtForm::Block(_) => Ok(()),
+        StmtForm::Send { .. } => Ok(()),
+        StmtForm::Receive { .. } => Ok(()),
+        StmtForm::Assign(_, _) => Ok(()),
+        StmtForm::Value(_) => Ok(()),
     }
 }
 
