@@ -1,5 +1,5 @@
 -- Totals that grow until they stand still.
-use Rattle.std.proofs.Common.{◌≡◌, ◌≢◌, refl, sym, ap, subst, ◌∙◌, ℕ, zero, suc, ◌+◌, ◌-◌, ◌<◌, ◌≤◌, ◌⊎◌, inl, inr, Bool, true, false, ◌||◌, nat_lt, min, List, [], ◌∷◌, length, get_or, if◌then◌else◌, arith, get_or-set_same, get_or-set_other}
+use Rattle.std.proofs.Common.{◌≡◌, ◌≢◌, refl, sym, ap, subst, ◌∙◌, ℕ, zero, suc, ◌+◌, ◌-◌, ◌<◌, ◌≤◌, ◌⊎◌, inl, inr, Bool, true, false, ◌||◌, nat_lt, nat_le, IsTrue, min, Some, slice_get, List, [], ◌∷◌, length, get_or, if◌then◌else◌, arith, get_or-set_same, get_or-set_other}
 use Rattle.std.specs.List.{sum_by}
 use Rattle.std.proofs.Math.ListN.{set, length-set}
 use Rattle.std.proofs.lemmas.Bool.Decides.{nat_tests}
@@ -204,3 +204,13 @@ module _ (ms : List Method) where
             sums_below ts (opened_in ms depth) (λ j small. are.most j depth small) (calls_by ms k) (omega arith) in
             omega (arith, s)
         by_size (inr high) = omega arith
+
+  -- the same of a method that is there
+  pub large_test : (ts : List ℕ) → AreTotals ms ts → (k : ℕ) (r : Method) (calls : List Call) (total : ℕ) → slice_get ms k ≡ Some r → calls ≡ r.calls
+      → total ≡ min (r.statements + sum_by (λ x. total_in ts x.method) calls) 1000001 → (IsTrue (nat_le 1000001 total) → IsLarge ms k) × (IsLarge ms k → IsTrue (nat_le 1000001 total))
+  large_test ts are k r calls total here own is =
+      (λ (test : IsTrue (nat_le 1000001 total)). large_is ts are k (let much : 1000001 ≤ total = grind (arith, nat_tests) in omega (arith, same)),
+      λ large. (let much = is_large ts are k large in let high : 1000001 ≤ total = omega (arith, same) in grind (arith, nat_tests)))
+    where
+      same : total ≡ min (statements_of ms k + sum_by (λ x. total_in ts x.method) (calls_by ms k)) 1000001
+      same = is ∙ rw (own, here) refl

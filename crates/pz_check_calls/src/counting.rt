@@ -115,13 +115,12 @@ fn order_of(alloc: Global, methods: &[Method]) -> Result<Vec<usize>, AllocError>
 
 /// Whether the method is too large with all that opens out of it: more than 1,000,000 statements.
 pub fn is_large(methods: &[Method], totals: &[u32], method: usize) -> bool
-    requires { AreTotals methods.now totals.now }
+    requires totals { AreTotals methods.now totals.now }
+    requires within { method < length methods.now }
     ensures { IsTrue result ↔ IsLarge methods.now method }
 {
-    match methods.get(method) {
-        Some(found) => total_with(found.statements, found.calls.as_slice(), totals) >= MANY,
-        None => false,
-    }
+    let found = &methods[method];
+    total_with(found.statements, found.calls.as_slice(), totals) >= MANY
 }
 
 /// How many statements each method opens as. The only error is want of memory.
