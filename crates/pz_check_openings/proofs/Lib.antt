@@ -1,0 +1,5 @@
+mod Listed
+mod Positive
+mod Settled
+mod InClasses
+mod Gathering
