@@ -125,11 +125,11 @@ module _ (ms : List Method) where
       stands falls = grind (arith, nat_tests)
 
       by_test : (b : Bool) → b ≡ nat_lt (total_in now count) (next ms now count) → Raises ms old (raised ms now count) (b || grew) (count + 1)
-      by_test true yes = rw (← yes) (record {
+      by_test true grows = rw (← grows) (record {
         sized = length-set now count (next ms now count) ∙ size;
-        reached = λ r. subst (IsReached ms) (ap (λ (b : Bool). if b then set now count (next ms now count) else now) (sym yes)) (still_reached now count (before.reached r));
-        no_more = (let f = fewer (sym yes) in omega (arith, f));
-        less = λ _. fewer (sym yes);
+        reached = λ r. subst (IsReached ms) (ap (λ (b : Bool). if b then set now count (next ms now count) else now) (sym grows)) (still_reached now count (before.reached r));
+        no_more = (let f = fewer (sym grows) in omega (arith, f));
+        less = λ _. fewer (sym grows);
         same = λ wrong. absurd (never wrong);
         stable = λ wrong. absurd (never wrong);
       })

@@ -32,7 +32,7 @@ same_is s t is =
     rw (same_counts_is s.counts t.counts both.0, (bytes_eq-Decides s.name t.name).0 both.1) refl
 
 -- a method of a process class with its signature, or a signature of a data class
-data Shows : Option ProcessMethodTree → Signature → Type 0 where
+pub data Shows : Option ProcessMethodTree → Signature → Type 0 where
   of_process : (r : ProcessMethodTree) → Shows (Some r) (process_signature r)
   of_data : (r : DataMethodTree) → Shows None (data_signature r)
 
@@ -56,10 +56,10 @@ decl_show (cluster_class d) = none
 decl_show (system s) = none
 
 -- the signature that is found, and the method at its number
-record Standing (all : List (Option ProcessMethodTree)) (k : ℕ) (s : Signature) : Type 0 where
-  method : Option ProcessMethodTree
-  there : slice_get all k ≡ Some method
-  shows : Shows method s
+pub record Standing (all : List (Option ProcessMethodTree)) (k : ℕ) (s : Signature) : Type 0 where
+  pub method : Option ProcessMethodTree
+  pub there : slice_get all k ≡ Some method
+  pub shows : Shows method s
 
 -- behind so many of all methods stand these
 behind : {A : Type 0} (before : List A) (xs : List A) (i : ℕ) → slice_get (before ++ xs) (length before + i) ≡ slice_get xs i
@@ -150,11 +150,11 @@ module _ (m : ModelTree) (s : Signature) where
 
   found : (line : List ℕ) (k : ℕ) → nearest (own_method m s) line ≡ Some (method_id k) → Standing (methods m) k s
   found [] k is = cc
-  found (c ∷ line) k is = by_own (own_method m s c) refl is
+  found (c ∷ line) k is = by_own (own_method m s c) refl is (found line k)
     where
-      by_own : (o : Option MethodId) → own_method m s c ≡ o → option_or o (nearest (own_method m s) line) ≡ Some (method_id k) → Standing (methods m) k s
-      by_own None own e = found line k e
-      by_own (Some n) own e = own_found c k (own ∙ e)
+      by_own : (o : Option MethodId) → own_method m s c ≡ o → option_or o (nearest (own_method m s) line) ≡ Some (method_id k) → (nearest (own_method m s) line ≡ Some (method_id k) → Standing (methods m) k s) → Standing (methods m) k s
+      by_own None own e later = later e
+      by_own (Some n) own e later = own_found c k (own ∙ e)
 
   -- the method at the number that look-up finds
   pub found_there : (c k : ℕ) → method_with m c s ≡ Some (method_id k) → Standing (methods m) k s
