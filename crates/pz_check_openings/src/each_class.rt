@@ -1,6 +1,6 @@
 // The rules class by class.
 
-ghost use Rattle.std.specs.Prelude.{◌≡◌, ◌+◌, length, IfOk};
+ghost use Rattle.std.specs.Prelude.{◌≡◌, ◌<◌, ◌+◌, length, IfOk};
 ghost use Rattle.pz_check_violations.specs.Least.{LeastOf};
 ghost use Rattle.pz_check_calls.specs.Calls.{AreTotals};
 ghost use Rattle.pz_classes.specs.CheckedView.{checked_model, checked_classes};
@@ -57,7 +57,7 @@ fn has_method(checked: &Checked, class: ClassId, number: usize, method: &Outline
     requires { HasClass (checked_classes checked.now) class }
     ensures { result ≡ spec.is_found (checked_model checked.now) class.0 number method.now }
 {
-    match called(checked, class, &method.name, method.inputs, method.outputs) {
+    match called(checked, class, &method.name.name, method.inputs, method.outputs) {
         Some(found) => found.0 as usize == number,
         None => false,
     }
@@ -75,9 +75,10 @@ fn large_at(
     requires belongs { HasClass (checked_classes checked.now) class }
     requires methods { methods.now ≡ spec.methods_in (checked_model checked.now) class.0 outlines.now }
     requires totals { AreTotals methods.now totals.now }
+    requires within { number < length outlines.now }
     ensures { LeastOf (LargeAt (checked_model checked.now) outlines.now class.0 number) result }
 {
-    let Some(Some(method)) = outlines.get(number) else {
+    let Some(method) = &outlines[number] else {
         return None;
     };
     if !has_method(checked, class, number, method) {
