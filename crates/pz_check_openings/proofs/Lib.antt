@@ -1,5 +1,5 @@
 mod Listed
 mod Positive
-mod Settled
+mod Bounds
 mod InClasses
 mod Gathering
