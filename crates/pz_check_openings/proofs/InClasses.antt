@@ -47,7 +47,7 @@ in_either (y ∷ xs) ys x (suc i, below, is) = elim (in_either xs ys x (i, omega
 
 module _ (m : ModelTree) (c : ℕ) where
   -- a call of the list, and the word that it stands for
-  record Word (xs : List Id) (h : Call) : Type 0 where
+  pub record Word (xs : List Id) (h : Call) : Type 0 where
     pub word : Id
     pub among : Contains xs word
     pub finds : called m c word ≡ Some (method_id h.method)

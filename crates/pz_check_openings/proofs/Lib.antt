@@ -3,3 +3,6 @@ mod Positive
 mod Bounds
 mod InClasses
 mod Gathering
+mod Merely
+mod AllSettled
+mod Telling

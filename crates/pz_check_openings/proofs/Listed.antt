@@ -3,6 +3,11 @@ use Rattle.std.proofs.Common.{◌≡◌, refl, sym, ap, ◌∙◌, ℕ, List, []
 use Rattle.std.specs.List.{flat_map}
 use Rattle.std.specs.Option.{option_map, unwrap_or}
 use Rattle.std.proofs.lemmas.Option.{slice_get-map}
+use Rattle.pz_syntax.specs.declared.clusters.Decl.{Decl}
+use Rattle.pz_syntax.specs.declared.clusters.Decl.TheVariants as decl
+use Rattle.pz_syntax.specs.declared.classes.ProcessClass.{ProcessClass}
+use Rattle.pz_syntax.specs.declared.classes.ProcessMethod.{ProcessMethod}
+use Rattle.pz_syntax.specs.ClassView.{decl_view, process_method_view}
 use Rattle.pz_syntax.specs.Classes.{DeclTree, data_class, process_class, cluster_class, system, DataMethodTree, ProcessMethodTree, ModelTree}
 use Rattle.pz_classes_openings.specs.Methods.{declared_methods, methods, method_at}
 use Rattle.pz_check_openings.specs.declared.outline.Outline.{Outline}
@@ -60,3 +65,11 @@ module _ (m : ModelTree) (k : ℕ) where
   -- where no process method is, no outline is
   pub no_outline : method_at m k ≡ None → (o : Outline) → slice_get (outlines m) k ≡ Some (Some o) → ⊥
   no_outline none o here = let r = outline_is o here in (let wrong : None ≡ Some r.0 = sym none ∙ r.1 in cc)
+
+-- what the code adds for a process class
+pub process_outlines : (d : Decl) (class : ProcessClass) (methods seen : List ProcessMethod) (old new : List (Option Outline)) → d ≡ decl.Process class → class.methods ≡ Some methods → seen ≡ methods
+    → new ≡ old ++ map (λ r. Some (outline_of (process_method_view r))) seen → new ≡ old ++ declared_outlines (decl_view d)
+process_outlines d class methods seen old new is has seen_are pushed =
+    let own : declared_outlines (decl_view d) ≡ map (λ r. Some (outline_of r)) (map process_method_view methods) = rw (is, has) refl in
+    pushed ∙ ap (λ (rs : List ProcessMethod). old ++ map (λ r. Some (outline_of (process_method_view r))) rs) seen_are
+    ∙ ap (λ (l : List (Option Outline)). old ++ l) (map_twice (λ (r : ProcessMethodTree). Some (outline_of r)) process_method_view methods ∙ sym own)

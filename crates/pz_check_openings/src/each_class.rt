@@ -47,7 +47,8 @@ pub(crate) fn round_in_any(
 {
     let mut least = None;
     for class in 0..count(checked) {
-        least = sooner(least, round_in(alloc, checked, outlines, class)?);
+        let found = round_in(alloc, checked, outlines, class)?;
+        least = sooner(least, found);
     }
     Ok(least)
 }
@@ -108,7 +109,8 @@ fn large_at_any(
 {
     let mut least = None;
     for number in 0..outlines.len() {
-        least = sooner(least, large_at(checked, outlines, class, methods, totals, number));
+        let found = large_at(checked, outlines, class, methods, totals, number);
+        least = sooner(least, found);
     }
     least
 }
@@ -143,7 +145,8 @@ pub(crate) fn large_in_any(
 {
     let mut least = None;
     for class in 0..count(checked) {
-        least = sooner(least, large_in(alloc, checked, outlines, class)?);
+        let found = large_in(alloc, checked, outlines, class)?;
+        least = sooner(least, found);
     }
     Ok(least)
 }

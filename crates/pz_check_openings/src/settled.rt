@@ -62,6 +62,16 @@ fn is_settled(method: &Outline, names: &Numbering, bounds: &[u32]) -> bool
     opened < MANY && opened <= bound_of(names, bounds, &method.name.name)
 }
 
+/// Whether the method, if it is one of a process, keeps to the bounds.
+fn is_settled_if_any(method: &Option<Outline>, names: &Numbering, bounds: &[u32]) -> bool
+    ensures { IsTrue result → (o : Sketch) → method.now ≡ Some o → Settles (spec.bound_of names.now bounds.now) o }
+{
+    match method {
+        Some(method) => is_settled(method, names, bounds),
+        None => true,
+    }
+}
+
 /// Whether all methods keep to the bounds.
 pub(crate) fn are_settled(
     methods: &[Option<Outline>],
@@ -71,10 +81,8 @@ pub(crate) fn are_settled(
     ensures { IsTrue result → (k : ℕ) (o : Sketch) → slice_get methods.now k ≡ Some (Some o) → Settles (spec.bound_of names.now bounds.now) o }
 {
     for method in methods {
-        if let Some(method) = method {
-            if !is_settled(method, names, bounds) {
-                return false;
-            }
+        if !is_settled_if_any(method, names, bounds) {
+            return false;
         }
     }
     true
