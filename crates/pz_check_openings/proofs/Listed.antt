@@ -1,5 +1,5 @@
 -- The outlines are those of the methods at their numbers.
-use Rattle.std.proofs.Common.{◌≡◌, refl, sym, ap, ◌∙◌, ℕ, List, [], ◌∷◌, ◌++◌, map, length, Option, Some, None, slice_get}
+use Rattle.std.proofs.Common.{◌≡◌, refl, sym, ap, ◌∙◌, ℕ, zero, suc, ◌+◌, arith, append_assoc, List, [], ◌∷◌, ◌++◌, map, length, Option, Some, None, slice_get}
 use Rattle.std.specs.List.{flat_map}
 use Rattle.std.specs.Option.{option_map, unwrap_or}
 use Rattle.std.proofs.lemmas.Option.{slice_get-map}
@@ -73,3 +73,13 @@ process_outlines d class methods seen old new is has seen_are pushed =
     let own : declared_outlines (decl_view d) ≡ map (λ r. Some (outline_of r)) (map process_method_view methods) = rw (is, has) refl in
     pushed ∙ ap (λ (rs : List ProcessMethod). old ++ map (λ r. Some (outline_of (process_method_view r))) rs) seen_are
     ∙ ap (λ (l : List (Option Outline)). old ++ l) (map_twice (λ (r : ProcessMethodTree). Some (outline_of r)) process_method_view methods ∙ sym own)
+
+nones_more : (n : ℕ) → nones n ++ None ∷ [] ≡ nones (suc n)
+nones_more zero = refl
+nones_more (suc n) = ap (λ (l : List (Option Outline)). None ∷ l) (nones_more n)
+
+-- one more of a data class
+pub one_none : (old now new : List (Option Outline)) (n next : ℕ) → next ≡ n + 1 → new ≡ now ++ None ∷ [] → now ≡ old ++ nones n → new ≡ old ++ nones next
+one_none old now new n next step pushed so_far =
+    let one : next ≡ suc n = omega arith in
+    pushed ∙ ap (λ (l : List (Option Outline)). l ++ None ∷ []) so_far ∙ append_assoc old (nones n) (None ∷ []) ∙ ap (λ (l : List (Option Outline)). old ++ l) (nones_more n) ∙ ap (λ (k : ℕ). old ++ nones k) (sym one)

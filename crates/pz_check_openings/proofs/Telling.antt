@@ -1,5 +1,5 @@
 -- What is found class by class is what the rules say.
-use Rattle.std.proofs.Common.{◌≡◌, refl, sym, ap, subst, ◌∙◌, ℕ, zero, suc, ◌+◌, ◌<◌, ◌≤◌, Bool, true, false, nat_eq, IsTrue, List, length, Option, Some, None, slice_get, IsSome, arith}
+use Rattle.std.proofs.Common.{◌≡◌, refl, sym, ap, subst, ◌∙◌, ℕ, zero, suc, ◌+◌, ◌<◌, ◌≤◌, Bool, true, false, nat_eq, IsTrue, List, length, Option, Some, None, slice_get, arith}
 use Rattle.std.specs.Option.{option_map_or, option_map}
 use Rattle.std.proofs.lemmas.Bool.{eqb-true}
 use Rattle.std.proofs.lemmas.Bool.Decides.{nat_tests}
@@ -20,6 +20,8 @@ use Rattle.pz_check_openings.specs.Answers.{Tells}
 use Rattle.pz_check_openings.specs.declared.outline.Outline.{Outline}
 use Rattle.pz_check_openings.specs.devices.Outlines.{outlines}
 use Rattle.pz_check_openings.specs.devices.InClass.{methods_in, is_found, RoundIn, round_in, LargeAt, large_at, LargeIn, large_in, Among}
+use Rattle.pz_check_openings.specs.devices.Settling.{Settles}
+use Rattle.pz_check_openings.proofs.Bounds.{settles_all}
 use Rattle.pz_check_openings.proofs.Gathering.{least_alike}
 use Rattle.pz_check_openings.proofs.InClasses.{round_breaks, breaks_round, large_breaks, breaks_large}
 
@@ -42,7 +44,7 @@ module _ (m : ModelTree) where
       by_class (c, here) = (c, below c v here, here)
         where
           below : (k : ℕ) (w : Violation) → RoundIn m (outlines m) k w → k < count
-          below k _ (round_in d w declared process round) = numbered k d declared
+          below k _ (round_in d w declared process here) = numbered k d declared
 
   pub rounds : (found : Option Violation) → LeastOf (Among (RoundIn m (outlines m)) count) found → LeastOf (BreaksC23 m) found
   rounds found is = least_alike (Among (RoundIn m (outlines m)) count) (BreaksC23 m) rounds_to rounds_from found is
@@ -63,14 +65,19 @@ module _ (m : ModelTree) where
   sizes found is = least_alike (Among (LargeIn m (outlines m)) count) (BreaksC24 m) sizes_to sizes_from found is
 
   -- what is told
-  pub told_round : (found : Option Violation) → IsSome found → LeastOf (BreaksC23 m) found → Tells m found
-  told_round None some is = cc
-  told_round (Some v) some is = in_rounds is
+  pub tell_round : (seen : List (Option Outline)) (found : Option Violation) (v : Violation) → seen ≡ outlines m → LeastOf (Among (RoundIn m seen) count) found → found ≡ Some v → Tells m (Some v)
+  tell_round seen found v are least is =
+      in_rounds (subst (LeastOf (BreaksC23 m)) is (rounds found (subst (λ (os : List (Option Outline)). LeastOf (Among (RoundIn m os) count) found) are least)))
 
-  pub told_size : (round found : Option Violation) → (IsSome round → ⊥) → LeastOf (BreaksC23 m) round → LeastOf (BreaksC24 m) found → Tells m found
-  told_size (Some v) found none is are = absurd (none refl)
-  told_size None None none is are = record { rounds = is; sizes = are }
-  told_size None (Some v) none is are = in_sizes is are
+  pub tell_size : (seen also : List (Option Outline)) (found size : Option Violation) → seen ≡ outlines m → LeastOf (Among (RoundIn m seen) count) found → found ≡ None → also ≡ outlines m
+      → LeastOf (Among (LargeIn m also) count) size → Tells m size
+  tell_size seen also found size are least is also_are large =
+      by_size size (subst (LeastOf (BreaksC23 m)) is (rounds found (subst (λ (os : List (Option Outline)). LeastOf (Among (RoundIn m os) count) found) are least)))
+      (sizes size (subst (λ (os : List (Option Outline)). LeastOf (Among (LargeIn m os) count) size) also_are large))
+    where
+      by_size : (o : Option Violation) → LeastOf (BreaksC23 m) None → LeastOf (BreaksC24 m) o → Tells m o
+      by_size None none many = record { rounds = none; sizes = many }
+      by_size (Some v) none many = in_sizes none many
 
 module _ (m : ModelTree) (os : List (Option Outline)) (c : ℕ) where
   -- nothing is violated in a class of another sort
@@ -78,7 +85,7 @@ module _ (m : ModelTree) (os : List (Option Outline)) (c : ℕ) where
   no_process falls d declared process = let wrong : is_process d ≡ false = rw declared at falls in cc
 
   pub no_round_in : option_map_or is_process (declaration m c) false ≡ false → LeastOf (RoundIn m os c) None
-  no_round_in falls _ (round_in d v declared process round) = no_process falls d declared process
+  no_round_in falls _ (round_in d v declared process here) = no_process falls d declared process
 
   pub no_large_in : option_map_or is_process (declaration m c) false ≡ false → LeastOf (LargeIn m os c) None
   no_large_in falls _ (large_in d k v declared process large) = no_process falls d declared process
@@ -92,10 +99,10 @@ module _ (m : ModelTree) (os : List (Option Outline)) (c : ℕ) where
       by_decl (Some d) at holds = (d, at, holds)
 
   pub rounds_in : (found : Option Violation) → option_map_or is_process (declaration m c) false ≡ true → LeastOf (IsRound (methods_in m c os)) found → LeastOf (RoundIn m os c) found
-  rounds_in found is least = least_alike (IsRound (methods_in m c os)) (RoundIn m os c) (λ v round. (let d = declared_there is in round_in d.0 v d.1 d.2 round)) from found least
+  rounds_in found is least = least_alike (IsRound (methods_in m c os)) (RoundIn m os c) (λ v here. (let d = declared_there is in round_in d.0 v d.1 d.2 here)) from found least
     where
       from : (v : Violation) → RoundIn m os c v → IsRound (methods_in m c os) v
-      from _ (round_in d v declared process round) = round
+      from _ (round_in d v declared process here) = here
 
   pub sizes_in : (found : Option Violation) (n : ℕ) → n ≡ length os → option_map_or is_process (declaration m c) false ≡ true → LeastOf (Among (LargeAt m os c) n) found → LeastOf (LargeIn m os c) found
   sizes_in found n all is least = least_alike (Among (LargeAt m os c) n) (LargeIn m os c) (λ v (k, below, large). (let d = declared_there is in large_in d.0 k v d.1 d.2 large)) from found least
@@ -142,3 +149,7 @@ module _ (m : ModelTree) (os : List (Option Outline)) (c : ℕ) where
         where
           least : (w : Violation) → LargeAt m os c k w → Rattle.pz_check_violations.specs.Order.is_before w (violation 24 o.name.pos) ≡ false
           least _ (large_at p at finds much) = subst (λ (q : Outline). Rattle.pz_check_violations.specs.Order.is_before (violation 24 p.name.pos) (violation 24 q.name.pos) ≡ false) (same p at) (not_before_itself (violation 24 p.name.pos))
+
+-- where all methods keep to bounds, nothing is told
+pub told_settled : (m : ModelTree) (os seen : List (Option Outline)) (bound : List ℕ → ℕ) → seen ≡ os → os ≡ outlines m → ((k : ℕ) (o : Outline) → slice_get seen k ≡ Some (Some o) → Settles bound o) → Tells m None
+told_settled m os seen bound seen_are os_are settled = settles_all m bound (subst (λ (xs : List (Option Outline)). (k : ℕ) (o : Outline) → slice_get xs k ≡ Some (Some o) → Settles bound o) (seen_are ∙ os_are) settled)

@@ -26,8 +26,8 @@ pub fn least_opening(alloc: Global, checked: &Checked) -> Result<Option<Violatio
         return Ok(None);
     }
     let round = round_in_any(alloc, checked, outlines.as_slice())?;
-    if round.is_some() {
-        return Ok(round);
+    match round {
+        Some(violation) => Ok(Some(violation)),
+        None => large_in_any(alloc, checked, outlines.as_slice()),
     }
-    large_in_any(alloc, checked, outlines.as_slice())
 }

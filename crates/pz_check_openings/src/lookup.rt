@@ -22,6 +22,13 @@ pub(crate) fn count(checked: &Checked) -> u32
     checked.classes().count() as u32
 }
 
+/// How the name is spelled.
+fn bytes_of(name: &Name) -> &[u8]
+    ensures { result.now ≡ name.now }
+{
+    name.as_str().as_bytes()
+}
+
 /// The method of the process class with this name and numbers of inputs and outputs.
 pub(crate) fn called(
     checked: &Checked,
@@ -35,7 +42,7 @@ pub(crate) fn called(
 {
     checked
         .classes()
-        .process_method(class, name.as_str().as_bytes(), inputs, outputs)
+        .process_method(class, bytes_of(name), inputs, outputs)
 }
 
 /// Whether the class of this number is a process class.
