@@ -100,7 +100,12 @@ module _ (ms : List Method) where
 
   pub none_raised : (ts : List ℕ) → length ts ≡ length ms → Raises ms ts ts false 0
   none_raised ts size = record {
-    sized = size; reached = λ r. r; no_more = omega arith; less = λ (wrong : false ≡ true). absurd (cc_false wrong); same = λ _. refl; stable = λ _ k below. absurd (omega arith);
+    sized = size;
+    reached = λ r. r;
+    no_more = omega arith;
+    less = λ (wrong : false ≡ true). absurd (cc_false wrong);
+    same = λ _. refl;
+    stable = λ _ k below. absurd (omega arith);
   }
     where
       cc_false : false ≡ true → ⊥
@@ -208,9 +213,10 @@ module _ (ms : List Method) where
   -- the same of a method that is there
   pub large_test : (ts : List ℕ) → AreTotals ms ts → (k : ℕ) (r : Method) (calls : List Call) (total : ℕ) → slice_get ms k ≡ Some r → calls ≡ r.calls
       → total ≡ min (r.statements + sum_by (λ x. total_in ts x.method) calls) 1000001 → (IsTrue (nat_le 1000001 total) → IsLarge ms k) × (IsLarge ms k → IsTrue (nat_le 1000001 total))
-  large_test ts are k r calls total here own is =
-      (λ (test : IsTrue (nat_le 1000001 total)). large_is ts are k (let much : 1000001 ≤ total = grind (arith, nat_tests) in omega (arith, same)),
-      λ large. (let much = is_large ts are k large in let high : 1000001 ≤ total = omega (arith, same) in grind (arith, nat_tests)))
+  large_test ts are k r calls total here own is = (
+    λ (test : IsTrue (nat_le 1000001 total)). large_is ts are k (let much : 1000001 ≤ total = grind (arith, nat_tests) in omega (arith, same)),
+    λ large. (let much = is_large ts are k large in let high : 1000001 ≤ total = omega (arith, same) in grind (arith, nat_tests)),
+  )
     where
       same : total ≡ min (statements_of ms k + sum_by (λ x. total_in ts x.method) (calls_by ms k)) 1000001
       same = is ∙ rw (own, here) refl

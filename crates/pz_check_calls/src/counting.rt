@@ -45,7 +45,8 @@ fn total_with(statements: u32, calls: &[Call], totals: &[u32]) -> u32
 fn raise(methods: &[Method], totals: &mut Vec<u32>, method: usize) -> bool
     requires sized { length totals.old.items ≡ length methods.now }
     requires within { method < length methods.now }
-    ensures grew { result ≡ nat_lt (spec.total_in totals.old.items method) (device.next methods.now totals.old.items method) }
+    ensures grew { result ≡ nat_lt (spec.total_in totals.old.items method)
+        (device.next methods.now totals.old.items method) }
     ensures raised { totals.new.items ≡ device.raised methods.now totals.old.items method }
 {
     let found = &methods[method];

@@ -43,7 +43,8 @@ pub(crate) fn round_in_any(
     checked: &Checked,
     outlines: &[Option<Outline>],
 ) -> Result<Option<Violation>, AllocError>
-    ensures { IfOk result (LeastOf (Among (RoundIn (checked_model checked.now) outlines.now) (length (checked_model checked.now).decls + 1))) }
+    ensures { IfOk result (LeastOf (Among (RoundIn (checked_model checked.now) outlines.now)
+        (length (checked_model checked.now).decls + 1))) }
 {
     let mut least = None;
     for class in 0..count(checked) {
@@ -58,7 +59,13 @@ fn has_method(checked: &Checked, class: ClassId, number: usize, method: &Outline
     requires { HasClass (checked_classes checked.now) class }
     ensures { result ≡ spec.is_found (checked_model checked.now) class.0 number method.now }
 {
-    match called(checked, class, &method.name.name, method.inputs, method.outputs) {
+    match called(
+        checked,
+        class,
+        &method.name.name,
+        method.inputs,
+        method.outputs,
+    ) {
         Some(found) => found.0 as usize == number,
         None => false,
     }
@@ -105,7 +112,8 @@ fn large_at_any(
     requires belongs { HasClass (checked_classes checked.now) class }
     requires methods { methods.now ≡ spec.methods_in (checked_model checked.now) class.0 outlines.now }
     requires totals { AreTotals methods.now totals.now }
-    ensures { LeastOf (Among (LargeAt (checked_model checked.now) outlines.now class.0) (length outlines.now)) result }
+    ensures { LeastOf (Among (LargeAt (checked_model checked.now) outlines.now class.0)
+        (length outlines.now)) result }
 {
     let mut least = None;
     for number in 0..outlines.len() {
@@ -132,7 +140,13 @@ fn large_in(
     let class = ClassId(class);
     let methods = methods_in(alloc, checked, class, outlines)?;
     let totals = totals(alloc, methods.as_slice())?;
-    Ok(large_at_any(checked, outlines, class, methods.as_slice(), totals.as_slice()))
+    Ok(large_at_any(
+        checked,
+        outlines,
+        class,
+        methods.as_slice(),
+        totals.as_slice(),
+    ))
 }
 
 /// The same in any class.
@@ -141,7 +155,8 @@ pub(crate) fn large_in_any(
     checked: &Checked,
     outlines: &[Option<Outline>],
 ) -> Result<Option<Violation>, AllocError>
-    ensures { IfOk result (LeastOf (Among (LargeIn (checked_model checked.now) outlines.now) (length (checked_model checked.now).decls + 1))) }
+    ensures { IfOk result (LeastOf (Among (LargeIn (checked_model checked.now) outlines.now)
+        (length (checked_model checked.now).decls + 1))) }
 {
     let mut least = None;
     for class in 0..count(checked) {

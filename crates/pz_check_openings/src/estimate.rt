@@ -137,7 +137,12 @@ pub(crate) fn estimate(
     let mut bounds = vec![in alloc; 0; names.methods.len()]?;
     for name in order_of(alloc, methods, &names)? {
         if let Some(numbers) = names.methods.get(name) {
-            let bound = greatest(methods, &names.numbering, numbers.as_slice(), bounds.as_slice());
+            let bound = greatest(
+                methods,
+                &names.numbering,
+                numbers.as_slice(),
+                bounds.as_slice(),
+            );
             if name < bounds.len() {
                 bounds[name] = bound;
             }

@@ -22,7 +22,8 @@ fn push_call(
     calls: &mut Items<Call>,
 ) -> Result<(), AllocError>
     requires { HasClass (checked_classes checked.now) class }
-    ensures { OnOk result (calls.new ≡ calls.old ++ spec.call_in (checked_model checked.now) class.0 call.now) }
+    ensures { OnOk result (calls.new ≡ calls.old ++
+        spec.call_in (checked_model checked.now) class.0 call.now) }
 {
     match called(checked, class, &call.name, 0, 0) {
         Some(method) => calls.push(Call {
@@ -41,7 +42,8 @@ fn calls_in(
     calls: &[Id],
 ) -> Result<Items<Call>, AllocError>
     requires { HasClass (checked_classes checked.now) class }
-    ensures { IfOk result (λ found. found ≡ spec.calls_in (checked_model checked.now) class.0 calls.now) }
+    ensures { IfOk result (λ found. found ≡
+        spec.calls_in (checked_model checked.now) class.0 calls.now) }
 {
     let mut found = Items::new(alloc);
     for call in calls {
@@ -58,7 +60,8 @@ fn method_in(
     outline: &Option<Outline>,
 ) -> Result<Method, AllocError>
     requires { HasClass (checked_classes checked.now) class }
-    ensures { IfOk result (λ found. found ≡ spec.method_in (checked_model checked.now) class.0 outline.now) }
+    ensures { IfOk result (λ found. found ≡
+        spec.method_in (checked_model checked.now) class.0 outline.now) }
 {
     match outline {
         Some(outline) => {
@@ -86,7 +89,8 @@ pub(crate) fn methods_in(
     outlines: &[Option<Outline>],
 ) -> Result<Items<Method>, AllocError>
     requires { HasClass (checked_classes checked.now) class }
-    ensures { IfOk result (λ found. found ≡ spec.methods_in (checked_model checked.now) class.0 outlines.now) }
+    ensures { IfOk result (λ found. found ≡
+        spec.methods_in (checked_model checked.now) class.0 outlines.now) }
 {
     let mut found = Items::new(alloc);
     for outline in outlines {

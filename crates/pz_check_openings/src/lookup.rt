@@ -16,7 +16,8 @@ use pz_value::ClassId;
 /// How many numbers of classes there are.
 pub(crate) fn count(checked: &Checked) -> u32
     ensures count { result ≡ length (checked_model checked.now).decls + 1 }
-    ensures belongs { (class : Number) → class.0 < result → HasClass (checked_classes checked.now) class }
+    ensures belongs { (class : Number) → class.0 < result →
+        HasClass (checked_classes checked.now) class }
 {
     let _ = checked.model();
     checked.classes().count() as u32
@@ -38,7 +39,8 @@ pub(crate) fn called(
     outputs: usize,
 ) -> Option<MethodId>
     requires { HasClass (checked_classes checked.now) class }
-    ensures { result ≡ methods.process_method (checked_model checked.now) class.0 name.now inputs outputs }
+    ensures { result ≡
+        methods.process_method (checked_model checked.now) class.0 name.now inputs outputs }
 {
     checked
         .classes()
@@ -47,7 +49,8 @@ pub(crate) fn called(
 
 /// Whether the class of this number is a process class.
 pub(crate) fn is_process(checked: &Checked, class: u32) -> bool
-    ensures { result ≡ option_map_or kinds.is_process (numbers.declaration (checked_model checked.now) class) false }
+    ensures { result ≡ option_map_or kinds.is_process
+        (numbers.declaration (checked_model checked.now) class) false }
 {
     match declaration(checked.model(), class) {
         Some(Decl::Process(_)) => true,

@@ -72,7 +72,8 @@ fn push_process(
 ) -> Result<(), AllocError>
     requires inputs { All (λ r. length (grouped r.inputs) < 2 ^ 32) methods.now }
     requires outputs { All (λ r. length (grouped r.outputs) < 2 ^ 32) methods.now }
-    ensures { OnOk result (outlines.new ≡ outlines.old ++ map (λ r. Some (spec.outline_of (process_method_view r))) methods.now) }
+    ensures { OnOk result (outlines.new ≡ outlines.old ++
+        map (λ r. Some (spec.outline_of (process_method_view r))) methods.now) }
 {
     for method in methods {
         outlines.push(Some(outline_of(alloc, method)?))?;

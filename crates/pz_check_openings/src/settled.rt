@@ -28,7 +28,8 @@ pub(crate) fn bound_of(names: &Numbering, bounds: &[u32], name: &Name) -> u32
 
 /// So many statements with the bounds of these calls, as far as `MANY`.
 pub(crate) fn total_by(statements: u32, calls: &[Id], names: &Numbering, bounds: &[u32]) -> u32
-    ensures { result ≡ min (statements + sum_by (λ x. spec.bound_of names.now bounds.now x.name) calls.now) 1000001 }
+    ensures { result ≡ min (statements +
+        sum_by (λ x. spec.bound_of names.now bounds.now x.name) calls.now) 1000001 }
 {
     let mut total = statements.min(MANY);
     for call in calls {
@@ -64,7 +65,8 @@ fn is_settled(method: &Outline, names: &Numbering, bounds: &[u32]) -> bool
 
 /// Whether the method, if it is one of a process, keeps to the bounds.
 fn is_settled_if_any(method: &Option<Outline>, names: &Numbering, bounds: &[u32]) -> bool
-    ensures { IsTrue result → (o : Sketch) → method.now ≡ Some o → Settles (spec.bound_of names.now bounds.now) o }
+    ensures { IsTrue result → (o : Sketch) → method.now ≡ Some o →
+        Settles (spec.bound_of names.now bounds.now) o }
 {
     match method {
         Some(method) => is_settled(method, names, bounds),
@@ -73,12 +75,9 @@ fn is_settled_if_any(method: &Option<Outline>, names: &Numbering, bounds: &[u32]
 }
 
 /// Whether all methods keep to the bounds.
-pub(crate) fn are_settled(
-    methods: &[Option<Outline>],
-    names: &Numbering,
-    bounds: &[u32],
-) -> bool
-    ensures { IsTrue result → (k : ℕ) (o : Sketch) → slice_get methods.now k ≡ Some (Some o) → Settles (spec.bound_of names.now bounds.now) o }
+pub(crate) fn are_settled(methods: &[Option<Outline>], names: &Numbering, bounds: &[u32]) -> bool
+    ensures { IsTrue result → (k : ℕ) (o : Sketch) → slice_get methods.now k ≡ Some (Some o) →
+        Settles (spec.bound_of names.now bounds.now) o }
 {
     for method in methods {
         if !is_settled_if_any(method, names, bounds) {

@@ -125,8 +125,8 @@ split (e ∷ ds) (suc i) d here = by_rest (split ds i d here)
       rest = r.rest;
       is = ap (λ (l : List (Option ProcessMethodTree)). declared_methods e ++ l) r.is ∙ assoc (declared_methods e) r.before (declared_methods d ++ r.rest);
       many = sum_by-cons (λ (x : DeclTree). length (signatures x)) e (take i ds)
-        ∙ (ap (λ (n : ℕ). n + sum_by (λ x. length (signatures x)) (take i ds)) (show_size (declared_methods e) (signatures e) (decl_show e))
-        ∙ (ap (λ (n : ℕ). length (declared_methods e) + n) r.many ∙ sym (append_size (declared_methods e) r.before)));
+          ∙ (ap (λ (n : ℕ). n + sum_by (λ x. length (signatures x)) (take i ds)) (show_size (declared_methods e) (signatures e) (decl_show e))
+          ∙ (ap (λ (n : ℕ). length (declared_methods e) + n) r.many ∙ sym (append_size (declared_methods e) r.before)));
     }
 
 module _ (m : ModelTree) (s : Signature) where

@@ -17,8 +17,8 @@ pub returns-in-Some : goal.returns-in-Some
 returns-in-Some c =
     tell_round (checked_model c.args.checked.now) c.as_slice-4.result.now c.in_ok-round.round c.in-Some.violation (c.as_slice-4.ensures ∙ (c.in_ok-outlines.ensures ∙ ap outlines c.model.ensures.is)) c.in_ok-round.ensures c.in-Some.is
 
-pub returns-in-None : goal.returns-in-None
-returns-in-None c =
+pub returns : goal.returns
+returns c =
     IfOk-weaker c.large_in_any.result _ (Tells (checked_model c.args.checked.now)) (λ (found : Option Violation) large.
-      tell_size (checked_model c.args.checked.now) c.as_slice-4.result.now c.as_slice-5.result.now c.in_ok-round.round found (c.as_slice-4.ensures ∙ (c.in_ok-outlines.ensures ∙ ap outlines c.model.ensures.is)) c.in_ok-round.ensures c.in-None.is
-      (c.as_slice-5.ensures ∙ (c.in_ok-outlines.ensures ∙ ap outlines c.model.ensures.is)) large) c.large_in_any.ensures
+    tell_size (checked_model c.args.checked.now) c.as_slice-4.result.now c.as_slice-in-None.result.now c.in_ok-round.round found (c.as_slice-4.ensures ∙ (c.in_ok-outlines.ensures ∙ ap outlines c.model.ensures.is)) c.in_ok-round.ensures c.in-None.is
+    (c.as_slice-in-None.ensures ∙ (c.in_ok-outlines.ensures ∙ ap outlines c.model.ensures.is)) large) c.large_in_any.ensures
