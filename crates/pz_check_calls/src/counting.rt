@@ -29,7 +29,8 @@ fn total_in(totals: &[u32], method: usize) -> u32
 
 /// So many statements with those as which these calls open, each call counted.
 fn total_with(statements: u32, calls: &[Call], totals: &[u32]) -> u32
-    ensures { result ≡ min (statements + sum_by (λ x. spec.total_in totals.now x.method) calls.now) 1000001 }
+    ensures { result ≡ min (statements + sum_by (λ x. spec.total_in totals.now x.method) calls.now)
+        1000001 }
 {
     let mut total = statements.min(MANY);
     for call in calls {
@@ -62,7 +63,8 @@ fn raise(methods: &[Method], totals: &mut Vec<u32>, method: usize) -> bool
 fn raise_one(methods: &[Method], totals: &mut Vec<u32>, method: usize)
     requires { length totals.old.items ≡ length methods.now }
     ensures sized { length totals.new.items ≡ length methods.now }
-    ensures reached { IsReached methods.now totals.old.items → IsReached methods.now totals.new.items }
+    ensures reached { IsReached methods.now totals.old.items →
+        IsReached methods.now totals.new.items }
 {
     if method >= methods.len() {
         return;
@@ -74,7 +76,8 @@ fn raise_one(methods: &[Method], totals: &mut Vec<u32>, method: usize)
 fn raise_in_order(methods: &[Method], order: &[usize], totals: &mut Vec<u32>)
     requires { length totals.old.items ≡ length methods.now }
     ensures sized { length totals.new.items ≡ length methods.now }
-    ensures reached { IsReached methods.now totals.old.items → IsReached methods.now totals.new.items }
+    ensures reached { IsReached methods.now totals.old.items →
+        IsReached methods.now totals.new.items }
 {
     for method in order {
         raise_one(methods, totals, *method);

@@ -81,7 +81,8 @@ fn large_at(
     number: usize,
 ) -> Option<Violation>
     requires belongs { HasClass (checked_classes checked.now) class }
-    requires methods { methods.now ≡ spec.methods_in (checked_model checked.now) class.0 outlines.now }
+    requires methods { methods.now ≡ spec.methods_in
+        (checked_model checked.now) class.0 outlines.now }
     requires totals { AreTotals methods.now totals.now }
     requires within { number < length outlines.now }
     ensures { LeastOf (LargeAt (checked_model checked.now) outlines.now class.0 number) result }
@@ -110,7 +111,8 @@ fn large_at_any(
     totals: &[u32],
 ) -> Option<Violation>
     requires belongs { HasClass (checked_classes checked.now) class }
-    requires methods { methods.now ≡ spec.methods_in (checked_model checked.now) class.0 outlines.now }
+    requires methods { methods.now ≡ spec.methods_in
+        (checked_model checked.now) class.0 outlines.now }
     requires totals { AreTotals methods.now totals.now }
     ensures { LeastOf (Among (LargeAt (checked_model checked.now) outlines.now class.0)
         (length outlines.now)) result }

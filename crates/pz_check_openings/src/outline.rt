@@ -98,7 +98,8 @@ fn push_declared(
     outlines: &mut Items<Option<Outline>>,
 ) -> Result<(), AllocError>
     requires { length (decl_text (decl_view decl.now)) < 2 ^ 32 }
-    ensures { OnOk result (outlines.new ≡ outlines.old ++ spec.declared_outlines (decl_view decl.now)) }
+    ensures { OnOk result (outlines.new ≡ outlines.old ++ spec.declared_outlines
+        (decl_view decl.now)) }
 {
     match decl {
         Decl::Data(class) => match &class.methods {

@@ -58,7 +58,8 @@ pub fn add_begun(out: &mut Items<Id>, statements: &[Stmt]) -> Result<(), AllocEr
 /// The same of the branches of a `par` or a `sel`.
 #[cycle(begin)]
 fn add_begun_by_each(out: &mut Items<Id>, branches: &[Items<Stmt>]) -> Result<(), AllocError>
-    ensures { OnOk result (out.new ≡ out.old ++ begun_each (branches_of (map (map view) branches.now))) }
+    ensures { OnOk result (out.new ≡ out.old ++ begun_each
+        (branches_of (map (map view) branches.now))) }
 {
     for branch in branches {
         add_begun(out, branch.as_slice())?;

@@ -17,7 +17,8 @@ pub(crate) fn add_call(
     args: &[Expr],
     results: &[Id],
 ) -> Result<(), AllocError>
-    ensures { OnOk result (out.new ≡ out.old ++ if_plain method.now (list_view args.now) results.now) }
+    ensures { OnOk result (out.new ≡ out.old ++ if_plain method.now
+        (list_view args.now) results.now) }
 {
     match (args, results) {
         ([], []) => out.push(method.copy()?),
@@ -80,7 +81,8 @@ pub fn add_plain_calls(out: &mut Items<Id>, statements: &[Stmt]) -> Result<(), A
 /// The same of the branches of a `par` or a `sel`.
 #[cycle(plain)]
 fn add_plain_calls_of_each(out: &mut Items<Id>, branches: &[Items<Stmt>]) -> Result<(), AllocError>
-    ensures { OnOk result (out.new ≡ out.old ++ plain_calls_of_each (branches_of (map (map view) branches.now))) }
+    ensures { OnOk result (out.new ≡ out.old ++ plain_calls_of_each
+        (branches_of (map (map view) branches.now))) }
 {
     for branch in branches {
         add_plain_calls(out, branch.as_slice())?;
