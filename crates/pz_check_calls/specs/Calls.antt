@@ -1,5 +1,5 @@
 -- Methods that begin with calls of each other. A method is its place in the list.
-use Rattle.std.specs.Prelude.{◌≡◌, ◌≤◌, ◌<◌, ◌+◌, ℕ, zero, suc, List, [], map, length, slice_get, Contains}
+use Rattle.std.specs.Prelude.{◌≤◌, ◌<◌, ◌+◌, ℕ, zero, suc, List, [], map, slice_get, Contains}
 use Rattle.std.specs.Option.{option_map_or, unwrap_or}
 use Rattle.std.specs.List.{sum_by}
 use Rattle.pz_check_violations.specs.declared.violation.Violation.{Violation}

@@ -1,10 +1,10 @@
 -- The process methods of a model, by their numbers.
-use Rattle.std.specs.Prelude.{◌≡◌, ℕ, List, [], map, Option, Some, None, slice_get}
+use Rattle.std.specs.Prelude.{ℕ, List, [], map, Option, Some, None, slice_get}
 use Rattle.std.specs.Option.{unwrap_or, option_map_or}
 use Rattle.std.specs.List.{flat_map}
 use Rattle.pz_syntax.specs.declared.names.Id.{Id}
 use Rattle.pz_syntax.specs.Statements.{Statements, no_statements}
-use Rattle.pz_syntax.specs.Classes.{DeclTree, data_class, process_class, DataMethodTree, ProcessMethodTree, ModelTree}
+use Rattle.pz_syntax.specs.Classes.{DeclTree, data_class, process_class, ProcessMethodTree, ModelTree}
 
 -- the methods that a class itself declares, in the order of the text; one of a data class has no
 -- statements, and stands there as None
