@@ -1,0 +1,13 @@
+#!/usr/bin/env bash
+# Measures the rules of opening, C23 and C24, on models of about a mebibyte, one shape each.
+source "$(dirname "${BASH_SOURCE[0]}")/common.sh"
+uses rows_front bench none
+first='process class A0() init s()() methods s()() skip m0()() skip a()() b()() b()() c()() c()() skip '
+
+{ echo -n 'process class A() init s()() methods s()() m0()() m0()() skip '; pieces 50000 'm%()() m@()() '; echo 'system'; } >"$room/many methods that begin with one another"
+{ echo -n "$first"; pieces 12000 'process class A%() extends A@ methods m%()() m@()(); a()() n%()() par m%()() and m@()() rap '; echo 'system'; } >"$room/a chain of classes with methods of their own"
+{ echo -n "$first"; pieces 12000 'process class A%() extends A@ methods b()() c()(); skip m%()() par a()() and b()() rap '; echo 'system'; } >"$room/a chain of classes that override"
+{ pieces 12000 'process class A%() init a()() methods a()() b()(); b()() b()() sel skip or delay 1 les '; echo 'system'; } >"$room/classes apart"
+for shape in 'many methods that begin with one another' 'a chain of classes with methods of their own' 'a chain of classes that override' 'classes apart'; do
+  measure_text "$shape" openings
+done
