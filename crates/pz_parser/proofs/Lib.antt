@@ -6,3 +6,5 @@ pub mod ModelRules
 pub mod Budgets
 pub mod Erasing
 pub mod Parses
+mod StoppingModels
+mod Refusing
