@@ -8,3 +8,4 @@ pub mod Erasing
 pub mod Parses
 mod StoppingModels
 mod Refusing
+mod Rows

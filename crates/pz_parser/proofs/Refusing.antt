@@ -1,29 +1,25 @@
 -- Where a model is refused, and as what.
-use Rattle.std.proofs.Common.{◌≡◌, ◌≢◌, ℕ, zero, suc, ◌+◌, ◌-◌, ◌≤◌, ◌<◌, ◌⊎◌, inl, inr, true, false, List, [], ◌∷◌, ◌++◌, length, take, drop, Ok, Err, refl, ap, sym, ◌∙◌, subst, arith, append_assoc, length-append}
+use Rattle.std.proofs.Common.{◌≡◌, ◌≢◌, ℕ, zero, suc, ◌-◌, ◌≤◌, ◌<◌, ◌⊎◌, inl, inr, true, false, List, [], ◌∷◌, ◌++◌, length, take, drop, Ok, Err, refl, ap, sym, ◌∙◌, subst, arith, append_assoc, length-append}
 use Rattle.pz_syntax.specs.declared.tokens.Pos.{Pos}
 use Rattle.pz_syntax.specs.declared.tokens.Keyword.TheVariants as k
 use Rattle.pz_syntax.specs.declared.tokens.Mark.{Mark}
 use Rattle.pz_syntax.specs.declared.tokens.Token.{Token}
-use Rattle.pz_syntax.specs.declared.names.Id.{Id}
 use Rattle.pz_syntax.specs.Marks.{keyword, head}
-use Rattle.pz_syntax.specs.Classes.{ModelTree}
 use Rattle.pz_syntax.specs.ModelText.{text}
-use Rattle.pz_syntax.specs.ModelForm.{IsModel}
-use Rattle.pz_syntax.specs.ModelNesting.{nesting}
 use Rattle.pz_syntax.specs.ExpressionErasure.{origin}
 use Rattle.pz_parser_cursor.specs.declared.refusal.Refusal.{Refusal}
 use Rattle.pz_parser_cursor.specs.declared.refusal.Refusal.TheVariants as refusal
 use Rattle.pz_parser_cursor.specs.devices.Input.{Tokens, marks}
 use Rattle.pz_parser_cursor.specs.devices.Device.{Outcome}
 use Rattle.pz_parser_cursor.specs.Places.{located, positions}
-use Rattle.pz_parser_cursor.proofs.Reading.{marks_located, located_length}
+use Rattle.pz_parser_cursor.proofs.Reading.{marks_located}
 use Rattle.pz_parser.specs.devices.Models as spec
 use Rattle.pz_parser.specs.ModelPlaces.{place_model}
-use Rattle.pz_parser.specs.Parsing.{first_or, place_left, error_of}
-use Rattle.pz_parser.specs.Cuts.{Begins, IsCut, Passes, Refuses}
+use Rattle.pz_parser.specs.devices.Refused.{first_or, place_left, error_of}
+use Rattle.pz_parser.specs.Cuts.{Begins, IsCut, Passes, first_place, Refuses}
 use Rattle.pz_parser.proofs.ModelRules.{model_complete}
 use Rattle.pz_parser.proofs.StoppingModels.{model_form, model_exact}
-use Rattle.pz_parser_cursor.proofs.Stopping.{Form, Begun, Front, begun, named, left, IsNested, Refused, Pass, took, stopped, Low, low_ok, low_err, Kept, beyond, alike, failing, wider, ExactAt, Exact, marks_length, passed_length}
+use Rattle.pz_parser_cursor.proofs.Stopping.{Form, Front, begun, named, left, IsNested, Refused, Pass, stopped, low_err, Kept, beyond, wider, marks_length, passed_length}
 
 -- ---- cut texts
 
@@ -178,8 +174,12 @@ module _ (limit : ℕ) (i : Tokens) (r : Refusal) (e : spec.model limit i ≡ Er
   unfolding stop
   stop_cut = cut_of limit stop.passed (stop.begins (suc limit) (omega arith) (omega arith))
 
-  place_is : (end : Pos) → first_or end (drop (length i - left r) i) ≡ first_or end (drop (length stop.passed) i)
-  place_is end = let n : length i - left r ≡ length stop.passed = omega (arith, passed_length i stop.passed stop.ahead stop.parts, stop.place) in ap (λ z. first_or end (drop z i)) n
+  place_is : (end : Pos) → first_or end (drop (length i - left r) i) ≡ first_place end (drop (length stop.passed) i)
+  place_is end = let n : length i - left r ≡ length stop.passed = omega (arith, passed_length i stop.passed stop.ahead stop.parts, stop.place) in ap (λ z. first_or end (drop z i)) n ∙ first_is end (drop (length stop.passed) i)
+    where
+      first_is : (end : Pos) (ts : Tokens) → first_or end ts ≡ first_place end ts
+      first_is end [] = refl
+      first_is end (t ∷ ts) = refl
 
 pub refuses : (limit : ℕ) (i : Tokens) (end : Pos) (r : Refusal) → (r ≢ refusal.NoMemory → spec.model limit i ≡ Err r) → Refuses limit i end (error_of i end r)
 unfolding place_left
@@ -195,12 +195,13 @@ refuses limit i end (refusal.TooNested n) f =
     let s = stop limit i r e in
     let d = s.deeper tt in
     let parts = s.parts ∙ ap (λ z. s.passed ++ z) d.parts in
-    let l = ap length d.parts in
-    (length s.passed,
-    passes_by limit i r e s.passed s.ahead s.parts s.place (stop_cut limit i r e) (λ h m q g. let same : m ≡ d.first = first_same (sym g ∙ d.parts) in ap (λ (z : Mark). z.head) same ∙ d.plain),
-    place_is limit i r e end,
-    omega (arith, passed_length i s.passed s.ahead s.parts, l),
-    (suc limit, subst (IsCut (suc limit)) (sym (ap (take (suc (length s.passed))) parts ∙ take_one s.passed d.others d.first)) (cut_of (suc limit) (s.passed ++ d.first ∷ []) (d.begins (suc (suc limit)) (omega arith)))))
+    let l = ap length d.parts in (
+      length s.passed,
+      passes_by limit i r e s.passed s.ahead s.parts s.place (stop_cut limit i r e) (λ h m q g. let same : m ≡ d.first = first_same (sym g ∙ d.parts) in ap (λ (z : Mark). z.head) same ∙ d.plain),
+      place_is limit i r e end,
+      omega (arith, passed_length i s.passed s.ahead s.parts, l),
+      (suc limit, subst (IsCut (suc limit)) (sym (ap (take (suc (length s.passed))) parts ∙ take_one s.passed d.others d.first)) (cut_of (suc limit) (s.passed ++ d.first ∷ []) (d.begins (suc (suc limit)) (omega arith)))),
+    )
   where
     first_same : {m k : Mark} {q p : List Mark} → m ∷ q ≡ k ∷ p → m ≡ k
     first_same h = cc

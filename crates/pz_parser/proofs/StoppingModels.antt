@@ -1,6 +1,5 @@
 -- Where the rules of process classes, declarations and models stop.
-use Rattle.std.proofs.Common.{◌≡◌, ℕ, suc, ◌≤◌, ◌<◌, Bool, true, List, [], ◌∷◌, ◌++◌, length, Option, Some, None, Ok, refl, ap, sym, ◌∙◌, arith}
-use Rattle.std.specs.Prelude.{⊤}
+use Rattle.std.proofs.Common.{◌≡◌, ℕ, suc, ◌≤◌, ◌<◌, true, List, [], ◌∷◌, ◌++◌, length, Option, None, refl, sym, arith}
 use Rattle.std.proofs.lemmas.List.{append-nil}
 use Rattle.pz_syntax.specs.declared.tokens.Keyword.TheVariants as k
 use Rattle.pz_syntax.specs.declared.tokens.TokenKind.TheVariants as kind
@@ -13,24 +12,22 @@ use Rattle.pz_syntax.specs.Statements.{then, no_statements}
 use Rattle.pz_syntax.specs.Statements as tree
 use Rattle.pz_syntax.specs.ClassText.{process_method_text, process_class_text}
 use Rattle.pz_syntax.specs.ModelText.{decl_text, text}
-use Rattle.pz_syntax.specs.ModelForm.{Each, IsStart, IsProcessMethod, IsProcessClass, IsDecl, IsModel}
+use Rattle.pz_syntax.specs.ModelForm.{IsStart, IsProcessMethod, IsProcessClass, IsDecl, IsModel}
 use Rattle.pz_syntax.specs.ModelNesting.{start_nesting, process_method_nesting, process_class_nesting, decl_nesting, nesting}
 use Rattle.pz_parser_cursor.specs.declared.ahead.Next.{Next}
 use Rattle.pz_parser_cursor.specs.declared.ahead.Next.TheVariants as n
 use Rattle.pz_parser_cursor.specs.declared.refusal.Refusal.TheVariants.{Syntax}
 use Rattle.pz_parser_cursor.specs.devices.LookAhead.{next}
 use Rattle.pz_parser_cursor.specs.devices.Input.{Tokens, after, identifier, sees}
-use Rattle.pz_parser_cursor.specs.devices.Device.{Parser, ◌>>=◌, ◌<$>◌, pure, expect, take_id}
+use Rattle.pz_parser_cursor.specs.devices.Device.{Parser, ◌>>=◌, pure}
 use Rattle.pz_parser_cursor.specs.devices.Lists.{each_of}
 use Rattle.pz_parser_cursor.specs.devices.Names.{formal, optional_locals}
 use Rattle.pz_parser_cursor.proofs.Steps.{sees_is}
 use Rattle.pz_parser_cursor.proofs.Words.{head_is}
 use Rattle.pz_parser_statements.specs.devices.Statements.{stmts}
-use Rattle.pz_parser_declarations.specs.devices.DataClasses as classes
-use Rattle.pz_parser_declarations.specs.devices.Clusters as clusters
 use Rattle.pz_parser.specs.devices.Processes as processes
 use Rattle.pz_parser.specs.devices.Models as spec
-use Rattle.pz_parser_cursor.proofs.Stopping.{Form, nothing, both, Pass, took, stopped, Kept, alike, failing, ExactAt, Exact, refused_here, into, bind_at, bind_exact, mapped, refuse_exact, Peeks, take_then, dispatch}
+use Rattle.pz_parser_cursor.proofs.Stopping.{Form, nothing, both, took, stopped, failing, ExactAt, Exact, refused_here, into, bind_at, bind_exact, mapped, refuse_exact, Peeks, take_then, dispatch}
 use Rattle.pz_parser_cursor.proofs.StoppingLists.{identifier_peeks, sees_peeks, some_id, name_form, optional_form, section_form, each_form, expect_exact, word_exact, section_exact, each_exact, front_exact, each_within, written_within, optional_within}
 use Rattle.pz_parser_cursor.proofs.StoppingNames.{formal_form, locals_form, formal_exact, optional_formal_exact, optional_locals_exact, ports_exact}
 use Rattle.pz_parser_declarations.proofs.StoppingDeclarations.{data_class_exact, parent_exact, variables_exact, messages_section_exact, start_section_exact}
@@ -87,8 +84,8 @@ module _ (W : Type 0) (d e : ℕ) (le : d ≤ e) (wide : d < e → W) where
       let made : Id → List VarGroup → List VarGroup → Option (List VarGroup) → tree.Statements Id Id Id → ProcessMethodTree = λ name inputs outputs locals body. record { name = name; inputs = inputs; outputs = outputs; locals = locals; body = body } in
       let rest : (m : ℕ) → Id → Parser ProcessMethodTree = λ m name. formal >>= (λ inputs. formal >>= (λ outputs. optional_locals >>= (λ locals. stmts m >>= (λ body. pure (made name inputs outputs locals body))))) in
       let c = into W b {F = both (name_form head) (both formal_form (both formal_form (both (optional_form locals_form) sequence_form)))} {G = process_method_form} (λ v. made v.0 v.1.0 v.1.1.0 v.1.1.1.0 v.1.1.1.1) (λ v. refl) (λ n lt v f. ((f.1.0, f.1.1.0, f.1.1.1.0, f.1.1.1.1.0), f.1.1.1.1.1))
-          (take_then W b identifier (rest d) (rest e) (name_form head) (both formal_form (both formal_form (both (optional_form locals_form) sequence_form))) (identifier i) i identifier_peeks (head_is i (sees_is n.Head i h)) (λ n. tt)
-          (λ name. bind_at W b (formal_exact W b (after i)) (λ inputs. bind_exact W b (formal_exact W b) (λ outputs. bind_exact W b (optional_locals_exact W b) (λ locals j. mapped W b (λ body. made name inputs outputs locals body) (stmts_exact W d e le wide j)))))) in
+      (take_then W b identifier (rest d) (rest e) (name_form head) (both formal_form (both formal_form (both (optional_form locals_form) sequence_form))) (identifier i) i identifier_peeks (head_is i (sees_is n.Head i h)) (λ n. tt)
+      (λ name. bind_at W b (formal_exact W b (after i)) (λ inputs. bind_exact W b (formal_exact W b) (λ outputs. bind_exact W b (optional_locals_exact W b) (λ locals j. mapped W b (λ body. made name inputs outputs locals body) (stmts_exact W d e le wide j)))))) in
       record { pass = c.pass; same = c.same }
 
   methods_exact : Exact W b (processes.process_methods d) (processes.process_methods e) (each_form process_method_form)

@@ -11,8 +11,7 @@ use Rattle.pz_syntax.specs.Classes.{ModelTree}
 use Rattle.pz_syntax.specs.ModelText.{text}
 use Rattle.pz_syntax.specs.ModelForm.{IsModel}
 use Rattle.pz_syntax.specs.ModelNesting.{nesting}
-use Rattle.pz_parser_cursor.specs.devices.Input.{marks}
-use Rattle.pz_parser.specs.Parsing.{first_or}
+use Rattle.pz_parser.specs.Parsing.{marks}
 use Rattle.pz_parser.specs.declared.error.ParseError.{ParseError}
 use Rattle.pz_parser.specs.declared.error.ParseError.TheVariants.{NoMemory, Syntax, TooNested}
 
@@ -34,9 +33,14 @@ IsCut limit ms = Begins limit ms ⊎ EndsInName limit ms
 abbrev pub Passes : ℕ → List Mark → ℕ → Type 0
 Passes limit ms count = (count ≤ length ms) × ((fewer : ℕ) → fewer ≤ count → IsCut limit (take fewer ms)) × (count < length ms → IsCut limit (take (suc count) ms) → ⊥)
 
--- the place of the token behind so many; the end where there is none
+-- the place of the first of these tokens; the end where there is none
+abbrev pub first_place : Pos → List Token → Pos
+first_place end [] = end
+first_place end (t ∷ ts) = t.pos
+
+-- the place of the token behind so many
 abbrev pub place_behind : List Token → Pos → ℕ → Pos
-place_behind tokens end count = first_or end (drop count tokens)
+place_behind tokens end count = first_place end (drop count tokens)
 
 -- The refusal stands at the first token with which the marks are no more the text of a cut model
 -- within the limit, or at the end. It is `TooNested` where they are that of a deeper one.

@@ -114,7 +114,6 @@ pub marks_length : (i : Tokens) → length (marks i) ≡ length i
 marks_length [] = refl
 marks_length (t ∷ ts) = ap suc (marks_length ts)
 
-
 pub passed_length : (i : Tokens) (a b : List Mark) → marks i ≡ a ++ b → length i ≡ length a + length b
 passed_length i a b e = sym (marks_length i) ∙ ap length e ∙ length-append a b
 
@@ -249,14 +248,12 @@ module _ {U V : Type 0} (W : Type 0) (b : ℕ) where
   pub bind_exact : {p q : Parser V} {f g : V → Parser U} {F G : Form} → Exact W b p q F → ((x : V) → Exact W b (f x) (g x) G) → Exact W b (p >>= f) (q >>= g) (both F G)
   bind_exact e c i = let d = bind_at (e i) c in record { pass = d.pass; same = d.same }
 
-
   -- what was read, in another value
   pub mapped : {p q : Parser V} {F : Form} {i : Tokens} (f : V → U) → ExactAt W b p q F i → ExactAt W b (p >>= (λ v. pure (f v))) (q >>= (λ v. pure (f v))) F i
   mapped {p = p} {q = q} {F = F} {i = i} f e = record {
     pass = pass_mapped b F i (p i) f e.pass;
     same = λ lt t a u w h. kept_bind W u w (p i) (q (t ∷ (a ++ w))) (λ v. pure (f v)) (λ v. pure (f v)) (e.same lt t a u w h) (λ y. low_ok (f y.0, y.1) (omega arith)) (λ x d h. alike (f x) d);
   }
-
 
 -- nothing is passed
 pub refused_here : (b : ℕ) (F : Form) (i : Tokens) → Refused b F i (Syntax (length i))

@@ -1,29 +1,27 @@
 -- Where tokens, names, what may be left out and lists stop.
-use Rattle.std.proofs.Common.{◌≡◌, ℕ, zero, suc, ◌+◌, ◌≤◌, ◌<◌, Bool, true, false, cond, List, [], ◌∷◌, ◌++◌, length, Option, Some, None, Ok, Err, refl, ap, sym, ◌∙◌, subst, arith, append_assoc, length-append}
+use Rattle.std.proofs.Common.{◌≡◌, ℕ, zero, suc, ◌≤◌, ◌<◌, Bool, true, false, List, [], ◌∷◌, ◌++◌, length, Option, Some, None, Ok, refl, ap, sym, ◌∙◌, subst, arith, length-append}
 use Rattle.std.specs.Prelude.{⊤, codes}
 use Rattle.pz_syntax.specs.declared.tokens.Keyword.{Keyword}
 use Rattle.pz_syntax.specs.declared.tokens.TokenKind.{TokenKind}
 use Rattle.pz_syntax.specs.declared.tokens.TokenKind.TheVariants as kind
 use Rattle.pz_syntax.specs.declared.tokens.Mark.{Mark}
-use Rattle.pz_syntax.specs.declared.tokens.Token.{Token}
 use Rattle.pz_syntax.specs.declared.names.Id.{Id}
 use Rattle.pz_syntax.specs.ExpressionErasure.{origin}
-use Rattle.pz_syntax.specs.Marks.{mark, keyword, word, word_text, each_text, optional as optional_text, section as section_text}
+use Rattle.pz_syntax.specs.Marks.{mark, word, word_text, each_text, optional as optional_text, section as section_text}
 use Rattle.pz_syntax.specs.ModelForm.{Each, IfWritten}
 use Rattle.pz_syntax.specs.ModelNesting.{greatest, optional_nesting}
 use Rattle.pz_parser_cursor.specs.declared.ahead.Next.{Next}
 use Rattle.pz_parser_cursor.specs.declared.ahead.Next.TheVariants as n
-use Rattle.pz_parser_cursor.specs.declared.refusal.Refusal.TheVariants.{Syntax}
 use Rattle.pz_parser_cursor.specs.devices.LookAhead.{next, same}
 use Rattle.pz_parser_cursor.specs.devices.Input.{Tokens, marks, after, identifier, name, position, sees}
-use Rattle.pz_parser_cursor.specs.devices.Device.{Outcome, Parser, ◌>>=◌, ◌>>◌, ◌<$>◌, pure, refuse, skip, take_id, and_then, expect, expect_id, optional, behind, section, or_none}
+use Rattle.pz_parser_cursor.specs.devices.Device.{Outcome, Parser, ◌>>=◌, ◌<$>◌, pure, refuse, skip, take_id, expect, expect_id, optional, behind, section, or_none}
 use Rattle.pz_parser_cursor.specs.devices.Lists.{turns, tail_of, more_of, list_of, with_front, repeat, each_of}
 use Rattle.pz_parser_cursor.proofs.Shown.{token_of}
 use Rattle.pz_parser_cursor.proofs.Steps.{takes, sees_is}
 use Rattle.pz_parser_cursor.proofs.Words.{word_is}
 use Rattle.pz_parser_cursor.proofs.Loops.{past_is, past_not}
 use Rattle.pz_parser_cursor.proofs.Joined.{tails, joined, Filled}
-use Rattle.pz_parser_cursor.proofs.Stopping.{Form, nothing, token_form, both, Pass, took, stopped, Taken, Refused, Low, low_ok, low_err, Kept, beyond, alike, failing, wider, ExactAt, Exact, low, low_le, low_bind, passed_length, marks_length, bind_pass, pass_second, pass_into, pass_mapped, kept_bind, same_all, into, bind_at, bind_exact, pure_exact, mapped, refuse_exact, Peeks, taking, if_at}
+use Rattle.pz_parser_cursor.proofs.Stopping.{Form, token_form, both, Pass, took, stopped, Taken, Low, low_ok, low_err, Kept, beyond, alike, failing, wider, ExactAt, Exact, low, passed_length, marks_length, bind_pass, pass_second, pass_into, pass_mapped, kept_bind, same_all, into, bind_at, pure_exact, mapped, refuse_exact, Peeks, taking, if_at}
 
 pub sees_peeks : (x : Next) → Peeks (sees x)
 unfolding sees same next
@@ -164,11 +162,11 @@ module _ {V : Type 0} (b : ℕ) (F : Form) where
         by again true h =
             let g : sees sep (t ∷ (a ++ w)) ≡ true = sym (sees_peeks sep t (a ++ u) (a ++ w)) ∙ h in
             let rest : (z : V) (c : Tokens) → item (a ++ u) ≡ Ok (z, c ++ u) → Kept W u w ((tail_of item sep turn >>= (λ xs. pure (z ∷ xs))) (c ++ u)) ((tail_of other sep turns >>= (λ xs. pure (z ∷ xs))) (c ++ w)) =
-                λ z c r.
-                    let k = kept_le (length (a ++ u)) (item (a ++ u)) (z, c ++ u) (low (e (a ++ u)).pass) r in
-                    let fits : length (c ++ u) ≤ turn = omega (arith, le, k) in
-                    let less : length (c ++ w) ≤ turns = omega (arith, ge, k, length-append c u, length-append a u, length-append c w, length-append a w) in
-                    kept_bind W u w (tail_of item sep turn (c ++ u)) (tail_of other sep turns (c ++ w)) (λ xs. pure (z ∷ xs)) (λ xs. pure (z ∷ xs)) (again c fits less) (λ y. low_pure (z ∷ y.0) y.1) (λ xs d r. alike (z ∷ xs) d) in
+            λ z c r.
+            let k = kept_le (length (a ++ u)) (item (a ++ u)) (z, c ++ u) (low (e (a ++ u)).pass) r in
+            let fits : length (c ++ u) ≤ turn = omega (arith, le, k) in
+            let less : length (c ++ w) ≤ turns = omega (arith, ge, k, length-append c u, length-append a u, length-append c w, length-append a w) in
+            kept_bind W u w (tail_of item sep turn (c ++ u)) (tail_of other sep turns (c ++ w)) (λ xs. pure (z ∷ xs)) (λ xs. pure (z ∷ xs)) (again c fits less) (λ y. low_pure (z ∷ y.0) y.1) (λ xs d r. alike (z ∷ xs) d) in
             rw (h, g, past_is sep (t ∷ (a ++ u)) h, past_is sep (t ∷ (a ++ w)) g)
             (kept_bind W u w (item (a ++ u)) (other (a ++ w)) (λ z. tail_of item sep turn >>= (λ xs. pure (z ∷ xs))) (λ z. tail_of other sep turns >>= (λ xs. pure (z ∷ xs))) (same_all lt a u w (e (a ++ u))) (low_more (tail_of item sep turn) (tails_form x F) (tails_pass item (λ i. (e i).pass) turn)) rest)
 
@@ -176,11 +174,11 @@ module _ {V : Type 0} (b : ℕ) (F : Form) where
     unfolding list_of more_of
     list_exact W item other e i =
         let more : (z : V) → Exact W b (λ j. with_front (z ∷ []) (tail_of item sep (turns j) j)) (λ j. with_front (z ∷ []) (tail_of other sep (turns j) j)) (tails_form x F) =
-            λ z j. record {
-              pass = pass_front b (tails_form x F) j (z ∷ []) (tail_of item sep (turns j) j) (tails_pass item (λ i. (e i).pass) (turns j) j);
-              same = λ lt t a u w h. subst (λ k. Kept W u w (with_front (z ∷ []) (tail_of item sep (turns k) k)) (with_front (z ∷ []) (tail_of other sep (turns (t ∷ (a ++ w))) (t ∷ (a ++ w))))) (sym h)
-                  (kept_front W u w (z ∷ []) _ _ (kept_tails W item other e lt (length (t ∷ (a ++ u))) (length (t ∷ (a ++ w))) (t ∷ a) u w (omega arith) (omega arith)));
-            } in
+        λ z j. record {
+          pass = pass_front b (tails_form x F) j (z ∷ []) (tail_of item sep (turns j) j) (tails_pass item (λ i. (e i).pass) (turns j) j);
+          same = λ lt t a u w h. subst (λ k. Kept W u w (with_front (z ∷ []) (tail_of item sep (turns k) k)) (with_front (z ∷ []) (tail_of other sep (turns (t ∷ (a ++ w))) (t ∷ (a ++ w))))) (sym h)
+              (kept_front W u w (z ∷ []) _ _ (kept_tails W item other e lt (length (t ∷ (a ++ u))) (length (t ∷ (a ++ w))) (t ∷ a) u w (omega arith) (omega arith)));
+        } in
         let c = into W b (λ v. v.0 ∷ v.1) (λ v. refl) (λ n lt v f. f) (bind_at W b (e i) more) in
         record { pass = c.pass; same = c.same }
 
@@ -217,11 +215,11 @@ module _ {V : Type 0} (b : ℕ) (F : Form) where
         by again true h =
             let g : begins (t ∷ (a ++ w)) ≡ true = sym (peeks t (a ++ u) (a ++ w)) ∙ h in
             let rest : (z : V) (c : Tokens) → item (t ∷ (a ++ u)) ≡ Ok (z, c ++ u) → Kept W u w ((repeat begins item turn >>= (λ xs. pure (z ∷ xs))) (c ++ u)) ((repeat begins other turns >>= (λ xs. pure (z ∷ xs))) (c ++ w)) =
-                λ z c r.
-                    let k = shorter filled (t ∷ (a ++ u)) (item (t ∷ (a ++ u))) (z, c ++ u) (e (t ∷ (a ++ u)) h).pass r in
-                    let fits : length (c ++ u) ≤ turn = omega (arith, le, k) in
-                    let less : length (c ++ w) ≤ turns = omega (arith, ge, k, length-append c u, length-append a u, length-append c w, length-append a w) in
-                    kept_bind W u w (repeat begins item turn (c ++ u)) (repeat begins other turns (c ++ w)) (λ xs. pure (z ∷ xs)) (λ xs. pure (z ∷ xs)) (again c fits less) (λ y. low_pure (z ∷ y.0) y.1) (λ xs d r. alike (z ∷ xs) d) in
+            λ z c r.
+            let k = shorter filled (t ∷ (a ++ u)) (item (t ∷ (a ++ u))) (z, c ++ u) (e (t ∷ (a ++ u)) h).pass r in
+            let fits : length (c ++ u) ≤ turn = omega (arith, le, k) in
+            let less : length (c ++ w) ≤ turns = omega (arith, ge, k, length-append c u, length-append a u, length-append c w, length-append a w) in
+            kept_bind W u w (repeat begins item turn (c ++ u)) (repeat begins other turns (c ++ w)) (λ xs. pure (z ∷ xs)) (λ xs. pure (z ∷ xs)) (again c fits less) (λ y. low_pure (z ∷ y.0) y.1) (λ xs d r. alike (z ∷ xs) d) in
             rw (h, g) (kept_bind W u w (item (t ∷ (a ++ u))) (other (t ∷ (a ++ w))) (λ z. repeat begins item turn >>= (λ xs. pure (z ∷ xs))) (λ z. repeat begins other turns >>= (λ xs. pure (z ∷ xs))) (same_all lt (t ∷ a) u w (e (t ∷ (a ++ u)) h)) (low_more (repeat begins item turn) (each_form F) (repeat_pass item (λ i h. (e i h).pass) turn)) rest)
 
     pub each_exact : (W : Type 0) (item other : Parser V) → ((i : Tokens) → begins i ≡ true → ExactAt W b item other F i) → Exact W b (each_of begins item) (each_of begins other) (each_form F)

@@ -1,27 +1,25 @@
 -- Where the rules for names and variables stop.
-use Rattle.std.proofs.Common.{◌≡◌, ℕ, zero, suc, ◌+◌, ◌≤◌, ◌<◌, Bool, true, false, ◌||◌, List, [], ◌∷◌, ◌++◌, length, Option, Ok, Err, refl, ap, sym, ◌∙◌, subst, arith, length-append}
+use Rattle.std.proofs.Common.{◌≡◌, ℕ, zero, suc, ◌≤◌, ◌<◌, List, [], ◌∷◌, ◌++◌, length, refl, sym, subst, arith, length-append}
 use Rattle.std.specs.Prelude.{⊤}
 use Rattle.pz_syntax.specs.declared.tokens.Symbol.TheVariants as s
 use Rattle.pz_syntax.specs.declared.tokens.Keyword.TheVariants as k
 use Rattle.pz_syntax.specs.declared.tokens.TokenKind.TheVariants as kind
-use Rattle.pz_syntax.specs.declared.tokens.Token.{Token}
 use Rattle.pz_syntax.specs.declared.names.Id.{Id}
 use Rattle.pz_syntax.specs.declared.classes.VarGroup.{VarGroup}
 use Rattle.pz_syntax.specs.Marks.{symbol, head, word_text, names_text}
 use Rattle.pz_syntax.specs.ClassText.{group_names_from, group_text, variables_text, formal_text, locals_text}
-use Rattle.pz_syntax.specs.ModelForm.{Each, IsGroup, IsNonempty, AreVariables, AreLocals}
+use Rattle.pz_syntax.specs.ModelForm.{IsGroup, AreVariables, AreLocals}
 use Rattle.pz_parser_cursor.specs.declared.ahead.Next.{Next}
 use Rattle.pz_parser_cursor.specs.declared.ahead.Next.TheVariants as n
 use Rattle.pz_parser_cursor.specs.declared.refusal.Refusal.TheVariants.{Syntax}
 use Rattle.pz_parser_cursor.specs.devices.LookAhead.{next, next_by}
-use Rattle.pz_parser_cursor.specs.devices.Input.{Tokens, marks, after, identifier, name, name_by, position, sees}
-use Rattle.pz_parser_cursor.specs.devices.Device.{Parser, ◌>>=◌, pure, take_id, expect, and_then}
+use Rattle.pz_parser_cursor.specs.devices.Input.{Tokens, after, identifier, name, name_by, position, sees}
+use Rattle.pz_parser_cursor.specs.devices.Device.{Parser, ◌>>=◌, pure, take_id, expect}
 use Rattle.pz_parser_cursor.specs.devices.Lists.{turns}
 use Rattle.pz_parser_cursor.specs.devices.Names as spec
-use Rattle.pz_parser_cursor.proofs.Shown.{token_of}
 use Rattle.pz_parser_cursor.proofs.Words.{head_is}
 use Rattle.pz_parser_cursor.proofs.Joined.{joined_is, Filled}
-use Rattle.pz_parser_cursor.proofs.Stopping.{Form, token_form, both, Pass, took, stopped, Low, low_ok, Kept, beyond, alike, failing, ExactAt, Exact, low, refused_here, bind_pass, pass_into, pass_mapped, kept_bind, same_all, into, bind_at, bind_exact, mapped, Peeks, taking}
+use Rattle.pz_parser_cursor.proofs.Stopping.{Form, token_form, both, Pass, stopped, Low, Kept, beyond, alike, failing, ExactAt, Exact, low, refused_here, bind_pass, pass_into, pass_mapped, kept_bind, same_all, into, bind_at, bind_exact, mapped, Peeks, taking}
 use Rattle.pz_parser_cursor.proofs.StoppingLists.{identifier_peeks, sees_peeks, some_id, name_form, word_form, optional_form, section_form, expect_exact, word_exact, take_word_at, optional_exact, section_exact, or_none_exact, list_exact, kept_le, low_pure}
 
 abbrev pub names_form : Form
@@ -105,10 +103,10 @@ module _ (W : Type 0) (b : ℕ) where
           kept_bind W u w (expect n.Comma (a ++ u)) (expect n.Comma (a ++ w)) (λ y. spec.names_of_group turn >>= (λ xs. pure (x ∷ xs))) (λ y. spec.names_of_group more >>= (λ xs. pure (x ∷ xs))) (same_all lt a u w (comma_exact (a ++ u)))
           (λ y. low (pass_mapped b group_names_form y.1 (spec.names_of_group turn y.1) (λ xs. x ∷ xs) (of_group_pass turn y.1)))
           (λ y c r.
-              let k = kept_le (length (a ++ u)) (expect n.Comma (a ++ u)) (y, c ++ u) (low (comma_exact (a ++ u)).pass) r in
-              let fits : length (c ++ u) ≤ turn = omega (arith, le, k) in
-              let less : length (c ++ w) ≤ more = omega (arith, ge, k, length-append c u, length-append a u, length-append c w, length-append a w) in
-              kept_bind W u w (spec.names_of_group turn (c ++ u)) (spec.names_of_group more (c ++ w)) (λ xs. pure (x ∷ xs)) (λ xs. pure (x ∷ xs)) (again c fits less) (λ z. low_pure (x ∷ z.0) z.1) (λ xs d r. alike (x ∷ xs) d))
+          let k = kept_le (length (a ++ u)) (expect n.Comma (a ++ u)) (y, c ++ u) (low (comma_exact (a ++ u)).pass) r in
+          let fits : length (c ++ u) ≤ turn = omega (arith, le, k) in
+          let less : length (c ++ w) ≤ more = omega (arith, ge, k, length-append c u, length-append a u, length-append c w, length-append a w) in
+          kept_bind W u w (spec.names_of_group turn (c ++ u)) (spec.names_of_group more (c ++ w)) (λ xs. pure (x ∷ xs)) (λ xs. pure (x ∷ xs)) (again c fits less) (λ z. low_pure (x ∷ z.0) z.1) (λ xs d r. alike (x ∷ xs) d))
       by again n.Head = alike (record { name = name_by t.mark.kind; pos = t.pos } ∷ []) a
       by again _ = failing (Syntax (length (t ∷ (a ++ u)))) (Syntax (length (t ∷ (a ++ w))))
 

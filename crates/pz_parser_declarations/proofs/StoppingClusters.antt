@@ -1,11 +1,10 @@
 -- Where the rules of instances, channels, cluster classes and the system stop.
-use Rattle.std.proofs.Common.{◌≡◌, ℕ, ℤ, suc, ◌<◌, Bool, true, false, cond, List, [], ◌∷◌, ◌++◌, length, Option, Some, None, Ok, Err, refl, ap, sym, ◌∙◌, arith}
+use Rattle.std.proofs.Common.{◌≡◌, ℕ, ℤ, Bool, true, false, cond, List, [], ◌∷◌, ◌++◌, Option, Some, None, Ok, refl, sym, arith}
 use Rattle.std.specs.Prelude.{⊤, pos}
 use Rattle.pz_syntax.specs.declared.tokens.Pos.{Pos}
 use Rattle.pz_syntax.specs.declared.tokens.Symbol.TheVariants as s
 use Rattle.pz_syntax.specs.declared.tokens.Keyword.TheVariants as k
 use Rattle.pz_syntax.specs.declared.tokens.TokenKind.TheVariants as kind
-use Rattle.pz_syntax.specs.declared.tokens.Mark.{Mark}
 use Rattle.pz_syntax.specs.declared.names.Id.{Id}
 use Rattle.pz_syntax.specs.declared.exprs.Literal.{Literal}
 use Rattle.pz_syntax.specs.declared.exprs.Literal.TheVariants as lit
@@ -18,25 +17,25 @@ use Rattle.pz_syntax.specs.declared.clusters.ChannelEnd.TheVariants.{Inner, Oute
 use Rattle.pz_syntax.specs.declared.clusters.Channel.{Channel}
 use Rattle.pz_syntax.specs.declared.clusters.ClusterClass.{ClusterClass}
 use Rattle.pz_syntax.specs.declared.clusters.SystemDecl.{SystemDecl}
-use Rattle.pz_syntax.specs.Marks.{mark, symbol, head, separated, each_text, optional as optional_text}
+use Rattle.pz_syntax.specs.Marks.{mark, symbol, head, separated, optional as optional_text}
 use Rattle.pz_syntax.specs.ExpressionErasure.{origin}
 use Rattle.pz_syntax.specs.ExpressionText.{literal_kind}
 use Rattle.pz_syntax.specs.ModelText.{arg_text, given_text, givens_text, instance_text, end_text, channel_text, cluster_class_text, system_text}
-use Rattle.pz_syntax.specs.ModelForm.{Each, IfWritten, IsNonempty, IsChannel, IsClusterClass, IsSystem}
+use Rattle.pz_syntax.specs.ModelForm.{IsNonempty, IsChannel, IsClusterClass, IsSystem}
 use Rattle.pz_parser_cursor.specs.declared.ahead.Next.{Next}
 use Rattle.pz_parser_cursor.specs.declared.ahead.Next.TheVariants as n
 use Rattle.pz_parser_cursor.specs.devices.LookAhead.{next}
 use Rattle.pz_parser_cursor.specs.devices.Input.{Tokens, marks, after, identifier, literal, number, sees}
-use Rattle.pz_parser_cursor.specs.devices.Device.{Outcome, Parser, ◌>>=◌, ◌>>◌, ◌<$>◌, pure, refuse, skip, take_id, take_literal, eat, and_then, past, expect}
+use Rattle.pz_parser_cursor.specs.devices.Device.{Parser, ◌>>=◌, ◌>>◌, ◌<$>◌, pure, refuse, skip, take_literal, eat, and_then, past, expect}
 use Rattle.pz_parser_cursor.specs.devices.Lists.{list_of}
-use Rattle.pz_parser_cursor.specs.devices.Names.{word, optional_formal, ports}
+use Rattle.pz_parser_cursor.specs.devices.Names.{word}
 use Rattle.pz_parser_cursor.proofs.Steps.{sees_is}
 use Rattle.pz_parser_cursor.proofs.Words.{head_is, literal_is, int_literal_is, number_is}
 use Rattle.pz_parser_cursor.proofs.Joined.{joined_is, Filled}
 use Rattle.pz_parser_declarations.specs.devices.Clusters as spec
 use Rattle.pz_parser_cursor.proofs.Stopping.{Form, token_form, both, ExactAt, Exact, into, bind_at, bind_exact, pure_exact, mapped, refuse_exact, Peeks, taking, take_then, if_at, dispatch, placed, as_equal}
 use Rattle.pz_parser_cursor.proofs.StoppingLists.{identifier_peeks, sees_peeks, some_id, name_form, word_form, optional_form, section_form, each_form, expect_exact, word_exact, skip_at, take_word_at, optional_exact, section_exact, or_none_exact, list_exact, each_exact}
-use Rattle.pz_parser_cursor.proofs.StoppingNames.{names_form, formal_form, optional_formal_exact, ports_exact}
+use Rattle.pz_parser_cursor.proofs.StoppingNames.{optional_formal_exact, ports_exact}
 
 abbrev some_arg : Arg
 some_arg = Plain lit.Nil origin
@@ -157,8 +156,8 @@ module _ (W : Type 0) (b : ℕ) where
   instance_at i h =
       let rest : Id → Parser Instance = λ x. expect n.Colon >>= (λ u. word >>= (λ c. spec.optional_givens >>= (λ gs. pure (record { name = x; class = c; given = gs })))) in
       let c = into W b (λ v. record { name = v.0; class = v.1.1.0; given = v.1.1.1 }) (λ v. refl) (λ n lt v f. tt)
-          (take_then W b identifier rest rest (name_form head) (both (token_form (symbol s.Colon)) (both word_form (optional_form bracketed_form))) (identifier i) i identifier_peeks (head_is i (sees_is n.Head i h)) (λ n. tt)
-          (λ x. bind_at W b (expect_exact W b n.Colon (kind.Sym s.Colon) refl (after i)) (λ u. bind_exact W b (word_exact W b) (λ c j. mapped W b (λ gs. record { name = x; class = c; given = gs }) (optional_givens_exact j))))) in
+      (take_then W b identifier rest rest (name_form head) (both (token_form (symbol s.Colon)) (both word_form (optional_form bracketed_form))) (identifier i) i identifier_peeks (head_is i (sees_is n.Head i h)) (λ n. tt)
+      (λ x. bind_at W b (expect_exact W b n.Colon (kind.Sym s.Colon) refl (after i)) (λ u. bind_exact W b (word_exact W b) (λ c j. mapped W b (λ gs. record { name = x; class = c; given = gs }) (optional_givens_exact j))))) in
       record { pass = c.pass; same = c.same }
 
   instances_exact : Exact W b spec.instances spec.instances (each_form instance_form)

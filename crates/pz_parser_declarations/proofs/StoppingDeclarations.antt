@@ -1,5 +1,5 @@
 -- Where the rules of data classes, messages and sections stop.
-use Rattle.std.proofs.Common.{◌≡◌, ℕ, suc, ◌≤◌, ◌<◌, Bool, true, false, List, [], ◌∷◌, ◌++◌, length, Option, Some, None, refl, ap, sym, ◌∙◌, arith}
+use Rattle.std.proofs.Common.{◌≡◌, ℕ, suc, ◌≤◌, ◌<◌, Bool, true, false, List, [], ◌∷◌, Option, None, refl, sym, arith}
 use Rattle.std.specs.Prelude.{⊤}
 use Rattle.pz_syntax.specs.declared.tokens.Symbol.TheVariants as s
 use Rattle.pz_syntax.specs.declared.tokens.Keyword.TheVariants as k
@@ -7,18 +7,18 @@ use Rattle.pz_syntax.specs.declared.tokens.TokenKind.TheVariants as kind
 use Rattle.pz_syntax.specs.declared.names.Id.{Id}
 use Rattle.pz_syntax.specs.declared.classes.VarGroup.{VarGroup}
 use Rattle.pz_syntax.specs.declared.classes.Message.{Message}
-use Rattle.pz_syntax.specs.Marks.{symbol, head, selector_head, each_text, word_text}
+use Rattle.pz_syntax.specs.Marks.{symbol, head, selector_head}
 use Rattle.pz_syntax.specs.Classes.{DataMethodTree, DataClassTree, StartTree}
 use Rattle.pz_syntax.specs.ExpressionView.{Tree, list_of as expressions}
 use Rattle.pz_syntax.specs.Expressions.{none, more}
 use Rattle.pz_syntax.specs.ClassText.{data_method_text, data_class_text, direction as direction_symbol, types_text, message_text, messages_text, start_text}
-use Rattle.pz_syntax.specs.ModelForm.{Each, IfWritten, IsDataMethod, IsDataClass, IsStart}
+use Rattle.pz_syntax.specs.ModelForm.{IsDataMethod, IsDataClass, IsStart}
 use Rattle.pz_syntax.specs.ModelNesting.{data_method_nesting, data_class_nesting, start_nesting}
 use Rattle.pz_parser_cursor.specs.declared.ahead.Next.{Next}
 use Rattle.pz_parser_cursor.specs.declared.ahead.Next.TheVariants as n
 use Rattle.pz_parser_cursor.specs.devices.LookAhead.{next}
 use Rattle.pz_parser_cursor.specs.devices.Input.{Tokens, after, identifier, name, sees, selects_head, spelled_init}
-use Rattle.pz_parser_cursor.specs.devices.Device.{Parser, ◌>>=◌, pure, expect, take_id}
+use Rattle.pz_parser_cursor.specs.devices.Device.{Parser, ◌>>=◌, pure, expect}
 use Rattle.pz_parser_cursor.specs.devices.Lists.{list_of}
 use Rattle.pz_parser_cursor.specs.devices.Names.{word, optional_formal, optional_locals}
 use Rattle.pz_parser_cursor.proofs.Words.{head_is, selector_head_is}
@@ -29,7 +29,7 @@ use Rattle.pz_parser_declarations.specs.devices.Sections as spec
 use Rattle.pz_parser_declarations.specs.devices.DataClasses as classes
 use Rattle.pz_parser_cursor.proofs.Stopping.{Form, token_form, both, ExactAt, Exact, into, bind_at, bind_exact, mapped, refuse_exact, Peeks, take_then, dispatch}
 use Rattle.pz_parser_cursor.proofs.StoppingLists.{identifier_peeks, sees_peeks, some_id, name_form, word_form, optional_form, section_form, each_form, expect_exact, expect_id_exact, word_exact, skip_at, optional_exact, section_exact, or_none_exact, list_exact, each_exact, written_within}
-use Rattle.pz_parser_cursor.proofs.StoppingNames.{names_form, variables_form, formal_form, locals_form, optional_names_exact, optional_variables_exact, optional_formal_exact, optional_locals_exact}
+use Rattle.pz_parser_cursor.proofs.StoppingNames.{variables_form, formal_form, locals_form, optional_names_exact, optional_variables_exact, optional_formal_exact, optional_locals_exact}
 use Rattle.pz_parser_expressions.proofs.StoppingExpressions.{nil_tree, body_form, list_form}
 use Rattle.pz_parser_expressions.proofs.StoppingValues.{body_exact, before_exact, expr_exact}
 
@@ -149,8 +149,8 @@ module _ (W : Type 0) (d e : ℕ) (le : d ≤ e) (wide : d < e → W) where
       let made : Id → Option (List VarGroup) → Id → Option (List VarGroup) → List Tree → DataMethodTree = λ name inputs result locals body. record { name = name; inputs = inputs; result = result; locals = locals; body = expressions body } in
       let rest : (m : ℕ) → Id → Parser DataMethodTree = λ m name. optional_formal >>= (λ inputs. expect n.Colon >>= (λ u. word >>= (λ result. optional_locals >>= (λ locals. list_of (expr m rule.Expression) n.Semicolon >>= (λ body. pure (made name inputs result locals body)))))) in
       let c = into W b (λ v. record { name = v.0; inputs = v.1.0; result = v.1.1.1.0; locals = v.1.1.1.1.0; body = v.1.1.1.1.1 }) (λ v. refl) (λ n lt v f. ((f.1.0, f.1.1.1.1.0, f.1.1.1.1.1.0), f.1.1.1.1.1.1))
-          (take_then W b identifier (rest d) (rest e) (name_form selector_head) (both (optional_form formal_form) (both (token_form (symbol s.Colon)) (both word_form (both (optional_form locals_form) (body_form s.Semicolon))))) (identifier i) i identifier_peeks (selector_head_is i h) (λ n. tt)
-          (λ name. bind_at W b (optional_formal_exact W b (after i)) (λ inputs. bind_exact W b (expect_exact W b n.Colon (kind.Sym s.Colon) refl) (λ u. bind_exact W b (word_exact W b) (λ result. bind_exact W b (optional_locals_exact W b) (λ locals j. mapped W b (λ body. made name inputs result locals body) (body_exact W (suc d) (suc e) up widen (expr d) (expr e) (expr_exact W d e le wide) n.Semicolon s.Semicolon refl j))))))) in
+      (take_then W b identifier (rest d) (rest e) (name_form selector_head) (both (optional_form formal_form) (both (token_form (symbol s.Colon)) (both word_form (both (optional_form locals_form) (body_form s.Semicolon))))) (identifier i) i identifier_peeks (selector_head_is i h) (λ n. tt)
+      (λ name. bind_at W b (optional_formal_exact W b (after i)) (λ inputs. bind_exact W b (expect_exact W b n.Colon (kind.Sym s.Colon) refl) (λ u. bind_exact W b (word_exact W b) (λ result. bind_exact W b (optional_locals_exact W b) (λ locals j. mapped W b (λ body. made name inputs result locals body) (body_exact W (suc d) (suc e) up widen (expr d) (expr e) (expr_exact W d e le wide) n.Semicolon s.Semicolon refl j))))))) in
       record { pass = c.pass; same = c.same }
 
   data_methods_exact : Exact W b (classes.data_methods d) (classes.data_methods e) (each_form data_method_form)

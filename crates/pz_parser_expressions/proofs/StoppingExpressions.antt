@@ -1,48 +1,38 @@
 -- Where the rules of expressions stop.
-use Rattle.std.proofs.Common.{◌≡◌, ℕ, zero, suc, ◌+◌, ◌≤◌, ◌<◌, Bool, true, false, not, List, [], ◌∷◌, ◌++◌, length, Option, Some, None, Ok, Err, refl, ap, sym, ◌∙◌, subst, arith, length-append}
-use Rattle.std.specs.Prelude.{⊤, codes}
+use Rattle.std.proofs.Common.{◌≡◌, ℕ, zero, suc, ◌≤◌, ◌<◌, true, List, [], ◌∷◌, ◌++◌, length, Option, Some, None, refl, sym, subst, arith, length-append}
 use Rattle.std.proofs.lemmas.List.{append-nil}
 use Rattle.pz_syntax.specs.declared.tokens.Pos.{Pos}
 use Rattle.pz_syntax.specs.declared.tokens.Symbol.{Symbol}
 use Rattle.pz_syntax.specs.declared.tokens.Symbol.TheVariants as s
-use Rattle.pz_syntax.specs.declared.tokens.Keyword.{Keyword}
 use Rattle.pz_syntax.specs.declared.tokens.Keyword.TheVariants as k
-use Rattle.pz_syntax.specs.declared.tokens.TokenKind.{TokenKind}
 use Rattle.pz_syntax.specs.declared.tokens.TokenKind.TheVariants as kind
-use Rattle.pz_syntax.specs.declared.tokens.Mark.{Mark}
-use Rattle.pz_syntax.specs.declared.tokens.Token.{Token}
 use Rattle.pz_syntax.specs.declared.names.Id.{Id}
-use Rattle.pz_syntax.specs.declared.exprs.Literal.{Literal}
 use Rattle.pz_syntax.specs.declared.exprs.Literal.TheVariants as lit
-use Rattle.pz_syntax.specs.Marks.{mark, symbol, keyword, word, selector, each_text}
+use Rattle.pz_syntax.specs.Marks.{symbol}
 use Rattle.pz_syntax.specs.Expressions.{Expressions, none, more, Part, left_out, written, Links, Sendings}
 use Rattle.pz_syntax.specs.Expressions as tree
 use Rattle.pz_syntax.specs.ExpressionErasure.{origin}
-use Rattle.pz_syntax.specs.ExpressionView.{Tree, list_of as expressions, LinkTree, links_of, SendingTree, sendings_of}
-use Rattle.pz_syntax.specs.ExpressionText.{text, texts, links_text, otherwise_text, arguments_text, sendings_text, literal_kind}
-use Rattle.pz_syntax.specs.ExpressionForm.{IsExpression, AreExpressions, IsBody, IsOtherwise, AreLinks, AreArguments, AreSendings, level, operator_level}
-use Rattle.pz_syntax.specs.ExpressionNesting.{nesting, nestings, links_nesting, otherwise_nesting, sendings_nesting, bracketed_nesting}
-use Rattle.pz_syntax.specs.ModelForm.{Each}
+use Rattle.pz_syntax.specs.ExpressionView.{Tree, LinkTree, links_of}
+use Rattle.pz_syntax.specs.ExpressionText.{text, texts, links_text, otherwise_text, arguments_text}
+use Rattle.pz_syntax.specs.ExpressionForm.{IsExpression, AreExpressions, IsBody, IsOtherwise, AreLinks, AreArguments, level}
+use Rattle.pz_syntax.specs.ExpressionNesting.{nestings, links_nesting, otherwise_nesting, bracketed_nesting}
 use Rattle.pz_parser_cursor.specs.declared.ahead.Next.{Next}
 use Rattle.pz_parser_cursor.specs.declared.ahead.Next.TheVariants as n
-use Rattle.pz_parser_cursor.specs.declared.refusal.Refusal.TheVariants.{Syntax}
 use Rattle.pz_parser_cursor.specs.devices.LookAhead.{next, next_by}
-use Rattle.pz_parser_cursor.specs.devices.Input.{Tokens, marks, after, identifier, name, position, literal, sees, selects, spelled_init}
-use Rattle.pz_parser_cursor.specs.devices.Device.{Outcome, Parser, ◌>>=◌, ◌>>◌, ◌<$>◌, pure, refuse, peek, ask, skip, take_id, take_literal, and_then, expect, expect_id, deepen, or_none}
-use Rattle.pz_parser_cursor.specs.devices.Lists.{turns, list_of, each_of}
+use Rattle.pz_parser_cursor.specs.devices.Input.{Tokens, after, identifier, position, sees}
+use Rattle.pz_parser_cursor.specs.devices.Device.{Parser, ◌>>=◌, pure, skip, take_id}
+use Rattle.pz_parser_cursor.specs.devices.Lists.{turns}
 use Rattle.pz_parser_cursor.proofs.Shown.{token_of}
-use Rattle.pz_parser_cursor.proofs.Steps.{takes, sees_is}
-use Rattle.pz_parser_cursor.proofs.Words.{word_is, literal_is, int_literal_is, selector_is}
-use Rattle.pz_parser_cursor.proofs.Joined.{Filled}
+use Rattle.pz_parser_cursor.proofs.Steps.{sees_is}
+use Rattle.pz_parser_cursor.proofs.Words.{word_is}
 use Rattle.pz_parser_expressions.specs.declared.rule.Rule.{Rule}
 use Rattle.pz_parser_expressions.specs.declared.rule.Rule.TheVariants as rule
 use Rattle.pz_parser_expressions.specs.devices.Rules.{rank, operator}
 use Rattle.pz_parser_expressions.specs.devices.Values as spec
-use Rattle.pz_parser_expressions.proofs.Texts.{Fits, texts_are, are, nested, body, body_nested}
-use Rattle.pz_parser_expressions.proofs.Operators.{operator_sound, IsChain}
-use Rattle.pz_parser_expressions.proofs.Readings.{sending_text, sendings_are, SendingFits, sendings_fit}
-use Rattle.pz_parser_cursor.proofs.Stopping.{Form, nothing, token_form, both, Pass, took, stopped, Taken, Low, low_ok, low_err, Kept, beyond, alike, failing, ExactAt, Exact, low, low_le, low_bind, refused_here, bind_pass, pass_second, pass_into, pass_mapped, kept_bind, same_all, into, bind_at, bind_exact, pure_exact, mapped, refuse_exact, Peeks, taking, if_at, second_at, dispatch, placed, take_then, opening, below_none}
-use Rattle.pz_parser_cursor.proofs.StoppingLists.{identifier_peeks, sees_peeks, some_id, name_form, word_form, joined_form, each_form, expect_exact, word_exact, skip_at, take_word_at, or_none_exact, list_exact, each_exact, shorter, kept_le, low_pure}
+use Rattle.pz_parser_expressions.proofs.Texts.{Fits}
+use Rattle.pz_parser_expressions.proofs.Operators.{operator_sound}
+use Rattle.pz_parser_cursor.proofs.Stopping.{Form, token_form, both, Pass, took, Low, Kept, beyond, alike, ExactAt, Exact, low, low_bind, bind_pass, pass_into, pass_mapped, kept_bind, same_all, into, bind_at, mapped, second_at, dispatch, placed, take_then}
+use Rattle.pz_parser_cursor.proofs.StoppingLists.{identifier_peeks, sees_peeks, word_form, skip_at, shorter, low_pure}
 
 -- ---- forms
 
@@ -100,7 +90,7 @@ module _ (W : Type 0) where
       unfolding spec.one_link
       link_at op i shows =
           let c = placed W b (λ pos. skip >>= (λ u. item >>= (λ t. pure (op, pos, t)))) (λ pos. skip >>= (λ u. other >>= (λ t. pure (op, pos, t)))) (both (token_form (symbol op)) (leveled (suc (rank r)) room)) i
-              (λ pos. bind_at W b (skip_at W b (next i) (kind.Sym op) i shows refl) (λ u j. mapped W b (λ t. (op, pos, t)) (e j))) in
+          (λ pos. bind_at W b (skip_at W b (next i) (kind.Sym op) i shows refl) (λ u j. mapped W b (λ t. (op, pos, t)) (e j))) in
           record { pass = c.pass; same = c.same }
 
       links_pass : (turn : ℕ) (i : Tokens) → Pass b links_form i (spec.links_by (operator r) item turn i)
@@ -132,10 +122,10 @@ module _ (W : Type 0) where
               kept_bind W u w (spec.one_link op item (t ∷ (a ++ u))) (spec.one_link op other (t ∷ (a ++ w))) (λ l. spec.links_by (operator r) item turn >>= (λ ls. pure (l ∷ ls))) (λ l. spec.links_by (operator r) other turns >>= (λ ls. pure (l ∷ ls))) (same_all lt (t ∷ a) u w l)
               (λ y. low (pass_mapped b links_form y.1 (spec.links_by (operator r) item turn y.1) (λ ls. y.0 ∷ ls) (links_pass turn y.1)))
               (λ z c q.
-                  let k = shorter b F (λ x. omega arith) (t ∷ (a ++ u)) (spec.one_link op item (t ∷ (a ++ u))) (z, c ++ u) l.pass q in
-                  let fits : length (c ++ u) ≤ turn = omega (arith, le, k) in
-                  let less : length (c ++ w) ≤ turns = omega (arith, ge, k, length-append c u, length-append a u, length-append c w, length-append a w) in
-                  kept_bind W u w (spec.links_by (operator r) item turn (c ++ u)) (spec.links_by (operator r) other turns (c ++ w)) (λ ls. pure (z ∷ ls)) (λ ls. pure (z ∷ ls)) (again c fits less) (λ y. low_pure (z ∷ y.0) y.1) (λ xs d q. alike (z ∷ xs) d))
+              let k = shorter b F (λ x. omega arith) (t ∷ (a ++ u)) (spec.one_link op item (t ∷ (a ++ u))) (z, c ++ u) l.pass q in
+              let fits : length (c ++ u) ≤ turn = omega (arith, le, k) in
+              let less : length (c ++ w) ≤ turns = omega (arith, ge, k, length-append c u, length-append a u, length-append c w, length-append a w) in
+              kept_bind W u w (spec.links_by (operator r) item turn (c ++ u)) (spec.links_by (operator r) other turns (c ++ w)) (λ ls. pure (z ∷ ls)) (λ ls. pure (z ∷ ls)) (again c fits less) (λ y. low_pure (z ∷ y.0) y.1) (λ xs d q. alike (z ∷ xs) d))
 
       links_exact : Exact W b (spec.all_links (operator r) item) (spec.all_links (operator r) other) links_form
       unfolding spec.all_links
@@ -156,7 +146,7 @@ module _ (W : Type 0) where
       unfolding spec.chain_of
       chain_exact i =
           let c = placed W b (λ pos. item >>= (λ t. spec.all_links (operator r) item >>= (λ ls. pure (spec.chained pos t ls)))) (λ pos. other >>= (λ t. spec.all_links (operator r) other >>= (λ ls. pure (spec.chained pos t ls)))) (ruled r) i
-              (λ pos. into W b (λ v. spec.chained origin v.0 v.1) (λ v. chained_text v.0 v.1) (λ n lt v f. chained_fits n v.0 v.1 f.0 f.1) (bind_at W b (e i) (λ t j. mapped W b (λ ls. spec.chained pos t ls) (links_exact j)))) in
+          (λ pos. into W b (λ v. spec.chained origin v.0 v.1) (λ v. chained_text v.0 v.1) (λ n lt v f. chained_fits n v.0 v.1 f.0 f.1) (bind_at W b (e i) (λ t j. mapped W b (λ ls. spec.chained pos t ls) (links_exact j)))) in
           record { pass = c.pass; same = c.same }
 
       -- where an operand goes past the first token a chain does
@@ -175,9 +165,9 @@ module _ (W : Type 0) where
     unfolding spec.assignment
     assign_at i h a =
         let known : (pos : Pos) (x : Id) → ExactAt W b (skip >>= (λ u. value >>= (λ t. pure (tree.assign pos x t)))) (skip >>= (λ u. other >>= (λ t. pure (tree.assign pos x t)))) (both (token_form (symbol s.Assign)) (ruled rule.Value)) (after i) =
-            λ pos x. bind_at W b (skip_at W b n.Assign (kind.Sym s.Assign) (after i) refl (sees_is n.Assign (after i) a)) (λ u j. mapped W b (λ t. tree.assign pos x t) (e j)) in
+        λ pos x. bind_at W b (skip_at W b n.Assign (kind.Sym s.Assign) (after i) refl (sees_is n.Assign (after i) a)) (λ u j. mapped W b (λ t. tree.assign pos x t) (e j)) in
         let c = placed W b (λ pos. take_id >>= (λ x. skip >>= (λ u. value >>= (λ t. pure (tree.assign pos x t))))) (λ pos. take_id >>= (λ x. skip >>= (λ u. other >>= (λ t. pure (tree.assign pos x t))))) (ruled rule.Expression) i
-            (λ pos. into W b (λ v. tree.assign origin v.0 v.1.1) (λ v. refl) (λ n lt v f. ((f.1.1.0, f.1.1.1), omega arith, f.1.1.2)) (take_then W b identifier _ _ word_form (both (token_form (symbol s.Assign)) (ruled rule.Value)) (identifier i) i identifier_peeks (word_is i h) (λ n. tt) (known pos))) in
+        (λ pos. into W b (λ v. tree.assign origin v.0 v.1.1) (λ v. refl) (λ n lt v f. ((f.1.1.0, f.1.1.1), omega arith, f.1.1.2)) (take_then W b identifier _ _ word_form (both (token_form (symbol s.Assign)) (ruled rule.Value)) (identifier i) i identifier_peeks (word_is i h) (λ n. tt) (known pos))) in
         (record { pass = c.pass; same = c.same }, low (known (position i) (identifier i)).pass)
 
     named_at : (i : Tokens) → next i ≡ n.Word → ExactAt W b (spec.named value) (spec.named other) (ruled rule.Expression) i
@@ -190,7 +180,7 @@ module _ (W : Type 0) where
     unfolding spec.returned
     returned_at i h =
         let c = placed W b (λ pos. skip >>= (λ u. value >>= (λ t. pure (tree.returned pos t)))) (λ pos. skip >>= (λ u. other >>= (λ t. pure (tree.returned pos t)))) (ruled rule.Expression) i
-            (λ pos. into W b (λ v. tree.returned origin v.1) (λ v. refl) (λ n lt v f. ((f.1.0, f.1.1), omega arith, f.1.2)) (bind_at W b (skip_at W b n.Return (kind.Key k.Return) i refl h) (λ u j. mapped W b (λ t. tree.returned pos t) (e j)))) in
+        (λ pos. into W b (λ v. tree.returned origin v.1) (λ v. refl) (λ n lt v f. ((f.1.0, f.1.1), omega arith, f.1.2)) (bind_at W b (skip_at W b n.Return (kind.Key k.Return) i refl h) (λ u j. mapped W b (λ t. tree.returned pos t) (e j)))) in
         record { pass = c.pass; same = c.same }
 
     pub expression_exact : Exact W b (spec.expression value) (spec.expression other) (ruled rule.Expression)

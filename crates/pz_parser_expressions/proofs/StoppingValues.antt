@@ -1,15 +1,13 @@
 -- Where the rules of expressions stop that stand over the rules one construct further in.
-use Rattle.std.proofs.Common.{◌≡◌, ℕ, zero, suc, ◌+◌, ◌≤◌, ◌<◌, Bool, true, false, not, List, [], ◌∷◌, ◌++◌, length, Some, Ok, refl, ap, sym, ◌∙◌, arith, append_assoc}
+use Rattle.std.proofs.Common.{◌≡◌, ℕ, zero, suc, ◌≤◌, ◌<◌, true, not, List, [], ◌∷◌, ◌++◌, length, Some, refl, ap, sym, ◌∙◌, arith, append_assoc}
 use Rattle.std.specs.Prelude.{⊤}
 use Rattle.std.proofs.lemmas.List.{append-nil}
 use Rattle.pz_syntax.specs.declared.tokens.Pos.{Pos}
 use Rattle.pz_syntax.specs.declared.tokens.Symbol.{Symbol}
 use Rattle.pz_syntax.specs.declared.tokens.Symbol.TheVariants as s
-use Rattle.pz_syntax.specs.declared.tokens.Keyword.{Keyword}
 use Rattle.pz_syntax.specs.declared.tokens.Keyword.TheVariants as k
 use Rattle.pz_syntax.specs.declared.tokens.TokenKind.{TokenKind}
 use Rattle.pz_syntax.specs.declared.tokens.TokenKind.TheVariants as kind
-use Rattle.pz_syntax.specs.declared.tokens.Mark.{Mark}
 use Rattle.pz_syntax.specs.declared.names.Id.{Id}
 use Rattle.pz_syntax.specs.declared.exprs.Literal.{Literal}
 use Rattle.pz_syntax.specs.declared.exprs.Literal.TheVariants as lit
@@ -18,28 +16,27 @@ use Rattle.pz_syntax.specs.Expressions.{Expressions, none, more, Part, left_out,
 use Rattle.pz_syntax.specs.Expressions as tree
 use Rattle.pz_syntax.specs.ExpressionErasure.{origin}
 use Rattle.pz_syntax.specs.ExpressionView.{Tree, list_of as expressions, SendingTree, sendings_of}
-use Rattle.pz_syntax.specs.ExpressionText.{text, texts, otherwise_text, sendings_text, literal_kind}
-use Rattle.pz_syntax.specs.ExpressionForm.{IsExpression, AreExpressions, IsSign, AreArguments, AreSendings, level}
+use Rattle.pz_syntax.specs.ExpressionText.{text, texts, otherwise_text, literal_kind}
+use Rattle.pz_syntax.specs.ExpressionForm.{AreExpressions, IsSign, AreArguments, AreSendings}
 use Rattle.pz_syntax.specs.ExpressionNesting.{nestings, sendings_nesting, bracketed_nesting}
 use Rattle.pz_syntax.specs.ModelForm.{Each}
 use Rattle.pz_parser_cursor.specs.declared.ahead.Next.{Next}
 use Rattle.pz_parser_cursor.specs.declared.ahead.Next.TheVariants as n
 use Rattle.pz_parser_cursor.specs.devices.LookAhead.{next}
 use Rattle.pz_parser_cursor.specs.devices.Input.{Tokens, marks, after, identifier, name, position, literal, sees, selects, spelled_init}
-use Rattle.pz_parser_cursor.specs.devices.Device.{Parser, ◌>>=◌, ◌>>◌, ◌<$>◌, pure, refuse, skip, take_id, take_literal, expect, expect_id, deepen}
-use Rattle.pz_parser_cursor.specs.devices.Lists.{list_of, each_of}
+use Rattle.pz_parser_cursor.specs.devices.Device.{Parser, ◌>>=◌, pure, refuse, skip, take_literal, expect, expect_id, deepen}
+use Rattle.pz_parser_cursor.specs.devices.Lists.{list_of}
 use Rattle.pz_parser_cursor.proofs.Shown.{token_of}
-use Rattle.pz_parser_cursor.proofs.Steps.{takes, sees_is}
-use Rattle.pz_parser_cursor.proofs.Words.{word_is, literal_is, int_literal_is, selector_is}
+use Rattle.pz_parser_cursor.proofs.Steps.{takes}
+use Rattle.pz_parser_cursor.proofs.Words.{literal_is, int_literal_is, selector_is}
 use Rattle.pz_parser_expressions.specs.declared.rule.Rule.{Rule}
 use Rattle.pz_parser_expressions.specs.declared.rule.Rule.TheVariants as rule
-use Rattle.pz_parser_expressions.specs.devices.Rules.{rank, operator}
 use Rattle.pz_parser_expressions.specs.devices.Values as spec
-use Rattle.pz_parser_expressions.proofs.Texts.{Fits, texts_are, are, nested, body, body_nested}
+use Rattle.pz_parser_expressions.proofs.Texts.{Fits, texts_are, body, body_nested}
 use Rattle.pz_parser_expressions.proofs.Readings.{sending_text, sendings_are}
-use Rattle.pz_parser_cursor.proofs.Stopping.{Form, nothing, token_form, both, Low, low_ok, ExactAt, Exact, low, low_bind, pass_mapped, into, bind_at, bind_exact, pure_exact, mapped, refuse_exact, Peeks, taking, take_then, dispatch, placed, opening, below_none}
-use Rattle.pz_parser_cursor.proofs.StoppingLists.{identifier_peeks, sees_peeks, some_id, name_form, word_form, each_form, expect_exact, word_exact, skip_at, take_word_at, or_none_exact, list_exact, each_exact}
-use Rattle.pz_parser_expressions.proofs.StoppingExpressions.{nil_tree, leveled, rank_le, ruled, primary_form, sent_form, body_form, list_form, otherwise_form, arguments_form, body_each, chain_exact, chain_low, relevel, expression_exact}
+use Rattle.pz_parser_cursor.proofs.Stopping.{Form, token_form, both, Low, low_ok, ExactAt, Exact, low, low_bind, pass_mapped, into, bind_at, bind_exact, pure_exact, mapped, refuse_exact, Peeks, taking, take_then, dispatch, placed, opening, below_none}
+use Rattle.pz_parser_cursor.proofs.StoppingLists.{identifier_peeks, sees_peeks, some_id, name_form, each_form, expect_exact, word_exact, skip_at, take_word_at, or_none_exact, list_exact, each_exact}
+use Rattle.pz_parser_expressions.proofs.StoppingExpressions.{rank_le, ruled, primary_form, sent_form, body_form, list_form, otherwise_form, arguments_form, body_each, chain_exact, chain_low, relevel, expression_exact}
 
 abbrev literal_form : Form
 literal_form = record { Shape = Literal; text = λ x. mark (literal_kind x) ∷ []; Fits = λ n x. ⊤; some = λ n lt. (lit.Nil, tt) }
@@ -107,8 +104,8 @@ module _ (W : Type 0) (d e : ℕ) (le : d ≤ e) (wide : d < e → W) (inner oth
     grouped_at i h =
         let rest : (q : Rule → Parser Tree) → Pos → Parser Tree = λ q pos. list_of (q rule.Expression) n.Semicolon >>= (λ ts. expect n.RightParen >>= (λ u. pure (tree.group pos (expressions ts)))) in
         let c = placed W b (λ pos. deepen d >>= (λ u. rest inner pos)) (λ pos. deepen e >>= (λ u. rest other pos)) primary_form i (λ pos.
-            opening W d d e (λ u. rest inner pos) (λ u. rest other pos) (both (body_form s.Semicolon) (token_form (symbol s.RightParen))) primary_form (symbol s.LeftParen) refl (λ v. tree.group origin v.0) i le wide (λ v. refl) (λ n lt v f. (f.0.0, omega arith, omega (arith, f.0.1)))
-            (bind_exact W d (body_exact n.Semicolon s.Semicolon refl) (λ ts j. mapped W d (λ v. tree.group pos (expressions ts)) (expect_exact W d n.RightParen (kind.Sym s.RightParen) refl j))) (takes (kind.Sym s.LeftParen) i (ap token_of h))) in
+        opening W d d e (λ u. rest inner pos) (λ u. rest other pos) (both (body_form s.Semicolon) (token_form (symbol s.RightParen))) primary_form (symbol s.LeftParen) refl (λ v. tree.group origin v.0) i le wide (λ v. refl) (λ n lt v f. (f.0.0, omega arith, omega (arith, f.0.1)))
+        (bind_exact W d (body_exact n.Semicolon s.Semicolon refl) (λ ts j. mapped W d (λ v. tree.group pos (expressions ts)) (expect_exact W d n.RightParen (kind.Sym s.RightParen) refl j))) (takes (kind.Sym s.LeftParen) i (ap token_of h))) in
         record { pass = c.pass; same = c.same }
 
     conditional_at : (i : Tokens) → next i ≡ n.If → ExactAt W b (spec.conditional d inner) (spec.conditional e other) primary_form i
@@ -117,10 +114,10 @@ module _ (W : Type 0) (d e : ℕ) (le : d ≤ e) (wide : d < e → W) (inner oth
         let rest : (q : Rule → Parser Tree) → Pos → Parser Tree = λ q pos. spec.tested q n.Then >>= (λ t. list_of (q rule.Expression) n.Semicolon >>= (λ ts. spec.otherwise q >>= (λ o. expect n.Fi >>= (λ u. pure (tree.choice pos t (expressions ts) o))))) in
         let F = both (both (ruled rule.Value) (token_form (keyword k.Then))) (both (body_form s.Semicolon) (both otherwise_form (token_form (keyword k.Fi)))) in
         let c = placed W b (λ pos. deepen d >>= (λ u. rest inner pos)) (λ pos. deepen e >>= (λ u. rest other pos)) primary_form i (λ pos.
-            opening W d d e (λ u. rest inner pos) (λ u. rest other pos) F primary_form (keyword k.If) refl (λ v. tree.choice origin v.0.0 v.1.0 v.1.1.0) i le wide
-            (λ v. ap (λ z. keyword k.If ∷ z) (sym (append_assoc (text v.0.0) (keyword k.Then ∷ []) (texts s.Semicolon v.1.0 ++ (otherwise_text v.1.1.0 ++ keyword k.Fi ∷ [])))))
-            (λ n lt v f. ((f.0.0.0, f.0.0.1, f.1.0.0, f.1.1.0.0), omega arith, omega (arith, f.0.0.2, f.1.0.1, f.1.1.0.1)))
-            (bind_exact W d (tested_exact n.Then (kind.Key k.Then) refl) (λ t. bind_exact W d (body_exact n.Semicolon s.Semicolon refl) (λ ts. bind_exact W d otherwise_exact (λ o j. mapped W d (λ u. tree.choice pos t (expressions ts) o) (expect_exact W d n.Fi (kind.Key k.Fi) refl j))))) (takes (kind.Key k.If) i (ap token_of h))) in
+        opening W d d e (λ u. rest inner pos) (λ u. rest other pos) F primary_form (keyword k.If) refl (λ v. tree.choice origin v.0.0 v.1.0 v.1.1.0) i le wide
+        (λ v. ap (λ z. keyword k.If ∷ z) (sym (append_assoc (text v.0.0) (keyword k.Then ∷ []) (texts s.Semicolon v.1.0 ++ (otherwise_text v.1.1.0 ++ keyword k.Fi ∷ [])))))
+        (λ n lt v f. ((f.0.0.0, f.0.0.1, f.1.0.0, f.1.1.0.0), omega arith, omega (arith, f.0.0.2, f.1.0.1, f.1.1.0.1)))
+        (bind_exact W d (tested_exact n.Then (kind.Key k.Then) refl) (λ t. bind_exact W d (body_exact n.Semicolon s.Semicolon refl) (λ ts. bind_exact W d otherwise_exact (λ o j. mapped W d (λ u. tree.choice pos t (expressions ts) o) (expect_exact W d n.Fi (kind.Key k.Fi) refl j))))) (takes (kind.Key k.If) i (ap token_of h))) in
         record { pass = c.pass; same = c.same }
 
     repetition_at : (i : Tokens) → next i ≡ n.While → ExactAt W b (spec.repetition d inner) (spec.repetition e other) primary_form i
@@ -129,10 +126,10 @@ module _ (W : Type 0) (d e : ℕ) (le : d ≤ e) (wide : d < e → W) (inner oth
         let rest : (q : Rule → Parser Tree) → Pos → Parser Tree = λ q pos. spec.tested q n.Do >>= (λ t. list_of (q rule.Expression) n.Semicolon >>= (λ ts. expect n.Od >>= (λ u. pure (tree.loop pos t (expressions ts))))) in
         let F = both (both (ruled rule.Value) (token_form (keyword k.Do))) (both (body_form s.Semicolon) (token_form (keyword k.Od))) in
         let c = placed W b (λ pos. deepen d >>= (λ u. rest inner pos)) (λ pos. deepen e >>= (λ u. rest other pos)) primary_form i (λ pos.
-            opening W d d e (λ u. rest inner pos) (λ u. rest other pos) F primary_form (keyword k.While) refl (λ v. tree.loop origin v.0.0 v.1.0) i le wide
-            (λ v. ap (λ z. keyword k.While ∷ z) (sym (append_assoc (text v.0.0) (keyword k.Do ∷ []) (texts s.Semicolon v.1.0 ++ keyword k.Od ∷ []))))
-            (λ n lt v f. ((f.0.0.0, f.0.0.1, f.1.0.0), omega arith, omega (arith, f.0.0.2, f.1.0.1)))
-            (bind_exact W d (tested_exact n.Do (kind.Key k.Do) refl) (λ t. bind_exact W d (body_exact n.Semicolon s.Semicolon refl) (λ ts j. mapped W d (λ u. tree.loop pos t (expressions ts)) (expect_exact W d n.Od (kind.Key k.Od) refl j)))) (takes (kind.Key k.While) i (ap token_of h))) in
+        opening W d d e (λ u. rest inner pos) (λ u. rest other pos) F primary_form (keyword k.While) refl (λ v. tree.loop origin v.0.0 v.1.0) i le wide
+        (λ v. ap (λ z. keyword k.While ∷ z) (sym (append_assoc (text v.0.0) (keyword k.Do ∷ []) (texts s.Semicolon v.1.0 ++ keyword k.Od ∷ []))))
+        (λ n lt v f. ((f.0.0.0, f.0.0.1, f.1.0.0), omega arith, omega (arith, f.0.0.2, f.1.0.1)))
+        (bind_exact W d (tested_exact n.Do (kind.Key k.Do) refl) (λ t. bind_exact W d (body_exact n.Semicolon s.Semicolon refl) (λ ts j. mapped W d (λ u. tree.loop pos t (expressions ts)) (expect_exact W d n.Od (kind.Key k.Od) refl j)))) (takes (kind.Key k.While) i (ap token_of h))) in
         record { pass = c.pass; same = c.same }
 
     created_at : (i : Tokens) → next i ≡ n.New → ExactAt W b spec.created spec.created primary_form i
@@ -140,7 +137,7 @@ module _ (W : Type 0) (d e : ℕ) (le : d ≤ e) (wide : d < e → W) (inner oth
     created_at i h =
         let rest : Pos → Parser Tree = λ pos. skip >>= (λ u. expect n.LeftParen >>= (λ v. expect_id n.Word >>= (λ x. expect n.RightParen >>= (λ w. pure (tree.creation pos x))))) in
         let c = placed W b rest rest primary_form i (λ pos. into W b (λ v. tree.creation origin v.1.1.0) (λ v. refl) (λ n lt v f. (tt, omega arith, lt))
-            (bind_at W b (skip_at W b n.New (kind.Key k.New) i refl h) (λ u. bind_exact W b (expect_exact W b n.LeftParen (kind.Sym s.LeftParen) refl) (λ v. bind_exact W b (word_exact W b) (λ x j. mapped W b (λ w. tree.creation pos x) (expect_exact W b n.RightParen (kind.Sym s.RightParen) refl j)))))) in
+        (bind_at W b (skip_at W b n.New (kind.Key k.New) i refl h) (λ u. bind_exact W b (expect_exact W b n.LeftParen (kind.Sym s.LeftParen) refl) (λ v. bind_exact W b (word_exact W b) (λ x j. mapped W b (λ w. tree.creation pos x) (expect_exact W b n.RightParen (kind.Sym s.RightParen) refl j)))))) in
         record { pass = c.pass; same = c.same }
 
     constant_at : (i : Tokens) → marks i ≡ mark (literal_kind (literal i)) ∷ marks (after i) → ExactAt W b spec.constant spec.constant primary_form i
@@ -184,7 +181,7 @@ module _ (W : Type 0) (d e : ℕ) (le : d ≤ e) (wide : d < e → W) (inner oth
     unfolding spec.sent_to
     sent_exact i =
         let c = placed W b (λ pos. spec.primary d inner >>= (λ t. spec.all_sendings d inner >>= (λ ss. pure (spec.sent pos t ss)))) (λ pos. spec.primary e other >>= (λ t. spec.all_sendings e other >>= (λ ss. pure (spec.sent pos t ss)))) sent_form i
-            (λ pos. into W b (λ v. spec.sent origin v.0 v.1) (λ v. sent_text v.0 v.1) (λ n lt v f. sent_fits n lt v.0 v.1 f.0 f.1) (bind_at W b (primary_exact i) (λ t j. mapped W b (λ ss. spec.sent pos t ss) (sendings_exact j)))) in
+        (λ pos. into W b (λ v. spec.sent origin v.0 v.1) (λ v. sent_text v.0 v.1) (λ n lt v f. sent_fits n lt v.0 v.1 f.0 f.1) (bind_at W b (primary_exact i) (λ t j. mapped W b (λ ss. spec.sent pos t ss) (sendings_exact j)))) in
         record { pass = c.pass; same = c.same }
 
     -- ---- operands and chains
@@ -194,8 +191,8 @@ module _ (W : Type 0) (d e : ℕ) (le : d ≤ e) (wide : d < e → W) (inner oth
     signed_at z op i shows sign h =
         let rest : (q : Rule → Parser Tree) → Pos → Parser Tree = λ q pos. q rule.Operand >>= (λ t. pure (tree.unary pos op t)) in
         let c = placed W b (λ pos. deepen d >>= (λ u. rest inner pos)) (λ pos. deepen e >>= (λ u. rest other pos)) (ruled rule.Operand) i (λ pos.
-            opening W d d e (λ u. rest inner pos) (λ u. rest other pos) (ruled rule.Operand) (ruled rule.Operand) (symbol op) refl (λ t. tree.unary origin op t) i le wide (λ t. refl) (λ n lt t f. ((sign, f.0, f.1), omega arith, omega (arith, f.2)))
-            (λ j. mapped W d (λ t. tree.unary pos op t) (x rule.Operand j)) (takes (kind.Sym op) i (ap token_of h ∙ shows))) in
+        opening W d d e (λ u. rest inner pos) (λ u. rest other pos) (ruled rule.Operand) (ruled rule.Operand) (symbol op) refl (λ t. tree.unary origin op t) i le wide (λ t. refl) (λ n lt t f. ((sign, f.0, f.1), omega arith, omega (arith, f.2)))
+        (λ j. mapped W d (λ t. tree.unary pos op t) (x rule.Operand j)) (takes (kind.Sym op) i (ap token_of h ∙ shows))) in
         record { pass = c.pass; same = c.same }
 
     operand_at : (z : Next) (i : Tokens) → next i ≡ z → ExactAt W b (spec.operand_by d inner z) (spec.operand_by e other z) (ruled rule.Operand) i

@@ -1,14 +1,13 @@
 -- Where sends, receptions and calls stop.
-use Rattle.std.proofs.Common.{◌≡◌, ℕ, zero, suc, ◌+◌, ◌≤◌, ◌<◌, Bool, true, false, cond, List, [], ◌∷◌, ◌++◌, length, Option, Some, None, Ok, Err, refl, ap, sym, ◌∙◌, arith, append_assoc}
+use Rattle.std.proofs.Common.{◌≡◌, ℕ, zero, suc, ◌+◌, ◌≤◌, ◌<◌, Bool, true, false, cond, List, [], ◌∷◌, ◌++◌, length, Option, Some, None, Ok, Err, refl, ap, sym, arith, append_assoc}
 use Rattle.std.specs.Prelude.{⊤}
-use Rattle.std.proofs.lemmas.List.{append-nil}
 use Rattle.pz_syntax.specs.declared.tokens.Pos.{Pos}
 use Rattle.pz_syntax.specs.declared.tokens.Symbol.TheVariants as s
 use Rattle.pz_syntax.specs.declared.tokens.Keyword.TheVariants as k
 use Rattle.pz_syntax.specs.declared.tokens.TokenKind.TheVariants as kind
 use Rattle.pz_syntax.specs.declared.tokens.Mark.{Mark}
 use Rattle.pz_syntax.specs.declared.names.Id.{Id}
-use Rattle.pz_syntax.specs.Marks.{symbol, keyword, word, head, in_parentheses, names_text}
+use Rattle.pz_syntax.specs.Marks.{symbol, keyword, head, in_parentheses, names_text}
 use Rattle.pz_syntax.specs.Expressions.{Expressions, none, Part, left_out, written}
 use Rattle.pz_syntax.specs.ExpressionErasure.{origin}
 use Rattle.pz_syntax.specs.ExpressionView.{list_of as expressions}
@@ -24,7 +23,6 @@ use Rattle.pz_syntax.specs.StatementNesting.{nesting, condition_nesting, recepti
 use Rattle.pz_syntax.specs.ModelForm.{IfWritten}
 use Rattle.pz_parser_cursor.specs.declared.ahead.Next.{Next}
 use Rattle.pz_parser_cursor.specs.declared.ahead.Next.TheVariants as n
-use Rattle.pz_parser_cursor.specs.declared.refusal.Refusal.{Refusal}
 use Rattle.pz_parser_cursor.specs.devices.LookAhead.{next}
 use Rattle.pz_parser_cursor.specs.devices.Input.{Tokens, marks, after, identifier, position, sees}
 use Rattle.pz_parser_cursor.specs.devices.Device.{Outcome, Parser, ◌>>=◌, ◌>>◌, pure, refuse, skip, take_id, and_then, expect, expect_id, deepen}
@@ -35,8 +33,8 @@ use Rattle.pz_parser_cursor.proofs.Words.{word_is, head_is}
 use Rattle.pz_parser_expressions.specs.declared.rule.Rule.TheVariants as rule
 use Rattle.pz_parser_expressions.specs.devices.Values.{below, enclosed, exprs_before, arguments}
 use Rattle.pz_parser_statements.specs.devices.Messages as spec
-use Rattle.pz_parser_cursor.proofs.Stopping.{Form, nothing, token_form, both, Begun, Front, front_as, begun, named, Refused, Taken, Pass, took, stopped, Low, ExactAt, Exact, low, into, bind_at, bind_exact, pure_exact, mapped, refuse_exact, Peeks, take_then, if_at, dispatch, placed, opening, as_equal}
-use Rattle.pz_parser_cursor.proofs.StoppingLists.{identifier_peeks, sees_peeks, some_id, name_form, word_form, optional_form, expect_exact, word_exact, skip_at, optional_exact}
+use Rattle.pz_parser_cursor.proofs.Stopping.{Form, token_form, both, Begun, Front, front_as, begun, named, Taken, Pass, took, stopped, Low, ExactAt, Exact, low, into, bind_at, bind_exact, pure_exact, mapped, refuse_exact, take_then, if_at, dispatch, placed, opening, as_equal}
+use Rattle.pz_parser_cursor.proofs.StoppingLists.{identifier_peeks, sees_peeks, name_form, word_form, optional_form, expect_exact, word_exact, skip_at, optional_exact}
 use Rattle.pz_parser_cursor.proofs.StoppingNames.{names_form, optional_names_exact}
 use Rattle.pz_parser_expressions.proofs.StoppingExpressions.{ruled, list_form, arguments_form}
 use Rattle.pz_parser_expressions.proofs.StoppingValues.{enclosed_at, before_exact, arguments_exact, below_exact}
@@ -178,9 +176,9 @@ module _ (W : Type 0) (d e : ℕ) (le : d ≤ e) (wide : d < e → W) where
       let behind : (m : ℕ) → Pos → Id → Parser Tree = λ m at port. skip >>= (λ u. expect_id n.Word >>= (λ message. arguments m (below m) >>= (λ args. spec.after_message m >>= (λ block. pure (tree.send at port message args block))))) in
       let F = both (token_form (symbol s.Bang)) (both word_form (both arguments_form after_form)) in
       let known : (at : Pos) (port : Id) → ExactAt W b (behind d at port) (behind e at port) F (after i) =
-          λ at port. bind_at W b (skip_at W b n.Bang (kind.Sym s.Bang) (after i) refl (sees_is n.Bang (after i) g)) (λ u. bind_exact W b (word_exact W b) (λ message. bind_exact W b (arguments_exact W d e le wide (below d) (below e) (below_exact W d e le wide)) (λ args j. mapped W b (λ block. tree.send at port message args block) (after_exact j)))) in
+      λ at port. bind_at W b (skip_at W b n.Bang (kind.Sym s.Bang) (after i) refl (sees_is n.Bang (after i) g)) (λ u. bind_exact W b (word_exact W b) (λ message. bind_exact W b (arguments_exact W d e le wide (below d) (below e) (below_exact W d e le wide)) (λ args j. mapped W b (λ block. tree.send at port message args block) (after_exact j)))) in
       let c = placed W b (λ at. take_id >>= behind d at) (λ at. take_id >>= behind e at) statement_form i
-          (λ at. into W b (λ v. tree.send origin v.0 v.1.1.0 v.1.1.1.0 v.1.1.1.1) (λ v. refl) (λ n lt v f. ((f.1.1.1.0.0, f.1.1.1.1.0), omega (arith, f.1.1.1.0.1, f.1.1.1.1.1))) (take_then W b identifier (behind d at) (behind e at) word_form F (identifier i) i identifier_peeks (word_is i h) (λ n. tt) (known at))) in
+      (λ at. into W b (λ v. tree.send origin v.0 v.1.1.0 v.1.1.1.0 v.1.1.1.1) (λ v. refl) (λ n lt v f. ((f.1.1.1.0.0, f.1.1.1.1.0), omega (arith, f.1.1.1.0.1, f.1.1.1.1.1))) (take_then W b identifier (behind d at) (behind e at) word_form F (identifier i) i identifier_peeks (word_is i h) (λ n. tt) (known at))) in
       (record { pass = c.pass; same = c.same }, low (known (position i) (identifier i)).pass)
 
   condition_exact : Exact W d (spec.condition d) (spec.condition e) condition_form
@@ -192,9 +190,9 @@ module _ (W : Type 0) (d e : ℕ) (le : d ≤ e) (wide : d < e → W) where
   reception_at i h =
       let rest : (m : ℕ) → Parser spec.ReceptionTree = λ m. optional_names >>= (λ xs. spec.condition m >>= (λ o. expect n.RightParen >>= (λ v. pure (Some xs, o)))) in
       let c = opening W d d e (λ u. rest d) (λ u. rest e) (both names_form (both condition_form (token_form (symbol s.RightParen)))) reception_form (symbol s.LeftParen) refl (λ v. (Some v.0, v.1.0)) i le wide
-          (λ v. ap (λ z. symbol s.LeftParen ∷ z) (append_assoc (names_text v.0) (condition_text v.1.0) (symbol s.RightParen ∷ [])))
-          (λ n lt v f. (is_reception v.0 v.1.0 f.1.0.0, omega (arith, f.1.0.1)))
-          (bind_exact W d (optional_names_exact W d) (λ xs. bind_exact W d condition_exact (λ o j. mapped W d (λ v. (Some xs, o)) (expect_exact W d n.RightParen (kind.Sym s.RightParen) refl j)))) (takes (kind.Sym s.LeftParen) i (ap token_of h)) in
+      (λ v. ap (λ z. symbol s.LeftParen ∷ z) (append_assoc (names_text v.0) (condition_text v.1.0) (symbol s.RightParen ∷ [])))
+      (λ n lt v f. (is_reception v.0 v.1.0 f.1.0.0, omega (arith, f.1.0.1)))
+      (bind_exact W d (optional_names_exact W d) (λ xs. bind_exact W d condition_exact (λ o j. mapped W d (λ v. (Some xs, o)) (expect_exact W d n.RightParen (kind.Sym s.RightParen) refl j)))) (takes (kind.Sym s.LeftParen) i (ap token_of h)) in
       record { pass = c.pass; same = c.same }
 
   reception_exact : Exact W b (spec.reception d) (spec.reception e) reception_form
@@ -211,9 +209,9 @@ module _ (W : Type 0) (d e : ℕ) (le : d ≤ e) (wide : d < e → W) where
       let behind : (m : ℕ) → Pos → Id → Parser Tree = λ m at port. skip >>= (λ u. expect_id n.Word >>= (λ message. spec.reception m >>= (λ r. spec.after_message m >>= (λ block. pure (tree.receive at port message r.0 r.1 block))))) in
       let F = both (token_form (symbol s.Query)) (both word_form (both reception_form after_form)) in
       let known : (at : Pos) (port : Id) → ExactAt W b (behind d at port) (behind e at port) F (after i) =
-          λ at port. bind_at W b (skip_at W b n.Query (kind.Sym s.Query) (after i) refl (sees_is n.Query (after i) g)) (λ u. bind_exact W b (word_exact W b) (λ message. bind_exact W b reception_exact (λ r j. mapped W b (λ block. tree.receive at port message r.0 r.1 block) (after_exact j)))) in
+      λ at port. bind_at W b (skip_at W b n.Query (kind.Sym s.Query) (after i) refl (sees_is n.Query (after i) g)) (λ u. bind_exact W b (word_exact W b) (λ message. bind_exact W b reception_exact (λ r j. mapped W b (λ block. tree.receive at port message r.0 r.1 block) (after_exact j)))) in
       let c = placed W b (λ at. take_id >>= behind d at) (λ at. take_id >>= behind e at) statement_form i
-          (λ at. into W b (λ v. tree.receive origin v.0 v.1.1.0 v.1.1.1.0.0 v.1.1.1.0.1 v.1.1.1.1) (λ v. refl) (λ n lt v f. ((f.1.1.1.0.0, f.1.1.1.1.0), omega (arith, f.1.1.1.0.1, f.1.1.1.1.1))) (take_then W b identifier (behind d at) (behind e at) word_form F (identifier i) i identifier_peeks (word_is i h) (λ n. tt) (known at))) in
+      (λ at. into W b (λ v. tree.receive origin v.0 v.1.1.0 v.1.1.1.0.0 v.1.1.1.0.1 v.1.1.1.1) (λ v. refl) (λ n lt v f. ((f.1.1.1.0.0, f.1.1.1.1.0), omega (arith, f.1.1.1.0.1, f.1.1.1.1.1))) (take_then W b identifier (behind d at) (behind e at) word_form F (identifier i) i identifier_peeks (word_is i h) (λ n. tt) (known at))) in
       (record { pass = c.pass; same = c.same }, low (known (position i) (identifier i)).pass)
 
   -- ---- calls
@@ -248,15 +246,15 @@ module _ (W : Type 0) (d e : ℕ) (le : d ≤ e) (wide : d < e → W) where
       as_equal W b (λ j. cond (sees n.LeftParen j) ((deepen d >>= (λ u. inside d at method)) j) (none j)) (λ j. cond (sees n.LeftParen j) ((deepen e >>= (λ u. inside e at method)) j) (none j)) (behind d at method) (behind e at method) rest_form i (behind_is d at method) (behind_is e at method)
       (if_at W b (sees n.LeftParen) (deepen d >>= (λ u. inside d at method)) (deepen e >>= (λ u. inside e at method)) none none rest_form i (sees_peeks n.LeftParen)
       (λ h. opening W d d e (λ u. inside d at method) (λ u. inside e at method) (both (both (list_form s.Comma) (token_form (symbol s.RightParen))) results_form) rest_form (symbol s.LeftParen) refl (λ v. Some (v.0.0, v.1)) i le wide
-          (λ v. ap (λ z. symbol s.LeftParen ∷ z) (sym (append_assoc (expression_texts s.Comma v.0.0) (symbol s.RightParen ∷ []) (in_parentheses (names_text v.1)))))
-          (λ n lt v f. (f.0.0.0, omega (arith, f.0.0.1)))
-          (inside_exact at method) (takes (kind.Sym s.LeftParen) i (ap token_of (sees_is n.LeftParen i h))))
+      (λ v. ap (λ z. symbol s.LeftParen ∷ z) (sym (append_assoc (expression_texts s.Comma v.0.0) (symbol s.RightParen ∷ []) (in_parentheses (names_text v.1)))))
+      (λ n lt v f. (f.0.0.0, omega (arith, f.0.0.1)))
+      (inside_exact at method) (takes (kind.Sym s.LeftParen) i (ap token_of (sees_is n.LeftParen i h))))
       (λ h. refuse_exact W b rest_form i))
 
   pub called_at : (i : Tokens) → next i ≡ n.Head → ExactAt W b (spec.called d) (spec.called e) statement_form i
   unfolding spec.called
   called_at i h =
       let c = placed W b (λ at. take_id >>= behind d at) (λ at. take_id >>= behind e at) statement_form i (λ at.
-          let k = take_then W b identifier (behind d at) (behind e at) (name_form head) rest_form (identifier i) i identifier_peeks (head_is i h) (λ n. tt) (λ x. rest_exact at x (after i)) in
-          record { pass = call_pass b i ((take_id >>= behind d at) i) k.pass; same = k.same }) in
+      let k = take_then W b identifier (behind d at) (behind e at) (name_form head) rest_form (identifier i) i identifier_peeks (head_is i h) (λ n. tt) (λ x. rest_exact at x (after i)) in
+      record { pass = call_pass b i ((take_id >>= behind d at) i) k.pass; same = k.same }) in
       record { pass = c.pass; same = c.same }

@@ -1,6 +1,5 @@
 -- Where the rules of statements stop.
-use Rattle.std.proofs.Common.{◌≡◌, ℕ, zero, suc, ◌+◌, ◌≤◌, ◌<◌, Bool, true, false, cond, List, [], ◌∷◌, ◌++◌, length, Some, None, Ok, Err, refl, ap, sym, ◌∙◌, subst, arith, append_assoc}
-use Rattle.std.specs.Prelude.{⊤}
+use Rattle.std.proofs.Common.{◌≡◌, ℕ, zero, suc, ◌≤◌, ◌<◌, Bool, true, false, cond, List, [], ◌∷◌, ◌++◌, length, Some, refl, ap, sym, ◌∙◌, arith, append_assoc}
 use Rattle.std.proofs.lemmas.List.{append-nil}
 use Rattle.pz_syntax.specs.declared.tokens.Pos.{Pos}
 use Rattle.pz_syntax.specs.declared.tokens.Symbol.TheVariants as s
@@ -9,9 +8,8 @@ use Rattle.pz_syntax.specs.declared.tokens.Keyword.TheVariants as k
 use Rattle.pz_syntax.specs.declared.tokens.TokenKind.{TokenKind}
 use Rattle.pz_syntax.specs.declared.tokens.TokenKind.TheVariants as kind
 use Rattle.pz_syntax.specs.declared.tokens.Mark.{Mark}
-use Rattle.pz_syntax.specs.declared.tokens.Token.{Token}
 use Rattle.pz_syntax.specs.declared.names.Id.{Id}
-use Rattle.pz_syntax.specs.Marks.{symbol, keyword, word, head, mark}
+use Rattle.pz_syntax.specs.Marks.{symbol, keyword, head, mark}
 use Rattle.pz_syntax.specs.ExpressionErasure.{origin}
 use Rattle.pz_syntax.specs.ExpressionView.{list_of as expressions}
 use Rattle.pz_syntax.specs.ExpressionView as expression
@@ -19,15 +17,14 @@ use Rattle.pz_syntax.specs.ExpressionText.{text as expression_text}
 use Rattle.pz_syntax.specs.Statements.{Statements, StatementPart, Branches, not_written, otherwise as otherwise_part, then, no_statements, branch, no_branches}
 use Rattle.pz_syntax.specs.Statements as tree
 use Rattle.pz_syntax.specs.StatementView.{Tree, sequence_of, branches_of}
-use Rattle.pz_syntax.specs.StatementText.{text, texts, otherwise_text, branches_text, block_text}
+use Rattle.pz_syntax.specs.StatementText.{text, texts, otherwise_text, branches_text}
 use Rattle.pz_syntax.specs.StatementForm.{IsStatement, AreStatements, IsOtherwise, AreBranches, MayBeginStatement}
 use Rattle.pz_syntax.specs.StatementNesting.{nesting, nestings, otherwise_nesting, branches_nesting}
 use Rattle.pz_parser_cursor.specs.declared.ahead.Next.{Next}
 use Rattle.pz_parser_cursor.specs.declared.ahead.Next.TheVariants as n
-use Rattle.pz_parser_cursor.specs.declared.refusal.Refusal.{Refusal}
 use Rattle.pz_parser_cursor.specs.devices.LookAhead.{next}
 use Rattle.pz_parser_cursor.specs.devices.Input.{Tokens, marks, after, identifier, position, sees}
-use Rattle.pz_parser_cursor.specs.devices.Device.{Outcome, Parser, ◌>>=◌, ◌>>◌, ◌<$>◌, pure, refuse, skip, take_id, expect, deepen}
+use Rattle.pz_parser_cursor.specs.devices.Device.{Outcome, Parser, ◌>>=◌, pure, refuse, skip, take_id, expect, deepen}
 use Rattle.pz_parser_cursor.specs.devices.Lists.{list_of}
 use Rattle.pz_parser_cursor.specs.Places.{located}
 use Rattle.pz_parser_cursor.proofs.Shown.{token_of}
@@ -38,13 +35,13 @@ use Rattle.pz_parser_cursor.proofs.Joined.{Filled}
 use Rattle.pz_parser_expressions.specs.declared.rule.Rule.TheVariants as rule
 use Rattle.pz_parser_expressions.specs.devices.Values.{expr, below, enclosed, tested}
 use Rattle.pz_parser_expressions.proofs.Texts as value
-use Rattle.pz_parser_statements.specs.devices.Messages.{sent, received, called}
+use Rattle.pz_parser_statements.specs.devices.Messages.{sent, received}
 use Rattle.pz_parser_statements.specs.devices.Statements as spec
 use Rattle.pz_parser_statements.proofs.Lists.{Fits, sequence_text, texts_are, branches_are, are, nested, are_branches, branches_nested}
 use Rattle.pz_parser_statements.proofs.Beginnings.{begins_value, is_statement}
-use Rattle.pz_parser_cursor.proofs.Stopping.{Form, nothing, token_form, both, Begun, Front, begun, named, Refused, Taken, Pass, took, stopped, Low, low_ok, ExactAt, Exact, low, low_bind, pass_mapped, into, bind_at, bind_exact, pure_exact, mapped, refuse_exact, Peeks, take_then, if_at, second_at, dispatch, placed, opening, below_none}
-use Rattle.pz_parser_cursor.proofs.StoppingLists.{identifier_peeks, sees_peeks, some_id, word_form, joined_form, expect_exact, skip_at, list_exact}
-use Rattle.pz_parser_expressions.proofs.StoppingExpressions.{nil_tree, ruled, body_form, list_form}
+use Rattle.pz_parser_cursor.proofs.Stopping.{Form, token_form, both, Begun, Front, begun, named, Pass, took, stopped, Low, low_ok, ExactAt, Exact, low, low_bind, into, bind_at, bind_exact, pure_exact, mapped, refuse_exact, take_then, second_at, dispatch, placed, opening, below_none}
+use Rattle.pz_parser_cursor.proofs.StoppingLists.{identifier_peeks, sees_peeks, word_form, expect_exact, skip_at, list_exact}
+use Rattle.pz_parser_expressions.proofs.StoppingExpressions.{ruled}
 use Rattle.pz_parser_expressions.proofs.StoppingValues.{tested_exact, enclosed_at, expr_exact, below_exact, expr_past}
 use Rattle.pz_parser_statements.proofs.StoppingMessages.{statement_form, sent_at, received_at, called_at}
 
@@ -136,16 +133,16 @@ module _ (W : Type 0) (d e : ℕ) (le : d ≤ e) (wide : d < e → W) where
       let behind : (m : ℕ) → Pos → Id → Parser Tree = λ m at x. skip >>= (λ u. expr m rule.Value >>= (λ v. pure (tree.assignment at x v))) in
       let F = both (token_form (symbol s.Assign)) (ruled rule.Value) in
       let known : (at : Pos) (x : Id) → ExactAt W b (behind d at x) (behind e at x) F (after i) =
-          λ at x. bind_at W b (skip_at W b n.Assign (kind.Sym s.Assign) (after i) refl (sees_is n.Assign (after i) g)) (λ u j. mapped W b (λ v. tree.assignment at x v) (expr_exact W d e le wide rule.Value j)) in
+      λ at x. bind_at W b (skip_at W b n.Assign (kind.Sym s.Assign) (after i) refl (sees_is n.Assign (after i) g)) (λ u j. mapped W b (λ v. tree.assignment at x v) (expr_exact W d e le wide rule.Value j)) in
       let c = placed W b (λ at. take_id >>= behind d at) (λ at. take_id >>= behind e at) statement_form i
-          (λ at. into W b (λ v. tree.assignment origin v.0 v.1.1) (λ v. refl) (λ n lt v f. ((f.1.1.0, f.1.1.1), f.1.1.2)) (take_then W b identifier (behind d at) (behind e at) word_form F (identifier i) i identifier_peeks (word_is i h) (λ n. tt) (known at))) in
+      (λ at. into W b (λ v. tree.assignment origin v.0 v.1.1) (λ v. refl) (λ n lt v f. ((f.1.1.0, f.1.1.1), f.1.1.2)) (take_then W b identifier (behind d at) (behind e at) word_form F (identifier i) i identifier_peeks (word_is i h) (λ n. tt) (known at))) in
       (record { pass = c.pass; same = c.same }, low (known (position i) (identifier i)).pass)
 
   valued_at : (i : Tokens) → begins_value (next i) ≡ true → ExactAt W b (spec.valued d) (spec.valued e) statement_form i
   unfolding spec.valued
   valued_at i h =
       let c = placed W b (λ at. expr d rule.Value >>= (λ x. pure (tree.value at x))) (λ at. expr e rule.Value >>= (λ x. pure (tree.value at x))) statement_form i
-          (λ at. let x = mapped W b (λ x. tree.value at x) (expr_exact W d e le wide rule.Value i) in record { pass = value_pass i h b _ x.pass; same = x.same }) in
+      (λ at. let x = mapped W b (λ x. tree.value at x) (expr_exact W d e le wide rule.Value i) in record { pass = value_pass i h b _ x.pass; same = x.same }) in
       record { pass = c.pass; same = c.same }
 
   valued_past : (i : Tokens) → next i ≡ n.Word → Low (length (after i)) (spec.valued d i)
@@ -162,7 +159,7 @@ module _ (W : Type 0) (d e : ℕ) (le : d ≤ e) (wide : d < e → W) where
       let third : ExactAt W b (last d) (last e) statement_form i = second_at W b (sees n.Assign) (spec.assigned d) (spec.assigned e) (spec.valued d) (spec.valued e) statement_form i (sees_peeks n.Assign) (assigned_at i h) (λ g. (plain, past)) in
       let second : ExactAt W b (more d) (more e) statement_form i = second_at W b (sees n.Query) (received d) (received e) (last d) (last e) statement_form i (sees_peeks n.Query) (received_at W d e le wide i h) (λ g. (third, either (sees n.Assign (after i)) (spec.assigned d i) (spec.valued d i) (λ z. (assigned_at i h z).1) past)) in
       let c = second_at W b (sees n.Bang) (sent d) (sent e) (more d) (more e) statement_form i (sees_peeks n.Bang) (sent_at W d e le wide i h)
-          (λ g. (second, either (sees n.Query (after i)) (received d i) (last d i) (λ z. (received_at W d e le wide i h z).1) (either (sees n.Assign (after i)) (spec.assigned d i) (spec.valued d i) (λ z. (assigned_at i h z).1) past))) in
+      (λ g. (second, either (sees n.Query (after i)) (received d i) (last d i) (λ z. (received_at W d e le wide i h z).1) (either (sees n.Assign (after i)) (spec.assigned d i) (spec.valued d i) (λ z. (assigned_at i h z).1) past))) in
       record { pass = c.pass; same = c.same }
     where
       either : {m : ℕ} (c : Bool) (x y : Outcome Tree) → (c ≡ true → Low m x) → Low m y → Low m (cond c x y)
@@ -183,8 +180,8 @@ module _ (W : Type 0) (d e : ℕ) (le : d ≤ e) (wide : d < e → W) where
     bracketed_at i h =
         let rest : Parser (List Tree) → Pos → Parser Tree = λ q at. q >>= (λ ts. expect n.RightParen >>= (λ u. pure (tree.bracketed at (sequence_of ts)))) in
         let c = placed W b (λ at. deepen d >>= (λ u. rest (spec.sequence d inner) at)) (λ at. deepen e >>= (λ u. rest (spec.sequence e other) at)) statement_form i (λ at.
-            opening W d d e (λ u. rest (spec.sequence d inner) at) (λ u. rest (spec.sequence e other) at) (both sequence_form (token_form (symbol s.RightParen))) statement_form (symbol s.LeftParen) refl (λ v. tree.bracketed origin v.0) i le wide (λ v. refl) (λ n lt v f. (f.0.0, omega (arith, f.0.1)))
-            (bind_exact W d sequence_exact (λ ts j. mapped W d (λ v. tree.bracketed at (sequence_of ts)) (expect_exact W d n.RightParen (kind.Sym s.RightParen) refl j))) (takes (kind.Sym s.LeftParen) i (ap token_of h))) in
+        opening W d d e (λ u. rest (spec.sequence d inner) at) (λ u. rest (spec.sequence e other) at) (both sequence_form (token_form (symbol s.RightParen))) statement_form (symbol s.LeftParen) refl (λ v. tree.bracketed origin v.0) i le wide (λ v. refl) (λ n lt v f. (f.0.0, omega (arith, f.0.1)))
+        (bind_exact W d sequence_exact (λ ts j. mapped W d (λ v. tree.bracketed at (sequence_of ts)) (expect_exact W d n.RightParen (kind.Sym s.RightParen) refl j))) (takes (kind.Sym s.LeftParen) i (ap token_of h))) in
         record { pass = c.pass; same = c.same }
 
     test_exact : (close : Next) (y : TokenKind) → token_of close ≡ Some y → Exact W d (tested (below d) close) (tested (below e) close) (both (ruled rule.Value) (token_form (mark y)))
@@ -195,10 +192,10 @@ module _ (W : Type 0) (d e : ℕ) (le : d ≤ e) (wide : d < e → W) where
     guarded_at i h =
         let rest : (m : ℕ) → Parser Tree → Pos → Parser Tree = λ m q at. tested (below m) n.RightBracket >>= (λ v. q >>= (λ t. pure (tree.guarded at v t))) in
         let c = placed W b (λ at. deepen d >>= (λ u. rest d inner at)) (λ at. deepen e >>= (λ u. rest e other at)) statement_form i (λ at.
-            opening W d d e (λ u. rest d inner at) (λ u. rest e other at) (both (both (ruled rule.Value) (token_form (symbol s.RightBracket))) statement_form) statement_form (symbol s.LeftBracket) refl (λ v. tree.guarded origin v.0.0 v.1) i le wide
-            (λ v. ap (λ z. symbol s.LeftBracket ∷ z) (sym (append_assoc (expression_text v.0.0) (symbol s.RightBracket ∷ []) (text v.1))))
-            (λ n lt v f. (((f.0.0.0, f.0.0.1), f.1.0), omega (arith, f.0.0.2, f.1.1)))
-            (bind_exact W d (test_exact n.RightBracket (kind.Sym s.RightBracket) refl) (λ v j. mapped W d (λ t. tree.guarded at v t) (x j))) (takes (kind.Sym s.LeftBracket) i (ap token_of h))) in
+        opening W d d e (λ u. rest d inner at) (λ u. rest e other at) (both (both (ruled rule.Value) (token_form (symbol s.RightBracket))) statement_form) statement_form (symbol s.LeftBracket) refl (λ v. tree.guarded origin v.0.0 v.1) i le wide
+        (λ v. ap (λ z. symbol s.LeftBracket ∷ z) (sym (append_assoc (expression_text v.0.0) (symbol s.RightBracket ∷ []) (text v.1))))
+        (λ n lt v f. (((f.0.0.0, f.0.0.1), f.1.0), omega (arith, f.0.0.2, f.1.1)))
+        (bind_exact W d (test_exact n.RightBracket (kind.Sym s.RightBracket) refl) (λ v j. mapped W d (λ t. tree.guarded at v t) (x j))) (takes (kind.Sym s.LeftBracket) i (ap token_of h))) in
         record { pass = c.pass; same = c.same }
 
     branched_at : (sep close : Next) (z end : Keyword) (y : Keyword) (make : Branches Id Id Id → Tree) → token_of sep ≡ Some (kind.Key z) → token_of close ≡ Some (kind.Key end) → ((bs : Branches Id Id Id) → text (make bs) ≡ keyword y ∷ (branches_text z bs ++ keyword end ∷ [])) → ((n : ℕ) → 0 < n → (bs : Branches Id Id Id) → AreBranches bs × (branches_nesting bs < n) → IsStatement (make bs) × (nesting (make bs) < suc n)) → (i : Tokens) → token_of (next i) ≡ Some (kind.Key y)
@@ -206,7 +203,7 @@ module _ (W : Type 0) (d e : ℕ) (le : d ≤ e) (wide : d < e → W) where
     unfolding spec.branched
     branched_at sep close z end y make shows closes spelled fits i opens =
         let branches : Exact W d (list_of (spec.sequence d inner) sep) (list_of (spec.sequence e other) sep) (branches_form z) =
-            λ j. into W d (λ bs. branches_of bs) (λ bs. sym (branches_are z bs)) (λ n lt bs f. (are_branches n bs f, branches_nested n bs f)) (list_exact d listed_form sep (kind.Key z) shows W (spec.sequence d inner) (spec.sequence e other) listed_exact j) in
+        λ j. into W d (λ bs. branches_of bs) (λ bs. sym (branches_are z bs)) (λ n lt bs f. (are_branches n bs f, branches_nested n bs f)) (list_exact d listed_form sep (kind.Key z) shows W (spec.sequence d inner) (spec.sequence e other) listed_exact j) in
         opening W d d e (λ u. list_of (spec.sequence d inner) sep >>= (λ bs. expect close >>= (λ v. pure bs))) (λ u. list_of (spec.sequence e other) sep >>= (λ bs. expect close >>= (λ v. pure bs))) (both (branches_form z) (token_form (keyword end))) statement_form (keyword y) refl (λ v. make v.0) i le wide (λ v. spelled v.0) (λ n lt v f. fits n lt v.0 f.0)
         (bind_exact W d branches (λ bs j. mapped W d (λ v. bs) (expect_exact W d close (kind.Key end) closes j))) (takes (kind.Key y) i opens)
 
@@ -214,14 +211,14 @@ module _ (W : Type 0) (d e : ℕ) (le : d ≤ e) (wide : d < e → W) where
     unfolding spec.parallel
     parallel_at i h =
         let c = placed W b (λ at. spec.branched d inner n.And n.Rap >>= (λ bs. pure (tree.parallel at (branches_of bs)))) (λ at. spec.branched e other n.And n.Rap >>= (λ bs. pure (tree.parallel at (branches_of bs)))) statement_form i
-            (λ at. mapped W b (λ bs. tree.parallel at (branches_of bs)) (branched_at n.And n.Rap k.And k.Rap k.Par (λ bs. tree.parallel origin bs) refl refl (λ bs. refl) (λ n lt bs f. (f.0, omega (arith, f.1))) i (ap token_of h))) in
+        (λ at. mapped W b (λ bs. tree.parallel at (branches_of bs)) (branched_at n.And n.Rap k.And k.Rap k.Par (λ bs. tree.parallel origin bs) refl refl (λ bs. refl) (λ n lt bs f. (f.0, omega (arith, f.1))) i (ap token_of h))) in
         record { pass = c.pass; same = c.same }
 
     selection_at : (i : Tokens) → next i ≡ n.Sel → ExactAt W b (spec.selection d inner) (spec.selection e other) statement_form i
     unfolding spec.selection
     selection_at i h =
         let c = placed W b (λ at. spec.branched d inner n.Or n.Les >>= (λ bs. pure (tree.select at (branches_of bs)))) (λ at. spec.branched e other n.Or n.Les >>= (λ bs. pure (tree.select at (branches_of bs)))) statement_form i
-            (λ at. mapped W b (λ bs. tree.select at (branches_of bs)) (branched_at n.Or n.Les k.Or k.Les k.Sel (λ bs. tree.select origin bs) refl refl (λ bs. refl) (λ n lt bs f. (f.0, omega (arith, f.1))) i (ap token_of h))) in
+        (λ at. mapped W b (λ bs. tree.select at (branches_of bs)) (branched_at n.Or n.Les k.Or k.Les k.Sel (λ bs. tree.select origin bs) refl refl (λ bs. refl) (λ n lt bs f. (f.0, omega (arith, f.1))) i (ap token_of h))) in
         record { pass = c.pass; same = c.same }
 
     otherwise_exact : Exact W d (spec.otherwise d inner) (spec.otherwise e other) otherwise_form
@@ -238,10 +235,10 @@ module _ (W : Type 0) (d e : ℕ) (le : d ≤ e) (wide : d < e → W) where
         let rest : (m : ℕ) → Parser Tree → Pos → Parser Tree = λ m q at. tested (below m) n.Then >>= (λ v. spec.sequence m q >>= (λ ts. spec.otherwise m q >>= (λ o. expect n.Fi >>= (λ u. pure (tree.conditional at v (sequence_of ts) o))))) in
         let F = both (both (ruled rule.Value) (token_form (keyword k.Then))) (both sequence_form (both otherwise_form (token_form (keyword k.Fi)))) in
         let c = placed W b (λ at. deepen d >>= (λ u. rest d inner at)) (λ at. deepen e >>= (λ u. rest e other at)) statement_form i (λ at.
-            opening W d d e (λ u. rest d inner at) (λ u. rest e other at) F statement_form (keyword k.If) refl (λ v. tree.conditional origin v.0.0 v.1.0 v.1.1.0) i le wide
-            (λ v. ap (λ z. keyword k.If ∷ z) (sym (append_assoc (expression_text v.0.0) (keyword k.Then ∷ []) (texts v.1.0 ++ (otherwise_text v.1.1.0 ++ keyword k.Fi ∷ [])))))
-            (λ n lt v f. (((f.0.0.0, f.0.0.1), f.1.0.0, f.1.1.0.0), omega (arith, f.0.0.2, f.1.0.1, f.1.1.0.1)))
-            (bind_exact W d (test_exact n.Then (kind.Key k.Then) refl) (λ v. bind_exact W d sequence_exact (λ ts. bind_exact W d otherwise_exact (λ o j. mapped W d (λ u. tree.conditional at v (sequence_of ts) o) (expect_exact W d n.Fi (kind.Key k.Fi) refl j))))) (takes (kind.Key k.If) i (ap token_of h))) in
+        opening W d d e (λ u. rest d inner at) (λ u. rest e other at) F statement_form (keyword k.If) refl (λ v. tree.conditional origin v.0.0 v.1.0 v.1.1.0) i le wide
+        (λ v. ap (λ z. keyword k.If ∷ z) (sym (append_assoc (expression_text v.0.0) (keyword k.Then ∷ []) (texts v.1.0 ++ (otherwise_text v.1.1.0 ++ keyword k.Fi ∷ [])))))
+        (λ n lt v f. (((f.0.0.0, f.0.0.1), f.1.0.0, f.1.1.0.0), omega (arith, f.0.0.2, f.1.0.1, f.1.1.0.1)))
+        (bind_exact W d (test_exact n.Then (kind.Key k.Then) refl) (λ v. bind_exact W d sequence_exact (λ ts. bind_exact W d otherwise_exact (λ o j. mapped W d (λ u. tree.conditional at v (sequence_of ts) o) (expect_exact W d n.Fi (kind.Key k.Fi) refl j))))) (takes (kind.Key k.If) i (ap token_of h))) in
         record { pass = c.pass; same = c.same }
 
     repeated_at : (i : Tokens) → next i ≡ n.While → ExactAt W b (spec.repeated d inner) (spec.repeated e other) statement_form i
@@ -250,10 +247,10 @@ module _ (W : Type 0) (d e : ℕ) (le : d ≤ e) (wide : d < e → W) where
         let rest : (m : ℕ) → Parser Tree → Pos → Parser Tree = λ m q at. tested (below m) n.Do >>= (λ v. spec.sequence m q >>= (λ ts. expect n.Od >>= (λ u. pure (tree.repeated at v (sequence_of ts))))) in
         let F = both (both (ruled rule.Value) (token_form (keyword k.Do))) (both sequence_form (token_form (keyword k.Od))) in
         let c = placed W b (λ at. deepen d >>= (λ u. rest d inner at)) (λ at. deepen e >>= (λ u. rest e other at)) statement_form i (λ at.
-            opening W d d e (λ u. rest d inner at) (λ u. rest e other at) F statement_form (keyword k.While) refl (λ v. tree.repeated origin v.0.0 v.1.0) i le wide
-            (λ v. ap (λ z. keyword k.While ∷ z) (sym (append_assoc (expression_text v.0.0) (keyword k.Do ∷ []) (texts v.1.0 ++ keyword k.Od ∷ []))))
-            (λ n lt v f. (((f.0.0.0, f.0.0.1), f.1.0.0), omega (arith, f.0.0.2, f.1.0.1)))
-            (bind_exact W d (test_exact n.Do (kind.Key k.Do) refl) (λ v. bind_exact W d sequence_exact (λ ts j. mapped W d (λ u. tree.repeated at v (sequence_of ts)) (expect_exact W d n.Od (kind.Key k.Od) refl j)))) (takes (kind.Key k.While) i (ap token_of h))) in
+        opening W d d e (λ u. rest d inner at) (λ u. rest e other at) F statement_form (keyword k.While) refl (λ v. tree.repeated origin v.0.0 v.1.0) i le wide
+        (λ v. ap (λ z. keyword k.While ∷ z) (sym (append_assoc (expression_text v.0.0) (keyword k.Do ∷ []) (texts v.1.0 ++ keyword k.Od ∷ []))))
+        (λ n lt v f. (((f.0.0.0, f.0.0.1), f.1.0.0), omega (arith, f.0.0.2, f.1.0.1)))
+        (bind_exact W d (test_exact n.Do (kind.Key k.Do) refl) (λ v. bind_exact W d sequence_exact (λ ts j. mapped W d (λ u. tree.repeated at v (sequence_of ts)) (expect_exact W d n.Od (kind.Key k.Od) refl j)))) (takes (kind.Key k.While) i (ap token_of h))) in
         record { pass = c.pass; same = c.same }
 
     handled_at : (y : Keyword) (make : Statements Id Id Id → Tree → Tree) → ((ts : Statements Id Id Id) (t : Tree) → text (make ts t) ≡ keyword y ∷ (texts ts ++ keyword k.With ∷ text t)) → ((n : ℕ) → 0 < n → (ts : Statements Id Id Id) (t : Tree) → AreStatements ts × (nestings ts < n) → IsStatement t × (nesting t < n) → IsStatement (make ts t) × (nesting (make ts t) < suc n)) → (i : Tokens) → token_of (next i) ≡ Some (kind.Key y)
@@ -268,14 +265,14 @@ module _ (W : Type 0) (d e : ℕ) (le : d ≤ e) (wide : d < e → W) where
     unfolding spec.aborted
     aborted_at i h =
         let c = placed W b (λ at. spec.handled d inner >>= (λ v. pure (tree.abort at (sequence_of v.0) v.1))) (λ at. spec.handled e other >>= (λ v. pure (tree.abort at (sequence_of v.0) v.1))) statement_form i
-            (λ at. mapped W b (λ v. tree.abort at (sequence_of v.0) v.1) (handled_at k.Abort (λ ts t. tree.abort origin ts t) (λ ts t. refl) (λ n lt ts t f g. ((f.0, g.0), omega (arith, f.1, g.1))) i (ap token_of h))) in
+        (λ at. mapped W b (λ v. tree.abort at (sequence_of v.0) v.1) (handled_at k.Abort (λ ts t. tree.abort origin ts t) (λ ts t. refl) (λ n lt ts t f g. ((f.0, g.0), omega (arith, f.1, g.1))) i (ap token_of h))) in
         record { pass = c.pass; same = c.same }
 
     interrupted_at : (i : Tokens) → next i ≡ n.Interrupt → ExactAt W b (spec.interrupted d inner) (spec.interrupted e other) statement_form i
     unfolding spec.interrupted
     interrupted_at i h =
         let c = placed W b (λ at. spec.handled d inner >>= (λ v. pure (tree.interrupt at (sequence_of v.0) v.1))) (λ at. spec.handled e other >>= (λ v. pure (tree.interrupt at (sequence_of v.0) v.1))) statement_form i
-            (λ at. mapped W b (λ v. tree.interrupt at (sequence_of v.0) v.1) (handled_at k.Interrupt (λ ts t. tree.interrupt origin ts t) (λ ts t. refl) (λ n lt ts t f g. ((f.0, g.0), omega (arith, f.1, g.1))) i (ap token_of h))) in
+        (λ at. mapped W b (λ v. tree.interrupt at (sequence_of v.0) v.1) (handled_at k.Interrupt (λ ts t. tree.interrupt origin ts t) (λ ts t. refl) (λ n lt ts t f g. ((f.0, g.0), omega (arith, f.1, g.1))) i (ap token_of h))) in
         record { pass = c.pass; same = c.same }
 
     statement_at : (z : Next) (i : Tokens) → next i ≡ z → ExactAt W b (spec.statement_by d inner z) (spec.statement_by e other z) statement_form i
