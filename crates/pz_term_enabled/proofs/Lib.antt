@@ -1,5 +1,5 @@
 mod Places
-mod Adding
+mod Notes
 mod OnePart
 mod Asks
 mod Walks

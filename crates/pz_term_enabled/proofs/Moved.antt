@@ -14,7 +14,7 @@ use Rattle.pz_rules.specs.devices.Walk.{under, active_parts, active_children}
 use Rattle.pz_term_enabled.specs.declared.found.Found.{Found}
 use Rattle.pz_term_enabled.specs.devices.Walked.{IsWalked}
 use Rattle.pz_term_enabled.specs.devices.Listings.{Adds}
-use Rattle.pz_term_enabled.proofs.Adding.{adds_both}
+use Rattle.pz_term_enabled.proofs.Notes.{adds_both}
 use Rattle.pz_term_enabled.proofs.Walks.{child_added, guard_open, walked}
 
 module _ (at : Seen → Context) (f : ℕ) where

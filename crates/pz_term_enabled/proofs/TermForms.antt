@@ -17,7 +17,7 @@ use Rattle.pz_rules.specs.Settings.{Context}
 use Rattle.pz_rules.specs.devices.Walk.{under, active_parts, active_children}
 use Rattle.pz_term_enabled.specs.declared.found.Found.{Found}
 use Rattle.pz_term_enabled.specs.devices.Listings.{Adds}
-use Rattle.pz_term_enabled.proofs.Adding.{adds_after}
+use Rattle.pz_term_enabled.proofs.Notes.{adds_after}
 
 shows_Seq : (t : Term) (rest : List Step) → term_view (form.Seq t rest) ≡ terms.sequence (term_view t) (step.sequence_view rest)
 shows_Seq t rest = search (rules, the_lemmas)

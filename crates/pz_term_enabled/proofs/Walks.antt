@@ -16,7 +16,7 @@ use Rattle.pz_term_enabled.specs.declared.found.Found.{Found}
 use Rattle.pz_term_enabled.specs.devices.Walked.{IsWalked, CarryAll, doing_view, receiving_view, whats}
 use Rattle.pz_term_enabled.specs.devices.Listings.{Adds, Notes, notes_of, nothing, only_troubles, below}
 use Rattle.pz_term_enabled.proofs.Places.{below_root}
-use Rattle.pz_term_enabled.proofs.Adding.{adds_none, adds_both, adds_after}
+use Rattle.pz_term_enabled.proofs.Notes.{adds_none, adds_both, adds_after}
 
 module _ (a : Context) (f : ℕ) where
   -- further children

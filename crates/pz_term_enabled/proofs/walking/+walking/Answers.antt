@@ -7,7 +7,7 @@ use Rattle.pz_rules.specs.Terms as terms
 use Rattle.pz_rules.specs.View.{term_view}
 use Rattle.pz_rules.specs.devices.Walk.{active_parts}
 use Rattle.pz_part_queries.specs.Standpoints.{seen_from}
-use Rattle.pz_term_enabled.proofs.Adding.{adds_under}
+use Rattle.pz_term_enabled.proofs.Notes.{adds_under}
 use Rattle.pz_term_enabled.proofs.Walks.{guard_closed, guard_troubled, troubled_guard}
 use Rattle.pz_term_enabled.proofs.Moved.{both_added, next_added, behind_added}
 use Rattle.pz_term_enabled.proofs.TermForms.{seq_added, par_added, sel_added, guard_added, frame_added, abort_added, idle_added, handling_added}
