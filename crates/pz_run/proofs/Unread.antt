@@ -9,7 +9,7 @@ use Rattle.pz_run.specs.Files.{JobFile}
 use Rattle.pz_run.specs.devices.Reading.{SaysUnread, FileOutcome, wanting, fault, long}
 
 -- another error is no fault
-pub not_fault : {A : Type 0} (e : ReadError) → (e ≡ Fault → ⊥) → is_fault {A} (Err e) ≡ false
+pub not_fault : {A : Type 0} (e : ReadError) → (e ≡ Fault → ⊥) → is_fault {A = A} (Err e) ≡ false
 not_fault NoMemory other = refl
 not_fault Fault other = absurd (other refl)
 not_fault TooLong other = refl
