@@ -1,3 +1,4 @@
 pub mod Tallies
 pub mod Unasked
 pub mod Steady
+mod Rows

@@ -1,0 +1,75 @@
+-- Nodes are no more than twice as deep as their term is high.
+use Rattle.std.proofs.Common.{◌≡◌, ℕ, zero, suc, ◌+◌, ◌*◌, ◌≤◌, max, refl, arith}
+use Rattle.pz_nodes_shapes.specs.Rose.{node, none, gone, more, width}
+use Rattle.pz_nodes_shapes.specs.Reading.{depth, depths}
+use Rattle.pz_rules.specs.Terms.{Term, height, greatest_height, term_at}
+use Rattle.pz_tree_standing.specs.Heads.{Head, leaf, wait, sequence, parallel, select, guarded, frame, abort, idle, handling, shifted, What, Shape, Shapes, inner_clock, formed}
+use Rattle.pz_tree_standing.specs.Standing.{term_of, terms_of}
+use Rattle.pz_tree_standing.specs.Whole.{IsNoShift, OneInside, HasParts, Whole, AreWhole}
+
+-- a node that is no shift node has one to spare, for a shift node over it
+abbrev spare : Head → ℕ
+spare (shifted s) = 0
+spare h = 1
+
+no_shift_spares : (h : Head) → IsNoShift h → spare h ≡ 1
+no_shift_spares (leaf s) p = refl
+no_shift_spares (wait due at) p = refl
+no_shift_spares (sequence rest) p = refl
+no_shift_spares parallel p = refl
+no_shift_spares select p = refl
+no_shift_spares (guarded e at s) p = refl
+no_shift_spares (frame number inputs results) p = refl
+no_shift_spares abort p = refl
+no_shift_spares (idle again s) p = refl
+no_shift_spares (handling again s) p = refl
+no_shift_spares (shifted s) p = absurd p
+
+none_deep : (ss : Shapes) → width ss ≡ 0 → depths ss ≡ 0
+none_deep none p = refl
+none_deep (gone ss) p = absurd (omega (arith, p))
+none_deep (more s ss) p = absurd (omega (arith, p))
+
+mutual
+  -- twice the height, and what is to spare
+  within : (c k : ℕ) (x : What) (ss : Shapes) → Whole (node k x ss) → spare x.head + suc (depths ss) ≤ height (term_of c (node k x ss)) + height (term_of c (node k x ss))
+  within c k x ss whole = form_deep x.head c ss whole.0 whole.1
+
+  deep : (c : ℕ) (s : Shape) → Whole s → depth s ≤ height (term_of c s) + height (term_of c s)
+  deep c (node k x ss) whole = omega (arith, within c k x ss whole)
+
+  form_deep : (h : Head) (c : ℕ) (ss : Shapes) → HasParts h ss → AreWhole ss → spare h + suc (depths ss) ≤ height (formed h c (terms_of h c 0 ss)) + height (formed h c (terms_of h c 0 ss))
+  form_deep (leaf s) c ss p w = omega (arith, none_deep ss p)
+  form_deep (wait due at) c ss p w = omega (arith, none_deep ss p)
+  form_deep (sequence rest) c ss p w = omega (arith, one_deep (sequence rest) c 0 ss p w)
+  form_deep parallel c ss p w = omega (arith, all_deep parallel c 0 ss w)
+  form_deep select c ss p w = omega (arith, all_deep select c 0 ss w)
+  form_deep (guarded e at s) c ss p w = omega (arith, one_deep (guarded e at s) c 0 ss p w)
+  form_deep (frame number inputs results) c ss p w = omega (arith, one_deep (frame number inputs results) c 0 ss p w)
+  form_deep abort c ss p w = omega (arith, two_deep abort c 0 ss p w)
+  form_deep (idle again s) c ss p w = omega (arith, two_deep (idle again s) c 0 ss p w)
+  form_deep (handling again s) c ss p w = omega (arith, two_deep (handling again s) c 0 ss p w)
+  form_deep (shifted s) c none p w = absurd p
+  form_deep (shifted s) c (gone ss) p w = absurd p
+  form_deep (shifted s) c (more (node k y ts) none) p w = omega (arith, within (inner_clock (shifted s) 0 c) k y ts w.0, no_shift_spares y.head p)
+  form_deep (shifted s) c (more (node k y ts) (gone ss)) p w = absurd p
+  form_deep (shifted s) c (more (node k y ts) (more t ss)) p w = absurd p
+
+  one_deep : (h : Head) (c i : ℕ) (ss : Shapes) → width ss ≡ 1 → AreWhole ss → depths ss ≤ height (term_at (terms_of h c i ss) 0) + height (term_at (terms_of h c i ss) 0)
+  one_deep h c i none p w = absurd (omega (arith, p))
+  one_deep h c i (gone ss) p w = omega (arith, none_deep ss (let e : width ss ≡ 0 = omega (arith, p) in e))
+  one_deep h c i (more s ss) p w = omega (arith, deep (inner_clock h i c) s w.0, none_deep ss (let e : width ss ≡ 0 = omega (arith, p) in e))
+
+  two_deep : (h : Head) (c i : ℕ) (ss : Shapes) → width ss ≡ 2 → AreWhole ss
+      → depths ss ≤ max (height (term_at (terms_of h c i ss) 0)) (height (term_at (terms_of h c i ss) 1)) + max (height (term_at (terms_of h c i ss) 0)) (height (term_at (terms_of h c i ss) 1))
+  two_deep h c i none p w = absurd (omega (arith, p))
+  two_deep h c i (gone ss) p w = omega (arith, one_deep h c (suc i) ss (let e : width ss ≡ 1 = omega (arith, p) in e) w)
+  two_deep h c i (more s ss) p w = omega (arith, deep (inner_clock h i c) s w.0, one_deep h c (suc i) ss (let e : width ss ≡ 1 = omega (arith, p) in e) w.1)
+
+  all_deep : (h : Head) (c i : ℕ) (ss : Shapes) → AreWhole ss → depths ss ≤ greatest_height (terms_of h c i ss) + greatest_height (terms_of h c i ss)
+  all_deep h c i none w = omega arith
+  all_deep h c i (gone ss) w = omega (arith, all_deep h c (suc i) ss w)
+  all_deep h c i (more s ss) w = omega (arith, deep (inner_clock h i c) s w.0, all_deep h c (suc i) ss w.1)
+
+pub no_deeper : (c : ℕ) (s : Shape) → Whole s → depth s ≤ 2 * height (term_of c s)
+no_deeper c s whole = omega (arith, deep c s whole)

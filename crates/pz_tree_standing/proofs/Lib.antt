@@ -1,0 +1,9 @@
+pub mod Passing
+pub mod Still
+pub mod Onward
+pub mod Depths
+pub mod Resting
+pub mod Written
+pub mod Kids
+pub mod FrameCounts
+mod Rows

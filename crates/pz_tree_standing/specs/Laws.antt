@@ -1,0 +1,53 @@
+-- Laws of what nodes stand for.
+use Rattle.std.specs.Prelude.{◌≡◌, ◌≤◌, ◌+◌, ◌*◌, ℕ, false}
+use Rattle.pz_classes.specs.Soundness.{IsSound}
+use Rattle.pz_offer.specs.PlaceOrder.{Place}
+use Rattle.pz_nodes_shapes.specs.Reading.{depth}
+use Rattle.pz_rules.specs.Terms.{Term, height}
+use Rattle.pz_rules.specs.Settings.{Context, Process}
+use Rattle.pz_rules.specs.Laws.{part_of}
+use Rattle.pz_rules.specs.Places.{MayAct}
+use Rattle.pz_rules.specs.Leaving.{residual}
+use Rattle.pz_rules.specs.Delays.{Passes}
+use Rattle.pz_rules.specs.devices.Computed.{IsUntroubled}
+use Rattle.pz_tree_summary.specs.Asked.{asks}
+use Rattle.pz_tree_summary.specs.Steady.{later, Steady}
+use Rattle.pz_tree_standing.specs.Heads.{Shape}
+use Rattle.pz_tree_standing.specs.Standing.{term_of, Fits}
+use Rattle.pz_tree_standing.specs.Right.{Right}
+use Rattle.pz_tree_standing.specs.Resting.{Rests}
+use Rattle.pz_tree_standing.specs.Whole.{Whole}
+use Rattle.pz_tree_standing.specs.Sound.{Sound}
+use Rattle.pz_tree_standing.specs.Calm.{Calm}
+use Rattle.pz_tree_standing.specs.FrameCounts.{count_in, times, lost_all}
+
+-- Where no active delay begins, the same nodes, not one touched, stand for what a passing leaves.
+abbrev pub TimePasses : Type 0
+TimePasses = (a : Context) (d f c : ℕ) (s : Shape) → Fits c s → Calm a f s → IsUntroubled a f (term_of c s) → Passes a d f (term_of c s) (term_of (c + d) s)
+
+abbrev pub NothingElsePasses : Type 0
+NothingElsePasses = (a : Context) (d f c : ℕ) (s : Shape) → Fits c s → Calm a f s → (x : Term) → Passes a d f (term_of c s) x → x ≡ term_of (c + d) s
+
+-- in a sound model they stay right, where nothing active changes its answers
+abbrev pub StillRight : Type 0
+StillRight = (a : Context) (d f c : ℕ) (s : Shape) → IsSound a.setting.model → Fits c s → Calm a f s → Steady a d f (term_of c s)
+    → Right a f c s → Right (later a d) f (c + d) s
+
+-- and sound
+abbrev pub StillSound : Type 0
+StillSound = (a : Context) (d f c : ℕ) (s : Shape) → IsSound a.setting.model → Calm a f s → Steady a d f (term_of c s)
+    → Sound f c s → Sound f (c + d) s
+
+-- what rests and is asked nothing is right as soon as it is active, whatever happened before, with no node touched
+abbrev pub RestsAreRight : Type 0
+RestsAreRight = (a : Context) (f c : ℕ) (s : Shape) → asks (term_of c s) ≡ false → Rests f c s → Right a f c s
+
+-- An action on the part at a place: what stands afterwards and what is lost is what stood, but for the part, and what
+-- that has become.
+abbrev pub FramesStandOrAreLost : Type 0
+FramesStandOrAreLost = (n f : ℕ) (t : Term) (place : Place) (x : Process) → MayAct t place
+    → times n (residual f t place x).term + (count_in n (lost_all f t place x) + times n (part_of t place)) ≡ times n t + times n x.term
+
+-- nodes are no more than twice as deep as their term is high
+abbrev pub NoDeeperThanHigh : Type 0
+NoDeeperThanHigh = (c : ℕ) (s : Shape) → Whole s → depth s ≤ 2 * height (term_of c s)
