@@ -3,7 +3,7 @@ use Rattle.std.proofs.Common.{◌≡◌, ℕ, zero, suc, ◌+◌, ◌*◌, ◌�
 use Rattle.pz_nodes_shapes.specs.Rose.{node, none, gone, more, width}
 use Rattle.pz_nodes_shapes.specs.Reading.{depth, depths}
 use Rattle.pz_rules.specs.Terms.{Term, height, greatest_height, term_at}
-use Rattle.pz_tree_standing.specs.Heads.{Head, leaf, wait, sequence, parallel, select, guarded, frame, abort, idle, handling, shifted, What, Shape, Shapes, inner_clock, formed}
+use Rattle.pz_tree_standing.specs.Heads.{Head, leaf, wait, sequence, parallel, select, guarded, frame, abort, idle, handling, shifted, Shape, Shapes, inner_clock, formed}
 use Rattle.pz_tree_standing.specs.Standing.{term_of, terms_of}
 use Rattle.pz_tree_standing.specs.Whole.{IsNoShift, OneInside, HasParts, Whole, AreWhole}
 
@@ -31,12 +31,8 @@ none_deep (gone ss) p = absurd (omega (arith, p))
 none_deep (more s ss) p = absurd (omega (arith, p))
 
 mutual
-  -- twice the height, and what is to spare
-  within : (c k : ℕ) (x : What) (ss : Shapes) → Whole (node k x ss) → spare x.head + suc (depths ss) ≤ height (term_of c (node k x ss)) + height (term_of c (node k x ss))
-  within c k x ss whole = form_deep x.head c ss whole.0 whole.1
-
   deep : (c : ℕ) (s : Shape) → Whole s → depth s ≤ height (term_of c s) + height (term_of c s)
-  deep c (node k x ss) whole = omega (arith, within c k x ss whole)
+  deep c (node k x ss) whole = omega (arith, form_deep x.head c ss whole.0 whole.1)
 
   form_deep : (h : Head) (c : ℕ) (ss : Shapes) → HasParts h ss → AreWhole ss → spare h + suc (depths ss) ≤ height (formed h c (terms_of h c 0 ss)) + height (formed h c (terms_of h c 0 ss))
   form_deep (leaf s) c ss p w = omega (arith, none_deep ss p)
@@ -51,7 +47,7 @@ mutual
   form_deep (handling again s) c ss p w = omega (arith, two_deep (handling again s) c 0 ss p w)
   form_deep (shifted s) c none p w = absurd p
   form_deep (shifted s) c (gone ss) p w = absurd p
-  form_deep (shifted s) c (more (node k y ts) none) p w = omega (arith, within (inner_clock (shifted s) 0 c) k y ts w.0, no_shift_spares y.head p)
+  form_deep (shifted s) c (more (node k y ts) none) p w = omega (arith, form_deep y.head (inner_clock (shifted s) 0 c) ts w.0.0 w.0.1, no_shift_spares y.head p)
   form_deep (shifted s) c (more (node k y ts) (gone ss)) p w = absurd p
   form_deep (shifted s) c (more (node k y ts) (more t ss)) p w = absurd p
 

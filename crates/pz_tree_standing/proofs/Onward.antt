@@ -57,8 +57,8 @@ one_wide : (ss : Shapes) → OneInside ss → width ss ≡ 1
 one_wide none p = absurd p
 one_wide (gone ss) p = absurd p
 one_wide (more s none) p = refl
-one_wide (more s (gone ss)) p = absurd cc
-one_wide (more s (more t ss)) p = absurd cc
+one_wide (more (node k x ts) (gone ss)) p = absurd p
+one_wide (more (node k x ts) (more t ss)) p = absurd p
 
 -- Each child is active, or its clock stands still.
 abbrev MovesOrStands : Head → ℕ → ℕ → ℕ → Type 0

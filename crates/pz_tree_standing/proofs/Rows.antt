@@ -114,10 +114,10 @@ left_is_right : Right (seen_with value.Nil) 0 12 left_behind
 left_is_right = (refl, tt, (λ r. (refl, tt, tt), tt))
 
 left_is_whole : Whole left_behind
-left_is_whole = (tt, (refl, tt), tt)
+left_is_whole = (tt, ((refl, tt), tt))
 
 left_fits : Fits 12 left_behind
-left_fits = ((omega arith, refl), (omega arith, tt), tt)
+left_fits = ((omega arith, refl), ((omega arith, tt), tt))
 
 -- one shift node directly under another is none
 two_shifts : Whole (over 0 (shifted (behind 2)) (due 19) (alone left_behind)) → ⊥
