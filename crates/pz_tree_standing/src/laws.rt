@@ -3,10 +3,6 @@
 ghost use Rattle.pz_tree_standing.specs.Laws.{TimePasses, NothingElsePasses, StillRight, StillSound, RestsAreRight, FramesStandOrAreLost, NoDeeperThanHigh};
 ghost use Rattle.pz_tree_standing.specs.devices.Laws.{TimePassesComputed, StillRightComputed, StillSoundComputed, WrittenIsSummary, WrittenIsRight, ChildTerms, ChildFits, ChildRests, ChildRight, ShiftsAdd};
 
-use pz_clock::local_clocks;
-use pz_eval_rules::unclocked_is_timeless;
-use pz_rules::passing_is_computed;
-use pz_tree_summary::{steady_terms_keep_summaries, unasked_is_steady};
 
 /// Where no active delay begins, the same nodes, not one touched, stand for what the passing of time leaves.
 pub fn time_passes()
@@ -14,7 +10,7 @@ pub fn time_passes()
     ensures only { NothingElsePasses }
     ensures computed { TimePassesComputed }
 {
-    passing_is_computed();
+    pz_rules::laws::passing_is_computed();
 }
 
 /// In a sound model their summaries and gates stay right, and they stay sound, where no active delay begins
@@ -25,10 +21,10 @@ pub fn still_right()
     ensures computed { StillRightComputed }
     ensures computed_sound { StillSoundComputed }
 {
-    steady_terms_keep_summaries();
-    unasked_is_steady();
-    unclocked_is_timeless();
-    local_clocks();
+    pz_tree_summary::laws::steady_terms_keep_summaries();
+    pz_tree_summary::laws::unasked_is_steady();
+    pz_eval_rules::laws::unclocked_is_timeless();
+    pz_clock::laws::local_clocks();
 }
 
 /// Nodes are no more than twice as deep as their term is high.

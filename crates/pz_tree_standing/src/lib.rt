@@ -2,9 +2,5 @@
 //! when time passes or a child becomes another.
 #![tactic(auto)]
 
-mod laws;
+pub mod laws;
 
-pub use laws::{
-    children_are_replaced, frames_are_counted, nodes_are_no_deeper, nodes_are_written, rests_are_right,
-    still_right, time_passes,
-};
