@@ -1,6 +1,8 @@
+pub mod Meaning
 pub mod Passing
 pub mod Still
 pub mod Onward
+pub mod Reached
 pub mod Depths
 pub mod Resting
 pub mod Written

@@ -20,7 +20,7 @@ use Rattle.pz_tree_standing.specs.Calm.{HasBegun, Calm, CalmAll}
 use Rattle.pz_tree_standing.proofs.Passing.{clock_goes, time_passes}
 
 module _ (a : Context) (d : ℕ) where
-  is_ok : (r : Result Bool Trouble) (run : Bool) → run ≡ is_true r → run ≡ true → r ≡ Ok true
+  pub is_ok : (r : Result Bool Trouble) (run : Bool) → run ≡ is_true r → run ≡ true → r ≡ Ok true
   is_ok (Ok true) run g e = refl
   is_ok (Ok false) run g e = absurd cc
   is_ok (Err t) run g e = absurd cc

@@ -1,25 +1,39 @@
 -- Laws of what nodes stand for.
-use Rattle.std.specs.Prelude.{◌≡◌, ◌≤◌, ◌+◌, ◌*◌, ℕ, false}
+use Rattle.std.specs.Prelude.{◌≡◌, ◌<◌, ◌≤◌, ◌↔◌, ◌+◌, ◌*◌, ℕ, true, false}
 use Rattle.pz_classes.specs.Soundness.{IsSound}
 use Rattle.pz_offer.specs.PlaceOrder.{Place}
+use Rattle.pz_nodes_shapes.specs.Rose.{Map, width}
 use Rattle.pz_nodes_shapes.specs.Reading.{depth}
 use Rattle.pz_rules.specs.Terms.{Term, height}
 use Rattle.pz_rules.specs.Settings.{Context, Process}
 use Rattle.pz_rules.specs.Laws.{part_of}
 use Rattle.pz_rules.specs.Places.{MayAct}
 use Rattle.pz_rules.specs.Leaving.{residual}
+use Rattle.pz_rules.specs.Active.{Reached}
 use Rattle.pz_rules.specs.Delays.{Passes}
 use Rattle.pz_rules.specs.devices.Computed.{IsUntroubled}
 use Rattle.pz_tree_summary.specs.Asked.{asks}
 use Rattle.pz_tree_summary.specs.Steady.{later, Steady}
-use Rattle.pz_tree_standing.specs.Heads.{Shape}
-use Rattle.pz_tree_standing.specs.Standing.{term_of, Fits}
+use Rattle.pz_tree_standing.specs.Heads.{Head, What, Shape, Shapes, formed}
+use Rattle.pz_tree_standing.specs.Standing.{term_of, terms_of, Fits}
+use Rattle.pz_tree_standing.specs.Reached.{reaches, GateRight}
 use Rattle.pz_tree_standing.specs.Right.{Right}
 use Rattle.pz_tree_standing.specs.Resting.{Rests}
-use Rattle.pz_tree_standing.specs.Whole.{Whole}
+use Rattle.pz_tree_standing.specs.Whole.{IsNoShift, HasParts, Whole}
+use Rattle.pz_tree_standing.specs.Meaning.{StandsFor}
 use Rattle.pz_tree_standing.specs.Sound.{Sound}
 use Rattle.pz_tree_standing.specs.Calm.{Calm}
 use Rattle.pz_tree_standing.specs.FrameCounts.{count_in, times, lost_all}
+
+-- the nodes under a key stand for one term at most
+abbrev pub OneTerm : Type 0
+OneTerm = (m : Map What) (k c : ℕ) (t u : Term) → StandsFor m k c t → StandsFor m k c u → t ≡ u
+
+-- A node whose gate is right reaches those of its children that the rules say go on with its term. A shift node is no
+-- part of the term, and reaches its one child.
+abbrev pub ReachesWhatGoesOn : Type 0
+ReachesWhatGoesOn = (a : Context) (f c : ℕ) (h : Head) (ss : Shapes) (i : ℕ) → HasParts h ss → i < width ss → IsNoShift h → GateRight a f h
+    → (reaches h i ≡ true) ↔ Reached a f (formed h c (terms_of h c 0 ss)) i
 
 -- Where no active delay begins, the same nodes, not one touched, stand for what a passing leaves.
 abbrev pub TimePasses : Type 0

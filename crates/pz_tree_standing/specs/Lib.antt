@@ -4,6 +4,7 @@ pub mod Reached
 pub mod Right
 pub mod Resting
 pub mod Whole
+pub mod Meaning
 pub mod Sound
 pub mod Calm
 pub mod FrameCounts

@@ -1,8 +1,20 @@
 // Laws of what nodes stand for, each the contract of a function that does nothing.
 
-ghost use Rattle.pz_tree_standing.specs.Laws.{TimePasses, NothingElsePasses, StillRight, StillSound, RestsAreRight, FramesStandOrAreLost, NoDeeperThanHigh};
+ghost use Rattle.pz_tree_standing.specs.Laws.{OneTerm, ReachesWhatGoesOn, TimePasses, NothingElsePasses, StillRight, StillSound, RestsAreRight, FramesStandOrAreLost, NoDeeperThanHigh};
 ghost use Rattle.pz_tree_standing.specs.devices.Laws.{TimePassesComputed, StillRightComputed, StillSoundComputed, WrittenIsSummary, WrittenIsRight, ChildTerms, ChildFits, ChildRests, ChildRight, ShiftsAdd};
 
+/// The nodes under a key stand for one term at most.
+pub fn nodes_stand_for_one_term()
+    ensures law { OneTerm }
+{}
+
+/// A node reaches those of its children that go on with its term.
+pub fn reached_parts_are_active()
+    ensures law { ReachesWhatGoesOn }
+{
+    pz_rules::laws::evaluations_are_computed();
+    pz_eval_rules::laws::computed_is_found();
+}
 
 /// Where no active delay begins, the same nodes, not one touched, stand for what the passing of time leaves.
 pub fn time_passes()
