@@ -2,7 +2,7 @@
 use Rattle.std.specs.Prelude.{◌≡◌, ◌<◌, ◌≤◌, ◌↔◌, ◌+◌, ◌*◌, ℕ, true, false}
 use Rattle.pz_classes.specs.Soundness.{IsSound}
 use Rattle.pz_offer.specs.PlaceOrder.{Place}
-use Rattle.pz_nodes_shapes.specs.Rose.{Map, width}
+use Rattle.pz_nodes_shapes.specs.Rose.{Map, width, payload}
 use Rattle.pz_nodes_shapes.specs.Reading.{depth}
 use Rattle.pz_rules.specs.Terms.{Term, height}
 use Rattle.pz_rules.specs.Settings.{Context, Process}
@@ -14,6 +14,7 @@ use Rattle.pz_rules.specs.Delays.{Passes}
 use Rattle.pz_rules.specs.devices.Computed.{IsUntroubled}
 use Rattle.pz_tree_summary.specs.Asked.{asks}
 use Rattle.pz_tree_summary.specs.Steady.{later, Steady}
+use Rattle.pz_tree_summary.specs.Woken.{starts, clocked, IsAfter}
 use Rattle.pz_tree_standing.specs.Heads.{Head, What, Shape, Shapes, formed}
 use Rattle.pz_tree_standing.specs.Standing.{term_of, terms_of, Fits}
 use Rattle.pz_tree_standing.specs.Reached.{reaches, GateRight}
@@ -51,6 +52,15 @@ StillRight = (a : Context) (d f c : ℕ) (s : Shape) → IsSound a.setting.model
 abbrev pub StillSound : Type 0
 StillSound = (a : Context) (d f c : ℕ) (s : Shape) → IsSound a.setting.model → Calm a f s → Steady a d f (term_of c s)
     → Sound f c s → Sound f (c + d) s
+
+-- Where no active delay begins, no active part names the clock, and what the topmost node keeps is due afterwards, all
+-- this is so.
+abbrev pub UnwokenIsCalm : Type 0
+UnwokenIsCalm = (a : Context) (f c : ℕ) (s : Shape) → Right a f c s → starts a f (term_of c s) ≡ false → Calm a f s
+
+abbrev pub UnwokenIsSteadyToo : Type 0
+UnwokenIsSteadyToo = (a : Context) (d f c : ℕ) (s : Shape) → Right a f c s → starts a f (term_of c s) ≡ false → clocked a f (term_of c s) ≡ false
+    → IsAfter (c + d) (payload s).kept.due → Steady a d f (term_of c s)
 
 -- what rests and is asked nothing is right as soon as it is active, whatever happened before, with no node touched
 abbrev pub RestsAreRight : Type 0

@@ -1,6 +1,6 @@
 // Laws of what nodes stand for, each the contract of a function that does nothing.
 
-ghost use Rattle.pz_tree_standing.specs.Laws.{OneTerm, ReachesWhatGoesOn, TimePasses, NothingElsePasses, StillRight, StillSound, RestsAreRight, FramesStandOrAreLost, NoDeeperThanHigh};
+ghost use Rattle.pz_tree_standing.specs.Laws.{OneTerm, ReachesWhatGoesOn, TimePasses, NothingElsePasses, StillRight, StillSound, UnwokenIsCalm, UnwokenIsSteadyToo, RestsAreRight, FramesStandOrAreLost, NoDeeperThanHigh};
 ghost use Rattle.pz_tree_standing.specs.devices.Laws.{TimePassesComputed, StillRightComputed, StillSoundComputed, WrittenIsSummary, WrittenIsRight, ChildTerms, ChildFits, ChildRests, ChildRight, ShiftsAdd};
 
 /// The nodes under a key stand for one term at most.
@@ -37,6 +37,15 @@ pub fn still_right()
     pz_tree_summary::laws::unasked_is_steady();
     pz_eval_rules::laws::unclocked_is_timeless();
     pz_clock::laws::local_clocks();
+}
+
+/// What nothing wakes is calm and steady: where no active delay begins, no active part names the clock, and
+/// what the topmost node keeps is due afterwards.
+pub fn unwoken_nodes_stay()
+    ensures calm { UnwokenIsCalm }
+    ensures steady { UnwokenIsSteadyToo }
+{
+    pz_tree_summary::laws::unwoken_is_steady();
 }
 
 /// Nodes are no more than twice as deep as their term is high.

@@ -11,6 +11,7 @@ use Rattle.pz_rules.specs.devices.Found.{tested}
 use Rattle.pz_tree_summary.specs.Summaries.{summary_of, summaries_of, gated}
 use Rattle.pz_tree_summary.specs.Asked.{asks}
 use Rattle.pz_tree_summary.specs.Steady.{later, Steady}
+use Rattle.pz_tree_summary.specs.Woken.{starts, clocked, IsAfter}
 
 -- the statements behind an open one add nothing
 abbrev pub OfSequence : Type 0
@@ -51,3 +52,8 @@ UnaskedIsSteady = (a b : Context) (c f : ℕ) (t : Term) → asks t ≡ false �
 abbrev pub SteadySummary : Type 0
 SteadySummary = (a : Context) (d c f : ℕ) (t x : Term) → IsSound a.setting.model → Steady a d f t → Passes a d f t x
     → summary_of (later a d) (c + d) f x ≡ summary_of a c f t
+
+-- what has no delay that begins, names no clock, and is due only afterwards, is steady
+abbrev pub UnwokenIsSteady : Type 0
+UnwokenIsSteady = (a : Context) (d c f : ℕ) (t : Term) → starts a f t ≡ false → clocked a f t ≡ false → IsAfter (c + d) (summary_of a c f t).due
+    → Steady a d f t
