@@ -1,11 +1,11 @@
 -- Nodes are no more than twice as deep as their term is high.
-use Rattle.std.proofs.Common.{◌≡◌, ℕ, zero, suc, ◌+◌, ◌*◌, ◌≤◌, max, refl, arith}
+use Rattle.std.proofs.Common.{◌≡◌, ℕ, suc, ◌+◌, ◌*◌, ◌≤◌, max, refl, arith}
 use Rattle.pz_nodes_shapes.specs.Rose.{node, none, gone, more, width}
 use Rattle.pz_nodes_shapes.specs.Reading.{depth, depths}
-use Rattle.pz_rules.specs.Terms.{Term, height, greatest_height, term_at}
+use Rattle.pz_rules.specs.Terms.{height, greatest_height, term_at}
 use Rattle.pz_tree_standing.specs.Heads.{Head, leaf, wait, sequence, parallel, select, guarded, frame, abort, idle, handling, shifted, Shape, Shapes, inner_clock, formed}
 use Rattle.pz_tree_standing.specs.Standing.{term_of, terms_of}
-use Rattle.pz_tree_standing.specs.Whole.{IsNoShift, OneInside, HasParts, Whole, AreWhole}
+use Rattle.pz_tree_standing.specs.Whole.{IsNoShift, HasParts, Whole, AreWhole}
 
 -- a node that is no shift node has one to spare, for a shift node over it
 abbrev spare : Head → ℕ

@@ -1,5 +1,5 @@
 -- What an action does to the number of frames, level by level.
-use Rattle.std.proofs.Common.{◌≡◌, if◌then◌else◌, ◌<◌, ℕ, zero, suc, ◌+◌, Bool, true, false, ◌&&◌, eqb, List, [], ◌∷◌, ◌++◌, refl, ap, sym, ◌∙◌, subst, arith}
+use Rattle.std.proofs.Common.{◌≡◌, if◌then◌else◌, ◌<◌, ℕ, zero, suc, ◌+◌, Bool, true, false, ◌&&◌, List, [], ◌∷◌, ◌++◌, refl, sym, arith}
 use Rattle.pz_syntax.specs.Statements as statement
 use Rattle.pz_syntax.specs.Statements.{Branches, no_branches, branch, no_statements, then}
 use Rattle.pz_value.specs.declared.value.ClassId.{ClassId}

@@ -1,5 +1,5 @@
 -- Under a key stands one shape at most, and so it stands for one term.
-use Rattle.std.proofs.Common.{◌≡◌, ◌≤◌, ℕ, max, Option, Some, ap, sym, ◌∙◌, arith}
+use Rattle.std.proofs.Common.{◌≡◌, ℕ, max, Option, Some, ap, sym, ◌∙◌, arith}
 use Rattle.pz_nodes_shapes.specs.Rose.{Map, root, Stands}
 use Rattle.pz_nodes_shapes.specs.Reading.{read, depth}
 use Rattle.pz_nodes_shapes.proofs.Readings.{reads}

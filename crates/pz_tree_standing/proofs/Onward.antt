@@ -1,11 +1,11 @@
 -- As time passes, what fits its clock goes on to fit it, and what rests goes on to rest.
-use Rattle.std.proofs.Common.{◌≡◌, ℕ, zero, suc, ◌+◌, ◌-◌, ◌<◌, ◌≤◌, ◌⊎◌, inl, inr, Bool, true, false, ◌||◌, Option, Some, None, refl, ap, sym, ◌∙◌, subst, arith}
+use Rattle.std.proofs.Common.{◌≡◌, ℕ, zero, suc, ◌+◌, ◌<◌, ◌⊎◌, inl, inr, true, ◌||◌, refl, ap, sym, ◌∙◌, subst, arith}
 use Rattle.pz_eval_rules.specs.Clocks.{DataIsTimeless}
-use Rattle.pz_clock.specs.Shifts.{ShiftView, is_running, ShiftFits}
+use Rattle.pz_clock.specs.Shifts.{is_running}
 use Rattle.pz_clock.specs.Laws.{FitsOnward}
 use Rattle.pz_nodes_shapes.specs.Rose.{node, none, gone, more, width}
 use Rattle.pz_nodes_shapes.proofs.Frames.{decided}
-use Rattle.pz_rules.specs.Terms.{Term, Terms, term_at}
+use Rattle.pz_rules.specs.Terms.{Terms, term_at}
 use Rattle.pz_rules.specs.Settings.{Context}
 use Rattle.pz_tree_summary.specs.Summaries.{summary_of}
 use Rattle.pz_tree_summary.specs.Asked.{asks, any_asks}
@@ -17,7 +17,7 @@ use Rattle.pz_tree_standing.specs.Standing.{term_of, terms_of, HeadFits, Fits, F
 use Rattle.pz_tree_standing.specs.Reached.{reaches, GateRight}
 use Rattle.pz_tree_standing.specs.Resting.{Rests, RestAll}
 use Rattle.pz_tree_standing.specs.Whole.{OneInside, HasParts, Whole, AreWhole}
-use Rattle.pz_tree_standing.specs.Calm.{HasBegun, Calm, CalmAll}
+use Rattle.pz_tree_standing.specs.Calm.{Calm, CalmAll}
 use Rattle.pz_tree_standing.specs.Sound.{Sound}
 use Rattle.pz_tree_standing.proofs.Passing.{clock_goes, local_stands, time_passes}
 use Rattle.pz_tree_standing.proofs.Still.{kid_steady}

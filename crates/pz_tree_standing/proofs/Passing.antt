@@ -1,5 +1,5 @@
 -- Time passes: the same shape, its clock so much later, stands for what the passing leaves.
-use Rattle.std.proofs.Common.{◌≡◌, ℕ, zero, suc, ◌+◌, ◌-◌, ◌≤◌, Bool, true, false, Option, Some, None, Result, Ok, Err, refl, ap, sym, ◌∙◌, subst, arith}
+use Rattle.std.proofs.Common.{◌≡◌, ℕ, zero, suc, ◌+◌, ◌-◌, Bool, true, false, Option, Some, None, Result, Ok, Err, refl, ap, sym, ◌∙◌, subst, arith}
 use Rattle.pz_syntax.specs.Statements as statement
 use Rattle.pz_offer.specs.declared.trouble.Trouble.{Trouble}
 use Rattle.pz_clock.specs.Shifts.{ShiftView, is_running, local, local_since, ShiftFits, FitsSince}

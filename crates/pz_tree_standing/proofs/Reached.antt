@@ -1,5 +1,5 @@
 -- The children that a node reaches are those that the rules say go on with the term.
-use Rattle.std.proofs.Common.{◌≡◌, ◌<◌, ℕ, zero, suc, true, Result, Ok, refl, ap, sym, ◌∙◌, subst, arith}
+use Rattle.std.proofs.Common.{◌≡◌, ◌<◌, ℕ, zero, suc, true, Ok, refl, ap, sym, ◌∙◌, subst, arith}
 use Rattle.pz_syntax.specs.declared.tokens.Pos.{Pos}
 use Rattle.pz_eval_rules.specs.devices.Laws.{ComputedIsFound}
 use Rattle.pz_eval_rules.specs.devices.Outcomes.{outcome_of}

@@ -1,8 +1,8 @@
 -- What rests and is asked nothing is right as soon as it is active.
-use Rattle.std.proofs.Common.{◌≡◌, ℕ, zero, suc, ◌+◌, ◌≤◌, Bool, true, false, ◌||◌, Option, Some, None, refl, ap, sym, ◌∙◌, subst, arith}
+use Rattle.std.proofs.Common.{◌≡◌, ℕ, zero, suc, ◌+◌, true, false, refl, subst, arith}
 use Rattle.pz_nodes_shapes.specs.Rose.{node, none, gone, more}
 use Rattle.pz_nodes_shapes.proofs.Frames.{or_neither}
-use Rattle.pz_rules.specs.Terms.{Term, Terms, no_terms, and, term_at}
+use Rattle.pz_rules.specs.Terms.{Terms, no_terms, and, term_at}
 use Rattle.pz_rules.specs.Settings.{Context}
 use Rattle.pz_tree_summary.specs.Asked.{asks, any_asks}
 use Rattle.pz_tree_standing.specs.Heads.{Head, Shape, Shapes, inner_clock, inner_frame, formed}

@@ -1,5 +1,5 @@
 -- Worked shapes: what they stand for and what is right, which the checker works out.
-use Rattle.std.proofs.Common.{◌≡◌, ◌≤◌, ℕ, pos, true, false, List, [], ◌∷◌, Some, None, refl, arith}
+use Rattle.std.proofs.Common.{◌≡◌, ℕ, pos, [], ◌∷◌, Some, None, refl, arith}
 use Rattle.pz_syntax.specs.declared.tokens.Pos.{Pos}
 use Rattle.pz_syntax.specs.declared.tokens.Symbol.TheVariants.{Greater}
 use Rattle.pz_syntax.specs.declared.exprs.Literal.TheVariants as literal
@@ -18,12 +18,11 @@ use Rattle.pz_offer.specs.declared.summary.Summary.{Summary}
 use Rattle.pz_offer.specs.Summaries.{nothing}
 use Rattle.pz_eval_rules.specs.devices.Computed.{sequence, arguments, operators, replied, selectors, going, turns, step, evaluated}
 use Rattle.pz_clock.specs.Shifts.{ShiftView}
-use Rattle.pz_nodes_shapes.specs.Rose.{Rose, node, none, gone, more}
+use Rattle.pz_nodes_shapes.specs.Rose.{node, none, gone, more}
 use Rattle.pz_rules.specs.Terms.{Code, Step, Term, done, no_terms, and}
 use Rattle.pz_rules.specs.Terms as term
 use Rattle.pz_rules.specs.Settings.{Context}
 use Rattle.pz_rules.specs.devices.Passing.{passed}
-use Rattle.pz_tree_summary.specs.Summaries.{summary_of}
 use Rattle.pz_tree_standing.specs.Heads.{Head, wait, parallel, guarded, idle, handling, shifted, What, Shape, Shapes}
 use Rattle.pz_tree_standing.specs.Standing.{term_of, Fits}
 use Rattle.pz_tree_standing.specs.Right.{Right}

@@ -1,14 +1,12 @@
 -- As time passes, a shape of which nothing changes its answers stays right, with no node touched.
-use Rattle.std.proofs.Common.{◌≡◌, ℕ, zero, suc, ◌+◌, ◌-◌, ◌<◌, ◌≤◌, Bool, true, false, Option, Some, None, Result, Ok, Err, refl, ap, sym, ◌∙◌, subst, arith}
+use Rattle.std.proofs.Common.{◌≡◌, ℕ, zero, suc, ◌+◌, Bool, true, false, Result, Ok, Err, refl, ap, sym, ◌∙◌, subst, arith}
 use Rattle.pz_eval_rules.specs.Clocks.{DataIsTimeless}
 use Rattle.pz_offer.specs.declared.trouble.Trouble.{Trouble}
-use Rattle.pz_clock.specs.Shifts.{ShiftView, is_running, local, local_since, ShiftFits, FitsSince}
+use Rattle.pz_clock.specs.Shifts.{is_running}
 use Rattle.pz_nodes_shapes.specs.Rose.{node, none, gone, more}
-use Rattle.pz_rules.specs.Terms.{Term, Terms, no_terms, and, term_at}
-use Rattle.pz_rules.specs.Terms as term
+use Rattle.pz_rules.specs.Terms.{Terms, no_terms, and, term_at}
 use Rattle.pz_rules.specs.Settings.{Context}
 use Rattle.pz_rules.specs.devices.Found.{tested}
-use Rattle.pz_rules.specs.devices.Passing.{passed}
 use Rattle.pz_tree_summary.specs.Summaries.{summary_of}
 use Rattle.pz_tree_summary.specs.Steady.{later, Steady, AreSteady}
 use Rattle.pz_tree_summary.specs.devices.Laws.{TestIsSteady, SteadySummaryIsComputed}
@@ -16,7 +14,7 @@ use Rattle.pz_tree_standing.specs.Heads.{Head, leaf, wait, sequence, parallel, s
 use Rattle.pz_tree_standing.specs.Standing.{term_of, terms_of, HeadFits, Fits, FitAll}
 use Rattle.pz_tree_standing.specs.Reached.{reaches, is_true, GateRight}
 use Rattle.pz_tree_standing.specs.Right.{Right, RightAll}
-use Rattle.pz_tree_standing.specs.Calm.{HasBegun, Calm, CalmAll}
+use Rattle.pz_tree_standing.specs.Calm.{Calm, CalmAll}
 use Rattle.pz_tree_standing.proofs.Passing.{clock_goes, time_passes}
 
 module _ (a : Context) (d : ℕ) where

@@ -1,5 +1,5 @@
 -- A node whose children keep the right summaries keeps the right one, if it is made of theirs.
-use Rattle.std.proofs.Common.{◌≡◌, ℕ, zero, suc, ◌+◌, ◌-◌, ◌≤◌, Bool, true, false, Option, Some, None, Result, Ok, Err, refl, ap, sym, ◌∙◌, subst, arith}
+use Rattle.std.proofs.Common.{◌≡◌, ℕ, zero, suc, ◌+◌, ◌-◌, Bool, true, false, Option, Some, None, Result, Ok, Err, refl, ap, sym, ◌∙◌, subst, arith}
 use Rattle.pz_offer.specs.declared.trouble.Trouble.{Trouble}
 use Rattle.pz_clock.specs.Shifts.{ShiftView, is_running, local, local_since, ShiftFits, FitsSince}
 use Rattle.pz_nodes_shapes.specs.Rose.{node, none, gone, more}
@@ -16,7 +16,7 @@ use Rattle.pz_offer.proofs.Joins.{join_right}
 use Rattle.pz_tree_summary.specs.Summaries.{summary_of, summaries_of, gated}
 use Rattle.pz_tree_summary.specs.devices.Tallies.{own_summary}
 use Rattle.pz_tree_summary.proofs.Tallies.{summary_is_tally, summary_sequence, summary_parallel, summary_select, summary_guarded, summary_frame, summary_abort, summary_idle, summary_handling, summary_shifted}
-use Rattle.pz_tree_standing.specs.Heads.{Head, What, leaf, wait, sequence, parallel, select, guarded, frame, abort, idle, handling, shifted, Shape, Shapes, inner_clock, inner_frame, formed}
+use Rattle.pz_tree_standing.specs.Heads.{Head, What, leaf, wait, sequence, parallel, select, guarded, frame, abort, idle, handling, shifted, Shapes, inner_clock, inner_frame, formed}
 use Rattle.pz_tree_standing.specs.Standing.{term_of, terms_of, HeadFits}
 use Rattle.pz_tree_standing.specs.Reached.{reaches, is_true, GateRight}
 use Rattle.pz_tree_standing.specs.Right.{Right, RightAll}

@@ -1,7 +1,7 @@
 -- Shapes whose nodes have the children that their forms have.
-use Rattle.std.specs.Prelude.{◌≡◌, ℕ}
+use Rattle.std.specs.Prelude.{◌≡◌}
 use Rattle.pz_nodes_shapes.specs.Rose.{node, none, gone, more, width}
-use Rattle.pz_tree_standing.specs.Heads.{Head, leaf, wait, parallel, select, abort, idle, handling, shifted, What, Shape, Shapes}
+use Rattle.pz_tree_standing.specs.Heads.{Head, leaf, wait, parallel, select, abort, idle, handling, shifted, Shape, Shapes}
 
 abbrev pub IsNoShift : Head → Type 0
 IsNoShift (shifted s) = ⊥

@@ -1,4 +1,3 @@
-use Rattle.pz_tree_standing.proofs.Rows as rows
 use Rattle.pz_tree_standing.proofs.Depths.{no_deeper}
 use Rattle.pz_tree_standing.proofs.laws.nodes_are_no_deeper.Goals as goal
 
