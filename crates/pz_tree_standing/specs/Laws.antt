@@ -33,38 +33,46 @@ OneTerm = (m : Map What) (k c : ℕ) (t u : Term) → StandsFor m k c t → Stan
 -- A node whose gate is right reaches those of its children that the rules say go on with its term. A shift node is no
 -- part of the term, and reaches its one child.
 abbrev pub ReachesWhatGoesOn : Type 0
-ReachesWhatGoesOn = (a : Context) (f c : ℕ) (h : Head) (ss : Shapes) (i : ℕ) → HasParts h ss → i < width ss → IsNoShift h → GateRight a f h
+ReachesWhatGoesOn = (a : Context) (f c : ℕ) (h : Head) (ss : Shapes) (i : ℕ) → HasParts h ss
+    → i < width ss → IsNoShift h → GateRight a f h
     → (reaches h i ≡ true) ↔ Reached a f (formed h c (terms_of h c 0 ss)) i
 
 -- Where no active delay begins, the same nodes, not one touched, stand for what a passing leaves.
 abbrev pub TimePasses : Type 0
-TimePasses = (a : Context) (d f c : ℕ) (s : Shape) → Fits c s → Calm a f s → IsUntroubled a f (term_of c s) → Passes a d f (term_of c s) (term_of (c + d) s)
+TimePasses = (a : Context) (d f c : ℕ) (s : Shape) → Fits c s → Calm a f s
+    → IsUntroubled a f (term_of c s) → Passes a d f (term_of c s) (term_of (c + d) s)
 
 abbrev pub NothingElsePasses : Type 0
-NothingElsePasses = (a : Context) (d f c : ℕ) (s : Shape) → Fits c s → Calm a f s → (x : Term) → Passes a d f (term_of c s) x → x ≡ term_of (c + d) s
+NothingElsePasses = (a : Context) (d f c : ℕ) (s : Shape) → Fits c s → Calm a f s → (x : Term)
+    → Passes a d f (term_of c s) x → x ≡ term_of (c + d) s
 
 -- in a sound model they stay right, where nothing active changes its answers
 abbrev pub StillRight : Type 0
-StillRight = (a : Context) (d f c : ℕ) (s : Shape) → IsSound a.setting.model → Fits c s → Calm a f s → Steady a d f (term_of c s)
+StillRight = (a : Context) (d f c : ℕ) (s : Shape) → IsSound a.setting.model → Fits c s → Calm a f s
+    → Steady a d f (term_of c s)
     → Right a f c s → Right (later a d) f (c + d) s
 
 -- and sound
 abbrev pub StillSound : Type 0
-StillSound = (a : Context) (d f c : ℕ) (s : Shape) → IsSound a.setting.model → Calm a f s → Steady a d f (term_of c s)
+StillSound = (a : Context) (d f c : ℕ) (s : Shape) → IsSound a.setting.model → Calm a f s
+    → Steady a d f (term_of c s)
     → Sound f c s → Sound f (c + d) s
 
 -- Where no active delay begins, no active part names the clock, and what the topmost node keeps is due afterwards, all
 -- this is so.
 abbrev pub UnwokenIsCalm : Type 0
-UnwokenIsCalm = (a : Context) (f c : ℕ) (s : Shape) → Right a f c s → starts a f (term_of c s) ≡ false → Calm a f s
+UnwokenIsCalm = (a : Context) (f c : ℕ) (s : Shape) → Right a f c s
+    → starts a f (term_of c s) ≡ false → Calm a f s
 
 abbrev pub UnwokenIsSteadyToo : Type 0
-UnwokenIsSteadyToo = (a : Context) (d f c : ℕ) (s : Shape) → Right a f c s → starts a f (term_of c s) ≡ false → clocked a f (term_of c s) ≡ false
+UnwokenIsSteadyToo = (a : Context) (d f c : ℕ) (s : Shape) → Right a f c s
+    → starts a f (term_of c s) ≡ false → clocked a f (term_of c s) ≡ false
     → IsAfter (c + d) (payload s).kept.due → Steady a d f (term_of c s)
 
 -- what rests and is asked nothing is right as soon as it is active, whatever happened before, with no node touched
 abbrev pub RestsAreRight : Type 0
-RestsAreRight = (a : Context) (f c : ℕ) (s : Shape) → asks (term_of c s) ≡ false → Rests f c s → Right a f c s
+RestsAreRight = (a : Context) (f c : ℕ) (s : Shape) → asks (term_of c s) ≡ false → Rests f c s
+    → Right a f c s
 
 -- An action on the part at a place: what stands afterwards and what is lost is what stood, but for the part, and what
 -- that has become.

@@ -17,24 +17,29 @@ use Rattle.pz_tree_standing.specs.Calm.{Calm}
 use Rattle.pz_tree_standing.specs.devices.Written.{node_summary}
 
 abbrev pub TimePassesComputed : Type 0
-TimePassesComputed = (a : Context) (d f c : ℕ) (s : Shape) → Fits c s → Calm a f s → term_of (c + d) s ≡ passed a d f (term_of c s)
+TimePassesComputed = (a : Context) (d f c : ℕ) (s : Shape) → Fits c s → Calm a f s
+    → term_of (c + d) s ≡ passed a d f (term_of c s)
 
 abbrev pub StillRightComputed : Type 0
-StillRightComputed = (a : Context) (d f c : ℕ) (s : Shape) → DataIsTimeless a.setting.model → Fits c s → Calm a f s → Steady a d f (term_of c s)
+StillRightComputed = (a : Context) (d f c : ℕ) (s : Shape) → DataIsTimeless a.setting.model
+    → Fits c s → Calm a f s → Steady a d f (term_of c s)
     → Right a f c s → Right (later a d) f (c + d) s
 
 abbrev pub StillSoundComputed : Type 0
-StillSoundComputed = (a : Context) (d f c : ℕ) (s : Shape) → DataIsTimeless a.setting.model → Calm a f s → Steady a d f (term_of c s)
+StillSoundComputed = (a : Context) (d f c : ℕ) (s : Shape) → DataIsTimeless a.setting.model
+    → Calm a f s → Steady a d f (term_of c s)
     → Sound f c s → Sound f (c + d) s
 
 -- what a node is to keep, from what its active children keep, is the summary of its term
 abbrev pub WrittenIsSummary : Type 0
-WrittenIsSummary = (a : Context) (f c : ℕ) (h : Head) (ss : Shapes) → HeadFits h c → GateRight a f h → RightAll a (inner_frame h f) h c 0 ss
+WrittenIsSummary = (a : Context) (f c : ℕ) (h : Head) (ss : Shapes) → HeadFits h c → GateRight a f h
+    → RightAll a (inner_frame h f) h c 0 ss
     → node_summary a f c h ss ≡ summary_of a c f (formed h c (terms_of h c 0 ss))
 
 -- and a node that keeps it is right
 abbrev pub WrittenIsRight : Type 0
-WrittenIsRight = (a : Context) (f c k : ℕ) (x : What) (ss : Shapes) → HeadFits x.head c → GateRight a f x.head → RightAll a (inner_frame x.head f) x.head c 0 ss
+WrittenIsRight = (a : Context) (f c k : ℕ) (x : What) (ss : Shapes) → HeadFits x.head c
+    → GateRight a f x.head → RightAll a (inner_frame x.head f) x.head c 0 ss
     → x.kept ≡ node_summary a f c x.head ss → Right a f c (node k x ss)
 
 -- a child becomes another, or is gone: so do the terms,
@@ -49,14 +54,19 @@ ChildFits = (h : Head) (c i : ℕ) (ss : Shapes) (n : ℕ) (x : Option Shape)
 
 abbrev pub ChildRests : Type 0
 ChildRests = (f : ℕ) (h : Head) (c i : ℕ) (ss : Shapes) (n : ℕ) (x : Option Shape)
-    → RestAll f h c i ss → RestsOption f (inner_clock h (i + n) c) x → RestAll f h c i (with_kid ss n x)
+    → RestAll f h c i ss → RestsOption f (inner_clock h (i + n) c) x
+    → RestAll f h c i (with_kid ss n x)
 
 abbrev pub ChildRight : Type 0
 ChildRight = (a : Context) (f : ℕ) (h : Head) (c i : ℕ) (ss : Shapes) (n : ℕ) (x : Option Shape)
-    → RightAll a f h c i ss → (reaches h (i + n) ≡ true → RightOption a f (inner_clock h (i + n) c) x) → RightAll a f h c i (with_kid ss n x)
+    → RightAll a f h c i ss
+    → (reaches h (i + n) ≡ true → RightOption a f (inner_clock h (i + n) c) x)
+    → RightAll a f h c i (with_kid ss n x)
 
 -- two shift nodes, one under the other, stand for the same as one that is behind by both
 abbrev pub ShiftsAdd : Type 0
 ShiftsAdd = (c b1 b2 j k : ℕ) (x y z : What) (s : Shape)
-    → x.head ≡ shifted (record { behind = b1; since = None }) → y.head ≡ shifted (record { behind = b2; since = None }) → z.head ≡ shifted (record { behind = b1 + b2; since = None })
+    → x.head ≡ shifted (record { behind = b1; since = None })
+    → y.head ≡ shifted (record { behind = b2; since = None })
+    → z.head ≡ shifted (record { behind = b1 + b2; since = None })
     → term_of c (node j x (more (node k y (more s none)) none)) ≡ term_of c (node j z (more s none))
