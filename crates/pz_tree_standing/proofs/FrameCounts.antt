@@ -195,5 +195,9 @@ pub residual_times : (n f : ℕ) (t : Term) (place : Place) (x : Process) → Ma
 residual_times n f t [] x h = omega arith
 residual_times n f t (i ∷ place) x h =
     let inner = residual (frame_in t f) (child t i) place x in
-    omega (arith, around_times n f inner.state t i inner.term h.0, residual_times n (frame_in t f) (child t i) place x h.1,
-      count_append n (lost_all (frame_in t f) (child t i) place x) (lost t i inner.term))
+    omega (
+      arith,
+      around_times n f inner.state t i inner.term h.0,
+      residual_times n (frame_in t f) (child t i) place x h.1,
+      count_append n (lost_all (frame_in t f) (child t i) place x) (lost t i inner.term),
+    )

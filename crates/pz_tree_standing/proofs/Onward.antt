@@ -137,38 +137,44 @@ module _ (onward : FitsOnward) (a : Context) (d : ℕ) where
 
   mutual
     pub fits_later : (f c : ℕ) (s : Shape) → Whole s → Fits c s → Calm a f s → Steady a d f (term_of c s) → Fits (c + d) s
-    fits_later f c (node k x ss) whole fits calm st =
-        (head_onward f x.head c (terms_of x.head c 0 ss) fits.0 st,
-          all_fit (inner_frame x.head f) x.head c 0 ss fits.0 whole.1 fits.1 calm.2 (kids_moving x.head c ss fits.0 whole.0) (kids_steady f x.head c ss calm.1 st))
+    fits_later f c (node k x ss) whole fits calm st = (
+      head_onward f x.head c (terms_of x.head c 0 ss) fits.0 st,
+      all_fit (inner_frame x.head f) x.head c 0 ss fits.0 whole.1 fits.1 calm.2 (kids_moving x.head c ss fits.0 whole.0) (kids_steady f x.head c ss calm.1 st),
+    )
 
     all_fit : (f : ℕ) (h : Head) (c i : ℕ) (ss : Shapes) → HeadFits h c → AreWhole ss → FitAll h c i ss → CalmAll a f h i ss → Moving h c i ss → StayingSteady f h c i ss → FitAll h (c + d) i ss
     all_fit f h c i none head whole fits calm m st = tt
     all_fit f h c i (gone ss) head whole fits calm m st = all_fit f h c (suc i) ss head whole fits calm (moving_gone h c i ss m) (steady_later f h c i (gone ss) ss (λ j. refl) st)
-    all_fit f h c i (more s ss) head whole fits calm m st =
-        (elim (moving_first h c i s ss m) [
-          inl r ↦ subst (λ z. Fits z s) (sym (clock_goes h i c d head r)) (fits_later f (inner_clock h i c) s whole.0 fits.0 (calm.0 r) (steady_first f h c i s ss st r))
-          | inr e ↦ subst (λ z. Fits z s) (sym e) fits.0 ],
-          all_fit f h c (suc i) ss head whole.1 fits.1 calm.1 (moving_more h c i s ss m) (steady_later f h c i (more s ss) ss (λ j. refl) st))
+    all_fit f h c i (more s ss) head whole fits calm m st = (
+      elim (moving_first h c i s ss m) [
+        | inl r ↦ subst (λ z. Fits z s) (sym (clock_goes h i c d head r)) (fits_later f (inner_clock h i c) s whole.0 fits.0 (calm.0 r) (steady_first f h c i s ss st r))
+        | inr e ↦ subst (λ z. Fits z s) (sym e) fits.0
+      ],
+      all_fit f h c (suc i) ss head whole.1 fits.1 calm.1 (moving_more h c i s ss m) (steady_later f h c i (more s ss) ss (λ j. refl) st),
+    )
 
 module _ (unasked : UnaskedIsSteady) (steady : SteadySummaryIsComputed) (onward : FitsOnward) (a : Context) (d : ℕ) (methods : DataIsTimeless a.setting.model) where
   mutual
     pub rests_later : (f c : ℕ) (s : Shape) → Whole s → Fits c s → Calm a f s → Steady a d f (term_of c s) → Rests f c s → Rests f (c + d) s
     rests_later f c (node k x ss) whole fits calm st r =
-        let s : Shape = node k x ss in
-        ((λ e b. r.0 (asks_same c (c + d) s ∙ e) a
-            ∙ sym (steady a d c f (term_of c s) methods st)
-            ∙ ap (summary_of (later a d) (c + d) f) (sym (time_passes a d f c s fits calm))
-            ∙ unasked (later a d) b (c + d) f (term_of (c + d) s) e),
-          all_rest (inner_frame x.head f) x.head c 0 ss fits.0 whole.1 fits.1 calm.2 (kids_moving onward a d x.head c ss fits.0 whole.0) (kids_steady onward a d f x.head c ss calm.1 st) r.1)
+        let s : Shape = node k x ss in (
+          (λ e b. r.0 (asks_same c (c + d) s ∙ e) a
+              ∙ sym (steady a d c f (term_of c s) methods st)
+              ∙ ap (summary_of (later a d) (c + d) f) (sym (time_passes a d f c s fits calm))
+              ∙ unasked (later a d) b (c + d) f (term_of (c + d) s) e),
+          all_rest (inner_frame x.head f) x.head c 0 ss fits.0 whole.1 fits.1 calm.2 (kids_moving onward a d x.head c ss fits.0 whole.0) (kids_steady onward a d f x.head c ss calm.1 st) r.1,
+        )
 
     all_rest : (f : ℕ) (h : Head) (c i : ℕ) (ss : Shapes) → HeadFits h c → AreWhole ss → FitAll h c i ss → CalmAll a f h i ss → Moving onward a d h c i ss → StayingSteady onward a d f h c i ss → RestAll f h c i ss → RestAll f h (c + d) i ss
     all_rest f h c i none head whole fits calm m st r = tt
     all_rest f h c i (gone ss) head whole fits calm m st r = all_rest f h c (suc i) ss head whole fits calm (moving_gone onward a d h c i ss m) (steady_later onward a d f h c i (gone ss) ss (λ j. refl) st) r
-    all_rest f h c i (more s ss) head whole fits calm m st r =
-        (elim (moving_first onward a d h c i s ss m) [
-          inl g ↦ subst (λ z. Rests f z s) (sym (clock_goes h i c d head g)) (rests_later f (inner_clock h i c) s whole.0 fits.0 (calm.0 g) (steady_first onward a d f h c i s ss st g) r.0)
-          | inr e ↦ subst (λ z. Rests f z s) (sym e) r.0 ],
-          all_rest f h c (suc i) ss head whole.1 fits.1 calm.1 (moving_more onward a d h c i s ss m) (steady_later onward a d f h c i (more s ss) ss (λ j. refl) st) r.1)
+    all_rest f h c i (more s ss) head whole fits calm m st r = (
+      elim (moving_first onward a d h c i s ss m) [
+        | inl g ↦ subst (λ z. Rests f z s) (sym (clock_goes h i c d head g)) (rests_later f (inner_clock h i c) s whole.0 fits.0 (calm.0 g) (steady_first onward a d f h c i s ss st g) r.0)
+        | inr e ↦ subst (λ z. Rests f z s) (sym e) r.0
+      ],
+      all_rest f h c (suc i) ss head whole.1 fits.1 calm.1 (moving_more onward a d h c i s ss m) (steady_later onward a d f h c i (more s ss) ss (λ j. refl) st) r.1,
+    )
 
   pub still_sound : (f c : ℕ) (s : Shape) → Calm a f s → Steady a d f (term_of c s) → Sound f c s → Sound f (c + d) s
   still_sound f c s calm st h = record {

@@ -99,7 +99,7 @@ module _ (a : Context) (d : ℕ) where
   form_passes f select c ss fits begun gate kids all = ap term.select (all (λ j. refl))
   form_passes f (guarded e at s) c ss fits begun gate kids all = ap (term.guarded e at)
       (gate_passes (tested a f at e) (is_running s) (passed a d f (term_at (terms_of (guarded e at s) c 0 ss) 0)) (term_at (terms_of (guarded e at s) c 0 ss) 0) (term_at (terms_of (guarded e at s) (c + d) 0 ss) 0) gate
-        (λ r. kids 0 r) (λ r. kids_stand (guarded e at s) c d 0 ss 0 (local_stands s c d r)))
+      (λ r. kids 0 r) (λ r. kids_stand (guarded e at s) c d 0 ss 0 (local_stands s c d r)))
   form_passes f (frame number inputs results) c ss fits begun gate kids all = ap (term.frame number inputs results) (kids 0 refl)
   form_passes f abort c ss fits begun gate kids all = λ i. term.abort (kids 0 refl i) (kids 1 refl i)
   form_passes f (idle again s) c ss fits begun gate kids all = λ i. term.idle (kids 0 refl i) (kids 1 refl i) again

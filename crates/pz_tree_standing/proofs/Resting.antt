@@ -56,12 +56,16 @@ no_gate a f (head.shifted s) c ts e = tt
 mutual
   -- what rests and is asked nothing is right as soon as it is active, with no node touched
   pub rests_are_right : (a : Context) (f c : ℕ) (s : Shape) → asks (term_of c s) ≡ false → Rests f c s → Right a f c s
-  rests_are_right a f c (node k x ss) e r = (r.0 e a, no_gate a f x.head c (terms_of x.head c 0 ss) e,
-      all_rest a (inner_frame x.head f) x.head c 0 ss (λ j g. kid_unasked x.head c (terms_of x.head c 0 ss) e j (let n : 0 + j ≡ j = omega arith in subst (λ z. reaches x.head z ≡ true) n g)) r.1)
+  rests_are_right a f c (node k x ss) e r = (
+    r.0 e a,
+    no_gate a f x.head c (terms_of x.head c 0 ss) e,
+    all_rest a (inner_frame x.head f) x.head c 0 ss (λ j g. kid_unasked x.head c (terms_of x.head c 0 ss) e j (let n : 0 + j ≡ j = omega arith in subst (λ z. reaches x.head z ≡ true) n g)) r.1,
+  )
 
   all_rest : (a : Context) (f : ℕ) (h : Head) (c i : ℕ) (ss : Shapes) → ((j : ℕ) → reaches h (i + j) ≡ true → asks (term_at (terms_of h c i ss) j) ≡ false) → RestAll f h c i ss → RightAll a f h c i ss
   all_rest a f h c i none e r = tt
   all_rest a f h c i (gone ss) e r = all_rest a f h c (suc i) ss (λ j g. e (suc j) (let n : suc i + j ≡ i + suc j = omega arith in subst (λ z. reaches h z ≡ true) n g)) r
-  all_rest a f h c i (more s ss) e r =
-      ((λ g. rests_are_right a f (inner_clock h i c) s (e 0 (let n : i ≡ i + 0 = omega arith in subst (λ z. reaches h z ≡ true) n g)) r.0),
-        all_rest a f h c (suc i) ss (λ j g. e (suc j) (let n : suc i + j ≡ i + suc j = omega arith in subst (λ z. reaches h z ≡ true) n g)) r.1)
+  all_rest a f h c i (more s ss) e r = (
+    (λ g. rests_are_right a f (inner_clock h i c) s (e 0 (let n : i ≡ i + 0 = omega arith in subst (λ z. reaches h z ≡ true) n g)) r.0),
+    all_rest a f h c (suc i) ss (λ j g. e (suc j) (let n : suc i + j ≡ i + suc j = omega arith in subst (λ z. reaches h z ≡ true) n g)) r.1,
+  )

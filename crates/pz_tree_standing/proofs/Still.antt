@@ -68,18 +68,20 @@ module _ (tests : TestIsSteady) (steady : SteadySummaryIsComputed) (a : Context)
 
   mutual
     pub still_right : (f c : ℕ) (s : Shape) → Fits c s → Calm a f s → Steady a d f (term_of c s) → Right a f c s → Right (later a d) f (c + d) s
-    still_right f c (node k x ss) fits calm st r =
-        (r.0 ∙ sym (steady a d c f (term_of c (node k x ss)) methods st) ∙ ap (summary_of (later a d) (c + d) f) (sym (time_passes a d f c (node k x ss) fits calm)),
-          gate_later f x.head c (terms_of x.head c 0 ss) r.1 st,
-          all_still (inner_frame x.head f) x.head c 0 ss fits.0 fits.1 calm.2 (λ j e. kid_steady a d f x.head c (terms_of x.head c 0 ss) r.1 st j (let n : 0 + j ≡ j = omega arith in subst (λ z. reaches x.head z ≡ true) n e)) r.2)
+    still_right f c (node k x ss) fits calm st r = (
+      r.0 ∙ sym (steady a d c f (term_of c (node k x ss)) methods st) ∙ ap (summary_of (later a d) (c + d) f) (sym (time_passes a d f c (node k x ss) fits calm)),
+      gate_later f x.head c (terms_of x.head c 0 ss) r.1 st,
+      all_still (inner_frame x.head f) x.head c 0 ss fits.0 fits.1 calm.2 (λ j e. kid_steady a d f x.head c (terms_of x.head c 0 ss) r.1 st j (let n : 0 + j ≡ j = omega arith in subst (λ z. reaches x.head z ≡ true) n e)) r.2,
+    )
 
     all_still : (f : ℕ) (h : Head) (c i : ℕ) (ss : Shapes) → HeadFits h c → FitAll h c i ss → CalmAll a f h i ss → ((j : ℕ) → reaches h (i + j) ≡ true → Steady a d f (term_at (terms_of h c i ss) j))
         → RightAll a f h c i ss → RightAll (later a d) f h (c + d) i ss
     all_still f h c i none head fits calm st r = tt
     all_still f h c i (gone ss) head fits calm st r = all_still f h c (suc i) ss head fits calm
         (λ j e. st (suc j) (let n : suc i + j ≡ i + suc j = omega arith in subst (λ z. reaches h z ≡ true) n e)) r
-    all_still f h c i (more s ss) head fits calm st r =
-        ((λ e. let n : i ≡ i + 0 = omega arith in
-            subst (λ z. Right (later a d) f z s) (sym (clock_goes h i c d head e))
-              (still_right f (inner_clock h i c) s fits.0 (calm.0 e) (st 0 (subst (λ z. reaches h z ≡ true) n e)) (r.0 e))),
-          all_still f h c (suc i) ss head fits.1 calm.1 (λ j e. st (suc j) (let n : suc i + j ≡ i + suc j = omega arith in subst (λ z. reaches h z ≡ true) n e)) r.1)
+    all_still f h c i (more s ss) head fits calm st r = (
+      (λ e. let n : i ≡ i + 0 = omega arith in
+          subst (λ z. Right (later a d) f z s) (sym (clock_goes h i c d head e))
+          (still_right f (inner_clock h i c) s fits.0 (calm.0 e) (st 0 (subst (λ z. reaches h z ≡ true) n e)) (r.0 e))),
+      all_still f h c (suc i) ss head fits.1 calm.1 (λ j e. st (suc j) (let n : suc i + j ≡ i + suc j = omega arith in subst (λ z. reaches h z ≡ true) n e)) r.1,
+    )

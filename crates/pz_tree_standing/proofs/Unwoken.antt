@@ -72,7 +72,7 @@ module _ (a : Context) where
   kid_unstarted f select c ts g e j r = some_unstarted f 0 ts j e
   kid_unstarted f (guarded test at s) c ts g e zero r =
       none_under begins 0 (active_parts a f (term_at ts 0))
-        (subst (λ x. any_part begins (behind x (map (under 0) (active_parts a f (term_at ts 0)))) ≡ false) (is_ok a 0 (tested a f at test) (is_running s) g r) e)
+      (subst (λ x. any_part begins (behind x (map (under 0) (active_parts a f (term_at ts 0)))) ≡ false) (is_ok a 0 (tested a f at test) (is_running s) g r) e)
   kid_unstarted f (guarded test at s) c ts g e (suc j) r = absurd cc
   kid_unstarted f (frame number inputs results) c ts g e zero r = none_under begins 0 (active_parts a number (term_at ts 0)) e
   kid_unstarted f (frame number inputs results) c ts g e (suc j) r = absurd cc
@@ -90,17 +90,20 @@ module _ (a : Context) where
 
   mutual
     pub unstarted_is_calm : (f c : ℕ) (s : Shape) → Right a f c s → starts a f (term_of c s) ≡ false → Calm a f s
-    unstarted_is_calm f c (node k x ss) r e =
-        (has_begun f x.head c (terms_of x.head c 0 ss) e, r.1,
-          all_calm (inner_frame x.head f) x.head c 0 ss
-            (λ j g. kid_unstarted f x.head c (terms_of x.head c 0 ss) r.1 e j (let n : 0 + j ≡ j = omega arith in subst (λ z. reaches x.head z ≡ true) n g)) r.2)
+    unstarted_is_calm f c (node k x ss) r e = (
+      has_begun f x.head c (terms_of x.head c 0 ss) e,
+      r.1,
+      all_calm (inner_frame x.head f) x.head c 0 ss
+          (λ j g. kid_unstarted f x.head c (terms_of x.head c 0 ss) r.1 e j (let n : 0 + j ≡ j = omega arith in subst (λ z. reaches x.head z ≡ true) n g)) r.2,
+    )
 
     all_calm : (f : ℕ) (h : Head) (c i : ℕ) (ss : Shapes) → ((j : ℕ) → reaches h (i + j) ≡ true → starts a f (term_at (terms_of h c i ss) j) ≡ false) → RightAll a f h c i ss → CalmAll a f h i ss
     all_calm f h c i none e r = tt
     all_calm f h c i (gone ss) e r = all_calm f h c (suc i) ss (λ j g. e (suc j) (let n : suc i + j ≡ i + suc j = omega arith in subst (λ z. reaches h z ≡ true) n g)) r
-    all_calm f h c i (more s ss) e r =
-        ((λ g. unstarted_is_calm f (inner_clock h i c) s (r.0 g) (e 0 (let n : i ≡ i + 0 = omega arith in subst (λ z. reaches h z ≡ true) n g))),
-          all_calm f h c (suc i) ss (λ j g. e (suc j) (let n : suc i + j ≡ i + suc j = omega arith in subst (λ z. reaches h z ≡ true) n g)) r.1)
+    all_calm f h c i (more s ss) e r = (
+      (λ g. unstarted_is_calm f (inner_clock h i c) s (r.0 g) (e 0 (let n : i ≡ i + 0 = omega arith in subst (λ z. reaches h z ≡ true) n g))),
+      all_calm f h c (suc i) ss (λ j g. e (suc j) (let n : suc i + j ≡ i + suc j = omega arith in subst (λ z. reaches h z ≡ true) n g)) r.1,
+    )
 
   -- by what the topmost node keeps
   pub due_is_steady : UnwokenIsSteady → (d f c : ℕ) (s : Shape) → Right a f c s → starts a f (term_of c s) ≡ false → clocked a f (term_of c s) ≡ false → IsAfter (c + d) (payload s).kept.due → Steady a d f (term_of c s)

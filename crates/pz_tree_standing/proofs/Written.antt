@@ -71,7 +71,7 @@ module _ (a : Context) where
   summary_formed f c select ss fits gate r = right_all f select c 0 ss (λ j. refl) (λ j. refl) r ∙ sym (summary_select a c f (terms_of select c 0 ss))
   summary_formed f c (guarded e at s) ss fits gate r =
       behind_gate (tested a f at e) (is_running s) (summaries.shifted s.behind (kept_at ss 0)) (summary_of a c f (term_at (terms_of (guarded e at s) c 0 ss) 0)) gate
-        (λ g. ap (summaries.shifted s.behind) (right_kids f (guarded e at s) c 0 ss r 0 g) ∙ shift_adds f c s (term_at (terms_of (guarded e at s) c 0 ss) 0) fits g)
+      (λ g. ap (summaries.shifted s.behind) (right_kids f (guarded e at s) c 0 ss r 0 g) ∙ shift_adds f c s (term_at (terms_of (guarded e at s) c 0 ss) 0) fits g)
       ∙ sym (summary_guarded a c f e at (term_at (terms_of (guarded e at s) c 0 ss) 0))
   summary_formed f c (frame number inputs results) ss fits gate r = right_kids number (frame number inputs results) c 0 ss r 0 refl ∙ sym (summary_frame a c f number inputs results (term_at (terms_of (frame number inputs results) c 0 ss) 0))
   summary_formed f c abort ss fits gate r = (λ i. join (right_kids f abort c 0 ss r 0 refl i) (right_kids f abort c 0 ss r 1 refl i)) ∙ sym (summary_abort a c f (term_at (terms_of abort c 0 ss) 0) (term_at (terms_of abort c 0 ss) 1))
