@@ -1,5 +1,5 @@
 -- Worked terms: their summaries, which the checker works out.
-use Rattle.std.proofs.Common.{◌≡◌, ℕ, pos, negsuc, true, false, List, [], ◌∷◌, Some, None, refl}
+use Rattle.std.proofs.Common.{◌≡◌, ℕ, pos, negsuc, true, false, [], ◌∷◌, Some, None, refl}
 use Rattle.pz_syntax.specs.declared.tokens.Pos.{Pos}
 use Rattle.pz_syntax.specs.declared.tokens.Symbol.TheVariants.{Greater}
 use Rattle.pz_syntax.specs.declared.names.Id.{Id}
@@ -16,12 +16,10 @@ use Rattle.pz_prims.specs.EveryValue.{every_value}
 use Rattle.pz_prims.specs.Integers.{integers}
 use Rattle.pz_prims.specs.Booleans.{booleans}
 use Rattle.pz_prims.specs.Table.{outcome}
-use Rattle.pz_offer.specs.declared.summary.Summary.{Summary}
 use Rattle.pz_offer.specs.declared.trouble.Trouble.TheVariants.{Fault}
 use Rattle.pz_offer.specs.Summaries.{nothing, shifted}
 use Rattle.pz_eval_rules.specs.devices.Computed.{sequence, arguments, operators, replied, selectors, going, turns, step, evaluated}
-use Rattle.pz_rules.specs.Terms.{Code, Step, Term, done, leaf, wait, parallel, select, guarded, abort, idle, handling, Terms, no_terms, and}
-use Rattle.pz_rules.specs.Terms as terms
+use Rattle.pz_rules.specs.Terms.{Code, Step, Term, done, leaf, wait, parallel, select, guarded, abort, idle, handling, no_terms, and}
 use Rattle.pz_rules.specs.Settings.{Context}
 use Rattle.pz_tree_summary.specs.Summaries.{summary_of}
 use Rattle.pz_tree_summary.specs.Asked.{asks}

@@ -1,4 +1,3 @@
-use Rattle.pz_tree_summary.proofs.Rows as rows
 use Rattle.pz_tree_summary.proofs.Unasked.{unasked_is_steady}
 use Rattle.pz_tree_summary.proofs.laws.unasked_is_steady.Goals as goal
 
