@@ -1,3 +1,5 @@
 pub mod Tallies
 pub mod Unasked
 pub mod Steady
+pub mod Woken
+mod Rows

@@ -1,5 +1,5 @@
 -- As time passes, a term that is steady keeps its summary.
-use Rattle.std.proofs.Common.{◌≡◌, ℕ, zero, suc, ◌+◌, ◌-◌, ◌<◌, ◌≤◌, Bool, true, false, List, Some, None, Result, Ok, Err, refl, ap, sym, ◌∙◌, subst, arith}
+use Rattle.std.proofs.Common.{◌≡◌, ℕ, zero, suc, ◌+◌, ◌-◌, ◌<◌, ◌≤◌, Bool, true, false, Some, None, Result, Ok, Err, refl, ap, sym, ◌∙◌, arith}
 use Rattle.pz_syntax.specs.declared.tokens.Pos.{Pos}
 use Rattle.pz_syntax.specs.Expressions.{Part, left_out, written}
 use Rattle.pz_syntax.specs.Statements as statement
@@ -10,7 +10,7 @@ use Rattle.pz_offer.specs.Summaries.{join}
 use Rattle.pz_eval_rules.specs.Clocks.{names_clock, part_names_clock, DataIsTimeless}
 use Rattle.pz_eval_rules.specs.devices.Laws.{UnclockedIsComputedTheSame, UnclockedListIsComputedTheSame}
 use Rattle.pz_eval_rules.specs.devices.Outcomes.{outcome_of, listed_of, state_after}
-use Rattle.pz_rules.specs.Terms.{Code, Codes, Step, Term, done, leaf, wait, sequence, parallel, select, guarded, frame, abort, idle, handling, Terms, no_terms, and}
+use Rattle.pz_rules.specs.Terms.{Code, Step, Term, done, leaf, wait, sequence, parallel, select, guarded, frame, abort, idle, handling, Terms, no_terms, and}
 use Rattle.pz_rules.specs.Settings.{Context}
 use Rattle.pz_rules.specs.Meanings.{and_then, truth}
 use Rattle.pz_rules.specs.Evaluations.{allowance, value_or_trouble, values_or_trouble}

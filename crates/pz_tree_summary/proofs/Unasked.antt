@@ -11,7 +11,7 @@ use Rattle.pz_tree_summary.specs.devices.Tallies.{tally, own_summary}
 use Rattle.pz_offer.proofs.Joins.{join_right}
 use Rattle.pz_tree_summary.proofs.Tallies.{summary_is_tally, summary_sequence, summary_parallel, summary_select, summary_frame, summary_abort, summary_idle, summary_handling}
 
-or_neither : (a b : Bool) → a || b ≡ false → (a ≡ false) × (b ≡ false)
+pub or_neither : (a b : Bool) → a || b ≡ false → (a ≡ false) × (b ≡ false)
 or_neither false b e = (refl, e)
 or_neither true b e = absurd cc
 

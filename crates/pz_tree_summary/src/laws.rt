@@ -1,6 +1,6 @@
 // Laws of summaries, each the contract of a function that does nothing.
 
-ghost use Rattle.pz_tree_summary.specs.Laws.{OfSequence, OfFrame, OfGuard, OfAbort, OfIdle, OfHandling, OfParallel, OfSelect, OfLaterClock, UnaskedIsSteady, SteadySummary};
+ghost use Rattle.pz_tree_summary.specs.Laws.{OfSequence, OfFrame, OfGuard, OfAbort, OfIdle, OfHandling, OfParallel, OfSelect, OfLaterClock, UnaskedIsSteady, UnwokenIsSteady, SteadySummary};
 ghost use Rattle.pz_tree_summary.specs.devices.Laws.{TestIsSteady, SteadySummaryIsComputed};
 
 /// The summary of a term from those of its parts, form by form, and that by a clock that is ahead.
@@ -20,6 +20,12 @@ pub fn summaries_by_form()
 /// process.
 pub fn unasked_is_steady()
     ensures law { UnaskedIsSteady }
+{}
+
+/// A term that a passing of time does not wake is steady: no active delay of it begins, no active part names
+/// the clock, and what is due first is due afterwards.
+pub fn unwoken_is_steady()
+    ensures law { UnwokenIsSteady }
 {}
 
 /// In a sound model a term of which no delay begins or is over, and no test or argument names the clock,

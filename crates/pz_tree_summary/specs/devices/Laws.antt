@@ -11,10 +11,12 @@ use Rattle.pz_tree_summary.specs.Steady.{later, Steady}
 
 -- a test that does not name the clock comes to the same later
 abbrev pub TestIsSteady : Type 0
-TestIsSteady = (a : Context) (d f : ℕ) (at : Pos) (e : Code) → DataIsTimeless a.setting.model → names_clock e ≡ false
+TestIsSteady = (a : Context) (d f : ℕ) (at : Pos) (e : Code) → DataIsTimeless a.setting.model
+    → names_clock e ≡ false
     → tested (later a d) f at e ≡ tested a f at e
 
 -- what is left of a steady term as time passes, as it is computed, has the summary from before
 abbrev pub SteadySummaryIsComputed : Type 0
-SteadySummaryIsComputed = (a : Context) (d c f : ℕ) (t : Term) → DataIsTimeless a.setting.model → Steady a d f t
+SteadySummaryIsComputed = (a : Context) (d c f : ℕ) (t : Term) → DataIsTimeless a.setting.model
+    → Steady a d f t
     → summary_of (later a d) (c + d) f (passed a d f t) ≡ summary_of a c f t

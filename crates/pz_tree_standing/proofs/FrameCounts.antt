@@ -1,0 +1,203 @@
+-- What an action does to the number of frames, level by level.
+use Rattle.std.proofs.Common.{◌≡◌, if◌then◌else◌, ◌<◌, ℕ, zero, suc, ◌+◌, Bool, true, false, ◌&&◌, List, [], ◌∷◌, ◌++◌, refl, sym, arith}
+use Rattle.pz_syntax.specs.Statements as statement
+use Rattle.pz_syntax.specs.Statements.{Branches, no_branches, branch, no_statements, then}
+use Rattle.pz_value.specs.declared.value.ClassId.{ClassId}
+use Rattle.pz_classes_code.specs.declared.slot.Slot.{Slot}
+use Rattle.pz_state.specs.States.{StateView}
+use Rattle.pz_offer.specs.PlaceOrder.{Place}
+use Rattle.pz_rules.specs.Terms.{Step, Steps, Term, done, leaf, wait, sequence, parallel, select, guarded, frame, abort, idle, handling, Terms, no_terms, and, frames_in, frames_in_all, child, term_at, count, frame_in}
+use Rattle.pz_rules.specs.Opening.{opened, opened_all, opened_branches}
+use Rattle.pz_rules.specs.Settings.{Process}
+use Rattle.pz_rules.specs.Leaving.{residual, replaced, is_done, all_done, joined, around, aborted, interrupted, handled, framed}
+use Rattle.pz_rules.specs.Laws.{part_of}
+use Rattle.pz_rules.specs.Places.{MayActIn, MayAct}
+use Rattle.pz_tree_standing.specs.FrameCounts.{count_in, times, if_done, gives_way, lost, lost_all}
+
+pub count_append : (n : ℕ) (ms ks : List ℕ) → count_in n (ms ++ ks) ≡ count_in n ms + count_in n ks
+count_append n [] ks = (let e : count_in n ks ≡ 0 + count_in n ks = omega arith in e)
+count_append n (m ∷ ms) ks = omega (arith, count_append n ms ks)
+
+mutual
+  -- what opens has no frames (in this edition)
+  pub opened_none : (n : ℕ) (s : Step) → times n (opened s) ≡ 0
+  opened_none n (statement.bracketed pos ts) = opened_all_none n ts
+  opened_none n (statement.guarded pos test t) = opened_none n t
+  opened_none n (statement.parallel pos bs) = branches_none n bs
+  opened_none n (statement.select pos bs) = branches_none n bs
+  opened_none n (statement.abort pos ts t) = omega (arith, count_append n (frames_in (opened_all ts)) (frames_in (opened t)), opened_all_none n ts, opened_none n t)
+  opened_none n (statement.interrupt pos ts t) = omega (arith, count_append n (frames_in (opened_all ts)) (frames_in (opened t)), opened_all_none n ts, opened_none n t)
+  opened_none n (statement.skip at) = refl
+  opened_none n (statement.delay at e) = refl
+  opened_none n (statement.block at es) = refl
+  opened_none n (statement.conditional at e ts other) = refl
+  opened_none n (statement.repeated at e ts) = refl
+  opened_none n (statement.send at port name args after) = refl
+  opened_none n (statement.receive at port name into condition after) = refl
+  opened_none n (statement.call at method args results) = refl
+  opened_none n (statement.assignment at x e) = refl
+  opened_none n (statement.value at e) = refl
+
+  pub opened_all_none : (n : ℕ) (ts : Steps) → times n (opened_all ts) ≡ 0
+  opened_all_none n no_statements = refl
+  opened_all_none n ((then) s no_statements) = opened_none n s
+  opened_all_none n ((then) s ((then) r rest)) = opened_none n s
+
+  branches_none : (n : ℕ) (bs : Branches Slot ClassId ℕ) → count_in n (frames_in_all (opened_branches bs)) ≡ 0
+  branches_none n no_branches = refl
+  branches_none n (branch ts bs) = omega (arith, count_append n (frames_in (opened_all ts)) (frames_in_all (opened_branches bs)), opened_all_none n ts, branches_none n bs)
+
+-- of parts side by side, one becomes another
+replaced_times : (n : ℕ) (ts : Terms) (i : ℕ) (x : Term) → i < count ts → count_in n (frames_in_all (replaced ts i x)) + times n (term_at ts i) ≡ count_in n (frames_in_all ts) + times n x
+replaced_times n no_terms i x h = absurd (omega (arith, h))
+replaced_times n (and t ts) zero x h = omega (arith, count_append n (frames_in x) (frames_in_all ts), count_append n (frames_in t) (frames_in_all ts))
+replaced_times n (and t ts) (suc i) x h = omega (arith, count_append n (frames_in t) (frames_in_all (replaced ts i x)), count_append n (frames_in t) (frames_in_all ts), replaced_times n ts i x (omega (arith, h)))
+
+done_times : (n : ℕ) (x : Term) → is_done x ≡ true → times n x ≡ 0
+done_times n done e = refl
+done_times n (leaf s) e = absurd cc
+done_times n (wait left at) e = absurd cc
+done_times n (sequence t rest) e = absurd cc
+done_times n (parallel ts) e = absurd cc
+done_times n (select ts) e = absurd cc
+done_times n (guarded test at t) e = absurd cc
+done_times n (frame number inputs results t) e = absurd cc
+done_times n (abort t u) e = absurd cc
+done_times n (idle t u again) e = absurd cc
+done_times n (handling t u again) e = absurd cc
+
+both : (a b : Bool) → a && b ≡ true → (a ≡ true) × (b ≡ true)
+both true b e = (refl, e)
+both false b e = absurd cc
+
+all_done_times : (n : ℕ) (ts : Terms) → all_done ts ≡ true → count_in n (frames_in_all ts) ≡ 0
+all_done_times n no_terms e = refl
+all_done_times n (and t ts) e = let p = both (is_done t) (all_done ts) e in omega (arith, count_append n (frames_in t) (frames_in_all ts), done_times n t p.0, all_done_times n ts p.1)
+
+joined_times : (n : ℕ) (ts : Terms) → times n (joined ts) ≡ count_in n (frames_in_all ts)
+joined_times n ts = by (all_done ts) refl
+  where
+    by : (b : Bool) → all_done ts ≡ b → times n (if b then done else parallel ts) ≡ count_in n (frames_in_all ts)
+    by true e = sym (all_done_times n ts e)
+    by false e = refl
+
+-- ends the first part, or keeps it
+aborted_times : (n : ℕ) (u x : Term) → times n (aborted u x) + count_in n (if_done x (frames_in u)) ≡ times n x + times n u
+aborted_times n u done = omega arith
+aborted_times n u (leaf s) = omega arith
+aborted_times n u (wait left at) = omega arith
+aborted_times n u (sequence t rest) = omega (arith, count_append n (frames_in t) (frames_in u))
+aborted_times n u (parallel ts) = omega (arith, count_append n (frames_in_all ts) (frames_in u))
+aborted_times n u (select ts) = omega (arith, count_append n (frames_in_all ts) (frames_in u))
+aborted_times n u (guarded test at t) = omega (arith, count_append n (frames_in t) (frames_in u))
+aborted_times n u (frame number inputs results t) = omega (arith, count_append n (frames_in t) (frames_in u))
+aborted_times n u (abort s t) = omega (arith, count_append n (frames_in s ++ frames_in t) (frames_in u))
+aborted_times n u (idle s t again) = omega (arith, count_append n (frames_in s ++ frames_in t) (frames_in u))
+aborted_times n u (handling s t again) = omega (arith, count_append n (frames_in s ++ frames_in t) (frames_in u))
+
+interrupted_times : (n : ℕ) (u x : Term) (again : Step) → times n (interrupted u again x) + count_in n (if_done x (frames_in u)) ≡ times n x + times n u
+interrupted_times n u done again = omega arith
+interrupted_times n u (leaf s) again = omega arith
+interrupted_times n u (wait left at) again = omega arith
+interrupted_times n u (sequence t rest) again = omega (arith, count_append n (frames_in t) (frames_in u))
+interrupted_times n u (parallel ts) again = omega (arith, count_append n (frames_in_all ts) (frames_in u))
+interrupted_times n u (select ts) again = omega (arith, count_append n (frames_in_all ts) (frames_in u))
+interrupted_times n u (guarded test at t) again = omega (arith, count_append n (frames_in t) (frames_in u))
+interrupted_times n u (frame number inputs results t) again = omega (arith, count_append n (frames_in t) (frames_in u))
+interrupted_times n u (abort s t) again = omega (arith, count_append n (frames_in s ++ frames_in t) (frames_in u))
+interrupted_times n u (idle s t i) again = omega (arith, count_append n (frames_in s ++ frames_in t) (frames_in u))
+interrupted_times n u (handling s t i) again = omega (arith, count_append n (frames_in s ++ frames_in t) (frames_in u))
+
+-- a second part that is done stands open afresh, with no frames
+handled_times : (n : ℕ) (t : Term) (again : Step) (x : Term) → times n (handled t again x) ≡ times n t + times n x
+handled_times n t again done = omega (arith, count_append n (frames_in t) (frames_in (opened again)), opened_none n again)
+handled_times n t again (leaf s) = count_append n (frames_in t) []
+handled_times n t again (wait left at) = count_append n (frames_in t) []
+handled_times n t again (sequence u rest) = count_append n (frames_in t) (frames_in u)
+handled_times n t again (parallel ts) = count_append n (frames_in t) (frames_in_all ts)
+handled_times n t again (select ts) = count_append n (frames_in t) (frames_in_all ts)
+handled_times n t again (guarded test at u) = count_append n (frames_in t) (frames_in u)
+handled_times n t again (frame number inputs results u) = count_append n (frames_in t) (number ∷ frames_in u)
+handled_times n t again (abort u v) = count_append n (frames_in t) (frames_in u ++ frames_in v)
+handled_times n t again (idle u v i) = count_append n (frames_in t) (frames_in u ++ frames_in v)
+handled_times n t again (handling u v i) = count_append n (frames_in t) (frames_in u ++ frames_in v)
+
+-- a frame round what is not done: it stays, or gives way to the one inside
+framed_times : (n number inputs : ℕ) (results : List Slot) (x : Term) → times n (framed number inputs results x) + count_in n (if gives_way results x then number ∷ [] else []) ≡ count_in n (number ∷ []) + times n x
+framed_times n number inputs (r ∷ rs) x = omega arith
+framed_times n number inputs [] (frame inner k [] t) = omega arith
+framed_times n number inputs [] (frame inner k (r ∷ rs) t) = omega arith
+framed_times n number inputs [] done = omega arith
+framed_times n number inputs [] (leaf s) = omega arith
+framed_times n number inputs [] (wait left at) = omega arith
+framed_times n number inputs [] (sequence t rest) = omega arith
+framed_times n number inputs [] (parallel ts) = omega arith
+framed_times n number inputs [] (select ts) = omega arith
+framed_times n number inputs [] (guarded test at t) = omega arith
+framed_times n number inputs [] (abort s t) = omega arith
+framed_times n number inputs [] (idle s t i) = omega arith
+framed_times n number inputs [] (handling s t i) = omega arith
+
+sequence_times : (n f : ℕ) (s : StateView) (t : Term) (rest : Steps) (x : Term) → times n (around f s (sequence t rest) 0 x).term ≡ times n x
+sequence_times n f s t rest done = opened_all_none n rest
+sequence_times n f s t rest (leaf l) = refl
+sequence_times n f s t rest (wait left at) = refl
+sequence_times n f s t rest (sequence u more) = refl
+sequence_times n f s t rest (parallel us) = refl
+sequence_times n f s t rest (select us) = refl
+sequence_times n f s t rest (guarded test at u) = refl
+sequence_times n f s t rest (frame number inputs results u) = refl
+sequence_times n f s t rest (abort u v) = refl
+sequence_times n f s t rest (idle u v again) = refl
+sequence_times n f s t rest (handling u v again) = refl
+
+frame_times : (n f : ℕ) (s : StateView) (number inputs : ℕ) (results : List Slot) (t x : Term)
+    → times n (around f s (frame number inputs results t) 0 x).term + count_in n (lost (frame number inputs results t) 0 x) ≡ count_in n (number ∷ []) + times n x
+frame_times n f s k i rs t done = omega arith
+frame_times n f s k i rs t (leaf l) = framed_times n k i rs (leaf l)
+frame_times n f s k i rs t (wait left at) = framed_times n k i rs (wait left at)
+frame_times n f s k i rs t (sequence u more) = framed_times n k i rs (sequence u more)
+frame_times n f s k i rs t (parallel us) = framed_times n k i rs (parallel us)
+frame_times n f s k i rs t (select us) = framed_times n k i rs (select us)
+frame_times n f s k i rs t (guarded test at u) = framed_times n k i rs (guarded test at u)
+frame_times n f s k i rs t (frame number inputs results u) = framed_times n k i rs (frame number inputs results u)
+frame_times n f s k i rs t (abort u v) = framed_times n k i rs (abort u v)
+frame_times n f s k i rs t (idle u v again) = framed_times n k i rs (idle u v again)
+frame_times n f s k i rs t (handling u v again) = framed_times n k i rs (handling u v again)
+
+-- One level: what stands afterwards and what is lost is what stood, but for the child, and what that has become.
+pub around_times : (n f : ℕ) (s : StateView) (t : Term) (i : ℕ) (x : Term) → MayActIn t i
+    → times n (around f s t i x).term + (count_in n (lost t i x) + times n (child t i)) ≡ times n t + times n x
+around_times n f s done i x h = absurd h
+around_times n f s (leaf l) i x h = absurd h
+around_times n f s (wait left at) i x h = absurd h
+around_times n f s (sequence t rest) zero x h = omega (arith, sequence_times n f s t rest x)
+around_times n f s (sequence t rest) (suc i) x h = absurd (omega (arith, h))
+around_times n f s (parallel ts) i x h = omega (arith, joined_times n (replaced ts i x), replaced_times n ts i x h)
+around_times n f s (select ts) i x h = omega (arith, replaced_times n ts i done h)
+around_times n f s (guarded test at t) zero x h = omega arith
+around_times n f s (guarded test at t) (suc i) x h = absurd (omega (arith, h))
+around_times n f s (frame number inputs results t) zero x h = omega (arith, frame_times n f s number inputs results t x)
+around_times n f s (frame number inputs results t) (suc i) x h = absurd (omega (arith, h))
+around_times n f s (abort t u) zero x h = omega (arith, aborted_times n u x, count_append n (frames_in t) (frames_in u))
+around_times n f s (abort t u) (suc zero) x h = omega (arith, count_append n (frames_in t) (frames_in u))
+around_times n f s (abort t u) (suc (suc i)) x h = absurd (omega (arith, h))
+around_times n f s (idle t u again) zero x h = omega (arith, interrupted_times n u x again, count_append n (frames_in t) (frames_in u))
+around_times n f s (idle t u again) (suc zero) x h = omega (arith, handled_times n t again x, count_append n (frames_in t) (frames_in u))
+around_times n f s (idle t u again) (suc (suc i)) x h = absurd (omega (arith, h))
+around_times n f s (handling t u again) zero x h = absurd (omega (arith, h))
+around_times n f s (handling t u again) (suc zero) x h = omega (arith, handled_times n t again x, count_append n (frames_in t) (frames_in u))
+around_times n f s (handling t u again) (suc (suc i)) x h = absurd (omega (arith, h))
+
+-- the whole: what stands afterwards and what is lost is what stood, but for the acting part, and what that has become
+pub residual_times : (n f : ℕ) (t : Term) (place : Place) (x : Process) → MayAct t place
+    → times n (residual f t place x).term + (count_in n (lost_all f t place x) + times n (part_of t place)) ≡ times n t + times n x.term
+residual_times n f t [] x h = omega arith
+residual_times n f t (i ∷ place) x h =
+    let inner = residual (frame_in t f) (child t i) place x in
+    omega (
+      arith,
+      around_times n f inner.state t i inner.term h.0,
+      residual_times n (frame_in t f) (child t i) place x h.1,
+      count_append n (lost_all (frame_in t f) (child t i) place x) (lost t i inner.term),
+    )

@@ -1,0 +1,12 @@
+pub mod Heads
+pub mod Standing
+pub mod Reached
+pub mod Right
+pub mod Resting
+pub mod Whole
+pub mod Meaning
+pub mod Sound
+pub mod Calm
+pub mod FrameCounts
+pub mod Laws
+pub mod devices
