@@ -1,16 +1,23 @@
 #!/usr/bin/env bash
-# Times a million changes of a state under a mark, with their undoing: eight sorts of changes, in
-# states of a thousand to a million objects, and the least frame closed and opened again beside a
-# thousand to a million open ones. What stands there before is timed by itself, as the same bench
-# with no changes.
-cd "$(dirname "${BASH_SOURCE[0]}")/../crates/rows_state" || exit 2
-rt run <stdin >/dev/null 2>&1 || exit 2
-TIMEFORMAT='  %U s of the processor, and %S s in the system'
-for bench in mixed frames; do
-  for size in 1000 10000 100000 1000000; do
-    for changes in 0 1000000; do
-      printf '%s, %s before, %s changes: ' "$bench" "$size" "$changes"
-      time ./out/rows_state "$bench" "$size" "$changes"
-    done
+# Measures changes of a state under a mark with their undoing, and packing of objects, in states of many sizes.
+source "$(dirname "${BASH_SOURCE[0]}")/common.sh"
+uses rows_state mixed 1 0
+
+# What stands there before is timed by itself, and taken off.
+for bench_of in mixed frames; do
+  for size in 1000 1000000; do
+    spend "$program" "$bench_of" "$size" 0
+    begun=$seconds
+    spend "$program" "$bench_of" "$size" 1000000
+    what='objects'
+    [[ $bench_of == mixed ]] || what='open frames'
+    report "changes beside $size $what" 1000000 changes "$(less "$seconds" "$begun")" "$kilobytes"
   done
+done
+for shape in "1000 0" "100000 0" "10000 10000000"; do
+  read -r reached others <<<"$shape"
+  spend "$program" parcels "$reached" "$others" 0
+  begun=$seconds
+  spend "$program" parcels "$reached" "$others" 100
+  report "packing $reached of $((reached + others)) objects" "$((100 * reached))" objects "$(less "$seconds" "$begun")" "$kilobytes"
 done

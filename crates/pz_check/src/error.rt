@@ -6,7 +6,7 @@ use std::alloc::AllocError;
 pub enum CheckError {
     /// Memory ran out. It says nothing of the model.
     NoMemory,
-    /// One of the rules C4 to C22 is violated; this is the least violation of them.
+    /// One of the rules that were asked is violated; this is the violation that is told.
     Refused(Violation),
 }
 

@@ -3,7 +3,9 @@
 
 mod checking;
 mod error;
+mod opening;
 mod size;
 
 pub use checking::check;
 pub use error::CheckError;
+pub use opening::check_opening;

@@ -6,3 +6,6 @@ pub mod ModelRules
 pub mod Budgets
 pub mod Erasing
 pub mod Parses
+mod StoppingModels
+mod Refusing
+mod Rows

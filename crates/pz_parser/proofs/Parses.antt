@@ -98,6 +98,9 @@ no_refusal limit i end t (refusal.TooNested left) e f = absurd (not_refused limi
 
 -- ---- a text has one tree
 
+pub one_placed : (limit : ℕ) (i : Tokens) (t u : ModelTree) → IsTextOf limit i t → IsTextOf limit i u → place_model (positions i) 0 t ≡ place_model (positions i) 0 u
+one_placed limit i t u f g = read_as limit i t (place_model (positions i) 0 u) [] f (model_complete limit i u (g.0, omega (arith, g.1)) g.2)
+
 pub one_tree : (t u : ModelTree) → IsModel t → IsModel u → text t ≡ text u → erase t ≡ erase u
 one_tree t u p q e =
     let limit = max (nesting t) (nesting u) in

@@ -3,3 +3,4 @@ pub mod ModelPlaces
 pub mod Parsing
 pub mod OneTree
 pub mod devices
+pub mod Cuts

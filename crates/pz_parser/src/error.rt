@@ -5,9 +5,10 @@ use pz_syntax::Pos;
 pub enum ParseError {
     /// Memory ran out.
     NoMemory,
-    /// They are the text of no model within the limit. The place is that of a token, or the end.
+    /// They are the text of no model, however deep. The place is that of the first token with which
+    /// no text of a model goes on, or the end.
     Syntax(Pos),
-    /// The same, where more tokens begin a construct than may stand one in another. The place is
-    /// that of a token.
+    /// The text of a deeper model may go on with the token at this place, and that of none within
+    /// the limit.
     TooNested(Pos),
 }

@@ -3,6 +3,7 @@
 ghost use Rattle.std.specs.Prelude.{◌≡◌, ◌<◌, ◌-◌, ◌^◌, IfOk, IfErr};
 ghost use Rattle.pz_syntax.specs.Classes.{ModelTree};
 ghost use Rattle.pz_syntax.specs.ClassView.{model_view};
+ghost use Rattle.pz_parser.specs.Cuts.{Refuses};
 ghost use Rattle.pz_parser.specs.Parsing.{IsTextOf, ReadsAs, IsInPlace, MayRefuse};
 ghost use Rattle.pz_parser.specs.devices.Refused as spec;
 
@@ -19,6 +20,7 @@ pub fn parse(alloc: Global, tokens: &[Token], end: Pos) -> Result<Model, ParseEr
     ensures only { (t : ModelTree) → IsTextOf 100 tokens.now t → ReadsAs tokens.now t result }
     ensures places { IfOk result (λ m. IsInPlace tokens.now (model_view m)) }
     ensures refused { IfErr result (λ e. MayRefuse 100 tokens.now end e) }
+    ensures exact { IfErr result (λ e. Refuses 100 tokens.now end e) }
 {
     parse_within(alloc, tokens, end, 100)
 }
@@ -35,6 +37,7 @@ fn parse_within(
     ensures only { (t : ModelTree) → IsTextOf limit tokens.now t → ReadsAs tokens.now t result }
     ensures places { IfOk result (λ m. IsInPlace tokens.now (model_view m)) }
     ensures refused { IfErr result (λ e. MayRefuse limit tokens.now end e) }
+    ensures exact { IfErr result (λ e. Refuses limit tokens.now end e) }
 {
     let mut cursor = Cursor::new(tokens);
     match model(alloc, &mut cursor, limit) {

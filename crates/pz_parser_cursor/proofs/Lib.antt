@@ -13,3 +13,6 @@ pub mod NameBudgets
 pub mod Sections
 pub mod Erasing
 pub mod Orders
+pub mod Stopping
+pub mod StoppingLists
+pub mod StoppingNames

@@ -8,3 +8,5 @@ pub mod Readings
 pub mod Completeness
 pub mod ClusterBudgets
 pub mod ClusterErasing
+pub mod StoppingDeclarations
+pub mod StoppingClusters

@@ -69,7 +69,8 @@ fn more_ends(
     cursor: &mut Cursor<'_>,
     mut found: Items<ChannelEnd>,
 ) -> Result<Items<ChannelEnd>, Refusal>
-    ensures { Reads (λ x. x) (lists.more_of spec.one_end n.Comma found cursor.old) result cursor.new }
+    ensures { Reads (λ x. x) (lists.more_of spec.one_end n.Comma found cursor.old) result
+        cursor.new }
 {
     for _turn in 0..cursor.left() {
         if !cursor.eat(Next::Comma) {

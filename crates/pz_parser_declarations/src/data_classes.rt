@@ -43,7 +43,8 @@ fn methods_section(
     depth: usize,
 ) -> Result<Option<Items<DataMethod>>, Refusal>
     requires room { depth < 2 ^ 64 - 1 }
-    ensures { Reads (option_map (map data_method_view)) (spec.data_methods_section depth cursor.old) result cursor.new }
+    ensures { Reads (option_map (map data_method_view))
+        (spec.data_methods_section depth cursor.old) result cursor.new }
 {
     if !cursor.eat(Next::Methods) {
         return Ok(None);

@@ -51,7 +51,8 @@ fn more_messages(
     cursor: &mut Cursor<'_>,
     mut found: Items<Message>,
 ) -> Result<Items<Message>, Refusal>
-    ensures { Reads (λ x. x) (lists.more_of spec.message n.Comma found cursor.old) result cursor.new }
+    ensures { Reads (λ x. x) (lists.more_of spec.message n.Comma found cursor.old) result
+        cursor.new }
 {
     for _turn in 0..cursor.left() {
         if !cursor.eat(Next::Comma) {

@@ -46,7 +46,8 @@ pub fn start_section(
     depth: usize,
 ) -> Result<Option<Start>, Refusal>
     requires room { depth < 2 ^ 64 - 1 }
-    ensures reads { Reads (option_map start_view) (spec.start_section depth cursor.old) result cursor.new }
+    ensures reads { Reads (option_map start_view)
+        (spec.start_section depth cursor.old) result cursor.new }
 {
     if !cursor.eat(Next::Init) {
         return Ok(None);

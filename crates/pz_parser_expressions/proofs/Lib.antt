@@ -7,3 +7,5 @@ pub mod Firsts
 pub mod Completeness
 pub mod Erasing
 pub mod Budgets
+pub mod StoppingExpressions
+pub mod StoppingValues

@@ -19,9 +19,11 @@ impl<F: Fn(Global, &mut Cursor<'_>, usize, Rule) -> Result<Expr, Refusal>> Gramm
     /// Operands of the later rule `operand`, with the operators of this rule between them.
     #[tactic(auto, unfolding(crate::specs::devices::Values::chain_of))]
     pub fn chain(&self, cursor: &mut Cursor<'_>, operand: Rule) -> Result<Expr, Refusal>
-        requires parts { Nests self.now.depth self.now.rule (F.pre self.now.expr) (F.post self.now.expr) }
+        requires parts { Nests self.now.depth self.now.rule (F.pre self.now.expr)
+            (F.post self.now.expr) }
         requires later { rank self.now.rule < rank operand }
-        ensures reads { Reads view (spec.chain_of (rules.operator self.now.rule) (spec.expr self.now.depth operand) cursor.old) result cursor.new }
+        ensures reads { Reads view (spec.chain_of (rules.operator self.now.rule)
+            (spec.expr self.now.depth operand) cursor.old) result cursor.new }
     {
         let pos = cursor.pos();
         let first = self.tighter(cursor, operand)?;
@@ -31,9 +33,11 @@ impl<F: Fn(Global, &mut Cursor<'_>, usize, Rule) -> Result<Expr, Refusal>> Gramm
 
     #[tactic(auto, unfolding(crate::specs::devices::Values::all_links, crate::specs::devices::Values::links_by))]
     fn links(&self, cursor: &mut Cursor<'_>, operand: Rule) -> Result<Items<Link>, Refusal>
-        requires parts { Nests self.now.depth self.now.rule (F.pre self.now.expr) (F.post self.now.expr) }
+        requires parts { Nests self.now.depth self.now.rule (F.pre self.now.expr)
+            (F.post self.now.expr) }
         requires later { rank self.now.rule < rank operand }
-        ensures reads { Reads (map link_view) (spec.all_links (rules.operator self.now.rule) (spec.expr self.now.depth operand) cursor.old) result cursor.new }
+        ensures reads { Reads (map link_view) (spec.all_links (rules.operator self.now.rule)
+            (spec.expr self.now.depth operand) cursor.old) result cursor.new }
     {
         let mut found = Items::new(self.alloc);
         for _turn in 0..cursor.left() {
@@ -47,9 +51,11 @@ impl<F: Fn(Global, &mut Cursor<'_>, usize, Rule) -> Result<Expr, Refusal>> Gramm
 
     #[tactic(auto, unfolding(crate::specs::devices::Values::one_link))]
     fn link(&self, cursor: &mut Cursor<'_>, op: Symbol, operand: Rule) -> Result<Link, Refusal>
-        requires parts { Nests self.now.depth self.now.rule (F.pre self.now.expr) (F.post self.now.expr) }
+        requires parts { Nests self.now.depth self.now.rule (F.pre self.now.expr)
+            (F.post self.now.expr) }
         requires later { rank self.now.rule < rank operand }
-        ensures reads { Reads link_view (spec.one_link op (spec.expr self.now.depth operand) cursor.old) result cursor.new }
+        ensures reads { Reads link_view (spec.one_link op
+            (spec.expr self.now.depth operand) cursor.old) result cursor.new }
     {
         let pos = cursor.pos();
         cursor.skip();

@@ -62,7 +62,8 @@ pub fn exprs(
     separator: Next,
 ) -> Result<Items<Expr>, Refusal>
     requires room { depth < 2 ^ 64 - 1 }
-    ensures reads { Reads (map view) (lists.list_of (spec.expr depth rule.Expression) separator cursor.old) result cursor.new }
+    ensures reads { Reads (map view) (lists.list_of
+        (spec.expr depth rule.Expression) separator cursor.old) result cursor.new }
 {
     let grammar = Grammar {
         alloc,
@@ -79,7 +80,8 @@ pub fn arguments(
     cursor: &mut Cursor<'_>,
     depth: usize,
 ) -> Result<Items<Expr>, Refusal>
-    ensures reads { Reads (map view) (spec.enclosed depth (below depth) n.Comma n.RightParen cursor.old) result cursor.new }
+    ensures reads { Reads (map view) (spec.enclosed depth
+        (below depth) n.Comma n.RightParen cursor.old) result cursor.new }
 {
     let grammar = Grammar {
         alloc,
@@ -96,7 +98,8 @@ pub fn optional_arguments(
     cursor: &mut Cursor<'_>,
     depth: usize,
 ) -> Result<Option<Items<Expr>>, Refusal>
-    ensures reads { Reads part_view (spec.arguments depth (below depth) cursor.old) result cursor.new }
+    ensures reads { Reads part_view (spec.arguments depth (below depth) cursor.old) result
+        cursor.new }
 {
     let grammar = Grammar {
         alloc,
@@ -109,7 +112,8 @@ pub fn optional_arguments(
 
 /// The expressions of a block, none or more. A `{` stands next. The block counts for `depth`.
 pub fn block(alloc: Global, cursor: &mut Cursor<'_>, depth: usize) -> Result<Items<Expr>, Refusal>
-    ensures reads { Reads (map view) (spec.enclosed depth (below depth) n.Semicolon n.RightBrace cursor.old) result cursor.new }
+    ensures reads { Reads (map view) (spec.enclosed depth
+        (below depth) n.Semicolon n.RightBrace cursor.old) result cursor.new }
 {
     let grammar = Grammar {
         alloc,
@@ -123,8 +127,10 @@ pub fn block(alloc: Global, cursor: &mut Cursor<'_>, depth: usize) -> Result<Ite
 impl<F: Fn(Global, &mut Cursor<'_>, usize, Rule) -> Result<Expr, Refusal>> Grammar<F> {
     /// What the rule reads.
     pub fn whole(&self, cursor: &mut Cursor<'_>) -> Result<Expr, Refusal>
-        requires parts { Nests self.now.depth self.now.rule (F.pre self.now.expr) (F.post self.now.expr) }
-        ensures reads { Reads view (spec.by_rule self.now.depth (below self.now.depth) self.now.rule cursor.old) result cursor.new }
+        requires parts { Nests self.now.depth self.now.rule (F.pre self.now.expr)
+            (F.post self.now.expr) }
+        ensures reads { Reads view (spec.by_rule self.now.depth
+            (below self.now.depth) self.now.rule cursor.old) result cursor.new }
     {
         match self.rule {
             Rule::Expression => self.expression(cursor),
@@ -139,7 +145,8 @@ impl<F: Fn(Global, &mut Cursor<'_>, usize, Rule) -> Result<Expr, Refusal>> Gramm
 
     /// What a later rule reads, as deep as this one.
     pub fn tighter(&self, cursor: &mut Cursor<'_>, rule: Rule) -> Result<Expr, Refusal>
-        requires parts { Nests self.now.depth self.now.rule (F.pre self.now.expr) (F.post self.now.expr) }
+        requires parts { Nests self.now.depth self.now.rule (F.pre self.now.expr)
+            (F.post self.now.expr) }
         requires later { rank self.now.rule < rank rule }
         ensures reads { Reads view (spec.expr self.now.depth rule cursor.old) result cursor.new }
     {
@@ -148,7 +155,8 @@ impl<F: Fn(Global, &mut Cursor<'_>, usize, Rule) -> Result<Expr, Refusal>> Gramm
 
     /// What any rule reads, one construct further in.
     pub fn inner(&self, cursor: &mut Cursor<'_>, rule: Rule) -> Result<Expr, Refusal>
-        requires parts { Nests self.now.depth self.now.rule (F.pre self.now.expr) (F.post self.now.expr) }
+        requires parts { Nests self.now.depth self.now.rule (F.pre self.now.expr)
+            (F.post self.now.expr) }
         ensures reads { Reads view (below self.now.depth rule cursor.old) result cursor.new }
     {
         if self.depth == 0 {
@@ -160,8 +168,10 @@ impl<F: Fn(Global, &mut Cursor<'_>, usize, Rule) -> Result<Expr, Refusal>> Gramm
     /// One expression or more, one construct further in.
     #[tactic(auto, unfolding(pz_parser_cursor::specs::devices::Lists::list_of))]
     pub fn exprs(&self, cursor: &mut Cursor<'_>, separator: Next) -> Result<Items<Expr>, Refusal>
-        requires parts { Nests self.now.depth self.now.rule (F.pre self.now.expr) (F.post self.now.expr) }
-        ensures reads { Reads (map view) (lists.list_of (below self.now.depth rule.Expression) separator cursor.old) result cursor.new }
+        requires parts { Nests self.now.depth self.now.rule (F.pre self.now.expr)
+            (F.post self.now.expr) }
+        ensures reads { Reads (map view) (lists.list_of
+            (below self.now.depth rule.Expression) separator cursor.old) result cursor.new }
     {
         let mut found = Items::new(self.alloc);
         found.push(self.inner(cursor, Rule::Expression)?)?;
@@ -175,8 +185,11 @@ impl<F: Fn(Global, &mut Cursor<'_>, usize, Rule) -> Result<Expr, Refusal>> Gramm
         separator: Next,
         mut found: Items<Expr>,
     ) -> Result<Items<Expr>, Refusal>
-        requires parts { Nests self.now.depth self.now.rule (F.pre self.now.expr) (F.post self.now.expr) }
-        ensures reads { Reads (map view) (lists.more_of (below self.now.depth rule.Expression) separator (map view found) cursor.old) result cursor.new }
+        requires parts { Nests self.now.depth self.now.rule (F.pre self.now.expr)
+            (F.post self.now.expr) }
+        ensures reads { Reads (map view) (lists.more_of
+            (below self.now.depth rule.Expression) separator (map view found) cursor.old) result
+            cursor.new }
     {
         for _turn in 0..cursor.left() {
             if !cursor.eat(separator) {
@@ -196,8 +209,10 @@ impl<F: Fn(Global, &mut Cursor<'_>, usize, Rule) -> Result<Expr, Refusal>> Gramm
         separator: Next,
         close: Next,
     ) -> Result<Items<Expr>, Refusal>
-        requires parts { Nests self.now.depth self.now.rule (F.pre self.now.expr) (F.post self.now.expr) }
-        ensures reads { Reads (map view) (spec.enclosed self.now.depth (below self.now.depth) separator close cursor.old) result cursor.new }
+        requires parts { Nests self.now.depth self.now.rule (F.pre self.now.expr)
+            (F.post self.now.expr) }
+        ensures reads { Reads (map view) (spec.enclosed self.now.depth
+            (below self.now.depth) separator close cursor.old) result cursor.new }
     {
         cursor.deepen(self.depth)?;
         let found = self.exprs_before(cursor, separator, close)?;
@@ -212,8 +227,10 @@ impl<F: Fn(Global, &mut Cursor<'_>, usize, Rule) -> Result<Expr, Refusal>> Gramm
         separator: Next,
         close: Next,
     ) -> Result<Items<Expr>, Refusal>
-        requires parts { Nests self.now.depth self.now.rule (F.pre self.now.expr) (F.post self.now.expr) }
-        ensures reads { Reads (map view) (spec.exprs_before (below self.now.depth) separator close cursor.old) result cursor.new }
+        requires parts { Nests self.now.depth self.now.rule (F.pre self.now.expr)
+            (F.post self.now.expr) }
+        ensures reads { Reads (map view) (spec.exprs_before
+            (below self.now.depth) separator close cursor.old) result cursor.new }
     {
         if cursor.sees(close) {
             Ok(Items::new(self.alloc))
@@ -224,9 +241,11 @@ impl<F: Fn(Global, &mut Cursor<'_>, usize, Rule) -> Result<Expr, Refusal>> Gramm
 
     #[tactic(auto, unfolding(crate::specs::devices::Values::expression))]
     fn expression(&self, cursor: &mut Cursor<'_>) -> Result<Expr, Refusal>
-        requires parts { Nests self.now.depth self.now.rule (F.pre self.now.expr) (F.post self.now.expr) }
+        requires parts { Nests self.now.depth self.now.rule (F.pre self.now.expr)
+            (F.post self.now.expr) }
         requires first { rank self.now.rule < 1 }
-        ensures reads { Reads view (spec.expression (spec.expr self.now.depth rule.Value) cursor.old) result cursor.new }
+        ensures reads { Reads view (spec.expression
+            (spec.expr self.now.depth rule.Value) cursor.old) result cursor.new }
     {
         match cursor.peek() {
             Next::Return => self.returned(cursor),
@@ -237,9 +256,11 @@ impl<F: Fn(Global, &mut Cursor<'_>, usize, Rule) -> Result<Expr, Refusal>> Gramm
 
     #[tactic(auto, unfolding(crate::specs::devices::Values::named))]
     fn named(&self, cursor: &mut Cursor<'_>) -> Result<Expr, Refusal>
-        requires parts { Nests self.now.depth self.now.rule (F.pre self.now.expr) (F.post self.now.expr) }
+        requires parts { Nests self.now.depth self.now.rule (F.pre self.now.expr)
+            (F.post self.now.expr) }
         requires first { rank self.now.rule < 1 }
-        ensures reads { Reads view (spec.named (spec.expr self.now.depth rule.Value) cursor.old) result cursor.new }
+        ensures reads { Reads view (spec.named (spec.expr self.now.depth rule.Value) cursor.old)
+            result cursor.new }
     {
         if cursor.sees_second(Next::Assign) {
             self.assignment(cursor)
@@ -250,9 +271,11 @@ impl<F: Fn(Global, &mut Cursor<'_>, usize, Rule) -> Result<Expr, Refusal>> Gramm
 
     #[tactic(auto, unfolding(crate::specs::devices::Values::assignment))]
     fn assignment(&self, cursor: &mut Cursor<'_>) -> Result<Expr, Refusal>
-        requires parts { Nests self.now.depth self.now.rule (F.pre self.now.expr) (F.post self.now.expr) }
+        requires parts { Nests self.now.depth self.now.rule (F.pre self.now.expr)
+            (F.post self.now.expr) }
         requires first { rank self.now.rule < 1 }
-        ensures reads { Reads view (spec.assignment (spec.expr self.now.depth rule.Value) cursor.old) result cursor.new }
+        ensures reads { Reads view (spec.assignment
+            (spec.expr self.now.depth rule.Value) cursor.old) result cursor.new }
     {
         let pos = cursor.pos();
         let name = cursor.take_id(self.alloc)?;
@@ -264,9 +287,11 @@ impl<F: Fn(Global, &mut Cursor<'_>, usize, Rule) -> Result<Expr, Refusal>> Gramm
 
     #[tactic(auto, unfolding(crate::specs::devices::Values::returned))]
     fn returned(&self, cursor: &mut Cursor<'_>) -> Result<Expr, Refusal>
-        requires parts { Nests self.now.depth self.now.rule (F.pre self.now.expr) (F.post self.now.expr) }
+        requires parts { Nests self.now.depth self.now.rule (F.pre self.now.expr)
+            (F.post self.now.expr) }
         requires first { rank self.now.rule < 1 }
-        ensures reads { Reads view (spec.returned (spec.expr self.now.depth rule.Value) cursor.old) result cursor.new }
+        ensures reads { Reads view (spec.returned (spec.expr self.now.depth rule.Value) cursor.old)
+            result cursor.new }
     {
         let pos = cursor.pos();
         cursor.skip();

@@ -18,8 +18,10 @@ impl<F: Fn(Global, &mut Cursor<'_>, usize, Rule) -> Result<Expr, Refusal>> Gramm
     /// Arguments in round brackets, if a `(` stands next.
     #[tactic(auto, unfolding(crate::specs::devices::Values::arguments))]
     pub fn arguments(&self, cursor: &mut Cursor<'_>) -> Result<Option<Items<Expr>>, Refusal>
-        requires parts { Nests self.now.depth self.now.rule (F.pre self.now.expr) (F.post self.now.expr) }
-        ensures reads { Reads part_view (spec.arguments self.now.depth (below self.now.depth) cursor.old) result cursor.new }
+        requires parts { Nests self.now.depth self.now.rule (F.pre self.now.expr)
+            (F.post self.now.expr) }
+        ensures reads { Reads part_view (spec.arguments self.now.depth
+            (below self.now.depth) cursor.old) result cursor.new }
     {
         match cursor.peek() {
             Next::LeftParen => Ok(Some(self.enclosed(cursor, Next::Comma, Next::RightParen)?)),
@@ -29,8 +31,10 @@ impl<F: Fn(Global, &mut Cursor<'_>, usize, Rule) -> Result<Expr, Refusal>> Gramm
 
     #[tactic(auto, unfolding(crate::specs::devices::Values::one_sending))]
     fn sending(&self, cursor: &mut Cursor<'_>) -> Result<Sending, Refusal>
-        requires parts { Nests self.now.depth self.now.rule (F.pre self.now.expr) (F.post self.now.expr) }
-        ensures reads { Reads sending_view (spec.one_sending self.now.depth (below self.now.depth) cursor.old) result cursor.new }
+        requires parts { Nests self.now.depth self.now.rule (F.pre self.now.expr)
+            (F.post self.now.expr) }
+        ensures reads { Reads sending_view (spec.one_sending self.now.depth
+            (below self.now.depth) cursor.old) result cursor.new }
     {
         let selector = cursor.take_id(self.alloc)?;
         let args = self.arguments(cursor)?;
@@ -39,8 +43,10 @@ impl<F: Fn(Global, &mut Cursor<'_>, usize, Rule) -> Result<Expr, Refusal>> Gramm
 
     #[tactic(auto, unfolding(crate::specs::devices::Values::all_sendings, pz_parser_cursor::specs::devices::Lists::each_of, pz_parser_cursor::specs::devices::Lists::repeat))]
     fn sendings(&self, cursor: &mut Cursor<'_>) -> Result<Items<Sending>, Refusal>
-        requires parts { Nests self.now.depth self.now.rule (F.pre self.now.expr) (F.post self.now.expr) }
-        ensures reads { Reads (map sending_view) (spec.all_sendings self.now.depth (below self.now.depth) cursor.old) result cursor.new }
+        requires parts { Nests self.now.depth self.now.rule (F.pre self.now.expr)
+            (F.post self.now.expr) }
+        ensures reads { Reads (map sending_view) (spec.all_sendings self.now.depth
+            (below self.now.depth) cursor.old) result cursor.new }
     {
         let mut found = Items::new(self.alloc);
         for _turn in 0..cursor.left() {
@@ -54,8 +60,10 @@ impl<F: Fn(Global, &mut Cursor<'_>, usize, Rule) -> Result<Expr, Refusal>> Gramm
 
     #[tactic(auto, unfolding(crate::specs::devices::Values::sent_to))]
     fn sent_to(&self, cursor: &mut Cursor<'_>) -> Result<Expr, Refusal>
-        requires parts { Nests self.now.depth self.now.rule (F.pre self.now.expr) (F.post self.now.expr) }
-        ensures reads { Reads view (spec.sent_to self.now.depth (below self.now.depth) cursor.old) result cursor.new }
+        requires parts { Nests self.now.depth self.now.rule (F.pre self.now.expr)
+            (F.post self.now.expr) }
+        ensures reads { Reads view (spec.sent_to self.now.depth (below self.now.depth) cursor.old)
+            result cursor.new }
     {
         let pos = cursor.pos();
         let first = self.primary(cursor)?;
@@ -66,8 +74,10 @@ impl<F: Fn(Global, &mut Cursor<'_>, usize, Rule) -> Result<Expr, Refusal>> Gramm
     /// A sign and its operand, or what selectors are sent to with its sendings.
     #[tactic(auto, unfolding(crate::specs::devices::Values::operand))]
     pub fn operand(&self, cursor: &mut Cursor<'_>) -> Result<Expr, Refusal>
-        requires parts { Nests self.now.depth self.now.rule (F.pre self.now.expr) (F.post self.now.expr) }
-        ensures reads { Reads view (spec.operand self.now.depth (below self.now.depth) cursor.old) result cursor.new }
+        requires parts { Nests self.now.depth self.now.rule (F.pre self.now.expr)
+            (F.post self.now.expr) }
+        ensures reads { Reads view (spec.operand self.now.depth (below self.now.depth) cursor.old)
+            result cursor.new }
     {
         match cursor.peek() {
             Next::Minus => self.signed(cursor, Symbol::Minus),
@@ -78,8 +88,10 @@ impl<F: Fn(Global, &mut Cursor<'_>, usize, Rule) -> Result<Expr, Refusal>> Gramm
 
     #[tactic(auto, unfolding(crate::specs::devices::Values::signed))]
     fn signed(&self, cursor: &mut Cursor<'_>, sign: Symbol) -> Result<Expr, Refusal>
-        requires parts { Nests self.now.depth self.now.rule (F.pre self.now.expr) (F.post self.now.expr) }
-        ensures reads { Reads view (spec.signed self.now.depth (below self.now.depth) sign cursor.old) result cursor.new }
+        requires parts { Nests self.now.depth self.now.rule (F.pre self.now.expr)
+            (F.post self.now.expr) }
+        ensures reads { Reads view (spec.signed self.now.depth
+            (below self.now.depth) sign cursor.old) result cursor.new }
     {
         let pos = cursor.pos();
         cursor.deepen(self.depth)?;

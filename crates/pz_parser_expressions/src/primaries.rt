@@ -20,8 +20,10 @@ impl<F: Fn(Global, &mut Cursor<'_>, usize, Rule) -> Result<Expr, Refusal>> Gramm
     /// its own.
     #[tactic(auto, unfolding(crate::specs::devices::Values::primary))]
     pub fn primary(&self, cursor: &mut Cursor<'_>) -> Result<Expr, Refusal>
-        requires parts { Nests self.now.depth self.now.rule (F.pre self.now.expr) (F.post self.now.expr) }
-        ensures reads { Reads view (spec.primary self.now.depth (below self.now.depth) cursor.old) result cursor.new }
+        requires parts { Nests self.now.depth self.now.rule (F.pre self.now.expr)
+            (F.post self.now.expr) }
+        ensures reads { Reads view (spec.primary self.now.depth (below self.now.depth) cursor.old)
+            result cursor.new }
     {
         match cursor.peek() {
             Next::Int => literal(cursor),
@@ -39,8 +41,10 @@ impl<F: Fn(Global, &mut Cursor<'_>, usize, Rule) -> Result<Expr, Refusal>> Gramm
 
     #[tactic(auto, unfolding(crate::specs::devices::Values::grouped))]
     fn group(&self, cursor: &mut Cursor<'_>) -> Result<Expr, Refusal>
-        requires parts { Nests self.now.depth self.now.rule (F.pre self.now.expr) (F.post self.now.expr) }
-        ensures reads { Reads view (spec.grouped self.now.depth (below self.now.depth) cursor.old) result cursor.new }
+        requires parts { Nests self.now.depth self.now.rule (F.pre self.now.expr)
+            (F.post self.now.expr) }
+        ensures reads { Reads view (spec.grouped self.now.depth (below self.now.depth) cursor.old)
+            result cursor.new }
     {
         let pos = cursor.pos();
         cursor.deepen(self.depth)?;
@@ -52,8 +56,10 @@ impl<F: Fn(Global, &mut Cursor<'_>, usize, Rule) -> Result<Expr, Refusal>> Gramm
 
     #[tactic(auto, unfolding(crate::specs::devices::Values::conditional))]
     fn conditional(&self, cursor: &mut Cursor<'_>) -> Result<Expr, Refusal>
-        requires parts { Nests self.now.depth self.now.rule (F.pre self.now.expr) (F.post self.now.expr) }
-        ensures reads { Reads view (spec.conditional self.now.depth (below self.now.depth) cursor.old) result cursor.new }
+        requires parts { Nests self.now.depth self.now.rule (F.pre self.now.expr)
+            (F.post self.now.expr) }
+        ensures reads { Reads view (spec.conditional self.now.depth
+            (below self.now.depth) cursor.old) result cursor.new }
     {
         let pos = cursor.pos();
         cursor.deepen(self.depth)?;
@@ -67,8 +73,10 @@ impl<F: Fn(Global, &mut Cursor<'_>, usize, Rule) -> Result<Expr, Refusal>> Gramm
     /// A value and this word behind it.
     #[tactic(auto, unfolding(crate::specs::devices::Values::tested))]
     fn test(&self, cursor: &mut Cursor<'_>, word: Next) -> Result<Boxed<Expr>, Refusal>
-        requires parts { Nests self.now.depth self.now.rule (F.pre self.now.expr) (F.post self.now.expr) }
-        ensures reads { Reads view (spec.tested (below self.now.depth) word cursor.old) result cursor.new }
+        requires parts { Nests self.now.depth self.now.rule (F.pre self.now.expr)
+            (F.post self.now.expr) }
+        ensures reads { Reads view (spec.tested (below self.now.depth) word cursor.old) result
+            cursor.new }
     {
         let test = Boxed::new(self.alloc, self.inner(cursor, Rule::Value)?)?;
         cursor.expect(word)?;
@@ -77,8 +85,10 @@ impl<F: Fn(Global, &mut Cursor<'_>, usize, Rule) -> Result<Expr, Refusal>> Gramm
 
     #[tactic(auto, unfolding(crate::specs::devices::Values::otherwise))]
     fn otherwise(&self, cursor: &mut Cursor<'_>) -> Result<Option<Items<Expr>>, Refusal>
-        requires parts { Nests self.now.depth self.now.rule (F.pre self.now.expr) (F.post self.now.expr) }
-        ensures reads { Reads part_view (spec.otherwise (below self.now.depth) cursor.old) result cursor.new }
+        requires parts { Nests self.now.depth self.now.rule (F.pre self.now.expr)
+            (F.post self.now.expr) }
+        ensures reads { Reads part_view (spec.otherwise (below self.now.depth) cursor.old) result
+            cursor.new }
     {
         match cursor.peek() {
             Next::Else => {
@@ -91,8 +101,10 @@ impl<F: Fn(Global, &mut Cursor<'_>, usize, Rule) -> Result<Expr, Refusal>> Gramm
 
     #[tactic(auto, unfolding(crate::specs::devices::Values::repetition))]
     fn repetition(&self, cursor: &mut Cursor<'_>) -> Result<Expr, Refusal>
-        requires parts { Nests self.now.depth self.now.rule (F.pre self.now.expr) (F.post self.now.expr) }
-        ensures reads { Reads view (spec.repetition self.now.depth (below self.now.depth) cursor.old) result cursor.new }
+        requires parts { Nests self.now.depth self.now.rule (F.pre self.now.expr)
+            (F.post self.now.expr) }
+        ensures reads { Reads view (spec.repetition self.now.depth
+            (below self.now.depth) cursor.old) result cursor.new }
     {
         let pos = cursor.pos();
         cursor.deepen(self.depth)?;

@@ -8,3 +8,5 @@ pub mod MessagesGiven
 pub mod Completeness
 pub mod Budgets
 pub mod Erasing
+pub mod StoppingMessages
+pub mod StoppingStatements

@@ -19,7 +19,8 @@ impl<F: Fn(Global, &mut Cursor<'_>, usize) -> Result<Stmt, Refusal>> Grammar<F> 
     #[tactic(auto, unfolding(crate::specs::devices::Statements::parallel))]
     pub fn parallel(&self, cursor: &mut Cursor<'_>) -> Result<Stmt, Refusal>
         requires parts { Nests self.now.depth (F.pre self.now.stmt) (F.post self.now.stmt) }
-        ensures reads { Reads view (spec.parallel self.now.depth (below_stmt self.now.depth) cursor.old) result cursor.new }
+        ensures reads { Reads view (spec.parallel self.now.depth
+            (below_stmt self.now.depth) cursor.old) result cursor.new }
     {
         let pos = cursor.pos();
         let form = StmtForm::Par(self.branched(cursor, Next::And, Next::Rap)?);
@@ -30,7 +31,8 @@ impl<F: Fn(Global, &mut Cursor<'_>, usize) -> Result<Stmt, Refusal>> Grammar<F> 
     #[tactic(auto, unfolding(crate::specs::devices::Statements::selection))]
     pub fn selection(&self, cursor: &mut Cursor<'_>) -> Result<Stmt, Refusal>
         requires parts { Nests self.now.depth (F.pre self.now.stmt) (F.post self.now.stmt) }
-        ensures reads { Reads view (spec.selection self.now.depth (below_stmt self.now.depth) cursor.old) result cursor.new }
+        ensures reads { Reads view (spec.selection self.now.depth
+            (below_stmt self.now.depth) cursor.old) result cursor.new }
     {
         let pos = cursor.pos();
         let form = StmtForm::Sel(self.branched(cursor, Next::Or, Next::Les)?);
@@ -46,7 +48,8 @@ impl<F: Fn(Global, &mut Cursor<'_>, usize) -> Result<Stmt, Refusal>> Grammar<F> 
         close: Next,
     ) -> Result<Items<Items<Stmt>>, Refusal>
         requires parts { Nests self.now.depth (F.pre self.now.stmt) (F.post self.now.stmt) }
-        ensures reads { Reads (map (map view)) (spec.branched self.now.depth (below_stmt self.now.depth) separator close cursor.old) result cursor.new }
+        ensures reads { Reads (map (map view)) (spec.branched self.now.depth
+            (below_stmt self.now.depth) separator close cursor.old) result cursor.new }
     {
         cursor.deepen(self.depth)?;
         let found = self.branches(cursor, separator)?;
@@ -61,7 +64,9 @@ impl<F: Fn(Global, &mut Cursor<'_>, usize) -> Result<Stmt, Refusal>> Grammar<F> 
         separator: Next,
     ) -> Result<Items<Items<Stmt>>, Refusal>
         requires parts { Nests self.now.depth (F.pre self.now.stmt) (F.post self.now.stmt) }
-        ensures reads { Reads (map (map view)) (lists.list_of (spec.sequence self.now.depth (below_stmt self.now.depth)) separator cursor.old) result cursor.new }
+        ensures reads { Reads (map (map view)) (lists.list_of
+            (spec.sequence self.now.depth (below_stmt self.now.depth)) separator cursor.old) result
+            cursor.new }
     {
         let mut found = Items::new(self.alloc);
         found.push(self.sequence(cursor)?)?;
@@ -76,7 +81,9 @@ impl<F: Fn(Global, &mut Cursor<'_>, usize) -> Result<Stmt, Refusal>> Grammar<F> 
         mut found: Items<Items<Stmt>>,
     ) -> Result<Items<Items<Stmt>>, Refusal>
         requires parts { Nests self.now.depth (F.pre self.now.stmt) (F.post self.now.stmt) }
-        ensures reads { Reads (map (map view)) (lists.more_of (spec.sequence self.now.depth (below_stmt self.now.depth)) separator (map (map view) found) cursor.old) result cursor.new }
+        ensures reads { Reads (map (map view)) (lists.more_of
+            (spec.sequence self.now.depth (below_stmt self.now.depth)) separator
+            (map (map view) found) cursor.old) result cursor.new }
     {
         for _turn in 0..cursor.left() {
             if !cursor.eat(separator) {

@@ -52,7 +52,8 @@ impl<F: Fn(Global, &mut Cursor<'_>, usize) -> Result<Stmt, Refusal>> Grammar<F> 
     #[tactic(auto, unfolding(crate::specs::devices::Statements::statement))]
     fn statement(&self, cursor: &mut Cursor<'_>) -> Result<Stmt, Refusal>
         requires parts { Nests self.now.depth (F.pre self.now.stmt) (F.post self.now.stmt) }
-        ensures reads { Reads view (spec.statement self.now.depth (below_stmt self.now.depth) cursor.old) result cursor.new }
+        ensures reads { Reads view (spec.statement self.now.depth
+            (below_stmt self.now.depth) cursor.old) result cursor.new }
     {
         match cursor.peek() {
             Next::Skip => Ok(skip(cursor)),
@@ -91,7 +92,8 @@ impl<F: Fn(Global, &mut Cursor<'_>, usize) -> Result<Stmt, Refusal>> Grammar<F> 
     #[tactic(auto, unfolding(pz_parser_cursor::specs::devices::Lists::list_of))]
     pub fn sequence(&self, cursor: &mut Cursor<'_>) -> Result<Items<Stmt>, Refusal>
         requires parts { Nests self.now.depth (F.pre self.now.stmt) (F.post self.now.stmt) }
-        ensures reads { Reads (map view) (spec.sequence self.now.depth (below_stmt self.now.depth) cursor.old) result cursor.new }
+        ensures reads { Reads (map view) (spec.sequence self.now.depth
+            (below_stmt self.now.depth) cursor.old) result cursor.new }
     {
         let mut found = Items::new(self.alloc);
         found.push(self.inner(cursor)?)?;
@@ -101,7 +103,8 @@ impl<F: Fn(Global, &mut Cursor<'_>, usize) -> Result<Stmt, Refusal>> Grammar<F> 
     #[tactic(auto, unfolding(pz_parser_cursor::specs::devices::Lists::more_of, pz_parser_cursor::specs::devices::Lists::tail_of))]
     fn more(&self, cursor: &mut Cursor<'_>, mut found: Items<Stmt>) -> Result<Items<Stmt>, Refusal>
         requires parts { Nests self.now.depth (F.pre self.now.stmt) (F.post self.now.stmt) }
-        ensures reads { Reads (map view) (lists.more_of (below_stmt self.now.depth) n.Semicolon (map view found) cursor.old) result cursor.new }
+        ensures reads { Reads (map view) (lists.more_of (below_stmt self.now.depth) n.Semicolon
+            (map view found) cursor.old) result cursor.new }
     {
         for _turn in 0..cursor.left() {
             if !cursor.eat(Next::Semicolon) {

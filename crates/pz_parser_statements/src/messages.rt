@@ -88,7 +88,8 @@ fn call_arguments(
     cursor: &mut Cursor<'_>,
     depth: usize,
 ) -> Result<Items<Expr>, Refusal>
-    ensures reads { Reads (map expression.view) (spec.call_arguments depth cursor.old) result cursor.new }
+    ensures reads { Reads (map expression.view) (spec.call_arguments depth cursor.old) result
+        cursor.new }
 {
     if !cursor.sees(Next::LeftParen) {
         return Err(cursor.refuse());
@@ -130,7 +131,8 @@ fn with_block<T: Drop>(
     value: T,
 ) -> Result<(T, Option<Items<Expr>>), Refusal>
     ensures kept { IfOk result (λ read. read.0 ≡ value) }
-    ensures reads { Reads (λ read. part_view read.1) (spec.after_message depth cursor.old) result cursor.new }
+    ensures reads { Reads (λ read. part_view read.1)
+        (spec.after_message depth cursor.old) result cursor.new }
 {
     let block = optional_block(alloc, cursor, depth)?;
     Ok((value, block))
@@ -161,7 +163,8 @@ fn enclosed_reception(
     cursor: &mut Cursor<'_>,
     depth: usize,
 ) -> Result<Reception, Refusal>
-    ensures reads { Reads reception_view (spec.enclosed_reception depth cursor.old) result cursor.new }
+    ensures reads { Reads reception_view (spec.enclosed_reception depth cursor.old) result
+        cursor.new }
 {
     cursor.deepen(depth)?;
     let names = optional_names(alloc, cursor)?;
@@ -176,7 +179,8 @@ fn enclosed_reception(
 /// The condition of a reception, if a `|` stands next.
 #[tactic(auto, unfolding(crate::specs::devices::Messages::condition))]
 fn condition(alloc: Global, cursor: &mut Cursor<'_>, depth: usize) -> Result<Option<Expr>, Refusal>
-    ensures reads { Reads (option_map expression.view) (spec.condition depth cursor.old) result cursor.new }
+    ensures reads { Reads (option_map expression.view)
+        (spec.condition depth cursor.old) result cursor.new }
 {
     if !cursor.sees(Next::Bar) {
         return Ok(None);

@@ -24,7 +24,8 @@ impl<F: Fn(Global, &mut Cursor<'_>, usize) -> Result<Stmt, Refusal>> Grammar<F> 
     #[tactic(auto, unfolding(crate::specs::devices::Statements::bracketed))]
     pub fn bracketed(&self, cursor: &mut Cursor<'_>) -> Result<Stmt, Refusal>
         requires parts { Nests self.now.depth (F.pre self.now.stmt) (F.post self.now.stmt) }
-        ensures reads { Reads view (spec.bracketed self.now.depth (below_stmt self.now.depth) cursor.old) result cursor.new }
+        ensures reads { Reads view (spec.bracketed self.now.depth
+            (below_stmt self.now.depth) cursor.old) result cursor.new }
     {
         let pos = cursor.pos();
         cursor.deepen(self.depth)?;
@@ -38,7 +39,8 @@ impl<F: Fn(Global, &mut Cursor<'_>, usize) -> Result<Stmt, Refusal>> Grammar<F> 
     #[tactic(auto, unfolding(crate::specs::devices::Statements::guarded))]
     pub fn guarded(&self, cursor: &mut Cursor<'_>) -> Result<Stmt, Refusal>
         requires parts { Nests self.now.depth (F.pre self.now.stmt) (F.post self.now.stmt) }
-        ensures reads { Reads view (spec.guarded self.now.depth (below_stmt self.now.depth) cursor.old) result cursor.new }
+        ensures reads { Reads view (spec.guarded self.now.depth
+            (below_stmt self.now.depth) cursor.old) result cursor.new }
     {
         let pos = cursor.pos();
         cursor.deepen(self.depth)?;
@@ -52,7 +54,8 @@ impl<F: Fn(Global, &mut Cursor<'_>, usize) -> Result<Stmt, Refusal>> Grammar<F> 
     #[tactic(auto, unfolding(crate::specs::devices::Statements::conditional))]
     pub fn conditional(&self, cursor: &mut Cursor<'_>) -> Result<Stmt, Refusal>
         requires parts { Nests self.now.depth (F.pre self.now.stmt) (F.post self.now.stmt) }
-        ensures reads { Reads view (spec.conditional self.now.depth (below_stmt self.now.depth) cursor.old) result cursor.new }
+        ensures reads { Reads view (spec.conditional self.now.depth
+            (below_stmt self.now.depth) cursor.old) result cursor.new }
     {
         let pos = cursor.pos();
         cursor.deepen(self.depth)?;
@@ -67,7 +70,8 @@ impl<F: Fn(Global, &mut Cursor<'_>, usize) -> Result<Stmt, Refusal>> Grammar<F> 
     #[tactic(auto, unfolding(crate::specs::devices::Statements::otherwise))]
     fn otherwise(&self, cursor: &mut Cursor<'_>) -> Result<Option<Items<Stmt>>, Refusal>
         requires parts { Nests self.now.depth (F.pre self.now.stmt) (F.post self.now.stmt) }
-        ensures reads { Reads otherwise_view (spec.otherwise self.now.depth (below_stmt self.now.depth) cursor.old) result cursor.new }
+        ensures reads { Reads otherwise_view (spec.otherwise self.now.depth
+            (below_stmt self.now.depth) cursor.old) result cursor.new }
     {
         match cursor.peek() {
             Next::Else => {
@@ -82,7 +86,8 @@ impl<F: Fn(Global, &mut Cursor<'_>, usize) -> Result<Stmt, Refusal>> Grammar<F> 
     #[tactic(auto, unfolding(crate::specs::devices::Statements::repeated))]
     pub fn repeated(&self, cursor: &mut Cursor<'_>) -> Result<Stmt, Refusal>
         requires parts { Nests self.now.depth (F.pre self.now.stmt) (F.post self.now.stmt) }
-        ensures reads { Reads view (spec.repeated self.now.depth (below_stmt self.now.depth) cursor.old) result cursor.new }
+        ensures reads { Reads view (spec.repeated self.now.depth
+            (below_stmt self.now.depth) cursor.old) result cursor.new }
     {
         let pos = cursor.pos();
         cursor.deepen(self.depth)?;
@@ -97,7 +102,8 @@ impl<F: Fn(Global, &mut Cursor<'_>, usize) -> Result<Stmt, Refusal>> Grammar<F> 
     #[tactic(auto, unfolding(crate::specs::devices::Statements::aborted))]
     pub fn aborted(&self, cursor: &mut Cursor<'_>) -> Result<Stmt, Refusal>
         requires parts { Nests self.now.depth (F.pre self.now.stmt) (F.post self.now.stmt) }
-        ensures reads { Reads view (spec.aborted self.now.depth (below_stmt self.now.depth) cursor.old) result cursor.new }
+        ensures reads { Reads view (spec.aborted self.now.depth
+            (below_stmt self.now.depth) cursor.old) result cursor.new }
     {
         let pos = cursor.pos();
         let (body, handler) = self.handled(cursor)?;
@@ -109,7 +115,8 @@ impl<F: Fn(Global, &mut Cursor<'_>, usize) -> Result<Stmt, Refusal>> Grammar<F> 
     #[tactic(auto, unfolding(crate::specs::devices::Statements::interrupted))]
     pub fn interrupted(&self, cursor: &mut Cursor<'_>) -> Result<Stmt, Refusal>
         requires parts { Nests self.now.depth (F.pre self.now.stmt) (F.post self.now.stmt) }
-        ensures reads { Reads view (spec.interrupted self.now.depth (below_stmt self.now.depth) cursor.old) result cursor.new }
+        ensures reads { Reads view (spec.interrupted self.now.depth
+            (below_stmt self.now.depth) cursor.old) result cursor.new }
     {
         let pos = cursor.pos();
         let (body, handler) = self.handled(cursor)?;
@@ -121,7 +128,8 @@ impl<F: Fn(Global, &mut Cursor<'_>, usize) -> Result<Stmt, Refusal>> Grammar<F> 
     #[tactic(auto, unfolding(crate::specs::devices::Statements::handled))]
     fn handled(&self, cursor: &mut Cursor<'_>) -> Result<(Items<Stmt>, Boxed<Stmt>), Refusal>
         requires parts { Nests self.now.depth (F.pre self.now.stmt) (F.post self.now.stmt) }
-        ensures reads { Reads handled_view (spec.handled self.now.depth (below_stmt self.now.depth) cursor.old) result cursor.new }
+        ensures reads { Reads handled_view (spec.handled self.now.depth
+            (below_stmt self.now.depth) cursor.old) result cursor.new }
     {
         cursor.deepen(self.depth)?;
         let body = self.sequence(cursor)?;
@@ -137,7 +145,8 @@ impl<F: Fn(Global, &mut Cursor<'_>, usize) -> Result<Stmt, Refusal>> Grammar<F> 
     ) -> Result<(T, Boxed<Stmt>), Refusal>
         requires parts { Nests self.now.depth (F.pre self.now.stmt) (F.post self.now.stmt) }
         ensures kept { IfOk result (λ read. read.0 ≡ value) }
-        ensures reads { Reads (λ read. view read.1) (below_stmt self.now.depth cursor.old) result cursor.new }
+        ensures reads { Reads (λ read. view read.1)
+            (below_stmt self.now.depth cursor.old) result cursor.new }
     {
         let stmt = Boxed::new(self.alloc, self.inner(cursor)?)?;
         Ok((value, stmt))
@@ -151,7 +160,9 @@ impl<F: Fn(Global, &mut Cursor<'_>, usize) -> Result<Stmt, Refusal>> Grammar<F> 
     ) -> Result<(T, Items<Stmt>), Refusal>
         requires parts { Nests self.now.depth (F.pre self.now.stmt) (F.post self.now.stmt) }
         ensures kept { IfOk result (λ read. read.0 ≡ value) }
-        ensures reads { Reads (λ read. map view read.1) (spec.sequence self.now.depth (below_stmt self.now.depth) cursor.old) result cursor.new }
+        ensures reads { Reads (λ read. map view read.1)
+            (spec.sequence self.now.depth (below_stmt self.now.depth) cursor.old) result
+            cursor.new }
     {
         let body = self.sequence(cursor)?;
         Ok((value, body))
@@ -165,7 +176,9 @@ impl<F: Fn(Global, &mut Cursor<'_>, usize) -> Result<Stmt, Refusal>> Grammar<F> 
     ) -> Result<(T, Option<Items<Stmt>>), Refusal>
         requires parts { Nests self.now.depth (F.pre self.now.stmt) (F.post self.now.stmt) }
         ensures kept { IfOk result (λ read. read.0 ≡ value) }
-        ensures reads { Reads (λ read. otherwise_view read.1) (spec.otherwise self.now.depth (below_stmt self.now.depth) cursor.old) result cursor.new }
+        ensures reads { Reads (λ read. otherwise_view read.1)
+            (spec.otherwise self.now.depth (below_stmt self.now.depth) cursor.old) result
+            cursor.new }
     {
         let other = self.otherwise(cursor)?;
         Ok((value, other))
@@ -174,7 +187,8 @@ impl<F: Fn(Global, &mut Cursor<'_>, usize) -> Result<Stmt, Refusal>> Grammar<F> 
     /// A value one construct further in, and this token behind it.
     #[tactic(auto, unfolding(pz_parser_expressions::specs::devices::Values::tested))]
     fn test(&self, cursor: &mut Cursor<'_>, close: Next) -> Result<Expr, Refusal>
-        ensures reads { Reads expression.view (values.tested (below self.now.depth) close cursor.old) result cursor.new }
+        ensures reads { Reads expression.view (values.tested
+            (below self.now.depth) close cursor.old) result cursor.new }
     {
         let test = inner_value(self.alloc, cursor, self.depth)?;
         Ok(up_to(cursor, test, close)?)

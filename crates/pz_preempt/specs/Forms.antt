@@ -1,5 +1,5 @@
 -- What the tables say of terms: summaries are those of terms, and changes are what actions leave of them.
-use Rattle.std.specs.Prelude.{◌≡◌, ℕ, Bool, Option, Some, None, Result, Ok, Err}
+use Rattle.std.specs.Prelude.{◌≡◌, ℕ, Bool, Some, Result, Ok, Err}
 use Rattle.pz_syntax.specs.declared.tokens.Pos.{Pos}
 use Rattle.pz_state.specs.States.{StateView}
 use Rattle.pz_offer.specs.declared.trouble.Trouble.{Trouble}

@@ -4,9 +4,8 @@ use Rattle.pz_io.specs.Outside.{FilesState, SinkState}
 use Rattle.pz_words.specs.declared.jobs.Job.{Job}
 use Rattle.pz_words.specs.Jobs.{Asks, IsAsked}
 use Rattle.pz_words.specs.Jobs as jobs
-use Rattle.pz_words.specs.devices.Reading.{job_in}
 use Rattle.pz_run.specs.declared.status.Status.{Status}
-use Rattle.pz_run.specs.Words.{asked}
+use Rattle.pz_run.specs.Words.{OfAsked}
 use Rattle.pz_run.specs.devices.Words.{HasRingSize}
 use Rattle.pz_run.specs.devices.Keeping.{KeepsPromises}
 
@@ -16,10 +15,10 @@ one_asked words None (Some j) a b = (a j).1 ((b j).0 refl)
 one_asked words None None a b = refl
 
 -- what is kept of the job that was found is kept of the one that was asked for
-pub keeps_asked : (words : List (List ℕ)) (found : Option Job) → IsAsked words found → IsAsked words (job_in words)
-    → (f g : FilesState) (before now : SinkState) (given : Status) → KeepsPromises found f g before now given → KeepsPromises (asked words) f g before now given
-keeps_asked words found is computed f g before now given kept =
-    subst (λ (a : Option Job). KeepsPromises a f g before now given) (one_asked words found (job_in words) is computed) kept
+pub keeps_asked : (words : List (List ℕ)) (found : Option Job) → IsAsked words found
+    → (f g : FilesState) (before now : SinkState) (given : Status) → KeepsPromises found f g before now given → OfAsked words (λ a. KeepsPromises a f g before now given)
+keeps_asked words found is f g before now given kept a asked =
+    subst (λ (a : Option Job). KeepsPromises a f g before now given) (one_asked words found a is asked) kept
 
 sized : (words : List (List ℕ)) (job : Job) → Asks words job → HasRingSize job
 sized _ _ (jobs.run model options o is are) = tt

@@ -1,7 +1,8 @@
 -- The promises of the top call, from what was to be said and that it was said.
-use Rattle.std.proofs.Common.{◌≡◌, ◌≢◌, ◌⊎◌, ◌<◌, ◌≤◌, ◌+◌, ◌-◌, ◌^◌, inl, inr, ⊎_elim, ℕ, List, [], ◌++◌, true, Option, Some, None, length, sym, subst, ap, ◌∙◌, refl, arith}
-use Rattle.std.proofs.Math.Nat.{min-le_left}
-use Rattle.pz_io.specs.Outside.{FilesState, SinkState, raised, Rose}
+use Rattle.std.proofs.Common.{◌≡◌, ◌≢◌, ◌⊎◌, ◌<◌, ◌≤◌, ◌+◌, inl, inr, ⊎_elim, ℕ, List, [], ◌∷◌, ◌++◌, true, Option, Some, None, length, sym, subst, ap, ◌∙◌, refl, arith, length-append}
+use Rattle.std.proofs.lemmas.Grind.{common_steps}
+use Rattle.std.proofs.lemmas.List.{append-nil}
+use Rattle.pz_io.specs.Outside.{FilesState, SinkState, raised, Rose, FilesFailedLast}
 use Rattle.pz_io.specs.Writing.{TookFront}
 use Rattle.pz_offer.specs.declared.trouble.Trouble.{Trouble}
 use Rattle.pz_rules.specs.Runs.{Ending, deadlocked, troubled, refused}
@@ -18,6 +19,10 @@ use Rattle.pz_run.specs.devices.Keeping.{KeepsPromises}
 use Rattle.pz_run.specs.devices.Saying.{Said, NothingWritten}
 use Rattle.pz_run.proofs.CanEnds.{can_end}
 
+-- a count that was raised rose
+pub raised_rose : (before now : ℕ) → now ≡ raised before → Rose before now
+raised_rose before now is = grind (arith, common_steps, is)
+
 -- this is the line of a read fault of the last file that was opened
 pub record IsFaultLine (files : List JobFile) (f g : FilesState) (bytes : List ℕ) : Type 0 where
   pub file : JobFile
@@ -32,16 +37,18 @@ pub record Wants (a : Option Job) (f g : FilesState) (bytes : List ℕ) (wanted 
   pub opens : (s : Status) → OpensFiles (files_of a) f g s
   pub ends : CanEnd a wanted
   pub model_refused : f.told ≡ true → wanted ≡ ModelRefused → IsNoModel a f.held
+  pub no_model : IsNoModel a f.held → f.told ≡ true → ¬ ((wanted ≡ ReadFault) × Rose f.faults g.faults) → wanted ≡ ModelRefused
   pub deadlock : f.told ≡ true → wanted ≡ Deadlock → RunEnds a f.held deadlocked
   pub model_fault : f.told ≡ true → wanted ≡ ModelFault → (trouble : Trouble) × RunEnds a f.held (troubled trouble)
   pub choice_refused : f.told ≡ true → wanted ≡ ChoiceRefused → (entry : ℕ) × (count : ℕ) × RunEnds a f.held (refused entry count)
   pub run_end : (ending : Ending) → RunEnds a f.held ending → f.told ≡ true → ¬ ((wanted ≡ ReadFault) × Rose f.faults g.faults) → wanted ≡ status_of ending
   pub trace_refused : f.told ≡ true → wanted ≡ TraceRefused → IsNoTrace a f.held
   pub no_trace : IsNoTrace a f.held → f.told ≡ true → ¬ ((wanted ≡ ReadFault) × Rose f.faults g.faults) → wanted ≡ TraceRefused
-  pub trace_opened : f.told ≡ true → f.opens + 1 < g.opens → HasModelText a f.held
+  pub trace_opened : f.told ≡ true → length f.opened + 1 < length g.opened → HasModelText a f.held
   pub too_long : wanted ≡ TooLong → IsPastLimit (files_of a) f g
   pub longer : f.told ≡ true → wanted ≡ TooLong → IsLonger (files_of a) f.held
   pub read_cause : wanted ≡ ReadFault → Rose f.faults g.faults ⊎ ((f.told ≡ true) × Lacks (files_of a) f.held)
+  pub reading : g.faults ≢ f.faults → FilesFailedLast f g × (wanted ≡ ReadFault)
 
 module _ (a : Option Job) (f g : FilesState) (before now : SinkState) (bytes : List ℕ) (wanted given : Status) (wants : Wants a f g bytes wanted) (said : Said before now bytes wanted given) where
   is_wanted : (s : Status) → given ≡ s → s ≢ WriteFault → s ≢ NoMemory → wanted ≡ s
@@ -71,6 +78,8 @@ module _ (a : Option Job) (f g : FilesState) (before now : SinkState) (bytes : L
         (wants.front told));
     statuses = can_end a given wanted said.is_wanted wants.ends;
     model_refused = λ told is. wants.model_refused told (is_wanted ModelRefused is (λ e. cc) (λ e. cc));
+    no_model = λ none told no_fault no_want unless.
+        let same = said.is_wanted no_fault no_want in same ∙ wants.no_model none told (λ both. unless (same ∙ both.0, both.1));
     deadlock = λ told is. wants.deadlock told (is_wanted Deadlock is (λ e. cc) (λ e. cc));
     model_fault = λ told is. wants.model_fault told (is_wanted ModelFault is (λ e. cc) (λ e. cc));
     choice_refused = λ told is. wants.choice_refused told (is_wanted ChoiceRefused is (λ e. cc) (λ e. cc));
@@ -83,19 +92,22 @@ module _ (a : Option Job) (f g : FilesState) (before now : SinkState) (bytes : L
     too_long = λ is. wants.too_long (is_wanted TooLong is (λ e. cc) (λ e. cc));
     longer = λ told is. wants.longer told (is_wanted TooLong is (λ e. cc) (λ e. cc));
     read_cause = λ is. wants.read_cause (is_wanted ReadFault is (λ e. cc) (λ e. cc));
-    write_cause = said.cause;
+    reading = λ differ.
+        let x = wants.reading differ in record { last = x.0; said = λ no_fault no_want. said.is_wanted no_fault no_want ∙ x.1 };
+    writing = said.writing;
   }
 
 -- memory was wanting before anything was said
-pub keeps_nothing : (a : Option Job) (f g : FilesState) (before now : SinkState) (given : Status) → OpensFiles (files_of a) f g given → (f.told ≡ true → f.opens + 1 < g.opens → HasModelText a f.held)
-    → NothingWritten before now given → KeepsPromises a f g before now given
-keeps_nothing a f g before now given opens accepted none = record {
+pub keeps_nothing : (a : Option Job) (f g : FilesState) (before now : SinkState) (given : Status) → OpensFiles (files_of a) f g given → (f.told ≡ true → length f.opened + 1 < length g.opened → HasModelText a f.held)
+    → g.faults ≡ f.faults → NothingWritten before now given → KeepsPromises a f g before now given
+keeps_nothing a f g before now given opens accepted kept none = record {
   output = λ _ _ no_want _. absurd (no_want none.wanting);
   read_fault = λ is _. absurd (other ReadFault is (λ e. cc));
   opens = opens;
   front = λ _ _. inl (ap (λ (s : SinkState). s.taken) none.unchanged);
   statuses = subst (CanEnd a) (sym none.wanting) (promises.no_memory a);
   model_refused = λ _ is. absurd (other ModelRefused is (λ e. cc));
+  no_model = λ _ _ _ no_want _. absurd (no_want none.wanting);
   deadlock = λ _ is. absurd (other Deadlock is (λ e. cc));
   model_fault = λ _ is. absurd (other ModelFault is (λ e. cc));
   choice_refused = λ _ is. absurd (other ChoiceRefused is (λ e. cc));
@@ -106,7 +118,8 @@ keeps_nothing a f g before now given opens accepted none = record {
   too_long = λ is. absurd (other TooLong is (λ e. cc));
   longer = λ _ is. absurd (other TooLong is (λ e. cc));
   read_cause = λ is. absurd (other ReadFault is (λ e. cc));
-  write_cause = λ is. absurd (other WriteFault is (λ e. cc));
+  reading = λ differ. absurd (differ kept);
+  writing = record { kept = λ _. ap (λ (s : SinkState). s.faults) none.unchanged; last = λ is. absurd (other WriteFault is (λ e. cc)) };
 }
   where
     other : (s : Status) → given ≡ s → NoMemory ≢ s → ⊥
@@ -118,20 +131,19 @@ none_opened files f s none = record {
   count = 0;
   within = omega arith;
   first = λ _ some. let empty : length files ≡ 0 = ap (λ (l : List JobFile). length l) none in absurd (omega (arith, some, empty));
-  opened = refl;
+  opens = record { names = sym (append-nil f.opened); counted = refl };
 }
 
 -- memory was wanting before the first file was opened
 pub not_opened : (files : List JobFile) (f : FilesState) → OpensFiles files f f NoMemory
-not_opened files f = record { count = 0; within = omega arith; first = λ ample _. absurd (ample refl); opened = refl }
+not_opened files f = record { count = 0; within = omega arith; first = λ ample _. absurd (ample refl); opens = record { names = sym (append-nil f.opened); counted = refl } }
 
--- a count that was raised once has not risen by more than one
+-- where one file was opened, there are not two
 
-raised_little : (n : ℕ) → raised n ≤ n + 1
-raised_little n = min-le_left (n + 1) (2 ^ 64 - 1)
-
-pub opened_once : {X : Type 0} (f g : FilesState) → g.opens ≡ raised f.opens → f.opens + 1 < g.opens → X
-opened_once f g once many = absurd (omega (arith, raised_little f.opens, once, many))
+pub opened_once : {X : Type 0} (f g : FilesState) (name : List ℕ) → g.opened ≡ f.opened ++ (name ∷ []) → length f.opened + 1 < length g.opened → X
+opened_once f g name once many =
+    let counted : length g.opened ≡ length f.opened + 1 = ap (λ (l : List (List ℕ)). length l) once ∙ length-append f.opened (name ∷ []) in
+    absurd (omega (arith, counted, many))
 
 pub opened_never : {X : Type 0} (count : ℕ) → count + 1 < count → X
 opened_never count many = absurd (omega (arith, many))
@@ -145,6 +157,9 @@ keeps_usage f before now given said = keeps None f f before now usage_line Usage
   where
     no_run : (ending : Ending) → RunEnds None f.held ending → ⊥
     no_run ending ends = no_job ends.job ends.is_asked
+
+    no_text : IsNoModel None f.held → ⊥
+    no_text none = no_job none.job none.is_asked
 
     no_trace : IsNoTrace None f.held → ⊥
     no_trace none = no_job none.job none.is_asked
@@ -163,8 +178,10 @@ keeps_usage f before now given said = keeps None f f before now usage_line Usage
       run_end = λ ending ends _ _. absurd (no_run ending ends);
       trace_refused = λ _ is. cc;
       no_trace = λ none _ _. absurd (no_trace none);
-      trace_opened = λ _ many. opened_never f.opens many;
+      no_model = λ none _ _. absurd (no_text none);
+      trace_opened = λ _ many. opened_never (length f.opened) many;
       too_long = λ is. cc;
       longer = λ _ is. cc;
       read_cause = λ is. cc;
+      reading = λ differ. absurd (differ refl);
     }

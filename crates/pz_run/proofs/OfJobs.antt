@@ -8,9 +8,11 @@ use Rattle.pz_words.specs.declared.jobs.RunLimits.{RunLimits}
 use Rattle.pz_words.specs.declared.jobs.Job.{Job}
 use Rattle.pz_words.specs.declared.jobs.Job.TheVariants.{Run, Menu, Replay, Check, Make, Ring}
 use Rattle.pz_gen.specs.Ring.{model as ring_text}
+use Rattle.pz_run_reading.specs.declared.refusal.Refusal.{Refusal}
 use Rattle.pz_run_reading.specs.Models.{IsModelOf}
+use Rattle.pz_run_reading.specs.Refusals.{IsRefused}
 use Rattle.pz_run_lines.specs.Lines.{read_fault_line, too_long_line}
-use Rattle.pz_run.specs.declared.limits.TheConstants.{MODEL_LIMIT}
+use Rattle.pz_run.specs.Limits.{model_limit}
 use Rattle.pz_run.specs.declared.play.Play.{Play}
 use Rattle.pz_run.specs.declared.play.Telling.TheVariants as telling
 use Rattle.pz_run.specs.declared.status.Status.{Status}
@@ -19,7 +21,7 @@ use Rattle.pz_run.specs.Files.{model_file, files_of}
 use Rattle.pz_run.specs.Status.{status_of}
 use Rattle.pz_run.specs.Plays.{play, play_of, telling_when}
 use Rattle.pz_run.specs.Output.{PrintsRun, plays, PrintsSize, accepts, makes, PrintsModel, refuses, of_model, PrintsFile, lacks, too_long, reads, PrintsModelFile, PrintsJob, does}
-use Rattle.pz_run.specs.Promises.{HasModel, model_name, IsTextFor, of_ring, ChosenEnds, HasTrace, ToldEnds, HasEnding, of_choice, of_trace, RunEnds, TellsNoRun, IsNoTrace}
+use Rattle.pz_run.specs.Promises.{HasModel, model_name, stations_of, IsTextFor, of_file, of_ring, ChosenEnds, HasTrace, ToldEnds, HasEnding, of_choice, of_trace, RunEnds, TellsNoRun, IsNoTrace}
 use Rattle.pz_run.specs.Promises as promises
 use Rattle.pz_run.specs.devices.Keeping.{KeepsPromises}
 use Rattle.pz_run.specs.devices.Reading.{ReadsFile}
@@ -27,7 +29,7 @@ use Rattle.pz_run.specs.devices.Saying.{Said, Answers}
 use Rattle.pz_run.specs.devices.Texts.{EndsOnlySo, PrintsPlay, PrintsCheck}
 use Rattle.pz_run.proofs.OneEnd.{some_is}
 use Rattle.pz_run.proofs.Keeps.{Wants, keeps, keeps_nothing, none_opened, opened_never}
-use Rattle.pz_run.proofs.Outcomes.{chosen_can, Outcome, no_model, run_ended, checked, EndsText, ends_text, OfText, run_in, none_in, ring_in}
+use Rattle.pz_run.proofs.Outcomes.{chosen_can, Outcome, no_model, run_ended, checked, EndsText, ends_text, OfText, run_in, none_in, refused_in, ring_in}
 use Rattle.pz_run.proofs.OneFiles.{OneFile, keeps_file}
 
 -- ---- what is printed of a file
@@ -36,10 +38,10 @@ module _ (files : Entries) (name : List ℕ) (P : ModelTree → List ℕ → Sta
   pub file_lacks : lookup files name ≡ None → PrintsModelFile files name P (read_fault_line name) ReadFault
   file_lacks missing = subst (λ (o : Option (List ℕ)). PrintsFile (model_file name) (PrintsModel P) o (read_fault_line name) ReadFault) (sym missing) lacks
 
-  pub file_long : (text : List ℕ) → lookup files name ≡ Some text → MODEL_LIMIT < length text → PrintsModelFile files name P (too_long_line name) TooLong
+  pub file_long : (text : List ℕ) → lookup files name ≡ Some text → model_limit < length text → PrintsModelFile files name P (too_long_line name) TooLong
   file_long text held long = subst (λ (o : Option (List ℕ)). PrintsFile (model_file name) (PrintsModel P) o (too_long_line name) TooLong) (sym held) (too_long text long)
 
-  pub file_read : (text bytes : List ℕ) (status : Status) → lookup files name ≡ Some text → length text ≤ MODEL_LIMIT → PrintsModel P text bytes status → PrintsModelFile files name P bytes status
+  pub file_read : (text bytes : List ℕ) (status : Status) → lookup files name ≡ Some text → length text ≤ model_limit → PrintsModel P text bytes status → PrintsModelFile files name P bytes status
   file_read text bytes status held short prints = subst (λ (o : Option (List ℕ)). PrintsFile (model_file name) (PrintsModel P) o bytes status) (sym held) (reads text bytes status short prints)
 
 -- ---- runs
@@ -81,6 +83,7 @@ plays_file job name p files has named is_play prints = record {
   outcome = λ f text bytes status x. play_outcome job p is_play text f bytes status x.prints;
   only = λ held text bytes status x. play_only job p is_play text held status x.only;
   no_run = λ held text bytes status x none. no_trace job p is_play text held none.replay;
+  refused = λ text bytes status x. x.refused;
 }
 
 module _ (f g : FilesState) (before now : SinkState) (given : Status) where
@@ -106,7 +109,7 @@ no_play model p e = cc
 size_outcome : (f : FilesState) (job : Job) (text : List ℕ) (m : ModelTree) (bytes : List ℕ) (status : Status) → PrintsSize m bytes status → Outcome f job text status
 size_outcome f job text m _ _ (accepts processes wires is) = checked
 
-check_outcome : (f : FilesState) (job : Job) (text bytes : List ℕ) (status : Status) → PrintsCheck text bytes status → Outcome f job text status
+check_outcome : (f : FilesState) (job : Job) (text bytes : List ℕ) (status : Status) → PrintsModel PrintsSize text bytes status → Outcome f job text status
 check_outcome f job text _ _ (refuses r is) = no_model r is
 check_outcome f job text _ _ (of_model m bytes status is prints) = size_outcome f job text m bytes status prints
 
@@ -127,10 +130,11 @@ checks_file model = record {
   named = refl;
   lacks = λ held missing. file_lacks held model PrintsSize missing;
   long = λ held text is long. file_long held model PrintsSize text is long;
-  reads = λ held text bytes status is short prints. file_read held model PrintsSize text bytes status is short prints;
-  outcome = λ f text bytes status prints. check_outcome f (Check model) text bytes status prints;
+  reads = λ held text bytes status is short x. file_read held model PrintsSize text bytes status is short x.prints;
+  outcome = λ f text bytes status x. check_outcome f (Check model) text bytes status x.prints;
   only = λ held text bytes status prints e x. check_ended model held text e x;
   no_run = λ held text bytes status prints none. check_told model held text none.replay;
+  refused = λ text bytes status x. x.refused;
 }
 
 pub keeps_check : (f g : FilesState) (before now : SinkState) (given : Status) (model : List ℕ) → ReadsFile (model_file model) PrintsCheck f g before now given → KeepsPromises (Some (Check model)) f g before now given
@@ -148,6 +152,18 @@ make_ended : {X : Type 0} (n : ℕ) (held : Entries) (text : List ℕ) (e : Endi
 make_ended n held text e (of_choice x) = absurd (no_run n x.play x.is_play)
 make_ended n held text e (of_trace x) = make_told n held text x.replay
 
+-- nor has a ring that is made a model that is read
+
+made_unread : (job : Job) (n : ℕ) (name : List ℕ) → job ≡ Make n → model_name job ≡ Some name → ⊥
+made_unread job n name same named = let none : model_name (Make n) ≡ Some name = ap model_name (sym same) ∙ named in cc
+
+made_unrun : (job : Job) (n k : ℕ) → job ≡ Make n → stations_of job ≡ Some k → ⊥
+made_unrun job n k same ring = let none : stations_of (Make n) ≡ Some k = ap stations_of (sym same) ∙ ring in cc
+
+make_text : {X : Type 0} (n : ℕ) (held : Entries) (job : Job) (text : List ℕ) → job ≡ Make n → IsTextFor held job text → X
+make_text n held _ _ same (of_file job name text named is short) = absurd (made_unread job n name same named)
+make_text n held _ _ same (of_ring job k ring) = absurd (made_unrun job n k same ring)
+
 module _ (f : FilesState) (before now : SinkState) (given : Status) where
   pub keeps_make : (n : ℕ) → Said before now (ring_text n) Done given → KeepsPromises (Some (Make n)) f f before now given
   keeps_make n said = keeps (Some (Make n)) f f before now (ring_text n) Done given wants said
@@ -160,16 +176,18 @@ module _ (f : FilesState) (before now : SinkState) (given : Status) where
         opens = λ s. none_opened [] f s refl;
         ends = promises.done (Make n);
         model_refused = λ _ is. cc;
+        no_model = λ none _ _. let x = refused_in f.held (Make n) none in make_text n f.held (Make n) x.text refl x.is_text;
         deadlock = λ _ is. cc;
         model_fault = λ _ is. cc;
         choice_refused = λ _ is. cc;
         run_end = λ e ends _ _. let x = run_in f.held (Make n) e ends in make_ended n f.held x.text e x.holds;
         trace_refused = λ _ is. cc;
         no_trace = λ none _ _. let x = none_in f.held (Make n) none in make_told n f.held x.text x.holds.replay;
-        trace_opened = λ _ many. opened_never f.opens many;
+        trace_opened = λ _ many. opened_never (length f.opened) many;
         too_long = λ is. cc;
         longer = λ _ is. cc;
         read_cause = λ is. cc;
+        reading = λ differ. absurd (differ refl);
       }
 
   module _ (n : ℕ) (choice : Choice) (limits : RunLimits) where
@@ -181,16 +199,18 @@ module _ (f : FilesState) (before now : SinkState) (given : Status) where
       opens = λ s. none_opened [] f s refl;
       ends = end.can;
       model_refused = end.model_refused;
+      no_model = λ none _ _. let y = same_text (λ j t. (r : Refusal) × IsRefused t r) (refused_in f.held job none) in x.refused y.0 y.1;
       deadlock = end.deadlock;
       model_fault = end.model_fault;
       choice_refused = end.choice_refused;
       run_end = λ e ends _ _. play_only job p refl (ring_text n) f.held wanted x.only e (same_text (λ j t. HasEnding f.held j t e) (run_in f.held job e ends));
       trace_refused = end.trace_refused;
       no_trace = λ none _ _. no_trace job p refl (ring_text n) f.held (same_text (λ j t. TellsNoRun f.held j t) (none_in f.held job none)).replay;
-      trace_opened = λ _ many. opened_never f.opens many;
+      trace_opened = λ _ many. opened_never (length f.opened) many;
       too_long = λ is. absurd (end.not_long is);
       longer = λ _ is. absurd (end.not_long is);
       read_cause = λ is. absurd (end.no_fault is);
+      reading = λ differ. absurd (differ refl);
     }
       where
         p : Play
@@ -206,5 +226,5 @@ module _ (f : FilesState) (before now : SinkState) (given : Status) where
         same_text Q y = subst (λ (t : List ℕ). Q job t) (ring_in f.held job y.text y.is_text n refl) y.holds
 
     pub keeps_ring : Answers (PrintsPlay (play choice limits telling.Summary) (ring_text n)) before now given → KeepsPromises (Some (Ring n choice limits)) f f before now given
-    keeps_ring (inl none) = keeps_nothing (Some (Ring n choice limits)) f f before now given (none_opened [] f given refl) (λ _ many. opened_never f.opens many) none
+    keeps_ring (inl none) = keeps_nothing (Some (Ring n choice limits)) f f before now given (none_opened [] f given refl) (λ _ many. opened_never (length f.opened) many) refl none
     keeps_ring (inr says) = keeps (Some (Ring n choice limits)) f f before now says.bytes says.wanted given (ring_wants says.bytes says.wanted says.prints) says.said

@@ -1,8 +1,8 @@
 -- What is said of the text of a model, by how its reading went.
-use Rattle.std.proofs.Common.{◌≡◌, inl, inr, ℕ, List, subst}
+use Rattle.std.proofs.Common.{◌≡◌, inl, inr, ℕ, List, refl, subst}
 use Rattle.pz_io.specs.Outside.{SinkState}
 use Rattle.pz_syntax.specs.Classes.{ModelTree}
-use Rattle.pz_rules.specs.Laws.{OneChosenRun, StartFits}
+use Rattle.pz_run_playing.specs.Laws.{HasOneRun}
 use Rattle.pz_run_reading.specs.declared.refusal.Refusal.{Refusal}
 use Rattle.pz_run_reading.specs.declared.read_error.ReadModelError.{ReadModelError}
 use Rattle.pz_run_reading.specs.declared.read_error.ReadModelError.TheVariants.{NoMemory, Refused}
@@ -10,6 +10,7 @@ use Rattle.pz_run_reading.specs.Models.{IsModelOf}
 use Rattle.pz_run_reading.specs.Refusals.{IsRefused}
 use Rattle.pz_run_reading.specs.Sizes.{IsAccepted}
 use Rattle.pz_run_reading.specs.Answers.{OnRefused}
+use Rattle.pz_run_reading.specs.Laws.{NoModelIsRefused}
 use Rattle.pz_run_lines.specs.Lines.{accepted_line, model_refused_line}
 use Rattle.pz_run.specs.declared.play.Play.{Play}
 use Rattle.pz_run.specs.declared.status.Status.{Status}
@@ -18,25 +19,29 @@ use Rattle.pz_run.specs.Plays.{RunOf}
 use Rattle.pz_run.specs.Status.{status_of}
 use Rattle.pz_run.specs.Output.{PrintsRun, accepts, refuses, of_model}
 use Rattle.pz_run.specs.devices.Saying.{Said, Answers}
-use Rattle.pz_run.specs.devices.Texts.{EndsOnlySo, PrintsPlay, PrintsCheck, SaysRefusal}
+use Rattle.pz_run.specs.devices.Texts.{EndsOnlySo, IsRefusedSo, PrintsPlay, PrintsCheck, SaysRefusal}
 use Rattle.pz_run.proofs.Sayings.{answers_by}
 use Rattle.pz_run.proofs.OneEnd.{ends_so}
 
 differ : (r : Refusal) → Refused r ≡ NoMemory → ⊥
 differ r same = cc
 
+-- the text of a model is not refused
+not_refused : NoModelIsRefused → (text : List ℕ) (m : ModelTree) (status : Status) → IsModelOf text m → IsRefusedSo text status
+not_refused never text m status is r refused = absurd (never text m r is refused)
+
 module _ (text : List ℕ) (before now : SinkState) (given : Status) where
   -- its model is this one, and was run
-  pub run_said : OneChosenRun → StartFits → (p : Play) (m : ModelTree) → IsModelOf text m → ((n : ModelTree) → IsModelOf text n → m ≡ n)
+  pub run_said : HasOneRun → NoModelIsRefused → (p : Play) (m : ModelTree) → IsModelOf text m → ((n : ModelTree) → IsModelOf text n → m ≡ n)
       → Answers (PrintsRun p m) before now given → Answers (PrintsPlay p text) before now given
-  run_said one fits p m is only = answers_by (PrintsRun p m) (PrintsPlay p text) printed before now given
+  run_said one never p m is only = answers_by (PrintsRun p m) (PrintsPlay p text) printed before now given
     where
       ends : (bytes : List ℕ) (status : Status) → PrintsRun p m bytes status → EndsOnlySo p text status
       ends bytes status prints n other =
-          subst (λ (k : ModelTree). (run : RunOf p k) → status ≡ status_of run.ending) (only n other) (ends_so one fits p m is.sound bytes status prints)
+          subst (λ (k : ModelTree). (run : RunOf p k) → status ≡ status_of run.ending) (only n other) (ends_so one p m is.sound bytes status prints)
 
       printed : (bytes : List ℕ) (status : Status) → PrintsRun p m bytes status → PrintsPlay p text bytes status
-      printed bytes status prints = record { prints = of_model m bytes status is prints; only = ends bytes status prints }
+      printed bytes status prints = record { prints = of_model m bytes status is prints; only = ends bytes status prints; refused = not_refused never text m status is }
 
   -- it is refused, or memory was wanting
   pub refusal_said : (p : Play) (e : ReadModelError) → OnRefused (IsRefused text) e → ((m : ModelTree) → IsModelOf text m → e ≡ NoMemory)
@@ -45,19 +50,22 @@ module _ (text : List ℕ) (before now : SinkState) (given : Status) where
   refusal_said p (Refused r) refused only says = inr (record {
     bytes = model_refused_line r;
     wanted = ModelRefused;
-    prints = record { prints = refuses r refused; only = λ m is run. absurd (differ r (only m is)) };
+    prints = record { prints = refuses r refused; only = λ m is run. absurd (differ r (only m is)); refused = λ _ _. refl };
     said = says;
   })
 
   -- the same of a check
-  pub size_said : (processes wires : ℕ) → IsAccepted text processes wires → Said before now (accepted_line processes wires) Done given → Answers (PrintsCheck text) before now given
-  size_said processes wires is said = inr (record {
+  pub size_said : NoModelIsRefused → (processes wires : ℕ) → IsAccepted text processes wires → Said before now (accepted_line processes wires) Done given → Answers (PrintsCheck text) before now given
+  size_said never processes wires is said = inr (record {
     bytes = accepted_line processes wires;
     wanted = Done;
-    prints = of_model is.model (accepted_line processes wires) Done is.is_model (accepts processes wires is.size);
+    prints = record {
+      prints = of_model is.model (accepted_line processes wires) Done is.is_model (accepts processes wires is.size);
+      refused = not_refused never text is.model Done is.is_model;
+    };
     said = said;
   })
 
   pub no_size_said : (e : ReadModelError) → OnRefused (IsRefused text) e → SaysRefusal e before now given → Answers (PrintsCheck text) before now given
   no_size_said NoMemory refused says = inl says
-  no_size_said (Refused r) refused says = inr (record { bytes = model_refused_line r; wanted = ModelRefused; prints = refuses r refused; said = says })
+  no_size_said (Refused r) refused says = inr (record { bytes = model_refused_line r; wanted = ModelRefused; prints = record { prints = refuses r refused; refused = λ _ _. refl }; said = says })

@@ -11,7 +11,7 @@ use Rattle.pz_words.specs.declared.jobs.Job.TheVariants.{Run, Menu, Replay, Chec
 use Rattle.pz_gen.specs.Ring.{model as ring_text}
 use Rattle.pz_run_reading.specs.declared.refusal.Refusal.{Refusal}
 use Rattle.pz_run_reading.specs.Refusals.{IsRefused}
-use Rattle.pz_run.specs.declared.limits.TheConstants.{MODEL_LIMIT}
+use Rattle.pz_run.specs.Limits.{model_limit}
 use Rattle.pz_run.specs.declared.play.Play.{Play}
 use Rattle.pz_run.specs.declared.status.Status.{Status}
 use Rattle.pz_run.specs.declared.status.Status.TheVariants.{Done, Deadlock, ModelRefused, ModelFault, ChoiceRefused, TraceRefused, TooLong, ReadFault}
@@ -150,7 +150,7 @@ no_ring (Ring m choice limits) name n named ring = cc
 -- it is that of the file of this name
 pub record IsTextOfFile (files : Entries) (name text : List ℕ) : Type 0 where
   pub held : lookup files name ≡ Some text
-  pub short : length text ≤ MODEL_LIMIT
+  pub short : length text ≤ model_limit
 
 pub text_in : (files : Entries) (job : Job) (text : List ℕ) → IsTextFor files job text → (name : List ℕ) → model_name job ≡ Some name → IsTextOfFile files name text
 text_in files _ _ (of_file job other text named is short) name same =
@@ -175,3 +175,6 @@ run_in files job e ends = of_asked files (λ j text. HasEnding files j text e) j
 
 pub none_in : (files : Entries) (job : Job) → IsNoTrace (Some job) files → OfText files job (λ j text. TellsNoRun files j text)
 none_in files job none = of_asked files (λ j text. TellsNoRun files j text) job none.job none.is_asked (record { text = none.text; is_text = none.is_text; holds = none.tells_none })
+
+pub refused_in : (files : Entries) (job : Job) → IsNoModel (Some job) files → OfText files job (λ j text. (r : Refusal) × IsRefused text r)
+refused_in files job none = of_asked files (λ j text. (r : Refusal) × IsRefused text r) job none.job none.is_asked (record { text = none.text; is_text = none.is_text; holds = (none.refusal, none.is_refused) })

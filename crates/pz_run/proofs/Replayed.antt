@@ -1,7 +1,7 @@
 -- What was said of a trace that was replayed, and the promises of a replay.
-use Rattle.std.proofs.Common.{◌≡◌, ◌≢◌, ◌⊎◌, inl, inr, ⊎_elim, ◌∙◌, ◌<◌, ◌≤◌, ℕ, List, [], ◌∷◌, true, Option, Some, None, Result, Ok, Err, length, refl, sym, subst, ap, arith}
+use Rattle.std.proofs.Common.{◌≡◌, ◌≢◌, ◌⊎◌, inl, inr, ⊎_elim, ◌∙◌, ◌<◌, ◌≤◌, ℕ, List, [], ◌∷◌, ◌++◌, true, Option, Some, None, Result, Ok, Err, length, refl, sym, subst, ap, arith, append_assoc}
 use Rattle.std.specs.Prelude.{Contains}
-use Rattle.pz_io.specs.Outside.{Entries, FilesState, SinkState, lookup, raised, Rose, Exceeds}
+use Rattle.pz_io.specs.Outside.{Entries, FilesState, SinkState, lookup, raised, Rose, LacksName, FilesFailedLast, Exceeds}
 use Rattle.pz_io.specs.declared.writing.Halt.{Halt}
 use Rattle.pz_syntax.specs.Classes.{ModelTree}
 use Rattle.pz_rules.specs.Settings.{Setting}
@@ -22,7 +22,7 @@ use Rattle.pz_run_reading.specs.declared.read_error.ReadModelError.{ReadModelErr
 use Rattle.pz_run_reading.specs.declared.read_error.ReadModelError.TheVariants.{NoMemory, Refused}
 use Rattle.pz_run_reading.specs.declared.refusal.Refusal.{Refusal}
 use Rattle.pz_run_lines.specs.Lines.{read_fault_line, too_long_line, model_refused_line}
-use Rattle.pz_run.specs.declared.limits.TheConstants.{MODEL_LIMIT, TRACE_LIMIT}
+use Rattle.pz_run.specs.Limits.{model_limit, trace_limit}
 use Rattle.pz_run.specs.declared.status.Status.{Status}
 use Rattle.pz_run.specs.declared.status.Status.TheVariants.{ModelRefused, TraceRefused, TooLong, ReadFault, WriteFault}
 use Rattle.pz_run.specs.Files.{JobFile, model_file, trace_file, files_of}
@@ -30,7 +30,7 @@ use Rattle.pz_run.specs.Plays.{play_of, setting_with}
 use Rattle.pz_run.specs.Status.{status_of, replay_status}
 use Rattle.pz_run.specs.Output.{PrintsReplay, replays, PrintsFile, lacks, too_long, reads, of_model, PrintsTraceFile, PrintsJob, Prints, does}
 use Rattle.pz_run.specs.Output as output
-use Rattle.pz_run.specs.Promises.{OpensFiles, OpensLast, HasModelText, IsTextFor, of_file, ChosenEnds, HasTrace, ToldEnds, HasEnding, of_choice, of_trace, RunEnds, TellsNoRun, IsNoTrace, CanEnd}
+use Rattle.pz_run.specs.Promises.{Opens, OpensFiles, OpensLast, IsNoModel, HasModelText, IsTextFor, of_file, ChosenEnds, HasTrace, ToldEnds, HasEnding, of_choice, of_trace, RunEnds, TellsNoRun, IsNoTrace, CanEnd}
 use Rattle.pz_run.specs.Promises as promises
 use Rattle.pz_run.specs.devices.Halting.{replayed_as}
 use Rattle.pz_run.specs.devices.Keeping.{KeepsPromises}
@@ -41,9 +41,9 @@ use Rattle.pz_run.specs.devices.Saying.{Said, NothingWritten, Says, Answers}
 use Rattle.pz_run.specs.devices.Texts.{SaysRefusal}
 use Rattle.pz_run.proofs.Sayings.{said_whole, said_halted, answers_by}
 use Rattle.pz_run.proofs.OneEnd.{some_is}
-use Rattle.pz_run.proofs.Outcomes.{told_can, Outcome, run_ended, no_trace, EndsText, ends_text, IsTextOfFile, text_in, OfText, run_in, none_in}
+use Rattle.pz_run.proofs.Outcomes.{told_can, Outcome, run_ended, no_trace, EndsText, ends_text, IsTextOfFile, text_in, OfText, run_in, none_in, refused_in}
 use Rattle.pz_run.proofs.Outcomes as outcomes
-use Rattle.pz_run.proofs.Keeps.{IsFaultLine, Wants, keeps, keeps_nothing}
+use Rattle.pz_run.proofs.Keeps.{raised_rose, IsFaultLine, Wants, keeps, keeps_nothing}
 use Rattle.pz_run.proofs.OneFiles.{OneFile, keeps_file}
 use Rattle.pz_run.proofs.OfJobs.{file_lacks, file_long, file_read}
 
@@ -100,14 +100,14 @@ module _ (one : OneEnding) (units : ℕ) (m : ModelTree) (tells : TellsLines (se
 
 module _ (one : OneEnding) (units : ℕ) (m : ModelTree) (tells : TellsLines (setting_with m units)) (file : JobFile) (f g : FilesState) (before now : SinkState) (given : Status) where
   of_outcome : FileOutcome file (PrintsReplay units m) f g before now given → FileOutcome file (PrintsTrace units m) f g before now given
-  of_outcome (wanting none) = wanting none
+  of_outcome (wanting kept none) = wanting kept none
   of_outcome (fault cause said) = fault cause said
-  of_outcome (long handed exceeds said) = long handed exceeds said
-  of_outcome (whole text short held answers) =
-      whole text short held (answers_by (PrintsReplay units m text) (PrintsTrace units m text) (of_replay one units m tells text) before now given answers)
+  of_outcome (long kept handed exceeds said) = long kept handed exceeds said
+  of_outcome (whole text kept short held answers) =
+      whole text kept short held (answers_by (PrintsReplay units m text) (PrintsTrace units m text) (of_replay one units m tells text) before now given answers)
 
   pub of_reading : ReadsFile file (PrintsReplay units m) f g before now given → ReadsFile file (PrintsTrace units m) f g before now given
-  of_reading x = record { opened = x.opened; outcome = of_outcome x.outcome }
+  of_reading x = record { opened = x.opened; names = x.names; outcome = of_outcome x.outcome }
 
 -- ---- the text of a model that is refused
 
@@ -126,7 +126,8 @@ module _ (model name : List ℕ) (units : ℕ) (f mid g : FilesState) (before no
   pub from_text : (text : List ℕ) → WasRead (model_file model) text f mid → ReplaysText name units mid g before now given text → ReplaysFiles model name units f g before now given
   from_text text was (replaying.refuses same answers) = no_model (record {
     opened = subst (λ (s : FilesState). s.opens ≡ raised f.opens) (sym same) was.opened;
-    outcome = whole text was.short was.content answers;
+    names = subst (λ (s : FilesState). s.opened ≡ f.opened ++ (model ∷ [])) (sym same) was.names;
+    outcome = whole text (subst (λ (s : FilesState). s.faults ≡ f.faults) (sym same) was.faults) was.short was.content answers;
   })
   from_text text was (goes_on m is reading) = reads_on mid text m was is reading
 
@@ -137,6 +138,9 @@ replay_words model name units model' other more same = (cc, cc)
 
 refusal_lacks : {X : Type 0} (text bytes : List ℕ) (status : Status) (m : ModelTree) → PrintsRefusal text bytes status → IsModelOf text m → X
 refusal_lacks text _ _ m (refused r is none) model = absurd (none m model)
+
+refusal_is : (text bytes : List ℕ) (status : Status) → PrintsRefusal text bytes status → status ≡ ModelRefused
+refusal_is text _ _ (refused r is none) = refl
 
 module _ (model name : List ℕ) (units : ℕ) where
   abbrev job : Job
@@ -152,7 +156,7 @@ module _ (model name : List ℕ) (units : ℕ) where
   refusal_only held text bytes status prints e (of_choice x) = not_played text e x
   refusal_only held text bytes status prints e (of_trace x) = refusal_lacks text bytes status x.replay.model prints x.replay.is_model
 
-  refusal_printed : (held : Entries) (text bytes : List ℕ) (status : Status) → lookup held model ≡ Some text → length text ≤ MODEL_LIMIT → PrintsRefusal text bytes status → PrintsJob held job bytes status
+  refusal_printed : (held : Entries) (text bytes : List ℕ) (status : Status) → lookup held model ≡ Some text → length text ≤ model_limit → PrintsRefusal text bytes status → PrintsJob held job bytes status
   refusal_printed held text _ _ is short (refused r wrong none) = file_read held model (PrintsTraceFile held name units) text (model_refused_line r) ModelRefused is short (output.refuses r wrong)
 
   refuses_file : OneFile job model PrintsRefusal
@@ -167,19 +171,23 @@ module _ (model name : List ℕ) (units : ℕ) where
     outcome = refusal_outcome;
     only = refusal_only;
     no_run = λ held text bytes status prints none. refusal_lacks text bytes status none.replay.model prints none.replay.is_model;
+    refused = λ text bytes status prints _ _. refusal_is text bytes status prints;
   }
 
   -- ---- promises, where the model was accepted
 
-  module _ (f mid g : FilesState) (text : List ℕ) (m : ModelTree) (was : WasRead (model_file model) text f mid) (is : IsOnlyModel text m) (opened : g.opens ≡ raised mid.opens) where
-    twice : g.opens ≡ raised (raised f.opens)
-    twice = opened ∙ ap raised was.opened
+  module _ (f mid g : FilesState) (text : List ℕ) (m : ModelTree) (was : WasRead (model_file model) text f mid) (is : IsOnlyModel text m) (opened : g.opens ≡ raised mid.opens) (names : g.opened ≡ mid.opened ++ (name ∷ [])) where
+    twice : Opens (files_of (Some job)) 2 f g
+    twice = record {
+      names = names ∙ ap (λ (l : List (List ℕ)). l ++ (name ∷ [])) was.names ∙ append_assoc f.opened (model ∷ []) (name ∷ []);
+      counted = opened ∙ ap raised was.opened;
+    }
 
     opens : (s : Status) → OpensFiles (files_of (Some job)) f g s
-    opens s = record { count = 2; within = omega arith; first = λ _ _. omega arith; opened = twice }
+    opens s = record { count = 2; within = omega arith; first = λ _ _. omega arith; opens = twice }
 
     last : OpensLast (files_of (Some job)) f g (trace_file name)
-    last = record { place = 1; is = refl; opened = twice }
+    last = record { place = 1; is = refl; opens = twice }
 
     among : Contains (files_of (Some job)) (trace_file name)
     among = (1, omega arith, refl)
@@ -198,9 +206,14 @@ module _ (model name : List ℕ) (units : ℕ) where
     same_held : (o : Option (List ℕ)) → lookup mid.held name ≡ o → lookup f.held name ≡ o
     same_held o found = subst (λ (held : Entries). lookup held name ≡ o) was.held found
 
-    rose : Rose mid.faults g.faults → Rose f.faults g.faults
-    rose (inl more) = inl (omega (arith, was.faults, more))
-    rose (inr end) = inr end
+    failed : FilesFailedLast mid g → FilesFailedLast f g
+    failed x = (x.0 ∙ ap raised was.faults, x.1)
+
+    rose : FilesFailedLast mid g → Rose f.faults g.faults
+    rose x = raised_rose f.faults g.faults (failed x).0
+
+    unfailed : g.faults ≡ mid.faults → g.faults ≡ f.faults
+    unfailed kept = kept ∙ was.faults
 
     printed : (bytes : List ℕ) (status : Status) → f.told ≡ true → PrintsTraceFile f.held name units m bytes status → Prints f.held (Some job) bytes status
     printed bytes status tells prints =
@@ -211,6 +224,10 @@ module _ (model name : List ℕ) (units : ℕ) where
     same_text Q x tells =
         let there = text_in f.held job x.text x.is_text model refl in
         subst (λ (t : List ℕ). Q job t) (some_is x.text text (sym there.held ∙ was.content tells)) x.holds
+
+    -- the text of the model is not refused
+    accepted_so : {X : Type 0} → IsNoModel (Some job) f.held → f.told ≡ true → X
+    accepted_so none tells = let x = same_text (λ j t. (r : Refusal) × IsRefused t r) (refused_in f.held job none) tells in absurd (is.unrefused x.0 x.1)
 
     -- a replay of these files is one of this model, with these units
     record IsHere (x : HasTrace f.held job text) (t : List ℕ) : Type 0 where
@@ -250,29 +267,31 @@ module _ (model name : List ℕ) (units : ℕ) where
     missing_trace : {X : Type 0} (x : HasTrace f.held job text) → lookup f.held name ≡ None → X
     missing_trace x missing = let none : None ≡ Some x.trace = sym missing ∙ trace_held x in cc
 
-    long_trace : {X : Type 0} (x : HasTrace f.held job text) → Exceeds (lookup f.held name) TRACE_LIMIT → X
+    long_trace : {X : Type 0} (x : HasTrace f.held job text) → Exceeds (lookup f.held name) trace_limit → X
     long_trace x exceeds =
         let same : length x.trace ≡ length exceeds.0 = ap (λ (l : List ℕ). length l) (some_is x.trace exceeds.0 (sym (trace_held x) ∙ exceeds.1)) in
         absurd (omega (arith, same, x.short, exceeds.2))
 
-    wants_fault : Rose mid.faults g.faults ⊎ ((mid.told ≡ true) × (lookup mid.held name ≡ None)) → Wants (Some job) f g (read_fault_line name) ReadFault
+    wants_fault : FilesFailedLast mid g ⊎ ((g.faults ≡ mid.faults) × LacksName mid name) → Wants (Some job) f g (read_fault_line name) ReadFault
     wants_fault cause = record {
-      prints = λ tells unless. ⊎_elim (λ x. absurd (unless (refl, rose x))) (λ x. prints tells (same_held None x.1)) cause;
+      prints = λ tells unless. ⊎_elim (λ x. absurd (unless (refl, rose x))) (λ x. prints tells (same_held None x.1.1)) cause;
       fault = λ _ _. line;
-      front = λ tells. ⊎_elim (λ x. inr (rose x, line)) (λ x. inl (prints tells (same_held None x.1))) cause;
+      front = λ tells. ⊎_elim (λ x. inr (rose x, line)) (λ x. inl (prints tells (same_held None x.1.1))) cause;
       opens = opens;
       ends = promises.read_fault job (trace_file name) among;
       model_refused = λ _ is. cc;
+      no_model = λ none tells _. accepted_so none tells;
       deadlock = λ _ is. cc;
       model_fault = λ _ is. cc;
       choice_refused = λ _ is. cc;
-      run_end = λ e ends tells unless. ⊎_elim (λ x. absurd (unless (refl, rose x))) (λ x. missing_trace (run_told e ends tells).replay (same_held None x.1)) cause;
+      run_end = λ e ends tells unless. ⊎_elim (λ x. absurd (unless (refl, rose x))) (λ x. missing_trace (run_told e ends tells).replay (same_held None x.1.1)) cause;
       trace_refused = λ _ is. cc;
-      no_trace = λ none tells unless. ⊎_elim (λ x. absurd (unless (refl, rose x))) (λ x. missing_trace (none_told none tells).replay (same_held None x.1)) cause;
+      no_trace = λ none tells unless. ⊎_elim (λ x. absurd (unless (refl, rose x))) (λ x. missing_trace (none_told none tells).replay (same_held None x.1.1)) cause;
       trace_opened = λ tells _. accepted tells;
       too_long = λ is. cc;
       longer = λ _ is. cc;
-      read_cause = λ _. ⊎_elim (λ x. inl (rose x)) (λ x. inr (sym was.told ∙ x.0, (trace_file name, among, same_held None x.1))) cause;
+      read_cause = λ _. ⊎_elim (λ x. inl (rose x)) (λ x. inr (sym was.told ∙ x.1.0, (trace_file name, among, same_held None x.1.1))) cause;
+      reading = λ differ. ⊎_elim (λ x. (failed x, refl)) (λ x. absurd (differ (unfailed x.0))) cause;
     }
       where
         prints : f.told ≡ true → lookup f.held name ≡ None → Prints f.held (Some job) (read_fault_line name) ReadFault
@@ -282,14 +301,15 @@ module _ (model name : List ℕ) (units : ℕ) where
         line : IsFaultLine (files_of (Some job)) f g (read_fault_line name)
         line = record { file = trace_file name; last = last; line = refl }
 
-    wants_long : TRACE_LIMIT < g.handed → (mid.told ≡ true → Exceeds (lookup mid.held name) TRACE_LIMIT) → Wants (Some job) f g (too_long_line name) TooLong
-    wants_long handed exceeds = record {
+    wants_long : g.faults ≡ mid.faults → trace_limit < g.handed → (mid.told ≡ true → Exceeds (lookup mid.held name) trace_limit) → Wants (Some job) f g (too_long_line name) TooLong
+    wants_long kept handed exceeds = record {
       prints = λ tells _. prints tells;
       fault = λ is _. cc;
       front = λ tells. inl (prints tells);
       opens = opens;
       ends = promises.too_long job (trace_file name) among;
       model_refused = λ _ is. cc;
+      no_model = λ none tells _. accepted_so none tells;
       deadlock = λ _ is. cc;
       model_fault = λ _ is. cc;
       choice_refused = λ _ is. cc;
@@ -300,9 +320,10 @@ module _ (model name : List ℕ) (units : ℕ) where
       too_long = λ _. (trace_file name, last, handed);
       longer = λ tells _. (trace_file name, among, long_here tells);
       read_cause = λ is. cc;
+      reading = λ differ. absurd (differ (unfailed kept));
     }
       where
-        long_here : f.told ≡ true → Exceeds (lookup f.held name) TRACE_LIMIT
+        long_here : f.told ≡ true → Exceeds (lookup f.held name) trace_limit
         long_here tells = let x = exceeds (told_mid tells) in (x.0, same_held (Some x.0) x.1, x.2)
 
         prints : f.told ≡ true → Prints f.held (Some job) (too_long_line name) TooLong
@@ -311,7 +332,7 @@ module _ (model name : List ℕ) (units : ℕ) where
             printed (too_long_line name) TooLong tells
             (subst (λ (o : Option (List ℕ)). PrintsFile (trace_file name) (PrintsReplay units m) o (too_long_line name) TooLong) (sym x.1) (too_long x.0 x.2))
 
-    module _ (t : List ℕ) (short : length t ≤ TRACE_LIMIT) (held : mid.told ≡ true → lookup mid.held name ≡ Some t) where
+    module _ (t : List ℕ) (kept : g.faults ≡ mid.faults) (short : length t ≤ trace_limit) (held : mid.told ≡ true → lookup mid.held name ≡ Some t) where
       found : f.told ≡ true → lookup f.held name ≡ Some t
       found tells = same_held (Some t) (held (told_mid tells))
 
@@ -335,6 +356,7 @@ module _ (model name : List ℕ) (units : ℕ) where
         opens = opens;
         ends = end.can;
         model_refused = end.model_refused;
+        no_model = λ none tells _. accepted_so none tells;
         deadlock = end.deadlock;
         model_fault = end.model_fault;
         choice_refused = end.choice_refused;
@@ -345,6 +367,7 @@ module _ (model name : List ℕ) (units : ℕ) where
         too_long = λ is. absurd (end.not_long is);
         longer = λ _ is. absurd (end.not_long is);
         read_cause = λ is. absurd (end.no_fault is);
+        reading = λ differ. absurd (differ (unfailed kept));
       }
         where
           prints : f.told ≡ true → Prints f.held (Some job) bytes wanted
@@ -360,20 +383,20 @@ module _ (model name : List ℕ) (units : ℕ) where
               x.only run.0 ∙ ap status_of run.1
 
     module _ (before now : SinkState) (given : Status) where
-      keeps_none : NothingWritten before now given → KeepsPromises (Some job) f g before now given
-      keeps_none none = keeps_nothing (Some job) f g before now given (opens given) (λ tells _. accepted tells) none
+      keeps_none : g.faults ≡ mid.faults → NothingWritten before now given → KeepsPromises (Some job) f g before now given
+      keeps_none kept none = keeps_nothing (Some job) f g before now given (opens given) (λ tells _. accepted tells) (unfailed kept) none
 
-      keeps_trace : (t : List ℕ) → length t ≤ TRACE_LIMIT → (mid.told ≡ true → lookup mid.held name ≡ Some t) → Answers (PrintsTrace units m t) before now given → KeepsPromises (Some job) f g before now given
-      keeps_trace t short held (inl none) = keeps_none none
-      keeps_trace t short held (inr says) = keeps (Some job) f g before now says.bytes says.wanted given (wants_trace t short held says.bytes says.wanted says.prints) says.said
+      keeps_trace : (t : List ℕ) → g.faults ≡ mid.faults → length t ≤ trace_limit → (mid.told ≡ true → lookup mid.held name ≡ Some t) → Answers (PrintsTrace units m t) before now given → KeepsPromises (Some job) f g before now given
+      keeps_trace t kept short held (inl none) = keeps_none kept none
+      keeps_trace t kept short held (inr says) = keeps (Some job) f g before now says.bytes says.wanted given (wants_trace t kept short held says.bytes says.wanted says.prints) says.said
 
       keeps_outcome : FileOutcome (trace_file name) (PrintsTrace units m) mid g before now given → KeepsPromises (Some job) f g before now given
-      keeps_outcome (wanting none) = keeps_none none
+      keeps_outcome (wanting kept none) = keeps_none kept none
       keeps_outcome (fault cause said) = keeps (Some job) f g before now (read_fault_line name) ReadFault given (wants_fault cause) said
-      keeps_outcome (long handed exceeds said) = keeps (Some job) f g before now (too_long_line name) TooLong given (wants_long handed exceeds) said
-      keeps_outcome (whole t short held answers) = keeps_trace t short held answers
+      keeps_outcome (long kept handed exceeds said) = keeps (Some job) f g before now (too_long_line name) TooLong given (wants_long kept handed exceeds) said
+      keeps_outcome (whole t kept short held answers) = keeps_trace t kept short held answers
 
 pub keeps_replay : (f g : FilesState) (before now : SinkState) (given : Status) (model name : List ℕ) (units : ℕ)
     → ReplaysFiles model name units f g before now given → KeepsPromises (Some (Replay model name units)) f g before now given
 keeps_replay f g before now given model name units (no_model reading) = keeps_file (Replay model name units) model PrintsRefusal (refuses_file model name units) f g before now given reading
-keeps_replay f g before now given model name units (reads_on mid text m was is reading) = keeps_outcome model name units f mid g text m was is reading.opened before now given reading.outcome
+keeps_replay f g before now given model name units (reads_on mid text m was is reading) = keeps_outcome model name units f mid g text m was is reading.opened reading.names before now given reading.outcome

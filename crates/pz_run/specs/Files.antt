@@ -2,7 +2,7 @@
 use Rattle.std.specs.Prelude.{ℕ, List, [], ◌∷◌, Option, Some, None}
 use Rattle.pz_words.specs.declared.jobs.Job.{Job}
 use Rattle.pz_words.specs.declared.jobs.Job.TheVariants.{Run, Menu, Replay, Check, Make, Ring}
-use Rattle.pz_run.specs.declared.limits.TheConstants.{MODEL_LIMIT, TRACE_LIMIT}
+use Rattle.pz_run.specs.Limits.{model_limit, trace_limit}
 
 -- a file, and the most bytes that it may have
 pub record JobFile : Type 0 where
@@ -10,10 +10,10 @@ pub record JobFile : Type 0 where
   pub limit : ℕ
 
 abbrev pub model_file : List ℕ → JobFile
-model_file name = record { name = name; limit = MODEL_LIMIT }
+model_file name = record { name = name; limit = model_limit }
 
 abbrev pub trace_file : List ℕ → JobFile
-trace_file name = record { name = name; limit = TRACE_LIMIT }
+trace_file name = record { name = name; limit = trace_limit }
 
 -- in their order: the model first; without a job there is none
 abbrev pub files_of : Option Job → List JobFile

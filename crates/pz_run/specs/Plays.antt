@@ -10,7 +10,7 @@ use Rattle.pz_words.specs.declared.jobs.Job.TheVariants.{Run, Menu, Replay, Chec
 use Rattle.pz_run_playing.specs.Policies.{resolver_of, policy_of}
 use Rattle.pz_run_playing.specs.Playing as playing
 use Rattle.pz_run_playing.specs.Playing.{ChosenRun}
-use Rattle.pz_run.specs.declared.limits.TheConstants.{DEPTH_LIMIT, HEIGHT_LIMIT}
+use Rattle.pz_run.specs.Limits.{depth_limit, height_limit}
 use Rattle.pz_run.specs.declared.play.Telling.{Telling}
 use Rattle.pz_run.specs.declared.play.Telling.TheVariants as telling
 use Rattle.pz_run.specs.declared.play.Play.{Play}
@@ -38,7 +38,7 @@ play_of (Ring n choice limits) = Some (play choice limits telling.Summary)
 
 -- each evaluation has so many units
 abbrev pub setting_with : ModelTree → ℕ → Setting
-setting_with m units = record { model = m; limits = record { units = units; depth = DEPTH_LIMIT; height = HEIGHT_LIMIT } }
+setting_with m units = record { model = m; limits = record { units = units; depth = depth_limit; height = height_limit } }
 
 -- those of the job
 abbrev pub setting_for : ModelTree → Play → Setting

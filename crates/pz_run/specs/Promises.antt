@@ -1,7 +1,7 @@
 -- What the top call promises, by parts: of files and of a sink at two moments, before and now. What the
 -- words ask for is a job, or none.
-use Rattle.std.specs.Prelude.{◌≡◌, ◌≢◌, ◌⊎◌, ◌<◌, ◌≤◌, ℕ, zero, suc, List, true, length, Contains, slice_get, Option, Some, None}
-use Rattle.pz_io.specs.Outside.{Entries, FilesState, SinkState, lookup, raised, Rose, Exceeds}
+use Rattle.std.specs.Prelude.{◌≡◌, ◌≢◌, ◌⊎◌, ◌<◌, ◌≤◌, ℕ, zero, suc, List, [], ◌∷◌, ◌++◌, true, length, Contains, slice_get, Option, Some, None}
+use Rattle.pz_io.specs.Outside.{Entries, FilesState, SinkState, lookup, raised, Rose, FilesFailedLast, SinkFailedLast, Exceeds}
 use Rattle.pz_io.specs.Writing.{TookAll, TookFront}
 use Rattle.pz_syntax.specs.Classes.{ModelTree}
 use Rattle.pz_rules.specs.Runs.{Ending}
@@ -13,13 +13,19 @@ use Rattle.pz_run_reading.specs.declared.refusal.Refusal.{Refusal}
 use Rattle.pz_run_reading.specs.Models.{IsModelOf}
 use Rattle.pz_run_reading.specs.Refusals.{IsRefused}
 use Rattle.pz_run_lines.specs.Lines.{read_fault_line}
-use Rattle.pz_run.specs.declared.limits.TheConstants.{MODEL_LIMIT, TRACE_LIMIT}
+use Rattle.pz_run.specs.Limits.{model_limit, trace_limit}
 use Rattle.pz_run.specs.declared.play.Play.{Play}
 use Rattle.pz_run.specs.declared.status.Status.{Status}
 use Rattle.pz_run.specs.declared.status.Status.TheVariants.{Done, Deadlock, Usage, ModelRefused, ModelFault, ChoiceRefused, TraceRefused, TooLong, ReadFault, WriteFault, NoMemory}
 use Rattle.pz_run.specs.Files.{JobFile, files_of}
 use Rattle.pz_run.specs.Plays.{play_of, setting_with, RunOf}
 use Rattle.pz_run.specs.Output.{Prints}
+
+-- The call came through: no write failed, memory was not wanting, and the files did not fail.
+pub record CameThrough (before now : FilesState) (status : Status) : Type 0 where
+  pub written : status ≢ WriteFault
+  pub ample : status ≢ NoMemory
+  pub read : ¬ ((status ≡ ReadFault) × Rose before.faults now.faults)
 
 -- the status is the one that goes with what is to be printed, which a sink that tells has taken since
 pub record PrintsAll (a : Option Job) (held : Entries) (before now : SinkState) (status : Status) : Type 0 where
@@ -39,19 +45,42 @@ abbrev pub raised_by : ℕ → ℕ → ℕ
 raised_by zero count = count
 raised_by (suc n) count = raised_by n (raised count)
 
--- The files of a job were opened in their order, each once at most, and the first for certain unless
--- memory was wanting before. Without a file nothing was opened.
+-- the names of the first so many files
+abbrev pub first_names : ℕ → List JobFile → List (List ℕ)
+first_names zero files = []
+first_names (suc count) [] = []
+first_names (suc count) (file ∷ files) = file.name ∷ first_names count files
+
+-- The first so many of these files were opened, in their order, each once, and no other file.
+pub record Opens (files : List JobFile) (count : ℕ) (before now : FilesState) : Type 0 where
+  pub names : now.opened ≡ before.opened ++ first_names count files
+  pub counted : now.opens ≡ raised_by count before.opens
+
+-- So it is of the files of a job, and the first was opened for certain unless memory was wanting before.
+-- Without a file nothing was opened.
 pub record OpensFiles (files : List JobFile) (before now : FilesState) (status : Status) : Type 0 where
   pub count : ℕ
   pub within : count ≤ length files
   pub first : status ≢ NoMemory → 0 < length files → 0 < count
-  pub opened : now.opens ≡ raised_by count before.opens
+  pub opens : Opens files count before now
 
--- so many files were opened that this one is the last of them
+-- this file is the last that was opened
 pub record OpensLast (files : List JobFile) (before now : FilesState) (file : JobFile) : Type 0 where
   pub place : ℕ
   pub is : slice_get files place ≡ Some file
-  pub opened : now.opens ≡ raised_by (suc place) before.opens
+  pub opens : Opens files (suc place) before now
+
+-- The files failed: in their last call, so that nothing more was asked of them, and the status says it,
+-- unless a write failed or memory was wanting.
+pub record EndsReading (before now : FilesState) (status : Status) : Type 0 where
+  pub last : FilesFailedLast before now
+  pub said : status ≢ WriteFault → status ≢ NoMemory → status ≡ ReadFault
+
+-- Of a call that wrote: no write failed; or one did, in the last call of the sink, so that nothing was
+-- written after it.
+pub record EndsWriting (before now : SinkState) (status : Status) : Type 0 where
+  pub kept : status ≢ WriteFault → now.faults ≡ before.faults
+  pub last : status ≡ WriteFault → SinkFailedLast before now
 
 -- the bytes taken since are the line of a read fault, which names the last file that was opened
 pub record SaysFault (files : List JobFile) (f g : FilesState) (before now : SinkState) : Type 0 where
@@ -105,7 +134,7 @@ stations_of (Ring n choice limits) = Some n
 
 -- the text of the model of a job: that of its file, within the limit, or of a ring
 pub data IsTextFor (files : Entries) : Job → List ℕ → Type 0 where
-  of_file : (job : Job) (name text : List ℕ) → model_name job ≡ Some name → lookup files name ≡ Some text → length text ≤ MODEL_LIMIT → IsTextFor files job text
+  of_file : (job : Job) (name text : List ℕ) → model_name job ≡ Some name → lookup files name ≡ Some text → length text ≤ model_limit → IsTextFor files job text
   of_ring : (job : Job) (n : ℕ) → stations_of job ≡ Some n → IsTextFor files job (ring_text n)
 
 -- the text of the model is refused
@@ -143,7 +172,7 @@ pub record HasTrace (files : Entries) (job : Job) (text : List ℕ) : Type 0 whe
   pub is_replay : job ≡ Replay model_word trace_word units
   pub trace : List ℕ
   pub held : lookup files trace_word ≡ Some trace
-  pub short : length trace ≤ TRACE_LIMIT
+  pub short : length trace ≤ trace_limit
   pub model : ModelTree
   pub is_model : IsModelOf text model
 

@@ -1,9 +1,8 @@
--- The job that the words of a command line ask for.
+-- What holds of the job that the words of a command line ask for, or of none.
 use Rattle.std.specs.Prelude.{ℕ, List, Option}
 use Rattle.pz_words.specs.declared.jobs.Job.{Job}
-use Rattle.pz_words.specs.devices.Reading.{job_in}
+use Rattle.pz_words.specs.Jobs.{IsAsked}
 
--- The job is computed word by word. That it is the one for which the words ask, by the rules of command
--- lines (`Asks` of `pz_words`), is the law `job_is_computed` of that crate.
-abbrev pub asked : List (List ℕ) → Option Job
-asked words = job_in words
+-- There is one such job, or there is none: that is a law of `pz_words`.
+abbrev pub OfAsked : List (List ℕ) → (Option Job → Type 0) → Type 0
+OfAsked words P = (a : Option Job) → IsAsked words a → P a

@@ -1,12 +1,12 @@
 // The top call.
-ghost use Rattle.std.specs.Prelude.{◌≡◌, ◌≢◌, ◌⊎◌, ◌<◌, ◌+◌, ℕ, true, None, map, string_bytes};
+ghost use Rattle.std.specs.Prelude.{◌≡◌, ◌≢◌, ◌⊎◌, ◌<◌, ◌+◌, ℕ, true, None, length, map, string_bytes};
 ghost use Rattle.pz_io.specs.Outside.{Rose};
 ghost use Rattle.pz_offer.specs.declared.trouble.Trouble.{Trouble};
 ghost use Rattle.pz_rules.specs.Runs.{Ending, deadlocked, troubled, refused};
-ghost use Rattle.pz_run.specs.Words.{asked};
+ghost use Rattle.pz_run.specs.Words.{OfAsked};
 ghost use Rattle.pz_run.specs.Files.{files_of};
 ghost use Rattle.pz_run.specs.Status.{status_of};
-ghost use Rattle.pz_run.specs.Promises.{PrintsAll, PrintsFront, OpensFiles, SaysFault, IsPastLimit, Lacks, IsLonger, IsNoModel, HasModelText, RunEnds, IsNoTrace, CanEnd};
+ghost use Rattle.pz_run.specs.Promises.{CameThrough, PrintsAll, PrintsFront, OpensFiles, EndsReading, EndsWriting, SaysFault, IsPastLimit, Lacks, IsLonger, IsNoModel, HasModelText, RunEnds, IsNoTrace, CanEnd};
 ghost use Rattle.pz_run.specs.devices.Keeping.{KeepsPromises};
 
 use crate::Status;
@@ -14,7 +14,7 @@ use crate::doing::do_job;
 use crate::printing::say;
 use pz_io::{Files, Sink};
 use pz_run_lines::usage_line;
-use pz_words::{job_is_computed, read_words};
+use pz_words::read_words;
 use std::alloc::Global;
 
 /// Does the job that the words ask for, over the files, and prints to the sink.
@@ -38,79 +38,94 @@ pub fn run_program<F: Files, W: Sink>(
     files: &mut F,
     out: &mut W,
 ) -> Status
-    // The status, and what is printed, are those of the definitions: the text of the run of a sound model
-    // that the words choose, or a trace tells, by the rules, or what else is to be said.
-    ensures output { (F.state files.old).told ≡ true → result ≢ Status.WriteFault →
-        result ≢ Status.NoMemory → ¬ ((result ≡ Status.ReadFault)
-        × Rose (F.state files.old).faults (F.state files.new).faults) →
-        PrintsAll (asked (map string_bytes words.now)) (F.state files.old).held (W.state out.old)
-        (W.state out.new) result }
+    // What holds of the job that the words ask for, which is one or none: the status, and what is printed,
+    // are those of the definitions, the text of the run of a sound model that the words choose, or a trace
+    // tells, by the rules, or what else is to be said.
+    ensures output { OfAsked (map string_bytes words.now) (λ a.
+        (F.state files.old).told ≡ true →
+        CameThrough (F.state files.old) (F.state files.new) result →
+        PrintsAll a (F.state files.old).held (W.state out.old) (W.state out.new) result) }
     // Where the files failed, the line that says so names the last file that was opened.
-    ensures read_fault { result ≡ Status.ReadFault →
-        Rose (F.state files.old).faults (F.state files.new).faults →
-        SaysFault (files_of (asked (map string_bytes words.now))) (F.state files.old)
-        (F.state files.new) (W.state out.old) (W.state out.new) }
-    // Without a file nothing is opened, also not before the usage line.
-    ensures opens { OpensFiles (files_of (asked (map string_bytes words.now))) (F.state files.old)
-        (F.state files.new) result }
+    ensures read_fault { OfAsked (map string_bytes words.now) (λ a.
+        result ≡ Status.ReadFault → Rose (F.state files.old).faults (F.state files.new).faults →
+        SaysFault (files_of a) (F.state files.old) (F.state files.new) (W.state out.old)
+        (W.state out.new)) }
+    // The files of the job are opened in their order and no others; without a file nothing is, also not
+    // before the usage line.
+    ensures opens { OfAsked (map string_bytes words.now) (λ a.
+        OpensFiles (files_of a) (F.state files.old) (F.state files.new) result) }
     // What is printed before a write fails, or memory is wanting, is a front of what is to be printed.
-    ensures write_fault { (F.state files.old).told ≡ true → (W.state out.old).told ≡ true →
-        result ≡ Status.WriteFault → PrintsFront (asked (map string_bytes words.now))
-        (F.state files.old) (F.state files.new) (W.state out.old) (W.state out.new) }
-    ensures no_memory { (F.state files.old).told ≡ true → (W.state out.old).told ≡ true →
-        result ≡ Status.NoMemory → PrintsFront (asked (map string_bytes words.now))
-        (F.state files.old) (F.state files.new) (W.state out.old) (W.state out.new) }
+    ensures write_fault { OfAsked (map string_bytes words.now) (λ a.
+        (F.state files.old).told ≡ true → (W.state out.old).told ≡ true →
+        result ≡ Status.WriteFault →
+        PrintsFront a (F.state files.old) (F.state files.new) (W.state out.old) (W.state out.new)) }
+    ensures no_memory { OfAsked (map string_bytes words.now) (λ a.
+        (F.state files.old).told ≡ true → (W.state out.old).told ≡ true → result ≡ Status.NoMemory →
+        PrintsFront a (F.state files.old) (F.state files.new) (W.state out.old) (W.state out.new)) }
+    // After a call that failed no more is asked of the files or of the sink.
+    ensures last_read { (F.state files.new).faults ≢ (F.state files.old).faults →
+        EndsReading (F.state files.old) (F.state files.new) result }
+    ensures last_write { EndsWriting (W.state out.old) (W.state out.new) result }
 
     // When each answer comes.
-    ensures statuses { CanEnd (asked (map string_bytes words.now)) result }
-    ensures usage { result ≡ Status.Usage → asked (map string_bytes words.now) ≡ None }
-    ensures no_job { asked (map string_bytes words.now) ≡ None → result ≢ Status.WriteFault →
-        result ≢ Status.NoMemory → result ≡ Status.Usage }
-    ensures model_refused { (F.state files.old).told ≡ true → result ≡ Status.ModelRefused →
-        IsNoModel (asked (map string_bytes words.now)) (F.state files.old).held }
-    ensures deadlock { (F.state files.old).told ≡ true → result ≡ Status.Deadlock →
-        RunEnds (asked (map string_bytes words.now)) (F.state files.old).held deadlocked }
-    ensures model_fault { (F.state files.old).told ≡ true → result ≡ Status.ModelFault →
-        (trouble : Trouble) × RunEnds (asked (map string_bytes words.now)) (F.state files.old).held
-        (troubled trouble) }
-    ensures choice_refused { (F.state files.old).told ≡ true → result ≡ Status.ChoiceRefused →
-        (entry : ℕ) × (count : ℕ) × RunEnds (asked (map string_bytes words.now))
-        (F.state files.old).held (refused entry count) }
+    ensures statuses { OfAsked (map string_bytes words.now) (λ a.
+        CanEnd a result) }
+    ensures usage { OfAsked (map string_bytes words.now) (λ a.
+        result ≡ Status.Usage → a ≡ None) }
+    ensures no_job { OfAsked (map string_bytes words.now) (λ a.
+        a ≡ None → result ≢ Status.WriteFault → result ≢ Status.NoMemory →
+        result ≡ Status.Usage) }
+    // A model is refused exactly where its text is.
+    ensures model_refused { OfAsked (map string_bytes words.now) (λ a.
+        (F.state files.old).told ≡ true → result ≡ Status.ModelRefused →
+        IsNoModel a (F.state files.old).held) }
+    ensures no_model { OfAsked (map string_bytes words.now) (λ a.
+        IsNoModel a (F.state files.old).held → (F.state files.old).told ≡ true →
+        CameThrough (F.state files.old) (F.state files.new) result → result ≡ Status.ModelRefused) }
+    ensures deadlock { OfAsked (map string_bytes words.now) (λ a.
+        (F.state files.old).told ≡ true → result ≡ Status.Deadlock →
+        RunEnds a (F.state files.old).held deadlocked) }
+    ensures model_fault { OfAsked (map string_bytes words.now) (λ a.
+        (F.state files.old).told ≡ true → result ≡ Status.ModelFault →
+        (trouble : Trouble) × RunEnds a (F.state files.old).held (troubled trouble)) }
+    ensures choice_refused { OfAsked (map string_bytes words.now) (λ a.
+        (F.state files.old).told ≡ true → result ≡ Status.ChoiceRefused →
+        (entry : ℕ) × (count : ℕ) × RunEnds a (F.state files.old).held (refused entry count)) }
     // These three come exactly there: the run that is asked for, by a choice or by its trace, gives its own
     // status.
-    ensures run_end { (ending : Ending) → RunEnds (asked (map string_bytes words.now))
-        (F.state files.old).held ending → (F.state files.old).told ≡ true →
-        result ≢ Status.WriteFault → result ≢ Status.NoMemory →
-        ¬ ((result ≡ Status.ReadFault) × Rose (F.state files.old).faults (F.state files.new).faults)
-        → result ≡ status_of ending }
+    ensures run_end { OfAsked (map string_bytes words.now) (λ a.
+        (ending : Ending) → RunEnds a (F.state files.old).held ending →
+        (F.state files.old).told ≡ true →
+        CameThrough (F.state files.old) (F.state files.new) result → result ≡ status_of ending) }
     // A trace is refused exactly where it is the text of no run of the model.
-    ensures trace_refused { (F.state files.old).told ≡ true → result ≡ Status.TraceRefused →
-        IsNoTrace (asked (map string_bytes words.now)) (F.state files.old).held }
-    ensures no_trace { IsNoTrace (asked (map string_bytes words.now)) (F.state files.old).held →
-        (F.state files.old).told ≡ true → result ≢ Status.WriteFault → result ≢ Status.NoMemory →
-        ¬ ((result ≡ Status.ReadFault) × Rose (F.state files.old).faults (F.state files.new).faults)
-        → result ≡ Status.TraceRefused }
+    ensures trace_refused { OfAsked (map string_bytes words.now) (λ a.
+        (F.state files.old).told ≡ true → result ≡ Status.TraceRefused →
+        IsNoTrace a (F.state files.old).held) }
+    ensures no_trace { OfAsked (map string_bytes words.now) (λ a.
+        IsNoTrace a (F.state files.old).held → (F.state files.old).told ≡ true →
+        CameThrough (F.state files.old) (F.state files.new) result → result ≡ Status.TraceRefused) }
     // A second file is opened only once the model is accepted.
-    ensures trace_opened { (F.state files.old).told ≡ true →
-        (F.state files.old).opens + 1 < (F.state files.new).opens →
-        HasModelText (asked (map string_bytes words.now)) (F.state files.old).held }
-    ensures too_long { result ≡ Status.TooLong →
-        IsPastLimit (files_of (asked (map string_bytes words.now))) (F.state files.old)
-        (F.state files.new) }
-    ensures longer { (F.state files.old).told ≡ true → result ≡ Status.TooLong →
-        IsLonger (files_of (asked (map string_bytes words.now))) (F.state files.old).held }
-    ensures read_cause { result ≡ Status.ReadFault →
-        Rose (F.state files.old).faults (F.state files.new).faults
-        ⊎ (((F.state files.old).told ≡ true) × Lacks (files_of (asked (map string_bytes words.now)))
-        (F.state files.old).held) }
+    ensures trace_opened { OfAsked (map string_bytes words.now) (λ a.
+        (F.state files.old).told ≡ true →
+        length (F.state files.old).opened + 1 < length (F.state files.new).opened →
+        HasModelText a (F.state files.old).held) }
+    ensures too_long { OfAsked (map string_bytes words.now) (λ a.
+        result ≡ Status.TooLong → IsPastLimit (files_of a) (F.state files.old)
+        (F.state files.new)) }
+    ensures longer { OfAsked (map string_bytes words.now) (λ a.
+        (F.state files.old).told ≡ true → result ≡ Status.TooLong →
+        IsLonger (files_of a) (F.state files.old).held) }
+    ensures read_cause { OfAsked (map string_bytes words.now) (λ a.
+        result ≡ Status.ReadFault → Rose (F.state files.old).faults (F.state files.new).faults
+        ⊎ (((F.state files.old).told ≡ true) × Lacks (files_of a) (F.state files.old).held)) }
     ensures write_cause { result ≡ Status.WriteFault →
         Rose (W.state out.old).faults (W.state out.new).faults }
     // Where neither count rose, the output is whole and the status is its own, or memory was wanting.
-    ensures complete { (F.state files.old).told ≡ true →
+    ensures complete { OfAsked (map string_bytes words.now) (λ a.
+        (F.state files.old).told ≡ true →
         ¬ Rose (F.state files.old).faults (F.state files.new).faults →
         ¬ Rose (W.state out.old).faults (W.state out.new).faults → result ≢ Status.NoMemory →
-        PrintsAll (asked (map string_bytes words.now)) (F.state files.old).held (W.state out.old)
-        (W.state out.new) result }
+        PrintsAll a (F.state files.old).held (W.state out.old) (W.state out.new) result) }
 {
     run_words(alloc, words, files, out)
 }
@@ -122,10 +137,13 @@ fn run_words<F: Files, W: Sink>(
     files: &mut F,
     out: &mut W,
 ) -> Status
-    ensures { KeepsPromises (asked (map string_bytes words.now)) (F.state files.old)
-        (F.state files.new) (W.state out.old) (W.state out.new) result }
+    ensures kept { OfAsked (map string_bytes words.now) (λ a.
+        KeepsPromises a (F.state files.old) (F.state files.new) (W.state out.old) (W.state out.new)
+        result) }
+    ensures reading { (F.state files.new).faults ≢ (F.state files.old).faults →
+        EndsReading (F.state files.old) (F.state files.new) result }
+    ensures writing { EndsWriting (W.state out.old) (W.state out.new) result }
 {
-    job_is_computed();
     match read_words(alloc, words) {
         Ok(Some(job)) => do_job(alloc, job, files, out),
         Ok(None) => say(out, usage_line(), Status::Usage),

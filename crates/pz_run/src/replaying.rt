@@ -59,6 +59,7 @@ fn replay_text<F: Files, W: Sink>(
         (W.state out.new) result text.now }
 {
     traces_are_known();
+    pz_run_reading::laws::one_model();
     match read_model(alloc, text) {
         Ok(checked) => replay_model(alloc, checked, trace, units, files, out),
         Err(error) => say_refused(alloc, error, out),

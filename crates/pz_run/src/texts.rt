@@ -17,8 +17,8 @@ pub fn run_text<W: Sink>(alloc: Global, text: &[u8], play: Play, out: &mut W) ->
     requires { length text.now < 2 ^ 32 - 1 }
     ensures { Answers (PrintsPlay play text.now) (W.state out.old) (W.state out.new) result }
 {
-    pz_rules::laws::one_chosen_run();
-    pz_rules::laws::what_fits_goes_on();
+    pz_run_playing::laws::one_run();
+    pz_run_reading::laws::one_model();
     match read_model(alloc, text) {
         Ok(checked) => run_model(alloc, checked, play, out),
         Err(error) => say_refused(alloc, error, out),
@@ -30,6 +30,7 @@ pub fn check_text<W: Sink>(alloc: Global, text: &[u8], out: &mut W) -> Status
     requires { length text.now < 2 ^ 32 - 1 }
     ensures { Answers (PrintsCheck text.now) (W.state out.old) (W.state out.new) result }
 {
+    pz_run_reading::laws::one_model();
     match measure(alloc, text) {
         Ok(size) => say_made(out, accepted_line(alloc, size), Status::Done),
         Err(error) => say_refused(alloc, error, out),

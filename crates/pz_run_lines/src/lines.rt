@@ -54,7 +54,8 @@ pub fn model_refused_line(alloc: Global, refusal: Refusal) -> Result<Vec<u8>, Al
 
 // The kind is the rule by its number.
 fn rule_line(alloc: Global, violation: Violation) -> Result<Vec<u8>, AllocError>
-    ensures { IfOk result (λ line. line.items ≡ lines.kind_line (lines.rule_name violation.rule) violation.pos) }
+    ensures { IfOk result (λ line. line.items ≡ lines.kind_line
+        (lines.rule_name violation.rule) violation.pos) }
 {
     let rule = violation.rule;
     let kind = format!(in alloc; "C{rule}")?;

@@ -7,4 +7,5 @@ pub mod Goings
 pub mod Told
 pub mod Ends
 pub mod LastLines
+pub mod OneRun
 pub mod WholeRuns

@@ -7,9 +7,9 @@ use Rattle.pz_rules.specs.declared.action.Action.{Action}
 use Rattle.pz_rules.specs.declared.moment.Moment.{Moment}
 use Rattle.pz_rules.specs.declared.moment.Moment.TheVariants.{Actions, Time, Stopped, Broken}
 use Rattle.pz_trace.specs.Named.{IsNamed}
-use Rattle.pz_term.specs.Simulations.{Simulation, stands, broken, IsMomentOf, AreOffersOf, ClockIs, setting_in, model_in, clock_in}
+use Rattle.pz_term.specs.Simulations.{Simulation, stands, broken, IsMomentOf, AreOffersOf, ClockIs, model_in, clock_in}
 use Rattle.pz_term.specs.Refusals.{NoTime}
-use Rattle.pz_term.specs.Laws.{OneMomentOf}
+use Rattle.pz_term.specs.Laws.{OneMomentOf, IsDerivedIn}
 use Rattle.pz_run_playing.specs.devices.Known.{Known}
 use Rattle.pz_run_playing.specs.devices.Rests.{IsReady}
 
@@ -39,8 +39,11 @@ pub clock_of_ready : (s : Simulation) (clock : ℕ) → IsReady s → ClockIs s 
 clock_of_ready (stands setting c standing) clock ready at = at
 clock_of_ready (broken setting) clock ready at = absurd ready
 
+named_by : Known → (s : Simulation) (a : Action) (net : Net) → ∥ IsNet (model_in s) net ∥₁ → IsDerivedIn s a → IsNamed net a
+named_by known (stands setting c standing) a net is_net derived = known.offers_named setting c net a is_net derived
+named_by known (broken setting) a net is_net derived = absurd derived
+
 -- an offer names what is there
 pub named_here : Known → (s : Simulation) (offers : List Action) (k : ℕ) (a : Action) (net : Net) → AreOffersOf s offers → k < length offers → a ≡ get_or offers k a → ∥ IsNet (model_in s) net ∥₁ → IsNamed net a
 named_here known s offers k a net are within is is_net =
-    let offer = known.offers_derived s offers are k a within in
-    subst (IsNamed net) (sym is) (known.offers_named (setting_in s) offer.0 net (get_or offers k a) is_net offer.1)
+    subst (IsNamed net) (sym is) (named_by known s (get_or offers k a) net is_net (known.offers_derived s offers are k a within))

@@ -1,6 +1,7 @@
--- Laws of the texts of runs.
+-- Laws of runs that are chosen, and of their texts.
 use Rattle.std.specs.Prelude.{◌≡◌, ℕ, List}
 use Rattle.pz_syntax.specs.Classes.{ModelTree}
+use Rattle.pz_classes.specs.Soundness.{IsSound}
 use Rattle.pz_rules.specs.Settings.{Setting}
 use Rattle.pz_rules.specs.Runs.{Event}
 use Rattle.pz_rules.specs.ChosenRuns.{Policy}
@@ -8,6 +9,11 @@ use Rattle.pz_trace.specs.declared.ending.Ending.{Ending}
 use Rattle.pz_trace.specs.TraceText.{trace_text, run_ending, IsTrace}
 use Rattle.pz_run_playing.specs.RunText.{run_text}
 use Rattle.pz_run_playing.specs.Playing.{ChosenRun}
+
+-- a policy chooses one run of a sound model: its events, the configuration at its end, and its ending
+abbrev pub HasOneRun : Type 0
+HasOneRun = (setting : Setting) (policy : Policy) → IsSound setting.model → (x y : ChosenRun setting policy)
+    → (x.events ≡ y.events) × (x.end ≡ y.end) × (x.ending ≡ y.ending)
 
 -- unless an entry is refused, the text of a run is that of a trace
 abbrev pub RunTextsAreTraceTexts : Type 0

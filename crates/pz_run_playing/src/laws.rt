@@ -1,7 +1,16 @@
 // Laws, each the contract of a function that does nothing.
 
-ghost use Rattle.pz_run_playing.specs.Laws.{RunTextsAreTraceTexts, ChosenRunsAreTraces};
+ghost use Rattle.pz_run_playing.specs.Laws.{HasOneRun, RunTextsAreTraceTexts, ChosenRunsAreTraces};
 ghost use Rattle.pz_run_playing.specs.devices.Known.{Known};
+
+/// A policy chooses one run of a sound model: it has one list of events, one configuration at its end,
+/// and one ending.
+pub fn one_run()
+    ensures { HasOneRun }
+{
+    pz_rules::laws::one_chosen_run();
+    pz_rules::laws::what_fits_goes_on();
+}
 
 /// The text of a run in which no entry is refused is a trace of the model.
 pub fn run_texts_are_traces()

@@ -38,7 +38,8 @@ pub(crate) struct Played {
     pub passes: u128,
 }
 
-// Tells the passing of time that comes now, and lets it pass.
+// Tells the passing of time that comes now, and lets it pass. Nothing that is promised depends on which is
+// first, here and in `act`.
 fn pass<W: Sink>(
     alloc: Global,
     plain: &mut Plain,

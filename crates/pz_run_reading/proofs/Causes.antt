@@ -11,7 +11,8 @@ use Rattle.pz_lexer.specs.Tokens.{AreTokens}
 use Rattle.pz_lexer.specs.Tokens as tokens
 use Rattle.pz_parser.specs.declared.error.ParseError.{ParseError}
 use Rattle.pz_parser.specs.declared.error.ParseError.TheVariants as parse
-use Rattle.pz_parser.specs.Parsing.{IsTextOf, MayRefuse}
+use Rattle.pz_parser.specs.Cuts.{Refuses}
+use Rattle.pz_parser.specs.Parsing.{IsTextOf}
 use Rattle.pz_check_violations.specs.declared.violation.Violation.{Violation}
 use Rattle.pz_check_violations.specs.Order.{IsLeast}
 use Rattle.pz_classes.specs.declared.error.BuildError.{BuildError}
@@ -52,7 +53,7 @@ lexer_cause text (lex.BadNumber at) (inr is) = no_tokens (lex.BadNumber at) (ref
 
 module _ (text : List ℕ) (ts : List Token) (are : AreTokens text ts) where
   -- the tokens have no tree
-  pub parser_cause : (e : ParseError) → ((t : ModelTree) → IsTextOf nesting_limit ts t → e ≡ parse.NoMemory) → MayRefuse nesting_limit ts (end_of text) e → OnRefused (IsRefused text) (of_parser e)
+  pub parser_cause : (e : ParseError) → ((t : ModelTree) → IsTextOf nesting_limit ts t → e ≡ parse.NoMemory) → Refuses nesting_limit ts (end_of text) e → OnRefused (IsRefused text) (of_parser e)
   parser_cause parse.NoMemory only may = tt
   parser_cause (parse.Syntax at) only may = no_tree ts (parse.Syntax at) (refusal.Syntax at) are (λ t is. let e = only t is in cc) may (syntax at)
   parser_cause (parse.TooNested at) only may = no_tree ts (parse.TooNested at) (refusal.TooNested at) are (λ t is. let e = only t is in cc) may (too_nested at)

@@ -3,4 +3,5 @@ pub mod FewMarks
 pub mod Merely
 pub mod Trees
 pub mod Found
+pub mod OneModel
 mod Rows

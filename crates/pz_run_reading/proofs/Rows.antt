@@ -1,8 +1,9 @@
 -- Refusals, worked out from the definitions.
-use Rattle.std.proofs.Common.{◌≡◌, inr, List, [], ◌∷◌, refl, codes}
+use Rattle.std.proofs.Common.{◌≡◌, ℕ, zero, suc, ◌≤◌, inl, List, [], ◌∷◌, take, None, refl, arith, codes}
 use Rattle.pz_syntax.specs.declared.tokens.Pos.{Pos}
 use Rattle.pz_syntax.specs.Classes.{DeclTree, data_class, process_class, cluster_class, system, ModelTree}
-use Rattle.pz_syntax.specs.Marks.{each_text}
+use Rattle.pz_syntax.specs.declared.tokens.Keyword.TheVariants as k
+use Rattle.pz_syntax.specs.Marks.{keyword, each_text}
 use Rattle.pz_syntax.specs.ModelForm.{IsNonempty}
 use Rattle.pz_syntax.specs.ModelText.{decl_text}
 use Rattle.pz_parser_cursor.specs.devices.Input.{marks}
@@ -13,6 +14,7 @@ use Rattle.pz_lexer.specs.Pieces.{a_blank}
 use Rattle.pz_lexer.specs.Places.{origin}
 use Rattle.pz_lexer.specs.Refusals.{no_token}
 use Rattle.pz_parser.specs.declared.error.ParseError.TheVariants as parse
+use Rattle.pz_parser.specs.Cuts.{IsCut}
 use Rattle.pz_parser.specs.Parsing.{IsTextOf}
 use Rattle.pz_run_reading.specs.Models.{nesting_limit}
 use Rattle.pz_run_reading.specs.Refusals.{IsRefused, no_tokens, no_tree, bad_byte, syntax}
@@ -46,7 +48,16 @@ no_text (system d ∷ ds) some e = cc
 no_model : (t : ModelTree) → ¬ IsTextOf nesting_limit [] t
 no_model t is = no_text t.decls is.0.0 is.2
 
+-- nothing may stand of a model
+system_alone : ModelTree
+system_alone = record { decls = system (record { pos = origin; instances = None; channels = None }) ∷ [] }
+
+nothing_cut : (n : ℕ) → n ≤ 0 → IsCut nesting_limit (take n [])
+unfolding system_alone
+nothing_cut zero le = inl (system_alone, keyword k.System ∷ [], (tt, (tt, tt)), omega arith, refl)
+nothing_cut (suc n) le = absurd (omega (arith, le))
+
 -- no text at all
 empty : IsRefused [] (refusal.Syntax origin)
 empty =
-    no_tree [] (parse.Syntax origin) (refusal.Syntax origin) (record { pieces = []; spelling = refl; cut = tt; kept = refl }) no_model (inr refl) (syntax origin)
+    no_tree [] (parse.Syntax origin) (refusal.Syntax origin) (record { pieces = []; spelling = refl; cut = tt; kept = refl }) no_model (0, (omega arith, nothing_cut, λ lt c. absurd (omega (arith, lt))), refl, λ depth lt c. absurd (omega (arith, lt))) (syntax origin)

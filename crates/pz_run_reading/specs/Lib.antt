@@ -2,4 +2,5 @@ pub mod Models
 pub mod Refusals
 pub mod Sizes
 pub mod Answers
+pub mod Laws
 pub mod devices

@@ -11,7 +11,8 @@ use Rattle.pz_lexer.specs.Tokens as tokens
 use Rattle.pz_lexer.specs.Places.{origin, place_after}
 use Rattle.pz_parser.specs.declared.error.ParseError.{ParseError}
 use Rattle.pz_parser.specs.declared.error.ParseError.TheVariants as parse
-use Rattle.pz_parser.specs.Parsing.{IsTextOf, MayRefuse}
+use Rattle.pz_parser.specs.Cuts.{Refuses}
+use Rattle.pz_parser.specs.Parsing.{IsTextOf}
 use Rattle.pz_check_violations.specs.declared.violation.Violation.{Violation}
 use Rattle.pz_check_violations.specs.Order.{IsLeast}
 use Rattle.pz_classes.specs.Violations.{Violates}
@@ -44,7 +45,7 @@ pub data IsViolation (t : ModelTree) : Violation → Type 0 where
 pub data IsRefused (text : List ℕ) : Refusal → Type 0 where
   -- the text has no tokens
   no_tokens : (error : LexError) (r : Refusal) → tokens.IsRefused text error → IsOfLexer error r → IsRefused text r
-  -- the tokens are those of no tree; the refusal is one that the parser may give for them
-  no_tree : (ts : List Token) (error : ParseError) (r : Refusal) → AreTokens text ts → ((t : ModelTree) → ¬ IsTextOf nesting_limit ts t) → MayRefuse nesting_limit ts (end_of text) error → IsOfParser error r → IsRefused text r
+  -- the tokens are those of no tree; the refusal says where they cease to be those of one
+  no_tree : (ts : List Token) (error : ParseError) (r : Refusal) → AreTokens text ts → ((t : ModelTree) → ¬ IsTextOf nesting_limit ts t) → Refuses nesting_limit ts (end_of text) error → IsOfParser error r → IsRefused text r
   -- the tree violates a rule
   violates : (ts : List Token) (t : ModelTree) (v : Violation) → AreTokens text ts → IsTreeOf ts t → IsViolation t v → IsRefused text (refusal.Violates v)

@@ -39,7 +39,8 @@ fn read_net(alloc: Global, text: &[u8]) -> Result<FlatModel, ReadModelError>
 pub fn measure(alloc: Global, text: &[u8]) -> Result<Size, ReadModelError>
     requires { length text.now < 2 ^ 32 - 1 }
     ensures found { IfOk result (λ size. IsAccepted text.now size.processes size.wires) }
-    ensures only { (m : ModelTree) → IsModelOf text.now m → IfErr result (λ e. e ≡ ReadModelError.NoMemory) }
+    ensures only { (m : ModelTree) → IsModelOf text.now m →
+        IfErr result (λ e. e ≡ ReadModelError.NoMemory) }
     ensures refused { IfErr result (OnRefused (IsRefused text.now)) }
 {
     let flat = read_net(alloc, text)?;

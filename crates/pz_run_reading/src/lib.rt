@@ -4,6 +4,7 @@
 
 mod flat_model;
 mod flattening;
+pub mod laws;
 mod read_error;
 mod reading;
 mod refusal;

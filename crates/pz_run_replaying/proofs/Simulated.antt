@@ -16,7 +16,8 @@ use Rattle.pz_rules.specs.Runs.{Standing, whole, stopped, IsChoice}
 use Rattle.pz_trace.specs.declared.ending.Ending.{Ending}
 use Rattle.pz_trace.specs.declared.ending.Ending.TheVariants as ending
 use Rattle.pz_trace.specs.Named.{IsNamed, IsNamedAtEnd}
-use Rattle.pz_term.specs.Simulations.{Simulation, stands, broken, IsMomentOf, AreOffersOf, ClockIs, setting_in, model_in, clock_in, IsOfferIn, IsOffer}
+use Rattle.pz_term.specs.Simulations.{Simulation, stands, broken, IsMomentOf, AreOffersOf, ClockIs, model_in, clock_in, IsOfferIn, IsOffer}
+use Rattle.pz_term.specs.Laws.{IsDerivedIn}
 use Rattle.pz_run_replaying.specs.Stages.{Stage, unbegun, concluded}
 use Rattle.pz_run_replaying.specs.devices.Known.{Known}
 use Rattle.pz_run_replaying.specs.devices.Readiness.{Ready, IsReady, IsEndAt, IsLast, EndsIn, IsNamedLast}
@@ -54,11 +55,14 @@ clock_of_ready (broken setting) clock ready at = absurd ready
 
 -- Offers
 
+named_by : Known → (s : Simulation) (a : Action) (net : Net) → ∥ IsNet (model_in s) net ∥₁ → IsDerivedIn s a → IsNamed net a
+named_by known (stands setting c standing) a net is_net derived = known.offers_named setting c net a is_net derived
+named_by known (broken setting) a net is_net derived = absurd derived
+
 -- an offer names what is there
 pub named_here : Known → (s : Simulation) (offers : List Action) (k : ℕ) (a : Action) (net : Net) → AreOffersOf s offers → k < length offers → a ≡ get_or offers k a → ∥ IsNet (model_in s) net ∥₁ → IsNamed net a
 named_here known s offers k a net are within is is_net =
-    let offer = known.offers_derived s offers are k a within in
-    subst (IsNamed net) (sym is) (known.offers_named (setting_in s) offer.0 net (get_or offers k a) is_net offer.1)
+    subst (IsNamed net) (sym is) (named_by known s (get_or offers k a) net is_net (known.offers_derived s offers are k a within))
 
 some_action : Action
 some_action = Internal (record { process = 0; place = [] }) Skip (record { line = 0; column = 0 })

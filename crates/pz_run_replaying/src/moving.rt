@@ -44,7 +44,9 @@ fn wait(plain: &mut Plain, time: u128) -> Result<(), Halt>
     }
 }
 
-/// Writes the line of a move, and then makes it.
+/// Writes the line of a move, and then makes it, as a run does. Which of the two is first is not told by the
+/// clauses, and nothing that is promised depends on it: where either fails, the replay ends, a front of the
+/// text was written, and of the simulator no more is said than that its setting is the same.
 pub(crate) fn go<W: Sink>(
     plain: &mut Plain,
     step: Move,

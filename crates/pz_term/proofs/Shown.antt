@@ -39,5 +39,5 @@ offers_numbered one_list _ n k _ a now (simulations.some setting c m offers is a
 offers_numbered one_list _ n k _ a now (simulations.none s never) offer = absurd (never n now)
 
 pub offers_derived : OffersAreDerived
-offers_derived _ _ (simulations.some setting c n offers is are) k d within = (c, are.derivable k d within)
+offers_derived _ _ (simulations.some setting c n offers is are) k d within = are.derivable k d within
 offers_derived _ _ (simulations.none s never) k d within = absurd (omega (arith, within))

@@ -3,9 +3,8 @@ use Rattle.std.specs.Prelude.{◌≡◌, ◌<◌, ℕ, List, length, get_or, Som
 use Rattle.pz_rules.specs.declared.action.Action.{Action}
 use Rattle.pz_rules.specs.declared.moment.Moment.{Moment}
 use Rattle.pz_rules.specs.declared.moment.Moment.TheVariants.{Actions}
-use Rattle.pz_rules.specs.Configurations.{Config}
 use Rattle.pz_rules.specs.Offers.{Offers}
-use Rattle.pz_term.specs.Simulations.{Simulation, IsMomentOf, AreOffersOf, IsOffer, setting_in}
+use Rattle.pz_term.specs.Simulations.{Simulation, stands, broken, IsMomentOf, AreOffersOf, IsOffer}
 
 -- a simulator has no more than one moment
 abbrev pub OneMomentOf : Type 0
@@ -19,6 +18,11 @@ OffersAreCounted = (s : Simulation) (n : ℕ) (offers : List Action) → IsMomen
 abbrev pub OffersAreNumbered : Type 0
 OffersAreNumbered = (s : Simulation) (n k : ℕ) (offers : List Action) (a : Action) → IsMomentOf s (Actions n) → AreOffersOf s offers → IsOffer s k a → slice_get offers k ≡ Some a
 
+-- the rules derive the action in the configuration at which it stands
+abbrev pub IsDerivedIn : Simulation → Action → Type 0
+IsDerivedIn (stands setting c standing) a = Offers setting c a
+IsDerivedIn (broken setting) a = ⊥
+
 -- each of its offers is one by the rules
 abbrev pub OffersAreDerived : Type 0
-OffersAreDerived = (s : Simulation) (offers : List Action) → AreOffersOf s offers → (k : ℕ) (d : Action) → k < length offers → (c : Config) × Offers (setting_in s) c (get_or offers k d)
+OffersAreDerived = (s : Simulation) (offers : List Action) → AreOffersOf s offers → (k : ℕ) (d : Action) → k < length offers → IsDerivedIn s (get_or offers k d)

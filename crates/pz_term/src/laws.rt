@@ -3,7 +3,7 @@
 ghost use Rattle.pz_term.specs.Laws.{OneMomentOf, OffersAreCounted, OffersAreNumbered, OffersAreDerived};
 
 /// A simulator has no more than one moment. Its offers are as many as that counts, each has its number,
-/// and each is one by the rules.
+/// and each is one by the rules, in the configuration at which it stands.
 pub fn simulators_show_one_moment()
     ensures one { OneMomentOf }
     ensures counted { OffersAreCounted }

@@ -53,6 +53,7 @@ fn show_line(rt: &HostRuntime, topic: Topic, line: &str) -> io::Result<()> {
         Topic::Families => classes::show_refusal(rt, line),
         Topic::Rules => rules::show_rules(rt, line),
         Topic::Violations => violations::show_violation(rt, line),
+        Topic::Openings => violations::show_opening(rt, line),
         _ => Ok(()),
     }
 }

@@ -19,6 +19,8 @@ pub enum Topic {
     Rules,
     /// What the checker says of each line.
     Violations,
+    /// What the checker says of each line with the rules of opening.
+    Openings,
     /// The processes and the wires of the whole file.
     Net,
     /// How many processes and wires the whole file has.
@@ -38,6 +40,7 @@ impl Topic {
             "families" => Some(Topic::Families),
             "rules" => Some(Topic::Rules),
             "violations" => Some(Topic::Violations),
+            "openings" => Some(Topic::Openings),
             "net" => Some(Topic::Net),
             "net_size" => Some(Topic::NetSize),
             _ => None,

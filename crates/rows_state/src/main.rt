@@ -4,7 +4,7 @@
 //! A line `state N` begins a state of N variables, and the lines behind it change it, one call each;
 //! any other line has a receiver, a selector and the arguments. Object 0 is an Array of three items
 //! then, object 1 is none. Behind these rows a few states are packed and unpacked, and their parcels
-//! shown. `rows_state mixed N CHANGES`, `rows_state frames N CHANGES` and `rows_state parcels REACHED
+//! shown, and a state is filled with objects. `rows_state mixed N CHANGES`, `rows_state frames N CHANGES` and `rows_state parcels REACHED
 //! OTHERS TIMES` are benches.
 #![tactic(auto)]
 
@@ -14,6 +14,7 @@ ghost use Rattle.pz_state.specs.References.{RefersWithin};
 mod benches;
 mod changes;
 mod conditions;
+mod full;
 mod nodes;
 mod packing;
 mod parcels;
@@ -152,7 +153,8 @@ fn main(rt: HostRuntime) -> io::Result<()> {
     match words.as_slice() {
         [_] => {
             show_rows(&rt)?;
-            parcels::show_parcels(&rt)
+            parcels::show_parcels(&rt)?;
+            full::show_full(&rt)
         }
         [_, bench, size, changes] => {
             benches::show_bench(&rt, bench.as_str(), size.as_str(), changes.as_str())

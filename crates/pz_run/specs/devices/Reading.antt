@@ -1,6 +1,6 @@
 -- What was done with a file that a job reads.
-use Rattle.std.specs.Prelude.{◌≡◌, ◌⊎◌, ◌<◌, ◌≤◌, ℕ, List, true, length, Some, None}
-use Rattle.pz_io.specs.Outside.{FilesState, SinkState, lookup, raised, Rose, Exceeds}
+use Rattle.std.specs.Prelude.{◌≡◌, ◌⊎◌, ◌<◌, ◌≤◌, ℕ, List, [], ◌∷◌, ◌++◌, true, length, Some}
+use Rattle.pz_io.specs.Outside.{FilesState, SinkState, lookup, raised, LacksName, FilesFailedLast, Exceeds}
 use Rattle.pz_io.specs.declared.whole.ReadError.{ReadError}
 use Rattle.pz_io.specs.declared.whole.ReadError.TheVariants.{NoMemory, Fault, TooLong}
 use Rattle.pz_run_lines.specs.Lines.{read_fault_line, too_long_line}
@@ -18,14 +18,15 @@ SaysUnread TooLong name before now given = Said before now (too_long_line name) 
 module _ (file : JobFile) (P : List ℕ → List ℕ → Status → Type 0) (f g : FilesState) (before now : SinkState) (given : Status) where
   -- how the reading went, and what was said then; of a text that was read, what is to be printed by P
   pub data FileOutcome : Type 0 where
-    wanting : NothingWritten before now given → FileOutcome
-    fault : Rose f.faults g.faults ⊎ ((f.told ≡ true) × (lookup f.held file.name ≡ None))
+    wanting : g.faults ≡ f.faults → NothingWritten before now given → FileOutcome
+    fault : FilesFailedLast f g ⊎ ((g.faults ≡ f.faults) × LacksName f file.name)
         → Said before now (read_fault_line file.name) status.ReadFault given → FileOutcome
-    long : file.limit < g.handed → (f.told ≡ true → Exceeds (lookup f.held file.name) file.limit)
+    long : g.faults ≡ f.faults → file.limit < g.handed → (f.told ≡ true → Exceeds (lookup f.held file.name) file.limit)
         → Said before now (too_long_line file.name) status.TooLong given → FileOutcome
-    whole : (text : List ℕ) → length text ≤ file.limit → (f.told ≡ true → lookup f.held file.name ≡ Some text)
+    whole : (text : List ℕ) → g.faults ≡ f.faults → length text ≤ file.limit → (f.told ≡ true → lookup f.held file.name ≡ Some text)
         → Answers (P text) before now given → FileOutcome
 
   pub record ReadsFile : Type 0 where
     pub opened : g.opens ≡ raised f.opens
+    pub names : g.opened ≡ f.opened ++ (file.name ∷ [])
     pub outcome : FileOutcome

@@ -1,5 +1,5 @@
 -- What was done with the two files of a replay.
-use Rattle.std.specs.Prelude.{◌≡◌, ◌≤◌, ℕ, List, true, length, Some}
+use Rattle.std.specs.Prelude.{◌≡◌, ◌≤◌, ℕ, List, [], ◌∷◌, ◌++◌, true, length, Some}
 use Rattle.pz_io.specs.Outside.{FilesState, SinkState, lookup, raised}
 use Rattle.pz_syntax.specs.Classes.{ModelTree}
 use Rattle.pz_rules.specs.Settings.{Setting}
@@ -40,17 +40,19 @@ pub record PrintsTrace (units : ℕ) (m : ModelTree) (trace bytes : List ℕ) (s
   pub only : (run : IsTrace (setting_with m units) trace) → status ≡ status_of (run_ending run.ending)
   pub no_run : (IsTrace (setting_with m units) trace → ⊥) → status ≡ TraceRefused
 
--- the text has this model and no other
+-- the text has this model and no other, and is not refused
 pub record IsOnlyModel (text : List ℕ) (m : ModelTree) : Type 0 where
   pub is_model : IsModelOf text m
   pub only : (n : ModelTree) → IsModelOf text n → m ≡ n
+  pub unrefused : (r : Refusal) → IsRefused text r → ⊥
 
 -- this is the text of the file, which was read to its end
 pub record WasRead (file : JobFile) (text : List ℕ) (f g : FilesState) : Type 0 where
   pub opened : g.opens ≡ raised f.opens
+  pub names : g.opened ≡ f.opened ++ (file.name ∷ [])
   pub told : g.told ≡ f.told
   pub held : g.held ≡ f.held
-  pub faults : f.faults ≤ g.faults
+  pub faults : g.faults ≡ f.faults
   pub short : length text ≤ file.limit
   pub content : f.told ≡ true → lookup f.held file.name ≡ Some text
 

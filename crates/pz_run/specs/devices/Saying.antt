@@ -1,19 +1,19 @@
 -- What a call has done that ends with a status.
-use Rattle.std.specs.Prelude.{◌≡◌, ◌≢◌, ◌≤◌, ◌⊎◌, ℕ, List, true}
-use Rattle.pz_io.specs.Outside.{SinkState, Rose}
+use Rattle.std.specs.Prelude.{◌≡◌, ◌≢◌, ◌⊎◌, ℕ, List, true}
+use Rattle.pz_io.specs.Outside.{SinkState}
 use Rattle.pz_io.specs.Writing.{TookAll, TookFront}
 use Rattle.pz_run.specs.declared.status.Status.{Status}
 use Rattle.pz_run.specs.declared.status.Status.TheVariants.{WriteFault, NoMemory}
+use Rattle.pz_run.specs.Promises.{EndsWriting}
 
 -- the text was written, all of it unless a write failed or memory was wanting; and the status is the
 -- wanted one, or says which of these it was
 pub record Said (before now : SinkState) (text : List ℕ) (wanted given : Status) : Type 0 where
   pub tells : now.told ≡ before.told
-  pub faults : before.faults ≤ now.faults
   pub is_wanted : given ≢ WriteFault → given ≢ NoMemory → given ≡ wanted
   pub whole : before.told ≡ true → given ≢ WriteFault → given ≢ NoMemory → TookAll before now text
   pub front : before.told ≡ true → TookFront before now text
-  pub cause : given ≡ WriteFault → Rose before.faults now.faults
+  pub writing : EndsWriting before now given
 
 -- memory was wanting before anything was written
 pub record NothingWritten (before now : SinkState) (given : Status) : Type 0 where

@@ -1,5 +1,6 @@
 use Rattle.std.proofs.Common.{Some, None, refl, subst, map, string_bytes}
 use Rattle.pz_words.specs.Jobs.{IsAsked}
+use Rattle.pz_run.specs.Files.{files_of}
 use Rattle.pz_run.specs.declared.status.Status.TheVariants.{NoMemory}
 use Rattle.pz_run.proofs.Asked.{keeps_asked, found_sized}
 use Rattle.pz_run.proofs.Keeps.{keeps_usage, keeps_nothing, not_opened, opened_never}
@@ -11,17 +12,28 @@ do_job-requires g c =
     (subst (IsAsked (map string_bytes c.args.words.now)) c.in-Ok-Some.field-0-is c.in-Ok-Some.ensures.reads)
 
 pub returns-in-Ok-Some : goal.returns-in-Ok-Some
-returns-in-Ok-Some g c =
-    keeps_asked (map string_bytes c.args.words.now) (Some c.in-Ok-Some.job)
-    (subst (IsAsked (map string_bytes c.args.words.now)) c.in-Ok-Some.field-0-is c.in-Ok-Some.ensures.reads)
-    (c.job_is_computed.ensures (map string_bytes c.args.words.now)) _ _ _ _ c.do_job.result c.do_job.ensures
+returns-in-Ok-Some g c = record {
+  kept = keeps_asked (map string_bytes c.args.words.now) (Some c.in-Ok-Some.job)
+      (subst (IsAsked (map string_bytes c.args.words.now)) c.in-Ok-Some.field-0-is c.in-Ok-Some.ensures.reads)
+      _ _ _ _ c.do_job.result c.do_job.ensures;
+  reading = c.do_job.ensures.reading;
+  writing = c.do_job.ensures.writing;
+}
 
 pub returns-in-Ok-None : goal.returns-in-Ok-None
 returns-in-Ok-None g c =
-    keeps_asked (map string_bytes c.args.words.now) None
-    (subst (IsAsked (map string_bytes c.args.words.now)) c.in-Ok-None.field-0-is c.in-Ok-None.ensures.reads)
-    (c.job_is_computed.ensures (map string_bytes c.args.words.now)) _ _ _ _ c.say.result
-    (keeps_usage _ _ _ c.say.result (rw c.usage_line.ensures at c.say.ensures))
+    let kept = keeps_usage (g.F.Files.state c.args.files.now) _ _ c.say.result (rw c.usage_line.ensures at c.say.ensures) in
+    record {
+      kept = keeps_asked (map string_bytes c.args.words.now) None
+          (subst (IsAsked (map string_bytes c.args.words.now)) c.in-Ok-None.field-0-is c.in-Ok-None.ensures.reads)
+          _ _ _ _ c.say.result kept;
+      reading = kept.reading;
+      writing = kept.writing;
+    }
 
 pub returns-in-Err : goal.returns-in-Err
-returns-in-Err g c = keeps_nothing _ _ _ _ _ NoMemory (not_opened _ _) (λ _ many. opened_never _ many) (record { unchanged = refl; wanting = refl })
+returns-in-Err g c = record {
+  kept = λ a _. keeps_nothing a _ _ _ _ NoMemory (not_opened (files_of a) _) (λ _ many. opened_never _ many) refl (record { unchanged = refl; wanting = refl });
+  reading = λ differ. absurd (differ refl);
+  writing = record { kept = λ _. refl; last = λ is. cc };
+}

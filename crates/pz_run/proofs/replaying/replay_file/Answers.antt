@@ -1,7 +1,7 @@
-use Rattle.std.proofs.Common.{Err, ap}
+use Rattle.std.proofs.Common.{Err, ap, refl}
 use Rattle.pz_run.specs.Files.{model_file}
 use Rattle.pz_run.specs.devices.Replaying.{PrintsRefusal, no_model}
-use Rattle.pz_run.proofs.Unread.{unread}
+use Rattle.pz_run.proofs.Unread.{not_fault, unread}
 use Rattle.pz_run.proofs.Replayed.{from_text}
 use Rattle.pz_run.proofs.replaying.replay_file.Goals as goal
 
@@ -9,9 +9,10 @@ pub returns-in-Ok : goal.returns-in-Ok
 returns-in-Ok g c =
     from_text c.args.model.now c.args.trace.now c.args.units _ _ _ _ _ c.replay_text.result c.as_slice.result.now (record {
       opened = c.in-Ok.ensures.opens;
+      names = c.in-Ok.ensures.opened;
       told = c.in-Ok.ensures.told;
       held = c.in-Ok.ensures.held;
-      faults = c.in-Ok.ensures.faults;
+      faults = c.in-Ok.ensures.counted refl;
       short = rw c.as_slice.ensures.value c.in-Ok.ensures.limit;
       content = λ told. rw c.as_slice.ensures.value (c.in-Ok.ensures.content told);
     }) c.replay_text.ensures
@@ -19,6 +20,7 @@ returns-in-Ok g c =
 pub returns-in-Err : goal.returns-in-Err
 returns-in-Err g c = no_model (record {
   opened = c.in-Err.ensures.opens;
+  names = c.in-Err.ensures.opened;
   outcome = unread (model_file c.args.model.now) PrintsRefusal _ _ _ _ c.say_unread.result c.in-Err.error
-      (λ is. c.in-Err.ensures.fault (ap Err is)) (λ is. c.in-Err.ensures.too_long (ap Err is)) (λ is. c.in-Err.ensures.longer (ap Err is)) c.say_unread.ensures;
+      (λ other. c.in-Err.ensures.counted (not_fault c.in-Err.error other)) (λ is. c.in-Err.ensures.fault (ap Err is)) (λ is. c.in-Err.ensures.too_long (ap Err is)) (λ is. c.in-Err.ensures.longer (ap Err is)) c.say_unread.ensures;
 })

@@ -11,7 +11,11 @@ replay_model-requires g c = c.traces_are_known.ensures.lines c.args.text.now (se
 
 pub returns-in-Ok : goal.returns-in-Ok
 returns-in-Ok g c =
-    goes_on (checked_model c.in-Ok.checked) (record { is_model = c.in-Ok.ensures.found; only = c.in-Ok.ensures.only })
+    goes_on (checked_model c.in-Ok.checked) (record {
+      is_model = c.in-Ok.ensures.found;
+      only = c.in-Ok.ensures.only;
+      unrefused = λ r. c.one_model.ensures.never_refused c.args.text.now (checked_model c.in-Ok.checked) r c.in-Ok.ensures.found;
+    })
     (of_reading c.traces_are_known.ensures.one c.args.units (checked_model c.in-Ok.checked)
     (c.traces_are_known.ensures.lines c.args.text.now (setting_with (checked_model c.in-Ok.checked) c.args.units) c.in-Ok.ensures.found)
     (trace_file c.args.trace.now) _ _ _ _ c.replay_model.result c.replay_model.ensures)

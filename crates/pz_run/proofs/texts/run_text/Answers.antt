@@ -4,7 +4,7 @@ use Rattle.pz_run.proofs.texts.run_text.Goals as goal
 
 pub returns-in-Ok : goal.returns-in-Ok
 returns-in-Ok g c =
-    run_said c.args.text.now _ _ c.run_model.result c.one_chosen_run.ensures.one c.what_fits_goes_on.ensures.start c.args.play (checked_model c.in-Ok.checked)
+    run_said c.args.text.now _ _ c.run_model.result c.one_run.ensures c.one_model.ensures.never_refused c.args.play (checked_model c.in-Ok.checked)
     c.in-Ok.ensures.found c.in-Ok.ensures.only c.run_model.ensures
 
 pub returns-in-Err : goal.returns-in-Err

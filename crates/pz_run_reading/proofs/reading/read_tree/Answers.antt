@@ -3,7 +3,7 @@ use Rattle.pz_syntax.specs.declared.tokens.Pos.{Pos}
 use Rattle.pz_syntax.specs.declared.clusters.Model.{Model}
 use Rattle.pz_syntax.specs.ClassView.{model_view}
 use Rattle.pz_lexer.specs.Tokens.{AreTokens}
-use Rattle.pz_parser.specs.Parsing.{MayRefuse}
+use Rattle.pz_parser.specs.Cuts.{Refuses}
 use Rattle.pz_run_reading.specs.Refusals.{IsRefused}
 use Rattle.pz_run_reading.specs.Answers.{OnRefused}
 use Rattle.pz_run_reading.specs.devices.Errors.{of_lexer, of_parser}
@@ -30,7 +30,7 @@ returns-in_err-model-clause-refused c =
     let e = c.in_err-model.field-0.0 in
     let are : AreTokens c.args.text.now ts = subst (AreTokens c.args.text.now) (sym c.as_slice.ensures) c.in_ok-tokens.ensures.tokens in
     error_on (OnRefused (IsRefused c.args.text.now)) c.from_residual-in_err-model.result (of_parser e) c.from_residual-in_err-model.ensures.1
-    (parser_cause c.args.text.now ts are e c.in_err-model.ensures.only (subst (λ (p : Pos). MayRefuse 100 ts p e) c.end_of.ensures.is c.in_err-model.ensures.refused))
+    (parser_cause c.args.text.now ts are e c.in_err-model.ensures.only (subst (λ (p : Pos). Refuses 100 ts p e) c.end_of.ensures.is c.in_err-model.ensures.exact))
 
 pub returns-in_err-model-clause-only : goal.returns-in_err-model-clause-only
 returns-in_err-model-clause-only c = λ m has.

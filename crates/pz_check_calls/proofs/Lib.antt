@@ -1,0 +1,4 @@
+mod Backs
+pub mod LeadingBack
+mod Sums
+pub mod Raisings

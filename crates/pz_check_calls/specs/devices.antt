@@ -1,0 +1,2 @@
+pub mod LeadingBack
+pub mod Raising

@@ -1,0 +1,8 @@
+mod Listed
+mod Positive
+mod Bounds
+mod InClasses
+mod Gathering
+mod Merely
+mod AllSettled
+mod Telling

@@ -1,0 +1,10 @@
+-- What a search for the rules of opening answers.
+use Rattle.std.specs.Prelude.{Option, Some, None}
+use Rattle.pz_syntax.specs.Classes.{ModelTree}
+use Rattle.pz_check_violations.specs.declared.violation.Violation.{Violation}
+use Rattle.pz_classes_openings.specs.OpeningRules.{Opens, IsOpeningViolation}
+
+-- none where neither rule is violated, else what is told
+abbrev pub Tells : ModelTree → Option Violation → Type 0
+Tells m None = Opens m
+Tells m (Some v) = IsOpeningViolation m v

@@ -1,0 +1,12 @@
+//! Opening ends, and is not too large: the rules C23 and C24.
+#![tactic(auto)]
+
+mod each_class;
+mod estimate;
+mod in_class;
+mod least;
+mod lookup;
+mod outline;
+mod settled;
+
+pub use least::least_opening;

@@ -1,0 +1,2 @@
+//! What opens where a method opens, and the rules on it.
+#![tactic(auto)]

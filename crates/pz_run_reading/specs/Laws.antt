@@ -1,0 +1,14 @@
+-- A text has one model, or it is refused, and not both.
+use Rattle.std.specs.Prelude.{◌≡◌, ℕ, List}
+use Rattle.pz_syntax.specs.Classes.{ModelTree}
+use Rattle.pz_run_reading.specs.declared.refusal.Refusal.{Refusal}
+use Rattle.pz_run_reading.specs.Models.{IsModelOf}
+use Rattle.pz_run_reading.specs.Refusals.{IsRefused}
+
+-- positions included
+abbrev pub HasOneModel : Type 0
+HasOneModel = (text : List ℕ) (m n : ModelTree) → IsModelOf text m → IsModelOf text n → m ≡ n
+
+-- the text of a model is not refused
+abbrev pub NoModelIsRefused : Type 0
+NoModelIsRefused = (text : List ℕ) (m : ModelTree) (r : Refusal) → IsModelOf text m → IsRefused text r → ⊥

@@ -1,0 +1,10 @@
+" Comments, and what :make does, in models.
+if exists('b:did_ftplugin')
+  finish
+endif
+let b:did_ftplugin = 1
+
+setlocal commentstring=//\ %s comments=s1:/*,mb:*,ex:*/,://
+setlocal expandtab shiftwidth=2 softtabstop=2
+compiler poosl
+let b:undo_ftplugin = 'setlocal commentstring< comments< expandtab< shiftwidth< softtabstop< makeprg< errorformat<'
