@@ -9,10 +9,10 @@ use Rattle.pz_run.specs.Files.{JobFile}
 use Rattle.pz_run.specs.devices.Reading.{SaysUnread, FileOutcome, wanting, fault, long}
 
 -- another error is no fault
-pub not_fault : {A : Type 0} (e : ReadError) → (e ≡ Fault → ⊥) → is_fault {A} (Err e) ≡ false
-not_fault NoMemory other = refl
-not_fault Fault other = absurd (other refl)
-not_fault TooLong other = refl
+pub not_fault : (A : Type 0) (e : ReadError) → (e ≡ Fault → ⊥) → is_fault {A = A} (Err e) ≡ false
+not_fault A NoMemory other = refl
+not_fault A Fault other = absurd (other refl)
+not_fault A TooLong other = refl
 
 module _ (file : JobFile) (P : List ℕ → List ℕ → Status → Type 0) (f g : FilesState) (before now : SinkState) (given : Status) where
   pub unread : (e : ReadError) → ((e ≡ Fault → ⊥) → g.faults ≡ f.faults) → (e ≡ Fault → FilesFailedLast f g ⊎ ((g.faults ≡ f.faults) × LacksName f file.name))
