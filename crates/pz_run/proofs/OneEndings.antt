@@ -1,5 +1,5 @@
 -- A text is the trace of runs with one ending alone.
-use Rattle.std.proofs.Common.{◌≡◌, ◌∙◌, ℕ, List, [], ◌∷◌, ◌++◌, length, codes, if◌then◌else◌, refl, sym, ap, arith, append_assoc, length-append}
+use Rattle.std.proofs.Common.{◌≡◌, ◌∙◌, ℕ, List, [], ◌∷◌, ◌++◌, length, if◌then◌else◌, refl, sym, ap, arith, append_assoc, length-append}
 use Rattle.std.specs.Prelude.{nat_eq}
 use Rattle.std.specs.Fmt.{decimal}
 use Rattle.std.proofs.lemmas.List.{append-nil}
@@ -9,9 +9,7 @@ use Rattle.pz_offer.specs.declared.trouble.Trouble.TheVariants.{Fault, Spent, Hi
 use Rattle.pz_rules.specs.Runs.{Event}
 use Rattle.pz_trace.specs.declared.ending.Ending.{Ending}
 use Rattle.pz_trace.specs.declared.ending.Ending.TheVariants as ending
-use Rattle.pz_trace.specs.Words.{fault_word}
-use Rattle.pz_trace.specs.Labels.{spot}
-use Rattle.pz_trace.specs.Lines.{newline, header, end_line}
+use Rattle.pz_trace.specs.Lines.{newline, header, end_words, end_line}
 use Rattle.pz_trace.specs.TraceText.{event_line, events_text, run_ending}
 use Rattle.pz_trace.specs.Laws.{IsLine, HeaderIsLine, EndLinesAreLines, OneFirstLine}
 use Rattle.pz_trace.proofs.Digits.{cut_once, decimal_lacks}
@@ -47,29 +45,13 @@ module _ (first : OneFirstLine) (m : ModelTree) where
 
   -- ---- what it says
 
-  abbrev end_words : Ending → List ℕ
-  end_words ending.End = codes "end" ++ newline
-  end_words ending.Deadlock = codes "deadlock" ++ newline
-  end_words ending.Stop = codes "stop" ++ newline
-  end_words (ending.Trouble (Fault kind process at)) = codes "fault " ++ (fault_word kind ++ (codes " " ++ (spot m process at ++ newline)))
-  end_words (ending.Trouble (Spent process at)) = codes "spent " ++ (spot m process at ++ newline)
-  end_words (ending.Trouble (High process at)) = codes "high " ++ (spot m process at ++ newline)
-
-  end_is : (clock : ℕ) (e : Ending) → end_line m clock e ≡ decimal clock ++ (32 ∷ end_words e)
-  end_is clock ending.End = refl
-  end_is clock ending.Deadlock = refl
-  end_is clock ending.Stop = refl
-  end_is clock (ending.Trouble (Fault kind process at)) = refl
-  end_is clock (ending.Trouble (Spent process at)) = refl
-  end_is clock (ending.Trouble (High process at)) = refl
-
   -- by the first two letters: `en`, `de`, `st`, and others
   abbrev status_by : List ℕ → Status
   status_by [] = ModelFault
   status_by (x ∷ []) = ModelFault
   status_by (x ∷ y ∷ rest) = if nat_eq x 101 then Done else if nat_eq x 100 then Deadlock else if nat_eq y 116 then Done else ModelFault
 
-  status_is : (e : Ending) → status_of (run_ending e) ≡ status_by (end_words e)
+  status_is : (e : Ending) → status_of (run_ending e) ≡ status_by (end_words m e ++ newline)
   status_is ending.End = refl
   status_is ending.Deadlock = refl
   status_is ending.Stop = refl
@@ -79,8 +61,7 @@ module _ (first : OneFirstLine) (m : ModelTree) where
 
   same_status : (clock late : ℕ) (e d : Ending) → end_line m clock e ≡ end_line m late d → status_of (run_ending e) ≡ status_of (run_ending d)
   same_status clock late e d same =
-      let words = cut_once 32 (decimal clock) (end_words e) (decimal late) (end_words d) (decimal_lacks 32 clock (omega arith)) (decimal_lacks 32 late (omega arith))
-      (sym (end_is clock e) ∙ same ∙ end_is late d) in
+      let words = cut_once 32 (decimal clock) (end_words m e ++ newline) (decimal late) (end_words m d ++ newline) (decimal_lacks 32 clock (omega arith)) (decimal_lacks 32 late (omega arith)) same in
       status_is e ∙ ap status_by words.same_rest ∙ sym (status_is d)
 
 pub one_ending : OneFirstLine → HeaderIsLine → EndLinesAreLines → OneEnding

@@ -1,5 +1,6 @@
 ghost use Rattle.std.specs.Prelude.{◌≡◌};
-ghost use Rattle.pz_run.specs.Status.{number_of};
+ghost use Rattle.pz_trace.specs.TraceText.{run_ending};
+ghost use Rattle.pz_run.specs.Status.{number_of, status_of};
 ghost use Rattle.pz_run.specs.devices.Halting.{halted_as, given_as, replayed_as};
 
 use pz_io::Halt;
@@ -64,14 +65,23 @@ impl Status {
         }
     }
 
+    // That of a job whose run has ended so.
+    fn ended(ending: Ending) -> Status
+        ensures { result ≡ status_of (run_ending ending) }
+    {
+        match ending {
+            Ending::End | Ending::Stop => Status::Done,
+            Ending::Deadlock => Status::Deadlock,
+            Ending::Trouble(_) => Status::ModelFault,
+        }
+    }
+
     /// That of a job whose run was played so.
     pub(crate) fn played(ended: Result<Finale, Halt>) -> Status
         ensures { result ≡ given_as ended }
     {
         match ended {
-            Ok(Finale::End | Finale::Stop) => Status::Done,
-            Ok(Finale::Deadlock) => Status::Deadlock,
-            Ok(Finale::Trouble(_)) => Status::ModelFault,
+            Ok(Finale::Ended(ending)) => Status::ended(ending),
             Ok(Finale::Refused { .. }) => Status::ChoiceRefused,
             Err(halt) => Status::halted(halt),
         }
@@ -82,9 +92,7 @@ impl Status {
         ensures { result ≡ replayed_as ended }
     {
         match ended {
-            Ok(Replayed::Ended(Ending::End | Ending::Stop)) => Status::Done,
-            Ok(Replayed::Ended(Ending::Deadlock)) => Status::Deadlock,
-            Ok(Replayed::Ended(Ending::Trouble(_))) => Status::ModelFault,
+            Ok(Replayed::Ended(ending)) => Status::ended(ending),
             Ok(Replayed::Refused { .. }) => Status::TraceRefused,
             Err(halt) => Status::halted(halt),
         }

@@ -1,35 +1,40 @@
--- The words of a last line, and its text.
-use Rattle.std.proofs.Common.{◌≡◌, ◌∙◌, sym, ap, subst, refl, ℕ, List, ◌∷◌, ◌++◌, append_assoc}
-use Rattle.std.specs.Fmt.{digits}
+-- The words of a last line, what they name, and its text.
+use Rattle.std.proofs.Common.{◌≡◌, ◌∙◌, sym, ap, subst, refl, ℕ, List, ◌++◌, codes}
+use Rattle.std.specs.Fmt.{decimal}
 use Rattle.pz_syntax.specs.Classes.{ModelTree}
-use Rattle.pz_offer.specs.declared.trouble.Trouble.TheVariants.{Fault, Spent, High}
+use Rattle.pz_bind.specs.declared.net.Net.{Net}
 use Rattle.pz_rules.specs.Runs.{Ending}
 use Rattle.pz_trace.specs.declared.ending.Ending.{Ending as LastEnding}
 use Rattle.pz_trace.specs.declared.ending.Ending.TheVariants as ending
-use Rattle.pz_trace.specs.Lines.{newline, header, end_line}
+use Rattle.pz_trace.specs.Lines.{newline, header, end_words, end_line}
+use Rattle.pz_trace.specs.Named.{IsNamedAtEnd}
 use Rattle.pz_trace.specs.TraceText.{events_text, run_ending}
 use Rattle.pz_rules.specs.Runs.{Ends}
 use Rattle.pz_rules.specs.Laws.{IsOwn, ChosenRunsAreRuns}
 use Rattle.pz_run_playing.specs.Endings.{ending_words, last_line}
 use Rattle.pz_run_playing.specs.RunText.{run_text}
+use Rattle.pz_run_playing.specs.devices.Rests.{HasTroubledAtEnd}
 use Rattle.pz_run_playing.specs.Laws.{RunTextsAreTraceTexts, ChosenRunsAreTraces}
 
--- the line of a trace begins with the clock
-pub end_is_last : (m : ModelTree) (clock : ℕ) (e : LastEnding) → last_line m clock (run_ending e) ≡ end_line m clock e
-end_is_last m clock ending.End = refl
-end_is_last m clock ending.Deadlock = refl
-end_is_last m clock ending.Stop = refl
-end_is_last m clock (ending.Trouble (Fault kind process at)) = simp append_assoc
-end_is_last m clock (ending.Trouble (Spent process at)) = simp append_assoc
-end_is_last m clock (ending.Trouble (High process at)) = simp append_assoc
+-- the words are those of a trace
+pub same_words : (m : ModelTree) (e : LastEnding) → end_words m e ≡ ending_words m (run_ending e)
+same_words m ending.End = refl
+same_words m ending.Deadlock = refl
+same_words m ending.Stop = refl
+same_words m (ending.Trouble trouble) = refl
+
+end_is_last : (m : ModelTree) (clock : ℕ) (e : LastEnding) → last_line m clock (run_ending e) ≡ end_line m clock e
+end_is_last m clock e = ap (λ (words : List ℕ). decimal clock ++ (codes " " ++ (words ++ newline))) (sym (same_words m e))
+
+-- what they name is there
+pub named_at_end : (net : Net) (e : LastEnding) → HasTroubledAtEnd net (run_ending e) → IsNamedAtEnd net e
+named_at_end net ending.End has = tt
+named_at_end net ending.Deadlock has = tt
+named_at_end net ending.Stop has = tt
+named_at_end net (ending.Trouble trouble) has = has trouble refl
 
 pub texts_are_trace_texts : RunTextsAreTraceTexts
 texts_are_trace_texts m events clock e = ap (λ (l : List ℕ). header ++ (events_text m events ++ l)) (end_is_last m clock e)
-
--- at clock 0 the clock and the blank are two bytes
-pub begins_at_zero : (m : ModelTree) (e : LastEnding) → end_line m 0 e ≡ 48 ∷ 32 ∷ (ending_words m (run_ending e) ++ newline)
-unfolding digits
-begins_at_zero m e = sym (end_is_last m 0 e)
 
 own_of : (e : LastEnding) → IsOwn (run_ending e)
 own_of ending.End = tt

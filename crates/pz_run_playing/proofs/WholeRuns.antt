@@ -17,6 +17,7 @@ use Rattle.pz_rules.specs.Moments.{IsMoment}
 use Rattle.pz_rules.specs.Ports.{HasWires}
 use Rattle.pz_rules.specs.Runs.{Event, Standing, whole, stopped, Ending, ended, deadlocked, troubled, halted, refused}
 use Rattle.pz_rules.specs.ChosenRuns.{Policy}
+use Rattle.pz_trace.specs.declared.ending.Ending.TheVariants as ending
 use Rattle.pz_trace.specs.Lines.{header}
 use Rattle.pz_trace.specs.TraceText.{events_text}
 use Rattle.pz_term.specs.Simulations as simulations
@@ -239,11 +240,11 @@ told_in setting events end ending _ _ of_trace = refl
 told_in setting events end ending _ _ of_summary = tt
 told_in setting events end ending _ _ (of_menu offers left) = tt
 
-stop_from : (f : Finale) → ending_of f ≡ halted → f ≡ finale.Stop
-stop_from finale.End h = cc
-stop_from finale.Deadlock h = cc
-stop_from finale.Stop h = refl
-stop_from (finale.Trouble trouble) h = cc
+stop_from : (f : Finale) → ending_of f ≡ halted → f ≡ finale.Ended ending.Stop
+stop_from (finale.Ended ending.End) h = cc
+stop_from (finale.Ended ending.Deadlock) h = cc
+stop_from (finale.Ended ending.Stop) h = refl
+stop_from (finale.Ended (ending.Trouble trouble)) h = cc
 stop_from (finale.Refused entry offers) h = cc
 
 module _ (known : Known) (setting : Setting) (policy : Policy) (t : Simulation) (before mid now : SinkState) where
@@ -258,7 +259,7 @@ module _ (known : Known) (setting : Setting) (policy : Policy) (t : Simulation) 
       plays_cut setting policy menu t before mid x.run (trace_text ++ offers) halt r (err_is r halt is) (of_menu left.0 left.1)
       (known.halts before mid trace_text offers halt (traced (Some halt) x.run x.text x.tells x.wrote))
 
-  module _ (x : Plays setting policy trace t before mid (Ok finale.Stop)) (offers : List Action) (are : AreOffersOf t offers) where
+  module _ (x : Plays setting policy trace t before mid (Ok (finale.Ended ending.Stop))) (offers : List Action) (are : AreOffersOf t offers) where
     left_here : AreLeft setting x.run.end x.run.ending offers
     left_here =
         let ends : EndsAs x.run.standing halted = subst (λ (e : Ending). EndsAs x.run.standing e) (sym x.finale) x.run.ends_as in
@@ -275,13 +276,13 @@ module _ (known : Known) (setting : Setting) (policy : Policy) (t : Simulation) 
         plays_cut setting policy menu t before now x.run (run_text setting.model x.run.events x.run.end.clock x.run.ending ++ offers_text setting.model 0 offers) halt r (err_is r halt is)
         (of_menu offers left_here) (offers_told (Some halt) wrote)
 
-    pub menu_told : Wrote mid now (offers_text (model_in t) 0 offers) None → Plays setting policy menu t before now (Ok finale.Stop)
+    pub menu_told : Wrote mid now (offers_text (model_in t) 0 offers) None → Plays setting policy menu t before now (Ok (finale.Ended ending.Stop))
     menu_told wrote =
-        plays_whole setting policy menu t before now x.run (run_text setting.model x.run.events x.run.end.clock x.run.ending ++ offers_text setting.model 0 offers) finale.Stop
+        plays_whole setting policy menu t before now x.run (run_text setting.model x.run.events x.run.end.clock x.run.ending ++ offers_text setting.model 0 offers) (finale.Ended ending.Stop)
         (of_menu offers left_here) (offers_told None wrote) x.finale x.arrives
 
   -- no offers are told
-  pub menu_alone : (f : Finale) → (f ≡ finale.Stop → ⊥) → Plays setting policy trace t before mid (Ok f) → Plays setting policy menu t before mid (Ok f)
+  pub menu_alone : (f : Finale) → (f ≡ finale.Ended ending.Stop → ⊥) → Plays setting policy trace t before mid (Ok f) → Plays setting policy menu t before mid (Ok f)
   menu_alone f not_stop x =
       let trace_text = run_text setting.model x.run.events x.run.end.clock x.run.ending in
       let alone : trace_text ≡ trace_text ++ [] = sym (append-nil trace_text) in

@@ -4,6 +4,7 @@ ghost use Rattle.std.specs.Prelude.{◌≡◌, ◌≢◌, ◌≤◌, ◌<◌, �
 ghost use Rattle.pz_choice.specs.Resolvers.{Resolver, choice, left_over};
 ghost use Rattle.pz_choice.specs.Choosers.{Stands};
 ghost use Rattle.pz_rules.specs.ChosenRuns as chosen_runs;
+ghost use Rattle.pz_trace.specs.TraceText.{run_ending};
 ghost use Rattle.pz_run_playing.specs.Policies.{policy_of};
 ghost use Rattle.pz_run_playing.specs.Endings.{ending_of};
 ghost use Rattle.pz_run_playing.specs.devices.Deciding.{decision_of, IfTake, MayTake};
@@ -11,6 +12,7 @@ ghost use Rattle.pz_run_playing.specs.devices.Deciding.{decision_of, IfTake, May
 use crate::Finale;
 use pz_choice::Chooser;
 use pz_term::Moment;
+use pz_trace::Ending;
 use pz_words::RunLimits;
 
 /// What is decided at a moment at which no time passes.
@@ -36,13 +38,13 @@ pub(crate) fn is_beyond(until: Option<u64>, clock: u128, time: u128) -> bool
 }
 
 // How a run ends that ends by itself: an entry may be left over.
-fn end_of(finale: Finale, chooser: &Chooser) -> Finale
+fn end_of(ending: Ending, chooser: &Chooser) -> Finale
     ensures { (r : Resolver) (chosen : ℕ) → Stands chooser.now r chosen →
-        chosen_runs.stops_with (ending_of result) ≡ chosen_runs.used_up (ending_of finale)
+        chosen_runs.stops_with (ending_of result) ≡ chosen_runs.used_up (run_ending ending)
         (left_over r chosen) }
 {
     match chooser.ahead() {
-        None => finale,
+        None => Finale::Ended(ending),
         Some(entry) => Finale::Refused { entry, offers: 0 },
     }
 }
@@ -57,7 +59,7 @@ fn choose(offers: u64, chooser: &mut Chooser) -> Decision
     ensures takes { IfTake result (λ n k. (n ≡ offers) × (k < offers)) }
 {
     match chooser.next(offers) {
-        None => Decision::Stop(Finale::Stop),
+        None => Decision::Stop(Finale::Ended(Ending::Stop)),
         Some(number) => {
             if number < offers {
                 Decision::Take { offers, number }
@@ -82,7 +84,7 @@ fn decide_action(offers: u64, chooser: &mut Chooser, limits: RunLimits, chosen: 
     ensures takes { IfTake result (λ n k. MayTake (Moment.Actions offers) limits.steps chosen n k) }
 {
     if limits.steps <= chosen {
-        return Decision::Stop(Finale::Stop);
+        return Decision::Stop(Finale::Ended(Ending::Stop));
     }
     choose(offers, chooser)
 }
@@ -106,11 +108,11 @@ pub(crate) fn decide(
 {
     match moment {
         Moment::Actions(offers) => decide_action(offers, chooser, limits, chosen),
-        Moment::Time(_) => Decision::Stop(Finale::Stop),
-        Moment::Finished => Decision::Stop(end_of(Finale::End, chooser)),
-        Moment::Deadlock => Decision::Stop(end_of(Finale::Deadlock, chooser)),
-        Moment::Faulty(trouble) => Decision::Stop(Finale::Trouble(trouble)),
-        Moment::Stopped(trouble) => Decision::Stop(Finale::Trouble(trouble)),
+        Moment::Time(_) => Decision::Stop(Finale::Ended(Ending::Stop)),
+        Moment::Finished => Decision::Stop(end_of(Ending::End, chooser)),
+        Moment::Deadlock => Decision::Stop(end_of(Ending::Deadlock, chooser)),
+        Moment::Faulty(trouble) => Decision::Stop(Finale::Ended(Ending::Trouble(trouble))),
+        Moment::Stopped(trouble) => Decision::Stop(Finale::Ended(Ending::Trouble(trouble))),
         Moment::Broken => unreachable!(),
     }
 }

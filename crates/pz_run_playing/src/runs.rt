@@ -12,6 +12,7 @@ use crate::playing::play;
 use crate::telling::{tell_last, tell_offers, tell_summary};
 use pz_io::{Halt, Sink};
 use pz_term::Plain;
+use pz_trace::Ending;
 use pz_words::{Choice, RunLimits};
 use std::alloc::Global;
 
@@ -84,8 +85,11 @@ pub fn play_menu<W: Sink>(
     rules_are_known();
     let _model = plain.checked().model();
     let finale = play_trace(alloc, plain, choice, limits, out)?;
-    match finale {
-        Finale::Stop => {
+    let Finale::Ended(ending) = finale else {
+        return Ok(finale);
+    };
+    match ending {
+        Ending::Stop => {
             tell_offers(alloc, plain, out)?;
             Ok(finale)
         }

@@ -4,7 +4,6 @@ use Rattle.std.specs.declared.alloc.Global.{Global}
 use Rattle.std.specs.Fmt.{decimal}
 use Rattle.pz_syntax.specs.Classes.{ModelTree}
 use Rattle.pz_offer.specs.declared.trouble.Trouble.{Trouble as TheTrouble}
-use Rattle.pz_offer.specs.declared.trouble.Trouble.TheVariants.{Fault, Spent, High}
 use Rattle.pz_rules.specs.declared.action.Action.{Action}
 use Rattle.pz_rules.specs.declared.moment.Moment.{Moment}
 use Rattle.pz_rules.specs.declared.moment.Moment.TheVariants.{Actions, Time, Finished, Faulty, Stopped}
@@ -14,12 +13,11 @@ use Rattle.pz_rules.specs.Configurations.{Config}
 use Rattle.pz_rules.specs.Runs.{Standing, whole, stopped, IsChoice}
 use Rattle.pz_term.specs.Laws.{OneMomentOf}
 use Rattle.pz_trace.specs.declared.ending.Ending.{Ending}
-use Rattle.pz_trace.specs.declared.ending.Ending.TheVariants.{End, Deadlock, Stop, Trouble}
+use Rattle.pz_trace.specs.declared.ending.Ending.TheVariants.{Stop}
 use Rattle.pz_trace.specs.declared.headings.Heading.TheVariants.{Step}
 use Rattle.pz_trace.specs.Headings.{IsHeading}
-use Rattle.pz_trace.specs.Lines.{newline, time_line, action_line, end_line}
-use Rattle.pz_trace.specs.Labels.{label, spot}
-use Rattle.pz_trace.specs.Words.{fault_word}
+use Rattle.pz_trace.specs.Lines.{newline, time_line, action_line, end_words, end_line}
+use Rattle.pz_trace.specs.Labels.{label}
 use Rattle.pz_trace.specs.Laws.{IsLine}
 use Rattle.pz_term.specs.Simulations.{Simulation, stands, broken, IsMomentOf}
 use Rattle.pz_run_replaying.specs.declared.judging.Move.{Move}
@@ -173,16 +171,9 @@ move_some s (Wait d) line of =
     omega (arith, ap (λ (l : List ℕ). length l) of, length-append (decimal (clock_in s)) (codes " time " ++ more), length-append (codes " time ") more)
 
 pub end_some : (m : ModelTree) (clock : ℕ) (e : Ending) → 0 < length (end_line m clock e)
-end_some m clock End = omega (arith, length-append (decimal clock) (codes " end" ++ newline))
-end_some m clock Deadlock = omega (arith, length-append (decimal clock) (codes " deadlock" ++ newline))
-end_some m clock Stop = omega (arith, length-append (decimal clock) (codes " stop" ++ newline))
-end_some m clock (Trouble (Fault kind process at)) =
-    let more = fault_word kind ++ (codes " " ++ (spot m process at ++ newline)) in
-    omega (arith, length-append (decimal clock) (codes " fault " ++ more), length-append (codes " fault ") more)
-end_some m clock (Trouble (Spent process at)) =
-    omega (arith, length-append (decimal clock) (codes " spent " ++ (spot m process at ++ newline)), length-append (codes " spent ") (spot m process at ++ newline))
-end_some m clock (Trouble (High process at)) =
-    omega (arith, length-append (decimal clock) (codes " high " ++ (spot m process at ++ newline)), length-append (codes " high ") (spot m process at ++ newline))
+end_some m clock e =
+    let more = end_words m e ++ newline in
+    omega (arith, length-append (decimal clock) (codes " " ++ more), length-append (codes " ") more)
 
 -- few offers
 

@@ -1,5 +1,5 @@
 -- No LF stands within a line.
-use Rattle.std.proofs.Common.{◌≡◌, ◌<◌, subst, ℤ, refl, sym, ◌∙◌, ℕ, suc, pos, negsuc, ◌+◌, ◌/◌, ◌%◌, Bool, true, false, if◌then◌else◌, List, [], ◌∷◌, ◌++◌, map, Option, Some, None, arith, codes, append_assoc}
+use Rattle.std.proofs.Common.{◌≡◌, ◌<◌, subst, ℤ, refl, ◌∙◌, ℕ, suc, pos, negsuc, ◌+◌, ◌/◌, ◌%◌, Bool, true, false, if◌then◌else◌, List, [], ◌∷◌, ◌++◌, map, Option, Some, None, arith, codes, append_assoc}
 use Rattle.std.specs.Prelude.{nat_eq, nat_lt, nat_le, ◌||◌, ◌&&◌, slice_get}
 use Rattle.std.specs.List.{flat_map}
 use Rattle.std.specs.Option.{option_map_or}
@@ -31,7 +31,7 @@ use Rattle.pz_trace.specs.declared.ending.Ending.{Ending}
 use Rattle.pz_trace.specs.declared.ending.Ending.TheVariants as ending
 use Rattle.pz_trace.specs.Words.{kind_word, fault_word, pos_text}
 use Rattle.pz_trace.specs.Labels.{path_of, wire_of, spot, sending, label}
-use Rattle.pz_trace.specs.Lines.{newline, header, time_line, action_line, trouble_line, end_line}
+use Rattle.pz_trace.specs.Lines.{newline, header, time_line, action_line, trouble_words, end_words, end_line}
 use Rattle.pz_trace.specs.Laws.{Unbroken, IsLine, HasUnbrokenNames, HasUnbrokenMessage}
 use Rattle.pz_trace.proofs.Digits.{decimal_lacks}
 
@@ -209,14 +209,8 @@ label_unbroken m whole (Comm wire sender receiver name parcel) message =
 ended : (front text : List ℕ) → Unbroken front → text ≡ front ++ newline → IsLine text
 ended front text whole is = record { front = front; unbroken = whole; ends = is }
 
-two : (a b n : List ℕ) → a ++ (b ++ n) ≡ (a ++ b) ++ n
-two a b n = sym (append_assoc a b n)
-
 three : (a b c n : List ℕ) → a ++ (b ++ (c ++ n)) ≡ (a ++ (b ++ c)) ++ n
 three a b c n = simp append_assoc
-
-five : (a b c d e n : List ℕ) → a ++ (b ++ (c ++ (d ++ (e ++ n)))) ≡ (a ++ (b ++ (c ++ (d ++ e)))) ++ n
-five a b c d e n = simp append_assoc
 
 pub header_line : IsLine header
 header_line = ended (codes "poosl-trace 1") header refl refl
@@ -242,30 +236,23 @@ action_lines m clock n k a whole message =
     seven : (a b c d e f g n : List ℕ) → a ++ (b ++ (c ++ (d ++ (e ++ (f ++ (g ++ n)))))) ≡ (a ++ (b ++ (c ++ (d ++ (e ++ (f ++ g)))))) ++ n
     seven a b c d e f g n = simp append_assoc
 
--- a clock, a word and the place of a trouble
-spot_line : (m : ModelTree) → HasUnbrokenNames m → (clock : ℕ) (word : List ℕ) (i : ℕ) (at : Pos) → Unbroken word → IsLine (decimal clock ++ (word ++ (spot m i at ++ newline)))
-spot_line m whole clock word i at plain =
-    ended (decimal clock ++ (word ++ spot m i at)) (decimal clock ++ (word ++ (spot m i at ++ newline)))
-    (joined (decimal clock) (word ++ spot m i at) (decimal_unbroken clock) (joined word (spot m i at) plain (spot_unbroken m whole i at)))
-    (three (decimal clock) word (spot m i at) newline)
-
-word_line : (clock : ℕ) (word : List ℕ) → Unbroken word → IsLine (decimal clock ++ (word ++ newline))
-word_line clock word plain =
-    ended (decimal clock ++ word) (decimal clock ++ (word ++ newline)) (joined (decimal clock) word (decimal_unbroken clock) plain) (two (decimal clock) word newline)
-
-trouble_lines : (m : ModelTree) → HasUnbrokenNames m → (clock : ℕ) (t : Trouble) → IsLine (trouble_line m clock t)
-trouble_lines m whole clock (trouble.Fault k i at) =
-    ended (decimal clock ++ (codes " fault " ++ (fault_word k ++ (codes " " ++ spot m i at)))) (trouble_line m clock (trouble.Fault k i at))
-    (joined (decimal clock) (codes " fault " ++ (fault_word k ++ (codes " " ++ spot m i at))) (decimal_unbroken clock)
-    (joined (codes " fault ") (fault_word k ++ (codes " " ++ spot m i at)) refl
+trouble_unbroken : (m : ModelTree) → HasUnbrokenNames m → (t : Trouble) → Unbroken (trouble_words m t)
+trouble_unbroken m whole (trouble.Fault k i at) =
+    joined (codes "fault ") (fault_word k ++ (codes " " ++ spot m i at)) refl
     (joined (fault_word k) (codes " " ++ spot m i at) (fault_unbroken k)
-    (joined (codes " ") (spot m i at) refl (spot_unbroken m whole i at)))))
-    (five (decimal clock) (codes " fault ") (fault_word k) (codes " ") (spot m i at) newline)
-trouble_lines m whole clock (trouble.Spent i at) = spot_line m whole clock (codes " spent ") i at refl
-trouble_lines m whole clock (trouble.High i at) = spot_line m whole clock (codes " high ") i at refl
+    (joined (codes " ") (spot m i at) refl (spot_unbroken m whole i at)))
+trouble_unbroken m whole (trouble.Spent i at) = joined (codes "spent ") (spot m i at) refl (spot_unbroken m whole i at)
+trouble_unbroken m whole (trouble.High i at) = joined (codes "high ") (spot m i at) refl (spot_unbroken m whole i at)
+
+end_unbroken : (m : ModelTree) → HasUnbrokenNames m → (end : Ending) → Unbroken (end_words m end)
+end_unbroken m whole ending.End = refl
+end_unbroken m whole ending.Deadlock = refl
+end_unbroken m whole ending.Stop = refl
+end_unbroken m whole (ending.Trouble t) = trouble_unbroken m whole t
 
 pub end_lines : (m : ModelTree) (clock : ℕ) (end : Ending) → HasUnbrokenNames m → IsLine (end_line m clock end)
-end_lines m clock ending.End whole = word_line clock (codes " end") refl
-end_lines m clock ending.Deadlock whole = word_line clock (codes " deadlock") refl
-end_lines m clock ending.Stop whole = word_line clock (codes " stop") refl
-end_lines m clock (ending.Trouble t) whole = trouble_lines m whole clock t
+end_lines m clock end whole =
+    let words = end_words m end in
+    ended (decimal clock ++ (codes " " ++ words)) (end_line m clock end)
+    (joined (decimal clock) (codes " " ++ words) (decimal_unbroken clock) (joined (codes " ") words refl (end_unbroken m whole end)))
+    (three (decimal clock) (codes " ") words newline)

@@ -25,14 +25,18 @@ module _ (m : ModelTree) where
   abbrev pub action_line : ℕ → ℕ → ℕ → Action → List ℕ
   action_line clock n k a = decimal clock ++ (codes " " ++ (decimal n ++ (codes " " ++ (decimal k ++ (codes " " ++ (label m a ++ newline))))))
 
-  -- `clock fault kind path line:column`, and the same with `spent` or `high` alone
-  abbrev pub trouble_line : ℕ → Trouble → List ℕ
-  trouble_line clock (Fault kind process at) = decimal clock ++ (codes " fault " ++ (fault_word kind ++ (codes " " ++ (spot m process at ++ newline))))
-  trouble_line clock (Spent process at) = decimal clock ++ (codes " spent " ++ (spot m process at ++ newline))
-  trouble_line clock (High process at) = decimal clock ++ (codes " high " ++ (spot m process at ++ newline))
+  -- `fault kind path line:column`, and the same with `spent` or `high` alone
+  abbrev pub trouble_words : Trouble → List ℕ
+  trouble_words (Fault kind process at) = codes "fault " ++ (fault_word kind ++ (codes " " ++ spot m process at))
+  trouble_words (Spent process at) = codes "spent " ++ spot m process at
+  trouble_words (High process at) = codes "high " ++ spot m process at
 
+  abbrev pub end_words : Ending → List ℕ
+  end_words ending.End = codes "end"
+  end_words ending.Deadlock = codes "deadlock"
+  end_words ending.Stop = codes "stop"
+  end_words (ending.Trouble trouble) = trouble_words trouble
+
+  -- `clock words`
   abbrev pub end_line : ℕ → Ending → List ℕ
-  end_line clock ending.End = decimal clock ++ (codes " end" ++ newline)
-  end_line clock ending.Deadlock = decimal clock ++ (codes " deadlock" ++ newline)
-  end_line clock ending.Stop = decimal clock ++ (codes " stop" ++ newline)
-  end_line clock (ending.Trouble trouble) = trouble_line clock trouble
+  end_line clock end = decimal clock ++ (codes " " ++ (end_words end ++ newline))

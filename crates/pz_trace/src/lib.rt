@@ -12,4 +12,4 @@ mod words;
 pub use ending::Ending;
 pub use headings::{Heading, first_line, read_line};
 pub use labels::label;
-pub use lines::{action_line, end_line, header, time_line};
+pub use lines::{action_line, end_line, end_words, header, time_line};

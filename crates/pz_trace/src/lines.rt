@@ -1,7 +1,6 @@
 // The lines of a trace. The only error is want of memory.
 
-ghost use Rattle.std.specs.Prelude.{◌≡◌, ◌++◌, ℕ, List, IfOk, codes};
-ghost use Rattle.std.specs.Fmt.{decimal};
+ghost use Rattle.std.specs.Prelude.{◌≡◌, ◌++◌, IfOk, OnOk};
 ghost use Rattle.pz_syntax.specs.Classes.{ModelTree};
 ghost use Rattle.pz_classes.specs.CheckedView.{checked_model};
 ghost use Rattle.pz_bind.specs.NetView.{HasProcess};
@@ -60,66 +59,78 @@ pub fn time_line(alloc: Global, clock: u128, time: u128) -> Result<Vec<u8>, Allo
     Ok(format!(in alloc; "{clock} time {time}\n")?.into_bytes())
 }
 
-/// The last line of a trace, at a clock, in clock units: how it ends, and of a trouble which one, the
-/// path of the process and the place in the text of the model.
+/// How a trace ends, in words, and of a trouble which one, the path of the process and the place in the
+/// text of the model.
 ///
 /// A trouble names a process of the net. The only error is want of memory.
+pub fn end_words(alloc: Global, net: &Net, end: &Ending) -> Result<Vec<u8>, AllocError>
+    requires { IsNamedAtEnd net.now end.now }
+    ensures { (m : ModelTree) → ∥ IsNet m net.now ∥₁ →
+        IfOk result (λ words. words.items ≡ lines.end_words m end.now) }
+{
+    let mut words = Vec::new(alloc);
+    put_end(&mut words, net, end)?;
+    Ok(words)
+}
+
+/// The last line of a trace, at a clock, in clock units: how it ends (`end_words`, with its condition).
+/// The only error is want of memory.
 pub fn end_line(alloc: Global, net: &Net, clock: u128, end: &Ending) -> Result<Vec<u8>, AllocError>
     requires { IsNamedAtEnd net.now end.now }
     ensures { (m : ModelTree) → ∥ IsNet m net.now ∥₁ →
         IfOk result (λ line. line.items ≡ lines.end_line m clock end.now) }
 {
+    let mut line = format!(in alloc; "{clock} ")?.into_bytes();
+    put_end(&mut line, net, end)?;
+    line.push(b'\n')?;
+    Ok(line)
+}
+
+// How a trace ends, at the end of a text.
+fn put_end(out: &mut Vec<u8>, net: &Net, end: &Ending) -> Result<(), AllocError>
+    requires { IsNamedAtEnd net.now end.now }
+    ensures { (m : ModelTree) → ∥ IsNet m net.now ∥₁ →
+        OnOk result (out.new.items ≡ out.old.items ++ lines.end_words m end.now) }
+{
     match end {
-        Ending::End => word_line(alloc, clock, "end"),
-        Ending::Deadlock => word_line(alloc, clock, "deadlock"),
-        Ending::Stop => word_line(alloc, clock, "stop"),
-        Ending::Trouble(trouble) => trouble_line(alloc, net, clock, trouble),
+        Ending::End => out.extend_from_slice(b"end"),
+        Ending::Deadlock => out.extend_from_slice(b"deadlock"),
+        Ending::Stop => out.extend_from_slice(b"stop"),
+        Ending::Trouble(trouble) => put_trouble(out, net, trouble),
     }
 }
 
-fn word_line(alloc: Global, clock: u128, word: &str) -> Result<Vec<u8>, AllocError>
-    ensures { IfOk result (λ line. line.items ≡ decimal clock ++
-        (codes " " ++ (word.now ++ lines.newline))) }
-{
-    Ok(format!(in alloc; "{clock} {word}\n")?.into_bytes())
-}
-
-fn trouble_line(
-    alloc: Global,
-    net: &Net,
-    clock: u128,
-    trouble: &Trouble,
-) -> Result<Vec<u8>, AllocError>
+fn put_trouble(out: &mut Vec<u8>, net: &Net, trouble: &Trouble) -> Result<(), AllocError>
     requires { HasTroubled net.now trouble.now }
     ensures { (m : ModelTree) → ∥ IsNet m net.now ∥₁ →
-        IfOk result (λ line. line.items ≡ lines.trouble_line m clock trouble.now) }
+        OnOk result (out.new.items ≡ out.old.items ++ lines.trouble_words m trouble.now) }
 {
     match trouble {
         Trouble::Fault { kind, process, pos } => {
-            let kind = fault_word(*kind);
-            let begun = format!(in alloc; "{clock} fault {kind} ")?;
-            spot_line(begun.into_bytes(), net, *process, *pos)
+            out.extend_from_slice(b"fault ")?;
+            out.extend_from_slice(fault_word(*kind).as_bytes())?;
+            out.push(b' ')?;
+            put_spot(out, net, *process, *pos)
         }
         Trouble::Spent { process, pos } => {
-            let begun = format!(in alloc; "{clock} spent ")?;
-            spot_line(begun.into_bytes(), net, *process, *pos)
+            out.extend_from_slice(b"spent ")?;
+            put_spot(out, net, *process, *pos)
         }
         Trouble::High { process, pos } => {
-            let begun = format!(in alloc; "{clock} high ")?;
-            spot_line(begun.into_bytes(), net, *process, *pos)
+            out.extend_from_slice(b"high ")?;
+            put_spot(out, net, *process, *pos)
         }
     }
 }
 
-// The line that begins so and ends with the path of a process and a place of the text.
-fn spot_line(mut begun: Vec<u8>, net: &Net, process: u32, pos: Pos) -> Result<Vec<u8>, AllocError>
+// The path of a process and a place of the text, at the end of a text.
+fn put_spot(out: &mut Vec<u8>, net: &Net, process: u32, pos: Pos) -> Result<(), AllocError>
     requires { HasProcess net.now process }
     ensures { (m : ModelTree) → ∥ IsNet m net.now ∥₁ →
-        IfOk result (λ line. line.items ≡ begun.items ++ (spot m process pos ++ lines.newline)) }
+        OnOk result (out.new.items ≡ out.old.items ++ spot m process pos) }
 {
     let (line, column) = (pos.line, pos.column);
-    let rest = format!(in *begun.allocator(); " {line}:{column}\n")?;
-    begun.extend_from_slice(path(net, process))?;
-    begun.extend_from_slice(rest.as_bytes())?;
-    Ok(begun)
+    let place = format!(in *out.allocator(); " {line}:{column}")?;
+    out.extend_from_slice(path(net, process))?;
+    out.extend_from_slice(place.as_bytes())
 }

@@ -40,10 +40,6 @@ IsReady (broken setting) = ⊥
 abbrev pub IsHeld : Option ℕ → Simulation → Type 0
 IsHeld until s = (d : ℕ) → IsMomentOf s (Time d) → is_beyond until (clock_in s) d ≡ true
 
--- it is the net of some model
-abbrev pub IsSomeNet : Net → Type 0
-IsSomeNet net = (m : ModelTree) × ∥ IsNet m net ∥₁
-
 -- what a line names is that of the net of the model, whichever net that is
 abbrev pub IsNamedIn : ModelTree → Action → Type 0
 IsNamedIn m a = (net : Net) → ∥ IsNet m net ∥₁ → IsNamed net a
