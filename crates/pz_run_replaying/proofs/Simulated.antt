@@ -55,14 +55,14 @@ clock_of_ready (broken setting) clock ready at = absurd ready
 
 -- Offers
 
-named_by : Known → (s : Simulation) (a : Action) (net : Net) → ∥ IsNet (model_in s) net ∥₁ → IsDerivedIn s a → IsNamed net a
-named_by known (stands setting c standing) a net is_net derived = known.offers_named setting c net a is_net derived
-named_by known (broken setting) a net is_net derived = absurd derived
+derived_is_named : Known → (s : Simulation) (a : Action) (net : Net) → ∥ IsNet (model_in s) net ∥₁ → IsDerivedIn s a → IsNamed net a
+derived_is_named known (stands setting c standing) a net is_net derived = known.offers_named setting c net a is_net derived
+derived_is_named known (broken setting) a net is_net derived = absurd derived
 
 -- an offer names what is there
 pub named_here : Known → (s : Simulation) (offers : List Action) (k : ℕ) (a : Action) (net : Net) → AreOffersOf s offers → k < length offers → a ≡ get_or offers k a → ∥ IsNet (model_in s) net ∥₁ → IsNamed net a
 named_here known s offers k a net are within is is_net =
-    subst (IsNamed net) (sym is) (named_by known s (get_or offers k a) net is_net (known.offers_derived s offers are k a within))
+    subst (IsNamed net) (sym is) (derived_is_named known s (get_or offers k a) net is_net (known.offers_derived s offers are k a within))
 
 some_action : Action
 some_action = Internal (record { process = 0; place = [] }) Skip (record { line = 0; column = 0 })

@@ -1,5 +1,5 @@
 use Rattle.pz_syntax.specs.ClassView.{model_view}
-use Rattle.front.proofs.classes.answer.Goals as goal
+use Rattle.rows_front.proofs.classes.answer.Goals as goal
 
 pub method-requires : goal.method-requires
 method-requires c = c.in_ok-class.ensures.belongs (model_view c.args.model.now) c.requires

@@ -3,7 +3,7 @@ use Rattle.std.proofs.lemmas.Result.{IfOk-weaker}
 use Rattle.pz_syntax.specs.declared.tokens.Token.{Token}
 use Rattle.pz_syntax.specs.ClassView.{model_view}
 use Rattle.pz_syntax.specs.ModelText.{HasFewMarks}
-use Rattle.front.proofs.reading.model_in.Goals as goal
+use Rattle.rows_front.proofs.reading.model_in.Goals as goal
 
 pub returns-in-Ok : goal.returns-in-Ok
 returns-in-Ok c =

@@ -2,7 +2,7 @@ use Rattle.std.proofs.Common.{◌≡◌, sym, ap, ◌∙◌, List, length}
 use Rattle.std.proofs.lemmas.List.{length-map}
 use Rattle.pz_syntax.specs.declared.tokens.Mark.{Mark}
 use Rattle.pz_syntax.specs.declared.tokens.Token.{Token}
-use Rattle.front.proofs.reading.tree_of.Goals as goal
+use Rattle.rows_front.proofs.reading.tree_of.Goals as goal
 
 pub returns-in-Ok : goal.returns-in-Ok
 returns-in-Ok c = ap (λ (ms : List Mark). length ms) (sym c.in-Ok.ensures.found.2) ∙ length-map c.args.tokens.now (λ (t : Token). t.mark)
