@@ -1,4 +1,6 @@
-use Rattle.std.proofs.Common.{Err, ap, refl}
+use Rattle.std.proofs.Common.{ℕ, Err, ap, refl}
+use Rattle.std.specs.Prelude.{Vec}
+use Rattle.std.specs.declared.alloc.Global.{Global}
 use Rattle.pz_run.specs.Files.{model_file}
 use Rattle.pz_run.specs.devices.Replaying.{PrintsRefusal, no_model}
 use Rattle.pz_run.proofs.Unread.{not_fault, unread}
@@ -22,5 +24,5 @@ returns-in-Err g c = no_model (record {
   opened = c.in-Err.ensures.opens;
   names = c.in-Err.ensures.opened;
   outcome = unread (model_file c.args.model.now) PrintsRefusal _ _ _ _ c.say_unread.result c.in-Err.error
-      (λ other. c.in-Err.ensures.counted (not_fault _ c.in-Err.error other)) (λ is. c.in-Err.ensures.fault (ap Err is)) (λ is. c.in-Err.ensures.too_long (ap Err is)) (λ is. c.in-Err.ensures.longer (ap Err is)) c.say_unread.ensures;
+      (λ other. c.in-Err.ensures.counted (not_fault (Vec ℕ Global) c.in-Err.error other)) (λ is. c.in-Err.ensures.fault (ap Err is)) (λ is. c.in-Err.ensures.too_long (ap Err is)) (λ is. c.in-Err.ensures.longer (ap Err is)) c.say_unread.ensures;
 })
