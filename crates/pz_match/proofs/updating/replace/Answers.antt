@@ -1,0 +1,135 @@
+-- Step by step.
+use Rattle.std.proofs.Common.{◌≡◌, ◌<◌, ◌∙◌, sym, subst, refl, List, length, get_or, set}
+use Rattle.std.specs.Prelude.{map, All, Contains}
+use Rattle.std.proofs.lemmas.Bool.{false≢true}
+use Rattle.std.proofs.lemmas.List.{get_or_default}
+use Rattle.std.proofs.lemmas.List.Elements.{All-weaker}
+use Rattle.pz_match.specs.declared.kept.Offers.{Offers}
+use Rattle.pz_match.specs.declared.kept.Sending.{Sending}
+use Rattle.pz_match.specs.declared.kept.Receiving.{Receiving}
+use Rattle.pz_match.specs.Offers.{receivers}
+use Rattle.pz_match.specs.Judging.{Verdicts}
+use Rattle.pz_match.specs.devices.Kept.{Kept, kept}
+use Rattle.pz_match.specs.devices.Tallies.{Moves, total_of}
+use Rattle.pz_match.specs.devices.Asking.{MayAsk}
+use Rattle.pz_match.specs.devices.Holding.{ReceiveKeyed}
+use Rattle.pz_match.specs.devices.Updating.{Offered, Replaced, Covers, NoneAsks, silent, renewed_in, receivers_of}
+use Rattle.pz_match.proofs.Grouped.{follows_next}
+use Rattle.pz_match.proofs.Asked.{says_same}
+use Rattle.pz_match.proofs.Couples.{item_kept}
+use Rattle.pz_match.proofs.Fitting.{may_ask_sends}
+use Rattle.pz_match.proofs.Offered.{receive_keyed}
+use Rattle.pz_match.proofs.Steps.{among_rest, sends_within, receives_within, rest_keyed, rest_own, rest_sends_keyed, rest_within, rest_foreign, rest_same}
+use Rattle.pz_match.proofs.Updated.{covers_heard, heard_own, mid_is, stored_is, replaced_from}
+use Rattle.pz_match.proofs.updating.replace.Goals as goal
+use Rattle.pz_match.proofs.updating.replace.Goals.{then-asked, else-asked}
+
+pub withdraw-requires-clause-sends : goal.withdraw-requires-clause-sends
+withdraw-requires-clause-sends g c =
+    let old : Offers = get_or c.args.all.now c.args.process c.index-all-place.result in
+    let item = item_kept c.args.all.now c.args.process old c.requires.within (get_or_default c.args.all.now c.args.process c.index-all-place.result old c.requires.within) in
+    sends_within c.args.process c.args.groups.now (map kept c.args.all.now) c.requires.holds (kept old) item.2
+
+pub withdraw-requires-clause-receives : goal.withdraw-requires-clause-receives
+withdraw-requires-clause-receives g c =
+    let old : Offers = get_or c.args.all.now c.args.process c.index-all-place.result in
+    let item = item_kept c.args.all.now c.args.process old c.requires.within (get_or_default c.args.all.now c.args.process c.index-all-place.result old c.requires.within) in
+    receives_within c.args.process c.args.groups.now (map kept c.args.all.now) c.requires.holds (kept old) item.2
+
+pub offer-requires-clause-keyed : goal.offer-requires-clause-keyed
+offer-requires-clause-keyed g c =
+    let old : Offers = get_or c.args.all.now c.args.process c.index-all-place.result in
+    let item = item_kept c.args.all.now c.args.process old c.requires.within (get_or_default c.args.all.now c.args.process c.index-all-place.result old c.requires.within) in
+    let mid = mid_is c.args.process c.args.groups.now c.args.all.now old c.withdraw.new.offers c.requires.holds item.2 c.in_ok-room.ensures.silent in
+    subst (All (λ (e : Kept). All (ReceiveKeyed c.hear.new.groups) e.receives)) (sym mid)
+    (rest_keyed c.args.process c.args.groups.now (map kept c.args.all.now) c.requires.holds c.hear.new.groups (follows_next c.in_ok-room.ensures.follows c.in_ok-hear.ensures.follows))
+
+pub offer-requires-clause-own : goal.offer-requires-clause-own
+offer-requires-clause-own g c =
+    let old : Offers = get_or c.args.all.now c.args.process c.index-all-place.result in
+    let item = item_kept c.args.all.now c.args.process old c.requires.within (get_or_default c.args.all.now c.args.process c.index-all-place.result old c.requires.within) in
+    let mid = mid_is c.args.process c.args.groups.now c.args.all.now old c.withdraw.new.offers c.requires.holds item.2 c.in_ok-room.ensures.silent in
+    subst (All (λ (e : Kept). All (λ (r : Receiving). r.receiver.end.process ≡ e.process) e.receives)) (sym mid)
+    (rest_own c.args.process c.args.groups.now (map kept c.args.all.now) c.requires.holds)
+
+pub offer-requires-clause-covers : goal.offer-requires-clause-covers
+offer-requires-clause-covers g c =
+    let old : Offers = get_or c.args.all.now c.args.process c.index-all-place.result in
+    let item = item_kept c.args.all.now c.args.process old c.requires.within (get_or_default c.args.all.now c.args.process c.index-all-place.result old c.requires.within) in
+    let mid = mid_is c.args.process c.args.groups.now c.args.all.now old c.withdraw.new.offers c.requires.holds item.2 c.in_ok-room.ensures.silent in
+    subst (Covers c.hear.new.groups) (sym mid)
+    (covers_heard c.args.process c.args.groups.now c.withdraw.new.groups (map kept c.args.all.now) (kept old) item.0 item.1 c.requires.holds c.in_ok-room.ensures.moves c.hear.new.groups c.hear.new.kept.items c.in_ok-hear.ensures.moves)
+
+pub offer-requires-clause-takes : goal.offer-requires-clause-takes
+offer-requires-clause-takes g c s r sends receives fit conditional =
+    let old : Offers = get_or c.args.all.now c.args.process c.index-all-place.result in
+    let item = item_kept c.args.all.now c.args.process old c.requires.within (get_or_default c.args.all.now c.args.process c.index-all-place.result old c.requires.within) in
+    let mid = mid_is c.args.process c.args.groups.now c.args.all.now old c.withdraw.new.offers c.requires.holds item.2 c.in_ok-room.ensures.silent in
+    c.requires.sends_asked s r sends
+    (among_rest (λ (e : Kept). map (λ (q : Receiving). q.receiver) e.receives) (map kept c.args.all.now) c.args.process (silent c.args.process) r refl (subst (λ (xs : List Kept). Contains (receivers_of xs) r) mid receives)) fit conditional
+
+pub renew_if-requires-clause-groups : goal.renew_if-requires-clause-groups
+renew_if-requires-clause-groups g c =
+    let old : Offers = get_or c.args.all.now c.args.process c.index-all-place.result in
+    let item = item_kept c.args.all.now c.args.process old c.requires.within (get_or_default c.args.all.now c.args.process c.index-all-place.result old c.requires.within) in
+    let mid = mid_is c.args.process c.args.groups.now c.args.all.now old c.withdraw.new.offers c.requires.holds item.2 c.in_ok-room.ensures.silent in
+    subst (All (λ (e : Kept). All (λ (s : Sending). s.group < length c.offer.new.groups.groups) e.sends)) (sym mid)
+    (rest_within c.args.process c.args.groups.now (map kept c.args.all.now) c.requires.holds c.offer.new.groups (follows_next c.in_ok-room.ensures.follows (follows_next c.in_ok-hear.ensures.follows c.in_ok-offer.ensures.offered.follows)))
+
+pub renew_if-requires-clause-takes : goal.renew_if-requires-clause-takes
+renew_if-requires-clause-takes g c =
+    let p = c.args.process in
+    let old : Offers = get_or c.args.all.now p c.index-all-place.result in
+    let item = item_kept c.args.all.now p old c.requires.within (get_or_default c.args.all.now p c.index-all-place.result old c.requires.within) in
+    let mid = mid_is p c.args.groups.now c.args.all.now old c.withdraw.new.offers c.requires.holds item.2 c.in_ok-room.ensures.silent in
+    let follows = follows_next c.in_ok-room.ensures.follows (follows_next c.in_ok-hear.ensures.follows c.in_ok-offer.ensures.offered.follows) in
+    let heard = c.hear.new.kept.items in
+    subst (λ (rs : List Receiving). All (λ (e : Kept). All (λ (s : Sending). All (MayAsk g.J.Judge.takes c.offer.new.judge s.sender s.group) rs) e.sends) (map kept (set c.args.all.now p c.withdraw.new.offers))) (sym c.as_slice-2.ensures.value)
+    (subst (All (λ (e : Kept). All (λ (s : Sending). All (MayAsk g.J.Judge.takes c.offer.new.judge s.sender s.group) heard) e.sends)) (sym mid)
+    (may_ask_sends g.J.Judge.takes c.offer.new.judge c.offer.new.groups (set (map kept c.args.all.now) p (silent p)) p heard (receivers p c.args.receives.items)
+    (rest_sends_keyed p c.args.groups.now (map kept c.args.all.now) c.requires.holds c.offer.new.groups follows)
+    (All-weaker (ReceiveKeyed c.hear.new.groups) (ReceiveKeyed c.offer.new.groups) (receive_keyed c.in_ok-offer.ensures.offered.follows) heard c.in_ok-hear.ensures.keyed)
+    (rest_foreign p c.args.groups.now (map kept c.args.all.now) c.requires.holds item.0)
+    (heard_own p c.args.receives.items heard c.in_ok-hear.ensures.same) c.in_ok-hear.ensures.same
+    (λ s r sends receives fit conditional.
+    c.in_ok-offer.ensures.stays.takes_too s.end s.parcel r.end
+    (c.requires.receives_asked s r (among_rest (λ (e : Kept). map (λ (q : Sending). q.sender) e.sends) (map kept c.args.all.now) p (silent p) s refl sends) receives fit conditional))))
+
+pub renew_if-requires-clause-same : goal.renew_if-requires-clause-same
+renew_if-requires-clause-same g c none =
+    let p = c.args.process in
+    let old : Offers = get_or c.args.all.now p c.index-all-place.result in
+    let item = item_kept c.args.all.now p old c.requires.within (get_or_default c.args.all.now p c.index-all-place.result old c.requires.within) in
+    let mid = mid_is p c.args.groups.now c.args.all.now old c.withdraw.new.offers c.requires.holds item.2 c.in_ok-room.ensures.silent in
+    let before : NoneAsks old.receives.items
+    = c.in_ok-room.ensures.asked (elim c.if-asked.branch [ then-asked w ↦ absurd (false≢true (sym none ∙ (w.needed-is ∙ w.if-asked.true))) | else-asked w ↦ w.if-asked.false ]) in
+    let now : NoneAsks c.as_slice-2.result.now
+    = elim c.if-asked.branch [
+      | then-asked w ↦ absurd (false≢true (sym none ∙ (w.needed-is ∙ w.if-asked.true)))
+      | else-asked w ↦ subst NoneAsks (w.as_slice-else-asked.ensures.value ∙ sym c.as_slice-2.ensures.value) (w.asks-needed.ensures (sym w.needed-is ∙ none))
+    ] in
+    subst (λ (xs : List Kept). map (renewed_in (g.J.Judge.verdict c.offer.new.judge) p c.as_slice-2.result.now) xs ≡ xs) (sym mid)
+    (rest_same p c.args.groups.now (map kept c.args.all.now) c.requires.holds item.0 (g.J.Judge.verdict c.offer.new.judge) c.as_slice-2.result.now (kept old) item.2 before now)
+
+pub returns-clause-replaced : goal.returns-clause-replaced
+returns-clause-replaced g c =
+    let p = c.args.process in
+    let all = map kept c.args.all.now in
+    let says : Verdicts = g.J.Judge.verdict c.args.judge.now in
+    let old : Offers = get_or c.args.all.now p c.index-all-place.result in
+    let item = item_kept c.args.all.now p old c.requires.within (get_or_default c.args.all.now p c.index-all-place.result old c.requires.within) in
+    let mid = mid_is p c.args.groups.now c.args.all.now old c.withdraw.new.offers c.requires.holds item.2 c.in_ok-room.ensures.silent in
+    let heard = c.hear.new.kept.items in
+    let sent = c.offer.new.sent.items in
+    let offered : Offered says (set all p (silent p)) heard c.hear.new.groups c.offer.new.groups p c.args.sends.items sent
+    = subst (λ (xs : List Kept). Offered says xs heard c.hear.new.groups c.offer.new.groups p c.args.sends.items sent) mid
+    (subst (λ (rs : List Receiving). Offered says (map kept (set c.args.all.now p c.withdraw.new.offers)) rs c.hear.new.groups c.offer.new.groups p c.args.sends.items sent) c.as_slice.ensures.value c.in_ok-offer.ensures.offered) in
+    let same : g.J.Judge.verdict c.offer.new.judge ≡ says = says_same c.in_ok-offer.ensures.stays in
+    let now : map kept c.renew_if.new.all ≡ map (renewed_in says p heard) (set all p (silent p))
+    = c.in_ok-renew_if.ensures.all ∙ (λ i. map (renewed_in (same i) p (c.as_slice-2.ensures.value i)) (mid i)) in
+    let moves : Moves c.offer.new.groups c.renew_if.new.groups (total_of (set all p (silent p))) (total_of (map (renewed_in says p heard) (set all p (silent p))))
+    = subst (λ (xs : List Kept). Moves c.offer.new.groups c.renew_if.new.groups (total_of (set all p (silent p))) (total_of xs)) now
+    (subst (λ (xs : List Kept). Moves c.offer.new.groups c.renew_if.new.groups (total_of xs) (total_of (map kept c.renew_if.new.all))) mid c.in_ok-renew_if.ensures.moves) in
+    subst (Replaced says p c.args.sends.items c.args.receives.items c.args.groups.now all c.renew_if.new.groups) (sym (stored_is says p all sent heard c.renew_if.new.all c.index-all-place-2.result _ item.0 now refl))
+    (replaced_from says p c.args.sends.items c.args.receives.items c.args.groups.now c.withdraw.new.groups c.hear.new.groups c.offer.new.groups c.renew_if.new.groups all (kept old) sent heard item.0 item.1 c.requires.holds
+    c.in_ok-room.ensures.follows c.in_ok-room.ensures.moves c.in_ok-hear.ensures offered c.in_ok-renew_if.ensures.follows moves)

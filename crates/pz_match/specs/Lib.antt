@@ -1,0 +1,5 @@
+pub mod Offers
+pub mod Pairs
+pub mod Table
+pub mod Judging
+pub mod devices

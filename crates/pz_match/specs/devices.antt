@@ -1,0 +1,9 @@
+pub mod Lists
+pub mod Kept
+pub mod Tallies
+pub mod Asking
+pub mod Holding
+pub mod Seeking
+pub mod Updating
+pub mod Tables
+pub mod Ordering

@@ -1,0 +1,23 @@
+//! The pairs of sends and receives that fit, kept while the offers of processes come and go.
+#![tactic(auto)]
+
+mod asking;
+mod counts;
+mod finding;
+mod groups;
+mod hearing;
+mod judge;
+mod kept;
+mod offering;
+mod offers;
+mod pairs;
+mod places;
+mod renewing;
+mod rows;
+mod seeking;
+mod tallying;
+mod updating;
+
+pub use judge::Judge;
+pub use offers::{Receiver, Sender};
+pub use pairs::Pairs;

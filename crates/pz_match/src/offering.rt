@@ -1,0 +1,129 @@
+// The sends that a process offers now.
+
+ghost use Rattle.std.specs.Prelude.{◌≡◌, ◌≤◌, ◌+◌, ◌++◌, [], ◌∷◌, length, map, sum_by, All, IfOk, OnOk};
+ghost use Rattle.std.specs.List.{flat_map};
+ghost use Rattle.std.specs.Option.{option_to_list};
+ghost use Rattle.pz_match.specs.Offers.{senders};
+ghost use Rattle.pz_match.specs.Judging.{MayTake, Stays};
+ghost use Rattle.pz_match.specs.devices.Kept.{kept};
+ghost use Rattle.pz_match.specs.devices.Tallies.{total_of};
+ghost use Rattle.pz_match.specs.devices.Asking.{asked_in, MayAskAll};
+ghost use Rattle.pz_match.specs.devices.Holding.{ReceiveKeyed};
+ghost use Rattle.pz_match.specs.devices.Updating.{Offered, Covers, receivers_of};
+
+use crate::asking::ask_all;
+use crate::groups::Groups;
+use crate::judge::Judge;
+use crate::kept::{Offers, Receiving, Sending};
+use crate::offers::Sender;
+use crate::rows::Rows;
+use crate::tallying::add_send;
+use pz_offer::{End, SendOffer};
+use std::alloc::{AllocError, Global};
+
+/// What the conditional receives of other processes say to a send, in a group that covers them. The
+/// only error is want of memory.
+fn rows_for<J: Judge>(
+    alloc: Global,
+    asking: u64,
+    all: &[Offers],
+    sender: &Sender,
+    group: usize,
+    judge: &mut J,
+) -> Result<Rows, AllocError>
+    requires covers { (total_of (map kept all.now) group).asking ≤ asking }
+    requires takes { All (MayAskAll J.takes judge.old sender.now group) (map kept all.now) }
+    ensures rows { IfOk result (λ rows. rows ≡ flat_map (asked_in (J.verdict judge.old) sender.now group) (map kept all.now)) }
+    ensures stays { OnOk result (Stays J.takes J.verdict J.lent judge.old judge.new) }
+    ensures asked { IfOk result (λ rows. J.asked judge.new ≡ J.asked judge.old + length rows) }
+    ensures lent { J.lent judge.new ≡ J.lent judge.old }
+{
+    let mut rows = Rows::new(alloc);
+    if asking == 0 {
+        return Ok(rows);
+    }
+    ask_all(all, sender, group, &mut rows, judge)?;
+    Ok(rows)
+}
+
+/// A send as it is kept, if it reaches a wire: the conditional receives of other processes that fit
+/// are asked, and its group has one more. The only error is want of memory.
+fn offer_one<J: Judge>(
+    alloc: Global,
+    groups: &mut Groups,
+    all: &[Offers],
+    process: u32,
+    receives: &[Receiving],
+    offer: SendOffer,
+    judge: &mut J,
+) -> Result<Option<Sending>, AllocError>
+    requires keyed { All (λ e. All (ReceiveKeyed groups.old) e.receives) (map kept all.now) }
+    requires own { All (λ e. All (λ r. r.receiver.end.process ≡ e.process) e.receives) (map kept all.now) }
+    requires covers { Covers groups.old (map kept all.now) }
+    requires takes { MayTake J.takes judge.old (senders process (offer ∷ [])) (receivers_of (map kept all.now)) }
+    ensures offered { IfOk result (λ s. Offered (J.verdict judge.old) (map kept all.now) receives.now groups.old groups.new process (offer ∷ []) (option_to_list s)) }
+    ensures stays { OnOk result (Stays J.takes J.verdict J.lent judge.old judge.new) }
+    ensures asked { IfOk result (λ s. J.asked judge.new ≡ J.asked judge.old + sum_by (λ x. length x.rows) (option_to_list s)) }
+    ensures lent { J.lent judge.new ≡ J.lent judge.old }
+{
+    let Some(wire) = offer.wire else {
+        return Ok(None);
+    };
+    let group = groups.number(wire, &offer.message, offer.parcel.values().len())?;
+    let sender = Sender {
+        end: End {
+            process,
+            place: offer.place,
+        },
+        wire,
+        message: offer.message,
+        parcel: offer.parcel,
+    };
+    let asking = groups.tally(group).asking;
+    let rows = rows_for(alloc, asking, all, &sender, group, judge)?;
+    let send = Sending {
+        sender,
+        group,
+        rows,
+    };
+    add_send(groups, &send, receives)?;
+    Ok(Some(send))
+}
+
+/// One send more, if there is one. The only error is want of memory.
+fn keep(sent: &mut Vec<Sending>, send: Option<Sending>) -> Result<(), AllocError>
+    ensures { OnOk result (sent.new.items ≡ sent.old.items ++ option_to_list send) }
+{
+    if let Some(send) = send {
+        sent.push(send)?;
+    }
+    Ok(())
+}
+
+/// Keeps the sends that a process with these receives offers. The only error is want of memory.
+pub(crate) fn offer<J: Judge>(
+    alloc: Global,
+    groups: &mut Groups,
+    all: &[Offers],
+    process: u32,
+    receives: &[Receiving],
+    offers: Vec<SendOffer>,
+    sent: &mut Vec<Sending>,
+    judge: &mut J,
+) -> Result<(), AllocError>
+    requires empty { sent.old.items ≡ [] }
+    requires keyed { All (λ e. All (ReceiveKeyed groups.old) e.receives) (map kept all.now) }
+    requires own { All (λ e. All (λ r. r.receiver.end.process ≡ e.process) e.receives) (map kept all.now) }
+    requires covers { Covers groups.old (map kept all.now) }
+    requires takes { MayTake J.takes judge.old (senders process offers.items) (receivers_of (map kept all.now)) }
+    ensures offered { OnOk result (Offered (J.verdict judge.old) (map kept all.now) receives.now groups.old groups.new process offers.items sent.new.items) }
+    ensures stays { OnOk result (Stays J.takes J.verdict J.lent judge.old judge.new) }
+    ensures asked { OnOk result (J.asked judge.new ≡ J.asked judge.old + sum_by (λ x. length x.rows) sent.new.items) }
+    ensures lent { J.lent judge.new ≡ J.lent judge.old }
+{
+    for offer in offers {
+        let send = offer_one(alloc, groups, all, process, receives, offer, judge)?;
+        keep(sent, send)?;
+    }
+    Ok(())
+}

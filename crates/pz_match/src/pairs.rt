@@ -1,0 +1,125 @@
+use crate::groups::Groups;
+use crate::judge::Judge;
+use crate::kept::Offers;
+use crate::seeking::{find_trouble, pair_on};
+use crate::updating::{replace_in, silence};
+use pz_offer::{End, ReceiveOffer, SendOffer, Trouble};
+use std::alloc::{AllocError, Global};
+use std::marker::Model;
+
+/// The sends and receives that processes offer, and the pairs of them that fit, in the order of their
+/// wires, sends and receives. Contracts see a `Table`.
+#[derive(Drop)]
+pub struct Pairs {
+    offers: Vec<Offers>,
+    groups: Groups,
+    lost: bool,
+}
+
+impl Model for Pairs {
+    ghost use Rattle.std.specs.Prelude.{◌≡◌, false, map};
+    ghost use Rattle.pz_match.specs.Table.{Table};
+    ghost use Rattle.pz_match.specs.devices.Kept.{kept};
+    ghost use Rattle.pz_match.specs.devices.Tables.{table_of, Stands};
+
+    ghost Value = { Table };
+
+    ghost view = { λ t. table_of (map kept t.offers.items) t.groups.wires t.lost };
+
+    ghost invariant = { λ t. t.lost ≡ false → Stands t.groups (map kept t.offers.items) };
+}
+
+impl Pairs {
+    ghost use Rattle.std.specs.Prelude.{◌≡◌, ◌<◌, ◌≤◌, ◌+◌, [], true, false, not, length, replicate, filter, map, slice_get, slice_set, All, AllPairs, IfOk, OnOk, OnErr};
+    ghost use Rattle.pz_offer.specs.declared.ends.Verdict.TheVariants.{Yes};
+    ghost use Rattle.pz_match.specs.Offers.{senders, receivers};
+    ghost use Rattle.pz_match.specs.Judging.{Stays, said};
+    ghost use Rattle.pz_offer.specs.PlaceOrder.{PlaceBefore};
+    ghost use Rattle.pz_match.specs.Pairs.{ArePairs, taken, ends, first_trouble, touches};
+    ghost use Rattle.pz_match.specs.Table.{all_senders, all_receivers};
+    ghost use Rattle.pz_match.specs.Judging.{MayTake};
+
+    /// The table of so many processes, which offer nothing yet. The only error is want of memory.
+    pub fn new(alloc: Global, processes: u32) -> Result<Pairs, AllocError>
+        ensures senders { IfOk result (λ t. t.senders ≡ replicate processes []) }
+        ensures receivers { IfOk result (λ t. t.receivers ≡ replicate processes []) }
+        ensures pairs { IfOk result (λ t. t.pairs ≡ []) }
+        ensures there { IfOk result (λ t. t.lost ≡ false) }
+    {
+        let offers = silence(alloc, processes)?;
+        Ok(Pairs {
+            offers,
+            groups: Groups::new(alloc),
+            lost: false,
+        })
+    }
+
+    /// The process offers other sends and receives; those of the others stay. The judge is asked about
+    /// each pair that fits, has a condition and has an end in this process, once, and about no other.
+    /// The only error is want of memory, and then nothing is known of the table but that it is lost.
+    pub fn update<J: Judge>(
+        &mut self,
+        process: u32,
+        sends: Vec<SendOffer>,
+        receives: Vec<ReceiveOffer>,
+        judge: &mut J,
+    ) -> Result<(), AllocError>
+        requires process { process < length self.old.senders }
+        requires there { self.old.lost ≡ false }
+        requires sends_ordered { AllPairs (λ s t. PlaceBefore s.place t.place) sends.items }
+        requires receives_ordered { AllPairs (λ r q. PlaceBefore r.place q.place) receives.items }
+        requires sends_asked { MayTake J.takes judge.old (senders process sends.items) (all_receivers self.old) }
+        requires receives_asked { MayTake J.takes judge.old (all_senders self.old) (receivers process receives.items) }
+        ensures senders { OnOk result (self.new.senders ≡ slice_set self.old.senders process (senders process sends.items)) }
+        ensures receivers { OnOk result (self.new.receivers ≡ slice_set self.old.receivers process (receivers process receives.items)) }
+        ensures pairs { OnOk result (ArePairs (all_senders self.new) (all_receivers self.new) self.new.pairs) }
+        ensures free { OnOk result (All (λ p. p.receiver.conditional ≡ false → p.verdict ≡ Yes) self.new.pairs) }
+        ensures asked_now { OnOk result (All (λ p. touches process p ≡ true → p.verdict ≡ said (J.verdict judge.old) p.sender p.receiver) self.new.pairs) }
+        ensures others { OnOk result (filter (λ p. not (touches process p)) self.new.pairs ≡ filter (λ p. not (touches process p)) self.old.pairs) }
+        ensures stays { OnOk result (Stays J.takes J.verdict J.lent judge.old judge.new) }
+        ensures lent { J.lent judge.new ≡ J.lent judge.old }
+        ensures there { OnOk result (self.new.lost ≡ false) }
+        ensures lost { OnErr result (self.new.lost ≡ true) }
+    {
+        self.lost = true;
+        replace_in(
+            &mut self.offers,
+            &mut self.groups,
+            process,
+            sends,
+            receives,
+            judge,
+        )?;
+        self.lost = false;
+        Ok(())
+    }
+
+    /// How many pairs are taken: those without a condition, and those whose condition is true. Takes a
+    /// step.
+    pub fn count(&self) -> u64
+        requires { self.now.lost ≡ false }
+        ensures { result ≡ length (taken self.now.pairs) }
+    {
+        self.groups.total()
+    }
+
+    /// The ends of the taken pair with this number, from 0: of the send and of the receive; none where
+    /// there are no more. The only error is want of memory.
+    pub fn kth(&self, k: u64) -> Result<Option<(End, End)>, AllocError>
+        requires { self.now.lost ≡ false }
+        ensures { IfOk result (λ pair. pair ≡ slice_get (map ends (taken self.now.pairs)) k) }
+    {
+        match self.groups.wire_of(k) {
+            None => Ok(None),
+            Some((wire, rest)) => pair_on(&self.groups, self.offers.as_slice(), wire, rest),
+        }
+    }
+
+    /// The trouble of the first pair whose condition has one. Where there is none, takes a step.
+    pub fn trouble(&self) -> Option<Trouble>
+        requires { self.now.lost ≡ false }
+        ensures { result ≡ first_trouble self.now.pairs }
+    {
+        find_trouble(&self.groups, self.offers.as_slice())
+    }
+}

@@ -1,0 +1,175 @@
+// A process offers something else.
+
+ghost use Rattle.std.specs.Prelude.{◌≡◌, ◌<◌, ◌≤◌, ◌+◌, [], false, length, map, All, IfOk, OnOk};
+ghost use Rattle.pz_match.specs.Offers.{senders, receivers};
+ghost use Rattle.pz_match.specs.Judging.{MayTake, Stays};
+ghost use Rattle.pz_match.specs.devices.Lists.{upto};
+ghost use Rattle.pz_match.specs.devices.Kept.{kept};
+ghost use Rattle.pz_match.specs.devices.Tallies.{Distinct, Follows, Moves, nothing, part_of, total_of};
+ghost use Rattle.pz_match.specs.devices.Asking.{MayAsk};
+ghost use Rattle.pz_match.specs.devices.Holding.{Holds};
+ghost use Rattle.pz_match.specs.devices.Updating.{Replaced, NoneAsks, senders_of, receivers_of, silent, renewed_in};
+
+use crate::groups::Groups;
+use crate::hearing::hear;
+use crate::judge::Judge;
+use crate::kept::{Offers, Receiving, Sending};
+use crate::offering::offer;
+use crate::renewing::renew_all;
+use crate::tallying::{withdraw_receives, withdraw_sends};
+use pz_offer::{ReceiveOffer, SendOffer};
+use std::alloc::{AllocError, Global};
+use std::mem;
+
+/// Whether one of these receives has a condition.
+fn asks(receives: &[Receiving]) -> bool
+    ensures { result ≡ false → NoneAsks receives.now }
+{
+    receives.iter().any(|receive| receive.receiver.conditional)
+}
+
+/// Lists without elements, which keep their room for others.
+#[derive(Drop)]
+struct Room {
+    sends: Vec<Sending>,
+    receives: Vec<Receiving>,
+    /// Whether a receive that stood here had a condition.
+    asked: bool,
+}
+
+/// Takes away all that a process offers. The only error is want of memory.
+fn withdraw(alloc: Global, groups: &mut Groups, offers: &mut Offers) -> Result<Room, AllocError>
+    requires sends { All (λ s. s.group < length groups.old.groups) offers.old.sends.items }
+    requires receives { All (λ r. r.group < length groups.old.groups) offers.old.receives.items }
+    ensures silent { OnOk result (kept offers.new ≡ silent offers.old.process) }
+    ensures follows { OnOk result (Follows groups.old groups.new) }
+    ensures moves { OnOk result (Moves groups.old groups.new (part_of (kept offers.old)) nothing) }
+    ensures sends_room { IfOk result (λ room. room.sends.items ≡ []) }
+    ensures receives_room { IfOk result (λ room. room.receives.items ≡ []) }
+    ensures asked { IfOk result (λ room. room.asked ≡ false → NoneAsks offers.old.receives.items) }
+{
+    let mut receives = mem::replace(&mut offers.receives, Vec::new(alloc));
+    let mut sends = mem::replace(&mut offers.sends, Vec::new(alloc));
+    let asked = asks(receives.as_slice());
+    withdraw_sends(groups, sends.as_slice(), receives.as_slice())?;
+    withdraw_receives(groups, receives.as_slice())?;
+    sends.clear();
+    receives.clear();
+    Ok(Room {
+        sends,
+        receives,
+        asked,
+    })
+}
+
+/// Asks the sends of others anew, if something has changed for them. The only error is want of memory.
+fn renew_if<J: Judge>(
+    needed: bool,
+    groups: &mut Groups,
+    all: &mut [Offers],
+    process: u32,
+    receives: &[Receiving],
+    judge: &mut J,
+) -> Result<(), AllocError>
+    requires groups { All (λ e. All (λ s. s.group < length groups.old.groups) e.sends) (map kept all.old) }
+    requires takes { All (λ e. All (λ s. All (MayAsk J.takes judge.old s.sender s.group) receives.now) e.sends) (map kept all.old) }
+    requires same { needed ≡ false → map (renewed_in (J.verdict judge.old) process receives.now) (map kept all.old) ≡ map kept all.old }
+    ensures all { OnOk result (map kept all.new ≡ map (renewed_in (J.verdict judge.old) process receives.now) (map kept all.old)) }
+    ensures follows { OnOk result (Follows groups.old groups.new) }
+    ensures moves { OnOk result (Moves groups.old groups.new (total_of (map kept all.old)) (total_of (map kept all.new))) }
+    ensures stays { OnOk result (Stays J.takes J.verdict J.lent judge.old judge.new) }
+    ensures lent { J.lent judge.new ≡ J.lent judge.old }
+{
+    if !needed {
+        return Ok(());
+    }
+    renew_all(groups, all, process, receives, judge)
+}
+
+/// A process offers other sends and receives: those that it offered are forgotten, and the judge is
+/// asked about each pair with a condition and an end in the process. The only error is want of memory.
+pub(crate) fn replace<J: Judge>(
+    alloc: Global,
+    all: &mut [Offers],
+    groups: &mut Groups,
+    process: u32,
+    sends: Vec<SendOffer>,
+    receives: Vec<ReceiveOffer>,
+    judge: &mut J,
+) -> Result<(), AllocError>
+    requires within { process < length all.old }
+    requires holds { Holds groups.old (map kept all.old) }
+    requires sends_asked { MayTake J.takes judge.old (senders process sends.items) (receivers_of (map kept all.old)) }
+    requires receives_asked { MayTake J.takes judge.old (senders_of (map kept all.old)) (receivers process receives.items) }
+    ensures replaced { OnOk result (Replaced (J.verdict judge.old) process sends.items receives.items groups.old (map kept all.old) groups.new (map kept all.new)) }
+    ensures stays { OnOk result (Stays J.takes J.verdict J.lent judge.old judge.new) }
+    ensures lent { J.lent judge.new ≡ J.lent judge.old }
+{
+    let place = process as usize;
+    let room = withdraw(alloc, groups, &mut all[place])?;
+    let Room {
+        sends: mut sent,
+        receives: mut heard,
+        asked,
+    } = room;
+    hear(groups, process, receives, &mut heard)?;
+    offer(
+        alloc,
+        groups,
+        all,
+        process,
+        heard.as_slice(),
+        sends,
+        &mut sent,
+        judge,
+    )?;
+    let needed = asked || asks(heard.as_slice());
+    renew_if(needed, groups, all, process, heard.as_slice(), judge)?;
+    let offers = &mut all[place];
+    offers.sends = sent;
+    offers.receives = heard;
+    Ok(())
+}
+
+/// So many processes that offer nothing. The only error is want of memory.
+pub(crate) fn silence(alloc: Global, processes: u32) -> Result<Vec<Offers>, AllocError>
+    ensures { IfOk result (λ all. map kept all.items ≡ map silent (upto processes)) }
+{
+    let mut all = Vec::new(alloc);
+    for process in 0..processes {
+        all.push(Offers {
+            process,
+            sends: Vec::new(alloc),
+            receives: Vec::new(alloc),
+        })?;
+    }
+    Ok(all)
+}
+
+/// The same on a vector, with what the groups know. The only error is want of memory.
+pub(crate) fn replace_in<J: Judge>(
+    all: &mut Vec<Offers>,
+    groups: &mut Groups,
+    process: u32,
+    sends: Vec<SendOffer>,
+    receives: Vec<ReceiveOffer>,
+    judge: &mut J,
+) -> Result<(), AllocError>
+    requires within { process < length all.old.items }
+    requires holds { Holds groups.old (map kept all.old.items) }
+    requires sends_asked { MayTake J.takes judge.old (senders process sends.items) (receivers_of (map kept all.old.items)) }
+    requires receives_asked { MayTake J.takes judge.old (senders_of (map kept all.old.items)) (receivers process receives.items) }
+    ensures replaced { OnOk result (Replaced (J.verdict judge.old) process sends.items receives.items groups.old (map kept all.old.items) groups.new (map kept all.new.items)) }
+    ensures stays { OnOk result (Stays J.takes J.verdict J.lent judge.old judge.new) }
+    ensures lent { J.lent judge.new ≡ J.lent judge.old }
+    ensures within_old { All (λ x. x.wire < groups.old.wires) groups.old.groups }
+    ensures within { OnOk result (All (λ x. x.wire < groups.new.wires) groups.new.groups) }
+    ensures distinct { OnOk result (Distinct groups.new.groups) }
+{
+    groups.are_distinct();
+    let alloc = *all.allocator();
+    let slice = all.as_mut_slice();
+    replace(alloc, slice, groups, process, sends, receives, judge)?;
+    groups.are_distinct();
+    Ok(())
+}
