@@ -23,9 +23,11 @@ pub(crate) fn ask<J: Judge>(
     judge: &mut J,
 ) -> Result<(), AllocError>
     requires { All (MayAsk J.takes judge.old sender.now group) receives.now }
-    ensures rows { OnOk result (rows.new ≡ rows.old ++ asked (J.verdict judge.old) sender.now group process receives.now) }
+    ensures rows { OnOk result (rows.new ≡ rows.old ++ asked
+        (J.verdict judge.old) sender.now group process receives.now) }
     ensures stays { OnOk result (Stays J.takes J.verdict J.lent judge.old judge.new) }
-    ensures asked { OnOk result (J.asked judge.new ≡ J.asked judge.old + length (asked (J.verdict judge.old) sender.now group process receives.now)) }
+    ensures asked { OnOk result (J.asked judge.new ≡ J.asked judge.old + length
+        (asked (J.verdict judge.old) sender.now group process receives.now)) }
     ensures lent { J.lent judge.new ≡ J.lent judge.old }
 {
     for receive in receives {
@@ -47,9 +49,11 @@ pub(crate) fn ask_all<J: Judge>(
     judge: &mut J,
 ) -> Result<(), AllocError>
     requires { All (MayAskAll J.takes judge.old sender.now group) (map kept all.now) }
-    ensures rows { OnOk result (rows.new ≡ rows.old ++ flat_map (asked_in (J.verdict judge.old) sender.now group) (map kept all.now)) }
+    ensures rows { OnOk result (rows.new ≡ rows.old ++ flat_map
+        (asked_in (J.verdict judge.old) sender.now group) (map kept all.now)) }
     ensures stays { OnOk result (Stays J.takes J.verdict J.lent judge.old judge.new) }
-    ensures asked { OnOk result (J.asked judge.new ≡ J.asked judge.old + length (flat_map (asked_in (J.verdict judge.old) sender.now group) (map kept all.now))) }
+    ensures asked { OnOk result (J.asked judge.new ≡ J.asked judge.old + length
+        (flat_map (asked_in (J.verdict judge.old) sender.now group) (map kept all.now))) }
     ensures lent { J.lent judge.new ≡ J.lent judge.old }
 {
     for offers in all {

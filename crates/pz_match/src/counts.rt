@@ -87,7 +87,8 @@ impl Counts {
     /// numbers before that place leave; none where it is not below the sum of all.
     pub(crate) fn find(&self, rest: u64) -> Option<(usize, u64)>
         ensures { MatchOption result (sum self.now ≤ rest)
-            (λ x. (x.0 < length self.now) × (sum (take x.0 self.now) + x.1 ≡ rest) × (x.1 < slice_index self.now x.0)) }
+            (λ x. (x.0 < length self.now) × (sum (take x.0 self.now) + x.1 ≡ rest)
+            × (x.1 < slice_index self.now x.0)) }
     {
         find_in(self.numbers.as_slice(), rest)
     }
@@ -96,7 +97,8 @@ impl Counts {
 /// The place at which the sum of the numbers up to there passes this one, and how much is left there.
 fn find_in(numbers: &[u64], mut rest: u64) -> Option<(usize, u64)>
     ensures { MatchOption result (sum numbers.now ≤ rest)
-        (λ x. (x.0 < length numbers.now) × (sum (take x.0 numbers.now) + x.1 ≡ rest) × (x.1 < slice_index numbers.now x.0)) }
+        (λ x. (x.0 < length numbers.now) × (sum (take x.0 numbers.now) + x.1 ≡ rest)
+        × (x.1 < slice_index numbers.now x.0)) }
 {
     for (place, number) in numbers.iter().enumerate() {
         if rest < *number {

@@ -21,7 +21,8 @@ pub(crate) fn find(groups: &[Group], wire: u32, message: &Name, count: usize) ->
 
 /// Whether a group has these marks.
 fn has_marks(group: &Group, wire: u32, message: &Name, count: usize) -> bool
-    ensures { IsTrue result ↔ ((group.now.wire ≡ wire) × (group.now.count ≡ count) × (group.now.message ≡ message.now)) }
+    ensures { IsTrue result ↔ ((group.now.wire ≡ wire) × (group.now.count ≡ count)
+        × (group.now.message ≡ message.now)) }
 {
     group.wire == wire && group.count == count && group.message.as_str() == message.as_str()
 }

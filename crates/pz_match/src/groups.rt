@@ -239,7 +239,8 @@ impl Groups {
     /// The wire of the taken pair with this number, and its number on that wire.
     pub(crate) fn wire_of(&self, pair: u64) -> Option<(usize, u64)>
         ensures { MatchOption result (sum_by (on_wire self.now.groups) (upto self.now.wires) ≤ pair)
-            (λ x. (x.0 < self.now.wires) × (sum_by (on_wire self.now.groups) (upto x.0) + x.1 ≡ pair) × (x.1 < on_wire self.now.groups x.0)) }
+            (λ x. (x.0 < self.now.wires) × (sum_by (on_wire self.now.groups) (upto x.0) + x.1 ≡
+            pair) × (x.1 < on_wire self.now.groups x.0)) }
     {
         self.counts.find(pair)
     }

@@ -18,7 +18,8 @@ fn hear_one(
     process: u32,
     offer: ReceiveOffer,
 ) -> Result<Option<Receiving>, AllocError>
-    ensures { IfOk result (λ r. Heard groups.old groups.new process (offer ∷ []) (option_to_list r)) }
+    ensures { IfOk result (λ r. Heard groups.old groups.new process (offer ∷ [])
+        (option_to_list r)) }
 {
     let Some(wire) = offer.wire else {
         return Ok(None);

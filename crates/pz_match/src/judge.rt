@@ -30,9 +30,12 @@ pub trait Judge {
         receiver: &End,
     ) -> Result<Verdict, AllocError>
         requires { takes self.old sender.now parcel.now receiver.now }
-        ensures verdict { IfOk result (λ v. v ≡ verdict self.old sender.now parcel.now receiver.now) }
-        ensures takes { (s : End) (p : ParcelView) (r : End) → takes self.old s p r → takes self.new s p r }
-        ensures verdicts { (s : End) (p : ParcelView) (r : End) → verdict self.new s p r ≡ verdict self.old s p r }
+        ensures verdict { IfOk result (λ v. v ≡ verdict self.old sender.now parcel.now
+            receiver.now) }
+        ensures takes { (s : End) (p : ParcelView) (r : End) → takes self.old s p r →
+            takes self.new s p r }
+        ensures verdicts { (s : End) (p : ParcelView) (r : End) →
+            verdict self.new s p r ≡ verdict self.old s p r }
         ensures lent { lent self.new ≡ lent self.old }
         ensures asked { asked self.new ≡ asked self.old + 1 };
 }

@@ -33,7 +33,8 @@ fn rows_for<J: Judge>(
 ) -> Result<Rows, AllocError>
     requires covers { (total_of (map kept all.now) group).asking ≤ asking }
     requires takes { All (MayAskAll J.takes judge.old sender.now group) (map kept all.now) }
-    ensures rows { IfOk result (λ rows. rows ≡ flat_map (asked_in (J.verdict judge.old) sender.now group) (map kept all.now)) }
+    ensures rows { IfOk result (λ rows. rows ≡ flat_map
+        (asked_in (J.verdict judge.old) sender.now group) (map kept all.now)) }
     ensures stays { OnOk result (Stays J.takes J.verdict J.lent judge.old judge.new) }
     ensures asked { IfOk result (λ rows. J.asked judge.new ≡ J.asked judge.old + length rows) }
     ensures lent { J.lent judge.new ≡ J.lent judge.old }
@@ -58,12 +59,17 @@ fn offer_one<J: Judge>(
     judge: &mut J,
 ) -> Result<Option<Sending>, AllocError>
     requires keyed { All (λ e. All (ReceiveKeyed groups.old) e.receives) (map kept all.now) }
-    requires own { All (λ e. All (λ r. r.receiver.end.process ≡ e.process) e.receives) (map kept all.now) }
+    requires own { All (λ e. All (λ r. r.receiver.end.process ≡ e.process) e.receives)
+        (map kept all.now) }
     requires covers { Covers groups.old (map kept all.now) }
-    requires takes { MayTake J.takes judge.old (senders process (offer ∷ [])) (receivers_of (map kept all.now)) }
-    ensures offered { IfOk result (λ s. Offered (J.verdict judge.old) (map kept all.now) receives.now groups.old groups.new process (offer ∷ []) (option_to_list s)) }
+    requires takes { MayTake J.takes judge.old (senders process (offer ∷ []))
+        (receivers_of (map kept all.now)) }
+    ensures offered { IfOk result (λ s. Offered (J.verdict judge.old)
+        (map kept all.now) receives.now groups.old groups.new process (offer ∷ [])
+        (option_to_list s)) }
     ensures stays { OnOk result (Stays J.takes J.verdict J.lent judge.old judge.new) }
-    ensures asked { IfOk result (λ s. J.asked judge.new ≡ J.asked judge.old + sum_by (λ x. length x.rows) (option_to_list s)) }
+    ensures asked { IfOk result (λ s. J.asked judge.new ≡ J.asked judge.old + sum_by
+        (λ x. length x.rows) (option_to_list s)) }
     ensures lent { J.lent judge.new ≡ J.lent judge.old }
 {
     let Some(wire) = offer.wire else {
@@ -113,12 +119,16 @@ pub(crate) fn offer<J: Judge>(
 ) -> Result<(), AllocError>
     requires empty { sent.old.items ≡ [] }
     requires keyed { All (λ e. All (ReceiveKeyed groups.old) e.receives) (map kept all.now) }
-    requires own { All (λ e. All (λ r. r.receiver.end.process ≡ e.process) e.receives) (map kept all.now) }
+    requires own { All (λ e. All (λ r. r.receiver.end.process ≡ e.process) e.receives)
+        (map kept all.now) }
     requires covers { Covers groups.old (map kept all.now) }
-    requires takes { MayTake J.takes judge.old (senders process offers.items) (receivers_of (map kept all.now)) }
-    ensures offered { OnOk result (Offered (J.verdict judge.old) (map kept all.now) receives.now groups.old groups.new process offers.items sent.new.items) }
+    requires takes { MayTake J.takes judge.old (senders process offers.items)
+        (receivers_of (map kept all.now)) }
+    ensures offered { OnOk result (Offered (J.verdict judge.old)
+        (map kept all.now) receives.now groups.old groups.new process offers.items sent.new.items) }
     ensures stays { OnOk result (Stays J.takes J.verdict J.lent judge.old judge.new) }
-    ensures asked { OnOk result (J.asked judge.new ≡ J.asked judge.old + sum_by (λ x. length x.rows) sent.new.items) }
+    ensures asked { OnOk result (J.asked judge.new ≡ J.asked judge.old + sum_by
+        (λ x. length x.rows) sent.new.items) }
     ensures lent { J.lent judge.new ≡ J.lent judge.old }
 {
     for offer in offers {

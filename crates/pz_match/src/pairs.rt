@@ -68,14 +68,22 @@ impl Pairs {
         requires there { self.old.lost ≡ false }
         requires sends_ordered { AllPairs (λ s t. PlaceBefore s.place t.place) sends.items }
         requires receives_ordered { AllPairs (λ r q. PlaceBefore r.place q.place) receives.items }
-        requires sends_asked { MayTake J.takes judge.old (senders process sends.items) (all_receivers self.old) }
-        requires receives_asked { MayTake J.takes judge.old (all_senders self.old) (receivers process receives.items) }
-        ensures senders { OnOk result (self.new.senders ≡ slice_set self.old.senders process (senders process sends.items)) }
-        ensures receivers { OnOk result (self.new.receivers ≡ slice_set self.old.receivers process (receivers process receives.items)) }
-        ensures pairs { OnOk result (ArePairs (all_senders self.new) (all_receivers self.new) self.new.pairs) }
-        ensures free { OnOk result (All (λ p. p.receiver.conditional ≡ false → p.verdict ≡ Yes) self.new.pairs) }
-        ensures asked_now { OnOk result (All (λ p. touches process p ≡ true → p.verdict ≡ said (J.verdict judge.old) p.sender p.receiver) self.new.pairs) }
-        ensures others { OnOk result (filter (λ p. not (touches process p)) self.new.pairs ≡ filter (λ p. not (touches process p)) self.old.pairs) }
+        requires sends_asked { MayTake J.takes judge.old (senders process sends.items)
+            (all_receivers self.old) }
+        requires receives_asked { MayTake J.takes judge.old (all_senders self.old)
+            (receivers process receives.items) }
+        ensures senders { OnOk result (self.new.senders ≡ slice_set self.old.senders process
+            (senders process sends.items)) }
+        ensures receivers { OnOk result (self.new.receivers ≡ slice_set self.old.receivers process
+            (receivers process receives.items)) }
+        ensures pairs { OnOk result (ArePairs (all_senders self.new)
+            (all_receivers self.new) self.new.pairs) }
+        ensures free { OnOk result (All (λ p. p.receiver.conditional ≡ false →
+            p.verdict ≡ Yes) self.new.pairs) }
+        ensures asked_now { OnOk result (All (λ p. touches process p ≡ true →
+            p.verdict ≡ said (J.verdict judge.old) p.sender p.receiver) self.new.pairs) }
+        ensures others { OnOk result (filter (λ p. not (touches process p)) self.new.pairs ≡ filter
+            (λ p. not (touches process p)) self.old.pairs) }
         ensures stays { OnOk result (Stays J.takes J.verdict J.lent judge.old judge.new) }
         ensures lent { J.lent judge.new ≡ J.lent judge.old }
         ensures there { OnOk result (self.new.lost ≡ false) }

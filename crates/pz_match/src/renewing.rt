@@ -18,7 +18,14 @@ use std::alloc::AllocError;
 
 /// What rows add to the group of their send.
 fn rows_tally(rows: &[Row]) -> Tally
-    ensures { result ≡ record { sends = 0; free = 0; own = 0; asking = 0; yes = yeses rows.now; troubles = troubled rows.now } }
+    ensures { result ≡ record {
+      sends = 0;
+      free = 0;
+      own = 0;
+      asking = 0;
+      yes = yeses rows.now;
+      troubles = troubled rows.now;
+    } }
 {
     Tally {
         yes: yeses(rows) as u64,
@@ -37,12 +44,15 @@ fn renew<J: Judge>(
 ) -> Result<(), AllocError>
     requires group { send.old.group < length groups.old.groups }
     requires takes { All (MayAsk J.takes judge.old send.old.sender send.old.group) receives.now }
-    ensures send { OnOk result (send.new ≡ renewed (J.verdict judge.old) process receives.now send.old) }
+    ensures send { OnOk result (send.new ≡ renewed
+        (J.verdict judge.old) process receives.now send.old) }
     ensures follows { OnOk result (Follows groups.old groups.new) }
-    ensures moves { OnOk result ((rs : List Receiving) → Moves groups.old groups.new (send_part rs send.old) (send_part rs send.new)) }
+    ensures moves { OnOk result ((rs : List Receiving) →
+        Moves groups.old groups.new (send_part rs send.old) (send_part rs send.new)) }
     ensures count { OnOk result (length groups.new.groups ≡ length groups.old.groups) }
     ensures stays { OnOk result (Stays J.takes J.verdict J.lent judge.old judge.new) }
-    ensures asked { OnOk result (J.asked judge.new ≡ J.asked judge.old + length (asked (J.verdict judge.old) send.old.sender send.old.group process receives.now)) }
+    ensures asked { OnOk result (J.asked judge.new ≡ J.asked judge.old + length
+        (asked (J.verdict judge.old) send.old.sender send.old.group process receives.now)) }
     ensures lent { J.lent judge.new ≡ J.lent judge.old }
 {
     let less = rows_tally(send.rows.as_slice());
@@ -68,13 +78,18 @@ fn renew_sends<J: Judge>(
     judge: &mut J,
 ) -> Result<(), AllocError>
     requires groups { All (λ s. s.group < length groups.old.groups) sends.old }
-    requires takes { All (λ s. All (MayAsk J.takes judge.old s.sender s.group) receives.now) sends.old }
-    ensures sends { OnOk result (sends.new ≡ map (renewed (J.verdict judge.old) process receives.now) sends.old) }
+    requires takes { All (λ s. All (MayAsk J.takes judge.old s.sender s.group) receives.now)
+        sends.old }
+    ensures sends { OnOk result (sends.new ≡ map
+        (renewed (J.verdict judge.old) process receives.now) sends.old) }
     ensures follows { OnOk result (Follows groups.old groups.new) }
-    ensures moves { OnOk result ((rs : List Receiving) → Moves groups.old groups.new (sends_part rs sends.old) (sends_part rs sends.new)) }
+    ensures moves { OnOk result ((rs : List Receiving) →
+        Moves groups.old groups.new (sends_part rs sends.old) (sends_part rs sends.new)) }
     ensures count { OnOk result (length groups.new.groups ≡ length groups.old.groups) }
     ensures stays { OnOk result (Stays J.takes J.verdict J.lent judge.old judge.new) }
-    ensures asked { OnOk result (J.asked judge.new ≡ J.asked judge.old + sum_by (λ s. length (asked (J.verdict judge.old) s.sender s.group process receives.now)) sends.old) }
+    ensures asked { OnOk result (J.asked judge.new ≡ J.asked judge.old + sum_by
+        (λ s. length (asked (J.verdict judge.old) s.sender s.group process receives.now))
+        sends.old) }
     ensures lent { J.lent judge.new ≡ J.lent judge.old }
 {
     for place in 0..sends.len() {
@@ -92,13 +107,18 @@ fn renew_offers<J: Judge>(
     judge: &mut J,
 ) -> Result<(), AllocError>
     requires groups { All (λ s. s.group < length groups.old.groups) offers.old.sends.items }
-    requires takes { All (λ s. All (MayAsk J.takes judge.old s.sender s.group) receives.now) offers.old.sends.items }
-    ensures offers { OnOk result (kept offers.new ≡ renewed_in (J.verdict judge.old) process receives.now (kept offers.old)) }
+    requires takes { All (λ s. All (MayAsk J.takes judge.old s.sender s.group) receives.now)
+        offers.old.sends.items }
+    ensures offers { OnOk result (kept offers.new ≡ renewed_in
+        (J.verdict judge.old) process receives.now (kept offers.old)) }
     ensures follows { OnOk result (Follows groups.old groups.new) }
-    ensures moves { OnOk result (Moves groups.old groups.new (part_of (kept offers.old)) (part_of (kept offers.new))) }
+    ensures moves { OnOk result (Moves groups.old groups.new (part_of (kept offers.old))
+        (part_of (kept offers.new))) }
     ensures count { OnOk result (length groups.new.groups ≡ length groups.old.groups) }
     ensures stays { OnOk result (Stays J.takes J.verdict J.lent judge.old judge.new) }
-    ensures asked { OnOk result (J.asked judge.new ≡ J.asked judge.old + sum_by (λ s. length (asked (J.verdict judge.old) s.sender s.group process receives.now)) offers.old.sends.items) }
+    ensures asked { OnOk result (J.asked judge.new ≡ J.asked judge.old + sum_by
+        (λ s. length (asked (J.verdict judge.old) s.sender s.group process receives.now))
+        offers.old.sends.items) }
     ensures lent { J.lent judge.new ≡ J.lent judge.old }
 {
     let sends = offers.sends.as_mut_slice();
@@ -115,13 +135,19 @@ pub(crate) fn renew_all<J: Judge>(
     receives: &[Receiving],
     judge: &mut J,
 ) -> Result<(), AllocError>
-    requires groups { All (λ e. All (λ s. s.group < length groups.old.groups) e.sends) (map kept all.old) }
-    requires takes { All (λ e. All (λ s. All (MayAsk J.takes judge.old s.sender s.group) receives.now) e.sends) (map kept all.old) }
-    ensures all { OnOk result (map kept all.new ≡ map (renewed_in (J.verdict judge.old) process receives.now) (map kept all.old)) }
+    requires groups { All (λ e. All (λ s. s.group < length groups.old.groups) e.sends)
+        (map kept all.old) }
+    requires takes { All (λ e. All (λ s. All (MayAsk J.takes judge.old s.sender s.group)
+        receives.now) e.sends) (map kept all.old) }
+    ensures all { OnOk result (map kept all.new ≡ map
+        (renewed_in (J.verdict judge.old) process receives.now) (map kept all.old)) }
     ensures follows { OnOk result (Follows groups.old groups.new) }
-    ensures moves { OnOk result (Moves groups.old groups.new (total_of (map kept all.old)) (total_of (map kept all.new))) }
+    ensures moves { OnOk result (Moves groups.old groups.new (total_of (map kept all.old))
+        (total_of (map kept all.new))) }
     ensures stays { OnOk result (Stays J.takes J.verdict J.lent judge.old judge.new) }
-    ensures asked { OnOk result (J.asked judge.new ≡ J.asked judge.old + sum_by (λ e. sum_by (λ s. length (asked (J.verdict judge.old) s.sender s.group process receives.now)) e.sends) (map kept all.old)) }
+    ensures asked { OnOk result (J.asked judge.new ≡ J.asked judge.old + sum_by
+        (λ e. sum_by (λ s. length (asked (J.verdict judge.old) s.sender s.group process
+        receives.now)) e.sends) (map kept all.old)) }
     ensures lent { J.lent judge.new ≡ J.lent judge.old }
 {
     for place in 0..all.len() {

@@ -53,8 +53,10 @@ fn find_send(
     wire: usize,
     number: u64,
 ) -> Result<Seat, u64>
-    ensures { MatchResult result (IsSeat (number_on sort groups.now.groups wire offers.now.receives.items) offers.now.sends.items number)
-        (λ left. sum_by (number_on sort groups.now.groups wire offers.now.receives.items) offers.now.sends.items + left ≡ number) }
+    ensures { MatchResult result (IsSeat (number_on sort groups.now.groups wire
+        offers.now.receives.items) offers.now.sends.items number)
+        (λ left. sum_by (number_on sort groups.now.groups wire offers.now.receives.items)
+        offers.now.sends.items + left ≡ number) }
 {
     let receives = offers.receives.as_slice();
     let sends = offers.sends.as_slice();
@@ -77,7 +79,8 @@ fn next_row(rows: &[Row], from: usize, process: u32) -> usize
     requires { from ≤ length rows.now }
     ensures within { result ≤ length rows.now }
     ensures same { rows_at process (drop from rows.now) ≡ rows_at process (drop result rows.now) }
-    ensures here { result < length rows.now → (d : Row) → (slice_index_or rows.now result d).process ≡ process }
+    ensures here { result < length rows.now → (d : Row) →
+        (slice_index_or rows.now result d).process ≡ process }
 {
     for place in from..rows.len() {
         if rows[place].process == process {
@@ -91,7 +94,8 @@ fn next_row(rows: &[Row], from: usize, process: u32) -> usize
 fn answer(receive: &Receiving, rows: &[Row], from: usize, process: u32) -> (Verdict, usize)
     requires { from ≤ length rows.now }
     ensures within { result.1 ≤ length rows.now }
-    ensures answer { IsAnswer receive.now.receiver.conditional (rows_at process (drop from rows.now)) result.0 (rows_at process (drop result.1 rows.now)) }
+    ensures answer { IsAnswer receive.now.receiver.conditional
+        (rows_at process (drop from rows.now)) result.0 (rows_at process (drop result.1 rows.now)) }
 {
     if !receive.receiver.conditional {
         return (Verdict::Yes, from);
@@ -106,8 +110,10 @@ fn answer(receive: &Receiving, rows: &[Row], from: usize, process: u32) -> (Verd
 
 /// The receive of a process with the pair of this number of a send; else what of the number is left.
 fn find_in(sort: Sort, send: &Sending, offers: &Offers, number: u64) -> Result<Hit, u64>
-    ensures { MatchResult result (IsHit sort send.now offers.now.receives.items (rows_at offers.now.process send.now.rows) number)
-        (λ left. length (sought sort (answers send.now.sender send.now.group (rows_at offers.now.process send.now.rows) offers.now.receives.items)) + left ≡ number) }
+    ensures { MatchResult result (IsHit sort send.now offers.now.receives.items
+        (rows_at offers.now.process send.now.rows) number)
+        (λ left. length (sought sort (answers send.now.sender send.now.group
+        (rows_at offers.now.process send.now.rows) offers.now.receives.items)) + left ≡ number) }
 {
     let rows = send.rows.as_slice();
     let receives = offers.receives.as_slice();
@@ -132,8 +138,8 @@ fn find_in(sort: Sort, send: &Sending, offers: &Offers, number: u64) -> Result<H
 
 /// The receive with the pair of this number of a send.
 fn find_taker(sort: Sort, all: &[Offers], send: &Sending, number: u64) -> Option<Taker>
-    ensures { MatchOption result (length (sought sort (pairs_of (map kept all.now) send.now)) ≤ number)
-        (IsTaker sort (map kept all.now) send.now number) }
+    ensures { MatchOption result (length (sought sort (pairs_of (map kept all.now) send.now)) ≤
+        number) (IsTaker sort (map kept all.now) send.now number) }
 {
     let mut rest = number;
     for (process, offers) in all.iter().enumerate() {
@@ -156,8 +162,12 @@ fn couple(
     send: &Sending,
     number: u64,
 ) -> Option<Couple>
-    ensures { MatchOption result (length (sought sort (pairs_of (map kept all.now) send.now)) ≤ number)
-        (λ c. (c.sender ≡ sender) × IsTaker sort (map kept all.now) send.now number (record { process = c.receiver.0; hit = record { place = c.receiver.1; verdict = c.verdict } })) }
+    ensures { MatchOption result (length (sought sort (pairs_of (map kept all.now) send.now)) ≤
+        number) (λ c. (c.sender ≡ sender) × IsTaker sort (map kept all.now) send.now number
+        (record {
+          process = c.receiver.0;
+          hit = record { place = c.receiver.1; verdict = c.verdict };
+        })) }
 {
     match find_taker(sort, all, send, number) {
         Some(taker) => Some(Couple {
@@ -229,7 +239,8 @@ pub(crate) fn find_trouble(groups: &Groups, all: &[Offers]) -> Option<Trouble>
 /// The end of the send at this place of a process. The only error is want of memory.
 fn end_of_send(all: &[Offers], process: usize, place: usize) -> Result<End, AllocError>
     requires { IsSend (map kept all.now) process place }
-    ensures { (s : Sending) → IsSendAt (map kept all.now) process place s → IfOk result (λ end. end ≡ s.sender.end) }
+    ensures { (s : Sending) → IsSendAt (map kept all.now) process place s →
+        IfOk result (λ end. end ≡ s.sender.end) }
 {
     all[process].sends[place].sender.end.copy()
 }
@@ -237,7 +248,8 @@ fn end_of_send(all: &[Offers], process: usize, place: usize) -> Result<End, Allo
 /// The end of the receive at this place of a process. The only error is want of memory.
 fn end_of_receive(all: &[Offers], process: usize, place: usize) -> Result<End, AllocError>
     requires { IsReceive (map kept all.now) process place }
-    ensures { (r : Receiving) → IsReceiveAt (map kept all.now) process place r → IfOk result (λ end. end ≡ r.receiver.end) }
+    ensures { (r : Receiving) → IsReceiveAt (map kept all.now) process place r →
+        IfOk result (λ end. end ≡ r.receiver.end) }
 {
     all[process].receives[place].receiver.end.copy()
 }
@@ -250,7 +262,8 @@ pub(crate) fn pair_on(
     number: u64,
 ) -> Result<Option<(End, End)>, AllocError>
     requires { Holds groups.now (map kept all.now) }
-    ensures { IfOk result (λ pair. pair ≡ slice_get (map ends (taken (pairs_on (map kept all.now) wire))) number) }
+    ensures { IfOk result (λ pair. pair ≡ slice_get
+        (map ends (taken (pairs_on (map kept all.now) wire))) number) }
 {
     match find_on(Sort::Taken, groups, all, wire, number) {
         None => Ok(None),

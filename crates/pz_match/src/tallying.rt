@@ -40,7 +40,16 @@ pub(crate) fn troubled(rows: &[Row]) -> usize
 
 /// What a send adds to its group, in a process with these receives.
 pub(crate) fn send_tally(send: &Sending, receives: &[Receiving]) -> Tally
-    ensures { result ≡ record { sends = 1; free = 0; own = count_by (free_in send.now.group) receives.now; asking = 0; yes = yeses send.now.rows; troubles = troubled send.now.rows } }
+    ensures { result ≡ record {
+      sends = 1;
+      free = 0;
+      own = count_by
+          (free_in send.now.group) receives.now;
+      asking = 0;
+      yes = yeses send.now.rows;
+      troubles =
+          troubled send.now.rows;
+    } }
 {
     Tally {
         sends: 1,
@@ -61,7 +70,8 @@ pub(crate) fn adjust(
 ) -> Result<(), AllocError>
     requires { number < length groups.old.groups }
     ensures follows { OnOk result (Follows groups.old groups.new) }
-    ensures moves { OnOk result (Moves groups.old groups.new (only_in number less) (only_in number more)) }
+    ensures moves { OnOk result (Moves groups.old groups.new (only_in number less)
+        (only_in number more)) }
     ensures count { OnOk result (length groups.new.groups ≡ length groups.old.groups) }
 {
     let Some(both) = groups.tally(number).plus(more) else {
@@ -81,7 +91,8 @@ pub(crate) fn withdraw_sends(
 ) -> Result<(), AllocError>
     requires { All (λ s. s.group < length groups.old.groups) sends.now }
     ensures follows { OnOk result (Follows groups.old groups.new) }
-    ensures moves { OnOk result (Moves groups.old groups.new (sends_part receives.now sends.now) nothing) }
+    ensures moves { OnOk result (Moves groups.old groups.new
+        (sends_part receives.now sends.now) nothing) }
     ensures count { OnOk result (length groups.new.groups ≡ length groups.old.groups) }
 {
     for send in sends {
@@ -140,7 +151,8 @@ pub(crate) fn add_send(
 ) -> Result<(), AllocError>
     requires { send.now.group < length groups.old.groups }
     ensures follows { OnOk result (Follows groups.old groups.new) }
-    ensures moves { OnOk result (Moves groups.old groups.new nothing (send_part receives.now send.now)) }
+    ensures moves { OnOk result (Moves groups.old groups.new nothing
+        (send_part receives.now send.now)) }
 {
     let tally = send_tally(send, receives);
     adjust(groups, send.group, NOTHING, tally)

@@ -71,12 +71,17 @@ fn renew_if<J: Judge>(
     receives: &[Receiving],
     judge: &mut J,
 ) -> Result<(), AllocError>
-    requires groups { All (λ e. All (λ s. s.group < length groups.old.groups) e.sends) (map kept all.old) }
-    requires takes { All (λ e. All (λ s. All (MayAsk J.takes judge.old s.sender s.group) receives.now) e.sends) (map kept all.old) }
-    requires same { needed ≡ false → map (renewed_in (J.verdict judge.old) process receives.now) (map kept all.old) ≡ map kept all.old }
-    ensures all { OnOk result (map kept all.new ≡ map (renewed_in (J.verdict judge.old) process receives.now) (map kept all.old)) }
+    requires groups { All (λ e. All (λ s. s.group < length groups.old.groups) e.sends)
+        (map kept all.old) }
+    requires takes { All (λ e. All (λ s. All (MayAsk J.takes judge.old s.sender s.group)
+        receives.now) e.sends) (map kept all.old) }
+    requires same { needed ≡ false → map (renewed_in (J.verdict judge.old) process receives.now)
+        (map kept all.old) ≡ map kept all.old }
+    ensures all { OnOk result (map kept all.new ≡ map
+        (renewed_in (J.verdict judge.old) process receives.now) (map kept all.old)) }
     ensures follows { OnOk result (Follows groups.old groups.new) }
-    ensures moves { OnOk result (Moves groups.old groups.new (total_of (map kept all.old)) (total_of (map kept all.new))) }
+    ensures moves { OnOk result (Moves groups.old groups.new (total_of (map kept all.old))
+        (total_of (map kept all.new))) }
     ensures stays { OnOk result (Stays J.takes J.verdict J.lent judge.old judge.new) }
     ensures lent { J.lent judge.new ≡ J.lent judge.old }
 {
@@ -99,9 +104,12 @@ pub(crate) fn replace<J: Judge>(
 ) -> Result<(), AllocError>
     requires within { process < length all.old }
     requires holds { Holds groups.old (map kept all.old) }
-    requires sends_asked { MayTake J.takes judge.old (senders process sends.items) (receivers_of (map kept all.old)) }
-    requires receives_asked { MayTake J.takes judge.old (senders_of (map kept all.old)) (receivers process receives.items) }
-    ensures replaced { OnOk result (Replaced (J.verdict judge.old) process sends.items receives.items groups.old (map kept all.old) groups.new (map kept all.new)) }
+    requires sends_asked { MayTake J.takes judge.old (senders process sends.items)
+        (receivers_of (map kept all.old)) }
+    requires receives_asked { MayTake J.takes judge.old (senders_of (map kept all.old))
+        (receivers process receives.items) }
+    ensures replaced { OnOk result (Replaced (J.verdict judge.old) process sends.items
+        receives.items groups.old (map kept all.old) groups.new (map kept all.new)) }
     ensures stays { OnOk result (Stays J.takes J.verdict J.lent judge.old judge.new) }
     ensures lent { J.lent judge.new ≡ J.lent judge.old }
 {
@@ -157,9 +165,12 @@ pub(crate) fn replace_in<J: Judge>(
 ) -> Result<(), AllocError>
     requires within { process < length all.old.items }
     requires holds { Holds groups.old (map kept all.old.items) }
-    requires sends_asked { MayTake J.takes judge.old (senders process sends.items) (receivers_of (map kept all.old.items)) }
-    requires receives_asked { MayTake J.takes judge.old (senders_of (map kept all.old.items)) (receivers process receives.items) }
-    ensures replaced { OnOk result (Replaced (J.verdict judge.old) process sends.items receives.items groups.old (map kept all.old.items) groups.new (map kept all.new.items)) }
+    requires sends_asked { MayTake J.takes judge.old (senders process sends.items)
+        (receivers_of (map kept all.old.items)) }
+    requires receives_asked { MayTake J.takes judge.old (senders_of (map kept all.old.items))
+        (receivers process receives.items) }
+    ensures replaced { OnOk result (Replaced (J.verdict judge.old) process sends.items
+        receives.items groups.old (map kept all.old.items) groups.new (map kept all.new.items)) }
     ensures stays { OnOk result (Stays J.takes J.verdict J.lent judge.old judge.new) }
     ensures lent { J.lent judge.new ≡ J.lent judge.old }
     ensures within_old { All (λ x. x.wire < groups.old.wires) groups.old.groups }
