@@ -47,7 +47,7 @@ pub fn ask_test(
     state: &mut State,
     frame: FrameId,
     pos: Pos,
-    test: &Code,
+    test: &Shared<Code>,
 ) -> Result<Result<bool, Trouble>, AllocError>
     requires { AreKnown here.now.classes.now }
     ensures tests { (m : ModelTree) (class : ℕ) → Knows m here.now →
@@ -56,7 +56,15 @@ pub fn ask_test(
     ensures state { state.new ≡ state.old }
 {
     let allowed = allowance(here.limits);
-    let outcome = try_eval(alloc, here.classes, state, frame, here.clock, test, allowed)?;
+    let outcome = try_eval(
+        alloc,
+        here.classes,
+        state,
+        frame,
+        here.clock,
+        test.get(),
+        allowed,
+    )?;
     Ok(tested(here.process, pos, outcome))
 }
 
@@ -67,7 +75,7 @@ pub fn ask_time(
     state: &mut State,
     frame: FrameId,
     pos: Pos,
-    time: &Code,
+    time: &Shared<Code>,
 ) -> Result<Result<u128, Trouble>, AllocError>
     requires { AreKnown here.now.classes.now }
     ensures lasts { (m : ModelTree) (class : ℕ) → Knows m here.now →
@@ -76,7 +84,15 @@ pub fn ask_time(
     ensures state { state.new ≡ state.old }
 {
     let allowed = allowance(here.limits);
-    let outcome = try_eval(alloc, here.classes, state, frame, here.clock, time, allowed)?;
+    let outcome = try_eval(
+        alloc,
+        here.classes,
+        state,
+        frame,
+        here.clock,
+        time.get(),
+        allowed,
+    )?;
     Ok(duration_of(here.process, pos, outcome))
 }
 

@@ -23,7 +23,7 @@ use pz_offer::{Place, Trouble};
 use pz_part_queries::{Standpoint, ask_parcel, ask_time};
 use pz_rules::Kind;
 use pz_state::{FrameId, State};
-use pz_syntax::{Id, Name, Pos};
+use pz_syntax::{Id, Pos};
 use std::alloc::{AllocError, Global};
 
 /// A part that can act by itself.
@@ -84,7 +84,7 @@ fn note_delay(
     state: &mut State,
     frame: FrameId,
     pos: Pos,
-    time: &Code,
+    time: &Shared<Code>,
     place: &Place,
     found: &mut Found,
 ) -> Result<(), AllocError>
@@ -110,7 +110,7 @@ fn note_send(
     frame: FrameId,
     pos: Pos,
     port: u32,
-    name: &Id,
+    name: &Shared<Id>,
     args: &Option<Shared<Items<Code>>>,
     place: &Place,
     found: &mut Found,
@@ -125,7 +125,7 @@ fn note_send(
     pz_rules::laws::evaluations_are_computed();
     match ask_parcel(alloc, here, state, frame, pos, args)? {
         Ok(parcel) => {
-            let message = name.name.copy()?;
+            let message = name.get().name.copy()?;
             let place = place.copy()?;
             found.sends.push(ActiveSend {
                 place,
@@ -154,16 +154,16 @@ fn count_of(into: &Option<Shared<Items<Slot>>>) -> usize
 fn note_receive(
     pos: Pos,
     port: u32,
-    name: &Name,
+    name: &Shared<Id>,
     count: usize,
     place: &Place,
     found: &mut Found,
 ) -> Result<(), AllocError>
     ensures { (a : Context) (f : ℕ) (t : terms.Term) →
-        notes_of a f t ≡ only_receives pos port name.now count →
+        notes_of a f t ≡ only_receives pos port name.now.name count →
         OnOk result (Adds a place.now (part_here f t ∷ []) found.old found.new) }
 {
-    let message = name.copy()?;
+    let message = name.get().name.copy()?;
     let place = place.copy()?;
     found.receives.push(ActiveReceive {
         place,
@@ -199,39 +199,21 @@ pub(crate) fn note_step(
         StepForm::If(_, _, _) => note_action(found, place, Kind::Test, pos),
         StepForm::While(_, _) => note_action(found, place, Kind::Test, pos),
         StepForm::Call { .. } => note_action(found, place, Kind::Call, pos),
-        StepForm::Delay(time) => note_delay(
-            alloc,
-            here,
-            state,
-            frame,
-            pos,
-            time.get(),
-            place,
-            found,
-        ),
+        StepForm::Delay(time) => note_delay(alloc, here, state, frame, pos, time, place, found),
         StepForm::Send {
             port,
             name,
             args,
             ..
         } => note_send(
-            alloc,
-            here,
-            state,
-            frame,
-            pos,
-            *port,
-            name.get(),
-            args,
-            place,
-            found,
+            alloc, here, state, frame, pos, *port, name, args, place, found,
         ),
         StepForm::Receive {
             port,
             name,
             into,
             ..
-        } => note_receive(pos, *port, &name.get().name, count_of(into), place, found),
+        } => note_receive(pos, *port, name, count_of(into), place, found),
         StepForm::Group(_) => Ok(()),
         StepForm::Guard(_, _) => Ok(()),
         StepForm::Par(_) => Ok(()),

@@ -14,6 +14,7 @@ ghost use Rattle.pz_term_enabled.specs.devices.Listings.{Adds};
 use crate::found::Found;
 use crate::noting::{note_left, note_step, note_trouble};
 use pz_classes_code::Code;
+use pz_items::Shared;
 use pz_offer::Place;
 use pz_part_queries::{Standpoint, ask_test};
 use pz_rules::Term;
@@ -57,7 +58,7 @@ fn walk_part(
             here,
             state,
             frame,
-            test.get(),
+            test,
             *pos,
             body.get(),
             place,
@@ -176,7 +177,7 @@ fn walk_guarded(
     here: &Standpoint<'_>,
     state: &mut State,
     frame: FrameId,
-    test: &Code,
+    test: &Shared<Code>,
     pos: Pos,
     body: &Term,
     place: &mut Place,

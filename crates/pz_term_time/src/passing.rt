@@ -51,7 +51,7 @@ fn time_left(
     pz_rules::laws::evaluations_are_computed();
     match &step.form {
         StepForm::Delay(lasting) => {
-            let left = ask_time(alloc, here, state, frame, step.pos, lasting.get())?;
+            let left = ask_time(alloc, here, state, frame, step.pos, lasting)?;
             Ok(left.ok())
         }
         _ => Ok(None),
@@ -225,7 +225,7 @@ fn pass_guarded(
     ensures state { state.new ≡ state.old }
 {
     pz_rules::laws::evaluations_are_computed();
-    let answer = ask_test(alloc, here, state, frame, pos, test.get())?;
+    let answer = ask_test(alloc, here, state, frame, pos, &test)?;
     if !is_open(answer) {
         return Ok(Term::Guard { test, pos, body });
     }
