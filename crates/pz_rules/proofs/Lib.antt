@@ -1,5 +1,5 @@
 mod Lists
-mod Openings
+pub mod Numbers
 mod Found
 mod Walked
 mod Locals

@@ -1,7 +1,8 @@
 pub mod devices
 pub mod Terms
-pub mod Opening
 pub mod Settings
+pub mod FrameNumbers
+pub mod Opening
 pub mod Meanings
 pub mod Evaluations
 pub mod Active

@@ -6,13 +6,11 @@ mod action;
 pub mod laws;
 mod limits;
 mod moment;
-mod opening;
 mod rest;
 mod term;
 
 pub use action::{Action, Kind};
 pub use limits::{Edition, Limits};
 pub use moment::Moment;
-pub use opening::{open_rest, open_step, open_term};
 pub use rest::Rest;
 pub use term::Term;

@@ -3,7 +3,7 @@
 pub enum Edition {
     /// A call is an action of its own.
     One,
-    /// A call without inputs and without results decides nothing: its body opens at once.
+    /// A call without inputs and without results is to open at once. No rule says so yet.
     Two,
 }
 

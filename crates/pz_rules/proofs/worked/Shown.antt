@@ -15,12 +15,13 @@ use Rattle.pz_rules.specs.declared.moment.Moment.{Moment}
 use Rattle.pz_rules.specs.declared.moment.Moment.TheVariants.{Actions, Time, Finished, Deadlock}
 use Rattle.pz_rules.specs.Terms.{Step, Term, done, leaf}
 use Rattle.pz_rules.specs.Settings.{Setting, Process}
-use Rattle.pz_rules.specs.Leaving.{is_done}
+use Rattle.pz_rules.specs.Opening.{opened}
+use Rattle.pz_rules.specs.Leaving.{is_done, swept}
 use Rattle.pz_rules.specs.Configurations.{Config}
 use Rattle.pz_rules.specs.Offers.{IsOffers}
 use Rattle.pz_rules.specs.Steps.{Next, PassesTo}
 use Rattle.pz_rules.specs.Moments.{IsLeft, IsLeast, acting, passing, finished, deadlock, IsMoment}
-use Rattle.pz_rules.specs.Starting.{StartsAs, IsStart}
+use Rattle.pz_rules.specs.Starting.{home_at, StartsAs, IsStart}
 use Rattle.pz_rules.proofs.Locals.{some_is, no_some}
 use Rattle.pz_rules.proofs.Moments.{NoDelay, rank_two, rank_three, rank_four, rank_five}
 use Rattle.pz_rules.proofs.Waiting.{next_config, passing_there}
@@ -68,7 +69,7 @@ module _ (setting : Setting) where
 module _ (setting : Setting) where
   abbrev first_process : Address → Option Step → Option Process
   first_process place None = None
-  first_process place (Some s) = Some (record { term = leaf s; state = record { vars = values_at setting.model place; frames = []; objects = [] } })
+  first_process place (Some s) = Some (swept (opened (home_at setting place) s (initial (values_at setting.model place))))
 
   abbrev first_at : Address → Option Process
   first_at place = first_process place (init setting.model (class_at setting.model place))
