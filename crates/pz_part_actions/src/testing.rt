@@ -7,20 +7,21 @@ ghost use Rattle.pz_classes_code.specs.CodeView as code;
 ghost use Rattle.pz_classes_code.specs.StepView.{view, sequence_view};
 ghost use Rattle.pz_state.specs.States.{StateView};
 ghost use Rattle.pz_rules.specs.Terms as terms;
-ghost use Rattle.pz_rules.specs.InternalActions as actions;
 ghost use Rattle.pz_rules.specs.InternalActions.{Performs};
-ghost use Rattle.pz_rules.specs.Leaving.{left_by};
+ghost use Rattle.pz_rules.specs.Settings.{left_by};
 ghost use Rattle.pz_rules.specs.View.{term_view};
+ghost use Rattle.pz_rules.specs.devices.Plainly.{plainly_chosen, plainly_turned};
 ghost use Rattle.pz_eval.specs.Known.{AreKnown};
 ghost use Rattle.pz_part_queries.specs.Standpoints.{Knows, seen_from};
 ghost use Rattle.pz_part_actions.specs.Becoming.{process_left};
 ghost use Rattle.pz_part_actions.specs.devices.Parts.{otherwise_view};
 
 use crate::evaluating::test;
-use crate::opening::{open_part, open_steps};
+use crate::opening::open_part;
 use pz_classes_code::{Code, Step};
 use pz_items::{Boxed, Items};
 use pz_offer::Trouble;
+use pz_part_opening::open_all;
 use pz_part_queries::Standpoint;
 use pz_rules::{Rest, Term};
 use pz_state::{FrameId, State};
@@ -36,11 +37,11 @@ fn chosen(
     other: &Option<Items<Step>>,
 ) -> Result<Term, AllocError>
     ensures { IfOk result (λ term. (s : StateView) →
-        actions.chosen s (sequence_view steps.now) (otherwise_view other.now) truth ≡ left_by s
+        plainly_chosen s (sequence_view steps.now) (otherwise_view other.now) truth ≡ left_by s
         (term_view term)) }
 {
     if truth {
-        open_steps(alloc, steps)
+        open_all(alloc, steps)
     } else {
         open_part(alloc, other)
     }
@@ -73,14 +74,14 @@ pub(crate) fn perform_if(
 /// The body of a `while` and then the same `while`, or nothing.
 fn turned(alloc: Global, truth: bool, again: &Step, body: &[Step]) -> Result<Term, AllocError>
     ensures { IfOk result (λ term. (s : StateView) →
-        actions.turned s (view again.now) (sequence_view body.now) truth ≡ left_by s
+        plainly_turned s (view again.now) (sequence_view body.now) truth ≡ left_by s
         (term_view term)) }
 {
     if !truth {
         return Ok(Term::Done);
     }
     let rest = Rest::copy_of(alloc, slice::from_ref(again))?;
-    let first = Boxed::new(alloc, open_steps(alloc, body)?)?;
+    let first = Boxed::new(alloc, open_all(alloc, body)?)?;
     Ok(Term::Seq(first, rest))
 }
 

@@ -7,16 +7,21 @@ use Rattle.pz_classes_code.specs.StepView as step
 use Rattle.pz_rules.specs.declared.term.Term.{Term, fold-roll-Term}
 use Rattle.pz_rules.specs.declared.term.Term.TheOpen.{Term-F}
 use Rattle.pz_rules.specs.declared.term.Term.TheVariants.{Seq, rolls-Seq}
+use Rattle.pz_state.specs.Marks.{Seen, changed}
 use Rattle.pz_rules.specs.Terms as terms
 use Rattle.pz_rules.specs.Terms.{Terms, no_terms, and}
-use Rattle.pz_rules.specs.Opening.{opened, opened_all, opened_branches}
+use Rattle.pz_rules.specs.Settings.{Process, Home}
+use Rattle.pz_rules.specs.Opening.{opened_all}
+use Rattle.pz_rules.specs.Becoming.{Became}
+use Rattle.pz_rules.proofs.Plain.{all_open_plainly}
+use Rattle.pz_rules.specs.devices.Plainly.{plainly, plainly_all, plainly_each}
 use Rattle.pz_rules.specs.View.{term_view, term_step, terms_view, branches_view}
 
 pub term_seq : (t : Term) (rest : List Step) → term_view (Seq t rest) ≡ terms.sequence (term_view t) (step.sequence_view rest)
 term_seq t rest = ap term_view (sym (rolls-Seq t rest)) ∙ fold-roll-Term terms.Term term_step (Term-F.Seq t rest)
 
 -- the first statement stands open before the others
-pub open_before : (first : Step) (rest : List Step) → (length rest == 0) ≡ false → opened_all (step.sequence_view (first ∷ rest)) ≡ terms.sequence (opened (step.view first)) (step.sequence_view rest)
+pub open_before : (first : Step) (rest : List Step) → (length rest == 0) ≡ false → plainly_all (step.sequence_view (first ∷ rest)) ≡ terms.sequence (plainly (step.view first)) (step.sequence_view rest)
 open_before first [] some = absurd (differ some)
   where
     differ : true ≡ false → ⊥
@@ -32,17 +37,23 @@ terms_push : (ts : List Term) (t : Term) → terms_view (ts ++ t ∷ []) ≡ wit
 terms_push [] t = refl
 terms_push (u ∷ ts) t = ap (and (term_view u)) (terms_push ts t)
 
-branches_push : (bs : List (List Step)) (b : List Step) → opened_branches (branches_view (bs ++ b ∷ [])) ≡ with_last (opened_branches (branches_view bs)) (opened_all (step.sequence_view b))
+branches_push : (bs : List (List Step)) (b : List Step) → plainly_each (branches_view (bs ++ b ∷ [])) ≡ with_last (plainly_each (branches_view bs)) (plainly_all (step.sequence_view b))
 branches_push [] b = refl
-branches_push (c ∷ bs) b = ap (and (opened_all (step.sequence_view c))) (branches_push bs b)
+branches_push (c ∷ bs) b = ap (and (plainly_all (step.sequence_view c))) (branches_push bs b)
 
 pub branch_opened : (ts new : List Term) (t : Term) (bs : List (List Step)) (i : ℕ) (b : List Step) → i < length bs → b ≡ get_or bs i b
-    → new ≡ ts ++ t ∷ [] → term_view t ≡ opened_all (step.sequence_view b) → terms_view ts ≡ opened_branches (branches_view (take i bs))
-    → terms_view new ≡ opened_branches (branches_view (take (i + 1) bs))
+    → new ≡ ts ++ t ∷ [] → term_view t ≡ plainly_all (step.sequence_view b) → terms_view ts ≡ plainly_each (branches_view (take i bs))
+    → terms_view new ≡ plainly_each (branches_view (take (i + 1) bs))
 branch_opened ts new t bs i b within is grown opens so_far =
     ap terms_view grown ∙ terms_push ts t
     ∙ ap (λ (x : terms.Term). with_last (terms_view ts) x) opens
-    ∙ ap (λ (xs : Terms). with_last xs (opened_all (step.sequence_view b))) so_far
+    ∙ ap (λ (xs : Terms). with_last xs (plainly_all (step.sequence_view b))) so_far
     ∙ sym (branches_push (take i bs) b)
-    ∙ ap (λ (c : List Step). opened_branches (branches_view (take i bs ++ c ∷ []))) is
-    ∙ ap (λ (cs : List (List Step)). opened_branches (branches_view cs)) (sym (take_more bs i b within))
+    ∙ ap (λ (c : List Step). plainly_each (branches_view (take i bs ++ c ∷ []))) is
+    ∙ ap (λ (cs : List (List Step)). plainly_each (branches_view cs)) (sym (take_more bs i b within))
+
+-- what opens plainly leaves the state as it is
+pub all_became : (h : Home) (ts : terms.Steps) (t : terms.Term) (old : Seen) → t ≡ plainly_all ts → Became (opened_all h ts old.held) t old old
+all_became h ts t old is =
+    let same = all_open_plainly h ts old.held in
+    record { term = is ∙ sym (ap (λ (p : Process). p.term) same); state = ap (λ (p : Process). changed old p.state) (sym same) }

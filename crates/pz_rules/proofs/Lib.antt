@@ -1,5 +1,7 @@
 mod Lists
 pub mod Numbers
+pub mod Plain
+pub mod Begun
 mod Found
 mod Walked
 mod Locals

@@ -26,3 +26,4 @@ pub mod Fitting
 pub mod Laws
 pub mod View
 pub mod Openable
+pub mod Becoming
