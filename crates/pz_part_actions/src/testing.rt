@@ -19,7 +19,7 @@ ghost use Rattle.pz_part_actions.specs.devices.Parts.{otherwise_view};
 use crate::evaluating::test;
 use crate::opening::open_part;
 use pz_classes_code::{Code, Step};
-use pz_items::{Boxed, Items};
+use pz_items::{Boxed, Items, Shared};
 use pz_offer::Trouble;
 use pz_part_opening::open_all;
 use pz_part_queries::Standpoint;
@@ -27,14 +27,13 @@ use pz_rules::{Rest, Term};
 use pz_state::{FrameId, State};
 use pz_syntax::Pos;
 use std::alloc::{AllocError, Global};
-use std::slice;
 
 /// The part of an `if` that is chosen.
 fn chosen(
     alloc: Global,
     truth: bool,
-    steps: &[Step],
-    other: &Option<Items<Step>>,
+    steps: &Shared<Items<Step>>,
+    other: &Option<Shared<Items<Step>>>,
 ) -> Result<Term, AllocError>
     ensures { IfOk result (λ term. (s : StateView) →
         plainly_chosen s (sequence_view steps.now) (otherwise_view other.now) truth ≡ left_by s
@@ -55,8 +54,8 @@ pub(crate) fn perform_if(
     frame: FrameId,
     pos: Pos,
     condition: &Code,
-    steps: &[Step],
-    other: &Option<Items<Step>>,
+    steps: &Shared<Items<Step>>,
+    other: &Option<Shared<Items<Step>>>,
 ) -> Result<Result<Term, Trouble>, AllocError>
     requires { AreKnown here.now.classes.now }
     ensures performs { (m : ModelTree) (class : ℕ) → Knows m here.now →
@@ -72,7 +71,12 @@ pub(crate) fn perform_if(
 }
 
 /// The body of a `while` and then the same `while`, or nothing.
-fn turned(alloc: Global, truth: bool, again: &Step, body: &[Step]) -> Result<Term, AllocError>
+fn turned(
+    alloc: Global,
+    truth: bool,
+    again: &Step,
+    body: &Shared<Items<Step>>,
+) -> Result<Term, AllocError>
     ensures { IfOk result (λ term. (s : StateView) →
         plainly_turned s (view again.now) (sequence_view body.now) truth ≡ left_by s
         (term_view term)) }
@@ -80,7 +84,7 @@ fn turned(alloc: Global, truth: bool, again: &Step, body: &[Step]) -> Result<Ter
     if !truth {
         return Ok(Term::Done);
     }
-    let rest = Rest::copy_of(alloc, slice::from_ref(again))?;
+    let rest = Rest::again(again.copy()?);
     let first = Boxed::new(alloc, open_all(alloc, body)?)?;
     Ok(Term::Seq(first, rest))
 }
@@ -93,7 +97,7 @@ pub(crate) fn perform_while(
     frame: FrameId,
     step: &Step,
     condition: &Code,
-    body: &[Step],
+    body: &Shared<Items<Step>>,
 ) -> Result<Result<Term, Trouble>, AllocError>
     requires known { AreKnown here.now.classes.now }
     requires is { view step.now ≡ statements.repeated step.now.pos (code.view condition.now)

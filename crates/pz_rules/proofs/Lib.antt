@@ -2,6 +2,7 @@ mod Lists
 pub mod Numbers
 pub mod Plain
 pub mod Begun
+mod Rests
 mod Found
 mod Walked
 mod Locals

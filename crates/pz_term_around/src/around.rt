@@ -14,7 +14,7 @@ ghost use Rattle.pz_term_around.specs.Bare.{is_bare as bare};
 use crate::slots::copy_locals;
 use pz_classes_code::{Slot, Step};
 use pz_eval_binding::set_slots;
-use pz_items::{Boxed, Items};
+use pz_items::{Boxed, Items, Shared};
 use pz_part_opening::{open_rest, open_step};
 use pz_rules::{Rest, Term};
 use pz_state::{FrameId, State};
@@ -80,7 +80,7 @@ pub fn in_interrupt(
     alloc: Global,
     left: Term,
     second: Boxed<Term>,
-    again: Step,
+    again: Shared<Step>,
 ) -> Result<Term, AllocError>
     ensures { IfOk result (λ term. term_view term ≡ leaving.interrupted (term_view second)
         (view again) (term_view left)) }
@@ -93,11 +93,11 @@ pub fn in_interrupt(
 }
 
 /// What is interrupted goes on, and the second part stands open afresh.
-fn reopened(alloc: Global, first: Boxed<Term>, again: Step) -> Result<Term, AllocError>
+fn reopened(alloc: Global, first: Boxed<Term>, again: Shared<Step>) -> Result<Term, AllocError>
     ensures { IfOk result (λ term. term_view term ≡ terms.idle (term_view first)
         (plainly (view again)) (view again)) }
 {
-    let second = boxed_step(alloc, &again)?;
+    let second = boxed_step(alloc, again.get())?;
     Ok(Term::Idle(first, second, again))
 }
 
@@ -114,7 +114,7 @@ pub fn in_handling(
     alloc: Global,
     first: Boxed<Term>,
     left: Term,
-    again: Step,
+    again: Shared<Step>,
 ) -> Result<Term, AllocError>
     ensures { IfOk result (λ term. term_view term ≡ plainly_handled (term_view first) (view again)
         (term_view left)) }
@@ -131,7 +131,7 @@ pub fn is_bare(term: &Term) -> bool
     ensures { result ≡ bare (term_view term.now) }
 {
     match term {
-        Term::Frame { results, .. } => results.is_empty(),
+        Term::Frame { results, .. } => results.get().as_slice().is_empty(),
         _ => false,
     }
 }
@@ -142,13 +142,13 @@ fn framed(
     alloc: Global,
     frame: FrameId,
     inputs: usize,
-    results: Items<Slot>,
+    results: Shared<Items<Slot>>,
     left: Term,
 ) -> Result<Term, AllocError>
     ensures { IfOk result (λ term. term_view term ≡ leaving.framed frame.0 inputs results
         (term_view left)) }
 {
-    if results.is_empty() && is_bare(&left) {
+    if results.get().as_slice().is_empty() && is_bare(&left) {
         return Ok(left);
     }
     let body = Boxed::new(alloc, left)?;
@@ -166,7 +166,7 @@ pub fn in_frame(
     outer: FrameId,
     frame: FrameId,
     inputs: usize,
-    results: Items<Slot>,
+    results: Shared<Items<Slot>>,
     left: Term,
     state: &mut State,
 ) -> Result<Term, AllocError>
@@ -175,8 +175,8 @@ pub fn in_frame(
         (term_view left)) (term_view term) state.old state.new) }
 {
     if is_done(&left) {
-        let outputs = copy_locals(alloc, state, frame, inputs, results.len())?;
-        set_slots(state, outer, results.as_slice(), outputs)?;
+        let outputs = copy_locals(alloc, state, frame, inputs, results.get().len())?;
+        set_slots(state, outer, results.get().as_slice(), outputs)?;
         return Ok(Term::Done);
     }
     framed(alloc, frame, inputs, results, left)
