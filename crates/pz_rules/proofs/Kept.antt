@@ -35,7 +35,7 @@ use Rattle.pz_rules.proofs.Possible.{SomeDeed, LeavesFit, performs_some, perform
 use Rattle.pz_rules.proofs.Elapsed.{there}
 
 -- what stands in a list after one was set
-set_get : {X : Type 0} (xs : List X) (i k : ℕ) (x y : X) → slice_get (slice_set xs i x) k ≡ Some y → ((k ≡ i) × (y ≡ x)) ⊎ (slice_get xs k ≡ Some y)
+pub set_get : {X : Type 0} (xs : List X) (i k : ℕ) (x y : X) → slice_get (slice_set xs i x) k ≡ Some y → ((k ≡ i) × (y ≡ x)) ⊎ (slice_get xs k ≡ Some y)
 set_get [] i k x y e = inr e
 set_get (z ∷ xs) zero zero x y e = inl (refl, sym (some_is e))
 set_get (z ∷ xs) zero (suc k) x y e = inr e

@@ -25,6 +25,7 @@ mod Rows
 mod Fits
 mod Possible
 mod Kept
+mod Lower
 mod Pending
 mod Existing
 mod Wires

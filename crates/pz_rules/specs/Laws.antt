@@ -22,6 +22,7 @@ use Rattle.pz_rules.specs.Delays.{Delays}
 use Rattle.pz_rules.specs.Ports.{HasWires}
 use Rattle.pz_rules.specs.Starting.{IsStart}
 use Rattle.pz_rules.specs.Fitting.{IsFit}
+use Rattle.pz_rules.specs.Heights.{IsLow}
 use Rattle.pz_rules.specs.Configurations.{Config, IsWhole}
 use Rattle.pz_rules.specs.Offers.{PartAt, Offers, IsOffers}
 use Rattle.pz_rules.specs.Steps.{Next, PassesTo}
@@ -179,3 +180,10 @@ NumbersAreFree = (frames : Frames) → IsLeastFree frames (least_free frames)
 
 abbrev pub OneNumberIsLeast : Type 0
 OneNumberIsLeast = (frames : Frames) (n : ℕ) → IsLeastFree frames n → n ≡ least_free frames
+
+-- where no term is too high, none is after an action or a passing of time
+abbrev pub LowStays : Type 0
+LowStays = (setting : Setting) (c next : Config) (a : Action) → IsLow setting c → Next setting c a (Ok next) → IsLow setting next
+
+abbrev pub LowPasses : Type 0
+LowPasses = (setting : Setting) (c next : Config) (d : ℕ) → IsWhole setting c → IsLow setting c → PassesTo setting c d next → IsLow setting next

@@ -23,6 +23,7 @@ pub mod Runs
 pub mod ChosenRuns
 pub mod Starting
 pub mod Fitting
+pub mod Heights
 pub mod Laws
 pub mod RestView
 pub mod View

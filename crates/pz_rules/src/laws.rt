@@ -1,6 +1,6 @@
 // Laws of execution, each the contract of a function that does nothing.
 
-ghost use Rattle.pz_rules.specs.Laws.{OneListOfOffers, EveryListOfOffers, WiresAreKnown, OneMoment, EveryMoment, MomentsCountOffers, TimeWaits, LeastPasses, TimeIsPositive, EveryPassing, PassingTakes, BringsToZero, OneNext, OnePassing, StaysWhole, StartFits, StaysFit, EveryNext, OneChosenRun, EveryChosenRun, ChosenRunsAreRuns, WhatCanActs, WhatSendsIsASend, WhatReceivesIsAReceive, NumbersAreFree, OneNumberIsLeast};
+ghost use Rattle.pz_rules.specs.Laws.{OneListOfOffers, EveryListOfOffers, WiresAreKnown, OneMoment, EveryMoment, MomentsCountOffers, TimeWaits, LeastPasses, TimeIsPositive, EveryPassing, PassingTakes, BringsToZero, OneNext, OnePassing, StaysWhole, StartFits, StaysFit, EveryNext, OneChosenRun, EveryChosenRun, ChosenRunsAreRuns, WhatCanActs, WhatSendsIsASend, WhatReceivesIsAReceive, NumbersAreFree, OneNumberIsLeast, LowStays, LowPasses};
 ghost use Rattle.pz_rules.specs.devices.Computed.{TestsAreComputed, TimesAreComputed, PartsAreComputed, PassingIsComputed, OnePassingIsComputed};
 ghost use Rattle.pz_rules.specs.devices.Ends.{PassingsEnd, ActivePartsFit};
 ghost use Rattle.pz_rules.specs.devices.Walks.{InternalActionsAreListed, SendsAreListed, SendsHaveParcels, ReceivesAreListed, DelaysAreListed, TroublesAreListed};
@@ -120,4 +120,10 @@ pub fn offered_parts_act()
 pub fn frames_are_numbered()
     ensures free { NumbersAreFree }
     ensures one { OneNumberIsLeast }
+{}
+
+/// Where no term is higher than the limit, none is after an action or a passing of time.
+pub fn low_terms_stay()
+    ensures action { LowStays }
+    ensures passing { LowPasses }
 {}

@@ -1,5 +1,5 @@
 //! The rules of execution: what is left of a process, what it can do, what that leaves, how time
-//! passes, and the runs of a model. The types that simulators share, and how statements become terms.
+//! passes, and the runs of a model. The types that simulators share.
 #![tactic(auto)]
 
 mod action;
