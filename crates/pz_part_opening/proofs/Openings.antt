@@ -1,12 +1,14 @@
--- How statements in a sequence open, and alternatives one by one.
-use Rattle.std.proofs.Common.{◌≡◌, ℕ, ◌<◌, ◌+◌, true, false, List, [], ◌∷◌, ◌++◌, take, length, get_or, refl, sym, ap, ◌∙◌}
+-- How statements that wait open, and alternatives one by one.
+use Rattle.std.proofs.Common.{◌≡◌, ℕ, ◌<◌, ◌+◌, true, false, List, [], ◌∷◌, ◌++◌, take, drop, length, get_or, Some, None, refl, sym, ap, ◌∙◌}
 use Rattle.std.specs.Prelude.{◌==◌}
+use Rattle.std.specs.List.{slice_get}
+use Rattle.std.proofs.lemmas.Option.{same_Some, none-some}
 use Rattle.std.proofs.lemmas.List.{take_more}
 use Rattle.pz_classes_code.specs.declared.step.Step.{Step}
 use Rattle.pz_classes_code.specs.StepView as step
 use Rattle.pz_rules.specs.declared.term.Term.{Term, fold-roll-Term}
 use Rattle.pz_rules.specs.declared.term.Term.TheOpen.{Term-F}
-use Rattle.pz_rules.specs.declared.term.Term.TheVariants.{Seq, rolls-Seq}
+use Rattle.pz_rules.specs.declared.term.Term.TheVariants.{Done, Seq, rolls-Done, rolls-Seq}
 use Rattle.pz_state.specs.Marks.{Seen, changed}
 use Rattle.pz_rules.specs.Terms as terms
 use Rattle.pz_rules.specs.Terms.{Terms, no_terms, and}
@@ -20,13 +22,31 @@ use Rattle.pz_rules.specs.View.{term_view, term_step, terms_view, branches_view}
 pub term_seq : (t : Term) (rest : List Step) → term_view (Seq t rest) ≡ terms.sequence (term_view t) (step.sequence_view rest)
 term_seq t rest = ap term_view (sym (rolls-Seq t rest)) ∙ fold-roll-Term terms.Term term_step (Term-F.Seq t rest)
 
--- the first statement stands open before the others
-pub open_before : (first : Step) (rest : List Step) → (length rest == 0) ≡ false → plainly_all (step.sequence_view (first ∷ rest)) ≡ terms.sequence (plainly (step.view first)) (step.sequence_view rest)
-open_before first [] some = absurd (differ some)
+pub view_Done : term_view Done ≡ terms.done
+view_Done = ap term_view (sym rolls-Done) ∙ fold-roll-Term terms.Term term_step Term-F.Done
+
+-- statements that wait, by the first of them
+
+pub none_waits : (rest : List Step) → None ≡ slice_get rest 0 → terms.done ≡ plainly_all (step.sequence_view rest)
+none_waits [] none = refl
+none_waits (s ∷ rest) none = absurd (none-some s none)
+
+pub one_waits : (rest : List Step) (s : Step) → Some s ≡ slice_get rest 0 → (length (drop 1 rest) == 0) ≡ true → plainly (step.view s) ≡ plainly_all (step.sequence_view rest)
+one_waits [] s first none = absurd (none-some s (sym first))
+one_waits (r ∷ []) s first none = ap (λ (x : Step). plainly (step.view x)) (same_Some s r first)
+one_waits (r ∷ q ∷ rest) s first none = absurd (differ none)
+  where
+    differ : false ≡ true → ⊥
+    differ e = cc
+
+pub more_wait : (rest : List Step) (s : Step) → Some s ≡ slice_get rest 0 → (length (drop 1 rest) == 0) ≡ false
+    → terms.sequence (plainly (step.view s)) (step.sequence_view (drop 1 rest)) ≡ plainly_all (step.sequence_view rest)
+more_wait [] s first some = absurd (none-some s (sym first))
+more_wait (r ∷ []) s first some = absurd (differ some)
   where
     differ : true ≡ false → ⊥
     differ e = cc
-open_before first (next ∷ rest) some = refl
+more_wait (r ∷ q ∷ rest) s first some = ap (λ (x : Step). terms.sequence (plainly (step.view x)) (step.sequence_view (q ∷ rest))) (same_Some s r first)
 
 -- a further one at the end
 abbrev with_last : Terms → terms.Term → Terms

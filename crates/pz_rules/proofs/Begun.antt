@@ -18,7 +18,7 @@ use Rattle.pz_rules.proofs.Plain.{opens_plainly}
 -- if there is one, it stands as it is
 abbrev Stands : Option Step → Type 0
 Stands None = Unit {0}
-Stands (Some call) = plainly call ≡ leaf call
+Stands (Some first) = plainly first ≡ leaf first
 
 module _ (m : ModelTree) where
   called : (c : ℕ) (o : Option StartTree) → Stands (option_map (start_call m c) o)
@@ -27,16 +27,16 @@ module _ (m : ModelTree) where
 
   either : (o r : Option Step) → Stands o → Stands r → Stands (option_or o r)
   either None r h k = k
-  either (Some call) r h k = h
+  either (Some first) r h k = h
 
   starts_of : (line : List ℕ) → Stands (nearest (own_call m) line)
   starts_of [] = tt
   starts_of (c ∷ line) = either (own_call m c) (nearest (own_call m) line) (called c (option_and_then own_start (declaration m c))) (starts_of line)
 
-  call_stands : (c : ℕ) (call : Step) → init m c ≡ Some call → plainly call ≡ leaf call
-  call_stands c call is = subst Stands is (starts_of (ancestors m c))
+  call_stands : (c : ℕ) (first : Step) → init m c ≡ Some first → plainly first ≡ leaf first
+  call_stands c first is = subst Stands is (starts_of (ancestors m c))
 
-  pub begins : (h : Home) (c : ℕ) (call : Step) (values : List Value) → init m c ≡ Some call → left_by (initial values) (leaf call) ≡ swept (opened h call (initial values))
-  begins h c call values is =
-      ap (λ (t : Term). swept (left_by (initial values) t)) (sym (call_stands c call is))
-      ∙ ap swept (sym (opens_plainly h call (initial values)))
+  pub begins : (h : Home) (c : ℕ) (first : Step) (values : List Value) → init m c ≡ Some first → left_by (initial values) (leaf first) ≡ swept (opened h first (initial values))
+  begins h c first values is =
+      ap (λ (t : Term). swept (left_by (initial values) t)) (sym (call_stands c first is))
+      ∙ ap swept (sym (opens_plainly h first (initial values)))

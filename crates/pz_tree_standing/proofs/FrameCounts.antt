@@ -1,6 +1,6 @@
 -- What an action does to the number of frames, level by level.
 use Rattle.std.proofs.Common.{◌≡◌, if◌then◌else◌, ◌<◌, ℕ, zero, suc, ◌+◌, Bool, true, false, ◌&&◌, List, [], ◌∷◌, ◌++◌, refl, sym, arith}
-use Rattle.pz_syntax.specs.Expressions.{none, more}
+use Rattle.pz_syntax.specs.Expressions as expression
 use Rattle.pz_syntax.specs.Statements as statement
 use Rattle.pz_syntax.specs.Statements.{Branches, no_branches, branch, no_statements, then}
 use Rattle.pz_value.specs.declared.value.ClassId.{ClassId}
@@ -40,9 +40,9 @@ module _ (h : Home) where
     opened_none n (statement.repeated at e ts) s = refl
     opened_none n (statement.send at port name args after) s = refl
     opened_none n (statement.receive at port name into condition after) s = refl
-    opened_none n (statement.call at method none []) s = refl
-    opened_none n (statement.call at method none (x ∷ xs)) s = refl
-    opened_none n (statement.call at method (more e es) results) s = refl
+    opened_none n (statement.call at method expression.none []) s = refl
+    opened_none n (statement.call at method expression.none (x ∷ xs)) s = refl
+    opened_none n (statement.call at method (expression.more e es) results) s = refl
     opened_none n (statement.assignment at x e) s = refl
     opened_none n (statement.value at e) s = refl
 

@@ -27,8 +27,8 @@ abbrev mutual
 
   pub plainly_all : Steps → Term
   plainly_all no_statements = done
-  plainly_all (then r no_statements) = plainly r
-  plainly_all (then r (then q rest)) = sequence (plainly r) (then q rest)
+  plainly_all ((then) r no_statements) = plainly r
+  plainly_all ((then) r ((then) q rest)) = sequence (plainly r) ((then) q rest)
 
   pub plainly_each : Branches Slot ClassId ℕ → Terms
   plainly_each no_branches = no_terms

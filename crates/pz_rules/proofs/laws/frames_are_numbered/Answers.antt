@@ -1,8 +1,6 @@
 use Rattle.pz_rules.proofs.Numbers.{least_is_free, free_is_least}
 use Rattle.pz_rules.proofs.laws.frames_are_numbered.Goals as goal
 use Rattle.pz_rules.proofs.Rows as rows0
-use Rattle.pz_rules.proofs.Plain as plain0
-use Rattle.pz_rules.proofs.Begun as begun0
 use Rattle.pz_rules.proofs.worked.Wiring as worked17
 use Rattle.pz_rules.proofs.worked.Watchdog as worked16
 use Rattle.pz_rules.proofs.worked.TwoCalls as worked15
@@ -20,6 +18,8 @@ use Rattle.pz_rules.proofs.worked.GuardThatReopens as worked4
 use Rattle.pz_rules.proofs.worked.GuardThatCloses as worked3
 use Rattle.pz_rules.proofs.worked.Followed as worked2
 use Rattle.pz_rules.proofs.worked.ConditionThatIsFalse as worked1
+use Rattle.pz_rules.proofs.Plain as plain0
+use Rattle.pz_rules.proofs.Begun as begun0
 
 pub returns : goal.returns
 returns c = record { free = least_is_free; one = free_is_least }
