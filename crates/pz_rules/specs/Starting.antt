@@ -16,11 +16,15 @@ use Rattle.pz_rules.specs.Configurations.{Config}
 abbrev pub home_at : Setting → Address → Home
 home_at setting place = record { model = setting.model; edition = setting.limits.edition; class = class_at setting.model place }
 
+-- a process at this place that begins with this call
+abbrev pub begins_with : Setting → Address → Step → Process
+begins_with setting place call = swept (opened (home_at setting place) call (initial (values_at setting.model place)))
+
 -- the process that stands at this place of the system
 pub record StartsAs (setting : Setting) (place : Address) (p : Process) : Type 0 where
   pub call : Step
   pub is_call : init setting.model (class_at setting.model place) ≡ Some call
-  pub stands : p ≡ swept (opened (home_at setting place) call (initial (values_at setting.model place)))
+  pub stands : p ≡ begins_with setting place call
 
 pub record IsStart (setting : Setting) (c : Config) : Type 0 where
   pub clock : c.clock ≡ 0
