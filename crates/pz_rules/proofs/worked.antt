@@ -1,17 +1,17 @@
-pub mod Wiring
-pub mod Parcelled
-pub mod Ordered
-pub mod Offered
-pub mod Followed
-pub mod Shown
-pub mod Models
-pub mod ConditionThatIsFalse
-pub mod Watchdog
-pub mod LateWatchdog
-pub mod Handler
-pub mod HandlerTwice
-pub mod GuardThatReopens
-pub mod GuardThatCloses
-pub mod TwoCalls
-pub mod ObjectsInMessages
-pub mod NoTalkToItself
+mod Wiring
+mod Parcelled
+mod Ordered
+mod Offered
+mod Followed
+mod Shown
+mod Models
+mod ConditionThatIsFalse
+mod Watchdog
+mod LateWatchdog
+mod Handler
+mod HandlerTwice
+mod GuardThatReopens
+mod GuardThatCloses
+mod TwoCalls
+mod ObjectsInMessages
+mod NoTalkToItself
