@@ -3,14 +3,17 @@
 ghost use Rattle.std.specs.Prelude.{◌≡◌, IfOk};
 ghost use Rattle.pz_classes.specs.CheckedView.{checked_model};
 ghost use Rattle.pz_classes_code.specs.StepView.{view, sequence_view};
-ghost use Rattle.pz_rules.specs.Opening.{opened, opened_all, opened_branches};
+ghost use Rattle.pz_rules.specs.Opening.{opened_all};
 ghost use Rattle.pz_rules.specs.Openable.{IsProcessClass, HasItsVariables, MayOpen};
 ghost use Rattle.pz_rules.specs.View.{term_view, terms_view, branches_view};
+ghost use Rattle.pz_rules.specs.Becoming.{Became};
+ghost use Rattle.pz_rules.specs.devices.Plainly.{plainly, plainly_all, plainly_each};
+ghost use Rattle.pz_part_opening.specs.Homes.{home_in};
 
-use crate::{Limits, Rest, Term};
 use pz_classes::Checked;
 use pz_classes_code::{Step, StepForm};
 use pz_items::{Boxed, Items, Shared};
+use pz_rules::{Limits, Rest, Term};
 use pz_state::{FrameId, State};
 use pz_value::ClassId;
 use std::alloc::{AllocError, Global};
@@ -18,7 +21,7 @@ use std::alloc::{AllocError, Global};
 /// The term of a statement. The only error is want of memory.
 #[cycle(opening)]
 pub fn open_step(alloc: Global, step: &Step) -> Result<Term, AllocError>
-    ensures { IfOk result (λ term. term_view term ≡ opened (view step.now)) }
+    ensures { IfOk result (λ term. term_view term ≡ plainly (view step.now)) }
 {
     match &step.form {
         StepForm::Group(steps) => open_all(alloc, steps),
@@ -33,13 +36,13 @@ pub fn open_step(alloc: Global, step: &Step) -> Result<Term, AllocError>
         StepForm::Par(branches) => Ok(Term::Par(open_branches(alloc, branches.get().as_slice())?)),
         StepForm::Sel(branches) => Ok(Term::Sel(open_branches(alloc, branches.get().as_slice())?)),
         StepForm::Abort(first, second) => {
-            let second = Boxed::new(alloc, open_step(alloc, second.get())?)?;
             let first = Boxed::new(alloc, open_all(alloc, first)?)?;
+            let second = Boxed::new(alloc, open_step(alloc, second.get())?)?;
             Ok(Term::Abort(first, second))
         }
         StepForm::Interrupt(first, again) => {
-            let second = Boxed::new(alloc, open_step(alloc, again.get())?)?;
             let first = Boxed::new(alloc, open_all(alloc, first)?)?;
+            let second = Boxed::new(alloc, open_step(alloc, again.get())?)?;
             Ok(Term::Idle(first, second, again.copy()?))
         }
         _ => Ok(Term::Leaf(step.copy()?)),
@@ -50,7 +53,7 @@ pub fn open_step(alloc: Global, step: &Step) -> Result<Term, AllocError>
 /// only error is want of memory.
 #[cycle(opening)]
 pub fn open_all(alloc: Global, steps: &Shared<Items<Step>>) -> Result<Term, AllocError>
-    ensures { IfOk result (λ term. term_view term ≡ opened_all (sequence_view steps.now)) }
+    ensures { IfOk result (λ term. term_view term ≡ plainly_all (sequence_view steps.now)) }
 {
     match steps.get().as_slice() {
         [] => Ok(Term::Done),
@@ -64,7 +67,7 @@ pub fn open_all(alloc: Global, steps: &Shared<Items<Step>>) -> Result<Term, Allo
 
 #[cycle(opening)]
 fn open_branches(alloc: Global, branches: &[Shared<Items<Step>>]) -> Result<Items<Term>, AllocError>
-    ensures { IfOk result (λ terms. terms_view terms ≡ opened_branches
+    ensures { IfOk result (λ terms. terms_view terms ≡ plainly_each
         (branches_view branches.now)) }
 {
     let mut terms = Items::new(alloc);
@@ -76,7 +79,7 @@ fn open_branches(alloc: Global, branches: &[Shared<Items<Step>>]) -> Result<Item
 
 /// The term of statements that wait. The only error is want of memory.
 pub fn open_rest(alloc: Global, rest: Rest) -> Result<Term, AllocError>
-    ensures { IfOk result (λ term. term_view term ≡ opened_all (sequence_view rest)) }
+    ensures { IfOk result (λ term. term_view term ≡ plainly_all (sequence_view rest)) }
 {
     let Some(step) = rest.first() else {
         return Ok(Term::Done);
@@ -103,8 +106,7 @@ fn shared(alloc: Global, steps: &[Step]) -> Result<Shared<Items<Step>>, AllocErr
 
 /// The term of statements of a process of this class, which stand in the given frame: part of a body
 /// of one of its methods, or the call with which it starts, alone, in no frame. The state stays as it
-/// is, also after want of memory, which is the only error. What statements open as depends on nothing
-/// but the statements: the class, the state, the frame and the limits say where they stand.
+/// is, also after want of memory, which is the only error: no call opens as the frame of its method.
 pub fn open_term(
     alloc: Global,
     checked: &Checked,
@@ -118,7 +120,9 @@ pub fn open_term(
     requires variables { HasItsVariables (checked_model checked.now) class.0 state.old.held }
     requires there { MayOpen (checked_model checked.now) class.0 state.old.held frame.0
         (sequence_view steps.now) }
-    ensures opened { IfOk result (λ term. term_view term ≡ opened_all (sequence_view steps.now)) }
+    ensures opened { IfOk result (λ term. Became
+        (opened_all (home_in (checked_model checked.now) class limits) (sequence_view steps.now)
+        state.old.held) (term_view term) state.old state.new) }
     ensures stays { state.new ≡ state.old }
 {
     let steps = shared(alloc, steps)?;

@@ -1,10 +1,10 @@
 use Rattle.std.proofs.Common.{◌≡◌, ◌+◌, ◌*◌, take}
-use Rattle.pz_rules.specs.Opening.{opened_branches}
+use Rattle.pz_rules.specs.devices.Plainly.{plainly_each}
 use Rattle.pz_rules.specs.View.{terms_view, branches_view}
-use Rattle.pz_rules.proofs.opening.+opening.Given as goal
+use Rattle.pz_part_opening.proofs.opening.+opening.Given as goal
 
 abbrev pub invariant-open_branches-loop-branch : goal.invariant-open_branches-loop-branch
-invariant-open_branches-loop-branch l = terms_view l.terms ≡ opened_branches (branches_view (take l.branch-index l.branches))
+invariant-open_branches-loop-branch l = terms_view l.terms ≡ plainly_each (branches_view (take l.branch-index l.branches))
 
 -- the depth comes first; at the same depth, branches come before their statements, and these before one statement
 abbrev pub decreases-open_step : goal.decreases-open_step
