@@ -5,7 +5,7 @@ use std::marker::Model;
 
 /// Numbers with their sum. Contracts see the list of the numbers.
 #[derive(Drop)]
-pub(crate) struct Counts {
+pub struct Counts {
     numbers: Vec<u64>,
     total: u64,
 }
@@ -22,7 +22,7 @@ impl Model for Counts {
 
 impl Counts {
     /// None yet. Takes no memory.
-    pub(crate) fn new(alloc: Global) -> Counts
+    pub fn new(alloc: Global) -> Counts
         ensures { result ≡ [] }
     {
         Counts {
@@ -32,21 +32,21 @@ impl Counts {
     }
 
     /// How many numbers there are.
-    pub(crate) fn len(&self) -> usize
+    pub fn len(&self) -> usize
         ensures { result ≡ length self.now }
     {
         self.numbers.len()
     }
 
     /// The sum of all.
-    pub(crate) fn total(&self) -> u64
+    pub fn total(&self) -> u64
         ensures { result ≡ sum self.now }
     {
         self.total
     }
 
     /// The number at this place; 0 behind the end.
-    pub(crate) fn at(&self, place: usize) -> u64
+    pub fn at(&self, place: usize) -> u64
         ensures { result ≡ slice_index self.now place }
     {
         match self.numbers.get(place) {
@@ -57,7 +57,7 @@ impl Counts {
 
     /// Has at least so many numbers: zeros are added. The only error is want of memory, and then
     /// nothing changes.
-    pub(crate) fn reach(&mut self, len: usize) -> Result<(), AllocError>
+    pub fn reach(&mut self, len: usize) -> Result<(), AllocError>
         ensures ok { OnOk result (self.new ≡ self.old ++ replicate (len - length self.old) 0) }
         ensures err { OnErr result (self.new ≡ self.old) }
     {
@@ -69,7 +69,7 @@ impl Counts {
 
     /// Puts another number at this place. The only error is that the sum would be 2^64 or more, and
     /// then nothing changes.
-    pub(crate) fn put(&mut self, place: usize, number: u64) -> Result<(), AllocError>
+    pub fn put(&mut self, place: usize, number: u64) -> Result<(), AllocError>
         requires { place < length self.old }
         ensures ok { OnOk result (self.new ≡ slice_set self.old place number) }
         ensures err { OnErr result (self.new ≡ self.old) }
@@ -85,7 +85,7 @@ impl Counts {
 
     /// The place at which the sum of the numbers up to there passes this one, and how much of it the
     /// numbers before that place leave; none where it is not below the sum of all.
-    pub(crate) fn find(&self, rest: u64) -> Option<(usize, u64)>
+    pub fn find(&self, rest: u64) -> Option<(usize, u64)>
         ensures { MatchOption result (sum self.now ≤ rest)
             (λ x. (x.0 < length self.now) × (sum (take x.0 self.now) + x.1 ≡ rest)
             × (x.1 < slice_index self.now x.0)) }
