@@ -1,6 +1,6 @@
 -- What holds of methods that a class does not declare holds in its parent: so a method that begins with
 -- itself in a class does so in one that declares a method of the round.
-use Rattle.std.proofs.Common.{◌≡◌, refl, sym, ap, subst, ◌∙◌, ℕ, zero, suc, ◌+◌, ◌<◌, ◌≤◌, ◌⊎◌, inl, inr, Bool, true, false, List, [], ◌∷◌, length, map, Option, Some, None, IsTrue, slice_get, if◌then◌else◌, arith}
+use Rattle.std.proofs.Common.{◌≡◌, refl, ap, subst, ◌∙◌, ℕ, zero, suc, ◌+◌, ◌<◌, ◌≤◌, ◌⊎◌, inl, inr, Bool, true, false, List, [], ◌∷◌, length, map, Option, Some, None, IsTrue, slice_get, if◌then◌else◌, arith}
 use Rattle.std.specs.Option.{option_map, option_map_or, option_or, unwrap_or}
 use Rattle.std.proofs.lemmas.Option.{slice_get_within}
 use Rattle.pz_syntax.specs.declared.names.Id.{Id}
@@ -9,10 +9,9 @@ use Rattle.pz_check_violations.specs.declared.violation.Violation.{Violation}
 use Rattle.pz_check_violations.specs.Order.{violation}
 use Rattle.pz_classes_lineage.specs.Reached.{GoesRound}
 use Rattle.pz_classes.specs.declared.method_id.MethodId.{MethodId}
-use Rattle.pz_classes.specs.Numbers.{declaration}
 use Rattle.pz_classes.specs.Kinds.{is_process}
-use Rattle.pz_classes.specs.Ancestors.{parent, parent_of, ancestors}
-use Rattle.pz_classes.specs.Methods.{Signature, data_signature, signatures, same_signature, first_with, methods_before, method_id, own_method, nearest}
+use Rattle.pz_classes.specs.Ancestors.{parent, ancestors}
+use Rattle.pz_classes.specs.Methods.{Signature, data_signature, signatures, same_signature, first_with, methods_before, method_id, own_method}
 use Rattle.pz_classes.proofs.Acyclic.{above}
 use Rattle.pz_check_openings.specs.devices.Through.{plain, called_along, Through, itself, further, RoundThrough, round_through, DeclaresOne}
 
@@ -46,8 +45,8 @@ module _ (Kind : ℕ → Type 0) (m : ModelTree) where
       both (inr found) (inl one) = inl one
       both (inr found) (inr moved) = inr (round_through k n x among found moved)
 
-  no_round : (v : Violation) → RoundThrough Kind m [] v → ⊥
-  no_round _ (round_through k n x among finds leads) = cc
+  no_round_along : (v : Violation) → RoundThrough Kind m [] v → ⊥
+  no_round_along _ (round_through k n x among finds leads) = cc
 
 -- the ancestors of a class are itself and those of its parent
 pub line_of : (m : ModelTree) → ((c : ℕ) → GoesRound (parent m) c → ⊥) → (c : ℕ) → ancestors m c ≡ c ∷ option_map_or (ancestors m) (parent m c) []
@@ -94,7 +93,7 @@ climb Kind m flat Holds never moves (c ∷ rest) (Some a) is holds = by_moving (
     by_moving (inr moved) later = later moved
 
 pub climb_round : (Kind : ℕ → Type 0) (m : ModelTree) → ((c : ℕ) → GoesRound (parent m) c → ⊥) → (c : ℕ) (v : Violation) → RoundThrough Kind m (ancestors m c) v → Declaring Kind m (λ line. RoundThrough Kind m line v)
-climb_round Kind m flat c v round = climb Kind m flat (λ line. RoundThrough Kind m line v) (no_round Kind m v) (λ k rest holds. round_moves Kind m k rest v holds) (ancestors m c) (Some c) refl round
+climb_round Kind m flat c v round = climb Kind m flat (λ line. RoundThrough Kind m line v) (no_round_along Kind m v) (λ k rest holds. round_moves Kind m k rest v holds) (ancestors m c) (Some c) refl round
 
 -- the number of a declared method
 number_within : (n : ℕ) (s : Signature) (ss : List Signature) (k : ℕ) → first_with n s ss ≡ Some k → (n ≤ k) × (k < n + length ss)

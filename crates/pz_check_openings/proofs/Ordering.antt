@@ -1,5 +1,5 @@
 -- Suspects by ranks that are in order, and by none.
-use Rattle.std.proofs.Common.{◌≡◌, refl, sym, ap, ◌∙◌, ℕ, ◌≤◌, max, fold, Bool, true, false, ◌||◌, not, nat_le, IsTrue, List, [], ◌∷◌, map, Option, Some, None, slice_get, arith}
+use Rattle.std.proofs.Common.{◌≡◌, refl, ℕ, ◌≤◌, max, fold, Bool, true, false, ◌||◌, not, nat_le, IsTrue, List, [], ◌∷◌, map, Option, Some, None, slice_get, arith}
 use Rattle.std.specs.Option.{option_map_or}
 use Rattle.std.proofs.lemmas.Bool.Decides.{nat_tests}
 use Rattle.pz_syntax.specs.declared.names.Id.{Id}

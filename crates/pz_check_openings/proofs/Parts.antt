@@ -1,19 +1,16 @@
 -- The graph of some of the methods, of which each stands at its number, is part of the graph of all.
-use Rattle.std.proofs.Common.{◌≡◌, refl, sym, ap, subst, ◌∙◌, ℕ, zero, suc, Bool, true, false, IsTrue, List, [], ◌∷◌, map, length, Option, Some, None, slice_get, if◌then◌else◌, ◌<◌, arith}
+use Rattle.std.proofs.Common.{◌≡◌, refl, sym, ap, subst, ◌∙◌, ℕ, Bool, true, false, List, [], map, Option, Some, None, slice_get, if◌then◌else◌, ◌<◌, arith}
 use Rattle.std.specs.List.{Contains}
-use Rattle.std.specs.Option.{option_map, option_map_or}
+use Rattle.std.specs.Option.{option_map}
 use Rattle.std.proofs.lemmas.Option.{slice_get-map}
-use Rattle.pz_syntax.specs.declared.names.Id.{Id}
-use Rattle.pz_syntax.specs.Classes.{DeclTree, ProcessMethodTree, ModelTree}
+use Rattle.pz_syntax.specs.Classes.{ProcessMethodTree, ModelTree}
 use Rattle.pz_check_violations.specs.declared.violation.Violation.{Violation}
 use Rattle.pz_classes.specs.Ancestors.{ancestors}
-use Rattle.pz_classes.specs.Methods.{method_id}
 use Rattle.pz_classes_openings.specs.Methods.{method_at}
 use Rattle.pz_classes_openings.specs.Openings.{begun_at}
 use Rattle.pz_check_components.specs.Graph.{Reaches}
 use Rattle.pz_check_components.specs.Graph as graph
 use Rattle.pz_check_calls.specs.declared.graph.Call.{Call}
-use Rattle.pz_check_calls.specs.declared.graph.Method.{Method}
 use Rattle.pz_check_calls.specs.Calls.{begun_by, edges, IsRound, round}
 use Rattle.pz_check_calls.proofs.LeadingBack.{edge_to, edge_by}
 use Rattle.pz_check_openings.specs.declared.outline.Outline.{Outline}
@@ -25,12 +22,12 @@ use Rattle.pz_check_openings.proofs.InClasses.{call_of}
 use Rattle.pz_check_openings.proofs.Listed.{outline_is}
 
 module _ (p : Outline → Bool) (all those : List (Option Outline)) (are : those ≡ map (kept p) all) where
-  at_number : (k : ℕ) → slice_get those k ≡ option_map (kept p) (slice_get all k)
-  at_number k = ap (λ (l : List (Option Outline)). slice_get l k) are ∙ slice_get-map (kept p) all k
+  number_kept : (k : ℕ) → slice_get those k ≡ option_map (kept p) (slice_get all k)
+  number_kept k = ap (λ (l : List (Option Outline)). slice_get l k) are ∙ slice_get-map (kept p) all k
 
   -- what is kept is one of all
   pub is_of_all : (k : ℕ) (o : Outline) → slice_get those k ≡ Some (Some o) → slice_get all k ≡ Some (Some o)
-  is_of_all k o here = by_item (slice_get all k) refl (sym (at_number k) ∙ here)
+  is_of_all k o here = by_item (slice_get all k) refl (sym (number_kept k) ∙ here)
     where
       by_test : (q : Outline) (b : Bool) → Some (if b then Some q else None) ≡ Some (Some o) → q ≡ o
       by_test q true is = cc

@@ -1,11 +1,11 @@
 -- What begins with itself in a class does so through suspects alone.
-use Rattle.std.proofs.Common.{◌≡◌, refl, sym, ap, subst, ◌∙◌, ℕ, zero, suc, ◌+◌, ◌<◌, ◌≤◌, max, fold, Bool, true, false, ◌&&◌, ◌||◌, not, nat_le, IsTrue, List, [], ◌∷◌, map, length, Option, Some, None, slice_get, if◌then◌else◌, arith}
+use Rattle.std.proofs.Common.{◌≡◌, refl, ap, ◌∙◌, ℕ, zero, suc, ◌≤◌, max, fold, Bool, true, false, ◌&&◌, ◌||◌, not, nat_le, List, [], ◌∷◌, length, Option, Some, None, slice_get, if◌then◌else◌, arith}
 use Rattle.std.specs.List.{Contains}
 use Rattle.std.specs.Option.{option_map}
 use Rattle.std.proofs.lemmas.Bool.Decides.{nat_tests}
 use Rattle.std.proofs.lemmas.Option.{slice_get-map}
 use Rattle.pz_syntax.specs.declared.names.Id.{Id}
-use Rattle.pz_syntax.specs.Classes.{DeclTree, ProcessMethodTree, ModelTree}
+use Rattle.pz_syntax.specs.Classes.{ProcessMethodTree, ModelTree}
 use Rattle.pz_check_violations.specs.declared.violation.Violation.{Violation}
 use Rattle.pz_classes.specs.declared.method_id.Counts.TheVariants.{Process}
 use Rattle.pz_classes.specs.Ancestors.{ancestors}
@@ -20,7 +20,7 @@ use Rattle.pz_classes_openings.proofs.Found.{found_process}
 use Rattle.pz_check_openings.specs.declared.outline.Outline.{Outline}
 use Rattle.pz_check_openings.specs.devices.Outlines.{outline_of, outlines}
 use Rattle.pz_check_openings.specs.devices.Settling.{is_plain}
-use Rattle.pz_check_openings.specs.devices.Suspects.{highest, is_ordered, is_suspect, kept, AreSuspects}
+use Rattle.pz_check_openings.specs.devices.Suspects.{highest, is_suspect, kept, AreSuspects}
 use Rattle.pz_check_openings.specs.devices.Through.{Through, itself, further, RoundThrough, round_through}
 use Rattle.pz_check_openings.proofs.Bounds.{plain_so}
 use Rattle.pz_check_openings.proofs.Listed.{outline_there}
@@ -50,9 +50,11 @@ module _ (m : ModelTree) (those : List (Option Outline)) (s : AreSuspects (outli
   Kept k = (o : Outline) × (slice_get those k ≡ Some (Some o))
 
   stays : (k : ℕ) (o : Outline) → slice_get (outlines m) k ≡ Some (Some o) → is_suspect s.rank o ≡ true → Kept k
-  stays k o at is =
-      (o, ap (λ (l : List (Option Outline)). slice_get l k) s.are ∙ (slice_get-map (kept (is_suspect s.rank)) (outlines m) k
-      ∙ (ap (option_map (kept (is_suspect s.rank))) at ∙ ap (λ (b : Bool). Some (if b then Some o else None)) is)))
+  stays k o at is = (
+    o,
+    ap (λ (l : List (Option Outline)). slice_get l k) s.are ∙ (slice_get-map (kept (is_suspect s.rank)) (outlines m) k
+        ∙ (ap (option_map (kept (is_suspect s.rank))) at ∙ ap (λ (b : Bool). Some (if b then Some o else None)) is)),
+  )
 
   -- a call with which a method begins has no higher rank than the method's name, and where it has no
   -- lower one the method is a suspect

@@ -1,4 +1,3 @@
-use Rattle.std.proofs.Common.{◌≡◌, ◌<◌, ◌≤◌, ℕ, arith}
 use Rattle.pz_check_openings.proofs.Marks.{none_more}
 use Rattle.pz_check_openings.proofs.declaring.has_between.Goals as goal
 

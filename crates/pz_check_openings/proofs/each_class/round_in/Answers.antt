@@ -1,4 +1,4 @@
-use Rattle.std.proofs.Common.{◌≡◌, ◌∙◌, sym, ap, List, subst, Option, None}
+use Rattle.std.proofs.Common.{◌≡◌, ◌∙◌, sym, List, subst, None}
 use Rattle.std.proofs.lemmas.Result.{IfOk-weaker}
 use Rattle.pz_check_violations.specs.Least.{LeastOf}
 use Rattle.pz_classes.specs.CheckedView.{checked_model}
