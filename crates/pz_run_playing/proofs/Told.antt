@@ -1,6 +1,8 @@
 -- Lines of offers, one after another.
-use Rattle.std.proofs.Common.{◌≡◌, ◌<◌, ◌+◌, ℕ, List, ◌++◌, length, get_or, drop, Some, None, sym, subst, ap, ◌∙◌, append_assoc}
-use Rattle.std.proofs.lemmas.List.{drop_more}
+use Rattle.std.proofs.Common.{◌≡◌, ◌+◌, ℕ, List, [], ◌++◌, length, drop, Some, None, sym, subst, ap, ◌∙◌, append_assoc, arith}
+use Rattle.std.specs.Prelude.{slice_get}
+use Rattle.std.proofs.lemmas.List.{drop_more, at_drop_all}
+use Rattle.std.proofs.lemmas.Option.{get_or_from_slice_get, slice_get_within}
 use Rattle.pz_io.specs.Outside.{SinkState}
 use Rattle.pz_io.specs.declared.writing.Halt.{Halt}
 use Rattle.pz_io.specs.Writing.{Wrote}
@@ -15,9 +17,19 @@ pub same_line : (m l : ModelTree) (t u n k : ℕ) (a b : Action) → m ≡ l →
 same_line m l t u n k a b model clock action =
     ap (λ (x : ModelTree). action_line x t n k a) model ∙ ap (λ (x : ℕ). action_line l x n k a) clock ∙ ap (λ (x : Action). action_line l u n k x) action
 
-module _ (m : ModelTree) (k : ℕ) (a : Action) (offers : List Action) (within : k < length offers) (is : a ≡ get_or offers k a) where
+-- and of an offer in a menu
+pub same_offer : (m l : ModelTree) (k : ℕ) (a b : Action) → m ≡ l → a ≡ b → offer_line m k a ≡ offer_line l k b
+same_offer m l k a b model action = ap (λ (x : ModelTree). offer_line x k a) model ∙ ap (λ (x : Action). offer_line l k x) action
+
+-- behind the last there is nothing
+pub no_more : (m : ModelTree) (n : ℕ) (offers : List Action) → n ≡ length offers → offers_text m n (drop n offers) ≡ []
+no_more m n offers all = at_drop_all (offers_text m n) offers n (omega (arith, all))
+
+module _ (m : ModelTree) (k : ℕ) (a : Action) (offers : List Action) (chosen : slice_get offers k ≡ Some a) where
   offers_step : offers_text m k (drop k offers) ≡ offer_line m k a ++ offers_text m (k + 1) (drop (k + 1) offers)
-  offers_step = ap (offers_text m k) (drop_more offers k a within) ∙ ap (λ (x : Action). offer_line m k x ++ offers_text m (k + 1) (drop (k + 1) offers)) (sym is)
+  offers_step =
+      ap (offers_text m k) (drop_more offers k a (slice_get_within offers k a chosen))
+      ∙ ap (λ (x : Action). offer_line m k x ++ offers_text m (k + 1) (drop (k + 1) offers)) (get_or_from_slice_get offers k a a chosen)
 
   module _ (known : Known) (before mid now : SinkState) (written : List ℕ) (wrote : Wrote before mid written None) (text : written ++ offers_text m k (drop k offers) ≡ offers_text m 0 offers) where
     -- one more
