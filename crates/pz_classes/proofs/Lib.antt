@@ -16,9 +16,9 @@ mod OwnBodies
 mod Reaching
 mod Merely
 mod InstanceClasses
-mod Acyclic
+pub mod Acyclic
 mod Walked
-mod Rounds
+pub mod Rounds
 mod Inheriting
 mod Filling
 mod Building

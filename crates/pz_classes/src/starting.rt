@@ -18,7 +18,7 @@ use crate::members::Members;
 use crate::surroundings::{Surroundings, surround};
 use crate::{Step, StepForm};
 use pz_classes_code::{Numbering, Scope, resolve_list};
-use pz_items::Items;
+use pz_items::{Items, Shared};
 use pz_syntax::{Decl, Model, Start};
 use std::alloc::{AllocError, Global};
 
@@ -50,14 +50,14 @@ fn start_call(
         ports: &around.ports,
         classes,
     };
-    let args = resolve_list(alloc, &scope, start.args.as_slice())?;
-    let method = start.method.copy()?;
+    let args = Shared::new(alloc, resolve_list(alloc, &scope, start.args.as_slice())?)?;
+    let method = Shared::new(alloc, start.method.copy()?)?;
     Ok(Step {
         pos: start.method.pos,
         form: StepForm::Call {
             method,
             args,
-            results: Items::new(alloc),
+            results: Shared::new(alloc, Items::new(alloc))?,
         },
     })
 }

@@ -1,9 +1,12 @@
+ghost use Rattle.std.specs.Prelude.{◌≡◌, IfOk};
+
 use crate::{Code, Slot};
-use pz_items::{Boxed, Items};
+use pz_items::{Items, Shared};
 use pz_syntax::{Id, Pos};
+use std::alloc::AllocError;
 
 /// A statement of a method's body, at the place of its first token. Variables are slots, and ports
-/// are their numbers in the class.
+/// are their numbers in the class. What it holds is shared, so that copies are cheap.
 #[cycle(step)]
 pub struct Step {
     pub pos: Pos,
@@ -19,40 +22,151 @@ impl Drop for Step {
     }
 }
 
+impl Step {
+    /// An equal statement, which holds the same parts. Takes constant time and no memory. The only error
+    /// is that a part has as many owners as can be counted.
+    pub fn copy(&self) -> Result<Step, AllocError>
+        ensures { IfOk result (λ copy. copy ≡ self.now) }
+    {
+        Ok(Step {
+            pos: self.pos,
+            form: copy_form(&self.form)?,
+        })
+    }
+}
+
+fn copy_form(form: &StepForm) -> Result<StepForm, AllocError>
+    ensures { IfOk result (λ copy. copy ≡ form.now) }
+{
+    match form {
+        StepForm::Skip => Ok(StepForm::Skip),
+        StepForm::Delay(time) => Ok(StepForm::Delay(time.copy()?)),
+        StepForm::Group(steps) => Ok(StepForm::Group(steps.copy()?)),
+        StepForm::Block(codes) => Ok(StepForm::Block(codes.copy()?)),
+        StepForm::Guard(test, guarded) => Ok(StepForm::Guard(test.copy()?, guarded.copy()?)),
+        StepForm::Par(branches) => Ok(StepForm::Par(branches.copy()?)),
+        StepForm::Sel(branches) => Ok(StepForm::Sel(branches.copy()?)),
+        StepForm::If(test, part, rest) => {
+            let rest = copy_part(rest)?;
+            Ok(StepForm::If(test.copy()?, part.copy()?, rest))
+        }
+        StepForm::While(test, body) => Ok(StepForm::While(test.copy()?, body.copy()?)),
+        StepForm::Abort(first, second) => Ok(StepForm::Abort(first.copy()?, second.copy()?)),
+        StepForm::Interrupt(first, second) => {
+            Ok(StepForm::Interrupt(first.copy()?, second.copy()?))
+        }
+        StepForm::Send {
+            port,
+            name,
+            args,
+            block,
+        } => copy_send(*port, name, args, block),
+        StepForm::Receive {
+            port,
+            name,
+            into,
+            condition,
+            block,
+        } => copy_receive(*port, name, into, condition, block),
+        StepForm::Call {
+            method,
+            args,
+            results,
+        } => Ok(StepForm::Call {
+            method: method.copy()?,
+            args: args.copy()?,
+            results: results.copy()?,
+        }),
+        StepForm::Eval(value) => Ok(StepForm::Eval(value.copy()?)),
+    }
+}
+
+/// The same part, if it is there.
+fn copy_part<T: Drop>(part: &Option<Shared<T>>) -> Result<Option<Shared<T>>, AllocError>
+    ensures { IfOk result (λ copy. copy ≡ part.now) }
+{
+    match part {
+        None => Ok(None),
+        Some(part) => Ok(Some(part.copy()?)),
+    }
+}
+
+fn copy_send(
+    port: u32,
+    name: &Shared<Id>,
+    args: &Option<Shared<Items<Code>>>,
+    block: &Option<Shared<Items<Code>>>,
+) -> Result<StepForm, AllocError>
+    ensures { IfOk result (λ copy. copy ≡ StepForm.Send port name.now args.now block.now) }
+{
+    let name = name.copy()?;
+    let args = copy_part(args)?;
+    let block = copy_part(block)?;
+    Ok(StepForm::Send {
+        port,
+        name,
+        args,
+        block,
+    })
+}
+
+fn copy_receive(
+    port: u32,
+    name: &Shared<Id>,
+    into: &Option<Shared<Items<Slot>>>,
+    condition: &Option<Shared<Code>>,
+    block: &Option<Shared<Items<Code>>>,
+) -> Result<StepForm, AllocError>
+    ensures { IfOk result (λ copy. copy ≡ StepForm.Receive port name.now into.now condition.now
+        block.now) }
+{
+    let name = name.copy()?;
+    let into = copy_part(into)?;
+    let condition = copy_part(condition)?;
+    let block = copy_part(block)?;
+    Ok(StepForm::Receive {
+        port,
+        name,
+        into,
+        condition,
+        block,
+    })
+}
+
 /// The forms of statements, as in the syntax, but for `Eval`: an assignment, or an expression that
 /// is a statement.
 #[cycle(step)]
 #[derive(Drop)]
 pub enum StepForm {
     Skip,
-    Delay(Code),
-    Group(Items<Step>),
-    Block(Items<Code>),
-    Guard(Code, Boxed<Step>),
-    Par(Items<Items<Step>>),
-    Sel(Items<Items<Step>>),
-    If(Code, Items<Step>, Option<Items<Step>>),
-    While(Code, Items<Step>),
-    Abort(Items<Step>, Boxed<Step>),
-    Interrupt(Items<Step>, Boxed<Step>),
+    Delay(Shared<Code>),
+    Group(Shared<Items<Step>>),
+    Block(Shared<Items<Code>>),
+    Guard(Shared<Code>, Shared<Step>),
+    Par(Shared<Items<Shared<Items<Step>>>>),
+    Sel(Shared<Items<Shared<Items<Step>>>>),
+    If(Shared<Code>, Shared<Items<Step>>, Option<Shared<Items<Step>>>),
+    While(Shared<Code>, Shared<Items<Step>>),
+    Abort(Shared<Items<Step>>, Shared<Step>),
+    Interrupt(Shared<Items<Step>>, Shared<Step>),
     Send {
         port: u32,
-        name: Id,
-        args: Option<Items<Code>>,
-        block: Option<Items<Code>>,
+        name: Shared<Id>,
+        args: Option<Shared<Items<Code>>>,
+        block: Option<Shared<Items<Code>>>,
     },
     /// Where there is a condition, `into` is there, and may be empty.
     Receive {
         port: u32,
-        name: Id,
-        into: Option<Items<Slot>>,
-        condition: Option<Code>,
-        block: Option<Items<Code>>,
+        name: Shared<Id>,
+        into: Option<Shared<Items<Slot>>>,
+        condition: Option<Shared<Code>>,
+        block: Option<Shared<Items<Code>>>,
     },
     Call {
-        method: Id,
-        args: Items<Code>,
-        results: Items<Slot>,
+        method: Shared<Id>,
+        args: Shared<Items<Code>>,
+        results: Shared<Items<Slot>>,
     },
-    Eval(Code),
+    Eval(Shared<Code>),
 }

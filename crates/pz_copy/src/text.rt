@@ -3,6 +3,7 @@
 ghost use Rattle.std.specs.Prelude.{◌≡◌, ◌<◌, ◌≤◌, ◌++◌, ◌∷◌, [], length, map, IfOk, OnOk};
 ghost use Rattle.std.specs.Fmt.{decimal, signed_decimal};
 ghost use Rattle.std.specs.List.{flat_map};
+ghost use Rattle.pz_items.specs.Characters.{byte};
 ghost use Rattle.pz_copy.specs.Parcels.{plain_objects};
 ghost use Rattle.pz_copy.specs.ParcelText as spec;
 ghost use Rattle.pz_copy.specs.ParcelText.{hex_digit, item_text, quoted, value_text, values_text, object_text, object_texts, objects_text, separated, parcel_text};
@@ -57,7 +58,7 @@ fn put_integer(out: &mut Vec<u8>, n: i64) -> Result<(), AllocError>
 }
 
 fn put_number(out: &mut Vec<u8>, n: u32) -> Result<(), AllocError>
-    ensures { OnOk result (out.new.items ≡ out.old.items ++ 35 ∷ decimal n) }
+    ensures { OnOk result (out.new.items ≡ out.old.items ++ byte "#" ∷ decimal n) }
 {
     let digits = format!(in *out.allocator(); "#{n}")?;
     out.extend_from_slice(digits.as_bytes())

@@ -349,15 +349,12 @@ fn begin_form<'a>(
     form: &'a CodeForm,
 ) -> Result<Control<'a>, Stop>
     requires { ActivationWithin (length state.old.held.objects) activation.old }
-    ensures goes { (model : ModelTree) → AreClasses model basis.entry.classes.now →
-        Goes (λ c. meant model basis.entry.clock (place_of activation.new.site)
-        activation.new.tasks.items c (memory_at activation.new.site state.new.held
-        activation.new.locals.items) units.new) result units.new
-        (and_then (step model basis.entry.clock (evaluated model basis.entry.clock depth)
+    ensures goes { (model : ModelTree) → AreClasses model basis.entry.classes.now → Goes
+        (coming model basis.entry.clock activation.new state.new.held units.new) result units.new
+        (then_tasks model basis.entry.clock activation.old
+        (step model basis.entry.clock (evaluated model basis.entry.clock depth)
         (place_of activation.old.site) (form_view form.now at)
-        (memory_at activation.old.site state.old.held activation.old.locals.items) units.old)
-        (pending model basis.entry.clock (place_of activation.old.site)
-        activation.old.tasks.items)) }
+        (memory_of activation.old state.old.held) units.old)) }
     ensures marks { state.new.marks ≡ state.old.marks }
     ensures count { length state.old.held.objects ≤ length state.new.held.objects }
     ensures site { activation.new.site ≡ activation.old.site }
@@ -446,14 +443,11 @@ pub(crate) fn begin<'a>(
     code: &'a Code,
 ) -> Result<Control<'a>, Stop>
     requires { ActivationWithin (length state.old.held.objects) activation.old }
-    ensures goes { (model : ModelTree) → AreClasses model basis.entry.classes.now →
-        Goes (λ c. meant model basis.entry.clock (place_of activation.new.site)
-        activation.new.tasks.items c (memory_at activation.new.site state.new.held
-        activation.new.locals.items) units.new) result units.new
-        (and_then (evaluated model basis.entry.clock depth (place_of activation.old.site)
-        (view code.now) (memory_at activation.old.site state.old.held activation.old.locals.items)
-        units.old) (pending model basis.entry.clock
-        (place_of activation.old.site) activation.old.tasks.items)) }
+    ensures goes { (model : ModelTree) → AreClasses model basis.entry.classes.now → Goes
+        (coming model basis.entry.clock activation.new state.new.held units.new) result units.new
+        (then_tasks model basis.entry.clock activation.old
+        (evaluated model basis.entry.clock depth (place_of activation.old.site) (view code.now)
+        (memory_of activation.old state.old.held) units.old)) }
     ensures marks { state.new.marks ≡ state.old.marks }
     ensures count { length state.old.held.objects ≤ length state.new.held.objects }
     ensures site { activation.new.site ≡ activation.old.site }

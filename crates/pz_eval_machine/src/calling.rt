@@ -8,9 +8,9 @@ ghost use Rattle.pz_classes.specs.devices.Rows.{AreClasses};
 ghost use Rattle.pz_eval_rules.specs.Steps.{reply, runs};
 ghost use Rattle.pz_eval_rules.specs.devices.Computed.{and_then, replied, selectors, evaluated};
 ghost use Rattle.pz_eval_operations.specs.Known.{AreKnown};
-ghost use Rattle.pz_eval_operations.specs.devices.Sites.{place_of, memory_at, memory_of};
+ghost use Rattle.pz_eval_operations.specs.devices.Sites.{place_of, memory_of};
 ghost use Rattle.pz_eval_operations.specs.devices.Views.{sendings_view};
-ghost use Rattle.pz_eval_machine.specs.devices.Tasks.{sent, pending, meant, coming, then_tasks, unwound};
+ghost use Rattle.pz_eval_machine.specs.devices.Tasks.{sent, then_tasks, unwound, to_come};
 ghost use Rattle.pz_eval_machine.specs.devices.Steps.{Goes, root};
 ghost use Rattle.pz_eval_operations.specs.devices.Within.{RequestWithin, ActivationWithin};
 ghost use Rattle.pz_eval_machine.specs.devices.Within.{ControlWithin};
@@ -68,17 +68,14 @@ fn call<'a>(
     object: u32,
     method: Method<'a>,
 ) -> Result<Control<'a>, Stop>
-    ensures goes { (model : ModelTree) (now : ℕ) (s : StateView) (r : ℕ) →
-        Goes (λ c. unwound model now callers.new.items
-        (meant model now (place_of activation.new.site) activation.new.tasks.items c
-        (memory_at activation.new.site s activation.new.locals.items) r)) result r
-        (unwound model now callers.old.items (and_then
+    ensures goes { (model : ModelTree) (now : ℕ) (s : StateView) (r : ℕ) → Goes
+        (to_come model now callers.new.items activation.new s r) result r
+        (unwound model now callers.old.items (then_tasks model now activation.old
         (and_then (replied model now (evaluated model now request.entry.depth)
         (runs object method.entry.locals (list_view method.entry.code.now))
-        request.entry.arguments.items (memory_at activation.old.site s activation.old.locals.items)
-        r) (λ z. selectors model now (evaluated model now request.entry.depth)
-        (place_of activation.old.site) z (sendings_view request.entry.more.now)))
-        (pending model now (place_of activation.old.site) activation.old.tasks.items))) }
+        request.entry.arguments.items (memory_of activation.old s) r)
+        (λ z. selectors model now (evaluated model now request.entry.depth)
+        (place_of activation.old.site) z (sendings_view request.entry.more.now))))) }
     ensures root { OnOk result (root callers.new.items (place_of activation.new.site) ≡
         root callers.old.items (place_of activation.old.site)) }
     ensures within { IfOk result (λ c. (count : ℕ) → object < count →
@@ -117,16 +114,14 @@ fn deliver<'a>(
     requires request { RequestWithin (length state.old.held.objects) request }
     requires within { ActivationWithin (length state.old.held.objects) activation.old }
     requires callers { All (ActivationWithin (length state.old.held.objects)) callers.old.items }
-    ensures goes { (model : ModelTree) → AreClasses model basis.entry.classes.now →
-        Goes (λ c. unwound model basis.entry.clock callers.new.items
-        (coming model basis.entry.clock activation.new state.new.held units.new c)) result units.new
-        (unwound model basis.entry.clock callers.old.items
+    ensures goes { (model : ModelTree) → AreClasses model basis.entry.classes.now → Goes
+        (to_come model basis.entry.clock callers.new.items activation.new state.new.held units.new)
+        result units.new (unwound model basis.entry.clock callers.old.items
         (then_tasks model basis.entry.clock activation.old
-        (and_then (replied model basis.entry.clock
-        (evaluated model basis.entry.clock request.entry.depth)
-        (reply model request.entry.receiver request.entry.selector.now request.entry.arguments.items
-        (memory_of activation.old state.old.held)) request.entry.arguments.items
-        (memory_of activation.old state.old.held) units.old)
+        (and_then (replied model basis.entry.clock (evaluated model basis.entry.clock
+        request.entry.depth) (reply model request.entry.receiver request.entry.selector.now
+        request.entry.arguments.items (memory_of activation.old state.old.held))
+        request.entry.arguments.items (memory_of activation.old state.old.held) units.old)
         (λ z. selectors model basis.entry.clock (evaluated model basis.entry.clock
         request.entry.depth) (place_of activation.old.site) z
         (sendings_view request.entry.more.now))))) }
@@ -169,10 +164,9 @@ pub(crate) fn send<'a>(
     requires request { RequestWithin (length state.old.held.objects) request }
     requires within { ActivationWithin (length state.old.held.objects) activation.old }
     requires callers { All (ActivationWithin (length state.old.held.objects)) callers.old.items }
-    ensures goes { (model : ModelTree) → AreClasses model basis.entry.classes.now →
-        Goes (λ c. unwound model basis.entry.clock callers.new.items
-        (coming model basis.entry.clock activation.new state.new.held units.new c)) result units.new
-        (unwound model basis.entry.clock callers.old.items
+    ensures goes { (model : ModelTree) → AreClasses model basis.entry.classes.now → Goes
+        (to_come model basis.entry.clock callers.new.items activation.new state.new.held units.new)
+        result units.new (unwound model basis.entry.clock callers.old.items
         (then_tasks model basis.entry.clock activation.old
         (sent model basis.entry.clock request.entry.depth
         (place_of activation.old.site) request.entry.receiver request.entry.selector.now

@@ -12,8 +12,8 @@ ghost use Rattle.pz_eval_rules.specs.Outcomes.{outside};
 ghost use Rattle.pz_eval_rules.specs.Answers.{ends, gives, stops};
 ghost use Rattle.pz_eval_rules.specs.devices.Computed.{done, evaluated};
 ghost use Rattle.pz_eval_operations.specs.Known.{AreKnown};
-ghost use Rattle.pz_eval_operations.specs.devices.Sites.{place_of, memory_at};
-ghost use Rattle.pz_eval_machine.specs.devices.Tasks.{meant, unwound};
+ghost use Rattle.pz_eval_operations.specs.devices.Sites.{place_of, memory_of};
+ghost use Rattle.pz_eval_machine.specs.devices.Tasks.{unwound, coming, to_come};
 ghost use Rattle.pz_eval_machine.specs.devices.Steps.{went_on, Progresses, Advances, Finishes, OnOver, root};
 ghost use Rattle.pz_eval_machine.specs.devices.Within.{ControlWithin, FinishWithin, ProgressWithin};
 ghost use Rattle.pz_eval_operations.specs.devices.Within.{ActivationWithin};
@@ -35,13 +35,10 @@ fn give_back<'a>(
     callers: &mut Vec<Activation<'a>>,
     value: Value,
 ) -> Progress<'a>
-    ensures goes { (model : ModelTree) (now : ℕ) (s : StateView) (r : ℕ) →
-        Progresses (λ c. unwound model now callers.new.items
-        (meant model now (place_of activation.new.site) activation.new.tasks.items c
-        (memory_at activation.new.site s activation.new.locals.items) r)) result
-        (memory_at activation.new.site s activation.new.locals.items) r
-        (unwound model now callers.old.items (done
-        (gives value (memory_at activation.old.site s activation.old.locals.items)) r)) }
+    ensures goes { (model : ModelTree) (now : ℕ) (s : StateView) (r : ℕ) → Progresses
+        (to_come model now callers.new.items activation.new s r) result
+        (memory_of activation.new s) r (unwound model now callers.old.items
+        (done (gives value (memory_of activation.old s)) r)) }
     ensures root { root callers.new.items (place_of activation.new.site) ≡ root callers.old.items
         (place_of activation.old.site) }
     ensures bottom { OnOver (callers.new.items ≡ []) result }
@@ -64,13 +61,10 @@ fn give_result<'a>(
     callers: &mut Vec<Activation<'a>>,
     value: Value,
 ) -> Progress<'a>
-    ensures goes { (model : ModelTree) (now : ℕ) (s : StateView) (r : ℕ) →
-        Progresses (λ c. unwound model now callers.new.items
-        (meant model now (place_of activation.new.site) activation.new.tasks.items c
-        (memory_at activation.new.site s activation.new.locals.items) r)) result
-        (memory_at activation.new.site s activation.new.locals.items) r
-        (unwound model now callers.old.items (done
-        (stops (ends value (memory_at activation.old.site s activation.old.locals.items))) r)) }
+    ensures goes { (model : ModelTree) (now : ℕ) (s : StateView) (r : ℕ) → Progresses
+        (to_come model now callers.new.items activation.new s r) result
+        (memory_of activation.new s) r (unwound model now callers.old.items
+        (done (stops (ends value (memory_of activation.old s))) r)) }
     ensures root { root callers.new.items (place_of activation.new.site) ≡ root callers.old.items
         (place_of activation.old.site) }
     ensures bottom { OnOver (callers.new.items ≡ []) result }
@@ -110,15 +104,11 @@ fn advance<'a>(
     requires control { ControlWithin (length state.old.held.objects) control }
     requires within { ActivationWithin (length state.old.held.objects) activation.old }
     requires callers { All (ActivationWithin (length state.old.held.objects)) callers.old.items }
-    ensures goes { (model : ModelTree) → AreClasses model basis.entry.classes.now →
-        Advances (λ c. unwound model basis.entry.clock callers.new.items
-        (meant model basis.entry.clock (place_of activation.new.site) activation.new.tasks.items c
-        (memory_at activation.new.site state.new.held activation.new.locals.items) units.new))
-        result (memory_at activation.new.site state.new.held activation.new.locals.items) units.new
-        (unwound model basis.entry.clock callers.old.items
-        (meant model basis.entry.clock (place_of activation.old.site) activation.old.tasks.items
-        control.entry (memory_at activation.old.site state.old.held activation.old.locals.items)
-        units.old)) }
+    ensures goes { (model : ModelTree) → AreClasses model basis.entry.classes.now → Advances
+        (to_come model basis.entry.clock callers.new.items activation.new state.new.held units.new)
+        result (memory_of activation.new state.new.held) units.new
+        (to_come model basis.entry.clock callers.old.items activation.old state.old.held units.old
+        control.entry) }
     ensures marks { state.new.marks ≡ state.old.marks }
     ensures count { length state.old.held.objects ≤ length state.new.held.objects }
     ensures root { OnOk result (root callers.new.items (place_of activation.new.site) ≡
@@ -161,15 +151,11 @@ fn count_one<'a>(
     requires control { ControlWithin (length state.old.held.objects) first }
     requires within { ActivationWithin (length state.old.held.objects) activation.old }
     requires callers { All (ActivationWithin (length state.old.held.objects)) callers.old.items }
-    ensures goes { (model : ModelTree) → AreClasses model basis.entry.classes.now →
-        Advances (λ c. unwound model basis.entry.clock callers.new.items
-        (meant model basis.entry.clock (place_of activation.new.site) activation.new.tasks.items c
-        (memory_at activation.new.site state.new.held activation.new.locals.items) units.new))
-        result (memory_at activation.new.site state.new.held activation.new.locals.items) units.new
-        (unwound model basis.entry.clock callers.old.items
-        (meant model basis.entry.clock (place_of activation.old.site) activation.old.tasks.items
-        first.entry (memory_at activation.old.site state.old.held activation.old.locals.items)
-        units.old)) }
+    ensures goes { (model : ModelTree) → AreClasses model basis.entry.classes.now → Advances
+        (to_come model basis.entry.clock callers.new.items activation.new state.new.held units.new)
+        result (memory_of activation.new state.new.held) units.new
+        (to_come model basis.entry.clock callers.old.items activation.old state.old.held units.old
+        first.entry) }
     ensures marks { state.new.marks ≡ state.old.marks }
     ensures count { length state.old.held.objects ≤ length state.new.held.objects }
     ensures root { OnOk result (root callers.new.items (place_of activation.new.site) ≡
@@ -209,11 +195,9 @@ fn run<'a>(
     requires control { ControlWithin (length state.old.held.objects) first }
     requires within { ActivationWithin (length state.old.held.objects) activation.old }
     requires callers { callers.old.items ≡ [] }
-    ensures goes { (model : ModelTree) → AreClasses model basis.entry.classes.now →
-        Finishes result (memory_at activation.new.site state.new.held activation.new.locals.items)
-        units.new (meant model basis.entry.clock (place_of activation.old.site)
-        activation.old.tasks.items first.entry (memory_at activation.old.site state.old.held
-        activation.old.locals.items) units.old) }
+    ensures goes { (model : ModelTree) → AreClasses model basis.entry.classes.now → Finishes result
+        (memory_of activation.new state.new.held) units.new
+        (coming model basis.entry.clock activation.old state.old.held units.old first.entry) }
     ensures marks { state.new.marks ≡ state.old.marks }
     ensures count { length state.old.held.objects ≤ length state.new.held.objects }
     ensures place { OnOk result (place_of activation.new.site ≡ place_of activation.old.site) }

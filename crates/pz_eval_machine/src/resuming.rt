@@ -11,7 +11,7 @@ ghost use Rattle.pz_eval_rules.specs.Answers.{gives};
 ghost use Rattle.pz_eval_rules.specs.Steps as steps;
 ghost use Rattle.pz_eval_rules.specs.devices.Computed.{done, and_then, arguments, evaluated};
 ghost use Rattle.pz_eval_operations.specs.declared.task.Task.{Task as Tasks};
-ghost use Rattle.pz_eval_operations.specs.devices.Sites.{place_of, memory_at, memory_of};
+ghost use Rattle.pz_eval_operations.specs.devices.Sites.{place_of, memory_of};
 ghost use Rattle.pz_eval_operations.specs.devices.Views.{sendings_view};
 ghost use Rattle.pz_eval_machine.specs.devices.Tasks.{sent, resumed, pending, meant, coming, then_tasks};
 ghost use Rattle.pz_eval_machine.specs.devices.Steps.{Goes};
@@ -63,12 +63,11 @@ pub(crate) fn assign<'a>(
 ) -> Result<Control<'a>, Stop>
     requires value { RefersWithin (length state.old.held.objects) value }
     requires within { ActivationWithin (length state.old.held.objects) activation.old }
-    ensures goes { (model : ModelTree) (now : ℕ) (r : ℕ) →
-        Goes (λ c. meant model now (place_of activation.new.site) activation.new.tasks.items c
-        (memory_at activation.new.site state.new.held activation.new.locals.items) r) result r
-        (and_then (done (gives value (memories.write (place_of activation.old.site) slot value
-        (memory_at activation.old.site state.old.held activation.old.locals.items))) r)
-        (pending model now (place_of activation.old.site) activation.old.tasks.items)) }
+    ensures goes { (model : ModelTree) (now : ℕ) (r : ℕ) → Goes
+        (coming model now activation.new state.new.held r) result r
+        (then_tasks model now activation.old (done (gives value
+        (memories.write (place_of activation.old.site) slot value
+        (memory_of activation.old state.old.held))) r)) }
     ensures marks { state.new.marks ≡ state.old.marks }
     ensures count { length state.new.held.objects ≡ length state.old.held.objects }
     ensures site { activation.new.site ≡ activation.old.site }
@@ -129,12 +128,11 @@ pub(crate) fn resume<'a>(
     requires task { TaskWithin (length state.old.held.objects) task }
     requires value { RefersWithin (length state.old.held.objects) value }
     requires within { ActivationWithin (length state.old.held.objects) activation.old }
-    ensures goes { (model : ModelTree) (now : ℕ) →
-        Goes (λ c. meant model now (place_of activation.new.site) activation.new.tasks.items c
-        (memory_at activation.new.site state.new.held activation.new.locals.items) units.new) result
-        units.new (and_then (resumed model now (place_of activation.old.site) task.entry value
-        (memory_at activation.old.site state.old.held activation.old.locals.items) units.old)
-        (pending model now (place_of activation.old.site) activation.old.tasks.items)) }
+    ensures goes { (model : ModelTree) (now : ℕ) → Goes
+        (coming model now activation.new state.new.held units.new) result units.new
+        (then_tasks model now activation.old (resumed model now
+        (place_of activation.old.site) task.entry value
+        (memory_of activation.old state.old.held) units.old)) }
     ensures marks { state.new.marks ≡ state.old.marks }
     ensures count { length state.new.held.objects ≡ length state.old.held.objects }
     ensures site { activation.new.site ≡ activation.old.site }

@@ -1,16 +1,17 @@
 -- Sorts of bytes, and what a text begins with.
 use Rattle.std.specs.Prelude.{ℕ, List, [], ◌∷◌, Bool, false, ◌||◌, ◌&&◌, ◌==◌, nat_le}
+use Rattle.pz_items.specs.Characters.{byte}
 
 -- a tab, an LF, a CR or a blank
 abbrev pub is_blank : ℕ → Bool
-is_blank b = b == 9 || b == 10 || b == 13 || b == 32
+is_blank b = b == byte "\t" || b == byte "\n" || b == byte "\r" || b == byte " "
 
 abbrev pub is_digit : ℕ → Bool
-is_digit b = nat_le 48 b && nat_le b 57
+is_digit b = nat_le (byte "0") b && nat_le b (byte "9")
 
 -- an ASCII letter or `_`
 abbrev pub is_letter : ℕ → Bool
-is_letter b = (nat_le 65 b && nat_le b 90) || (nat_le 97 b && nat_le b 122) || b == 95
+is_letter b = (nat_le (byte "A") b && nat_le b (byte "Z")) || (nat_le (byte "a") b && nat_le b (byte "z")) || b == byte "_"
 
 -- what an identifier has after its first letter
 abbrev pub is_word : ℕ → Bool

@@ -1,6 +1,7 @@
 -- Comments: `//` to the end of the line, and `/*` to the next `*/`.
 use Rattle.std.specs.Prelude.{◌≡◌, ℕ, List, [], ◌∷◌, ◌++◌, Bool, true, false, ◌||◌, ◌&&◌, ◌==◌, not}
 use Rattle.std.specs.List.{list_all}
+use Rattle.pz_items.specs.Characters.{byte}
 use Rattle.pz_lexer.specs.Bytes.{begins}
 
 -- whether a text begins with these two bytes
@@ -15,20 +16,20 @@ has_pair first second (b ∷ bs) = begins_pair first second (b ∷ bs) || has_pa
 
 -- `//` or `/*`
 abbrev pub begins_comment : List ℕ → Bool
-begins_comment text = begins_pair 47 47 text || begins_pair 47 42 text
+begins_comment text = begins_pair (byte "/") (byte "/") text || begins_pair (byte "/") (byte "*") text
 
 abbrev pub is_in_line : ℕ → Bool
-is_in_line b = not (b == 10)
+is_in_line b = not (b == byte "\n")
 
 -- `//` and any bytes but LF; the comment ends before the next LF or at the end.
 pub record IsLineComment (text rest : List ℕ) : Type 0 where
   pub body : List ℕ
-  pub spelling : text ≡ 47 ∷ 47 ∷ body
+  pub spelling : text ≡ byte "/" ∷ byte "/" ∷ body
   pub inside : list_all is_in_line body ≡ true
   pub whole : begins is_in_line rest ≡ false
 
 -- `/*`, any bytes, and the next `*/`: no `*/` ends before it.
 pub record IsBlockComment (text : List ℕ) : Type 0 where
   pub body : List ℕ
-  pub spelling : text ≡ 47 ∷ 42 ∷ body ++ 42 ∷ 47 ∷ []
-  pub first : has_pair 42 47 (body ++ 42 ∷ []) ≡ false
+  pub spelling : text ≡ byte "/" ∷ byte "*" ∷ body ++ byte "*" ∷ byte "/" ∷ []
+  pub first : has_pair (byte "*") (byte "/") (body ++ byte "*" ∷ []) ≡ false

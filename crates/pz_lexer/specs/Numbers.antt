@@ -1,6 +1,7 @@
 -- Integers and floats.
 use Rattle.std.specs.Prelude.{◌≡◌, ℕ, ◌+◌, ◌*◌, ◌-◌, ◌^◌, ◌<◌, List, [], ◌∷◌, ◌++◌, Bool, true, false, ◌&&◌, ◌==◌, fold}
 use Rattle.std.specs.List.{list_all}
+use Rattle.pz_items.specs.Characters.{byte}
 use Rattle.pz_lexer.specs.Bytes.{is_digit, is_word, begins}
 
 -- at least one digit, and nothing else
@@ -10,12 +11,12 @@ pub record AreDigits (text : List ℕ) : Type 0 where
 
 -- the number that decimal digits stand for
 abbrev pub value_of : List ℕ → ℕ
-value_of digits = fold (λ n d. 10 * n + (d - 48)) 0 digits
+value_of digits = fold (λ n d. 10 * n + (d - byte "0")) 0 digits
 
 -- a `.` and a digit: what makes the digits before it a float
 abbrev pub begins_fraction : List ℕ → Bool
 begins_fraction [] = false
-begins_fraction (b ∷ bs) = b == 46 && begins is_digit bs
+begins_fraction (b ∷ bs) = b == byte "." && begins is_digit bs
 
 -- Digits that no digit, letter or fraction follows.
 pub record IsInteger (text : List ℕ) (value : ℕ) (rest : List ℕ) : Type 0 where
@@ -29,7 +30,7 @@ pub record IsInteger (text : List ℕ) (value : ℕ) (rest : List ℕ) : Type 0 
 pub record IsFloat (text rest : List ℕ) : Type 0 where
   pub front : List ℕ
   pub fraction : List ℕ
-  pub spelling : text ≡ front ++ 46 ∷ fraction
+  pub spelling : text ≡ front ++ byte "." ∷ fraction
   pub digits : AreDigits front
   pub decimals : AreDigits fraction
   pub whole : begins is_word rest ≡ false

@@ -1,5 +1,6 @@
 -- Lines and columns.
 use Rattle.std.specs.Prelude.{ℕ, ◌+◌, List, [], ◌∷◌, ◌==◌, if◌then◌else◌}
+use Rattle.pz_items.specs.Characters.{byte}
 use Rattle.pz_syntax.specs.declared.tokens.Pos.{Pos}
 
 -- the place of the first byte
@@ -8,7 +9,7 @@ origin = record { line = 1; column = 1 }
 
 -- the place after a byte: an LF ends its line, and any other byte is one column wide
 abbrev pub after_byte : Pos → ℕ → Pos
-after_byte pos b = if b == 10 then record { line = pos.line + 1; column = 1 } else record { line = pos.line; column = pos.column + 1 }
+after_byte pos b = if b == byte "\n" then record { line = pos.line + 1; column = 1 } else record { line = pos.line; column = pos.column + 1 }
 
 -- the place after a text
 abbrev pub place_after : Pos → List ℕ → Pos

@@ -1,4 +1,5 @@
 ghost use Rattle.std.specs.Prelude.{◌≡◌, ◌==◌, ◌<◌, ◌+◌, true, ℕ, List, ◌∷◌, length, drop};
+ghost use Rattle.pz_items.specs.Characters.{byte};
 ghost use Rattle.pz_lexer.specs.Bytes.{begins};
 ghost use Rattle.pz_lexer.specs.Comments.{begins_pair};
 ghost use Rattle.pz_lexer.specs.devices.Reading.{Reads};
@@ -9,7 +10,7 @@ use crate::symbols::symbol;
 
 /// The comment that a `/` begins, or the symbol.
 pub fn comment_or_slash(text: &[u8]) -> Result<Found, Stop>
-    requires { begins (λ b. b == 47) text.now ≡ true }
+    requires { begins (λ b. b == byte "/") text.now ≡ true }
     ensures { Reads text.now result }
 {
     let (_, rest) = text.split_at(1);
@@ -27,7 +28,7 @@ pub fn comment_or_slash(text: &[u8]) -> Result<Found, Stop>
 
 /// The comment that `/*` begins. It ends with the next `*/`.
 fn block_comment(text: &[u8]) -> Result<Found, Stop>
-    requires { (rest : List ℕ) × (text.now ≡ 47 ∷ 42 ∷ rest) }
+    requires { (rest : List ℕ) × (text.now ≡ byte "/" ∷ byte "*" ∷ rest) }
     ensures { Reads text.now result }
 {
     let mut at = 2;
@@ -46,7 +47,7 @@ fn block_comment(text: &[u8]) -> Result<Found, Stop>
 /// Whether a `*/` stands at this place.
 fn ends_at(text: &[u8], at: usize) -> bool
     requires { at + 1 < length text.now }
-    ensures { result ≡ begins_pair 42 47 (drop at text.now) }
+    ensures { result ≡ begins_pair (byte "*") (byte "/") (drop at text.now) }
 {
     text[at] == b'*' && text[at + 1] == b'/'
 }

@@ -1,4 +1,5 @@
 ghost use Rattle.std.specs.Prelude.{◌≡◌, ◌==◌, true};
+ghost use Rattle.pz_items.specs.Characters.{byte};
 ghost use Rattle.pz_lexer.specs.Bytes.{begins};
 ghost use Rattle.pz_lexer.specs.devices.Reading.{Reads};
 
@@ -10,7 +11,7 @@ use std::alloc::Global;
 
 /// The string that a `"` begins.
 pub fn string(alloc: Global, text: &[u8]) -> Result<Found, Stop>
-    requires { begins (λ b. b == 34) text.now ≡ true }
+    requires { begins (λ b. b == byte "\"") text.now ≡ true }
     ensures { Reads text.now result }
 {
     let mut values = Vec::new(alloc);
@@ -36,7 +37,7 @@ pub fn string(alloc: Global, text: &[u8]) -> Result<Found, Stop>
 
 /// The character that a `'` begins.
 pub fn character(text: &[u8]) -> Result<Found, Stop>
-    requires { begins (λ b. b == 39) text.now ≡ true }
+    requires { begins (λ b. b == byte "'") text.now ≡ true }
     ensures { Reads text.now result }
 {
     let (_, inside) = text.split_at(1);

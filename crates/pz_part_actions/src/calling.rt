@@ -19,13 +19,12 @@ ghost use Rattle.pz_part_actions.specs.Fitting.{FitsHere};
 ghost use Rattle.pz_part_actions.specs.devices.Calls.{IsCallable, Enters};
 
 use crate::evaluating::evaluate_all;
-use crate::opening::open_steps;
 use pz_classes::{Body, Classes};
 use pz_classes_code::{Code, Slot, Step};
-use pz_items::{Boxed, Items};
+use pz_items::{Boxed, Items, Shared};
 use pz_offer::Trouble;
 use pz_part_queries::Standpoint;
-use pz_rules::Term;
+use pz_rules::{Term, open_all};
 use pz_state::{FrameId, State};
 use pz_syntax::{Id, Pos};
 use pz_term_around::set_inputs;
@@ -36,7 +35,7 @@ use std::alloc::{AllocError, Global};
 #[derive(Clone, Copy)]
 struct Method<'a> {
     locals: u32,
-    steps: &'a [Step],
+    steps: &'a Shared<Items<Step>>,
 }
 
 /// The method of a process class with this name and these numbers of inputs and outputs.
@@ -58,7 +57,7 @@ fn find_method<'a>(
     match classes.body(method) {
         Body::Process { locals, stmts } => Method {
             locals: *locals,
-            steps: stmts.as_slice(),
+            steps: stmts,
         },
         Body::Data { .. } => unreachable!(),
     }
@@ -69,14 +68,14 @@ fn framed(
     alloc: Global,
     frame: FrameId,
     inputs: usize,
-    results: &[Slot],
-    steps: &[Step],
+    results: &Shared<Items<Slot>>,
+    steps: &Shared<Items<Step>>,
 ) -> Result<Term, AllocError>
     ensures { IfOk result (λ term. term_view term ≡ terms.frame frame.0 inputs results.now
         (opened_all (sequence_view steps.now))) }
 {
-    let results = Items::from_vec(Vec::from_slice(alloc, results)?);
-    let body = Boxed::new(alloc, open_steps(alloc, steps)?)?;
+    let results = results.copy()?;
+    let body = Boxed::new(alloc, open_all(alloc, steps)?)?;
     Ok(Term::Frame {
         frame,
         inputs,
@@ -91,7 +90,7 @@ fn enter(
     state: &mut State,
     method: Method<'_>,
     inputs: Items<Value>,
-    results: &[Slot],
+    results: &Shared<Items<Slot>>,
 ) -> Result<Term, AllocError>
     requires { All (RefersWithin (length state.old.held.objects)) inputs }
     ensures { IfOk result (λ term. Enters method.entry.locals results.now
@@ -113,7 +112,7 @@ pub(crate) fn perform_call(
     pos: Pos,
     method: &Id,
     args: &[Code],
-    results: &[Slot],
+    results: &Shared<Items<Slot>>,
 ) -> Result<Result<Term, Trouble>, AllocError>
     requires known { AreKnown here.now.classes.now }
     requires fits { ∥ FitsHere here.now class (terms.leaf
@@ -125,7 +124,8 @@ pub(crate) fn perform_call(
     ensures marks { OnOk result (state.new.marks ≡ state.old.marks) }
 {
     let name = method.name.as_str().as_bytes();
-    let called = find_method(here.classes, class, name, args.len(), results.len());
+    let outputs = results.get().len();
+    let called = find_method(here.classes, class, name, args.len(), outputs);
     match evaluate_all(alloc, here, state, frame, pos, args)? {
         Ok(values) => Ok(Ok(enter(alloc, state, called, values, results)?)),
         Err(trouble) => Ok(Err(trouble)),

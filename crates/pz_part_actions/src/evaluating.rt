@@ -12,7 +12,7 @@ ghost use Rattle.pz_part_actions.specs.devices.Effects.{Tested, Ran, ran};
 
 use pz_classes_code::Code;
 use pz_eval::{eval, eval_list};
-use pz_items::Items;
+use pz_items::{Items, Shared};
 use pz_offer::Trouble;
 use pz_part_queries::{Standpoint, allowance, truth_of, value_or_trouble, values_or_trouble};
 use pz_state::{FrameId, State};
@@ -123,7 +123,7 @@ pub(crate) fn run_part(
     state: &mut State,
     frame: FrameId,
     pos: Pos,
-    part: &Option<Items<Code>>,
+    part: &Option<Shared<Items<Code>>>,
 ) -> Result<Result<(), Trouble>, AllocError>
     requires { AreKnown here.now.classes.now }
     ensures runs { (m : ModelTree) (class : ℕ) → Knows m here.now →
@@ -133,6 +133,6 @@ pub(crate) fn run_part(
 {
     match part {
         None => Ok(Ok(())),
-        Some(codes) => run(alloc, here, state, frame, pos, codes.as_slice()),
+        Some(codes) => run(alloc, here, state, frame, pos, codes.get().as_slice()),
     }
 }

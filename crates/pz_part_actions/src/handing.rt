@@ -15,7 +15,7 @@ ghost use Rattle.pz_part_actions.specs.devices.Effects.{RunsBoth};
 
 use crate::evaluating::run_part;
 use pz_classes_code::{Code, StepForm};
-use pz_items::Items;
+use pz_items::{Items, Shared};
 use pz_offer::Trouble;
 use pz_part_queries::Standpoint;
 use pz_rules::Term;
@@ -30,8 +30,8 @@ fn hand_over(
     state: &mut State,
     frame: FrameId,
     pos: Pos,
-    args: &Option<Items<Code>>,
-    block: &Option<Items<Code>>,
+    args: &Option<Shared<Items<Code>>>,
+    block: &Option<Shared<Items<Code>>>,
 ) -> Result<Result<(), Trouble>, AllocError>
     requires { AreKnown here.now.classes.now }
     ensures runs { (m : ModelTree) (class : ℕ) → Knows m here.now →

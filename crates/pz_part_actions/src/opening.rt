@@ -1,30 +1,24 @@
 // Statements that stand open. The only error is want of memory.
 
 ghost use Rattle.std.specs.Prelude.{◌≡◌, IfOk};
-ghost use Rattle.pz_classes_code.specs.StepView.{sequence_view};
-ghost use Rattle.pz_rules.specs.Opening.{opened_all, opened_part};
+ghost use Rattle.pz_rules.specs.Opening.{opened_part};
 ghost use Rattle.pz_rules.specs.View.{term_view};
 ghost use Rattle.pz_part_actions.specs.devices.Parts.{otherwise_view};
 
 use pz_classes_code::Step;
-use pz_items::Items;
-use pz_rules::{Rest, Term, open_rest};
+use pz_items::{Items, Shared};
+use pz_rules::{Term, open_all};
 use std::alloc::{AllocError, Global};
 
-/// The term of statements in a sequence.
-pub(crate) fn open_steps(alloc: Global, steps: &[Step]) -> Result<Term, AllocError>
-    ensures { IfOk result (λ term. term_view term ≡ opened_all (sequence_view steps.now)) }
-{
-    let rest = Rest::copy_of(alloc, steps)?;
-    open_rest(alloc, rest)
-}
-
 /// The term of statements that may be left out.
-pub(crate) fn open_part(alloc: Global, part: &Option<Items<Step>>) -> Result<Term, AllocError>
+pub(crate) fn open_part(
+    alloc: Global,
+    part: &Option<Shared<Items<Step>>>,
+) -> Result<Term, AllocError>
     ensures { IfOk result (λ term. term_view term ≡ opened_part (otherwise_view part.now)) }
 {
     match part {
         None => Ok(Term::Done),
-        Some(steps) => open_steps(alloc, steps.as_slice()),
+        Some(steps) => open_all(alloc, steps),
     }
 }

@@ -99,22 +99,20 @@ fn perform_step(
         StepForm::Skip => Ok(Ok(Term::Done)),
         // No time is left of it, and its evaluation leaves nothing.
         StepForm::Delay(_) => Ok(Ok(Term::Done)),
-        StepForm::Eval(code) => perform_value(alloc, here, state, frame, pos, code),
-        StepForm::Block(codes) => perform_block(alloc, here, state, frame, pos, codes.as_slice()),
+        StepForm::Eval(code) => perform_value(alloc, here, state, frame, pos, code.get()),
+        StepForm::Block(codes) => perform_block(
+            alloc,
+            here,
+            state,
+            frame,
+            pos,
+            codes.get().as_slice(),
+        ),
         StepForm::If(test, steps, other) => {
-            perform_if(
-                alloc,
-                here,
-                state,
-                frame,
-                pos,
-                test,
-                steps.as_slice(),
-                other,
-            )
+            perform_if(alloc, here, state, frame, pos, test.get(), steps, other)
         }
         StepForm::While(test, body) => {
-            perform_while(alloc, here, state, frame, step, test, body.as_slice())
+            perform_while(alloc, here, state, frame, step, test.get(), body)
         }
         StepForm::Call {
             method,
@@ -127,9 +125,9 @@ fn perform_step(
             state,
             frame,
             pos,
-            method,
-            args.as_slice(),
-            results.as_slice(),
+            method.get(),
+            args.get().as_slice(),
+            results,
         ),
         _ => unreachable!(),
     }

@@ -21,7 +21,7 @@ use crate::evaluating::run_part;
 use pz_classes_code::{Code, Slot, StepForm};
 use pz_copy::{Parcel, UnpackError, unpack};
 use pz_eval_binding::set_slots;
-use pz_items::Items;
+use pz_items::{Items, Shared};
 use pz_offer::Trouble;
 use pz_part_queries::Standpoint;
 use pz_rules::Term;
@@ -31,11 +31,11 @@ use pz_value::Value;
 use std::alloc::{AllocError, Global};
 
 /// The variables of a receive; none without brackets.
-fn variables(into: &Option<Items<Slot>>) -> &[Slot]
+fn variables(into: &Option<Shared<Items<Slot>>>) -> &[Slot]
     ensures { result.now ≡ variables_of into.now }
 {
     match into {
-        Some(slots) => slots.as_slice(),
+        Some(slots) => slots.get().as_slice(),
         None => &[],
     }
 }
@@ -49,7 +49,7 @@ fn bind(
     pos: Pos,
     into: &[Slot],
     values: Vec<Value>,
-    block: &Option<Items<Code>>,
+    block: &Option<Shared<Items<Code>>>,
 ) -> Result<Result<(), Trouble>, AllocError>
     requires known { AreKnown here.now.classes.now }
     requires within { All (RefersWithin (length state.old.held.objects)) values.items }
@@ -70,8 +70,8 @@ fn receive(
     state: &mut State,
     frame: FrameId,
     pos: Pos,
-    into: &Option<Items<Slot>>,
-    block: &Option<Items<Code>>,
+    into: &Option<Shared<Items<Slot>>>,
+    block: &Option<Shared<Items<Code>>>,
     parcel: &Parcel,
 ) -> Result<Result<(), Trouble>, AllocError>
     requires { AreKnown here.now.classes.now }

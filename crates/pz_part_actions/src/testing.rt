@@ -17,30 +17,29 @@ ghost use Rattle.pz_part_actions.specs.Becoming.{process_left};
 ghost use Rattle.pz_part_actions.specs.devices.Parts.{otherwise_view};
 
 use crate::evaluating::test;
-use crate::opening::{open_part, open_steps};
+use crate::opening::open_part;
 use pz_classes_code::{Code, Step};
-use pz_items::{Boxed, Items};
+use pz_items::{Boxed, Items, Shared};
 use pz_offer::Trouble;
 use pz_part_queries::Standpoint;
-use pz_rules::{Rest, Term};
+use pz_rules::{Rest, Term, open_all};
 use pz_state::{FrameId, State};
 use pz_syntax::Pos;
 use std::alloc::{AllocError, Global};
-use std::slice;
 
 /// The part of an `if` that is chosen.
 fn chosen(
     alloc: Global,
     truth: bool,
-    steps: &[Step],
-    other: &Option<Items<Step>>,
+    steps: &Shared<Items<Step>>,
+    other: &Option<Shared<Items<Step>>>,
 ) -> Result<Term, AllocError>
     ensures { IfOk result (λ term. (s : StateView) →
         actions.chosen s (sequence_view steps.now) (otherwise_view other.now) truth ≡ left_by s
         (term_view term)) }
 {
     if truth {
-        open_steps(alloc, steps)
+        open_all(alloc, steps)
     } else {
         open_part(alloc, other)
     }
@@ -54,8 +53,8 @@ pub(crate) fn perform_if(
     frame: FrameId,
     pos: Pos,
     condition: &Code,
-    steps: &[Step],
-    other: &Option<Items<Step>>,
+    steps: &Shared<Items<Step>>,
+    other: &Option<Shared<Items<Step>>>,
 ) -> Result<Result<Term, Trouble>, AllocError>
     requires { AreKnown here.now.classes.now }
     ensures performs { (m : ModelTree) (class : ℕ) → Knows m here.now →
@@ -71,7 +70,12 @@ pub(crate) fn perform_if(
 }
 
 /// The body of a `while` and then the same `while`, or nothing.
-fn turned(alloc: Global, truth: bool, again: &Step, body: &[Step]) -> Result<Term, AllocError>
+fn turned(
+    alloc: Global,
+    truth: bool,
+    again: &Step,
+    body: &Shared<Items<Step>>,
+) -> Result<Term, AllocError>
     ensures { IfOk result (λ term. (s : StateView) →
         actions.turned s (view again.now) (sequence_view body.now) truth ≡ left_by s
         (term_view term)) }
@@ -79,8 +83,8 @@ fn turned(alloc: Global, truth: bool, again: &Step, body: &[Step]) -> Result<Ter
     if !truth {
         return Ok(Term::Done);
     }
-    let rest = Rest::copy_of(alloc, slice::from_ref(again))?;
-    let first = Boxed::new(alloc, open_steps(alloc, body)?)?;
+    let rest = Rest::again(again.copy()?);
+    let first = Boxed::new(alloc, open_all(alloc, body)?)?;
     Ok(Term::Seq(first, rest))
 }
 
@@ -92,7 +96,7 @@ pub(crate) fn perform_while(
     frame: FrameId,
     step: &Step,
     condition: &Code,
-    body: &[Step],
+    body: &Shared<Items<Step>>,
 ) -> Result<Result<Term, Trouble>, AllocError>
     requires known { AreKnown here.now.classes.now }
     requires is { view step.now ≡ statements.repeated step.now.pos (code.view condition.now)

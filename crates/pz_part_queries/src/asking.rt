@@ -16,7 +16,7 @@ use crate::standpoint::Standpoint;
 use pz_classes_code::Code;
 use pz_copy::{Parcel, pack};
 use pz_eval::{Allowance, Outcome, Parceled, try_eval, try_parcel};
-use pz_items::Items;
+use pz_items::{Items, Shared};
 use pz_offer::Trouble;
 use pz_rules::Limits;
 use pz_state::{FrameId, State};
@@ -101,7 +101,7 @@ pub fn ask_parcel(
     state: &mut State,
     frame: FrameId,
     pos: Pos,
-    args: &Option<Items<Code>>,
+    args: &Option<Shared<Items<Code>>>,
 ) -> Result<Result<Parcel, Trouble>, AllocError>
     requires { AreKnown here.now.classes.now }
     ensures packs { (m : ModelTree) (class : ℕ) → Knows m here.now →
@@ -113,7 +113,7 @@ pub fn ask_parcel(
         return Ok(Ok(pack(alloc, state, &[])?));
     };
     let allowed = allowance(here.limits);
-    let codes = codes.as_slice();
+    let codes = codes.get().as_slice();
     let parceled = try_parcel(
         alloc,
         here.classes,

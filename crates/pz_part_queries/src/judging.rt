@@ -22,19 +22,19 @@ use crate::standpoint::Standpoint;
 use pz_classes_code::{Code, Slot, StepForm};
 use pz_copy::Parcel;
 use pz_eval::try_condition;
-use pz_items::Items;
+use pz_items::{Items, Shared};
 use pz_offer::Trouble;
 use pz_rules::Term;
 use pz_state::{FrameId, State};
 use pz_syntax::Pos;
 use std::alloc::{AllocError, Global};
 
-fn slots_of(into: &Option<Items<Slot>>) -> &[Slot]
+fn slots_of(into: &Option<Shared<Items<Slot>>>) -> &[Slot]
     ensures { result.now ≡ variables_of into.now }
 {
     match into {
         None => &[],
-        Some(slots) => slots.as_slice(),
+        Some(slots) => slots.get().as_slice(),
     }
 }
 
@@ -45,8 +45,8 @@ fn judge_receive(
     state: &mut State,
     frame: FrameId,
     pos: Pos,
-    into: &Option<Items<Slot>>,
-    condition: &Option<Code>,
+    into: &Option<Shared<Items<Slot>>>,
+    condition: &Option<Shared<Code>>,
     parcel: &Parcel,
 ) -> Result<Result<bool, Trouble>, AllocError>
     requires { AreKnown here.now.classes.now }
@@ -70,7 +70,7 @@ fn judge_receive(
         parcel,
         into,
         pos,
-        condition,
+        condition.get(),
         allowed,
     )?;
     Ok(tested(here.process, pos, outcome))

@@ -1,5 +1,6 @@
 mod Lists
 mod Openings
+mod Rests
 mod Found
 mod Walked
 mod Locals

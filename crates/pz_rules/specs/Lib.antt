@@ -23,5 +23,6 @@ pub mod ChosenRuns
 pub mod Starting
 pub mod Fitting
 pub mod Laws
+pub mod RestView
 pub mod View
 pub mod Openable

@@ -13,6 +13,6 @@ mod term;
 pub use action::{Action, Kind};
 pub use limits::Limits;
 pub use moment::Moment;
-pub use opening::{open_rest, open_step, open_term};
+pub use opening::{open_all, open_rest, open_step, open_term};
 pub use rest::Rest;
 pub use term::Term;

@@ -10,8 +10,7 @@ ghost use Rattle.pz_rules.specs.View.{term_view, terms_view, branches_view};
 use crate::{Limits, Rest, Term};
 use pz_classes::Checked;
 use pz_classes_code::{Step, StepForm};
-use pz_classes_copies::{copy_code, copy_step};
-use pz_items::{Boxed, Items};
+use pz_items::{Boxed, Items, Shared};
 use pz_state::{FrameId, State};
 use pz_value::ClassId;
 use std::alloc::{AllocError, Global};
@@ -22,71 +21,84 @@ pub fn open_step(alloc: Global, step: &Step) -> Result<Term, AllocError>
     ensures { IfOk result (λ term. term_view term ≡ opened (view step.now)) }
 {
     match &step.form {
-        StepForm::Group(steps) => open_all(alloc, steps.as_slice()),
+        StepForm::Group(steps) => open_all(alloc, steps),
         StepForm::Guard(test, guarded) => {
             let body = Boxed::new(alloc, open_step(alloc, guarded.get())?)?;
             Ok(Term::Guard {
-                test: copy_code(alloc, test)?,
+                test: test.copy()?,
                 pos: step.pos,
                 body,
             })
         }
-        StepForm::Par(branches) => Ok(Term::Par(open_branches(alloc, branches.as_slice())?)),
-        StepForm::Sel(branches) => Ok(Term::Sel(open_branches(alloc, branches.as_slice())?)),
+        StepForm::Par(branches) => Ok(Term::Par(open_branches(alloc, branches.get().as_slice())?)),
+        StepForm::Sel(branches) => Ok(Term::Sel(open_branches(alloc, branches.get().as_slice())?)),
         StepForm::Abort(first, second) => {
             let second = Boxed::new(alloc, open_step(alloc, second.get())?)?;
-            let first = Boxed::new(alloc, open_all(alloc, first.as_slice())?)?;
+            let first = Boxed::new(alloc, open_all(alloc, first)?)?;
             Ok(Term::Abort(first, second))
         }
         StepForm::Interrupt(first, again) => {
             let second = Boxed::new(alloc, open_step(alloc, again.get())?)?;
-            let first = Boxed::new(alloc, open_all(alloc, first.as_slice())?)?;
-            Ok(Term::Idle(first, second, copy_step(alloc, again.get())?))
+            let first = Boxed::new(alloc, open_all(alloc, first)?)?;
+            Ok(Term::Idle(first, second, again.copy()?))
         }
-        _ => Ok(Term::Leaf(copy_step(alloc, step)?)),
+        _ => Ok(Term::Leaf(step.copy()?)),
     }
 }
 
 /// The term of statements in a sequence: the first stands open, and the others wait behind it. The
 /// only error is want of memory.
 #[cycle(opening)]
-fn open_all(alloc: Global, steps: &[Step]) -> Result<Term, AllocError>
+pub fn open_all(alloc: Global, steps: &Shared<Items<Step>>) -> Result<Term, AllocError>
     ensures { IfOk result (λ term. term_view term ≡ opened_all (sequence_view steps.now)) }
 {
-    match steps {
+    match steps.get().as_slice() {
         [] => Ok(Term::Done),
         [step] => open_step(alloc, step),
-        [step, rest @ ..] => {
+        [step, ..] => {
             let first = Boxed::new(alloc, open_step(alloc, step)?)?;
-            Ok(Term::Seq(first, Rest::copy_of(alloc, rest)?))
+            Ok(Term::Seq(first, Rest::from(steps.copy()?, 1)))
         }
     }
 }
 
 #[cycle(opening)]
-fn open_branches(alloc: Global, branches: &[Items<Step>]) -> Result<Items<Term>, AllocError>
+fn open_branches(alloc: Global, branches: &[Shared<Items<Step>>]) -> Result<Items<Term>, AllocError>
     ensures { IfOk result (λ terms. terms_view terms ≡ opened_branches
         (branches_view branches.now)) }
 {
     let mut terms = Items::new(alloc);
     for branch in branches {
-        terms.push(open_all(alloc, branch.as_slice())?)?;
+        terms.push(open_all(alloc, branch)?)?;
     }
     Ok(terms)
 }
 
-/// The term of statements that are taken one by one. The only error is want of memory.
-pub fn open_rest(alloc: Global, mut rest: Rest) -> Result<Term, AllocError>
+/// The term of statements that wait. The only error is want of memory.
+pub fn open_rest(alloc: Global, rest: Rest) -> Result<Term, AllocError>
     ensures { IfOk result (λ term. term_view term ≡ opened_all (sequence_view rest)) }
 {
-    let Some(step) = rest.next() else {
+    let Some(step) = rest.first() else {
         return Ok(Term::Done);
     };
+    let open = open_step(alloc, step)?;
+    let rest = rest.behind_first();
     if rest.is_empty() {
-        return open_step(alloc, &step);
+        return Ok(open);
     }
-    let first = Boxed::new(alloc, open_step(alloc, &step)?)?;
-    Ok(Term::Seq(first, rest))
+    let open = Boxed::new(alloc, open)?;
+    Ok(Term::Seq(open, rest))
+}
+
+/// Equal statements in the same order, to be shared.
+fn shared(alloc: Global, steps: &[Step]) -> Result<Shared<Items<Step>>, AllocError>
+    ensures { IfOk result (λ copies. copies ≡ steps.now) }
+{
+    let mut copies = Items::new(alloc);
+    for step in steps {
+        copies.push(step.copy()?)?;
+    }
+    Shared::new(alloc, copies)
 }
 
 /// The term of statements of a process of this class, which stand in the given frame: part of a body
@@ -109,5 +121,6 @@ pub fn open_term(
     ensures opened { IfOk result (λ term. term_view term ≡ opened_all (sequence_view steps.now)) }
     ensures stays { state.new ≡ state.old }
 {
-    open_all(alloc, steps)
+    let steps = shared(alloc, steps)?;
+    open_all(alloc, &steps)
 }

@@ -1,6 +1,6 @@
 use crate::Rest;
 use pz_classes_code::{Code, Slot, Step};
-use pz_items::{Boxed, Items};
+use pz_items::{Boxed, Items, Shared};
 use pz_state::FrameId;
 use pz_syntax::Pos;
 
@@ -21,7 +21,7 @@ pub enum Term {
     Sel(Items<Term>),
     /// A guard, at the place of its `[`, which has not acted.
     Guard {
-        test: Code,
+        test: Shared<Code>,
         pos: Pos,
         body: Boxed<Term>,
     },
@@ -30,13 +30,13 @@ pub enum Term {
     Frame {
         frame: FrameId,
         inputs: usize,
-        results: Items<Slot>,
+        results: Shared<Items<Slot>>,
         body: Boxed<Term>,
     },
     /// The first part, until the second acts.
     Abort(Boxed<Term>, Boxed<Term>),
     /// The first part, until the second acts, which begins with the statement again.
-    Idle(Boxed<Term>, Boxed<Term>, Step),
+    Idle(Boxed<Term>, Boxed<Term>, Shared<Step>),
     /// The second part acts, and the first stands still.
-    Handling(Boxed<Term>, Boxed<Term>, Step),
+    Handling(Boxed<Term>, Boxed<Term>, Shared<Step>),
 }

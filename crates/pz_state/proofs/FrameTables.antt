@@ -251,7 +251,7 @@ found_first : (number : ℕ) (values : List Value) (f : ℕ × List Value) (fs :
 found_first number values f fs ne true lt ih = rw (lt, same number) refl
 found_first number values f fs ne false ge ih = rw (ge, ne) ih
 
-tail_has_none : (number : ℕ) (f : ℕ × List Value) (fs : Frames) (b : Bool) → nat_eq f.0 number ≡ b → locals_in (f ∷ fs) number ≡ None → (b ≡ false) × (locals_in fs number ≡ None)
+pub tail_has_none : (number : ℕ) (f : ℕ × List Value) (fs : Frames) (b : Bool) → nat_eq f.0 number ≡ b → locals_in (f ∷ fs) number ≡ None → (b ≡ false) × (locals_in fs number ≡ None)
 tail_has_none number f fs true eq e = absurd (not_none f.1 (rw eq at e))
   where
     not_none : (values : List Value) → Some values ≡ None → ⊥

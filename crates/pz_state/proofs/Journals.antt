@@ -1,6 +1,6 @@
 -- What one more entry of a journal does to the marks, and what taking one back leaves.
-use Rattle.std.proofs.Common.{◌≡◌, ℕ, suc, Bool, true, false, ◌+◌, ◌-◌, ◌≤◌, ◌<◌, List, [], ◌∷◌, ◌++◌, length, take, reverse, get_or, slice_set, refl, ap, subst, sym, ◌∙◌, arith, append_assoc, append-nil}
-use Rattle.std.proofs.lemmas.List.{length-take}
+use Rattle.std.proofs.Common.{◌≡◌, ℕ, suc, Bool, true, false, ◌+◌, ◌-◌, ◌≤◌, ◌<◌, List, [], ◌∷◌, ◌++◌, length, take, drop, reverse, get_or, slice_set, refl, ap, subst, sym, ◌∙◌, arith, append_assoc, append-nil}
+use Rattle.std.proofs.lemmas.List.{length-take, length-append}
 use Rattle.pz_state.specs.declared.journal.Change.{Change}
 use Rattle.pz_state.specs.declared.journal.Change.TheVariants as change
 use Rattle.pz_state.specs.declared.journal.Entry.{Entry}
@@ -34,11 +34,11 @@ count_push (entry.Mark ∷ es) x = let k = count_push es x in omega arith
 count_push (entry.Kept ∷ es) x = count_push es x
 count_push (entry.Change c ∷ es) x = count_push es x
 
-pub count_le : (es : List Entry) → count_of_marks es ≤ length es
-count_le [] = omega arith
-count_le (entry.Mark ∷ es) = let k = count_le es in omega arith
-count_le (entry.Kept ∷ es) = let k = count_le es in omega arith
-count_le (entry.Change c ∷ es) = let k = count_le es in omega arith
+pub length-marks : (n : ℕ) (es : List Entry) (s : StateView) → length (marks_from n es s) ≡ count_of_marks es
+length-marks n [] s = refl
+length-marks n (entry.Mark ∷ es) s = let k = length-marks (suc n) es s in let e = length-append (marks_from (suc n) es s) ((n, replay es s) ∷ []) in omega arith
+length-marks n (entry.Kept ∷ es) s = ap length (append-nil (marks_from (suc n) es s)) ∙ length-marks (suc n) es s
+length-marks n (entry.Change c ∷ es) s = ap length (append-nil (marks_from (suc n) es s)) ∙ length-marks (suc n) es s
 
 pub no_marks : (n : ℕ) (es : List Entry) (s : StateView) → count_of_marks es ≡ 0 → marks_from n es s ≡ []
 no_marks n [] s c = refl
@@ -163,8 +163,9 @@ pub record Settles (n : ℕ) (es : List Entry) (s : StateView) (m : ℕ × State
   pub marks : marks_from n (slice_set es (m.0 - n) entry.Kept) s ≡ older
   pub counts : count_of_marks es ≡ suc (count_of_marks (slice_set es (m.0 - n) entry.Kept))
   pub ready : (room : Room) → AreReady room es s → AreReady room (slice_set es (m.0 - n) entry.Kept) s
+  pub after : count_of_marks (drop (suc (m.0 - n)) es) ≡ 0
 
-no_mark_here : (x : Entry) (n : ℕ) (s : StateView) → is_mark x ≡ false → mark_here x n s ≡ []
+pub no_mark_here : (x : Entry) (n : ℕ) (s : StateView) → is_mark x ≡ false → mark_here x n s ≡ []
 no_mark_here x n s q = sym (append-nil _) ∙ silent x (no_mark x q) n s []
 
 count_cons : (x : Entry) (es : List Entry) → is_mark x ≡ false → count_of_marks (x ∷ es) ≡ count_of_marks es
@@ -180,6 +181,7 @@ later n x es s m older q t = let k : m.0 - n ≡ suc (m.0 - suc n) = omega (arit
   marks = rw k (rw (no_mark_here x n (replay (slice_set es (m.0 - suc n) entry.Kept) s) q) (append-nil _ ∙ t.marks));
   counts = rw k (count_cons x es q ∙ t.counts ∙ ap suc (sym (count_cons x _ q)));
   ready = λ room r. rw k (subst (λ (z : StateView). IsReadyEntry room x z) (sym t.replays) r.0, t.ready room r.1);
+  after = rw k t.after;
 }
 
 at_last : (n : ℕ) (es : List Entry) (s : StateView) (m : ℕ × StateView) (older : List (ℕ × StateView)) → marks_from (suc n) es s ≡ [] → (n, replay es s) ∷ [] ≡ m ∷ older → Settles n (entry.Mark ∷ es) s m older
@@ -190,6 +192,7 @@ at_last n es s m older g f = let k : m.0 ≡ n = ap (λ (p : ℕ × StateView). 
   marks = rw z (append-nil _ ∙ g ∙ cc);
   counts = rw z refl;
   ready = λ room r. rw z r;
+  after = rw z (sym (length-marks (suc n) es s) ∙ ap length g);
 }
 
 further : (n : ℕ) (es : List Entry) (s : StateView) (m : ℕ × StateView) (ms : List (ℕ × StateView)) → Settles (suc n) es s m ms → Settles n (entry.Mark ∷ es) s m (ms ++ (n, replay es s) ∷ [])
@@ -200,6 +203,7 @@ further n es s m ms t = let k : m.0 - n ≡ suc (m.0 - suc n) = omega (arith, t.
   marks = rw k (rw (t.marks, t.replays) refl);
   counts = rw k (ap suc t.counts);
   ready = λ room r. rw k (tt, t.ready room r.1);
+  after = rw k t.after;
 }
 
 marked_by : (n : ℕ) (es : List Entry) (s : StateView) (m : ℕ × StateView) (older : List (ℕ × StateView)) → ((x : ℕ × StateView) (xs : List (ℕ × StateView)) → marks_from (suc n) es s ≡ x ∷ xs → Settles (suc n) es s x xs)

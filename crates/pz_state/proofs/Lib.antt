@@ -4,5 +4,7 @@ pub mod FrameLocals
 pub mod FrameNumbers
 pub mod ObjectLists
 pub mod Journals
+pub mod Emptied
+pub mod Noted
 pub mod SelfContained
 pub mod Keeping

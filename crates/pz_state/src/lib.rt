@@ -5,8 +5,10 @@
 mod contents;
 mod fault;
 mod frames;
+mod guesses;
 mod journal;
 mod object;
+mod spots;
 mod state;
 mod values;
 

@@ -8,6 +8,7 @@ ghost use Rattle.pz_state.specs.Marks.{IsLatest, changed, marked, undone, kept};
 use crate::Object;
 use crate::contents::Contents;
 use crate::journal::{Change, Journal, undo_last};
+use crate::spots::Spot;
 use pz_value::{ClassId, Value};
 use std::alloc::{AllocError, Global};
 use std::marker::Model;
@@ -159,9 +160,9 @@ impl State {
             (set_variable self.old.held slot value)) }
         ensures err { OnErr result (self.new ≡ self.old) }
     {
-        self.journal.reserve()?;
+        let noting = self.journal.prepare(Spot::Variable { slot })?;
         let change = self.contents.set_var(slot, value);
-        self.journal.note(change);
+        self.journal.note(noting, change);
         Ok(())
     }
 
@@ -174,9 +175,13 @@ impl State {
             (set_local self.old.held frame.0 slot value)) }
         ensures err { OnErr result (self.new ≡ self.old) }
     {
-        self.journal.reserve()?;
+        let spot = Spot::Local {
+            frame: frame.0,
+            slot,
+        };
+        let noting = self.journal.prepare(spot)?;
         let change = self.contents.set_local(frame.0, slot, value);
-        self.journal.note(change);
+        self.journal.note(noting, change);
         Ok(())
     }
 
@@ -189,9 +194,13 @@ impl State {
             (set_item self.old.held r item value)) }
         ensures err { OnErr result (self.new ≡ self.old) }
     {
-        self.journal.reserve()?;
+        let spot = Spot::Item {
+            object: r,
+            place: item,
+        };
+        let noting = self.journal.prepare(spot)?;
         let change = self.contents.set_item(r, item, value);
-        self.journal.note(change);
+        self.journal.note(noting, change);
         Ok(())
     }
 
@@ -202,9 +211,9 @@ impl State {
         ensures ok { OnOk result (self.new ≡ changed self.old (resized self.old.held r items)) }
         ensures err { OnErr result (self.new ≡ self.old) }
     {
-        self.journal.reserve()?;
+        let noting = self.journal.reserve()?;
         let change = self.contents.resize(r, items)?;
-        self.journal.note(change);
+        self.journal.note(noting, change);
         Ok(())
     }
 
@@ -216,9 +225,9 @@ impl State {
             (opened self.old.held frame.0 locals)) }
         ensures err { OnErr result (self.new ≡ self.old) }
     {
-        self.journal.reserve()?;
+        let noting = self.journal.reserve()?;
         let frame = self.contents.open_frame(locals)?;
-        self.journal.note(Change::Opened { frame });
+        self.journal.note(noting, Change::Opened { frame });
         Ok(FrameId(frame))
     }
 
@@ -228,9 +237,9 @@ impl State {
         ensures ok { OnOk result (self.new ≡ changed self.old (closed self.old.held frame.0)) }
         ensures err { OnErr result (self.new ≡ self.old) }
     {
-        self.journal.reserve()?;
+        let noting = self.journal.reserve()?;
         let change = self.contents.close_frame(frame.0);
-        self.journal.note(change);
+        self.journal.note(noting, change);
         Ok(())
     }
 
@@ -247,9 +256,9 @@ impl State {
         if count == OBJECT_LIMIT {
             return Err(MakeError::StoreFull);
         }
-        self.journal.reserve()?;
+        let noting = self.journal.reserve()?;
         self.contents.make(class, items)?;
-        self.journal.note(Change::Made);
+        self.journal.note(noting, Change::Made);
         Ok(count)
     }
 

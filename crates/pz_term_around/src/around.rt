@@ -13,7 +13,7 @@ ghost use Rattle.pz_term_around.specs.Bare.{is_bare as bare};
 use crate::slots::copy_locals;
 use pz_classes_code::{Slot, Step};
 use pz_eval_binding::set_slots;
-use pz_items::{Boxed, Items};
+use pz_items::{Boxed, Items, Shared};
 use pz_rules::{Rest, Term, open_rest, open_step};
 use pz_state::{FrameId, State};
 use std::alloc::{AllocError, Global};
@@ -78,7 +78,7 @@ pub fn in_interrupt(
     alloc: Global,
     left: Term,
     second: Boxed<Term>,
-    again: Step,
+    again: Shared<Step>,
 ) -> Result<Term, AllocError>
     ensures { IfOk result (λ term. term_view term ≡ leaving.interrupted (term_view second)
         (view again) (term_view left)) }
@@ -91,11 +91,11 @@ pub fn in_interrupt(
 }
 
 /// What is interrupted goes on, and the second part stands open afresh.
-fn reopened(alloc: Global, first: Boxed<Term>, again: Step) -> Result<Term, AllocError>
+fn reopened(alloc: Global, first: Boxed<Term>, again: Shared<Step>) -> Result<Term, AllocError>
     ensures { IfOk result (λ term. term_view term ≡ terms.idle (term_view first)
         (opened (view again)) (view again)) }
 {
-    let second = boxed_step(alloc, &again)?;
+    let second = boxed_step(alloc, again.get())?;
     Ok(Term::Idle(first, second, again))
 }
 
@@ -112,7 +112,7 @@ pub fn in_handling(
     alloc: Global,
     first: Boxed<Term>,
     left: Term,
-    again: Step,
+    again: Shared<Step>,
 ) -> Result<Term, AllocError>
     ensures { IfOk result (λ term. term_view term ≡ leaving.handled (term_view first) (view again)
         (term_view left)) }
@@ -129,7 +129,7 @@ pub fn is_bare(term: &Term) -> bool
     ensures { result ≡ bare (term_view term.now) }
 {
     match term {
-        Term::Frame { results, .. } => results.is_empty(),
+        Term::Frame { results, .. } => results.get().as_slice().is_empty(),
         _ => false,
     }
 }
@@ -140,13 +140,13 @@ fn framed(
     alloc: Global,
     frame: FrameId,
     inputs: usize,
-    results: Items<Slot>,
+    results: Shared<Items<Slot>>,
     left: Term,
 ) -> Result<Term, AllocError>
     ensures { IfOk result (λ term. term_view term ≡ leaving.framed frame.0 inputs results
         (term_view left)) }
 {
-    if results.is_empty() && is_bare(&left) {
+    if results.get().as_slice().is_empty() && is_bare(&left) {
         return Ok(left);
     }
     let body = Boxed::new(alloc, left)?;
@@ -164,7 +164,7 @@ pub fn in_frame(
     outer: FrameId,
     frame: FrameId,
     inputs: usize,
-    results: Items<Slot>,
+    results: Shared<Items<Slot>>,
     left: Term,
     state: &mut State,
 ) -> Result<Term, AllocError>
@@ -173,8 +173,8 @@ pub fn in_frame(
         (term_view left)) (term_view term) state.old state.new) }
 {
     if is_done(&left) {
-        let outputs = copy_locals(alloc, state, frame, inputs, results.len())?;
-        set_slots(state, outer, results.as_slice(), outputs)?;
+        let outputs = copy_locals(alloc, state, frame, inputs, results.get().len())?;
+        set_slots(state, outer, results.get().as_slice(), outputs)?;
         return Ok(Term::Done);
     }
     framed(alloc, frame, inputs, results, left)

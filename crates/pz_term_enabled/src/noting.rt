@@ -18,7 +18,7 @@ ghost use Rattle.pz_term_enabled.specs.devices.Listings.{Adds, notes_of, nothing
 
 use crate::found::{ActiveReceive, ActiveSend, Doing, Found};
 use pz_classes_code::{Code, Slot, Step, StepForm};
-use pz_items::Items;
+use pz_items::{Items, Shared};
 use pz_offer::{Place, Trouble};
 use pz_part_queries::{Standpoint, ask_parcel, ask_time};
 use pz_rules::Kind;
@@ -111,7 +111,7 @@ fn note_send(
     pos: Pos,
     port: u32,
     name: &Id,
-    args: &Option<Items<Code>>,
+    args: &Option<Shared<Items<Code>>>,
     place: &Place,
     found: &mut Found,
 ) -> Result<(), AllocError>
@@ -141,12 +141,12 @@ fn note_send(
 }
 
 /// How many variables a receive binds.
-fn count_of(into: &Option<Items<Slot>>) -> usize
+fn count_of(into: &Option<Shared<Items<Slot>>>) -> usize
     ensures { result ≡ length (variables_of into.now) }
 {
     match into {
         None => 0,
-        Some(slots) => slots.len(),
+        Some(slots) => slots.get().len(),
     }
 }
 
@@ -199,21 +199,39 @@ pub(crate) fn note_step(
         StepForm::If(_, _, _) => note_action(found, place, Kind::Test, pos),
         StepForm::While(_, _) => note_action(found, place, Kind::Test, pos),
         StepForm::Call { .. } => note_action(found, place, Kind::Call, pos),
-        StepForm::Delay(time) => note_delay(alloc, here, state, frame, pos, time, place, found),
+        StepForm::Delay(time) => note_delay(
+            alloc,
+            here,
+            state,
+            frame,
+            pos,
+            time.get(),
+            place,
+            found,
+        ),
         StepForm::Send {
             port,
             name,
             args,
             ..
         } => note_send(
-            alloc, here, state, frame, pos, *port, name, args, place, found,
+            alloc,
+            here,
+            state,
+            frame,
+            pos,
+            *port,
+            name.get(),
+            args,
+            place,
+            found,
         ),
         StepForm::Receive {
             port,
             name,
             into,
             ..
-        } => note_receive(pos, *port, &name.name, count_of(into), place, found),
+        } => note_receive(pos, *port, &name.get().name, count_of(into), place, found),
         StepForm::Group(_) => Ok(()),
         StepForm::Guard(_, _) => Ok(()),
         StepForm::Par(_) => Ok(()),

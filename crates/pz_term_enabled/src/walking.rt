@@ -57,7 +57,7 @@ fn walk_part(
             here,
             state,
             frame,
-            test,
+            test.get(),
             *pos,
             body.get(),
             place,

@@ -14,7 +14,6 @@ ghost use Rattle.pz_term_processes.specs.Standing.{setting_of, process_view, con
 use crate::process::Process;
 use pz_bind::Net;
 use pz_classes::Checked;
-use pz_classes_copies::copy_step;
 use pz_rules::Term;
 use pz_state::State;
 use pz_value::Value;
@@ -50,7 +49,7 @@ fn first_of(
     let Some(call) = checked.classes().init(net.class(process)) else {
         unreachable!()
     };
-    let term = Term::Leaf(copy_step(alloc, call)?);
+    let term = Term::Leaf(call.copy()?);
     let state = State::new(alloc, copies_of(alloc, net.values(process))?);
     Ok(Process { term, state })
 }

@@ -10,7 +10,7 @@ ghost use Rattle.pz_term_around.specs.Becoming.{Became};
 ghost use Rattle.pz_term_residual.specs.devices.Unwound.{put_round, HasItsPlace, IsInside};
 
 use pz_classes_code::{Slot, Step};
-use pz_items::{Boxed, Items};
+use pz_items::{Boxed, Items, Shared};
 use pz_rules::{Rest, Term};
 use pz_state::{FrameId, State};
 use pz_term_around::{in_abort, in_frame, in_handling, in_interrupt, in_parallel, in_sequence};
@@ -34,14 +34,14 @@ pub(crate) enum Level {
         outer: FrameId,
         frame: FrameId,
         inputs: usize,
-        results: Items<Slot>,
+        results: Shared<Items<Slot>>,
     },
     /// The second part, which ends the first.
     Abort(Boxed<Term>),
     /// The second part, which interrupts the first, and the statement that it begins with again.
-    Idle(Boxed<Term>, Step),
+    Idle(Boxed<Term>, Shared<Step>),
     /// What is interrupted, and the statement that the second part begins with again.
-    Handling(Boxed<Term>, Step),
+    Handling(Boxed<Term>, Shared<Step>),
 }
 
 /// A term that was taken apart: what was around its child, the frame in which that stands, and the
@@ -113,7 +113,7 @@ fn into_idle(
     frame: FrameId,
     first: Boxed<Term>,
     second: Boxed<Term>,
-    again: Step,
+    again: Shared<Step>,
     child: usize,
 ) -> Inside
     requires { child < 2 }

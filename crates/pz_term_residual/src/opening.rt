@@ -10,7 +10,7 @@ ghost use Rattle.pz_term_residual.specs.devices.Capped.{capped};
 
 use crate::heights::above;
 use pz_classes_code::{Step, StepForm};
-use pz_items::Items;
+use pz_items::{Items, Shared};
 
 /// The height of what a statement opens as.
 #[cycle(opened_heights)]
@@ -18,15 +18,15 @@ pub(crate) fn opened_height(step: &Step) -> u64
     ensures { result ≡ capped (height (opened (view step.now))) }
 {
     match &step.form {
-        StepForm::Group(steps) => sequence_height(steps.as_slice()),
+        StepForm::Group(steps) => sequence_height(steps.get().as_slice()),
         StepForm::Guard(_, guarded) => above(opened_height(guarded.get())),
-        StepForm::Par(branches) => above(branches_height(branches.as_slice())),
-        StepForm::Sel(branches) => above(branches_height(branches.as_slice())),
+        StepForm::Par(branches) => above(branches_height(branches.get().as_slice())),
+        StepForm::Sel(branches) => above(branches_height(branches.get().as_slice())),
         StepForm::Abort(first, second) => {
-            above(sequence_height(first.as_slice()).max(opened_height(second.get())))
+            above(sequence_height(first.get().as_slice()).max(opened_height(second.get())))
         }
         StepForm::Interrupt(first, again) => {
-            above(sequence_height(first.as_slice()).max(opened_height(again.get())))
+            above(sequence_height(first.get().as_slice()).max(opened_height(again.get())))
         }
         _ => 1,
     }
@@ -46,12 +46,12 @@ fn sequence_height(steps: &[Step]) -> u64
 
 /// The greatest height of what alternatives open as, 0 where there is none.
 #[cycle(opened_heights)]
-fn branches_height(branches: &[Items<Step>]) -> u64
+fn branches_height(branches: &[Shared<Items<Step>>]) -> u64
     ensures { result ≡ capped (greatest_height (opened_branches (branches_view branches.now))) }
 {
     let mut greatest = 0;
     for branch in branches {
-        greatest = sequence_height(branch.as_slice()).max(greatest);
+        greatest = sequence_height(branch.get().as_slice()).max(greatest);
     }
     greatest
 }
@@ -61,7 +61,7 @@ pub(crate) fn opens_done(step: &Step) -> bool
     ensures { result ≡ is_done (opened (view step.now)) }
 {
     match &step.form {
-        StepForm::Group(steps) => match steps.as_slice() {
+        StepForm::Group(steps) => match steps.get().as_slice() {
             [] => true,
             [only] => opens_done(only),
             _ => false,

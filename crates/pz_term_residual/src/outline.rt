@@ -13,6 +13,7 @@ ghost use Rattle.pz_term_residual.specs.devices.Outlines.{outline, IsAbove, IsRo
 use crate::heights::{above, greatest_of, height_of};
 use crate::opening::{opened_height, opens_done};
 use pz_classes_code::{Slot, Step};
+use pz_items::{Items, Shared};
 use pz_rules::{Rest, Term};
 use pz_term_around::{all_done, is_bare, is_done};
 
@@ -155,14 +156,14 @@ fn outline_bare(left: Outline) -> Outline
 }
 
 /// Of a frame whose body has become another.
-pub(crate) fn outline_frame(results: &[Slot], left: Outline) -> Outline
+pub(crate) fn outline_frame(results: &Shared<Items<Slot>>, left: Outline) -> Outline
     ensures { (number inputs : ℕ) (t : terms.Term) (i : ℕ) →
         IsRound left (terms.frame number inputs results.now t) i result }
 {
     if left.done {
         return left;
     }
-    if results.is_empty() {
+    if results.get().as_slice().is_empty() {
         return outline_bare(left);
     }
     outline_above(left.height)

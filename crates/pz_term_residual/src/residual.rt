@@ -44,17 +44,21 @@ fn outline_inside(term: &Term, child: usize, inner: &[usize], part: Outline) -> 
         Term::Sel(parts) => outline_after(&parts.as_slice()[child], inner, part),
         Term::Guard { body, .. } => outline_after(body.get(), inner, part),
         Term::Frame { results, body, .. } => {
-            outline_frame(results.as_slice(), outline_after(body.get(), inner, part))
+            outline_frame(results, outline_after(body.get(), inner, part))
         }
         Term::Abort(first, second) => {
             outline_abort(first.get(), second.get(), child, inner, part)
         }
         Term::Idle(first, second, again) => {
-            outline_idle(first.get(), second.get(), again, child, inner, part)
+            outline_idle(first.get(), second.get(), again.get(), child, inner, part)
         }
         // What is interrupted stands still.
         Term::Handling(first, second, again) => {
-            outline_second(first.get(), outline_after(second.get(), inner, part), again)
+            outline_second(
+                first.get(),
+                outline_after(second.get(), inner, part),
+                again.get(),
+            )
         }
     }
 }

@@ -14,7 +14,7 @@ ghost use Rattle.pz_part_queries.specs.Standpoints.{Knows, seen_from};
 ghost use Rattle.pz_term_time.specs.devices.Begun.{begun_with};
 
 use pz_classes_code::{Code, Step, StepForm};
-use pz_items::{Boxed, Items};
+use pz_items::{Boxed, Items, Shared};
 use pz_offer::Trouble;
 use pz_part_queries::{Standpoint, ask_test, ask_time};
 use pz_rules::Term;
@@ -51,7 +51,7 @@ fn time_left(
     pz_rules::laws::evaluations_are_computed();
     match &step.form {
         StepForm::Delay(lasting) => {
-            let left = ask_time(alloc, here, state, frame, step.pos, lasting)?;
+            let left = ask_time(alloc, here, state, frame, step.pos, lasting.get())?;
             Ok(left.ok())
         }
         _ => Ok(None),
@@ -212,7 +212,7 @@ fn pass_guarded(
     here: &Standpoint<'_>,
     state: &mut State,
     frame: FrameId,
-    test: Code,
+    test: Shared<Code>,
     pos: Pos,
     body: Boxed<Term>,
     time: u128,
@@ -225,7 +225,7 @@ fn pass_guarded(
     ensures state { state.new ≡ state.old }
 {
     pz_rules::laws::evaluations_are_computed();
-    let answer = ask_test(alloc, here, state, frame, pos, &test)?;
+    let answer = ask_test(alloc, here, state, frame, pos, test.get())?;
     if !is_open(answer) {
         return Ok(Term::Guard { test, pos, body });
     }

@@ -11,7 +11,7 @@ use Rattle.pz_trace.specs.Words.{fault_word}
 use Rattle.pz_trace.specs.Labels.{spot, label}
 
 abbrev pub newline : List ℕ
-newline = 10 ∷ []
+newline = codes "\n"
 
 abbrev pub header : List ℕ
 header = codes "poosl-trace 1" ++ newline

@@ -52,7 +52,13 @@ fn show_answer(rt: &HostRuntime, model: &Model, classes: &Classes, words: &str) 
     print!(rt; "{words}:")?;
     match find_body(model, classes, question.name) {
         Some(Body::Process { locals, stmts }) => {
-            show_statements(rt, classes, *locals, stmts.as_slice(), question.allowance)
+            show_statements(
+                rt,
+                classes,
+                *locals,
+                stmts.get().as_slice(),
+                question.allowance,
+            )
         }
         _ => println!(rt; " no method"),
     }

@@ -7,7 +7,7 @@ use pz_classes::{Classes, Step};
 use pz_classes_code::{Code, Slot, StepForm};
 use pz_copy::Parcel;
 use pz_eval::{Allowance, Parceled, eval, eval_list, try_condition, try_eval, try_parcel};
-use pz_items::Items;
+use pz_items::{Items, Shared};
 use pz_state::{FrameId, State, nil_values};
 use pz_syntax::Pos;
 use std::io;
@@ -125,9 +125,9 @@ fn show_receive(
     asking: Asking<'_>,
     state: &mut State,
     parcel: &Option<Parcel>,
-    into: &Option<Items<Slot>>,
+    into: &Option<Shared<Items<Slot>>>,
     receive: Pos,
-    condition: &Option<Code>,
+    condition: &Option<Shared<Code>>,
 ) -> io::Result<()>
     requires { AreKnown asking.classes.now }
 {
@@ -144,9 +144,9 @@ fn show_receive(
                 asking,
                 state,
                 parcel,
-                into.as_slice(),
+                into.get().as_slice(),
                 receive,
-                condition,
+                condition.get(),
             )
         }
         None => print!(rt; " no condition"),
@@ -164,13 +164,13 @@ fn show_statement(
     requires { AreKnown asking.classes.now }
 {
     match &step.form {
-        StepForm::Eval(code) => show_expression(rt, asking, state, code),
-        StepForm::Block(codes) => show_block(rt, asking, state, codes.as_slice()),
+        StepForm::Eval(code) => show_expression(rt, asking, state, code.get()),
+        StepForm::Block(codes) => show_block(rt, asking, state, codes.get().as_slice()),
         StepForm::Send {
             args: Some(args),
             ..
         } => {
-            *kept = show_parcel(rt, asking, state, args.as_slice())?;
+            *kept = show_parcel(rt, asking, state, args.get().as_slice())?;
             Ok(())
         }
         StepForm::Receive {

@@ -2,7 +2,7 @@
 //! it is another is printed.
 
 use pz_classes::{Body, Code, CodeForm, CodeLink, CodeSending, Slot, Step, StepForm};
-use pz_items::Items;
+use pz_items::{Items, Shared};
 use pz_syntax::{Id, Literal};
 use std::io;
 
@@ -107,14 +107,22 @@ fn show_codes(rt: &HostRuntime, codes: &[Code]) -> io::Result<()> {
     print!(rt; "] }}")
 }
 
-fn show_condition(rt: &HostRuntime, condition: &Option<Code>) -> io::Result<()> {
+fn show_condition(rt: &HostRuntime, condition: &Option<Shared<Code>>) -> io::Result<()> {
     match condition {
         None => print!(rt; "None"),
         Some(condition) => {
             print!(rt; "Some(")?;
-            show_code(rt, condition)?;
+            show_code(rt, condition.get())?;
             print!(rt; ")")
         }
+    }
+}
+
+/// The variables of a reception.
+fn show_variables(rt: &HostRuntime, into: &Option<Shared<Items<Slot>>>) -> io::Result<()> {
+    match into {
+        None => print!(rt; "None"),
+        Some(slots) => print!(rt; "Some({:?})", slots.get()),
     }
 }
 
@@ -122,13 +130,15 @@ fn show_receive(
     rt: &HostRuntime,
     port: u32,
     name: &Id,
-    into: &Option<Items<Slot>>,
-    condition: &Option<Code>,
+    into: &Option<Shared<Items<Slot>>>,
+    condition: &Option<Shared<Code>>,
     has_block: bool,
 ) -> io::Result<()> {
     print!(rt; "Receive {{ port: {port}, name: ")?;
     show_id(rt, name)?;
-    print!(rt; ", into: {into:?}, condition: ")?;
+    print!(rt; ", into: ")?;
+    show_variables(rt, into)?;
+    print!(rt; ", condition: ")?;
     show_condition(rt, condition)?;
     print!(rt; ", block: {} }}", written(has_block))
 }
@@ -153,10 +163,10 @@ fn show_eval(rt: &HostRuntime, code: &Code) -> io::Result<()> {
 }
 
 /// How many statements each branch has.
-fn show_branches(rt: &HostRuntime, branches: &[Items<Step>]) -> io::Result<()> {
+fn show_branches(rt: &HostRuntime, branches: &[Shared<Items<Step>>]) -> io::Result<()> {
     print!(rt; "Sel of")?;
     for branch in branches {
-        print!(rt; " {}", branch.len())?;
+        print!(rt; " {}", branch.get().len())?;
     }
     Ok(())
 }
@@ -168,16 +178,16 @@ fn show_step_form(rt: &HostRuntime, form: &StepForm) -> io::Result<()> {
             method,
             args,
             results,
-        } => show_call(rt, method, args.as_slice(), results),
+        } => show_call(rt, method.get(), args.get().as_slice(), results.get()),
         StepForm::Receive {
             port,
             name,
             into,
             condition,
             block,
-        } => show_receive(rt, *port, name, into, condition, block.is_some()),
-        StepForm::Sel(branches) => show_branches(rt, branches.as_slice()),
-        StepForm::Eval(code) => show_eval(rt, code),
+        } => show_receive(rt, *port, name.get(), into, condition, block.is_some()),
+        StepForm::Sel(branches) => show_branches(rt, branches.get().as_slice()),
+        StepForm::Eval(code) => show_eval(rt, code.get()),
         _ => print!(rt; "another form"),
     }
 }
@@ -212,6 +222,6 @@ fn show_process(rt: &HostRuntime, locals: u32, steps: &[Step]) -> io::Result<()>
 pub fn show_body(rt: &HostRuntime, body: &Body) -> io::Result<()> {
     match body {
         Body::Data { locals, code } => show_data(rt, *locals, code.as_slice()),
-        Body::Process { locals, stmts } => show_process(rt, *locals, stmts.as_slice()),
+        Body::Process { locals, stmts } => show_process(rt, *locals, stmts.get().as_slice()),
     }
 }

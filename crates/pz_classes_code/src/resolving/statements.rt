@@ -3,13 +3,13 @@ ghost use Rattle.pz_syntax.specs.StatementView as tree;
 ghost use Rattle.pz_classes_code.specs.StepView as step;
 ghost use Rattle.pz_syntax.specs.ExpressionView as expression;
 ghost use Rattle.pz_classes_code.specs.CodeView as code;
-ghost use Rattle.pz_classes_code.specs.Resolution.{resolved, slots_of, resolved_statement, resolved_statements, resolved_branches};
+ghost use Rattle.pz_classes_code.specs.Resolution.{resolved, resolved_all, resolved_part, slots_of, resolved_statement, resolved_statements, resolved_branches};
 ghost use Rattle.pz_classes_code.specs.ScopeView.{scope_view};
 
-use crate::resolving::expressions::{resolve, resolve_list, resolve_part};
+use crate::resolving::expressions::{resolve, resolve_list};
 use crate::scope::Scope;
 use crate::{Code, CodeForm, Slot, Step, StepForm};
-use pz_items::{Boxed, Items};
+use pz_items::{Boxed, Items, Shared};
 use pz_syntax::{Expr, Id, Pos, Stmt, StmtForm};
 use std::alloc::{AllocError, Global};
 
@@ -36,14 +36,16 @@ fn resolve_form(
 {
     match form {
         StmtForm::Skip => Ok(StepForm::Skip),
-        StmtForm::Delay(time) => Ok(StepForm::Delay(resolve(alloc, scope, time)?)),
+        StmtForm::Delay(time) => Ok(StepForm::Delay(share_code(alloc, scope, time)?)),
         StmtForm::Group(list) => {
             Ok(StepForm::Group(resolve_statements(alloc, scope, list.as_slice())?))
         }
-        StmtForm::Block(list) => Ok(StepForm::Block(resolve_list(alloc, scope, list.as_slice())?)),
+        StmtForm::Block(list) => {
+            Ok(StepForm::Block(share_codes(alloc, scope, list.as_slice())?))
+        }
         StmtForm::Guard(test, guarded) => {
-            let guarded = Boxed::new(alloc, resolve_statement(alloc, scope, guarded.get())?)?;
-            Ok(StepForm::Guard(resolve(alloc, scope, test)?, guarded))
+            let guarded = Shared::new(alloc, resolve_statement(alloc, scope, guarded.get())?)?;
+            Ok(StepForm::Guard(share_code(alloc, scope, test)?, guarded))
         }
         StmtForm::Par(branches) => {
             Ok(StepForm::Par(resolve_branches(alloc, scope, branches.as_slice())?))
@@ -52,7 +54,7 @@ fn resolve_form(
             Ok(StepForm::Sel(resolve_branches(alloc, scope, branches.as_slice())?))
         }
         StmtForm::If(test, part, rest) => {
-            let test = resolve(alloc, scope, test)?;
+            let test = share_code(alloc, scope, test)?;
             let part = resolve_statements(alloc, scope, part.as_slice())?;
             match rest {
                 None => Ok(StepForm::If(test, part, None)),
@@ -64,15 +66,15 @@ fn resolve_form(
         }
         StmtForm::While(test, body) => {
             let body = resolve_statements(alloc, scope, body.as_slice())?;
-            Ok(StepForm::While(resolve(alloc, scope, test)?, body))
+            Ok(StepForm::While(share_code(alloc, scope, test)?, body))
         }
         StmtForm::Abort(first, second) => {
-            let second = Boxed::new(alloc, resolve_statement(alloc, scope, second.get())?)?;
+            let second = Shared::new(alloc, resolve_statement(alloc, scope, second.get())?)?;
             let first = resolve_statements(alloc, scope, first.as_slice())?;
             Ok(StepForm::Abort(first, second))
         }
         StmtForm::Interrupt(first, second) => {
-            let second = Boxed::new(alloc, resolve_statement(alloc, scope, second.get())?)?;
+            let second = Shared::new(alloc, resolve_statement(alloc, scope, second.get())?)?;
             let first = resolve_statements(alloc, scope, first.as_slice())?;
             Ok(StepForm::Interrupt(first, second))
         }
@@ -94,12 +96,12 @@ fn resolve_form(
             args,
             results,
         } => Ok(StepForm::Call {
-            method: method.copy()?,
-            args: resolve_list(alloc, scope, args.as_slice())?,
-            results: scope.slots(alloc, results.as_slice())?,
+            method: share_name(alloc, method)?,
+            args: share_codes(alloc, scope, args.as_slice())?,
+            results: Shared::new(alloc, scope.slots(alloc, results.as_slice())?)?,
         }),
         StmtForm::Assign(target, value) => resolve_assignment(alloc, scope, target, value, pos),
-        StmtForm::Value(value) => Ok(StepForm::Eval(resolve(alloc, scope, value)?)),
+        StmtForm::Value(value) => Ok(StepForm::Eval(share_code(alloc, scope, value)?)),
     }
 }
 
@@ -115,10 +117,8 @@ fn resolve_assignment(
         (tree.form_view (StmtForm.Assign target.now value.now) pos)) }
 {
     let value = Boxed::new(alloc, resolve(alloc, scope, value)?)?;
-    Ok(StepForm::Eval(Code {
-        pos,
-        form: CodeForm::Assign(scope.slot(&target.name), value),
-    }))
+    let form = CodeForm::Assign(scope.slot(&target.name), value);
+    Ok(StepForm::Eval(Shared::new(alloc, Code { pos, form })?))
 }
 
 fn resolve_send(
@@ -135,9 +135,9 @@ fn resolve_send(
 {
     Ok(StepForm::Send {
         port: scope.port(&port.name),
-        name: name.copy()?,
-        args: resolve_part(alloc, scope, args)?,
-        block: resolve_part(alloc, scope, block)?,
+        name: share_name(alloc, name)?,
+        args: share_part(alloc, scope, args)?,
+        block: share_part(alloc, scope, block)?,
     })
 }
 
@@ -157,11 +157,53 @@ fn resolve_receive(
 {
     Ok(StepForm::Receive {
         port: scope.port(&port.name),
-        name: name.copy()?,
+        name: share_name(alloc, name)?,
         into: resolve_into(alloc, scope, into)?,
         condition: resolve_condition(alloc, scope, condition)?,
-        block: resolve_part(alloc, scope, block)?,
+        block: share_part(alloc, scope, block)?,
     })
+}
+
+/// An equal name, to be shared.
+fn share_name(alloc: Global, name: &Id) -> Result<Shared<Id>, AllocError>
+    ensures { IfOk result (λ copy. copy ≡ name.now) }
+{
+    Shared::new(alloc, name.copy()?)
+}
+
+/// One expression, to be shared.
+fn share_code(alloc: Global, scope: &Scope, expr: &Expr) -> Result<Shared<Code>, AllocError>
+    ensures { IfOk result (λ c. code.view c ≡ resolved (scope_view scope.now)
+        (expression.view expr.now)) }
+{
+    Shared::new(alloc, resolve(alloc, scope, expr)?)
+}
+
+/// Expressions in order, to be shared.
+fn share_codes(
+    alloc: Global,
+    scope: &Scope,
+    list: &[Expr],
+) -> Result<Shared<Items<Code>>, AllocError>
+    ensures { IfOk result (λ cs. code.list_view cs ≡ resolved_all (scope_view scope.now)
+        (expression.list_view list.now)) }
+{
+    Shared::new(alloc, resolve_list(alloc, scope, list)?)
+}
+
+/// Expressions that may be left out.
+fn share_part(
+    alloc: Global,
+    scope: &Scope,
+    part: &Option<Items<Expr>>,
+) -> Result<Option<Shared<Items<Code>>>, AllocError>
+    ensures { IfOk result (λ p. code.part_view p ≡ resolved_part (scope_view scope.now)
+        (expression.part_view part.now)) }
+{
+    match part {
+        None => Ok(None),
+        Some(list) => Ok(Some(share_codes(alloc, scope, list.as_slice())?)),
+    }
 }
 
 /// The variables of a reception.
@@ -169,12 +211,12 @@ fn resolve_into(
     alloc: Global,
     scope: &Scope,
     into: &Option<Items<Id>>,
-) -> Result<Option<Items<Slot>>, AllocError>
+) -> Result<Option<Shared<Items<Slot>>>, AllocError>
     ensures { IfOk result (λ slots. slots ≡ option_map (slots_of (scope_view scope.now)) into.now) }
 {
     match into {
         None => Ok(None),
-        Some(ids) => Ok(Some(scope.slots(alloc, ids.as_slice())?)),
+        Some(ids) => Ok(Some(Shared::new(alloc, scope.slots(alloc, ids.as_slice())?)?)),
     }
 }
 
@@ -183,13 +225,13 @@ fn resolve_condition(
     alloc: Global,
     scope: &Scope,
     condition: &Option<Expr>,
-) -> Result<Option<Code>, AllocError>
+) -> Result<Option<Shared<Code>>, AllocError>
     ensures { IfOk result (λ c. option_map code.view c ≡ option_map
         (resolved (scope_view scope.now)) (option_map expression.view condition.now)) }
 {
     match condition {
         None => Ok(None),
-        Some(test) => Ok(Some(resolve(alloc, scope, test)?)),
+        Some(test) => Ok(Some(share_code(alloc, scope, test)?)),
     }
 }
 
@@ -200,7 +242,7 @@ pub fn resolve_statements(
     alloc: Global,
     scope: &Scope,
     list: &[Stmt],
-) -> Result<Items<Step>, AllocError>
+) -> Result<Shared<Items<Step>>, AllocError>
     ensures { IfOk result (λ ss. step.sequence_view ss ≡ resolved_statements (scope_view scope.now)
         (tree.sequence_view list.now)) }
 {
@@ -208,7 +250,7 @@ pub fn resolve_statements(
     for stmt in list {
         steps.push(resolve_statement(alloc, scope, stmt)?)?;
     }
-    Ok(steps)
+    Shared::new(alloc, steps)
 }
 
 #[cycle(resolve_stmt)]
@@ -216,7 +258,7 @@ fn resolve_branches(
     alloc: Global,
     scope: &Scope,
     branches: &[Items<Stmt>],
-) -> Result<Items<Items<Step>>, AllocError>
+) -> Result<Shared<Items<Shared<Items<Step>>>>, AllocError>
     ensures { IfOk result (λ bs. step.branches_of (map (map step.view) bs) ≡ resolved_branches
         (scope_view scope.now) (tree.branches_of (map (map tree.view) branches.now))) }
 {
@@ -226,7 +268,7 @@ fn resolve_branches(
         for stmt in branch.as_slice() {
             part.push(resolve_statement(alloc, scope, stmt)?)?;
         }
-        steps.push(part)?;
+        steps.push(Shared::new(alloc, part)?)?;
     }
-    Ok(steps)
+    Shared::new(alloc, steps)
 }

@@ -85,3 +85,7 @@ module _ (model : ModelTree) (now : ℕ) where
 
   abbrev pub unwound : List Activation → Reached Value → Reached Value
   unwound callers = unwound_before (λ x. x) callers
+
+  -- all that is to come: what is done next in the method that runs, its tasks, and then its callers
+  abbrev pub to_come : List Activation → Activation → StateView → ℕ → Control → Reached Value
+  to_come callers a s r c = unwound callers (coming a s r c)

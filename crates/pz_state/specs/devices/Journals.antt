@@ -1,5 +1,5 @@
 -- Where a journal leads back to. Its latest entry is its last.
-use Rattle.std.specs.Prelude.{◌≡◌, ◌++◌, ℕ, zero, suc, List, [], ◌∷◌, Bool, true, false}
+use Rattle.std.specs.Prelude.{◌≡◌, ◌++◌, ℕ, zero, suc, List, [], ◌∷◌, drop, reverse, Bool, true, false}
 use Rattle.pz_state.specs.declared.journal.Change.{Change}
 use Rattle.pz_state.specs.declared.journal.Entry.{Entry}
 use Rattle.pz_state.specs.declared.journal.Entry.TheVariants as entry
@@ -36,15 +36,25 @@ abbrev pub is_mark : Entry → Bool
 is_mark entry.Mark = true
 is_mark _ = false
 
--- a change is noted where a mark is open
-abbrev pub noted : ℕ → Change → List Entry → List Entry
-noted zero change es = es
-noted (suc marks) change es = es ++ entry.Change change ∷ []
+-- a change is noted where it has to be
+abbrev pub noted : Bool → Change → List Entry → List Entry
+noted false change es = es
+noted true change es = es ++ entry.Change change ∷ []
 
 -- where no mark is open, nothing is kept
 abbrev pub while_marked : ℕ → List Entry → List Entry
 while_marked zero es = []
 while_marked (suc marks) es = es
+
+-- from the places of the open marks to those without the latest. The latest is the last.
+abbrev pub IsClosed : List ℕ → List ℕ → Type 0
+IsClosed old new = (latest : ℕ) (older : List ℕ) → reverse old ≡ latest ∷ older → reverse new ≡ older
+
+abbrev pub HasNoMarkAfter : List Entry → ℕ → Type 0
+HasNoMarkAfter es place = count_of_marks (drop (suc place) es) ≡ 0
+
+abbrev pub HasNoMarkAfterLatest : List ℕ → List Entry → Type 0
+HasNoMarkAfterLatest places es = (latest : ℕ) (older : List ℕ) → reverse places ≡ latest ∷ older → HasNoMarkAfter es latest
 
 abbrev pub IsReadyEntry : Room → Entry → StateView → Type 0
 IsReadyEntry room (entry.Change c) s = IsReady room c s

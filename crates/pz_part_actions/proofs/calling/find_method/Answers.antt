@@ -1,3 +1,4 @@
+use Rattle.std.proofs.Common.{refl}
 use Rattle.std.proofs.Math.Logic.{∥∥₁_elim}
 use Rattle.std.proofs.Math.Bridge.{le_prop}
 use Rattle.pz_part_actions.proofs.Methods.{is_method, not_missing, method_belongs, not_data}
@@ -20,5 +21,5 @@ unreachable-requires-in-Data c = ∥∥₁_elim c.requires (λ x y. absurd x) (�
 
 pub returns : goal.returns
 returns c =
-    is_method c.args.classes.now c.args.class c.args.name.now c.args.inputs c.args.outputs c.trees_are_sets.ensures.bodies c.in-Some.method c.body.result.now c.in-Process.locals c.in-Process.stmts c.as_slice.result.now
-    c.in-Process.is c.as_slice.ensures c.in-Some.ensures.body c.body.ensures
+    is_method c.args.classes.now c.args.class c.args.name.now c.args.inputs c.args.outputs c.trees_are_sets.ensures.bodies c.in-Some.method c.body.result.now c.in-Process.locals c.in-Process.stmts c.in-Process.stmts
+    c.in-Process.is refl c.in-Some.ensures.body c.body.ensures

@@ -1,5 +1,5 @@
-use Rattle.std.proofs.Common.{List, sym, ap, ◌∙◌}
-use Rattle.pz_classes_code.specs.declared.step.Step.{Step}
+use Rattle.std.proofs.Common.{sym, ap, ◌∙◌}
+use Rattle.pz_classes_code.specs.declared.code.Code.{Code}
 use Rattle.pz_classes_code.specs.CodeView as code
 use Rattle.pz_classes_code.specs.StepView.{view, sequence_view}
 use Rattle.pz_syntax.specs.Statements.{conditional}
@@ -20,6 +20,6 @@ returns-in-Delay-clause-performs c = λ m known.
 pub returns-in-If-clause-performs : goal.returns-in-If-clause-performs
 returns-in-If-clause-performs c = λ m known.
     by_step (seen_from m c.args.here.now c.args.class.0 c.args.state.now.held) c.args.frame.0 c.args.step.now.pos c.perform_if.result c.perform_if.new.state.held (view c.args.step.now)
-    (conditional c.args.step.now.pos (code.view c.in-If.test) (sequence_view c.as_slice-in-If.result.now) (otherwise_view c.in-If.other))
-    (is_if c.args.step.now c.in-If.test c.in-If.steps c.in-If.other c.in-If.is ∙ ap (λ (ss : List Step). conditional c.args.step.now.pos (code.view c.in-If.test) (sequence_view ss) (otherwise_view c.in-If.other)) (sym c.as_slice-in-If.ensures))
+    (conditional c.args.step.now.pos (code.view c.get-in-If.result.now) (sequence_view c.in-If.steps) (otherwise_view c.in-If.other))
+    (is_if c.args.step.now c.in-If.test c.in-If.steps c.in-If.other c.in-If.is ∙ ap (λ (test : Code). conditional c.args.step.now.pos (code.view test) (sequence_view c.in-If.steps) (otherwise_view c.in-If.other)) (sym c.get-in-If.ensures))
     (c.perform_if.ensures.performs m c.args.class.0 known)

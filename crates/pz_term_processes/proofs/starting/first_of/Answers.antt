@@ -17,5 +17,5 @@ new-state-requires c =
 
 pub returns : goal.returns
 returns c = λ limits place at.
-    starts_as c.trees_are_sets.ensures.statements (checked_model c.args.checked.now) c.classes.result.now c.args.net.now limits c.args.process c.class.result c.in-Some.call.now c.in_ok-copy_step.field-0 c.values.result.now c.new-state.result place
-    c.classes.ensures.tabled c.requires.of_model at c.class.ensures.is (λ m known. ap (λ r. option_map step.view (option_copied r)) (sym c.in-Some.is) ∙ c.init.ensures m known) c.values.ensures c.in_ok-copy_step.ensures (ap (λ (z : Seen). z.held) c.new-state.ensures ∙ ap (λ (vs : List Value). initial vs) c.in_ok-copies_of.ensures)
+    starts_as c.trees_are_sets.ensures.statements (checked_model c.args.checked.now) c.classes.result.now c.args.net.now limits c.args.process c.class.result c.in-Some.call.now c.in_ok-copy.field-0 c.values.result.now c.new-state.result place
+    c.classes.ensures.tabled c.requires.of_model at c.class.ensures.is (λ m known. ap (λ r. option_map step.view (option_copied r)) (sym c.in-Some.is) ∙ c.init.ensures m known) c.values.ensures c.in_ok-copy.ensures (ap (λ (z : Seen). z.held) c.new-state.ensures ∙ ap (λ (vs : List Value). initial vs) c.in_ok-copies_of.ensures)

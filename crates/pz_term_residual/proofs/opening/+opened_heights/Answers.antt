@@ -17,7 +17,7 @@ pub branches_height-loop-branch-preserved : goal.branches_height-loop-branch-pre
 branches_height-loop-branch-preserved t c =
     greatest_more (λ (b : List Step). height (opened_all (step.sequence_view b))) (λ (bs : List (List Step)). greatest_height (opened_branches (branches_view bs))) (λ b bs. refl)
     c.args.branches.now c.loop-branch.branch-index c.branch-item.result c.sequence_height.result c.loop-branch.greatest c.max-greatest.result (capped (greatest_height (opened_branches (branches_view c.args.branches.now))))
-    c.loop-branch-test.true c.branch-item.is (c.sequence_height.ensures ∙ ap (λ (b : List Step). capped (height (opened_all (step.sequence_view b)))) c.as_slice.ensures) c.max-greatest.ensures c.loop-branch.invariant
+    c.loop-branch-test.true c.branch-item.is (c.sequence_height.ensures ∙ ap (λ (b : List Step). capped (height (opened_all (step.sequence_view b)))) (c.as_slice.ensures ∙ c.get.ensures)) c.max-greatest.ensures c.loop-branch.invariant
 
 pub sequence_height-returns-in-len1-up : goal.sequence_height-returns-in-len1-up
 sequence_height-returns-in-len1-up t c =

@@ -1,4 +1,4 @@
-use Rattle.std.proofs.Common.{◌<◌, ◌∷◌, length, arith}
+use Rattle.std.proofs.Common.{◌<◌, ◌∷◌, length, refl, arith}
 use Rattle.pz_classes_code.specs.StepView as step
 use Rattle.pz_rules.specs.Terms as terms
 use Rattle.pz_rules.specs.View.{term_view, terms_view}
@@ -79,8 +79,8 @@ outline_inside-returns-in-Seq t c =
 pub outline_inside-returns-in-Frame : goal.outline_inside-returns-in-Frame
 outline_inside-returns-in-Frame t c =
     let at = c.args.child ∷ c.args.inner.now in
-    let slots = c.as_slice-in-Frame.result.now in
-    let is = frame_is c.args.term.now c.in-Frame.frame c.in-Frame.inputs c.in-Frame.results slots c.in-Frame.body c.get-in-Frame.result.now c.in-Frame.is c.as_slice-in-Frame.ensures c.get-in-Frame.ensures in
+    let slots = c.in-Frame.results in
+    let is = frame_is c.args.term.now c.in-Frame.frame c.in-Frame.inputs c.in-Frame.results slots c.in-Frame.body c.get-in-Frame.result.now c.in-Frame.is refl c.get-in-Frame.ensures in
     let u = terms.frame c.in-Frame.frame.0 c.in-Frame.inputs slots (term_view c.get-in-Frame.result.now) in
     seen_left c.args.part c.outline_frame.result (term_view c.args.term.now) u at is
     (frame_left c.args.part c.outline_frame.result c.outline_after-in-Frame.result c.in-Frame.frame.0 c.in-Frame.inputs slots (term_view c.get-in-Frame.result.now) c.args.child c.args.inner.now
