@@ -194,7 +194,11 @@ fn tell_each<S: Simulator, W: Sink>(
 }
 
 /// Writes a line for each offer in order.
-pub(crate) fn tell_offers<S: Simulator, W: Sink>(alloc: Global, sim: &S, out: &mut W) -> Result<(), Halt>
+pub(crate) fn tell_offers<S: Simulator, W: Sink>(
+    alloc: Global,
+    sim: &S,
+    out: &mut W,
+) -> Result<(), Halt>
     ensures { (offers : List TheAction) × AreOffersOf (S.simulation sim.now) offers
         × Wrote (W.state out.old) (W.state out.new)
         (offers_text (model_in (S.simulation sim.now)) 0 offers) (result_err result) }

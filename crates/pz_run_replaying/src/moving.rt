@@ -35,11 +35,7 @@ fn act<S: Simulator, L: Ledger>(
 }
 
 // Lets so much time pass, which can.
-fn wait<S: Simulator, L: Ledger>(
-    sim: &mut S,
-    time: u128,
-    steps: &mut Steps<L>,
-) -> Result<(), Halt>
+fn wait<S: Simulator, L: Ledger>(sim: &mut S, time: u128, steps: &mut Steps<L>) -> Result<(), Halt>
     requires { MayMove (S.simulation sim.old) (Move.Wait time) }
     ensures passes { OnOk result (Passes (S.simulation sim.old) (S.simulation sim.new)) }
     ensures setting { setting_in (S.simulation sim.new) ≡ setting_in (S.simulation sim.old) }

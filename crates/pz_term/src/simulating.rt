@@ -38,7 +38,8 @@ impl Simulator for Plain {
     fn offer(&self, k: u64) -> Result<Action, AllocError> {
         simulators_show_one_moment();
         let offers = self.offers();
-        copy_action(&offers[k as usize])
+        let action = &offers[k as usize];
+        copy_action(action)
     }
 
     fn choose<L: Ledger>(&mut self, k: u64, _steps: &mut Steps<L>) -> Result<(), ChooseError> {

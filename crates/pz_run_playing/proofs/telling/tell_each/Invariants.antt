@@ -9,4 +9,4 @@ abbrev pub invariant-loop-number : goal.invariant-loop-number
 invariant-loop-number g l =
     (actions : List Action) → AreOffersOf (g.S.Simulator.simulation l.sim) actions
     → (written : List ℕ) × Wrote (g.W.Sink.state l.initial.out) (g.W.Sink.state l.out) written None
-    × (written ++ offers_text (model_in (g.S.Simulator.simulation l.sim)) l.number-counter (drop l.number-counter actions) ≡ offers_text (model_in (g.S.Simulator.simulation l.sim)) 0 actions)
+    × (written ++ offers_text (model_in (g.S.Simulator.simulation l.sim)) l.number (drop l.number actions) ≡ offers_text (model_in (g.S.Simulator.simulation l.sim)) 0 actions)
