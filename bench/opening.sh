@@ -8,6 +8,9 @@ first='process class A0() init s()() methods s()() skip m0()() skip a()() b()() 
 { echo -n "$first"; pieces 12000 'process class A%() extends A@ methods m%()() m@()(); a()() n%()() par m%()() and m@()() rap '; echo 'system'; } >"$room/a chain of classes with methods of their own"
 { echo -n "$first"; pieces 12000 'process class A%() extends A@ methods b()() c()(); skip m%()() par a()() and b()() rap '; echo 'system'; } >"$room/a chain of classes that override"
 { pieces 12000 'process class A%() init a()() methods a()() b()(); b()() b()() sel skip or delay 1 les '; echo 'system'; } >"$room/classes apart"
-for shape in 'many methods that begin with one another' 'a chain of classes with methods of their own' 'a chain of classes that override' 'classes apart'; do
+{ echo -n 'process class A0() init s()() methods s()() skip m0()() skip a()() a()() '; pieces 12000 'process class A%() extends A@ methods m%()() m@()(); a()() n%()() par m%()() and m@()() rap '; echo 'system'; } >"$room/a chain of classes under one that begins with itself"
+{ echo -n "$first"; pieces 12000 'process class A%() extends A@ methods b()() c()(); skip m%()() par a()() and b()() rap '; echo 'process class Z() extends A12000 methods z()() z()() system'; } >"$room/a chain of classes of which the last begins with itself"
+for shape in 'many methods that begin with one another' 'a chain of classes with methods of their own' 'a chain of classes that override' \
+  'a chain of classes under one that begins with itself' 'a chain of classes of which the last begins with itself' 'classes apart'; do
   measure_text "$shape" openings
 done

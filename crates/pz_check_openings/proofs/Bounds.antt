@@ -33,7 +33,7 @@ outputs_of (Data inputs) = 0
 outputs_of (Process inputs outputs) = outputs
 
 -- what is plain by its signature is plain by its outline
-plain_so : (i o : ℕ) → Process 0 0 ≡ Process i o → (nat_eq i 0 && nat_eq o 0) ≡ true
+pub plain_so : (i o : ℕ) → Process 0 0 ≡ Process i o → (nat_eq i 0 && nat_eq o 0) ≡ true
 unfolding inputs_of outputs_of
 plain_so i o e =
     let first : 0 ≡ i = ap inputs_of e in

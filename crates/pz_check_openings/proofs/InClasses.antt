@@ -234,11 +234,6 @@ round_breaks m c _ (round_in d _ declared process (round k h among reaches)) =
     let leads : Leads m c h.method k = leads_of m c h.method k reaches in
     subst (λ (p : Pos). BreaksC23 m (violation 23 p)) x.place (rule.round c k h.method d x.word declared process (has_of m c h.method k x.word x.finds leads) x.among x.finds leads)
 
-pub breaks_round : (m : ModelTree) (v : Violation) → BreaksC23 m v → (c : ℕ) × RoundIn m (outlines m) c v
-breaks_round m _ (rule.round c k n d x declared process has among finds leads) =
-    let call : Contains (begun_by (graph m c) k) (record { method = n; pos = x.pos }) = subst (λ (hs : List Call). Contains hs (record { method = n; pos = x.pos })) (sym (begun_are m c k)) (call_of m c (begun_at m k) x n among finds) in
-    (c, round_in d (violation 23 x.pos) declared process (round k (record { method = n; pos = x.pos }) call (reaches_of m c n k leads)))
-
 -- the rule on sizes, class by class and method by method
 pub large_breaks : (m : ModelTree) (c : ℕ) (v : Violation) → LargeIn m (outlines m) c v → BreaksC24 m v
 large_breaks m c _ (large_in d k _ declared process (large_at o here finds (depth, much))) =

@@ -5,4 +5,10 @@ mod InClasses
 mod Gathering
 mod Merely
 mod AllSettled
+mod Climbing
+mod Suspected
+mod Parts
+mod Ordering
+mod Marks
+mod Marking
 mod Telling

@@ -23,7 +23,7 @@ use Rattle.pz_check_openings.specs.devices.InClass.{methods_in, is_found, RoundI
 use Rattle.pz_check_openings.specs.devices.Settling.{Settles}
 use Rattle.pz_check_openings.proofs.Bounds.{settles_all}
 use Rattle.pz_check_openings.proofs.Gathering.{least_alike}
-use Rattle.pz_check_openings.proofs.InClasses.{round_breaks, breaks_round, large_breaks, breaks_large}
+use Rattle.pz_check_openings.proofs.InClasses.{large_breaks, breaks_large}
 
 module _ (m : ModelTree) where
   -- a class with a declaration has a number below the count
@@ -33,21 +33,6 @@ module _ (m : ModelTree) where
 
   abbrev count : ℕ
   count = length m.decls + 1
-
-  rounds_to : (v : Violation) → Among (RoundIn m (outlines m)) count v → BreaksC23 m v
-  rounds_to v (c, below, here) = round_breaks m c v here
-
-  rounds_from : (v : Violation) → BreaksC23 m v → Among (RoundIn m (outlines m)) count v
-  rounds_from v breaks = by_class (breaks_round m v breaks)
-    where
-      by_class : (c : ℕ) × RoundIn m (outlines m) c v → Among (RoundIn m (outlines m)) count v
-      by_class (c, here) = (c, below c v here, here)
-        where
-          below : (k : ℕ) (w : Violation) → RoundIn m (outlines m) k w → k < count
-          below k _ (round_in d w declared process here) = numbered k d declared
-
-  pub rounds : (found : Option Violation) → LeastOf (Among (RoundIn m (outlines m)) count) found → LeastOf (BreaksC23 m) found
-  rounds found is = least_alike (Among (RoundIn m (outlines m)) count) (BreaksC23 m) rounds_to rounds_from found is
 
   sizes_to : (v : Violation) → Among (LargeIn m (outlines m)) count v → BreaksC24 m v
   sizes_to v (c, below, here) = large_breaks m c v here
@@ -65,14 +50,13 @@ module _ (m : ModelTree) where
   sizes found is = least_alike (Among (LargeIn m (outlines m)) count) (BreaksC24 m) sizes_to sizes_from found is
 
   -- what is told
-  pub tell_round : (seen : List (Option Outline)) (found : Option Violation) (v : Violation) → seen ≡ outlines m → LeastOf (Among (RoundIn m seen) count) found → found ≡ Some v → Tells m (Some v)
-  tell_round seen found v are least is =
-      in_rounds (subst (LeastOf (BreaksC23 m)) is (rounds found (subst (λ (os : List (Option Outline)). LeastOf (Among (RoundIn m os) count) found) are least)))
+  pub tell_round : (found : Option Violation) (v : Violation) → LeastOf (BreaksC23 m) found → found ≡ Some v → Tells m (Some v)
+  tell_round found v least is = in_rounds (subst (LeastOf (BreaksC23 m)) is least)
 
-  pub tell_size : (seen also : List (Option Outline)) (found size : Option Violation) → seen ≡ outlines m → LeastOf (Among (RoundIn m seen) count) found → found ≡ None → also ≡ outlines m
+  pub tell_size : (also : List (Option Outline)) (found size : Option Violation) → LeastOf (BreaksC23 m) found → found ≡ None → also ≡ outlines m
       → LeastOf (Among (LargeIn m also) count) size → Tells m size
-  tell_size seen also found size are least is also_are large =
-      by_size size (subst (LeastOf (BreaksC23 m)) is (rounds found (subst (λ (os : List (Option Outline)). LeastOf (Among (RoundIn m os) count) found) are least)))
+  tell_size also found size least is also_are large =
+      by_size size (subst (LeastOf (BreaksC23 m)) is least)
       (sizes size (subst (λ (os : List (Option Outline)). LeastOf (Among (LargeIn m os) count) size) also_are large))
     where
       by_size : (o : Option Violation) → LeastOf (BreaksC23 m) None → LeastOf (BreaksC24 m) o → Tells m o

@@ -1,3 +1,5 @@
 pub mod Outlines
 pub mod Settling
 pub mod InClass
+pub mod Suspects
+pub mod Through

@@ -7,7 +7,9 @@ ghost use Rattle.pz_classes.specs.CheckedView.{checked_model, checked_classes};
 ghost use Rattle.pz_classes.specs.Tables.{HasClass, class_id};
 ghost use Rattle.pz_check_openings.specs.devices.InClass as spec;
 ghost use Rattle.pz_check_openings.specs.devices.InClass.{Among, RoundIn, LargeAt, LargeIn};
+ghost use Rattle.pz_check_openings.specs.devices.Suspects.{Marked};
 
+use crate::declaring::is_marked;
 use crate::in_class::methods_in;
 use crate::lookup::{called, count, is_process};
 use crate::outline::Outline;
@@ -19,17 +21,22 @@ use std::alloc::{AllocError, Global};
 
 const TOO_LARGE: u8 = 24;
 
-/// The least call by which a method of the class of this number begins with itself. The only error
-/// is want of memory.
+/// The least call by which a method of the class of this number begins with itself, where the class
+/// has a mark. The only error is want of memory.
 fn round_in(
     alloc: Global,
     checked: &Checked,
     outlines: &[Option<Outline>],
+    marks: &[bool],
     class: u32,
 ) -> Result<Option<Violation>, AllocError>
     requires { HasClass (checked_classes checked.now) (class_id class) }
-    ensures { IfOk result (LeastOf (RoundIn (checked_model checked.now) outlines.now class)) }
+    ensures { IfOk result (LeastOf (Marked marks.now
+        (RoundIn (checked_model checked.now) outlines.now) class)) }
 {
+    if !is_marked(marks, class) {
+        return Ok(None);
+    }
     if !is_process(checked, class) {
         return Ok(None);
     }
@@ -42,13 +49,15 @@ pub(crate) fn round_in_any(
     alloc: Global,
     checked: &Checked,
     outlines: &[Option<Outline>],
+    marks: &[bool],
 ) -> Result<Option<Violation>, AllocError>
-    ensures { IfOk result (LeastOf (Among (RoundIn (checked_model checked.now) outlines.now)
+    ensures { IfOk result (LeastOf (Among
+        (Marked marks.now (RoundIn (checked_model checked.now) outlines.now))
         (length (checked_model checked.now).decls + 1))) }
 {
     let mut least = None;
     for class in 0..count(checked) {
-        let found = round_in(alloc, checked, outlines, class)?;
+        let found = round_in(alloc, checked, outlines, marks, class)?;
         least = sooner(least, found);
     }
     Ok(least)

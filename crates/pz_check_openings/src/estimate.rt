@@ -89,22 +89,32 @@ fn targets_of(
     Ok(targets)
 }
 
-/// The names, each after those with which its methods begin, where that can be. The only error is
-/// want of memory.
-fn order_of(
+/// The rank of each name, from 1 on: no method begins with a name of a higher rank, and names have the
+/// same rank where methods of the names lead to each other. The only error is want of memory.
+fn ranks_of(
     alloc: Global,
     methods: &[Option<Outline>],
     names: &Names,
-) -> Result<Vec<usize>, AllocError> {
+) -> Result<Vec<u32>, AllocError> {
     let mut edges = Items::new(alloc);
     for numbers in names.methods.as_slice() {
         edges.push(targets_of(alloc, methods, &names.numbering, numbers.as_slice())?)?;
     }
-    let places = components(alloc, edges.as_slice())?;
-    let mut order = vec![in alloc; 0; places.len()]?;
-    for (name, place) in places.iter().enumerate() {
-        if *place < order.len() {
-            order[*place] = name;
+    let mut ranks = Vec::new(alloc);
+    for place in components(alloc, edges.as_slice())? {
+        ranks.push(place.min(u32::MAX as usize - 1) as u32 + 1)?;
+    }
+    Ok(ranks)
+}
+
+/// The names by their ranks: each after those with which its methods begin, where that can be. The
+/// only error is want of memory.
+fn order_of(alloc: Global, ranks: &[u32]) -> Result<Vec<usize>, AllocError> {
+    let mut order = vec![in alloc; 0; ranks.len()]?;
+    for (name, rank) in ranks.iter().enumerate() {
+        let place = (*rank as usize).saturating_sub(1);
+        if place < order.len() {
+            order[place] = name;
         }
     }
     Ok(order)
@@ -127,15 +137,24 @@ fn greatest(
     greatest
 }
 
-/// The names of the plain methods, and a bound for each at its number. The only error is want of
+/// What was found of the names of plain methods, each at the number of the name.
+#[derive(Drop)]
+pub(crate) struct Estimates {
+    pub(crate) names: Numbering,
+    pub(crate) ranks: Vec<u32>,
+    pub(crate) bounds: Vec<u32>,
+}
+
+/// The names of the plain methods, with a rank and a bound for each. The only error is want of
 /// memory.
 pub(crate) fn estimate(
     alloc: Global,
     methods: &[Option<Outline>],
-) -> Result<(Numbering, Vec<u32>), AllocError> {
+) -> Result<Estimates, AllocError> {
     let names = names_of(alloc, methods)?;
+    let ranks = ranks_of(alloc, methods, &names)?;
     let mut bounds = vec![in alloc; 0; names.methods.len()]?;
-    for name in order_of(alloc, methods, &names)? {
+    for name in order_of(alloc, ranks.as_slice())? {
         if let Some(numbers) = names.methods.get(name) {
             let bound = greatest(
                 methods,
@@ -148,5 +167,9 @@ pub(crate) fn estimate(
             }
         }
     }
-    Ok((names.numbering, bounds))
+    Ok(Estimates {
+        names: names.numbering,
+        ranks,
+        bounds,
+    })
 }

@@ -28,6 +28,36 @@ pub(crate) struct Outline {
     pub(crate) calls: Items<Id>,
 }
 
+/// Equal names at the same places. The only error is want of memory.
+fn copy_of(alloc: Global, names: &[Id]) -> Result<Items<Id>, AllocError>
+    ensures { IfOk result (λ xs. xs ≡ names.now) }
+{
+    let mut copy = Items::new(alloc);
+    for name in names {
+        copy.push(name.copy()?)?;
+    }
+    Ok(copy)
+}
+
+impl Outline {
+    /// An equal outline. The only error is want of memory.
+    pub(crate) fn copy(&self, alloc: Global) -> Result<Outline, AllocError>
+        ensures { IfOk result (λ copy. copy ≡ self.now) }
+    {
+        let name = self.name.copy()?;
+        let begun = copy_of(alloc, self.begun.as_slice())?;
+        let calls = copy_of(alloc, self.calls.as_slice())?;
+        Ok(Outline {
+            name,
+            inputs: self.inputs,
+            outputs: self.outputs,
+            statements: self.statements,
+            begun,
+            calls,
+        })
+    }
+}
+
 /// The plain calls with which these statements begin. The only error is want of memory.
 fn begun_of(alloc: Global, body: &[Stmt]) -> Result<Items<Id>, AllocError>
     ensures { IfOk result (λ xs. xs ≡ begun_all (sequence_view body.now)) }

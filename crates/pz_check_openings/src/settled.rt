@@ -14,8 +14,8 @@ use pz_classes_code::Numbering;
 use pz_syntax::{Id, Name};
 
 /// The bound of the name; 0 where it has none.
-pub(crate) fn bound_of(names: &Numbering, bounds: &[u32], name: &Name) -> u32
-    ensures { result ≡ spec.bound_of names.now bounds.now name.now }
+pub(crate) fn value_of(names: &Numbering, bounds: &[u32], name: &Name) -> u32
+    ensures { result ≡ spec.value_of names.now bounds.now name.now }
 {
     match names.get(name.as_str().as_bytes()) {
         Some(number) => match bounds.get(number as usize) {
@@ -29,12 +29,12 @@ pub(crate) fn bound_of(names: &Numbering, bounds: &[u32], name: &Name) -> u32
 /// So many statements with the bounds of these calls, as far as `MANY`.
 pub(crate) fn total_by(statements: u32, calls: &[Id], names: &Numbering, bounds: &[u32]) -> u32
     ensures { result ≡ min (statements +
-        sum_by (λ x. spec.bound_of names.now bounds.now x.name) calls.now) 1000001 }
+        sum_by (λ x. spec.value_of names.now bounds.now x.name) calls.now) 1000001 }
 {
     let mut total = statements.min(MANY);
     for call in calls {
         total = total
-            .saturating_add(bound_of(names, bounds, &call.name))
+            .saturating_add(value_of(names, bounds, &call.name))
             .min(MANY);
     }
     total
@@ -50,7 +50,7 @@ pub(crate) fn is_plain(method: &Outline) -> bool
 /// Whether the method keeps to the bounds: a plain one opens as no more than the bound of its name,
 /// and no method is too large with all that opens out of it.
 fn is_settled(method: &Outline, names: &Numbering, bounds: &[u32]) -> bool
-    ensures { IsTrue result → Settles (spec.bound_of names.now bounds.now) method.now }
+    ensures { IsTrue result → Settles (spec.value_of names.now bounds.now) method.now }
 {
     let spread = total_by(method.statements, method.calls.as_slice(), names, bounds);
     if spread >= MANY {
@@ -60,13 +60,13 @@ fn is_settled(method: &Outline, names: &Numbering, bounds: &[u32]) -> bool
         return true;
     }
     let opened = total_by(method.statements, method.begun.as_slice(), names, bounds);
-    opened < MANY && opened <= bound_of(names, bounds, &method.name.name)
+    opened < MANY && opened <= value_of(names, bounds, &method.name.name)
 }
 
 /// Whether the method, if it is one of a process, keeps to the bounds.
 fn is_settled_if_any(method: &Option<Outline>, names: &Numbering, bounds: &[u32]) -> bool
     ensures { IsTrue result → (o : Sketch) → method.now ≡ Some o →
-        Settles (spec.bound_of names.now bounds.now) o }
+        Settles (spec.value_of names.now bounds.now) o }
 {
     match method {
         Some(method) => is_settled(method, names, bounds),
@@ -77,7 +77,7 @@ fn is_settled_if_any(method: &Option<Outline>, names: &Numbering, bounds: &[u32]
 /// Whether all methods keep to the bounds.
 pub(crate) fn are_settled(methods: &[Option<Outline>], names: &Numbering, bounds: &[u32]) -> bool
     ensures { IsTrue result → (k : ℕ) (o : Sketch) → slice_get methods.now k ≡ Some (Some o) →
-        Settles (spec.bound_of names.now bounds.now) o }
+        Settles (spec.value_of names.now bounds.now) o }
 {
     for method in methods {
         if !is_settled_if_any(method, names, bounds) {

@@ -1,5 +1,6 @@
 -- Resolving statements one by one.
 use Rattle.std.proofs.Common.{◌≡◌, refl, ap, ℕ, ◌≤◌, List, [], ◌∷◌, map, take, length, Option, Some, None, rules}
+use Rattle.std.specs.Prelude.{Result, Ok, Err, IfOk}
 use Rattle.std.specs.Option.{option_map}
 use Rattle.std.proofs.lemmas.List.{take_all}
 use Rattle.pz_syntax.specs.declared.tokens.Pos.{Pos}
@@ -54,6 +55,11 @@ shows_assign pos slot c = search (rules, inner.the_lemmas)
 
 stands_assign : (pos : Pos) (x : Id) (e : Expr) → tree.form_view (ours.Assign x e) pos ≡ assignment pos x (expression.view e)
 stands_assign pos x e = search (rules, old.the_lemmas)
+
+-- what holds of a value holds of it once it is shared, if there is memory for that
+pub once_shared : {T E : Type 0} (P : T → Type 0) (x : T) (r : Result T E) → IfOk r (λ s. s ≡ x) → P x → IfOk r P
+once_shared P x (Ok s) is p = rw is p
+once_shared P x (Err e) is p = tt
 
 module _ (scope : Scope) where
   list_resolved : (ss : List Stmt) → step.sequence_of (map (λ s. resolved_statement scope (tree.view s)) ss) ≡ resolved_statements scope (tree.sequence_view ss)

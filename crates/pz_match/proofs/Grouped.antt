@@ -1,18 +1,19 @@
 -- Groups whose tallies change, and further groups.
-use Rattle.std.proofs.Common.{◌≡◌, ◌≤◌, ◌<◌, ◌+◌, ◌-◌, ◌⊎◌, inl, inr, refl, sym, ◌∙◌, ap, subst, ℕ, zero, suc, Bool, true, false, nat_eq, List, [], ◌∷◌, ◌++◌, length, take, get_or, set, Option, Some, None, if◌then◌else◌, arith}
-use Rattle.std.specs.Prelude.{All, sum, sum_by, replicate}
+use Rattle.std.proofs.Common.{◌≡◌, ◌≢◌, ◌≤◌, ◌<◌, ◌+◌, ◌-◌, ◌⊎◌, inl, inr, refl, sym, ◌∙◌, ap, subst, ℕ, zero, suc, Bool, true, false, nat_eq, List, [], ◌∷◌, ◌++◌, length, take, get_or, set, Option, Some, None, if◌then◌else◌, arith}
+use Rattle.std.specs.Prelude.{All, Contains, sum, sum_by, replicate}
 use Rattle.std.specs.List.{slice_get}
 use Rattle.std.specs.Option.{option_map_or, MatchOption}
 use Rattle.std.specs.Prelude.{Result, Ok, Err, OnOk}
-use Rattle.std.proofs.lemmas.Bool.{eqb-true, eqb-false, ne_eqb}
+use Rattle.std.proofs.lemmas.Bool.{eqb-true, eqb-false, ne_eqb, cases_eq}
 use Rattle.std.proofs.lemmas.List.{length-append, length-set, get_or-set_same, get_or-set_other, length-replicate, get_or_append_left, get_or-append_right, get_or_default, take_all}
 use Rattle.std.proofs.lemmas.List.Elements.{All-head, All-tail, All-nil, All-cons, All-append, All-weaker}
 use Rattle.std.proofs.lemmas.List.Sums.{sum_by-cons, sum_by-append}
-use Rattle.std.proofs.lemmas.Option.{slice_get_within}
+use Rattle.std.proofs.lemmas.Option.{slice_get_within, slice_get-get_or, get_or_from_slice_get, same_Some}
+use Rattle.pz_match_lists.specs.Increasing.{list_at}
 use Rattle.pz_match.specs.declared.groups.Tally.{Tally}
 use Rattle.pz_match.specs.declared.groups.Group.{Group}
 use Rattle.pz_match.specs.devices.Lists.{upto}
-use Rattle.pz_match.specs.devices.Tallies.{GroupsView, HasKey, GroupsHold, Follows, SameTallies, Moves, Alike, tally_at, no_tally, taken_in, taken_on, on_wire, with_tally, plus, pick, only_in}
+use Rattle.pz_match.specs.devices.Tallies.{GroupsView, HasKey, GroupsHold, AreListed, Follows, SameTallies, Moves, Alike, tally_at, no_tally, taken_in, taken_on, on_wire, with_tally, plus, pick, only_in}
 use Rattle.pz_match.proofs.Sums.{sum_same, front, at_place, get_left, get_right}
 use Rattle.pz_match.proofs.Counting.{all_upto}
 
@@ -368,6 +369,44 @@ module _ (groups : List Group) (counts : List ℕ) (troubles : ℕ) (holds : Gro
   -- its message may be spelled by another that is equal
   pub holds_added : (x : Group) (message : List ℕ) → x.tally ≡ no_tally → x.wire < len → x.message ≡ message → ((g : ℕ) → ¬ HasKey groups g x.wire message x.count) → GroupsHold (groups ++ x ∷ []) reached troubles
   holds_added x message none longer same apart = holds_push x none longer (λ g key. apart g (record { group = key.group; there = key.there; wire_is = key.wire_is; message_is = key.message_is ∙ same; count_is = key.count_is }))
+
+-- The lists of numbers
+
+pub listed_push : (groups : List Group) (numbers later : List (List ℕ)) (x : Group) → AreListed groups numbers → ((k n : ℕ) → Contains (list_at numbers k) n → Contains (list_at later k) n) → Contains (list_at later x.wire) (length groups) → AreListed (groups ++ x ∷ []) later
+listed_push groups numbers later x listed keeps last g y is = by (split g (length groups))
+  where
+    split : (a b : ℕ) → (a < b) ⊎ (b ≤ a)
+    split a b = grind arith
+
+    by : (g < length groups) ⊎ (length groups ≤ g) → Contains (list_at later y.wire) g
+    by (inl below) = keeps y.wire g (listed g y (sym (get_left groups (x ∷ []) g below) ∙ is))
+    by (inr past) =
+        let lt = slice_get_within (groups ++ x ∷ []) g y is in
+        let here : g ≡ length groups = omega (arith, past, lt, length-append groups (x ∷ [])) in
+        let at : length groups + 0 ≡ g = omega (arith, here) in
+        let both : Some x ≡ Some y = sym (get_right groups (x ∷ []) 0) ∙ (ap (slice_get (groups ++ x ∷ [])) at ∙ is) in
+        let same : x ≡ y = same_Some x y both in
+        subst (λ n. Contains (list_at later y.wire) n) (sym here) (subst (λ (z : Group). Contains (list_at later z.wire) (length groups)) same last)
+
+pub listed_set : (groups : List Group) (numbers : List (List ℕ)) (n : ℕ) (x z : Group) → AreListed groups numbers → n < length groups → x ≡ get_or groups n x → z.wire ≡ x.wire → AreListed (set groups n z) numbers
+listed_set groups numbers n x z listed lt is same g y at = by (split g n)
+  where
+    split : (a b : ℕ) → (a ≡ b) ⊎ (a ≢ b)
+    split a b = cases_eq a b
+
+    there : get_or (set groups n z) g y ≡ y
+    there = get_or_from_slice_get (set groups n z) g y y at
+
+    by : (g ≡ n) ⊎ (g ≢ n) → Contains (list_at numbers y.wire) g
+    by (inl here) =
+        let y_is : z ≡ y = sym (get_or-set_same groups n z y lt) ∙ (ap (λ k. get_or (set groups n z) k y) (sym here) ∙ there) in
+        let wire : x.wire ≡ y.wire = sym same ∙ ap (λ (w : Group). w.wire) y_is in
+        subst (λ w. Contains (list_at numbers w) g) wire (subst (λ k. Contains (list_at numbers x.wire) k) (sym here) (listed n x (slice_get-get_or groups n x lt ∙ ap (λ (w : Group). Some w) (sym is))))
+    by (inr other) = listed g y (slice_get-get_or groups g y (omega (arith, slice_get_within (set groups n z) g y at, length-set groups n z)) ∙ ap (λ (w : Group). Some w) (sym (get_or-set_other groups n g z y other) ∙ there))
+
+-- a group that is not among the listed ones is nowhere
+pub none_listed : (groups : List Group) (numbers : List (List ℕ)) (wire count : ℕ) (message : List ℕ) → AreListed groups numbers → ((g : ℕ) → Contains (list_at numbers wire) g → ¬ HasKey groups g wire message count) → (g : ℕ) → ¬ HasKey groups g wire message count
+none_listed groups numbers wire count message listed none g key = none g (subst (λ w. Contains (list_at numbers w) g) key.wire_is (listed g key.group key.there)) key
 
 -- Follows is an order
 

@@ -22,3 +22,6 @@ pub mod Ordered
 pub mod Steps
 pub mod Shown
 pub mod Drained
+pub mod Questions
+pub mod Reaching
+pub mod Noting

@@ -96,7 +96,7 @@ all_mapped f xs i le = (λ k. map f (take_all i xs le k) ++ drop_all i xs le k) 
 
 -- Where no receive asks, nothing is new
 
-no_asked : (says : Verdicts) (s : Sending) (p : ℕ) (rs : List Receiving) → NoneAsks rs → asked says s.sender s.group p rs ≡ []
+pub no_asked : (says : Verdicts) (s : Sending) (p : ℕ) (rs : List Receiving) → NoneAsks rs → asked says s.sender s.group p rs ≡ []
 no_asked says s p [] none = refl
 no_asked says s p (r ∷ rs) none = by (asks_in s.group r) (no_one (nat_eq r.group s.group)) ∙ no_asked says s p rs (λ k d lt. none (suc k) d (omega (arith, lt)))
   where

@@ -1,6 +1,7 @@
 -- What callers see of a table.
-use Rattle.std.proofs.Common.{◌≡◌, ◌<◌, sym, ◌∙◌, ap, subst, ℕ, Bool, true, false, not, List, length, set}
+use Rattle.std.proofs.Common.{◌≡◌, ◌<◌, sym, ◌∙◌, ap, subst, ℕ, Bool, true, false, not, List, length, set, Some, arith}
 use Rattle.std.specs.Prelude.{All, AllPairs, map, filter}
+use Rattle.std.proofs.lemmas.Option.{slice_get-get_or}
 use Rattle.pz_offer.specs.PlaceOrder.{PlaceBefore}
 use Rattle.pz_offer.specs.declared.ends.SendOffer.{SendOffer}
 use Rattle.pz_offer.specs.declared.ends.ReceiveOffer.{ReceiveOffer}
@@ -12,10 +13,11 @@ use Rattle.pz_match.specs.declared.kept.Sending.{Sending}
 use Rattle.pz_match.specs.declared.kept.Receiving.{Receiving}
 use Rattle.pz_match.specs.Offers.{senders, receivers}
 use Rattle.pz_match.specs.Judging.{Verdicts, said}
-use Rattle.pz_match.specs.Pairs.{Judged, ArePairs, touches}
+use Rattle.pz_match.specs.Pairs.{Judged, ArePairs, touches, questions}
 use Rattle.pz_match.specs.Table.{Table, all_senders, all_receivers}
 use Rattle.pz_match.specs.devices.Kept.{Kept, all_pairs}
 use Rattle.pz_match.specs.devices.Tallies.{GroupsView, Distinct}
+use Rattle.pz_match.specs.devices.Asking.{all_written}
 use Rattle.pz_match.specs.devices.Holding.{Holds}
 use Rattle.pz_match.specs.devices.Updating.{Replaced, other_offers, senders_of}
 use Rattle.pz_match.specs.devices.Tables.{table_of, Stands}
@@ -23,6 +25,8 @@ use Rattle.pz_match.proofs.Fit.{all_sit, every}
 use Rattle.pz_match.proofs.Ordered.{pairs_ordered, ordered_after}
 use Rattle.pz_match.proofs.Staying.{others_stay, more_wires}
 use Rattle.pz_match.proofs.Saying.{all_right}
+use Rattle.pz_match.proofs.Questions.{questions_counted}
+use Rattle.pz_match.proofs.Replacing.{new_here, new_length}
 use Rattle.pz_match.proofs.Ends.{senders_after, receivers_after, all_senders_are, all_receivers_are}
 
 module _ (groups : GroupsView) (all : List Kept) (stands : Stands groups all) (distinct : Distinct groups.groups) (within : All (λ (x : Group). x.wire < groups.wires) groups.groups) (lost : Bool) where
@@ -72,3 +76,10 @@ module _ (says : Verdicts) (p : ℕ) (sends : List SendOffer) (receives : List R
       ap (λ (xs : List Kept). filter (λ q. not (touches p q)) (all_pairs xs g1.wires)) r.is
       ∙ (others_stay says p r.sent r.heard all below g0 g1 stands.holds holds_there g1.wires
       ∙ ap (filter (λ q. not (touches p q))) (more_wires g0 all stands.holds within g1.wires r.wires))
+
+  pub questions_now : All (λ (x : Group). x.wire < g1.wires) g1.groups → length (questions p (all_pairs new g1.wires)) ≡ all_written p new
+  questions_now within =
+      let now : Kept = record { process = p; sends = r.sent; receives = r.heard } in
+      subst (λ (xs : List Kept). length (questions p (all_pairs xs g1.wires)) ≡ all_written p xs) (sym r.is)
+      (questions_counted p g1 (other_offers says p r.sent r.heard all) holds_there now
+      (slice_get-get_or (other_offers says p r.sent r.heard all) p now (omega (arith, below, new_length says p r.sent r.heard all below)) ∙ ap (λ (x : Kept). Some x) (new_here says p r.sent r.heard all below now)) within)

@@ -24,7 +24,7 @@ use Rattle.pz_match.proofs.Offered.{send_keyed, receive_keyed}
 use Rattle.pz_match.proofs.Replacing.{total_set, holds_new}
 
 -- each of a list, by what is seen of it
-all_seen : {X Y : Type 0} (P : Y → Type 0) (f : X → Y) (xs : List X) → All P (map f xs) → All (λ x. P (f x)) xs
+pub all_seen : {X Y : Type 0} (P : Y → Type 0) (f : X → Y) (xs : List X) → All P (map f xs) → All (λ x. P (f x)) xs
 all_seen P f xs all k d lt = subst P (get_or-map f xs k d (f d) lt) (all k (f d) (omega (arith, lt, length-map xs f)))
 
 senders_own : (p : ℕ) (ss : List SendOffer) → All (λ (s : Sender). s.end.process ≡ p) (senders p ss)
@@ -124,6 +124,9 @@ module _ (says : Verdicts) (p : ℕ) (sends : List SendOffer) (receives : List R
 -- what is heard is of the process
 pub heard_own : (p : ℕ) (receives : List ReceiveOffer) (heard : List Receiving) → map (λ r. r.receiver) heard ≡ receivers p receives → All (λ (r : Receiving). r.receiver.end.process ≡ p) heard
 heard_own p receives heard same = all_seen (λ (r : Receiver). r.end.process ≡ p) (λ (r : Receiving). r.receiver) heard (subst (All (λ (r : Receiver). r.end.process ≡ p)) (sym same) (receivers_own p receives))
+
+pub sent_own : (p : ℕ) (sends : List SendOffer) (sent : List Sending) → map (λ s. s.sender) sent ≡ senders p sends → All (λ (s : Sending). s.sender.end.process ≡ p) sent
+sent_own p sends sent same = all_seen (λ (s : Sender). s.end.process ≡ p) (λ (s : Sending). s.sender) sent (subst (All (λ (s : Sender). s.end.process ≡ p)) (sym same) (senders_own p sends))
 
 -- As the offers are stored
 

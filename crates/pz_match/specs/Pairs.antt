@@ -1,5 +1,5 @@
 -- The pairs that fit, each with its verdict, in their order.
-use Rattle.std.specs.Prelude.{◌≡◌, ◌<◌, ◌⊎◌, ◌||◌, ℕ, Bool, true, false, nat_eq, List, [], ◌∷◌, filter, Option, Some, None, All, AllPairs, Contains}
+use Rattle.std.specs.Prelude.{◌≡◌, ◌<◌, ◌⊎◌, ◌||◌, ◌&&◌, ℕ, Bool, true, false, nat_eq, List, [], ◌∷◌, filter, Option, Some, None, All, AllPairs, Contains}
 use Rattle.pz_offer.specs.PlaceOrder.{EndBefore}
 use Rattle.pz_offer.specs.declared.end.End.{End}
 use Rattle.pz_offer.specs.declared.trouble.Trouble.{Trouble}
@@ -31,6 +31,10 @@ pub record ArePairs (senders : List Sender) (receivers : List Receiver) (pairs :
 -- whether one of the ends is of this process
 abbrev pub touches : ℕ → Judged → Bool
 touches process p = nat_eq p.sender.end.process process || nat_eq p.receiver.end.process process
+
+-- the pairs that an update of this process asks about: those with an end in it and a condition
+abbrev pub questions : ℕ → List Judged → List Judged
+questions process = filter (λ p. touches process p && p.receiver.conditional)
 
 -- the pairs that a receive takes
 

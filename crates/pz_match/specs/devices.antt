@@ -7,3 +7,4 @@ pub mod Seeking
 pub mod Updating
 pub mod Tables
 pub mod Ordering
+pub mod Users

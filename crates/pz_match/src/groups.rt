@@ -1,5 +1,5 @@
-use crate::counts::Counts;
 use crate::finding::find;
+use pz_match_lists::{Counts, Lists};
 use pz_syntax::Name;
 use std::alloc::{AllocError, Global};
 use std::marker::Model;
@@ -94,19 +94,21 @@ pub(crate) struct Group {
 #[derive(Drop)]
 pub(crate) struct Groups {
     groups: Vec<Group>,
+    /// The numbers of the groups of each wire.
+    numbers: Lists,
     counts: Counts,
     troubles: u64,
 }
 
 impl Model for Groups {
     ghost use Rattle.std.specs.Prelude.{length};
-    ghost use Rattle.pz_match.specs.devices.Tallies.{GroupsView, GroupsHold};
+    ghost use Rattle.pz_match.specs.devices.Tallies.{GroupsView, GroupsKept};
 
     ghost Value = { GroupsView };
 
     ghost view = { λ g. record { groups = g.groups.items; wires = length g.counts } };
 
-    ghost invariant = { λ g. GroupsHold g.groups.items g.counts g.troubles };
+    ghost invariant = { λ g. GroupsKept g.groups.items g.numbers g.counts g.troubles };
 }
 
 impl Groups {
@@ -120,6 +122,7 @@ impl Groups {
     {
         Groups {
             groups: Vec::new(alloc),
+            numbers: Lists::new(alloc),
             counts: Counts::new(alloc),
             troubles: 0,
         }
@@ -145,7 +148,8 @@ impl Groups {
         ensures follows { OnOk result (Follows self.old self.new) }
         ensures tallies { OnOk result (SameTallies self.old self.new) }
     {
-        match find(self.groups.as_slice(), wire, message, count) {
+        let numbers = self.numbers.list(wire as usize);
+        match find(self.groups.as_slice(), numbers, wire, message, count) {
             Some(number) => Ok(number),
             None => self.add(wire, message, count),
         }
@@ -161,6 +165,7 @@ impl Groups {
         let message = message.copy()?;
         self.counts.reach(wire as usize + 1)?;
         let number = self.groups.as_slice().len();
+        self.numbers.add(wire, number)?;
         self.groups.push(Group {
             wire,
             message,

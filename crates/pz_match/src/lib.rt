@@ -2,7 +2,6 @@
 #![tactic(auto)]
 
 mod asking;
-mod counts;
 mod finding;
 mod groups;
 mod hearing;
@@ -17,6 +16,7 @@ mod rows;
 mod seeking;
 mod tallying;
 mod updating;
+mod users;
 
 pub use judge::Judge;
 pub use offers::{Receiver, Sender};

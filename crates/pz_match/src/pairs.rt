@@ -3,6 +3,8 @@ use crate::judge::Judge;
 use crate::kept::Offers;
 use crate::seeking::{find_trouble, pair_on};
 use crate::updating::{replace_in, silence};
+use crate::users::{note_receives, note_sends};
+use pz_match_lists::Lists;
 use pz_offer::{End, ReceiveOffer, SendOffer, Trouble};
 use std::alloc::{AllocError, Global};
 use std::marker::Model;
@@ -13,6 +15,8 @@ use std::marker::Model;
 pub struct Pairs {
     offers: Vec<Offers>,
     groups: Groups,
+    /// The processes that have offered something, by wire.
+    users: Lists,
     lost: bool,
 }
 
@@ -20,13 +24,15 @@ impl Model for Pairs {
     ghost use Rattle.std.specs.Prelude.{◌≡◌, false, map};
     ghost use Rattle.pz_match.specs.Table.{Table};
     ghost use Rattle.pz_match.specs.devices.Kept.{kept};
-    ghost use Rattle.pz_match.specs.devices.Tables.{table_of, Stands};
+    ghost use Rattle.pz_match.specs.devices.Tables.{table_of};
+    ghost use Rattle.pz_match.specs.devices.Users.{Whole};
 
     ghost Value = { Table };
 
     ghost view = { λ t. table_of (map kept t.offers.items) t.groups.wires t.lost };
 
-    ghost invariant = { λ t. t.lost ≡ false → Stands t.groups (map kept t.offers.items) };
+    ghost invariant = { λ t. t.lost ≡ false →
+        Whole t.groups t.users (map kept t.offers.items) };
 }
 
 impl Pairs {
@@ -35,7 +41,7 @@ impl Pairs {
     ghost use Rattle.pz_match.specs.Offers.{senders, receivers};
     ghost use Rattle.pz_match.specs.Judging.{Stays, said};
     ghost use Rattle.pz_offer.specs.PlaceOrder.{PlaceBefore};
-    ghost use Rattle.pz_match.specs.Pairs.{ArePairs, taken, ends, first_trouble, touches};
+    ghost use Rattle.pz_match.specs.Pairs.{ArePairs, taken, ends, first_trouble, touches, questions};
     ghost use Rattle.pz_match.specs.Table.{all_senders, all_receivers};
     ghost use Rattle.pz_match.specs.Judging.{MayTake};
 
@@ -50,6 +56,7 @@ impl Pairs {
         Ok(Pairs {
             offers,
             groups: Groups::new(alloc),
+            users: Lists::new(alloc),
             lost: false,
         })
     }
@@ -84,12 +91,16 @@ impl Pairs {
             p.verdict ≡ said (J.verdict judge.old) p.sender p.receiver) self.new.pairs) }
         ensures others { OnOk result (filter (λ p. not (touches process p)) self.new.pairs ≡ filter
             (λ p. not (touches process p)) self.old.pairs) }
+        ensures questions { OnOk result (J.asked judge.new ≡ J.asked judge.old + length
+            (questions process self.new.pairs)) }
         ensures stays { OnOk result (Stays J.takes J.verdict J.lent judge.old judge.new) }
         ensures lent { J.lent judge.new ≡ J.lent judge.old }
         ensures there { OnOk result (self.new.lost ≡ false) }
         ensures lost { OnErr result (self.new.lost ≡ true) }
     {
         self.lost = true;
+        note_sends(&mut self.users, process, sends.as_slice())?;
+        note_receives(&mut self.users, process, receives.as_slice())?;
         replace_in(
             &mut self.offers,
             &mut self.groups,
@@ -119,7 +130,10 @@ impl Pairs {
     {
         match self.groups.wire_of(k) {
             None => Ok(None),
-            Some((wire, rest)) => pair_on(&self.groups, self.offers.as_slice(), wire, rest),
+            Some((wire, rest)) => {
+                let users = self.users.list(wire);
+                pair_on(&self.groups, self.offers.as_slice(), users, wire, rest)
+            }
         }
     }
 
@@ -128,6 +142,6 @@ impl Pairs {
         requires { self.now.lost ≡ false }
         ensures { result ≡ first_trouble self.now.pairs }
     {
-        find_trouble(&self.groups, self.offers.as_slice())
+        find_trouble(&self.groups, self.offers.as_slice(), &self.users)
     }
 }

@@ -5,15 +5,18 @@ ghost use Rattle.pz_match.specs.declared.kept.Sending.{Sending};
 ghost use Rattle.pz_match.specs.declared.kept.Receiving.{Receiving};
 ghost use Rattle.pz_match.specs.Pairs.{ends, first_or, first_trouble, taken};
 ghost use Rattle.pz_match.specs.declared.rows.Row.{Row};
-ghost use Rattle.pz_match.specs.devices.Kept.{kept, rows_at, answers, pairs_of, pairs_on, all_pairs};
+ghost use Rattle.pz_match.specs.devices.Kept.{kept, rows_at, answers, heard, pairs_of, pairs_on, all_pairs};
 ghost use Rattle.pz_match.specs.devices.Holding.{Holds};
-ghost use Rattle.pz_match.specs.devices.Seeking.{wants, sought, number_of, number_on, IsAnswer, IsHit, IsSeat, IsTaker, IsCouple, IsSend, IsSendAt, IsReceive, IsReceiveAt};
+ghost use Rattle.pz_match.specs.devices.Seeking.{wants, sought, number_of, number_on, IsAnswer, IsHit, IsSeat, IsTaker, IsCouple, IsSend, IsSendAt, IsReceive, IsReceiveAt, OnlyAt};
+ghost use Rattle.pz_match.specs.devices.Users.{AreUsers, HaveUsers};
+ghost use Rattle.pz_match_lists.specs.Increasing.{Increasing};
 
 use crate::groups::{Groups, Sort};
 use crate::kept::{Offers, Receiving, Sending};
 use crate::places::{Couple, Hit, Seat, Taker};
 use crate::rows::Row;
 use crate::tallying::{free_in, troubled, yeses};
+use pz_match_lists::Lists;
 use pz_offer::{End, Trouble, Verdict};
 use std::alloc::AllocError;
 
@@ -136,13 +139,27 @@ fn find_in(sort: Sort, send: &Sending, offers: &Offers, number: u64) -> Result<H
     Err(rest)
 }
 
-/// The receive with the pair of this number of a send.
-fn find_taker(sort: Sort, all: &[Offers], send: &Sending, number: u64) -> Option<Taker>
+/// The receive with the pair of this number of a send, among those of these processes.
+fn find_taker(
+    sort: Sort,
+    all: &[Offers],
+    users: &[usize],
+    send: &Sending,
+    number: u64,
+) -> Option<Taker>
+    requires increasing { Increasing users.now }
+    requires only { OnlyAt users.now (map kept all.now) (λ e. length (sought sort
+        (heard send.now e))) }
     ensures { MatchOption result (length (sought sort (pairs_of (map kept all.now) send.now)) ≤
         number) (IsTaker sort (map kept all.now) send.now number) }
 {
     let mut rest = number;
-    for (process, offers) in all.iter().enumerate() {
+    for at in 0..users.len() {
+        let process = users[at];
+        if process >= all.len() {
+            continue;
+        }
+        let offers = &all[process];
         if offers.process == send.sender.end.process {
             continue;
         }
@@ -154,14 +171,18 @@ fn find_taker(sort: Sort, all: &[Offers], send: &Sending, number: u64) -> Option
     None
 }
 
-/// The pair with this number of a send that stands at this place.
+/// The pair with this number of a send that stands at this place, with receives of these processes.
 fn couple(
     sort: Sort,
     all: &[Offers],
+    users: &[usize],
     sender: (usize, usize),
     send: &Sending,
     number: u64,
 ) -> Option<Couple>
+    requires increasing { Increasing users.now }
+    requires only { OnlyAt users.now (map kept all.now) (λ e. length (sought sort
+        (heard send.now e))) }
     ensures { MatchOption result (length (sought sort (pairs_of (map kept all.now) send.now)) ≤
         number) (λ c. (c.sender ≡ sender) × IsTaker sort (map kept all.now) send.now number
         (record {
@@ -169,7 +190,7 @@ fn couple(
           hit = record { place = c.receiver.1; verdict = c.verdict };
         })) }
 {
-    match find_taker(sort, all, send, number) {
+    match find_taker(sort, all, users, send, number) {
         Some(taker) => Some(Couple {
             sender,
             receiver: (taker.process, taker.hit.place),
@@ -179,18 +200,34 @@ fn couple(
     }
 }
 
-/// The pair with this number of those of the sort on a wire.
-fn find_on(sort: Sort, groups: &Groups, all: &[Offers], wire: usize, number: u64) -> Option<Couple>
-    requires { Holds groups.now (map kept all.now) }
+/// The pair with this number of those of the sort on a wire, which these processes use.
+fn find_on(
+    sort: Sort,
+    groups: &Groups,
+    all: &[Offers],
+    users: &[usize],
+    wire: usize,
+    number: u64,
+) -> Option<Couple>
+    requires holds { Holds groups.now (map kept all.now) }
+    requires increasing { Increasing users.now }
+    requires users { AreUsers users.now (map kept all.now) wire }
     ensures { MatchOption result (length (sought sort (pairs_on (map kept all.now) wire)) ≤ number)
         (IsCouple (sought sort (pairs_on (map kept all.now) wire)) (map kept all.now) number) }
 {
     let mut rest = number;
-    for (process, offers) in all.iter().enumerate() {
+    for at in 0..users.len() {
+        let process = users[at];
+        if process >= all.len() {
+            continue;
+        }
+        let offers = &all[process];
         match find_send(sort, groups, offers, wire, rest) {
             Ok(seat) => {
-                let send = &offers.sends[seat.place];
-                return couple(sort, all, (process, seat.place), send, seat.rest);
+                let sends = offers.sends.as_slice();
+                let send = &sends[seat.place];
+                let sender = (process, seat.place);
+                return couple(sort, all, users, sender, send, seat.rest);
             }
             Err(left) => rest = left,
         }
@@ -208,27 +245,30 @@ fn trouble_of(verdict: Verdict) -> Option<Trouble>
     }
 }
 
-/// The first trouble of a condition on a wire, in the order of the pairs.
-fn trouble_on(groups: &Groups, all: &[Offers], wire: usize) -> Option<Trouble>
-    requires { Holds groups.now (map kept all.now) }
+/// The first trouble of a condition on a wire, which these processes use, in the order of the pairs.
+fn trouble_on(groups: &Groups, all: &[Offers], users: &[usize], wire: usize) -> Option<Trouble>
+    requires holds { Holds groups.now (map kept all.now) }
+    requires increasing { Increasing users.now }
+    requires users { AreUsers users.now (map kept all.now) wire }
     ensures { result ≡ first_trouble (pairs_on (map kept all.now) wire) }
 {
-    match find_on(Sort::Troubled, groups, all, wire, 0) {
+    match find_on(Sort::Troubled, groups, all, users, wire, 0) {
         Some(couple) => trouble_of(couple.verdict),
         None => None,
     }
 }
 
 /// The first trouble of a condition, in the order of the pairs. Takes a step where there is none.
-pub(crate) fn find_trouble(groups: &Groups, all: &[Offers]) -> Option<Trouble>
-    requires { Holds groups.now (map kept all.now) }
+pub(crate) fn find_trouble(groups: &Groups, all: &[Offers], users: &Lists) -> Option<Trouble>
+    requires holds { Holds groups.now (map kept all.now) }
+    requires users { HaveUsers users.now (map kept all.now) }
     ensures { result ≡ first_trouble (all_pairs (map kept all.now) groups.now.wires) }
 {
     if groups.troubles() == 0 {
         return None;
     }
     for wire in 0..groups.wires() {
-        match trouble_on(groups, all, wire) {
+        match trouble_on(groups, all, users.list(wire), wire) {
             Some(trouble) => return Some(trouble),
             None => {}
         }
@@ -254,18 +294,21 @@ fn end_of_receive(all: &[Offers], process: usize, place: usize) -> Result<End, A
     all[process].receives[place].receiver.end.copy()
 }
 
-/// The ends of the taken pair with this number on a wire. The only error is want of memory.
+/// The ends of the taken pair with this number on a wire, which these processes use. The only error is want of memory.
 pub(crate) fn pair_on(
     groups: &Groups,
     all: &[Offers],
+    users: &[usize],
     wire: usize,
     number: u64,
 ) -> Result<Option<(End, End)>, AllocError>
-    requires { Holds groups.now (map kept all.now) }
+    requires holds { Holds groups.now (map kept all.now) }
+    requires increasing { Increasing users.now }
+    requires users { AreUsers users.now (map kept all.now) wire }
     ensures { IfOk result (λ pair. pair ≡ slice_get
         (map ends (taken (pairs_on (map kept all.now) wire))) number) }
 {
-    match find_on(Sort::Taken, groups, all, wire, number) {
+    match find_on(Sort::Taken, groups, all, users, wire, number) {
         None => Ok(None),
         Some(couple) => {
             let sender = end_of_send(all, couple.sender.0, couple.sender.1)?;

@@ -1,12 +1,12 @@
 // A process offers something else.
 
-ghost use Rattle.std.specs.Prelude.{◌≡◌, ◌<◌, ◌≤◌, ◌+◌, [], false, length, map, All, IfOk, OnOk};
+ghost use Rattle.std.specs.Prelude.{◌≡◌, ◌<◌, ◌≤◌, ◌+◌, [], false, length, map, sum_by, All, IfOk, OnOk};
 ghost use Rattle.pz_match.specs.Offers.{senders, receivers};
 ghost use Rattle.pz_match.specs.Judging.{MayTake, Stays};
 ghost use Rattle.pz_match.specs.devices.Lists.{upto};
 ghost use Rattle.pz_match.specs.devices.Kept.{kept};
 ghost use Rattle.pz_match.specs.devices.Tallies.{Distinct, Follows, Moves, nothing, part_of, total_of};
-ghost use Rattle.pz_match.specs.devices.Asking.{MayAsk};
+ghost use Rattle.pz_match.specs.devices.Asking.{asked, MayAsk, all_written};
 ghost use Rattle.pz_match.specs.devices.Holding.{Holds};
 ghost use Rattle.pz_match.specs.devices.Updating.{Replaced, NoneAsks, senders_of, receivers_of, silent, renewed_in};
 
@@ -77,12 +77,16 @@ fn renew_if<J: Judge>(
         receives.now) e.sends) (map kept all.old) }
     requires same { needed ≡ false → map (renewed_in (J.verdict judge.old) process receives.now)
         (map kept all.old) ≡ map kept all.old }
+    requires quiet { needed ≡ false → NoneAsks receives.now }
     ensures all { OnOk result (map kept all.new ≡ map
         (renewed_in (J.verdict judge.old) process receives.now) (map kept all.old)) }
     ensures follows { OnOk result (Follows groups.old groups.new) }
     ensures moves { OnOk result (Moves groups.old groups.new (total_of (map kept all.old))
         (total_of (map kept all.new))) }
     ensures stays { OnOk result (Stays J.takes J.verdict J.lent judge.old judge.new) }
+    ensures asked { OnOk result (J.asked judge.new ≡ J.asked judge.old + sum_by
+        (λ e. sum_by (λ s. length (asked (J.verdict judge.old) s.sender s.group process
+        receives.now)) e.sends) (map kept all.old)) }
     ensures lent { J.lent judge.new ≡ J.lent judge.old }
 {
     if !needed {
@@ -111,6 +115,8 @@ pub(crate) fn replace<J: Judge>(
     ensures replaced { OnOk result (Replaced (J.verdict judge.old) process sends.items
         receives.items groups.old (map kept all.old) groups.new (map kept all.new)) }
     ensures stays { OnOk result (Stays J.takes J.verdict J.lent judge.old judge.new) }
+    ensures asked { OnOk result (J.asked judge.new ≡ J.asked judge.old + all_written process
+        (map kept all.new)) }
     ensures lent { J.lent judge.new ≡ J.lent judge.old }
 {
     let place = process as usize;
@@ -172,6 +178,8 @@ pub(crate) fn replace_in<J: Judge>(
     ensures replaced { OnOk result (Replaced (J.verdict judge.old) process sends.items
         receives.items groups.old (map kept all.old.items) groups.new (map kept all.new.items)) }
     ensures stays { OnOk result (Stays J.takes J.verdict J.lent judge.old judge.new) }
+    ensures asked { OnOk result (J.asked judge.new ≡ J.asked judge.old + all_written process
+        (map kept all.new.items)) }
     ensures lent { J.lent judge.new ≡ J.lent judge.old }
     ensures within_old { All (λ x. x.wire < groups.old.wires) groups.old.groups }
     ensures within { OnOk result (All (λ x. x.wire < groups.new.wires) groups.new.groups) }

@@ -7,5 +7,11 @@ pub mod Budgets
 pub mod Erasing
 pub mod Parses
 mod StoppingModels
+mod Cutting
+mod WithoutSkip
+mod CuttingExpressions
+mod CuttingStatements
+mod CuttingModels
+mod CutTexts
 mod Refusing
 mod Rows

@@ -16,14 +16,16 @@ use Rattle.pz_parser_cursor.proofs.Reading.{marks_located}
 use Rattle.pz_parser.specs.devices.Models as spec
 use Rattle.pz_parser.specs.ModelPlaces.{place_model}
 use Rattle.pz_parser.specs.devices.Refused.{first_or, place_left, error_of}
-use Rattle.pz_parser.specs.Cuts.{Begins, IsCut, Passes, first_place, Refuses}
+use Rattle.pz_parser.specs.Cuts.{IsCut, Passes, first_place, Refuses}
+use Rattle.pz_parser.specs.devices.Beginnings.{Begins, IsBegun}
+use Rattle.pz_parser.proofs.CutTexts.{cut_from, begun_from}
 use Rattle.pz_parser.proofs.ModelRules.{model_complete}
 use Rattle.pz_parser.proofs.StoppingModels.{model_form, model_exact}
 use Rattle.pz_parser_cursor.proofs.Stopping.{Form, Front, begun, named, left, IsNested, Refused, Pass, stopped, low_err, Kept, beyond, wider, marks_length, passed_length}
 
 -- ---- cut texts
 
-cut_of : (limit : ℕ) (p : List Mark) → Front model_form (suc limit) p → IsCut limit p
+cut_of : (limit : ℕ) (p : List Mark) → Front model_form (suc limit) p → IsBegun limit p
 cut_of limit _ (begun p f) = inl (f.whole, f.rest, f.meets.0, omega (arith, f.meets.1), f.parts)
 cut_of limit _ (named p x f g) = let h = g (suc (suc limit)) (omega arith) in inr (p, x, refl, (suc limit, (h.whole, h.rest, h.meets.0, omega (arith, h.meets.1), h.parts)), (f.whole, f.rest, f.meets.0, omega (arith, f.meets.1), f.parts))
 
@@ -52,7 +54,7 @@ append_none [] = refl
 append_none (x ∷ p) = ap (λ l. x ∷ l) (append_none p)
 
 -- what is cut may be cut before
-cut_less : (limit : ℕ) (p q : List Mark) → IsCut limit (p ++ q) → IsCut limit p
+cut_less : (limit : ℕ) (p q : List Mark) → IsBegun limit (p ++ q) → IsBegun limit p
 cut_less limit p q (inl b) = inl (begins_less limit p q b)
 cut_less limit p q (inr c) = elim (one_more c.0 p q (head c.1) (sym c.2)) [
   | inl h ↦ let e : p ++ q ≡ p = ap (λ z. p ++ z) h ∙ append_none p in inr (c.0, c.1, sym e ∙ c.2, (c.3.0, begins_as c.3.0 (p ++ q) p e c.3.1), c.4)
@@ -135,12 +137,12 @@ module _ (limit : ℕ) (i : Tokens) (r : Refusal) (e : spec.model limit i ≡ Er
       ]
 
   -- whatever the depth, only a refusal of depth
-  nested_at : (depth : ℕ) → IsCut depth (p ++ m ∷ []) → IsNested r
+  nested_at : (depth : ℕ) → IsBegun depth (p ++ m ∷ []) → IsNested r
   nested_at depth (inl f) = (begins_at depth f).0
   nested_at depth (inr f) = (begins_at f.3.0 f.3.1).0
 
   -- the token of a refusal of depth is no name
-  not_cut : (IsNested r → m.head ≡ false) → IsCut limit (p ++ m ∷ []) → ⊥
+  not_cut : (IsNested r → m.head ≡ false) → IsBegun limit (p ++ m ∷ []) → ⊥
   not_cut plain (inl f) = let h = (begins_at limit f).1 in absurd (omega (arith, h))
   not_cut plain (inr f) =
       let a = plain (begins_at f.3.0 f.3.1).0 in
@@ -154,23 +156,23 @@ module _ (limit : ℕ) (i : Tokens) (r : Refusal) (e : spec.model limit i ≡ Er
   stop : Refused (suc limit) model_form i r
   stop = refused_of (suc limit) model_form i r (spec.model limit i) (model_exact ⊥ limit limit (omega arith) (λ lt. absurd (omega (arith, lt))) i).pass e
 
-  fewer_cut : (a b : List Mark) → marks i ≡ a ++ b → IsCut limit a → (n : ℕ) → n ≤ length a → IsCut limit (take n (marks i))
+  fewer_cut : (a b : List Mark) → marks i ≡ a ++ b → IsBegun limit a → (n : ℕ) → n ≤ length a → IsCut limit (take n (marks i))
   fewer_cut a b parts cut n le =
       let t = take_front a b n le in
-      subst (λ z. IsCut limit (take n z)) (sym parts) (cut_less limit (take n (a ++ b)) t.0 (subst (IsCut limit) t.1 cut))
+      subst (λ z. IsCut limit (take n z)) (sym parts) (cut_from limit (take n (a ++ b)) (cut_less limit (take n (a ++ b)) t.0 (subst (IsBegun limit) t.1 cut)))
 
   within : (a b : List Mark) → marks i ≡ a ++ b → length a ≤ length (marks i)
   within a b parts = let l = ap length parts in omega (arith, l, length-append a b)
 
-  passes_by : (a b : List Mark) → marks i ≡ a ++ b → length b ≡ left r → IsCut limit a → (IsNested r → (m : Mark) (q : List Mark) → b ≡ m ∷ q → m.head ≡ false) → Passes limit (marks i) (length a)
+  passes_by : (a b : List Mark) → marks i ≡ a ++ b → length b ≡ left r → IsBegun limit a → (IsNested r → (m : Mark) (q : List Mark) → b ≡ m ∷ q → m.head ≡ false) → Passes limit (marks i) (length a)
   passes_by a [] parts place cut plain = (within a [] parts, fewer_cut a [] parts cut, λ lt c. absurd (let l = ap length parts in omega (arith, lt, l, length-append a [])))
-  passes_by a (m ∷ q) parts place cut plain = (within a (m ∷ q) parts, fewer_cut a (m ∷ q) parts cut, λ lt c. not_cut limit i r e a m q parts place (λ h. plain h m q refl) (subst (IsCut limit) (ap (take (suc (length a))) parts ∙ take_one a q m) c))
+  passes_by a (m ∷ q) parts place cut plain = (within a (m ∷ q) parts, fewer_cut a (m ∷ q) parts cut, λ lt c. not_cut limit i r e a m q parts place (λ h. plain h m q refl) (begun_from limit (a ++ m ∷ []) (subst (IsCut limit) (ap (take (suc (length a))) parts ∙ take_one a q m) c)))
 
   nested_by : (a b : List Mark) → marks i ≡ a ++ b → length b ≡ left r → (depth : ℕ) → length a < length i → IsCut depth (take (suc (length a)) (marks i)) → IsNested r
   nested_by a [] parts place depth lt c = absurd (let l = ap length parts in omega (arith, lt, l, length-append a [], marks_length i))
-  nested_by a (m ∷ q) parts place depth lt c = nested_at limit i r e a m q parts place depth (subst (IsCut depth) (ap (take (suc (length a))) parts ∙ take_one a q m) c)
+  nested_by a (m ∷ q) parts place depth lt c = nested_at limit i r e a m q parts place depth (begun_from depth (a ++ m ∷ []) (subst (IsCut depth) (ap (take (suc (length a))) parts ∙ take_one a q m) c))
 
-  stop_cut : IsCut limit stop.passed
+  stop_cut : IsBegun limit stop.passed
   unfolding stop
   stop_cut = cut_of limit stop.passed (stop.begins (suc limit) (omega arith) (omega arith))
 
@@ -200,7 +202,7 @@ refuses limit i end (refusal.TooNested n) f =
       passes_by limit i r e s.passed s.ahead s.parts s.place (stop_cut limit i r e) (λ h m q g. let same : m ≡ d.first = first_same (sym g ∙ d.parts) in ap (λ (z : Mark). z.head) same ∙ d.plain),
       place_is limit i r e end,
       omega (arith, passed_length i s.passed s.ahead s.parts, l),
-      (suc limit, subst (IsCut (suc limit)) (sym (ap (take (suc (length s.passed))) parts ∙ take_one s.passed d.others d.first)) (cut_of (suc limit) (s.passed ++ d.first ∷ []) (d.begins (suc (suc limit)) (omega arith)))),
+      (suc limit, subst (IsCut (suc limit)) (sym (ap (take (suc (length s.passed))) parts ∙ take_one s.passed d.others d.first)) (cut_from (suc limit) (s.passed ++ d.first ∷ []) (cut_of (suc limit) (s.passed ++ d.first ∷ []) (d.begins (suc (suc limit)) (omega arith))))),
     )
   where
     first_same : {m k : Mark} {q p : List Mark} → m ∷ q ≡ k ∷ p → m ≡ k

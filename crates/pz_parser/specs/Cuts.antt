@@ -1,33 +1,19 @@
--- What may stand of a model's text before some place in it, and where tokens that are no text of a
--- model are refused.
-use Rattle.std.specs.Prelude.{◌≡◌, ◌<◌, ◌≤◌, ◌⊎◌, ℕ, suc, List, [], ◌∷◌, ◌++◌, length, take, drop, ⊤}
+-- Where tokens that are no text of a model are refused, and as what.
+use Rattle.std.specs.Prelude.{◌≡◌, ◌<◌, ◌≤◌, ℕ, suc, List, [], ◌∷◌, length, take, drop, ⊤}
 use Rattle.pz_syntax.specs.declared.tokens.Pos.{Pos}
-use Rattle.pz_syntax.specs.declared.tokens.Keyword.TheVariants as k
 use Rattle.pz_syntax.specs.declared.tokens.Mark.{Mark}
 use Rattle.pz_syntax.specs.declared.tokens.Token.{Token}
-use Rattle.pz_syntax.specs.declared.names.Id.{Id}
-use Rattle.pz_syntax.specs.Marks.{keyword, head}
 use Rattle.pz_syntax.specs.Classes.{ModelTree}
-use Rattle.pz_syntax.specs.ModelText.{text}
 use Rattle.pz_syntax.specs.ModelForm.{IsModel}
-use Rattle.pz_syntax.specs.ModelNesting.{nesting}
+use Rattle.pz_parser.specs.CutModels.{cut}
 use Rattle.pz_parser.specs.Parsing.{marks}
 use Rattle.pz_parser.specs.declared.error.ParseError.{ParseError}
 use Rattle.pz_parser.specs.declared.error.ParseError.TheVariants.{NoMemory, Syntax, TooNested}
 
--- they begin the text of a model of the grammar that nests no deeper
-abbrev pub Begins : ℕ → List Mark → Type 0
-Begins limit ms = (m : ModelTree) × (rest : List Mark) × IsModel m × (nesting m ≤ limit) × (text m ≡ ms ++ rest)
-
--- They end with the name of a call, and a statement without constructs, as `skip`, may stand in its
--- place. A call's brackets nest, and have to follow; as long as none of them stands, none counts.
-abbrev pub EndsInName : ℕ → List Mark → Type 0
-EndsInName limit ms = (front : List Mark) × (x : Id) × (ms ≡ front ++ head x ∷ []) × ((depth : ℕ) × Begins depth ms) × Begins limit (front ++ keyword k.Skip ∷ [])
-
--- What stands of a model before some place in it, where each construct counts from its first token
--- on: whatever is missing can be put there without a construct more, but for the brackets of a call.
+-- the marks are what stands of a model of the grammar before some place in it, and no construct of
+-- what stands is deeper
 abbrev pub IsCut : ℕ → List Mark → Type 0
-IsCut limit ms = Begins limit ms ⊎ EndsInName limit ms
+IsCut limit ms = (m : ModelTree) × IsModel m × cut m limit ms
 
 -- So many of the marks, and fewer, are the text of a cut model within the limit; one more are not.
 abbrev pub Passes : ℕ → List Mark → ℕ → Type 0

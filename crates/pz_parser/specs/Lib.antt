@@ -3,4 +3,8 @@ pub mod ModelPlaces
 pub mod Parsing
 pub mod OneTree
 pub mod devices
+pub mod CutParts
+pub mod CutExpressions
+pub mod CutStatements
+pub mod CutModels
 pub mod Cuts

@@ -1,3 +1,4 @@
 pub mod Processes
 pub mod Models
 pub mod Refused
+pub mod Beginnings

@@ -2,5 +2,4 @@ mod Forms
 mod Performed
 mod Methods
 mod Calls
-mod Frames
 mod Messages

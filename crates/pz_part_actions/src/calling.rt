@@ -8,10 +8,10 @@ ghost use Rattle.pz_classes_code.specs.StepView.{sequence_view};
 ghost use Rattle.pz_state.specs.References.{RefersWithin};
 ghost use Rattle.pz_classes.specs.devices.Rows.{AreClasses};
 ghost use Rattle.pz_rules.specs.Terms as terms;
-ghost use Rattle.pz_rules.specs.Opening.{opened_all};
 ghost use Rattle.pz_rules.specs.Methods.{IsMethod};
 ghost use Rattle.pz_rules.specs.InternalActions.{Performs};
 ghost use Rattle.pz_rules.specs.View.{term_view};
+ghost use Rattle.pz_rules.specs.devices.Plainly.{plainly_all};
 ghost use Rattle.pz_eval.specs.Known.{AreKnown};
 ghost use Rattle.pz_part_queries.specs.Standpoints.{Knows, seen_from};
 ghost use Rattle.pz_part_actions.specs.Becoming.{process_left};
@@ -23,8 +23,9 @@ use pz_classes::{Body, Classes};
 use pz_classes_code::{Code, Slot, Step};
 use pz_items::{Boxed, Items, Shared};
 use pz_offer::Trouble;
+use pz_part_opening::open_all;
 use pz_part_queries::Standpoint;
-use pz_rules::{Term, open_all};
+use pz_rules::Term;
 use pz_state::{FrameId, State};
 use pz_syntax::{Id, Pos};
 use pz_term_around::set_inputs;
@@ -72,7 +73,7 @@ fn framed(
     steps: &Shared<Items<Step>>,
 ) -> Result<Term, AllocError>
     ensures { IfOk result (λ term. term_view term ≡ terms.frame frame.0 inputs results.now
-        (opened_all (sequence_view steps.now))) }
+        (plainly_all (sequence_view steps.now))) }
 {
     let results = results.copy()?;
     let body = Boxed::new(alloc, open_all(alloc, steps)?)?;

@@ -7,10 +7,10 @@ ghost use Rattle.pz_classes_code.specs.CodeView as code;
 ghost use Rattle.pz_classes_code.specs.StepView.{view, sequence_view};
 ghost use Rattle.pz_state.specs.States.{StateView};
 ghost use Rattle.pz_rules.specs.Terms as terms;
-ghost use Rattle.pz_rules.specs.InternalActions as actions;
 ghost use Rattle.pz_rules.specs.InternalActions.{Performs};
-ghost use Rattle.pz_rules.specs.Leaving.{left_by};
+ghost use Rattle.pz_rules.specs.Settings.{left_by};
 ghost use Rattle.pz_rules.specs.View.{term_view};
+ghost use Rattle.pz_rules.specs.devices.Plainly.{plainly_chosen, plainly_turned};
 ghost use Rattle.pz_eval.specs.Known.{AreKnown};
 ghost use Rattle.pz_part_queries.specs.Standpoints.{Knows, seen_from};
 ghost use Rattle.pz_part_actions.specs.Becoming.{process_left};
@@ -21,8 +21,9 @@ use crate::opening::open_part;
 use pz_classes_code::{Code, Step};
 use pz_items::{Boxed, Items, Shared};
 use pz_offer::Trouble;
+use pz_part_opening::open_all;
 use pz_part_queries::Standpoint;
-use pz_rules::{Rest, Term, open_all};
+use pz_rules::{Rest, Term};
 use pz_state::{FrameId, State};
 use pz_syntax::Pos;
 use std::alloc::{AllocError, Global};
@@ -35,7 +36,7 @@ fn chosen(
     other: &Option<Shared<Items<Step>>>,
 ) -> Result<Term, AllocError>
     ensures { IfOk result (λ term. (s : StateView) →
-        actions.chosen s (sequence_view steps.now) (otherwise_view other.now) truth ≡ left_by s
+        plainly_chosen s (sequence_view steps.now) (otherwise_view other.now) truth ≡ left_by s
         (term_view term)) }
 {
     if truth {
@@ -77,7 +78,7 @@ fn turned(
     body: &Shared<Items<Step>>,
 ) -> Result<Term, AllocError>
     ensures { IfOk result (λ term. (s : StateView) →
-        actions.turned s (view again.now) (sequence_view body.now) truth ≡ left_by s
+        plainly_turned s (view again.now) (sequence_view body.now) truth ≡ left_by s
         (term_view term)) }
 {
     if !truth {

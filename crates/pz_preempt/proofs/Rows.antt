@@ -8,7 +8,8 @@ use Rattle.pz_offer.specs.declared.summary.Summary.{Summary}
 use Rattle.pz_offer.specs.Summaries.{nothing}
 use Rattle.pz_clock.specs.Shifts.{ShiftView, new_shift, frozen, thawed}
 use Rattle.pz_rules.specs.Terms.{Step, Term, done, leaf, wait, abort, idle, handling}
-use Rattle.pz_rules.specs.Leaving.{left_by, around}
+use Rattle.pz_rules.specs.Settings.{left_by, Home}
+use Rattle.pz_rules.specs.Leaving.{around}
 use Rattle.pz_preempt.specs.declared.summaries.Gate.TheVariants.{Open, Shut}
 use Rattle.pz_preempt.specs.declared.summaries.Mode.TheVariants.{Idle, Handling}
 use Rattle.pz_preempt.specs.Tables.{gate_of, guarded_summary, interrupted_summary, abort_change, interrupt_change}
@@ -57,27 +58,27 @@ abbrev u : Term
 u = leaf again
 
 -- the first part of an abort goes on, or ends it, and the second takes its place
-first_goes_on : (s : StateView) → around 0 s (abort t u) 0 u ≡ left_by s (changed (abort_change 0 false) (abort t u) u)
-first_goes_on s = refl
+first_goes_on : (h : Home) (s : StateView) → around h 0 s (abort t u) 0 u ≡ changed h s (abort_change 0 false) (abort t u) u
+first_goes_on h s = refl
 
-first_ends : (s : StateView) → around 0 s (abort t u) 0 done ≡ left_by s done
-first_ends s = refl
+first_ends : (h : Home) (s : StateView) → around h 0 s (abort t u) 0 done ≡ left_by s done
+first_ends h s = refl
 
-second_stays : changed (abort_change 1 false) (abort t u) t ≡ t
-second_stays = refl
+second_stays : (h : Home) (s : StateView) → changed h s (abort_change 1 false) (abort t u) t ≡ left_by s t
+second_stays h s = refl
 
 -- a handler that is done by its first action has the first part go on, and stands open afresh
-at_once : changed (interrupt_change Idle 1 true) (idle t u again) done ≡ idle t (leaf again) again
-at_once = refl
+at_once : (h : Home) (s : StateView) → changed h s (interrupt_change Idle 1 true) (idle t u again) done ≡ left_by s (idle t (leaf again) again)
+at_once h s = refl
 
-suspends : changed (interrupt_change Idle 1 false) (idle t u again) t ≡ handling t t again
-suspends = refl
+suspends : (h : Home) (s : StateView) → changed h s (interrupt_change Idle 1 false) (idle t u again) t ≡ left_by s (handling t t again)
+suspends h s = refl
 
-goes_on : changed (interrupt_change Handling 1 false) (handling t u again) t ≡ handling t t again
-goes_on = refl
+goes_on : (h : Home) (s : StateView) → changed h s (interrupt_change Handling 1 false) (handling t u again) t ≡ left_by s (handling t t again)
+goes_on h s = refl
 
-resumes : changed (interrupt_change Handling 1 true) (handling t u again) done ≡ idle t (leaf again) again
-resumes = refl
+resumes : (h : Home) (s : StateView) → changed h s (interrupt_change Handling 1 true) (handling t u again) done ≡ left_by s (idle t (leaf again) again)
+resumes h s = refl
 
-ends : changed (interrupt_change Idle 0 true) (idle t u again) done ≡ done
-ends = refl
+ends : (h : Home) (s : StateView) → changed h s (interrupt_change Idle 0 true) (idle t u again) done ≡ left_by s done
+ends h s = refl

@@ -6,9 +6,9 @@ use Rattle.pz_offer.specs.declared.trouble.Trouble.{Trouble}
 use Rattle.pz_offer.specs.declared.summary.Summary.{Summary}
 use Rattle.pz_clock.specs.Shifts.{ShiftView, local, ShiftFits}
 use Rattle.pz_rules.specs.Terms.{Code, Step, Term, done, guarded, abort, idle, handling}
-use Rattle.pz_rules.specs.Settings.{Context}
+use Rattle.pz_rules.specs.Settings.{Context, Process, left_by, Home}
 use Rattle.pz_rules.specs.Opening.{opened}
-use Rattle.pz_rules.specs.Leaving.{is_done, left_by, around}
+use Rattle.pz_rules.specs.Leaving.{is_done, around}
 use Rattle.pz_rules.specs.devices.Found.{tested}
 use Rattle.pz_tree_summary.specs.Summaries.{summary_of}
 use Rattle.pz_preempt.specs.declared.summaries.Gate.{Gate}
@@ -56,27 +56,27 @@ IsOfInterrupt mode shift first second s =
 
 -- ------------------------------------------------------------ changes
 
--- what a change makes of a term of which the part that acted has become x
-abbrev pub changed : Change → Term → Term → Term
-changed Same (abort t u) x = abort x u
-changed Same (idle t u again) x = idle x u again
-changed Same (handling t u again) x = handling t x again
-changed KeepSecond whole x = x
-changed Suspend (idle t u again) x = handling t x again
-changed Resume (idle t u again) x = idle t (opened again) again
-changed Resume (handling t u again) x = idle t (opened again) again
-changed End whole x = done
-changed _ whole x = whole
+-- what a change makes, in this state, of a term of which the part that acted has become x
+abbrev pub changed : Home → StateView → Change → Term → Term → Process
+changed h s Same (abort t u) x = left_by s (abort x u)
+changed h s Same (idle t u again) x = left_by s (idle x u again)
+changed h s Same (handling t u again) x = left_by s (handling t x again)
+changed h s KeepSecond whole x = left_by s x
+changed h s Suspend (idle t u again) x = left_by s (handling t x again)
+changed h s Resume (idle t u again) x = let y = opened h again s in left_by y.state (idle t y.term again)
+changed h s Resume (handling t u again) x = let y = opened h again s in left_by y.state (idle t y.term again)
+changed h s End whole x = left_by s done
+changed h s _ whole x = left_by s whole
 
 -- what an action of the part of this number leaves of an abort, in any frame and state
 abbrev pub IsLeftOfAbort : ℕ → Bool → Change → Type 0
 IsLeftOfAbort i finished change =
-    (f : ℕ) (s : StateView) (t u x : Term)
+    (h : Home) (f : ℕ) (s : StateView) (t u x : Term)
     → is_done x ≡ finished
-    → around f s (abort t u) i x ≡ left_by s (changed change (abort t u) x)
+    → around h f s (abort t u) i x ≡ changed h s change (abort t u) x
 
 abbrev pub IsLeftOfInterrupt : Mode → ℕ → Bool → Change → Type 0
 IsLeftOfInterrupt mode i finished change =
-    (f : ℕ) (s : StateView) (t u x : Term) (again : Step)
+    (h : Home) (f : ℕ) (s : StateView) (t u x : Term) (again : Step)
     → is_done x ≡ finished
-    → around f s (interrupt mode t u again) i x ≡ left_by s (changed change (interrupt mode t u again) x)
+    → around h f s (interrupt mode t u again) i x ≡ changed h s change (interrupt mode t u again) x

@@ -2,6 +2,7 @@
 use Rattle.std.proofs.Common.{ℕ, zero, suc, Bool, true, false, List, [], ◌∷◌}
 use Rattle.std.specs.Prelude.{if◌then◌else◌}
 use Rattle.std.specs.List.{All}
+use Rattle.pz_syntax.specs.Expressions.{none, more}
 use Rattle.pz_syntax.specs.Statements.{skip, delay, bracketed, block, guarded as guarded_step, parallel as parallel_step, select as select_step, conditional, repeated, abort as abort_step, interrupt, send, receive, call, assignment, value, no_statements, then, StatementPart, not_written, otherwise, Branches, no_branches, branch}
 use Rattle.pz_syntax.specs.Classes.{ModelTree}
 use Rattle.pz_value.specs.declared.value.ClassId.{ClassId}
@@ -10,50 +11,62 @@ use Rattle.pz_state.specs.States.{StateView}
 use Rattle.pz_classes.specs.FitBodies.{process_code, SlotFits, StatementFits, StatementsFit, OtherwiseFits, BranchesFit}
 use Rattle.pz_offer.specs.PlaceOrder.{Place}
 use Rattle.pz_rules.specs.Terms.{Step, Steps, Term, done, leaf, wait, sequence, parallel, select, guarded, frame, abort, idle, handling, Terms, no_terms, and, term_at, child, frame_in}
-use Rattle.pz_rules.specs.Opening.{opened, opened_all, opened_branches, opened_part}
-use Rattle.pz_rules.specs.Settings.{Process, Context}
+use Rattle.pz_rules.specs.Settings.{Process, Context, Home}
+use Rattle.pz_rules.specs.Opening.{step_opened, steps_opened, branches_opened, enter, opened, opened_all, opened_part}
 use Rattle.pz_rules.specs.Leaving.{replaced, joined, all_done, handled, aborted, interrupted, framed, around, residual}
 use Rattle.pz_rules.specs.Active as active
 use Rattle.pz_rules.specs.Active.{Active}
 use Rattle.pz_rules.specs.Fitting.{TermFits, TermsFit}
 
-module _ (m : ModelTree) (c : ℕ) where
+-- Opening, where what `enter` leaves of a call fits
+
+module _ (m : ModelTree) (c : ℕ) (enter : Step → StateView → Process) (enters : (l : ℕ) (t : Step) (s : StateView) → StatementFits m c l t → TermFits m c l (enter t s).term) where
+  mutual
+    step_opened_fits : (l : ℕ) (t : Step) (s : StateView) → StatementFits m c l t → TermFits m c l (step_opened enter t s).term
+    step_opened_fits l (bracketed at ts) s h = steps_opened_fit l ts s h
+    step_opened_fits l (guarded_step at e t) s h = (h.0, step_opened_fits l t s h.1)
+    step_opened_fits l (parallel_step at bs) s h = branches_opened_fit l bs s h
+    step_opened_fits l (select_step at bs) s h = branches_opened_fit l bs s h
+    step_opened_fits l (abort_step at ts t) s h = (steps_opened_fit l ts s h.0, step_opened_fits l t (steps_opened enter ts s).state h.1)
+    step_opened_fits l (interrupt at ts t) s h = (steps_opened_fit l ts s h.0, step_opened_fits l t (steps_opened enter ts s).state h.1, h.1)
+    step_opened_fits l (call at method none []) s h = enters l (call at method none []) s h
+    step_opened_fits l (call at method none (x ∷ xs)) s h = h
+    step_opened_fits l (call at method (more e es) results) s h = h
+    step_opened_fits l (skip at) s h = h
+    step_opened_fits l (delay at e) s h = h
+    step_opened_fits l (block at es) s h = h
+    step_opened_fits l (conditional at e ts other) s h = h
+    step_opened_fits l (repeated at e ts) s h = h
+    step_opened_fits l (send at port name args after) s h = h
+    step_opened_fits l (receive at port name into condition after) s h = h
+    step_opened_fits l (assignment at x e) s h = h
+    step_opened_fits l (value at e) s h = h
+
+    steps_opened_fit : (l : ℕ) (ts : Steps) (s : StateView) → StatementsFit m c l ts → TermFits m c l (steps_opened enter ts s).term
+    steps_opened_fit l no_statements s h = tt
+    steps_opened_fit l ((then) t no_statements) s h = step_opened_fits l t s h.0
+    steps_opened_fit l ((then) t ((then) r rest)) s h = (step_opened_fits l t s h.0, h.1)
+
+    branches_opened_fit : (l : ℕ) (bs : Branches Slot ClassId ℕ) (s : StateView) → BranchesFit m c l bs → TermsFit m c l (branches_opened enter bs s).terms
+    branches_opened_fit l no_branches s h = tt
+    branches_opened_fit l (branch ts bs) s h = (steps_opened_fit l ts s h.0, branches_opened_fit l bs (steps_opened enter ts s).state h.1)
+
+module _ (m : ModelTree) (c : ℕ) (home : Home) where
   abbrev Fits : ℕ → Term → Type 0
   Fits l t = TermFits m c l t
 
-  -- Opening
+  enters_fit : (l : ℕ) (t : Step) (s : StateView) → StatementFits m c l t → Fits l (enter home t s).term
+  enters_fit l t s h = h
 
-  mutual
-    pub opened_fits : (l : ℕ) (s : Step) → StatementFits m c l s → Fits l (opened s)
-    opened_fits l (bracketed at ts) h = opened_all_fits l ts h
-    opened_fits l (guarded_step at e t) h = (h.0, opened_fits l t h.1)
-    opened_fits l (parallel_step at bs) h = opened_branches_fit l bs h
-    opened_fits l (select_step at bs) h = opened_branches_fit l bs h
-    opened_fits l (abort_step at ts t) h = (opened_all_fits l ts h.0, opened_fits l t h.1)
-    opened_fits l (interrupt at ts t) h = (opened_all_fits l ts h.0, opened_fits l t h.1, h.1)
-    opened_fits l (skip at) h = h
-    opened_fits l (delay at e) h = h
-    opened_fits l (block at es) h = h
-    opened_fits l (conditional at e ts other) h = h
-    opened_fits l (repeated at e ts) h = h
-    opened_fits l (send at port name args after) h = h
-    opened_fits l (receive at port name into condition after) h = h
-    opened_fits l (call at method args results) h = h
-    opened_fits l (assignment at x e) h = h
-    opened_fits l (value at e) h = h
+  pub opened_fits : (l : ℕ) (t : Step) (s : StateView) → StatementFits m c l t → Fits l (opened home t s).term
+  opened_fits l t s h = step_opened_fits m c (enter home) enters_fit l t s h
 
-    pub opened_all_fits : (l : ℕ) (ts : Steps) → StatementsFit m c l ts → Fits l (opened_all ts)
-    opened_all_fits l no_statements h = tt
-    opened_all_fits l ((then) s no_statements) h = opened_fits l s h.0
-    opened_all_fits l ((then) s ((then) r rest)) h = (opened_fits l s h.0, h.1)
+  pub opened_all_fits : (l : ℕ) (ts : Steps) (s : StateView) → StatementsFit m c l ts → Fits l (opened_all home ts s).term
+  opened_all_fits l ts s h = steps_opened_fit m c (enter home) enters_fit l ts s h
 
-    opened_branches_fit : (l : ℕ) (bs : Branches Slot ClassId ℕ) → BranchesFit m c l bs → TermsFit m c l (opened_branches bs)
-    opened_branches_fit l no_branches h = tt
-    opened_branches_fit l (branch ts bs) h = (opened_all_fits l ts h.0, opened_branches_fit l bs h.1)
-
-  pub opened_part_fits : (l : ℕ) (other : StatementPart Slot ClassId ℕ) → OtherwiseFits m c l other → Fits l (opened_part other)
-  opened_part_fits l not_written h = tt
-  opened_part_fits l (otherwise ts) h = opened_all_fits l ts h
+  pub opened_part_fits : (l : ℕ) (other : StatementPart Slot ClassId ℕ) (s : StateView) → OtherwiseFits m c l other → Fits l (opened_part home other s).term
+  opened_part_fits l not_written s h = tt
+  opened_part_fits l (otherwise ts) s h = opened_all_fits l ts s h
 
   -- What is around an action
 
@@ -70,13 +83,13 @@ module _ (m : ModelTree) (c : ℕ) where
       by false = h
 
   -- each rule for a term that is done, and for another
-  sequence_fits : (l : ℕ) (s : StateView) (f : ℕ) (t : Term) (rest : Steps) (i : ℕ) (x : Term) → StatementsFit m c l rest → Fits l x → Fits l (around f s (sequence t rest) i x).term
-  sequence_fits l s f t rest i done h k = opened_all_fits l rest h
+  sequence_fits : (l : ℕ) (s : StateView) (f : ℕ) (t : Term) (rest : Steps) (i : ℕ) (x : Term) → StatementsFit m c l rest → Fits l x → Fits l (around home f s (sequence t rest) i x).term
+  sequence_fits l s f t rest i done h k = opened_all_fits l rest s h
   sequence_fits l s f t rest i x h k = (k, h)
 
-  handled_fits : (l : ℕ) (t : Term) (again : Step) (x : Term) → Fits l t → StatementFits m c l again → Fits l x → Fits l (handled t again x)
-  handled_fits l t again done h g k = (h, opened_fits l again g, g)
-  handled_fits l t again x h g k = (h, k, g)
+  handled_fits : (l : ℕ) (s : StateView) (t : Term) (again : Step) (x : Term) → Fits l t → StatementFits m c l again → Fits l x → Fits l (handled home s t again x).term
+  handled_fits l s t again done h g k = (h, opened_fits l again s g, g)
+  handled_fits l s t again x h g k = (h, k, g)
 
   aborted_fits : (l : ℕ) (u x : Term) → Fits l u → Fits l x → Fits l (aborted u x)
   aborted_fits l u done h k = tt
@@ -100,12 +113,12 @@ module _ (m : ModelTree) (c : ℕ) where
   framed_fits l number inputs [] x n h k = (h, (n, k))
   framed_fits l number inputs (y ∷ ys) x n h k = (h, (n, k))
 
-  frame_fits : (l : ℕ) (s : StateView) (f number inputs : ℕ) (results : List Slot) (t : Term) (i : ℕ) (x : Term) (n : ℕ) → Outputs l results → Fits n x → Fits l (around f s (frame number inputs results t) i x).term
+  frame_fits : (l : ℕ) (s : StateView) (f number inputs : ℕ) (results : List Slot) (t : Term) (i : ℕ) (x : Term) (n : ℕ) → Outputs l results → Fits n x → Fits l (around home f s (frame number inputs results t) i x).term
   frame_fits l s f number inputs results t i done n h k = tt
   frame_fits l s f number inputs results t i x n h k = framed_fits l number inputs results x n h k
 
   abbrev Grown : ℕ → ℕ → Term → ℕ → Type 0
-  Grown l n t i = (f : ℕ) (s : StateView) (x : Term) → Fits n x → Fits l (around f s t i x).term
+  Grown l n t i = (f : ℕ) (s : StateView) (x : Term) → Fits n x → Fits l (around home f s t i x).term
 
   -- a child, with its locals
   record Child (l : ℕ) (t : Term) (i : ℕ) : Type 0 where
@@ -137,25 +150,25 @@ module _ (m : ModelTree) (c : ℕ) where
   child_of l (abort t u) (suc zero) h = record { locals = l; fits = h.1; around_fits = λ f s x k. k }
   child_of l (abort t u) (suc (suc i)) h = record { locals = l; fits = tt; around_fits = λ f s x k. k }
   child_of l (idle t u again) zero h = record { locals = l; fits = h.0; around_fits = λ f s x k. interrupted_fits l u again x h.1 h.2 k }
-  child_of l (idle t u again) (suc zero) h = record { locals = l; fits = h.1; around_fits = λ f s x k. handled_fits l t again x h.0 h.2 k }
-  child_of l (idle t u again) (suc (suc i)) h = record { locals = l; fits = tt; around_fits = λ f s x k. handled_fits l t again x h.0 h.2 k }
-  child_of l (handling t u again) zero h = record { locals = l; fits = h.0; around_fits = λ f s x k. handled_fits l t again x h.0 h.2 k }
-  child_of l (handling t u again) (suc zero) h = record { locals = l; fits = h.1; around_fits = λ f s x k. handled_fits l t again x h.0 h.2 k }
-  child_of l (handling t u again) (suc (suc i)) h = record { locals = l; fits = tt; around_fits = λ f s x k. handled_fits l t again x h.0 h.2 k }
+  child_of l (idle t u again) (suc zero) h = record { locals = l; fits = h.1; around_fits = λ f s x k. handled_fits l s t again x h.0 h.2 k }
+  child_of l (idle t u again) (suc (suc i)) h = record { locals = l; fits = tt; around_fits = λ f s x k. handled_fits l s t again x h.0 h.2 k }
+  child_of l (handling t u again) zero h = record { locals = l; fits = h.0; around_fits = λ f s x k. handled_fits l s t again x h.0 h.2 k }
+  child_of l (handling t u again) (suc zero) h = record { locals = l; fits = h.1; around_fits = λ f s x k. handled_fits l s t again x h.0 h.2 k }
+  child_of l (handling t u again) (suc (suc i)) h = record { locals = l; fits = tt; around_fits = λ f s x k. handled_fits l s t again x h.0 h.2 k }
 
 -- an active part, the locals around it, and what it leaves of the whole
-pub record Fitted (m : ModelTree) (c : ℕ) (l : ℕ) (t : Term) (place : Place) (x : Term) : Type 0 where
+pub record Fitted (m : ModelTree) (c : ℕ) (home : Home) (l : ℕ) (t : Term) (place : Place) (x : Term) : Type 0 where
   pub locals : ℕ
   pub fits : TermFits m c locals x
-  pub leaves : (f : ℕ) (y : Process) → TermFits m c locals y.term → TermFits m c l (residual f t place y).term
+  pub leaves : (f : ℕ) (y : Process) → TermFits m c locals y.term → TermFits m c l (residual home f t place y).term
 
-pub fitted : (m : ModelTree) (c : ℕ) {a : Context} {f : ℕ} {t : Term} {place : Place} {g : ℕ} {x : Term} (l : ℕ) → Active a f t place g x → TermFits m c l t → Fitted m c l t place x
-fitted m c l (active.here f t) h = record { locals = l; fits = h; leaves = λ f y k. k }
-fitted m c l (active.inside f t i place g x r k) h =
-    let below = child_of m c l t i h in
-    let inner = fitted m c below.locals k below.fits in
+pub fitted : (m : ModelTree) (c : ℕ) (home : Home) {a : Context} {f : ℕ} {t : Term} {place : Place} {g : ℕ} {x : Term} (l : ℕ) → Active a f t place g x → TermFits m c l t → Fitted m c home l t place x
+fitted m c home l (active.here f t) h = record { locals = l; fits = h; leaves = λ f y k. k }
+fitted m c home l (active.inside f t i place g x r k) h =
+    let below = child_of m c home l t i h in
+    let inner = fitted m c home below.locals k below.fits in
     record {
       locals = inner.locals;
       fits = inner.fits;
-      leaves = λ f' y q. below.around_fits f' (residual (frame_in t f') (child t i) place y).state (residual (frame_in t f') (child t i) place y).term (inner.leaves (frame_in t f') y q);
+      leaves = λ f' y q. below.around_fits f' (residual home (frame_in t f') (child t i) place y).state (residual home (frame_in t f') (child t i) place y).term (inner.leaves (frame_in t f') y q);
     }

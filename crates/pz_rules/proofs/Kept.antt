@@ -8,13 +8,15 @@ use Rattle.pz_syntax.specs.Classes.{ModelTree}
 use Rattle.pz_classes.specs.SoundBodies.{BodiesFit}
 use Rattle.pz_bind_levels.specs.Places.{Address as Standing}
 use Rattle.pz_bind.specs.Nest.{processes, class_at}
+use Rattle.pz_bind.specs.Values.{values_at}
+use Rattle.pz_state.specs.States.{initial}
 use Rattle.pz_offer.specs.declared.end.End.{End}
 use Rattle.pz_offer.specs.PlaceOrder.{Place}
 use Rattle.pz_offer.specs.declared.trouble.Trouble.{Trouble}
 use Rattle.pz_offer.specs.declared.trouble.Trouble.TheVariants.{High}
 use Rattle.pz_rules.specs.declared.action.Action.{Action}
 use Rattle.pz_rules.specs.Terms.{Term, Terms, height}
-use Rattle.pz_rules.specs.Settings.{Setting, Process, Context}
+use Rattle.pz_rules.specs.Settings.{Setting, Process, Context, home_of}
 use Rattle.pz_rules.specs.Meanings.{and_then}
 use Rattle.pz_rules.specs.InternalActions.{Performs}
 use Rattle.pz_rules.specs.Messages.{Hands, Takes}
@@ -25,15 +27,15 @@ use Rattle.pz_rules.specs.Configurations.{Config, Stands, IsWhole}
 use Rattle.pz_rules.specs.Steps.{Deed, Acts, with_process, with_both, Next, internal, communication, PassesTo}
 use Rattle.pz_rules.specs.Offers as offers
 use Rattle.pz_rules.specs.Offers.{PartAt, IsPair, Offers}
-use Rattle.pz_rules.specs.Starting.{IsStart}
+use Rattle.pz_rules.specs.Starting.{home_at, IsStart}
 use Rattle.pz_rules.specs.Fitting.{TermFits, TermsFit, IsFit}
 use Rattle.pz_rules.proofs.Locals.{some_is}
-use Rattle.pz_rules.proofs.Fits.{fitted}
+use Rattle.pz_rules.proofs.Fits.{opened_fits, fitted}
 use Rattle.pz_rules.proofs.Possible.{SomeDeed, LeavesFit, performs_some, performs_fit, hands_some, hands_fit, takes_some, takes_fit}
 use Rattle.pz_rules.proofs.Elapsed.{there}
 
 -- what stands in a list after one was set
-set_get : {X : Type 0} (xs : List X) (i k : ℕ) (x y : X) → slice_get (slice_set xs i x) k ≡ Some y → ((k ≡ i) × (y ≡ x)) ⊎ (slice_get xs k ≡ Some y)
+pub set_get : {X : Type 0} (xs : List X) (i k : ℕ) (x y : X) → slice_get (slice_set xs i x) k ≡ Some y → ((k ≡ i) × (y ≡ x)) ⊎ (slice_get xs k ≡ Some y)
 set_get [] i k x y e = inr e
 set_get (z ∷ xs) zero zero x y e = inl (refl, sym (some_is e))
 set_get (z ∷ xs) zero (suc k) x y e = inr e
@@ -98,7 +100,7 @@ module _ (setting : Setting) (c : Config) (sound : BodiesFit setting.model) (fit
 
   pub next_some : (action : Action) → Offers setting c action → (q : Result Config Trouble) × Next setting c action q
   next_some _ (offers.internal end a f t kind pos at can) =
-      let spot = fitted a.setting.model a.class 0 at.active (fits_there end.process at.process a at.stands) in
+      let spot = fitted a.setting.model a.class (home_of a) 0 at.active (fits_there end.process at.process a at.stands) in
       let x = acts_some Performs end a f t at (performs_some a f (sound_there end.process at.process a at.stands) spot.locals t kind pos can spot.fits) in
       (and_then x.0 (λ p. Ok (with_process c end.process p)), internal end kind pos x.0 x.1)
   next_some _ (offers.communication number sender receiver message parcel p judged) =
@@ -115,9 +117,9 @@ module _ (setting : Setting) (c : Config) (sound : BodiesFit setting.model) (fit
       by true = h
       by false = tt
 
-  settled_fits : (m : ModelTree) (class : ℕ) (a : Context) (pos : Pos) (t : Term) (place : Place) (l : ℕ) (left : Result Process Trouble) → LeavesFit m class l left → ((y : Process) → TermFits m class l y.term → TermFits m class 0 (residual 0 t place y).term)
+  settled_fits : (m : ModelTree) (class : ℕ) (a : Context) (pos : Pos) (t : Term) (place : Place) (l : ℕ) (left : Result Process Trouble) → LeavesFit m class l left → ((y : Process) → TermFits m class l y.term → TermFits m class 0 (residual (home_of a) 0 t place y).term)
       → LeavesFit m class 0 (and_then left (settled a pos t place))
-  settled_fits m class a pos t place l (Ok y) h leaves = high_fits m class a pos (residual 0 t place y) (leaves y h)
+  settled_fits m class a pos t place l (Ok y) h leaves = high_fits m class a pos (residual (home_of a) 0 t place y) (leaves y h)
   settled_fits m class a pos t place l (Err e) h leaves = tt
 
   to_place : (i : ℕ) (a : Context) (p : Process) (q : Result Process Trouble) → Stands setting c i p a → LeavesFit a.setting.model a.class 0 q → LeftFits setting i q
@@ -129,7 +131,7 @@ module _ (setting : Setting) (c : Config) (sound : BodiesFit setting.model) (fit
 
   acts_fit : (does : Deed) → KeepsFit does → (end : End) (q : Result Process Trouble) → Acts setting c does end q → LeftFits setting end.process q
   acts_fit does keeps end q x =
-      let spot = fitted x.seen.setting.model x.seen.class 0 x.active (fits_there end.process x.process x.seen x.stands) in
+      let spot = fitted x.seen.setting.model x.seen.class (home_of x.seen) 0 x.active (fits_there end.process x.process x.seen x.stands) in
       let left = keeps x.seen x.frame (sound_there end.process x.process x.seen x.stands) spot.locals x.part x.pos x.left x.acts spot.fits in
       subst (LeftFits setting end.process) (sym x.leaves)
       (to_place end.process x.seen x.process (and_then x.left (settled x.seen x.pos x.process.term end.place)) x.stands
@@ -190,4 +192,5 @@ passing_fits setting c next d all fit passes i place q at is =
 pub start_fits : (setting : Setting) (c : Config) → BodiesFit setting.model → IsStart setting c → IsFit setting c
 start_fits setting c sound start i place p at is =
     let s = start.each i place p at is in
-    subst (λ (r : Process). TermFits setting.model (class_at setting.model place) 0 r.term) (sym s.stands) (sound.starts_fit (class_at setting.model place) s.call s.is_call)
+    subst (λ (r : Process). TermFits setting.model (class_at setting.model place) 0 r.term) (sym s.stands)
+    (opened_fits setting.model (class_at setting.model place) (home_at setting place) 0 s.call (initial (values_at setting.model place)) (sound.starts_fit (class_at setting.model place) s.call s.is_call))

@@ -1,5 +1,7 @@
 mod Lists
-mod Openings
+pub mod Numbers
+pub mod Plain
+pub mod Begun
 mod Rests
 mod Found
 mod Walked
@@ -23,6 +25,7 @@ mod Rows
 mod Fits
 mod Possible
 mod Kept
+mod Lower
 mod Pending
 mod Existing
 mod Wires

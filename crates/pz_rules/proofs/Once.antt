@@ -1,14 +1,12 @@
 -- Each relation on one part has one outcome.
-use Rattle.std.proofs.Common.{◌≡◌, ◌<◌, ◌≤◌, ◌⊎◌, inl, inr, ℕ, Bool, true, false, List, length, Option, Some, None, Result, Ok, refl, sym, subst, ap, ◌∙◌, arith}
-use Rattle.std.specs.Option.{IsSome}
-use Rattle.std.proofs.lemmas.Bool.{cases_lt}
+use Rattle.std.proofs.Common.{◌≡◌, ◌⊎◌, inl, inr, ℕ, Bool, true, false, List, length, Option, Some, None, Result, Ok, refl, sym, subst, ap, ◌∙◌}
 use Rattle.pz_syntax.specs.declared.tokens.Pos.{Pos}
 use Rattle.pz_syntax.specs.declared.names.Id.{Id}
 use Rattle.pz_syntax.specs.Statements.{skip, delay, block, conditional, repeated, call, value, send, receive}
 use Rattle.pz_syntax.specs.Classes.{ModelTree}
 use Rattle.pz_value.specs.declared.value.Value.{Value}
 use Rattle.pz_classes_code.specs.declared.slot.Slot.{Slot}
-use Rattle.pz_state.specs.States.{StateView, Frames, locals_in, IsLeastFree}
+use Rattle.pz_state.specs.States.{StateView}
 use Rattle.pz_state.specs.declared.fault.FaultKind.TheVariants.{StoreFull}
 use Rattle.pz_classes.specs.Bodies.{process_body}
 use Rattle.pz_classes.specs.FitBodies.{how_many}
@@ -16,7 +14,7 @@ use Rattle.pz_copy.specs.Parcels.{ParcelView}
 use Rattle.pz_offer.specs.PlaceOrder.{Place}
 use Rattle.pz_offer.specs.declared.trouble.Trouble.{Trouble}
 use Rattle.pz_rules.specs.Terms.{Code, Step, Steps, Term, leaf, wait}
-use Rattle.pz_rules.specs.Settings.{Context, Process, in_state}
+use Rattle.pz_rules.specs.Settings.{Context, Process, in_state, home_of}
 use Rattle.pz_rules.specs.Meanings.{and_then, truth, fault}
 use Rattle.pz_rules.specs.Active as active
 use Rattle.pz_rules.specs.Active.{Active}
@@ -39,7 +37,7 @@ pub active_once : {a : Context} {f : ℕ} {t : Term} {place : Place} {g h : ℕ}
 active_once (active.here f t) (active.here _ _) = record { frame = refl; part = refl }
 active_once (active.inside f t i place g x r k) (active.inside _ _ _ _ h y r' l) = active_once k l
 
--- One body is that of a method, and one number is the least that is free.
+-- One body is that of a method.
 
 body_is : {l k : ℕ} {b c : Steps} → process_body l b ≡ process_body k c → (l ≡ k) × (b ≡ c)
 body_is e = (cc, cc)
@@ -53,43 +51,21 @@ method_once {m} {class} {name} {inputs} {outputs} {l} {k} {b} {c} x y =
     let same : process_body l b ≡ process_body k c = some_is (sym x.is_body ∙ y.is_body) in
     record { locals = (body_is same).0; body = (body_is same).1 }
 
-none_there : {X : Type 0} {P : Type 0} (o : Option X) → o ≡ None → IsSome o → P
-none_there None e h = absurd (differ h)
-  where
-    differ : false ≡ true → ⊥
-    differ d = cc
-none_there {X} (Some x) e h = absurd (differ e)
-  where
-    differ : Some x ≡ None → ⊥
-    differ d = cc
-
-pub free_once : (frames : Frames) (n m : ℕ) → IsLeastFree frames n → IsLeastFree frames m → n ≡ m
-free_once frames n m x y = by (cases_lt n m) (cases_lt m n)
-  where
-    by : (n < m) ⊎ (m ≤ n) → (m < n) ⊎ (n ≤ m) → n ≡ m
-    by (inl less) other = none_there (locals_in frames n) x.free (y.below n x.positive less)
-    by (inr more) (inl less) = none_there (locals_in frames m) y.free (x.below m y.positive less)
-    by (inr more) (inr less) = omega (arith, more, less)
-
 -- What a part does by itself
 
 -- the call of a method in a state whose arguments came to this
 pub record Called (a : Context) (method : Id) (inputs : ℕ) (results : List Slot) (r : Result (List Value) Trouble) (s : StateView) (q : Result Process Trouble) : Type 0 where
   pub locals : ℕ
-  pub number : ℕ
   pub body : Steps
   pub is_method : IsMethod a.setting.model a.class method.name inputs (length results) locals body
-  pub is_free : IsLeastFree s.frames number
-  pub is : q ≡ and_then r (λ vs. Ok (entered s number locals results body vs))
+  pub is : q ≡ and_then r (λ vs. Ok (entered (home_of a) s locals results body vs))
 
 pub called_once : {a : Context} {method : Id} {inputs : ℕ} {results : List Slot} {r : Result (List Value) Trouble} {s : StateView} {q p : Result Process Trouble} → Called a method inputs results r s q → Called a method inputs results r s p → q ≡ p
 called_once {a} {method} {inputs} {results} {r} {s} {q} {p} x y =
     let same = method_once x.is_method y.is_method in
-    let number = free_once s.frames x.number y.number x.is_free y.is_free in
     x.is
-    ∙ ap (λ (n : ℕ). and_then r (λ vs. Ok (entered s n x.locals results x.body vs))) number
-    ∙ ap (λ (l : ℕ). and_then r (λ vs. Ok (entered s y.number l results x.body vs))) same.locals
-    ∙ ap (λ (b : Steps). and_then r (λ vs. Ok (entered s y.number y.locals results b vs))) same.body
+    ∙ ap (λ (l : ℕ). and_then r (λ vs. Ok (entered (home_of a) s l results x.body vs))) same.locals
+    ∙ ap (λ (b : Steps). and_then r (λ vs. Ok (entered (home_of a) s y.locals results b vs))) same.body
     ∙ sym y.is
 
 module _ (a : Context) (f : ℕ) where
@@ -98,8 +74,8 @@ module _ (a : Context) (f : ℕ) where
   StepPerformed (skip at) pos q = (pos ≡ at) × (q ≡ Ok (done_in a.state))
   StepPerformed (value at e) pos q = (pos ≡ at) × (q ≡ and_then (found a f at e) (λ _. Ok (done_in (left a f e))))
   StepPerformed (block at es) pos q = (pos ≡ at) × (q ≡ and_then (found_all a f at es) (λ _. Ok (done_in (left_all a f es))))
-  StepPerformed (conditional at e ts other) pos q = (pos ≡ at) × (q ≡ and_then (found a f at e) (λ v. and_then (truth a.process at v) (λ b. Ok (chosen (left a f e) ts other b))))
-  StepPerformed (repeated at e ts) pos q = (pos ≡ at) × (q ≡ and_then (found a f at e) (λ v. and_then (truth a.process at v) (λ b. Ok (turned (left a f e) (repeated at e ts) ts b))))
+  StepPerformed (conditional at e ts other) pos q = (pos ≡ at) × (q ≡ and_then (found a f at e) (λ v. and_then (truth a.process at v) (λ b. Ok (chosen (home_of a) (left a f e) ts other b))))
+  StepPerformed (repeated at e ts) pos q = (pos ≡ at) × (q ≡ and_then (found a f at e) (λ v. and_then (truth a.process at v) (λ b. Ok (turned (home_of a) (left a f e) (repeated at e ts) ts b))))
   StepPerformed (delay at e) pos q = (pos ≡ at) × (q ≡ Ok (done_in a.state))
   StepPerformed (call at method args results) pos q = (pos ≡ at) × Called a method (how_many args) results (found_all a f at args) (left_all a f args) q
   StepPerformed s pos q = ⊥
@@ -120,28 +96,26 @@ module _ (a : Context) (f : ℕ) where
   performed _ _ _ (actions.tests at e ts other r s gives) =
       let only = gives_only a f at e r s gives in (
         refl,
-        ap (λ (x : Result Value Trouble). and_then x (λ v. and_then (truth a.process at v) (λ b. Ok (chosen s ts other b)))) only.0
-            ∙ ap (λ (x : StateView). and_then (found a f at e) (λ v. and_then (truth a.process at v) (λ b. Ok (chosen x ts other b)))) only.1,
+        ap (λ (x : Result Value Trouble). and_then x (λ v. and_then (truth a.process at v) (λ b. Ok (chosen (home_of a) s ts other b)))) only.0
+            ∙ ap (λ (x : StateView). and_then (found a f at e) (λ v. and_then (truth a.process at v) (λ b. Ok (chosen (home_of a) x ts other b)))) only.1,
       )
   performed _ _ _ (actions.repeats at e ts r s gives) =
       let only = gives_only a f at e r s gives in (
         refl,
-        ap (λ (x : Result Value Trouble). and_then x (λ v. and_then (truth a.process at v) (λ b. Ok (turned s (repeated at e ts) ts b)))) only.0
-            ∙ ap (λ (x : StateView). and_then (found a f at e) (λ v. and_then (truth a.process at v) (λ b. Ok (turned x (repeated at e ts) ts b)))) only.1,
+        ap (λ (x : Result Value Trouble). and_then x (λ v. and_then (truth a.process at v) (λ b. Ok (turned (home_of a) s (repeated at e ts) ts b)))) only.0
+            ∙ ap (λ (x : StateView). and_then (found a f at e) (λ v. and_then (truth a.process at v) (λ b. Ok (turned (home_of a) x (repeated at e ts) ts b)))) only.1,
       )
   performed _ _ _ (actions.elapses at e) = (refl, refl)
   performed _ _ _ (actions.expires n at) = (refl, refl)
-  performed _ _ _ (actions.calls at method args results r s locals number body gives is_method is_free) =
+  performed _ _ _ (actions.calls at method args results r s locals body gives is_method) =
       let only = gives_all_only a f at args r s gives in (
         refl,
         record {
           locals = locals;
-          number = number;
           body = body;
           is_method = is_method;
-          is_free = subst (λ (x : StateView). IsLeastFree x.frames number) only.1 is_free;
-          is = ap (λ (x : Result (List Value) Trouble). and_then x (λ vs. Ok (entered s number locals results body vs))) only.0
-              ∙ ap (λ (x : StateView). and_then (found_all a f at args) (λ vs. Ok (entered x number locals results body vs))) only.1;
+          is = ap (λ (x : Result (List Value) Trouble). and_then x (λ vs. Ok (entered (home_of a) s locals results body vs))) only.0
+              ∙ ap (λ (x : StateView). and_then (found_all a f at args) (λ vs. Ok (entered (home_of a) x locals results body vs))) only.1;
         },
       )
 

@@ -1,8 +1,6 @@
 -- In a model whose bodies fit, each action that is offered leads somewhere, and what fits stays so.
-use Rattle.std.proofs.Common.{◌≡◌, ◌≤◌, ◌<◌, ◌+◌, ◌⊎◌, inl, inr, max, ℕ, zero, suc, Bool, true, false, List, [], ◌∷◌, length, Option, Some, None, Result, Ok, Err, refl, sym, subst, ap, ◌∙◌, arith}
-use Rattle.std.specs.Prelude.{if◌then◌else◌, nat_eq}
-use Rattle.std.specs.Option.{IsSome}
-use Rattle.std.proofs.lemmas.Bool.{cases_lt, eqb-true}
+use Rattle.std.proofs.Common.{◌≡◌, ◌+◌, inl, inr, ℕ, Bool, true, false, List, length, Option, Some, Result, Ok, Err, refl, sym, subst, ap, ◌∙◌}
+use Rattle.std.specs.List.{All}
 use Rattle.pz_syntax.specs.declared.tokens.Pos.{Pos}
 use Rattle.pz_syntax.specs.declared.names.Id.{Id}
 use Rattle.pz_syntax.specs.Expressions as ours
@@ -11,23 +9,22 @@ use Rattle.pz_syntax.specs.Classes.{ModelTree}
 use Rattle.pz_value.specs.declared.value.ClassId.{ClassId}
 use Rattle.pz_value.specs.declared.value.Value.{Value}
 use Rattle.pz_classes_code.specs.declared.slot.Slot.{Slot}
-use Rattle.pz_state.specs.States.{StateView, Frames, locals_in, IsLeastFree}
-use Rattle.pz_state.specs.States.{object_limit}
+use Rattle.pz_state.specs.States.{StateView, object_limit}
 use Rattle.pz_state.specs.declared.fault.FaultKind.TheVariants.{StoreFull}
 use Rattle.pz_classes.specs.declared.method_id.Counts.TheVariants.{Process as process_counts}
 use Rattle.pz_classes.specs.Bodies.{BodyTree, data_body, process_body}
-use Rattle.pz_classes.specs.FitBodies.{StatementFits, StatementsFit, CallFits, BodyFits, how_many}
+use Rattle.pz_classes.specs.FitBodies.{process_code, SlotFits, StatementFits, StatementsFit, OtherwiseFits, CallFits, BodyFits, how_many}
 use Rattle.pz_classes.specs.SoundBodies.{BodiesFit}
 use Rattle.pz_copy.specs.Parcels.{ParcelView}
 use Rattle.pz_offer.specs.declared.trouble.Trouble.{Trouble}
 use Rattle.pz_rules.specs.declared.action.Kind.{Kind}
-use Rattle.pz_rules.specs.Terms.{Code, Codes, Step, Steps, Term, leaf, frame}
-use Rattle.pz_rules.specs.Opening.{opened_all, opened_part}
-use Rattle.pz_rules.specs.Settings.{Process, Context, in_state}
+use Rattle.pz_rules.specs.Terms.{Code, Codes, Step, Steps, Term, leaf}
+use Rattle.pz_rules.specs.Settings.{Process, Context, in_state, Home, home_of}
+use Rattle.pz_rules.specs.FrameNumbers.{least_free}
 use Rattle.pz_rules.specs.Meanings.{and_then, truth, fault}
 use Rattle.pz_rules.specs.Methods.{IsMethod}
 use Rattle.pz_rules.specs.InternalActions as actions
-use Rattle.pz_rules.specs.InternalActions.{Can, Performs, done_in, chosen, turned, entered}
+use Rattle.pz_rules.specs.InternalActions.{Can, Performs, done_in, chosen, turned, with_inputs, entered}
 use Rattle.pz_rules.specs.Messages as messages
 use Rattle.pz_rules.specs.Messages.{Sends, Receives, Fits, bound, Hands, Takes}
 use Rattle.pz_rules.specs.Fitting.{TermFits}
@@ -37,54 +34,6 @@ use Rattle.pz_rules.proofs.Locals.{some_is}
 use Rattle.pz_rules.proofs.Finite.{Known}
 use Rattle.pz_rules.proofs.Derived.{at_most_known}
 use Rattle.pz_rules.proofs.Fits.{opened_all_fits, opened_part_fits}
-
--- There is a least free number.
-
--- a number above those of all frames
-abbrev above : Frames → ℕ
-above [] = 0
-above (f ∷ fs) = max (suc f.0) (above fs)
-
-none_above : (fs : Frames) (n : ℕ) → above fs ≤ n → locals_in fs n ≡ None
-none_above [] n h = refl
-none_above (f ∷ fs) n h = by (nat_eq f.0 n) refl (none_above fs n (omega (arith, h)))
-  where
-    by : (b : Bool) → nat_eq f.0 n ≡ b → locals_in fs n ≡ None → (if b then Some f.1 else locals_in fs n) ≡ None
-    by true e rest = let same : f.0 ≡ n = eqb-true f.0 n e in absurd (omega (arith, same, h))
-    by false e rest = rest
-
--- the first of these numbers that is free, where the search begins at n
-abbrev first_or : Option (List Value) → ℕ → ℕ → ℕ
-first_or None n further = n
-first_or (Some vs) n further = further
-
-abbrev free_by : ℕ → ℕ → Frames → ℕ
-free_by zero n frames = n
-free_by (suc fuel) n frames = first_or (locals_in frames n) n (free_by fuel (suc n) frames)
-
--- numbers below n are taken
-abbrev Taken : Frames → ℕ → Type 0
-Taken frames n = (k : ℕ) → 0 < k → k < n → IsSome (locals_in frames k)
-
-free_from : (fuel n : ℕ) (frames : Frames) → 0 < n → Taken frames n → above frames ≤ n + fuel → IsLeastFree frames (free_by fuel n frames)
-free_from zero n frames positive taken enough = record { positive = positive; free = none_above frames n (omega (arith, enough)); below = taken }
-free_from (suc fuel) n frames positive taken enough = by (locals_in frames n) refl (λ more. free_from fuel (suc n) frames (omega arith) more (omega (arith, enough)))
-  where
-    by : (o : Option (List Value)) → locals_in frames n ≡ o → (Taken frames (suc n) → IsLeastFree frames (free_by fuel (suc n) frames)) → IsLeastFree frames (first_or o n (free_by fuel (suc n) frames))
-    by None e go = record { positive = positive; free = e; below = taken }
-    by (Some vs) e go = go (λ k above_zero below. at_or_before k above_zero (cases_lt k n) below)
-      where
-        at_or_before : (k : ℕ) → 0 < k → (k < n) ⊎ (n ≤ k) → k < suc n → IsSome (locals_in frames k)
-        at_or_before k above_zero (inl less) below = taken k above_zero less
-        at_or_before k above_zero (inr more) below =
-            let same : n ≡ k = omega (arith, more, below) in
-            subst (λ (i : ℕ). IsSome (locals_in frames i)) same (subst (λ (o : Option (List Value)). IsSome o) (sym e) refl)
-
-abbrev pub free : Frames → ℕ
-free frames = free_by (above frames) 1 frames
-
-pub free_is : (frames : Frames) → IsLeastFree frames (free frames)
-free_is frames = free_from (above frames) 1 frames (omega arith) (λ k positive below. absurd (omega (arith, positive, below))) (omega arith)
 
 -- an outcome of a deed
 pub record SomeDeed (does : Pos → Result Process Trouble → Type 0) : Type 0 where
@@ -101,6 +50,9 @@ module _ (a : Context) (f : ℕ) (sound : BodiesFit a.setting.model) (l : ℕ) w
   abbrev m : ModelTree
   m = a.setting.model
 
+  abbrev home : Home
+  home = home_of a
+
   -- What a part does by itself
 
   call_does : (at : Pos) (method : Id) (args : Codes) (results : List Slot) (body : BodyTree) → (h : CallFits m a.class l method (how_many args) (length results)) → h.body ≡ body → BodyFits m a.class (process_counts (how_many args) (length results)) body → SomeDeed (Performs a f (leaf (call at method args results)))
@@ -108,9 +60,9 @@ module _ (a : Context) (f : ℕ) (sound : BodiesFit a.setting.model) (l : ℕ) w
   call_does at method args results (process_body locals body) h is fits =
       record {
         pos = at;
-        left = and_then (found_all a f at args) (λ vs. Ok (entered (left_all a f args) (free (left_all a f args).frames) locals results body vs));
-        is = actions.calls at method args results (found_all a f at args) (left_all a f args) locals (free (left_all a f args).frames) body (gives_all_found a f at args)
-            (record { is_body = h.is ∙ ap (λ b. Some b) is }) (free_is (left_all a f args).frames);
+        left = and_then (found_all a f at args) (λ vs. Ok (entered (home_of a) (left_all a f args) locals results body vs));
+        is = actions.calls at method args results (found_all a f at args) (left_all a f args) locals body (gives_all_found a f at args)
+            (record { is_body = h.is ∙ ap (λ b. Some b) is });
       }
 
   pub performs_some : (t : Term) (kind : Kind) (pos : Pos) → Can a f t kind pos → TermFits m a.class l t → SomeDeed (Performs a f t)
@@ -136,21 +88,21 @@ module _ (a : Context) (f : ℕ) (sound : BodiesFit a.setting.model) (l : ℕ) w
       by (Ok b) = each b
       by (Err t) = tt
 
-  entered_fits : (s : StateView) (number locals : ℕ) (results : List Slot) (body : Steps) (r : Result (List Value) Trouble) → TermFits m a.class l (frame number 0 results (opened_all body)) → LeavesFit m a.class l (and_then r (λ vs. Ok (entered s number locals results body vs)))
-  entered_fits s number locals results body (Ok vs) h = h
-  entered_fits s number locals results body (Err t) h = tt
+  entered_fits : (s : StateView) (locals : ℕ) (results : List Slot) (body : Steps) (r : Result (List Value) Trouble) → All (SlotFits m a.class process_code l) results → StatementsFit m a.class locals body → LeavesFit m a.class l (and_then r (λ vs. Ok (entered home s locals results body vs)))
+  entered_fits s locals results body (Ok vs) h k = (h, (locals, opened_all_fits m a.class home locals body (with_inputs s (least_free s.frames) locals vs) k))
+  entered_fits s locals results body (Err t) h k = tt
 
   body_fits : (method : Id) (inputs : ℕ) (results : List Slot) (locals : ℕ) (body : Steps) → CallFits m a.class l method inputs (length results) → IsMethod m a.class method.name inputs (length results) locals body → StatementsFit m a.class locals body
   body_fits method inputs results locals body h is_method =
       let same : h.body ≡ process_body locals body = some_is (sym h.is ∙ is_method.is_body) in
       (subst (λ (b : BodyTree). BodyFits m a.class (process_counts inputs (length results)) b) same (sound.methods_fit a.class (record { name = method.name; counts = process_counts inputs (length results) }) h.body h.is)).1
 
-  chosen_fits : (s : StateView) (ts : Steps) (other : StatementPart Slot ClassId ℕ) (b : Bool) → TermFits m a.class l (opened_all ts) → TermFits m a.class l (opened_part other) → TermFits m a.class l (chosen s ts other b).term
-  chosen_fits s ts other true h k = h
-  chosen_fits s ts other false h k = k
+  chosen_fits : (s : StateView) (ts : Steps) (other : StatementPart Slot ClassId ℕ) (b : Bool) → StatementsFit m a.class l ts → OtherwiseFits m a.class l other → TermFits m a.class l (chosen home s ts other b).term
+  chosen_fits s ts other true h k = opened_all_fits m a.class home l ts s h
+  chosen_fits s ts other false h k = opened_part_fits m a.class home l other s k
 
-  turned_fits : (s : StateView) (loop : Step) (ts : Steps) (b : Bool) → TermFits m a.class l (opened_all ts) → StatementFits m a.class l loop → TermFits m a.class l (turned s loop ts b).term
-  turned_fits s loop ts true h k = (h, (k, tt))
+  turned_fits : (s : StateView) (loop : Step) (ts : Steps) (b : Bool) → StatementsFit m a.class l ts → StatementFits m a.class l loop → TermFits m a.class l (turned home s loop ts b).term
+  turned_fits s loop ts true h k = (opened_all_fits m a.class home l ts s h, (k, tt))
   turned_fits s loop ts false h k = tt
 
   pub performs_fit : (t : Term) (pos : Pos) (q : Result Process Trouble) → Performs a f t pos q → TermFits m a.class l t → LeavesFit m a.class l q
@@ -158,13 +110,13 @@ module _ (a : Context) (f : ℕ) (sound : BodiesFit a.setting.model) (l : ℕ) w
   performs_fit _ _ _ (actions.evaluates at e r s gives) h = done_fits r s
   performs_fit _ _ _ (actions.evaluates_block at es r s gives) h = done_fits r s
   performs_fit _ _ _ (actions.tests at e ts other r s gives) h =
-      tested_fits at r (chosen s ts other) (λ b. chosen_fits s ts other b (opened_all_fits m a.class l ts h.1) (opened_part_fits m a.class l other h.2))
+      tested_fits at r (chosen home s ts other) (λ b. chosen_fits s ts other b h.1 h.2)
   performs_fit _ _ _ (actions.repeats at e ts r s gives) h =
-      tested_fits at r (turned s (repeated at e ts) ts) (λ b. turned_fits s (repeated at e ts) ts b (opened_all_fits m a.class l ts h.1) h)
+      tested_fits at r (turned home s (repeated at e ts) ts) (λ b. turned_fits s (repeated at e ts) ts b h.1 h)
   performs_fit _ _ _ (actions.elapses at e) h = tt
   performs_fit _ _ _ (actions.expires n at) h = tt
-  performs_fit _ _ _ (actions.calls at method args results r s locals number body gives is_method is_free) h =
-      entered_fits s number locals results body r (h.2, (locals, opened_all_fits m a.class locals body (body_fits method (how_many args) results locals body h.0 is_method)))
+  performs_fit _ _ _ (actions.calls at method args results r s locals body gives is_method) h =
+      entered_fits s locals results body r h.2 (body_fits method (how_many args) results locals body h.0 is_method)
 
   -- What messages leave
 

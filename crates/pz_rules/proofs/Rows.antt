@@ -21,8 +21,9 @@ use Rattle.pz_eval_rules.specs.devices.Computed.{sequence, arguments, operators,
 use Rattle.pz_rules.specs.declared.action.Kind.TheVariants.{Expire}
 use Rattle.pz_rules.specs.Terms as terms
 use Rattle.pz_rules.specs.Terms.{Code, Step, Term, done, leaf, wait, parallel, select, guarded, frame, abort, idle, handling, Terms, no_terms, and}
-use Rattle.pz_rules.specs.Settings.{Setting, Context, in_state}
-use Rattle.pz_rules.specs.Leaving.{around, left_by, residual, swept}
+use Rattle.pz_rules.specs.declared.limits.Edition.TheVariants.{One}
+use Rattle.pz_rules.specs.Settings.{Setting, Context, in_state, left_by, Home}
+use Rattle.pz_rules.specs.Leaving.{around, residual, swept}
 use Rattle.pz_rules.specs.Messages.{bound}
 use Rattle.pz_rules.specs.devices.Found.{tested}
 use Rattle.pz_rules.specs.devices.Walk.{internal_actions, active_delays}
@@ -32,7 +33,7 @@ abbrev nothing : ModelTree
 nothing = record { decls = [] }
 
 abbrev setting : Setting
-setting = record { model = nothing; limits = record { units = 100; depth = 20; height = 1000 } }
+setting = record { model = nothing; limits = record { units = 100; depth = 20; height = 1000; edition = One } }
 
 abbrev at : ℕ → Pos
 at column = record { line = 1; column = column }
@@ -53,6 +54,9 @@ greater n = chain (at 2) (variable (at 2) (Shared 0)) (link Greater (at 4) (expr
 
 -- What becomes of each level around an action
 
+abbrev home : Home
+home = record { model = nothing; edition = One; class = 1 }
+
 abbrev s : StateView
 s = state_with value.Nil
 
@@ -65,50 +69,50 @@ y = wait 2 (at 2)
 abbrev again : Step
 again = skip (at 9)
 
-sequence_goes_on : around 0 s (terms.sequence x ((then) again no_statements)) 0 done ≡ left_by s (leaf again)
+sequence_goes_on : around home 0 s (terms.sequence x ((then) again no_statements)) 0 done ≡ left_by s (leaf again)
 sequence_goes_on = refl
 
-sequence_stays : around 0 s (terms.sequence x ((then) again no_statements)) 0 y ≡ left_by s (terms.sequence y ((then) again no_statements))
+sequence_stays : around home 0 s (terms.sequence x ((then) again no_statements)) 0 y ≡ left_by s (terms.sequence y ((then) again no_statements))
 sequence_stays = refl
 
-parallel_stays : around 0 s (parallel (and x (and done no_terms))) 0 y ≡ left_by s (parallel (and y (and done no_terms)))
+parallel_stays : around home 0 s (parallel (and x (and done no_terms))) 0 y ≡ left_by s (parallel (and y (and done no_terms)))
 parallel_stays = refl
 
-parallel_is_done : around 0 s (parallel (and x (and done no_terms))) 0 done ≡ left_by s done
+parallel_is_done : around home 0 s (parallel (and x (and done no_terms))) 0 done ≡ left_by s done
 parallel_is_done = refl
 
-choice_is_taken : around 0 s (select (and x (and y no_terms))) 1 done ≡ left_by s done
+choice_is_taken : around home 0 s (select (and x (and y no_terms))) 1 done ≡ left_by s done
 choice_is_taken = refl
 
-guard_is_left : around 0 s (guarded (greater 0) (at 1) x) 0 y ≡ left_by s y
+guard_is_left : around home 0 s (guarded (greater 0) (at 1) x) 0 y ≡ left_by s y
 guard_is_left = refl
 
-abort_stays : around 0 s (abort x y) 0 y ≡ left_by s (abort y y)
+abort_stays : around home 0 s (abort x y) 0 y ≡ left_by s (abort y y)
 abort_stays = refl
 
-abort_is_done : around 0 s (abort x y) 0 done ≡ left_by s done
+abort_is_done : around home 0 s (abort x y) 0 done ≡ left_by s done
 abort_is_done = refl
 
-first_part_ends : around 0 s (abort x y) 1 y ≡ left_by s y
+first_part_ends : around home 0 s (abort x y) 1 y ≡ left_by s y
 first_part_ends = refl
 
-idle_stays : around 0 s (idle x y again) 0 y ≡ left_by s (idle y y again)
+idle_stays : around home 0 s (idle x y again) 0 y ≡ left_by s (idle y y again)
 idle_stays = refl
 
-idle_is_done : around 0 s (idle x y again) 0 done ≡ left_by s done
+idle_is_done : around home 0 s (idle x y again) 0 done ≡ left_by s done
 idle_is_done = refl
 
-handler_begins : around 0 s (idle x y again) 1 x ≡ left_by s (handling x x again)
+handler_begins : around home 0 s (idle x y again) 1 x ≡ left_by s (handling x x again)
 handler_begins = refl
 
 -- a handler that is done by its first action stands open afresh at once
-handler_reopens : around 0 s (idle x y again) 1 done ≡ left_by s (idle x (leaf again) again)
+handler_reopens : around home 0 s (idle x y again) 1 done ≡ left_by s (idle x (leaf again) again)
 handler_reopens = refl
 
-handler_goes_on : around 0 s (handling x y again) 1 x ≡ left_by s (handling x x again)
+handler_goes_on : around home 0 s (handling x y again) 1 x ≡ left_by s (handling x x again)
 handler_goes_on = refl
 
-handler_ends : around 0 s (handling x y again) 1 done ≡ left_by s (idle x (leaf again) again)
+handler_ends : around home 0 s (handling x y again) 1 done ≡ left_by s (idle x (leaf again) again)
 handler_ends = refl
 
 -- Frames
@@ -118,16 +122,16 @@ abbrev two_frames : StateView
 two_frames = record { vars = value.Nil ∷ []; frames = (1, integer 7 ∷ integer 8 ∷ []) ∷ (2, []) ∷ []; objects = [] }
 
 -- a frame that is done assigns its outputs, and leaves the state
-frame_returns : swept (residual 0 (frame 1 1 (Shared 0 ∷ []) x) (0 ∷ []) (left_by two_frames done)) ≡ left_by (state_with (integer 8)) done
+frame_returns : swept (residual home 0 (frame 1 1 (Shared 0 ∷ []) x) (0 ∷ []) (left_by two_frames done)) ≡ left_by (state_with (integer 8)) done
 frame_returns = refl
 
 -- a frame without outputs that is all of a frame without outputs stands in its place
-frame_is_replaced : swept (residual 0 (frame 1 0 [] x) (0 ∷ []) (left_by two_frames (frame 2 0 [] y)))
+frame_is_replaced : swept (residual home 0 (frame 1 0 [] x) (0 ∷ []) (left_by two_frames (frame 2 0 [] y)))
     ≡ left_by (record { vars = value.Nil ∷ []; frames = (2, []) ∷ []; objects = [] }) (frame 2 0 [] y)
 frame_is_replaced = refl
 
 -- one with an output is not
-frame_with_output_stays : swept (residual 0 (frame 1 1 (Shared 0 ∷ []) x) (0 ∷ []) (left_by two_frames (frame 2 0 [] y)))
+frame_with_output_stays : swept (residual home 0 (frame 1 1 (Shared 0 ∷ []) x) (0 ∷ []) (left_by two_frames (frame 2 0 [] y)))
     ≡ left_by two_frames (frame 1 1 (Shared 0 ∷ []) (frame 2 0 [] y))
 frame_with_output_stays = refl
 
@@ -175,12 +179,12 @@ only_handler_counts = refl
 handler_elapses : passed (seen_with value.Nil) 7 0 interrupted ≡ handling (wait 6 (at 5)) (wait 0 (at 6)) again
 handler_elapses = refl
 
-goes_on_after : residual 0 (handling (wait 6 (at 5)) (wait 0 (at 6)) again) (1 ∷ []) (left_by s done) ≡ left_by s (idle (wait 6 (at 5)) (leaf again) again)
+goes_on_after : residual home 0 (handling (wait 6 (at 5)) (wait 0 (at 6)) again) (1 ∷ []) (left_by s done) ≡ left_by s (idle (wait 6 (at 5)) (leaf again) again)
 goes_on_after = refl
 
 -- An abort: the delay of the first part is gone once the second acts
 
-aborted : residual 0 (abort (wait 10 (at 5)) (leaf again)) (1 ∷ []) (left_by s done) ≡ left_by s done
+aborted : residual home 0 (abort (wait 10 (at 5)) (leaf again)) (1 ∷ []) (left_by s done) ≡ left_by s done
 aborted = refl
 
 -- A condition that is false for one parcel, and true for another

@@ -7,13 +7,14 @@ use Rattle.pz_value.specs.declared.value.ClassId.{ClassId}
 use Rattle.pz_value.specs.declared.value.Value.{Value}
 use Rattle.pz_classes_code.specs.declared.slot.Slot.{Slot}
 use Rattle.pz_classes.specs.FitBodies.{how_many}
-use Rattle.pz_state.specs.States.{StateView, IsLeastFree, opened as with_frame}
+use Rattle.pz_state.specs.States.{StateView, opened as with_frame}
 use Rattle.pz_offer.specs.declared.trouble.Trouble.{Trouble}
 use Rattle.pz_rules.specs.declared.action.Kind.{Kind}
 use Rattle.pz_rules.specs.declared.action.Kind.TheVariants.{Skip, Eval, Test, Expire, Call}
 use Rattle.pz_rules.specs.Terms.{Code, Codes, Step, Steps, Term, done, leaf, wait, sequence, frame}
 use Rattle.pz_rules.specs.Opening.{opened_all, opened_part}
-use Rattle.pz_rules.specs.Settings.{Context, Process}
+use Rattle.pz_rules.specs.Settings.{Context, Process, left_by, Home, home_of}
+use Rattle.pz_rules.specs.FrameNumbers.{least_free}
 use Rattle.pz_eval_binding.specs.Binding.{set_slots, first_slots}
 use Rattle.pz_rules.specs.Meanings.{and_then, truth}
 use Rattle.pz_rules.specs.Evaluations.{Gives, GivesAll, Lasts}
@@ -32,22 +33,30 @@ pub data Can (a : Context) (f : ℕ) : Term → Kind → Pos → Type 0 where
   calls : (at : Pos) (method : Id) (args : Codes) (results : List Slot) → Can a f (leaf (call at method args results)) Call at
 
 abbrev pub done_in : StateView → Process
-done_in s = record { term = done; state = s }
+done_in s = left_by s done
 
 -- the chosen part
-abbrev pub chosen : StateView → Steps → StatementPart Slot ClassId ℕ → Bool → Process
-chosen s ts other b = record { term = if b then opened_all ts else opened_part other; state = s }
+abbrev pub chosen : Home → StateView → Steps → StatementPart Slot ClassId ℕ → Bool → Process
+chosen h s ts other b = if b then opened_all h ts s else opened_part h other s
+
+-- before the same loop
+abbrev pub before_loop : Step → Process → Process
+before_loop loop x = left_by x.state (sequence x.term ((then) loop no_statements))
 
 -- the body, and then the same loop
-abbrev pub turned : StateView → Step → Steps → Bool → Process
-turned s loop ts b = record { term = if b then sequence (opened_all ts) ((then) loop no_statements) else done; state = s }
+abbrev pub turned : Home → StateView → Step → Steps → Bool → Process
+turned h s loop ts b = if b then before_loop loop (opened_all h ts s) else done_in s
 
--- a further frame, whose first locals have these values and whose others are nil, round the body
-abbrev pub entered : StateView → ℕ → ℕ → List Slot → Steps → List Value → Process
-entered s number locals results body inputs = record {
-  term = frame number (length inputs) results (opened_all body);
-  state = set_slots number (first_slots 0 inputs) inputs (with_frame s number locals);
-}
+-- a frame of this number, whose first locals have these values and whose others are nil
+abbrev pub with_inputs : StateView → ℕ → ℕ → List Value → StateView
+with_inputs s number locals inputs = set_slots number (first_slots 0 inputs) inputs (with_frame s number locals)
+
+-- a further frame round the body, which opens in it
+abbrev pub entered : Home → StateView → ℕ → List Slot → Steps → List Value → Process
+entered h s locals results body inputs =
+    let number = least_free s.frames in
+    let x = opened_all h body (with_inputs s number locals inputs) in
+    left_by x.state (frame number (length inputs) results x.term)
 
 -- What the acting part becomes, and the state afterwards; or the trouble of its evaluation. Each action
 -- has the place of its statement. It holds of a delay whatever is left of it, and so of parts that cannot
@@ -59,12 +68,12 @@ pub data Performs (a : Context) (f : ℕ) : Term → Pos → Result Process Trou
   evaluates_block : (at : Pos) (es : Codes) (r : Result (List Value) Trouble) (s : StateView) → GivesAll a f at es r s
       → Performs a f (leaf (block at es)) at (and_then r (λ _. Ok (done_in s)))
   tests : (at : Pos) (e : Code) (ts : Steps) (other : StatementPart Slot ClassId ℕ) (r : Result Value Trouble) (s : StateView) → Gives a f at e r s
-      → Performs a f (leaf (conditional at e ts other)) at (and_then r (λ v. and_then (truth a.process at v) (λ b. Ok (chosen s ts other b))))
+      → Performs a f (leaf (conditional at e ts other)) at (and_then r (λ v. and_then (truth a.process at v) (λ b. Ok (chosen (home_of a) s ts other b))))
   repeats : (at : Pos) (e : Code) (ts : Steps) (r : Result Value Trouble) (s : StateView) → Gives a f at e r s
-      → Performs a f (leaf (repeated at e ts)) at (and_then r (λ v. and_then (truth a.process at v) (λ b. Ok (turned s (repeated at e ts) ts b))))
+      → Performs a f (leaf (repeated at e ts)) at (and_then r (λ v. and_then (truth a.process at v) (λ b. Ok (turned (home_of a) s (repeated at e ts) ts b))))
   -- the evaluation of a delay leaves nothing
   elapses : (at : Pos) (e : Code) → Performs a f (leaf (delay at e)) at (Ok (done_in a.state))
   expires : (left : ℕ) (at : Pos) → Performs a f (wait left at) at (Ok (done_in a.state))
-  calls : (at : Pos) (method : Id) (args : Codes) (results : List Slot) (r : Result (List Value) Trouble) (s : StateView) (locals number : ℕ) (body : Steps)
-      → GivesAll a f at args r s → IsMethod a.setting.model a.class method.name (how_many args) (length results) locals body → IsLeastFree s.frames number
-      → Performs a f (leaf (call at method args results)) at (and_then r (λ vs. Ok (entered s number locals results body vs)))
+  calls : (at : Pos) (method : Id) (args : Codes) (results : List Slot) (r : Result (List Value) Trouble) (s : StateView) (locals : ℕ) (body : Steps)
+      → GivesAll a f at args r s → IsMethod a.setting.model a.class method.name (how_many args) (length results) locals body
+      → Performs a f (leaf (call at method args results)) at (and_then r (λ vs. Ok (entered (home_of a) s locals results body vs)))

@@ -10,9 +10,11 @@ use Rattle.pz_rules.specs.declared.action.Action.{Action}
 use Rattle.pz_rules.specs.declared.moment.Moment.{Moment}
 use Rattle.pz_rules.specs.declared.moment.Moment.TheVariants.{Actions, Time}
 use Rattle.pz_copy.specs.Parcels.{ParcelView}
+use Rattle.pz_state.specs.States.{Frames, IsLeastFree}
 use Rattle.pz_rules.specs.declared.action.Kind.{Kind}
 use Rattle.pz_rules.specs.Terms.{Term, wait, child}
 use Rattle.pz_rules.specs.Settings.{Setting, Process, Context}
+use Rattle.pz_rules.specs.FrameNumbers.{least_free}
 use Rattle.pz_rules.specs.Acting.{IsActing, IsSend, IsReceive}
 use Rattle.pz_rules.specs.InternalActions.{Can}
 use Rattle.pz_rules.specs.Messages.{Sends, Receives}
@@ -20,6 +22,7 @@ use Rattle.pz_rules.specs.Delays.{Delays}
 use Rattle.pz_rules.specs.Ports.{HasWires}
 use Rattle.pz_rules.specs.Starting.{IsStart}
 use Rattle.pz_rules.specs.Fitting.{IsFit}
+use Rattle.pz_rules.specs.Heights.{IsLow}
 use Rattle.pz_rules.specs.Configurations.{Config, IsWhole}
 use Rattle.pz_rules.specs.Offers.{PartAt, Offers, IsOffers}
 use Rattle.pz_rules.specs.Steps.{Next, PassesTo}
@@ -170,3 +173,17 @@ WhatSendsIsASend = (a : Context) (f : ℕ) (t : Term) (pos : Pos) (port : ℕ) (
 
 abbrev pub WhatReceivesIsAReceive : Type 0
 WhatReceivesIsAReceive = (t : Term) (pos : Pos) (port : ℕ) (message : List ℕ) (count : ℕ) → Receives t pos port message count → IsReceive t
+
+-- the number of a new frame is the least that is free, and no other is
+abbrev pub NumbersAreFree : Type 0
+NumbersAreFree = (frames : Frames) → IsLeastFree frames (least_free frames)
+
+abbrev pub OneNumberIsLeast : Type 0
+OneNumberIsLeast = (frames : Frames) (n : ℕ) → IsLeastFree frames n → n ≡ least_free frames
+
+-- where no term is too high, none is after an action or a passing of time
+abbrev pub LowStays : Type 0
+LowStays = (setting : Setting) (c next : Config) (a : Action) → IsLow setting c → Next setting c a (Ok next) → IsLow setting next
+
+abbrev pub LowPasses : Type 0
+LowPasses = (setting : Setting) (c next : Config) (d : ℕ) → IsWhole setting c → IsLow setting c → PassesTo setting c d next → IsLow setting next

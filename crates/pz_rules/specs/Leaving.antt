@@ -10,7 +10,7 @@ use Rattle.pz_offer.specs.declared.trouble.Trouble.{Trouble}
 use Rattle.pz_offer.specs.declared.trouble.Trouble.TheVariants.{High}
 use Rattle.pz_rules.specs.Terms.{Step, Term, done, sequence, parallel, select, guarded, frame, abort, idle, handling, Terms, no_terms, and, child, height, frames_in, frame_in}
 use Rattle.pz_rules.specs.Opening.{opened, opened_all}
-use Rattle.pz_rules.specs.Settings.{Context, Process}
+use Rattle.pz_rules.specs.Settings.{Context, Process, left_by, Home, home_of}
 use Rattle.pz_eval_binding.specs.Binding.{set_slots}
 
 abbrev pub replaced : Terms → ℕ → Term → Terms
@@ -26,9 +26,6 @@ abbrev pub all_done : Terms → Bool
 all_done no_terms = true
 all_done (and t ts) = is_done t && all_done ts
 
-abbrev pub left_by : StateView → Term → Process
-left_by s t = record { term = t; state = s }
-
 -- done once all parts are
 abbrev pub joined : Terms → Term
 joined ts = if all_done ts then done else parallel ts
@@ -40,9 +37,9 @@ returned f number inputs results s = set_slots f results (drop inputs (locals s 
 
 -- what an interrupt becomes when its second part has become this: the first goes on once it is done,
 -- and the second stands open afresh
-abbrev pub handled : Term → Step → Term → Term
-handled t again done = idle t (opened again) again
-handled t again x = handling t x again
+abbrev pub handled : Home → StateView → Term → Step → Term → Process
+handled h s t again done = let x = opened h again s in left_by x.state (idle t x.term again)
+handled h s t again x = left_by s (handling t x again)
 
 -- what the first part leaves of an `abort`
 abbrev pub aborted : Term → Term → Term
@@ -60,25 +57,25 @@ framed number inputs [] (frame inner inner_inputs [] t) = frame inner inner_inpu
 framed number inputs results x = frame number inputs results x
 
 -- A term in frame f and in state s whose child of this number has become x
-abbrev pub around : ℕ → StateView → Term → ℕ → Term → Process
-around f s (sequence t rest) i done = left_by s (opened_all rest)
-around f s (sequence t rest) i x = left_by s (sequence x rest)
-around f s (parallel ts) i x = left_by s (joined (replaced ts i x))
-around f s (select ts) i x = left_by s x
-around f s (guarded test at t) i x = left_by s x
-around f s (frame number inputs results t) i done = left_by (returned f number inputs results s) done
-around f s (frame number inputs results t) i x = left_by s (framed number inputs results x)
-around f s (abort t u) zero x = left_by s (aborted u x)
-around f s (abort t u) (suc i) x = left_by s x
-around f s (idle t u again) zero x = left_by s (interrupted u again x)
-around f s (idle t u again) (suc i) x = left_by s (handled t again x)
-around f s (handling t u again) i x = left_by s (handled t again x)
-around f s t i x = left_by s t
+abbrev pub around : Home → ℕ → StateView → Term → ℕ → Term → Process
+around h f s (sequence t rest) i done = opened_all h rest s
+around h f s (sequence t rest) i x = left_by s (sequence x rest)
+around h f s (parallel ts) i x = left_by s (joined (replaced ts i x))
+around h f s (select ts) i x = left_by s x
+around h f s (guarded test at t) i x = left_by s x
+around h f s (frame number inputs results t) i done = left_by (returned f number inputs results s) done
+around h f s (frame number inputs results t) i x = left_by s (framed number inputs results x)
+around h f s (abort t u) zero x = left_by s (aborted u x)
+around h f s (abort t u) (suc i) x = left_by s x
+around h f s (idle t u again) zero x = left_by s (interrupted u again x)
+around h f s (idle t u again) (suc i) x = handled h s t again x
+around h f s (handling t u again) i x = handled h s t again x
+around h f s t i x = left_by s t
 
 -- a term in frame f whose part at the place has become this
-abbrev pub residual : ℕ → Term → Place → Process → Process
-residual f t [] x = x
-residual f t (i ∷ place) x = let inner = residual (frame_in t f) (child t i) place x in around f inner.state t i inner.term
+abbrev pub residual : Home → ℕ → Term → Place → Process → Process
+residual h f t [] x = x
+residual h f t (i ∷ place) x = let inner = residual h (frame_in t f) (child t i) place x in around h f inner.state t i inner.term
 
 -- the frames that stand in the term, and no others
 abbrev pub only_frames : List ℕ → StateView → StateView
@@ -93,4 +90,4 @@ not_too_high a at p = if nat_le (height p.term) a.setting.limits.height then Ok 
 
 -- the whole process, when the part at the place has become this
 abbrev pub settled : Context → Pos → Term → Place → Process → Result Process Trouble
-settled a at whole place x = not_too_high a at (swept (residual 0 whole place x))
+settled a at whole place x = not_too_high a at (swept (residual (home_of a) 0 whole place x))

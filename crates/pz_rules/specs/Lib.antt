@@ -1,7 +1,8 @@
 pub mod devices
 pub mod Terms
-pub mod Opening
 pub mod Settings
+pub mod FrameNumbers
+pub mod Opening
 pub mod Meanings
 pub mod Evaluations
 pub mod Active
@@ -22,7 +23,9 @@ pub mod Runs
 pub mod ChosenRuns
 pub mod Starting
 pub mod Fitting
+pub mod Heights
 pub mod Laws
 pub mod RestView
 pub mod View
 pub mod Openable
+pub mod Becoming

@@ -1,33 +1,64 @@
 -- How statements become terms, without an action: what is in brackets, a sequence, `par`, `sel`, a
--- guard, `abort` and `interrupt` open at once, and every other statement stands as it is.
-use Rattle.std.specs.Prelude.{ℕ}
-use Rattle.pz_syntax.specs.Statements.{bracketed, guarded, parallel, select, abort, interrupt, no_statements, then, StatementPart, not_written, otherwise, Branches, no_branches, branch}
+-- guard, `abort` and `interrupt` open at once, from left to right, each part in the state that those
+-- before it leave. Every other statement stands as it is.
+use Rattle.std.specs.Prelude.{ℕ, []}
+use Rattle.pz_syntax.specs.Expressions.{none}
+use Rattle.pz_syntax.specs.Statements.{bracketed, guarded, parallel, select, abort, interrupt, call, no_statements, then, StatementPart, not_written, otherwise, Branches, no_branches, branch}
 use Rattle.pz_value.specs.declared.value.ClassId.{ClassId}
 use Rattle.pz_classes_code.specs.declared.slot.Slot.{Slot}
-use Rattle.pz_rules.specs.Terms.{Step, Steps, Term, done, leaf, sequence, Terms, no_terms, and}
+use Rattle.pz_state.specs.States.{StateView}
+use Rattle.pz_rules.specs.Terms.{Step, Steps, done, leaf, sequence, Terms, no_terms, and}
 use Rattle.pz_rules.specs.Terms as terms
+use Rattle.pz_rules.specs.Settings.{Process, left_by, Home}
 
-abbrev mutual
-  pub opened : Step → Term
-  opened (bracketed pos ts) = opened_all ts
-  opened (guarded pos test t) = terms.guarded test pos (opened t)
-  opened (parallel pos bs) = terms.parallel (opened_branches bs)
-  opened (select pos bs) = terms.select (opened_branches bs)
-  opened (abort pos ts t) = terms.abort (opened_all ts) (opened t)
-  opened (interrupt pos ts t) = terms.idle (opened_all ts) (opened t) t
-  opened s = leaf s
+-- terms side by side, and the state that their opening leaves
+pub record Beside : Type 0 where
+  pub terms : Terms
+  pub state : StateView
 
-  -- the first statement stands open, and the others wait behind it
-  pub opened_all : Steps → Term
-  opened_all no_statements = done
-  opened_all (then s no_statements) = opened s
-  opened_all (then s (then r rest)) = sequence (opened s) (then r rest)
+-- where a call without inputs and without results becomes what `enter` says
+module _ (enter : Step → StateView → Process) where
+  abbrev mutual
+    pub step_opened : Step → StateView → Process
+    step_opened (bracketed pos ts) s = steps_opened ts s
+    step_opened (guarded pos test t) s = let x = step_opened t s in left_by x.state (terms.guarded test pos x.term)
+    step_opened (parallel pos bs) s = let xs = branches_opened bs s in left_by xs.state (terms.parallel xs.terms)
+    step_opened (select pos bs) s = let xs = branches_opened bs s in left_by xs.state (terms.select xs.terms)
+    step_opened (abort pos ts t) s =
+        let x = steps_opened ts s in
+        let y = step_opened t x.state in
+        left_by y.state (terms.abort x.term y.term)
+    step_opened (interrupt pos ts t) s =
+        let x = steps_opened ts s in
+        let y = step_opened t x.state in
+        left_by y.state (terms.idle x.term y.term t)
+    step_opened (call pos method none []) s = enter (call pos method none []) s
+    step_opened r s = left_by s (leaf r)
 
-  pub opened_branches : Branches Slot ClassId ℕ → Terms
-  opened_branches no_branches = no_terms
-  opened_branches (branch ts bs) = and (opened_all ts) (opened_branches bs)
+    -- the first statement stands open, and the others wait behind it
+    pub steps_opened : Steps → StateView → Process
+    steps_opened no_statements s = left_by s done
+    steps_opened (then r no_statements) s = step_opened r s
+    steps_opened (then r (then q rest)) s = let x = step_opened r s in left_by x.state (sequence x.term (then q rest))
+
+    pub branches_opened : Branches Slot ClassId ℕ → StateView → Beside
+    branches_opened no_branches s = record { terms = no_terms; state = s }
+    branches_opened (branch ts bs) s =
+        let x = steps_opened ts s in
+        let xs = branches_opened bs x.state in
+        record { terms = and x.term xs.terms; state = xs.state }
+
+-- a call without inputs and without results stands as it is, like any other
+abbrev pub enter : Home → Step → StateView → Process
+enter h r s = left_by s (leaf r)
+
+abbrev pub opened : Home → Step → StateView → Process
+opened h = step_opened (enter h)
+
+abbrev pub opened_all : Home → Steps → StateView → Process
+opened_all h = steps_opened (enter h)
 
 -- what is not written is done
-abbrev pub opened_part : StatementPart Slot ClassId ℕ → Term
-opened_part not_written = done
-opened_part (otherwise ts) = opened_all ts
+abbrev pub opened_part : Home → StatementPart Slot ClassId ℕ → StateView → Process
+opened_part h not_written s = left_by s done
+opened_part h (otherwise ts) s = opened_all h ts s

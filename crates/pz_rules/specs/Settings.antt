@@ -2,6 +2,7 @@
 use Rattle.std.specs.Prelude.{ℕ}
 use Rattle.pz_syntax.specs.Classes.{ModelTree}
 use Rattle.pz_state.specs.States.{StateView}
+use Rattle.pz_rules.specs.declared.limits.Edition.{Edition}
 use Rattle.pz_rules.specs.declared.limits.Limits.{Limits}
 use Rattle.pz_rules.specs.Terms.{Term}
 
@@ -15,6 +16,15 @@ pub record Process : Type 0 where
   pub term : Term
   pub state : StateView
 
+abbrev pub left_by : StateView → Term → Process
+left_by s t = record { term = t; state = s }
+
+-- where statements open: a process class of a model, and the edition of the rules
+pub record Home : Type 0 where
+  pub model : ModelTree
+  pub edition : Edition
+  pub class : ℕ
+
 -- A process as its statements see it: its number, the number of its class, the clock and its state.
 pub record Context : Type 0 where
   pub setting : Setting
@@ -26,3 +36,6 @@ pub record Context : Type 0 where
 -- the process in another state
 abbrev pub in_state : Context → StateView → Context
 in_state a s = record a { state = s }
+
+abbrev pub home_of : Context → Home
+home_of a = record { model = a.setting.model; edition = a.setting.limits.edition; class = a.class }

@@ -5,3 +5,4 @@ pub mod Passing
 pub mod Computed
 pub mod Pending
 pub mod Ends
+pub mod Plainly

@@ -1,6 +1,6 @@
 // Laws of execution, each the contract of a function that does nothing.
 
-ghost use Rattle.pz_rules.specs.Laws.{OneListOfOffers, EveryListOfOffers, WiresAreKnown, OneMoment, EveryMoment, MomentsCountOffers, TimeWaits, LeastPasses, TimeIsPositive, EveryPassing, PassingTakes, BringsToZero, OneNext, OnePassing, StaysWhole, StartFits, StaysFit, EveryNext, OneChosenRun, EveryChosenRun, ChosenRunsAreRuns, WhatCanActs, WhatSendsIsASend, WhatReceivesIsAReceive};
+ghost use Rattle.pz_rules.specs.Laws.{OneListOfOffers, EveryListOfOffers, WiresAreKnown, OneMoment, EveryMoment, MomentsCountOffers, TimeWaits, LeastPasses, TimeIsPositive, EveryPassing, PassingTakes, BringsToZero, OneNext, OnePassing, StaysWhole, StartFits, StaysFit, EveryNext, OneChosenRun, EveryChosenRun, ChosenRunsAreRuns, WhatCanActs, WhatSendsIsASend, WhatReceivesIsAReceive, NumbersAreFree, OneNumberIsLeast, LowStays, LowPasses};
 ghost use Rattle.pz_rules.specs.devices.Computed.{TestsAreComputed, TimesAreComputed, PartsAreComputed, PassingIsComputed, OnePassingIsComputed};
 ghost use Rattle.pz_rules.specs.devices.Ends.{PassingsEnd, ActivePartsFit};
 ghost use Rattle.pz_rules.specs.devices.Walks.{InternalActionsAreListed, SendsAreListed, SendsHaveParcels, ReceivesAreListed, DelaysAreListed, TroublesAreListed};
@@ -114,4 +114,16 @@ pub fn offered_parts_act()
     ensures acts { WhatCanActs }
     ensures sends { WhatSendsIsASend }
     ensures receives { WhatReceivesIsAReceive }
+{}
+
+/// The number of a frame that opens is the least that no open frame has, and no other number is.
+pub fn frames_are_numbered()
+    ensures free { NumbersAreFree }
+    ensures one { OneNumberIsLeast }
+{}
+
+/// Where no term is higher than the limit, none is after an action or a passing of time.
+pub fn low_terms_stay()
+    ensures action { LowStays }
+    ensures passing { LowPasses }
 {}

@@ -1,4 +1,5 @@
 // Runs of models.
+ghost use Rattle.std.specs.Prelude.{◌≡◌, ◌<◌};
 ghost use Rattle.pz_syntax.specs.Classes.{ModelTree};
 ghost use Rattle.pz_classes.specs.CheckedView.{checked_model};
 ghost use Rattle.pz_rules.specs.Settings.{Setting};
@@ -15,18 +16,25 @@ use crate::starting::start;
 use pz_classes::Checked;
 use pz_io::{Halt, Sink};
 use pz_run_playing::{Finale, play_menu, play_summary, play_trace};
-use pz_term::Plain;
+use pz_term::{Plain, Steps};
 use std::alloc::Global;
+use std::marker::Brand;
 use std::mem::drop;
+use std::sync::ledger::{Blank, Ledger};
 
-// Plays the run from the start of a simulator on, and prints what is told of it.
-fn play_from<W: Sink>(
+// Plays the run from the start of a simulator on, and prints what is told of it. The steps that it takes
+// are counted in a ledger of their own.
+fn play_from<L: Ledger, W: Sink>(
     alloc: Global,
     plain: &mut Plain,
     play: Play,
+    ledger: Blank,
     out: &mut W,
 ) -> Result<Finale, Halt>
-    requires { (setting : Setting) × Starts setting (simulation_of plain.old) }
+    requires name { ledger.name ≡ L.name }
+    requires parts { ledger.parts ≡ L.parts }
+    requires some { 0 < L.parts }
+    requires starts { (setting : Setting) × Starts setting (simulation_of plain.old) }
     ensures { (setting : Setting) → Starts setting (simulation_of plain.old) →
         Plays setting (policy_for play) (told_of play.telling) (simulation_of plain.new)
         (W.state out.old) (W.state out.new) result }
@@ -36,10 +44,11 @@ fn play_from<W: Sink>(
         limits,
         telling,
     } = play;
+    let mut steps = Steps::<L>::new(ledger);
     match telling {
-        Telling::Trace => play_trace(alloc, plain, choice, limits, out),
-        Telling::Summary => play_summary(alloc, plain, choice, limits, out),
-        Telling::Menu => play_menu(alloc, plain, choice, limits, out),
+        Telling::Trace => play_trace(alloc, plain, choice, limits, &mut steps, out),
+        Telling::Summary => play_summary(alloc, plain, choice, limits, &mut steps, out),
+        Telling::Menu => play_menu(alloc, plain, choice, limits, &mut steps, out),
     }
 }
 
@@ -49,7 +58,7 @@ fn play_plain<W: Sink>(alloc: Global, mut plain: Plain, play: Play, out: &mut W)
     ensures { (m : ModelTree) → Starts (setting_for m play) (simulation_of plain) →
         Says (PrintsRun play m) (W.state out.old) (W.state out.new) result }
 {
-    let ended = play_from(alloc, &mut plain, play, out);
+    let ended = play_from::<Brand, W>(alloc, &mut plain, play, Blank::new(1), out);
     drop(plain);
     Status::played(ended)
 }

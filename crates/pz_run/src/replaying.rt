@@ -1,11 +1,11 @@
 // Replays of traces.
-ghost use Rattle.std.specs.Prelude.{◌-◌, ◌<◌, ◌^◌, ℕ, length};
+ghost use Rattle.std.specs.Prelude.{◌≡◌, ◌-◌, ◌<◌, ◌^◌, ℕ, length};
 ghost use Rattle.pz_syntax.specs.Classes.{ModelTree};
 ghost use Rattle.pz_classes.specs.CheckedView.{checked_model};
 ghost use Rattle.pz_rules.specs.Settings.{Setting};
 ghost use Rattle.pz_term.specs.Simulations.{Starts};
 ghost use Rattle.pz_term.specs.Plains.{simulation_of};
-ghost use Rattle.pz_run_replaying.specs.Replays.{TellsLines};
+ghost use Rattle.pz_run_replaying.specs.Replays.{TellsLines, IsReplayed};
 ghost use Rattle.pz_run.specs.Files.{trace_file};
 ghost use Rattle.pz_run.specs.Plays.{setting_with};
 ghost use Rattle.pz_run.specs.Output.{PrintsReplay};
@@ -20,12 +20,14 @@ use crate::limits::{MODEL_LIMIT, TRACE_LIMIT};
 use crate::starting::start;
 use crate::texts::say_refused;
 use pz_classes::Checked;
-use pz_io::{Files, Sink, read_all};
+use pz_io::{Files, Halt, Sink, read_all};
 use pz_run_reading::read_model;
-use pz_run_replaying::replay;
-use pz_term::Plain;
+use pz_run_replaying::{Replayed, replay};
+use pz_term::{Plain, Steps};
 use std::alloc::Global;
+use std::marker::Brand;
 use std::mem::drop;
+use std::sync::ledger::{Blank, Ledger};
 
 /// Replays a trace on a model, each of which is a file. The trace is opened once the model is accepted.
 pub fn replay_file<F: Files, W: Sink>(
@@ -106,14 +108,35 @@ fn replay_trace<W: Sink>(
     }
 }
 
-// The same from the start of a simulator on.
+// Replays them from the start of a simulator on. The steps that it takes are counted in a ledger of their
+// own.
+fn replay_from<L: Ledger, W: Sink>(
+    alloc: Global,
+    plain: &mut Plain,
+    trace: &[u8],
+    ledger: Blank,
+    out: &mut W,
+) -> Result<Replayed, Halt>
+    requires name { ledger.name ≡ L.name }
+    requires parts { ledger.parts ≡ L.parts }
+    requires some { 0 < L.parts }
+    requires starts { (setting : Setting) × Starts setting (simulation_of plain.old) }
+    ensures { (setting : Setting) → Starts setting (simulation_of plain.old) → TellsLines setting →
+        IsReplayed setting trace.now (simulation_of plain.new) (W.state out.old)
+        (W.state out.new) result }
+{
+    let mut steps = Steps::<L>::new(ledger);
+    replay(alloc, plain, trace, &mut steps, out)
+}
+
+// The same, with the status of the replay.
 fn replay_plain<W: Sink>(alloc: Global, mut plain: Plain, trace: &[u8], out: &mut W) -> Status
     requires { (setting : Setting) × Starts setting (simulation_of plain) }
     ensures { (m : ModelTree) (units : ℕ) → Starts (setting_with m units) (simulation_of plain) →
         TellsLines (setting_with m units) → Says (PrintsReplay units m trace.now) (W.state out.old)
         (W.state out.new) result }
 {
-    let ended = replay(alloc, &mut plain, trace, out);
+    let ended = replay_from::<Brand, W>(alloc, &mut plain, trace, Blank::new(1), out);
     drop(plain);
     Status::replayed(ended)
 }

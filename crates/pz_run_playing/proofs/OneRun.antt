@@ -4,11 +4,10 @@ use Rattle.std.specs.Prelude.{slice_get}
 use Rattle.std.proofs.lemmas.Option.{slice_get_within}
 use Rattle.pz_bind_levels.specs.Places.{Address}
 use Rattle.pz_bind.specs.Nest.{processes}
-use Rattle.pz_bind.specs.Values.{values_at}
-use Rattle.pz_rules.specs.Terms.{Step, leaf}
+use Rattle.pz_rules.specs.Terms.{Step}
 use Rattle.pz_rules.specs.Settings.{Setting, Process}
 use Rattle.pz_rules.specs.Configurations.{Config}
-use Rattle.pz_rules.specs.Starting.{StartsAs, IsStart}
+use Rattle.pz_rules.specs.Starting.{begins_with, StartsAs, IsStart}
 use Rattle.pz_rules.specs.ChosenRuns.{IsChosenRun}
 use Rattle.pz_rules.specs.Laws.{OneChosenRun, StartFits}
 use Rattle.pz_run_playing.specs.Laws.{HasOneRun}
@@ -35,7 +34,7 @@ module _ (setting : Setting) where
   one_process : (place : Address) (p q : Process) → StartsAs setting place p → StartsAs setting place q → p ≡ q
   one_process place p q a b =
       let same : a.call ≡ b.call = some_is a.call b.call (sym a.is_call ∙ b.is_call) in
-      a.stands ∙ ap (λ (s : Step). let x : Process = record { term = leaf s; state = record { vars = values_at setting.model place; frames = []; objects = [] } } in x) same ∙ sym b.stands
+      a.stands ∙ ap (begins_with setting place) same ∙ sym b.stands
 
   module _ (c d : Config) (a : IsStart setting c) (b : IsStart setting d) where
     same_at : (i : ℕ) (p q : Process) → slice_get c.processes i ≡ Some p → slice_get d.processes i ≡ Some q → p ≡ q

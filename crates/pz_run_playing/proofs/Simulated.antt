@@ -1,5 +1,5 @@
 -- What is known of a simulator, by where it stands.
-use Rattle.std.proofs.Common.{◌≡◌, ◌<◌, ℕ, List, length, get_or, sym, subst}
+use Rattle.std.proofs.Common.{◌≡◌, ℕ, subst}
 use Rattle.pz_bind.specs.declared.net.Net.{Net}
 use Rattle.pz_bind.specs.devices.Nets.{IsNet}
 use Rattle.pz_offer.specs.declared.trouble.Trouble.{Trouble}
@@ -7,7 +7,7 @@ use Rattle.pz_rules.specs.declared.action.Action.{Action}
 use Rattle.pz_rules.specs.declared.moment.Moment.{Moment}
 use Rattle.pz_rules.specs.declared.moment.Moment.TheVariants.{Actions, Time, Stopped, Broken}
 use Rattle.pz_trace.specs.Named.{IsNamed}
-use Rattle.pz_term.specs.Simulations.{Simulation, stands, broken, IsMomentOf, AreOffersOf, ClockIs, model_in, clock_in}
+use Rattle.pz_term.specs.Simulations.{Simulation, stands, broken, IsMomentOf, IsOffer, ClockIs, model_in, clock_in}
 use Rattle.pz_term.specs.Refusals.{NoTime}
 use Rattle.pz_term.specs.Laws.{OneMomentOf, IsDerivedIn}
 use Rattle.pz_run_playing.specs.devices.Known.{Known}
@@ -44,6 +44,5 @@ named_by known (stands setting c standing) a net is_net derived = known.offers_n
 named_by known (broken setting) a net is_net derived = absurd derived
 
 -- an offer names what is there
-pub named_here : Known → (s : Simulation) (offers : List Action) (k : ℕ) (a : Action) (net : Net) → AreOffersOf s offers → k < length offers → a ≡ get_or offers k a → ∥ IsNet (model_in s) net ∥₁ → IsNamed net a
-named_here known s offers k a net are within is is_net =
-    subst (IsNamed net) (sym is) (named_by known s (get_or offers k a) net is_net (known.offers_derived s offers are k a within))
+pub named_here : Known → (s : Simulation) (k : ℕ) (a : Action) (net : Net) → IsOffer s k a → ∥ IsNet (model_in s) net ∥₁ → IsNamed net a
+named_here known s k a net offer is_net = named_by known s a net is_net (known.offers_derived s k a offer)

@@ -81,7 +81,7 @@ pub(crate) fn offer_line(
     alloc: Global,
     checked: &Checked,
     net: &Net,
-    number: usize,
+    number: u64,
     action: &Action,
 ) -> Result<Vec<u8>, AllocError>
     requires of_model { ∥ IsNet (checked_model checked.now) net.now ∥₁ }

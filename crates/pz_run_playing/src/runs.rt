@@ -2,7 +2,6 @@
 
 ghost use Rattle.pz_rules.specs.Settings.{Setting};
 ghost use Rattle.pz_term.specs.Simulations.{Starts};
-ghost use Rattle.pz_term.specs.Plains.{simulation_of};
 ghost use Rattle.pz_run_playing.specs.Policies.{resolver_of, policy_of};
 ghost use Rattle.pz_run_playing.specs.Playing.{Plays, trace, summary, menu};
 
@@ -11,10 +10,11 @@ use crate::laws::rules_are_known;
 use crate::playing::play;
 use crate::telling::{tell_last, tell_offers, tell_summary};
 use pz_io::{Halt, Sink};
-use pz_term::Plain;
+use pz_term::{Simulator, Steps};
 use pz_trace::Ending;
 use pz_words::{Choice, RunLimits};
 use std::alloc::Global;
+use std::sync::ledger::Ledger;
 
 /// Plays the run that is chosen so, from the start of a simulator to its end, and writes its trace: the
 /// header, a line for each action and each passing of time before the simulator takes it, and the last
@@ -23,21 +23,22 @@ use std::alloc::Global;
 /// # Errors
 ///
 /// What was written is a front of the trace. What has become of the simulator is left open.
-pub fn play_trace<W: Sink>(
+pub fn play_trace<S: Simulator, L: Ledger, W: Sink>(
     alloc: Global,
-    plain: &mut Plain,
+    sim: &mut S,
     choice: Choice,
     limits: RunLimits,
+    steps: &mut Steps<L>,
     out: &mut W,
 ) -> Result<Finale, Halt>
-    requires { (setting : Setting) × Starts setting (simulation_of plain.old) }
-    ensures { (setting : Setting) → Starts setting (simulation_of plain.old) →
-        Plays setting (policy_of (resolver_of choice) limits) trace (simulation_of plain.new)
+    requires { (setting : Setting) × Starts setting (S.simulation sim.old) }
+    ensures { (setting : Setting) → Starts setting (S.simulation sim.old) →
+        Plays setting (policy_of (resolver_of choice) limits) trace (S.simulation sim.new)
         (W.state out.old) (W.state out.new) result }
 {
     rules_are_known();
-    let played = play(alloc, plain, choice, limits, true, out)?;
-    tell_last(alloc, plain, played.finale, out)?;
+    let played = play(alloc, sim, choice, limits, true, steps, out)?;
+    tell_last(alloc, sim, played.finale, out)?;
     Ok(played.finale)
 }
 
@@ -46,21 +47,22 @@ pub fn play_trace<W: Sink>(
 /// # Errors
 ///
 /// What was written is a front of that line. What has become of the simulator is left open.
-pub fn play_summary<W: Sink>(
+pub fn play_summary<S: Simulator, L: Ledger, W: Sink>(
     alloc: Global,
-    plain: &mut Plain,
+    sim: &mut S,
     choice: Choice,
     limits: RunLimits,
+    steps: &mut Steps<L>,
     out: &mut W,
 ) -> Result<Finale, Halt>
-    requires { (setting : Setting) × Starts setting (simulation_of plain.old) }
-    ensures { (setting : Setting) → Starts setting (simulation_of plain.old) →
-        Plays setting (policy_of (resolver_of choice) limits) summary (simulation_of plain.new)
+    requires { (setting : Setting) × Starts setting (S.simulation sim.old) }
+    ensures { (setting : Setting) → Starts setting (S.simulation sim.old) →
+        Plays setting (policy_of (resolver_of choice) limits) summary (S.simulation sim.new)
         (W.state out.old) (W.state out.new) result }
 {
     rules_are_known();
-    let played = play(alloc, plain, choice, limits, false, out)?;
-    tell_summary(alloc, plain, played, out)?;
+    let played = play(alloc, sim, choice, limits, false, steps, out)?;
+    tell_summary(alloc, sim, played, out)?;
     Ok(played.finale)
 }
 
@@ -70,27 +72,28 @@ pub fn play_summary<W: Sink>(
 /// # Errors
 ///
 /// What was written is a front of the trace and these lines. What has become of the simulator is left open.
-pub fn play_menu<W: Sink>(
+pub fn play_menu<S: Simulator, L: Ledger, W: Sink>(
     alloc: Global,
-    plain: &mut Plain,
+    sim: &mut S,
     choice: Choice,
     limits: RunLimits,
+    steps: &mut Steps<L>,
     out: &mut W,
 ) -> Result<Finale, Halt>
-    requires { (setting : Setting) × Starts setting (simulation_of plain.old) }
-    ensures { (setting : Setting) → Starts setting (simulation_of plain.old) →
-        Plays setting (policy_of (resolver_of choice) limits) menu (simulation_of plain.new)
+    requires { (setting : Setting) × Starts setting (S.simulation sim.old) }
+    ensures { (setting : Setting) → Starts setting (S.simulation sim.old) →
+        Plays setting (policy_of (resolver_of choice) limits) menu (S.simulation sim.new)
         (W.state out.old) (W.state out.new) result }
 {
     rules_are_known();
-    let _model = plain.checked().model();
-    let finale = play_trace(alloc, plain, choice, limits, out)?;
+    let _model = sim.checked().model();
+    let finale = play_trace(alloc, sim, choice, limits, steps, out)?;
     let Finale::Ended(ending) = finale else {
         return Ok(finale);
     };
     match ending {
         Ending::Stop => {
-            tell_offers(alloc, plain, out)?;
+            tell_offers(alloc, sim, out)?;
             Ok(finale)
         }
         _ => Ok(finale),

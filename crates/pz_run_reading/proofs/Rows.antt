@@ -54,7 +54,7 @@ system_alone = record { decls = system (record { pos = origin; instances = None;
 
 nothing_cut : (n : ℕ) → n ≤ 0 → IsCut nesting_limit (take n [])
 unfolding system_alone
-nothing_cut zero le = inl (system_alone, keyword k.System ∷ [], (tt, (tt, tt)), omega arith, refl)
+nothing_cut zero le = (system_alone, (tt, (tt, tt)), inl (keyword k.System ∷ [], refl))
 nothing_cut (suc n) le = absurd (omega (arith, le))
 
 -- no text at all

@@ -16,7 +16,7 @@ use Rattle.pz_rules.specs.Runs.{Standing, whole, stopped, IsChoice}
 use Rattle.pz_trace.specs.declared.ending.Ending.{Ending}
 use Rattle.pz_trace.specs.declared.ending.Ending.TheVariants as ending
 use Rattle.pz_trace.specs.Named.{IsNamed, IsNamedAtEnd}
-use Rattle.pz_term.specs.Simulations.{Simulation, stands, broken, IsMomentOf, AreOffersOf, ClockIs, model_in, clock_in, IsOfferIn, IsOffer}
+use Rattle.pz_term.specs.Simulations.{Simulation, stands, broken, IsMomentOf, ClockIs, model_in, clock_in, IsOfferIn, IsOffer}
 use Rattle.pz_term.specs.Laws.{IsDerivedIn}
 use Rattle.pz_run_replaying.specs.Stages.{Stage, unbegun, concluded}
 use Rattle.pz_run_replaying.specs.devices.Known.{Known}
@@ -60,9 +60,8 @@ derived_is_named known (stands setting c standing) a net is_net derived = known.
 derived_is_named known (broken setting) a net is_net derived = absurd derived
 
 -- an offer names what is there
-pub named_here : Known → (s : Simulation) (offers : List Action) (k : ℕ) (a : Action) (net : Net) → AreOffersOf s offers → k < length offers → a ≡ get_or offers k a → ∥ IsNet (model_in s) net ∥₁ → IsNamed net a
-named_here known s offers k a net are within is is_net =
-    subst (IsNamed net) (sym is) (derived_is_named known s (get_or offers k a) net is_net (known.offers_derived s offers are k a within))
+pub named_here : Known → (s : Simulation) (k : ℕ) (a : Action) (net : Net) → IsOffer s k a → ∥ IsNet (model_in s) net ∥₁ → IsNamed net a
+named_here known s k a net offer is_net = derived_is_named known s a net is_net (known.offers_derived s k a offer)
 
 some_action : Action
 some_action = Internal (record { process = 0; place = [] }) Skip (record { line = 0; column = 0 })

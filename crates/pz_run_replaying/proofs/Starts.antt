@@ -4,20 +4,18 @@ use Rattle.std.specs.Prelude.{slice_get}
 use Rattle.std.proofs.lemmas.List.{ext_get_or}
 use Rattle.std.proofs.lemmas.Option.{slice_get-get_or}
 use Rattle.pz_bind.specs.Nest.{processes}
-use Rattle.pz_bind.specs.Values.{values_at}
 use Rattle.pz_bind_levels.specs.Places.{Address}
-use Rattle.pz_rules.specs.Terms.{Step, done, leaf}
+use Rattle.pz_rules.specs.Terms.{done}
 use Rattle.pz_rules.specs.Settings.{Setting, Process}
 use Rattle.pz_rules.specs.Configurations.{Config}
-use Rattle.pz_rules.specs.Starting.{StartsAs, IsStart}
+use Rattle.pz_rules.specs.Starting.{begins_with, StartsAs, IsStart}
 
 some_is : {A : Type 0} {x y : A} → Some x ≡ Some y → x ≡ y
 some_is h = cc
 
 starts_alike : (setting : Setting) (place : Address) (p q : Process) → StartsAs setting place p → StartsAs setting place q → p ≡ q
 starts_alike setting place p q x y =
-    let start : Step → Process = λ call. record { term = leaf call; state = record { vars = values_at setting.model place; frames = []; objects = [] } } in
-    x.stands ∙ ap start (some_is (sym x.is_call ∙ y.is_call)) ∙ sym y.stands
+    x.stands ∙ ap (begins_with setting place) (some_is (sym x.is_call ∙ y.is_call)) ∙ sym y.stands
 
 no_process : Process
 no_process = record { term = done; state = record { vars = []; frames = []; objects = [] } }

@@ -4,7 +4,6 @@ ghost use Rattle.std.specs.Prelude.{◌≡◌, ◌≢◌, ◌<◌, ◌++◌, ℕ
 ghost use Rattle.pz_rules.specs.declared.action.Action.{Action as TheAction};
 ghost use Rattle.pz_trace.specs.Lines as trace_lines;
 ghost use Rattle.pz_term.specs.Simulations.{IsMomentOf};
-ghost use Rattle.pz_term.specs.Plains.{simulation_of};
 ghost use Rattle.pz_run_replaying.specs.devices.Fronts.{StartsWith};
 ghost use Rattle.pz_term.specs.Simulations.{model_in, clock_in, IsOffer};
 ghost use Rattle.pz_run_replaying.specs.devices.Readiness.{IsReady, IsLast, IsNamedLast, HasFewOffers};
@@ -12,7 +11,7 @@ ghost use Rattle.pz_run_replaying.specs.devices.Judging.{Judges};
 
 use crate::fronts::{front_len, named_offer};
 use crate::laws::rules_are_known;
-use pz_term::{Moment, Plain};
+use pz_term::{Moment, Simulator};
 use pz_trace::{Ending, action_line, end_line, time_line};
 use std::alloc::{AllocError, Global};
 
@@ -37,72 +36,71 @@ pub(crate) enum Judged {
 }
 
 // The last line of a run that ends so where the simulator stands. The only error is want of memory.
-fn last_line(alloc: Global, plain: &Plain, ending: Ending) -> Result<Vec<u8>, AllocError>
-    requires ready { IsReady (simulation_of plain.now) }
-    requires named { IsNamedLast (simulation_of plain.now) ending }
+fn last_line<S: Simulator>(alloc: Global, sim: &S, ending: Ending) -> Result<Vec<u8>, AllocError>
+    requires ready { IsReady (S.simulation sim.now) }
+    requires named { IsNamedLast (S.simulation sim.now) ending }
     ensures { IfOk result (λ line. line.items ≡ trace_lines.end_line
-        (model_in (simulation_of plain.now)) (clock_in (simulation_of plain.now)) ending) }
+        (model_in (S.simulation sim.now)) (clock_in (S.simulation sim.now)) ending) }
 {
-    end_line(alloc, plain.net(), plain.clock(), &ending)
+    end_line(alloc, sim.net(), sim.clock(), &ending)
 }
 
 // How long the line of a stop is, if what is left begins with it. The only error is want of memory.
-fn stop_len(alloc: Global, plain: &Plain, rest: &[u8]) -> Result<Option<usize>, AllocError>
-    requires { IsReady (simulation_of plain.now) }
+fn stop_len<S: Simulator>(alloc: Global, sim: &S, rest: &[u8]) -> Result<Option<usize>, AllocError>
+    requires { IsReady (S.simulation sim.now) }
     ensures { IfOk result (λ found. MatchOption found ((left : List ℕ) →
-        rest.now ≡ trace_lines.end_line (model_in (simulation_of plain.now))
-        (clock_in (simulation_of plain.now)) Ending.Stop ++ left →
-        ⊥) (StartsWith rest.now (trace_lines.end_line (model_in (simulation_of plain.now))
-        (clock_in (simulation_of plain.now)) Ending.Stop))) }
+        rest.now ≡ trace_lines.end_line (model_in (S.simulation sim.now))
+        (clock_in (S.simulation sim.now)) Ending.Stop ++ left →
+        ⊥) (StartsWith rest.now (trace_lines.end_line (model_in (S.simulation sim.now))
+        (clock_in (S.simulation sim.now)) Ending.Stop))) }
 {
-    let line = last_line(alloc, plain, Ending::Stop)?;
+    let line = last_line(alloc, sim, Ending::Stop)?;
     Ok(front_len(rest, line.as_slice()))
 }
 
 // The line of the offer of this number, from 0, where it is taken. The only error is want of memory.
-fn offer_line(
+fn offer_line<S: Simulator>(
     alloc: Global,
-    plain: &Plain,
+    sim: &S,
     clock: u128,
     offers: u64,
     number: u64,
 ) -> Result<Vec<u8>, AllocError>
-    requires at { clock ≡ clock_in (simulation_of plain.now) }
-    requires moment { IsMomentOf (simulation_of plain.now) (Moment.Actions offers) }
+    requires at { clock ≡ clock_in (S.simulation sim.now) }
+    requires moment { IsMomentOf (S.simulation sim.now) (Moment.Actions offers) }
     requires there { number < offers }
-    ensures { IfOk result (λ line. (a : TheAction) → IsOffer (simulation_of plain.now) number a →
-        line.items ≡ trace_lines.action_line (model_in (simulation_of plain.now))
-        (clock_in (simulation_of plain.now)) offers number a) }
+    ensures { IfOk result (λ line. (a : TheAction) → IsOffer (S.simulation sim.now) number a →
+        line.items ≡ trace_lines.action_line (model_in (S.simulation sim.now))
+        (clock_in (S.simulation sim.now)) offers number a) }
 {
     rules_are_known();
-    let actions = plain.offers();
-    let action = &actions[number as usize];
+    let action = sim.offer(number)?;
     action_line(
         alloc,
-        plain.checked(),
-        plain.net(),
+        sim.checked(),
+        sim.net(),
         clock,
         offers,
         number,
-        action,
+        &action,
     )
 }
 
 // Where there are offers: one is taken, or the run is stopped.
-fn judge_action(
+fn judge_action<S: Simulator>(
     alloc: Global,
-    plain: &Plain,
+    sim: &S,
     offers: u64,
     rest: &[u8],
 ) -> Result<Judged, AllocError>
-    requires ready { IsReady (simulation_of plain.now) }
-    requires moment { IsMomentOf (simulation_of plain.now) (Moment.Actions offers) }
-    ensures judges { IfOk result (Judges (simulation_of plain.now) rest.now) }
-    ensures few { HasFewOffers (simulation_of plain.now) }
+    requires ready { IsReady (S.simulation sim.now) }
+    requires moment { IsMomentOf (S.simulation sim.now) (Moment.Actions offers) }
+    ensures judges { IfOk result (Judges (S.simulation sim.now) rest.now) }
+    ensures few { HasFewOffers (S.simulation sim.now) }
 {
     rules_are_known();
-    let clock = plain.clock();
-    if let Some(len) = stop_len(alloc, plain, rest)? {
+    let clock = sim.clock();
+    if let Some(len) = stop_len(alloc, sim, rest)? {
         return Ok(Judged::Ends {
             ending: Ending::Stop,
             len,
@@ -111,7 +109,7 @@ fn judge_action(
     let Some(number) = named_offer(rest, offers) else {
         return Ok(Judged::Differs { expected: None });
     };
-    let line = offer_line(alloc, plain, clock, offers, number)?;
+    let line = offer_line(alloc, sim, clock, offers, number)?;
     match front_len(rest, line.as_slice()) {
         Some(len) => Ok(Judged::Goes {
             step: Move::Act { offers, number },
@@ -124,24 +122,24 @@ fn judge_action(
 }
 
 // Where time passes: it does, or the run is stopped.
-fn judge_passing(
+fn judge_passing<S: Simulator>(
     alloc: Global,
-    plain: &Plain,
+    sim: &S,
     time: u128,
     rest: &[u8],
 ) -> Result<Judged, AllocError>
-    requires ready { IsReady (simulation_of plain.now) }
-    requires moment { IsMomentOf (simulation_of plain.now) (Moment.Time time) }
-    ensures { IfOk result (Judges (simulation_of plain.now) rest.now) }
+    requires ready { IsReady (S.simulation sim.now) }
+    requires moment { IsMomentOf (S.simulation sim.now) (Moment.Time time) }
+    ensures { IfOk result (Judges (S.simulation sim.now) rest.now) }
 {
     rules_are_known();
-    if let Some(len) = stop_len(alloc, plain, rest)? {
+    if let Some(len) = stop_len(alloc, sim, rest)? {
         return Ok(Judged::Ends {
             ending: Ending::Stop,
             len,
         });
     }
-    let line = time_line(alloc, plain.clock(), time)?;
+    let line = time_line(alloc, sim.clock(), time)?;
     match front_len(rest, line.as_slice()) {
         Some(len) => Ok(Judged::Goes {
             step: Move::Wait { time },
@@ -154,18 +152,18 @@ fn judge_passing(
 }
 
 // Where a run ends by itself, it ends so.
-fn judge_end(
+fn judge_end<S: Simulator>(
     alloc: Global,
-    plain: &Plain,
+    sim: &S,
     ending: Ending,
     rest: &[u8],
 ) -> Result<Judged, AllocError>
-    requires ready { IsReady (simulation_of plain.now) }
-    requires last { IsLast (simulation_of plain.now) ending }
-    ensures { IfOk result (Judges (simulation_of plain.now) rest.now) }
+    requires ready { IsReady (S.simulation sim.now) }
+    requires last { IsLast (S.simulation sim.now) ending }
+    ensures { IfOk result (Judges (S.simulation sim.now) rest.now) }
 {
     rules_are_known();
-    let line = last_line(alloc, plain, ending)?;
+    let line = last_line(alloc, sim, ending)?;
     match front_len(rest, line.as_slice()) {
         Some(len) => Ok(Judged::Ends { ending, len }),
         None => Ok(Judged::Differs {
@@ -176,19 +174,19 @@ fn judge_end(
 
 /// What stands first in what is left of a trace, where the simulator stands. The only error is want of
 /// memory.
-pub(crate) fn judge(alloc: Global, plain: &Plain, rest: &[u8]) -> Result<Judged, AllocError>
-    requires { IsReady (simulation_of plain.now) }
-    ensures judges { IfOk result (Judges (simulation_of plain.now) rest.now) }
-    ensures few { HasFewOffers (simulation_of plain.now) }
+pub(crate) fn judge<S: Simulator>(alloc: Global, sim: &S, rest: &[u8]) -> Result<Judged, AllocError>
+    requires { IsReady (S.simulation sim.now) }
+    ensures judges { IfOk result (Judges (S.simulation sim.now) rest.now) }
+    ensures few { HasFewOffers (S.simulation sim.now) }
 {
     rules_are_known();
-    match plain.moment() {
-        Moment::Actions(offers) => judge_action(alloc, plain, offers, rest),
-        Moment::Time(time) => judge_passing(alloc, plain, time, rest),
-        Moment::Finished => judge_end(alloc, plain, Ending::End, rest),
-        Moment::Deadlock => judge_end(alloc, plain, Ending::Deadlock, rest),
-        Moment::Faulty(trouble) => judge_end(alloc, plain, Ending::Trouble(trouble), rest),
-        Moment::Stopped(trouble) => judge_end(alloc, plain, Ending::Trouble(trouble), rest),
+    match sim.moment() {
+        Moment::Actions(offers) => judge_action(alloc, sim, offers, rest),
+        Moment::Time(time) => judge_passing(alloc, sim, time, rest),
+        Moment::Finished => judge_end(alloc, sim, Ending::End, rest),
+        Moment::Deadlock => judge_end(alloc, sim, Ending::Deadlock, rest),
+        Moment::Faulty(trouble) => judge_end(alloc, sim, Ending::Trouble(trouble), rest),
+        Moment::Stopped(trouble) => judge_end(alloc, sim, Ending::Trouble(trouble), rest),
         Moment::Broken => unreachable!(),
     }
 }

@@ -3,7 +3,6 @@
 ghost use Rattle.std.specs.Prelude.{◌≡◌, ◌<◌, ◌+◌, ◌^◌, ℕ, suc, List, [], length};
 ghost use Rattle.pz_rules.specs.Settings.{Setting};
 ghost use Rattle.pz_term.specs.Simulations.{Starts, setting_in};
-ghost use Rattle.pz_term.specs.Plains.{simulation_of};
 ghost use Rattle.pz_run_replaying.specs.Replays.{TellsLines, IsReplayed};
 ghost use Rattle.pz_run_replaying.specs.devices.Readiness.{IsReady, stage_of};
 ghost use Rattle.pz_run_replaying.specs.devices.Progress.{Progress, Answers};
@@ -15,34 +14,36 @@ use crate::laws::rules_are_known;
 use crate::moving::go;
 use crate::refusing::{conclude, refuse};
 use pz_io::{Halt, Sink, put};
-use pz_term::Plain;
+use pz_term::{Simulator, Steps};
 use pz_trace::header;
 use std::alloc::Global;
+use std::sync::ledger::Ledger;
 
 // Goes through the lines of a trace behind its header, of which the first has this number, from 1.
-fn follow<W: Sink>(
+fn follow<S: Simulator, L: Ledger, W: Sink>(
     alloc: Global,
-    plain: &mut Plain,
+    sim: &mut S,
     trace: &[u8],
     first: u64,
+    steps: &mut Steps<L>,
     out: &mut W,
 ) -> Result<Replayed, Halt>
-    requires ready { IsReady (simulation_of plain.old) }
+    requires ready { IsReady (S.simulation sim.old) }
     requires short { first + length trace.now < 2 ^ 64 }
     ensures { (whole : List ℕ) (lines : List (List ℕ)) →
-        TellsLines (setting_in (simulation_of plain.old)) →
-        Progress (setting_in (simulation_of plain.old)) whole lines
-        (stage_of (simulation_of plain.old)) trace.now → first ≡ suc (length lines) →
-        Answers (setting_in (simulation_of plain.old)) whole lines (W.state out.old)
-        (W.state out.new) (simulation_of plain.new) result }
+        TellsLines (setting_in (S.simulation sim.old)) →
+        Progress (setting_in (S.simulation sim.old)) whole lines
+        (stage_of (S.simulation sim.old)) trace.now → first ≡ suc (length lines) →
+        Answers (setting_in (S.simulation sim.old)) whole lines (W.state out.old)
+        (W.state out.new) (S.simulation sim.new) result }
 {
     rules_are_known();
     let mut rest = trace;
     let mut number = first;
     'lines: loop {
-        match judge(alloc, plain, rest)? {
+        match judge(alloc, sim, rest)? {
             Judged::Goes { step, len } => {
-                go(plain, step, front(rest, len), out)?;
+                go(sim, step, front(rest, len), steps, out)?;
                 rest = behind(rest, len);
                 number += 1;
             }
@@ -56,25 +57,26 @@ fn follow<W: Sink>(
 }
 
 // Goes through the lines of a trace.
-fn replay_lines<W: Sink>(
+fn replay_lines<S: Simulator, L: Ledger, W: Sink>(
     alloc: Global,
-    plain: &mut Plain,
+    sim: &mut S,
     trace: &[u8],
+    steps: &mut Steps<L>,
     out: &mut W,
 ) -> Result<Replayed, Halt>
-    requires { (setting : Setting) × Starts setting (simulation_of plain.old) }
-    ensures { (setting : Setting) → Starts setting (simulation_of plain.old) → TellsLines setting →
+    requires { (setting : Setting) × Starts setting (S.simulation sim.old) }
+    ensures { (setting : Setting) → Starts setting (S.simulation sim.old) → TellsLines setting →
         Answers setting trace.now [] (W.state out.old) (W.state out.new)
-        (simulation_of plain.new) result }
+        (S.simulation sim.new) result }
 {
     rules_are_known();
-    let _model = plain.checked().model();
+    let _model = sim.checked().model();
     let header = header(alloc)?;
     let Some(len) = front_len(trace, header.as_slice()) else {
         return refuse(alloc, 1, Some(header), out);
     };
     put(out, header.as_slice())?;
-    follow(alloc, plain, behind(trace, len), 2, out)
+    follow(alloc, sim, behind(trace, len), 2, steps, out)
 }
 
 /// Replays a trace on a simulator that stands at its start. The trace is accepted exactly where it is the
@@ -90,18 +92,19 @@ fn replay_lines<W: Sink>(
 ///
 /// What was written is a front of what is to be written. The simulator stands somewhere in a run, or is
 /// broken.
-pub fn replay<W: Sink>(
+pub fn replay<S: Simulator, L: Ledger, W: Sink>(
     alloc: Global,
-    plain: &mut Plain,
+    sim: &mut S,
     trace: &[u8],
+    steps: &mut Steps<L>,
     out: &mut W,
 ) -> Result<Replayed, Halt>
-    requires { (setting : Setting) × Starts setting (simulation_of plain.old) }
-    ensures { (setting : Setting) → Starts setting (simulation_of plain.old) → TellsLines setting →
-        IsReplayed setting trace.now (simulation_of plain.new) (W.state out.old)
+    requires { (setting : Setting) × Starts setting (S.simulation sim.old) }
+    ensures { (setting : Setting) → Starts setting (S.simulation sim.old) → TellsLines setting →
+        IsReplayed setting trace.now (S.simulation sim.new) (W.state out.old)
         (W.state out.new) result }
 {
     rules_are_known();
-    let _model = plain.checked().model();
-    replay_lines(alloc, plain, trace, out)
+    let _model = sim.checked().model();
+    replay_lines(alloc, sim, trace, steps, out)
 }

@@ -58,8 +58,8 @@ impl From<AllocError> for MakeError {
 }
 
 /// The state of a process: its variables, the locals of its open frames, and its objects. References
-/// in it name its objects. Marks nest; while one is open, what leads back to it is kept, and a change
-/// costs no more than without. Undoing costs as much as the changes since the mark.
+/// in it name its objects. Marks nest; while one is open, what leads back to it is kept: a variable, a
+/// local or an item once, however often it is assigned. Undoing costs as much as what is kept.
 #[derive(Debug, Drop)]
 pub struct State {
     contents: Contents,

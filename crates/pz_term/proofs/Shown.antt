@@ -1,8 +1,12 @@
 -- The moment and the offers of a simulator.
-use Rattle.std.proofs.Common.{◌≡◌, ℕ, List, length, refl, sym, ap, ◌∙◌, arith}
+use Rattle.std.proofs.Common.{◌≡◌, ℕ, List, length, Some, refl, sym, ap, subst, ◌∙◌}
+use Rattle.std.proofs.lemmas.Option.{get_or_from_slice_get, slice_get_within, same_Some}
 use Rattle.std.specs.Prelude.{slice_get}
+use Rattle.pz_offer.specs.declared.trouble.Trouble.{Trouble}
 use Rattle.pz_rules.specs.declared.action.Action.{Action}
+use Rattle.pz_rules.specs.declared.moment.Moment.TheVariants.{Actions, Stopped, Broken}
 use Rattle.pz_rules.specs.Settings.{Setting}
+use Rattle.pz_rules.specs.Offers.{Offers}
 use Rattle.pz_rules.specs.Runs.{whole, stopped}
 use Rattle.pz_rules.specs.Laws.{OneMoment, MomentsCountOffers, OneListOfOffers}
 use Rattle.pz_term_processes.specs.declared.process.Process.{Process}
@@ -10,9 +14,9 @@ use Rattle.pz_term.specs.declared.standing.Standing.{Standing}
 use Rattle.pz_term.specs.declared.standing.Standing.TheVariants as standing
 use Rattle.pz_term.specs.declared.plain.Plain.{Plain}
 use Rattle.pz_term.specs.Simulations as simulations
-use Rattle.pz_term.specs.Simulations.{Simulation, stands, broken, setting_in, model_in}
+use Rattle.pz_term.specs.Simulations.{Simulation, stands, broken, IsMomentOf, AreOffersOf, IsOffer, setting_in, model_in}
 use Rattle.pz_term.specs.Plains.{simulation_at, simulation_of, model_of}
-use Rattle.pz_term.specs.Laws.{OneMomentOf, OffersAreCounted, OffersAreNumbered, OffersAreDerived}
+use Rattle.pz_term.specs.Laws.{OneMomentOf, OffersAreThere, OffersAreCounted, OffersAreNumbered, OffersAreDerived, OneOfferOf}
 
 -- the setting of a plain simulator
 setting_at : (setting : Setting) (clock : ℕ) (ps : List Process) (x : Standing) → setting_in (simulation_at setting clock ps x) ≡ setting
@@ -39,5 +43,29 @@ offers_numbered one_list _ n k _ a now (simulations.some setting c m offers is a
 offers_numbered one_list _ n k _ a now (simulations.none s never) offer = absurd (never n now)
 
 pub offers_derived : OffersAreDerived
-offers_derived _ _ (simulations.some setting c n offers is are) k d within = are.derivable k d within
-offers_derived _ _ (simulations.none s never) k d within = absurd (omega (arith, within))
+offers_derived (stands setting c standing) k a offer =
+    subst (Offers setting c) (get_or_from_slice_get offer.offers k a a offer.chosen) (offer.all.derivable k a (slice_get_within offer.offers k a offer.chosen))
+offers_derived (broken setting) k a offer = absurd offer
+
+pub one_offer_of : OneListOfOffers → OneOfferOf
+one_offer_of one_list (stands setting c standing) k a b x y =
+    same_Some a b (sym x.chosen ∙ ap (λ (l : List Action). slice_get l k) (one_list setting c x.offers y.offers x.all y.all) ∙ y.chosen)
+one_offer_of one_list (broken setting) k a b x y = absurd x
+
+actions_stopped : {n : ℕ} {t : Trouble} → Actions n ≡ Stopped t → ⊥
+actions_stopped h = cc
+
+actions_broken : {n : ℕ} → Actions n ≡ Broken → ⊥
+actions_broken h = cc
+
+pub offers_there : MomentsCountOffers → OffersAreThere
+offers_there counts (stands setting c whole) n now =
+    let x = counts setting c n now in
+    (x.offers, simulations.some setting c n x.offers now x.all)
+offers_there counts (stands setting c (stopped trouble)) n now = absurd (actions_stopped now)
+offers_there counts (broken setting) n now = absurd (actions_broken now)
+
+-- an offer of the list is that of its number
+pub offer_of_list : (s : Simulation) (offers : List Action) (n k : ℕ) (a : Action) → AreOffersOf s offers → IsMomentOf s (Actions n) → slice_get offers k ≡ Some a → IsOffer s k a
+offer_of_list _ offers n k a (simulations.some setting c m _ is are) now chosen = record { offers = offers; all = are; chosen = chosen }
+offer_of_list _ _ n k a (simulations.none s never) now chosen = absurd (never n now)

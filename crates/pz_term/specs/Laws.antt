@@ -1,5 +1,5 @@
 -- Laws of simulators.
-use Rattle.std.specs.Prelude.{◌≡◌, ◌<◌, ℕ, List, length, get_or, Some, slice_get}
+use Rattle.std.specs.Prelude.{◌≡◌, ℕ, List, length, Some, slice_get}
 use Rattle.pz_rules.specs.declared.action.Action.{Action}
 use Rattle.pz_rules.specs.declared.moment.Moment.{Moment}
 use Rattle.pz_rules.specs.declared.moment.Moment.TheVariants.{Actions}
@@ -25,4 +25,12 @@ IsDerivedIn (broken setting) a = ⊥
 
 -- each of its offers is one by the rules
 abbrev pub OffersAreDerived : Type 0
-OffersAreDerived = (s : Simulation) (offers : List Action) → AreOffersOf s offers → (k : ℕ) (d : Action) → k < length offers → IsDerivedIn s (get_or offers k d)
+OffersAreDerived = (s : Simulation) (k : ℕ) (a : Action) → IsOffer s k a → IsDerivedIn s a
+
+-- and its number tells which
+abbrev pub OneOfferOf : Type 0
+OneOfferOf = (s : Simulation) (k : ℕ) (a b : Action) → IsOffer s k a → IsOffer s k b → a ≡ b
+
+-- where its moment counts offers, they are there
+abbrev pub OffersAreThere : Type 0
+OffersAreThere = (s : Simulation) (n : ℕ) → IsMomentOf s (Actions n) → (offers : List Action) × AreOffersOf s offers

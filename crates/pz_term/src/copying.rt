@@ -5,7 +5,8 @@ ghost use Rattle.std.specs.Prelude.{◌≡◌, IfOk};
 use pz_rules::Action;
 use std::alloc::{AllocError, Global};
 
-fn copy_action(action: &Action) -> Result<Action, AllocError>
+/// An equal action.
+pub(crate) fn copy_action(action: &Action) -> Result<Action, AllocError>
     ensures { IfOk result (λ copy. copy ≡ action.now) }
 {
     match action {

@@ -12,11 +12,12 @@ use Rattle.pz_rules.specs.declared.term.Term.TheOpen.{Term-F}
 use Rattle.pz_rules.specs.declared.term.Term.TheVariants.{Done, Par, rolls-Done}
 use Rattle.pz_rules.specs.Terms as terms
 use Rattle.pz_rules.specs.Terms.{Terms}
-use Rattle.pz_rules.specs.Settings.{Process}
+use Rattle.pz_rules.specs.Settings.{Process, left_by}
 use Rattle.pz_eval_binding.specs.Binding.{set_slots}
-use Rattle.pz_rules.specs.Leaving.{is_done, all_done, joined, left_by, returned, around}
+use Rattle.pz_rules.specs.Leaving.{is_done, all_done, joined, returned}
 use Rattle.pz_rules.specs.View.{term_view, term_step, terms_view}
-use Rattle.pz_term_around.specs.Becoming.{Became}
+use Rattle.pz_rules.specs.Becoming.{Became}
+use Rattle.pz_rules.specs.devices.Plainly.{plainly_around as around}
 use Rattle.pz_term_around.proofs.SlotsSet.{taken_set}
 use Rattle.pz_term_around.proofs.Views.{view-Par}
 

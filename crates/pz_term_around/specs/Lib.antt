@@ -1,3 +1,2 @@
 pub mod Bare
-pub mod Becoming
 pub mod Laws

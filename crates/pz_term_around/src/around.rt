@@ -4,17 +4,19 @@ ghost use Rattle.std.specs.Prelude.{◌≡◌, ℕ, List, IfOk, false};
 ghost use Rattle.pz_classes_code.specs.StepView.{view, sequence_view};
 ghost use Rattle.pz_state.specs.States.{StateView};
 ghost use Rattle.pz_rules.specs.Terms as terms;
-ghost use Rattle.pz_rules.specs.Opening.{opened};
+ghost use Rattle.pz_rules.specs.Settings.{left_by};
 ghost use Rattle.pz_rules.specs.Leaving as leaving;
 ghost use Rattle.pz_rules.specs.View.{term_view, terms_view};
-ghost use Rattle.pz_term_around.specs.Becoming.{Became};
+ghost use Rattle.pz_rules.specs.Becoming.{Became};
+ghost use Rattle.pz_rules.specs.devices.Plainly.{plainly, plainly_handled, plainly_around};
 ghost use Rattle.pz_term_around.specs.Bare.{is_bare as bare};
 
 use crate::slots::copy_locals;
 use pz_classes_code::{Slot, Step};
 use pz_eval_binding::set_slots;
 use pz_items::{Boxed, Items, Shared};
-use pz_rules::{Rest, Term, open_rest, open_step};
+use pz_part_opening::{open_rest, open_step};
+use pz_rules::{Rest, Term};
 use pz_state::{FrameId, State};
 use std::alloc::{AllocError, Global};
 
@@ -40,8 +42,8 @@ pub fn all_done(parts: &[Term]) -> bool
 /// What is open, and the statements behind it; once it is done, these stand open.
 pub fn in_sequence(alloc: Global, left: Term, rest: Rest) -> Result<Term, AllocError>
     ensures { IfOk result (λ term. (f : ℕ) (s : StateView) (first : terms.Term) (i : ℕ) →
-        leaving.around f s (terms.sequence first (sequence_view rest)) i (term_view left) ≡
-        leaving.left_by s (term_view term)) }
+        plainly_around f s (terms.sequence first (sequence_view rest)) i (term_view left) ≡
+        left_by s (term_view term)) }
 {
     if is_done(&left) {
         return open_rest(alloc, rest);
@@ -93,14 +95,14 @@ pub fn in_interrupt(
 /// What is interrupted goes on, and the second part stands open afresh.
 fn reopened(alloc: Global, first: Boxed<Term>, again: Shared<Step>) -> Result<Term, AllocError>
     ensures { IfOk result (λ term. term_view term ≡ terms.idle (term_view first)
-        (opened (view again)) (view again)) }
+        (plainly (view again)) (view again)) }
 {
     let second = boxed_step(alloc, again.get())?;
     Ok(Term::Idle(first, second, again))
 }
 
 fn boxed_step(alloc: Global, step: &Step) -> Result<Boxed<Term>, AllocError>
-    ensures { IfOk result (λ term. term_view term ≡ opened (view step.now)) }
+    ensures { IfOk result (λ term. term_view term ≡ plainly (view step.now)) }
 {
     let term = open_step(alloc, step)?;
     Boxed::new(alloc, term)
@@ -114,7 +116,7 @@ pub fn in_handling(
     left: Term,
     again: Shared<Step>,
 ) -> Result<Term, AllocError>
-    ensures { IfOk result (λ term. term_view term ≡ leaving.handled (term_view first) (view again)
+    ensures { IfOk result (λ term. term_view term ≡ plainly_handled (term_view first) (view again)
         (term_view left)) }
 {
     if is_done(&left) {
@@ -169,7 +171,7 @@ pub fn in_frame(
     state: &mut State,
 ) -> Result<Term, AllocError>
     ensures { IfOk result (λ term. (body : terms.Term) (i : ℕ) →
-        Became (leaving.around outer.0 state.old.held (terms.frame frame.0 inputs results body) i
+        Became (plainly_around outer.0 state.old.held (terms.frame frame.0 inputs results body) i
         (term_view left)) (term_view term) state.old state.new) }
 {
     if is_done(&left) {

@@ -35,7 +35,8 @@ use Rattle.pz_rules.specs.declared.term.Term.TheVariants.{Leaf, rolls-Leaf}
 use Rattle.pz_rules.specs.Terms as terms
 use Rattle.pz_rules.specs.Settings.{Process}
 use Rattle.pz_rules.specs.View.{term_view, term_step}
-use Rattle.pz_rules.specs.Starting.{StartsAs}
+use Rattle.pz_rules.specs.Starting.{home_at, StartsAs}
+use Rattle.pz_rules.proofs.Begun.{begins}
 use Rattle.pz_term_processes.specs.Standing.{setting_of}
 use Rattle.pz_term_processes.proofs.Given.{values_plain}
 
@@ -102,5 +103,6 @@ starts_as set m classes net limits i class call copy values state place tabled k
       stands =
           ap (λ (t : terms.Term). let p : Process = record { term = t; state = state.held } in p) (view-Leaf copy ∙ ap (λ (s : Step). terms.leaf (step.view s)) same)
           ∙ ap (λ (s : StateView). let p : Process = record { term = terms.leaf (step.view call); state = s } in p) held
-          ∙ ap (λ (vs : List Value). let p : Process = record { term = terms.leaf (step.view call); state = record { vars = vs; frames = []; objects = [] } } in p) given;
+          ∙ ap (λ (vs : List Value). let p : Process = record { term = terms.leaf (step.view call); state = record { vars = vs; frames = []; objects = [] } } in p) given
+          ∙ begins m (home_at (setting_of m limits) place) (class_at m place) (step.view call) (values_at m place) (call_is set m classes net i class call place tabled known at is calls);
     }

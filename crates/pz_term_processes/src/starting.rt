@@ -30,7 +30,7 @@ fn copies_of(alloc: Global, values: &[Value]) -> Result<Vec<Value>, AllocError>
     Ok(copies)
 }
 
-/// A process before the call that the `init` of its class names.
+/// A process before the call that the `init` of its class names, which stands as it is.
 fn first_of(
     alloc: Global,
     checked: &Checked,

@@ -8,9 +8,10 @@ use Rattle.pz_rules.specs.declared.term.Term.TheVariants as form
 use Rattle.pz_rules.specs.declared.term.Term.TheFolds.{the_lemmas}
 use Rattle.pz_rules.specs.Terms as terms
 use Rattle.pz_rules.specs.Terms.{Terms, no_terms, and, count, term_at, parallel, select}
-use Rattle.pz_rules.specs.Leaving.{replaced, joined, left_by}
+use Rattle.pz_rules.specs.Leaving.{replaced, joined}
 use Rattle.pz_rules.specs.View.{term_view, terms_view}
 use Rattle.pz_rules.specs.Places.{MayActIn}
+use Rattle.pz_rules.specs.Settings.{left_by}
 use Rattle.pz_term_residual.specs.declared.levels.Level.TheVariants as level
 use Rattle.pz_term_residual.specs.devices.Unwound.{IsInside}
 

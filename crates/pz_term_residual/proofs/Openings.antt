@@ -8,8 +8,8 @@ use Rattle.pz_classes_code.specs.declared.step.StepForm.TheVariants as form
 use Rattle.pz_classes_code.specs.declared.step.StepForm.TheFolds.{the_lemmas}
 use Rattle.pz_classes_code.specs.StepView as step
 use Rattle.pz_rules.specs.Terms as terms
-use Rattle.pz_rules.specs.Opening.{opened, opened_all}
 use Rattle.pz_rules.specs.Leaving.{is_done}
+use Rattle.pz_rules.specs.devices.Plainly.{plainly as opened, plainly_all as opened_all}
 use Rattle.pz_term_around.specs.Bare.{is_bare}
 
 shows_step : (pos : Pos) (x : StepForm) → step.view (record { pos = pos; form = x }) ≡ step.form_view x pos

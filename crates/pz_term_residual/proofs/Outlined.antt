@@ -6,7 +6,7 @@ use Rattle.pz_classes_code.specs.declared.step.Step.{Step}
 use Rattle.pz_classes_code.specs.StepView as step
 use Rattle.pz_rules.specs.Terms.{Term, height}
 use Rattle.pz_rules.specs.Leaving.{is_done}
-use Rattle.pz_rules.specs.Opening.{opened, opened_all}
+use Rattle.pz_rules.specs.devices.Plainly.{plainly as opened, plainly_all as opened_all}
 use Rattle.pz_term_around.specs.Bare.{is_bare}
 use Rattle.pz_term_residual.specs.declared.outline.Outline.{Outline}
 use Rattle.pz_term_residual.specs.devices.Capped.{capped}

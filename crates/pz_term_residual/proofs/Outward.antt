@@ -7,9 +7,9 @@ use Rattle.pz_state.specs.declared.state.FrameId.{FrameId}
 use Rattle.pz_state.specs.States.{StateView}
 use Rattle.pz_state.specs.Marks.{Seen, changed}
 use Rattle.pz_rules.specs.Terms.{Term, done, sequence, frame}
-use Rattle.pz_rules.specs.Settings.{Process}
-use Rattle.pz_rules.specs.Leaving.{left_by, around}
-use Rattle.pz_term_around.specs.Becoming.{Became}
+use Rattle.pz_rules.specs.Settings.{Process, left_by}
+use Rattle.pz_rules.specs.Becoming.{Became}
+use Rattle.pz_rules.specs.devices.Plainly.{plainly_around as around}
 use Rattle.pz_term_residual.specs.declared.levels.Level.{Level}
 use Rattle.pz_term_residual.specs.declared.levels.Level.TheVariants as level
 use Rattle.pz_term_residual.specs.devices.Unwound.{put_round}

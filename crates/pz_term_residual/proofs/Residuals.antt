@@ -5,9 +5,10 @@ use Rattle.pz_offer.specs.PlaceOrder.{Place}
 use Rattle.pz_rules.specs.declared.term.Term.{Term}
 use Rattle.pz_rules.specs.Terms as terms
 use Rattle.pz_rules.specs.Terms.{Code, Step, Steps, sequence, parallel, select, guarded, frame, abort, idle, handling, Terms, count, term_at, child, frame_in}
-use Rattle.pz_rules.specs.Leaving.{left_by, residual}
 use Rattle.pz_rules.specs.View.{term_view, terms_view}
 use Rattle.pz_rules.specs.Places.{MayAct}
+use Rattle.pz_rules.specs.Settings.{left_by}
+use Rattle.pz_rules.specs.devices.Plainly.{plainly_residual as residual}
 use Rattle.pz_term_residual.specs.declared.outline.Outline.{Outline}
 use Rattle.pz_term_residual.specs.devices.Outlines.{IsRound, IsLeft}
 use Rattle.pz_term_residual.proofs.Beside.{count_is, part_is, part_at, parted}

@@ -5,8 +5,9 @@ use Rattle.std.proofs.lemmas.List.{nil_from_length}
 use Rattle.pz_classes_code.specs.declared.slot.Slot.{Slot}
 use Rattle.pz_state.specs.States.{StateView}
 use Rattle.pz_rules.specs.Terms.{Term, done, frame}
-use Rattle.pz_rules.specs.Settings.{Process}
-use Rattle.pz_rules.specs.Leaving.{is_done, left_by, framed, around}
+use Rattle.pz_rules.specs.Settings.{Process, left_by}
+use Rattle.pz_rules.specs.Leaving.{is_done, framed}
+use Rattle.pz_rules.specs.devices.Plainly.{plainly_around as around}
 use Rattle.pz_term_residual.specs.declared.outline.Outline.{Outline}
 use Rattle.pz_term_residual.specs.devices.Outlines.{outline, IsRound}
 

@@ -3,11 +3,11 @@ use Rattle.std.proofs.Common.{◌≡◌, ℕ, List, [], ◌∷◌, ◌++◌, ref
 use Rattle.pz_state.specs.Marks.{Seen}
 use Rattle.pz_offer.specs.PlaceOrder.{Place}
 use Rattle.pz_rules.specs.Terms.{Term, child, frame_in}
-use Rattle.pz_rules.specs.Settings.{Process}
-use Rattle.pz_rules.specs.Leaving.{left_by, residual}
+use Rattle.pz_rules.specs.Settings.{Process, left_by}
 use Rattle.pz_rules.specs.View.{term_view}
 use Rattle.pz_rules.specs.Places.{MayActIn, MayAct}
-use Rattle.pz_term_around.specs.Becoming.{Became}
+use Rattle.pz_rules.specs.Becoming.{Became}
+use Rattle.pz_rules.specs.devices.Plainly.{plainly_residual as residual}
 use Rattle.pz_term_residual.specs.declared.levels.Level.{Level}
 use Rattle.pz_term_residual.specs.declared.levels.Inside.{Inside}
 use Rattle.pz_term_residual.specs.devices.Unwound.{put_round, unwound, IsInside}

@@ -3,10 +3,11 @@
 ghost use Rattle.std.specs.Prelude.{◌≡◌, ◌<◌, length, Some, slice_get, slice_set, IfOk};
 ghost use Rattle.pz_classes_code.specs.StepView.{view};
 ghost use Rattle.pz_rules.specs.Terms as terms;
-ghost use Rattle.pz_rules.specs.Leaving.{left_by, joined, replaced};
+ghost use Rattle.pz_rules.specs.Leaving.{joined, replaced};
 ghost use Rattle.pz_rules.specs.View.{term_view, terms_view};
 ghost use Rattle.pz_rules.specs.Places.{MayActIn};
-ghost use Rattle.pz_term_around.specs.Becoming.{Became};
+ghost use Rattle.pz_rules.specs.Becoming.{Became};
+ghost use Rattle.pz_rules.specs.Settings.{left_by};
 ghost use Rattle.pz_term_residual.specs.devices.Unwound.{put_round, HasItsPlace, IsInside};
 
 use pz_classes_code::{Slot, Step};

@@ -3,9 +3,9 @@
 ghost use Rattle.std.specs.Prelude.{◌≡◌};
 ghost use Rattle.pz_classes_code.specs.StepView.{view, sequence_view};
 ghost use Rattle.pz_rules.specs.Terms.{height, greatest_height};
-ghost use Rattle.pz_rules.specs.Opening.{opened, opened_all, opened_branches};
 ghost use Rattle.pz_rules.specs.Leaving.{is_done};
 ghost use Rattle.pz_rules.specs.View.{branches_view};
+ghost use Rattle.pz_rules.specs.devices.Plainly.{plainly as opened, plainly_all as opened_all, plainly_each as opened_branches};
 ghost use Rattle.pz_term_residual.specs.devices.Capped.{capped};
 
 use crate::heights::above;

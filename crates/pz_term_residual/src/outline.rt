@@ -4,9 +4,9 @@ ghost use Rattle.std.specs.Prelude.{◌≡◌, [], ◌∷◌, ◌++◌, ◌&&◌
 ghost use Rattle.pz_rules.specs.declared.term.Term.{Term as Part};
 ghost use Rattle.pz_classes_code.specs.StepView.{view, sequence_view};
 ghost use Rattle.pz_rules.specs.Terms as terms;
-ghost use Rattle.pz_rules.specs.Opening.{opened, opened_all};
 ghost use Rattle.pz_rules.specs.Leaving as leaving;
 ghost use Rattle.pz_rules.specs.View.{term_view, terms_view};
+ghost use Rattle.pz_rules.specs.devices.Plainly.{plainly as opened, plainly_all as opened_all, plainly_handled};
 ghost use Rattle.pz_term_residual.specs.devices.Capped.{capped};
 ghost use Rattle.pz_term_residual.specs.devices.Outlines.{outline, IsAbove, IsRound};
 
@@ -131,7 +131,7 @@ pub(crate) fn outline_first(left: Outline, second: &Term) -> Outline
 /// Of what is interrupted, whose second part has become another.
 pub(crate) fn outline_second(first: &Term, left: Outline, again: &Step) -> Outline
     ensures { (x : terms.Term) → left ≡ outline x →
-        result ≡ outline (leaving.handled (term_view first.now) (view again.now) x) }
+        result ≡ outline (plainly_handled (term_view first.now) (view again.now) x) }
 {
     if left.done {
         return outline_above(height_of(first).max(opened_height(again)));

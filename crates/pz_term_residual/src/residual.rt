@@ -5,9 +5,10 @@ ghost use Rattle.pz_state.specs.States.{StateView};
 ghost use Rattle.pz_classes_code.specs.StepView.{view};
 ghost use Rattle.pz_rules.specs.Terms as terms;
 ghost use Rattle.pz_rules.specs.Terms.{height};
-ghost use Rattle.pz_rules.specs.Leaving.{left_by, residual};
 ghost use Rattle.pz_rules.specs.View.{term_view, terms_view};
 ghost use Rattle.pz_rules.specs.Places.{MayAct};
+ghost use Rattle.pz_rules.specs.Settings.{left_by};
+ghost use Rattle.pz_rules.specs.devices.Plainly.{plainly_residual as residual};
 ghost use Rattle.pz_term_residual.specs.devices.Outlines.{IsLeft};
 
 use crate::outline::{

@@ -1,11 +1,12 @@
 //! What has become of a process.
 
 ghost use Rattle.std.specs.Prelude.{◌≡◌, All, IfOk};
-ghost use Rattle.pz_rules.specs.Settings.{Process};
-ghost use Rattle.pz_rules.specs.Leaving.{left_by, residual, swept};
+ghost use Rattle.pz_rules.specs.Settings.{Process, left_by};
+ghost use Rattle.pz_rules.specs.Leaving.{swept};
 ghost use Rattle.pz_rules.specs.View.{term_view};
 ghost use Rattle.pz_rules.specs.Places.{MayAct};
-ghost use Rattle.pz_term_around.specs.Becoming.{Became};
+ghost use Rattle.pz_rules.specs.Becoming.{Became};
+ghost use Rattle.pz_rules.specs.devices.Plainly.{plainly_residual as residual};
 ghost use Rattle.pz_term_residual.specs.devices.Unwound.{unwound, HasItsPlace};
 
 use crate::levels::{Inside, Level, put_around, step_in};

@@ -10,13 +10,14 @@ use Rattle.pz_offer.specs.declared.trouble.Trouble.{Trouble}
 use Rattle.pz_rules.specs.declared.term.Term as code
 use Rattle.pz_rules.specs.Terms.{Term}
 use Rattle.pz_rules.specs.Settings as rules
-use Rattle.pz_rules.specs.Settings.{Setting, Context}
-use Rattle.pz_rules.specs.Leaving.{left_by, residual, swept}
+use Rattle.pz_rules.specs.Settings.{Setting, Context, left_by}
+use Rattle.pz_rules.specs.Leaving.{swept}
+use Rattle.pz_rules.specs.devices.Plainly.{plainly_residual as residual}
 use Rattle.pz_rules.specs.Steps.{Deed, Acts}
 use Rattle.pz_rules.specs.View.{term_view}
 use Rattle.pz_term_processes.specs.declared.process.Process.{Process}
 use Rattle.pz_term_processes.specs.Standing.{process_view, config_of}
-use Rattle.pz_term_around.specs.Becoming.{Became}
+use Rattle.pz_rules.specs.Becoming.{Became}
 use Rattle.pz_rules.specs.Places.{MayAct}
 use Rattle.pz_term_steps.specs.declared.begun.Begun.{Begun}
 use Rattle.pz_term_steps.specs.devices.Deeds.{Ability, Leaves, begun_process, IsBegun, seen_at}

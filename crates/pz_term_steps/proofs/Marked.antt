@@ -10,9 +10,11 @@ use Rattle.pz_state.specs.Marks.{Seen, marked, undone}
 use Rattle.pz_offer.specs.PlaceOrder.{Place}
 use Rattle.pz_offer.specs.declared.trouble.Trouble.{Trouble}
 use Rattle.pz_rules.specs.Terms.{Term}
-use Rattle.pz_rules.specs.Settings.{Process, Context}
-use Rattle.pz_rules.specs.Leaving.{left_by, residual, swept, settled}
+use Rattle.pz_rules.specs.Settings.{Process, Context, left_by}
+use Rattle.pz_rules.specs.Leaving.{swept, settled}
+use Rattle.pz_rules.specs.devices.Plainly.{plainly_residual as residual, plainly_settled}
 use Rattle.pz_rules.specs.Meanings.{and_then}
+use Rattle.pz_rules.proofs.Plain.{settled_plainly}
 use Rattle.pz_rules.specs.Steps.{Deed}
 use Rattle.pz_rules.specs.View.{term_view}
 use Rattle.pz_rules.specs.devices.Ends.{ActivePartsFit}
@@ -72,7 +74,7 @@ pub leaves_begun : (can : Ability) (does : Deed) → ((a : Context) (g : ℕ) (x
     → (m : ModelTree) (here : Standpoint) (class : ℕ) (t : Term) (place : Place) (s0 s1 s2 s3 : Seen) (point f : ℕ) (y : Term) (p : Pos) (left : Result Process Trouble) (r : Result Begun Trouble)
     → s1 ≡ marked s0 point → IsPartAt 0 t place f y → IsFrom p y
     → ((pos : Pos) → can (seen_from m here class s1.held) f y pos → does (seen_from m here class s1.held) f y pos left)
-    → begun_process t place s2.held r ≡ and_then left (settled (seen_from m here class s0.held) p t place)
+    → begun_process t place s2.held r ≡ and_then left (plainly_settled (seen_from m here class s0.held) p t place)
     → MatchResult r (λ b. (s3 ≡ s2) × (b.point ≡ point)) (λ t. s3 ≡ undone s2)
     → CanDo can (seen_from m here class s0.held) t place
     → Leaves (seen_from m here class s0.held) does t place (begun_process t place s3.held r)
@@ -90,6 +92,7 @@ leaves_begun can does stands m here class t place s0 s1 s2 s3 point f y p left r
           (acts pos (moved (λ a g x. can a g x pos) m here class s0.held s1.held there.frame f there.part y (sym before) (sym same.0) (sym same.1) there.it_holds.1));
       leaves =
           begun_held t place s2 s3 point r state ∙ held
+          ∙ settled_plainly (seen_from m here class s0.held) p t place left
           ∙ ap (λ (q : Pos). and_then left (settled (seen_from m here class s0.held) q t place))
           (one_place y p pos from (part_is can (seen_from m here class s0.held) t place there f y found IsFrom (stands (seen_from m here class s0.held))));
     }

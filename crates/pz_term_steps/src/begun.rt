@@ -5,11 +5,13 @@ ghost use Rattle.pz_syntax.specs.Classes.{ModelTree};
 ghost use Rattle.pz_state.specs.States.{StateView};
 ghost use Rattle.pz_state.specs.Marks.{IsLatest, undone, kept};
 ghost use Rattle.pz_rules.specs.Meanings.{and_then};
-ghost use Rattle.pz_rules.specs.Leaving.{left_by, residual, swept, settled};
+ghost use Rattle.pz_rules.specs.Leaving.{swept};
+ghost use Rattle.pz_rules.specs.Settings.{left_by};
+ghost use Rattle.pz_rules.specs.devices.Plainly.{plainly_residual as residual, plainly_settled as settled};
 ghost use Rattle.pz_rules.specs.View.{term_view};
 ghost use Rattle.pz_part_queries.specs.Standpoints.{seen_from};
 ghost use Rattle.pz_rules.specs.Places.{MayAct};
-ghost use Rattle.pz_term_around.specs.Becoming.{Became};
+ghost use Rattle.pz_rules.specs.Becoming.{Became};
 ghost use Rattle.pz_part_actions.specs.Becoming.{process_left};
 ghost use Rattle.pz_term_steps.specs.devices.Deeds.{begun_process};
 

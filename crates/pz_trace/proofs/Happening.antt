@@ -143,7 +143,7 @@ performs_blames a f _ _ _ (internals.repeats at e ts r s x) =
     then_blames a.process r _ (gives_blames a f at e r s x) (λ v. then_blames a.process (truth a.process at v) _ (truth_blames a.process at v) (λ b. ok_blames a.process _))
 performs_blames a f _ _ _ (internals.elapses at e) = ok_blames a.process _
 performs_blames a f _ _ _ (internals.expires left at) = ok_blames a.process _
-performs_blames a f _ _ _ (internals.calls at method args results r s locals number body x is free) = then_blames a.process r _ (all_blame a f at args r s x) (λ vs. ok_blames a.process _)
+performs_blames a f _ _ _ (internals.calls at method args results r s locals body x is) = then_blames a.process r _ (all_blame a f at args r s x) (λ vs. ok_blames a.process _)
 
 hands_blame : (p : ParcelView) (a : Context) (f : ℕ) (part : Term) (at : Pos) (r : Result Process Trouble) → Hands a f p part at r → Blames a.process r
 hands_blame p a f _ _ _ (messages.hands at port name args block values s r left x is y) = then_blames a.process r _ (part_blames _ f at block r left y) (λ vs. ok_blames a.process _)

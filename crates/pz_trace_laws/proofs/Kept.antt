@@ -8,11 +8,12 @@ use Rattle.pz_syntax.specs.Classes.{ModelTree}
 use Rattle.pz_value.specs.declared.value.ClassId.{ClassId}
 use Rattle.pz_value.specs.declared.value.Value.{Value}
 use Rattle.pz_classes_code.specs.declared.slot.Slot.{Slot}
-use Rattle.pz_state.specs.States.{StateView}
+use Rattle.pz_state.specs.States.{StateView, initial}
 use Rattle.pz_classes.specs.declared.method_id.Counts.TheVariants.{Process as process_counts}
 use Rattle.pz_classes.specs.Bodies.{process_body}
 use Rattle.pz_classes.specs.FitBodies.{how_many}
 use Rattle.pz_bind.specs.Nest.{processes, class_at}
+use Rattle.pz_bind.specs.Values.{values_at}
 use Rattle.pz_copy.specs.Parcels.{ParcelView}
 use Rattle.pz_offer.specs.declared.end.End.{End}
 use Rattle.pz_offer.specs.PlaceOrder.{Place}
@@ -20,11 +21,11 @@ use Rattle.pz_offer.specs.declared.trouble.Trouble.{Trouble}
 use Rattle.pz_offer.specs.declared.trouble.Trouble.TheVariants.{High}
 use Rattle.pz_rules.specs.declared.action.Action.{Action}
 use Rattle.pz_rules.specs.Terms.{Step, Steps, Term, Terms, height}
-use Rattle.pz_rules.specs.Opening.{opened_all}
-use Rattle.pz_rules.specs.Settings.{Setting, Process, Context}
+use Rattle.pz_rules.specs.Settings.{Setting, Process, Context, Home, home_of}
+use Rattle.pz_rules.specs.FrameNumbers.{least_free}
 use Rattle.pz_rules.specs.Meanings.{and_then, truth}
 use Rattle.pz_rules.specs.InternalActions as actions
-use Rattle.pz_rules.specs.InternalActions.{Performs, done_in, chosen, turned, entered}
+use Rattle.pz_rules.specs.InternalActions.{Performs, done_in, chosen, turned, with_inputs, entered}
 use Rattle.pz_rules.specs.Messages as messages
 use Rattle.pz_rules.specs.Messages.{Sends, Hands, Takes}
 use Rattle.pz_rules.specs.Leaving.{residual, swept, not_too_high, settled}
@@ -34,13 +35,13 @@ use Rattle.pz_rules.specs.Configurations.{Config, IsWhole}
 use Rattle.pz_rules.specs.Steps.{Deed, Acts, with_process, with_both, Next, internal, communication, PassesTo}
 use Rattle.pz_rules.specs.Offers as offers
 use Rattle.pz_rules.specs.Offers.{Offers}
-use Rattle.pz_rules.specs.Starting.{IsStart}
+use Rattle.pz_rules.specs.Starting.{home_at, IsStart}
 use Rattle.pz_trace.specs.Laws.{Unbroken, HasUnbrokenMessage}
 use Rattle.pz_trace_laws.specs.Messages.{StatementUnbroken, StatementsUnbroken, OtherwiseUnbroken, HasUnbrokenMessages}
 use Rattle.pz_trace_laws.specs.Standing.{TermUnbroken, TermsUnbroken, AllUnbroken}
 use Rattle.pz_trace_laws.proofs.Lists.{there}
 use Rattle.pz_trace_laws.proofs.Bodies.{body_unbroken, start_unbroken}
-use Rattle.pz_trace_laws.proofs.Terms.{opened_rest, opened_other, part_of}
+use Rattle.pz_trace_laws.proofs.Terms.{opened_one, opened_rest, opened_other, part_of}
 
 some_is : {X : Type 0} {x y : X} → Some x ≡ Some y → x ≡ y
 some_is e = cc
@@ -64,17 +65,18 @@ tested_whole process at (Ok v) h each = by (truth process at v)
     by (Ok b) = each b
     by (Err t) = tt
 
-entered_whole : (s : StateView) (number locals : ℕ) (results : List Slot) (body : Steps) (r : Result (List Value) Trouble) → TermUnbroken (opened_all body) → LeftUnbroken (and_then r (λ vs. Ok (entered s number locals results body vs)))
-entered_whole s number locals results body (Ok vs) h = h
-entered_whole s number locals results body (Err t) h = tt
+module _ (home : Home) where
+  entered_whole : (s : StateView) (locals : ℕ) (results : List Slot) (body : Steps) (r : Result (List Value) Trouble) → StatementsUnbroken body → LeftUnbroken (and_then r (λ vs. Ok (entered home s locals results body vs)))
+  entered_whole s locals results body (Ok vs) h = opened_rest home body (with_inputs s (least_free s.frames) locals vs) h
+  entered_whole s locals results body (Err t) h = tt
 
-chosen_whole : (s : StateView) (ts : Steps) (other : StatementPart Slot ClassId ℕ) (b : Bool) → StatementsUnbroken ts → OtherwiseUnbroken other → TermUnbroken (chosen s ts other b).term
-chosen_whole s ts other true h k = opened_rest ts h
-chosen_whole s ts other false h k = opened_other other k
+  chosen_whole : (s : StateView) (ts : Steps) (other : StatementPart Slot ClassId ℕ) (b : Bool) → StatementsUnbroken ts → OtherwiseUnbroken other → TermUnbroken (chosen home s ts other b).term
+  chosen_whole s ts other true h k = opened_rest home ts s h
+  chosen_whole s ts other false h k = opened_other home other s k
 
-turned_whole : (s : StateView) (loop : Step) (ts : Steps) (b : Bool) → StatementsUnbroken ts → StatementUnbroken loop → TermUnbroken (turned s loop ts b).term
-turned_whole s loop ts true h k = (opened_rest ts h, (k, tt))
-turned_whole s loop ts false h k = tt
+  turned_whole : (s : StateView) (loop : Step) (ts : Steps) (b : Bool) → StatementsUnbroken ts → StatementUnbroken loop → TermUnbroken (turned home s loop ts b).term
+  turned_whole s loop ts true h k = (opened_rest home ts s h, (k, tt))
+  turned_whole s loop ts false h k = tt
 
 abbrev KeepsUnbroken : ModelTree → Deed → Type 0
 KeepsUnbroken m does = (a : Context) (f : ℕ) (t : Term) (pos : Pos) (q : Result Process Trouble) → a.setting.model ≡ m → does a f t pos q → TermUnbroken t → LeftUnbroken q
@@ -83,13 +85,13 @@ performs_whole : (m : ModelTree) → HasUnbrokenMessages m → KeepsUnbroken m P
 performs_whole m whole a f _ _ _ same (actions.skips at) h = tt
 performs_whole m whole a f _ _ _ same (actions.evaluates at e r s gives) h = done_whole r s
 performs_whole m whole a f _ _ _ same (actions.evaluates_block at es r s gives) h = done_whole r s
-performs_whole m whole a f _ _ _ same (actions.tests at e ts other r s gives) h = tested_whole a.process at r (chosen s ts other) (λ b. chosen_whole s ts other b h.0 h.1)
-performs_whole m whole a f _ _ _ same (actions.repeats at e ts r s gives) h = tested_whole a.process at r (turned s (repeated at e ts) ts) (λ b. turned_whole s (repeated at e ts) ts b h h)
+performs_whole m whole a f _ _ _ same (actions.tests at e ts other r s gives) h = tested_whole a.process at r (chosen (home_of a) s ts other) (λ b. chosen_whole (home_of a) s ts other b h.0 h.1)
+performs_whole m whole a f _ _ _ same (actions.repeats at e ts r s gives) h = tested_whole a.process at r (turned (home_of a) s (repeated at e ts) ts) (λ b. turned_whole (home_of a) s (repeated at e ts) ts b h h)
 performs_whole m whole a f _ _ _ same (actions.elapses at e) h = tt
 performs_whole m whole a f _ _ _ same (actions.expires n at) h = tt
-performs_whole m whole a f _ _ _ same (actions.calls at method args results r s locals number body gives is_method is_free) h =
-    entered_whole s number locals results body r
-    (opened_rest body (body_unbroken a.setting.model (record { name = method.name; counts = process_counts (how_many args) (length results) }) (subst HasUnbrokenMessages (sym same) whole) a.class (process_body locals body) is_method.is_body))
+performs_whole m whole a f _ _ _ same (actions.calls at method args results r s locals body gives is_method) h =
+    entered_whole (home_of a) s locals results body r
+    (body_unbroken a.setting.model (record { name = method.name; counts = process_counts (how_many args) (length results) }) (subst HasUnbrokenMessages (sym same) whole) a.class (process_body locals body) is_method.is_body)
 
 hands_whole : (m : ModelTree) (parcel : ParcelView) → KeepsUnbroken m (λ a f. Hands a f parcel)
 hands_whole m parcel a f _ _ _ same (messages.hands at port name args after values s r end gives packed gives_block) h = done_whole r end
@@ -126,14 +128,14 @@ high_whole a pos p h = by (nat_le (height p.term) a.setting.limits.height)
     by true = h
     by false = tt
 
-settled_whole : (a : Context) (pos : Pos) (t : Term) (place : Place) (left : Result Process Trouble) → LeftUnbroken left → ((y : Process) → TermUnbroken y.term → TermUnbroken (residual 0 t place y).term) → LeftUnbroken (and_then left (settled a pos t place))
-settled_whole a pos t place (Ok y) h leaves = high_whole a pos (residual 0 t place y) (leaves y h)
+settled_whole : (a : Context) (pos : Pos) (t : Term) (place : Place) (left : Result Process Trouble) → LeftUnbroken left → ((y : Process) → TermUnbroken y.term → TermUnbroken (residual (home_of a) 0 t place y).term) → LeftUnbroken (and_then left (settled a pos t place))
+settled_whole a pos t place (Ok y) h leaves = high_whole a pos (residual (home_of a) 0 t place y) (leaves y h)
 settled_whole a pos t place (Err e) h leaves = tt
 
 module _ (setting : Setting) (c : Config) (all : AllUnbroken c) where
   acts_whole : (does : Deed) → KeepsUnbroken setting.model does → (end : End) (q : Result Process Trouble) → Acts setting c does end q → LeftUnbroken q
   acts_whole does keeps end q x =
-      let part = part_of x.active (all end.process x.process x.stands.is_here) in
+      let part = part_of (home_of x.seen) x.active (all end.process x.process x.stands.is_here) in
       let left = keeps x.seen x.frame x.part x.pos x.left (ap (λ (b : Context). b.setting.model) x.stands.seen) x.acts part.whole in
       subst LeftUnbroken (sym x.leaves) (settled_whole x.seen x.pos x.process.term end.place x.left left (λ y h. part.leaves 0 y h))
 
@@ -165,7 +167,7 @@ module _ (setting : Setting) (c : Config) (all : AllUnbroken c) where
   offer_whole _ (offers.internal end a f t kind pos at can) = tt
   offer_whole _ (offers.communication number sender receiver message parcel p judged) =
       let at = p.sender_active in
-      sent_whole p.sends_at p.sends_frame p.sends_part p.sends_pos p.sends_port message parcel p.sends (part_of at.active (all sender.process at.process at.stands.is_here)).whole
+      sent_whole p.sends_at p.sends_frame p.sends_part p.sends_pos p.sends_port message parcel p.sends (part_of (home_of p.sends_at) at.active (all sender.process at.process at.stands.is_here)).whole
 
 -- the passing of time
 
@@ -205,4 +207,5 @@ pub start_whole : (setting : Setting) (c : Config) → IsStart setting c → All
 start_whole setting c start i p is =
     let place = there (processes setting.model) i (subst (λ (n : ℕ). i < n) start.all (slice_get_within c.processes i p is)) in
     let s = start.each i place.0 p place.1 is in
-    subst (λ (r : Process). TermUnbroken r.term) (sym s.stands) (start_unbroken setting.model (class_at setting.model place.0) s.call s.is_call)
+    subst (λ (r : Process). TermUnbroken r.term) (sym s.stands)
+    (opened_one (home_at setting place.0) s.call (initial (values_at setting.model place.0)) (start_unbroken setting.model (class_at setting.model place.0) s.call s.is_call))

@@ -1,53 +1,66 @@
 -- Terms stay unbroken.
 use Rattle.std.proofs.Common.{ℕ, zero, suc, Bool, true, false, List, [], ◌∷◌}
 use Rattle.std.specs.Prelude.{if◌then◌else◌}
+use Rattle.pz_syntax.specs.Expressions.{none, more}
 use Rattle.pz_syntax.specs.Statements.{skip, delay, bracketed, block, guarded as guarded_step, parallel as parallel_step, select as select_step, conditional, repeated, abort as abort_step, interrupt, send, receive, call, assignment, value, no_statements, then, StatementPart, not_written, otherwise, Branches, no_branches, branch}
 use Rattle.pz_value.specs.declared.value.ClassId.{ClassId}
 use Rattle.pz_classes_code.specs.declared.slot.Slot.{Slot}
 use Rattle.pz_state.specs.States.{StateView}
 use Rattle.pz_offer.specs.PlaceOrder.{Place}
 use Rattle.pz_rules.specs.Terms.{Step, Steps, Term, done, leaf, wait, sequence, parallel, select, guarded, frame, abort, idle, handling, Terms, no_terms, and, term_at, child, frame_in}
-use Rattle.pz_rules.specs.Opening.{opened, opened_all, opened_branches, opened_part}
-use Rattle.pz_rules.specs.Settings.{Process, Context}
+use Rattle.pz_rules.specs.Settings.{Process, Context, Home}
+use Rattle.pz_rules.specs.Opening.{step_opened, steps_opened, branches_opened, enter, opened, opened_all, opened_part}
 use Rattle.pz_rules.specs.Leaving.{replaced, joined, all_done, handled, aborted, interrupted, framed, around, residual}
 use Rattle.pz_rules.specs.Active as active
 use Rattle.pz_rules.specs.Active.{Active}
 use Rattle.pz_trace_laws.specs.Messages.{StatementUnbroken, StatementsUnbroken, OtherwiseUnbroken, BranchesUnbroken}
 use Rattle.pz_trace_laws.specs.Standing.{TermUnbroken, TermsUnbroken}
 
--- what statements open as
+-- what statements open as, where what `enter` leaves of a call is unbroken
 
-mutual
-  pub opened_one : (s : Step) → StatementUnbroken s → TermUnbroken (opened s)
-  opened_one (bracketed at ts) h = opened_rest ts h
-  opened_one (guarded_step at e t) h = opened_one t h
-  opened_one (parallel_step at bs) h = opened_each bs h
-  opened_one (select_step at bs) h = opened_each bs h
-  opened_one (abort_step at ts t) h = (opened_rest ts h.0, opened_one t h.1)
-  opened_one (interrupt at ts t) h = (opened_rest ts h.0, opened_one t h.1, h.1)
-  opened_one (skip at) h = h
-  opened_one (delay at e) h = h
-  opened_one (block at es) h = h
-  opened_one (conditional at e ts other) h = h
-  opened_one (repeated at e ts) h = h
-  opened_one (send at port name args after) h = h
-  opened_one (receive at port name into condition after) h = h
-  opened_one (call at method args results) h = h
-  opened_one (assignment at x e) h = h
-  opened_one (value at e) h = h
+module _ (enter : Step → StateView → Process) (enters : (t : Step) (s : StateView) → StatementUnbroken t → TermUnbroken (enter t s).term) where
+  mutual
+    step_opened_whole : (t : Step) (s : StateView) → StatementUnbroken t → TermUnbroken (step_opened enter t s).term
+    step_opened_whole (bracketed at ts) s h = steps_opened_whole ts s h
+    step_opened_whole (guarded_step at e t) s h = step_opened_whole t s h
+    step_opened_whole (parallel_step at bs) s h = branches_opened_whole bs s h
+    step_opened_whole (select_step at bs) s h = branches_opened_whole bs s h
+    step_opened_whole (abort_step at ts t) s h = (steps_opened_whole ts s h.0, step_opened_whole t (steps_opened enter ts s).state h.1)
+    step_opened_whole (interrupt at ts t) s h = (steps_opened_whole ts s h.0, step_opened_whole t (steps_opened enter ts s).state h.1, h.1)
+    step_opened_whole (call at method none []) s h = enters (call at method none []) s h
+    step_opened_whole (call at method none (x ∷ xs)) s h = h
+    step_opened_whole (call at method (more e es) results) s h = h
+    step_opened_whole (skip at) s h = h
+    step_opened_whole (delay at e) s h = h
+    step_opened_whole (block at es) s h = h
+    step_opened_whole (conditional at e ts other) s h = h
+    step_opened_whole (repeated at e ts) s h = h
+    step_opened_whole (send at port name args after) s h = h
+    step_opened_whole (receive at port name into condition after) s h = h
+    step_opened_whole (assignment at x e) s h = h
+    step_opened_whole (value at e) s h = h
 
-  pub opened_rest : (ts : Steps) → StatementsUnbroken ts → TermUnbroken (opened_all ts)
-  opened_rest no_statements h = tt
-  opened_rest ((then) s no_statements) h = opened_one s h.0
-  opened_rest ((then) s ((then) r rest)) h = (opened_one s h.0, h.1)
+    steps_opened_whole : (ts : Steps) (s : StateView) → StatementsUnbroken ts → TermUnbroken (steps_opened enter ts s).term
+    steps_opened_whole no_statements s h = tt
+    steps_opened_whole ((then) t no_statements) s h = step_opened_whole t s h.0
+    steps_opened_whole ((then) t ((then) r rest)) s h = (step_opened_whole t s h.0, h.1)
 
-  opened_each : (bs : Branches Slot ClassId ℕ) → BranchesUnbroken bs → TermsUnbroken (opened_branches bs)
-  opened_each no_branches h = tt
-  opened_each (branch ts bs) h = (opened_rest ts h.0, opened_each bs h.1)
+    branches_opened_whole : (bs : Branches Slot ClassId ℕ) (s : StateView) → BranchesUnbroken bs → TermsUnbroken (branches_opened enter bs s).terms
+    branches_opened_whole no_branches s h = tt
+    branches_opened_whole (branch ts bs) s h = (steps_opened_whole ts s h.0, branches_opened_whole bs (steps_opened enter ts s).state h.1)
 
-pub opened_other : (other : StatementPart Slot ClassId ℕ) → OtherwiseUnbroken other → TermUnbroken (opened_part other)
-opened_other not_written h = tt
-opened_other (otherwise ts) h = opened_rest ts h
+enters_whole : (home : Home) (t : Step) (s : StateView) → StatementUnbroken t → TermUnbroken (enter home t s).term
+enters_whole home t s h = h
+
+pub opened_one : (home : Home) (t : Step) (s : StateView) → StatementUnbroken t → TermUnbroken (opened home t s).term
+opened_one home t s h = step_opened_whole (enter home) (enters_whole home) t s h
+
+pub opened_rest : (home : Home) (ts : Steps) (s : StateView) → StatementsUnbroken ts → TermUnbroken (opened_all home ts s).term
+opened_rest home ts s h = steps_opened_whole (enter home) (enters_whole home) ts s h
+
+pub opened_other : (home : Home) (other : StatementPart Slot ClassId ℕ) (s : StateView) → OtherwiseUnbroken other → TermUnbroken (opened_part home other s).term
+opened_other home not_written s h = tt
+opened_other home (otherwise ts) s h = opened_rest home ts s h
 
 -- what is around an action
 
@@ -64,13 +77,13 @@ joined_whole ts h = by (all_done ts)
     by false = h
 
 -- each rule for a term that is done, and for another
-sequence_whole : (s : StateView) (f : ℕ) (t : Term) (rest : Steps) (i : ℕ) (x : Term) → StatementsUnbroken rest → TermUnbroken x → TermUnbroken (around f s (sequence t rest) i x).term
-sequence_whole s f t rest i done h k = opened_rest rest h
-sequence_whole s f t rest i x h k = (k, h)
+sequence_whole : (home : Home) (s : StateView) (f : ℕ) (t : Term) (rest : Steps) (i : ℕ) (x : Term) → StatementsUnbroken rest → TermUnbroken x → TermUnbroken (around home f s (sequence t rest) i x).term
+sequence_whole home s f t rest i done h k = opened_rest home rest s h
+sequence_whole home s f t rest i x h k = (k, h)
 
-handled_whole : (t : Term) (again : Step) (x : Term) → TermUnbroken t → StatementUnbroken again → TermUnbroken x → TermUnbroken (handled t again x)
-handled_whole t again done h g k = (h, opened_one again g, g)
-handled_whole t again x h g k = (h, k, g)
+handled_whole : (home : Home) (s : StateView) (t : Term) (again : Step) (x : Term) → TermUnbroken t → StatementUnbroken again → TermUnbroken x → TermUnbroken (handled home s t again x).term
+handled_whole home s t again done h g k = (h, opened_one home again s g, g)
+handled_whole home s t again x h g k = (h, k, g)
 
 aborted_whole : (u x : Term) → TermUnbroken u → TermUnbroken x → TermUnbroken (aborted u x)
 aborted_whole u done h k = tt
@@ -91,56 +104,56 @@ framed_whole number inputs results (frame inner inner_inputs inner_results t) k 
 framed_whole number inputs [] x k = k
 framed_whole number inputs (y ∷ ys) x k = k
 
-frame_whole : (s : StateView) (f number inputs : ℕ) (results : List Slot) (t : Term) (i : ℕ) (x : Term) → TermUnbroken x → TermUnbroken (around f s (frame number inputs results t) i x).term
-frame_whole s f number inputs results t i done k = tt
-frame_whole s f number inputs results t i x k = framed_whole number inputs results x k
+frame_whole : (home : Home) (s : StateView) (f number inputs : ℕ) (results : List Slot) (t : Term) (i : ℕ) (x : Term) → TermUnbroken x → TermUnbroken (around home f s (frame number inputs results t) i x).term
+frame_whole home s f number inputs results t i done k = tt
+frame_whole home s f number inputs results t i x k = framed_whole number inputs results x k
 
 -- a child, and what it leaves of the term around it
-record Child (t : Term) (i : ℕ) : Type 0 where
+record Child (home : Home) (t : Term) (i : ℕ) : Type 0 where
   pub whole : TermUnbroken (child t i)
-  pub leaves : (f : ℕ) (s : StateView) (x : Term) → TermUnbroken x → TermUnbroken (around f s t i x).term
+  pub leaves : (f : ℕ) (s : StateView) (x : Term) → TermUnbroken x → TermUnbroken (around home f s t i x).term
 
 terms_at : (ts : Terms) (i : ℕ) → TermsUnbroken ts → TermUnbroken (term_at ts i)
 terms_at no_terms i h = tt
 terms_at (and t ts) zero h = h.0
 terms_at (and t ts) (suc i) h = terms_at ts i h.1
 
-child_of : (t : Term) (i : ℕ) → TermUnbroken t → Child t i
-child_of done i h = record { whole = tt; leaves = λ f s x k. tt }
-child_of (leaf r) i h = record { whole = tt; leaves = λ f s x k. h }
-child_of (wait left at) i h = record { whole = tt; leaves = λ f s x k. tt }
-child_of (sequence t rest) zero h = record { whole = h.0; leaves = λ f s x k. sequence_whole s f t rest 0 x h.1 k }
-child_of (sequence t rest) (suc zero) h = record { whole = tt; leaves = λ f s x k. sequence_whole s f t rest 1 x h.1 k }
-child_of (sequence t rest) (suc (suc i)) h = record { whole = tt; leaves = λ f s x k. sequence_whole s f t rest (suc (suc i)) x h.1 k }
-child_of (parallel ts) i h = record { whole = terms_at ts i h; leaves = λ f s x k. joined_whole (replaced ts i x) (replaced_whole ts i x h k) }
-child_of (select ts) i h = record { whole = terms_at ts i h; leaves = λ f s x k. k }
-child_of (guarded e at t) zero h = record { whole = h; leaves = λ f s x k. k }
-child_of (guarded e at t) (suc zero) h = record { whole = tt; leaves = λ f s x k. k }
-child_of (guarded e at t) (suc (suc i)) h = record { whole = tt; leaves = λ f s x k. k }
-child_of (frame number inputs results t) zero h = record { whole = h; leaves = λ f s x k. frame_whole s f number inputs results t 0 x k }
-child_of (frame number inputs results t) (suc zero) h = record { whole = tt; leaves = λ f s x k. frame_whole s f number inputs results t 1 x k }
-child_of (frame number inputs results t) (suc (suc i)) h = record { whole = tt; leaves = λ f s x k. frame_whole s f number inputs results t (suc (suc i)) x k }
-child_of (abort t u) zero h = record { whole = h.0; leaves = λ f s x k. aborted_whole u x h.1 k }
-child_of (abort t u) (suc zero) h = record { whole = h.1; leaves = λ f s x k. k }
-child_of (abort t u) (suc (suc i)) h = record { whole = tt; leaves = λ f s x k. k }
-child_of (idle t u again) zero h = record { whole = h.0; leaves = λ f s x k. interrupted_whole u again x h.1 h.2 k }
-child_of (idle t u again) (suc zero) h = record { whole = h.1; leaves = λ f s x k. handled_whole t again x h.0 h.2 k }
-child_of (idle t u again) (suc (suc i)) h = record { whole = tt; leaves = λ f s x k. handled_whole t again x h.0 h.2 k }
-child_of (handling t u again) zero h = record { whole = h.0; leaves = λ f s x k. handled_whole t again x h.0 h.2 k }
-child_of (handling t u again) (suc zero) h = record { whole = h.1; leaves = λ f s x k. handled_whole t again x h.0 h.2 k }
-child_of (handling t u again) (suc (suc i)) h = record { whole = tt; leaves = λ f s x k. handled_whole t again x h.0 h.2 k }
+child_of : (home : Home) (t : Term) (i : ℕ) → TermUnbroken t → Child home t i
+child_of home done i h = record { whole = tt; leaves = λ f s x k. tt }
+child_of home (leaf r) i h = record { whole = tt; leaves = λ f s x k. h }
+child_of home (wait left at) i h = record { whole = tt; leaves = λ f s x k. tt }
+child_of home (sequence t rest) zero h = record { whole = h.0; leaves = λ f s x k. sequence_whole home s f t rest 0 x h.1 k }
+child_of home (sequence t rest) (suc zero) h = record { whole = tt; leaves = λ f s x k. sequence_whole home s f t rest 1 x h.1 k }
+child_of home (sequence t rest) (suc (suc i)) h = record { whole = tt; leaves = λ f s x k. sequence_whole home s f t rest (suc (suc i)) x h.1 k }
+child_of home (parallel ts) i h = record { whole = terms_at ts i h; leaves = λ f s x k. joined_whole (replaced ts i x) (replaced_whole ts i x h k) }
+child_of home (select ts) i h = record { whole = terms_at ts i h; leaves = λ f s x k. k }
+child_of home (guarded e at t) zero h = record { whole = h; leaves = λ f s x k. k }
+child_of home (guarded e at t) (suc zero) h = record { whole = tt; leaves = λ f s x k. k }
+child_of home (guarded e at t) (suc (suc i)) h = record { whole = tt; leaves = λ f s x k. k }
+child_of home (frame number inputs results t) zero h = record { whole = h; leaves = λ f s x k. frame_whole home s f number inputs results t 0 x k }
+child_of home (frame number inputs results t) (suc zero) h = record { whole = tt; leaves = λ f s x k. frame_whole home s f number inputs results t 1 x k }
+child_of home (frame number inputs results t) (suc (suc i)) h = record { whole = tt; leaves = λ f s x k. frame_whole home s f number inputs results t (suc (suc i)) x k }
+child_of home (abort t u) zero h = record { whole = h.0; leaves = λ f s x k. aborted_whole u x h.1 k }
+child_of home (abort t u) (suc zero) h = record { whole = h.1; leaves = λ f s x k. k }
+child_of home (abort t u) (suc (suc i)) h = record { whole = tt; leaves = λ f s x k. k }
+child_of home (idle t u again) zero h = record { whole = h.0; leaves = λ f s x k. interrupted_whole u again x h.1 h.2 k }
+child_of home (idle t u again) (suc zero) h = record { whole = h.1; leaves = λ f s x k. handled_whole home s t again x h.0 h.2 k }
+child_of home (idle t u again) (suc (suc i)) h = record { whole = tt; leaves = λ f s x k. handled_whole home s t again x h.0 h.2 k }
+child_of home (handling t u again) zero h = record { whole = h.0; leaves = λ f s x k. handled_whole home s t again x h.0 h.2 k }
+child_of home (handling t u again) (suc zero) h = record { whole = h.1; leaves = λ f s x k. handled_whole home s t again x h.0 h.2 k }
+child_of home (handling t u again) (suc (suc i)) h = record { whole = tt; leaves = λ f s x k. handled_whole home s t again x h.0 h.2 k }
 
 -- an active part, and what it leaves of the whole
-pub record Part (t : Term) (place : Place) (x : Term) : Type 0 where
+pub record Part (home : Home) (t : Term) (place : Place) (x : Term) : Type 0 where
   pub whole : TermUnbroken x
-  pub leaves : (f : ℕ) (y : Process) → TermUnbroken y.term → TermUnbroken (residual f t place y).term
+  pub leaves : (f : ℕ) (y : Process) → TermUnbroken y.term → TermUnbroken (residual home f t place y).term
 
-pub part_of : {a : Context} {f : ℕ} {t : Term} {place : Place} {g : ℕ} {x : Term} → Active a f t place g x → TermUnbroken t → Part t place x
-part_of (active.here f t) h = record { whole = h; leaves = λ f y k. k }
-part_of (active.inside f t i place g x r k) h =
-    let below = child_of t i h in
-    let inner = part_of k below.whole in
+pub part_of : (home : Home) {a : Context} {f : ℕ} {t : Term} {place : Place} {g : ℕ} {x : Term} → Active a f t place g x → TermUnbroken t → Part home t place x
+part_of home (active.here f t) h = record { whole = h; leaves = λ f y k. k }
+part_of home (active.inside f t i place g x r k) h =
+    let below = child_of home t i h in
+    let inner = part_of home k below.whole in
     record {
       whole = inner.whole;
-      leaves = λ f' y q. below.leaves f' (residual (frame_in t f') (child t i) place y).state (residual (frame_in t f') (child t i) place y).term (inner.leaves (frame_in t f') y q);
+      leaves = λ f' y q. below.leaves f' (residual home (frame_in t f') (child t i) place y).state (residual home (frame_in t f') (child t i) place y).term (inner.leaves (frame_in t f') y q);
     }

@@ -1,5 +1,6 @@
 -- What an action does to the number of frames, level by level.
 use Rattle.std.proofs.Common.{◌≡◌, if◌then◌else◌, ◌<◌, ℕ, zero, suc, ◌+◌, Bool, true, false, ◌&&◌, List, [], ◌∷◌, ◌++◌, refl, sym, arith}
+use Rattle.pz_syntax.specs.Expressions as expression
 use Rattle.pz_syntax.specs.Statements as statement
 use Rattle.pz_syntax.specs.Statements.{Branches, no_branches, branch, no_statements, then}
 use Rattle.pz_value.specs.declared.value.ClassId.{ClassId}
@@ -7,8 +8,8 @@ use Rattle.pz_classes_code.specs.declared.slot.Slot.{Slot}
 use Rattle.pz_state.specs.States.{StateView}
 use Rattle.pz_offer.specs.PlaceOrder.{Place}
 use Rattle.pz_rules.specs.Terms.{Step, Steps, Term, done, leaf, wait, sequence, parallel, select, guarded, frame, abort, idle, handling, Terms, no_terms, and, frames_in, frames_in_all, child, term_at, count, frame_in}
-use Rattle.pz_rules.specs.Opening.{opened, opened_all, opened_branches}
-use Rattle.pz_rules.specs.Settings.{Process}
+use Rattle.pz_rules.specs.Opening.{branches_opened, enter, opened, opened_all}
+use Rattle.pz_rules.specs.Settings.{Process, Home}
 use Rattle.pz_rules.specs.Leaving.{residual, replaced, is_done, all_done, joined, around, aborted, interrupted, handled, framed}
 use Rattle.pz_rules.specs.Laws.{part_of}
 use Rattle.pz_rules.specs.Places.{MayActIn, MayAct}
@@ -18,34 +19,43 @@ pub count_append : (n : ℕ) (ms ks : List ℕ) → count_in n (ms ++ ks) ≡ co
 count_append n [] ks = (let e : count_in n ks ≡ 0 + count_in n ks = omega arith in e)
 count_append n (m ∷ ms) ks = omega (arith, count_append n ms ks)
 
-mutual
-  -- what opens has no frames (in this edition)
-  pub opened_none : (n : ℕ) (s : Step) → times n (opened s) ≡ 0
-  opened_none n (statement.bracketed pos ts) = opened_all_none n ts
-  opened_none n (statement.guarded pos test t) = opened_none n t
-  opened_none n (statement.parallel pos bs) = branches_none n bs
-  opened_none n (statement.select pos bs) = branches_none n bs
-  opened_none n (statement.abort pos ts t) = omega (arith, count_append n (frames_in (opened_all ts)) (frames_in (opened t)), opened_all_none n ts, opened_none n t)
-  opened_none n (statement.interrupt pos ts t) = omega (arith, count_append n (frames_in (opened_all ts)) (frames_in (opened t)), opened_all_none n ts, opened_none n t)
-  opened_none n (statement.skip at) = refl
-  opened_none n (statement.delay at e) = refl
-  opened_none n (statement.block at es) = refl
-  opened_none n (statement.conditional at e ts other) = refl
-  opened_none n (statement.repeated at e ts) = refl
-  opened_none n (statement.send at port name args after) = refl
-  opened_none n (statement.receive at port name into condition after) = refl
-  opened_none n (statement.call at method args results) = refl
-  opened_none n (statement.assignment at x e) = refl
-  opened_none n (statement.value at e) = refl
+-- what opens has no frames (in this edition)
+module _ (h : Home) where
+  mutual
+    pub opened_none : (n : ℕ) (t : Step) (s : StateView) → times n (opened h t s).term ≡ 0
+    opened_none n (statement.bracketed pos ts) s = opened_all_none n ts s
+    opened_none n (statement.guarded pos test t) s = opened_none n t s
+    opened_none n (statement.parallel pos bs) s = branches_none n bs s
+    opened_none n (statement.select pos bs) s = branches_none n bs s
+    opened_none n (statement.abort pos ts t) s =
+        let x = opened_all h ts s in
+        omega (arith, count_append n (frames_in x.term) (frames_in (opened h t x.state).term), opened_all_none n ts s, opened_none n t x.state)
+    opened_none n (statement.interrupt pos ts t) s =
+        let x = opened_all h ts s in
+        omega (arith, count_append n (frames_in x.term) (frames_in (opened h t x.state).term), opened_all_none n ts s, opened_none n t x.state)
+    opened_none n (statement.skip at) s = refl
+    opened_none n (statement.delay at e) s = refl
+    opened_none n (statement.block at es) s = refl
+    opened_none n (statement.conditional at e ts other) s = refl
+    opened_none n (statement.repeated at e ts) s = refl
+    opened_none n (statement.send at port name args after) s = refl
+    opened_none n (statement.receive at port name into condition after) s = refl
+    opened_none n (statement.call at method expression.none []) s = refl
+    opened_none n (statement.call at method expression.none (x ∷ xs)) s = refl
+    opened_none n (statement.call at method (expression.more e es) results) s = refl
+    opened_none n (statement.assignment at x e) s = refl
+    opened_none n (statement.value at e) s = refl
 
-  pub opened_all_none : (n : ℕ) (ts : Steps) → times n (opened_all ts) ≡ 0
-  opened_all_none n no_statements = refl
-  opened_all_none n ((then) s no_statements) = opened_none n s
-  opened_all_none n ((then) s ((then) r rest)) = opened_none n s
+    pub opened_all_none : (n : ℕ) (ts : Steps) (s : StateView) → times n (opened_all h ts s).term ≡ 0
+    opened_all_none n no_statements s = refl
+    opened_all_none n ((then) t no_statements) s = opened_none n t s
+    opened_all_none n ((then) t ((then) r rest)) s = opened_none n t s
 
-  branches_none : (n : ℕ) (bs : Branches Slot ClassId ℕ) → count_in n (frames_in_all (opened_branches bs)) ≡ 0
-  branches_none n no_branches = refl
-  branches_none n (branch ts bs) = omega (arith, count_append n (frames_in (opened_all ts)) (frames_in_all (opened_branches bs)), opened_all_none n ts, branches_none n bs)
+    branches_none : (n : ℕ) (bs : Branches Slot ClassId ℕ) (s : StateView) → count_in n (frames_in_all (branches_opened (enter h) bs s).terms) ≡ 0
+    branches_none n no_branches s = refl
+    branches_none n (branch ts bs) s =
+        let x = opened_all h ts s in
+        omega (arith, count_append n (frames_in x.term) (frames_in_all (branches_opened (enter h) bs x.state).terms), opened_all_none n ts s, branches_none n bs x.state)
 
 -- of parts side by side, one becomes another
 replaced_times : (n : ℕ) (ts : Terms) (i : ℕ) (x : Term) → i < count ts → count_in n (frames_in_all (replaced ts i x)) + times n (term_at ts i) ≡ count_in n (frames_in_all ts) + times n x
@@ -109,18 +119,18 @@ interrupted_times n u (idle s t i) again = omega (arith, count_append n (frames_
 interrupted_times n u (handling s t i) again = omega (arith, count_append n (frames_in s ++ frames_in t) (frames_in u))
 
 -- a second part that is done stands open afresh, with no frames
-handled_times : (n : ℕ) (t : Term) (again : Step) (x : Term) → times n (handled t again x) ≡ times n t + times n x
-handled_times n t again done = omega (arith, count_append n (frames_in t) (frames_in (opened again)), opened_none n again)
-handled_times n t again (leaf s) = count_append n (frames_in t) []
-handled_times n t again (wait left at) = count_append n (frames_in t) []
-handled_times n t again (sequence u rest) = count_append n (frames_in t) (frames_in u)
-handled_times n t again (parallel ts) = count_append n (frames_in t) (frames_in_all ts)
-handled_times n t again (select ts) = count_append n (frames_in t) (frames_in_all ts)
-handled_times n t again (guarded test at u) = count_append n (frames_in t) (frames_in u)
-handled_times n t again (frame number inputs results u) = count_append n (frames_in t) (number ∷ frames_in u)
-handled_times n t again (abort u v) = count_append n (frames_in t) (frames_in u ++ frames_in v)
-handled_times n t again (idle u v i) = count_append n (frames_in t) (frames_in u ++ frames_in v)
-handled_times n t again (handling u v i) = count_append n (frames_in t) (frames_in u ++ frames_in v)
+handled_times : (h : Home) (n : ℕ) (s : StateView) (t : Term) (again : Step) (x : Term) → times n (handled h s t again x).term ≡ times n t + times n x
+handled_times h n s t again done = omega (arith, count_append n (frames_in t) (frames_in (opened h again s).term), opened_none h n again s)
+handled_times h n s t again (leaf l) = count_append n (frames_in t) []
+handled_times h n s t again (wait left at) = count_append n (frames_in t) []
+handled_times h n s t again (sequence u rest) = count_append n (frames_in t) (frames_in u)
+handled_times h n s t again (parallel ts) = count_append n (frames_in t) (frames_in_all ts)
+handled_times h n s t again (select ts) = count_append n (frames_in t) (frames_in_all ts)
+handled_times h n s t again (guarded test at u) = count_append n (frames_in t) (frames_in u)
+handled_times h n s t again (frame number inputs results u) = count_append n (frames_in t) (number ∷ frames_in u)
+handled_times h n s t again (abort u v) = count_append n (frames_in t) (frames_in u ++ frames_in v)
+handled_times h n s t again (idle u v i) = count_append n (frames_in t) (frames_in u ++ frames_in v)
+handled_times h n s t again (handling u v i) = count_append n (frames_in t) (frames_in u ++ frames_in v)
 
 -- a frame round what is not done: it stays, or gives way to the one inside
 framed_times : (n number inputs : ℕ) (results : List Slot) (x : Term) → times n (framed number inputs results x) + count_in n (if gives_way results x then number ∷ [] else []) ≡ count_in n (number ∷ []) + times n x
@@ -138,66 +148,66 @@ framed_times n number inputs [] (abort s t) = omega arith
 framed_times n number inputs [] (idle s t i) = omega arith
 framed_times n number inputs [] (handling s t i) = omega arith
 
-sequence_times : (n f : ℕ) (s : StateView) (t : Term) (rest : Steps) (x : Term) → times n (around f s (sequence t rest) 0 x).term ≡ times n x
-sequence_times n f s t rest done = opened_all_none n rest
-sequence_times n f s t rest (leaf l) = refl
-sequence_times n f s t rest (wait left at) = refl
-sequence_times n f s t rest (sequence u more) = refl
-sequence_times n f s t rest (parallel us) = refl
-sequence_times n f s t rest (select us) = refl
-sequence_times n f s t rest (guarded test at u) = refl
-sequence_times n f s t rest (frame number inputs results u) = refl
-sequence_times n f s t rest (abort u v) = refl
-sequence_times n f s t rest (idle u v again) = refl
-sequence_times n f s t rest (handling u v again) = refl
+sequence_times : (h : Home) (n f : ℕ) (s : StateView) (t : Term) (rest : Steps) (x : Term) → times n (around h f s (sequence t rest) 0 x).term ≡ times n x
+sequence_times h n f s t rest done = opened_all_none h n rest s
+sequence_times h n f s t rest (leaf l) = refl
+sequence_times h n f s t rest (wait left at) = refl
+sequence_times h n f s t rest (sequence u more) = refl
+sequence_times h n f s t rest (parallel us) = refl
+sequence_times h n f s t rest (select us) = refl
+sequence_times h n f s t rest (guarded test at u) = refl
+sequence_times h n f s t rest (frame number inputs results u) = refl
+sequence_times h n f s t rest (abort u v) = refl
+sequence_times h n f s t rest (idle u v again) = refl
+sequence_times h n f s t rest (handling u v again) = refl
 
-frame_times : (n f : ℕ) (s : StateView) (number inputs : ℕ) (results : List Slot) (t x : Term)
-    → times n (around f s (frame number inputs results t) 0 x).term + count_in n (lost (frame number inputs results t) 0 x) ≡ count_in n (number ∷ []) + times n x
-frame_times n f s k i rs t done = omega arith
-frame_times n f s k i rs t (leaf l) = framed_times n k i rs (leaf l)
-frame_times n f s k i rs t (wait left at) = framed_times n k i rs (wait left at)
-frame_times n f s k i rs t (sequence u more) = framed_times n k i rs (sequence u more)
-frame_times n f s k i rs t (parallel us) = framed_times n k i rs (parallel us)
-frame_times n f s k i rs t (select us) = framed_times n k i rs (select us)
-frame_times n f s k i rs t (guarded test at u) = framed_times n k i rs (guarded test at u)
-frame_times n f s k i rs t (frame number inputs results u) = framed_times n k i rs (frame number inputs results u)
-frame_times n f s k i rs t (abort u v) = framed_times n k i rs (abort u v)
-frame_times n f s k i rs t (idle u v again) = framed_times n k i rs (idle u v again)
-frame_times n f s k i rs t (handling u v again) = framed_times n k i rs (handling u v again)
+frame_times : (h : Home) (n f : ℕ) (s : StateView) (number inputs : ℕ) (results : List Slot) (t x : Term)
+    → times n (around h f s (frame number inputs results t) 0 x).term + count_in n (lost (frame number inputs results t) 0 x) ≡ count_in n (number ∷ []) + times n x
+frame_times h n f s k i rs t done = omega arith
+frame_times h n f s k i rs t (leaf l) = framed_times n k i rs (leaf l)
+frame_times h n f s k i rs t (wait left at) = framed_times n k i rs (wait left at)
+frame_times h n f s k i rs t (sequence u more) = framed_times n k i rs (sequence u more)
+frame_times h n f s k i rs t (parallel us) = framed_times n k i rs (parallel us)
+frame_times h n f s k i rs t (select us) = framed_times n k i rs (select us)
+frame_times h n f s k i rs t (guarded test at u) = framed_times n k i rs (guarded test at u)
+frame_times h n f s k i rs t (frame number inputs results u) = framed_times n k i rs (frame number inputs results u)
+frame_times h n f s k i rs t (abort u v) = framed_times n k i rs (abort u v)
+frame_times h n f s k i rs t (idle u v again) = framed_times n k i rs (idle u v again)
+frame_times h n f s k i rs t (handling u v again) = framed_times n k i rs (handling u v again)
 
 -- One level: what stands afterwards and what is lost is what stood, but for the child, and what that has become.
-pub around_times : (n f : ℕ) (s : StateView) (t : Term) (i : ℕ) (x : Term) → MayActIn t i
-    → times n (around f s t i x).term + (count_in n (lost t i x) + times n (child t i)) ≡ times n t + times n x
-around_times n f s done i x h = absurd h
-around_times n f s (leaf l) i x h = absurd h
-around_times n f s (wait left at) i x h = absurd h
-around_times n f s (sequence t rest) zero x h = omega (arith, sequence_times n f s t rest x)
-around_times n f s (sequence t rest) (suc i) x h = absurd (omega (arith, h))
-around_times n f s (parallel ts) i x h = omega (arith, joined_times n (replaced ts i x), replaced_times n ts i x h)
-around_times n f s (select ts) i x h = omega (arith, replaced_times n ts i done h)
-around_times n f s (guarded test at t) zero x h = omega arith
-around_times n f s (guarded test at t) (suc i) x h = absurd (omega (arith, h))
-around_times n f s (frame number inputs results t) zero x h = omega (arith, frame_times n f s number inputs results t x)
-around_times n f s (frame number inputs results t) (suc i) x h = absurd (omega (arith, h))
-around_times n f s (abort t u) zero x h = omega (arith, aborted_times n u x, count_append n (frames_in t) (frames_in u))
-around_times n f s (abort t u) (suc zero) x h = omega (arith, count_append n (frames_in t) (frames_in u))
-around_times n f s (abort t u) (suc (suc i)) x h = absurd (omega (arith, h))
-around_times n f s (idle t u again) zero x h = omega (arith, interrupted_times n u x again, count_append n (frames_in t) (frames_in u))
-around_times n f s (idle t u again) (suc zero) x h = omega (arith, handled_times n t again x, count_append n (frames_in t) (frames_in u))
-around_times n f s (idle t u again) (suc (suc i)) x h = absurd (omega (arith, h))
-around_times n f s (handling t u again) zero x h = absurd (omega (arith, h))
-around_times n f s (handling t u again) (suc zero) x h = omega (arith, handled_times n t again x, count_append n (frames_in t) (frames_in u))
-around_times n f s (handling t u again) (suc (suc i)) x h = absurd (omega (arith, h))
+pub around_times : (home : Home) (n f : ℕ) (s : StateView) (t : Term) (i : ℕ) (x : Term) → MayActIn t i
+    → times n (around home f s t i x).term + (count_in n (lost t i x) + times n (child t i)) ≡ times n t + times n x
+around_times home n f s done i x h = absurd h
+around_times home n f s (leaf l) i x h = absurd h
+around_times home n f s (wait left at) i x h = absurd h
+around_times home n f s (sequence t rest) zero x h = omega (arith, sequence_times home n f s t rest x)
+around_times home n f s (sequence t rest) (suc i) x h = absurd (omega (arith, h))
+around_times home n f s (parallel ts) i x h = omega (arith, joined_times n (replaced ts i x), replaced_times n ts i x h)
+around_times home n f s (select ts) i x h = omega (arith, replaced_times n ts i done h)
+around_times home n f s (guarded test at t) zero x h = omega arith
+around_times home n f s (guarded test at t) (suc i) x h = absurd (omega (arith, h))
+around_times home n f s (frame number inputs results t) zero x h = omega (arith, frame_times home n f s number inputs results t x)
+around_times home n f s (frame number inputs results t) (suc i) x h = absurd (omega (arith, h))
+around_times home n f s (abort t u) zero x h = omega (arith, aborted_times n u x, count_append n (frames_in t) (frames_in u))
+around_times home n f s (abort t u) (suc zero) x h = omega (arith, count_append n (frames_in t) (frames_in u))
+around_times home n f s (abort t u) (suc (suc i)) x h = absurd (omega (arith, h))
+around_times home n f s (idle t u again) zero x h = omega (arith, interrupted_times n u x again, count_append n (frames_in t) (frames_in u))
+around_times home n f s (idle t u again) (suc zero) x h = omega (arith, handled_times home n s t again x, count_append n (frames_in t) (frames_in u))
+around_times home n f s (idle t u again) (suc (suc i)) x h = absurd (omega (arith, h))
+around_times home n f s (handling t u again) zero x h = absurd (omega (arith, h))
+around_times home n f s (handling t u again) (suc zero) x h = omega (arith, handled_times home n s t again x, count_append n (frames_in t) (frames_in u))
+around_times home n f s (handling t u again) (suc (suc i)) x h = absurd (omega (arith, h))
 
 -- the whole: what stands afterwards and what is lost is what stood, but for the acting part, and what that has become
-pub residual_times : (n f : ℕ) (t : Term) (place : Place) (x : Process) → MayAct t place
-    → times n (residual f t place x).term + (count_in n (lost_all f t place x) + times n (part_of t place)) ≡ times n t + times n x.term
-residual_times n f t [] x h = omega arith
-residual_times n f t (i ∷ place) x h =
-    let inner = residual (frame_in t f) (child t i) place x in
+pub residual_times : (home : Home) (n f : ℕ) (t : Term) (place : Place) (x : Process) → MayAct t place
+    → times n (residual home f t place x).term + (count_in n (lost_all home f t place x) + times n (part_of t place)) ≡ times n t + times n x.term
+residual_times home n f t [] x h = omega arith
+residual_times home n f t (i ∷ place) x h =
+    let inner = residual home (frame_in t f) (child t i) place x in
     omega (
       arith,
-      around_times n f inner.state t i inner.term h.0,
-      residual_times n (frame_in t f) (child t i) place x h.1,
-      count_append n (lost_all (frame_in t f) (child t i) place x) (lost t i inner.term),
+      around_times home n f inner.state t i inner.term h.0,
+      residual_times home n (frame_in t f) (child t i) place x h.1,
+      count_append n (lost_all home (frame_in t f) (child t i) place x) (lost t i inner.term),
     )

@@ -3,7 +3,7 @@ use Rattle.std.specs.Prelude.{ℕ, zero, suc, ◌+◌, Bool, true, false, eqb, i
 use Rattle.pz_classes_code.specs.declared.slot.Slot.{Slot}
 use Rattle.pz_offer.specs.PlaceOrder.{Place}
 use Rattle.pz_rules.specs.Terms.{Term, done, select, frame, abort, idle, frames_in, frames_in_all, child, frame_in}
-use Rattle.pz_rules.specs.Settings.{Process}
+use Rattle.pz_rules.specs.Settings.{Process, Home}
 use Rattle.pz_rules.specs.Leaving.{replaced, is_done, residual}
 
 abbrev pub count_in : ℕ → List ℕ → ℕ
@@ -32,6 +32,6 @@ lost (idle t u again) zero x = if_done x (frames_in u)
 lost t i x = []
 
 -- all frames that stand no longer once the part at the place has become this
-abbrev pub lost_all : ℕ → Term → Place → Process → List ℕ
-lost_all f t [] x = []
-lost_all f t (i ∷ place) x = lost_all (frame_in t f) (child t i) place x ++ lost t i (residual (frame_in t f) (child t i) place x).term
+abbrev pub lost_all : Home → ℕ → Term → Place → Process → List ℕ
+lost_all h f t [] x = []
+lost_all h f t (i ∷ place) x = lost_all h (frame_in t f) (child t i) place x ++ lost t i (residual h (frame_in t f) (child t i) place x).term

@@ -5,7 +5,7 @@ use Rattle.pz_offer.specs.PlaceOrder.{Place}
 use Rattle.pz_nodes_shapes.specs.Rose.{Map, width, payload}
 use Rattle.pz_nodes_shapes.specs.Reading.{depth}
 use Rattle.pz_rules.specs.Terms.{Term, height}
-use Rattle.pz_rules.specs.Settings.{Context, Process}
+use Rattle.pz_rules.specs.Settings.{Context, Process, Home}
 use Rattle.pz_rules.specs.Laws.{part_of}
 use Rattle.pz_rules.specs.Places.{MayAct}
 use Rattle.pz_rules.specs.Leaving.{residual}
@@ -77,8 +77,8 @@ RestsAreRight = (a : Context) (f c : ℕ) (s : Shape) → asks (term_of c s) ≡
 -- An action on the part at a place: what stands afterwards and what is lost is what stood, but for the part, and what
 -- that has become.
 abbrev pub FramesStandOrAreLost : Type 0
-FramesStandOrAreLost = (n f : ℕ) (t : Term) (place : Place) (x : Process) → MayAct t place
-    → times n (residual f t place x).term + (count_in n (lost_all f t place x) + times n (part_of t place)) ≡ times n t + times n x.term
+FramesStandOrAreLost = (h : Home) (n f : ℕ) (t : Term) (place : Place) (x : Process) → MayAct t place
+    → times n (residual h f t place x).term + (count_in n (lost_all h f t place x) + times n (part_of t place)) ≡ times n t + times n x.term
 
 -- nodes are no more than twice as deep as their term is high
 abbrev pub NoDeeperThanHigh : Type 0

@@ -2,7 +2,7 @@
 //! output is the test.
 //!
 //! `rows_eval FILE ..` answers the questions in the comments of each file. `rows_eval bench ROUNDS`
-//! evaluates a loop of so many rounds.
+//! and `rows_eval assign ROUNDS` evaluate a loop of so many rounds.
 #![tactic(auto)]
 
 mod bench;
@@ -27,6 +27,9 @@ fn main(rt: HostRuntime) -> io::Result<()> {
     let words = env::args(&rt)?.collect::<Vec<String>>(rt.alloc())?;
     match words.as_slice() {
         [_, job, rounds] if job.as_str() == "bench" => bench::show_bench(&rt, rounds.as_str()),
+        [_, job, rounds] if job.as_str() == "assign" => {
+            bench::show_assignments(&rt, rounds.as_str())
+        }
         [_, names @ ..] => {
             for name in names {
                 show_file(&rt, name.as_str())?;

@@ -1,9 +1,12 @@
 //! What a simulator says of where it stands.
 
+ghost use Rattle.std.specs.Prelude.{ℕ, ◌<◌};
+ghost use Rattle.pz_term.specs.Simulations.{IsMomentOf};
+
 use pz_copy::Parcel;
 use pz_offer::End;
 use pz_syntax::Name;
-use pz_term::{Action, Plain};
+use pz_term::{Action, Moment, Simulator};
 use std::io;
 
 // The number of the process, and those of the children on the way to the part, each after a point.
@@ -22,7 +25,7 @@ fn show_message(rt: &HostRuntime, message: &Name, parcel: &Parcel) -> io::Result
     print!(rt; " ! {message} {values:?} -> ")
 }
 
-fn show_offer(rt: &HostRuntime, number: usize, action: &Action) -> io::Result<()> {
+fn show_offer(rt: &HostRuntime, number: u64, action: &Action) -> io::Result<()> {
     print!(rt; "offer {number}: ")?;
     match action {
         Action::Internal { at, kind, pos } => {
@@ -45,18 +48,34 @@ fn show_offer(rt: &HostRuntime, number: usize, action: &Action) -> io::Result<()
     }
 }
 
-/// Offers, each with its number.
-pub fn show_offers(rt: &HostRuntime, actions: &[Action]) -> io::Result<()> {
-    for (number, action) in actions.iter().enumerate() {
-        show_offer(rt, number, action)?;
+fn show_nth<S: Simulator>(rt: &HostRuntime, sim: &S, number: u64) -> io::Result<()>
+    requires { (n : ℕ) × IsMomentOf (S.simulation sim.now) (Moment.Actions n) × (number < n) }
+{
+    let action = sim.offer(number)?;
+    show_offer(rt, number, &action)
+}
+
+fn show_so_many<S: Simulator>(rt: &HostRuntime, sim: &S, offers: u64) -> io::Result<()>
+    requires { IsMomentOf (S.simulation sim.now) (Moment.Actions offers) }
+{
+    for number in 0..offers {
+        show_nth(rt, sim, number)?;
     }
     Ok(())
 }
 
+/// The offers of a simulator, each with its number.
+pub fn show_offers<S: Simulator>(rt: &HostRuntime, sim: &S) -> io::Result<()> {
+    match sim.moment() {
+        Moment::Actions(offers) => show_so_many(rt, sim, offers),
+        _ => Ok(()),
+    }
+}
+
 /// The clock, the moment and the offers.
-pub fn show_moment(rt: &HostRuntime, plain: &Plain) -> io::Result<()> {
-    let clock = plain.clock();
-    let moment = plain.moment();
+pub fn show_moment<S: Simulator>(rt: &HostRuntime, sim: &S) -> io::Result<()> {
+    let clock = sim.clock();
+    let moment = sim.moment();
     println!(rt; "{clock} {moment:?}")?;
-    show_offers(rt, plain.offers())
+    show_offers(rt, sim)
 }

@@ -1,9 +1,9 @@
 //! Steps of a simulator.
 
 use crate::offers::{show_moment, show_offers};
-use pz_term::{Moment, Plain};
+use pz_term::{Moment, Simulator, Steps};
 use std::io;
-use std::mem::drop;
+use std::sync::ledger::Ledger;
 
 /// How a model is played.
 #[derive(Clone, Copy)]
@@ -14,75 +14,106 @@ pub enum Play<'a> {
     Events(u64),
 }
 
-fn choose(rt: &HostRuntime, plain: &mut Plain, word: &str) -> io::Result<()> {
+fn choose<S: Simulator, L: Ledger>(
+    rt: &HostRuntime,
+    sim: &mut S,
+    word: &str,
+    steps: &mut Steps<L>,
+) -> io::Result<()> {
     let Ok(number) = word.parse::<u64>() else {
         return println!(rt; "no step: {word}");
     };
-    let answer = plain.choose(number);
+    let answer = sim.choose(number, steps);
     println!(rt; "choose {number}: {answer:?}")
 }
 
-fn pass(rt: &HostRuntime, plain: &mut Plain) -> io::Result<()> {
-    let answer = plain.pass();
+fn pass<S: Simulator, L: Ledger>(
+    rt: &HostRuntime,
+    sim: &mut S,
+    steps: &mut Steps<L>,
+) -> io::Result<()> {
+    let answer = sim.pass(steps);
     println!(rt; "pass: {answer:?}")
 }
 
-fn show_copies(rt: &HostRuntime, plain: &mut Plain) -> io::Result<()> {
+fn show_copies<S: Simulator>(rt: &HostRuntime, sim: &S) -> io::Result<()> {
     println!(rt; "copies")?;
-    let copies = plain.actions()?;
-    let shown = show_offers(rt, copies.as_slice());
-    drop(copies);
-    shown
+    show_offers(rt, sim)
 }
 
-fn take_step(rt: &HostRuntime, plain: &mut Plain, word: &str) -> io::Result<()> {
+fn take_step<S: Simulator, L: Ledger>(
+    rt: &HostRuntime,
+    sim: &mut S,
+    word: &str,
+    steps: &mut Steps<L>,
+) -> io::Result<()> {
     match word {
-        "pass" => pass(rt, plain),
-        "copies" => show_copies(rt, plain),
-        _ => choose(rt, plain, word),
+        "pass" => pass(rt, sim, steps),
+        "copies" => show_copies(rt, sim),
+        _ => choose(rt, sim, word, steps),
     }
 }
 
-fn show_step(rt: &HostRuntime, plain: &mut Plain, word: &str) -> io::Result<()> {
-    take_step(rt, plain, word)?;
-    show_moment(rt, plain)
+fn show_step<S: Simulator, L: Ledger>(
+    rt: &HostRuntime,
+    sim: &mut S,
+    word: &str,
+    steps: &mut Steps<L>,
+) -> io::Result<()> {
+    take_step(rt, sim, word, steps)?;
+    show_moment(rt, sim)
 }
 
-fn show_steps(rt: &HostRuntime, plain: &mut Plain, steps: &str) -> io::Result<()> {
-    show_moment(rt, plain)?;
-    for word in steps.split(' ') {
-        show_step(rt, plain, word)?;
+fn show_steps<S: Simulator, L: Ledger>(
+    rt: &HostRuntime,
+    sim: &mut S,
+    words: &str,
+    steps: &mut Steps<L>,
+) -> io::Result<()> {
+    show_moment(rt, sim)?;
+    for word in words.split(' ') {
+        show_step(rt, sim, word, steps)?;
     }
     Ok(())
 }
 
 // The first offer is taken, or time passes. Whether an action was taken.
-fn go_on(plain: &mut Plain) -> bool {
-    match plain.moment() {
-        Moment::Actions(_) => plain.choose(0).is_ok(),
+fn go_on<S: Simulator, L: Ledger>(sim: &mut S, steps: &mut Steps<L>) -> bool {
+    match sim.moment() {
+        Moment::Actions(_) => sim.choose(0, steps).is_ok(),
         Moment::Time(_) => {
-            let _passed = plain.pass();
+            let _passed = sim.pass(steps);
             false
         }
         _ => false,
     }
 }
 
-fn show_events(rt: &HostRuntime, plain: &mut Plain, events: u64) -> io::Result<()> {
+fn show_events<S: Simulator, L: Ledger>(
+    rt: &HostRuntime,
+    sim: &mut S,
+    events: u64,
+    steps: &mut Steps<L>,
+) -> io::Result<()> {
     let mut actions: u64 = 0;
     for _ in 0..events {
-        if go_on(plain) {
+        if go_on(sim, steps) {
             actions = actions.saturating_add(1);
         }
     }
-    let clock = plain.clock();
+    let clock = sim.clock();
     println!(rt; "{actions} actions to clock {clock}")
 }
 
 /// Plays a model from where a simulator stands.
-pub fn show_play(rt: &HostRuntime, plain: &mut Plain, play: Play<'_>) -> io::Result<()> {
+pub fn show_play<S: Simulator, L: Ledger>(
+    rt: &HostRuntime,
+    sim: &mut S,
+    play: Play<'_>,
+    steps: &mut Steps<L>,
+) -> io::Result<()> {
     match play {
-        Play::Steps(steps) => show_steps(rt, plain, steps),
-        Play::Events(events) => show_events(rt, plain, events),
+        Play::Steps(words) => show_steps(rt, sim, words, steps),
+        Play::Events(events) => show_events(rt, sim, events, steps),
     }
 }

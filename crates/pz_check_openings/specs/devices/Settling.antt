@@ -7,8 +7,8 @@ use Rattle.pz_classes_code.specs.NumberIn.{number_in}
 use Rattle.pz_check_calls.specs.Calls.{total_in}
 use Rattle.pz_check_openings.specs.declared.outline.Outline.{Outline}
 
-abbrev pub bound_of : Numbering → List ℕ → List ℕ → ℕ
-bound_of names bounds name = option_map_or (λ k. total_in bounds k) (number_in names name) 0
+abbrev pub value_of : Numbering → List ℕ → List ℕ → ℕ
+value_of names bounds name = option_map_or (λ k. total_in bounds k) (number_in names name) 0
 
 abbrev pub is_plain : Outline → Bool
 is_plain o = nat_eq o.inputs 0 && nat_eq o.outputs 0

@@ -1,5 +1,5 @@
 -- What is asked, and what an update leaves of the offers that are kept.
-use Rattle.std.specs.Prelude.{◌≡◌, ℕ, true, false, not, nat_eq, List, [], ◌∷◌, ◌++◌, filter, map, All, if◌then◌else◌}
+use Rattle.std.specs.Prelude.{◌≡◌, ℕ, true, false, not, nat_eq, List, [], ◌∷◌, ◌++◌, length, filter, map, sum_by, All, if◌then◌else◌}
 use Rattle.std.specs.List.{flat_map}
 use Rattle.pz_copy.specs.Parcels.{ParcelView}
 use Rattle.pz_offer.specs.declared.end.End.{End}
@@ -8,7 +8,7 @@ use Rattle.pz_match.specs.declared.rows.Row.{Row}
 use Rattle.pz_match.specs.declared.kept.Sending.{Sending}
 use Rattle.pz_match.specs.declared.kept.Receiving.{Receiving}
 use Rattle.pz_match.specs.Judging.{Verdicts}
-use Rattle.pz_match.specs.devices.Kept.{Kept, asks_in}
+use Rattle.pz_match.specs.devices.Kept.{Kept, asks_in, rows_at}
 
 abbrev pub row_of : Verdicts → Sender → ℕ → Receiving → Row
 row_of says s process r = record { process = process; verdict = says s.end s.parcel r.receiver.end }
@@ -36,3 +36,10 @@ renewed says process rs s = record s { rows = filter (λ r. not (nat_eq r.proces
 abbrev pub replaced : Verdicts → ℕ → List Sending → List Receiving → Kept → Kept
 replaced says process ss rs e =
     if nat_eq e.process process then record { process = process; sends = ss; receives = rs } else record e { sends = map (renewed says process rs) e.sends }
+
+-- the rows that an update of a process writes: all of its own sends, and those of its receives
+abbrev pub rows_written : ℕ → Sending → ℕ
+rows_written process s = if nat_eq s.sender.end.process process then length s.rows else length (rows_at process s.rows)
+
+abbrev pub all_written : ℕ → List Kept → ℕ
+all_written process = sum_by (λ e. sum_by (rows_written process) e.sends)

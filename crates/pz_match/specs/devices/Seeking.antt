@@ -1,5 +1,5 @@
 -- Which pairs are sought, and how many there are.
-use Rattle.std.specs.Prelude.{◌≡◌, ◌<◌, ◌+◌, ◌-◌, ℕ, Bool, nat_eq, List, filter, count_by, sum_by, take, drop, slice_get, Some, if◌then◌else◌}
+use Rattle.std.specs.Prelude.{◌≡◌, ◌<◌, ◌+◌, ◌-◌, ℕ, zero, suc, Bool, nat_eq, List, filter, count_by, sum_by, take, drop, slice_get, slice_index_or, Some, Contains, if◌then◌else◌}
 use Rattle.pz_offer.specs.declared.ends.Verdict.{Verdict}
 use Rattle.pz_offer.specs.declared.ends.Verdict.TheVariants.{Yes}
 use Rattle.pz_match.specs.declared.rows.Row.{Row}
@@ -87,3 +87,12 @@ pub record IsReceiveAt (all : List Kept) (process place : ℕ) (r : Receiving) :
 
 abbrev pub IsReceive : List Kept → ℕ → ℕ → Type 0
 IsReceive all process place = (r : Receiving) × IsReceiveAt all process place r
+
+-- what is left behind the first of these numbers
+abbrev pub past : List ℕ → ℕ → ℕ
+past numbers zero = 0
+past numbers (suc n) = slice_index_or numbers n 0 + 1
+
+-- the processes that have any of these are among those with these numbers
+abbrev pub OnlyAt : List ℕ → List Kept → (Kept → ℕ) → Type 0
+OnlyAt users all f = (k : ℕ) (e : Kept) → slice_get all k ≡ Some e → (Contains users k → ⊥) → f e ≡ 0

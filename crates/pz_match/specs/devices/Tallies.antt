@@ -1,6 +1,7 @@
 -- How many offers and pairs a group has.
-use Rattle.std.specs.Prelude.{◌≡◌, ◌<◌, ◌≤◌, ◌+◌, ◌-◌, ◌*◌, ℕ, zero, suc, Bool, true, false, nat_eq, List, [], ◌∷◌, length, slice_get, slice_index, Some, All, sum_by, count_by, if◌then◌else◌}
+use Rattle.std.specs.Prelude.{◌≡◌, ◌<◌, ◌≤◌, ◌+◌, ◌-◌, ◌*◌, ℕ, zero, suc, Bool, true, false, nat_eq, List, [], ◌∷◌, length, slice_get, slice_index, Some, All, Contains, sum_by, count_by, if◌then◌else◌}
 use Rattle.std.specs.Option.{option_map_or}
+use Rattle.pz_match_lists.specs.Increasing.{list_at}
 use Rattle.pz_match.specs.declared.rows.Row.{Row}
 use Rattle.pz_match.specs.declared.groups.Tally.{Tally}
 use Rattle.pz_match.specs.declared.groups.Group.{Group}
@@ -51,6 +52,14 @@ pub record GroupsHold (groups : List Group) (counts : List ℕ) (troubles : ℕ)
   pub counted : (w : ℕ) → w < length counts → slice_index counts w ≡ on_wire groups w
   pub distinct : Distinct groups
   pub troubled_is : troubles ≡ sum_by (λ x. x.tally.troubles) groups
+
+-- the number of each group is in the list of its wire
+abbrev pub AreListed : List Group → List (List ℕ) → Type 0
+AreListed groups numbers = (g : ℕ) (x : Group) → slice_get groups g ≡ Some x → Contains (list_at numbers x.wire) g
+
+pub record GroupsKept (groups : List Group) (numbers : List (List ℕ)) (counts : List ℕ) (troubles : ℕ) : Type 0 where
+  pub hold : GroupsHold groups counts troubles
+  pub listed : AreListed groups numbers
 
 -- groups keep their numbers and marks, and there may be more
 pub record Follows (old new : GroupsView) : Type 0 where

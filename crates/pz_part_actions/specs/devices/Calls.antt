@@ -13,8 +13,8 @@ use Rattle.pz_classes.specs.devices.Rows.{AreClasses}
 use Rattle.pz_state.specs.States.{IsLeastFree}
 use Rattle.pz_state.specs.Marks.{Seen}
 use Rattle.pz_rules.specs.Terms.{Steps, Term}
-use Rattle.pz_rules.specs.InternalActions.{entered}
-use Rattle.pz_term_around.specs.Becoming.{Became}
+use Rattle.pz_rules.specs.Becoming.{Became}
+use Rattle.pz_rules.specs.devices.Plainly.{plainly_entered}
 
 -- the classes are those of a model whose bodies fit, and this one has the method
 pub record IsCallable (classes : Classes) (class : ClassId) (name : List ℕ) (inputs outputs : ℕ) : Type 0 where
@@ -28,4 +28,4 @@ pub record IsCallable (classes : Classes) (class : ClassId) (name : List ℕ) (i
 pub record Enters (locals : ℕ) (results : List Slot) (body : Steps) (inputs : List Value) (t : Term) (old new : Seen) : Type 0 where
   pub number : ℕ
   pub free : IsLeastFree old.held.frames number
-  pub became : Became (entered old.held number locals results body inputs) t old new
+  pub became : Became (plainly_entered old.held number locals results body inputs) t old new

@@ -26,7 +26,7 @@ use Rattle.pz_offer.specs.declared.trouble.Trouble.{Trouble}
 use Rattle.pz_rules.specs.declared.action.Action.{Action}
 use Rattle.pz_rules.specs.declared.action.Action.TheVariants.{Internal, Comm}
 use Rattle.pz_rules.specs.Terms.{Codes, Step, Term, leaf, wait}
-use Rattle.pz_rules.specs.Settings.{Setting, Process, Context, in_state}
+use Rattle.pz_rules.specs.Settings.{Setting, Process, Context, in_state, home_of}
 use Rattle.pz_rules.specs.Meanings.{and_then, truth, fault}
 use Rattle.pz_rules.specs.Evaluations.{GivesPart}
 use Rattle.pz_rules.specs.InternalActions as actions
@@ -42,7 +42,6 @@ use Rattle.pz_rules.specs.devices.Walk.{ActivePart, active_parts}
 use Rattle.pz_rules.proofs.Found.{gives_found, gives_all_found, gives_part_found}
 use Rattle.pz_rules.proofs.Lists.{Contains-first, Contains-later}
 use Rattle.pz_rules.proofs.Locals.{some_is, no_some}
-use Rattle.pz_rules.proofs.Possible.{free, free_is}
 use Rattle.pz_rules.proofs.Walked.{IsPart, sound}
 use Rattle.pz_rules.proofs.Derived.{Standing}
 use Rattle.pz_rules.proofs.worked.Parcelled.{parcel, parcel_holds}
@@ -64,14 +63,14 @@ module _ (a : Context) (f : ℕ) where
   called at args results None = None
   called at args results (Some (data_body locals body)) = None
   called at args results (Some (process_body locals body)) =
-      Some (record { pos = at; left = and_then (found_all a f at args) (λ vs. Ok (entered (left_all a f args) (free (left_all a f args).frames) locals results body vs)) })
+      Some (record { pos = at; left = and_then (found_all a f at args) (λ vs. Ok (entered (home_of a) (left_all a f args) locals results body vs)) })
 
   abbrev step_performed : Step → Option Outcome
   step_performed (skip at) = Some (record { pos = at; left = Ok (done_in a.state) })
   step_performed (value at e) = Some (record { pos = at; left = and_then (found a f at e) (λ _. Ok (done_in (left a f e))) })
   step_performed (block at es) = Some (record { pos = at; left = and_then (found_all a f at es) (λ _. Ok (done_in (left_all a f es))) })
-  step_performed (conditional at e ts other) = Some (record { pos = at; left = and_then (found a f at e) (λ v. and_then (truth a.process at v) (λ b. Ok (chosen (left a f e) ts other b))) })
-  step_performed (repeated at e ts) = Some (record { pos = at; left = and_then (found a f at e) (λ v. and_then (truth a.process at v) (λ b. Ok (turned (left a f e) (repeated at e ts) ts b))) })
+  step_performed (conditional at e ts other) = Some (record { pos = at; left = and_then (found a f at e) (λ v. and_then (truth a.process at v) (λ b. Ok (chosen (home_of a) (left a f e) ts other b))) })
+  step_performed (repeated at e ts) = Some (record { pos = at; left = and_then (found a f at e) (λ v. and_then (truth a.process at v) (λ b. Ok (turned (home_of a) (left a f e) (repeated at e ts) ts b))) })
   step_performed (delay at e) = Some (record { pos = at; left = Ok (done_in a.state) })
   step_performed (call at method args results) = called at args results (process_method_body a.setting.model a.class method.name (how_many args) (length results))
   step_performed s = None
@@ -89,7 +88,7 @@ module _ (a : Context) (f : ℕ) where
   called_is at method args results (Some (data_body locals body)) d is e = no_some e
   called_is at method args results (Some (process_body locals body)) d is e =
       subst (Does (leaf (call at method args results))) (some_is e)
-      (actions.calls at method args results (found_all a f at args) (left_all a f args) locals (free (left_all a f args).frames) body (gives_all_found a f at args) (record { is_body = is }) (free_is (left_all a f args).frames))
+      (actions.calls at method args results (found_all a f at args) (left_all a f args) locals body (gives_all_found a f at args) (record { is_body = is }))
 
   step_performed_is : (s : Step) (d : Outcome) → step_performed s ≡ Some d → Does (leaf s) d
   step_performed_is (skip at) d e = subst (Does (leaf (skip at))) (some_is e) (actions.skips at)

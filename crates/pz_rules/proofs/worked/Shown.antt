@@ -7,20 +7,19 @@ use Rattle.std.proofs.lemmas.List.Elements.{All-nil, All-cons, All-contains}
 use Rattle.pz_classes.specs.Starts.{init}
 use Rattle.pz_bind_levels.specs.Places.{Address}
 use Rattle.pz_bind.specs.Nest.{processes, class_at}
-use Rattle.pz_bind.specs.Values.{values_at}
 use Rattle.pz_copy.specs.Parcels.{ParcelView}
 use Rattle.pz_offer.specs.declared.trouble.Trouble.{Trouble}
 use Rattle.pz_rules.specs.declared.action.Action.{Action}
 use Rattle.pz_rules.specs.declared.moment.Moment.{Moment}
 use Rattle.pz_rules.specs.declared.moment.Moment.TheVariants.{Actions, Time, Finished, Deadlock}
-use Rattle.pz_rules.specs.Terms.{Step, Term, done, leaf}
+use Rattle.pz_rules.specs.Terms.{Step, Term, done}
 use Rattle.pz_rules.specs.Settings.{Setting, Process}
 use Rattle.pz_rules.specs.Leaving.{is_done}
 use Rattle.pz_rules.specs.Configurations.{Config}
 use Rattle.pz_rules.specs.Offers.{IsOffers}
 use Rattle.pz_rules.specs.Steps.{Next, PassesTo}
 use Rattle.pz_rules.specs.Moments.{IsLeft, IsLeast, acting, passing, finished, deadlock, IsMoment}
-use Rattle.pz_rules.specs.Starting.{StartsAs, IsStart}
+use Rattle.pz_rules.specs.Starting.{begins_with, StartsAs, IsStart}
 use Rattle.pz_rules.proofs.Locals.{some_is, no_some}
 use Rattle.pz_rules.proofs.Moments.{NoDelay, rank_two, rank_three, rank_four, rank_five}
 use Rattle.pz_rules.proofs.Waiting.{next_config, passing_there}
@@ -68,7 +67,7 @@ module _ (setting : Setting) where
 module _ (setting : Setting) where
   abbrev first_process : Address → Option Step → Option Process
   first_process place None = None
-  first_process place (Some s) = Some (record { term = leaf s; state = record { vars = values_at setting.model place; frames = []; objects = [] } })
+  first_process place (Some s) = Some (begins_with setting place s)
 
   abbrev first_at : Address → Option Process
   first_at place = first_process place (init setting.model (class_at setting.model place))

@@ -2,7 +2,7 @@
 use Rattle.pz_rules.specs.Laws.{WiresAreKnown, OneMoment, EveryMoment, MomentsCountOffers, TimeIsPositive, EveryPassing, StaysWhole, StartFits, StaysFit, EveryNext, EveryChosenRun, ChosenRunsAreRuns}
 use Rattle.pz_rules.specs.devices.Ends.{PassingsEnd}
 use Rattle.pz_trace.specs.Laws.{OffersAreNamed, FaultsAreNamed, StopsAreNamed}
-use Rattle.pz_term.specs.Laws.{OneMomentOf, OffersAreCounted, OffersAreNumbered, OffersAreDerived}
+use Rattle.pz_term.specs.Laws.{OneMomentOf, OffersAreThere, OffersAreCounted, OffersAreNumbered, OffersAreDerived, OneOfferOf}
 use Rattle.pz_io.specs.Laws.{NothingIsWritten, PiecesJoin, HaltsBeforeMore, MemoryMayBeWanting}
 
 pub record Known : Type 0 where
@@ -20,9 +20,11 @@ pub record Known : Type 0 where
   pub are_runs : ChosenRunsAreRuns
   pub passings_end : PassingsEnd
   pub one_moment_of : OneMomentOf
+  pub offers_there : OffersAreThere
   pub offers_counted : OffersAreCounted
   pub offers_numbered : OffersAreNumbered
   pub offers_derived : OffersAreDerived
+  pub one_offer : OneOfferOf
   pub offers_named : OffersAreNamed
   pub faults_named : FaultsAreNamed
   pub stops_named : StopsAreNamed

@@ -5,7 +5,6 @@ use Rattle.pz_classes.specs.Soundness.{IsSound}
 use Rattle.pz_offer.specs.declared.trouble.Trouble.{Trouble}
 use Rattle.pz_bind.specs.declared.net.Net.{Net}
 use Rattle.pz_bind.specs.devices.Nets.{IsNet}
-use Rattle.pz_rules.specs.declared.action.Action.{Action}
 use Rattle.pz_rules.specs.declared.moment.Moment.TheVariants.{Time}
 use Rattle.pz_rules.specs.Settings.{Setting}
 use Rattle.pz_rules.specs.Ports.{HasWires}
@@ -14,7 +13,7 @@ use Rattle.pz_rules.specs.Configurations.{Config, IsWhole}
 use Rattle.pz_rules.specs.Runs.{Event, Standing, whole, stopped, Reaches, Ending, troubled}
 use Rattle.pz_rules.specs.ChosenRuns.{Policy, IsChosenRun, is_beyond}
 use Rattle.pz_rules.specs.devices.Pending.{list_pending}
-use Rattle.pz_trace.specs.Named.{IsNamed, HasTroubled}
+use Rattle.pz_trace.specs.Named.{HasTroubled}
 use Rattle.pz_term.specs.Simulations.{Simulation, stands, broken, IsMomentOf, clock_in}
 use Rattle.pz_run_playing.specs.Playing.{EndsAs}
 
@@ -40,14 +39,11 @@ IsReady (broken setting) = ⊥
 abbrev pub IsHeld : Option ℕ → Simulation → Type 0
 IsHeld until s = (d : ℕ) → IsMomentOf s (Time d) → is_beyond until (clock_in s) d ≡ true
 
--- what a line names is that of the net of the model, whichever net that is
-abbrev pub IsNamedIn : ModelTree → Action → Type 0
-IsNamedIn m a = (net : Net) → ∥ IsNet m net ∥₁ → IsNamed net a
-
 -- the process of the trouble in which a run ends, if it does, is one of the net
 abbrev pub HasTroubledAtEnd : Net → Ending → Type 0
 HasTroubledAtEnd net ending = (trouble : Trouble) → ending ≡ troubled trouble → HasTroubled net trouble
 
+-- and of any net of the model
 abbrev pub IsTroubledIn : ModelTree → Ending → Type 0
 IsTroubledIn m ending = (net : Net) → ∥ IsNet m net ∥₁ → HasTroubledAtEnd net ending
 

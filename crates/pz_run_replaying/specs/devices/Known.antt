@@ -1,7 +1,7 @@
 -- What is known of runs, of lines and of writing, by the laws of the crates below.
 use Rattle.pz_rules.specs.Laws.{OneListOfOffers, WiresAreKnown, OneMoment, EveryMoment, MomentsCountOffers, EveryPassing, OneNext, OnePassing, StaysWhole, StartFits, StaysFit, EveryNext}
 use Rattle.pz_trace.specs.Laws.{HeaderIsLine, EndLinesAreLines, OneFirstLine, ActionLinesDiffer, StopIsNoAction, StopIsNoPassing, OneHeading, EveryHeading, ActionsHaveHeadings, OffersAreNamed, FaultsAreNamed, StopsAreNamed}
-use Rattle.pz_term.specs.Laws.{OneMomentOf, OffersAreCounted, OffersAreNumbered, OffersAreDerived}
+use Rattle.pz_term.specs.Laws.{OneMomentOf, OffersAreDerived, OneOfferOf}
 use Rattle.pz_io.specs.Laws.{NothingIsWritten, PiecesJoin, HaltsBeforeMore, MemoryMayBeWanting}
 
 pub record Known : Type 0 where
@@ -18,9 +18,8 @@ pub record Known : Type 0 where
   pub stays_fit : StaysFit
   pub some_next : EveryNext
   pub one_moment_of : OneMomentOf
-  pub offers_counted : OffersAreCounted
-  pub offers_numbered : OffersAreNumbered
   pub offers_derived : OffersAreDerived
+  pub one_offer : OneOfferOf
   pub offers_named : OffersAreNamed
   pub faults_named : FaultsAreNamed
   pub stops_named : StopsAreNamed

@@ -3,7 +3,9 @@ use Rattle.std.specs.Prelude.{◌≡◌, ℕ, suc, false}
 use Rattle.pz_state.specs.States.{StateView}
 use Rattle.pz_offer.specs.PlaceOrder.{Place}
 use Rattle.pz_rules.specs.Terms.{Term, height}
-use Rattle.pz_rules.specs.Leaving.{is_done, left_by, around, residual}
+use Rattle.pz_rules.specs.Leaving.{is_done}
+use Rattle.pz_rules.specs.Settings.{left_by}
+use Rattle.pz_rules.specs.devices.Plainly.{plainly_around as around, plainly_residual as residual}
 use Rattle.pz_term_around.specs.Bare.{is_bare}
 use Rattle.pz_term_residual.specs.declared.outline.Outline.{Outline}
 use Rattle.pz_term_residual.specs.devices.Capped.{capped}

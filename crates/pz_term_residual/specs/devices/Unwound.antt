@@ -3,9 +3,9 @@ use Rattle.std.specs.Prelude.{◌≡◌, ◌<◌, ℕ, List, [], ◌∷◌, leng
 use Rattle.pz_classes_code.specs.StepView.{view, sequence_view}
 use Rattle.pz_state.specs.States.{StateView}
 use Rattle.pz_rules.specs.Terms.{Term, done, sequence, parallel, frame, abort, idle, handling, child, frame_in}
-use Rattle.pz_rules.specs.Settings.{Process}
-use Rattle.pz_rules.specs.Leaving.{left_by, around}
+use Rattle.pz_rules.specs.Settings.{Process, left_by}
 use Rattle.pz_rules.specs.View.{term_view, terms_view}
+use Rattle.pz_rules.specs.devices.Plainly.{plainly_around as around}
 use Rattle.pz_term_residual.specs.declared.levels.Level.{Level}
 use Rattle.pz_term_residual.specs.declared.levels.Level.TheVariants as level
 use Rattle.pz_term_residual.specs.declared.levels.Inside.{Inside}

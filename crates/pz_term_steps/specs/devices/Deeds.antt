@@ -8,10 +8,11 @@ use Rattle.pz_offer.specs.PlaceOrder.{Place}
 use Rattle.pz_offer.specs.declared.trouble.Trouble.{Trouble}
 use Rattle.pz_rules.specs.declared.action.Kind.{Kind}
 use Rattle.pz_rules.specs.Terms.{Term}
-use Rattle.pz_rules.specs.Settings.{Setting, Process, Context}
+use Rattle.pz_rules.specs.Settings.{Setting, Process, Context, left_by}
 use Rattle.pz_rules.specs.Active.{IsActive}
 use Rattle.pz_rules.specs.InternalActions.{Can}
-use Rattle.pz_rules.specs.Leaving.{left_by, residual, swept, settled}
+use Rattle.pz_rules.specs.Leaving.{swept, settled}
+use Rattle.pz_rules.specs.devices.Plainly.{plainly_residual as residual}
 use Rattle.pz_rules.specs.Meanings.{and_then}
 use Rattle.pz_rules.specs.Messages.{Sends, Receives}
 use Rattle.pz_rules.specs.Steps.{Deed}

@@ -7,7 +7,7 @@ use Rattle.pz_match.proofs.Untroubled.{untroubled}
 use Rattle.pz_match.proofs.seeking.find_trouble.Goals as goal
 
 pub returns-then-troubles-eq0 : goal.returns-then-troubles-eq0
-returns-then-troubles-eq0 c = sym (untroubled c.args.groups.now (map kept c.args.all.now) c.requires (sym c.troubles.ensures ∙ c.if-troubles-eq0.true) c.args.groups.now.wires)
+returns-then-troubles-eq0 c = sym (untroubled c.args.groups.now (map kept c.args.all.now) c.requires.holds (sym c.troubles.ensures ∙ c.if-troubles-eq0.true) c.args.groups.now.wires)
 
 pub returns-in-Some : goal.returns-in-Some
 returns-in-Some c =

@@ -1,5 +1,5 @@
 -- Step by step.
-use Rattle.std.proofs.Common.{◌≡◌, ◌<◌, ◌∙◌, sym, subst, refl, List, length, get_or, set}
+use Rattle.std.proofs.Common.{◌≡◌, ◌<◌, ◌+◌, ◌∙◌, ap, sym, subst, refl, List, length, get_or, set}
 use Rattle.std.specs.Prelude.{map, All, Contains}
 use Rattle.std.proofs.lemmas.Bool.{false≢true}
 use Rattle.std.proofs.lemmas.List.{get_or_default}
@@ -11,7 +11,7 @@ use Rattle.pz_match.specs.Offers.{receivers}
 use Rattle.pz_match.specs.Judging.{Verdicts}
 use Rattle.pz_match.specs.devices.Kept.{Kept, kept}
 use Rattle.pz_match.specs.devices.Tallies.{Moves, total_of}
-use Rattle.pz_match.specs.devices.Asking.{MayAsk}
+use Rattle.pz_match.specs.devices.Asking.{MayAsk, all_written}
 use Rattle.pz_match.specs.devices.Holding.{ReceiveKeyed}
 use Rattle.pz_match.specs.devices.Updating.{Offered, Replaced, Covers, NoneAsks, silent, renewed_in, receivers_of}
 use Rattle.pz_match.proofs.Grouped.{follows_next}
@@ -19,8 +19,9 @@ use Rattle.pz_match.proofs.Asked.{says_same}
 use Rattle.pz_match.proofs.Couples.{item_kept}
 use Rattle.pz_match.proofs.Fitting.{may_ask_sends}
 use Rattle.pz_match.proofs.Offered.{receive_keyed}
+use Rattle.pz_match.proofs.Questions.{update_asks}
 use Rattle.pz_match.proofs.Steps.{among_rest, sends_within, receives_within, rest_keyed, rest_own, rest_sends_keyed, rest_within, rest_foreign, rest_same}
-use Rattle.pz_match.proofs.Updated.{covers_heard, heard_own, mid_is, stored_is, replaced_from}
+use Rattle.pz_match.proofs.Updated.{covers_heard, heard_own, sent_own, mid_is, stored_is, replaced_from}
 use Rattle.pz_match.proofs.updating.replace.Goals as goal
 use Rattle.pz_match.proofs.updating.replace.Goals.{then-asked, else-asked}
 
@@ -133,3 +134,30 @@ returns-clause-replaced g c =
     subst (Replaced says p c.args.sends.items c.args.receives.items c.args.groups.now all c.renew_if.new.groups) (sym (stored_is says p all sent heard c.renew_if.new.all c.index-all-place-2.result _ item.0 now refl))
     (replaced_from says p c.args.sends.items c.args.receives.items c.args.groups.now c.withdraw.new.groups c.hear.new.groups c.offer.new.groups c.renew_if.new.groups all (kept old) sent heard item.0 item.1 c.requires.holds
     c.in_ok-room.ensures.follows c.in_ok-room.ensures.moves c.in_ok-hear.ensures offered c.in_ok-renew_if.ensures.follows moves)
+
+pub renew_if-requires-clause-quiet : goal.renew_if-requires-clause-quiet
+renew_if-requires-clause-quiet g c none =
+    elim c.if-asked.branch [
+      | then-asked w ↦ absurd (false≢true (sym none ∙ (w.needed-is ∙ w.if-asked.true)))
+      | else-asked w ↦ subst NoneAsks (w.as_slice-else-asked.ensures.value ∙ sym c.as_slice-2.ensures.value) (w.asks-needed.ensures (sym w.needed-is ∙ none))
+    ]
+
+pub returns-clause-asked : goal.returns-clause-asked
+returns-clause-asked g c =
+    let p = c.args.process in
+    let all = map kept c.args.all.now in
+    let says : Verdicts = g.J.Judge.verdict c.args.judge.now in
+    let old : Offers = get_or c.args.all.now p c.index-all-place.result in
+    let item = item_kept c.args.all.now p old c.requires.within (get_or_default c.args.all.now p c.index-all-place.result old c.requires.within) in
+    let mid = mid_is p c.args.groups.now c.args.all.now old c.withdraw.new.offers c.requires.holds item.2 c.in_ok-room.ensures.silent in
+    let heard = c.hear.new.kept.items in
+    let sent = c.offer.new.sent.items in
+    let offered : Offered says (map kept (set c.args.all.now p c.withdraw.new.offers)) c.as_slice.result.now c.hear.new.groups c.offer.new.groups p c.args.sends.items sent = c.in_ok-offer.ensures.offered in
+    let same : g.J.Judge.verdict c.offer.new.judge ≡ says = says_same c.in_ok-offer.ensures.stays in
+    let now : map kept c.renew_if.new.all ≡ map (renewed_in says p heard) (set all p (silent p))
+    = c.in_ok-renew_if.ensures.all ∙ (λ i. map (renewed_in (same i) p (c.as_slice-2.ensures.value i)) (mid i)) in
+    let stored = stored_is says p all sent heard c.renew_if.new.all c.index-all-place-2.result _ item.0 now refl in
+    let first = c.in_ok-offer.ensures.asked in
+    let second = c.in_ok-renew_if.ensures.asked in
+    let both = update_asks says p heard sent all (g.J.Judge.verdict c.offer.new.judge) c.as_slice-2.result.now (map kept (set c.args.all.now p c.withdraw.new.offers)) item.0 same c.as_slice-2.ensures.value mid (sent_own p c.args.sends.items sent offered.same) (rest_foreign p c.args.groups.now all c.requires.holds item.0) (g.J.Judge.asked c.args.judge.now) (g.J.Judge.asked c.offer.new.judge) (g.J.Judge.asked c.renew_if.new.judge) first second in
+    both ∙ ap (λ (xs : List Kept). g.J.Judge.asked c.args.judge.now + all_written p xs) (sym stored)

@@ -5,7 +5,6 @@ use Rattle.pz_classes_code.specs.StepView.{sequence_view}
 use Rattle.pz_rules.specs.View.{term_view}
 use Rattle.pz_part_queries.specs.Standpoints.{seen_from}
 use Rattle.pz_part_actions.proofs.Methods.{merely_callable, is_called}
-use Rattle.pz_part_actions.proofs.Frames.{some_free}
 use Rattle.pz_part_actions.proofs.Calls.{call_entered, call_troubled}
 use Rattle.pz_part_actions.proofs.calling.perform_call.Goals as goal
 
@@ -24,9 +23,8 @@ returns-in_ok-enter-in-Ok-clause-performs c = λ m known.
 
 pub returns-in-Err-clause-performs : goal.returns-in-Err-clause-performs
 returns-in-Err-clause-performs c = λ m known.
-    let free = some_free c.evaluate_all.new.state.held.frames in
     call_troubled (seen_from m c.args.here.now c.args.class.0 c.args.state.now.held) c.args.frame.0 c.args.pos c.args.method.now (list_view c.args.args.now) c.args.results.now c.evaluate_all.new.state c.in_ok-values.field-0
     (c.in_ok-values.ensures.gives m c.args.class.0 known) c.find_method-called.result.locals (sequence_view c.find_method-called.result.steps.now)
     (is_called m c.args.class.0 c.args.method.now c.args.args.now c.args.results.now c.as_bytes-name.result.now (length c.args.args.now) c.len-outputs.result c.find_method-called.result.locals c.find_method-called.result.steps.now
     (c.as_bytes-name.ensures.value ∙ c.as_str.ensures) refl (c.len-outputs.ensures ∙ ap (λ (xs : List Slot). length xs) c.get.ensures) (c.find_method-called.ensures m known))
-    free.0 c.in-Err.trouble free.1 c.in-Err.is
+    c.in-Err.trouble c.in-Err.is

@@ -5,5 +5,5 @@ use Rattle.pz_run.proofs.replaying.replay_plain.Goals as goal
 
 pub returns : goal.returns
 returns g c m units begins tells =
-    says_replay units m c.args.trace.now (simulation_of c.replay-ended.new.plain) _ _ c.replay-ended.result c.replayed.result c.replayed.ensures
-    (c.replay-ended.ensures (setting_with m units) begins tells)
+    says_replay units m c.args.trace.now (simulation_of c.replay_from-ended.new.plain) _ _ c.replay_from-ended.result c.replayed.result c.replayed.ensures
+    (c.replay_from-ended.ensures (setting_with m units) begins tells)

@@ -1,5 +1,4 @@
 use Rattle.std.proofs.Common.{true, false, arith}
-use Rattle.pz_term.specs.Plains.{simulation_of}
 use Rattle.pz_run_playing.proofs.Simulated.{clock_of_ready}
 use Rattle.pz_run_playing.proofs.Steps.{fewer_pending, clock_passed, ready_passed}
 use Rattle.pz_run_playing.proofs.Goings.{asked_there, held_now, passing_none, passing_more, passing_cut}
@@ -8,30 +7,30 @@ use Rattle.pz_run_playing.proofs.playing.pass_time.Goals as goal
 
 pub passings-init : goal.passings-init
 passings-init g c = (
-  passing_none c.rules_are_known.ensures c.args.until c.args.lines (simulation_of c.args.plain.now) (g.W.Sink.state c.args.out.now) c.args.passes c.requires.ready c.requires.within,
+  passing_none c.rules_are_known.ensures c.args.until c.args.lines (g.S.Simulator.simulation c.args.sim.now) (g.W.Sink.state c.args.out.now) c.args.passes c.requires.ready c.requires.within,
   c.clock-clock.ensures,
 )
 
 pub returns-then-is_beyond-clause-held : goal.returns-then-is_beyond-clause-held
 returns-then-is_beyond-clause-held g c =
-    let s = simulation_of c.passings.plain in
+    let s = g.S.Simulator.simulation c.passings.sim in
     let clock = clock_of_ready s c.passings.clock c.passings.invariant.0.ready c.passings.invariant.1 in
     held_now c.rules_are_known.ensures.one_moment_of c.args.until s c.in-Time.time c.in-Time.ensures
     (asked_there c.args.until s c.passings.clock c.in-Time.time c.is_beyond.result true clock c.is_beyond.ensures c.if-is_beyond.true)
 
 pub returns-in_err-pass-clause-cut : goal.returns-in_err-pass-clause-cut
 returns-in_err-pass-clause-cut g c =
-    let s = simulation_of c.passings.plain in
+    let s = g.S.Simulator.simulation c.passings.sim in
     let clock = clock_of_ready s c.passings.clock c.passings.invariant.0.ready c.passings.invariant.1 in
     let within = asked_there c.args.until s c.passings.clock c.in-Time.time c.is_beyond.result false clock c.is_beyond.ensures c.if-is_beyond.false in
     rw (err_is c.from_residual.result c.in_err-pass.field-0.0 c.from_residual.ensures.1)
-    (passing_cut c.rules_are_known.ensures c.args.until c.args.lines (simulation_of c.args.plain.now) (g.W.Sink.state c.args.out.now) c.args.passes
+    (passing_cut c.rules_are_known.ensures c.args.until c.args.lines (g.S.Simulator.simulation c.args.sim.now) (g.W.Sink.state c.args.out.now) c.args.passes
     c.passings.all s (g.W.Sink.state c.passings.out) c.passings.invariant.0 c.in-Time.time c.in-Time.ensures within (g.W.Sink.state c.pass.new.out) c.in_err-pass.field-0.0 c.in_err-pass.ensures.wrote)
 
 pub overflow_add-all : goal.overflow_add-all
 overflow_add-all g c =
-    let s = simulation_of c.passings.plain in
-    let t = simulation_of c.pass.new.plain in
+    let s = g.S.Simulator.simulation c.passings.sim in
+    let t = g.S.Simulator.simulation c.pass.new.sim in
     let known = c.rules_are_known.ensures in
     let ready = c.passings.invariant.0.ready in
     let later = clock_passed known s t ready c.in_ok-pass.ensures.passes in
@@ -43,11 +42,11 @@ passings-smaller g c = fewer_pending c.rules_are_known.ensures _ _ c.passings.in
 
 pub passings-preserved : goal.passings-preserved
 passings-preserved g c =
-    let s = simulation_of c.passings.plain in
+    let s = g.S.Simulator.simulation c.passings.sim in
     let clock = clock_of_ready s c.passings.clock c.passings.invariant.0.ready c.passings.invariant.1 in
     let within = asked_there c.args.until s c.passings.clock c.in-Time.time c.is_beyond.result false clock c.is_beyond.ensures c.if-is_beyond.false in (
-      passing_more c.rules_are_known.ensures c.args.until c.args.lines (simulation_of c.args.plain.now) (g.W.Sink.state c.args.out.now) c.args.passes
+      passing_more c.rules_are_known.ensures c.args.until c.args.lines (g.S.Simulator.simulation c.args.sim.now) (g.W.Sink.state c.args.out.now) c.args.passes
           c.passings.all s (g.W.Sink.state c.passings.out) c.passings.invariant.0 c.in-Time.time c.in-Time.ensures within
-          (simulation_of c.pass.new.plain) (g.W.Sink.state c.pass.new.out) c.in_ok-pass.ensures.passes c.in_ok-pass.ensures.setting c.in_ok-pass.ensures.wrote,
+          (g.S.Simulator.simulation c.pass.new.sim) (g.W.Sink.state c.pass.new.out) c.in_ok-pass.ensures.passes c.in_ok-pass.ensures.setting c.in_ok-pass.ensures.wrote,
       c.clock-clock-in-passings.ensures,
     )

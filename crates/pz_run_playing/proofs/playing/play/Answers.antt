@@ -3,7 +3,6 @@ use Rattle.std.proofs.lemmas.Result.{IfOk-weaker, IfErr-weaker}
 use Rattle.pz_choice.specs.Resolvers.{Resolver}
 use Rattle.pz_choice.specs.Choosers.{Stands}
 use Rattle.pz_term.specs.Simulations.{setting_in}
-use Rattle.pz_term.specs.Plains.{simulation_of}
 use Rattle.pz_run_playing.specs.Policies.{resolver_of, policy_of}
 use Rattle.pz_term.specs.Simulations.{model_in}
 use Rattle.pz_run_playing.specs.devices.Going.{CutShort, Ended, PlayedThrough, BrokenOff}
@@ -15,25 +14,25 @@ use Rattle.pz_run_playing.proofs.playing.play.Goals as goal
 pub returns-in_err-tell_header-clause-broken : goal.returns-in_err-tell_header-clause-broken
 returns-in_err-tell_header-clause-broken g c =
     let known = c.rules_are_known.ensures in
-    let s = simulation_of c.args.plain.now in
+    let s = g.S.Simulator.simulation c.args.sim.now in
     let start = start_in (setting_in s) s c.requires in
-    let sound = subst IsSound (c.model-model.ensures.is ∙ c.checked.ensures.model) c.model-model.ensures.sound in
+    let sound = subst IsSound (c.model-model.ensures.is ∙ c.checked.ensures) c.model-model.ensures.sound in
     rw (err_is c.from_residual.result c.in_err-tell_header.field-0.0 c.from_residual.ensures.1)
     (header_cut known (policy_of (resolver_of c.args.choice) c.args.limits) c.args.lines s start (g.W.Sink.state c.args.out.now) (g.W.Sink.state c.tell_header.new.out)
     (ready_at known (setting_in s) s sound start) c.in_err-tell_header.field-0.0 c.in_err-tell_header.ensures)
 
 pub play_on-played-requires : goal.play_on-played-requires
 play_on-played-requires g c =
-    let s = simulation_of c.args.plain.now in
-    let sound = subst IsSound (c.model-model.ensures.is ∙ c.checked.ensures.model) c.model-model.ensures.sound in
+    let s = g.S.Simulator.simulation c.args.sim.now in
+    let sound = subst IsSound (c.model-model.ensures.is ∙ c.checked.ensures) c.model-model.ensures.sound in
     ready_at c.rules_are_known.ensures (setting_in s) s sound (start_in (setting_in s) s c.requires)
 
 pub returns-clause-through : goal.returns-clause-through
 returns-clause-through g c =
-    let s = simulation_of c.args.plain.now in
+    let s = g.S.Simulator.simulation c.args.sim.now in
     let mid = g.W.Sink.state c.tell_header.new.out in
     let now = g.W.Sink.state c.play_on-played.new.out in
-    let t = simulation_of c.play_on-played.new.plain in
+    let t = g.S.Simulator.simulation c.play_on-played.new.sim in
     let policy = policy_of (resolver_of c.args.choice) c.args.limits in
     IfOk-weaker c.play_on-played.result
     (λ played. (r : Resolver) → Stands c.chooser_of-chooser.result r 0 → Ended (policy_of r c.args.limits) c.args.lines s t mid now played)
@@ -44,7 +43,7 @@ returns-clause-through g c =
 
 pub returns-clause-broken : goal.returns-clause-broken
 returns-clause-broken g c =
-    let s = simulation_of c.args.plain.now in
+    let s = g.S.Simulator.simulation c.args.sim.now in
     let mid = g.W.Sink.state c.tell_header.new.out in
     let now = g.W.Sink.state c.play_on-played.new.out in
     let policy = policy_of (resolver_of c.args.choice) c.args.limits in

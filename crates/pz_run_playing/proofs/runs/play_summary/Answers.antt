@@ -1,18 +1,17 @@
 use Rattle.std.proofs.Common.{false, Ok}
 use Rattle.pz_term.specs.Simulations.{setting_in}
-use Rattle.pz_term.specs.Plains.{simulation_of}
 use Rattle.pz_run_playing.specs.Playing.{summary}
 use Rattle.pz_run_playing.specs.Policies.{resolver_of, policy_of}
 use Rattle.pz_run_playing.proofs.WholeRuns.{at_its_start, plays_there, through_named, summary_broken, summary_cut, summary_told}
 use Rattle.pz_run_playing.proofs.runs.play_summary.Goals as goal
 
 pub play-requires : goal.play-requires
-play-requires g c = at_its_start c.requires.0 (simulation_of c.args.plain.now) c.requires.1
+play-requires g c = at_its_start c.requires.0 (g.S.Simulator.simulation c.args.sim.now) c.requires.1
 
 pub returns-in_err-played : goal.returns-in_err-played
 returns-in_err-played g c = λ setting starts.
-    let s = simulation_of c.args.plain.now in
-    let t = simulation_of c.play.new.plain in
+    let s = g.S.Simulator.simulation c.args.sim.now in
+    let t = g.S.Simulator.simulation c.play.new.sim in
     let policy = policy_of (resolver_of c.args.choice) c.args.limits in
     let before = g.W.Sink.state c.args.out.now in
     let now = g.W.Sink.state c.play.new.out in
@@ -22,13 +21,13 @@ returns-in_err-played g c = λ setting starts.
 pub tell_summary-requires : goal.tell_summary-requires
 tell_summary-requires g c =
     let policy = policy_of (resolver_of c.args.choice) c.args.limits in
-    through_named c.rules_are_known.ensures (setting_in (simulation_of c.args.plain.now)) policy false (simulation_of c.play.new.plain)
+    through_named c.rules_are_known.ensures (setting_in (g.S.Simulator.simulation c.args.sim.now)) policy false (g.S.Simulator.simulation c.play.new.sim)
     (g.W.Sink.state c.args.out.now) (g.W.Sink.state c.play.new.out) c.in_ok-played.played c.in_ok-played.ensures.through
 
 pub returns-in_err-tell_summary : goal.returns-in_err-tell_summary
 returns-in_err-tell_summary g c = λ setting starts.
-    let s = simulation_of c.args.plain.now in
-    let t = simulation_of c.play.new.plain in
+    let s = g.S.Simulator.simulation c.args.sim.now in
+    let t = g.S.Simulator.simulation c.play.new.sim in
     let policy = policy_of (resolver_of c.args.choice) c.args.limits in
     let before = g.W.Sink.state c.args.out.now in
     let now = g.W.Sink.state c.tell_summary.new.out in
@@ -39,8 +38,8 @@ returns-in_err-tell_summary g c = λ setting starts.
 
 pub returns : goal.returns
 returns g c = λ setting starts.
-    let s = simulation_of c.args.plain.now in
-    let t = simulation_of c.play.new.plain in
+    let s = g.S.Simulator.simulation c.args.sim.now in
+    let t = g.S.Simulator.simulation c.play.new.sim in
     let policy = policy_of (resolver_of c.args.choice) c.args.limits in
     let before = g.W.Sink.state c.args.out.now in
     let now = g.W.Sink.state c.tell_summary.new.out in

@@ -1,27 +1,15 @@
-use Rattle.pz_term.specs.Plains.{simulation_of}
-use Rattle.pz_term.specs.Simulations.{model_in}
-use Rattle.pz_run_playing.proofs.Simulated.{named_here}
-use Rattle.pz_run_playing.proofs.Told.{offer_told, offer_cut}
-use Rattle.pz_run_playing.proofs.Written.{halted_so}
+use Rattle.std.proofs.Common.{[]}
+use Rattle.pz_rules.specs.declared.moment.Moment.TheVariants.{Actions}
+use Rattle.pz_term.specs.Simulations.{none}
 use Rattle.pz_run_playing.proofs.telling.tell_offers.Goals as goal
 
-pub tell_offer-requires : goal.tell_offer-requires
-tell_offer-requires g c = λ net is_net.
-    named_here c.rules_are_known.ensures (simulation_of c.args.plain.now) c.offers-actions.result.now c.loop-number.number c.index-actions-number.result net
-    c.offers-actions.ensures c.loop-number-test.true c.index-actions-number.is is_net
+pub returns-in-Actions : goal.returns-in-Actions
+returns-in-Actions g c =
+    let there = c.rules_are_known.ensures.offers_there (g.S.Simulator.simulation c.args.sim.now) c.in-Actions.offers c.in-Actions.ensures in
+    (there.0, there.1, c.tell_each.ensures there.0 there.1)
 
-pub returns-in_err-tell_offer : goal.returns-in_err-tell_offer
-returns-in_err-tell_offer g c =
-    let x = c.loop-number.invariant in (
-      c.offers-actions.result.now,
-      c.offers-actions.ensures,
-      rw (halted_so c.from_residual.result c.in_err-tell_offer.field-0.0 c.from_residual.ensures.1)
-          (offer_cut (model_in (simulation_of c.args.plain.now)) c.loop-number.number c.index-actions-number.result c.offers-actions.result.now c.loop-number-test.true c.index-actions-number.is
-          c.rules_are_known.ensures _ _ _ x.0 x.1 x.2 c.in_err-tell_offer.field-0.0 c.in_err-tell_offer.ensures),
-    )
-
-pub loop-number-preserved : goal.loop-number-preserved
-loop-number-preserved g c =
-    let x = c.loop-number.invariant in
-    offer_told (model_in (simulation_of c.args.plain.now)) c.loop-number.number c.index-actions-number.result c.offers-actions.result.now c.loop-number-test.true c.index-actions-number.is
-    c.rules_are_known.ensures _ _ _ x.0 x.1 x.2 c.in_ok-tell_offer.ensures
+pub returns-in_default : goal.returns-in_default
+returns-in_default g c =
+    let s = g.S.Simulator.simulation c.args.sim.now in
+    let known = c.rules_are_known.ensures in
+    ([], none s (λ n now. c.in_default.not-Actions n (known.one_moment_of s c.moment.result (Actions n) c.moment.ensures now)), known.nothing (g.W.Sink.state c.args.out.now))

@@ -1,18 +1,17 @@
 use Rattle.std.proofs.Common.{sym, ap, ◌∙◌, List, ℕ, ◌++◌}
-use Rattle.pz_term.specs.Plains.{simulation_of}
 use Rattle.pz_run_replaying.proofs.Simulated.{last_named}
 use Rattle.pz_run_replaying.proofs.Found.{judges_end, differs_end}
 use Rattle.pz_run_replaying.proofs.judging.judge_end.Goals as goal
 
 pub last_line-requires-clause-named : goal.last_line-requires-clause-named
-last_line-requires-clause-named c = last_named c.rules_are_known.ensures (simulation_of c.args.plain.now) c.args.ending c.requires.ready c.requires.last
+last_line-requires-clause-named g c = last_named c.rules_are_known.ensures (g.S.Simulator.simulation c.args.sim.now) c.args.ending c.requires.ready c.requires.last
 
 pub returns-in-Some : goal.returns-in-Some
-returns-in-Some c =
-    judges_end (simulation_of c.args.plain.now) c.args.rest.now c.as_slice.result.now c.args.ending c.in-Some.len c.requires.ready c.requires.last
+returns-in-Some g c =
+    judges_end (g.S.Simulator.simulation c.args.sim.now) c.args.rest.now c.as_slice.result.now c.args.ending c.in-Some.len c.requires.ready c.requires.last
     (c.as_slice.ensures.value ∙ c.in_ok-line.ensures) c.in-Some.ensures
 
 pub returns-in-None : goal.returns-in-None
-returns-in-None c =
-    differs_end c.rules_are_known.ensures (simulation_of c.args.plain.now) c.args.rest.now c.args.ending c.in_ok-line.line c.requires.ready c.requires.last c.in_ok-line.ensures
+returns-in-None g c =
+    differs_end c.rules_are_known.ensures (g.S.Simulator.simulation c.args.sim.now) c.args.rest.now c.args.ending c.in_ok-line.line c.requires.ready c.requires.last c.in_ok-line.ensures
     (λ left is. c.in-None.ensures left (is ∙ ap (λ (l : List ℕ). l ++ left) (sym (c.as_slice.ensures.value ∙ c.in_ok-line.ensures))))

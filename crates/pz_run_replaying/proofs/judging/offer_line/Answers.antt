@@ -1,47 +1,28 @@
-use Rattle.std.proofs.Common.{◌≡◌, ap, ◌∙◌, arith, ℕ}
-use Rattle.std.proofs.lemmas.Option.{get_or_from_slice_get}
+use Rattle.std.proofs.Common.{◌≡◌, ap, ◌∙◌, ℕ}
 use Rattle.std.proofs.lemmas.Result.{IfOk-weaker}
 use Rattle.pz_syntax.specs.Classes.{ModelTree}
 use Rattle.pz_classes.specs.CheckedView.{checked_model}
 use Rattle.pz_rules.specs.declared.action.Action.{Action}
 use Rattle.pz_trace.specs.Lines.{action_line}
-use Rattle.pz_term.specs.Plains.{simulation_of}
 use Rattle.pz_term.specs.Simulations.{model_in, clock_in, IsOffer}
 use Rattle.pz_run_replaying.proofs.Simulated.{named_here}
 use Rattle.pz_run_replaying.proofs.judging.offer_line.Goals as goal
 
-pub offset_bounds-actions-number : goal.offset_bounds-actions-number
-offset_bounds-actions-number c =
-    let known = c.rules_are_known.ensures in
-    let count = known.offers_counted (simulation_of c.args.plain.now) c.args.offers c.offers-actions.result.now c.requires.moment c.offers-actions.ensures in
-    omega (arith, count)
-
-pub bounds-actions-number : goal.bounds-actions-number
-bounds-actions-number c =
-    let known = c.rules_are_known.ensures in
-    let count = known.offers_counted (simulation_of c.args.plain.now) c.args.offers c.offers-actions.result.now c.requires.moment c.offers-actions.ensures in
-    omega (arith, count, c.requires.there)
-
 pub action_line-requires-clause-named : goal.action_line-requires-clause-named
-action_line-requires-clause-named c =
-    let known = c.rules_are_known.ensures in
-    let count = known.offers_counted (simulation_of c.args.plain.now) c.args.offers c.offers-actions.result.now c.requires.moment c.offers-actions.ensures in
-    named_here known (simulation_of c.args.plain.now) c.offers-actions.result.now c.args.number c.index-actions-number.result c.net.result.now
-    c.offers-actions.ensures (omega (arith, count, c.requires.there)) c.index-actions-number.is c.net.ensures.net
+action_line-requires-clause-named g c =
+    named_here c.rules_are_known.ensures (g.S.Simulator.simulation c.args.sim.now) c.args.number c.in_ok-action.action c.net.result.now c.in_ok-action.ensures c.net.ensures
 
 pub returns : goal.returns
-returns c =
-    let known = c.rules_are_known.ensures in
-    let s = simulation_of c.args.plain.now in
+returns g c =
+    let s = g.S.Simulator.simulation c.args.sim.now in
     let n = c.args.offers in
     let k = c.args.number in
-    let b = c.index-actions-number.result in
-    let model : checked_model c.checked.result.now ≡ model_in s = c.checked.ensures.model in
+    let b = c.in_ok-action.action in
+    let model : checked_model c.checked.result.now ≡ model_in s = c.checked.ensures in
     IfOk-weaker c.action_line.result
     (λ line. line.items ≡ action_line (checked_model c.checked.result.now) c.args.clock n k b)
     (λ line. (a : Action) → IsOffer s k a → line.items ≡ action_line (model_in s) (clock_in s) n k a)
     (λ line is a offer.
-    let there = known.offers_numbered s n k c.offers-actions.result.now a c.requires.moment c.offers-actions.ensures offer in
-    let same : b ≡ a = c.index-actions-number.is ∙ get_or_from_slice_get c.offers-actions.result.now k a b there in
+    let same : b ≡ a = c.rules_are_known.ensures.one_offer s k b a c.in_ok-action.ensures offer in
     is ∙ ap (λ (m : ModelTree). action_line m c.args.clock n k b) model ∙ ap (λ (i : ℕ). action_line (model_in s) i n k b) c.requires.at
     ∙ ap (λ (z : Action). action_line (model_in s) (clock_in s) n k z) same) c.action_line.ensures

@@ -1,11 +1,10 @@
 use Rattle.std.proofs.Common.{length}
-use Rattle.pz_term.specs.Plains.{simulation_of}
 use Rattle.pz_run_replaying.specs.devices.Progress.{Going}
 use Rattle.pz_run_replaying.proofs.replaying.follow.Given as goal
 
 abbrev pub invariant-lines : goal.invariant-lines
 invariant-lines g l =
-    Going (simulation_of l.initial.plain) l.initial.rest l.initial.number (g.W.Sink.state l.initial.out) (simulation_of l.plain) l.rest l.number (g.W.Sink.state l.out)
+    Going (g.S.Simulator.simulation l.initial.sim) l.initial.rest l.initial.number (g.W.Sink.state l.initial.out) (g.S.Simulator.simulation l.sim) l.rest l.number (g.W.Sink.state l.out)
 
 abbrev pub decreases-lines : goal.decreases-lines
 decreases-lines g l = length l.rest

@@ -3,8 +3,8 @@ use Rattle.pz_classes_code.specs.declared.step.Step.{Step}
 use Rattle.pz_classes_code.specs.StepView as step
 use Rattle.pz_rules.specs.Terms as terms
 use Rattle.pz_rules.specs.Terms.{height, greatest_height}
-use Rattle.pz_rules.specs.Opening.{opened, opened_all, opened_branches}
 use Rattle.pz_rules.specs.View.{branches_view}
+use Rattle.pz_rules.specs.devices.Plainly.{plainly as opened, plainly_all as opened_all, plainly_each as opened_branches}
 use Rattle.pz_term_residual.specs.devices.Capped.{capped}
 use Rattle.pz_term_residual.proofs.Capping.{greatest_more}
 use Rattle.pz_term_residual.proofs.Openings.{several_open}

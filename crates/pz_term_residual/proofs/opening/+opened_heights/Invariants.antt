@@ -1,7 +1,7 @@
 use Rattle.std.proofs.Common.{◌≡◌, ◌+◌, ◌*◌, max, drop}
 use Rattle.pz_rules.specs.Terms.{greatest_height}
-use Rattle.pz_rules.specs.Opening.{opened_branches}
 use Rattle.pz_rules.specs.View.{branches_view}
+use Rattle.pz_rules.specs.devices.Plainly.{plainly_each as opened_branches}
 use Rattle.pz_term_residual.specs.devices.Capped.{capped}
 use Rattle.pz_term_residual.proofs.opening.+opened_heights.Given as goal
 

@@ -1,7 +1,8 @@
 use Rattle.std.proofs.Common.{ap, arith}
 use Rattle.pz_rules.specs.Terms.{height}
-use Rattle.pz_rules.specs.Leaving.{left_by, residual}
 use Rattle.pz_rules.specs.View.{term_view}
+use Rattle.pz_rules.specs.Settings.{left_by}
+use Rattle.pz_rules.specs.devices.Plainly.{plainly_residual as residual}
 use Rattle.pz_term_residual.specs.declared.outline.Outline.{Outline}
 use Rattle.pz_term_residual.proofs.Capping.{low_as_ever}
 use Rattle.pz_term_residual.proofs.residual.stays_low.Goals as goal

@@ -1,7 +1,7 @@
 use Rattle.std.proofs.Common.{Some}
 use Rattle.std.proofs.lemmas.List.Elements.{All-pop}
-use Rattle.pz_rules.specs.Leaving.{left_by}
 use Rattle.pz_rules.specs.View.{term_view}
+use Rattle.pz_rules.specs.Settings.{left_by}
 use Rattle.pz_term_residual.specs.devices.Unwound.{put_round, unwound, HasItsPlace}
 use Rattle.pz_term_residual.proofs.Unwinding.{further_out, marks_stay}
 use Rattle.pz_term_residual.proofs.settling.put_together.Goals as goal

@@ -1,7 +1,7 @@
 use Rattle.std.proofs.Common.{◌≡◌, length}
 use Rattle.std.specs.List.{All}
-use Rattle.pz_rules.specs.Leaving.{left_by}
 use Rattle.pz_rules.specs.View.{term_view}
+use Rattle.pz_rules.specs.Settings.{left_by}
 use Rattle.pz_term_residual.specs.devices.Unwound.{unwound, HasItsPlace}
 use Rattle.pz_term_residual.proofs.settling.put_together.Given as goal
 

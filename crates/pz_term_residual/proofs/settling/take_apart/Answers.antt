@@ -2,8 +2,8 @@ use Rattle.std.proofs.Common.{List, ◌+◌, drop, get_or, sym, subst}
 use Rattle.std.specs.List.{All}
 use Rattle.std.proofs.lemmas.List.{drop_more}
 use Rattle.std.proofs.lemmas.List.Elements.{All-push}
-use Rattle.pz_rules.specs.Leaving.{residual}
 use Rattle.pz_rules.specs.View.{term_view}
+use Rattle.pz_rules.specs.devices.Plainly.{plainly_residual as residual}
 use Rattle.pz_term_residual.specs.declared.levels.Level.{Level}
 use Rattle.pz_term_residual.specs.devices.Unwound.{HasItsPlace}
 use Rattle.pz_term_residual.proofs.Unwinding.{may_inside, further_in}

@@ -1,9 +1,9 @@
 use Rattle.std.proofs.Common.{◌≡◌, drop}
 use Rattle.std.specs.List.{All}
 use Rattle.pz_rules.specs.Settings.{Process}
-use Rattle.pz_rules.specs.Leaving.{residual}
 use Rattle.pz_rules.specs.View.{term_view}
 use Rattle.pz_rules.specs.Places.{MayAct}
+use Rattle.pz_rules.specs.devices.Plainly.{plainly_residual as residual}
 use Rattle.pz_term_residual.specs.devices.Unwound.{unwound, HasItsPlace}
 use Rattle.pz_term_residual.proofs.settling.take_apart.Given as goal
 

@@ -1,7 +1,7 @@
 use Rattle.std.proofs.Common.{◌∙◌, ap, Result}
 use Rattle.pz_offer.specs.declared.trouble.Trouble.{Trouble}
 use Rattle.pz_rules.specs.Settings.{Process}
-use Rattle.pz_rules.specs.Leaving.{settled}
+use Rattle.pz_rules.specs.devices.Plainly.{plainly_settled as settled}
 use Rattle.pz_rules.specs.Meanings.{and_then}
 use Rattle.pz_rules.specs.Messages.{Hands}
 use Rattle.pz_rules.specs.View.{term_view}

@@ -4,7 +4,9 @@ use Rattle.std.proofs.lemmas.Option.{slice_get-get_or}
 use Rattle.pz_classes.specs.CheckedView.{checked_model}
 use Rattle.pz_state.specs.Marks.{IsLatest, undone}
 use Rattle.pz_bind.specs.Nest.{class_at}
-use Rattle.pz_rules.specs.Leaving.{left_by, residual, swept}
+use Rattle.pz_rules.specs.Leaving.{swept}
+use Rattle.pz_rules.specs.Settings.{left_by}
+use Rattle.pz_rules.specs.devices.Plainly.{plainly_residual as residual}
 use Rattle.pz_rules.specs.Messages.{Hands, Takes}
 use Rattle.pz_rules.specs.View.{term_view}
 use Rattle.pz_term_processes.specs.declared.process.Process.{Process}

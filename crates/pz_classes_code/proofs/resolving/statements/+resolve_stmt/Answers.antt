@@ -1,4 +1,4 @@
-use Rattle.std.proofs.Common.{◌≡◌, ap, ◌∙◌, rules, Some, Option, List, arith}
+use Rattle.std.proofs.Common.{◌≡◌, ap, ◌∙◌, rules, Some, Option, List, map, arith}
 use Rattle.pz_syntax.specs.declared.stmts.Stmt.{Stmt}
 use Rattle.pz_syntax.specs.declared.stmts.StmtForm.TheVariants.{If}
 use Rattle.pz_syntax.specs.ExpressionView as expression
@@ -8,14 +8,14 @@ use Rattle.pz_classes_code.specs.StepView as step
 use Rattle.pz_classes_code.specs.Resolution.{resolved, resolved_statement, resolved_statements}
 use Rattle.pz_classes_code.specs.ScopeView.{scope_view}
 use Rattle.pz_classes_code.proofs.Branches.{branch_step}
-use Rattle.pz_classes_code.proofs.ResolvedSteps.{list_done, branches_done, two_parts}
+use Rattle.pz_classes_code.proofs.ResolvedSteps.{once_shared, list_done, branches_done, two_parts}
 use Rattle.pz_classes_code.proofs.resolving.statements.+resolve_stmt.Goals as goal
 
 pub resolve_statements-returns : goal.resolve_statements-returns
-resolve_statements-returns t c = list_done (scope_view c.args.scope.now) c.loop-stmt.steps c.args.list.now c.loop-stmt.stmt-index c.loop-stmt-test.false c.loop-stmt.invariant
+resolve_statements-returns t c = once_shared _ c.loop-stmt.steps c.new.result c.new.ensures (list_done (scope_view c.args.scope.now) c.loop-stmt.steps c.args.list.now c.loop-stmt.stmt-index c.loop-stmt-test.false c.loop-stmt.invariant)
 
 pub resolve_branches-returns : goal.resolve_branches-returns
-resolve_branches-returns t c = branches_done (scope_view c.args.scope.now) c.loop-branch.steps c.args.branches.now c.loop-branch.branch-index c.loop-branch-test.false c.loop-branch.invariant
+resolve_branches-returns t c = once_shared _ c.loop-branch.steps c.new-2.result c.new-2.ensures (branches_done (scope_view c.args.scope.now) c.loop-branch.steps c.args.branches.now c.loop-branch.branch-index c.loop-branch-test.false c.loop-branch.invariant)
 
 pub resolve_form-returns-in_ok-rest-in-Some : goal.resolve_form-returns-in_ok-rest-in-Some
 resolve_form-returns-in_ok-rest-in-Some t c =
@@ -27,5 +27,5 @@ resolve_form-returns-in_ok-rest-in-Some t c =
 
 pub resolve_branches-loop-branch-preserved : goal.resolve_branches-loop-branch-preserved
 resolve_branches-loop-branch-preserved t c =
-    branch_step step.view (λ s. resolved_statement (scope_view c.args.scope.now) (tree.view s)) c.loop-branch.steps c.push-in-loop-branch.new.self c.loop-stmt.part c.args.branches.now c.branch-item.result c.as_slice-stmt-items.result.now
-    c.loop-branch.branch-index _ c.loop-stmt.stmt-index c.loop-branch-test.true (omega arith) c.branch-item.is c.as_slice-stmt-items.ensures c.loop-stmt-test.false c.loop-stmt.invariant c.in_ok-push-2.ensures.ok c.loop-branch.invariant
+    branch_step step.view (λ s. resolved_statement (scope_view c.args.scope.now) (tree.view s)) c.loop-branch.steps c.push-in-loop-branch.new.self c.in_ok-new.field-0 c.args.branches.now c.branch-item.result c.as_slice-stmt-items.result.now
+    c.loop-branch.branch-index _ c.loop-stmt.stmt-index c.loop-branch-test.true (omega arith) c.branch-item.is c.as_slice-stmt-items.ensures c.loop-stmt-test.false (ap (map step.view) c.in_ok-new.ensures ∙ c.loop-stmt.invariant) c.in_ok-push-2.ensures.ok c.loop-branch.invariant

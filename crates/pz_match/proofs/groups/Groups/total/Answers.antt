@@ -11,4 +11,4 @@ pub returns : goal.returns
 returns c =
     let counts = c.self.inside.counts in
     subst (λ (v : GroupsView). c.total.result ≡ sum_by (on_wire v.groups) (upto v.wires)) c.self.view_is
-    (c.total.ensures ∙ (ap sum (sym (take_all (length counts) counts (omega arith))) ∙ counts_sum c.self.inside.groups.items counts c.self.inside.troubles c.self.invariant (length counts) (omega arith)))
+    (c.total.ensures ∙ (ap sum (sym (take_all (length counts) counts (omega arith))) ∙ counts_sum c.self.inside.groups.items counts c.self.inside.troubles c.self.invariant.hold (length counts) (omega arith)))

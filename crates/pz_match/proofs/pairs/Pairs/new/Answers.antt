@@ -1,18 +1,26 @@
 -- Nothing is offered.
-use Rattle.std.proofs.Common.{◌∙◌, sym, ap, subst, []}
+use Rattle.std.proofs.Common.{◌∙◌, sym, ap, subst, ℕ, List, []}
 use Rattle.std.specs.Prelude.{map}
 use Rattle.pz_match.specs.devices.Lists.{upto}
 use Rattle.pz_match.specs.devices.Kept.{kept}
 use Rattle.pz_match.specs.devices.Tallies.{GroupsView}
 use Rattle.pz_match.specs.devices.Tables.{Stands}
+use Rattle.pz_match.specs.devices.Users.{HaveUsers}
+use Rattle.pz_match.proofs.Noting.{none_used}
 use Rattle.pz_match.proofs.Ends.{silent_holds, silent_ordered, silent_senders, silent_receivers, senders_in, receivers_in}
 use Rattle.pz_match.proofs.pairs.Pairs.new.Goals as goal
 
 pub invariant_of-result : goal.invariant_of-result
 invariant_of-result c there =
-    subst (λ (g : GroupsView). Stands g (map kept c.in_ok-offers.offers.items)) (sym c.new.ensures)
-    (subst (Stands (record { groups = []; wires = 0 })) (sym c.in_ok-offers.ensures)
-    (record { holds = silent_holds c.args.processes; ordered = silent_ordered (upto c.args.processes) }))
+    record {
+      stands =
+          subst (λ (g : GroupsView). Stands g (map kept c.in_ok-offers.offers.items)) (sym c.new.ensures)
+          (subst (Stands (record { groups = []; wires = 0 })) (sym c.in_ok-offers.ensures)
+          (record { holds = silent_holds c.args.processes; ordered = silent_ordered (upto c.args.processes) }));
+      used =
+          subst (λ (us : List (List ℕ)). HaveUsers us (map kept c.in_ok-offers.offers.items)) (sym c.new-2.ensures)
+          (subst (HaveUsers []) (sym c.in_ok-offers.ensures) (none_used (upto c.args.processes)));
+    }
 
 pub returns-clause-senders : goal.returns-clause-senders
 returns-clause-senders c = ap (map senders_in) c.in_ok-offers.ensures ∙ silent_senders c.args.processes

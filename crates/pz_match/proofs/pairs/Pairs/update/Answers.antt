@@ -1,5 +1,5 @@
 -- What is shown of an update.
-use Rattle.std.proofs.Common.{◌<◌, ◌∙◌, sym, ap, subst, ℕ, false, List, length, set}
+use Rattle.std.proofs.Common.{◌<◌, ◌+◌, ◌∙◌, sym, ap, subst, ℕ, false, List, length, set}
 use Rattle.std.specs.Prelude.{map, not, filter, Contains}
 use Rattle.std.proofs.lemmas.List.{length-map}
 use Rattle.pz_match.specs.declared.offers.Sender.{Sender}
@@ -9,7 +9,12 @@ use Rattle.pz_match.specs.Pairs.{touches}
 use Rattle.pz_match.specs.Table.{Table, all_senders, all_receivers}
 use Rattle.pz_match.specs.devices.Kept.{kept}
 use Rattle.pz_match.proofs.Ends.{senders_in, all_senders_are, all_receivers_are}
-use Rattle.pz_match.proofs.Shown.{are_pairs, are_free, stands_after, senders_shown, receivers_shown, said_now, others_there}
+use Rattle.pz_match.proofs.Shown.{are_pairs, are_free, stands_after, senders_shown, receivers_shown, said_now, others_there, questions_now}
+use Rattle.std.proofs.lemmas.List.Elements.{All-weaker}
+use Rattle.pz_offer.specs.declared.ends.SendOffer.{SendOffer}
+use Rattle.pz_offer.specs.declared.ends.ReceiveOffer.{ReceiveOffer}
+use Rattle.pz_match.specs.devices.Users.{SendsNoted, ReceivesNoted}
+use Rattle.pz_match.proofs.Noting.{noted, kept_noted, keeps_next, users_after}
 use Rattle.pz_match.proofs.pairs.Pairs.update.Goals as goal
 
 pub replace_in-requires-clause-sends_asked : goal.replace_in-requires-clause-sends_asked
@@ -25,15 +30,26 @@ replace_in-requires-clause-receives_asked g c s r sends hears fit conditional =
 pub invariant_of-self-2 : goal.invariant_of-self-2
 invariant_of-self-2 g c there =
     let all = map kept c.self.inside.offers.items in
-    let stands = c.self.invariant (ap (λ (t : Table). t.lost) c.self.view_is ∙ c.requires.there) in
+    let whole = c.self.invariant (ap (λ (t : Table). t.lost) c.self.view_is ∙ c.requires.there) in
+    let says = g.J.Judge.verdict c.args.judge.now in
+    let new = map kept c.replace_in.new.all.items in
     let below : c.args.process < length all = subst (λ (n : ℕ). c.args.process < n) (ap (λ (t : Table). length t.senders) (sym c.self.view_is) ∙ length-map all senders_in) c.requires.process in
-    stands_after (g.J.Judge.verdict c.args.judge.now) c.args.process c.args.sends.items c.args.receives.items c.self.inside.groups c.replace_in.new.groups all (map kept c.replace_in.new.all.items) stands c.in_ok-replace_in.ensures.replaced below
-    c.requires.sends_ordered c.requires.receives_ordered
+    record {
+      stands =
+          stands_after says c.args.process c.args.sends.items c.args.receives.items c.self.inside.groups c.replace_in.new.groups all new whole.stands c.in_ok-replace_in.ensures.replaced below
+          c.requires.sends_ordered c.requires.receives_ordered;
+      used =
+          users_after says c.args.process c.args.sends.items c.args.receives.items c.self.inside.groups c.replace_in.new.groups all new c.in_ok-replace_in.ensures.replaced below
+          c.self.inside.users c.note_receives.new.users whole.used (keeps_next c.self.inside.users c.note_sends.new.users c.note_receives.new.users c.note_sends.ensures.keeps c.note_receives.ensures.keeps)
+          (All-weaker (noted (λ (s : SendOffer). s.wire) c.args.process c.note_sends.new.users) (noted (λ (s : SendOffer). s.wire) c.args.process c.note_receives.new.users)
+          (kept_noted (λ (s : SendOffer). s.wire) c.args.process c.note_sends.new.users c.note_receives.new.users c.note_receives.ensures.keeps) c.args.sends.items (subst (λ (ss : List SendOffer). SendsNoted c.note_sends.new.users c.args.process ss) c.as_slice.ensures.value c.in_ok-note_sends.ensures.noted))
+          (subst (λ (rs : List ReceiveOffer). ReceivesNoted c.note_receives.new.users c.args.process rs) c.as_slice-2.ensures.value c.in_ok-note_receives.ensures.noted);
+    }
 
 pub returns-clause-senders : goal.returns-clause-senders
 returns-clause-senders g c =
     let all = map kept c.self.inside.offers.items in
-    let stands = c.self.invariant (ap (λ (t : Table). t.lost) c.self.view_is ∙ c.requires.there) in
+    let stands = (c.self.invariant (ap (λ (t : Table). t.lost) c.self.view_is ∙ c.requires.there)).stands in
     let below : c.args.process < length all = subst (λ (n : ℕ). c.args.process < n) (ap (λ (t : Table). length t.senders) (sym c.self.view_is) ∙ length-map all senders_in) c.requires.process in
     senders_shown (g.J.Judge.verdict c.args.judge.now) c.args.process c.args.sends.items c.args.receives.items c.self.inside.groups c.replace_in.new.groups all (map kept c.replace_in.new.all.items) stands c.in_ok-replace_in.ensures.replaced below
     ∙ ap (λ (t : Table). set t.senders c.args.process (senders c.args.process c.args.sends.items)) c.self.view_is
@@ -41,7 +57,7 @@ returns-clause-senders g c =
 pub returns-clause-receivers : goal.returns-clause-receivers
 returns-clause-receivers g c =
     let all = map kept c.self.inside.offers.items in
-    let stands = c.self.invariant (ap (λ (t : Table). t.lost) c.self.view_is ∙ c.requires.there) in
+    let stands = (c.self.invariant (ap (λ (t : Table). t.lost) c.self.view_is ∙ c.requires.there)).stands in
     let below : c.args.process < length all = subst (λ (n : ℕ). c.args.process < n) (ap (λ (t : Table). length t.senders) (sym c.self.view_is) ∙ length-map all senders_in) c.requires.process in
     receivers_shown (g.J.Judge.verdict c.args.judge.now) c.args.process c.args.sends.items c.args.receives.items c.self.inside.groups c.replace_in.new.groups all (map kept c.replace_in.new.all.items) stands c.in_ok-replace_in.ensures.replaced below
     ∙ ap (λ (t : Table). set t.receivers c.args.process (receivers c.args.process c.args.receives.items)) c.self.view_is
@@ -49,7 +65,7 @@ returns-clause-receivers g c =
 pub returns-clause-pairs : goal.returns-clause-pairs
 returns-clause-pairs g c =
     let all = map kept c.self.inside.offers.items in
-    let stands = c.self.invariant (ap (λ (t : Table). t.lost) c.self.view_is ∙ c.requires.there) in
+    let stands = (c.self.invariant (ap (λ (t : Table). t.lost) c.self.view_is ∙ c.requires.there)).stands in
     let below : c.args.process < length all = subst (λ (n : ℕ). c.args.process < n) (ap (λ (t : Table). length t.senders) (sym c.self.view_is) ∙ length-map all senders_in) c.requires.process in
     are_pairs c.replace_in.new.groups (map kept c.replace_in.new.all.items)
     (stands_after (g.J.Judge.verdict c.args.judge.now) c.args.process c.args.sends.items c.args.receives.items c.self.inside.groups c.replace_in.new.groups all (map kept c.replace_in.new.all.items) stands c.in_ok-replace_in.ensures.replaced below c.requires.sends_ordered c.requires.receives_ordered)
@@ -58,7 +74,7 @@ returns-clause-pairs g c =
 pub returns-clause-free : goal.returns-clause-free
 returns-clause-free g c =
     let all = map kept c.self.inside.offers.items in
-    let stands = c.self.invariant (ap (λ (t : Table). t.lost) c.self.view_is ∙ c.requires.there) in
+    let stands = (c.self.invariant (ap (λ (t : Table). t.lost) c.self.view_is ∙ c.requires.there)).stands in
     let below : c.args.process < length all = subst (λ (n : ℕ). c.args.process < n) (ap (λ (t : Table). length t.senders) (sym c.self.view_is) ∙ length-map all senders_in) c.requires.process in
     are_free c.replace_in.new.groups (map kept c.replace_in.new.all.items)
     (stands_after (g.J.Judge.verdict c.args.judge.now) c.args.process c.args.sends.items c.args.receives.items c.self.inside.groups c.replace_in.new.groups all (map kept c.replace_in.new.all.items) stands c.in_ok-replace_in.ensures.replaced below c.requires.sends_ordered c.requires.receives_ordered)
@@ -67,14 +83,22 @@ returns-clause-free g c =
 pub returns-clause-asked_now : goal.returns-clause-asked_now
 returns-clause-asked_now g c =
     let all = map kept c.self.inside.offers.items in
-    let stands = c.self.invariant (ap (λ (t : Table). t.lost) c.self.view_is ∙ c.requires.there) in
+    let stands = (c.self.invariant (ap (λ (t : Table). t.lost) c.self.view_is ∙ c.requires.there)).stands in
     let below : c.args.process < length all = subst (λ (n : ℕ). c.args.process < n) (ap (λ (t : Table). length t.senders) (sym c.self.view_is) ∙ length-map all senders_in) c.requires.process in
     said_now (g.J.Judge.verdict c.args.judge.now) c.args.process c.args.sends.items c.args.receives.items c.self.inside.groups c.replace_in.new.groups all (map kept c.replace_in.new.all.items) stands c.in_ok-replace_in.ensures.replaced below
 
 pub returns-clause-others : goal.returns-clause-others
 returns-clause-others g c =
     let all = map kept c.self.inside.offers.items in
-    let stands = c.self.invariant (ap (λ (t : Table). t.lost) c.self.view_is ∙ c.requires.there) in
+    let stands = (c.self.invariant (ap (λ (t : Table). t.lost) c.self.view_is ∙ c.requires.there)).stands in
     let below : c.args.process < length all = subst (λ (n : ℕ). c.args.process < n) (ap (λ (t : Table). length t.senders) (sym c.self.view_is) ∙ length-map all senders_in) c.requires.process in
     others_there (g.J.Judge.verdict c.args.judge.now) c.args.process c.args.sends.items c.args.receives.items c.self.inside.groups c.replace_in.new.groups all (map kept c.replace_in.new.all.items) stands c.in_ok-replace_in.ensures.replaced below c.in_ok-replace_in.ensures.within_old
     ∙ ap (λ (t : Table). filter (λ q. not (touches c.args.process q)) t.pairs) c.self.view_is
+
+pub returns-clause-questions : goal.returns-clause-questions
+returns-clause-questions g c =
+    let all = map kept c.self.inside.offers.items in
+    let stands = (c.self.invariant (ap (λ (t : Table). t.lost) c.self.view_is ∙ c.requires.there)).stands in
+    let below : c.args.process < length all = subst (λ (n : ℕ). c.args.process < n) (ap (λ (t : Table). length t.senders) (sym c.self.view_is) ∙ length-map all senders_in) c.requires.process in
+    c.in_ok-replace_in.ensures.asked
+    ∙ ap (λ n. g.J.Judge.asked c.args.judge.now + n) (sym (questions_now (g.J.Judge.verdict c.args.judge.now) c.args.process c.args.sends.items c.args.receives.items c.self.inside.groups c.replace_in.new.groups all (map kept c.replace_in.new.all.items) stands c.in_ok-replace_in.ensures.replaced below c.in_ok-replace_in.ensures.within))

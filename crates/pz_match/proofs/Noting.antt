@@ -1,0 +1,128 @@
+-- The users of a wire after an update.
+use Rattle.std.proofs.Common.{◌≡◌, ◌≢◌, ◌<◌, ◌+◌, ◌⊎◌, inl, inr, refl, sym, ◌∙◌, ap, subst, ℕ, zero, suc, List, [], ◌∷◌, ◌++◌, length, take, get_or, Option, Some, None, arith}
+use Rattle.std.specs.Prelude.{All, Contains, IfSome, map}
+use Rattle.std.specs.List.{slice_get}
+use Rattle.std.specs.Option.{option_map_or}
+use Rattle.std.proofs.lemmas.Bool.{cases_eq}
+use Rattle.std.proofs.lemmas.List.{take_more}
+use Rattle.std.proofs.lemmas.List.Elements.{All-head, All-tail, All-nil, All-cons, All-append, All-weaker, All-map}
+use Rattle.std.proofs.lemmas.Option.{get_or_from_slice_get, slice_get-get_or, slice_get_within}
+use Rattle.pz_match_lists.specs.Increasing.{list_at}
+use Rattle.pz_offer.specs.declared.ends.SendOffer.{SendOffer}
+use Rattle.pz_offer.specs.declared.ends.ReceiveOffer.{ReceiveOffer}
+use Rattle.pz_match.specs.declared.offers.Sender.{Sender}
+use Rattle.pz_match.specs.declared.offers.Receiver.{Receiver}
+use Rattle.pz_match.specs.declared.kept.Sending.{Sending}
+use Rattle.pz_match.specs.declared.kept.Receiving.{Receiving}
+use Rattle.pz_match.specs.Offers.{sender, receiver, senders, receivers}
+use Rattle.pz_match.specs.Judging.{Verdicts}
+use Rattle.pz_match.specs.devices.Kept.{Kept}
+use Rattle.pz_match.specs.devices.Tallies.{GroupsView}
+use Rattle.pz_match.specs.devices.Asking.{renewed}
+use Rattle.pz_match.specs.devices.Updating.{Replaced, renewed_in, other_offers, silent}
+use Rattle.pz_match.specs.devices.Users.{HaveUsers, KeepsUsers, SendsNoted, ReceivesNoted}
+use Rattle.pz_match.proofs.Replacing.{new_here, new_there, new_length}
+use Rattle.pz_match.proofs.Updated.{all_seen}
+
+-- One offer more
+
+module _ {X : Type 0} (wire : X → Option ℕ) (process : ℕ) where
+  abbrev pub noted : List (List ℕ) → X → Type 0
+  noted users x = IfSome (wire x) (λ w. Contains (list_at users w) process)
+
+  pub kept_noted : (old new : List (List ℕ)) → KeepsUsers old new → (x : X) → noted old x → noted new x
+  kept_noted old new keeps x ok = by (wire x) ok
+    where
+      by : (o : Option ℕ) → IfSome o (λ w. Contains (list_at old w) process) → IfSome o (λ w. Contains (list_at new w) process)
+      by None ok = ok
+      by (Some w) ok = keeps w process ok
+
+  pub noted_more : (old new : List (List ℕ)) (xs : List X) (i : ℕ) (x : X) → KeepsUsers old new → i < length xs → x ≡ get_or xs i x → noted new x → All (noted old) (take i xs) → All (noted new) (take (i + 1) xs)
+  noted_more old new xs i x keeps lt is here before =
+      subst (All (noted new)) (sym (take_more xs i x lt))
+      (All-append (noted new) (take i xs) (get_or xs i x ∷ []) (All-weaker (noted old) (noted new) (kept_noted old new keeps) (take i xs) before)
+      (All-cons (noted new) (get_or xs i x) [] (subst (noted new) is here) (All-nil (noted new))))
+
+pub keeps_same : (a : List (List ℕ)) → KeepsUsers a a
+keeps_same a k n there = there
+
+pub keeps_next : (a b c : List (List ℕ)) → KeepsUsers a b → KeepsUsers b c → KeepsUsers a c
+keeps_next a b c f g k n there = g k n (f k n there)
+
+-- After the update
+
+module _ (users : List (List ℕ)) (p w : ℕ) where
+  sends_used : (ss : List SendOffer) → SendsNoted users p ss → All (λ (x : Sender). x.wire ≡ w → Contains (list_at users w) p) (senders p ss)
+  sends_used [] ok = All-nil (λ (x : Sender). x.wire ≡ w → Contains (list_at users w) p)
+  sends_used (s ∷ ss) ok = by s.wire (All-head (λ (s : SendOffer). IfSome s.wire (λ w. Contains (list_at users w) p)) s ss ok) (sends_used ss (All-tail (λ (s : SendOffer). IfSome s.wire (λ w. Contains (list_at users w) p)) s ss ok))
+    where
+      by : (o : Option ℕ) → IfSome o (λ w. Contains (list_at users w) p) → All (λ (x : Sender). x.wire ≡ w → Contains (list_at users w) p) (senders p ss)
+          → All (λ (x : Sender). x.wire ≡ w → Contains (list_at users w) p) (option_map_or (λ wire. sender p s wire ∷ []) o [] ++ senders p ss)
+      by None here later = later
+      by (Some v) here later = All-cons (λ (x : Sender). x.wire ≡ w → Contains (list_at users w) p) (sender p s v) (senders p ss) (λ same. subst (λ n. Contains (list_at users n) p) same here) later
+
+  receives_used : (rs : List ReceiveOffer) → ReceivesNoted users p rs → All (λ (x : Receiver). x.wire ≡ w → Contains (list_at users w) p) (receivers p rs)
+  receives_used [] ok = All-nil (λ (x : Receiver). x.wire ≡ w → Contains (list_at users w) p)
+  receives_used (r ∷ rs) ok = by r.wire (All-head (λ (r : ReceiveOffer). IfSome r.wire (λ w. Contains (list_at users w) p)) r rs ok) (receives_used rs (All-tail (λ (r : ReceiveOffer). IfSome r.wire (λ w. Contains (list_at users w) p)) r rs ok))
+    where
+      by : (o : Option ℕ) → IfSome o (λ w. Contains (list_at users w) p) → All (λ (x : Receiver). x.wire ≡ w → Contains (list_at users w) p) (receivers p rs)
+          → All (λ (x : Receiver). x.wire ≡ w → Contains (list_at users w) p) (option_map_or (λ wire. receiver p r wire ∷ []) o [] ++ receivers p rs)
+      by None here later = later
+      by (Some v) here later = All-cons (λ (x : Receiver). x.wire ≡ w → Contains (list_at users w) p) (receiver p r v) (receivers p rs) (λ same. subst (λ n. Contains (list_at users n) p) same here) later
+
+module _ (says : Verdicts) (p : ℕ) (sends : List SendOffer) (receives : List ReceiveOffer) (g0 g1 : GroupsView) (all new : List Kept) (r : Replaced says p sends receives g0 all g1 new) (below : p < length all)
+    (before after : List (List ℕ)) (used : HaveUsers before all) (keeps : KeepsUsers before after) (sent : SendsNoted after p sends) (heard : ReceivesNoted after p receives) where
+  there : (k : ℕ) (e : Kept) → slice_get new k ≡ Some e → e ≡ get_or (other_offers says p r.sent r.heard all) k e
+  there k e is = sym (get_or_from_slice_get (other_offers says p r.sent r.heard all) k e e (ap (λ (xs : List Kept). slice_get xs k) (sym r.is) ∙ is))
+
+  inside : (k : ℕ) (e : Kept) → slice_get new k ≡ Some e → k < length all
+  inside k e is = let lt = slice_get_within new k e is in let long = ap length r.is in omega (arith, lt, long, new_length says p r.sent r.heard all below)
+
+  pub users_after : HaveUsers after new
+  users_after w = record { sending = sending; receiving = receiving }
+    where
+      sending : (k : ℕ) (e : Kept) → slice_get new k ≡ Some e → All (λ (s : Sending). s.sender.wire ≡ w → Contains (list_at after w) k) e.sends
+      sending k e is = by (cases_eq k p)
+        where
+          by : (k ≡ p) ⊎ (k ≢ p) → All (λ (s : Sending). s.sender.wire ≡ w → Contains (list_at after w) k) e.sends
+          by (inl same) =
+              let now : e ≡ record { process = p; sends = r.sent; receives = r.heard } = there k e is ∙ (ap (λ n. get_or (other_offers says p r.sent r.heard all) n e) same ∙ new_here says p r.sent r.heard all below e) in
+              let ok = all_seen (λ (x : Sender). x.wire ≡ w → Contains (list_at after w) p) (λ (s : Sending). s.sender) r.sent (subst (All (λ (x : Sender). x.wire ≡ w → Contains (list_at after w) p)) (sym r.same_sends) (sends_used after p w sends sent)) in
+              subst (λ n. All (λ (s : Sending). s.sender.wire ≡ w → Contains (list_at after w) n) e.sends) (sym same) (subst (λ (x : Kept). All (λ (s : Sending). s.sender.wire ≡ w → Contains (list_at after w) p) x.sends) (sym now) ok)
+          by (inr other) =
+              let lt = inside k e is in
+              let now : e ≡ renewed_in says p r.heard (get_or all k e) = there k e is ∙ new_there says p r.sent r.heard all below k e other lt in
+              let was = (used w).sending k (get_or all k e) (slice_get-get_or all k e lt) in
+              subst (λ (x : Kept). All (λ (s : Sending). s.sender.wire ≡ w → Contains (list_at after w) k) x.sends) (sym now)
+              (All-map (λ (s : Sending). s.sender.wire ≡ w → Contains (list_at after w) k) (renewed says p r.heard) (get_or all k e).sends
+              (All-weaker (λ (s : Sending). s.sender.wire ≡ w → Contains (list_at before w) k) (λ (s : Sending). s.sender.wire ≡ w → Contains (list_at after w) k) (λ s ok on. keeps w k (ok on)) (get_or all k e).sends was))
+
+      receiving : (k : ℕ) (e : Kept) → slice_get new k ≡ Some e → All (λ (q : Receiving). q.receiver.wire ≡ w → Contains (list_at after w) k) e.receives
+      receiving k e is = by (cases_eq k p)
+        where
+          by : (k ≡ p) ⊎ (k ≢ p) → All (λ (q : Receiving). q.receiver.wire ≡ w → Contains (list_at after w) k) e.receives
+          by (inl same) =
+              let now : e ≡ record { process = p; sends = r.sent; receives = r.heard } = there k e is ∙ (ap (λ n. get_or (other_offers says p r.sent r.heard all) n e) same ∙ new_here says p r.sent r.heard all below e) in
+              let ok = all_seen (λ (x : Receiver). x.wire ≡ w → Contains (list_at after w) p) (λ (q : Receiving). q.receiver) r.heard (subst (All (λ (x : Receiver). x.wire ≡ w → Contains (list_at after w) p)) (sym r.same_receives) (receives_used after p w receives heard)) in
+              subst (λ n. All (λ (q : Receiving). q.receiver.wire ≡ w → Contains (list_at after w) n) e.receives) (sym same) (subst (λ (x : Kept). All (λ (q : Receiving). q.receiver.wire ≡ w → Contains (list_at after w) p) x.receives) (sym now) ok)
+          by (inr other) =
+              let lt = inside k e is in
+              let now : e ≡ renewed_in says p r.heard (get_or all k e) = there k e is ∙ new_there says p r.sent r.heard all below k e other lt in
+              let was = (used w).receiving k (get_or all k e) (slice_get-get_or all k e lt) in
+              subst (λ (x : Kept). All (λ (q : Receiving). q.receiver.wire ≡ w → Contains (list_at after w) k) x.receives) (sym now)
+              (All-weaker (λ (q : Receiving). q.receiver.wire ≡ w → Contains (list_at before w) k) (λ (q : Receiving). q.receiver.wire ≡ w → Contains (list_at after w) k) (λ q ok on. keeps w k (ok on)) (get_or all k e).receives was)
+
+-- Nobody has offered anything yet
+pub none_used : (ns : List ℕ) → HaveUsers [] (map silent ns)
+none_used ns w = record {
+  sending = λ k e is. none (λ (s : Sending). s.sender.wire ≡ w → Contains (list_at [] w) k) k e is (λ x. x.sends) (λ n. refl);
+  receiving = λ k e is. none (λ (q : Receiving). q.receiver.wire ≡ w → Contains (list_at [] w) k) k e is (λ x. x.receives) (λ n. refl);
+}
+  where
+    none : {X : Type 0} (P : X → Type 0) (k : ℕ) (e : Kept) → slice_get (map silent ns) k ≡ Some e → (f : Kept → List X) → ((n : ℕ) → f (silent n) ≡ []) → All P (f e)
+    none {X} P k e is f empty = go ns k is
+      where
+        go : (ms : List ℕ) (k : ℕ) → slice_get (map silent ms) k ≡ Some e → All P (f e)
+        go [] k is = cc
+        go (m ∷ ms) zero is = let one : silent m ≡ e = cc in subst (All P) (sym (ap f (sym one) ∙ empty m)) (All-nil P)
+        go (m ∷ ms) (suc k) is = go ms k is

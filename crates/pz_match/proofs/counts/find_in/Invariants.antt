@@ -1,6 +1,0 @@
-use Rattle.std.proofs.Common.{◌≡◌, ◌+◌, take}
-use Rattle.std.specs.Prelude.{sum}
-use Rattle.pz_match.proofs.counts.find_in.Given as goal
-
-abbrev pub invariant-loop-place : goal.invariant-loop-place
-invariant-loop-place l = sum (take l.place l.numbers) + l.rest ≡ l.fn.rest

@@ -1,0 +1,50 @@
+// Who has offered something over which wire.
+
+ghost use Rattle.std.specs.Prelude.{Contains, IfSome, OnOk};
+ghost use Rattle.pz_match_lists.specs.Increasing.{list_at};
+ghost use Rattle.pz_match.specs.devices.Users.{KeepsUsers, SendsNoted, ReceivesNoted};
+
+use pz_match_lists::Lists;
+use pz_offer::{ReceiveOffer, SendOffer};
+use std::alloc::AllocError;
+
+/// Notes a process as a user of a wire, if there is one. The only error is want of memory.
+fn note(users: &mut Lists, process: u32, wire: Option<u32>) -> Result<(), AllocError>
+    ensures keeps { KeepsUsers users.old users.new }
+    ensures noted { OnOk result (IfSome wire (λ w. Contains (list_at users.new w) process)) }
+{
+    match wire {
+        Some(wire) => users.add(wire, process as usize),
+        None => Ok(()),
+    }
+}
+
+/// Notes a process as a user of the wires of these sends. The only error is want of memory.
+pub(crate) fn note_sends(
+    users: &mut Lists,
+    process: u32,
+    sends: &[SendOffer],
+) -> Result<(), AllocError>
+    ensures keeps { KeepsUsers users.old users.new }
+    ensures noted { OnOk result (SendsNoted users.new process sends.now) }
+{
+    for send in sends {
+        note(users, process, send.wire)?;
+    }
+    Ok(())
+}
+
+/// Notes a process as a user of the wires of these receives. The only error is want of memory.
+pub(crate) fn note_receives(
+    users: &mut Lists,
+    process: u32,
+    receives: &[ReceiveOffer],
+) -> Result<(), AllocError>
+    ensures keeps { KeepsUsers users.old users.new }
+    ensures noted { OnOk result (ReceivesNoted users.new process receives.now) }
+{
+    for receive in receives {
+        note(users, process, receive.wire)?;
+    }
+    Ok(())
+}

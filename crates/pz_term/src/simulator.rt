@@ -1,0 +1,77 @@
+ghost use Rattle.std.specs.Prelude.{◌≡◌, ◌≤◌, ◌<◌, ℕ, IfOk, OnOk, IfErr};
+ghost use Rattle.pz_classes.specs.CheckedView.{checked_model};
+ghost use Rattle.pz_bind.specs.devices.Nets.{IsNet};
+ghost use Rattle.pz_term.specs.Simulations.{Simulation, IsMomentOf, IsOffer, Chooses, Passes, IsBroken, ClockIs, setting_in, model_in};
+ghost use Rattle.pz_term.specs.Refusals.{OnNoSuchOffer, OnChooseNotNow, OnChooseRefused, OnChooseNoMemory, NoActions, OnPassNotNow, OnPassRefused, OnPassNoMemory, NoTime};
+
+use crate::refusal::{ChooseError, PassError};
+use pz_bind::Net;
+use pz_classes::Checked;
+use pz_nodes::Steps;
+use pz_rules::{Action, Moment};
+use std::alloc::AllocError;
+use std::sync::ledger::Ledger;
+
+/// What stands for a configuration of a model, says what may happen next there, and goes on to the next
+/// one. The steps that are handed to it count what it does, if it counts at all, and are for proofs
+/// alone.
+pub trait Simulator {
+    /// What it stands for.
+    ghost simulation: { Self → Simulation };
+
+    /// What may happen next. Takes no memory.
+    fn moment(&self) -> Moment
+        ensures { IsMomentOf (simulation self.now) result };
+
+    /// The clock, in clock units from the start of the run. Takes no memory.
+    fn clock(&self) -> u128
+        ensures { ClockIs (simulation self.now) result };
+
+    /// The model that is simulated. Takes no memory.
+    fn checked(&self) -> &Checked
+        ensures { checked_model result.now ≡ model_in (simulation self.now) };
+
+    /// The net of the model. Takes no memory.
+    fn net(&self) -> &Net
+        ensures { ∥ IsNet (model_in (simulation self.now)) result.now ∥₁ };
+
+    /// The offer of this number, from 0, which is one of those that the moment counts. The only error is
+    /// want of memory, and it breaks nothing.
+    fn offer(&self, k: u64) -> Result<Action, AllocError>
+        requires { (n : ℕ) × IsMomentOf (simulation self.now) (Moment.Actions n) × (k < n) }
+        ensures { IfOk result (IsOffer (simulation self.now) k) };
+
+    /// Chooses the offer of this number, from 0: the action takes place, or the moment becomes
+    /// `Stopped` where it ends in a trouble.
+    ///
+    /// # Errors
+    ///
+    /// But for `NoMemory`, `NoSuchOffer` comes exactly where there are offers, but none of this
+    /// number, and `NotNow` exactly where the moment is not `Actions`; then nothing has changed. After
+    /// `NoMemory` the simulator is broken.
+    fn choose<L: Ledger>(&mut self, k: u64, steps: &mut Steps<L>) -> Result<(), ChooseError>
+        ensures ok { OnOk result (Chooses k (simulation self.old) (simulation self.new)) }
+        ensures no_such_offer { IfErr result (OnNoSuchOffer
+            (λ offers. IsMomentOf (simulation self.old) (Moment.Actions offers)
+            × (offers ≤ k))) }
+        ensures not_now { IfErr result (OnChooseNotNow
+            (λ moment. IsMomentOf (simulation self.old) moment × NoActions moment)) }
+        ensures refused { IfErr result (OnChooseRefused (self.new ≡ self.old)) }
+        ensures broken { IfErr result (OnChooseNoMemory (IsBroken (simulation self.new))) }
+        ensures setting { setting_in (simulation self.new) ≡ setting_in (simulation self.old) };
+
+    /// Lets time pass, by the least that is left of an active delay.
+    ///
+    /// # Errors
+    ///
+    /// But for `NoMemory`, `NotNow` comes exactly where the moment is not `Time`; then nothing has
+    /// changed. After `NoMemory` the simulator is broken. A clock past 2^128 - 1, to which no machine
+    /// comes, is taken for want of memory.
+    fn pass<L: Ledger>(&mut self, steps: &mut Steps<L>) -> Result<(), PassError>
+        ensures ok { OnOk result (Passes (simulation self.old) (simulation self.new)) }
+        ensures not_now { IfErr result (OnPassNotNow
+            (λ moment. IsMomentOf (simulation self.old) moment × NoTime moment)) }
+        ensures refused { IfErr result (OnPassRefused (self.new ≡ self.old)) }
+        ensures broken { IfErr result (OnPassNoMemory (IsBroken (simulation self.new))) }
+        ensures setting { setting_in (simulation self.new) ≡ setting_in (simulation self.old) };
+}
