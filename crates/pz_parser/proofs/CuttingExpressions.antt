@@ -77,7 +77,6 @@ one_mark m other = cutting_marks (m ∷ []) (mark_more other nothing_plain)
 pub behind_mark : (m : Mark) → Other m → (K : Kind) (x : K.Shape) → K.Is x → Cutting K x → Cutting (both (marks (m ∷ [])) K) (tt, x)
 behind_mark m other K x is c = cutting_both (marks (m ∷ [])) K tt x tt is (one_mark m other) c
 
-
 abbrev close : Symbol → Kind
 close x = marks (symbol x ∷ [])
 
