@@ -57,7 +57,7 @@ fn error_of(tokens: &[Token], end: Pos, refusal: Refusal) -> ParseError
 }
 
 /// The place of the token from which on so many are left, or `end` where none is.
-#[tactic(auto, unfolding(crate::specs::devices::Refused::place_left), using(crate::proofs::Refusing::refuses, crate::proofs::Rows::process_alone, crate::proofs::Rows::name_stands))]
+#[tactic(auto, unfolding(crate::specs::devices::Refused::place_left))]
 fn place(tokens: &[Token], end: Pos, left: usize) -> Pos
     ensures { result ≡ spec.place_left tokens.now end left }
 {
