@@ -1,5 +1,5 @@
 -- How statements that wait open, and alternatives one by one.
-use Rattle.std.proofs.Common.{◌≡◌, ℕ, ◌<◌, ◌+◌, true, false, List, [], ◌∷◌, ◌++◌, take, drop, length, get_or, Some, None, refl, sym, ap, ◌∙◌}
+use Rattle.std.proofs.Common.{◌≡◌, ℕ, ◌<◌, ◌≤◌, ◌+◌, true, false, List, [], ◌∷◌, ◌++◌, take, drop, length, get_or, Some, None, refl, sym, ap, ◌∙◌, arith}
 use Rattle.std.specs.Prelude.{◌==◌}
 use Rattle.std.specs.List.{slice_get}
 use Rattle.std.proofs.lemmas.Option.{same_Some, none-some}
@@ -47,6 +47,12 @@ more_wait (r ∷ []) s first some = absurd (differ some)
     differ : true ≡ false → ⊥
     differ e = cc
 more_wait (r ∷ q ∷ rest) s first some = ap (λ (x : Step). terms.sequence (plainly (step.view x)) (step.sequence_view (q ∷ rest))) (same_Some s r first)
+
+-- two statements or more
+pub several_open : (ts : List Step) (s : Step) → 2 ≤ length ts → s ≡ get_or ts 0 s → plainly_all (step.sequence_view ts) ≡ terms.sequence (plainly (step.view s)) (step.sequence_view (drop 1 ts))
+several_open [] s two is = absurd (omega (arith, two))
+several_open (r ∷ []) s two is = absurd (omega (arith, two))
+several_open (r ∷ q ∷ rest) s two is = ap (λ (x : Step). terms.sequence (plainly (step.view x)) (step.sequence_view (q ∷ rest))) (sym is)
 
 -- a further one at the end
 abbrev with_last : Terms → terms.Term → Terms

@@ -84,13 +84,13 @@ pub fn open_rest(alloc: Global, rest: Rest) -> Result<Term, AllocError>
     let Some(step) = rest.first() else {
         return Ok(Term::Done);
     };
-    let open = open_step(alloc, step)?;
+    let term = open_step(alloc, step)?;
     let rest = rest.behind_first();
     if rest.is_empty() {
-        return Ok(open);
+        return Ok(term);
     }
-    let open = Boxed::new(alloc, open)?;
-    Ok(Term::Seq(open, rest))
+    let boxed = Boxed::new(alloc, term)?;
+    Ok(Term::Seq(boxed, rest))
 }
 
 /// Equal statements in the same order, to be shared.

@@ -14,13 +14,13 @@ returns-in_default c = view_Done ∙ none_waits c.args.rest c.in_default.ensures
 
 pub returns-then-is_empty : goal.returns-then-is_empty
 returns-then-is_empty c =
-    c.in_ok-open.ensures
+    c.in_ok-term.ensures
     ∙ one_waits c.args.rest c.in-Some.step.now c.in-Some.ensures (sym (c.is_empty.ensures ∙ ap (λ (xs : List Step). length xs == 0) c.behind_first-rest.ensures) ∙ c.if-is_empty.true)
 
 pub returns : goal.returns
 returns c =
-    term_seq c.in_ok-open-2.open c.behind_first-rest.result
-    ∙ ap (λ (t : Term). terms.sequence (term_view t) (sequence_view c.behind_first-rest.result)) c.in_ok-open-2.ensures
-    ∙ ap (λ (t : terms.Term). terms.sequence t (sequence_view c.behind_first-rest.result)) c.in_ok-open.ensures
+    term_seq c.in_ok-boxed.boxed c.behind_first-rest.result
+    ∙ ap (λ (t : Term). terms.sequence (term_view t) (sequence_view c.behind_first-rest.result)) c.in_ok-boxed.ensures
+    ∙ ap (λ (t : terms.Term). terms.sequence t (sequence_view c.behind_first-rest.result)) c.in_ok-term.ensures
     ∙ ap (λ (xs : List Step). terms.sequence (plainly (view c.in-Some.step.now)) (sequence_view xs)) c.behind_first-rest.ensures
     ∙ more_wait c.args.rest c.in-Some.step.now c.in-Some.ensures (sym (c.is_empty.ensures ∙ ap (λ (xs : List Step). length xs == 0) c.behind_first-rest.ensures) ∙ c.if-is_empty.false)
