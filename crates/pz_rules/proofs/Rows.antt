@@ -21,6 +21,7 @@ use Rattle.pz_eval_rules.specs.devices.Computed.{sequence, arguments, operators,
 use Rattle.pz_rules.specs.declared.action.Kind.TheVariants.{Expire}
 use Rattle.pz_rules.specs.Terms as terms
 use Rattle.pz_rules.specs.Terms.{Code, Step, Term, done, leaf, wait, parallel, select, guarded, frame, abort, idle, handling, Terms, no_terms, and}
+use Rattle.pz_rules.specs.declared.limits.Edition.TheVariants.{One}
 use Rattle.pz_rules.specs.Settings.{Setting, Context, in_state}
 use Rattle.pz_rules.specs.Leaving.{around, left_by, residual, swept}
 use Rattle.pz_rules.specs.Messages.{bound}
@@ -32,7 +33,7 @@ abbrev nothing : ModelTree
 nothing = record { decls = [] }
 
 abbrev setting : Setting
-setting = record { model = nothing; limits = record { units = 100; depth = 20; height = 1000 } }
+setting = record { model = nothing; limits = record { units = 100; depth = 20; height = 1000; edition = One } }
 
 abbrev at : ℕ → Pos
 at column = record { line = 1; column = column }

@@ -11,7 +11,7 @@ mod rest;
 mod term;
 
 pub use action::{Action, Kind};
-pub use limits::Limits;
+pub use limits::{Edition, Limits};
 pub use moment::Moment;
 pub use opening::{open_rest, open_step, open_term};
 pub use rest::Rest;

@@ -1,6 +1,7 @@
 -- The runs that jobs ask for.
 use Rattle.std.specs.Prelude.{ℕ, Bool, true, false, Option, Some, None}
 use Rattle.pz_syntax.specs.Classes.{ModelTree}
+use Rattle.pz_rules.specs.declared.limits.Edition.TheVariants.{One}
 use Rattle.pz_rules.specs.Settings.{Setting}
 use Rattle.pz_rules.specs.ChosenRuns.{Policy}
 use Rattle.pz_words.specs.declared.jobs.Choice.{Choice}
@@ -36,9 +37,9 @@ play_of (Check model) = None
 play_of (Make n) = None
 play_of (Ring n choice limits) = Some (play choice limits telling.Summary)
 
--- each evaluation has so many units
+-- each evaluation has so many units; the rules are those of the first edition
 abbrev pub setting_with : ModelTree → ℕ → Setting
-setting_with m units = record { model = m; limits = record { units = units; depth = depth_limit; height = height_limit } }
+setting_with m units = record { model = m; limits = record { units = units; depth = depth_limit; height = height_limit; edition = One } }
 
 -- those of the job
 abbrev pub setting_for : ModelTree → Play → Setting

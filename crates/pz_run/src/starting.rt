@@ -8,7 +8,7 @@ ghost use Rattle.pz_run.specs.Plays.{setting_with};
 use crate::limits::{DEPTH_LIMIT, HEIGHT_LIMIT};
 use pz_bind::Net;
 use pz_classes::Checked;
-use pz_term::{Limits, Plain};
+use pz_term::{Edition, Limits, Plain};
 use std::alloc::{AllocError, Global};
 use std::mem::drop;
 
@@ -22,6 +22,7 @@ pub(crate) fn start(alloc: Global, checked: Checked, units: u64) -> Result<Plain
         units,
         depth: DEPTH_LIMIT,
         height: HEIGHT_LIMIT,
+        edition: Edition::One,
     };
     match Net::flatten(alloc, &checked) {
         Ok(net) => Plain::start(alloc, checked, net, limits),

@@ -10,5 +10,5 @@ mod vector;
 
 pub use plain::Plain;
 pub use pz_offer::{End, Place, Trouble};
-pub use pz_rules::{Action, Kind, Limits, Moment, Term, open_term};
+pub use pz_rules::{Action, Edition, Kind, Limits, Moment, Term, open_term};
 pub use refusal::{ChooseError, PassError};

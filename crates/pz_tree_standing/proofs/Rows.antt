@@ -21,6 +21,7 @@ use Rattle.pz_clock.specs.Shifts.{ShiftView}
 use Rattle.pz_nodes_shapes.specs.Rose.{node, none, gone, more}
 use Rattle.pz_rules.specs.Terms.{Code, Step, Term, done, no_terms, and}
 use Rattle.pz_rules.specs.Terms as term
+use Rattle.pz_rules.specs.declared.limits.Edition.TheVariants.{One}
 use Rattle.pz_rules.specs.Settings.{Context}
 use Rattle.pz_rules.specs.devices.Passing.{passed}
 use Rattle.pz_tree_standing.specs.Heads.{Head, wait, parallel, guarded, idle, handling, shifted, What, Shape, Shapes}
@@ -34,7 +35,7 @@ at column = record { line = 1; column = column }
 -- process 3, with one variable of this value, at clock 100
 abbrev seen_with : Value → Context
 seen_with v = record {
-  setting = record { model = record { decls = [] }; limits = record { units = 100; depth = 20; height = 1000 } };
+  setting = record { model = record { decls = [] }; limits = record { units = 100; depth = 20; height = 1000; edition = One } };
   process = 3;
   class = 1;
   clock = 100;

@@ -20,6 +20,7 @@ use Rattle.pz_offer.specs.declared.trouble.Trouble.TheVariants.{Fault}
 use Rattle.pz_offer.specs.Summaries.{nothing, shifted}
 use Rattle.pz_eval_rules.specs.devices.Computed.{sequence, arguments, operators, replied, selectors, going, turns, step, evaluated}
 use Rattle.pz_rules.specs.Terms.{Code, Step, Term, done, leaf, wait, parallel, select, guarded, abort, idle, handling, no_terms, and}
+use Rattle.pz_rules.specs.declared.limits.Edition.TheVariants.{One}
 use Rattle.pz_rules.specs.Settings.{Context}
 use Rattle.pz_tree_summary.specs.Summaries.{summary_of}
 use Rattle.pz_tree_summary.specs.Asked.{asks}
@@ -30,7 +31,7 @@ at column = record { line = 1; column = column }
 -- process 3, with one variable of this value, at clock 100
 abbrev seen_with : Value → Context
 seen_with v = record {
-  setting = record { model = record { decls = [] }; limits = record { units = 100; depth = 20; height = 1000 } };
+  setting = record { model = record { decls = [] }; limits = record { units = 100; depth = 20; height = 1000; edition = One } };
   process = 3;
   class = 1;
   clock = 100;

@@ -7,7 +7,7 @@ use crate::plays::{Play, show_play};
 use pz_bind::Net;
 use pz_classes::Checked;
 use pz_run_reading::read_model;
-use pz_term::{Limits, Plain};
+use pz_term::{Edition, Limits, Plain};
 use std::io;
 use std::mem::drop;
 
@@ -19,6 +19,7 @@ const LIMITS: Limits = Limits {
     units: 100_000,
     depth: 400,
     height: 1_000,
+    edition: Edition::One,
 };
 
 // The one owner of a simulator, which is long to drop.
