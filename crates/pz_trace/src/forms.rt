@@ -95,7 +95,8 @@ fn behind<'a>(text: &'a [u8], front: &[u8]) -> Option<&'a [u8]>
 // The units that are told at the end of a line.
 fn units_told(told: &[u8]) -> Option<u64>
     ensures { MatchOption result ((units : ℕ) → AreUnits units →
-        told.now ≡ decimal units ++ newline → ⊥) (λ units. AreUnits units × (told.now ≡ decimal units ++ newline)) }
+        told.now ≡ decimal units ++ newline → ⊥) (λ units. AreUnits units
+        × (told.now ≡ decimal units ++ newline)) }
 {
     let end = place_of(told, b'\n')?;
     if end + 1 < told.len() {
