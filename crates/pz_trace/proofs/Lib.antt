@@ -1,6 +1,7 @@
 pub mod Digits
 pub mod Numerals
 pub mod Headed
+pub mod Headers
 pub mod Cut
 pub mod EveryHeadings
 pub mod Naming

@@ -1,5 +1,5 @@
 -- No LF stands within a line.
-use Rattle.std.proofs.Common.{◌≡◌, ◌<◌, subst, ℤ, refl, ◌∙◌, ℕ, suc, pos, negsuc, ◌+◌, ◌/◌, ◌%◌, Bool, true, false, if◌then◌else◌, List, [], ◌∷◌, ◌++◌, map, Option, Some, None, arith, codes, append_assoc}
+use Rattle.std.proofs.Common.{◌≡◌, ◌<◌, subst, ℤ, refl, sym, ◌∙◌, ℕ, suc, pos, negsuc, ◌+◌, ◌/◌, ◌%◌, Bool, true, false, if◌then◌else◌, List, [], ◌∷◌, ◌++◌, map, Option, Some, None, arith, codes, append_assoc}
 use Rattle.std.specs.Prelude.{nat_eq, nat_lt, nat_le, ◌||◌, ◌&&◌, slice_get}
 use Rattle.std.specs.List.{flat_map}
 use Rattle.std.specs.Option.{option_map_or}
@@ -27,11 +27,13 @@ use Rattle.pz_rules.specs.declared.action.Kind.{Kind}
 use Rattle.pz_rules.specs.declared.action.Kind.TheVariants as kind
 use Rattle.pz_rules.specs.declared.action.Action.{Action}
 use Rattle.pz_rules.specs.declared.action.Action.TheVariants.{Internal, Comm}
+use Rattle.pz_trace.specs.declared.forms.Form.{Form}
+use Rattle.pz_trace.specs.declared.forms.Form.TheVariants.{One, Two, Three}
 use Rattle.pz_trace.specs.declared.ending.Ending.{Ending}
 use Rattle.pz_trace.specs.declared.ending.Ending.TheVariants as ending
 use Rattle.pz_trace.specs.Words.{kind_word, fault_word, pos_text}
 use Rattle.pz_trace.specs.Labels.{path_of, wire_of, spot, sending, label}
-use Rattle.pz_trace.specs.Lines.{newline, header, time_line, action_line, trouble_words, end_words, end_line}
+use Rattle.pz_trace.specs.Lines.{newline, header, header_of, time_line, action_line, trouble_words, end_words, end_line}
 use Rattle.pz_trace.specs.Laws.{Unbroken, IsLine, HasUnbrokenNames, HasUnbrokenMessage}
 use Rattle.pz_trace.proofs.Digits.{decimal_lacks}
 
@@ -214,6 +216,13 @@ three a b c n = simp append_assoc
 
 pub header_line : IsLine header
 header_line = ended (codes "poosl-trace 1") header refl refl
+
+pub header_lines : (form : Form) → IsLine (header_of form)
+header_lines One = ended (codes "poosl-trace 1") (header_of One) refl refl
+header_lines Two = ended (codes "poosl-trace 2") (header_of Two) refl refl
+header_lines (Three units) =
+    ended (codes "poosl-trace 3 " ++ decimal units) (header_of (Three units)) (joined (codes "poosl-trace 3 ") (decimal units) refl (decimal_unbroken units))
+    (sym (append_assoc (codes "poosl-trace 3 ") (decimal units) newline))
 
 pub time_lines : (clock d : ℕ) → IsLine (time_line clock d)
 time_lines clock d =

@@ -20,11 +20,13 @@ use Rattle.pz_rules.specs.Configurations.{Config}
 use Rattle.pz_rules.specs.Offers.{Offers}
 use Rattle.pz_rules.specs.Steps.{Next}
 use Rattle.pz_rules.specs.Moments.{IsMoment}
+use Rattle.pz_trace.specs.declared.forms.Form.{Form}
 use Rattle.pz_trace.specs.declared.ending.Ending.{Ending}
 use Rattle.pz_trace.specs.declared.ending.Ending.TheVariants.{Stop}
 use Rattle.pz_trace.specs.declared.headings.Heading.{Heading}
 use Rattle.pz_trace.specs.declared.headings.Heading.TheVariants.{Step}
-use Rattle.pz_trace.specs.Lines.{newline, header, time_line, action_line, end_line}
+use Rattle.pz_trace.specs.Lines.{newline, header, header_of, time_line, action_line, end_line}
+use Rattle.pz_trace.specs.Forms.{form_of, limits_of, IsWritten}
 use Rattle.pz_trace.specs.Headings.{IsHeading}
 use Rattle.pz_trace.specs.Named.{IsNamed, HasTroubled}
 
@@ -50,6 +52,9 @@ HasUnbrokenMessage (Comm wire sender receiver message parcel) = Unbroken message
 abbrev pub HeaderIsLine : Type 0
 HeaderIsLine = IsLine header
 
+abbrev pub HeadersAreLines : Type 0
+HeadersAreLines = (form : Form) → IsLine (header_of form)
+
 abbrev pub TimeLinesAreLines : Type 0
 TimeLinesAreLines = (clock d : ℕ) → IsLine (time_line clock d)
 
@@ -66,6 +71,14 @@ pub record SameFront (line other rest left : List ℕ) : Type 0 where
 
 abbrev pub OneFirstLine : Type 0
 OneFirstLine = (line other rest left : List ℕ) → IsLine line → IsLine other → line ++ rest ≡ other ++ left → SameFront line other rest left
+
+-- a header tells one form
+abbrev pub HeadersDiffer : Type 0
+HeadersDiffer = (f g : Form) → IsWritten f → IsWritten g → header_of f ≡ header_of g → f ≡ g
+
+-- and the limits that a form tells have that form
+abbrev pub FormsAreKept : Type 0
+FormsAreKept = (form : Form) (units : ℕ) → form_of (limits_of form units) ≡ form
 
 -- at one clock and among as many offers, two lines tell of one number
 abbrev pub ActionLinesDiffer : Type 0

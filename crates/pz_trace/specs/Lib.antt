@@ -1,6 +1,7 @@
 pub mod Words
 pub mod Labels
 pub mod Lines
+pub mod Forms
 pub mod Headings
 pub mod Named
 pub mod TraceText

@@ -5,6 +5,8 @@ use Rattle.pz_syntax.specs.Classes.{ModelTree}
 use Rattle.pz_offer.specs.declared.trouble.Trouble.{Trouble}
 use Rattle.pz_offer.specs.declared.trouble.Trouble.TheVariants.{Fault, Spent, High}
 use Rattle.pz_rules.specs.declared.action.Action.{Action}
+use Rattle.pz_trace.specs.declared.forms.Form.{Form}
+use Rattle.pz_trace.specs.declared.forms.Form.TheVariants.{One, Two, Three}
 use Rattle.pz_trace.specs.declared.ending.Ending.{Ending}
 use Rattle.pz_trace.specs.declared.ending.Ending.TheVariants as ending
 use Rattle.pz_trace.specs.Words.{fault_word}
@@ -15,6 +17,12 @@ newline = codes "\n"
 
 abbrev pub header : List ℕ
 header = codes "poosl-trace 1" ++ newline
+
+-- the first line by its form: `poosl-trace 1`, `poosl-trace 2` or `poosl-trace 3 units`
+abbrev pub header_of : Form → List ℕ
+header_of One = codes "poosl-trace 1\n"
+header_of Two = codes "poosl-trace 2\n"
+header_of (Three units) = codes "poosl-trace 3 " ++ (decimal units ++ newline)
 
 -- `clock time d`
 abbrev pub time_line : ℕ → ℕ → List ℕ

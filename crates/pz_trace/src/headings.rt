@@ -17,8 +17,8 @@ pub enum Heading {
     Other,
 }
 
-// The place, from 0, at which the byte first stands in the text.
-fn place_of(text: &[u8], byte: u8) -> Option<usize>
+/// The place, from 0, at which the byte first stands in the text.
+pub(crate) fn place_of(text: &[u8], byte: u8) -> Option<usize>
     ensures { MatchOption result (Lacks byte text.now) (StandsFirst byte text.now) }
 {
     for (i, other) in text.iter().enumerate() {
@@ -98,8 +98,8 @@ fn number(text: &[u8]) -> Option<(u128, &[u8])>
     Some((n, rest))
 }
 
-// The number that these digits write, without a leading zero.
-fn value_of(digits: &[u8]) -> Option<u128>
+/// The number that these digits write, without a leading zero.
+pub(crate) fn value_of(digits: &[u8]) -> Option<u128>
     ensures { MatchOption result ((n : ℕ) → n < 2 ^ 128 → digits.now ≡ decimal n →
         ⊥) (λ n. (n < 2 ^ 128) × (digits.now ≡ decimal n)) }
 {

@@ -2,6 +2,7 @@
 #![tactic(auto)]
 
 mod ending;
+mod forms;
 mod headings;
 mod labels;
 pub mod laws;
@@ -10,6 +11,7 @@ mod names;
 mod words;
 
 pub use ending::Ending;
+pub use forms::{Form, form_of, header_of, limits_of, read_header};
 pub use headings::{Heading, first_line, read_line};
 pub use labels::label;
 pub use lines::{action_line, end_line, end_words, header, time_line};
