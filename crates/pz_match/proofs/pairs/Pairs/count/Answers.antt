@@ -10,4 +10,4 @@ use Rattle.pz_match.proofs.pairs.Pairs.count.Goals as goal
 pub returns : goal.returns
 returns c =
     let there = ap (λ (t : Table). t.lost) c.self.view_is ∙ c.requires in
-    c.total.ensures ∙ (total_is c.self.inside.groups (map kept c.self.inside.offers.items) (c.self.invariant there).holds c.self.inside.groups.wires ∙ ap (λ (t : Table). length (taken t.pairs)) c.self.view_is)
+    c.total.ensures ∙ (total_is c.self.inside.groups (map kept c.self.inside.offers.items) (c.self.invariant there).stands.holds c.self.inside.groups.wires ∙ ap (λ (t : Table). length (taken t.pairs)) c.self.view_is)
