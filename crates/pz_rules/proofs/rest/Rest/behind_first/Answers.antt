@@ -9,5 +9,6 @@ returns-in-From c =
     let seen : drop c.in-From.first c.in-From.all ≡ c.args.self = search rules in
     let behind = ap (λ (steps : List Step). drop 1 steps) seen in
     elim c.if-first-len.branch [
-    | then-first-len w ↦ c.from.ensures ∙ ap (λ (n : ℕ). drop n c.in-From.all) w.first-is ∙ behind_next c.in-From.first c.in-From.all c.in-From.all refl ∙ behind
-    | else-first-len w ↦ c.from.ensures ∙ ap (λ (n : ℕ). drop n c.in-From.all) w.first-is ∙ behind_last c.in-From.first c.in-From.all (omega (arith, w.if-first-len.false, c.len.ensures, ap (λ (steps : List Step). length steps) c.get.ensures)) ∙ behind ]
+      | then-first-len w ↦ c.from.ensures ∙ ap (λ (n : ℕ). drop n c.in-From.all) w.first-is ∙ behind_next c.in-From.first c.in-From.all c.in-From.all refl ∙ behind
+      | else-first-len w ↦ c.from.ensures ∙ ap (λ (n : ℕ). drop n c.in-From.all) w.first-is ∙ behind_last c.in-From.first c.in-From.all (omega (arith, w.if-first-len.false, c.len.ensures, ap (λ (steps : List Step). length steps) c.get.ensures)) ∙ behind
+    ]
