@@ -18,7 +18,7 @@ home_at setting place = record { model = setting.model; edition = setting.limits
 
 -- a process at this place that begins with this call
 abbrev pub begins_with : Setting → Address → Step → Process
-begins_with setting place call = swept (opened (home_at setting place) call (initial (values_at setting.model place)))
+begins_with setting place first = swept (opened (home_at setting place) first (initial (values_at setting.model place)))
 
 -- the process that stands at this place of the system
 pub record StartsAs (setting : Setting) (place : Address) (p : Process) : Type 0 where
