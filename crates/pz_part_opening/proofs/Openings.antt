@@ -2,6 +2,7 @@
 use Rattle.std.proofs.Common.{◌≡◌, ℕ, ◌<◌, ◌≤◌, ◌+◌, true, false, List, [], ◌∷◌, ◌++◌, take, drop, length, get_or, Some, None, refl, sym, ap, ◌∙◌, arith}
 use Rattle.std.specs.Prelude.{◌==◌}
 use Rattle.std.specs.List.{slice_get}
+use Rattle.std.proofs.lemmas.Bool.{eqb-true}
 use Rattle.std.proofs.lemmas.Option.{same_Some, none-some}
 use Rattle.std.proofs.lemmas.List.{take_more}
 use Rattle.pz_classes_code.specs.declared.step.Step.{Step}
@@ -34,10 +35,9 @@ none_waits (s ∷ rest) none = absurd (none-some s none)
 pub one_waits : (rest : List Step) (s : Step) → Some s ≡ slice_get rest 0 → (length (drop 1 rest) == 0) ≡ true → plainly (step.view s) ≡ plainly_all (step.sequence_view rest)
 one_waits [] s first none = absurd (none-some s (sym first))
 one_waits (r ∷ []) s first none = ap (λ (x : Step). plainly (step.view x)) (same_Some s r first)
-one_waits (r ∷ q ∷ rest) s first none = absurd (differ none)
-  where
-    differ : false ≡ true → ⊥
-    differ e = cc
+one_waits (r ∷ q ∷ rest) s first none =
+    let no_more : length (q ∷ rest) ≡ 0 = eqb-true (length (q ∷ rest)) 0 none in
+    absurd (omega (arith, no_more))
 
 pub more_wait : (rest : List Step) (s : Step) → Some s ≡ slice_get rest 0 → (length (drop 1 rest) == 0) ≡ false
     → terms.sequence (plainly (step.view s)) (step.sequence_view (drop 1 rest)) ≡ plainly_all (step.sequence_view rest)

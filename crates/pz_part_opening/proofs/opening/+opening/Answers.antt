@@ -1,5 +1,23 @@
-use Rattle.pz_part_opening.proofs.Openings.{branch_opened}
+use Rattle.std.proofs.Common.{◌∙◌, List, drop, sym, ap}
+use Rattle.pz_classes_code.specs.declared.step.Step.{Step}
+use Rattle.pz_classes_code.specs.StepView.{view, sequence_view}
+use Rattle.pz_rules.specs.declared.term.Term.{Term}
+use Rattle.pz_rules.specs.Terms as terms
+use Rattle.pz_rules.specs.View.{term_view}
+use Rattle.pz_rules.specs.devices.Plainly.{plainly, plainly_all}
+use Rattle.pz_part_opening.proofs.Openings.{term_seq, several_open, branch_opened}
 use Rattle.pz_part_opening.proofs.opening.+opening.Goals as goal
+
+pub open_all-returns-in_ok-copy-in-len1-up : goal.open_all-returns-in_ok-copy-in-len1-up
+open_all-returns-in_ok-copy-in-len1-up t c =
+    let same = c.as_slice.ensures ∙ c.get.ensures in
+    let behind = c.from.ensures ∙ ap (λ (xs : List Step). drop 1 xs) (c.in_ok-copy-in-len1-up.ensures ∙ sym same) in
+    term_seq c.in_ok-first-in-len1-up.first c.from.result
+    ∙ ap (λ (x : Term). terms.sequence (term_view x) (sequence_view c.from.result)) c.in_ok-first-in-len1-up.ensures
+    ∙ ap (λ (x : terms.Term). terms.sequence x (sequence_view c.from.result)) c.in_ok-open_step-in-len1-up.ensures
+    ∙ ap (λ (xs : List Step). terms.sequence (plainly (view c.step-item-2.result)) (sequence_view xs)) behind
+    ∙ sym (several_open c.as_slice.result.now c.step-item-2.result c.in-len1-up.len_at_least c.step-item-2.is)
+    ∙ ap (λ (xs : List Step). plainly_all (sequence_view xs)) same
 
 pub open_branches-loop-branch-preserved : goal.open_branches-loop-branch-preserved
 open_branches-loop-branch-preserved t c =
