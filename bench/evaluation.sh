@@ -1,6 +1,5 @@
 #!/usr/bin/env bash
-# Measures the evaluation of a loop of about a hundred million units, and of one that assigns a variable of the
-# process again and again, with the mark that an evaluation has; and the same loops in Python where it is.
+# Measures the evaluation of a loop of about a hundred million units, of one that assigns a variable of the process under a mark, and the same in Python where it is.
 source "$(dirname "${BASH_SOURCE[0]}")/common.sh"
 uses rows_eval bench 1
 rounds=${1:-8333333}
