@@ -1,5 +1,5 @@
 -- What stands in the cells: a list, and behind it the cells of its sums of neighbours.
-use Rattle.std.proofs.Common.{◌≡◌, ℕ, zero, suc, ◌+◌, ◌-◌, ◌/◌, ◌<◌, ◌≤◌, List, [], ◌∷◌, ◌++◌, length, set, get_or, take, drop, replicate, Option, Some, None, Result, Ok, Err, refl, sym, ap, subst, ◌∙◌, arith}
+use Rattle.std.proofs.Common.{◌≡◌, ℕ, zero, suc, ◌-◌, ◌/◌, ◌<◌, ◌≤◌, List, [], ◌∷◌, ◌++◌, length, set, get_or, take, drop, replicate, Option, Some, None, Result, Ok, Err, refl, sym, ap, subst, ◌∙◌, arith}
 use Rattle.std.specs.Prelude.{slice_get, OnOk, OnErr}
 use Rattle.std.proofs.lemmas.List.{append-nil, append_assoc, take-append-drop, length-append, length-set, length-replicate, length-take-le, drop_all}
 use Rattle.pz_sim_totals.specs.declared.total.Total.{Total}
@@ -204,12 +204,12 @@ module _ {T E : Type 0} (r : Result T E) (n : ℕ) (old new : List Total) (are :
   set_levels = by r ok
     where
       by : (r : Result T E) → OnOk r (new ≡ levels n (set (take n old) i t)) → OnErr r (new ≡ old) → AreLevels n new
-      by (Ok x) is err = are_levels n (set (take n old) i t) new size is
-      by (Err e) is err = subst (AreLevels n) (sym err) are
+      by (Ok x) written err = are_levels n (set (take n old) i t) new size written
+      by (Err e) written err = subst (AreLevels n) (sym err) are
 
   pub set_seen : (cells now : List Total) → cells ≡ new → take n old ≡ now → OnOk r (take n cells ≡ set now i t)
   set_seen cells now same seen = by r ok
     where
       by : (r : Result T E) → OnOk r (new ≡ levels n (set (take n old) i t)) → OnOk r (take n cells ≡ set now i t)
-      by (Ok x) is = ap (λ us. take n us) same ∙ of_list n (set (take n old) i t) new size is ∙ ap (λ us. set us i t) seen
-      by (Err e) is = tt
+      by (Ok x) written = ap (λ us. take n us) same ∙ of_list n (set (take n old) i t) new size written ∙ ap (λ us. set us i t) seen
+      by (Err e) written = tt

@@ -1,5 +1,5 @@
 -- The sums of neighbours are those of a list in which one is another.
-use Rattle.std.proofs.Common.{◌≡◌, ◌+◌, ◌-◌, ◌/◌, ◌<◌, sym, subst, ◌∙◌, arith, rules, get_or, set}
+use Rattle.std.proofs.Common.{◌≡◌, ◌-◌, ◌/◌, ◌<◌, sym, subst, ◌∙◌, arith, rules, get_or, set}
 use Rattle.pz_sim_totals.specs.Sums.{none, AreNumbers}
 use Rattle.pz_sim_totals.specs.devices.Levels.{pairs, AreLevels}
 use Rattle.pz_sim_totals.proofs.Cells.{over_levels, split_sum, split_set, one_set, on_err}
