@@ -190,11 +190,6 @@ fresh n lt =
     ∙ sym (raise (replicate n none) (omega (arith, long, lt)))
     ∙ ap (λ k. levels k (replicate n none)) long
 
-pub fresh_one : (n : ℕ) → n ≤ 1 → replicate n none ≡ levels n (replicate n none)
-fresh_one n le =
-    let long = length-replicate n none in
-    sym (flat (replicate n none) (omega (arith, long, le))) ∙ ap (λ k. levels k (replicate n none)) long
-
 -- what a call that may leave all as it was leaves
 module _ {T E : Type 0} (r : Result T E) (n : ℕ) (old new : List Total) (are : AreLevels n old) (i : ℕ) (t : Total) (ok : OnOk r (new ≡ levels n (set (take n old) i t))) where
   size : length (set (take n old) i t) ≡ n

@@ -58,11 +58,6 @@ module _ (ts : List Total) (h n k : ℕ) (pair : IsAction (pairs ts) k (record {
   pub is_right : (get_or ts (2 * h) none).summary.internal ≤ n → IsAction ts k (record { process = 2 * h + 1; number = n - (get_or ts (2 * h) none).summary.internal })
   is_right le = subst (λ i. (get_or ts i none).summary.internal ≤ n → IsAction ts k (record { process = i + 1; number = n - (get_or ts i none).summary.internal })) (twice_is h) right le
 
-pub alone : (ts : List Total) (k : ℕ) → length ts ≤ 1 → k < (all ts).summary.internal → IsAction ts k (record { process = 0; number = k })
-alone [] k le lt = absurd (omega (arith, lt))
-alone (t ∷ []) k le lt = record { process = omega arith; number = omega (arith, lt); before = omega arith }
-alone (s ∷ (t ∷ ts)) k le lt = absurd (omega (arith, le))
-
 -- A total in another's place, and its neighbour
 
 module _ (ts : List Total) (i : ℕ) (t : Total) (lt : i < length ts) where

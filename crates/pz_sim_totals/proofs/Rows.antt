@@ -20,10 +20,10 @@ together = refl
 
 -- the second of the first process, and the first behind those that have none
 last_of_first : IsAction (two ∷ none ∷ waits ∷ one ∷ []) 1 (record { process = 0; number = 1 })
-last_of_first = record { process = lit<; number = lit<; before = refl }
+last_of_first = record { process = lit< tt; number = lit< tt; before = refl }
 
 first_of_last : IsAction (two ∷ none ∷ waits ∷ one ∷ []) 2 (record { process = 3; number = 0 })
-first_of_last = record { process = lit<; number = lit<; before = refl }
+first_of_last = record { process = lit< tt; number = lit< tt; before = refl }
 
 -- three totals, the sums of two and of one, and the sum of all
 cells : levels 3 (two ∷ waits ∷ one ∷ []) ≡ two ∷ waits ∷ one ∷ all (two ∷ waits ∷ []) ∷ one ∷ all (two ∷ waits ∷ one ∷ []) ∷ []
