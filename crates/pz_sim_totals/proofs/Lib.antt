@@ -1,0 +1,4 @@
+mod Cells
+mod Finding
+mod Pairing
+mod Rows
