@@ -6,6 +6,10 @@ use Rattle.pz_offer.specs.declared.trouble.Trouble.{Trouble}
 use Rattle.pz_rules.specs.declared.action.Action.{Action}
 use Rattle.pz_rules.specs.declared.moment.Moment.{Moment}
 use Rattle.pz_rules.specs.declared.moment.Moment.TheVariants.{Actions, Time, Stopped, Broken}
+use Rattle.pz_rules.specs.Settings.{Setting}
+use Rattle.pz_rules.specs.Configurations.{Config}
+use Rattle.pz_rules.specs.Moments.{Candidate, faulty, acting, passing, finished, deadlock}
+use Rattle.pz_rules.specs.Runs.{whole, stopped}
 use Rattle.pz_trace.specs.Named.{IsNamed}
 use Rattle.pz_term.specs.Simulations.{Simulation, stands, broken, IsMomentOf, IsOffer, ClockIs, model_in, clock_in}
 use Rattle.pz_term.specs.Refusals.{NoTime}
@@ -27,6 +31,23 @@ actions_stopped h = cc
 
 actions_broken : {n : ℕ} → Actions n ≡ Broken → ⊥
 actions_broken h = cc
+
+-- nothing says `Broken` of a configuration
+said : {setting : Setting} {c : Config} {m : Moment} → Candidate setting c m → m ≡ Broken → ⊥
+said (faulty trouble least) is = cc
+said (acting actions all some) is = cc
+said (passing d least) is = cc
+said (finished all) is = cc
+said deadlock is = cc
+
+stopped_apart : {m : Moment} {t : Trouble} → m ≡ Stopped t → m ≡ Broken → ⊥
+stopped_apart is other = cc
+
+-- a simulator that is ready is not broken
+pub never_broken : (s : Simulation) (m : Moment) → IsReady s → IsMomentOf s m → m ≡ Broken → ⊥
+never_broken (stands setting c whole) m ready at is = said at.applies is
+never_broken (stands setting c (stopped trouble)) m ready at is = stopped_apart at is
+never_broken (broken setting) m ready at is = absurd ready
 
 pub no_time : OneMomentOf → (s : Simulation) (d : ℕ) (m : Moment) → IsMomentOf s (Time d) → IsMomentOf s m → NoTime m → ⊥
 no_time one s d m now other none = subst NoTime (one s m (Time d) other now) none

@@ -4,6 +4,7 @@ use Rattle.pz_rules.specs.ChosenRuns.{decided}
 use Rattle.pz_term.specs.Simulations.{IsMomentOf}
 use Rattle.pz_run_playing.specs.Policies.{policy_of}
 use Rattle.pz_term.specs.Simulations.{model_in, clock_in}
+use Rattle.pz_run_playing.proofs.Simulated.{never_broken}
 use Rattle.pz_run_playing.proofs.Steps.{ready_chosen, clock_chosen}
 use Rattle.pz_run_playing.proofs.Goings.{going_none, going_passed, going_cut, going_acted, acting_cut, going_ended}
 use Rattle.pz_run_playing.proofs.Written.{err_is}
@@ -16,6 +17,9 @@ actions-init g c = record {
   stands_at = λ r begun. begun;
   going = λ r begun. going_none c.rules_are_known.ensures (policy_of r c.args.limits) c.args.lines (g.S.Simulator.simulation c.args.sim.now) (g.W.Sink.state c.args.out.now) c.requires;
 }
+
+pub decide-requires-clause-known : goal.decide-requires-clause-known
+decide-requires-clause-known g c = never_broken (g.S.Simulator.simulation c.pass_time.new.sim) c.moment.result c.in_ok-passes.ensures.passing.ready c.moment.ensures
 
 pub returns-in_err-passes-clause-cut : goal.returns-in_err-passes-clause-cut
 returns-in_err-passes-clause-cut g c =
