@@ -1,0 +1,6 @@
+pub mod Feeding
+pub mod Latest
+pub mod Points
+pub mod Meanings
+pub mod Views
+mod Rows

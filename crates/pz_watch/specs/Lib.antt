@@ -1,0 +1,4 @@
+pub mod Points
+pub mod SpotView
+pub mod Formulas
+pub mod devices
