@@ -1,9 +1,9 @@
 -- What holds at some points and at each: the same for the same values, and the one by the other.
-use Rattle.std.proofs.Common.{◌≡◌, refl, ap, ◌∙◌, ℕ, zero, suc, ◌<◌, ◌≤◌, Bool, true, false, ◌&&◌, ◌||◌, not, List, [], ◌∷◌, ◌++◌, length, arith}
+use Rattle.std.proofs.Common.{◌≡◌, refl, sym, ap, ◌∙◌, append-nil, append_assoc, ℕ, zero, suc, ◌<◌, ◌≤◌, Bool, true, false, ◌&&◌, ◌||◌, not, List, [], ◌∷◌, ◌++◌, length, arith}
 use Rattle.pz_watch.specs.Points.{Point, clock_at}
 use Rattle.pz_watch.specs.Formulas.{Formula, line, negation, both, either, before, once, always, since, says_at, at_some, at_each, holds}
 use Rattle.std.specs.Prelude.{nat_le}
-use Rattle.pz_watch.proofs.Points.{get_left, clock_left}
+use Rattle.pz_watch.proofs.Points.{get_left, clock_left, length_added}
 
 pub and_true : (a : Bool) → a && true ≡ a
 and_true true = refl
@@ -88,3 +88,11 @@ stays (since b f g) ps x i h =
     let kept : at_each i (λ k. nat_le k j || holds f (ps ++ x ∷ []) k) ≡ at_each i (λ k. nat_le k j || holds f ps k) =
     each_same i _ _ (λ k at. ap (λ (v : Bool). nat_le k j || v) (stays f ps x k (omega arith))) in
     rw (now, then, met, kept) refl)
+
+-- .. and when any number of them is
+pub stays_all : (f : Formula) (ps more : List Point) (i : ℕ) → i < length ps → holds f (ps ++ more) i ≡ holds f ps i
+stays_all f ps [] i h = ap (λ (all : List Point). holds f all i) (append-nil ps)
+stays_all f ps (x ∷ more) i h =
+    ap (λ (all : List Point). holds f all i) (sym (append_assoc ps (x ∷ []) more))
+    ∙ stays_all f (ps ++ x ∷ []) more i (rw length_added (omega arith))
+    ∙ stays f ps x i h

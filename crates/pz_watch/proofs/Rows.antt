@@ -1,9 +1,18 @@
 -- Formulas worked out over small runs.
-use Rattle.std.proofs.Common.{◌≡◌, ℕ, zero, suc, List, [], ◌∷◌, true, false, Bool, None, Some, length, refl}
+use Rattle.std.proofs.Common.{◌≡◌, ℕ, zero, suc, List, [], ◌∷◌, true, false, Bool, None, Some, length, get_or, ◌+◌, ◌*◌, refl, sym, ap, arith}
 use Rattle.std.specs.Prelude.{codes}
+use Rattle.std.specs.Fmt.{decimal}
+use Rattle.std.specs.Str.Parse.{IsNumeral}
+use Rattle.std.specs.Int.{IsInRange}
+use Rattle.std.proofs.lemmas.Fmt.{decimal_digit, decimal_is_IsNumeral}
+use Rattle.std.proofs.lemmas.Str.Parse.{digit_at}
+use Rattle.std.proofs.lemmas.List.Elements.{All-cons, All-nil}
 use Rattle.pz_watch.specs.declared.atoms.Atom.TheVariants.{Message, From, To, Kind, At, Pass}
 use Rattle.pz_watch.specs.Points.{Point, passing, internal, communication}
-use Rattle.pz_watch.specs.Formulas.{Formula, line, negation, both, either, before, once, always, since, holds}
+use Rattle.pz_watch.specs.Formulas.{Bound, Formula, line, negation, both, either, before, once, always, since, holds}
+use Rattle.pz_watch.specs.Words.{words_of, bound_word, IsBound, CanBeWritten}
+use Rattle.pz_watch.specs.Files.{NamedFormula, watches_text, IsWatch, AreWatches, IsRefusedAt, empty}
+use Rattle.pz_watch.specs.Breaking.{broken_at, broken_lines, AreBroken}
 
 -- the values of a formula at the points of a run, in order
 abbrev first_values : ℕ → Formula → List Point → List Bool → List Bool
@@ -62,6 +71,81 @@ said_pass = refl
 
 or_else : values (either m pass) waiting ≡ true ∷ false ∷ true ∷ []
 or_else = refl
+
+-- the file of these two watches, and the lines behind each line of the trace
+abbrev watch_a : NamedFormula
+watch_a = record { name = codes "a"; formula = once None m }
+
+abbrev watch_b : NamedFormula
+watch_b = record { name = codes "b"; formula = negation (both m (negation (once (Some 2) pass))) }
+
+abbrev a_and_b : List NamedFormula
+a_and_b = watch_a ∷ watch_b ∷ []
+
+its_text : watches_text a_and_b ≡ codes "a : once * message m\nb : not and message m not once 2 pass\n"
+its_text = rw (decimal_digit 2 (omega arith)) refl
+
+m_is_written : CanBeWritten m
+m_is_written = record { some = λ (e : codes "m" ≡ []). cc; inside = refl }
+
+is_file : (I : List ℕ → Type 0) → I (codes "a") → I (codes "b") → AreWatches I (codes "a : once * message m\nb : not and message m not once 2 pass\n") a_and_b
+is_file I a b =
+    let first : IsWatch I watch_a =
+    record { named = a; written = (tt, m_is_written); few = omega arith } in
+    let second : IsWatch I watch_b =
+    record { named = b; written = (m_is_written, (omega arith, tt)); few = omega arith } in
+    record {
+      lines = sym its_text;
+      each = All-cons (IsWatch I) watch_a (watch_b ∷ []) first (All-cons (IsWatch I) watch_b [] second (All-nil (IsWatch I)));
+      some = λ (e : a_and_b ≡ []). cc;
+      few = omega arith;
+    }
+
+broken_first : broken_lines (broken_at a_and_b waiting 0) ≡ codes "broken a\n"
+broken_first = refl
+
+broken_next : broken_lines (broken_at a_and_b waiting 1) ≡ codes "broken a\n"
+broken_next = refl
+
+broken_last : broken_lines (broken_at a_and_b waiting 2) ≡ codes "broken b\n"
+broken_last = refl
+
+are_broken : AreBroken a_and_b waiting
+are_broken = record { at = 0; within = omega arith; broken = λ (e : broken_at a_and_b waiting 0 ≡ []). cc }
+
+-- a file with nothing in it is refused at its first line
+empty_file : (I : List ℕ → Type 0) → IsRefusedAt I [] 1
+empty_file I = empty refl
+
+-- `once` without a bound: these are the words of no formula
+start_of : List (List ℕ) → ℕ
+start_of ws = 256 * get_or (get_or ws 0 []) 0 0 + get_or (get_or ws 0 []) 1 0
+
+bound_of : List (List ℕ) → ℕ
+bound_of ws = get_or (get_or ws 1 []) 0 0
+
+no_message : (b : Bound) → IsBound b → get_or (bound_word b) 0 0 ≡ 109 → ⊥
+no_message None is e = omega (arith, e)
+no_message (Some n) is e =
+    let numeral : IsNumeral 10 (decimal n) = (decimal_is_IsNumeral n is).0 in
+    let digit : IsInRange 48 57 (get_or (decimal n) 0 0) = digit_at (decimal n) 0 numeral.1 numeral.0 in
+    omega (arith, digit, e)
+
+no_formula : (f : Formula) → CanBeWritten f → words_of f ≡ codes "once" ∷ codes "message" ∷ codes "m" ∷ [] → ⊥
+unfolding start_of bound_of
+no_formula (line (Message name)) is e = omega (arith, ap start_of e)
+no_formula (line (From path)) is e = omega (arith, ap start_of e)
+no_formula (line (To path)) is e = omega (arith, ap start_of e)
+no_formula (line (Kind word)) is e = omega (arith, ap start_of e)
+no_formula (line (At path)) is e = omega (arith, ap start_of e)
+no_formula (line Pass) is e = omega (arith, ap start_of e)
+no_formula (negation f) is e = omega (arith, ap start_of e)
+no_formula (both f g) is e = omega (arith, ap start_of e)
+no_formula (either f g) is e = omega (arith, ap start_of e)
+no_formula (before f) is e = omega (arith, ap start_of e)
+no_formula (once b f) is e = no_message b is.0 (ap bound_of e)
+no_formula (always b f) is e = omega (arith, ap start_of e)
+no_formula (since b f g) is e = omega (arith, ap start_of e)
 
 -- Equal clocks: time passes at 0 to 1, p skips twice at 1, time passes at 1 to 2, p skips at 2.
 abbrev level : List Point

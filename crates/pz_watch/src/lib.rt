@@ -2,6 +2,8 @@
 #![tactic(auto)]
 
 mod atoms;
+mod building;
+pub mod laws;
 mod monitor;
 mod spot;
 mod watch;

@@ -36,9 +36,9 @@ impl Monitor {
                 one && other
             }
             Monitor::Or(first, second) => {
-                let one = first.feed(spot);
-                let other = second.feed(spot);
-                one || other
+                let left = first.feed(spot);
+                let right = second.feed(spot);
+                left || right
             }
             Monitor::Before(was, part) => {
                 let now = part.feed(spot);

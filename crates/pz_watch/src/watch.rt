@@ -2,9 +2,7 @@ ghost use Rattle.std.specs.Prelude.{◌≡◌, List, [], ◌∷◌, ◌++◌, le
 ghost use Rattle.pz_watch.specs.Points.{Point, AreInOrder};
 ghost use Rattle.pz_watch.specs.SpotView.{point_of};
 ghost use Rattle.pz_watch.specs.Formulas.{Formula, holds};
-ghost use Rattle.pz_watch.specs.devices.Memory.{behind};
-ghost use Rattle.pz_watch.specs.devices.MonitorView.{memory_of};
-ghost use Rattle.pz_watch.specs.devices.Standing.{StandsFor, name_in};
+ghost use Rattle.pz_watch.specs.devices.Standing.{IsFresh, StandsFor, name_in};
 
 use crate::{Monitor, Spot};
 use pz_items::Text;
@@ -20,7 +18,7 @@ pub struct Watch {
 impl Watch {
     /// A watch of this name, before the first point.
     pub fn new(name: Text, monitor: Monitor) -> Watch
-        ensures stands { (f : Formula) → memory_of monitor ≡ behind f [] → StandsFor result f [] }
+        ensures stands { (f : Formula) → IsFresh monitor f → StandsFor result f [] }
         ensures name { name_in result ≡ name }
     {
         Watch { name, monitor }

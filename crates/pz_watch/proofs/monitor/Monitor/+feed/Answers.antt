@@ -26,25 +26,25 @@ returns-else-one-clause-later t c =
     c.deref_mut-in-And-2.ensures.value
     c.feed-other.ensures.later
 
-pub returns-then-one-2-clause-later : goal.returns-then-one-2-clause-later
-returns-then-one-2-clause-later t c =
+pub returns-then-left-clause-later : goal.returns-then-left-clause-later
+returns-then-left-clause-later t c =
     or_fed
     _ _ _ _ _ _ _ _
     c.in-Or.is
     c.deref_mut-in-Or.ensures.value
-    c.feed-one-in-Or.ensures.later
+    c.feed-left.ensures.later
     c.deref_mut-in-Or-2.ensures.value
-    c.feed-other-in-Or.ensures.later
+    c.feed-right.ensures.later
 
-pub returns-else-one-2-clause-later : goal.returns-else-one-2-clause-later
-returns-else-one-2-clause-later t c =
+pub returns-else-left-clause-later : goal.returns-else-left-clause-later
+returns-else-left-clause-later t c =
     or_fed
     _ _ _ _ _ _ _ _
     c.in-Or.is
     c.deref_mut-in-Or.ensures.value
-    c.feed-one-in-Or.ensures.later
+    c.feed-left.ensures.later
     c.deref_mut-in-Or-2.ensures.value
-    c.feed-other-in-Or.ensures.later
+    c.feed-right.ensures.later
 
 pub returns-in-Before-clause-later : goal.returns-in-Before-clause-later
 returns-in-Before-clause-later t c =

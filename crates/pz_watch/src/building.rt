@@ -1,0 +1,92 @@
+// Monitors before the first point, from those of their parts. The only error of each is want of
+// memory; then the parts are gone.
+
+ghost use Rattle.std.specs.Prelude.{◌≡◌, IfOk};
+ghost use Rattle.pz_watch.specs.Formulas.{Formula, line, negation, both, either, before, once, always, since};
+ghost use Rattle.pz_watch.specs.devices.Standing.{IsFresh};
+
+use crate::{Atom, Monitor, Window};
+use std::alloc::{AllocError, Global};
+
+impl Window {
+    /// A window at which no point counts yet.
+    pub fn new(bound: Option<u64>) -> Window
+        ensures bound { result.bound ≡ bound }
+        ensures latest { result.latest ≡ None }
+    {
+        Window {
+            bound,
+            latest: None,
+        }
+    }
+}
+
+impl Monitor {
+    /// What is said of a line.
+    pub fn line(atom: Atom) -> Monitor
+        ensures { IsFresh result (line atom) }
+    {
+        Monitor::Atom(atom)
+    }
+
+    /// That the part does not hold.
+    pub fn negation(alloc: Global, part: Monitor) -> Result<Monitor, AllocError>
+        ensures { (f : Formula) → IsFresh part f → IfOk result (λ m. IsFresh m (negation f)) }
+    {
+        Ok(Monitor::Not(Box::new(alloc, part)?))
+    }
+
+    /// That both parts hold.
+    pub fn both(alloc: Global, first: Monitor, second: Monitor) -> Result<Monitor, AllocError>
+        ensures { (f g : Formula) → IsFresh first f → IsFresh second g → IfOk result (λ m. IsFresh m (both f g)) }
+    {
+        let second = Box::new(alloc, second)?;
+        let first = Box::new(alloc, first)?;
+        Ok(Monitor::And(first, second))
+    }
+
+    /// That a part holds, or both.
+    pub fn either(alloc: Global, first: Monitor, second: Monitor) -> Result<Monitor, AllocError>
+        ensures { (f g : Formula) → IsFresh first f → IsFresh second g → IfOk result (λ m. IsFresh m (either f g)) }
+    {
+        let second = Box::new(alloc, second)?;
+        let first = Box::new(alloc, first)?;
+        Ok(Monitor::Or(first, second))
+    }
+
+    /// That the part held at the point before. There is none before the first.
+    pub fn before(alloc: Global, part: Monitor) -> Result<Monitor, AllocError>
+        ensures { (f : Formula) → IsFresh part f → IfOk result (λ m. IsFresh m (before f)) }
+    {
+        Ok(Monitor::Before(false, Box::new(alloc, part)?))
+    }
+
+    /// That the part held at some point that is near enough, this one among them.
+    pub fn once(alloc: Global, bound: Option<u64>, part: Monitor) -> Result<Monitor, AllocError>
+        ensures { (f : Formula) → IsFresh part f → IfOk result (λ m. IsFresh m (once bound f)) }
+    {
+        Ok(Monitor::Once(Window::new(bound), Box::new(alloc, part)?))
+    }
+
+    /// That the part held at all points that are near enough, this one among them.
+    pub fn always(alloc: Global, bound: Option<u64>, part: Monitor) -> Result<Monitor, AllocError>
+        ensures { (f : Formula) → IsFresh part f → IfOk result (λ m. IsFresh m (always bound f)) }
+    {
+        Ok(Monitor::Always(Window::new(bound), Box::new(alloc, part)?))
+    }
+
+    /// That `met` held at some point that is near enough, this one among them, and `kept` at all
+    /// points behind that one.
+    pub fn since(
+        alloc: Global,
+        bound: Option<u64>,
+        kept: Monitor,
+        met: Monitor,
+    ) -> Result<Monitor, AllocError>
+        ensures { (f g : Formula) → IsFresh kept f → IsFresh met g → IfOk result (λ m. IsFresh m (since bound f g)) }
+    {
+        let met = Box::new(alloc, met)?;
+        let kept = Box::new(alloc, kept)?;
+        Ok(Monitor::Since(Window::new(bound), kept, met))
+    }
+}
