@@ -3,4 +3,5 @@ pub mod Latest
 pub mod Points
 pub mod Meanings
 pub mod Views
+pub mod Reading
 mod Rows

@@ -1,9 +1,14 @@
-// Laws of what holds at a point, the contract of a function that does nothing.
+// Laws of what holds at a point and of the words of formulas, the contracts of functions that do nothing.
 
-ghost use Rattle.pz_watch.specs.Laws.{MeaningStays};
+ghost use Rattle.pz_watch.specs.Laws.{MeaningStays, HasOneReading};
 
 /// What a formula says at a point of a run is the same however the run goes on. So what is answered at
 /// a line is what the whole trace up to that line, or a longer one, makes of it.
 pub fn meaning_stays()
     ensures { MeaningStays }
+{}
+
+/// No words are of two formulas, and the words of no formula are the front of those of another.
+pub fn words_are_of_one_formula()
+    ensures { HasOneReading }
 {}
