@@ -7,7 +7,7 @@ use Rattle.std.proofs.lemmas.Bool.{and_parts, and_from, or_right, cond_both, con
 use Rattle.std.proofs.lemmas.Fmt.{decimal_injective}
 use Rattle.std.proofs.lemmas.Slice.Eq.{bytes_eq-Decides}
 use Rattle.pz_syntax.specs.declared.tokens.TokenKind.{TokenKind}
-use Rattle.pz_lexer.specs.declared.pieces.Sort.{Sort}
+use Rattle.pz_lexer.specs.declared.sorts.Sort.{Sort}
 use Rattle.pz_lexer.specs.Bytes.{is_digit, is_word, begins}
 use Rattle.pz_lexer.specs.Pieces.{IsPiece, a_word}
 use Rattle.pz_lexer.specs.Spellings.{spelled}

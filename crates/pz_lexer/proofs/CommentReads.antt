@@ -3,10 +3,10 @@ use Rattle.std.proofs.Common.{◌≡◌, ℕ, ◌+◌, ◌≤◌, ◌<◌, List,
 use Rattle.std.specs.Prelude.{◌==◌}
 use Rattle.std.proofs.lemmas.List.{drop_more}
 use Rattle.std.proofs.lemmas.Bool.{and_right, or_from}
-use Rattle.pz_lexer.specs.declared.pieces.Sort.{Sort}
-use Rattle.pz_lexer.specs.declared.pieces.Reason.{Reason}
-use Rattle.pz_lexer.specs.declared.pieces.Found.{Found}
-use Rattle.pz_lexer.specs.declared.pieces.Stop.{Stop}
+use Rattle.pz_lexer.specs.declared.sorts.Sort.{Sort}
+use Rattle.pz_lexer.specs.declared.sorts.Reason.{Reason}
+use Rattle.pz_lexer.specs.declared.sorts.Found.{Found}
+use Rattle.pz_lexer.specs.declared.sorts.Stop.{Stop}
 use Rattle.pz_lexer.specs.Bytes.{begins}
 use Rattle.pz_lexer.specs.Comments.{begins_pair, is_in_line}
 use Rattle.pz_lexer.specs.devices.Reading.{Reads}

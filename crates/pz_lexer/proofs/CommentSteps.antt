@@ -3,9 +3,9 @@ use Rattle.std.proofs.Common.{◌≡◌, ℕ, List, [], ◌∷◌, ◌++◌, Boo
 use Rattle.std.specs.Prelude.{drop}
 use Rattle.std.proofs.lemmas.Bool.{false≢true, or_parts, or_from, and_parts, eqb-true}
 use Rattle.pz_lexer.specs.Comments.{begins_pair, has_pair, is_in_line, IsLineComment, IsBlockComment}
-use Rattle.pz_lexer.specs.declared.pieces.Sort.{Sort}
+use Rattle.pz_lexer.specs.declared.sorts.Sort.{Sort}
 use Rattle.pz_lexer.specs.Pieces.{a_line_comment, a_block_comment}
-use Rattle.pz_lexer.specs.declared.pieces.Reason.{Reason}
+use Rattle.pz_lexer.specs.declared.sorts.Reason.{Reason}
 use Rattle.pz_lexer.specs.Refusals.{comment}
 use Rattle.pz_lexer.specs.devices.Step.{piece, stop, front}
 use Rattle.pz_lexer.specs.devices.CommentStep.{Closed, closed, open_end, longer, close_of, block_by, block_step, line_step}

@@ -2,14 +2,16 @@
 use Rattle.std.proofs.Common.{◌≡◌, ◌⊎◌, inl, inr, ℕ, ◌≤◌, List, [], ◌∷◌, ◌++◌, length, Result, Ok, Err, refl, sym, ◌∙◌, ap, subst, append_assoc, arith, length-append}
 use Rattle.pz_syntax.specs.declared.tokens.Token.{Token}
 use Rattle.pz_lexer.specs.declared.error.LexError.{LexError}
-use Rattle.pz_lexer.specs.declared.pieces.Sort.{Sort}
+use Rattle.pz_lexer.specs.declared.sorts.Sort.{Sort}
 use Rattle.pz_lexer.specs.Pieces.{IsPiece, Piece, joined, ArePieces}
 use Rattle.std.proofs.lemmas.List.{append-nil}
-use Rattle.pz_lexer.specs.declared.pieces.Reason.{Reason}
+use Rattle.pz_lexer.specs.declared.sorts.Reason.{Reason}
 use Rattle.pz_lexer.specs.Refusals.{Stops, no_token, no_escape_in_string, no_escape_in_character, comment, string, number}
 use Rattle.pz_lexer.specs.Tokens.{AreTokens, IsRefused, Answers}
 use Rattle.pz_lexer.specs.devices.Step.{Step, piece, stop}
-use Rattle.pz_lexer.specs.devices.Twin.{first_step, Cut, whole, broken, more_cut, cut_by, cut_of, answer_of, lexed}
+use Rattle.pz_lexer.specs.devices.Twin.{first_step, Cut, whole, broken, more_cut, cut_by, cut_of, answer_of, lexed, pieces_of, pieced, AnswersKept}
+use Rattle.pz_lexer.specs.declared.kept.Piece.{Piece as Kept}
+use Rattle.pz_lexer.specs.Kept.{AreKept}
 use Rattle.pz_lexer.proofs.Steps.{HasByte, some_length, IsRight}
 use Rattle.pz_lexer.proofs.FirstStep.{piece_found, stop_found, step_right}
 
@@ -168,6 +170,49 @@ answers_refusal text error (inl none) = rw none tt
 answers_refusal text error (inr is) = by error (refusal_lexed text error is)
   where
     by : (error : LexError) → lexed text ≡ Err error → Answers (Err error) (lexed text)
+    by LexError.NoMemory e = tt
+    by (LexError.BadByte pos) e = e
+    by (LexError.OpenComment pos) e = e
+    by (LexError.OpenString pos) e = e
+    by (LexError.BadNumber pos) e = e
+
+-- The tokens and comments.
+
+pub kept_pieced : (text : List ℕ) (kept : List Kept) → AreKept text kept → pieced text ≡ Ok kept
+kept_pieced text kept are = ap pieces_of (whole_found text are.pieces are.spelling are.cut) ∙ ap Ok are.kept_are
+
+refusal_pieced : (text : List ℕ) (refusal : LexError) → IsRefused text refusal → pieced text ≡ Err refusal
+refusal_pieced text refusal is =
+    ap pieces_of (broken_found text is.pieces is.before is.rest is.reason is.spelling is.cut is.stops) ∙ ap Err is.error
+
+abbrev KeptIs : List ℕ → Result (List Kept) LexError → Type 0
+KeptIs text (Ok kept) = AreKept text kept
+KeptIs text (Err refusal) = Unit {0}
+
+pieced_is : (text : List ℕ) → KeptIs text (pieced text)
+pieced_is text = by (cut_of text text) (cut_is text text (omega arith))
+  where
+    by : (cut : Cut) → CutIs text cut → KeptIs text (pieces_of cut)
+    by (whole ps) is = record { pieces = ps; spelling = is.0; cut = is.1; kept_are = refl }
+    by (broken ps before rest reason) is = tt
+
+pub kept_from_pieced : (text : List ℕ) (kept : List Kept) → pieced text ≡ Ok kept → AreKept text kept
+kept_from_pieced text kept is = subst (KeptIs text) is (pieced_is text)
+
+pub one_cut : (text : List ℕ) (a b : List Kept) → AreKept text a → AreKept text b → a ≡ b
+one_cut text a b is same =
+    let first = kept_pieced text a is in
+    let second = kept_pieced text b same in
+    cc
+
+pub answers_kept : (text : List ℕ) (kept : List Kept) → AreKept text kept → AnswersKept (Ok kept) (pieced text)
+answers_kept text kept are = kept_pieced text kept are
+
+pub refuses_kept : (text : List ℕ) (error : LexError) → (error ≡ LexError.NoMemory) ⊎ IsRefused text error → AnswersKept (Err error) (pieced text)
+refuses_kept text error (inl none) = rw none tt
+refuses_kept text error (inr is) = by error (refusal_pieced text error is)
+  where
+    by : (error : LexError) → pieced text ≡ Err error → AnswersKept (Err error) (pieced text)
     by LexError.NoMemory e = tt
     by (LexError.BadByte pos) e = e
     by (LexError.OpenComment pos) e = e

@@ -4,9 +4,9 @@ use Rattle.std.specs.Prelude.{◌==◌, drop}
 use Rattle.std.proofs.lemmas.Bool.{false≢true, eqb-true, or_from}
 use Rattle.pz_lexer.specs.Bytes.{begins}
 use Rattle.pz_lexer.specs.Comments.{begins_comment}
-use Rattle.pz_lexer.specs.declared.pieces.Sort.{Sort}
+use Rattle.pz_lexer.specs.declared.sorts.Sort.{Sort}
 use Rattle.pz_lexer.specs.Pieces.{IsPiece, a_blank, a_line_comment, a_block_comment, a_word, an_integer, a_float, a_character, a_string, a_symbol}
-use Rattle.pz_lexer.specs.declared.pieces.Reason.{Reason}
+use Rattle.pz_lexer.specs.declared.sorts.Reason.{Reason}
 use Rattle.pz_lexer.specs.Refusals.{Stops, no_token, no_escape_in_string, no_escape_in_character, comment, string, number}
 use Rattle.pz_lexer.specs.devices.Step.{piece, stop}
 use Rattle.pz_lexer.specs.devices.CommentStep.{slash_step, slash_by}

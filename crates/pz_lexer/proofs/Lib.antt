@@ -21,4 +21,5 @@ pub mod FirstReads
 pub mod HeadSteps
 pub mod HeadMarks
 pub mod CutReads
+pub mod Trimming
 mod Rows

@@ -6,9 +6,9 @@ use Rattle.std.proofs.lemmas.Bool.Decides.{nat_tests}
 use Rattle.pz_syntax.specs.declared.tokens.TokenKind.{TokenKind}
 use Rattle.pz_lexer.specs.Bytes.{is_digit, is_letter, is_word, begins}
 use Rattle.pz_lexer.specs.Numbers.{AreDigits, value_of, begins_fraction, IsInteger, IsFloat}
-use Rattle.pz_lexer.specs.declared.pieces.Sort.{Sort}
+use Rattle.pz_lexer.specs.declared.sorts.Sort.{Sort}
 use Rattle.pz_lexer.specs.Pieces.{an_integer, a_float}
-use Rattle.pz_lexer.specs.declared.pieces.Reason.{Reason}
+use Rattle.pz_lexer.specs.declared.sorts.Reason.{Reason}
 use Rattle.pz_lexer.specs.Refusals.{IsBadNumber, too_large, lettered, lettered_float, number}
 use Rattle.pz_lexer.specs.devices.Step.{piece, stop, front, back}
 use Rattle.pz_lexer.specs.devices.NumberStep.{number_by, integer_step, float_step, digits_by, digits_step, number_step}

@@ -4,10 +4,10 @@ use Rattle.std.specs.Prelude.{◌==◌}
 use Rattle.std.proofs.lemmas.List.{take_at, drop_at, length-take-le, drop-drop, append-nil, take-append-drop}
 use Rattle.pz_syntax.specs.declared.tokens.TokenKind.{TokenKind}
 use Rattle.pz_lexer.specs.declared.items.Inside.{Inside as Seen}
-use Rattle.pz_lexer.specs.declared.pieces.Sort.{Sort}
-use Rattle.pz_lexer.specs.declared.pieces.Reason.{Reason}
-use Rattle.pz_lexer.specs.declared.pieces.Found.{Found}
-use Rattle.pz_lexer.specs.declared.pieces.Stop.{Stop}
+use Rattle.pz_lexer.specs.declared.sorts.Sort.{Sort}
+use Rattle.pz_lexer.specs.declared.sorts.Reason.{Reason}
+use Rattle.pz_lexer.specs.declared.sorts.Found.{Found}
+use Rattle.pz_lexer.specs.declared.sorts.Stop.{Stop}
 use Rattle.pz_lexer.specs.Bytes.{begins}
 use Rattle.pz_lexer.specs.Quoted.{IsItem, AreItems, none, more}
 use Rattle.pz_lexer.specs.Pieces.{a_string}

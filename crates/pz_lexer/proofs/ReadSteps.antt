@@ -1,10 +1,10 @@
 -- What a function of the code reads, against the step that the text begins with.
 use Rattle.std.proofs.Common.{◌≡◌, ℕ, List, length, take, drop, Result, Ok, Err, sym, ◌∙◌, ap, subst, arith, length-append}
 use Rattle.std.proofs.lemmas.List.{take_at, drop_at}
-use Rattle.pz_lexer.specs.declared.pieces.Sort.{Sort}
-use Rattle.pz_lexer.specs.declared.pieces.Reason.{Reason}
-use Rattle.pz_lexer.specs.declared.pieces.Found.{Found}
-use Rattle.pz_lexer.specs.declared.pieces.Stop.{Stop}
+use Rattle.pz_lexer.specs.declared.sorts.Sort.{Sort}
+use Rattle.pz_lexer.specs.declared.sorts.Reason.{Reason}
+use Rattle.pz_lexer.specs.declared.sorts.Found.{Found}
+use Rattle.pz_lexer.specs.declared.sorts.Stop.{Stop}
 use Rattle.pz_lexer.specs.Pieces.{IsPiece}
 use Rattle.pz_lexer.specs.Refusals.{Stops}
 use Rattle.pz_lexer.specs.devices.Reading.{StopsAt, IsFound, Reads}

@@ -8,7 +8,8 @@ use Rattle.pz_syntax.specs.declared.tokens.Keyword.{Keyword}
 use Rattle.pz_syntax.specs.declared.tokens.Symbol.{Symbol}
 use Rattle.pz_syntax.specs.declared.tokens.Pos.{Pos}
 use Rattle.pz_lexer.specs.declared.error.LexError.{LexError}
-use Rattle.pz_lexer.specs.devices.Twin.{lexed}
+use Rattle.pz_lexer.specs.declared.kept.Piece.{Piece as Kept}
+use Rattle.pz_lexer.specs.devices.Twin.{lexed, pieced}
 
 abbrev place : ℕ → ℕ → Pos
 place line column = record { line = line; column = column }
@@ -219,3 +220,18 @@ without_match = refl
 
 closed_too_often : heads_in (codes "x)a()(") ≡ Some (false ∷ false ∷ true ∷ false ∷ false ∷ false ∷ [])
 closed_too_often = refl
+
+-- Tokens and comments.
+
+comments_kept : pieced (codes "a // b \t\r\n/* c \n */ d") ≡ Ok (Kept.Token (plain 1 1 (Ident (codes "a"))) ∷ Kept.Line (codes "// b") ∷ Kept.Block (codes "/* c \n */") ∷ Kept.Token (plain 3 5 (Ident (codes "d"))) ∷ [])
+comments_kept = refl
+
+empty_comments : pieced (codes "//\n/**/// \r") ≡ Ok (Kept.Line (codes "//") ∷ Kept.Block (codes "/**/") ∷ Kept.Line (codes "//") ∷ [])
+empty_comments = refl
+
+-- a comment parts no head from what makes it one
+head_past_comments : pieced (codes "p /**/ : //\nP") ≡ Ok (Kept.Token (record { mark = record { kind = Ident (codes "p"); head = true }; pos = place 1 1 }) ∷ Kept.Block (codes "/**/") ∷ Kept.Token (plain 1 8 (Sym Symbol.Colon)) ∷ Kept.Line (codes "//") ∷ Kept.Token (plain 2 1 (Ident (codes "P"))) ∷ [])
+head_past_comments = refl
+
+comment_refused : pieced (codes "a // b\n/* c") ≡ Err (LexError.OpenComment (place 2 1))
+comment_refused = refl

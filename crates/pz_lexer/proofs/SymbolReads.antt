@@ -2,11 +2,11 @@
 use Rattle.std.proofs.Common.{◌≡◌, ℕ, List, [], length, take, Option, Some, None, Result, Ok, Err, refl, sym, ◌∙◌, ap}
 use Rattle.std.specs.Prelude.{option_map, min}
 use Rattle.std.specs.Option.{ok_or}
-use Rattle.pz_lexer.specs.declared.pieces.Reason.{Reason}
+use Rattle.pz_lexer.specs.declared.sorts.Reason.{Reason}
 use Rattle.std.proofs.lemmas.List.{take_min, length-take}
 use Rattle.pz_syntax.specs.declared.tokens.Symbol.{Symbol}
-use Rattle.pz_lexer.specs.declared.pieces.Found.{Found}
-use Rattle.pz_lexer.specs.declared.pieces.Stop.{Stop}
+use Rattle.pz_lexer.specs.declared.sorts.Found.{Found}
+use Rattle.pz_lexer.specs.declared.sorts.Stop.{Stop}
 use Rattle.pz_lexer.specs.Spellings.{spelled}
 use Rattle.pz_lexer.specs.devices.Step.{Step, stop}
 use Rattle.pz_lexer.specs.devices.SymbolStep.{symbol_by}

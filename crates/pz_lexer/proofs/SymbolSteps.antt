@@ -11,9 +11,9 @@ use Rattle.pz_lexer.specs.Bytes.{begins, is_blank, is_word, is_letter, is_digit}
 use Rattle.pz_lexer.specs.Spellings.{spelled}
 use Rattle.pz_lexer.specs.Comments.{begins_comment}
 use Rattle.pz_lexer.specs.Symbols.{symbols, IsSymbol}
-use Rattle.pz_lexer.specs.declared.pieces.Sort.{Sort}
+use Rattle.pz_lexer.specs.declared.sorts.Sort.{Sort}
 use Rattle.pz_lexer.specs.Pieces.{a_symbol}
-use Rattle.pz_lexer.specs.declared.pieces.Reason.{Reason}
+use Rattle.pz_lexer.specs.declared.sorts.Reason.{Reason}
 use Rattle.pz_lexer.specs.Refusals.{begins_piece, no_token}
 use Rattle.pz_lexer.specs.devices.Step.{Step, piece, stop}
 use Rattle.pz_lexer.specs.devices.SymbolStep.{symbol_by, symbol_at, symbol_step}

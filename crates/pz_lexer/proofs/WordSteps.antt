@@ -3,7 +3,7 @@ use Rattle.std.proofs.Common.{◌≡◌, ℕ, List, [], ◌∷◌, ◌++◌, tru
 use Rattle.std.proofs.lemmas.Bool.{false≢true, or_left}
 use Rattle.pz_lexer.specs.Bytes.{is_letter, is_word, begins}
 use Rattle.pz_lexer.specs.Words.{IsWord, word_kind}
-use Rattle.pz_lexer.specs.declared.pieces.Sort.{Sort}
+use Rattle.pz_lexer.specs.declared.sorts.Sort.{Sort}
 use Rattle.pz_lexer.specs.Pieces.{a_word}
 use Rattle.pz_lexer.specs.devices.Step.{piece}
 use Rattle.pz_lexer.specs.devices.Twin.{first_step, word_step, step_by}

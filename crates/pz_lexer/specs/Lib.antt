@@ -9,4 +9,5 @@ pub mod Pieces
 pub mod Refusals
 pub mod Places
 pub mod Tokens
+pub mod Kept
 pub mod devices

@@ -2,7 +2,7 @@
 use Rattle.std.specs.Prelude.{◌≡◌, ℕ, List, [], ◌∷◌, ◌++◌, true, pos}
 use Rattle.pz_syntax.specs.declared.tokens.Symbol.{Symbol}
 use Rattle.pz_syntax.specs.declared.tokens.TokenKind.{TokenKind}
-use Rattle.pz_lexer.specs.declared.pieces.Sort.{Sort}
+use Rattle.pz_lexer.specs.declared.sorts.Sort.{Sort}
 use Rattle.pz_lexer.specs.Bytes.{is_blank}
 use Rattle.pz_lexer.specs.Words.{IsWord, word_kind}
 use Rattle.pz_lexer.specs.Numbers.{IsInteger, IsFloat}

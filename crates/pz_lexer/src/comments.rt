@@ -5,7 +5,7 @@ ghost use Rattle.pz_lexer.specs.Comments.{begins_pair};
 ghost use Rattle.pz_lexer.specs.devices.Reading.{Reads};
 
 use crate::bytes::{begins_byte, line_len};
-use crate::pieces::{Found, Reason, Sort, Stop};
+use crate::sorts::{Found, Reason, Sort, Stop};
 use crate::symbols::symbol;
 
 /// The comment that a `/` begins, or the symbol.

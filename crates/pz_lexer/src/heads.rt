@@ -1,8 +1,9 @@
 ghost use Rattle.std.specs.Prelude.{◌≡◌, OnOk, []};
 ghost use Rattle.pz_syntax.specs.Heads.{role};
-ghost use Rattle.pz_lexer.specs.devices.Marking.{role_of, Follows, Judges, TakesIn, with_heads, heads_of};
+ghost use Rattle.pz_lexer.specs.devices.Marking.{role_of, Follows, Judges, TakesIn, Marks, with_heads};
 
-use pz_syntax::{Keyword, Symbol, Token, TokenKind};
+use crate::kept::Piece;
+use pz_syntax::{Keyword, Symbol, TokenKind};
 use std::alloc::{AllocError, Global};
 
 /// What a token is to the rule for heads.
@@ -86,20 +87,30 @@ impl Following {
         }
         Ok(())
     }
+
+    /// Marks the piece before them where it is a head, and takes it in. Comments are passed over.
+    fn mark(&mut self, piece: &mut Piece) -> Result<(), AllocError>
+        ensures { OnOk result (Marks self.old self.new piece.old piece.new) }
+    {
+        if let Piece::Token(token) = piece {
+            let role = role_of_kind(&token.mark.kind);
+            token.mark.head = self.is_head(role);
+            self.put_before(role)?;
+        }
+        Ok(())
+    }
 }
 
-/// Marks the tokens that are heads, and no others. The pass is from the last token to the first,
-/// so that what follows a token is known when it is met.
-pub fn mark_heads(alloc: Global, tokens: &mut [Token]) -> Result<(), AllocError>
-    ensures { OnOk result (tokens.new ≡ with_heads tokens.old (heads_of tokens.old)) }
+/// Marks the tokens that are heads, and no others. The pass is from the last piece to the first, so
+/// that what follows a token is known when it is met.
+pub fn mark_heads(alloc: Global, pieces: &mut [Piece]) -> Result<(), AllocError>
+    ensures { OnOk result (pieces.new ≡ with_heads pieces.old) }
 {
     let mut following = Following::nothing(alloc);
-    let mut left = tokens.len();
-    'tokens: while left > 0 {
+    let mut left = pieces.len();
+    'pieces: while left > 0 {
         left -= 1;
-        let role = role_of_kind(&tokens[left].mark.kind);
-        tokens[left].mark.head = following.is_head(role);
-        following.put_before(role)?;
+        following.mark(&mut pieces[left])?;
     }
     Ok(())
 }

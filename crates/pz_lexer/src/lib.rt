@@ -1,4 +1,4 @@
-//! The tokens of a text.
+//! The tokens and comments of a text.
 #![tactic(auto)]
 
 mod bytes;
@@ -6,16 +6,18 @@ mod comments;
 mod error;
 mod heads;
 mod items;
+mod kept;
 mod lexer;
 mod numbers;
-mod pieces;
 mod places;
 mod quoted;
 mod read;
+mod sorts;
 mod spellings;
 mod symbols;
 mod words;
 
 pub use error::LexError;
-pub use lexer::{lex, one_answer};
+pub use kept::Piece;
+pub use lexer::{lex, one_answer, pieces};
 pub use places::end_of;

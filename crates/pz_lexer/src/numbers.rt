@@ -7,7 +7,7 @@ ghost use Rattle.pz_lexer.specs.devices.NumberStep.{integer_step, float_step};
 ghost use Rattle.pz_lexer.specs.devices.Gives.{Gives};
 
 use crate::bytes::{begins_digit, begins_letter, digits_len};
-use crate::pieces::{Found, Reason, Sort, Stop};
+use crate::sorts::{Found, Reason, Sort, Stop};
 use pz_syntax::TokenKind;
 
 /// The number that a digit begins.

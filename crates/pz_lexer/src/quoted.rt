@@ -5,7 +5,7 @@ ghost use Rattle.pz_lexer.specs.devices.Reading.{Reads};
 
 use crate::bytes::begins_byte;
 use crate::items::{Inside, inside_at};
-use crate::pieces::{Found, Reason, Sort, Stop};
+use crate::sorts::{Found, Reason, Sort, Stop};
 use pz_syntax::{Text, TokenKind};
 use std::alloc::Global;
 

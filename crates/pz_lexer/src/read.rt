@@ -1,7 +1,7 @@
 ghost use Rattle.std.specs.Prelude.{◌<◌, length};
 ghost use Rattle.pz_lexer.specs.devices.Reading.{Reads};
 
-use crate::pieces::{Found, Sort, Stop};
+use crate::sorts::{Found, Sort, Stop};
 use crate::{bytes, comments, numbers, quoted, symbols, words};
 use std::alloc::Global;
 

@@ -4,7 +4,7 @@ ghost use Rattle.pz_lexer.specs.Symbols.{symbols};
 ghost use Rattle.pz_lexer.specs.devices.SymbolStep.{symbol_step};
 ghost use Rattle.pz_lexer.specs.devices.Gives.{Gives, found_symbol};
 
-use crate::pieces::{Found, Reason, Sort, Stop};
+use crate::sorts::{Found, Reason, Sort, Stop};
 use crate::spellings::find;
 use pz_syntax::{Symbol, TokenKind};
 

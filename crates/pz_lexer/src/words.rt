@@ -6,7 +6,7 @@ ghost use Rattle.pz_lexer.specs.Words.{keywords, word_kind};
 ghost use Rattle.pz_lexer.specs.devices.Reading.{Reads};
 
 use crate::bytes::word_len;
-use crate::pieces::{Found, Sort, Stop};
+use crate::sorts::{Found, Sort, Stop};
 use crate::spellings::find;
 use pz_syntax::{Keyword, Name, TokenKind};
 use std::alloc::{AllocError, Global};

@@ -8,8 +8,8 @@ use Rattle.pz_syntax.specs.ModelForm.{IsNonempty}
 use Rattle.pz_syntax.specs.ModelText.{decl_text}
 use Rattle.pz_parser_cursor.specs.devices.Input.{marks}
 use Rattle.pz_lexer.specs.declared.error.LexError.TheVariants as lex
-use Rattle.pz_lexer.specs.declared.pieces.Reason.TheVariants as reason
-use Rattle.pz_lexer.specs.declared.pieces.Sort.TheVariants as sort
+use Rattle.pz_lexer.specs.declared.sorts.Reason.TheVariants as reason
+use Rattle.pz_lexer.specs.declared.sorts.Sort.TheVariants as sort
 use Rattle.pz_lexer.specs.Pieces.{a_blank}
 use Rattle.pz_lexer.specs.Places.{origin}
 use Rattle.pz_lexer.specs.Refusals.{no_token}

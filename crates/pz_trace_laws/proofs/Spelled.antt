@@ -12,8 +12,8 @@ use Rattle.pz_syntax.specs.declared.tokens.Token.{Token}
 use Rattle.pz_syntax.specs.ModelForm.{Each}
 use Rattle.pz_syntax.specs.Heads.{heads}
 use Rattle.pz_parser_cursor.specs.devices.Input.{marks}
-use Rattle.pz_lexer.specs.declared.pieces.Sort.{Sort}
-use Rattle.pz_lexer.specs.declared.pieces.Sort.TheVariants as sort
+use Rattle.pz_lexer.specs.declared.sorts.Sort.{Sort}
+use Rattle.pz_lexer.specs.declared.sorts.Sort.TheVariants as sort
 use Rattle.pz_lexer.specs.Bytes.{is_word}
 use Rattle.pz_lexer.specs.Spellings.{spelled}
 use Rattle.pz_lexer.specs.Words.{keywords}

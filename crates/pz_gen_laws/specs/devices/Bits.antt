@@ -4,7 +4,7 @@ use Rattle.std.specs.List.{list_all}
 use Rattle.pz_syntax.specs.declared.tokens.Symbol.{Symbol}
 use Rattle.pz_syntax.specs.declared.tokens.Symbol.TheVariants as s
 use Rattle.pz_syntax.specs.declared.tokens.TokenKind.{TokenKind}
-use Rattle.pz_lexer.specs.declared.pieces.Sort.{Sort}
+use Rattle.pz_lexer.specs.declared.sorts.Sort.{Sort}
 use Rattle.pz_lexer.specs.Bytes.{is_blank, is_letter, is_digit, is_word, begins}
 use Rattle.pz_lexer.specs.Comments.{begins_comment}
 use Rattle.pz_lexer.specs.Numbers.{value_of, begins_fraction}

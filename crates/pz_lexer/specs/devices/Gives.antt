@@ -2,9 +2,9 @@
 use Rattle.std.specs.Prelude.{◌≡◌, ℕ, length, Result, Ok, Err}
 use Rattle.pz_syntax.specs.declared.tokens.TokenKind.{TokenKind}
 use Rattle.pz_syntax.specs.declared.tokens.Symbol.{Symbol}
-use Rattle.pz_lexer.specs.declared.pieces.Sort.{Sort}
-use Rattle.pz_lexer.specs.declared.pieces.Found.{Found}
-use Rattle.pz_lexer.specs.declared.pieces.Stop.{Stop}
+use Rattle.pz_lexer.specs.declared.sorts.Sort.{Sort}
+use Rattle.pz_lexer.specs.declared.sorts.Found.{Found}
+use Rattle.pz_lexer.specs.declared.sorts.Stop.{Stop}
 use Rattle.pz_lexer.specs.declared.items.Inside.{Inside as Seen}
 use Rattle.pz_lexer.specs.devices.Step.{Step, piece, stop}
 use Rattle.pz_lexer.specs.devices.QuotedStep.{Inside, item, no_escape, closing, cut_off}

@@ -1,7 +1,7 @@
 -- For private functions: tokens are marked as heads after they are made, from the last to the first.
-use Rattle.std.specs.Prelude.{◌≡◌, List, [], ◌∷◌, ◌++◌, Bool, map}
-use Rattle.pz_syntax.specs.declared.tokens.Token.{Token}
-use Rattle.pz_syntax.specs.Heads.{Role, name, colon, opening, closing, other, goes_on, makes_head, is_head, heads}
+use Rattle.std.specs.Prelude.{◌≡◌, List, [], ◌∷◌, ◌++◌, Bool}
+use Rattle.pz_syntax.specs.Heads.{Role, role, name, colon, opening, closing, other, goes_on, makes_head, is_head}
+use Rattle.pz_lexer.specs.declared.kept.Piece.{Piece as Kept}
 use Rattle.pz_lexer.specs.declared.heads.Role.{Role as Seen}
 use Rattle.pz_lexer.specs.declared.heads.Following.{Following}
 
@@ -13,18 +13,25 @@ role_of Seen.Opening = opening
 role_of Seen.Closing = closing
 role_of Seen.Other = other
 
--- a token that is a head or not
-abbrev pub with_head : Token → Bool → Token
-with_head t head = record t { mark = record (t.mark) { head = head } }
+-- the roles of tokens and comments; comments have none
+abbrev pub role_before : Kept → List Role → List Role
+role_before (Kept.Token t) roles = role t.mark.kind ∷ roles
+role_before (Kept.Line text) roles = roles
+role_before (Kept.Block text) roles = roles
 
--- tokens that are heads or not
-abbrev pub with_heads : List Token → List Bool → List Token
-with_heads (t ∷ ts) (head ∷ heads) = with_head t head ∷ with_heads ts heads
-with_heads _ _ = []
+abbrev pub roles_of : List Kept → List Role
+roles_of [] = []
+roles_of (x ∷ xs) = role_before x (roles_of xs)
 
--- for each token, whether it is a head
-abbrev pub heads_of : List Token → List Bool
-heads_of tokens = heads (map (λ t. t.mark.kind) tokens)
+-- a token marked as a head, or not, before tokens with these roles
+abbrev pub marked_before : Kept → List Role → Kept
+marked_before (Kept.Token t) roles = Kept.Token (record t { mark = record (t.mark) { head = is_head (role t.mark.kind) roles } })
+marked_before (Kept.Line text) roles = Kept.Line text
+marked_before (Kept.Block text) roles = Kept.Block text
+
+abbrev pub with_heads : List Kept → List Kept
+with_heads [] = []
+with_heads (x ∷ xs) = marked_before x (roles_of xs) ∷ with_heads xs
 
 -- all but the first
 abbrev pub rest_of : List Bool → List Bool
@@ -58,3 +65,7 @@ TakesIn old new seen = (roles : List Role) → Follows old roles → Follows new
 -- it is said whether a token with this role is a head before the others
 abbrev pub Judges : Following → Seen → Bool → Type 0
 Judges following seen head = (roles : List Role) → Follows following roles → head ≡ is_head (role_of seen) roles
+
+-- a token is marked, or a comment left as it is, and taken in before the others
+abbrev pub Marks : Following → Following → Kept → Kept → Type 0
+Marks old new piece marked = (roles : List Role) → Follows old roles → (marked ≡ marked_before piece roles) × Follows new (role_before piece roles)

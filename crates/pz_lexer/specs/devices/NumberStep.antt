@@ -3,8 +3,8 @@ use Rattle.std.specs.Prelude.{ℕ, ◌^◌, List, [], ◌∷◌, ◌++◌, Bool,
 use Rattle.pz_syntax.specs.declared.tokens.TokenKind.{TokenKind}
 use Rattle.pz_lexer.specs.Bytes.{is_letter, is_digit, begins}
 use Rattle.pz_lexer.specs.Numbers.{value_of, begins_fraction}
-use Rattle.pz_lexer.specs.declared.pieces.Sort.{Sort}
-use Rattle.pz_lexer.specs.declared.pieces.Reason.{Reason}
+use Rattle.pz_lexer.specs.declared.sorts.Sort.{Sort}
+use Rattle.pz_lexer.specs.declared.sorts.Reason.{Reason}
 use Rattle.pz_lexer.specs.devices.Step.{piece, stop, Step, front, back}
 
 -- a number, unless it is bad

@@ -1,14 +1,16 @@
 -- The cut of a text and its tokens, computed. That they are those of the definition is proved.
-use Rattle.std.specs.Prelude.{ℕ, List, [], ◌∷◌, ◌++◌, ◌==◌, if◌then◌else◌, Result, Ok, Err}
+use Rattle.std.specs.Prelude.{◌≡◌, ℕ, List, [], ◌∷◌, ◌++◌, ◌==◌, if◌then◌else◌, Result, Ok, Err}
 use Rattle.pz_lexer.specs.Bytes.{is_blank, is_letter, is_digit, is_word}
 use Rattle.pz_lexer.specs.Words.{word_kind}
-use Rattle.pz_lexer.specs.declared.pieces.Sort.{Sort}
+use Rattle.pz_lexer.specs.declared.sorts.Sort.{Sort}
 use Rattle.pz_lexer.specs.Pieces.{Piece, joined}
-use Rattle.pz_lexer.specs.declared.pieces.Reason.{Reason}
+use Rattle.pz_lexer.specs.declared.sorts.Reason.{Reason}
 use Rattle.pz_lexer.specs.Places.{origin, place_after}
 use Rattle.pz_lexer.specs.Tokens.{tokens_of, error_at}
 use Rattle.pz_lexer.specs.declared.error.LexError.{LexError}
 use Rattle.pz_syntax.specs.declared.tokens.Token.{Token}
+use Rattle.pz_lexer.specs.declared.kept.Piece.{Piece as Kept}
+use Rattle.pz_lexer.specs.Kept.{with_comments}
 use Rattle.pz_lexer.specs.devices.Step.{piece, stop, Step, front, back}
 use Rattle.pz_lexer.specs.devices.NumberStep.{number_step}
 use Rattle.pz_lexer.specs.devices.QuotedStep.{string_step, character_step}
@@ -78,3 +80,17 @@ answer_of (broken ps before rest reason) = Err (error_at reason (place_after ori
 -- the tokens of a text, or its refusal
 abbrev pub lexed : List ℕ → Result (List Token) LexError
 lexed text = answer_of (cut_of text text)
+
+abbrev pub pieces_of : Cut → Result (List Kept) LexError
+pieces_of (whole ps) = Ok (with_comments ps (tokens_of ps))
+pieces_of (broken ps before rest reason) = Err (error_at reason (place_after origin (joined ps ++ before)))
+
+-- the tokens and comments of a text, or its refusal
+abbrev pub pieced : List ℕ → Result (List Kept) LexError
+pieced text = pieces_of (cut_of text text)
+
+-- an answer of the code that is this one, unless memory ran out
+abbrev pub AnswersKept : Result (List Kept) LexError → Result (List Kept) LexError → Type 0
+AnswersKept (Ok pieces) answer = answer ≡ Ok pieces
+AnswersKept (Err LexError.NoMemory) answer = Unit {0}
+AnswersKept (Err error) answer = answer ≡ Err error

@@ -1,6 +1,6 @@
 use Rattle.std.proofs.Common.{◌∙◌, ap}
 use Rattle.std.specs.List.{list_all}
-use Rattle.pz_lexer.specs.declared.pieces.Sort.{Sort}
+use Rattle.pz_lexer.specs.declared.sorts.Sort.{Sort}
 use Rattle.pz_lexer.specs.Bytes.{is_word}
 use Rattle.pz_lexer.specs.Words.{word_kind}
 use Rattle.pz_lexer.proofs.Runs.{front_all}

@@ -1,7 +1,7 @@
 use pz_syntax::TokenKind;
 use std::alloc::{AllocError, AllocFailed};
 
-/// What a piece of a text is. Only tokens are kept.
+/// What a piece of a text is. Blanks are not kept.
 #[derive(Debug, Drop)]
 pub enum Sort {
     Blank,
@@ -35,7 +35,7 @@ pub enum Stop {
 
 impl From<AllocError> for Stop {
     ghost use Rattle.std.specs.Prelude.{◌≡◌};
-    ghost use Rattle.pz_lexer.specs.declared.pieces.Stop.TheVariants.{NoMemory};
+    ghost use Rattle.pz_lexer.specs.declared.sorts.Stop.TheVariants.{NoMemory};
 
     ghost from_gives = { λ _ stop. stop ≡ NoMemory };
 
@@ -46,7 +46,7 @@ impl From<AllocError> for Stop {
 
 impl<T: Drop> From<AllocFailed<T>> for Stop {
     ghost use Rattle.std.specs.Prelude.{◌≡◌};
-    ghost use Rattle.pz_lexer.specs.declared.pieces.Stop.TheVariants.{NoMemory};
+    ghost use Rattle.pz_lexer.specs.declared.sorts.Stop.TheVariants.{NoMemory};
 
     ghost from_gives = { λ _ stop. stop ≡ NoMemory };
 
