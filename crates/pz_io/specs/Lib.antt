@@ -4,6 +4,7 @@ pub mod Entries
 pub mod Mem
 pub mod Failing
 pub mod Roomy
+pub mod Narrow
 pub mod Os
 pub mod Answers
 pub mod devices

@@ -1,7 +1,7 @@
 // What no clause says: that the calls succeed where memory is ample, and examples of each answer.
 use pz_io::{
-    FailingFiles, Files, Got, MemFiles, Opened, OsFiles, OsSink, ReadError, RoomySink, Sink,
-    WriteError, read_all, write_all,
+    FailingFiles, Files, Got, MemFiles, NarrowFiles, NarrowSink, Opened, OsFiles, OsSink,
+    ReadError, RoomySink, Sink, WriteError, read_all, write_all,
 };
 use std::alloc::{AllocError, Global};
 use std::process::Abort;
@@ -168,6 +168,49 @@ fn each_failing_call_of_a_read_is_a_fault_and_none_an_end(rt: HostRuntime) -> Re
     Ok(())
 }
 
+// Files that hand out one byte at a time, of which a read is given room for two.
+#[test]
+fn narrow_files_hand_out_no_more_than_their_most(rt: HostRuntime) -> Result<(), Fail> {
+    let inner = files_of(rt.alloc(), &[("a", "xyz")])?;
+    let failing = FailingFiles::new(inner, vec![in rt.alloc(); 3, 7]?);
+    let mut files = NarrowFiles::new(failing, 1);
+    expect_answers(
+        &rt,
+        &mut files,
+        &[
+            Call::Open("a", Opened::Ready),
+            Call::Read(Got::Bytes(1), "x"),
+            Call::Read(Got::Failed, "call 3"),
+            Call::Read(Got::Bytes(1), "y"),
+            Call::Read(Got::Bytes(1), "z"),
+            Call::Read(Got::End, ""),
+            Call::Open("a", Opened::Failed),
+            Call::Open("b", Opened::Failed),
+            Call::Read(Got::End, "no file is open"),
+        ],
+    );
+    Ok(())
+}
+
+// Reading `xyz` in parts of one byte takes five calls, and in parts of two bytes four.
+#[test]
+fn a_file_is_read_whole_in_small_parts_or_not_at_all(rt: HostRuntime) -> Result<(), Fail> {
+    for (most, calls) in [(1, 5u64), (2, 4), (3, 3), (usize::MAX, 3)] {
+        for call in 1..7u64 {
+            let inner = files_of(rt.alloc(), &[("a", "xyz")])?;
+            let failing = FailingFiles::new(inner, vec![in rt.alloc(); call]?);
+            let mut files = NarrowFiles::new(failing, most);
+            let wanted = if call <= calls {
+                Err(ReadError::Fault)
+            } else {
+                Ok("xyz")
+            };
+            expect_read_all(&rt, rt.alloc(), &mut files, "a", 3, wanted);
+        }
+    }
+    Ok(())
+}
+
 fn expect_writes<W: Sink>(rt: &impl Abort, sink: &mut W, rows: &[(&str, Result<(), WriteError>)]) {
     for (piece, wanted) in rows {
         assert_eq!(rt; write_all(sink, piece.as_bytes()), *wanted, "{piece}");
@@ -204,6 +247,25 @@ fn a_listed_write_fails_with_what_was_sent(rt: HostRuntime) -> Result<(), Fail> 
         ],
     );
     assert_eq!(rt; sink.bytes(), b"abcghi".as_slice());
+    Ok(())
+}
+
+// Writes of one piece are numbered one by one: `abc` takes two of them.
+#[test]
+fn a_narrow_sink_takes_no_more_than_its_most(rt: HostRuntime) -> Result<(), Fail> {
+    let inner = RoomySink::new(rt.alloc(), 6, vec![in rt.alloc(); 4]?)?;
+    let mut sink = NarrowSink::new(inner, 2);
+    expect_writes(
+        &rt,
+        &mut sink,
+        &[
+            ("abc", Ok(())),
+            ("defg", Err(WriteError::Fault { sent: 2 })),
+            ("hi", Err(WriteError::Fault { sent: 1 })),
+            ("", Ok(())),
+        ],
+    );
+    assert_eq!(rt; sink.bytes(), b"abcdeh".as_slice());
     Ok(())
 }
 
