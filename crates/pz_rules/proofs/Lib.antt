@@ -26,6 +26,7 @@ mod Fits
 mod Possible
 mod Kept
 mod Lower
+mod Starts
 mod Pending
 mod Existing
 mod Wires

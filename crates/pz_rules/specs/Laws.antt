@@ -187,3 +187,10 @@ LowStays = (setting : Setting) (c next : Config) (a : Action) → IsLow setting 
 
 abbrev pub LowPasses : Type 0
 LowPasses = (setting : Setting) (c next : Config) (d : ℕ) → IsWhole setting c → IsLow setting c → PassesTo setting c d next → IsLow setting next
+
+-- a model has no more than one start, and a sound one has one
+abbrev pub OneStart : Type 0
+OneStart = (setting : Setting) (c d : Config) → IsStart setting c → IsStart setting d → c ≡ d
+
+abbrev pub EveryStart : Type 0
+EveryStart = (setting : Setting) → IsSound setting.model → (c : Config) × IsStart setting c

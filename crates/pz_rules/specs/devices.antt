@@ -6,3 +6,4 @@ pub mod Computed
 pub mod Pending
 pub mod Ends
 pub mod Plainly
+pub mod Start

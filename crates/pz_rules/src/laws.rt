@@ -1,8 +1,9 @@
 // Laws of execution, each the contract of a function that does nothing.
 
-ghost use Rattle.pz_rules.specs.Laws.{OneListOfOffers, EveryListOfOffers, WiresAreKnown, OneMoment, EveryMoment, MomentsCountOffers, TimeWaits, LeastPasses, TimeIsPositive, EveryPassing, PassingTakes, BringsToZero, OneNext, OnePassing, StaysWhole, StartFits, StaysFit, EveryNext, OneChosenRun, EveryChosenRun, ChosenRunsAreRuns, WhatCanActs, WhatSendsIsASend, WhatReceivesIsAReceive, NumbersAreFree, OneNumberIsLeast, LowStays, LowPasses};
+ghost use Rattle.pz_rules.specs.Laws.{OneListOfOffers, EveryListOfOffers, WiresAreKnown, OneMoment, EveryMoment, MomentsCountOffers, TimeWaits, LeastPasses, TimeIsPositive, EveryPassing, PassingTakes, BringsToZero, OneNext, OnePassing, StaysWhole, StartFits, StaysFit, EveryNext, OneChosenRun, EveryChosenRun, ChosenRunsAreRuns, WhatCanActs, WhatSendsIsASend, WhatReceivesIsAReceive, NumbersAreFree, OneNumberIsLeast, LowStays, LowPasses, OneStart, EveryStart};
 ghost use Rattle.pz_rules.specs.devices.Computed.{TestsAreComputed, TimesAreComputed, PartsAreComputed, PassingIsComputed, OnePassingIsComputed};
 ghost use Rattle.pz_rules.specs.devices.Ends.{PassingsEnd, ActivePartsFit};
+ghost use Rattle.pz_rules.specs.devices.Start.{StartIsComputed};
 ghost use Rattle.pz_rules.specs.devices.Walks.{InternalActionsAreListed, SendsAreListed, SendsHaveParcels, ReceivesAreListed, DelaysAreListed, TroublesAreListed};
 
 /// A configuration has no more than one list of offers, and has one where the wires of its model are
@@ -127,3 +128,12 @@ pub fn low_terms_stay()
     ensures action { LowStays }
     ensures passing { LowPasses }
 {}
+
+/// A model starts in no more than one configuration, and a sound one in the one that is computed.
+pub fn start_is_one()
+    ensures one { OneStart }
+    ensures some { EveryStart }
+    ensures computed { StartIsComputed }
+{
+    pz_classes::laws::sound_classes_fit();
+}
