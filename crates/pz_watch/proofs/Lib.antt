@@ -1,5 +1,7 @@
+pub mod Cutting
 pub mod Feeding
 pub mod Latest
+pub mod Lists
 pub mod Points
 pub mod Meanings
 pub mod Views

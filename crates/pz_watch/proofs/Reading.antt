@@ -74,7 +74,7 @@ read_bound (Some n) is =
     ap (λ (v : Bool). if v then None else Some (digits_value 10 (decimal n))) (not_star n is (bytes_eq (decimal n) (codes "*")) refl)
     ∙ ap (λ (k : ℕ). Some k) (decimal_is_IsNumeral n is).1
 
-some_words : (f : Formula) → 1 ≤ length (words_of f)
+pub some_words : (f : Formula) → 1 ≤ length (words_of f)
 some_words (line (Message w)) = omega arith
 some_words (line (From w)) = omega arith
 some_words (line (To w)) = omega arith

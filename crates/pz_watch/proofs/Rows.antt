@@ -88,7 +88,7 @@ its_text = rw (decimal_digit 2 (omega arith)) refl
 m_is_written : CanBeWritten m
 m_is_written = record { some = λ (e : codes "m" ≡ []). cc; inside = refl }
 
-is_file : (I : List ℕ → Type 0) → I (codes "a") → I (codes "b") → AreWatches I (codes "a : once * message m\nb : not and message m not once 2 pass\n") a_and_b
+is_file : (I : List ℕ → Bool) → I (codes "a") ≡ true → I (codes "b") ≡ true → AreWatches I (codes "a : once * message m\nb : not and message m not once 2 pass\n") a_and_b
 is_file I a b =
     let first : IsWatch I watch_a =
     record { named = a; written = (tt, m_is_written); few = omega arith } in
@@ -114,7 +114,7 @@ are_broken : AreBroken a_and_b waiting
 are_broken = record { at = 0; within = omega arith; broken = λ (e : broken_at a_and_b waiting 0 ≡ []). cc }
 
 -- a file with nothing in it is refused at its first line
-empty_file : (I : List ℕ → Type 0) → IsRefusedAt I [] 1
+empty_file : (I : List ℕ → Bool) → IsRefusedAt I [] 1
 empty_file I = empty refl
 
 -- `once` without a bound: these are the words of no formula

@@ -1,6 +1,6 @@
--- Files of watches: which lists of watches a text is, and the line at which it is none. What a name may
--- be is given: the identifiers of models.
-use Rattle.std.specs.Prelude.{◌≡◌, ◌≢◌, ◌≤◌, ◌<◌, ℕ, suc, List, [], ◌∷◌, ◌++◌, length, All, codes}
+-- Files of watches: which lists of watches a text is, and the line at which it is none. Whether a
+-- text may be a name is given: whether it is an identifier of models.
+use Rattle.std.specs.Prelude.{◌≡◌, ◌≢◌, ◌≤◌, ◌<◌, ℕ, suc, Bool, true, List, [], ◌∷◌, ◌++◌, length, All, codes}
 use Rattle.std.specs.List.{join_with_byte}
 use Rattle.pz_items.specs.Characters.{byte}
 use Rattle.pz_watch.specs.Formulas.{Formula}
@@ -29,9 +29,9 @@ most_watches = 100
 abbrev pub most_words : ℕ
 most_words = 1000
 
-module _ (IsIdentifier : List ℕ → Type 0) where
+module _ (is_name : List ℕ → Bool) where
   pub record IsWatch (w : NamedFormula) : Type 0 where
-    pub named : IsIdentifier w.name
+    pub named : is_name w.name ≡ true
     pub written : CanBeWritten w.formula
     pub few : length (words_of w.formula) ≤ most_words
 

@@ -1,9 +1,9 @@
 // Monitors before the first point, from those of their parts. The only error of each is want of
 // memory; then the parts are gone.
 
-ghost use Rattle.std.specs.Prelude.{◌≡◌, IfOk};
-ghost use Rattle.pz_watch.specs.Formulas.{Formula, line, negation, both, either, before, once, always, since};
-ghost use Rattle.pz_watch.specs.devices.Standing.{IsFresh};
+ghost use Rattle.std.specs.Prelude.{◌≡◌};
+ghost use Rattle.pz_watch.specs.Formulas.{line, negation, both, either, before, once, always, since};
+ghost use Rattle.pz_watch.specs.devices.Standing.{IsFresh, IsMadeOf, IsMadeOfBoth};
 
 use crate::{Atom, Monitor, Window};
 use std::alloc::{AllocError, Global};
@@ -31,14 +31,14 @@ impl Monitor {
 
     /// That the part does not hold.
     pub fn negation(alloc: Global, part: Monitor) -> Result<Monitor, AllocError>
-        ensures { (f : Formula) → IsFresh part f → IfOk result (λ m. IsFresh m (negation f)) }
+        ensures { IsMadeOf negation part result }
     {
         Ok(Monitor::Not(Box::new(alloc, part)?))
     }
 
     /// That both parts hold.
     pub fn both(alloc: Global, first: Monitor, second: Monitor) -> Result<Monitor, AllocError>
-        ensures { (f g : Formula) → IsFresh first f → IsFresh second g → IfOk result (λ m. IsFresh m (both f g)) }
+        ensures { IsMadeOfBoth both first second result }
     {
         let second = Box::new(alloc, second)?;
         let first = Box::new(alloc, first)?;
@@ -47,7 +47,7 @@ impl Monitor {
 
     /// That a part holds, or both.
     pub fn either(alloc: Global, first: Monitor, second: Monitor) -> Result<Monitor, AllocError>
-        ensures { (f g : Formula) → IsFresh first f → IsFresh second g → IfOk result (λ m. IsFresh m (either f g)) }
+        ensures { IsMadeOfBoth either first second result }
     {
         let second = Box::new(alloc, second)?;
         let first = Box::new(alloc, first)?;
@@ -56,21 +56,21 @@ impl Monitor {
 
     /// That the part held at the point before. There is none before the first.
     pub fn before(alloc: Global, part: Monitor) -> Result<Monitor, AllocError>
-        ensures { (f : Formula) → IsFresh part f → IfOk result (λ m. IsFresh m (before f)) }
+        ensures { IsMadeOf before part result }
     {
         Ok(Monitor::Before(false, Box::new(alloc, part)?))
     }
 
     /// That the part held at some point that is near enough, this one among them.
     pub fn once(alloc: Global, bound: Option<u64>, part: Monitor) -> Result<Monitor, AllocError>
-        ensures { (f : Formula) → IsFresh part f → IfOk result (λ m. IsFresh m (once bound f)) }
+        ensures { IsMadeOf (once bound) part result }
     {
         Ok(Monitor::Once(Window::new(bound), Box::new(alloc, part)?))
     }
 
     /// That the part held at all points that are near enough, this one among them.
     pub fn always(alloc: Global, bound: Option<u64>, part: Monitor) -> Result<Monitor, AllocError>
-        ensures { (f : Formula) → IsFresh part f → IfOk result (λ m. IsFresh m (always bound f)) }
+        ensures { IsMadeOf (always bound) part result }
     {
         Ok(Monitor::Always(Window::new(bound), Box::new(alloc, part)?))
     }
@@ -83,7 +83,7 @@ impl Monitor {
         kept: Monitor,
         met: Monitor,
     ) -> Result<Monitor, AllocError>
-        ensures { (f g : Formula) → IsFresh kept f → IsFresh met g → IfOk result (λ m. IsFresh m (since bound f g)) }
+        ensures { IsMadeOfBoth (since bound) kept met result }
     {
         let met = Box::new(alloc, met)?;
         let kept = Box::new(alloc, kept)?;

@@ -1,5 +1,5 @@
 -- Which formula and which points a watch stands for.
-use Rattle.std.specs.Prelude.{◌≡◌, ℕ, List, []}
+use Rattle.std.specs.Prelude.{◌≡◌, ℕ, List, [], Result, IfOk}
 use Rattle.pz_watch.specs.declared.monitor.Monitor.{Monitor}
 use Rattle.pz_watch.specs.declared.watch.Watch.{Watch}
 use Rattle.pz_watch.specs.Points.{Point}
@@ -10,6 +10,15 @@ use Rattle.pz_watch.specs.devices.MonitorView.{memory_of}
 -- nothing is kept of the formula yet
 abbrev pub IsFresh : Monitor → Formula → Type 0
 IsFresh monitor f = memory_of monitor ≡ behind f []
+
+-- a monitor that is made, if it is, is fresh for the formula that is made alike of that of its part
+abbrev pub IsMadeOf : {E : Type 0} → (Formula → Formula) → Monitor → Result Monitor E → Type 0
+IsMadeOf make part result = (f : Formula) → IsFresh part f → IfOk result (λ m. IsFresh m (make f))
+
+-- .. of those of its two parts
+abbrev pub IsMadeOfBoth : {E : Type 0} → (Formula → Formula → Formula) → Monitor → Monitor → Result Monitor E → Type 0
+IsMadeOfBoth make first second result =
+    (f g : Formula) → IsFresh first f → IsFresh second g → IfOk result (λ m. IsFresh m (make f g))
 
 -- what it keeps is what is kept of the formula behind these points
 abbrev pub StandsFor : Watch → Formula → List Point → Type 0
