@@ -1,0 +1,8 @@
+pub mod Symbols
+pub mod WrittenTokens
+pub mod Joined
+pub mod LayoutCut
+pub mod ReadPieces
+pub mod ReadBack
+pub mod Putting
+mod Rows
