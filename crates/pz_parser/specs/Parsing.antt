@@ -1,6 +1,5 @@
 -- What the call that parses promises.
-use Rattle.std.specs.Prelude.{◌≡◌, ◌<◌, ◌≤◌, ◌⊎◌, ℕ, List, length, map, ⊤, Result, MatchResult}
-use Rattle.pz_syntax.specs.declared.tokens.Pos.{Pos}
+use Rattle.std.specs.Prelude.{◌≡◌, ◌≤◌, ℕ, List, map, Result, MatchResult}
 use Rattle.pz_syntax.specs.declared.tokens.Mark.{Mark}
 use Rattle.pz_syntax.specs.declared.tokens.Token.{Token}
 use Rattle.pz_syntax.specs.declared.clusters.Model.{Model}
@@ -10,9 +9,8 @@ use Rattle.pz_syntax.specs.ModelText.{text}
 use Rattle.pz_syntax.specs.ModelForm.{IsModel}
 use Rattle.pz_syntax.specs.ModelNesting.{nesting}
 use Rattle.pz_parser_cursor.specs.Places.{positions}
-use Rattle.pz_parser_cursor.specs.Openers.{openers}
 use Rattle.pz_parser.specs.declared.error.ParseError.{ParseError}
-use Rattle.pz_parser.specs.declared.error.ParseError.TheVariants.{NoMemory, Syntax, TooNested}
+use Rattle.pz_parser.specs.declared.error.ParseError.TheVariants.{NoMemory}
 use Rattle.pz_parser.specs.ModelPlaces.{place_model}
 
 -- the marks of tokens, without their positions
@@ -30,13 +28,3 @@ ReadsAs tokens t result = MatchResult result (λ m. model_view m ≡ place_model
 -- each part stands where the token stands that it is named after
 abbrev pub IsInPlace : List Token → ModelTree → Type 0
 IsInPlace tokens m = m ≡ place_model (positions tokens) 0 m
-
--- one of the tokens stands there
-abbrev pub IsPlace : List Token → Pos → Type 0
-IsPlace tokens p = (n : ℕ) × (n < length tokens) × (p ≡ positions tokens n)
-
--- why there may be a refusal of this kind at this place
-abbrev pub MayRefuse : ℕ → List Token → Pos → ParseError → Type 0
-MayRefuse limit tokens end NoMemory = ⊤
-MayRefuse limit tokens end (Syntax p) = IsPlace tokens p ⊎ (p ≡ end)
-MayRefuse limit tokens end (TooNested p) = IsPlace tokens p × (limit < openers (marks tokens))

@@ -4,7 +4,7 @@ ghost use Rattle.std.specs.Prelude.{◌≡◌, ◌<◌, ◌-◌, ◌^◌, IfOk, 
 ghost use Rattle.pz_syntax.specs.Classes.{ModelTree};
 ghost use Rattle.pz_syntax.specs.ClassView.{model_view};
 ghost use Rattle.pz_parser.specs.Cuts.{Refuses};
-ghost use Rattle.pz_parser.specs.Parsing.{IsTextOf, ReadsAs, IsInPlace, MayRefuse};
+ghost use Rattle.pz_parser.specs.Parsing.{IsTextOf, ReadsAs, IsInPlace};
 ghost use Rattle.pz_parser.specs.devices.Refused as spec;
 
 use crate::ParseError;
@@ -19,7 +19,6 @@ pub fn parse(alloc: Global, tokens: &[Token], end: Pos) -> Result<Model, ParseEr
     ensures found { IfOk result (λ m. IsTextOf 100 tokens.now (model_view m)) }
     ensures only { (t : ModelTree) → IsTextOf 100 tokens.now t → ReadsAs tokens.now t result }
     ensures places { IfOk result (λ m. IsInPlace tokens.now (model_view m)) }
-    ensures refused { IfErr result (λ e. MayRefuse 100 tokens.now end e) }
     ensures exact { IfErr result (λ e. Refuses 100 tokens.now end e) }
 {
     parse_within(alloc, tokens, end, 100)
@@ -36,7 +35,6 @@ fn parse_within(
     ensures found { IfOk result (λ m. IsTextOf limit tokens.now (model_view m)) }
     ensures only { (t : ModelTree) → IsTextOf limit tokens.now t → ReadsAs tokens.now t result }
     ensures places { IfOk result (λ m. IsInPlace tokens.now (model_view m)) }
-    ensures refused { IfErr result (λ e. MayRefuse limit tokens.now end e) }
     ensures exact { IfErr result (λ e. Refuses limit tokens.now end e) }
 {
     let mut cursor = Cursor::new(tokens);

@@ -3,7 +3,6 @@ use Rattle.std.proofs.Common.{◌≡◌, ℕ, suc, List, [], ◌∷◌, ◌++◌
 use Rattle.pz_syntax.specs.declared.names.Id.{Id}
 use Rattle.pz_parser_cursor.specs.declared.ahead.Next.{Next}
 use Rattle.pz_parser_cursor.specs.declared.ahead.Next.TheVariants as n
-use Rattle.pz_parser_cursor.specs.declared.refusal.Refusal.{Refusal}
 use Rattle.pz_parser_cursor.specs.declared.refusal.Refusal.TheVariants.{Syntax}
 use Rattle.pz_parser_cursor.specs.devices.LookAhead.{next}
 use Rattle.pz_parser_cursor.specs.devices.Input.{Tokens, after, identifier}
@@ -19,15 +18,6 @@ pub names_more : (turn : ℕ) (front : List Id) (i j : Tokens) → next i ≡ n.
     → with_front front (names_of_group (suc turn) i) ≡ with_front (front ++ identifier i ∷ []) (names_of_group turn j)
 unfolding names_of_group
 names_more turn front i j s r = rw (s, r) (with_front_more front (identifier i) (names_of_group turn j))
-
-pub names_stopped : (turn : ℕ) (front : List Id) (i : Tokens) (e : Refusal) → next i ≡ n.Word → expect n.Comma (after i) ≡ Err e
-    → with_front front (names_of_group (suc turn) i) ≡ Err e
-unfolding names_of_group
-names_stopped turn front i e s r = rw (s, r) refl
-
-pub names_end : (turn : ℕ) (front : List Id) (i : Tokens) → next i ≡ n.Head → with_front front (names_of_group (suc turn) i) ≡ Ok (front ++ identifier i ∷ [], after i)
-unfolding names_of_group
-names_end turn front i s = rw s refl
 
 by_default : (x : Next) (more : Parser (List Id)) (i : Tokens) → (x ≡ n.Word → ⊥) → (x ≡ n.Head → ⊥) → names_by x more i ≡ Err (Syntax (length i))
 by_default n.Word more i h g = absurd (h refl)

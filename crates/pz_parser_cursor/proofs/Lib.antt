@@ -8,8 +8,6 @@ pub mod Each
 pub mod GroupLoop
 pub mod Optional
 pub mod Named
-pub mod Budget
-pub mod NameBudgets
 pub mod Sections
 pub mod Erasing
 pub mod Orders

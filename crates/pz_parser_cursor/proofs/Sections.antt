@@ -1,5 +1,5 @@
 -- What stands behind a keyword and may be left out.
-use Rattle.std.proofs.Common.{◌≡◌, ◌≢◌, ℕ, suc, true, List, ◌∷◌, ◌++◌, Option, Some, None, refl, ap, sym, ◌∙◌}
+use Rattle.std.proofs.Common.{◌≡◌, ◌≢◌, suc, true, List, ◌∷◌, ◌++◌, Option, Some, None, refl, ap, sym, ◌∙◌}
 use Rattle.pz_syntax.specs.declared.tokens.Pos.{Pos}
 use Rattle.pz_syntax.specs.declared.tokens.Keyword.{Keyword}
 use Rattle.pz_syntax.specs.declared.tokens.Keyword.TheVariants as k
@@ -20,8 +20,6 @@ use Rattle.pz_parser_cursor.proofs.Reading.{Sound, Complete}
 use Rattle.pz_parser_cursor.proofs.Joined.{token}
 use Rattle.pz_parser_cursor.proofs.Optional.{optional_sound, optional_complete}
 use Rattle.pz_parser_cursor.proofs.Named.{Any, optional_names_sound, optional_names_complete}
-use Rattle.pz_parser_cursor.proofs.Budget.{Budget, bind_budget, expect_budget, optional_budget}
-use Rattle.pz_parser_cursor.proofs.NameBudgets.{optional_names_budget}
 
 module _ {A : Type 0} (word : Next) (key : Keyword) (text : A → List Mark) where
   abbrev pub headed : A → List Mark
@@ -63,9 +61,6 @@ module _ {A : Type 0} (word : Next) (key : Keyword) (text : A → List Mark) whe
             ∙ optional_complete headed (sees word) (behind word item) P (λ at n x. place at (suc n) x) Stop (headed_complete c) (λ at n t j p. seen (at n) (located at (suc n) (text t) ++ j)) at n t j p h.0 (not_seen word j h.1);
       }
 
-pub section_budget : {A : Type 0} (bound : ℕ) (word : Next) (item : Parser A) → Budget bound item → Budget bound (section word item)
-section_budget bound word item b = optional_budget bound (sees word) (behind word item) (bind_budget bound (expect word) _ (expect_budget bound word) (λ u. b))
-
 -- ---- ports
 
 pub ports_sound : Sound (section_text k.Ports names_text) spec.ports (IfWritten Any)
@@ -82,7 +77,3 @@ ports_seen p i = refl
 pub ports_complete : Complete (section_text k.Ports names_text) (place_section place_names) spec.ports (IfWritten Any) (λ x. ((x ≢ n.Comma) × (x ≢ n.Word)) × (x ≢ n.Ports))
 unfolding spec.ports
 ports_complete = section_complete n.Ports k.Ports names_text spec.optional_names Any ports_seen place_names (λ x. (x ≢ n.Comma) × (x ≢ n.Word)) optional_names_complete
-
-pub ports_budget : (bound : ℕ) → Budget bound spec.ports
-unfolding spec.ports
-ports_budget bound = section_budget bound n.Ports spec.optional_names (optional_names_budget bound)

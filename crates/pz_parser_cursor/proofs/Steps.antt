@@ -62,10 +62,6 @@ pub expect_ok : (x : Next) (i : Tokens) (y : Unit {0} × Tokens) → expect x i 
 unfolding expect
 expect_ok x i y e = let r = expect_by (sees x i) i y e in (sees_is x i r.0, r.1)
 
-pub expect_id_is : (x : Next) (i : Tokens) → sees x i ≡ true → expect_id x i ≡ Ok (identifier i, after i)
-unfolding expect_id
-expect_id_is x i h = rw h refl
-
 expect_id_by : (b : Bool) (i : Tokens) (y : Id × Tokens) → cond b (done (identifier i, after i)) (Err (Syntax (length i))) ≡ Ok y → (b ≡ true) × (identifier i ≡ y.0) × (after i ≡ y.1)
 expect_id_by true i y e = let p : (identifier i, after i) ≡ y = cc in (refl, ap (λ q. q.0) p, ap (λ q. q.1) p)
 expect_id_by false i y e = absurd cc

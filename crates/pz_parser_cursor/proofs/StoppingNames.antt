@@ -19,7 +19,7 @@ use Rattle.pz_parser_cursor.specs.devices.Lists.{turns}
 use Rattle.pz_parser_cursor.specs.devices.Names as spec
 use Rattle.pz_parser_cursor.proofs.Words.{head_is}
 use Rattle.pz_parser_cursor.proofs.Joined.{joined_is, Filled}
-use Rattle.pz_parser_cursor.proofs.Stopping.{Form, token_form, both, Pass, stopped, Low, Kept, beyond, alike, failing, ExactAt, Exact, low, refused_here, bind_pass, pass_into, pass_mapped, kept_bind, same_all, into, bind_at, bind_exact, mapped, Peeks, taking}
+use Rattle.pz_parser_cursor.proofs.Stopping.{Form, token_form, both, Pass, stopped, Kept, beyond, alike, failing, ExactAt, Exact, low, refused_here, bind_pass, pass_into, pass_mapped, kept_bind, same_all, into, bind_at, bind_exact, mapped, Peeks, taking}
 use Rattle.pz_parser_cursor.proofs.StoppingLists.{identifier_peeks, sees_peeks, some_id, name_form, word_form, optional_form, section_form, expect_exact, word_exact, take_word_at, optional_exact, section_exact, or_none_exact, list_exact, kept_le, low_pure}
 
 abbrev pub names_form : Form
@@ -85,10 +85,6 @@ module _ (W : Type 0) (b : ℕ) where
           (bind_pass b word_form (both (token_form (symbol s.Comma)) group_names_form) i (take_id i) rest (take_word_at W b i h).pass (λ y. bind_pass b (token_form (symbol s.Comma)) group_names_form y.1 (expect n.Comma y.1) (λ u. more y.0) (comma_exact y.1).pass (λ z. pass_mapped b group_names_form z.1 (spec.names_of_group turn z.1) (λ xs. y.0 ∷ xs) (again z.1))))
       by again n.Head h = pass_into b (name_form head) group_names_form i (spec.names_by n.Head (spec.names_of_group turn) i) (λ x. (x, [])) (λ x. refl) (λ n lt x f. tt) (mapped W b (λ x. x ∷ []) (head_at i h)).pass
       by again _ h = stopped (Syntax (length i)) (refused_here b group_names_form i)
-
-  -- the rest behind a name
-  low_rest : (turn : ℕ) (x : Id) (i : Tokens) → Low (length i) ((expect n.Comma >>= (λ u. spec.names_of_group turn >>= (λ xs. pure (x ∷ xs)))) i)
-  low_rest turn x i = low (bind_pass b (token_form (symbol s.Comma)) group_names_form i (expect n.Comma i) (λ u. spec.names_of_group turn >>= (λ xs. pure (x ∷ xs))) (comma_exact i).pass (λ z. pass_mapped b group_names_form z.1 (spec.names_of_group turn z.1) (λ xs. x ∷ xs) (of_group_pass turn z.1)))
 
   kept_names : 0 < b → (turn more : ℕ) (a u w : Tokens) → length (a ++ u) ≤ turn → length (a ++ w) ≤ more → Kept W u w (spec.names_of_group turn (a ++ u)) (spec.names_of_group more (a ++ w))
   unfolding spec.names_of_group next after identifier name position

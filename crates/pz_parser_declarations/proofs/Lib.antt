@@ -2,11 +2,9 @@ pub mod MessageRules
 pub mod SectionRules
 pub mod DataMethods
 pub mod DataClasses
-pub mod Budgets
 pub mod Erasing
 pub mod Readings
 pub mod Completeness
-pub mod ClusterBudgets
 pub mod ClusterErasing
 pub mod StoppingDeclarations
 pub mod StoppingClusters

@@ -68,11 +68,6 @@ arguments_default : (depth : ℕ) (inner : Rule → Parser Tree) (x : Next) (j :
 arguments_default depth inner n.LeftParen j h = absurd (h refl)
 arguments_default depth inner _ j h = refl
 
-expression_default : (value : Parser Tree) (x : Next) (i : Tokens) → x ≢ n.Return → x ≢ n.Word → expression_by value x i ≡ value i
-expression_default value n.Return i h g = absurd (h refl)
-expression_default value n.Word i h g = absurd (g refl)
-expression_default value _ i h g = refl
-
 abbrev pub to_sendings : Sendings Id Id → List SendingTree
 to_sendings no_sendings = []
 to_sendings (sending x a ss) = (x, a) ∷ to_sendings ss

@@ -6,6 +6,5 @@ pub mod Readings
 pub mod Firsts
 pub mod Completeness
 pub mod Erasing
-pub mod Budgets
 pub mod StoppingExpressions
 pub mod StoppingValues

@@ -17,7 +17,7 @@ use Rattle.pz_syntax.specs.ModelForm.{Each}
 use Rattle.pz_parser_cursor.specs.declared.ahead.Next.{Next}
 use Rattle.pz_parser_cursor.specs.declared.ahead.Next.TheVariants as n
 use Rattle.pz_parser_cursor.specs.devices.LookAhead.{next}
-use Rattle.pz_parser_cursor.specs.devices.Input.{Tokens, position, literal as literal_at}
+use Rattle.pz_parser_cursor.specs.devices.Input.{Tokens, position}
 use Rattle.pz_parser_cursor.specs.Places.{located, place_tail as place_behind, place_separated}
 use Rattle.pz_parser_cursor.proofs.Reading.{split_located}
 use Rattle.pz_parser_cursor.proofs.Joined.{joined, tails, Filled}
@@ -94,16 +94,6 @@ stands at k (assign pos x t) j = refl
 stands at k (returned pos t) j = refl
 stands at k (choice pos test body other) j = refl
 stands at k (loop pos test body) j = refl
-
-pub literal_seen : (x : Literal) (p : Pos) (j : Tokens) → literal_at (record { mark = mark (literal_kind x); pos = p } ∷ j) ≡ x
-unfolding literal_at
-literal_seen (lit.Int n) p j = refl
-literal_seen lit.Float p j = refl
-literal_seen (lit.Char c) p j = refl
-literal_seen (lit.Str bytes) p j = refl
-literal_seen lit.True p j = refl
-literal_seen lit.False p j = refl
-literal_seen lit.Nil p j = refl
 
 -- ---- lists
 

@@ -6,7 +6,6 @@ pub mod MessageReadings
 pub mod Readings
 pub mod MessagesGiven
 pub mod Completeness
-pub mod Budgets
 pub mod Erasing
 pub mod StoppingMessages
 pub mod StoppingStatements

@@ -2,7 +2,6 @@ use Rattle.std.proofs.Common.{◌≡◌, Ok, Err, sym, ap, ◌∙◌, subst}
 use Rattle.pz_syntax.specs.ClassView.{model_view}
 use Rattle.pz_parser.specs.devices.Models as models
 use Rattle.pz_parser.specs.Cuts.{Refuses}
-use Rattle.pz_parser.specs.Parsing.{MayRefuse}
 use Rattle.pz_parser.proofs.Parses as parses
 use Rattle.pz_parser.proofs.Refusing as refusing
 use Rattle.pz_parser.proofs.parser.parse_within.Goals as goal
@@ -18,9 +17,6 @@ returns-in-Ok-clause-places c = parses.in_place c.args.limit c.args.tokens.now (
 
 pub returns-in-Err-clause-only : goal.returns-in-Err-clause-only
 returns-in-Err-clause-only c = λ t f. c.error_of.ensures ∙ parses.no_refusal c.args.limit c.args.tokens.now c.args.end t c.in-Err.refusal (λ h. ap (models.model c.args.limit) (sym c.new-cursor.ensures.all) ∙ c.in-Err.ensures.reads h) f
-
-pub returns-in-Err-clause-refused : goal.returns-in-Err-clause-refused
-returns-in-Err-clause-refused c = subst (MayRefuse c.args.limit c.args.tokens.now c.args.end) (sym c.error_of.ensures) (parses.refused c.args.limit c.args.tokens.now c.args.end c.in-Err.refusal (λ h. ap (models.model c.args.limit) (sym c.new-cursor.ensures.all) ∙ c.in-Err.ensures.reads h))
 
 pub returns-in-Err-clause-exact : goal.returns-in-Err-clause-exact
 returns-in-Err-clause-exact c = subst (Refuses c.args.limit c.args.tokens.now c.args.end) (sym c.error_of.ensures) (refusing.refuses c.args.limit c.args.tokens.now c.args.end c.in-Err.refusal (λ h. ap (models.model c.args.limit) (sym c.new-cursor.ensures.all) ∙ c.in-Err.ensures.reads h))
