@@ -26,7 +26,7 @@ use Rattle.pz_parser_declarations.specs.devices.Sections.{parent_section, messag
 use Rattle.pz_parser_declarations.proofs.SectionRules.{parent_section_sound, parent_section_complete, ports_section_complete, variables_section_sound, variables_section_complete, start_section_sound, start_section_complete}
 use Rattle.pz_parser_declarations.proofs.MessageRules.{messages_section_sound, messages_section_complete}
 use Rattle.pz_parser.specs.devices.Processes as spec
-use Rattle.pz_parser.specs.ProcessPlaces.{parent_at, ports_at, messages_at, variables_at, start_at, methods_at, place_process_methods, place_process_class}
+use Rattle.pz_parser.specs.ProcessPlaces.{place_process_methods, place_process_class}
 use Rattle.pz_parser.proofs.Nested.{Within, of_written, to_written, of_optional, to_optional}
 use Rattle.pz_parser.proofs.Joining.{then}
 use Rattle.pz_parser.proofs.ProcessMethods.{ProcessMethodFits, process_methods_sound, process_methods_complete}
@@ -148,32 +148,38 @@ module _ (depth : ℕ) where
       let vs = section_text k.Variables variables_text c.variables in
       let ss = section_text k.Init start_text c.start in
       let ms = section_text k.Methods methods_text c.methods in
-      let sixth = located at (methods_at m c) ms ++ j in
-      let fifth = located at (start_at m c) ss ++ sixth in
-      let fourth = located at (variables_at m c) vs ++ fifth in
-      let third = located at (messages_at m c) os ++ fourth in
-      let second = located at (ports_at m c) ps ++ third in
-      let first = located at (parent_at m c) es ++ second in
-      let behind_start : Behind 5 (next sixth) = section_behind 5 n.Methods k.Methods methods_text methods_shown (omega arith) at (methods_at m c) c.methods j (omega (arith, h)) in
-      let behind_variables : Behind 4 (next fifth) = section_behind 4 n.Init k.Init start_text init_shown (omega arith) at (start_at m c) c.start sixth (omega (arith, behind_start)) in
-      let behind_messages : Behind 3 (next fourth) = section_behind 3 n.Variables k.Variables variables_text variables_shown (omega arith) at (variables_at m c) c.variables fifth (omega (arith, behind_variables)) in
-      let behind_ports : Behind 2 (next third) = section_behind 2 n.Messages k.Messages messages_text messages_shown (omega arith) at (messages_at m c) c.messages fourth (omega (arith, behind_messages)) in
-      let behind_parent : Behind 1 (next second) = section_behind 1 n.Ports k.Ports names_text ports_shown (omega arith) at (ports_at m c) c.ports third (omega (arith, behind_ports)) in
-      let behind_formal : Behind 0 (next first) = section_behind 0 n.Extends k.Extends word_text extends_shown (omega arith) at (parent_at m c) c.parent second (omega (arith, behind_parent)) in
+      let parent_at = suc (suc (suc m)) + length fs in
+      let ports_at = parent_at + length es in
+      let messages_at = ports_at + length ps in
+      let variables_at = messages_at + length os in
+      let start_at = variables_at + length vs in
+      let methods_at = start_at + length ss in
+      let sixth = located at methods_at ms ++ j in
+      let fifth = located at start_at ss ++ sixth in
+      let fourth = located at variables_at vs ++ fifth in
+      let third = located at messages_at os ++ fourth in
+      let second = located at ports_at ps ++ third in
+      let first = located at parent_at es ++ second in
+      let behind_start : Behind 5 (next sixth) = section_behind 5 n.Methods k.Methods methods_text methods_shown (omega arith) at methods_at c.methods j (omega (arith, h)) in
+      let behind_variables : Behind 4 (next fifth) = section_behind 4 n.Init k.Init start_text init_shown (omega arith) at start_at c.start sixth (omega (arith, behind_start)) in
+      let behind_messages : Behind 3 (next fourth) = section_behind 3 n.Variables k.Variables variables_text variables_shown (omega arith) at variables_at c.variables fifth (omega (arith, behind_variables)) in
+      let behind_ports : Behind 2 (next third) = section_behind 2 n.Messages k.Messages messages_text messages_shown (omega arith) at messages_at c.messages fourth (omega (arith, behind_messages)) in
+      let behind_parent : Behind 1 (next second) = section_behind 1 n.Ports k.Ports names_text ports_shown (omega arith) at ports_at c.ports third (omega (arith, behind_ports)) in
+      let behind_formal : Behind 0 (next first) = section_behind 0 n.Extends k.Extends word_text extends_shown (omega arith) at parent_at c.parent second (omega (arith, behind_parent)) in
       rw (
         split_located at (suc (suc (suc m))) fs (es ++ (ps ++ (os ++ (vs ++ (ss ++ ms))))) j,
-        split_located at (parent_at m c) es (ps ++ (os ++ (vs ++ (ss ++ ms)))) j,
-        split_located at (ports_at m c) ps (os ++ (vs ++ (ss ++ ms))) j,
-        split_located at (messages_at m c) os (vs ++ (ss ++ ms)) j,
-        split_located at (variables_at m c) vs (ss ++ ms) j,
-        split_located at (start_at m c) ss ms j,
+        split_located at parent_at es (ps ++ (os ++ (vs ++ (ss ++ ms)))) j,
+        split_located at ports_at ps (os ++ (vs ++ (ss ++ ms))) j,
+        split_located at messages_at os (vs ++ (ss ++ ms)) j,
+        split_located at variables_at vs (ss ++ ms) j,
+        split_located at start_at ss ms j,
         optional_formal_complete.gives at (suc (suc (suc m))) c.parameters first f.0.0 (behind_not 0 (next first) n.LeftParen behind_formal (omega arith)),
-        parent_section_complete.gives at (parent_at m c) c.parent second (if_written c.parent) behind_parent,
-        ports_section_complete.gives at (ports_at m c) c.ports third (if_written c.ports) behind_ports,
-        messages_section_complete.gives at (messages_at m c) c.messages fourth (if_written c.messages) behind_messages,
-        variables_section_complete.gives at (variables_at m c) c.variables fifth f.0.1 behind_variables,
-        (start_section_complete depth).gives at (start_at m c) c.start sixth (to_optional IsStart start_nesting (suc depth) c.start f.0.2 (omega (arith, f.1))) behind_start,
-        methods_section_complete.gives at (methods_at m c) c.methods j (to_written IsProcessMethod process_method_nesting (suc depth) c.methods f.0.3 (omega (arith, f.1))) h,
+        parent_section_complete.gives at parent_at c.parent second (if_written c.parent) behind_parent,
+        ports_section_complete.gives at ports_at c.ports third (if_written c.ports) behind_ports,
+        messages_section_complete.gives at messages_at c.messages fourth (if_written c.messages) behind_messages,
+        variables_section_complete.gives at variables_at c.variables fifth f.0.1 behind_variables,
+        (start_section_complete depth).gives at start_at c.start sixth (to_optional IsStart start_nesting (suc depth) c.start f.0.2 (omega (arith, f.1))) behind_start,
+        methods_section_complete.gives at methods_at c.methods j (to_written IsProcessMethod process_method_nesting (suc depth) c.methods f.0.3 (omega (arith, f.1))) h,
       ) refl
 
   -- Each process class that the grammar has, of at most this nesting, is read from its text.

@@ -26,7 +26,7 @@ use Rattle.pz_parser_statements.proofs.Beginnings.{stmts_begin}
 use Rattle.pz_parser_statements.proofs.Readings.{stmts_sound}
 use Rattle.pz_parser_statements.proofs.Completeness.{stmts_complete}
 use Rattle.pz_parser.specs.devices.Processes as spec
-use Rattle.pz_parser.specs.ProcessPlaces.{outputs_at, locals_at, body_at, place_process_method, place_process_methods}
+use Rattle.pz_parser.specs.ProcessPlaces.{place_process_method, place_process_methods}
 use Rattle.pz_parser.proofs.Nested.{Within}
 use Rattle.pz_parser.proofs.Joining.{then}
 
@@ -75,17 +75,20 @@ module _ (depth : ℕ) where
       let os = formal_text m.outputs in
       let ls = optional_text locals_text m.locals in
       let ts = texts m.body in
-      let fourth = located at (body_at k m) ts ++ j in
-      let third = located at (locals_at k m) ls ++ fourth in
-      let second = located at (outputs_at k m) os ++ third in
+      let outputs_at = suc k + length is in
+      let locals_at = outputs_at + length os in
+      let body_at = locals_at + length ls in
+      let fourth = located at body_at ts ++ j in
+      let third = located at locals_at ls ++ fourth in
+      let second = located at outputs_at os ++ third in
       rw (
         split_located at (suc k) is (os ++ (ls ++ ts)) j,
-        split_located at (outputs_at k m) os (ls ++ ts) j,
-        split_located at (locals_at k m) ls ts j,
+        split_located at outputs_at os (ls ++ ts) j,
+        split_located at locals_at ls ts j,
         formal_complete.gives at (suc k) m.inputs second f.0.0 tt,
-        formal_complete.gives at (outputs_at k m) m.outputs third f.0.1 tt,
-        optional_locals_complete.gives at (locals_at k m) m.locals fourth f.0.2 (stmts_begin at (body_at k m) m.body j f.0.3),
-        (stmts_complete depth).gives at (body_at k m) m.body j (f.0.3, omega (arith, f.1)) stop,
+        formal_complete.gives at outputs_at m.outputs third f.0.1 tt,
+        optional_locals_complete.gives at locals_at m.locals fourth f.0.2 (stmts_begin at body_at m.body j f.0.3),
+        (stmts_complete depth).gives at body_at m.body j (f.0.3, omega (arith, f.1)) stop,
       ) refl
 
   method_complete : Complete process_method_text place_process_method (spec.process_method depth) (ProcessMethodFits (suc depth)) EndsBody

@@ -37,7 +37,7 @@ use Rattle.pz_parser_cursor.proofs.Named.{Any, Whatever, every, if_written, none
 use Rattle.pz_parser_cursor.proofs.Sections.{section_complete, ports_complete}
 use Rattle.pz_parser_cursor.proofs.Orders.{Behind, Ends, behind_not, section_behind}
 use Rattle.pz_parser_declarations.specs.devices.Clusters as spec
-use Rattle.pz_parser_declarations.specs.ClusterPlaces.{place_arg, place_given, place_givens, place_instance, place_instances, place_end, place_channel, place_channels, ports_at, instances_at, channels_at, place_cluster_class, place_system}
+use Rattle.pz_parser_declarations.specs.ClusterPlaces.{place_arg, place_given, place_givens, place_instance, place_instances, place_end, place_channel, place_channels, place_cluster_class, place_system}
 
 -- ---- arguments of instances
 
@@ -224,20 +224,23 @@ cluster_given at m t j p h =
     let ps = section_text k.Ports names_text t.ports in
     let is = section_text k.Instances (each_text instance_text) t.instances in
     let cs = section_text k.Channels (each_text channel_text) t.channels in
-    let third = located at (channels_at m t) cs ++ j in
-    let second = located at (instances_at m t) is ++ third in
-    let first = located at (ports_at m t) ps ++ second in
-    let behind : Behind 7 (next third) = section_behind 7 n.Channels k.Channels (each_text channel_text) channels_shown (omega arith) at (channels_at m t) t.channels j (omega (arith, h)) in
-    let before : Behind 6 (next second) = section_behind 6 n.Instances k.Instances (each_text instance_text) instances_shown (omega arith) at (instances_at m t) t.instances third (omega (arith, behind)) in
-    let front : Behind 1 (next first) = section_behind 1 n.Ports k.Ports names_text ports_shown (omega arith) at (ports_at m t) t.ports second (omega (arith, before)) in
+    let ports_at = suc (suc (suc m)) + length fs in
+    let instances_at = ports_at + length ps in
+    let channels_at = instances_at + length is in
+    let third = located at channels_at cs ++ j in
+    let second = located at instances_at is ++ third in
+    let first = located at ports_at ps ++ second in
+    let behind : Behind 7 (next third) = section_behind 7 n.Channels k.Channels (each_text channel_text) channels_shown (omega arith) at channels_at t.channels j (omega (arith, h)) in
+    let before : Behind 6 (next second) = section_behind 6 n.Instances k.Instances (each_text instance_text) instances_shown (omega arith) at instances_at t.instances third (omega (arith, behind)) in
+    let front : Behind 1 (next first) = section_behind 1 n.Ports k.Ports names_text ports_shown (omega arith) at ports_at t.ports second (omega (arith, before)) in
     rw (
       split_located at (suc (suc (suc m))) fs (ps ++ (is ++ cs)) j,
-      split_located at (ports_at m t) ps (is ++ cs) j,
-      split_located at (instances_at m t) is cs j,
+      split_located at ports_at ps (is ++ cs) j,
+      split_located at instances_at is cs j,
       optional_formal_complete.gives at (suc (suc (suc m))) t.parameters first p.0 (behind_not 1 (next first) n.LeftParen front (omega arith)),
-      ports_complete.gives at (ports_at m t) t.ports second (if_written t.ports) (ends_ports (next second) before),
-      instances_section_complete.gives at (instances_at m t) t.instances third (if_written t.instances) (ends_instances (next third) behind),
-      channels_section_complete.gives at (channels_at m t) t.channels j p.1 (ends_channels (next j) h),
+      ports_complete.gives at ports_at t.ports second (if_written t.ports) (ends_ports (next second) before),
+      instances_section_complete.gives at instances_at t.instances third (if_written t.instances) (ends_instances (next third) behind),
+      channels_section_complete.gives at channels_at t.channels j p.1 (ends_channels (next j) h),
     ) refl
 
 -- Each cluster class that the grammar has is read from its text.

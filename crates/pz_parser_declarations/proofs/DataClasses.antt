@@ -23,7 +23,7 @@ use Rattle.pz_parser_cursor.proofs.Named.{Any, word_sound}
 use Rattle.pz_parser_cursor.proofs.Sections.{section_sound, section_complete}
 use Rattle.pz_parser_declarations.specs.devices.Sections.{parent_section, variables_section}
 use Rattle.pz_parser_declarations.specs.devices.DataClasses as spec
-use Rattle.pz_parser_declarations.specs.DeclarationPlaces.{behind_parent, place_data_methods, place_data_class}
+use Rattle.pz_parser_declarations.specs.DeclarationPlaces.{place_data_methods, place_data_class}
 use Rattle.pz_parser_cursor.proofs.Orders.{Behind, Ends, behind_not, section_behind, sections_behind}
 use Rattle.pz_parser_declarations.proofs.SectionRules.{parent_section_sound, parent_section_complete, variables_section_sound, variables_section_complete}
 use Rattle.pz_parser_declarations.proofs.DataMethods.{DataMethodFits, data_methods_sound, data_methods_complete}
@@ -108,8 +108,8 @@ module _ (depth : ℕ) where
   unfolding spec.data_class next after identifier name position expect expect_id sees same
   data_class_given at m c j f h =
       let first = suc (suc (suc m)) in
-      let second = behind_parent m c in
       let parent = section_text k.Extends word_text c.parent in
+      let second = first + length parent in
       let variables = section_text k.Variables variables_text c.variables in
       let methods = section_text k.Methods methods_text c.methods in
       let third = second + length variables in

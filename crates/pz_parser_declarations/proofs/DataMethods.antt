@@ -35,7 +35,7 @@ use Rattle.pz_parser_expressions.proofs.Operators.{binding}
 use Rattle.pz_parser_expressions.proofs.Readings.{exprs_sound, expr_sound}
 use Rattle.pz_parser_expressions.proofs.Completeness.{body_given, expr_complete}
 use Rattle.pz_parser_declarations.specs.devices.DataClasses as spec
-use Rattle.pz_parser_declarations.specs.DeclarationPlaces.{colon_at, place_data_method, place_data_methods}
+use Rattle.pz_parser_declarations.specs.DeclarationPlaces.{place_data_method, place_data_methods}
 use Rattle.pz_parser_cursor.proofs.Orders.{Ends}
 
 -- a method whose constructs nest less deep than the bound
@@ -118,7 +118,7 @@ module _ (depth : ℕ) where
   data_method_given : (at : ℕ → Pos) (k : ℕ) (m : DataMethodTree) (j : Tokens) → DataMethodFits (suc depth) m → StopsBody (next j) → spec.data_method depth (located at k (data_method_text m) ++ j) ≡ Ok (place_data_method at k m, j)
   unfolding spec.data_method next after expect sees same
   data_method_given at k m j f stop =
-      let colon = colon_at k m in
+      let colon = suc k + length (optional_text formal_text m.inputs) in
       let behind = suc (suc colon) in
       let inner = behind + length (optional_text locals_text m.locals) in
       let last = located at inner (texts s.Semicolon m.body) ++ j in

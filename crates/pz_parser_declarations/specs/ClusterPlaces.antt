@@ -1,5 +1,5 @@
 -- Clusters and the system with the positions of the tokens of their texts.
-use Rattle.std.specs.Prelude.{ℕ, suc, ◌+◌, List, length}
+use Rattle.std.specs.Prelude.{suc, List}
 use Rattle.pz_syntax.specs.declared.tokens.Keyword.TheVariants as k
 use Rattle.pz_syntax.specs.declared.clusters.Arg.{Arg}
 use Rattle.pz_syntax.specs.declared.clusters.Arg.TheVariants.{Plain, Negated, Parameter}
@@ -13,7 +13,7 @@ use Rattle.pz_syntax.specs.declared.clusters.SystemDecl.{SystemDecl}
 use Rattle.pz_syntax.specs.Marks.{each_text, optional, section, names_text}
 use Rattle.pz_syntax.specs.ClassText.{formal_text}
 use Rattle.pz_syntax.specs.ModelText.{given_text, instance_text, end_text, channel_text}
-use Rattle.pz_parser_cursor.specs.Places.{Placing, place_id, place_separated, place_each, place_optional, place_names, place_enclosed, place_section}
+use Rattle.pz_parser_cursor.specs.Places.{Placing, token, over, here, ◌>>=◌, ◌>>◌, made, from, place_id, place_separated, place_each, place_optional, place_names, place_enclosed, place_section}
 
 abbrev pub place_arg : Placing Arg
 place_arg at n (Plain x pos) = Plain x (at n)
@@ -21,20 +21,20 @@ place_arg at n (Negated x pos) = Negated x (at n)
 place_arg at n (Parameter x) = Parameter (place_id at n x)
 
 abbrev pub place_given : Placing Given
-place_given at n g = record { name = place_id at n g.name; arg = place_arg at (suc (suc n)) g.arg }
+place_given at n g = from n do name_at ← token; token; made (record { name = place_id at name_at g.name; arg = place_arg at (← here) g.arg })
 
 -- behind the `(`
 abbrev pub place_givens : Placing (List Given)
 place_givens at n gs = place_separated given_text place_given at (suc n) gs
 
 abbrev pub place_instance : Placing Instance
-place_instance at n i = record { name = place_id at n i.name; class = place_id at (suc (suc n)) i.class; given = place_optional place_givens at (suc (suc (suc n))) i.given }
+place_instance at n i = from n do name_at ← token; token; made (record { name = place_id at name_at i.name; class = place_id at (← token) i.class; given = place_optional place_givens at (← here) i.given })
 
 abbrev pub place_instances : Placing (List Instance)
 place_instances = place_each instance_text place_instance
 
 abbrev pub place_end : Placing ChannelEnd
-place_end at n (Inner part port) = Inner (place_id at n part) (place_id at (suc (suc n)) port)
+place_end at n (Inner part port) = from n do part_at ← token; token; made (Inner (place_id at part_at part) (place_id at (← here) port))
 place_end at n (Outer port) = Outer (place_id at n port)
 
 -- a channel stands at its `{`
@@ -44,30 +44,24 @@ place_channel at n c = record { pos = at n; ends = place_separated end_text plac
 abbrev pub place_channels : Placing (List Channel)
 place_channels = place_each channel_text place_channel
 
--- the numbers of the first tokens of the sections
-module _ (n : ℕ) (c : ClusterClass) where
-  abbrev pub ports_at : ℕ
-  ports_at = suc (suc (suc n)) + length (optional formal_text c.parameters)
-
-  abbrev pub instances_at : ℕ
-  instances_at = ports_at + length (section k.Ports names_text c.ports)
-
-  abbrev pub channels_at : ℕ
-  channels_at = instances_at + length (section k.Instances (each_text instance_text) c.instances)
-
 abbrev pub place_cluster_class : Placing ClusterClass
-place_cluster_class at n c = record {
-  name = place_id at (suc (suc n)) c.name;
-  parameters = place_optional place_enclosed at (suc (suc (suc n))) c.parameters;
-  ports = place_section place_names at (ports_at n c) c.ports;
-  instances = place_section place_instances at (instances_at n c) c.instances;
-  channels = place_section place_channels at (channels_at n c) c.channels;
-}
+place_cluster_class at n c = from n do
+  token
+  token
+  made (record {
+    name = place_id at (← token) c.name;
+    parameters = place_optional place_enclosed at (← over (optional formal_text c.parameters)) c.parameters;
+    ports = place_section place_names at (← over (section k.Ports names_text c.ports)) c.ports;
+    instances = place_section place_instances at (← over (section k.Instances (each_text instance_text) c.instances)) c.instances;
+    channels = place_section place_channels at (← here) c.channels;
+  })
 
 -- the system stands at its keyword
 abbrev pub place_system : Placing SystemDecl
-place_system at n d = record {
-  pos = at n;
-  instances = place_section place_instances at (suc n) d.instances;
-  channels = place_section place_channels at (suc n + length (section k.Instances (each_text instance_text) d.instances)) d.channels;
-}
+place_system at n d = from n do
+  token
+  made (record {
+    pos = at n;
+    instances = place_section place_instances at (← over (section k.Instances (each_text instance_text) d.instances)) d.instances;
+    channels = place_section place_channels at (← here) d.channels;
+  })
