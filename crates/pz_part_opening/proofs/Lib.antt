@@ -1,1 +1,3 @@
+mod Bounds
 mod Openings
+mod Within

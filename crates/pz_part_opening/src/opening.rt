@@ -10,6 +10,7 @@ ghost use Rattle.pz_rules.specs.Becoming.{Became};
 ghost use Rattle.pz_rules.specs.devices.Plainly.{plainly, plainly_all, plainly_each};
 ghost use Rattle.pz_part_opening.specs.Homes.{home_in};
 
+use crate::inside::inside;
 use pz_classes::Checked;
 use pz_classes_code::{Step, StepForm};
 use pz_items::{Boxed, Items, Shared};
@@ -49,10 +50,18 @@ pub fn open_step(alloc: Global, step: &Step) -> Result<Term, AllocError>
     }
 }
 
-/// The term of statements in a sequence: the first stands open, and the others wait behind it. The
-/// only error is want of memory.
+/// The term of statements in a sequence: the first stands open, and the others wait behind it. What is
+/// in brackets alone is gone into before, so this calls itself for parts of the term alone. The only
+/// error is want of memory.
 #[cycle(opening)]
 pub fn open_all(alloc: Global, steps: &Shared<Items<Step>>) -> Result<Term, AllocError>
+    ensures { IfOk result (λ term. term_view term ≡ plainly_all (sequence_view steps.now)) }
+{
+    open_inner(alloc, inside(steps))
+}
+
+#[cycle(opening)]
+fn open_inner(alloc: Global, steps: &Shared<Items<Step>>) -> Result<Term, AllocError>
     ensures { IfOk result (λ term. term_view term ≡ plainly_all (sequence_view steps.now)) }
 {
     match steps.get().as_slice() {

@@ -1,17 +1,22 @@
 use Rattle.std.proofs.Common.{◌≡◌, ◌+◌, ◌*◌, take}
+use Rattle.pz_classes_code.specs.StepView.{view, sequence_view}
 use Rattle.pz_rules.specs.devices.Plainly.{plainly_each}
 use Rattle.pz_rules.specs.View.{terms_view, branches_view}
+use Rattle.pz_part_opening.specs.devices.Weights.{weight, weight_all, weight_each}
 use Rattle.pz_part_opening.proofs.opening.+opening.Given as goal
 
 abbrev pub invariant-open_branches-loop-branch : goal.invariant-open_branches-loop-branch
 invariant-open_branches-loop-branch l = terms_view l.terms ≡ plainly_each (branches_view (take l.branch-index l.branches))
 
--- the depth comes first; at the same depth, branches come before their statements, and these before one statement
+-- the weight comes first; at the same weight, what stands in a bracket comes before what stands inside
 abbrev pub decreases-open_step : goal.decreases-open_step
-decreases-open_step l = 3 * goal.size-open_step l
+decreases-open_step l = 2 * weight (view l.step.now)
 
 abbrev pub decreases-open_all : goal.decreases-open_all
-decreases-open_all l = 3 * goal.size-open_all l + 1
+decreases-open_all l = 2 * weight_all (sequence_view l.steps.now) + 1
+
+abbrev pub decreases-open_inner : goal.decreases-open_inner
+decreases-open_inner l = 2 * weight_all (sequence_view l.steps.now)
 
 abbrev pub decreases-open_branches : goal.decreases-open_branches
-decreases-open_branches l = 3 * goal.size-open_branches l + 2
+decreases-open_branches l = 2 * weight_each (branches_view l.branches.now)
