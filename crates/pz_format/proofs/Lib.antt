@@ -5,4 +5,5 @@ pub mod LayoutCut
 pub mod ReadPieces
 pub mod ReadBack
 pub mod Putting
+pub mod Models
 mod Rows

@@ -3,9 +3,11 @@
 
 mod blanks;
 mod formatting;
+mod laws;
 mod levels;
 mod lines;
 mod spellings;
 mod writing;
 
 pub use formatting::format;
+pub use laws::models_stand_apart;
