@@ -1,0 +1,18 @@
+#!/usr/bin/env bash
+# Measures a table of pairs with 10 to 10,000 receivers on one wire: a sender that comes and goes, the same where one
+# of the receives has a condition, and pairs sought by their numbers.
+source "$(dirname "${BASH_SOURCE[0]}")/common.sh"
+uses rows_match updates 1 0
+
+# What stands there before is timed by itself, and taken off.
+for shape in "10 ${1:-200000} ${2:-200000}" "100 ${1:-200000} ${2:-200000}" "1000 ${1:-200000} ${2:-20000}" "10000 ${1:-200000} ${2:-2000}"; do
+  read -r receivers often seldom <<<"$shape"
+  for case in "updates $often updates" "conditions $seldom updates beside a condition" "pairs $seldom pairs sought"; do
+    read -r words times what <<<"$case"
+    spend "$program" "$words" "$receivers" 0
+    begun=$seconds
+    spend "$program" "$words" "$receivers" "$times"
+    grep -q "^$times done" "$room/out" || fail "$words did not do $times"
+    report "$what, $receivers receivers" "$times" "${what%% *}" "$(less "$seconds" "$begun")" "$kilobytes"
+  done
+done

@@ -1,0 +1,117 @@
+//! Updates and pairs of a table with many receivers on one wire, to be timed.
+
+ghost use Rattle.std.specs.Prelude.{◌≡◌, ◌+◌, ◌<◌, false, length, OnOk};
+
+use crate::asker::Asker;
+use crate::updating::update;
+use pz_match::Pairs;
+use rows_match_plain::{Kind, Wish};
+use std::alloc::{AllocError, Global};
+use std::io;
+use std::sync::ledger::Ledger;
+
+fn on_wire(kind: Kind) -> Wish {
+    Wish {
+        kind,
+        wire: Some(0),
+        second: false,
+        values: 0,
+    }
+}
+
+/// All processes receive; the last one has a receive of this kind.
+fn fill<L: Ledger>(
+    alloc: Global,
+    table: &mut Pairs,
+    asker: &mut Asker<L>,
+    size: u32,
+    last: Kind,
+) -> Result<(), AllocError>
+    requires size { length table.old.senders ≡ size + 1 }
+    requires there { table.old.lost ≡ false }
+    ensures size { OnOk result (length table.new.senders ≡ size + 1) }
+    ensures there { OnOk result (table.new.lost ≡ false) }
+{
+    let wish = [on_wire(Kind::Receive)];
+    for process in 0..size {
+        update(alloc, table, process, &wish, asker)?;
+    }
+    update(alloc, table, size, &[on_wire(last)], asker)
+}
+
+/// So many updates of a process, which stops to send at one and sends again at the next.
+fn come_and_go<L: Ledger>(
+    alloc: Global,
+    table: &mut Pairs,
+    asker: &mut Asker<L>,
+    process: u32,
+    times: u32,
+) -> Result<(), AllocError>
+    requires process { process < length table.old.senders }
+    requires there { table.old.lost ≡ false }
+    ensures there { OnOk result (table.new.lost ≡ false) }
+{
+    let wish = [on_wire(Kind::Send)];
+    for _ in 0..times / 2 {
+        update(alloc, table, process, &[], asker)?;
+        update(alloc, table, process, &wish, asker)?;
+    }
+    Ok(())
+}
+
+/// How many of so many pairs are there, here and there in the table.
+fn seek(table: &Pairs, times: u32) -> Result<u32, AllocError>
+    requires { table.now.lost ≡ false }
+{
+    let count = table.count().max(1);
+    let mut found = 0_u32;
+    for time in 0..times {
+        let pair = table.kth(u64::from(time) * 7_919 % count)?;
+        found = found.saturating_add(u32::from(pair.is_some()));
+    }
+    Ok(found)
+}
+
+fn run<L: Ledger>(
+    alloc: Global,
+    table: &mut Pairs,
+    asker: &mut Asker<L>,
+    bench: &str,
+    size: u32,
+    times: u32,
+) -> Result<u32, AllocError>
+    requires size { length table.old.senders ≡ size + 1 }
+    requires there { table.old.lost ≡ false }
+    ensures there { OnOk result (table.new.lost ≡ false) }
+{
+    let last = if bench == "conditions" {
+        Kind::Asking
+    } else {
+        Kind::Receive
+    };
+    fill(alloc, table, asker, size, last)?;
+    if bench == "pairs" {
+        come_and_go(alloc, table, asker, 0, 2)?;
+        return seek(table, times);
+    }
+    come_and_go(alloc, table, asker, 0, times)?;
+    Ok(times)
+}
+
+/// One of the benches, in a table of so many processes and one: `updates`, `conditions` or `pairs`.
+pub fn show<L: Ledger>(
+    rt: &HostRuntime,
+    table: &mut Pairs,
+    asker: &mut Asker<L>,
+    bench: &str,
+    size: u32,
+    times: u32,
+) -> io::Result<()>
+    requires size { length table.old.senders ≡ size + 1 }
+    requires there { table.old.lost ≡ false }
+{
+    let done = run(rt.alloc(), table, asker, bench, size, times)?;
+    let count = table.count();
+    let questions = asker.take_questions();
+    println!(rt; "{done} done, taken {count}, questions {questions}")
+}

@@ -1,0 +1,6 @@
+use Rattle.std.proofs.Common.{All}
+use Rattle.pz_state.specs.References.{RefersWithin}
+use Rattle.rows_match_plain.proofs.offering.values.Given as goal
+
+abbrev pub invariant-loop : goal.invariant-loop
+invariant-loop l = All (RefersWithin 0) l.values.items
