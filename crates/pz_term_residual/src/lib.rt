@@ -7,7 +7,6 @@
 
 mod heights;
 mod levels;
-mod opening;
 mod outline;
 mod residual;
 mod settling;

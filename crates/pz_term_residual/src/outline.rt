@@ -4,6 +4,7 @@ ghost use Rattle.std.specs.Prelude.{◌≡◌, [], ◌∷◌, ◌++◌, ◌&&◌
 ghost use Rattle.pz_rules.specs.declared.term.Term.{Term as Part};
 ghost use Rattle.pz_classes_code.specs.StepView.{view, sequence_view};
 ghost use Rattle.pz_rules.specs.Terms as terms;
+ghost use Rattle.pz_rules.specs.Terms.{height};
 ghost use Rattle.pz_rules.specs.Leaving as leaving;
 ghost use Rattle.pz_rules.specs.View.{term_view, terms_view};
 ghost use Rattle.pz_rules.specs.devices.Plainly.{plainly as opened, plainly_all as opened_all, plainly_handled};
@@ -11,9 +12,9 @@ ghost use Rattle.pz_term_residual.specs.devices.Capped.{capped};
 ghost use Rattle.pz_term_residual.specs.devices.Outlines.{outline, IsAbove, IsRound};
 
 use crate::heights::{above, greatest_of, height_of};
-use crate::opening::{opened_height, opens_done};
 use pz_classes_code::{Slot, Step};
 use pz_items::{Items, Shared};
+use pz_part_opening::{opens_done, step_within};
 use pz_rules::{Rest, Term};
 use pz_term_around::{all_done, is_bare, is_done};
 
@@ -57,6 +58,13 @@ fn outline_done() -> Outline
         done: true,
         bare: false,
     }
+}
+
+/// The height of what a statement opens as.
+fn opened_height(step: &Step) -> u64
+    ensures { result ≡ capped (height (opened (view step.now))) }
+{
+    step_within(step, u64::MAX)
 }
 
 /// Of what a statement opens as.
