@@ -109,7 +109,7 @@ module _ (known : Known) (setting : Setting) (names : HasUnbrokenNames setting.m
       → end_line setting.model c.clock e ≡ (event_line setting.model f ++ events_text setting.model fs) ++ last → end_line setting.model c.clock e ≡ event_line setting.model f
   first_end c e f fs last is_end is_line same =
       let text : end_line setting.model c.clock e ++ [] ≡ event_line setting.model f ++ (events_text setting.model fs ++ last) =
-          append-nil (end_line setting.model c.clock e) ∙ same ∙ append_assoc (event_line setting.model f) (events_text setting.model fs) last in
+      append-nil (end_line setting.model c.clock e) ∙ same ∙ append_assoc (event_line setting.model f) (events_text setting.model fs) last in
       let x = known.one_line (end_line setting.model c.clock e) (event_line setting.model f) [] (events_text setting.model fs ++ last) is_end is_line text in
       x.same_line
 
@@ -125,17 +125,17 @@ module _ (known : Known) (setting : Setting) (names : HasUnbrokenNames setting.m
       absurd (no_end c f g y at (first_end c f g gs (end_line setting.model last.clock e) (known.end_lines setting.model c.clock f names) apart.0 (sym same)))
   one_way _ _ _ _ _ _ _ _ e f ready (goes c next last left standing g gs at takes way) (goes _ next' last' left' standing' h hs at' takes' way') few apart apart' x y same =
       let text : event_line setting.model g ++ (events_text setting.model gs ++ end_line setting.model last.clock e) ≡ event_line setting.model h ++ (events_text setting.model hs ++ end_line setting.model last'.clock f) =
-          sym (append_assoc (event_line setting.model g) (events_text setting.model gs) (end_line setting.model last.clock e)) ∙ same
-          ∙ append_assoc (event_line setting.model h) (events_text setting.model hs) (end_line setting.model last'.clock f) in
+      sym (append_assoc (event_line setting.model g) (events_text setting.model gs) (end_line setting.model last.clock e)) ∙ same
+      ∙ append_assoc (event_line setting.model h) (events_text setting.model hs) (end_line setting.model last'.clock f) in
       let first = known.one_line (event_line setting.model g) (event_line setting.model h) (events_text setting.model gs ++ end_line setting.model last.clock e)
-          (events_text setting.model hs ++ end_line setting.model last'.clock f) apart.0 apart'.0 text in
+      (events_text setting.model hs ++ end_line setting.model last'.clock f) apart.0 apart'.0 text in
       let event : g ≡ h = one_event c g h at at' few.0 first.same_line in
       let stage = one_taken known setting (underway c whole) (underway next left) (underway next' left') (event_line setting.model g) (event_line setting.model h) ready
-          (few_at c g at few.0) first.same_line takes takes' in
+      (few_at c g at few.0) first.same_line takes takes' in
       let moved : Goes setting next left hs last' standing' = subst (λ (z : Config). Goes setting z left hs last' standing') (sym (next_same stage))
-          (subst (λ (z : Standing). Goes setting next' z hs last' standing') (sym (left_same stage)) way') in
+      (subst (λ (z : Standing). Goes setting next' z hs last' standing') (sym (left_same stage)) way') in
       let rest = one_way next last last' left standing standing' gs hs e f (kept_taken known setting (underway c whole) (underway next left) (event_line setting.model g) ready takes)
-          way moved few.1 apart.1 apart'.1 x y first.same_rest in
+      way moved few.1 apart.1 apart'.1 x y first.same_rest in
       record { events = ap (λ (z : Event). z ∷ gs) event ∙ ap (λ (zs : List Event). h ∷ zs) rest.events; last = rest.last; standing = rest.standing; ending = rest.ending }
 
 pub one_told_run : Known → HasOneToldRun
@@ -145,9 +145,9 @@ one_told_run known setting text sound tells x y few =
     let ready : Ready setting x.start whole = record { sound = sound; wires = known.wires setting.model sound; all = fits.0; fit = fits.1; failed = tt } in
     let reaches : Reaches setting x.start y.events y.last y.standing = subst (λ (z : Config). Reaches setting z y.events y.last y.standing) (sym start) y.reaches in
     let texts = append_cancel_left header (events_text setting.model x.events ++ end_line setting.model x.last.clock x.ending)
-        (events_text setting.model y.events ++ end_line setting.model y.last.clock y.ending) (sym x.is_text ∙ y.is_text) in
+    (events_text setting.model y.events ++ end_line setting.model y.last.clock y.ending) (sym x.is_text ∙ y.is_text) in
     let same = one_way known setting tells.names x.start x.last y.last whole x.standing y.standing x.events y.events x.ending y.ending ready
-        (goes_of setting x.start x.last x.events x.standing x.reaches) (goes_of setting x.start y.last y.events y.standing reaches) few
-        (tells.events x.start x.last x.events x.standing x.is_start x.reaches) (tells.events y.start y.last y.events y.standing y.is_start y.reaches)
-        x.ends y.ends texts in
+    (goes_of setting x.start x.last x.events x.standing x.reaches) (goes_of setting x.start y.last y.events y.standing reaches) few
+    (tells.events x.start x.last x.events x.standing x.is_start x.reaches) (tells.events y.start y.last y.events y.standing y.is_start y.reaches)
+    x.ends y.ends texts in
     (same.events, same.last, same.standing, same.ending)
