@@ -15,3 +15,4 @@ pub mod Followings
 pub mod Outcomes
 pub mod Openings
 pub mod Written
+pub mod OneTold

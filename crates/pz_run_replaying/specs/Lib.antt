@@ -4,4 +4,5 @@ pub mod Refusals
 pub mod Stages
 pub mod Expected
 pub mod Replays
+pub mod Laws
 pub mod devices

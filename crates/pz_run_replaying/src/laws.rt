@@ -1,6 +1,15 @@
 // Laws, each the contract of a function that does nothing.
 
+ghost use Rattle.pz_run_replaying.specs.Laws.{HasOneToldRun};
 ghost use Rattle.pz_run_replaying.specs.devices.Known.{Known};
+
+/// The text of a trace is that of one run of a sound model: it tells the events, the configuration to which
+/// they lead, and the ending.
+pub fn one_told_run()
+    ensures { HasOneToldRun }
+{
+    rules_are_known();
+}
 
 /// What is known of runs, of lines and of writing.
 pub(crate) fn rules_are_known()

@@ -4,7 +4,7 @@
 
 mod fronts;
 mod judging;
-mod laws;
+pub mod laws;
 mod lines;
 mod moving;
 mod refusing;
