@@ -213,34 +213,27 @@ fn show<L: Ledger>(rt: &HostRuntime, ledger: Blank) -> io::Result<()>
     show_rows(rt, &mut table, &mut asker)
 }
 
-/// A bench, with such a judge.
-fn time<L: Ledger>(
-    rt: &HostRuntime,
-    ledger: Blank,
-    bench: &str,
-    size: &str,
-    times: &str,
-) -> io::Result<()>
+/// A bench, with such a judge: which one, how many processes, and how often.
+fn time<L: Ledger>(rt: &HostRuntime, ledger: Blank, words: Vec<String>) -> io::Result<()>
     requires name { ledger.name ≡ L.name }
     requires parts { ledger.parts ≡ L.parts }
     requires some { 0 < L.parts }
 {
+    let [_, bench, size, times] = words.as_slice() else {
+        return Ok(());
+    };
     let mut asker = Asker::<L>::new(ledger);
-    let size = number(Some(size)).min(100_000);
+    let size = number(Some(size.as_str())).min(100_000);
+    let times = number(Some(times.as_str()));
     let mut table = Pairs::new(rt.alloc(), size + 1)?;
-    benches::show(rt, &mut table, &mut asker, bench, size, number(Some(times)))
+    benches::show(rt, &mut table, &mut asker, bench.as_str(), size, times)
 }
 
 fn main(rt: HostRuntime) -> io::Result<()> {
     let words = env::args(&rt)?.collect::<Vec<String>>(rt.alloc())?;
-    match words.as_slice() {
-        [_, bench, size, times] => time::<Brand>(
-            &rt,
-            Blank::new(1),
-            bench.as_str(),
-            size.as_str(),
-            times.as_str(),
-        ),
-        _ => show::<Brand>(&rt, Blank::new(1)),
+    if words.len() == 4 {
+        time::<Brand>(&rt, Blank::new(1), words)
+    } else {
+        show::<Brand>(&rt, Blank::new(1))
     }
 }
