@@ -5,7 +5,7 @@ source "$(dirname "${BASH_SOURCE[0]}")/common.sh"
 uses rows_match updates 1 0
 
 # What stands there before is timed by itself, and taken off.
-for shape in "10 ${1:-200000} ${2:-200000}" "100 ${1:-200000} ${2:-200000}" "1000 ${1:-200000} ${2:-20000}" "10000 ${1:-200000} ${2:-2000}"; do
+for shape in "10 ${1:-2000000} ${2:-2000000}" "100 ${1:-2000000} ${2:-1000000}" "1000 ${1:-2000000} ${2:-100000}" "10000 ${1:-2000000} ${2:-10000}"; do
   read -r receivers often seldom <<<"$shape"
   for case in "updates $often updates" "conditions $seldom updates beside a condition" "pairs $seldom pairs sought"; do
     read -r words times what <<<"$case"
