@@ -70,7 +70,7 @@ pub record SameRest (xs ys : List Event) (c d : Config) (s t : Standing) (e f : 
   pub ending : e ≡ f
 
 module _ (known : Known) (setting : Setting) (names : HasUnbrokenNames setting.model) where
-  IsToldApart : List Event → Type 0
+  abbrev IsToldApart : List Event → Type 0
   IsToldApart es = Each (λ (e : Event). IsLine (event_line setting.model e)) es
 
   few_at : (c : Config) (e : Event) → EventAt setting c e → CountFits e → HasFew setting (underway c whole)
