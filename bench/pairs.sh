@@ -1,6 +1,5 @@
 #!/usr/bin/env bash
-# Measures a table of pairs with 10 to 10,000 receivers on one wire: a sender that comes and goes, the same where one
-# of the receives has a condition, and pairs sought by their numbers.
+# Measures a table of pairs beside 10 to 10,000 receivers: updates, also beside a condition, and pairs sought by number.
 source "$(dirname "${BASH_SOURCE[0]}")/common.sh"
 uses rows_match updates 1 0
 
