@@ -1,19 +1,19 @@
 // What no clause says: that a call with ample memory does not answer want of it, and examples of each
 // answer, with the bytes that are printed.
-use pz_io::{FailingFiles, Files, MemFiles, RoomySink};
+use pz_io::{Files, MemFiles, RoomySink, Sink};
 use pz_run::run_program;
 use std::alloc::{AllocError, Global};
 use std::process::Abort;
 use std::test::Fail;
 
-const MODEL: &str =
+pub(crate) const MODEL: &str =
     "process class P\ninit a()()\nmethods a()()\nskip;\ndelay 3;\nskip\nsystem instances p : P\n";
 
-const TRACE: &str =
+pub(crate) const TRACE: &str =
     "poosl-trace 1\n0 1 0 p call 2:6\n0 1 0 p skip 4:1\n0 time 3\n3 1 0 p expire 5:1\n3 1 0 p skip 6:1\n3 end\n";
 
 // The words of a command line, with one blank between them.
-pub(crate) fn words_of(alloc: Global, line: &str) -> Result<Vec<String>, AllocError> {
+fn words_of(alloc: Global, line: &str) -> Result<Vec<String>, AllocError> {
     let mut words = Vec::new(alloc);
     for word in line.split(' ') {
         words.push(String::from_str(alloc, word)?)?;
@@ -22,7 +22,7 @@ pub(crate) fn words_of(alloc: Global, line: &str) -> Result<Vec<String>, AllocEr
 }
 
 // The files with one model, named `m`, blanks behind its text up to a length.
-fn one_file(alloc: Global, text: &str, length: usize) -> Result<MemFiles, AllocError> {
+pub(crate) fn one_file(alloc: Global, text: &str, length: usize) -> Result<MemFiles, AllocError> {
     let mut bytes = text.as_bytes().to_vec(alloc)?;
     let first = bytes.len();
     for _ in first..length {
@@ -32,7 +32,34 @@ fn one_file(alloc: Global, text: &str, length: usize) -> Result<MemFiles, AllocE
     Ok(MemFiles::new(vec![in alloc; (name, bytes)]?))
 }
 
-// Calls the program with these words, and compares its exit status and what it prints.
+// Calls the program with these words, and gives its exit status.
+pub(crate) fn call<F: Files, W: Sink>(
+    alloc: Global,
+    line: &str,
+    files: &mut F,
+    out: &mut W,
+) -> Result<u8, AllocError> {
+    let words = words_of(alloc, line)?;
+    Ok(run_program(alloc, &words, files, out).number())
+}
+
+// The same, and compares the status and what is printed. The listed writes fail.
+pub(crate) fn expect_through<F: Files>(
+    rt: &impl Abort,
+    alloc: Global,
+    line: &str,
+    files: &mut F,
+    writes: Vec<u64>,
+    status: u8,
+    output: &[u8],
+) -> Result<(), AllocError> {
+    let mut out = RoomySink::new(alloc, 100_000, writes)?;
+    assert_eq!(rt; call(alloc, line, files, &mut out)?, status, "{line}");
+    assert_eq!(rt; out.bytes(), output, "{line}");
+    Ok(())
+}
+
+// The same where no write fails.
 pub(crate) fn expect<F: Files>(
     rt: &impl Abort,
     alloc: Global,
@@ -41,12 +68,8 @@ pub(crate) fn expect<F: Files>(
     status: u8,
     output: &str,
 ) -> Result<(), AllocError> {
-    let words = words_of(alloc, line)?;
-    let mut out = RoomySink::new(alloc, 100_000, Vec::new(alloc))?;
-    let given = run_program(alloc, &words, files, &mut out);
-    assert_eq!(rt; given.number(), status, "{output}");
-    assert_eq!(rt; out.bytes(), output.as_bytes());
-    Ok(())
+    let none = Vec::new(alloc);
+    expect_through(rt, alloc, line, files, none, status, output.as_bytes())
 }
 
 // The same for a model of this text.
@@ -204,42 +227,6 @@ fn a_model_may_have_a_mebibyte_and_no_byte_more(rt: HostRuntime) -> Result<(), F
 }
 
 #[test]
-fn a_missing_model_and_one_that_cannot_be_read_are_read_faults(
-    rt: HostRuntime,
-) -> Result<(), Fail> {
-    expect_of(
-        &rt,
-        rt.alloc(),
-        "run n --first",
-        MODEL,
-        8,
-        "read fault: n\n",
-    )?;
-    let inner = one_file(rt.alloc(), MODEL, 0)?;
-    let mut files = FailingFiles::new(inner, vec![in rt.alloc(); 2]?);
-    expect(
-        &rt,
-        rt.alloc(),
-        "run m --first",
-        &mut files,
-        8,
-        "read fault: m\n",
-    )?;
-    Ok(())
-}
-
-#[test]
-fn a_sink_that_fails_at_its_third_write_has_two_lines(rt: HostRuntime) -> Result<(), Fail> {
-    let words = words_of(rt.alloc(), "run m --first")?;
-    let mut files = one_file(rt.alloc(), MODEL, 0)?;
-    let mut out = RoomySink::new(rt.alloc(), 100_000, vec![in rt.alloc(); 3]?)?;
-    let status = run_program(rt.alloc(), &words, &mut files, &mut out);
-    assert_eq!(rt; status.number(), 9);
-    assert_eq!(rt; out.bytes(), "poosl-trace 1\n0 1 0 p call 2:6\n".as_bytes());
-    Ok(())
-}
-
-#[test]
 fn a_hundred_and_one_constructs_are_too_many(rt: HostRuntime) -> Result<(), Fail> {
     let open = "(".repeat(rt.alloc(), 101)?;
     let close = ")".repeat(rt.alloc(), 101)?;
@@ -251,12 +238,10 @@ fn a_hundred_and_one_constructs_are_too_many(rt: HostRuntime) -> Result<(), Fail
 
 #[test]
 fn a_model_that_calls_itself_stops_after_a_thousand_actions(rt: HostRuntime) -> Result<(), Fail> {
-    let words = words_of(rt.alloc(), "run m --first")?;
     let text = "process class P init a()() methods a()() a()() system instances p : P";
     let mut files = one_file(rt.alloc(), text, 0)?;
     let mut out = RoomySink::new(rt.alloc(), 100_000, Vec::new(rt.alloc()))?;
-    let status = run_program(rt.alloc(), &words, &mut files, &mut out);
-    assert_eq!(rt; status.number(), 0);
+    assert_eq!(rt; call(rt.alloc(), "run m --first", &mut files, &mut out)?, 0);
     assert!(rt; out.bytes().ends_with("0 stop\n".as_bytes()));
     assert_eq!(rt; out.bytes().iter().filter(|b| **b == b'\n').count(), 1002);
     Ok(())

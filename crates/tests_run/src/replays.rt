@@ -1,7 +1,6 @@
 // Replays where a trace is cut, where it is long, and where files or the output fail.
-use crate::programs::{expect, words_of};
-use pz_io::{FailingFiles, MemFiles, RoomySink};
-use pz_run::run_program;
+use crate::programs::{expect, expect_through};
+use pz_io::{FailingFiles, MemFiles};
 use std::alloc::{AllocError, Global};
 use std::test::Fail;
 
@@ -19,48 +18,73 @@ fn two_files(alloc: Global, trace: Vec<u8>) -> Result<MemFiles, AllocError> {
     Ok(MemFiles::new(vec![in alloc; (m, model), (t, trace)]?))
 }
 
+// What is expected in the place of a line that is missing or cut off: nothing of an action, since there no
+// number of an offer can be read.
+const EXPECTED: [&str; 7] = [
+    "expected poosl-trace 1\n",
+    "",
+    "",
+    "expected 0 time 5\n",
+    "",
+    "",
+    "expected 5 end\n",
+];
+
 #[test]
 fn each_front_of_a_trace_is_refused_behind_its_whole_lines(rt: HostRuntime) -> Result<(), Fail> {
     let trace = TRACE.as_bytes();
-    let words = words_of(rt.alloc(), "replay m t")?;
     for cut in 0..trace.len() {
         let front = &trace[..cut];
-        let mut files = two_files(rt.alloc(), front.to_vec(rt.alloc())?)?;
-        let mut out = RoomySink::new(rt.alloc(), 100_000, Vec::new(rt.alloc()))?;
-        let status = run_program(rt.alloc(), &words, &mut files, &mut out);
-        let lines = front.iter().filter(|b| **b == b'\n').count();
         let whole = match front.iter().rposition(|b| *b == b'\n') {
             Some(last) => &front[..last + 1],
             None => b"",
         };
-        let refused = format!(in rt.alloc(); "refused line {}\n", lines + 1)?;
-        assert_eq!(rt; status.number(), 6);
-        assert!(rt; out.bytes().starts_with(whole));
-        assert!(rt; out.bytes()[whole.len()..].starts_with(refused.as_bytes()));
+        let lines = front.iter().filter(|b| **b == b'\n').count();
+        let expected = EXPECTED.get(lines).copied().unwrap_or("");
+        let refused = format!(in rt.alloc(); "refused line {}\n{expected}", lines + 1)?;
+        let mut output = whole.to_vec(rt.alloc())?;
+        output.extend_from_slice(refused.as_bytes())?;
+        let mut files = two_files(rt.alloc(), front.to_vec(rt.alloc())?)?;
+        let none = Vec::new(rt.alloc());
+        expect_through(&rt, rt.alloc(), "replay m t", &mut files, none, 6, &output)?;
     }
     Ok(())
 }
 
 #[test]
+fn a_line_behind_the_end_is_refused(rt: HostRuntime) -> Result<(), Fail> {
+    let trace = format!(in rt.alloc(); "{TRACE}5 end\n")?;
+    let output = format!(in rt.alloc(); "{TRACE}refused line 8\n")?;
+    let mut files = two_files(rt.alloc(), trace.into_bytes())?;
+    expect(
+        &rt,
+        rt.alloc(),
+        "replay m t",
+        &mut files,
+        6,
+        output.as_str(),
+    )?;
+    Ok(())
+}
+
+// The model is read by calls 1 to 3, the trace by calls 4 to 6.
+#[test]
 fn the_file_that_failed_is_named(rt: HostRuntime) -> Result<(), Fail> {
-    // The model is read by calls 1 to 3, the trace from call 4 on.
-    let rows = [
-        (1, "read fault: m\n"),
-        (2, "read fault: m\n"),
-        (4, "read fault: t\n"),
-        (5, "read fault: t\n"),
-    ];
-    for (call, output) in rows {
+    for call in 1..8u64 {
         let inner = two_files(rt.alloc(), TRACE.as_bytes().to_vec(rt.alloc())?)?;
         let mut files = FailingFiles::new(inner, vec![in rt.alloc(); call]?);
-        expect(&rt, rt.alloc(), "replay m t", &mut files, 8, output)?;
+        let (status, output) = match call {
+            1..4 => (8, "read fault: m\n"),
+            4..7 => (8, "read fault: t\n"),
+            _ => (0, TRACE),
+        };
+        expect(&rt, rt.alloc(), "replay m t", &mut files, status, output)?;
     }
     Ok(())
 }
 
 #[test]
 fn a_sink_that_fails_has_the_lines_before(rt: HostRuntime) -> Result<(), Fail> {
-    let words = words_of(rt.alloc(), "replay m t")?;
     let cut = "poosl-trace 1\n0 2 0 s call 4:6\n0 1 0 r call 9:6\n";
     let rows = [
         (1, ""),
@@ -73,10 +97,9 @@ fn a_sink_that_fails_has_the_lines_before(rt: HostRuntime) -> Result<(), Fail> {
     ];
     for (write, output) in rows {
         let mut files = two_files(rt.alloc(), cut.as_bytes().to_vec(rt.alloc())?)?;
-        let mut out = RoomySink::new(rt.alloc(), 100_000, vec![in rt.alloc(); write]?)?;
-        let status = run_program(rt.alloc(), &words, &mut files, &mut out);
-        assert_eq!(rt; status.number(), 9);
-        assert_eq!(rt; out.bytes(), output.as_bytes());
+        let writes = vec![in rt.alloc(); write]?;
+        let output = output.as_bytes();
+        expect_through(&rt, rt.alloc(), "replay m t", &mut files, writes, 9, output)?;
     }
     Ok(())
 }
