@@ -1,0 +1,4 @@
+pub mod Named
+pub mod Deep
+pub mod Stable
+pub mod Rows

@@ -1,0 +1,142 @@
+-- What a plain call opens as does not depend on how deep calls are followed, once that is deep enough.
+use Rattle.std.proofs.Common.{◌≡◌, refl, sym, ap, ◌∙◌, ◌≤◌, ◌<◌, ℕ, zero, suc, List, [], ◌∷◌, ◌++◌, length, Option, Some, None, arith, Contains}
+use Rattle.std.specs.List.{AllByRecursion}
+use Rattle.pz_syntax.specs.declared.tokens.Pos.{Pos}
+use Rattle.pz_syntax.specs.declared.names.Id.{Id}
+use Rattle.pz_syntax.specs.Expressions.{none, more}
+use Rattle.pz_syntax.specs.Statements.{skip, delay, bracketed, block, guarded, parallel, select, conditional, repeated, abort, interrupt, send, receive, call, assignment, value, no_statements, then, Branches, no_branches, branch}
+use Rattle.pz_value.specs.declared.value.ClassId.{ClassId}
+use Rattle.pz_classes_code.specs.declared.slot.Slot.{Slot}
+use Rattle.pz_classes.specs.Bodies.{BodyTree, data_body, process_body}
+use Rattle.pz_classes.specs.Methods.{method_id}
+use Rattle.pz_classes_beginnings.specs.Beginning.{begun, begun_all, begun_each}
+use Rattle.pz_classes_openings.specs.Openings.{called}
+use Rattle.pz_state.specs.States.{StateView, opened as with_frame}
+use Rattle.pz_rules.specs.Terms as terms
+use Rattle.pz_rules.specs.Terms.{Step, Steps, Terms, and}
+use Rattle.pz_rules.specs.Settings.{Process, left_by, Home}
+use Rattle.pz_rules.specs.FrameNumbers.{least_free}
+use Rattle.pz_rules.specs.Leaving.{framed}
+use Rattle.pz_rules.specs.Opening.{Beside, step_opened, steps_opened, branches_opened}
+use Rattle.pz_rules_entering.specs.Entering.{in_frame, called_body, by_body, entered_to, depth_of, opens_at_once, all_open_at_once}
+use Rattle.pz_rules_entering.specs.Shallow.{Shallow}
+use Rattle.pz_rules_entering.specs.Laws.{CallsUnfold}
+use Rattle.pz_rules_entering.proofs.Named.{Means, call_means}
+use Rattle.pz_rules_entering.proofs.Deep.{has_called, methods_are_shallow}
+
+module _ (P : Id → Type 0) where
+  front : (xs ys : List Id) → AllByRecursion P (xs ++ ys) → AllByRecursion P xs
+  front [] ys h = tt
+  front (x ∷ xs) ys h = (h.0, front xs ys h.1)
+
+  back : (xs ys : List Id) → AllByRecursion P (xs ++ ys) → AllByRecursion P ys
+  back [] ys h = h
+  back (x ∷ xs) ys h = back xs ys h.1
+
+  each_of : (xs : List Id) → ((x : Id) → Contains xs x → P x) → AllByRecursion P xs
+  each_of [] f = tt
+  each_of (x ∷ xs) f = (f x (0, omega arith, refl), each_of xs (λ y at. f y (suc at.0, (let low = at.1 in omega (arith, low)), at.2)))
+
+-- where the plain calls with which statements begin open the same in two ways, so do the statements
+module _ (enter other : Step → StateView → Process) where
+  abbrev Same : Id → Type 0
+  Same x = (pos : Pos) (s : StateView) → enter (call pos x none []) s ≡ other (call pos x none []) s
+
+  abbrev beside : StateView → Terms → Beside
+  beside s ts = record { terms = ts; state = s }
+
+  mutual
+    step_same : (r : Step) → AllByRecursion Same (begun r) → (s : StateView) → step_opened enter r s ≡ step_opened other r s
+    step_same (bracketed at ts) h s = steps_same ts h s
+    step_same (guarded at e t) h s = ap (λ (x : Process). left_by x.state (terms.guarded e at x.term)) (step_same t h s)
+    step_same (parallel at bs) h s = ap (λ (xs : Beside). left_by xs.state (terms.parallel xs.terms)) (branches_same bs h s)
+    step_same (select at bs) h s = ap (λ (xs : Beside). left_by xs.state (terms.select xs.terms)) (branches_same bs h s)
+    step_same (abort at ts t) h s =
+        ap (λ (x : Process). let y = step_opened enter t x.state in left_by y.state (terms.abort x.term y.term)) (steps_same ts (front Same (begun_all ts) (begun t) h) s)
+        ∙ ap (λ (y : Process). left_by y.state (terms.abort (steps_opened other ts s).term y.term)) (step_same t (back Same (begun_all ts) (begun t) h) (steps_opened other ts s).state)
+    step_same (interrupt at ts t) h s =
+        ap (λ (x : Process). let y = step_opened enter t x.state in left_by y.state (terms.idle x.term y.term t)) (steps_same ts (front Same (begun_all ts) (begun t) h) s)
+        ∙ ap (λ (y : Process). left_by y.state (terms.idle (steps_opened other ts s).term y.term t)) (step_same t (back Same (begun_all ts) (begun t) h) (steps_opened other ts s).state)
+    step_same (call at method none []) h s = h.0 at s
+    step_same (call at method none (x ∷ xs)) h s = refl
+    step_same (call at method (more e es) results) h s = refl
+    step_same (skip at) h s = refl
+    step_same (delay at e) h s = refl
+    step_same (block at es) h s = refl
+    step_same (conditional at e ts rest) h s = refl
+    step_same (repeated at e ts) h s = refl
+    step_same (send at port name args after) h s = refl
+    step_same (receive at port name into condition after) h s = refl
+    step_same (assignment at x e) h s = refl
+    step_same (value at e) h s = refl
+
+    pub steps_same : (ts : Steps) → AllByRecursion Same (begun_all ts) → (s : StateView) → steps_opened enter ts s ≡ steps_opened other ts s
+    steps_same no_statements h s = refl
+    steps_same ((then) r no_statements) h s = step_same r h s
+    steps_same ((then) r ((then) q rest)) h s = ap (λ (x : Process). left_by x.state (terms.sequence x.term ((then) q rest))) (step_same r h s)
+
+    branches_same : (bs : Branches Slot ClassId ℕ) → AllByRecursion Same (begun_each bs) → (s : StateView) → branches_opened enter bs s ≡ branches_opened other bs s
+    branches_same no_branches h s = refl
+    branches_same (branch ts bs) h s =
+        ap (λ (x : Process). let xs = branches_opened enter bs x.state in beside xs.state (and x.term xs.terms)) (steps_same ts (front Same (begun_all ts) (begun_each bs) h) s)
+        ∙ ap (λ (xs : Beside). beside xs.state (and (steps_opened other ts s).term xs.terms)) (branches_same bs (back Same (begun_all ts) (begun_each bs) h) (steps_opened other ts s).state)
+
+-- a frame round statements that open the same
+framed_same : (locals : ℕ) (inside other : StateView → Process) (s : StateView) → inside (with_frame s (least_free s.frames) locals) ≡ other (with_frame s (least_free s.frames) locals) → in_frame locals inside s ≡ in_frame locals other s
+framed_same locals inside other s same = ap (λ (x : Process). left_by x.state (framed (least_free s.frames) 0 [] x.term)) same
+
+module _ (h : Home) where
+  abbrev plainly_called : Pos → Id → Step
+  plainly_called pos x = call pos x none []
+
+  -- the method that a call of this name means is no deeper
+  abbrev IsShallow : ℕ → Id → Type 0
+  IsShallow n x = (l : ℕ) → called h.model h.class x ≡ Some (method_id l) → Shallow h.model h.class n l
+
+  module _ (n : ℕ) (x : Id) (locals : ℕ) (body : Steps) (deep : IsShallow (suc n) x) (is : called_body h x ≡ Some (process_body locals body)) where
+    -- so are those with which its body begins
+    begun_shallow : (y : Id) → Contains (begun_all body) y → IsShallow n y
+    begun_shallow y among l named = by_meaning (call_means h.model h.class x locals body is)
+      where
+        by_meaning : Means h.model h.class x body → Shallow h.model h.class n l
+        by_meaning means = deep means.number means.is y l (rw means.begins at among) named
+
+  not_there : (x : Id) (locals : ℕ) (body : Steps) → IsShallow zero x → called_body h x ≡ Some (process_body locals body) → ⊥
+  not_there x locals body deep is = let means = call_means h.model h.class x locals body is in deep means.number means.is
+
+  pub stable : (n k : ℕ) (x : Id) → IsShallow n x → n ≤ k → (pos : Pos) (s : StateView) → entered_to h k (plainly_called pos x) s ≡ entered_to h n (plainly_called pos x) s
+  stable zero zero x deep le pos s = refl
+  stable zero (suc k) x deep le pos s = by_found (called_body h x) refl
+    where
+      by_found : (o : Option BodyTree) → called_body h x ≡ o → by_body o (steps_opened (entered_to h k)) (plainly_called pos x) s ≡ left_by s (terms.leaf (plainly_called pos x))
+      by_found None is = refl
+      by_found (Some (data_body locals e)) is = refl
+      by_found (Some (process_body locals body)) is = absurd (not_there x locals body deep is)
+  stable (suc n) zero x deep le pos s = absurd (omega (arith, le))
+  stable (suc n) (suc k) x deep le pos s = by_found (called_body h x) refl (λ y shallow at t. stable n k y shallow (omega (arith, le)) at t)
+    where
+      by_found : (o : Option BodyTree) → called_body h x ≡ o → ((y : Id) → IsShallow n y → Same (entered_to h k) (entered_to h n) y)
+          → by_body o (steps_opened (entered_to h k)) (plainly_called pos x) s ≡ by_body o (steps_opened (entered_to h n)) (plainly_called pos x) s
+      by_found None is below = refl
+      by_found (Some (data_body locals e)) is below = refl
+      by_found (Some (process_body locals body)) is below =
+          framed_same locals (steps_opened (entered_to h k) body) (steps_opened (entered_to h n) body) s
+          (steps_same (entered_to h k) (entered_to h n) body
+          (each_of (Same (entered_to h k) (entered_to h n)) (begun_all body) (λ y among. below y (begun_shallow n x locals body deep is y among)))
+          (with_frame s (least_free s.frames) locals))
+
+  -- a call whose method is no deeper unfolds
+  unfolds_at : (d : ℕ) (pos : Pos) (x : Id) (locals : ℕ) (body : Steps) (s : StateView) → IsShallow d x → called_body h x ≡ Some (process_body locals body)
+      → entered_to h d (plainly_called pos x) s ≡ in_frame locals (steps_opened (entered_to h d) body) s
+  unfolds_at zero pos x locals body s deep is = absurd (not_there x locals body deep is)
+  unfolds_at (suc n) pos x locals body s deep is =
+      ap (λ (o : Option BodyTree). by_body o (steps_opened (entered_to h n)) (plainly_called pos x) s) is
+      ∙ framed_same locals (steps_opened (entered_to h n) body) (steps_opened (entered_to h (suc n)) body) s
+      (steps_same (entered_to h n) (entered_to h (suc n)) body
+      (each_of (Same (entered_to h n) (entered_to h (suc n))) (begun_all body) (λ y among at t. sym (stable n (suc n) y (begun_shallow n x locals body deep is y among) (omega arith) at t)))
+      (with_frame s (least_free s.frames) locals))
+
+pub calls_unfold : CallsUnfold
+calls_unfold h pos method locals body s process none is =
+    unfolds_at h (depth_of h.model) pos method locals body s
+    (λ l named. methods_are_shallow h.model h.class l process none (has_called h.model h.class method l named)) is
