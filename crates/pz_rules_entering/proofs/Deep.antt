@@ -69,17 +69,23 @@ module _ (m : ModelTree) (c : ℕ) (d : DeclTree) (declared : declaration m c �
     not_again : list_any (eqb l) (k ∷ xs) ≡ true → ⊥
     not_again again = none (violation 23 x.pos) (round c k l d x declared process has begun is (lead l again))
 
-  shallow : (depth k : ℕ) (xs : List ℕ) → IsDistinct eqb (k ∷ xs) → AllBelow (k ∷ xs) → AllLead (k ∷ xs) k → HasMethod m c k → length (methods m) ≤ depth + length xs → Shallow m c depth k
+  abbrev IsKnown : ℕ → ℕ → List ℕ → Type 0
+  IsKnown depth k xs = IsDistinct eqb (k ∷ xs) → AllBelow (k ∷ xs) → AllLead (k ∷ xs) k → HasMethod m c k → length (methods m) ≤ depth + length xs → Shallow m c depth k
+
+  goes_on : (depth k : ℕ) (xs : List ℕ) → IsDistinct eqb (k ∷ xs) → AllBelow (k ∷ xs) → AllLead (k ∷ xs) k → HasMethod m c k → length (methods m) ≤ suc depth + length xs
+      → (x : Id) (l : ℕ) → Contains (begun_at m k) x → called m c x ≡ Some (method_id l) → IsKnown depth l (k ∷ xs) → Shallow m c depth l
+  goes_on depth k xs once low lead has enough x l begun is go = by_test (list_any (eqb l) (k ∷ xs)) refl
+    where
+      by_test : (b : Bool) → list_any (eqb l) (k ∷ xs) ≡ b → Shallow m c depth l
+      by_test true e = absurd (not_again k xs lead low has x l begun is e)
+      by_test false e =
+          go (IsDistinct-cons eqb l (k ∷ xs) (apart l (k ∷ xs) e) once) (all_below k xs lead low has x l begun is) (all_lead k xs lead low has x l begun is) (has_called m c x l is) (omega (arith, enough))
+
+  shallow : (depth k : ℕ) (xs : List ℕ) → IsKnown depth k xs
   shallow zero k xs once low lead has enough =
       let many = length-le_from_distinct_below (k ∷ xs) (length (methods m)) once low in
       absurd (omega (arith, many, enough))
-  shallow (suc depth) k xs once low lead has enough x l begun is = by_test (list_any (eqb l) (k ∷ xs)) refl (shallow depth l (k ∷ xs))
-    where
-      by_test : (b : Bool) → list_any (eqb l) (k ∷ xs) ≡ b
-          → (IsDistinct eqb (l ∷ k ∷ xs) → AllBelow (l ∷ k ∷ xs) → AllLead (l ∷ k ∷ xs) l → HasMethod m c l → length (methods m) ≤ depth + length (k ∷ xs) → Shallow m c depth l) → Shallow m c depth l
-      by_test true e go = absurd (not_again k xs lead low has x l begun is e)
-      by_test false e go =
-          go (IsDistinct-cons eqb l (k ∷ xs) (apart l (k ∷ xs) e) once) (all_below k xs lead low has x l begun is) (all_lead k xs lead low has x l begun is) (has_called m c x l is) (omega (arith, enough))
+  shallow (suc depth) k xs once low lead has enough = λ x l begun is. goes_on depth k xs once low lead has enough x l begun is (shallow depth l (k ∷ xs))
 
   alone_leads : (k : ℕ) → AllLead (k ∷ []) k
   alone_leads k q among = by_test (eqb q k) refl among

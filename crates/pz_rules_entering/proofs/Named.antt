@@ -1,22 +1,24 @@
 -- A body begins with the plain calls with which the method at its number begins.
 use Rattle.std.proofs.Common.{◌≡◌, refl, sym, ap, ◌∙◌, ℕ, zero, suc, List, [], ◌∷◌, ◌++◌, map, Option, Some, None, slice_get}
-use Rattle.std.specs.Option.{unwrap_or, option_map_or, option_and_then}
+use Rattle.std.specs.Option.{unwrap_or, option_map_or}
 use Rattle.std.specs.List.{flat_map}
 use Rattle.pz_syntax.specs.declared.names.Id.{Id}
 use Rattle.pz_syntax.specs.Statements.{no_statements}
 use Rattle.pz_syntax.specs.Classes.{DeclTree, data_class, process_class, cluster_class, system, DataMethodTree, ProcessMethodTree, ModelTree}
 use Rattle.pz_classes_code.specs.Resolution.{Scope, resolved_statements}
 use Rattle.pz_classes.specs.declared.method_id.Counts.TheVariants.{Process}
-use Rattle.pz_classes.specs.declared.method_id.MethodId.{MethodId}
-use Rattle.pz_classes.specs.Methods.{Signature, method_id, method_with}
+use Rattle.pz_classes.specs.Methods.{Signature, method_id}
 use Rattle.pz_classes.specs.Bodies.{BodyTree, process_body, data_scope, process_scope, data_body_in, process_body_in, process_locals, own_bodies, bodies_from, bodies}
-use Rattle.pz_classes.specs.MethodBodies.{body_with, process_method_body}
-use Rattle.pz_classes.proofs.MethodBodies.{body_is}
+use Rattle.pz_classes.specs.MethodBodies.{HasBody, process_method_body}
 use Rattle.pz_classes_beginnings.specs.Beginning.{begun_all}
 use Rattle.pz_classes_openings.specs.Methods.{declared_methods, methods, method_at}
 use Rattle.pz_classes_openings.specs.Openings.{begun_at, called}
 use Rattle.pz_classes_openings.proofs.Resolved.{begun_all_same}
 use Rattle.pz_rules.specs.Terms.{Steps}
+
+-- the signature of a plain call
+abbrev pub plain : Id → Signature
+plain x = record { name = x.name; counts = Process 0 0 }
 
 -- a method and its body
 data Resolves : Option ProcessMethodTree → BodyTree → Type 0 where
@@ -76,6 +78,9 @@ pub record Means (m : ModelTree) (c : ℕ) (x : Id) (body : Steps) : Type 0 wher
   pub is : called m c x ≡ Some (method_id number)
   pub begins : begun_all body ≡ begun_at m number
 
+some_same : (a b : BodyTree) → Some a ≡ Some b → a ≡ b
+some_same a b e = cc
+
 module _ (m : ModelTree) (c : ℕ) (x : Id) (locals : ℕ) (body : Steps) where
   stands_at : (k : ℕ) → slice_get (bodies m) k ≡ Some (process_body locals body) → begun_all body ≡ begun_at m k
   stands_at k here = by_row (resolved_at (methods m) (bodies m) k (process_body locals body) (all_parallel m 1 m.decls) here)
@@ -85,9 +90,8 @@ module _ (m : ModelTree) (c : ℕ) (x : Id) (locals : ℕ) (body : Steps) where
           begins_so r.method (process_body locals body) locals body r.resolves refl
           ∙ ap (λ (o : Option (Option ProcessMethodTree)). begun_all (option_map_or (λ q. q.body) (unwrap_or o None) no_statements)) (sym r.there)
 
-  pub call_means : process_method_body m c x.name 0 0 ≡ Some (process_body locals body) → Means m c x body
-  call_means is = by_number (called m c x) refl (body_is m (record { name = x.name; counts = Process 0 0 }) c ∙ is)
-    where
-      by_number : (o : Option MethodId) → called m c x ≡ o → option_and_then (λ n. slice_get (bodies m) n.0) o ≡ Some (process_body locals body) → Means m c x body
-      by_number None found at = cc
-      by_number (Some n) found at = record { number = n.0; is = found; begins = stands_at n.0 at }
+  -- where the class has such a method
+  pub call_means : HasBody m c (plain x) → process_method_body m c x.name 0 0 ≡ Some (process_body locals body) → Means m c x body
+  call_means has is =
+      let same : has.body ≡ process_body locals body = some_same has.body (process_body locals body) (sym has.is ∙ is) in
+      record { number = has.number.0; is = has.found; begins = stands_at has.number.0 (has.there ∙ ap Some same) }

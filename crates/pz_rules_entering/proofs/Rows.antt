@@ -8,15 +8,42 @@
 --   d()() skip; d()()
 use Rattle.std.proofs.Common.{◌≡◌, ℕ, List, [], ◌∷◌, map, Some, None, codes, refl}
 use Rattle.pz_syntax.specs.Expressions.{none}
-use Rattle.pz_syntax.specs.Statements.{skip, call}
+use Rattle.pz_syntax.specs.declared.tokens.Pos.{Pos}
+use Rattle.pz_syntax.specs.declared.names.Id.{Id}
+use Rattle.pz_syntax.specs.Statements.{Statement, Statements, Branches, skip, call, no_statements, then, no_branches, branch}
 use Rattle.pz_syntax.specs.Statements as statement
-use Rattle.pz_syntax.specs.Classes.{process_class, ModelTree}
+use Rattle.pz_syntax.specs.Classes.{ProcessMethodTree, process_class, ModelTree}
 use Rattle.pz_state.specs.States.{StateView, initial}
 use Rattle.pz_rules.specs.declared.limits.Edition.TheVariants.{Two}
-use Rattle.pz_rules.specs.Terms.{Step, Term, leaf, sequence, parallel, frame}
+use Rattle.pz_rules.specs.Terms.{Step, Term, leaf, sequence, parallel, frame, Terms, no_terms, and}
 use Rattle.pz_rules.specs.Settings.{Home, left_by}
-use Rattle.pz_rules.proofs.worked.Models.{at, id, steps, branches, begins_by, method_of, terms}
 use Rattle.pz_rules_entering.specs.Entering.{opens_at_once}
+
+-- Short forms
+
+abbrev at : ℕ → ℕ → Pos
+at line column = record { line = line; column = column }
+
+abbrev id : List ℕ → ℕ → ℕ → Id
+id name line column = record { name = name; pos = at line column }
+
+module _ {X K Q : Type 0} where
+  abbrev steps : List (Statement X K Q) → Statements X K Q
+  steps [] = no_statements
+  steps (s ∷ ss) = (then) s (steps ss)
+
+  abbrev branches : List (Statements X K Q) → Branches X K Q
+  branches [] = no_branches
+  branches (ss ∷ bs) = branch ss (branches bs)
+
+abbrev terms : List Term → Terms
+terms [] = no_terms
+terms (t ∷ ts) = and t (terms ts)
+
+abbrev method_of : Id → Statements Id Id Id → ProcessMethodTree
+method_of name body = record { name = name; inputs = []; outputs = []; locals = None; body = body }
+
+-- The model
 
 abbrev model : ModelTree
 model = record {
@@ -28,7 +55,7 @@ model = record {
         ports = None;
         messages = None;
         variables = None;
-        start = begins_by (id (codes "a") 2 6);
+        start = Some (record { method = (id (codes "a") 2 6); args = none });
         methods = Some (
             method_of (id (codes "a") 3 9) (steps (statement.parallel (at 3 15) (branches (steps (call (at 3 19) (id (codes "b") 3 19) none [] ∷ []) ∷ steps (call (at 3 29) (id (codes "c") 3 29) none [] ∷ []) ∷ [])) ∷ [])) ∷
             method_of (id (codes "b") 4 1) (steps (skip (at 4 7) ∷ [])) ∷

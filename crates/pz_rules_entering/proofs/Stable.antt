@@ -1,14 +1,18 @@
 -- What a plain call opens as does not depend on how deep calls are followed, once that is deep enough.
-use Rattle.std.proofs.Common.{◌≡◌, refl, sym, ap, ◌∙◌, ◌≤◌, ◌<◌, ℕ, zero, suc, List, [], ◌∷◌, ◌++◌, length, Option, Some, None, arith, Contains}
+use Rattle.std.proofs.Common.{◌≡◌, refl, sym, ap, subst, ◌∙◌, ◌≤◌, ◌<◌, ℕ, zero, suc, List, [], ◌∷◌, ◌++◌, length, Option, Some, None, arith, Contains}
 use Rattle.std.specs.List.{AllByRecursion}
 use Rattle.pz_syntax.specs.declared.tokens.Pos.{Pos}
 use Rattle.pz_syntax.specs.declared.names.Id.{Id}
 use Rattle.pz_syntax.specs.Expressions.{none, more}
+use Rattle.pz_syntax.specs.Classes.{ModelTree}
 use Rattle.pz_syntax.specs.Statements.{skip, delay, bracketed, block, guarded, parallel, select, conditional, repeated, abort, interrupt, send, receive, call, assignment, value, no_statements, then, Branches, no_branches, branch}
 use Rattle.pz_value.specs.declared.value.ClassId.{ClassId}
 use Rattle.pz_classes_code.specs.declared.slot.Slot.{Slot}
 use Rattle.pz_classes.specs.Bodies.{BodyTree, data_body, process_body}
+use Rattle.pz_classes.specs.FitBodies.{StatementFits, StatementsFit, BranchesFit}
+use Rattle.pz_classes.specs.MethodBodies.{HasBody}
 use Rattle.pz_classes.specs.Methods.{method_id}
+use Rattle.pz_classes.specs.SoundBodies.{BodiesFit, SoundBodiesFit}
 use Rattle.pz_classes_beginnings.specs.Beginning.{begun, begun_all, begun_each}
 use Rattle.pz_classes_openings.specs.Openings.{called}
 use Rattle.pz_state.specs.States.{StateView, opened as with_frame}
@@ -21,7 +25,7 @@ use Rattle.pz_rules.specs.Opening.{Beside, step_opened, steps_opened, branches_o
 use Rattle.pz_rules_entering.specs.Entering.{in_frame, called_body, by_body, entered_to, depth_of, opens_at_once, all_open_at_once}
 use Rattle.pz_rules_entering.specs.Shallow.{Shallow}
 use Rattle.pz_rules_entering.specs.Laws.{CallsUnfold}
-use Rattle.pz_rules_entering.proofs.Named.{Means, call_means}
+use Rattle.pz_rules_entering.proofs.Named.{plain, call_means}
 use Rattle.pz_rules_entering.proofs.Deep.{has_called, methods_are_shallow}
 
 module _ (P : Id → Type 0) where
@@ -33,9 +37,17 @@ module _ (P : Id → Type 0) where
   back [] ys h = h
   back (x ∷ xs) ys h = back xs ys h.1
 
-  each_of : (xs : List Id) → ((x : Id) → Contains xs x → P x) → AllByRecursion P xs
-  each_of [] f = tt
-  each_of (x ∷ xs) f = (f x (0, omega arith, refl), each_of xs (λ y at. f y (suc at.0, (let low = at.1 in omega (arith, low)), at.2)))
+  joined : (xs ys : List Id) → AllByRecursion P xs → AllByRecursion P ys → AllByRecursion P (xs ++ ys)
+  joined [] ys h k = k
+  joined (x ∷ xs) ys h k = (h.0, joined xs ys h.1 k)
+
+each_map : (P Q : Id → Type 0) → ((x : Id) → P x → Q x) → (xs : List Id) → AllByRecursion P xs → AllByRecursion Q xs
+each_map P Q f [] h = tt
+each_map P Q f (x ∷ xs) h = (f x h.0, each_map P Q f xs h.1)
+
+both_of : (P Q : Id → Type 0) (xs : List Id) → AllByRecursion P xs → ((x : Id) → Contains xs x → Q x) → AllByRecursion (λ x. P x × Q x) xs
+both_of P Q [] h f = tt
+both_of P Q (x ∷ xs) h f = ((h.0, f x (0, omega arith, refl)), both_of P Q xs h.1 (λ y at. f y (suc at.0, (let low = at.1 in omega (arith, low)), at.2)))
 
 -- where the plain calls with which statements begin open the same in two ways, so do the statements
 module _ (enter other : Step → StateView → Process) where
@@ -85,24 +97,63 @@ module _ (enter other : Step → StateView → Process) where
 framed_same : (locals : ℕ) (inside other : StateView → Process) (s : StateView) → inside (with_frame s (least_free s.frames) locals) ≡ other (with_frame s (least_free s.frames) locals) → in_frame locals inside s ≡ in_frame locals other s
 framed_same locals inside other s same = ap (λ (x : Process). left_by x.state (framed (least_free s.frames) 0 [] x.term)) same
 
-module _ (h : Home) where
+module _ (m : ModelTree) (c : ℕ) where
+  abbrev Has : Id → Type 0
+  Has x = HasBody m c (plain x)
+
+  -- the class has the methods that are called where what fits it begins
+  mutual
+    begun_have : (l : ℕ) (t : Step) → StatementFits m c l t → AllByRecursion Has (begun t)
+    begun_have l (bracketed at ts) h = all_begun_have l ts h
+    begun_have l (guarded at e t) h = begun_have l t h.1
+    begun_have l (parallel at bs) h = each_begun_have l bs h
+    begun_have l (select at bs) h = each_begun_have l bs h
+    begun_have l (abort at ts t) h = joined Has (begun_all ts) (begun t) (all_begun_have l ts h.0) (begun_have l t h.1)
+    begun_have l (interrupt at ts t) h = joined Has (begun_all ts) (begun t) (all_begun_have l ts h.0) (begun_have l t h.1)
+    begun_have l (call at method none []) h = (h.0, tt)
+    begun_have l (call at method none (x ∷ xs)) h = tt
+    begun_have l (call at method (more e es) results) h = tt
+    begun_have l (skip at) h = tt
+    begun_have l (delay at e) h = tt
+    begun_have l (block at es) h = tt
+    begun_have l (conditional at e ts rest) h = tt
+    begun_have l (repeated at e ts) h = tt
+    begun_have l (send at port name args after) h = tt
+    begun_have l (receive at port name into condition after) h = tt
+    begun_have l (assignment at x e) h = tt
+    begun_have l (value at e) h = tt
+
+    all_begun_have : (l : ℕ) (ts : Steps) → StatementsFit m c l ts → AllByRecursion Has (begun_all ts)
+    all_begun_have l no_statements h = tt
+    all_begun_have l ((then) t ts) h = begun_have l t h.0
+
+    each_begun_have : (l : ℕ) (bs : Branches Slot ClassId ℕ) → BranchesFit m c l bs → AllByRecursion Has (begun_each bs)
+    each_begun_have l no_branches h = tt
+    each_begun_have l (branch ts bs) h = joined Has (begun_all ts) (begun_each bs) (all_begun_have l ts h.0) (each_begun_have l bs h.1)
+
+module _ (h : Home) (fit : BodiesFit h.model) where
   abbrev plainly_called : Pos → Id → Step
   plainly_called pos x = call pos x none []
 
-  -- the method that a call of this name means is no deeper
+  -- the class has the method that a call of this name means, and that is no deeper
   abbrev IsShallow : ℕ → Id → Type 0
-  IsShallow n x = (l : ℕ) → called h.model h.class x ≡ Some (method_id l) → Shallow h.model h.class n l
+  IsShallow n x = Has h.model h.class x × ((l : ℕ) → called h.model h.class x ≡ Some (method_id l) → Shallow h.model h.class n l)
 
   module _ (n : ℕ) (x : Id) (locals : ℕ) (body : Steps) (deep : IsShallow (suc n) x) (is : called_body h x ≡ Some (process_body locals body)) where
+    body_fits : StatementsFit h.model h.class locals body
+    body_fits = let all = fit.methods_fit h.class (plain x) (process_body locals body) is in all.1
+
     -- so are those with which its body begins
-    begun_shallow : (y : Id) → Contains (begun_all body) y → IsShallow n y
-    begun_shallow y among l named = by_meaning (call_means h.model h.class x locals body is)
+    begun_shallow : AllByRecursion (IsShallow n) (begun_all body)
+    begun_shallow = both_of (Has h.model h.class) (λ y. (l : ℕ) → called h.model h.class y ≡ Some (method_id l) → Shallow h.model h.class n l) (begun_all body) (all_begun_have h.model h.class locals body body_fits) deeper
       where
-        by_meaning : Means h.model h.class x body → Shallow h.model h.class n l
-        by_meaning means = deep means.number means.is y l (rw means.begins at among) named
+        deeper : (y : Id) → Contains (begun_all body) y → (l : ℕ) → called h.model h.class y ≡ Some (method_id l) → Shallow h.model h.class n l
+        deeper y among l named =
+            let means = call_means h.model h.class x locals body deep.0 is in
+            deep.1 means.number means.is y l (subst (λ (ys : List Id). Contains ys y) means.begins among) named
 
   not_there : (x : Id) (locals : ℕ) (body : Steps) → IsShallow zero x → called_body h x ≡ Some (process_body locals body) → ⊥
-  not_there x locals body deep is = let means = call_means h.model h.class x locals body is in deep means.number means.is
+  not_there x locals body deep is = let means = call_means h.model h.class x locals body deep.0 is in deep.1 means.number means.is
 
   pub stable : (n k : ℕ) (x : Id) → IsShallow n x → n ≤ k → (pos : Pos) (s : StateView) → entered_to h k (plainly_called pos x) s ≡ entered_to h n (plainly_called pos x) s
   stable zero zero x deep le pos s = refl
@@ -122,7 +173,7 @@ module _ (h : Home) where
       by_found (Some (process_body locals body)) is below =
           framed_same locals (steps_opened (entered_to h k) body) (steps_opened (entered_to h n) body) s
           (steps_same (entered_to h k) (entered_to h n) body
-          (each_of (Same (entered_to h k) (entered_to h n)) (begun_all body) (λ y among. below y (begun_shallow n x locals body deep is y among)))
+          (each_map (IsShallow n) (Same (entered_to h k) (entered_to h n)) below (begun_all body) (begun_shallow n x locals body deep is))
           (with_frame s (least_free s.frames) locals))
 
   -- a call whose method is no deeper unfolds
@@ -133,10 +184,10 @@ module _ (h : Home) where
       ap (λ (o : Option BodyTree). by_body o (steps_opened (entered_to h n)) (plainly_called pos x) s) is
       ∙ framed_same locals (steps_opened (entered_to h n) body) (steps_opened (entered_to h (suc n)) body) s
       (steps_same (entered_to h n) (entered_to h (suc n)) body
-      (each_of (Same (entered_to h n) (entered_to h (suc n))) (begun_all body) (λ y among at t. sym (stable n (suc n) y (begun_shallow n x locals body deep is y among) (omega arith) at t)))
+      (each_map (IsShallow n) (Same (entered_to h n) (entered_to h (suc n))) (λ y shallow at t. sym (stable n (suc n) y shallow (omega arith) at t)) (begun_all body) (begun_shallow n x locals body deep is))
       (with_frame s (least_free s.frames) locals))
 
-pub calls_unfold : CallsUnfold
-calls_unfold h pos method locals body s process none is =
-    unfolds_at h (depth_of h.model) pos method locals body s
-    (λ l named. methods_are_shallow h.model h.class l process none (has_called h.model h.class method l named)) is
+pub calls_unfold : SoundBodiesFit → CallsUnfold
+calls_unfold bodies_fit h pos method around locals body s sound process none fits is =
+    unfolds_at h (bodies_fit h.model sound) (depth_of h.model) pos method locals body s
+    (fits.0, λ l named. methods_are_shallow h.model h.class l process none (has_called h.model h.class method l named)) is

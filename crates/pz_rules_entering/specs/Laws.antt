@@ -7,7 +7,8 @@ use Rattle.pz_syntax.specs.Statements.{call}
 use Rattle.pz_syntax.specs.Classes.{ModelTree}
 use Rattle.pz_check_violations.specs.declared.violation.Violation.{Violation}
 use Rattle.pz_classes.specs.Bodies.{process_body}
-use Rattle.pz_classes_openings.specs.Methods.{methods}
+use Rattle.pz_classes.specs.FitBodies.{StatementFits}
+use Rattle.pz_classes.specs.Soundness.{IsSound}
 use Rattle.pz_classes_openings.specs.Openings.{HasMethod}
 use Rattle.pz_classes_openings.specs.OpeningRules.{BreaksC23}
 use Rattle.pz_state.specs.States.{StateView}
@@ -25,8 +26,8 @@ NoRounds m = (v : Violation) → BreaksC23 m v → ⊥
 abbrev pub MethodsAreShallow : Type 0
 MethodsAreShallow = (m : ModelTree) (c k : ℕ) → IsProcessClass m c → NoRounds m → HasMethod m c k → Shallow m c (depth_of m) k
 
--- and a plain call is a frame round the body of its method, opened in it
+-- and in a sound model a plain call that fits the class is a frame round the body of its method, opened in it
 abbrev pub CallsUnfold : Type 0
-CallsUnfold = (h : Home) (pos : Pos) (method : Id) (locals : ℕ) (body : Steps) (s : StateView) → IsProcessClass h.model h.class → NoRounds h.model
-    → called_body h method ≡ Some (process_body locals body)
+CallsUnfold = (h : Home) (pos : Pos) (method : Id) (around locals : ℕ) (body : Steps) (s : StateView) → IsSound h.model → IsProcessClass h.model h.class → NoRounds h.model
+    → StatementFits h.model h.class around (call pos method none []) → called_body h method ≡ Some (process_body locals body)
     → opens_at_once h (call pos method none []) s ≡ in_frame locals (all_open_at_once h body) s
