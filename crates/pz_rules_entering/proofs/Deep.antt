@@ -102,6 +102,7 @@ module _ (m : ModelTree) (c : ℕ) (d : DeclTree) (declared : declaration m c �
       by_test false e i = let wrong : false ≡ true = rw e at i in cc
 
   from_alone : (k : ℕ) → HasMethod m c k → Shallow m c (depth_of m) k
+  unfolding IsDistinct
   from_alone k has = shallow (length (methods m)) k [] (IsDistinct-cons eqb k [] tt tt) (alone_below k has) (alone_leads k) has (omega arith)
 
 pub methods_are_shallow : (m : ModelTree) (c k : ℕ) → IsProcessClass m c → NoRounds m → HasMethod m c k → Shallow m c (depth_of m) k

@@ -188,6 +188,6 @@ module _ (h : Home) (fit : BodiesFit h.model) where
       (with_frame s (least_free s.frames) locals))
 
 pub calls_unfold : SoundBodiesFit → CallsUnfold
-calls_unfold bodies_fit h pos method around locals body s sound process none fits is =
+calls_unfold bodies_fit h pos method around locals body s sound process apart fits is =
     unfolds_at h (bodies_fit h.model sound) (depth_of h.model) pos method locals body s
-    (fits.0, λ l named. methods_are_shallow h.model h.class l process none (has_called h.model h.class method l named)) is
+    (fits.0, λ l named. methods_are_shallow h.model h.class l process apart (has_called h.model h.class method l named)) is
