@@ -10,16 +10,13 @@ use Rattle.std.proofs.lemmas.Str.Parse.{digit_at}
 use Rattle.pz_watch.specs.declared.atoms.Atom.TheVariants.{Message, From, To, Kind, At, Pass}
 use Rattle.pz_watch.specs.Formulas.{Bound, Formula, line, negation, both, either, before, once, always, since}
 use Rattle.pz_watch.specs.Words.{words_of, bound_word, IsBound, is_inside, CanBeWritten}
-
-abbrev pub Lacks : ℕ → List ℕ → Type 0
-Lacks c [] = Unit {0}
-Lacks c (b ∷ bs) = (b ≢ c) × Lacks c bs
+use Rattle.pz_watch.specs.devices.Taking.{Lacks, EachLacks}
 
 pub lacks_both : (c : ℕ) (a b : List ℕ) → Lacks c a → Lacks c b → Lacks c (a ++ b)
 lacks_both c [] b la lb = lb
 lacks_both c (x ∷ a) b la lb = (la.0, lacks_both c a b la.1 lb)
 
-lacks_not : (c : ℕ) (a r : List ℕ) → Lacks c (a ++ (c ∷ r)) → ⊥
+pub lacks_not : (c : ℕ) (a r : List ℕ) → Lacks c (a ++ (c ∷ r)) → ⊥
 lacks_not c [] r l = l.0 refl
 lacks_not c (x ∷ a) r l = lacks_not c a r l.1
 
@@ -133,15 +130,19 @@ joined_lacks_end (w ∷ []) is = lacks_end w is.0
 joined_lacks_end (w ∷ u ∷ ws) is =
     lacks_both 10 w (32 ∷ join_with_byte 32 (u ∷ ws)) (lacks_end w is.0) (λ (e : 32 ≡ 10). omega arith, joined_lacks_end (u ∷ ws) is.1)
 
-pub joins : (ws vs : List (List ℕ)) → 1 ≤ length ws → 1 ≤ length vs → EachInside ws → EachInside vs → join_with_byte 32 ws ≡ join_with_byte 32 vs → ws ≡ vs
+pub each_lacks_blank : (ws : List (List ℕ)) → EachInside ws → EachLacks 32 ws
+each_lacks_blank [] is = tt
+each_lacks_blank (w ∷ ws) is = (lacks_blank w is.0, each_lacks_blank ws is.1)
+
+pub joins : (ws vs : List (List ℕ)) → 1 ≤ length ws → 1 ≤ length vs → EachLacks 32 ws → EachLacks 32 vs → join_with_byte 32 ws ≡ join_with_byte 32 vs → ws ≡ vs
 joins [] vs some more is are e = absurd (omega arith)
 joins (w ∷ ws) [] some more is are e = absurd (omega arith)
 joins (w ∷ []) (v ∷ []) some more is are e = ap (λ (u : List ℕ). u ∷ []) e
 joins (w ∷ []) (v ∷ u ∷ vs) some more is are e =
-    absurd (lacks_not 32 v (join_with_byte 32 (u ∷ vs)) (subst (Lacks 32) e (lacks_blank w is.0)))
+    absurd (lacks_not 32 v (join_with_byte 32 (u ∷ vs)) (subst (Lacks 32) e is.0))
 joins (w ∷ t ∷ ws) (v ∷ []) some more is are e =
-    absurd (lacks_not 32 w (join_with_byte 32 (t ∷ ws)) (subst (Lacks 32) (sym e) (lacks_blank v are.0)))
+    absurd (lacks_not 32 w (join_with_byte 32 (t ∷ ws)) (subst (Lacks 32) (sym e) are.0))
 joins (w ∷ t ∷ ws) (v ∷ u ∷ vs) some more is are e =
-    let parts = cut 32 w v (join_with_byte 32 (t ∷ ws)) (join_with_byte 32 (u ∷ vs)) (lacks_blank w is.0) (lacks_blank v are.0) e in
+    let parts = cut 32 w v (join_with_byte 32 (t ∷ ws)) (join_with_byte 32 (u ∷ vs)) is.0 are.0 e in
     let rest : t ∷ ws ≡ u ∷ vs = joins (t ∷ ws) (u ∷ vs) (omega arith) (omega arith) is.1 are.1 parts.1 in
     ap (λ (x : List ℕ). x ∷ t ∷ ws) parts.0 ∙ ap (λ (xs : List (List ℕ)). v ∷ xs) rest

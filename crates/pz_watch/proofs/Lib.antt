@@ -5,5 +5,13 @@ pub mod Lists
 pub mod Points
 pub mod Meanings
 pub mod Views
-pub mod Reading
+pub mod Numerals
+pub mod Spelled
+pub mod OperatorWords
+pub mod FormulaWords
+pub mod HandedOn
+pub mod Makings
+pub mod WatchLines
+pub mod FileLines
 mod Rows
+mod LineRows

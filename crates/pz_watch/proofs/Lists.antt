@@ -7,14 +7,15 @@ use Rattle.pz_watch.specs.Formulas.{Formula}
 use Rattle.pz_watch.specs.Words.{words_of}
 use Rattle.pz_watch.specs.Files.{NamedFormula, watch_text, watches_text, IsWatch, AreWatches, BeginsWithNone, IsRefusedAt, empty, no_watch, too_many}
 use Rattle.pz_watch.specs.Laws.{NamesAreWords}
-use Rattle.pz_watch.proofs.Cutting.{Lacks, lacks_both, tails, cut, lacks_blank, lacks_end, words_inside, joined_lacks_end, joins}
-use Rattle.pz_watch.proofs.Reading.{some_words, one_reading}
+use Rattle.pz_watch.specs.devices.Taking.{Lacks}
+use Rattle.pz_watch.proofs.Cutting.{lacks_both, tails, cut, lacks_blank, lacks_end, words_inside, joined_lacks_end, each_lacks_blank, joins}
+use Rattle.pz_watch.proofs.FormulaWords.{some_words, one_reading}
 
 split : (w : NamedFormula) (ws : List NamedFormula) (r : List ℕ) → watches_text (w ∷ ws) ++ r ≡ watch_text w ++ (10 ∷ (watches_text ws ++ r))
 split w ws r = append_assoc (watch_text w) (10 ∷ watches_text ws) r
 
 -- no line is nothing
-some_bytes : (w : NamedFormula) (rest : List ℕ) → [] ≡ watch_text w ++ (10 ∷ rest) → ⊥
+pub some_bytes : (w : NamedFormula) (rest : List ℕ) → [] ≡ watch_text w ++ (10 ∷ rest) → ⊥
 some_bytes w rest e =
     let count : length (watch_text w ++ (10 ∷ rest)) ≡ length (watch_text w) + length (10 ∷ rest) = length-append (watch_text w) (10 ∷ rest) in
     let zeros : 0 ≡ length (watch_text w ++ (10 ∷ rest)) = ap (λ (t : List ℕ). length t) e in
@@ -34,7 +35,7 @@ module _ (is_name : List ℕ → Bool) (words : NamesAreWords is_name) where
   others : (w : NamedFormula) (ws : List NamedFormula) → All Watch (w ∷ ws) → All Watch ws
   others w ws all = λ k d lt. all (suc k) d (omega arith)
 
-  lacks_an_end : (w : NamedFormula) → Watch w → Lacks 10 (watch_text w)
+  pub lacks_an_end : (w : NamedFormula) → Watch w → Lacks 10 (watch_text w)
   lacks_an_end w is =
       lacks_both
       10
@@ -65,8 +66,8 @@ module _ (is_name : List ℕ → Bool) (words : NamesAreWords is_name) where
       (words_of v.formula)
       (some_words w.formula)
       (some_words v.formula)
-      (words_inside w.formula is.written)
-      (words_inside v.formula are.written)
+      (each_lacks_blank (words_of w.formula) (words_inside w.formula is.written))
+      (each_lacks_blank (words_of v.formula) (words_inside v.formula are.written))
       text
       in
       let formula : w.formula ≡ v.formula =

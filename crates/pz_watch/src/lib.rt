@@ -3,13 +3,23 @@
 
 mod atoms;
 mod building;
+mod errors;
+mod files;
+mod formulas;
 pub mod laws;
 mod monitor;
+mod names;
+mod numbers;
+mod operators;
+mod reading;
 mod spot;
 mod watch;
 mod window;
+mod words;
 
 pub use atoms::Atom;
+pub use errors::{ReadWatchError, ReadWatchesError};
+pub use files::read_watches;
 pub use monitor::Monitor;
 pub use spot::{Event, Spot};
 pub use watch::Watch;

@@ -1,9 +1,10 @@
 -- Which formula and which points a watch stands for.
-use Rattle.std.specs.Prelude.{◌≡◌, ℕ, List, [], Result, IfOk}
+use Rattle.std.specs.Prelude.{◌≡◌, ℕ, List, [], ◌∷◌, Result, IfOk}
 use Rattle.pz_watch.specs.declared.monitor.Monitor.{Monitor}
 use Rattle.pz_watch.specs.declared.watch.Watch.{Watch}
 use Rattle.pz_watch.specs.Points.{Point}
 use Rattle.pz_watch.specs.Formulas.{Formula}
+use Rattle.pz_watch.specs.Files.{NamedFormula}
 use Rattle.pz_watch.specs.devices.Memory.{behind}
 use Rattle.pz_watch.specs.devices.MonitorView.{memory_of}
 
@@ -26,3 +27,14 @@ StandsFor watch f points = memory_of watch.monitor ≡ behind f points
 
 abbrev pub name_in : Watch → List ℕ
 name_in watch = watch.name
+
+-- it stands for this formula under its name, and for these points
+abbrev pub StandsForNamed : Watch → NamedFormula → List Point → Type 0
+StandsForNamed watch w points = (name_in watch ≡ w.name) × StandsFor watch w.formula points
+
+-- as many watches as formulas, and each stands for its own
+abbrev pub StandForEach : List Watch → List NamedFormula → List Point → Type 0
+StandForEach [] [] points = Unit {0}
+StandForEach [] (w ∷ ws) points = ⊥
+StandForEach (watch ∷ watches) [] points = ⊥
+StandForEach (watch ∷ watches) (w ∷ ws) points = StandsForNamed watch w points × StandForEach watches ws points
