@@ -1,9 +1,9 @@
 -- Questions, one after the other.
-use Rattle.std.proofs.Common.{◌≡◌, ◌≢◌, ◌<◌, ◌+◌, refl, sym, ◌∙◌, ap, subst, ℕ, List, [], ◌++◌, length, drop, get_or, if◌then◌else◌, arith}
+use Rattle.std.proofs.Common.{◌≡◌, ◌≢◌, ◌<◌, ◌+◌, refl, sym, ◌∙◌, ap, subst, ℕ, List, [], ◌++◌, length, drop, get_or, if◌then◌else◌}
 use Rattle.std.specs.Prelude.{All, map}
 use Rattle.std.specs.List.{flat_map}
 use Rattle.std.proofs.lemmas.Bool.{ne_eqb, eq-eqb}
-use Rattle.std.proofs.lemmas.List.{drop_more, append_assoc, length-append}
+use Rattle.std.proofs.lemmas.List.{drop_more, append_assoc}
 use Rattle.pz_copy.specs.Parcels.{ParcelView}
 use Rattle.pz_offer.specs.declared.end.End.{End}
 use Rattle.pz_match.specs.declared.offers.Sender.{Sender}
@@ -46,16 +46,8 @@ module _ (f : Kept → List Row) (all : List Offers) (i : ℕ) (e : Offers) (lt 
       ap (λ (xs : List Row). xs ++ flat_map f (map kept (drop (i + 1) all))) more
       ∙ (append_assoc rows (f (kept e)) (flat_map f (map kept (drop (i + 1) all))) ∙ (ap (λ (xs : List Row). rows ++ xs) (sym left) ∙ before))
 
-  pub count_next : (n m whole : ℕ) → m ≡ n + length (f (kept e)) → n + length (flat_map f (map kept (drop i all))) ≡ whole → m + length (flat_map f (map kept (drop (i + 1) all))) ≡ whole
-  count_next n m whole more before =
-      let parts : length (flat_map f (map kept (drop i all))) ≡ length (f (kept e)) + length (flat_map f (map kept (drop (i + 1) all))) = ap length left ∙ length-append (f (kept e)) (flat_map f (map kept (drop (i + 1) all))) in
-      omega (arith, more, before, parts)
-
   pub rows_skip : (rows whole : List Row) → f (kept e) ≡ [] → rows ++ flat_map f (map kept (drop i all)) ≡ whole → rows ++ flat_map f (map kept (drop (i + 1) all)) ≡ whole
   rows_skip rows whole none before = ap (λ (xs : List Row). rows ++ xs) (sym (left ∙ ap (λ (xs : List Row). xs ++ flat_map f (map kept (drop (i + 1) all))) none)) ∙ before
-
-  pub count_skip : (n whole : ℕ) → f (kept e) ≡ [] → n + length (flat_map f (map kept (drop i all))) ≡ whole → n + length (flat_map f (map kept (drop (i + 1) all))) ≡ whole
-  count_skip n whole none before = ap (λ (xs : List Row). n + length xs) (sym (left ∙ ap (λ (xs : List Row). xs ++ flat_map f (map kept (drop (i + 1) all))) none)) ∙ before
 
 pub asked_own : (says : Verdicts) (s : Sender) (g : ℕ) (e : Kept) → e.process ≡ s.end.process → asked_in says s g e ≡ []
 asked_own says s g e own = ap (λ b. if b then [] else asked says s g e.process e.receives) (eq-eqb e.process s.end.process own)

@@ -25,3 +25,4 @@ pub mod Drained
 pub mod Questions
 pub mod Reaching
 pub mod Noting
+pub mod Askers

@@ -23,7 +23,7 @@ use Rattle.pz_match.proofs.Sought.{sound_at}
 
 module _ (us : List ℕ) (up : Increasing us) where
   -- what lies between one of them and the next is none of them
-  between : (u k : ℕ) → u ≤ length us → past us u ≤ k → (u < length us → k < get_or us u 0) → Contains us k → ⊥
+  pub between : (u k : ℕ) → u ≤ length us → past us u ≤ k → (u < length us → k < get_or us u 0) → Contains us k → ⊥
   between u k within after before (n, lt, is) = by u within after before (split n u)
     where
       split : (a b : ℕ) → (a < b) ⊎ (b ≤ a)

@@ -1,11 +1,14 @@
 // The sends that a process offers now.
 
-ghost use Rattle.std.specs.Prelude.{◌≡◌, ◌≤◌, ◌+◌, ◌++◌, [], ◌∷◌, length, map, sum_by, All, IfOk, OnOk};
+ghost use Rattle.std.specs.Prelude.{◌≡◌, ◌≤◌, ◌+◌, ◌++◌, [], ◌∷◌, length, count_by, map, sum_by, All, IfOk, OnOk};
 ghost use Rattle.std.specs.List.{flat_map};
 ghost use Rattle.std.specs.Option.{option_to_list};
 ghost use Rattle.pz_match.specs.Offers.{senders};
 ghost use Rattle.pz_match.specs.Judging.{MayTake, Stays};
-ghost use Rattle.pz_match.specs.devices.Kept.{kept};
+ghost use Rattle.pz_match_lists.specs.Increasing.{Increasing};
+ghost use Rattle.pz_match.specs.devices.Kept.{asks_in, kept};
+ghost use Rattle.pz_match.specs.devices.Seeking.{OnlyAt};
+ghost use Rattle.pz_match.specs.devices.Users.{HaveAskers};
 ghost use Rattle.pz_match.specs.devices.Tallies.{total_of};
 ghost use Rattle.pz_match.specs.devices.Asking.{asked_in, MayAskAll};
 ghost use Rattle.pz_match.specs.devices.Holding.{ReceiveKeyed};
@@ -18,20 +21,25 @@ use crate::kept::{Offers, Receiving, Sending};
 use crate::offers::Sender;
 use crate::rows::Rows;
 use crate::tallying::add_send;
+use pz_match_lists::Lists;
 use pz_offer::{End, SendOffer};
 use std::alloc::{AllocError, Global};
 
-/// What the conditional receives of other processes say to a send, in a group that covers them. The
-/// only error is want of memory.
+/// What the conditional receives of other processes say to a send, in a group that covers them: only
+/// these processes have any. The only error is want of memory.
 fn rows_for<J: Judge>(
     alloc: Global,
     asking: u64,
     all: &[Offers],
+    askers: &[usize],
     sender: &Sender,
     group: usize,
     judge: &mut J,
 ) -> Result<Rows, AllocError>
     requires covers { (total_of (map kept all.now) group).asking ≤ asking }
+    requires increasing { Increasing askers.now }
+    requires only { OnlyAt askers.now (map kept all.now)
+        (λ e. count_by (asks_in group) e.receives) }
     requires takes { All (MayAskAll J.takes judge.old sender.now group) (map kept all.now) }
     ensures rows { IfOk result (λ rows. rows ≡ flat_map
         (asked_in (J.verdict judge.old) sender.now group) (map kept all.now)) }
@@ -43,7 +51,7 @@ fn rows_for<J: Judge>(
     if asking == 0 {
         return Ok(rows);
     }
-    ask_all(all, sender, group, &mut rows, judge)?;
+    ask_all(all, askers, sender, group, &mut rows, judge)?;
     Ok(rows)
 }
 
@@ -53,6 +61,7 @@ fn offer_one<J: Judge>(
     alloc: Global,
     groups: &mut Groups,
     all: &[Offers],
+    askers: &Lists,
     process: u32,
     receives: &[Receiving],
     offer: SendOffer,
@@ -62,6 +71,7 @@ fn offer_one<J: Judge>(
     requires own { All (λ e. All (λ r. r.receiver.end.process ≡ e.process) e.receives)
         (map kept all.now) }
     requires covers { Covers groups.old (map kept all.now) }
+    requires askers { HaveAskers askers.now (map kept all.now) }
     requires takes { MayTake J.takes judge.old (senders process (offer ∷ []))
         (receivers_of (map kept all.now)) }
     ensures offered { IfOk result (λ s. Offered (J.verdict judge.old)
@@ -86,7 +96,8 @@ fn offer_one<J: Judge>(
         parcel: offer.parcel,
     };
     let asking = groups.tally(group).asking;
-    let rows = rows_for(alloc, asking, all, &sender, group, judge)?;
+    let askers = askers.list(wire as usize);
+    let rows = rows_for(alloc, asking, all, askers, &sender, group, judge)?;
     let send = Sending {
         sender,
         group,
@@ -108,9 +119,9 @@ fn keep(sent: &mut Vec<Sending>, send: Option<Sending>) -> Result<(), AllocError
 
 /// Keeps the sends that a process with these receives offers. The only error is want of memory.
 pub(crate) fn offer<J: Judge>(
-    alloc: Global,
     groups: &mut Groups,
     all: &[Offers],
+    askers: &Lists,
     process: u32,
     receives: &[Receiving],
     offers: Vec<SendOffer>,
@@ -122,6 +133,7 @@ pub(crate) fn offer<J: Judge>(
     requires own { All (λ e. All (λ r. r.receiver.end.process ≡ e.process) e.receives)
         (map kept all.now) }
     requires covers { Covers groups.old (map kept all.now) }
+    requires askers { HaveAskers askers.now (map kept all.now) }
     requires takes { MayTake J.takes judge.old (senders process offers.items)
         (receivers_of (map kept all.now)) }
     ensures offered { OnOk result (Offered (J.verdict judge.old)
@@ -131,8 +143,9 @@ pub(crate) fn offer<J: Judge>(
         (λ x. length x.rows) sent.new.items) }
     ensures lent { J.lent judge.new ≡ J.lent judge.old }
 {
+    let alloc = *sent.allocator();
     for offer in offers {
-        let send = offer_one(alloc, groups, all, process, receives, offer, judge)?;
+        let send = offer_one(alloc, groups, all, askers, process, receives, offer, judge)?;
         keep(sent, send)?;
     }
     Ok(())

@@ -3,7 +3,7 @@ use crate::judge::Judge;
 use crate::kept::Offers;
 use crate::seeking::{find_trouble, pair_on};
 use crate::updating::{replace_in, silence};
-use crate::users::{note_receives, note_sends};
+use crate::users::{note_askers, note_receives, note_sends};
 use pz_match_lists::Lists;
 use pz_offer::{End, ReceiveOffer, SendOffer, Trouble};
 use std::alloc::{AllocError, Global};
@@ -17,6 +17,8 @@ pub struct Pairs {
     groups: Groups,
     /// The processes that have offered something, by wire.
     users: Lists,
+    /// Those that have offered a receive with a condition, by wire.
+    askers: Lists,
     lost: bool,
 }
 
@@ -32,7 +34,7 @@ impl Model for Pairs {
     ghost view = { λ t. table_of (map kept t.offers.items) t.groups.wires t.lost };
 
     ghost invariant = { λ t. t.lost ≡ false →
-        Whole t.groups t.users (map kept t.offers.items) };
+        Whole t.groups t.users t.askers (map kept t.offers.items) };
 }
 
 impl Pairs {
@@ -57,6 +59,7 @@ impl Pairs {
             offers,
             groups: Groups::new(alloc),
             users: Lists::new(alloc),
+            askers: Lists::new(alloc),
             lost: false,
         })
     }
@@ -101,9 +104,11 @@ impl Pairs {
         self.lost = true;
         note_sends(&mut self.users, process, sends.as_slice())?;
         note_receives(&mut self.users, process, receives.as_slice())?;
+        note_askers(&mut self.askers, process, receives.as_slice())?;
         replace_in(
             &mut self.offers,
             &mut self.groups,
+            &self.askers,
             process,
             sends,
             receives,

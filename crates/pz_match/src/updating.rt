@@ -8,6 +8,7 @@ ghost use Rattle.pz_match.specs.devices.Kept.{kept};
 ghost use Rattle.pz_match.specs.devices.Tallies.{Distinct, Follows, Moves, nothing, part_of, total_of};
 ghost use Rattle.pz_match.specs.devices.Asking.{asked, MayAsk, all_written};
 ghost use Rattle.pz_match.specs.devices.Holding.{Holds};
+ghost use Rattle.pz_match.specs.devices.Users.{HaveAskers};
 ghost use Rattle.pz_match.specs.devices.Updating.{Replaced, NoneAsks, senders_of, receivers_of, silent, renewed_in};
 
 use crate::groups::Groups;
@@ -17,6 +18,7 @@ use crate::kept::{Offers, Receiving, Sending};
 use crate::offering::offer;
 use crate::renewing::renew_all;
 use crate::tallying::{withdraw_receives, withdraw_sends};
+use pz_match_lists::Lists;
 use pz_offer::{ReceiveOffer, SendOffer};
 use std::alloc::{AllocError, Global};
 use std::mem;
@@ -101,6 +103,7 @@ pub(crate) fn replace<J: Judge>(
     alloc: Global,
     all: &mut [Offers],
     groups: &mut Groups,
+    askers: &Lists,
     process: u32,
     sends: Vec<SendOffer>,
     receives: Vec<ReceiveOffer>,
@@ -108,6 +111,7 @@ pub(crate) fn replace<J: Judge>(
 ) -> Result<(), AllocError>
     requires within { process < length all.old }
     requires holds { Holds groups.old (map kept all.old) }
+    requires askers { HaveAskers askers.now (map kept all.old) }
     requires sends_asked { MayTake J.takes judge.old (senders process sends.items)
         (receivers_of (map kept all.old)) }
     requires receives_asked { MayTake J.takes judge.old (senders_of (map kept all.old))
@@ -128,9 +132,9 @@ pub(crate) fn replace<J: Judge>(
     } = room;
     hear(groups, process, receives, &mut heard)?;
     offer(
-        alloc,
         groups,
         all,
+        askers,
         process,
         heard.as_slice(),
         sends,
@@ -164,6 +168,7 @@ pub(crate) fn silence(alloc: Global, processes: u32) -> Result<Vec<Offers>, Allo
 pub(crate) fn replace_in<J: Judge>(
     all: &mut Vec<Offers>,
     groups: &mut Groups,
+    askers: &Lists,
     process: u32,
     sends: Vec<SendOffer>,
     receives: Vec<ReceiveOffer>,
@@ -171,6 +176,7 @@ pub(crate) fn replace_in<J: Judge>(
 ) -> Result<(), AllocError>
     requires within { process < length all.old.items }
     requires holds { Holds groups.old (map kept all.old.items) }
+    requires askers { HaveAskers askers.now (map kept all.old.items) }
     requires sends_asked { MayTake J.takes judge.old (senders process sends.items)
         (receivers_of (map kept all.old.items)) }
     requires receives_asked { MayTake J.takes judge.old (senders_of (map kept all.old.items))
@@ -188,7 +194,9 @@ pub(crate) fn replace_in<J: Judge>(
     groups.are_distinct();
     let alloc = *all.allocator();
     let slice = all.as_mut_slice();
-    replace(alloc, slice, groups, process, sends, receives, judge)?;
+    replace(
+        alloc, slice, groups, askers, process, sends, receives, judge,
+    )?;
     groups.are_distinct();
     Ok(())
 }

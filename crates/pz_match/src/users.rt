@@ -1,8 +1,8 @@
 // Who has offered something over which wire.
 
-ghost use Rattle.std.specs.Prelude.{Contains, IfSome, OnOk};
+ghost use Rattle.std.specs.Prelude.{◌≡◌, Contains, IfSome, OnOk};
 ghost use Rattle.pz_match_lists.specs.Increasing.{list_at};
-ghost use Rattle.pz_match.specs.devices.Users.{KeepsUsers, SendsNoted, ReceivesNoted};
+ghost use Rattle.pz_match.specs.devices.Users.{KeepsUsers, SendsNoted, ReceivesNoted, AskersNoted, asking_wire};
 
 use pz_match_lists::Lists;
 use pz_offer::{ReceiveOffer, SendOffer};
@@ -45,6 +45,33 @@ pub(crate) fn note_receives(
 {
     for receive in receives {
         note(users, process, receive.wire)?;
+    }
+    Ok(())
+}
+
+/// The wire of a receive that has a condition.
+fn asking_wire(receive: &ReceiveOffer) -> Option<u32>
+    ensures { result ≡ asking_wire receive.now }
+{
+    if receive.conditional {
+        receive.wire
+    } else {
+        None
+    }
+}
+
+/// Notes a process as one that asks on a wire, for each of these receives that has a condition. The
+/// only error is want of memory.
+pub(crate) fn note_askers(
+    askers: &mut Lists,
+    process: u32,
+    receives: &[ReceiveOffer],
+) -> Result<(), AllocError>
+    ensures keeps { KeepsUsers askers.old askers.new }
+    ensures noted { OnOk result (AskersNoted askers.new process receives.now) }
+{
+    for receive in receives {
+        note(askers, process, asking_wire(receive))?;
     }
     Ok(())
 }

@@ -1,5 +1,5 @@
 -- Who has offered something over a wire.
-use Rattle.std.specs.Prelude.{◌≡◌, ℕ, List, Some, All, Contains, IfSome, slice_get}
+use Rattle.std.specs.Prelude.{◌≡◌, ℕ, true, List, Option, Some, None, All, Contains, IfSome, slice_get, if◌then◌else◌}
 use Rattle.pz_match_lists.specs.Increasing.{list_at}
 use Rattle.pz_offer.specs.declared.ends.SendOffer.{SendOffer}
 use Rattle.pz_offer.specs.declared.ends.ReceiveOffer.{ReceiveOffer}
@@ -28,7 +28,20 @@ SendsNoted users process = All (λ s. IfSome s.wire (λ wire. Contains (list_at 
 abbrev pub ReceivesNoted : List (List ℕ) → ℕ → List ReceiveOffer → Type 0
 ReceivesNoted users process = All (λ r. IfSome r.wire (λ wire. Contains (list_at users wire) process))
 
--- what a table keeps, its users included
-pub record Whole (groups : GroupsView) (users : List (List ℕ)) (all : List Kept) : Type 0 where
+-- each process that has a receive with a condition on a wire is among those of the wire
+abbrev pub HaveAskers : List (List ℕ) → List Kept → Type 0
+HaveAskers askers all =
+    (wire k : ℕ) (e : Kept) → slice_get all k ≡ Some e → All (λ r. r.receiver.conditional ≡ true → r.receiver.wire ≡ wire → Contains (list_at askers wire) k) e.receives
+
+-- the wire of a receive that has a condition
+abbrev pub asking_wire : ReceiveOffer → Option ℕ
+asking_wire r = if r.conditional then r.wire else None
+
+abbrev pub AskersNoted : List (List ℕ) → ℕ → List ReceiveOffer → Type 0
+AskersNoted askers process = All (λ r. IfSome (asking_wire r) (λ wire. Contains (list_at askers wire) process))
+
+-- what a table keeps, who uses its wires included
+pub record Whole (groups : GroupsView) (users askers : List (List ℕ)) (all : List Kept) : Type 0 where
   pub stands : Stands groups all
   pub used : HaveUsers users all
+  pub asks : HaveAskers askers all

@@ -1,13 +1,15 @@
 -- The send is kept in its group, with what is said to it.
-use Rattle.std.proofs.Common.{ap, sym, subst, refl, List, [], ◌∷◌, length, arith}
-use Rattle.std.specs.Prelude.{map, All, Contains}
+use Rattle.std.proofs.Common.{ap, sym, subst, refl, ℕ, List, [], ◌∷◌, length, arith}
+use Rattle.std.specs.Prelude.{map, count_by, All, Contains}
 use Rattle.std.proofs.lemmas.List.Elements.{All-weaker}
 use Rattle.std.proofs.lemmas.Option.{slice_get_within}
 use Rattle.pz_match.specs.declared.offers.Sender.{Sender}
 use Rattle.pz_match.specs.Offers.{sender, senders}
-use Rattle.pz_match.specs.devices.Kept.{Kept, kept}
+use Rattle.pz_match.specs.devices.Kept.{Kept, kept, asks_in}
 use Rattle.pz_match.specs.devices.Tallies.{HasKey}
 use Rattle.pz_match.specs.devices.Holding.{ReceiveKeyed}
+use Rattle.pz_match.specs.devices.Seeking.{OnlyAt}
+use Rattle.pz_match.proofs.Askers.{only_askers}
 use Rattle.pz_match.proofs.Fitting.{may_ask_all}
 use Rattle.pz_match.proofs.Offered.{one_sender, offered_one, receive_keyed}
 use Rattle.pz_match.proofs.offering.offer_one.Goals as goal
@@ -18,6 +20,17 @@ rows_for-requires-clause-covers g c =
     let same = (c.in_ok-group.ensures.tallies c.in_ok-group.group).asking in
     let read = ap (λ t. t.asking) c.tally-asking.ensures in
     omega (arith, known, same, read)
+
+pub rows_for-requires-clause-only : goal.rows_for-requires-clause-only
+rows_for-requires-clause-only g c =
+    let all = map kept c.args.all.now in
+    let key : HasKey c.number.new.self.groups c.in_ok-group.group c.in-Some.wire c.args.offer.message (length c.args.offer.parcel.values)
+    = subst (λ n. HasKey c.number.new.self.groups c.in_ok-group.group c.in-Some.wire c.args.offer.message n) (ap length c.values.ensures.values) c.in_ok-group.ensures.found in
+    subst (λ (us : List ℕ). OnlyAt us all (λ (e : Kept). count_by (asks_in c.in_ok-group.group) e.receives)) (sym c.list-askers.ensures.list)
+    (only_askers c.number.new.self all c.args.askers.now c.in-Some.wire c.in_ok-group.group c.args.offer.message (length c.args.offer.parcel.values) key
+    (All-weaker (λ (e : Kept). All (ReceiveKeyed c.args.groups.now) e.receives) (λ (e : Kept). All (ReceiveKeyed c.number.new.self) e.receives)
+    (λ e ok. All-weaker (ReceiveKeyed c.args.groups.now) (ReceiveKeyed c.number.new.self) (receive_keyed c.in_ok-group.ensures.follows) e.receives ok) all c.requires.keyed)
+    c.requires.askers)
 
 pub rows_for-requires-clause-takes : goal.rows_for-requires-clause-takes
 rows_for-requires-clause-takes g c =

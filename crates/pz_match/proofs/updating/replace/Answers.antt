@@ -18,6 +18,8 @@ use Rattle.pz_match.proofs.Grouped.{follows_next}
 use Rattle.pz_match.proofs.Asked.{says_same}
 use Rattle.pz_match.proofs.Couples.{item_kept}
 use Rattle.pz_match.proofs.Fitting.{may_ask_sends}
+use Rattle.pz_match.proofs.Askers.{rest_askers}
+use Rattle.pz_match.specs.devices.Users.{HaveAskers}
 use Rattle.pz_match.proofs.Offered.{receive_keyed}
 use Rattle.pz_match.proofs.Questions.{update_asks}
 use Rattle.pz_match.proofs.Steps.{among_rest, sends_within, receives_within, rest_keyed, rest_own, rest_sends_keyed, rest_within, rest_foreign, rest_same}
@@ -60,6 +62,13 @@ offer-requires-clause-covers g c =
     let mid = mid_is c.args.process c.args.groups.now c.args.all.now old c.withdraw.new.offers c.requires.holds item.2 c.in_ok-room.ensures.silent in
     subst (Covers c.hear.new.groups) (sym mid)
     (covers_heard c.args.process c.args.groups.now c.withdraw.new.groups (map kept c.args.all.now) (kept old) item.0 item.1 c.requires.holds c.in_ok-room.ensures.moves c.hear.new.groups c.hear.new.kept.items c.in_ok-hear.ensures.moves)
+
+pub offer-requires-clause-askers : goal.offer-requires-clause-askers
+offer-requires-clause-askers g c =
+    let old : Offers = get_or c.args.all.now c.args.process c.index-all-place.result in
+    let item = item_kept c.args.all.now c.args.process old c.requires.within (get_or_default c.args.all.now c.args.process c.index-all-place.result old c.requires.within) in
+    let mid = mid_is c.args.process c.args.groups.now c.args.all.now old c.withdraw.new.offers c.requires.holds item.2 c.in_ok-room.ensures.silent in
+    subst (HaveAskers c.args.askers.now) (sym mid) (rest_askers c.args.askers.now (map kept c.args.all.now) c.args.process item.0 c.requires.askers)
 
 pub offer-requires-clause-takes : goal.offer-requires-clause-takes
 offer-requires-clause-takes g c s r sends receives fit conditional =

@@ -5,7 +5,8 @@ use Rattle.pz_match.specs.devices.Lists.{upto}
 use Rattle.pz_match.specs.devices.Kept.{kept}
 use Rattle.pz_match.specs.devices.Tallies.{GroupsView}
 use Rattle.pz_match.specs.devices.Tables.{Stands}
-use Rattle.pz_match.specs.devices.Users.{HaveUsers}
+use Rattle.pz_match.specs.devices.Users.{HaveUsers, HaveAskers}
+use Rattle.pz_match.proofs.Askers.{none_asks}
 use Rattle.pz_match.proofs.Noting.{none_used}
 use Rattle.pz_match.proofs.Ends.{silent_holds, silent_ordered, silent_senders, silent_receivers, senders_in, receivers_in}
 use Rattle.pz_match.proofs.pairs.Pairs.new.Goals as goal
@@ -20,6 +21,9 @@ invariant_of-result c there =
       used =
           subst (λ (us : List (List ℕ)). HaveUsers us (map kept c.in_ok-offers.offers.items)) (sym c.new-2.ensures)
           (subst (HaveUsers []) (sym c.in_ok-offers.ensures) (none_used (upto c.args.processes)));
+      asks =
+          subst (λ (us : List (List ℕ)). HaveAskers us (map kept c.in_ok-offers.offers.items)) (sym c.new-3.ensures)
+          (subst (HaveAskers []) (sym c.in_ok-offers.ensures) (none_asks (upto c.args.processes)));
     }
 
 pub returns-clause-senders : goal.returns-clause-senders

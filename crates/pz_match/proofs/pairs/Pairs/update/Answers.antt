@@ -13,8 +13,9 @@ use Rattle.pz_match.proofs.Shown.{are_pairs, are_free, stands_after, senders_sho
 use Rattle.std.proofs.lemmas.List.Elements.{All-weaker}
 use Rattle.pz_offer.specs.declared.ends.SendOffer.{SendOffer}
 use Rattle.pz_offer.specs.declared.ends.ReceiveOffer.{ReceiveOffer}
-use Rattle.pz_match.specs.devices.Users.{SendsNoted, ReceivesNoted}
+use Rattle.pz_match.specs.devices.Users.{SendsNoted, ReceivesNoted, AskersNoted}
 use Rattle.pz_match.proofs.Noting.{noted, kept_noted, keeps_next, users_after}
+use Rattle.pz_match.proofs.Askers.{keeps_askers, askers_after}
 use Rattle.pz_match.proofs.pairs.Pairs.update.Goals as goal
 
 pub replace_in-requires-clause-sends_asked : goal.replace_in-requires-clause-sends_asked
@@ -26,6 +27,11 @@ pub replace_in-requires-clause-receives_asked : goal.replace_in-requires-clause-
 replace_in-requires-clause-receives_asked g c s r sends hears fit conditional =
     c.requires.receives_asked s r
     (subst (λ (t : Table). Contains (all_senders t) s) c.self.view_is (subst (λ (ss : List Sender). Contains ss s) (sym (all_senders_are (map kept c.self.inside.offers.items))) sends)) hears fit conditional
+
+pub replace_in-requires-clause-askers : goal.replace_in-requires-clause-askers
+replace_in-requires-clause-askers g c =
+    let whole = c.self.invariant (ap (λ (t : Table). t.lost) c.self.view_is ∙ c.requires.there) in
+    keeps_askers c.self.inside.askers c.note_askers.new.askers (map kept c.self.inside.offers.items) c.note_askers.ensures.keeps whole.asks
 
 pub invariant_of-self-2 : goal.invariant_of-self-2
 invariant_of-self-2 g c there =
@@ -44,6 +50,10 @@ invariant_of-self-2 g c there =
           (All-weaker (noted (λ (s : SendOffer). s.wire) c.args.process c.note_sends.new.users) (noted (λ (s : SendOffer). s.wire) c.args.process c.note_receives.new.users)
           (kept_noted (λ (s : SendOffer). s.wire) c.args.process c.note_sends.new.users c.note_receives.new.users c.note_receives.ensures.keeps) c.args.sends.items (subst (λ (ss : List SendOffer). SendsNoted c.note_sends.new.users c.args.process ss) c.as_slice.ensures.value c.in_ok-note_sends.ensures.noted))
           (subst (λ (rs : List ReceiveOffer). ReceivesNoted c.note_receives.new.users c.args.process rs) c.as_slice-2.ensures.value c.in_ok-note_receives.ensures.noted);
+      asks =
+          askers_after says c.args.process c.args.sends.items c.args.receives.items c.self.inside.groups c.replace_in.new.groups all new c.in_ok-replace_in.ensures.replaced below
+          c.self.inside.askers c.note_askers.new.askers whole.asks c.note_askers.ensures.keeps
+          (subst (λ (rs : List ReceiveOffer). AskersNoted c.note_askers.new.askers c.args.process rs) c.as_slice-3.ensures.value c.in_ok-note_askers.ensures.noted);
     }
 
 pub returns-clause-senders : goal.returns-clause-senders
