@@ -1,0 +1,4 @@
+pub mod Keeping
+pub mod View
+pub mod Tended
+pub mod Laws
