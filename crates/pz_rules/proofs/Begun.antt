@@ -1,40 +1,50 @@
 -- The call with which a process starts stands as it is.
 use Rattle.std.proofs.Common.{◌≡◌, ℕ, List, [], ◌∷◌, Option, Some, None, refl, sym, subst, ap, ◌∙◌}
 use Rattle.std.specs.Option.{option_map, option_or, option_and_then}
+use Rattle.pz_syntax.specs.declared.tokens.Pos.{Pos}
+use Rattle.pz_syntax.specs.declared.names.Id.{Id}
+use Rattle.pz_syntax.specs.Statements.{call}
 use Rattle.pz_syntax.specs.Classes.{StartTree, ModelTree}
 use Rattle.pz_value.specs.declared.value.Value.{Value}
+use Rattle.pz_classes_code.specs.Resolution.{resolved_all}
 use Rattle.pz_classes.specs.Numbers.{declaration}
 use Rattle.pz_classes.specs.Ancestors.{ancestors}
 use Rattle.pz_classes.specs.Methods.{nearest}
+use Rattle.pz_classes.specs.Bodies.{process_scope}
 use Rattle.pz_classes.specs.Starts.{own_start, start_call, own_call, init}
 use Rattle.pz_state.specs.States.{initial}
-use Rattle.pz_rules.specs.Terms.{Step, Term, leaf}
-use Rattle.pz_rules.specs.Settings.{Process, left_by, Home}
+use Rattle.pz_rules.specs.Terms.{Codes, Step, Term, leaf}
+use Rattle.pz_rules.specs.Settings.{left_by, Home}
 use Rattle.pz_rules.specs.Opening.{opened}
 use Rattle.pz_rules.specs.Leaving.{swept}
 use Rattle.pz_rules.specs.devices.Plainly.{plainly}
 use Rattle.pz_rules.proofs.Plain.{opens_plainly}
 
--- if there is one, it stands as it is
-abbrev Stands : Option Step → Type 0
-Stands None = Unit {0}
-Stands (Some first) = plainly first ≡ leaf first
+-- if there is one, it is so of it
+abbrev IfThere : (Step → Type 0) → Option Step → Type 0
+IfThere Q None = Unit {0}
+IfThere Q (Some first) = Q first
 
 module _ (m : ModelTree) where
-  called : (c : ℕ) (o : Option StartTree) → Stands (option_map (start_call m c) o)
-  called c None = tt
-  called c (Some x) = refl
+  module _ (Q : Step → Type 0) (calls : (pos : Pos) (method : Id) (args : Codes) → Q (call pos method args [])) where
+    called : (c : ℕ) (o : Option StartTree) → IfThere Q (option_map (start_call m c) o)
+    called c None = tt
+    called c (Some x) = calls x.method.pos x.method (resolved_all (process_scope m c []) x.args)
 
-  either : (o r : Option Step) → Stands o → Stands r → Stands (option_or o r)
-  either None r h k = k
-  either (Some first) r h k = h
+    either : (o r : Option Step) → IfThere Q o → IfThere Q r → IfThere Q (option_or o r)
+    either None r h k = k
+    either (Some first) r h k = h
 
-  starts_of : (line : List ℕ) → Stands (nearest (own_call m) line)
-  starts_of [] = tt
-  starts_of (c ∷ line) = either (own_call m c) (nearest (own_call m) line) (called c (option_and_then own_start (declaration m c))) (starts_of line)
+    starts_of : (line : List ℕ) → IfThere Q (nearest (own_call m) line)
+    starts_of [] = tt
+    starts_of (c ∷ line) = either (own_call m c) (nearest (own_call m) line) (called c (option_and_then own_start (declaration m c))) (starts_of line)
+
+    -- what holds of calls without results holds of it
+    pub begins_with_call : (c : ℕ) (first : Step) → init m c ≡ Some first → Q first
+    begins_with_call c first is = subst (IfThere Q) is (starts_of (ancestors m c))
 
   call_stands : (c : ℕ) (first : Step) → init m c ≡ Some first → plainly first ≡ leaf first
-  call_stands c first is = subst Stands is (starts_of (ancestors m c))
+  call_stands = begins_with_call (λ t. plainly t ≡ leaf t) (λ pos method args. refl)
 
   pub begins : (h : Home) (c : ℕ) (first : Step) (values : List Value) → init m c ≡ Some first → left_by (initial values) (leaf first) ≡ swept (opened h first (initial values))
   begins h c first values is =

@@ -28,6 +28,10 @@ mod Kept
 mod Lower
 mod Starts
 mod Pending
+mod Opens
+mod Brought
+mod Marks
+mod Room
 mod Existing
 mod Wires
 pub mod worked

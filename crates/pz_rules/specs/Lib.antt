@@ -24,6 +24,7 @@ pub mod ChosenRuns
 pub mod Starting
 pub mod Fitting
 pub mod Heights
+pub mod Clocks
 pub mod Laws
 pub mod RestView
 pub mod View

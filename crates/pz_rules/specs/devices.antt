@@ -7,3 +7,5 @@ pub mod Pending
 pub mod Ends
 pub mod Plainly
 pub mod Start
+pub mod Opened
+pub mod Room

@@ -1,6 +1,8 @@
 // Laws of execution, each the contract of a function that does nothing.
 
 ghost use Rattle.pz_rules.specs.Laws.{OneListOfOffers, EveryListOfOffers, WiresAreKnown, OneMoment, EveryMoment, MomentsCountOffers, TimeWaits, LeastPasses, TimeIsPositive, EveryPassing, PassingTakes, BringsToZero, OneNext, OnePassing, StaysWhole, StartFits, StaysFit, EveryNext, OneChosenRun, EveryChosenRun, ChosenRunsAreRuns, WhatCanActs, WhatSendsIsASend, WhatReceivesIsAReceive, NumbersAreFree, OneNumberIsLeast, LowStays, LowPasses, OneStart, EveryStart};
+ghost use Rattle.pz_rules.specs.Clocks.{ClocksStayLow};
+ghost use Rattle.pz_rules.specs.devices.Room.{StartsHaveRoom, ActionsLeaveRoom, PassingsLeaveRoom, RoomIsLow, LessRoom};
 ghost use Rattle.pz_rules.specs.devices.Computed.{TestsAreComputed, TimesAreComputed, PartsAreComputed, PassingIsComputed, OnePassingIsComputed};
 ghost use Rattle.pz_rules.specs.devices.Ends.{PassingsEnd, ActivePartsFit};
 ghost use Rattle.pz_rules.specs.devices.Start.{StartIsComputed};
@@ -104,6 +106,26 @@ pub fn passing_is_computed()
 pub fn passings_end()
     ensures law { PassingsEnd }
 {}
+
+/// The clock stays below 2^127 in a run of at most 10^9 actions, of a sound model whose text has fewer than
+/// 2^32 - 1 marks, if each passing is shorter than 2^64 clock units.
+pub fn clocks_stay_low()
+    ensures law { ClocksStayLow }
+{
+    wires_are_known();
+}
+
+/// The same step by step: room for so many actions is there at the start, an action takes one, the passing
+/// of time none, and where there is room the clock is below 2^127.
+pub fn room_is_left()
+    ensures start { StartsHaveRoom }
+    ensures action { ActionsLeaveRoom }
+    ensures passing { PassingsLeaveRoom }
+    ensures low { RoomIsLow }
+    ensures less { LessRoom }
+{
+    wires_are_known();
+}
 
 /// An active part of a term that fits a class fits it too.
 pub fn active_parts_fit()
