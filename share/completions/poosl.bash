@@ -30,7 +30,7 @@ _poosl_kinds() {
 }
 
 _poosl() {
-  local jobs='run menu replay check make ring' own='chart explain now install help version'
+  local jobs='run menu replay check make ring format' own='chart explain now install help version'
   local word=${COMP_WORDS[COMP_CWORD]} at=1 job files=0
   COMPREPLY=()
   # (behind 'now' stands a job of the program, or a chart)
@@ -41,7 +41,7 @@ _poosl() {
   fi
   job=${COMP_WORDS[at]}
   case $job in
-    run | menu | check | chart) files=1 ;;
+    run | menu | check | format | chart) files=1 ;;
     replay) files=2 ;;
     install) mapfile -t COMPREPLY < <(compgen -d -- "$word"); compopt -o filenames 2>/dev/null; return ;;
     help) mapfile -t COMPREPLY < <(compgen -W "$jobs $own" -- "$word"); return ;;

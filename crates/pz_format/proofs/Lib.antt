@@ -6,4 +6,5 @@ pub mod ReadPieces
 pub mod ReadBack
 pub mod Putting
 pub mod Models
+pub mod ModelsBack
 mod Rows

@@ -1,11 +1,15 @@
 -- What of a layout is read back.
 use Rattle.std.specs.Prelude.{◌≡◌, ℕ, List, [], ◌∷◌, map, Bool, true, false, nat_lt}
+use Rattle.std.specs.List.{list_all}
 use Rattle.pz_syntax.specs.declared.tokens.Symbol.TheVariants as s
 use Rattle.pz_syntax.specs.declared.tokens.TokenKind.{TokenKind}
 use Rattle.pz_syntax.specs.declared.tokens.TokenKind.TheVariants as kind
 use Rattle.pz_lexer.specs.declared.kept.Piece.{Piece}
 use Rattle.pz_lexer.specs.Places.{origin}
-use Rattle.pz_lexer.specs.Kept.{AreKept}
+use Rattle.pz_syntax.specs.Classes.{ModelTree}
+use Rattle.pz_syntax.specs.ModelForm.{IsModel}
+use Rattle.pz_syntax.specs.ModelText as mt
+use Rattle.pz_lexer.specs.Kept.{AreKept, tokens_among}
 
 -- two tokens that make another one where no blank stands between them: `!` and `=` or `==`; and a `.`
 -- and a number, which with a number before them make a float. In no model one follows the other.
@@ -44,3 +48,11 @@ pub record ReadsBack (text : List ℕ) (pieces : List Piece) : Type 0 where
 -- a text of bytes
 abbrev pub is_byte : ℕ → Bool
 is_byte b = nat_lt b 256
+
+-- the text is one of bytes, these are its tokens and comments, and the tokens are the text of this model of
+-- the grammar
+pub record IsModelText (model : ModelTree) (text : List ℕ) (pieces : List Piece) : Type 0 where
+  pub bytes : list_all is_byte text ≡ true
+  pub kept : AreKept text pieces
+  pub is_model : IsModel model
+  pub is_text : map (λ t. t.mark) (tokens_among pieces) ≡ mt.text model

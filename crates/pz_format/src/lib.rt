@@ -10,4 +10,4 @@ mod spellings;
 mod writing;
 
 pub use formatting::format;
-pub use laws::models_stand_apart;
+pub use laws::{layouts_read_back, models_read_back, models_stand_apart};

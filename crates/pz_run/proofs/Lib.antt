@@ -9,6 +9,8 @@ pub mod Keeps
 pub mod Outcomes
 pub mod OneFiles
 pub mod OfJobs
+pub mod Formatted
+pub mod FormatsBack
 pub mod OneEndings
 pub mod Replayed
 pub mod Asked

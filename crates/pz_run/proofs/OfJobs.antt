@@ -6,7 +6,7 @@ use Rattle.pz_rules.specs.Runs.{Ending}
 use Rattle.pz_words.specs.declared.jobs.Choice.{Choice}
 use Rattle.pz_words.specs.declared.jobs.RunLimits.{RunLimits}
 use Rattle.pz_words.specs.declared.jobs.Job.{Job}
-use Rattle.pz_words.specs.declared.jobs.Job.TheVariants.{Run, Menu, Replay, Check, Make, Ring}
+use Rattle.pz_words.specs.declared.jobs.Job.TheVariants.{Run, Menu, Replay, Check, Make, Ring, Format}
 use Rattle.pz_gen.specs.Ring.{model as ring_text}
 use Rattle.pz_run_reading.specs.declared.refusal.Refusal.{Refusal}
 use Rattle.pz_run_reading.specs.Models.{IsModelOf}
@@ -21,7 +21,7 @@ use Rattle.pz_run.specs.Files.{model_file, files_of}
 use Rattle.pz_run.specs.Status.{status_of}
 use Rattle.pz_run.specs.Plays.{play, play_of, telling_when}
 use Rattle.pz_run.specs.Output.{PrintsRun, plays, PrintsSize, accepts, makes, PrintsModel, refuses, of_model, PrintsFile, lacks, too_long, reads, PrintsModelFile, PrintsJob, does}
-use Rattle.pz_run.specs.Promises.{HasModel, model_name, stations_of, IsTextFor, of_file, of_ring, ChosenEnds, HasTrace, ToldEnds, HasEnding, of_choice, of_trace, RunEnds, TellsNoRun, IsNoTrace}
+use Rattle.pz_run.specs.Promises.{HasModel, model_name, stations_of, IsRefusedFor, IsTextFor, of_file, of_ring, ChosenEnds, HasTrace, ToldEnds, HasEnding, of_choice, of_trace, RunEnds, TellsNoRun, IsNoTrace}
 use Rattle.pz_run.specs.Promises as promises
 use Rattle.pz_run.specs.devices.Keeping.{KeepsPromises}
 use Rattle.pz_run.specs.devices.Reading.{ReadsFile}
@@ -46,6 +46,25 @@ module _ (files : Entries) (name : List ℕ) (P : ModelTree → List ℕ → Sta
 
 -- ---- runs
 
+-- of a job with a run, opening is not asked
+play_refused : (job : Job) (p : Play) → play_of job ≡ Some p → (text : List ℕ) (r : Refusal) → IsRefusedFor job text r → IsRefused text r
+play_refused (Run model choice limits summary) p is text r refused = refused
+play_refused (Menu model choice limits) p is text r refused = refused
+play_refused (Replay model trace units) p is text r refused = refused
+play_refused (Check model) p is text r refused = refused
+play_refused (Make n) p is text r refused = refused
+play_refused (Ring n choice limits) p is text r refused = refused
+play_refused (Format model) p is text r refused = absurd cc
+
+refused_play : (job : Job) (p : Play) → play_of job ≡ Some p → (text : List ℕ) (r : Refusal) → IsRefused text r → IsRefusedFor job text r
+refused_play (Run model choice limits summary) p is text r refused = refused
+refused_play (Menu model choice limits) p is text r refused = refused
+refused_play (Replay model trace units) p is text r refused = refused
+refused_play (Check model) p is text r refused = refused
+refused_play (Make n) p is text r refused = refused
+refused_play (Ring n choice limits) p is text r refused = refused
+refused_play (Format model) p is text r refused = absurd cc
+
 none_played : (model name : List ℕ) (units : ℕ) (p : Play) → play_of (Replay model name units) ≡ Some p → ⊥
 none_played model name units p e = cc
 
@@ -55,7 +74,7 @@ module _ (job : Job) (p : Play) (is_play : play_of job ≡ Some p) (text : List 
       run_ended run.ending (chosen_can job p is_play run.ending) (λ _. of_choice (record { play = p; is_play = is_play; model = m; is_model = is; run = run; ends = refl }))
 
   play_outcome : (f : FilesState) (bytes : List ℕ) (status : Status) → PrintsModel (PrintsRun p) text bytes status → Outcome f job text status
-  play_outcome f _ _ (refuses r is) = no_model r is
+  play_outcome f _ _ (refuses r is) = no_model r (refused_play job p is_play text r is)
   play_outcome f _ _ (of_model m bytes status is prints) = run_outcome f m bytes status is prints
 
   no_trace : {X : Type 0} (held : Entries) → HasTrace held job text → X
@@ -83,7 +102,7 @@ plays_file job name p files has named is_play prints = record {
   outcome = λ f text bytes status x. play_outcome job p is_play text f bytes status x.prints;
   only = λ held text bytes status x. play_only job p is_play text held status x.only;
   no_run = λ held text bytes status x none. no_trace job p is_play text held none.replay;
-  refused = λ text bytes status x. x.refused;
+  refused = λ text bytes status x r is. x.refused r (play_refused job p is_play text r is);
 }
 
 module _ (f g : FilesState) (before now : SinkState) (given : Status) where
@@ -109,9 +128,9 @@ no_play model p e = cc
 size_outcome : (f : FilesState) (job : Job) (text : List ℕ) (m : ModelTree) (bytes : List ℕ) (status : Status) → PrintsSize m bytes status → Outcome f job text status
 size_outcome f job text m _ _ (accepts processes wires is) = checked
 
-check_outcome : (f : FilesState) (job : Job) (text bytes : List ℕ) (status : Status) → PrintsModel PrintsSize text bytes status → Outcome f job text status
-check_outcome f job text _ _ (refuses r is) = no_model r is
-check_outcome f job text _ _ (of_model m bytes status is prints) = size_outcome f job text m bytes status prints
+check_outcome : (f : FilesState) (model text bytes : List ℕ) (status : Status) → PrintsModel PrintsSize text bytes status → Outcome f (Check model) text status
+check_outcome f model text _ _ (refuses r is) = no_model r is
+check_outcome f model text _ _ (of_model m bytes status is prints) = size_outcome f (Check model) text m bytes status prints
 
 -- neither a check nor a ring that is made has a run
 
@@ -131,7 +150,7 @@ checks_file model = record {
   lacks = λ held missing. file_lacks held model PrintsSize missing;
   long = λ held text is long. file_long held model PrintsSize text is long;
   reads = λ held text bytes status is short x. file_read held model PrintsSize text bytes status is short x.prints;
-  outcome = λ f text bytes status x. check_outcome f (Check model) text bytes status x.prints;
+  outcome = λ f text bytes status x. check_outcome f model text bytes status x.prints;
   only = λ held text bytes status prints e x. check_ended model held text e x;
   no_run = λ held text bytes status prints none. check_told model held text none.replay;
   refused = λ text bytes status x. x.refused;
@@ -199,7 +218,7 @@ module _ (f : FilesState) (before now : SinkState) (given : Status) where
       opens = λ s. none_opened [] f s refl;
       ends = end.can;
       model_refused = end.model_refused;
-      no_model = λ none _ _. let y = same_text (λ j t. (r : Refusal) × IsRefused t r) (refused_in f.held job none) in x.refused y.0 y.1;
+      no_model = λ none _ _. let y = same_text (λ j t. (r : Refusal) × IsRefusedFor j t r) (refused_in f.held job none) in x.refused y.0 y.1;
       deadlock = end.deadlock;
       model_fault = end.model_fault;
       choice_refused = end.choice_refused;

@@ -5,7 +5,6 @@ use Rattle.pz_io.specs.Outside.{Entries, FilesState, SinkState, lookup, raised, 
 use Rattle.pz_rules.specs.Runs.{Ending}
 use Rattle.pz_words.specs.declared.jobs.Job.{Job}
 use Rattle.pz_run_reading.specs.declared.refusal.Refusal.{Refusal}
-use Rattle.pz_run_reading.specs.Refusals.{IsRefused}
 use Rattle.pz_run_lines.specs.Lines.{read_fault_line, too_long_line}
 use Rattle.pz_run.specs.Limits.{model_limit}
 use Rattle.pz_run.specs.declared.status.Status.{Status}
@@ -13,7 +12,7 @@ use Rattle.pz_run.specs.declared.status.Status.TheVariants.{ModelRefused, TraceR
 use Rattle.pz_run.specs.Files.{JobFile, model_file, files_of}
 use Rattle.pz_run.specs.Status.{status_of}
 use Rattle.pz_run.specs.Output.{Prints, does, PrintsJob}
-use Rattle.pz_run.specs.Promises.{Opens, OpensFiles, OpensLast, HasModel, model_name, IsTextFor, of_file, HasEnding, RunEnds, TellsNoRun, IsNoTrace, CanEnd}
+use Rattle.pz_run.specs.Promises.{Opens, OpensFiles, OpensLast, HasModel, model_name, IsTextFor, of_file, IsRefusedFor, HasEnding, RunEnds, TellsNoRun, IsNoTrace, CanEnd}
 use Rattle.pz_run.specs.Promises as promises
 use Rattle.pz_run.specs.devices.Keeping.{KeepsPromises}
 use Rattle.pz_run.specs.devices.Reading.{FileOutcome, wanting, fault, long, whole, ReadsFile}
@@ -34,7 +33,7 @@ pub record OneFile (job : Job) (name : List ℕ) (P : List ℕ → List ℕ → 
   pub outcome : (f : FilesState) (text bytes : List ℕ) (status : Status) → P text bytes status → Outcome f job text status
   pub only : (held : Entries) (text bytes : List ℕ) (status : Status) → P text bytes status → (e : Ending) → HasEnding held job text e → status ≡ status_of e
   pub no_run : (held : Entries) (text bytes : List ℕ) (status : Status) → P text bytes status → TellsNoRun held job text → status ≡ TraceRefused
-  pub refused : (text bytes : List ℕ) (status : Status) → P text bytes status → (r : Refusal) → IsRefused text r → status ≡ ModelRefused
+  pub refused : (text bytes : List ℕ) (status : Status) → P text bytes status → (r : Refusal) → IsRefusedFor job text r → status ≡ ModelRefused
 
 missing_is : (text : List ℕ) → None ≡ Some text → ⊥
 missing_is text e = cc
@@ -130,7 +129,7 @@ module _ (job : Job) (name : List ℕ) (P : List ℕ → List ℕ → Status →
       opens = opens;
       ends = end.can;
       model_refused = end.model_refused;
-      no_model = λ none told _. let x = same_text (λ j t. (r : Refusal) × IsRefused t r) (refused_in f.held job none) told in one.refused text bytes wanted printed x.0 x.1;
+      no_model = λ none told _. let x = same_text (λ j t. (r : Refusal) × IsRefusedFor j t r) (refused_in f.held job none) told in one.refused text bytes wanted printed x.0 x.1;
       deadlock = end.deadlock;
       model_fault = end.model_fault;
       choice_refused = end.choice_refused;

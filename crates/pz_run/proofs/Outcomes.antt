@@ -7,17 +7,16 @@ use Rattle.pz_trace.specs.declared.ending.Ending as trace
 use Rattle.pz_trace.specs.declared.ending.Ending.TheVariants as ending
 use Rattle.pz_trace.specs.TraceText.{run_ending}
 use Rattle.pz_words.specs.declared.jobs.Job.{Job}
-use Rattle.pz_words.specs.declared.jobs.Job.TheVariants.{Run, Menu, Replay, Check, Make, Ring}
+use Rattle.pz_words.specs.declared.jobs.Job.TheVariants.{Run, Menu, Replay, Check, Make, Ring, Format}
 use Rattle.pz_gen.specs.Ring.{model as ring_text}
 use Rattle.pz_run_reading.specs.declared.refusal.Refusal.{Refusal}
-use Rattle.pz_run_reading.specs.Refusals.{IsRefused}
 use Rattle.pz_run.specs.Limits.{model_limit}
 use Rattle.pz_run.specs.declared.play.Play.{Play}
 use Rattle.pz_run.specs.declared.status.Status.{Status}
 use Rattle.pz_run.specs.declared.status.Status.TheVariants.{Done, Deadlock, ModelRefused, ModelFault, ChoiceRefused, TraceRefused, TooLong, ReadFault}
 use Rattle.pz_run.specs.Plays.{play_of}
 use Rattle.pz_run.specs.Status.{status_of}
-use Rattle.pz_run.specs.Promises.{IsNoModel, HasModel, HasRun, model_name, stations_of, IsTextFor, of_file, of_ring, HasEnding, RunEnds, TellsNoRun, IsNoTrace, CanEnd}
+use Rattle.pz_run.specs.Promises.{IsRefusedFor, IsNoModel, HasModel, HasRun, model_name, stations_of, IsTextFor, of_file, of_ring, HasEnding, RunEnds, TellsNoRun, IsNoTrace, CanEnd}
 use Rattle.pz_run.specs.Promises as promises
 use Rattle.pz_run.proofs.OneEnd.{some_is}
 
@@ -30,6 +29,7 @@ chosen_runs (Replay model trace units) p is = tt
 chosen_runs (Check model) p is = cc
 chosen_runs (Make n) p is = cc
 chosen_runs (Ring n choice limits) p is = tt
+chosen_runs (Format model) p is = cc
 
 pub chosen_can : (job : Job) (p : Play) → play_of job ≡ Some p → (e : Ending) → CanEnd (Some job) (status_of e)
 chosen_can job p is ended = promises.done job
@@ -47,7 +47,7 @@ told_can model name units (ending.Trouble trouble) = promises.model_fault (Repla
 -- ---- how the model of a text ends
 
 pub data Outcome (f : FilesState) (job : Job) (text : List ℕ) : Status → Type 0 where
-  no_model : (r : Refusal) → IsRefused text r → Outcome f job text ModelRefused
+  no_model : (r : Refusal) → IsRefusedFor job text r → Outcome f job text ModelRefused
   run_ended : (e : Ending) → CanEnd (Some job) (status_of e) → (f.told ≡ true → HasEnding f.held job text e) → Outcome f job text (status_of e)
   no_trace : CanEnd (Some job) TraceRefused → (f.told ≡ true → TellsNoRun f.held job text) → Outcome f job text TraceRefused
   checked : Outcome f job text Done
@@ -146,6 +146,7 @@ no_ring (Replay model trace units) name n named ring = cc
 no_ring (Check model) name n named ring = cc
 no_ring (Make m) name n named ring = cc
 no_ring (Ring m choice limits) name n named ring = cc
+no_ring (Format model) name n named ring = cc
 
 -- it is that of the file of this name
 pub record IsTextOfFile (files : Entries) (name text : List ℕ) : Type 0 where
@@ -176,5 +177,5 @@ run_in files job e ends = of_asked files (λ j text. HasEnding files j text e) j
 pub none_in : (files : Entries) (job : Job) → IsNoTrace (Some job) files → OfText files job (λ j text. TellsNoRun files j text)
 none_in files job none = of_asked files (λ j text. TellsNoRun files j text) job none.job none.is_asked (record { text = none.text; is_text = none.is_text; holds = none.tells_none })
 
-pub refused_in : (files : Entries) (job : Job) → IsNoModel (Some job) files → OfText files job (λ j text. (r : Refusal) × IsRefused text r)
-refused_in files job none = of_asked files (λ j text. (r : Refusal) × IsRefused text r) job none.job none.is_asked (record { text = none.text; is_text = none.is_text; holds = (none.refusal, none.is_refused) })
+pub refused_in : (files : Entries) (job : Job) → IsNoModel (Some job) files → OfText files job (λ j text. (r : Refusal) × IsRefusedFor j text r)
+refused_in files job none = of_asked files (λ j text. (r : Refusal) × IsRefusedFor j text r) job none.job none.is_asked (record { text = none.text; is_text = none.is_text; holds = (none.refusal, none.is_refused) })

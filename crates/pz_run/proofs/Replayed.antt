@@ -30,7 +30,7 @@ use Rattle.pz_run.specs.Plays.{play_of, setting_with}
 use Rattle.pz_run.specs.Status.{status_of, replay_status}
 use Rattle.pz_run.specs.Output.{PrintsReplay, replays, PrintsFile, lacks, too_long, reads, of_model, PrintsTraceFile, PrintsJob, Prints, does}
 use Rattle.pz_run.specs.Output as output
-use Rattle.pz_run.specs.Promises.{Opens, OpensFiles, OpensLast, IsNoModel, HasModelText, IsTextFor, of_file, ChosenEnds, HasTrace, ToldEnds, HasEnding, of_choice, of_trace, RunEnds, TellsNoRun, IsNoTrace, CanEnd}
+use Rattle.pz_run.specs.Promises.{Opens, OpensFiles, OpensLast, IsRefusedFor, IsNoModel, HasModelText, IsTextFor, of_file, ChosenEnds, HasTrace, ToldEnds, HasEnding, of_choice, of_trace, RunEnds, TellsNoRun, IsNoTrace, CanEnd}
 use Rattle.pz_run.specs.Promises as promises
 use Rattle.pz_run.specs.devices.Halting.{replayed_as}
 use Rattle.pz_run.specs.devices.Keeping.{KeepsPromises}
@@ -227,7 +227,7 @@ module _ (model name : List ℕ) (units : ℕ) where
 
     -- the text of the model is not refused
     accepted_so : {X : Type 0} → IsNoModel (Some job) f.held → f.told ≡ true → X
-    accepted_so none tells = let x = same_text (λ j t. (r : Refusal) × IsRefused t r) (refused_in f.held job none) tells in absurd (is.unrefused x.0 x.1)
+    accepted_so none tells = let x = same_text (λ j t. (r : Refusal) × IsRefusedFor j t r) (refused_in f.held job none) tells in absurd (is.unrefused x.0 x.1)
 
     -- a replay of these files is one of this model, with these units
     record IsHere (x : HasTrace f.held job text) (t : List ℕ) : Type 0 where

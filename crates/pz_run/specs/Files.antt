@@ -1,7 +1,7 @@
 -- The files that a job reads.
 use Rattle.std.specs.Prelude.{ℕ, List, [], ◌∷◌, Option, Some, None}
 use Rattle.pz_words.specs.declared.jobs.Job.{Job}
-use Rattle.pz_words.specs.declared.jobs.Job.TheVariants.{Run, Menu, Replay, Check, Make, Ring}
+use Rattle.pz_words.specs.declared.jobs.Job.TheVariants.{Run, Menu, Replay, Check, Make, Ring, Format}
 use Rattle.pz_run.specs.Limits.{model_limit, trace_limit}
 
 -- a file, and the most bytes that it may have
@@ -24,3 +24,4 @@ files_of (Some (Replay model trace units)) = model_file model ∷ trace_file tra
 files_of (Some (Check model)) = model_file model ∷ []
 files_of (Some (Make n)) = []
 files_of (Some (Ring n choice limits)) = []
+files_of (Some (Format model)) = model_file model ∷ []

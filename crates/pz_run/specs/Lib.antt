@@ -5,4 +5,5 @@ pub mod Status
 pub mod Plays
 pub mod Output
 pub mod Promises
+pub mod Formats
 pub mod devices

@@ -4,12 +4,14 @@ use Rattle.std.specs.Prelude.{◌<◌, ◌≤◌, ℕ, List, length, Option, Som
 use Rattle.pz_io.specs.Outside.{Entries, lookup}
 use Rattle.pz_syntax.specs.Classes.{ModelTree}
 use Rattle.pz_words.specs.declared.jobs.Job.{Job}
-use Rattle.pz_words.specs.declared.jobs.Job.TheVariants.{Run, Menu, Replay, Check, Make, Ring}
+use Rattle.pz_words.specs.declared.jobs.Job.TheVariants.{Run, Menu, Replay, Check, Make, Ring, Format}
 use Rattle.pz_gen.specs.Ring.{model as ring_text}
 use Rattle.pz_run_reading.specs.declared.refusal.Refusal.{Refusal}
 use Rattle.pz_run_reading.specs.Models.{IsModelOf}
 use Rattle.pz_run_reading.specs.Refusals.{IsRefused}
+use Rattle.pz_run_reading.specs.Openings.{IsRefusedToOpen}
 use Rattle.pz_run_reading.specs.Sizes.{HasSize}
+use Rattle.pz_run_formatting.specs.Layouts.{IsLayoutOf}
 use Rattle.pz_run_lines.specs.Lines.{usage_line, read_fault_line, too_long_line, accepted_line, model_refused_line}
 use Rattle.pz_run_playing.specs.Playing.{Tells}
 use Rattle.pz_term.specs.Simulations.{Simulation}
@@ -46,6 +48,12 @@ pub data PrintsModel (P : ModelTree → List ℕ → Status → Type 0) (text : 
   refuses : (r : Refusal) → IsRefused text r → PrintsModel P text (model_refused_line r) ModelRefused
   of_model : (m : ModelTree) (bytes : List ℕ) (status : Status) → IsModelOf text m → P m bytes status → PrintsModel P text bytes status
 
+-- of a text: the layout of its tokens and comments, if it is that of a model that opens; if not, why it is
+-- refused
+pub data PrintsLayout (text : List ℕ) : List ℕ → Status → Type 0 where
+  opens_not : (r : Refusal) → IsRefusedToOpen text r → PrintsLayout text (model_refused_line r) ModelRefused
+  lays_out : (bytes : List ℕ) → IsLayoutOf text bytes → PrintsLayout text bytes Done
+
 -- of a file: that it is lacked or too long, or what this is of its text
 pub data PrintsFile (file : JobFile) (P : List ℕ → List ℕ → Status → Type 0) : Option (List ℕ) → List ℕ → Status → Type 0 where
   lacks : PrintsFile file P None (read_fault_line file.name) ReadFault
@@ -66,6 +74,7 @@ PrintsJob files (Replay model trace units) = PrintsModelFile files model (Prints
 PrintsJob files (Check model) = PrintsModelFile files model PrintsSize
 PrintsJob files (Make n) = PrintsRing n
 PrintsJob files (Ring n choice limits) = PrintsModel (PrintsRun (play choice limits telling.Summary)) (ring_text n)
+PrintsJob files (Format model) = PrintsFile (model_file model) PrintsLayout (lookup files model)
 
 -- a job, or that there is none
 pub data Prints (files : Entries) : Option Job → List ℕ → Status → Type 0 where

@@ -7,7 +7,7 @@ use Rattle.pz_rules.specs.ChosenRuns.{Policy}
 use Rattle.pz_words.specs.declared.jobs.Choice.{Choice}
 use Rattle.pz_words.specs.declared.jobs.RunLimits.{RunLimits}
 use Rattle.pz_words.specs.declared.jobs.Job.{Job}
-use Rattle.pz_words.specs.declared.jobs.Job.TheVariants.{Run, Menu, Replay, Check, Make, Ring}
+use Rattle.pz_words.specs.declared.jobs.Job.TheVariants.{Run, Menu, Replay, Check, Make, Ring, Format}
 use Rattle.pz_run_playing.specs.Policies.{resolver_of, policy_of}
 use Rattle.pz_run_playing.specs.Playing as playing
 use Rattle.pz_run_playing.specs.Playing.{ChosenRun}
@@ -36,6 +36,7 @@ play_of (Replay model trace units) = None
 play_of (Check model) = None
 play_of (Make n) = None
 play_of (Ring n choice limits) = Some (play choice limits telling.Summary)
+play_of (Format model) = None
 
 -- each evaluation has so many units; the rules are those of the first edition
 abbrev pub setting_with : ModelTree → ℕ → Setting

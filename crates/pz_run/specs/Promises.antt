@@ -6,12 +6,13 @@ use Rattle.pz_io.specs.Writing.{TookAll, TookFront}
 use Rattle.pz_syntax.specs.Classes.{ModelTree}
 use Rattle.pz_rules.specs.Runs.{Ending}
 use Rattle.pz_words.specs.declared.jobs.Job.{Job}
-use Rattle.pz_words.specs.declared.jobs.Job.TheVariants.{Run, Menu, Replay, Check, Make, Ring}
+use Rattle.pz_words.specs.declared.jobs.Job.TheVariants.{Run, Menu, Replay, Check, Make, Ring, Format}
 use Rattle.pz_trace.specs.TraceText.{run_ending, IsTrace}
 use Rattle.pz_gen.specs.Ring.{model as ring_text}
 use Rattle.pz_run_reading.specs.declared.refusal.Refusal.{Refusal}
 use Rattle.pz_run_reading.specs.Models.{IsModelOf}
 use Rattle.pz_run_reading.specs.Refusals.{IsRefused}
+use Rattle.pz_run_reading.specs.Openings.{IsRefusedToOpen}
 use Rattle.pz_run_lines.specs.Lines.{read_fault_line}
 use Rattle.pz_run.specs.Limits.{model_limit, trace_limit}
 use Rattle.pz_run.specs.declared.play.Play.{Play}
@@ -122,6 +123,7 @@ model_name (Replay model trace units) = Some model
 model_name (Check model) = Some model
 model_name (Make n) = None
 model_name (Ring n choice limits) = None
+model_name (Format model) = Some model
 
 -- how many stations the ring has that a job runs
 abbrev pub stations_of : Job → Option ℕ
@@ -131,11 +133,17 @@ stations_of (Replay model trace units) = None
 stations_of (Check model) = None
 stations_of (Make n) = None
 stations_of (Ring n choice limits) = Some n
+stations_of (Format model) = None
 
 -- the text of the model of a job: that of its file, within the limit, or of a ring
 pub data IsTextFor (files : Entries) : Job → List ℕ → Type 0 where
   of_file : (job : Job) (name text : List ℕ) → model_name job ≡ Some name → lookup files name ≡ Some text → length text ≤ model_limit → IsTextFor files job text
   of_ring : (job : Job) (n : ℕ) → stations_of job ≡ Some n → IsTextFor files job (ring_text n)
+
+-- what refuses the text of the model of a job: C23 and C24 are asked for `format` alone
+abbrev pub IsRefusedFor : Job → List ℕ → Refusal → Type 0
+IsRefusedFor (Format model) text r = IsRefusedToOpen text r
+IsRefusedFor job text r = IsRefused text r
 
 -- the text of the model is refused
 pub record IsNoModel (a : Option Job) (files : Entries) : Type 0 where
@@ -144,7 +152,7 @@ pub record IsNoModel (a : Option Job) (files : Entries) : Type 0 where
   pub text : List ℕ
   pub is_text : IsTextFor files job text
   pub refusal : Refusal
-  pub is_refused : IsRefused text refusal
+  pub is_refused : IsRefusedFor job text refusal
 
 -- the text of the model of a job is that of this model
 pub record HasModelText (a : Option Job) (files : Entries) : Type 0 where
@@ -221,6 +229,7 @@ HasModel job = Unit {0}
 abbrev pub HasRun : Job → Type 0
 HasRun (Check model) = ⊥
 HasRun (Make n) = ⊥
+HasRun (Format model) = ⊥
 HasRun job = Unit {0}
 
 -- how a call can end, whatever the files and the sink do

@@ -1,4 +1,5 @@
 pub mod Words
+pub mod Formatting
 pub mod Halting
 pub mod Saying
 pub mod Texts

@@ -5,6 +5,7 @@ ghost use Rattle.pz_run.specs.devices.Keeping.{KeepsPromises};
 
 use crate::Status;
 use crate::files::{check_file, run_file};
+use crate::formatting::format_file;
 use crate::play::{Play, Telling};
 use crate::replaying::replay_file;
 use crate::rings::{make_ring, run_ring};
@@ -60,5 +61,6 @@ pub fn do_job<F: Files, W: Sink>(alloc: Global, job: Job, files: &mut F, out: &m
             };
             run_ring(alloc, n, run, out)
         }
+        Job::Format { model } => format_file(alloc, model.as_str(), files, out),
     }
 }

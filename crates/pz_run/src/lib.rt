@@ -3,6 +3,7 @@
 
 mod doing;
 mod files;
+mod formatting;
 mod laws;
 mod limits;
 mod play;
@@ -15,5 +16,6 @@ mod starting;
 mod status;
 mod texts;
 
+pub use laws::formats_read_back;
 pub use program::run_program;
 pub use status::Status;

@@ -11,7 +11,7 @@ newline = codes "\n"
 
 -- how the program is called
 abbrev pub usage_line : List ℕ
-usage_line = codes "usage: poosl_run run MODEL | menu MODEL | replay MODEL TRACE | check MODEL | make N | ring N\n"
+usage_line = codes "usage: poosl_run run MODEL | menu MODEL | replay MODEL TRACE | check MODEL | make N | ring N | format MODEL\n"
 
 -- a file that cannot be opened or read
 abbrev pub read_fault_line : List ℕ → List ℕ

@@ -12,7 +12,7 @@ use std::alloc::{AllocError, Global};
 pub fn usage_line() -> &'static [u8]
     ensures { result.now ≡ lines.usage_line }
 {
-    b"usage: poosl_run run MODEL | menu MODEL | replay MODEL TRACE | check MODEL | make N | ring N\n"
+    b"usage: poosl_run run MODEL | menu MODEL | replay MODEL TRACE | check MODEL | make N | ring N | format MODEL\n"
 }
 
 /// A file of this name cannot be opened or read. The only error is want of memory.

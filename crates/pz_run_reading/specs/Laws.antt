@@ -4,6 +4,7 @@ use Rattle.pz_syntax.specs.Classes.{ModelTree}
 use Rattle.pz_run_reading.specs.declared.refusal.Refusal.{Refusal}
 use Rattle.pz_run_reading.specs.Models.{IsModelOf}
 use Rattle.pz_run_reading.specs.Refusals.{IsRefused}
+use Rattle.pz_run_reading.specs.Openings.{IsOpenModelOf, IsRefusedToOpen}
 
 -- positions included
 abbrev pub HasOneModel : Type 0
@@ -12,3 +13,7 @@ HasOneModel = (text : List ℕ) (m n : ModelTree) → IsModelOf text m → IsMod
 -- the text of a model is not refused
 abbrev pub NoModelIsRefused : Type 0
 NoModelIsRefused = (text : List ℕ) (m : ModelTree) (r : Refusal) → IsModelOf text m → IsRefused text r → ⊥
+
+-- nor is the text of a model that opens refused to open
+abbrev pub NoOpenModelIsRefused : Type 0
+NoOpenModelIsRefused = (text : List ℕ) (m : ModelTree) (r : Refusal) → IsOpenModelOf text m → IsRefusedToOpen text r → ⊥

@@ -5,12 +5,14 @@
 mod flat_model;
 mod flattening;
 pub mod laws;
+mod opening;
 mod read_error;
 mod reading;
 mod refusal;
 mod size;
 
 pub use flattening::measure;
+pub use opening::{open_model, read_open_model};
 pub use read_error::ReadModelError;
 pub use reading::read_model;
 pub use refusal::Refusal;

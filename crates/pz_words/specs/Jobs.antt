@@ -6,7 +6,7 @@ use Rattle.pz_words.specs.declared.jobs.Choice.{Choice}
 use Rattle.pz_words.specs.declared.jobs.Choice.TheVariants as choice
 use Rattle.pz_words.specs.declared.jobs.RunLimits.{RunLimits}
 use Rattle.pz_words.specs.declared.jobs.Job.{Job}
-use Rattle.pz_words.specs.declared.jobs.Job.TheVariants.{Run, Menu, Replay, Check, Make, Ring}
+use Rattle.pz_words.specs.declared.jobs.Job.TheVariants.{Run, Menu, Replay, Check, Make, Ring, Format}
 use Rattle.pz_words.specs.declared.options.Options.{Options}
 use Rattle.pz_words.specs.Options.{AreOptions}
 
@@ -72,6 +72,9 @@ pub data Asks : List (List ℕ) → Job → Type 0 where
   ring : (n : ℕ) (options : List (List ℕ)) (o : Options)
       → IsRingSize n → AreOptions options o → o.summary ≡ false
       → Asks (codes "ring" ∷ decimal n ∷ options) (Ring n (choice_or choice.First o) (limits_of o))
+  format : (model : List ℕ)
+      → IsTrue (is_name model)
+      → Asks (codes "format" ∷ model ∷ []) (Format model)
 
 -- this is what the words ask for: a job, or none
 abbrev pub IsAsked : List (List ℕ) → Option Job → Type 0

@@ -100,4 +100,8 @@ pub enum Job {
         choice: Choice,
         limits: RunLimits,
     },
+    /// To print a model in one layout.
+    Format {
+        model: FileName,
+    },
 }

@@ -53,6 +53,9 @@ fn read_job(alloc: Global, command: &str, words: &[String]) -> Result<Option<Job
     if command == "ring" {
         return read_ring(alloc, words);
     }
+    if command == "format" {
+        return read_format(words);
+    }
     Ok(None)
 }
 
@@ -218,4 +221,16 @@ fn read_ring(alloc: Global, words: &[String]) -> Result<Option<Job>, AllocError>
         choice: options.into_choice(Choice::First),
         limits,
     }))
+}
+
+fn read_format(words: &[String]) -> Result<Option<Job>, AllocError>
+    ensures { IfOk result (λ found. found ≡ device.format_of (map string_bytes words.now)) }
+{
+    let [model] = words else {
+        return Ok(None);
+    };
+    let Some(model) = file_name(model)? else {
+        return Ok(None);
+    };
+    Ok(Some(Job::Format { model }))
 }

@@ -71,6 +71,10 @@ pub fn show(rt: &HostRuntime, job: &Job) -> io::Result<()> {
             show_choice(rt, choice)?;
             show_limits(rt, limits)?;
         }
+        Job::Format { model } => {
+            let name = model.as_str();
+            print!(rt; "format {name}")?;
+        }
     }
     println!(rt;)
 }

@@ -12,6 +12,9 @@ pub(crate) const MODEL: &str =
 pub(crate) const TRACE: &str =
     "poosl-trace 1\n0 1 0 p call 2:6\n0 1 0 p skip 4:1\n0 time 3\n3 1 0 p expire 5:1\n3 1 0 p skip 6:1\n3 end\n";
 
+const LAYOUT: &str =
+    "process class P init a()()\nmethods a()() skip;\ndelay 3;\nskip\nsystem\ninstances p : P\n";
+
 // The words of a command line, with one blank between them.
 fn words_of(alloc: Global, line: &str) -> Result<Vec<String>, AllocError> {
     let mut words = Vec::new(alloc);
@@ -88,7 +91,7 @@ fn expect_of(
 #[test]
 fn a_command_line_gives_its_status_and_its_lines(rt: HostRuntime) -> Result<(), Fail> {
     let usage =
-        "usage: poosl_run run MODEL | menu MODEL | replay MODEL TRACE | check MODEL | make N | ring N\n";
+        "usage: poosl_run run MODEL | menu MODEL | replay MODEL TRACE | check MODEL | make N | ring N | format MODEL\n";
     let rows = [
         ("run m", 0, TRACE),
         ("run m --first", 0, TRACE),
@@ -109,12 +112,14 @@ fn a_command_line_gives_its_status_and_its_lines(rt: HostRuntime) -> Result<(), 
         ),
         ("menu m", 0, "poosl-trace 1\n0 stop\noffer 0 p call 2:6\n"),
         ("check m", 0, "accepted 1 processes 0 wires\n"),
+        ("format m", 0, LAYOUT),
         ("run", 2, usage),
         ("run --first m", 2, usage),
         ("run m --steps 01", 2, usage),
         ("check -m", 2, usage),
         ("make 1", 2, usage),
         ("ring 1001", 2, usage),
+        ("format m m", 2, usage),
         ("", 2, usage),
     ];
     for (line, status, output) in rows {

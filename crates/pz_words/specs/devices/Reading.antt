@@ -5,7 +5,7 @@ use Rattle.std.specs.Fmt.{decimal}
 use Rattle.std.specs.Str.Parse.{digits_value}
 use Rattle.pz_words.specs.declared.jobs.Choice.TheVariants as choice
 use Rattle.pz_words.specs.declared.jobs.Job.{Job}
-use Rattle.pz_words.specs.declared.jobs.Job.TheVariants.{Run, Menu, Replay, Check, Make, Ring}
+use Rattle.pz_words.specs.declared.jobs.Job.TheVariants.{Run, Menu, Replay, Check, Make, Ring, Format}
 use Rattle.pz_words.specs.Jobs.{station_limit}
 use Rattle.pz_words.specs.declared.options.OptionWord.{OptionWord}
 use Rattle.pz_words.specs.declared.options.OptionWord.TheVariants.{Chooses, Steps, Until, Units, Summary}
@@ -148,6 +148,11 @@ abbrev pub ring_of : List (List ℕ) → Option Job
 ring_of [] = None
 ring_of (size ∷ options) = then_maybe (stations_of size) (λ n. then_maybe (read_on nothing_said None options) (λ o. if o.summary then None else Some (Ring n (choice_or choice.First o) (limits_of o))))
 
+abbrev pub format_of : List (List ℕ) → Option Job
+format_of [] = None
+format_of (model ∷ []) = option_map (λ name. Format name) (name_of model)
+format_of (model ∷ other ∷ words) = None
+
 abbrev pub job_of : List ℕ → List (List ℕ) → Option Job
 job_of command words =
     if bytes_eq command (codes "run") then run_of words
@@ -155,7 +160,8 @@ job_of command words =
     else (if bytes_eq command (codes "replay") then replay_of words
     else (if bytes_eq command (codes "check") then check_of words
     else (if bytes_eq command (codes "make") then make_of words
-    else (if bytes_eq command (codes "ring") then ring_of words else None)))))
+    else (if bytes_eq command (codes "ring") then ring_of words
+    else (if bytes_eq command (codes "format") then format_of words else None))))))
 
 abbrev pub job_in : List (List ℕ) → Option Job
 job_in [] = None

@@ -1,4 +1,5 @@
 use Rattle.pz_run.proofs.OfJobs.{keeps_run, keeps_menu, keeps_check, keeps_make, keeps_ring}
+use Rattle.pz_run.proofs.Formatted.{keeps_format}
 use Rattle.pz_run.proofs.Replayed.{keeps_replay}
 use Rattle.pz_run.proofs.doing.do_job.Goals as goal
 
@@ -28,3 +29,7 @@ returns-in-Replay g c =
     rw c.in-Replay.is
     (keeps_replay _ _ _ _ c.replay_file.result c.in-Replay.model c.in-Replay.trace c.in-Replay.units
     (rw (c.as_str-in-Replay.ensures, c.as_str-in-Replay-2.ensures) at c.replay_file.ensures))
+
+pub returns-in-Format : goal.returns-in-Format
+returns-in-Format g c =
+    rw c.in-Format.is (keeps_format _ _ _ _ c.format_file.result c.in-Format.model (rw c.as_str-in-Format.ensures at c.format_file.ensures))

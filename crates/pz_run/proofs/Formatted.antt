@@ -1,0 +1,97 @@
+-- The promises of the layout of a model.
+use Rattle.std.proofs.Common.{◌≡◌, ◌<◌, ◌≤◌, inl, inr, ℕ, List, [], Option, Some, None, length, sym, subst, refl}
+use Rattle.pz_io.specs.Outside.{Entries, FilesState, SinkState, lookup}
+use Rattle.pz_rules.specs.Runs.{Ending}
+use Rattle.pz_words.specs.declared.jobs.Job.TheVariants.{Replay, Format}
+use Rattle.pz_run_reading.specs.declared.refusal.Refusal.{Refusal}
+use Rattle.pz_run_reading.specs.declared.read_error.ReadModelError.{ReadModelError}
+use Rattle.pz_run_reading.specs.declared.read_error.ReadModelError.TheVariants.{NoMemory, Refused}
+use Rattle.pz_run_reading.specs.Openings.{IsRefusedToOpen}
+use Rattle.pz_run_reading.specs.Answers.{OnRefused}
+use Rattle.pz_run_reading.specs.Laws.{NoOpenModelIsRefused}
+use Rattle.pz_run_formatting.specs.Layouts.{IsLayoutOf}
+use Rattle.pz_run_lines.specs.Lines.{read_fault_line, too_long_line, model_refused_line}
+use Rattle.pz_run.specs.Limits.{model_limit}
+use Rattle.pz_run.specs.declared.play.Play.{Play}
+use Rattle.pz_run.specs.declared.status.Status.{Status}
+use Rattle.pz_run.specs.declared.status.Status.TheVariants.{Done, ModelRefused, TooLong, ReadFault}
+use Rattle.pz_run.specs.Files.{model_file}
+use Rattle.pz_run.specs.Plays.{play_of}
+use Rattle.pz_run.specs.Output.{PrintsLayout, opens_not, lays_out, PrintsFile, lacks, too_long, reads, PrintsJob}
+use Rattle.pz_run.specs.Promises.{HasTrace, HasEnding, of_choice, of_trace}
+use Rattle.pz_run.specs.devices.Formatting.{PrintsFormat}
+use Rattle.pz_run.specs.devices.Keeping.{KeepsPromises}
+use Rattle.pz_run.specs.devices.Reading.{ReadsFile}
+use Rattle.pz_run.specs.devices.Saying.{Said, Answers}
+use Rattle.pz_run.specs.devices.Texts.{SaysRefusal}
+use Rattle.pz_run.proofs.Outcomes.{Outcome, no_model, checked}
+use Rattle.pz_run.proofs.OneFiles.{OneFile, keeps_file}
+
+module _ (text : List ℕ) (before now : SinkState) (given : Status) where
+  -- the text was laid out
+  pub layout_said : NoOpenModelIsRefused → (out : List ℕ) → IsLayoutOf text out → Said before now out Done given → Answers (PrintsFormat text) before now given
+  layout_said never out is said = inr (record {
+    bytes = out;
+    wanted = Done;
+    prints = record { prints = lays_out out is; refused = λ r refused. absurd (never text is.model r is.is_model refused) };
+    said = said;
+  })
+
+  -- it is refused, or memory was wanting
+  pub no_layout_said : (e : ReadModelError) → OnRefused (IsRefusedToOpen text) e → SaysRefusal e before now given → Answers (PrintsFormat text) before now given
+  no_layout_said NoMemory refused says = inl says
+  no_layout_said (Refused r) refused says = inr (record {
+    bytes = model_refused_line r;
+    wanted = ModelRefused;
+    prints = record { prints = opens_not r refused; refused = λ _ _. refl };
+    said = says;
+  })
+
+-- ---- a layout has no run
+
+no_play : (model : List ℕ) (p : Play) → play_of (Format model) ≡ Some p → ⊥
+no_play model p e = cc
+
+format_told : {X : Type 0} (model : List ℕ) (held : Entries) (text : List ℕ) → HasTrace held (Format model) text → X
+format_told model held text x = let same : Format model ≡ Replay x.model_word x.trace_word x.units = x.is_replay in cc
+
+format_ended : {X : Type 0} (model : List ℕ) (held : Entries) (text : List ℕ) (e : Ending) → HasEnding held (Format model) text e → X
+format_ended model held text e (of_choice x) = absurd (no_play model x.play x.is_play)
+format_ended model held text e (of_trace x) = format_told model held text x.replay
+
+-- ---- what is printed of a file
+
+module _ (files : Entries) (model : List ℕ) where
+  abbrev Printed : Option (List ℕ) → List ℕ → Status → Type 0
+  Printed = PrintsFile (model_file model) PrintsLayout
+
+  file_lacks : lookup files model ≡ None → PrintsJob files (Format model) (read_fault_line model) ReadFault
+  file_lacks missing = subst (λ (o : Option (List ℕ)). Printed o (read_fault_line model) ReadFault) (sym missing) lacks
+
+  file_long : (text : List ℕ) → lookup files model ≡ Some text → model_limit < length text → PrintsJob files (Format model) (too_long_line model) TooLong
+  file_long text held long = subst (λ (o : Option (List ℕ)). Printed o (too_long_line model) TooLong) (sym held) (too_long text long)
+
+  file_read : (text bytes : List ℕ) (status : Status) → lookup files model ≡ Some text → length text ≤ model_limit → PrintsLayout text bytes status → PrintsJob files (Format model) bytes status
+  file_read text bytes status held short prints = subst (λ (o : Option (List ℕ)). Printed o bytes status) (sym held) (reads text bytes status short prints)
+
+format_outcome : (f : FilesState) (model text bytes : List ℕ) (status : Status) → PrintsLayout text bytes status → Outcome f (Format model) text status
+format_outcome f model text _ _ (opens_not r is) = no_model r is
+format_outcome f model text _ _ (lays_out bytes is) = checked
+
+formats_file : (model : List ℕ) → OneFile (Format model) model PrintsFormat
+formats_file model = record {
+  more = [];
+  files = refl;
+  has = tt;
+  named = refl;
+  lacks = λ held missing. file_lacks held model missing;
+  long = λ held text is long. file_long held model text is long;
+  reads = λ held text bytes status is short x. file_read held model text bytes status is short x.prints;
+  outcome = λ f text bytes status x. format_outcome f model text bytes status x.prints;
+  only = λ held text bytes status prints e x. format_ended model held text e x;
+  no_run = λ held text bytes status prints none. format_told model held text none.replay;
+  refused = λ text bytes status x. x.refused;
+}
+
+pub keeps_format : (f g : FilesState) (before now : SinkState) (given : Status) (model : List ℕ) → ReadsFile (model_file model) PrintsFormat f g before now given → KeepsPromises (Some (Format model)) f g before now given
+keeps_format f g before now given model done = keeps_file (Format model) model PrintsFormat (formats_file model) f g before now given done
