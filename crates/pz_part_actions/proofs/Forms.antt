@@ -12,6 +12,7 @@ use Rattle.pz_classes_code.specs.declared.step.StepForm.TheVariants as form
 use Rattle.pz_classes_code.specs.declared.step.StepForm.TheFolds.{the_lemmas}
 use Rattle.pz_classes_code.specs.CodeView as code
 use Rattle.pz_classes_code.specs.StepView as step
+use Rattle.pz_state.specs.declared.state.FrameId.{FrameId}
 use Rattle.pz_rules.specs.declared.term.Term.{Term}
 use Rattle.pz_rules.specs.declared.term.Term.TheVariants as term
 use Rattle.pz_rules.specs.declared.term.Term.TheFolds as folds
@@ -57,6 +58,12 @@ shows_Leaf s = search (rules, folds.the_lemmas)
 
 shows_Wait : (left : ℕ) (pos : Pos) → term_view (term.Wait left pos) ≡ terms.wait left pos
 shows_Wait left pos = search (rules, folds.the_lemmas)
+
+pub shows_Seq : (t : Term) (rest : List Step) → term_view (term.Seq t rest) ≡ terms.sequence (term_view t) (step.sequence_view rest)
+shows_Seq t rest = search (rules, folds.the_lemmas)
+
+pub shows_Frame : (own : FrameId) (inputs : ℕ) (results : List Slot) (t : Term) → term_view (term.Frame own inputs results t) ≡ terms.frame own.0 inputs results (term_view t)
+shows_Frame own inputs results t = search (rules, folds.the_lemmas)
 
 pub shows_Done : term_view term.Done ≡ terms.done
 shows_Done = search (rules, folds.the_lemmas)

@@ -1,4 +1,5 @@
 mod Forms
+mod Becomings
 mod Performed
 mod Methods
 mod Calls

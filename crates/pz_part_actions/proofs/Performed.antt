@@ -8,20 +8,21 @@ use Rattle.pz_value.specs.declared.value.ClassId.{ClassId}
 use Rattle.pz_value.specs.declared.value.Value.{Value}
 use Rattle.pz_classes_code.specs.declared.slot.Slot.{Slot}
 use Rattle.pz_state.specs.States.{StateView}
+use Rattle.pz_state.specs.Marks.{Seen}
 use Rattle.pz_offer.specs.declared.trouble.Trouble.{Trouble}
 use Rattle.pz_rules.specs.declared.action.Kind.{Kind}
 use Rattle.pz_rules.specs.declared.term.Term as code
 use Rattle.pz_rules.specs.declared.term.Term.TheVariants as form
 use Rattle.pz_rules.specs.Terms.{Code, Codes, Step, Steps, Term, leaf, wait}
-use Rattle.pz_rules.specs.Settings.{Context, Process, left_by, home_of}
+use Rattle.pz_rules.specs.Settings.{Context, Process, left_by, Home, home_of}
 use Rattle.pz_rules.specs.Meanings.{and_then, truth}
 use Rattle.pz_rules.specs.Evaluations.{Gives}
 use Rattle.pz_rules.specs.InternalActions as actions
 use Rattle.pz_rules.specs.InternalActions.{Can, done_in, chosen, turned, Performs}
-use Rattle.pz_rules.specs.devices.Plainly.{plainly_chosen, plainly_turned}
-use Rattle.pz_rules.proofs.Plain.{chosen_plainly, turned_plainly}
+use Rattle.pz_rules.specs.Becoming.{Became}
 use Rattle.pz_part_actions.specs.Becoming.{process_left, done_left}
 use Rattle.pz_part_actions.specs.devices.Effects.{Tested, ran, Ran}
+use Rattle.pz_part_actions.proofs.Becomings.{became_left}
 use Rattle.pz_part_actions.proofs.Forms.{shows_Done}
 
 -- effects alone
@@ -50,37 +51,43 @@ module _ (a : Context) (f : ℕ) (at : Pos) where
       subst (λ (x : Result Process Trouble). Becomes (block at es) x) (ran_left s run.found ∙ ap (done_left s) (sym run.means) ∙ sym is) (actions.evaluates_block at es run.found s run.gives)
 
   -- by what a test says
-  module _ (e : Code) (s : StateView) (r : Result Bool Trouble) (tested : Tested a f at e r s) where
+  module _ (e : Code) (s : Seen) (r : Result Bool Trouble) (tested : Tested a f at e r s.held) where
     decided : (g : Bool → Result Process Trouble) → and_then tested.found (λ v. and_then (truth a.process at v) g) ≡ and_then r g
     decided g = chained tested.found (truth a.process at) g ∙ ap (λ (x : Result Bool Trouble). and_then x g) (sym tested.means)
 
-    if_becomes : (ts : Steps) (other : StatementPart Slot ClassId ℕ) → Becomes (conditional at e ts other) (and_then r (λ b. Ok (chosen (home_of a) s ts other b)))
-    if_becomes ts other = subst (λ (x : Result Process Trouble). Becomes (conditional at e ts other) x) (decided (λ b. Ok (chosen (home_of a) s ts other b))) (actions.tests at e ts other tested.found s tested.gives)
+    if_becomes : (ts : Steps) (other : StatementPart Slot ClassId ℕ) → Becomes (conditional at e ts other) (and_then r (λ b. Ok (chosen (home_of a) s.held ts other b)))
+    if_becomes ts other = subst (λ (x : Result Process Trouble). Becomes (conditional at e ts other) x) (decided (λ b. Ok (chosen (home_of a) s.held ts other b))) (actions.tests at e ts other tested.found s.held tested.gives)
 
-    while_becomes : (ts : Steps) → Becomes (repeated at e ts) (and_then r (λ b. Ok (turned (home_of a) s (repeated at e ts) ts b)))
-    while_becomes ts = subst (λ (x : Result Process Trouble). Becomes (repeated at e ts) x) (decided (λ b. Ok (turned (home_of a) s (repeated at e ts) ts b))) (actions.repeats at e ts tested.found s tested.gives)
-
-    pub if_chosen : (ts : Steps) (other : StatementPart Slot ClassId ℕ) (b : Bool) (t : Term) → r ≡ Ok b → plainly_chosen s ts other b ≡ left_by s t → Becomes (conditional at e ts other) (Ok (left_by s t))
-    if_chosen ts other b t is becomes =
-        subst (λ (x : Result Process Trouble). Becomes (conditional at e ts other) x)
-        (ap (λ (x : Result Bool Trouble). and_then x (λ b. Ok (chosen (home_of a) s ts other b))) is ∙ ap (λ (p : Process). let q : Result Process Trouble = Ok p in q) (chosen_plainly (home_of a) s ts other b ∙ becomes)) (if_becomes ts other)
+    while_becomes : (ts : Steps) → Becomes (repeated at e ts) (and_then r (λ b. Ok (turned (home_of a) s.held (repeated at e ts) ts b)))
+    while_becomes ts = subst (λ (x : Result Process Trouble). Becomes (repeated at e ts) x) (decided (λ b. Ok (turned (home_of a) s.held (repeated at e ts) ts b))) (actions.repeats at e ts tested.found s.held tested.gives)
 
     pub if_troubled : (ts : Steps) (other : StatementPart Slot ClassId ℕ) (u : Trouble) → r ≡ Err u → Becomes (conditional at e ts other) (Err u)
     if_troubled ts other u is =
-        subst (λ (x : Result Process Trouble). Becomes (conditional at e ts other) x) (ap (λ (x : Result Bool Trouble). and_then x (λ b. Ok (chosen (home_of a) s ts other b))) is) (if_becomes ts other)
+        subst (λ (x : Result Process Trouble). Becomes (conditional at e ts other) x) (ap (λ (x : Result Bool Trouble). and_then x (λ b. Ok (chosen (home_of a) s.held ts other b))) is) (if_becomes ts other)
 
     -- in the words of a statement that is the loop
-    pub while_turned : (loop : Step) (ts : Steps) (b : Bool) (t : Term) → loop ≡ repeated at e ts → r ≡ Ok b → plainly_turned s loop ts b ≡ left_by s t → Becomes loop (Ok (left_by s t))
-    while_turned loop ts b t loop_is is becomes =
-        subst (λ (l : Step). Becomes l (Ok (left_by s t))) (sym loop_is)
-        (subst (λ (x : Result Process Trouble). Becomes (repeated at e ts) x)
-        (ap (λ (x : Result Bool Trouble). and_then x (λ b. Ok (turned (home_of a) s (repeated at e ts) ts b))) is
-        ∙ ap (λ (p : Process). let q : Result Process Trouble = Ok p in q) (turned_plainly (home_of a) s (repeated at e ts) ts b ∙ ap (λ (l : Step). plainly_turned s l ts b) (sym loop_is) ∙ becomes)) (while_becomes ts))
-
     pub while_troubled : (loop : Step) (ts : Steps) (u : Trouble) → loop ≡ repeated at e ts → r ≡ Err u → Becomes loop (Err u)
     while_troubled loop ts u loop_is is =
         subst (λ (l : Step). Becomes l (Err u)) (sym loop_is)
-        (subst (λ (x : Result Process Trouble). Becomes (repeated at e ts) x) (ap (λ (x : Result Bool Trouble). and_then x (λ b. Ok (turned (home_of a) s (repeated at e ts) ts b))) is) (while_becomes ts))
+        (subst (λ (x : Result Process Trouble). Becomes (repeated at e ts) x) (ap (λ (x : Result Bool Trouble). and_then x (λ b. Ok (turned (home_of a) s.held (repeated at e ts) ts b))) is) (while_becomes ts))
+
+    -- what then opens, at this home
+    module _ (h : Home) (home : home_of a ≡ h) (b : Bool) (t : Term) (new : Seen) (is : r ≡ Ok b) where
+      pub if_chosen : (ts : Steps) (other : StatementPart Slot ClassId ℕ) → Became (chosen h s.held ts other b) t s new → Becomes (conditional at e ts other) (Ok (left_by new.held t))
+      if_chosen ts other became =
+          subst (λ (x : Result Process Trouble). Becomes (conditional at e ts other) x)
+          (ap (λ (x : Result Bool Trouble). and_then x (λ c. Ok (chosen (home_of a) s.held ts other c))) is
+          ∙ ap (λ (k : Home). let q : Result Process Trouble = Ok (chosen k s.held ts other b) in q) home
+          ∙ ap (λ (p : Process). let q : Result Process Trouble = Ok p in q) (became_left (chosen h s.held ts other b) t s new became)) (if_becomes ts other)
+
+      pub while_turned : (loop : Step) (ts : Steps) → loop ≡ repeated at e ts → Became (turned h s.held loop ts b) t s new → Becomes loop (Ok (left_by new.held t))
+      while_turned loop ts loop_is became =
+          subst (λ (l : Step). Becomes l (Ok (left_by new.held t))) (sym loop_is)
+          (subst (λ (x : Result Process Trouble). Becomes (repeated at e ts) x)
+          (ap (λ (x : Result Bool Trouble). and_then x (λ c. Ok (turned (home_of a) s.held (repeated at e ts) ts c))) is
+          ∙ ap (λ (k : Home). let q : Result Process Trouble = Ok (turned k s.held (repeated at e ts) ts b) in q) home
+          ∙ ap (λ (l : Step). let q : Result Process Trouble = Ok (turned h s.held l ts b) in q) (sym loop_is)
+          ∙ ap (λ (p : Process). let q : Result Process Trouble = Ok p in q) (became_left (turned h s.held loop ts b) t s new became)) (while_becomes ts))
 
   -- a step that is this statement
   pub by_step : {E : Type 0} (r : Result (Result code.Term Trouble) E) (s : StateView) (x y : Step) → x ≡ y

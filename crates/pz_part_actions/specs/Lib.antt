@@ -1,3 +1,4 @@
 pub mod devices
 pub mod Becoming
 pub mod Fitting
+pub mod Homes

@@ -6,24 +6,28 @@ ghost use Rattle.pz_syntax.specs.Statements as statements;
 ghost use Rattle.pz_classes_code.specs.CodeView.{list_view};
 ghost use Rattle.pz_classes_code.specs.StepView.{sequence_view};
 ghost use Rattle.pz_state.specs.References.{RefersWithin};
+ghost use Rattle.pz_classes.specs.CheckedView.{checked_model};
 ghost use Rattle.pz_classes.specs.devices.Rows.{AreClasses};
 ghost use Rattle.pz_rules.specs.Terms as terms;
 ghost use Rattle.pz_rules.specs.Methods.{IsMethod};
-ghost use Rattle.pz_rules.specs.InternalActions.{Performs};
+ghost use Rattle.pz_rules.specs.InternalActions.{entered, Performs};
+ghost use Rattle.pz_rules.specs.Opening.{opened_all};
 ghost use Rattle.pz_rules.specs.View.{term_view};
-ghost use Rattle.pz_rules.specs.devices.Plainly.{plainly_all};
+ghost use Rattle.pz_rules.specs.Becoming.{Became};
 ghost use Rattle.pz_eval.specs.Known.{AreKnown};
-ghost use Rattle.pz_part_queries.specs.Standpoints.{Knows, seen_from};
+ghost use Rattle.pz_part_opening.specs.Homes.{home_view};
+ghost use Rattle.pz_part_queries.specs.Standpoints.{Knows};
 ghost use Rattle.pz_part_actions.specs.Becoming.{process_left};
 ghost use Rattle.pz_part_actions.specs.Fitting.{FitsHere};
-ghost use Rattle.pz_part_actions.specs.devices.Calls.{IsCallable, Enters};
+ghost use Rattle.pz_part_actions.specs.Homes.{seen_home};
+ghost use Rattle.pz_part_actions.specs.devices.Calls.{IsCallable, round_body};
 
 use crate::evaluating::evaluate_all;
 use pz_classes::{Body, Classes};
 use pz_classes_code::{Code, Slot, Step};
 use pz_items::{Boxed, Items, Shared};
 use pz_offer::Trouble;
-use pz_part_opening::open_all;
+use pz_part_opening::{Home, open_all};
 use pz_part_queries::Standpoint;
 use pz_rules::Term;
 use pz_state::{FrameId, State};
@@ -67,16 +71,19 @@ fn find_method<'a>(
 /// The frame of a method, round its body.
 fn framed(
     alloc: Global,
+    home: &Home<'_>,
     frame: FrameId,
     inputs: usize,
     results: &Shared<Items<Slot>>,
     steps: &Shared<Items<Step>>,
+    state: &mut State,
 ) -> Result<Term, AllocError>
-    ensures { IfOk result (λ term. term_view term ≡ terms.frame frame.0 inputs results.now
-        (plainly_all (sequence_view steps.now))) }
+    ensures { IfOk result (λ term. Became (round_body frame.0 inputs results.now
+        (opened_all (home_view home.now) (sequence_view steps.now) state.old.held))
+        (term_view term) state.old state.new) }
 {
     let results = results.copy()?;
-    let body = Boxed::new(alloc, open_all(alloc, steps)?)?;
+    let body = Boxed::new(alloc, open_all(alloc, home, steps, state)?)?;
     Ok(Term::Frame {
         frame,
         inputs,
@@ -88,26 +95,28 @@ fn framed(
 /// A further frame, whose first locals have the values of the inputs, round the body of the method.
 fn enter(
     alloc: Global,
+    home: &Home<'_>,
     state: &mut State,
     method: Method<'_>,
     inputs: Items<Value>,
     results: &Shared<Items<Slot>>,
 ) -> Result<Term, AllocError>
     requires { All (RefersWithin (length state.old.held.objects)) inputs }
-    ensures { IfOk result (λ term. Enters method.entry.locals results.now
-        (sequence_view method.entry.steps.now) inputs (term_view term) state.old state.new) }
+    ensures { IfOk result (λ term. Became (entered (home_view home.now) state.old.held
+        method.entry.locals results.now (sequence_view method.entry.steps.now) inputs)
+        (term_view term) state.old state.new) }
 {
     let count = inputs.len();
     let frame = state.open_frame(method.locals)?;
     set_inputs(state, frame, inputs.into_vec())?;
-    framed(alloc, frame, count, results, method.steps)
+    framed(alloc, home, frame, count, results, method.steps, state)
 }
 
 /// A call. Its arguments are evaluated in the frame of the caller, before that of the method opens.
 pub(crate) fn perform_call(
     alloc: Global,
     here: &Standpoint<'_>,
-    class: ClassId,
+    home: &Home<'_>,
     state: &mut State,
     frame: FrameId,
     pos: Pos,
@@ -116,19 +125,20 @@ pub(crate) fn perform_call(
     results: &Shared<Items<Slot>>,
 ) -> Result<Result<Term, Trouble>, AllocError>
     requires known { AreKnown here.now.classes.now }
-    requires fits { ∥ FitsHere here.now class (terms.leaf
+    requires edition { here.now.limits.edition ≡ home.now.edition }
+    requires fits { ∥ FitsHere here.now home.now.class (terms.leaf
         (statements.call pos method.now (list_view args.now) results.now)) ∥₁ }
-    ensures performs { (m : ModelTree) → Knows m here.now →
-        IfOk result (λ left. Performs (seen_from m here.now class.0 state.old.held) frame.0
+    ensures performs { Knows (checked_model home.now.checked.now) here.now →
+        IfOk result (λ left. Performs (seen_home here.now home.now state.old.held) frame.0
         (terms.leaf (statements.call pos method.now (list_view args.now) results.now)) pos
         (process_left state.new.held left)) }
     ensures marks { OnOk result (state.new.marks ≡ state.old.marks) }
 {
     let name = method.name.as_str().as_bytes();
     let outputs = results.get().len();
-    let called = find_method(here.classes, class, name, args.len(), outputs);
+    let called = find_method(here.classes, home.class, name, args.len(), outputs);
     match evaluate_all(alloc, here, state, frame, pos, args)? {
-        Ok(values) => Ok(Ok(enter(alloc, state, called, values, results)?)),
+        Ok(values) => Ok(Ok(enter(alloc, home, state, called, values, results)?)),
         Err(trouble) => Ok(Err(trouble)),
     }
 }

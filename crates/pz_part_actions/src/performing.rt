@@ -4,6 +4,7 @@ ghost use Rattle.std.specs.Prelude.{◌≡◌, ℕ, IfOk, OnOk};
 ghost use Rattle.pz_syntax.specs.Classes.{ModelTree};
 ghost use Rattle.pz_syntax.specs.declared.tokens.Pos.{Pos as Position};
 ghost use Rattle.pz_syntax.specs.Statements as statements;
+ghost use Rattle.pz_classes.specs.CheckedView.{checked_model};
 ghost use Rattle.pz_classes_code.specs.CodeView.{view as code_view, list_view};
 ghost use Rattle.pz_classes_code.specs.StepView.{view};
 ghost use Rattle.pz_state.specs.States.{StateView};
@@ -16,17 +17,18 @@ ghost use Rattle.pz_part_queries.specs.Standpoints.{Knows, seen_from};
 ghost use Rattle.pz_rules.specs.Acting.{IsActing};
 ghost use Rattle.pz_part_actions.specs.Becoming.{process_left, done_left};
 ghost use Rattle.pz_part_actions.specs.Fitting.{FitsHere};
+ghost use Rattle.pz_part_actions.specs.Homes.{seen_home};
 
 use crate::calling::perform_call;
 use crate::evaluating::{evaluate, run, without_value};
 use crate::testing::{perform_if, perform_while};
 use pz_classes_code::{Code, Step, StepForm};
 use pz_offer::Trouble;
+use pz_part_opening::Home;
 use pz_part_queries::Standpoint;
 use pz_rules::Term;
 use pz_state::{FrameId, State};
 use pz_syntax::Pos;
-use pz_value::ClassId;
 use std::alloc::{AllocError, Global};
 
 /// Nothing is left, unless there is a trouble.
@@ -81,16 +83,17 @@ fn perform_block(
 fn perform_step(
     alloc: Global,
     here: &Standpoint<'_>,
-    class: ClassId,
+    home: &Home<'_>,
     state: &mut State,
     frame: FrameId,
     step: &Step,
 ) -> Result<Result<Term, Trouble>, AllocError>
     requires known { AreKnown here.now.classes.now }
+    requires edition { here.now.limits.edition ≡ home.now.edition }
     requires acts { IsActing (terms.leaf (view step.now)) }
-    requires fits { ∥ FitsHere here.now class (terms.leaf (view step.now)) ∥₁ }
-    ensures performs { (m : ModelTree) → Knows m here.now →
-        IfOk result (λ left. Performs (seen_from m here.now class.0 state.old.held) frame.0
+    requires fits { ∥ FitsHere here.now home.now.class (terms.leaf (view step.now)) ∥₁ }
+    ensures performs { Knows (checked_model home.now.checked.now) here.now →
+        IfOk result (λ left. Performs (seen_home here.now home.now state.old.held) frame.0
         (terms.leaf (view step.now)) step.now.pos (process_left state.new.held left)) }
     ensures marks { OnOk result (state.new.marks ≡ state.old.marks) }
 {
@@ -109,10 +112,10 @@ fn perform_step(
             codes.get().as_slice(),
         ),
         StepForm::If(test, steps, other) => {
-            perform_if(alloc, here, state, frame, pos, test.get(), steps, other)
+            perform_if(alloc, here, home, state, frame, pos, test.get(), steps, other)
         }
         StepForm::While(test, body) => {
-            perform_while(alloc, here, state, frame, step, test.get(), body)
+            perform_while(alloc, here, home, state, frame, step, test.get(), body)
         }
         StepForm::Call {
             method,
@@ -121,7 +124,7 @@ fn perform_step(
         } => perform_call(
             alloc,
             here,
-            class,
+            home,
             state,
             frame,
             pos,
@@ -133,28 +136,30 @@ fn perform_step(
     }
 }
 
-/// What a part becomes by itself, in a frame of a process of this class. Effects stay, and after a
+/// What a part becomes by itself, in a frame of a process of the class at home. Effects stay, and after a
 /// trouble some may: who calls marks the state before. The time is that of the evaluation, and
 /// linear in what is opened and in the inputs of a call. The only error is want of memory.
 pub fn perform(
     alloc: Global,
     here: &Standpoint<'_>,
-    class: ClassId,
+    home: &Home<'_>,
     state: &mut State,
     frame: FrameId,
     part: &Term,
 ) -> Result<Result<Term, Trouble>, AllocError>
     requires known { AreKnown here.now.classes.now }
+    requires edition { here.now.limits.edition ≡ home.now.edition }
     requires acts { IsActing (term_view part.now) }
-    requires fits { ∥ FitsHere here.now class (term_view part.now) ∥₁ }
-    ensures performs { (m : ModelTree) (kind : Kind) (pos : Position) → Knows m here.now →
-        Can (seen_from m here.now class.0 state.old.held) frame.0 (term_view part.now) kind pos →
-        IfOk result (λ left. Performs (seen_from m here.now class.0 state.old.held) frame.0
+    requires fits { ∥ FitsHere here.now home.now.class (term_view part.now) ∥₁ }
+    ensures performs { (kind : Kind) (pos : Position) →
+        Knows (checked_model home.now.checked.now) here.now →
+        Can (seen_home here.now home.now state.old.held) frame.0 (term_view part.now) kind pos →
+        IfOk result (λ left. Performs (seen_home here.now home.now state.old.held) frame.0
         (term_view part.now) pos (process_left state.new.held left)) }
     ensures marks { OnOk result (state.new.marks ≡ state.old.marks) }
 {
     match part {
-        Term::Leaf(step) => perform_step(alloc, here, class, state, frame, step),
+        Term::Leaf(step) => perform_step(alloc, here, home, state, frame, step),
         Term::Wait { .. } => Ok(Ok(Term::Done)),
         _ => unreachable!(),
     }

@@ -1,19 +1,20 @@
 // What a test decides: an `if` and a `while`. The only error is want of memory.
 
-ghost use Rattle.std.specs.Prelude.{◌≡◌, ℕ, IfOk};
-ghost use Rattle.pz_syntax.specs.Classes.{ModelTree};
+ghost use Rattle.std.specs.Prelude.{◌≡◌, ℕ, IfOk, OnOk};
 ghost use Rattle.pz_syntax.specs.Statements as statements;
 ghost use Rattle.pz_classes_code.specs.CodeView as code;
 ghost use Rattle.pz_classes_code.specs.StepView.{view, sequence_view};
-ghost use Rattle.pz_state.specs.States.{StateView};
+ghost use Rattle.pz_classes.specs.CheckedView.{checked_model};
 ghost use Rattle.pz_rules.specs.Terms as terms;
+ghost use Rattle.pz_rules.specs.InternalActions as actions;
 ghost use Rattle.pz_rules.specs.InternalActions.{Performs};
-ghost use Rattle.pz_rules.specs.Settings.{left_by};
 ghost use Rattle.pz_rules.specs.View.{term_view};
-ghost use Rattle.pz_rules.specs.devices.Plainly.{plainly_chosen, plainly_turned};
+ghost use Rattle.pz_rules.specs.Becoming.{Became};
 ghost use Rattle.pz_eval.specs.Known.{AreKnown};
-ghost use Rattle.pz_part_queries.specs.Standpoints.{Knows, seen_from};
+ghost use Rattle.pz_part_opening.specs.Homes.{home_view};
+ghost use Rattle.pz_part_queries.specs.Standpoints.{Knows};
 ghost use Rattle.pz_part_actions.specs.Becoming.{process_left};
+ghost use Rattle.pz_part_actions.specs.Homes.{seen_home};
 ghost use Rattle.pz_part_actions.specs.devices.Parts.{otherwise_view};
 
 use crate::evaluating::test;
@@ -21,7 +22,7 @@ use crate::opening::open_part;
 use pz_classes_code::{Code, Step};
 use pz_items::{Boxed, Items, Shared};
 use pz_offer::Trouble;
-use pz_part_opening::open_all;
+use pz_part_opening::{Home, open_all};
 use pz_part_queries::Standpoint;
 use pz_rules::{Rest, Term};
 use pz_state::{FrameId, State};
@@ -31,18 +32,20 @@ use std::alloc::{AllocError, Global};
 /// The part of an `if` that is chosen.
 fn chosen(
     alloc: Global,
+    home: &Home<'_>,
     truth: bool,
     steps: &Shared<Items<Step>>,
     other: &Option<Shared<Items<Step>>>,
+    state: &mut State,
 ) -> Result<Term, AllocError>
-    ensures { IfOk result (λ term. (s : StateView) →
-        plainly_chosen s (sequence_view steps.now) (otherwise_view other.now) truth ≡ left_by s
-        (term_view term)) }
+    ensures { IfOk result (λ term. Became (actions.chosen (home_view home.now) state.old.held
+        (sequence_view steps.now) (otherwise_view other.now) truth) (term_view term) state.old
+        state.new) }
 {
     if truth {
-        open_all(alloc, steps)
+        open_all(alloc, home, steps, state)
     } else {
-        open_part(alloc, other)
+        open_part(alloc, home, other, state)
     }
 }
 
@@ -50,6 +53,7 @@ fn chosen(
 pub(crate) fn perform_if(
     alloc: Global,
     here: &Standpoint<'_>,
+    home: &Home<'_>,
     state: &mut State,
     frame: FrameId,
     pos: Pos,
@@ -57,15 +61,16 @@ pub(crate) fn perform_if(
     steps: &Shared<Items<Step>>,
     other: &Option<Shared<Items<Step>>>,
 ) -> Result<Result<Term, Trouble>, AllocError>
-    requires { AreKnown here.now.classes.now }
-    ensures performs { (m : ModelTree) (class : ℕ) → Knows m here.now →
-        IfOk result (λ left. Performs (seen_from m here.now class state.old.held) frame.0
+    requires known { AreKnown here.now.classes.now }
+    requires edition { here.now.limits.edition ≡ home.now.edition }
+    ensures performs { Knows (checked_model home.now.checked.now) here.now →
+        IfOk result (λ left. Performs (seen_home here.now home.now state.old.held) frame.0
         (terms.leaf (statements.conditional pos (code.view condition.now) (sequence_view steps.now)
         (otherwise_view other.now))) pos (process_left state.new.held left)) }
-    ensures marks { state.new.marks ≡ state.old.marks }
+    ensures marks { OnOk result (state.new.marks ≡ state.old.marks) }
 {
     match test(alloc, here, state, frame, pos, condition)? {
-        Ok(truth) => Ok(Ok(chosen(alloc, truth, steps, other)?)),
+        Ok(truth) => Ok(Ok(chosen(alloc, home, truth, steps, other, state)?)),
         Err(trouble) => Ok(Err(trouble)),
     }
 }
@@ -73,19 +78,20 @@ pub(crate) fn perform_if(
 /// The body of a `while` and then the same `while`, or nothing.
 fn turned(
     alloc: Global,
+    home: &Home<'_>,
     truth: bool,
     again: &Step,
     body: &Shared<Items<Step>>,
+    state: &mut State,
 ) -> Result<Term, AllocError>
-    ensures { IfOk result (λ term. (s : StateView) →
-        plainly_turned s (view again.now) (sequence_view body.now) truth ≡ left_by s
-        (term_view term)) }
+    ensures { IfOk result (λ term. Became (actions.turned (home_view home.now) state.old.held
+        (view again.now) (sequence_view body.now) truth) (term_view term) state.old state.new) }
 {
     if !truth {
         return Ok(Term::Done);
     }
     let rest = Rest::again(again.copy()?);
-    let first = Boxed::new(alloc, open_all(alloc, body)?)?;
+    let first = Boxed::new(alloc, open_all(alloc, home, body, state)?)?;
     Ok(Term::Seq(first, rest))
 }
 
@@ -93,6 +99,7 @@ fn turned(
 pub(crate) fn perform_while(
     alloc: Global,
     here: &Standpoint<'_>,
+    home: &Home<'_>,
     state: &mut State,
     frame: FrameId,
     step: &Step,
@@ -100,15 +107,16 @@ pub(crate) fn perform_while(
     body: &Shared<Items<Step>>,
 ) -> Result<Result<Term, Trouble>, AllocError>
     requires known { AreKnown here.now.classes.now }
+    requires edition { here.now.limits.edition ≡ home.now.edition }
     requires is { view step.now ≡ statements.repeated step.now.pos (code.view condition.now)
         (sequence_view body.now) }
-    ensures performs { (m : ModelTree) (class : ℕ) → Knows m here.now →
-        IfOk result (λ left. Performs (seen_from m here.now class state.old.held) frame.0
+    ensures performs { Knows (checked_model home.now.checked.now) here.now →
+        IfOk result (λ left. Performs (seen_home here.now home.now state.old.held) frame.0
         (terms.leaf (view step.now)) step.now.pos (process_left state.new.held left)) }
-    ensures marks { state.new.marks ≡ state.old.marks }
+    ensures marks { OnOk result (state.new.marks ≡ state.old.marks) }
 {
     match test(alloc, here, state, frame, step.pos, condition)? {
-        Ok(truth) => Ok(Ok(turned(alloc, truth, step, body)?)),
+        Ok(truth) => Ok(Ok(turned(alloc, home, truth, step, body, state)?)),
         Err(trouble) => Ok(Err(trouble)),
     }
 }

@@ -1,8 +1,8 @@
 -- How statements that wait open, and alternatives one by one.
-use Rattle.std.proofs.Common.{◌≡◌, ℕ, ◌<◌, ◌≤◌, ◌+◌, true, false, List, [], ◌∷◌, ◌++◌, take, drop, length, get_or, Some, None, refl, sym, ap, ◌∙◌, arith}
+use Rattle.std.proofs.Common.{◌≡◌, ℕ, ◌<◌, ◌≤◌, ◌+◌, true, false, List, [], ◌∷◌, ◌++◌, take, drop, length, get_or, Some, None, refl, sym, subst, ap, ◌∙◌, arith}
 use Rattle.std.specs.Prelude.{◌==◌}
 use Rattle.std.specs.List.{slice_get}
-use Rattle.std.proofs.lemmas.Bool.{eqb-true}
+use Rattle.std.proofs.lemmas.Bool.{true≢false, eqb-true}
 use Rattle.std.proofs.lemmas.Option.{same_Some, none-some}
 use Rattle.std.proofs.lemmas.List.{take_more}
 use Rattle.pz_classes_code.specs.declared.step.Step.{Step}
@@ -10,15 +10,18 @@ use Rattle.pz_classes_code.specs.StepView as step
 use Rattle.pz_rules.specs.declared.term.Term.{Term, fold-roll-Term}
 use Rattle.pz_rules.specs.declared.term.Term.TheOpen.{Term-F}
 use Rattle.pz_rules.specs.declared.term.Term.TheVariants.{Done, Seq, rolls-Done, rolls-Seq}
+use Rattle.pz_syntax.specs.Statements.{bracketed, no_statements, then}
+use Rattle.pz_state.specs.States.{StateView}
 use Rattle.pz_state.specs.Marks.{Seen, changed}
 use Rattle.pz_rules.specs.Terms as terms
 use Rattle.pz_rules.specs.Terms.{Terms, no_terms, and}
-use Rattle.pz_rules.specs.Settings.{Process, Home}
-use Rattle.pz_rules.specs.Opening.{opened_all}
+use Rattle.pz_rules.specs.Settings.{Process, left_by, Home}
+use Rattle.pz_rules.specs.Opening.{opened, opened_all}
 use Rattle.pz_rules.specs.Becoming.{Became}
-use Rattle.pz_rules.proofs.Plain.{all_open_plainly}
+use Rattle.pz_rules.proofs.Plain.{opens_plainly, all_open_plainly}
 use Rattle.pz_rules.specs.devices.Plainly.{plainly, plainly_all, plainly_each}
 use Rattle.pz_rules.specs.View.{term_view, term_step, terms_view, branches_view}
+use Rattle.pz_part_opening.specs.Bare.{is_bare}
 
 pub term_seq : (t : Term) (rest : List Step) → term_view (Seq t rest) ≡ terms.sequence (term_view t) (step.sequence_view rest)
 term_seq t rest = ap term_view (sym (rolls-Seq t rest)) ∙ fold-roll-Term terms.Term term_step (Term-F.Seq t rest)
@@ -28,25 +31,30 @@ view_Done = ap term_view (sym rolls-Done) ∙ fold-roll-Term terms.Term term_ste
 
 -- statements that wait, by the first of them
 
-pub none_waits : (rest : List Step) → None ≡ slice_get rest 0 → terms.done ≡ plainly_all (step.sequence_view rest)
-none_waits [] none = refl
-none_waits (s ∷ rest) none = absurd (none-some s none)
+pub none_waits : (h : Home) (rest : List Step) (s : Seen) → None ≡ slice_get rest 0 → Became (opened_all h (step.sequence_view rest) s.held) (term_view Done) s s
+none_waits h [] s none = record { term = view_Done; state = refl }
+none_waits h (r ∷ rest) s none = absurd (none-some r none)
 
-pub one_waits : (rest : List Step) (s : Step) → Some s ≡ slice_get rest 0 → (length (drop 1 rest) == 0) ≡ true → plainly (step.view s) ≡ plainly_all (step.sequence_view rest)
-one_waits [] s first none = absurd (none-some s (sym first))
-one_waits (r ∷ []) s first none = ap (λ (x : Step). plainly (step.view x)) (same_Some s r first)
-one_waits (r ∷ q ∷ rest) s first none =
-    let no_more : length (q ∷ rest) ≡ 0 = eqb-true (length (q ∷ rest)) 0 none in
-    absurd (omega (arith, no_more))
+module _ (h : Home) (r : Step) (t : Term) (old new : Seen) (became : Became (opened h (step.view r) old.held) (term_view t) old new) where
+  pub one_waits : (rest : List Step) → Some r ≡ slice_get rest 0 → (length (drop 1 rest) == 0) ≡ true → Became (opened_all h (step.sequence_view rest) old.held) (term_view t) old new
+  one_waits [] first none = absurd (none-some r (sym first))
+  one_waits (q ∷ []) first none = subst (λ (x : Step). Became (opened h (step.view x) old.held) (term_view t) old new) (same_Some r q first) became
+  one_waits (q ∷ p ∷ rest) first none =
+      let no_more : length (p ∷ rest) ≡ 0 = eqb-true (length (p ∷ rest)) 0 none in
+      absurd (omega (arith, no_more))
 
-pub more_wait : (rest : List Step) (s : Step) → Some s ≡ slice_get rest 0 → (length (drop 1 rest) == 0) ≡ false
-    → terms.sequence (plainly (step.view s)) (step.sequence_view (drop 1 rest)) ≡ plainly_all (step.sequence_view rest)
-more_wait [] s first some = absurd (none-some s (sym first))
-more_wait (r ∷ []) s first some = absurd (differ some)
-  where
-    differ : true ≡ false → ⊥
-    differ e = cc
-more_wait (r ∷ q ∷ rest) s first some = ap (λ (x : Step). terms.sequence (plainly (step.view x)) (step.sequence_view (q ∷ rest))) (same_Some s r first)
+  pub more_wait : (rest behind : List Step) (boxed : Term) → Some r ≡ slice_get rest 0 → behind ≡ drop 1 rest → boxed ≡ t → (length behind == 0) ≡ false
+      → Became (opened_all h (step.sequence_view rest) old.held) (term_view (Seq boxed behind)) old new
+  more_wait [] behind boxed first is same some = absurd (none-some r (sym first))
+  more_wait (q ∷ []) behind boxed first is same some = absurd (true≢false (ap (λ (l : List Step). length l == 0) (sym is) ∙ some))
+  more_wait (q ∷ p ∷ rest) behind boxed first is same some =
+      let waits = step.sequence_view (p ∷ rest) in
+      let began : Became (opened h (step.view q) old.held) (term_view t) old new = subst (λ (x : Step). Became (opened h (step.view x) old.held) (term_view t) old new) (same_Some r q first) became in
+      record {
+        term = ap (λ (l : List Step). term_view (Seq boxed l)) is ∙ term_seq boxed (p ∷ rest) ∙ ap (λ (x : Term). terms.sequence (term_view x) waits) same
+            ∙ ap (λ (x : terms.Term). terms.sequence x waits) began.term;
+        state = began.state;
+      }
 
 -- two statements or more
 pub several_open : (ts : List Step) (s : Step) → 2 ≤ length ts → s ≡ get_or ts 0 s → plainly_all (step.sequence_view ts) ≡ terms.sequence (plainly (step.view s)) (step.sequence_view (drop 1 ts))
@@ -79,7 +87,26 @@ branch_opened ts new t bs i b within is grown opens so_far =
     ∙ ap (λ (cs : List (List Step)). plainly_each (branches_view cs)) (sym (take_more bs i b within))
 
 -- what opens plainly leaves the state as it is
+
+plain_became : (p : Process) (t x : terms.Term) (old : Seen) → p ≡ left_by old.held x → t ≡ x → Became p t old old
+plain_became p t x old same is = record { term = is ∙ sym (ap (λ (q : Process). q.term) same); state = ap (λ (q : Process). changed old q.state) (sym same) }
+
+pub step_became : (h : Home) (r : terms.Step) (t : terms.Term) (old : Seen) → t ≡ plainly r → Became (opened h r old.held) t old old
+step_became h r t old is = plain_became (opened h r old.held) t (plainly r) old (opens_plainly h r old.held) is
+
 pub all_became : (h : Home) (ts : terms.Steps) (t : terms.Term) (old : Seen) → t ≡ plainly_all ts → Became (opened_all h ts old.held) t old old
-all_became h ts t old is =
-    let same = all_open_plainly h ts old.held in
-    record { term = is ∙ sym (ap (λ (p : Process). p.term) same); state = ap (λ (p : Process). changed old p.state) (sym same) }
+all_became h ts t old is = plain_became (opened_all h ts old.held) t (plainly_all ts) old (all_open_plainly h ts old.held) is
+
+-- as no frame
+mutual
+  no_frame : (r : terms.Step) → false ≡ is_bare (plainly r)
+  no_frame (bracketed pos ts) = no_frame_first ts
+  no_frame r = refl
+
+  no_frame_first : (ts : terms.Steps) → false ≡ is_bare (plainly_all ts)
+  no_frame_first no_statements = refl
+  no_frame_first ((then) r no_statements) = no_frame r
+  no_frame_first ((then) r ((then) q rest)) = refl
+
+pub opens_as_no_frame : (h : Home) (r : terms.Step) (s : StateView) → false ≡ is_bare (opened h r s).term
+opens_as_no_frame h r s = no_frame r ∙ ap (λ (p : Process). is_bare p.term) (sym (opens_plainly h r s))

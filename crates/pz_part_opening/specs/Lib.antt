@@ -1,2 +1,3 @@
+pub mod Bare
 pub mod Homes
 pub mod devices

@@ -2,8 +2,12 @@
 #![tactic(auto)]
 
 mod heights;
+mod home;
 mod inside;
 mod opening;
+mod plain;
+mod plain_heights;
 
-pub use heights::{opens_done, stays_within, step_within};
+pub use heights::{opens_bare, opens_done, stays_within, step_within};
+pub use home::Home;
 pub use opening::{open_all, open_rest, open_step, open_term};

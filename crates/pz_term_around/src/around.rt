@@ -2,20 +2,20 @@
 
 ghost use Rattle.std.specs.Prelude.{◌≡◌, ℕ, List, IfOk, false};
 ghost use Rattle.pz_classes_code.specs.StepView.{view, sequence_view};
-ghost use Rattle.pz_state.specs.States.{StateView};
 ghost use Rattle.pz_rules.specs.Terms as terms;
-ghost use Rattle.pz_rules.specs.Settings.{left_by};
+ghost use Rattle.pz_rules.specs.Settings.{Home as RulesHome};
 ghost use Rattle.pz_rules.specs.Leaving as leaving;
 ghost use Rattle.pz_rules.specs.View.{term_view, terms_view};
 ghost use Rattle.pz_rules.specs.Becoming.{Became};
-ghost use Rattle.pz_rules.specs.devices.Plainly.{plainly, plainly_handled, plainly_around};
-ghost use Rattle.pz_term_around.specs.Bare.{is_bare as bare};
+ghost use Rattle.pz_rules.specs.Opening.{opened};
+ghost use Rattle.pz_part_opening.specs.Bare.{is_bare as bare};
+ghost use Rattle.pz_part_opening.specs.Homes.{home_view};
 
 use crate::slots::copy_locals;
 use pz_classes_code::{Slot, Step};
 use pz_eval_binding::set_slots;
 use pz_items::{Boxed, Items, Shared};
-use pz_part_opening::{open_rest, open_step};
+use pz_part_opening::{Home, open_rest, open_step};
 use pz_rules::{Rest, Term};
 use pz_state::{FrameId, State};
 use std::alloc::{AllocError, Global};
@@ -40,13 +40,20 @@ pub fn all_done(parts: &[Term]) -> bool
 }
 
 /// What is open, and the statements behind it; once it is done, these stand open.
-pub fn in_sequence(alloc: Global, left: Term, rest: Rest) -> Result<Term, AllocError>
-    ensures { IfOk result (λ term. (f : ℕ) (s : StateView) (first : terms.Term) (i : ℕ) →
-        plainly_around f s (terms.sequence first (sequence_view rest)) i (term_view left) ≡
-        left_by s (term_view term)) }
+pub fn in_sequence(
+    alloc: Global,
+    home: &Home<'_>,
+    left: Term,
+    rest: Rest,
+    state: &mut State,
+) -> Result<Term, AllocError>
+    ensures { IfOk result (λ term. (f : ℕ) (first : terms.Term) (i : ℕ) →
+        Became (leaving.around (home_view home.now) f state.old.held
+        (terms.sequence first (sequence_view rest)) i (term_view left)) (term_view term) state.old
+        state.new) }
 {
     if is_done(&left) {
-        return open_rest(alloc, rest);
+        return open_rest(alloc, home, rest, state);
     }
     let left = Boxed::new(alloc, left)?;
     Ok(Term::Seq(left, rest))
@@ -93,18 +100,31 @@ pub fn in_interrupt(
 }
 
 /// What is interrupted goes on, and the second part stands open afresh.
-fn reopened(alloc: Global, first: Boxed<Term>, again: Shared<Step>) -> Result<Term, AllocError>
-    ensures { IfOk result (λ term. term_view term ≡ terms.idle (term_view first)
-        (plainly (view again)) (view again)) }
+fn reopened(
+    alloc: Global,
+    home: &Home<'_>,
+    first: Boxed<Term>,
+    again: Shared<Step>,
+    state: &mut State,
+) -> Result<Term, AllocError>
+    ensures { IfOk result (λ term. Became (leaving.handled (home_view home.now) state.old.held
+        (term_view first) (view again) terms.done) (term_view term) state.old state.new) }
 {
-    let second = boxed_step(alloc, again.get())?;
+    let second = boxed_step(alloc, home, again.get(), state)?;
     Ok(Term::Idle(first, second, again))
 }
 
-fn boxed_step(alloc: Global, step: &Step) -> Result<Boxed<Term>, AllocError>
-    ensures { IfOk result (λ term. term_view term ≡ plainly (view step.now)) }
+fn boxed_step(
+    alloc: Global,
+    home: &Home<'_>,
+    step: &Step,
+    state: &mut State,
+) -> Result<Boxed<Term>, AllocError>
+    ensures { IfOk result (λ term. Became
+        (opened (home_view home.now) (view step.now) state.old.held) (term_view term) state.old
+        state.new) }
 {
-    let term = open_step(alloc, step)?;
+    let term = open_step(alloc, home, step, state)?;
     Boxed::new(alloc, term)
 }
 
@@ -112,15 +132,17 @@ fn boxed_step(alloc: Global, step: &Step) -> Result<Boxed<Term>, AllocError>
 /// second stands open afresh.
 pub fn in_handling(
     alloc: Global,
+    home: &Home<'_>,
     first: Boxed<Term>,
     left: Term,
     again: Shared<Step>,
+    state: &mut State,
 ) -> Result<Term, AllocError>
-    ensures { IfOk result (λ term. term_view term ≡ plainly_handled (term_view first) (view again)
-        (term_view left)) }
+    ensures { IfOk result (λ term. Became (leaving.handled (home_view home.now) state.old.held
+        (term_view first) (view again) (term_view left)) (term_view term) state.old state.new) }
 {
     if is_done(&left) {
-        return reopened(alloc, first, again);
+        return reopened(alloc, home, first, again, state);
     }
     let left = Boxed::new(alloc, left)?;
     Ok(Term::Handling(first, left, again))
@@ -170,9 +192,10 @@ pub fn in_frame(
     left: Term,
     state: &mut State,
 ) -> Result<Term, AllocError>
-    ensures { IfOk result (λ term. (body : terms.Term) (i : ℕ) →
-        Became (plainly_around outer.0 state.old.held (terms.frame frame.0 inputs results body) i
-        (term_view left)) (term_view term) state.old state.new) }
+    ensures { IfOk result (λ term. (home : RulesHome) (body : terms.Term) (i : ℕ) →
+        Became (leaving.around home outer.0 state.old.held
+        (terms.frame frame.0 inputs results body) i (term_view left)) (term_view term) state.old
+        state.new) }
 {
     if is_done(&left) {
         let outputs = copy_locals(alloc, state, frame, inputs, results.get().len())?;

@@ -6,6 +6,7 @@ use Rattle.pz_rules.specs.declared.term.Term.{Term}
 use Rattle.pz_rules.specs.Terms as terms
 use Rattle.pz_rules.specs.Terms.{Terms, and, height, greatest_height, count, term_at, parallel}
 use Rattle.pz_rules.specs.Leaving.{is_done, all_done, replaced}
+use Rattle.pz_rules.specs.Settings.{Home}
 use Rattle.pz_rules.specs.View.{term_view, terms_view}
 use Rattle.pz_term_residual.specs.declared.outline.Outline.{Outline}
 use Rattle.pz_term_residual.specs.devices.Capped.{capped}
@@ -51,19 +52,19 @@ replaced_height (u ∷ us) t behind x =
     ap (λ (n : ℕ). max (height (term_view u)) n) (replaced_height us t behind x)
     ∙ max_assoc (height (term_view u)) (greatest_height (terms_view us)) (max (height x) (greatest_height (terms_view behind)))
 
-pub parallel_ended : (before behind : List Term) (left result : Outline) → (all_done (terms_view before) && (left.done && all_done (terms_view behind))) ≡ true → result ≡ outline terms.done
-    → (t : Term) → IsRound left (parallel (terms_view (before ++ t ∷ behind))) (length before) result
-parallel_ended before behind left result is_true is t f s x same =
+pub parallel_ended : (h : Home) (before behind : List Term) (left result : Outline) → (all_done (terms_view before) && (left.done && all_done (terms_view behind))) ≡ true → result ≡ outline terms.done
+    → (t : Term) → IsRound h left (parallel (terms_view (before ++ t ∷ behind))) (length before) result
+parallel_ended h before behind left result is_true is t f s x same =
     let us = replaced (terms_view (before ++ t ∷ behind)) (length before) x in
     let all : all_done us ≡ true =
     replaced_done before t behind x ∙ ap (λ (o : Outline). all_done (terms_view before) && (o.done && all_done (terms_view behind))) (sym same) ∙ is_true in
     is ∙ ap (λ (b : Bool). outline (if b then terms.done else parallel us)) (sym all)
 
-pub parallel_goes_on : (before behind : List Term) (left result : Outline) (first last others part : ℕ) → (all_done (terms_view before) && (left.done && all_done (terms_view behind))) ≡ false
+pub parallel_goes_on : (h : Home) (before behind : List Term) (left result : Outline) (first last others part : ℕ) → (all_done (terms_view before) && (left.done && all_done (terms_view behind))) ≡ false
     → first ≡ capped (greatest_height (terms_view before)) → last ≡ capped (greatest_height (terms_view behind)) → others ≡ max left.height last → part ≡ max first others
     → ((t : terms.Term) (n : ℕ) → part ≡ capped n → IsAbove t n → result ≡ outline t)
-    → (t : Term) → IsRound left (parallel (terms_view (before ++ t ∷ behind))) (length before) result
-parallel_goes_on before behind left result first last others part is_false high_first high_last some greater above t f s x same =
+    → (t : Term) → IsRound h left (parallel (terms_view (before ++ t ∷ behind))) (length before) result
+parallel_goes_on h before behind left result first last others part is_false high_first high_last some greater above t f s x same =
     let us = replaced (terms_view (before ++ t ∷ behind)) (length before) x in
     let a = greatest_height (terms_view before) in
     let b = max (height x) (greatest_height (terms_view behind)) in

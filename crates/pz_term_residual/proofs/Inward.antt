@@ -49,7 +49,7 @@ parallel_inside f ts vs us ws i t same got emptied kept within =
     record {
       part = part_is vs i t got ∙ ap (λ (l : List Term). term_at (terms_view l) i) same;
       stands = refl;
-      round = λ s x. ap (λ (rs : Terms). left_by s (joined rs)) (without_part ts ws i form.Done is x);
+      round = λ h s x. ap (λ (rs : Terms). left_by s (joined rs)) (without_part ts ws i form.Done is x);
       place = omega (arith, within, ap (λ (l : List Term). length l) is, length-set ts i form.Done);
     }
 
@@ -57,7 +57,7 @@ pub select_inside : (f : FrameId) (ts vs : List Term) (i : ℕ) (t : Term) → v
 select_inside f ts vs i t same got = record {
   part = part_is vs i t got ∙ ap (λ (l : List Term). term_at (terms_view l) i) same;
   stands = refl;
-  round = λ s x. refl;
+  round = λ h s x. refl;
   place = tt;
 }
 

@@ -1,6 +1,5 @@
 mod Capping
 mod Forms
-mod Openings
 mod Outlined
 mod Rounds
 mod Beside

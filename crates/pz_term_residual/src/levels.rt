@@ -8,10 +8,12 @@ ghost use Rattle.pz_rules.specs.View.{term_view, terms_view};
 ghost use Rattle.pz_rules.specs.Places.{MayActIn};
 ghost use Rattle.pz_rules.specs.Becoming.{Became};
 ghost use Rattle.pz_rules.specs.Settings.{left_by};
+ghost use Rattle.pz_part_opening.specs.Homes.{home_view};
 ghost use Rattle.pz_term_residual.specs.devices.Unwound.{put_round, HasItsPlace, IsInside};
 
 use pz_classes_code::{Slot, Step};
 use pz_items::{Boxed, Items, Shared};
+use pz_part_opening::Home;
 use pz_rules::{Rest, Term};
 use pz_state::{FrameId, State};
 use pz_term_around::{in_abort, in_frame, in_handling, in_interrupt, in_parallel, in_sequence};
@@ -196,17 +198,18 @@ fn round_parallel(parts: Items<Term>, acting: usize, left: Term) -> Term
 /// Puts a level round what is left inside.
 pub(crate) fn put_around(
     alloc: Global,
+    home: &Home<'_>,
     level: Level,
     left: Term,
     state: &mut State,
 ) -> Result<Term, AllocError>
     requires { HasItsPlace level }
-    ensures { IfOk result (λ term. Became (put_round level
+    ensures { IfOk result (λ term. Became (put_round (home_view home.now) level
         (left_by state.old.held (term_view left))) (term_view term) state.old state.new) }
 {
     match level {
         Level::Gone => Ok(left),
-        Level::Sequence(rest) => in_sequence(alloc, left, rest),
+        Level::Sequence(rest) => in_sequence(alloc, home, left, rest, state),
         Level::Parallel { parts, acting } => Ok(round_parallel(parts, acting, left)),
         Level::Frame {
             outer,
@@ -216,6 +219,6 @@ pub(crate) fn put_around(
         } => in_frame(alloc, outer, frame, inputs, results, left, state),
         Level::Abort(second) => in_abort(alloc, left, second),
         Level::Idle(second, again) => in_interrupt(alloc, left, second, again),
-        Level::Handling(first, again) => in_handling(alloc, first, left, again),
+        Level::Handling(first, again) => in_handling(alloc, home, first, left, again, state),
     }
 }

@@ -3,18 +3,21 @@
 ghost use Rattle.std.specs.Prelude.{◌≡◌, [], ◌∷◌, ◌++◌, ◌&&◌, ℕ, length};
 ghost use Rattle.pz_rules.specs.declared.term.Term.{Term as Part};
 ghost use Rattle.pz_classes_code.specs.StepView.{view, sequence_view};
+ghost use Rattle.pz_state.specs.States.{StateView};
 ghost use Rattle.pz_rules.specs.Terms as terms;
 ghost use Rattle.pz_rules.specs.Terms.{height};
 ghost use Rattle.pz_rules.specs.Leaving as leaving;
 ghost use Rattle.pz_rules.specs.View.{term_view, terms_view};
-ghost use Rattle.pz_rules.specs.devices.Plainly.{plainly as opened, plainly_all as opened_all, plainly_handled};
+ghost use Rattle.pz_rules.specs.Settings.{Home as RulesHome};
+ghost use Rattle.pz_rules.specs.Opening.{opened, opened_all};
+ghost use Rattle.pz_part_opening.specs.Homes.{home_view};
 ghost use Rattle.pz_term_residual.specs.devices.Capped.{capped};
 ghost use Rattle.pz_term_residual.specs.devices.Outlines.{outline, IsAbove, IsRound};
 
 use crate::heights::{above, greatest_of, height_of};
 use pz_classes_code::{Slot, Step};
 use pz_items::{Items, Shared};
-use pz_part_opening::{opens_done, step_within};
+use pz_part_opening::{Home, opens_bare, opens_done, step_within};
 use pz_rules::{Rest, Term};
 use pz_term_around::{all_done, is_bare, is_done};
 
@@ -61,43 +64,46 @@ fn outline_done() -> Outline
 }
 
 /// The height of what a statement opens as.
-fn opened_height(step: &Step) -> u64
-    ensures { result ≡ capped (height (opened (view step.now))) }
+fn opened_height(home: &Home<'_>, step: &Step) -> u64
+    ensures { (s : StateView) →
+        result ≡ capped (height (opened (home_view home.now) (view step.now) s).term) }
 {
-    step_within(step, u64::MAX)
+    step_within(home, step, u64::MAX)
 }
 
 /// Of what a statement opens as.
-fn outline_opened(step: &Step) -> Outline
-    ensures { result ≡ outline (opened (view step.now)) }
+fn outline_opened(home: &Home<'_>, step: &Step) -> Outline
+    ensures { (s : StateView) →
+        result ≡ outline (opened (home_view home.now) (view step.now) s).term }
 {
     Outline {
-        height: opened_height(step),
-        done: opens_done(step),
-        bare: false,
+        height: opened_height(home, step),
+        done: opens_done(home, step),
+        bare: opens_bare(home, step),
     }
 }
 
 /// Of what statements that wait open as.
-fn outline_rest(rest: &Rest) -> Outline
-    ensures { result ≡ outline (opened_all (sequence_view rest.now)) }
+fn outline_rest(home: &Home<'_>, rest: &Rest) -> Outline
+    ensures { (s : StateView) →
+        result ≡ outline (opened_all (home_view home.now) (sequence_view rest.now) s).term }
 {
     let Some(first) = rest.first() else {
         return outline_done();
     };
     if rest.len() == 1 {
-        return outline_opened(first);
+        return outline_opened(home, first);
     }
-    outline_above(opened_height(first))
+    outline_above(opened_height(home, first))
 }
 
 /// Of what is open, with statements behind it.
-pub(crate) fn outline_sequence(left: Outline, rest: &Rest) -> Outline
-    ensures { (t : terms.Term) (i : ℕ) → IsRound left
+pub(crate) fn outline_sequence(home: &Home<'_>, left: Outline, rest: &Rest) -> Outline
+    ensures { (t : terms.Term) (i : ℕ) → IsRound (home_view home.now) left
         (terms.sequence t (sequence_view rest.now)) i result }
 {
     if left.done {
-        outline_rest(rest)
+        outline_rest(home, rest)
     } else {
         outline_above(left.height)
     }
@@ -113,8 +119,8 @@ fn stand_done(before: &[Term], left: bool, behind: &[Term]) -> bool
 
 /// Of parts side by side, of which one has become another.
 pub(crate) fn outline_parallel(before: &[Term], left: Outline, behind: &[Term]) -> Outline
-    ensures { (t : Part) → IsRound left (terms.parallel (terms_view (before.now ++ t ∷ behind.now)))
-        (length before.now) result }
+    ensures { (home : RulesHome) (t : Part) → IsRound home left
+        (terms.parallel (terms_view (before.now ++ t ∷ behind.now))) (length before.now) result }
 {
     if stand_done(before, left.done, behind) {
         return outline_done();
@@ -125,10 +131,10 @@ pub(crate) fn outline_parallel(before: &[Term], left: Outline, behind: &[Term]) 
 
 /// Of two parts, of which the first has become another; when that is done, the whole is.
 pub(crate) fn outline_first(left: Outline, second: &Term) -> Outline
-    ensures abort { (t : terms.Term) → IsRound left
+    ensures abort { (home : RulesHome) (t : terms.Term) → IsRound home left
         (terms.abort t (term_view second.now)) 0 result }
-    ensures idle { (t : terms.Term) (again : terms.Step) →
-        IsRound left (terms.idle t (term_view second.now) again) 0 result }
+    ensures idle { (home : RulesHome) (t : terms.Term) (again : terms.Step) →
+        IsRound home left (terms.idle t (term_view second.now) again) 0 result }
 {
     if left.done {
         return left;
@@ -137,12 +143,18 @@ pub(crate) fn outline_first(left: Outline, second: &Term) -> Outline
 }
 
 /// Of what is interrupted, whose second part has become another.
-pub(crate) fn outline_second(first: &Term, left: Outline, again: &Step) -> Outline
-    ensures { (x : terms.Term) → left ≡ outline x →
-        result ≡ outline (plainly_handled (term_view first.now) (view again.now) x) }
+pub(crate) fn outline_second(
+    home: &Home<'_>,
+    first: &Term,
+    left: Outline,
+    again: &Step,
+) -> Outline
+    ensures { (s : StateView) (x : terms.Term) → left ≡ outline x →
+        result ≡ outline (leaving.handled (home_view home.now) s (term_view first.now)
+        (view again.now) x).term }
 {
     if left.done {
-        return outline_above(height_of(first).max(opened_height(again)));
+        return outline_above(height_of(first).max(opened_height(home, again)));
     }
     outline_above(height_of(first).max(left.height))
 }
@@ -165,8 +177,8 @@ fn outline_bare(left: Outline) -> Outline
 
 /// Of a frame whose body has become another.
 pub(crate) fn outline_frame(results: &Shared<Items<Slot>>, left: Outline) -> Outline
-    ensures { (number inputs : ℕ) (t : terms.Term) (i : ℕ) →
-        IsRound left (terms.frame number inputs results.now t) i result }
+    ensures { (home : RulesHome) (number inputs : ℕ) (t : terms.Term) (i : ℕ) →
+        IsRound home left (terms.frame number inputs results.now t) i result }
 {
     if left.done {
         return left;

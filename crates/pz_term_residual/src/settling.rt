@@ -1,16 +1,17 @@
 //! What has become of a process.
 
 ghost use Rattle.std.specs.Prelude.{◌≡◌, All, IfOk};
-ghost use Rattle.pz_rules.specs.Settings.{Process, left_by};
-ghost use Rattle.pz_rules.specs.Leaving.{swept};
+ghost use Rattle.pz_rules.specs.Settings.{Process, left_by, Home as RulesHome};
+ghost use Rattle.pz_rules.specs.Leaving.{residual, swept};
 ghost use Rattle.pz_rules.specs.View.{term_view};
 ghost use Rattle.pz_rules.specs.Places.{MayAct};
 ghost use Rattle.pz_rules.specs.Becoming.{Became};
-ghost use Rattle.pz_rules.specs.devices.Plainly.{plainly_residual as residual};
+ghost use Rattle.pz_part_opening.specs.Homes.{home_view};
 ghost use Rattle.pz_term_residual.specs.devices.Unwound.{unwound, HasItsPlace};
 
 use crate::levels::{Inside, Level, put_around, step_in};
 use crate::sweeping::sweep;
+use pz_part_opening::Home;
 use pz_rules::Term;
 use pz_state::{FrameId, State};
 use std::alloc::{AllocError, Global};
@@ -19,8 +20,8 @@ use std::alloc::{AllocError, Global};
 /// part, which is gone. The only error is want of memory.
 fn take_apart(alloc: Global, mut term: Term, place: &[usize]) -> Result<Vec<Level>, AllocError>
     requires { MayAct (term_view term) place.now }
-    ensures around { IfOk result (λ levels. (p : Process) →
-        unwound levels.items p ≡ residual 0 (term_view term) place.now p) }
+    ensures around { IfOk result (λ levels. (home : RulesHome) (p : Process) →
+        unwound home levels.items p ≡ residual home 0 (term_view term) place.now p) }
     ensures places { IfOk result (λ levels. All HasItsPlace levels.items) }
 {
     let mut levels = Vec::new(alloc);
@@ -43,16 +44,17 @@ fn take_apart(alloc: Global, mut term: Term, place: &[usize]) -> Result<Vec<Leve
 /// memory.
 fn put_together(
     alloc: Global,
+    home: &Home<'_>,
     mut levels: Vec<Level>,
     mut left: Term,
     state: &mut State,
 ) -> Result<Term, AllocError>
     requires { All HasItsPlace levels.items }
-    ensures { IfOk result (λ term. Became (unwound levels.items
+    ensures { IfOk result (λ term. Became (unwound (home_view home.now) levels.items
         (left_by state.old.held (term_view left))) (term_view term) state.old state.new) }
 {
     while let Some(level) = levels.pop() {
-        left = put_around(alloc, level, left, state)?;
+        left = put_around(alloc, home, level, left, state)?;
     }
     Ok(left)
 }
@@ -64,6 +66,7 @@ fn put_together(
 /// A part at the place may act.
 pub fn settle(
     alloc: Global,
+    home: &Home<'_>,
     term: Term,
     place: &[usize],
     part: Term,
@@ -71,11 +74,11 @@ pub fn settle(
 ) -> Result<Term, AllocError>
     requires { MayAct (term_view term) place.now }
     ensures left { IfOk result (λ left. Became (swept
-        (residual 0 (term_view term) place.now (left_by state.old.held (term_view part))))
-        (term_view left) state.old state.new) }
+        (residual (home_view home.now) 0 (term_view term) place.now
+        (left_by state.old.held (term_view part)))) (term_view left) state.old state.new) }
 {
     let levels = take_apart(alloc, term, place)?;
-    let left = put_together(alloc, levels, part, state)?;
+    let left = put_together(alloc, home, levels, part, state)?;
     sweep(alloc, &left, state)?;
     Ok(left)
 }

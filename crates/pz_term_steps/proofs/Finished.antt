@@ -10,9 +10,8 @@ use Rattle.pz_offer.specs.declared.trouble.Trouble.{Trouble}
 use Rattle.pz_rules.specs.declared.term.Term as code
 use Rattle.pz_rules.specs.Terms.{Term}
 use Rattle.pz_rules.specs.Settings as rules
-use Rattle.pz_rules.specs.Settings.{Setting, Context, left_by}
-use Rattle.pz_rules.specs.Leaving.{swept}
-use Rattle.pz_rules.specs.devices.Plainly.{plainly_residual as residual}
+use Rattle.pz_rules.specs.Settings.{Setting, Context, left_by, Home}
+use Rattle.pz_rules.specs.Leaving.{residual, swept}
 use Rattle.pz_rules.specs.Steps.{Deed, Acts}
 use Rattle.pz_rules.specs.View.{term_view}
 use Rattle.pz_term_processes.specs.declared.process.Process.{Process}
@@ -47,22 +46,22 @@ begun_trouble old new r trouble is state = subst (IsBegun old new) is state
 pub acts_still : (p q : Process) (place : Place) → q.term ≡ p.term → MayAct (term_view p.term) place → MayAct (term_view q.term) place
 acts_still p q place same may = subst (λ (t : code.Term). MayAct (term_view t) place) (sym same) may
 
-module _ (a : Context) (does : Deed) (p q : Process) (place : Place) (r : Result Begun Trouble) (leaves : Leaves a does (term_view p.term) place (begun_process (term_view p.term) place q.state.held r)) where
+module _ (h : Home) (a : Context) (does : Deed) (p q : Process) (place : Place) (r : Result Begun Trouble) (leaves : Leaves a does (term_view p.term) place (begun_process h (term_view p.term) place q.state.held r)) where
   pub leaves_trouble : (trouble : Trouble) → r ≡ Err trouble → Leaves a does (term_view p.term) place (Err trouble)
-  leaves_trouble trouble is = subst (λ (x : Result Begun Trouble). Leaves a does (term_view p.term) place (begun_process (term_view p.term) place q.state.held x)) is leaves
+  leaves_trouble trouble is = subst (λ (x : Result Begun Trouble). Leaves a does (term_view p.term) place (begun_process h (term_view p.term) place q.state.held x)) is leaves
 
-  pub leaves_so_far : (begun : Begun) → r ≡ Ok begun → Leaves a does (term_view p.term) place (Ok (swept (residual 0 (term_view p.term) place (left_by q.state.held (term_view begun.part)))))
-  leaves_so_far begun is = subst (λ (x : Result Begun Trouble). Leaves a does (term_view p.term) place (begun_process (term_view p.term) place q.state.held x)) is leaves
+  pub leaves_so_far : (begun : Begun) → r ≡ Ok begun → Leaves a does (term_view p.term) place (Ok (swept (residual h 0 (term_view p.term) place (left_by q.state.held (term_view begun.part)))))
+  leaves_so_far begun is = subst (λ (x : Result Begun Trouble). Leaves a does (term_view p.term) place (begun_process h (term_view p.term) place q.state.held x)) is leaves
 
   -- where the process still is as it was when its part had acted
   pub leaves_finished : (begun : Begun) (now new : Process) → r ≡ Ok begun → now ≡ q → q.term ≡ p.term
-      → Became (swept (residual 0 (term_view now.term) place (left_by now.state.held (term_view begun.part)))) (term_view new.term) (kept now.state) new.state
+      → Became (swept (residual h 0 (term_view now.term) place (left_by now.state.held (term_view begun.part)))) (term_view new.term) (kept now.state) new.state
       → Leaves a does (term_view p.term) place (Ok (process_view new))
   leaves_finished begun now new is still same became =
-      let at_last : Process → rules.Process = λ x. swept (residual 0 (term_view x.term) place (left_by x.state.held (term_view begun.part))) in
+      let at_last : Process → rules.Process = λ x. swept (residual h 0 (term_view x.term) place (left_by x.state.held (term_view begun.part))) in
       let begun_is : ◌≡◌ {A = rules.Process} (process_view new) (at_last now) = became_is (at_last now) (term_view new.term) (kept now.state) new.state became in
-      let whole : ◌≡◌ {A = rules.Process} (process_view new) (swept (residual 0 (term_view p.term) place (left_by q.state.held (term_view begun.part)))) =
-      begun_is ∙ ap at_last still ∙ ap (λ (t : code.Term). swept (residual 0 (term_view t) place (left_by q.state.held (term_view begun.part)))) same in
+      let whole : ◌≡◌ {A = rules.Process} (process_view new) (swept (residual h 0 (term_view p.term) place (left_by q.state.held (term_view begun.part)))) =
+      begun_is ∙ ap at_last still ∙ ap (λ (t : code.Term). swept (residual h 0 (term_view t) place (left_by q.state.held (term_view begun.part)))) same in
       subst (λ (x : rules.Process). Leaves a does (term_view p.term) place (Ok x)) (sym whole)
       (leaves_so_far begun is)
 

@@ -1,5 +1,5 @@
 -- What is offered of a configuration, of the code's processes that stand there.
-use Rattle.std.proofs.Common.{◌≡◌, ℕ, ◌<◌, List, Some, length, map, refl, sym, subst, ap, ◌∙◌}
+use Rattle.std.proofs.Common.{◌≡◌, ℕ, ◌<◌, List, Result, Some, length, map, refl, sym, subst, ap, ◌∙◌}
 use Rattle.std.specs.Prelude.{slice_get}
 use Rattle.std.specs.Coded.{le_prop}
 use Rattle.std.proofs.Math.Logic.{∥∥₁_elim, ∥∥₁_map₂, ∥∥₁_prop}
@@ -9,6 +9,7 @@ use Rattle.std.proofs.lemmas.Option.{slice_get_within}
 use Rattle.pz_syntax.specs.declared.tokens.Pos.{Pos}
 use Rattle.pz_syntax.specs.Classes.{ModelTree}
 use Rattle.pz_value.specs.declared.value.ClassId.{ClassId}
+use Rattle.pz_classes.specs.CheckedView.{checked_model}
 use Rattle.pz_classes.specs.declared.classes.Classes.{Classes}
 use Rattle.pz_classes.specs.Soundness.{IsSound}
 use Rattle.pz_classes.specs.SoundBodies.{SoundBodiesFit}
@@ -21,6 +22,8 @@ use Rattle.pz_bind.specs.NetView.{HasProcess}
 use Rattle.pz_bind.specs.devices.Nets.{IsNet, node_at}
 use Rattle.pz_offer.specs.declared.end.End.{End}
 use Rattle.pz_offer.specs.PlaceOrder.{Place}
+use Rattle.pz_offer.specs.declared.trouble.Trouble.{Trouble}
+use Rattle.pz_state.specs.States.{StateView}
 use Rattle.pz_rules.specs.declared.limits.Limits.{Limits}
 use Rattle.pz_rules.specs.Terms.{Term}
 use Rattle.pz_rules.specs.Settings as rules
@@ -29,13 +32,17 @@ use Rattle.pz_rules.specs.Configurations.{Stands}
 use Rattle.pz_rules.specs.Fitting.{TermFits}
 use Rattle.pz_rules.specs.Offers.{PartAt}
 use Rattle.pz_rules.specs.Active.{IsActive}
+use Rattle.pz_rules.specs.Steps.{Deed}
 use Rattle.pz_rules.specs.View.{term_view}
 use Rattle.pz_term_processes.specs.declared.process.Process.{Process}
 use Rattle.pz_term_processes.specs.Standing.{setting_of, process_view, config_of, AreProcesses}
 use Rattle.pz_part_queries.specs.declared.standpoint.Standpoint.{Standpoint}
-use Rattle.pz_part_queries.specs.Standpoints.{Knows}
+use Rattle.pz_part_queries.specs.Standpoints.{Knows, seen_from}
 use Rattle.pz_part_actions.specs.Fitting.{FitsHere}
-use Rattle.pz_term_steps.specs.devices.Deeds.{Ability, CanDo, seen_at}
+use Rattle.pz_part_actions.specs.Homes.{seen_home}
+use Rattle.pz_part_opening.specs.declared.home.Home.{Home}
+use Rattle.pz_part_opening.specs.Homes.{home_view}
+use Rattle.pz_term_steps.specs.devices.Deeds.{Ability, CanDo, Leaves, home_there, seen_at}
 use Rattle.pz_term_steps.proofs.Lists.{some_is, image_there}
 
 -- the net and the processes of a model
@@ -119,3 +126,23 @@ ready setting clock ps end can a f x pos part it = record {
         subst (λ (q : Place). CanDo can (seen_at setting end.process class clock p.state.held) (term_view p.term) q) (sym is_place)
         (subst (λ (k : ℕ). CanDo can (seen_at setting end.process k clock p.state.held) (term_view p.term) end.place) (sym is_class)
         (subst (λ (b : Context). CanDo can b (term_view p.term) end.place) seen here))
+
+-- at home there, of the code's home
+module _ (m : ModelTree) (limits : Limits) (here : Standpoint) (home : Home) (place : levels.Address) (is : home_view home ≡ home_there m limits place) where
+  seen_there : (s : StateView) → seen_home here home s ≡ seen_from m here (class_at m place) s
+  seen_there s = ap (λ (h : rules.Home). seen_from h.model here h.class s) is
+
+  pub edition_there : limits.edition ≡ home.edition
+  edition_there = sym (ap (λ (h : rules.Home). h.edition) is)
+
+  pub class_there : home.class.0 ≡ class_at m place
+  class_there = ap (λ (h : rules.Home). h.class) is
+
+  pub knows_there : Knows m here → Knows (checked_model home.checked.now) here
+  knows_there known = subst (λ (n : ModelTree). Knows n here) (sym (ap (λ (h : rules.Home). h.model) is)) known
+
+  pub can_there : (can : Ability) (s : StateView) (t : Term) (at : Place) → CanDo can (seen_from m here (class_at m place) s) t at → CanDo can (seen_home here home s) t at
+  can_there can s t at = subst (λ (a : Context). CanDo can a t at) (sym (seen_there s))
+
+  pub leaves_there : (does : Deed) (s : StateView) (t : Term) (at : Place) (left : Result rules.Process Trouble) → Leaves (seen_home here home s) does t at left → Leaves (seen_from m here (class_at m place) s) does t at left
+  leaves_there does s t at left = subst (λ (a : Context). Leaves a does t at left) (seen_there s)

@@ -10,11 +10,9 @@ use Rattle.pz_state.specs.Marks.{Seen, marked, undone}
 use Rattle.pz_offer.specs.PlaceOrder.{Place}
 use Rattle.pz_offer.specs.declared.trouble.Trouble.{Trouble}
 use Rattle.pz_rules.specs.Terms.{Term}
-use Rattle.pz_rules.specs.Settings.{Process, Context, left_by}
-use Rattle.pz_rules.specs.Leaving.{swept, settled}
-use Rattle.pz_rules.specs.devices.Plainly.{plainly_residual as residual, plainly_settled}
+use Rattle.pz_rules.specs.Settings.{Process, Context, left_by, Home, home_of}
+use Rattle.pz_rules.specs.Leaving.{residual, swept, settled}
 use Rattle.pz_rules.specs.Meanings.{and_then}
-use Rattle.pz_rules.proofs.Plain.{settled_plainly}
 use Rattle.pz_rules.specs.Steps.{Deed}
 use Rattle.pz_rules.specs.View.{term_view}
 use Rattle.pz_rules.specs.devices.Ends.{ActivePartsFit}
@@ -27,7 +25,7 @@ use Rattle.pz_part_queries.specs.Parts.{IsPartAt}
 use Rattle.pz_part_actions.specs.Fitting.{FitsHere}
 use Rattle.pz_term_steps.specs.declared.begun.Begun.{Begun}
 use Rattle.pz_term_steps.specs.devices.StatementPlaces.{IsFrom}
-use Rattle.pz_term_steps.specs.devices.Deeds.{Ability, CanDo, Leaves, begun_process}
+use Rattle.pz_term_steps.specs.devices.Deeds.{Ability, CanDo, Leaves, settled_home, begun_process}
 use Rattle.pz_term_steps.proofs.Statements.{one_place}
 
 pub known_is : (m : ModelTree) (here : Standpoint) → Knows m here → AreKnown here.classes.now
@@ -64,21 +62,21 @@ moved P m here class s s' f g y x states frames parts holds =
     (subst (λ (h : ℕ). P (seen_from m here class s') h y) frames
     (subst (λ (u : StateView). P (seen_from m here class u) f y) states holds))
 
-begun_held : (t : Term) (place : Place) (s2 s3 : Seen) (point : ℕ) (r : Result Begun Trouble) → MatchResult r (λ b. (s3 ≡ s2) × (b.point ≡ point)) (λ t. s3 ≡ undone s2)
-    → begun_process t place s3.held r ≡ begun_process t place s2.held r
-begun_held t place s2 s3 point (Ok b) held = ap (λ (s : Seen). let r : Result Process Trouble = Ok (swept (residual 0 t place (left_by s.held (term_view b.part)))) in r) held.0
-begun_held t place s2 s3 point (Err e) held = refl
+begun_held : (h : Home) (t : Term) (place : Place) (s2 s3 : Seen) (point : ℕ) (r : Result Begun Trouble) → MatchResult r (λ b. (s3 ≡ s2) × (b.point ≡ point)) (λ t. s3 ≡ undone s2)
+    → begun_process h t place s3.held r ≡ begun_process h t place s2.held r
+begun_held h t place s2 s3 point (Ok b) held = ap (λ (s : Seen). let r : Result Process Trouble = Ok (swept (residual h 0 t place (left_by s.held (term_view b.part)))) in r) held.0
+begun_held h t place s2 s3 point (Err e) held = refl
 
 -- what a part leaves of its process, done in the marked state
 pub leaves_begun : (can : Ability) (does : Deed) → ((a : Context) (g : ℕ) (x : Term) (pos : Pos) → can a g x pos → IsFrom pos x)
     → (m : ModelTree) (here : Standpoint) (class : ℕ) (t : Term) (place : Place) (s0 s1 s2 s3 : Seen) (point f : ℕ) (y : Term) (p : Pos) (left : Result Process Trouble) (r : Result Begun Trouble)
-    → s1 ≡ marked s0 point → IsPartAt 0 t place f y → IsFrom p y
+    → (h : Home) → home_of (seen_from m here class s0.held) ≡ h → s1 ≡ marked s0 point → IsPartAt 0 t place f y → IsFrom p y
     → ((pos : Pos) → can (seen_from m here class s1.held) f y pos → does (seen_from m here class s1.held) f y pos left)
-    → begun_process t place s2.held r ≡ and_then left (plainly_settled (seen_from m here class s0.held) p t place)
+    → begun_process h t place s2.held r ≡ and_then left (settled_home h (seen_from m here class s0.held) p t place)
     → MatchResult r (λ b. (s3 ≡ s2) × (b.point ≡ point)) (λ t. s3 ≡ undone s2)
     → CanDo can (seen_from m here class s0.held) t place
-    → Leaves (seen_from m here class s0.held) does t place (begun_process t place s3.held r)
-leaves_begun can does stands m here class t place s0 s1 s2 s3 point f y p left r is found from acts held state there =
+    → Leaves (seen_from m here class s0.held) does t place (begun_process h t place s3.held r)
+leaves_begun can does stands m here class t place s0 s1 s2 s3 point f y p left r h home is found from acts held state there =
     let same = same_part can (seen_from m here class s0.held) t place there f y found in
     let pos : Pos = there.it_holds.0 in
     let before : s1.held ≡ s0.held = ap (λ (s : Seen). s.held) is in
@@ -91,8 +89,8 @@ leaves_begun can does stands m here class t place s0 s1 s2 s3 point f y p left r
       acts = moved (λ a g x. does a g x pos left) m here class s1.held s0.held f there.frame y there.part before same.0 same.1
           (acts pos (moved (λ a g x. can a g x pos) m here class s0.held s1.held there.frame f there.part y (sym before) (sym same.0) (sym same.1) there.it_holds.1));
       leaves =
-          begun_held t place s2 s3 point r state ∙ held
-          ∙ settled_plainly (seen_from m here class s0.held) p t place left
+          begun_held h t place s2 s3 point r state ∙ held
+          ∙ ap (λ (k : Home). and_then left (settled_home k (seen_from m here class s0.held) p t place)) (sym home)
           ∙ ap (λ (q : Pos). and_then left (settled (seen_from m here class s0.held) q t place))
           (one_place y p pos from (part_is can (seen_from m here class s0.held) t place there f y found IsFrom (stands (seen_from m here class s0.held))));
     }

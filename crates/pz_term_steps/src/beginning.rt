@@ -2,17 +2,19 @@
 // trouble all is as it was. After want of memory, which is the only error, nothing is promised of the
 // state.
 
-ghost use Rattle.std.specs.Prelude.{◌≡◌, ℕ, IfOk};
+ghost use Rattle.std.specs.Prelude.{◌≡◌, IfOk};
 ghost use Rattle.pz_syntax.specs.declared.tokens.Pos.{Pos as StatementPos};
-ghost use Rattle.pz_syntax.specs.Classes.{ModelTree};
+ghost use Rattle.pz_classes.specs.CheckedView.{checked_model};
 ghost use Rattle.pz_copy.specs.Parcels.{ParcelView};
 ghost use Rattle.pz_state.specs.States.{StateView};
 ghost use Rattle.pz_rules.specs.InternalActions.{Performs};
 ghost use Rattle.pz_rules.specs.Messages.{Hands, Takes};
 ghost use Rattle.pz_rules.specs.View.{term_view};
-ghost use Rattle.pz_part_queries.specs.Standpoints.{Knows, seen_from};
+ghost use Rattle.pz_part_opening.specs.Homes.{home_view};
+ghost use Rattle.pz_part_queries.specs.Standpoints.{Knows};
 ghost use Rattle.pz_part_actions.specs.Becoming.{process_left, done_left};
 ghost use Rattle.pz_part_actions.specs.Fitting.{FitsHere};
+ghost use Rattle.pz_part_actions.specs.Homes.{seen_home};
 ghost use Rattle.pz_term_steps.specs.devices.StatementPlaces.{IsFrom};
 ghost use Rattle.pz_term_steps.specs.devices.Deeds.{CanAct, CanSend, CanReceive, CanDo, Leaves, begun_process, IsBegun};
 
@@ -20,12 +22,12 @@ use crate::begun::{Begun, hold};
 use pz_copy::Parcel;
 use pz_offer::Trouble;
 use pz_part_actions::{hand, perform, take};
+use pz_part_opening::Home;
 use pz_part_queries::{Standpoint, part_at};
 use pz_rules::Term;
 use pz_state::FrameId;
 use pz_syntax::Pos;
 use pz_term_processes::Process;
-use pz_value::ClassId;
 use std::alloc::{AllocError, Global};
 
 /// The place of the statement that a part is. Takes no memory.
@@ -50,23 +52,22 @@ fn done_by(left: Result<(), Trouble>) -> Result<Term, Trouble>
     }
 }
 
-/// A part acts by itself. Its process is of this class, and its term fits it.
+/// A part acts by itself. Its process is of the class at home, and its term fits it.
 pub(crate) fn begin_internal(
     alloc: Global,
     here: &Standpoint<'_>,
-    class: ClassId,
+    home: &Home<'_>,
     process: &mut Process,
     place: &[usize],
 ) -> Result<Result<Begun, Trouble>, AllocError>
-    requires can { (m : ModelTree) × Knows m here.now
-        × CanDo CanAct (seen_from m here.now class.0 process.old.state.held)
+    requires knows { Knows (checked_model home.now.checked.now) here.now }
+    requires edition { here.now.limits.edition ≡ home.now.edition }
+    requires can { CanDo CanAct (seen_home here.now home.now process.old.state.held)
         (term_view process.old.term) place.now }
-    requires fits { ∥ FitsHere here.now class (term_view process.old.term) ∥₁ }
-    ensures leaves { (m : ModelTree) → Knows m here.now →
-        CanDo CanAct (seen_from m here.now class.0 process.old.state.held)
-        (term_view process.old.term) place.now → IfOk result
-        (λ begun. Leaves (seen_from m here.now class.0 process.old.state.held) Performs
-        (term_view process.old.term) place.now (begun_process
+    requires fits { ∥ FitsHere here.now home.now.class (term_view process.old.term) ∥₁ }
+    ensures leaves { IfOk result
+        (λ begun. Leaves (seen_home here.now home.now process.old.state.held) Performs
+        (term_view process.old.term) place.now (begun_process (home_view home.now)
         (term_view process.old.term) place.now process.new.state.held begun)) }
     ensures state { IfOk result (IsBegun process.old.state process.new.state) }
     ensures term { process.new.term ≡ process.old.term }
@@ -77,26 +78,30 @@ pub(crate) fn begin_internal(
     let point = process.state.mark()?;
     let (frame, part) = part_at(&process.term, FrameId(0), place);
     let pos = pos_of(part);
-    let left = perform(alloc, here, class, &mut process.state, frame, part)?;
-    Ok(hold(here, process, place, point, pos, left))
+    let left = perform(alloc, here, home, &mut process.state, frame, part)?;
+    Ok(hold(here, home, process, place, point, pos, left))
 }
 
 /// A send hands over its parcel.
 pub(crate) fn begin_send(
     alloc: Global,
     here: &Standpoint<'_>,
+    home: &Home<'_>,
     process: &mut Process,
     place: &[usize],
 ) -> Result<Result<Begun, Trouble>, AllocError>
-    requires can { (m : ModelTree) × (class : ℕ) × (parcel : ParcelView) × Knows m here.now
-        × CanDo (CanSend parcel) (seen_from m here.now class process.old.state.held)
+    requires knows { Knows (checked_model home.now.checked.now) here.now }
+    requires edition { here.now.limits.edition ≡ home.now.edition }
+    requires can { (parcel : ParcelView)
+        × CanDo (CanSend parcel) (seen_home here.now home.now process.old.state.held)
         (term_view process.old.term) place.now }
-    ensures leaves { (m : ModelTree) (class : ℕ) (parcel : ParcelView) → Knows m here.now →
-        CanDo (CanSend parcel) (seen_from m here.now class process.old.state.held)
+    ensures leaves { (parcel : ParcelView) →
+        CanDo (CanSend parcel) (seen_home here.now home.now process.old.state.held)
         (term_view process.old.term) place.now → IfOk result
-        (λ begun. Leaves (seen_from m here.now class process.old.state.held)
-        (λ a f. Hands a f parcel) (term_view process.old.term) place.now
-        (begun_process (term_view process.old.term) place.now process.new.state.held begun)) }
+        (λ begun. Leaves (seen_home here.now home.now process.old.state.held)
+        (λ a f. Hands a f parcel) (term_view process.old.term) place.now (begun_process
+        (home_view home.now) (term_view process.old.term) place.now process.new.state.held
+        begun)) }
     ensures state { IfOk result (IsBegun process.old.state process.new.state) }
     ensures term { process.new.term ≡ process.old.term }
 {
@@ -106,26 +111,27 @@ pub(crate) fn begin_send(
     let (frame, part) = part_at(&process.term, FrameId(0), place);
     let pos = pos_of(part);
     let left = hand(alloc, here, &mut process.state, frame, part)?;
-    Ok(hold(here, process, place, point, pos, done_by(left)))
+    Ok(hold(here, home, process, place, point, pos, done_by(left)))
 }
 
 /// A receive takes this parcel.
 pub(crate) fn begin_receive(
     alloc: Global,
     here: &Standpoint<'_>,
+    home: &Home<'_>,
     process: &mut Process,
     place: &[usize],
     parcel: &Parcel,
 ) -> Result<Result<Begun, Trouble>, AllocError>
-    requires can { (m : ModelTree) × (class : ℕ) × Knows m here.now
-        × CanDo CanReceive (seen_from m here.now class process.old.state.held)
+    requires knows { Knows (checked_model home.now.checked.now) here.now }
+    requires edition { here.now.limits.edition ≡ home.now.edition }
+    requires can { CanDo CanReceive (seen_home here.now home.now process.old.state.held)
         (term_view process.old.term) place.now }
-    ensures leaves { (m : ModelTree) (class : ℕ) → Knows m here.now →
-        CanDo CanReceive (seen_from m here.now class process.old.state.held)
-        (term_view process.old.term) place.now → IfOk result
-        (λ begun. Leaves (seen_from m here.now class process.old.state.held)
-        (λ a f. Takes a f parcel.now) (term_view process.old.term) place.now
-        (begun_process (term_view process.old.term) place.now process.new.state.held begun)) }
+    ensures leaves { IfOk result
+        (λ begun. Leaves (seen_home here.now home.now process.old.state.held)
+        (λ a f. Takes a f parcel.now) (term_view process.old.term) place.now (begun_process
+        (home_view home.now) (term_view process.old.term) place.now process.new.state.held
+        begun)) }
     ensures state { IfOk result (IsBegun process.old.state process.new.state) }
     ensures term { process.new.term ≡ process.old.term }
 {
@@ -135,5 +141,5 @@ pub(crate) fn begin_receive(
     let (frame, part) = part_at(&process.term, FrameId(0), place);
     let pos = pos_of(part);
     let left = take(alloc, here, &mut process.state, frame, part, parcel)?;
-    Ok(hold(here, process, place, point, pos, done_by(left)))
+    Ok(hold(here, home, process, place, point, pos, done_by(left)))
 }

@@ -1,21 +1,21 @@
 // A part of a process that has acted, while all that it did can still be undone.
 
-ghost use Rattle.std.specs.Prelude.{◌≡◌, ℕ, MatchResult, OnOk};
-ghost use Rattle.pz_syntax.specs.Classes.{ModelTree};
+ghost use Rattle.std.specs.Prelude.{◌≡◌, MatchResult, OnOk};
 ghost use Rattle.pz_state.specs.States.{StateView};
 ghost use Rattle.pz_state.specs.Marks.{IsLatest, undone, kept};
 ghost use Rattle.pz_rules.specs.Meanings.{and_then};
-ghost use Rattle.pz_rules.specs.Leaving.{swept};
+ghost use Rattle.pz_rules.specs.Leaving.{residual, swept};
 ghost use Rattle.pz_rules.specs.Settings.{left_by};
-ghost use Rattle.pz_rules.specs.devices.Plainly.{plainly_residual as residual, plainly_settled as settled};
 ghost use Rattle.pz_rules.specs.View.{term_view};
-ghost use Rattle.pz_part_queries.specs.Standpoints.{seen_from};
+ghost use Rattle.pz_part_opening.specs.Homes.{home_view};
 ghost use Rattle.pz_rules.specs.Places.{MayAct};
 ghost use Rattle.pz_rules.specs.Becoming.{Became};
 ghost use Rattle.pz_part_actions.specs.Becoming.{process_left};
-ghost use Rattle.pz_term_steps.specs.devices.Deeds.{begun_process};
+ghost use Rattle.pz_part_actions.specs.Homes.{seen_home};
+ghost use Rattle.pz_term_steps.specs.devices.Deeds.{begun_process, settled_home};
 
 use pz_offer::Trouble;
+use pz_part_opening::Home;
 use pz_part_queries::Standpoint;
 use pz_rules::Term;
 use pz_state::Savepoint;
@@ -36,6 +36,7 @@ pub(crate) struct Begun {
 /// place of the statement: then all of it is undone. Takes no memory, and time linear in the term.
 pub(crate) fn hold(
     here: &Standpoint<'_>,
+    home: &Home<'_>,
     process: &mut Process,
     place: &[usize],
     point: Savepoint,
@@ -44,10 +45,11 @@ pub(crate) fn hold(
 ) -> Result<Begun, Trouble>
     requires may_act { MayAct (term_view process.old.term) place.now }
     requires latest { IsLatest process.old.state point }
-    ensures left { (m : ModelTree) (class : ℕ) (s : StateView) →
-        begun_process (term_view process.old.term) place.now process.old.state.held result ≡
-        and_then (process_left process.old.state.held left)
-        (settled (seen_from m here.now class s) pos (term_view process.old.term) place.now) }
+    ensures left { (s : StateView) →
+        begun_process (home_view home.now) (term_view process.old.term) place.now
+        process.old.state.held result ≡ and_then (process_left process.old.state.held left)
+        (settled_home (home_view home.now) (seen_home here.now home.now s) pos
+        (term_view process.old.term) place.now) }
     ensures state { MatchResult result (λ begun. (process.new.state ≡ process.old.state)
         × (begun.point ≡ point)) (λ trouble. process.new.state ≡ undone process.old.state) }
     ensures term { process.new.term ≡ process.old.term }
@@ -59,7 +61,7 @@ pub(crate) fn hold(
             return Err(trouble);
         }
     };
-    if stays_low(&process.term, place, &part, here.limits.height) {
+    if stays_low(home, &process.term, place, &part, here.limits.height) {
         return Ok(Begun { point, part });
     }
     process.state.undo_to(point);
@@ -81,19 +83,21 @@ pub(crate) fn withdraw(process: &mut Process, begun: Begun)
 /// What a part did stays, and the term becomes what is left of it. The only error is want of memory.
 pub(crate) fn finish(
     alloc: Global,
+    home: &Home<'_>,
     process: &mut Process,
     place: &[usize],
     begun: Begun,
 ) -> Result<(), AllocError>
     requires may_act { MayAct (term_view process.old.term) place.now }
     requires latest { IsLatest process.old.state begun.point }
-    ensures { OnOk result (Became (swept (residual 0 (term_view process.old.term) place.now
-        (left_by process.old.state.held (term_view begun.part)))) (term_view process.new.term)
-        (kept process.old.state) process.new.state) }
+    ensures { OnOk result (Became (swept (residual (home_view home.now) 0
+        (term_view process.old.term) place.now (left_by process.old.state.held
+        (term_view begun.part)))) (term_view process.new.term) (kept process.old.state)
+        process.new.state) }
 {
     let Begun { point, part } = begun;
     process.state.keep(point);
     let term = mem::replace(&mut process.term, Term::Done);
-    process.term = settle(alloc, term, place, part, &mut process.state)?;
+    process.term = settle(alloc, home, term, place, part, &mut process.state)?;
     Ok(())
 }

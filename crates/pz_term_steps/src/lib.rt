@@ -3,6 +3,7 @@
 
 mod beginning;
 mod begun;
+mod homes;
 mod stepping;
 
 pub use stepping::{elapse, step};

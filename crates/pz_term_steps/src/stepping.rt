@@ -16,6 +16,7 @@ ghost use Rattle.pz_term_steps.specs.Stepping.{reached};
 
 use crate::beginning::{begin_internal, begin_receive, begin_send};
 use crate::begun::{finish, withdraw};
+use crate::homes::home_at;
 use pz_bind::Net;
 use pz_classes::Checked;
 use pz_copy::Parcel;
@@ -58,12 +59,12 @@ fn act(
         process: at.process,
         clock,
     };
-    let class = net.class(at.process);
+    let home = home_at(checked, net, limits, at.process);
     let place = at.place.as_slice();
     let process = &mut processes[at.process as usize];
-    match begin_internal(alloc, &here, class, process, place)? {
+    match begin_internal(alloc, &here, &home, process, place)? {
         Ok(begun) => {
-            finish(alloc, process, place, begun)?;
+            finish(alloc, &home, process, place, begun)?;
             Ok(Ok(()))
         }
         Err(trouble) => Ok(Err(trouble)),
@@ -75,6 +76,7 @@ fn act(
 fn communicate(
     alloc: Global,
     checked: &Checked,
+    net: &Net,
     limits: Limits,
     clock: u128,
     processes: &mut [Process],
@@ -82,6 +84,7 @@ fn communicate(
     receiver: &End,
     parcel: &Parcel,
 ) -> Result<Result<(), Trouble>, AllocError>
+    requires of_model { ∥ IsNet (checked_model checked.now) net.now ∥₁ }
     requires pair { (number : ℕ) × (message : List ℕ)
         × IsPair (setting_of (checked_model checked.now) limits)
         (config_of clock processes.old) number sender.now receiver.now message parcel.now }
@@ -102,7 +105,8 @@ fn communicate(
         process: sender.process,
         clock,
     };
-    let sent = match begin_send(alloc, &here, &mut processes[from], sends_at)? {
+    let sends_home = home_at(checked, net, limits, sender.process);
+    let sent = match begin_send(alloc, &here, &sends_home, &mut processes[from], sends_at)? {
         Ok(sent) => sent,
         Err(trouble) => return Ok(Err(trouble)),
     };
@@ -110,10 +114,11 @@ fn communicate(
         process: receiver.process,
         ..here
     };
-    match begin_receive(alloc, &there, &mut processes[to], receives_at, parcel)? {
+    let home = home_at(checked, net, limits, receiver.process);
+    match begin_receive(alloc, &there, &home, &mut processes[to], receives_at, parcel)? {
         Ok(taken) => {
-            finish(alloc, &mut processes[from], sends_at, sent)?;
-            finish(alloc, &mut processes[to], receives_at, taken)?;
+            finish(alloc, &sends_home, &mut processes[from], sends_at, sent)?;
+            finish(alloc, &home, &mut processes[to], receives_at, taken)?;
             Ok(Ok(()))
         }
         Err(trouble) => {
@@ -157,7 +162,7 @@ pub fn step(
             parcel,
             ..
         } => communicate(
-            alloc, checked, limits, clock, processes, sender, receiver, parcel,
+            alloc, checked, net, limits, clock, processes, sender, receiver, parcel,
         ),
     }
 }

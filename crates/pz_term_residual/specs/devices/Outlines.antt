@@ -3,10 +3,9 @@ use Rattle.std.specs.Prelude.{◌≡◌, ℕ, suc, false}
 use Rattle.pz_state.specs.States.{StateView}
 use Rattle.pz_offer.specs.PlaceOrder.{Place}
 use Rattle.pz_rules.specs.Terms.{Term, height}
-use Rattle.pz_rules.specs.Leaving.{is_done}
-use Rattle.pz_rules.specs.Settings.{left_by}
-use Rattle.pz_rules.specs.devices.Plainly.{plainly_around as around, plainly_residual as residual}
-use Rattle.pz_term_around.specs.Bare.{is_bare}
+use Rattle.pz_rules.specs.Leaving.{is_done, around, residual}
+use Rattle.pz_rules.specs.Settings.{left_by, Home}
+use Rattle.pz_part_opening.specs.Bare.{is_bare}
 use Rattle.pz_term_residual.specs.declared.outline.Outline.{Outline}
 use Rattle.pz_term_residual.specs.devices.Capped.{capped}
 
@@ -21,9 +20,9 @@ pub record IsAbove (t : Term) (part : ℕ) : Type 0 where
 
 -- Where the child of this number has become one of the first outline, the term becomes one of the
 -- second.
-abbrev pub IsRound : Outline → Term → ℕ → Outline → Type 0
-IsRound left t i result = (f : ℕ) (s : StateView) (x : Term) → left ≡ outline x → result ≡ outline (around f s t i x).term
+abbrev pub IsRound : Home → Outline → Term → ℕ → Outline → Type 0
+IsRound h left t i result = (f : ℕ) (s : StateView) (x : Term) → left ≡ outline x → result ≡ outline (around h f s t i x).term
 
 -- the same for the part at a place
-abbrev pub IsLeft : Outline → Term → Place → Outline → Type 0
-IsLeft part t place result = (f : ℕ) (s : StateView) (x : Term) → part ≡ outline x → result ≡ outline (residual f t place (left_by s x)).term
+abbrev pub IsLeft : Home → Outline → Term → Place → Outline → Type 0
+IsLeft h part t place result = (f : ℕ) (s : StateView) (x : Term) → part ≡ outline x → result ≡ outline (residual h f t place (left_by s x)).term

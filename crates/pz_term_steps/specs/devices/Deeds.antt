@@ -1,6 +1,7 @@
 -- What a part does and leaves, of its process alone.
 use Rattle.std.specs.Prelude.{◌≡◌, ℕ, List, ◌∷◌, Result, Ok, Err}
 use Rattle.pz_syntax.specs.declared.tokens.Pos.{Pos}
+use Rattle.pz_syntax.specs.Classes.{ModelTree}
 use Rattle.pz_copy.specs.Parcels.{ParcelView}
 use Rattle.pz_state.specs.States.{StateView}
 use Rattle.pz_state.specs.Marks.{Seen}
@@ -8,11 +9,13 @@ use Rattle.pz_offer.specs.PlaceOrder.{Place}
 use Rattle.pz_offer.specs.declared.trouble.Trouble.{Trouble}
 use Rattle.pz_rules.specs.declared.action.Kind.{Kind}
 use Rattle.pz_rules.specs.Terms.{Term}
-use Rattle.pz_rules.specs.Settings.{Setting, Process, Context, left_by}
+use Rattle.pz_bind_levels.specs.Places.{Address}
+use Rattle.pz_bind.specs.Nest.{class_at}
+use Rattle.pz_rules.specs.declared.limits.Limits.{Limits}
+use Rattle.pz_rules.specs.Settings.{Setting, Process, Context, left_by, Home}
 use Rattle.pz_rules.specs.Active.{IsActive}
 use Rattle.pz_rules.specs.InternalActions.{Can}
-use Rattle.pz_rules.specs.Leaving.{swept, settled}
-use Rattle.pz_rules.specs.devices.Plainly.{plainly_residual as residual}
+use Rattle.pz_rules.specs.Leaving.{residual, swept, not_too_high, settled}
 use Rattle.pz_rules.specs.Meanings.{and_then}
 use Rattle.pz_rules.specs.Messages.{Sends, Receives}
 use Rattle.pz_rules.specs.Steps.{Deed}
@@ -23,6 +26,10 @@ use Rattle.pz_term_steps.specs.declared.begun.Begun.{Begun}
 -- process i of this class, as its statements see it
 abbrev pub seen_at : Setting → ℕ → ℕ → ℕ → StateView → Context
 seen_at setting i class clock s = record { setting = setting; process = i; class = class; clock = clock; state = s }
+
+-- where the statements of the process at this place of the model open
+abbrev pub home_there : ModelTree → Limits → Address → Home
+home_there m limits place = record { model = m; edition = limits.edition; class = class_at m place }
 
 -- What a part can do, with the place of its statement: act by itself, send this parcel, receive.
 abbrev pub Ability : Type 1
@@ -51,10 +58,14 @@ pub record Leaves (a : Context) (does : Deed) (t : Term) (place : Place) (result
   pub acts : does a frame part pos left
   pub leaves : result ≡ and_then left (settled a pos t place)
 
+-- the whole process at home, when the part at the place has become this
+abbrev pub settled_home : Home → Context → Pos → Term → Place → Process → Result Process Trouble
+settled_home h a at whole place x = not_too_high a at (swept (residual h 0 whole place x))
+
 -- the process in this state, once the part at the place has become what it is now
-abbrev pub begun_process : Term → Place → StateView → Result Begun Trouble → Result Process Trouble
-begun_process t place s (Ok begun) = Ok (swept (residual 0 t place (left_by s (term_view begun.part))))
-begun_process t place s (Err trouble) = Err trouble
+abbrev pub begun_process : Home → Term → Place → StateView → Result Begun Trouble → Result Process Trouble
+begun_process h t place s (Ok begun) = Ok (swept (residual h 0 t place (left_by s (term_view begun.part))))
+begun_process h t place s (Err trouble) = Err trouble
 
 -- its mark is open, at the state as it was; at a trouble all is as it was
 abbrev pub IsBegun : Seen → Seen → Result Begun Trouble → Type 0

@@ -1,9 +1,10 @@
-use Rattle.std.proofs.Common.{◌∙◌}
-use Rattle.pz_classes_code.specs.StepView.{view, sequence_view}
-use Rattle.pz_part_opening.proofs.Within.{bracket_ends}
+use Rattle.std.proofs.Common.{◌∙◌, sym, ap}
+use Rattle.pz_classes_code.specs.StepView.{view}
+use Rattle.pz_rules.specs.Settings.{Process}
+use Rattle.pz_rules.specs.Leaving.{is_done}
+use Rattle.pz_rules.proofs.Plain.{opens_plainly}
+use Rattle.pz_part_opening.specs.Homes.{home_view}
 use Rattle.pz_part_opening.proofs.heights.opens_done.Goals as goal
 
-pub returns-in-Some : goal.returns-in-Some
-returns-in-Some c =
-    bracket_ends (view c.args.step.now) c.args.step.now.pos (sequence_view c.in-Some.steps.now) c.inside.result.now c.as_slice.result.now c.is_empty.result c.in-Some.ensures
-    c.inside.ensures.opened c.inside.ensures.stands (c.as_slice.ensures ∙ c.get.ensures) c.is_empty.ensures
+pub returns : goal.returns
+returns c = λ s. c.plain_done.ensures ∙ ap (λ (p : Process). is_done p.term) (sym (opens_plainly (home_view c.args.home.now) (view c.args.step.now) s))

@@ -11,8 +11,8 @@ use Rattle.pz_part_opening.proofs.opening.open_term.Goals as goal
 
 pub returns-clause-opened : goal.returns-clause-opened
 returns-clause-opened c =
-    IfOk-weaker c.open_all.result _ _
+    IfOk-weaker c.plain_all.result _ _
     (λ term is.
     all_became (home_in (checked_model c.args.checked.now) c.args.class c.args.limits) (sequence_view c.args.steps.now) (term_view term) c.args.state.now
     (is ∙ ap (λ (xs : List Step). plainly_all (sequence_view xs)) c.in_ok-steps.ensures))
-    c.open_all.ensures
+    c.plain_all.ensures

@@ -7,7 +7,7 @@ use Rattle.pz_term_around.proofs.Levels.{frame_ends}
 use Rattle.pz_term_around.proofs.around.in_frame.Goals as goal
 
 pub returns-then-is_done : goal.returns-then-is_done
-returns-then-is_done c =
-    frame_ends c.args.outer.0 c.args.frame.0 c.args.inputs c.args.results c.args.left c.in_ok-outputs.outputs.items c.args.state.now c.set_slots.new.state c.is_done.result c.is_done.ensures c.if-is_done.true
+returns-then-is_done c = λ home.
+    frame_ends home c.args.outer.0 c.args.frame.0 c.args.inputs c.args.results c.args.left c.in_ok-outputs.outputs.items c.args.state.now c.set_slots.new.state c.is_done.result c.is_done.ensures c.if-is_done.true
     (c.in_ok-outputs.ensures.values ∙ ap (λ (n : ℕ). take n (drop c.args.inputs (locals c.args.state.now.held c.args.frame.0))) (c.len.ensures ∙ ap (λ (xs : List Slot). length xs) c.get.ensures))
     (c.in_ok-set_slots.ensures.ok ∙ ap (λ (xs : List Slot). changed c.args.state.now (set_slots c.args.outer.0 xs c.in_ok-outputs.outputs.items c.args.state.now.held)) (c.as_slice.ensures ∙ c.get-then-is_done.ensures))

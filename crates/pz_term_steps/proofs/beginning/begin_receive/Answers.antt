@@ -1,42 +1,45 @@
 use Rattle.std.proofs.Common.{◌∙◌, ap, Result}
 use Rattle.pz_offer.specs.declared.trouble.Trouble.{Trouble}
 use Rattle.pz_rules.specs.Settings.{Process}
-use Rattle.pz_rules.specs.devices.Plainly.{plainly_settled as settled}
 use Rattle.pz_rules.specs.Meanings.{and_then}
 use Rattle.pz_rules.specs.Messages.{Takes}
 use Rattle.pz_rules.specs.View.{term_view}
-use Rattle.pz_part_queries.specs.Standpoints.{seen_from}
+use Rattle.pz_classes.specs.CheckedView.{checked_model}
+use Rattle.pz_part_opening.specs.Homes.{home_view}
+use Rattle.pz_part_actions.specs.Homes.{seen_home}
+use Rattle.pz_part_actions.proofs.Becomings.{home_is}
 use Rattle.pz_rules.specs.Acting.{IsReceive}
 use Rattle.pz_part_actions.specs.Becoming.{done_left}
-use Rattle.pz_term_steps.specs.devices.Deeds.{CanReceive}
+use Rattle.pz_term_steps.specs.devices.Deeds.{CanReceive, settled_home}
 use Rattle.pz_term_steps.proofs.Statements.{receiving_place}
 use Rattle.pz_term_steps.proofs.Marked.{known_is, may_act, part_is, place_is, leaves_begun}
 use Rattle.pz_term_steps.proofs.beginning.begin_receive.Goals as goal
 
 pub part_at-requires : goal.part_at-requires
 part_at-requires c =
-    may_act CanReceive (seen_from c.requires.can.0 c.args.here.now c.requires.can.1 c.args.process.now.state.held) (term_view c.args.process.now.term) c.args.place.now c.requires.can.3 c.active_parts_may_act.ensures.law
+    may_act CanReceive (seen_home c.args.here.now c.args.home.now c.args.process.now.state.held) (term_view c.args.process.now.term) c.args.place.now c.requires.can c.active_parts_may_act.ensures.law
 
 pub pos_of-pos-requires : goal.pos_of-pos-requires
 pos_of-pos-requires c =
-    place_is CanReceive (seen_from c.requires.can.0 c.args.here.now c.requires.can.1 c.args.process.now.state.held) (term_view c.args.process.now.term) c.args.place.now c.requires.can.3
+    place_is CanReceive (seen_home c.args.here.now c.args.home.now c.args.process.now.state.held) (term_view c.args.process.now.term) c.args.place.now c.requires.can
     c.part_at.result.0.0 (term_view c.part_at.result.1.now) c.part_at.ensures (λ f x pos can. receiving_place x pos can.0 can.1 can.2 can.3)
 
 pub take-requires-clause-receives : goal.take-requires-clause-receives
 take-requires-clause-receives c =
-    part_is CanReceive (seen_from c.requires.can.0 c.args.here.now c.requires.can.1 c.args.process.now.state.held) (term_view c.args.process.now.term) c.args.place.now c.requires.can.3
+    part_is CanReceive (seen_home c.args.here.now c.args.home.now c.args.process.now.state.held) (term_view c.args.process.now.term) c.args.place.now c.requires.can
     c.part_at.result.0.0 (term_view c.part_at.result.1.now) c.part_at.ensures (λ pos x. IsReceive x) (λ f x pos can. c.offered_parts_act.ensures.receives x pos can.0 can.1 can.2 can.3)
 
 pub take-requires-clause-known : goal.take-requires-clause-known
-take-requires-clause-known c = known_is c.requires.can.0 c.args.here.now c.requires.can.2
+take-requires-clause-known c = known_is (checked_model c.args.home.now.checked.now) c.args.here.now c.requires.knows
 
 pub returns-clause-leaves : goal.returns-clause-leaves
-returns-clause-leaves c = λ m class known.
-    let a = seen_from m c.args.here.now class c.args.process.now.state.held in
-    leaves_begun CanReceive (λ a f. Takes a f c.args.parcel.now) (λ a f x pos can. receiving_place x pos can.0 can.1 can.2 can.3) m c.args.here.now class (term_view c.args.process.now.term) c.args.place.now
+returns-clause-leaves c =
+    let a = seen_home c.args.here.now c.args.home.now c.args.process.now.state.held in
+    leaves_begun CanReceive (λ a f. Takes a f c.args.parcel.now) (λ a f x pos can. receiving_place x pos can.0 can.1 can.2 can.3) (checked_model c.args.home.now.checked.now) c.args.here.now c.args.home.now.class.0 (term_view c.args.process.now.term) c.args.place.now
     c.args.process.now.state c.mark.new.self c.take.new.state c.hold.new.process.state c.in_ok-point.point c.part_at.result.0.0 (term_view c.part_at.result.1.now) c.pos_of-pos.result
     (done_left c.take.new.state.held c.in_ok-left.left) c.hold.result
-    c.in_ok-point.ensures.ok c.part_at.ensures c.pos_of-pos.ensures (λ pos can. c.in_ok-left.ensures.takes m class pos can.0 can.1 can.2 known can.3)
-    (c.hold.ensures.left m class c.args.process.now.state.held
-    ∙ ap (λ (r : Result Process Trouble). and_then r (settled a c.pos_of-pos.result (term_view c.args.process.now.term) c.args.place.now)) (c.done_by.ensures c.take.new.state.held))
+    (home_view c.args.home.now) (home_is c.args.here.now c.args.home.now c.args.process.now.state.held c.requires.edition)
+    c.in_ok-point.ensures.ok c.part_at.ensures c.pos_of-pos.ensures (λ pos can. c.in_ok-left.ensures.takes (checked_model c.args.home.now.checked.now) c.args.home.now.class.0 pos can.0 can.1 can.2 c.requires.knows can.3)
+    (c.hold.ensures.left c.args.process.now.state.held
+    ∙ ap (λ (r : Result Process Trouble). and_then r (settled_home (home_view c.args.home.now) a c.pos_of-pos.result (term_view c.args.process.now.term) c.args.place.now)) (c.done_by.ensures c.take.new.state.held))
     c.hold.ensures.state

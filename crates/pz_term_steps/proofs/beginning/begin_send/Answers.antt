@@ -1,42 +1,45 @@
 use Rattle.std.proofs.Common.{◌∙◌, ap, Result}
 use Rattle.pz_offer.specs.declared.trouble.Trouble.{Trouble}
 use Rattle.pz_rules.specs.Settings.{Process}
-use Rattle.pz_rules.specs.devices.Plainly.{plainly_settled as settled}
 use Rattle.pz_rules.specs.Meanings.{and_then}
 use Rattle.pz_rules.specs.Messages.{Hands}
 use Rattle.pz_rules.specs.View.{term_view}
-use Rattle.pz_part_queries.specs.Standpoints.{seen_from}
+use Rattle.pz_classes.specs.CheckedView.{checked_model}
+use Rattle.pz_part_opening.specs.Homes.{home_view}
+use Rattle.pz_part_actions.specs.Homes.{seen_home}
+use Rattle.pz_part_actions.proofs.Becomings.{home_is}
 use Rattle.pz_rules.specs.Acting.{IsSend}
 use Rattle.pz_part_actions.specs.Becoming.{done_left}
-use Rattle.pz_term_steps.specs.devices.Deeds.{CanSend}
+use Rattle.pz_term_steps.specs.devices.Deeds.{CanSend, settled_home}
 use Rattle.pz_term_steps.proofs.Statements.{sending_place}
 use Rattle.pz_term_steps.proofs.Marked.{known_is, may_act, part_is, place_is, leaves_begun}
 use Rattle.pz_term_steps.proofs.beginning.begin_send.Goals as goal
 
 pub part_at-requires : goal.part_at-requires
 part_at-requires c =
-    may_act (CanSend c.requires.can.2) (seen_from c.requires.can.0 c.args.here.now c.requires.can.1 c.args.process.now.state.held) (term_view c.args.process.now.term) c.args.place.now c.requires.can.4 c.active_parts_may_act.ensures.law
+    may_act (CanSend c.requires.can.0) (seen_home c.args.here.now c.args.home.now c.args.process.now.state.held) (term_view c.args.process.now.term) c.args.place.now c.requires.can.1 c.active_parts_may_act.ensures.law
 
 pub pos_of-pos-requires : goal.pos_of-pos-requires
 pos_of-pos-requires c =
-    place_is (CanSend c.requires.can.2) (seen_from c.requires.can.0 c.args.here.now c.requires.can.1 c.args.process.now.state.held) (term_view c.args.process.now.term) c.args.place.now c.requires.can.4
-    c.part_at.result.0.0 (term_view c.part_at.result.1.now) c.part_at.ensures (λ f x pos can. sending_place _ f x pos can.0 can.1 c.requires.can.2 can.2)
+    place_is (CanSend c.requires.can.0) (seen_home c.args.here.now c.args.home.now c.args.process.now.state.held) (term_view c.args.process.now.term) c.args.place.now c.requires.can.1
+    c.part_at.result.0.0 (term_view c.part_at.result.1.now) c.part_at.ensures (λ f x pos can. sending_place _ f x pos can.0 can.1 c.requires.can.0 can.2)
 
 pub hand-requires-clause-sends : goal.hand-requires-clause-sends
 hand-requires-clause-sends c =
-    part_is (CanSend c.requires.can.2) (seen_from c.requires.can.0 c.args.here.now c.requires.can.1 c.args.process.now.state.held) (term_view c.args.process.now.term) c.args.place.now c.requires.can.4
-    c.part_at.result.0.0 (term_view c.part_at.result.1.now) c.part_at.ensures (λ pos x. IsSend x) (λ f x pos can. c.offered_parts_act.ensures.sends _ f x pos can.0 can.1 c.requires.can.2 can.2)
+    part_is (CanSend c.requires.can.0) (seen_home c.args.here.now c.args.home.now c.args.process.now.state.held) (term_view c.args.process.now.term) c.args.place.now c.requires.can.1
+    c.part_at.result.0.0 (term_view c.part_at.result.1.now) c.part_at.ensures (λ pos x. IsSend x) (λ f x pos can. c.offered_parts_act.ensures.sends _ f x pos can.0 can.1 c.requires.can.0 can.2)
 
 pub hand-requires-clause-known : goal.hand-requires-clause-known
-hand-requires-clause-known c = known_is c.requires.can.0 c.args.here.now c.requires.can.3
+hand-requires-clause-known c = known_is (checked_model c.args.home.now.checked.now) c.args.here.now c.requires.knows
 
 pub returns-clause-leaves : goal.returns-clause-leaves
-returns-clause-leaves c = λ m class parcel known.
-    let a = seen_from m c.args.here.now class c.args.process.now.state.held in
-    leaves_begun (CanSend parcel) (λ a f. Hands a f parcel) (λ a f x pos can. sending_place a f x pos can.0 can.1 parcel can.2) m c.args.here.now class (term_view c.args.process.now.term) c.args.place.now
+returns-clause-leaves c = λ parcel.
+    let a = seen_home c.args.here.now c.args.home.now c.args.process.now.state.held in
+    leaves_begun (CanSend parcel) (λ a f. Hands a f parcel) (λ a f x pos can. sending_place a f x pos can.0 can.1 parcel can.2) (checked_model c.args.home.now.checked.now) c.args.here.now c.args.home.now.class.0 (term_view c.args.process.now.term) c.args.place.now
     c.args.process.now.state c.mark.new.self c.hand.new.state c.hold.new.process.state c.in_ok-point.point c.part_at.result.0.0 (term_view c.part_at.result.1.now) c.pos_of-pos.result
     (done_left c.hand.new.state.held c.in_ok-left.left) c.hold.result
-    c.in_ok-point.ensures.ok c.part_at.ensures c.pos_of-pos.ensures (λ pos can. c.in_ok-left.ensures.hands m class pos can.0 can.1 parcel known can.2)
-    (c.hold.ensures.left m class c.args.process.now.state.held
-    ∙ ap (λ (r : Result Process Trouble). and_then r (settled a c.pos_of-pos.result (term_view c.args.process.now.term) c.args.place.now)) (c.done_by.ensures c.hand.new.state.held))
+    (home_view c.args.home.now) (home_is c.args.here.now c.args.home.now c.args.process.now.state.held c.requires.edition)
+    c.in_ok-point.ensures.ok c.part_at.ensures c.pos_of-pos.ensures (λ pos can. c.in_ok-left.ensures.hands (checked_model c.args.home.now.checked.now) c.args.home.now.class.0 pos can.0 can.1 parcel c.requires.knows can.2)
+    (c.hold.ensures.left c.args.process.now.state.held
+    ∙ ap (λ (r : Result Process Trouble). and_then r (settled_home (home_view c.args.home.now) a c.pos_of-pos.result (term_view c.args.process.now.term) c.args.place.now)) (c.done_by.ensures c.hand.new.state.held))
     c.hold.ensures.state

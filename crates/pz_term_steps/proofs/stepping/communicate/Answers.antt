@@ -4,15 +4,16 @@ use Rattle.std.proofs.lemmas.Option.{slice_get-get_or}
 use Rattle.pz_classes.specs.CheckedView.{checked_model}
 use Rattle.pz_state.specs.Marks.{IsLatest, undone}
 use Rattle.pz_bind.specs.Nest.{class_at}
-use Rattle.pz_rules.specs.Leaving.{swept}
+use Rattle.pz_rules.specs.Leaving.{residual, swept}
 use Rattle.pz_rules.specs.Settings.{left_by}
-use Rattle.pz_rules.specs.devices.Plainly.{plainly_residual as residual}
 use Rattle.pz_rules.specs.Messages.{Hands, Takes}
 use Rattle.pz_rules.specs.View.{term_view}
 use Rattle.pz_term_processes.specs.declared.process.Process.{Process}
 use Rattle.pz_term_processes.specs.Standing.{setting_of, process_view}
-use Rattle.pz_term_steps.specs.devices.Deeds.{CanSend, CanReceive, seen_at}
+use Rattle.pz_part_opening.specs.Homes.{home_view}
+use Rattle.pz_term_steps.specs.devices.Deeds.{CanSend, CanReceive, begun_process, seen_at}
 use Rattle.pz_term_steps.proofs.Lists.{get_other, set_back, set_within, first_still, second_still, both_back}
+use Rattle.pz_term_steps.proofs.Homes.{net_has, edition_there, knows_there, can_there, leaves_there}
 use Rattle.pz_term_steps.proofs.Marked.{may_act}
 use Rattle.pz_term_steps.proofs.Finished.{process_is, begun_latest, begun_undone, begun_trouble, acts_still, leaves_so_far, leaves_finished, leaves_trouble, acts_at}
 use Rattle.pz_term_steps.proofs.Nexts.{talk, communicated, sender_trouble, receiver_trouble}
@@ -32,10 +33,12 @@ returns-in-Err-clause-steps c =
     let seen_p = seen_at setting i class_p c.args.clock p.state.held in
     let place_p = c.as_slice-sends_at.result.now in
     let can_send = t.sends.able p at_p class_p refl place_p c.as_slice-sends_at.ensures in
-    let leaves_p = c.in_ok-sent.ensures.leaves setting.model class_p c.args.parcel.now c.classes.ensures.tabled can_send in
+    let home_p = home_view c.home_at-sends_home.result in
+    let leaves_p = leaves_there setting.model c.args.limits (record { classes = c.classes.result; limits = c.args.limits; process = c.args.sender.now.process; clock = c.args.clock }) c.home_at-sends_home.result t.sends.home (c.home_at-sends_home.ensures.home t.sends.home t.sends.at_home) (λ a f. Hands a f c.args.parcel.now) p.state.held (term_view p.term) place_p (begun_process home_p (term_view p.term) place_p p1.state.held c.in_ok-sent.field-0)
+        (c.in_ok-sent.ensures.leaves c.args.parcel.now (can_there setting.model c.args.limits (record { classes = c.classes.result; limits = c.args.limits; process = c.args.sender.now.process; clock = c.args.clock }) c.home_at-sends_home.result t.sends.home (c.home_at-sends_home.ensures.home t.sends.home t.sends.at_home) (CanSend c.args.parcel.now) p.state.held (term_view p.term) place_p can_send)) in
     sender_trouble setting c.args.clock ps c.args.sender.now c.args.receiver.now c.args.parcel.now c.each_list_has_an_outcome.ensures.law c.requires.pair c.in-Err.trouble
     (acts_at setting c.args.clock ps c.args.sender.now (CanSend c.args.parcel.now) t.sends p at_p (λ a f. Hands a f c.args.parcel.now) class_p refl place_p c.as_slice-sends_at.ensures (Err c.in-Err.trouble)
-    (leaves_trouble seen_p (λ a f. Hands a f c.args.parcel.now) p p1 place_p c.in_ok-sent.field-0 leaves_p c.in-Err.trouble c.in-Err.is))
+    (leaves_trouble home_p seen_p (λ a f. Hands a f c.args.parcel.now) p p1 place_p c.in_ok-sent.field-0 leaves_p c.in-Err.trouble c.in-Err.is))
 
 pub returns-in-Err-clause-stays : goal.returns-in-Err-clause-stays
 returns-in-Err-clause-stays c =
@@ -60,8 +63,61 @@ bounds-processes-to c =
     let j = c.args.receiver.now.process in
     set_within ps i c.begin_send.new.process j t.receives.within
 
-pub begin_receive-requires : goal.begin_receive-requires
-begin_receive-requires c =
+pub home_at-sends_home-requires-clause-there : goal.home_at-sends_home-requires-clause-there
+home_at-sends_home-requires-clause-there c =
+    let setting = setting_of (checked_model c.args.checked.now) c.args.limits in
+    let ps = c.args.processes.now in
+    let t = talk setting c.args.clock ps c.args.sender.now c.args.receiver.now c.args.parcel.now c.requires.pair in
+    net_has setting.model c.args.net.now c.args.sender.now.process t.sends.home c.requires.of_model t.sends.at_home
+
+pub home_at-home-requires-clause-there : goal.home_at-home-requires-clause-there
+home_at-home-requires-clause-there c =
+    let setting = setting_of (checked_model c.args.checked.now) c.args.limits in
+    let ps = c.args.processes.now in
+    let t = talk setting c.args.clock ps c.args.sender.now c.args.receiver.now c.args.parcel.now c.requires.pair in
+    net_has setting.model c.args.net.now c.args.receiver.now.process t.receives.home c.requires.of_model t.receives.at_home
+
+pub begin_send-requires-clause-knows : goal.begin_send-requires-clause-knows
+begin_send-requires-clause-knows c =
+    let setting = setting_of (checked_model c.args.checked.now) c.args.limits in
+    let ps = c.args.processes.now in
+    let t = talk setting c.args.clock ps c.args.sender.now c.args.receiver.now c.args.parcel.now c.requires.pair in
+    knows_there setting.model c.args.limits (record { classes = c.classes.result; limits = c.args.limits; process = c.args.sender.now.process; clock = c.args.clock }) c.home_at-sends_home.result t.sends.home (c.home_at-sends_home.ensures.home t.sends.home t.sends.at_home) c.classes.ensures.tabled
+
+pub begin_send-requires-clause-edition : goal.begin_send-requires-clause-edition
+begin_send-requires-clause-edition c =
+    let setting = setting_of (checked_model c.args.checked.now) c.args.limits in
+    let ps = c.args.processes.now in
+    let t = talk setting c.args.clock ps c.args.sender.now c.args.receiver.now c.args.parcel.now c.requires.pair in
+    edition_there setting.model c.args.limits (record { classes = c.classes.result; limits = c.args.limits; process = c.args.sender.now.process; clock = c.args.clock }) c.home_at-sends_home.result t.sends.home (c.home_at-sends_home.ensures.home t.sends.home t.sends.at_home)
+
+pub begin_send-requires-clause-can : goal.begin_send-requires-clause-can
+begin_send-requires-clause-can c =
+    let setting = setting_of (checked_model c.args.checked.now) c.args.limits in
+    let ps = c.args.processes.now in
+    let t = talk setting c.args.clock ps c.args.sender.now c.args.receiver.now c.args.parcel.now c.requires.pair in
+    let i = c.args.sender.now.process in
+    let p = slice_index_or ps i c.index-processes-from.result in
+    let at_p = slice_get-get_or ps i c.index-processes-from.result t.sends.within in
+    let place_p = c.as_slice-sends_at.result.now in
+    (c.args.parcel.now, can_there setting.model c.args.limits (record { classes = c.classes.result; limits = c.args.limits; process = c.args.sender.now.process; clock = c.args.clock }) c.home_at-sends_home.result t.sends.home (c.home_at-sends_home.ensures.home t.sends.home t.sends.at_home) (CanSend c.args.parcel.now) p.state.held (term_view p.term) place_p (t.sends.able p at_p (class_at setting.model t.sends.home) refl place_p c.as_slice-sends_at.ensures))
+
+pub begin_receive-requires-clause-knows : goal.begin_receive-requires-clause-knows
+begin_receive-requires-clause-knows c =
+    let setting = setting_of (checked_model c.args.checked.now) c.args.limits in
+    let ps = c.args.processes.now in
+    let t = talk setting c.args.clock ps c.args.sender.now c.args.receiver.now c.args.parcel.now c.requires.pair in
+    knows_there setting.model c.args.limits (record { classes = c.classes.result; limits = c.args.limits; process = c.args.receiver.now.process; clock = c.args.clock }) c.home_at-home.result t.receives.home (c.home_at-home.ensures.home t.receives.home t.receives.at_home) c.classes.ensures.tabled
+
+pub begin_receive-requires-clause-edition : goal.begin_receive-requires-clause-edition
+begin_receive-requires-clause-edition c =
+    let setting = setting_of (checked_model c.args.checked.now) c.args.limits in
+    let ps = c.args.processes.now in
+    let t = talk setting c.args.clock ps c.args.sender.now c.args.receiver.now c.args.parcel.now c.requires.pair in
+    edition_there setting.model c.args.limits (record { classes = c.classes.result; limits = c.args.limits; process = c.args.receiver.now.process; clock = c.args.clock }) c.home_at-home.result t.receives.home (c.home_at-home.ensures.home t.receives.home t.receives.at_home)
+
+pub begin_receive-requires-clause-can : goal.begin_receive-requires-clause-can
+begin_receive-requires-clause-can c =
     let setting = setting_of (checked_model c.args.checked.now) c.args.limits in
     let ps = c.args.processes.now in
     let t = talk setting c.args.clock ps c.args.sender.now c.args.receiver.now c.args.parcel.now c.requires.pair in
@@ -77,7 +133,7 @@ begin_receive-requires c =
     let seen_q = seen_at setting j class_q c.args.clock q.state.held in
     let place_q = c.as_slice-receives_at.result.now in
     let can_receive = t.receives.able q at_q class_q refl place_q c.as_slice-receives_at.ensures in
-    record { can = (setting.model, class_q, c.classes.ensures.tabled, can_receive) }
+    can_there setting.model c.args.limits (record { classes = c.classes.result; limits = c.args.limits; process = c.args.receiver.now.process; clock = c.args.clock }) c.home_at-home.result t.receives.home (c.home_at-home.ensures.home t.receives.home t.receives.at_home) CanReceive q.state.held (term_view q.term) place_q can_receive
 
 pub bounds-processes-from-in-Ok-2 : goal.bounds-processes-from-in-Ok-2
 bounds-processes-from-in-Ok-2 c =
@@ -229,7 +285,9 @@ returns-in_ok-finish-in-Ok-2-2-clause-steps c =
     let seen_p = seen_at setting i class_p c.args.clock p.state.held in
     let place_p = c.as_slice-sends_at.result.now in
     let can_send = t.sends.able p at_p class_p refl place_p c.as_slice-sends_at.ensures in
-    let leaves_p = c.in_ok-sent.ensures.leaves setting.model class_p c.args.parcel.now c.classes.ensures.tabled can_send in
+    let home_p = home_view c.home_at-sends_home.result in
+    let leaves_p = leaves_there setting.model c.args.limits (record { classes = c.classes.result; limits = c.args.limits; process = c.args.sender.now.process; clock = c.args.clock }) c.home_at-sends_home.result t.sends.home (c.home_at-sends_home.ensures.home t.sends.home t.sends.at_home) (λ a f. Hands a f c.args.parcel.now) p.state.held (term_view p.term) place_p (begun_process home_p (term_view p.term) place_p p1.state.held c.in_ok-sent.field-0)
+        (c.in_ok-sent.ensures.leaves c.args.parcel.now (can_there setting.model c.args.limits (record { classes = c.classes.result; limits = c.args.limits; process = c.args.sender.now.process; clock = c.args.clock }) c.home_at-sends_home.result t.sends.home (c.home_at-sends_home.ensures.home t.sends.home t.sends.at_home) (CanSend c.args.parcel.now) p.state.held (term_view p.term) place_p can_send)) in
     let ps1 = slice_set ps i p1 in
     let q = slice_index_or ps1 j c.index-processes-to.result in
     let at_q = sym (get_other ps i j p1 t.apart) ∙ slice_get-get_or ps1 j c.index-processes-to.result (set_within ps i p1 j t.receives.within) in
@@ -238,7 +296,9 @@ returns-in_ok-finish-in-Ok-2-2-clause-steps c =
     let place_q = c.as_slice-receives_at.result.now in
     let can_receive = t.receives.able q at_q class_q refl place_q c.as_slice-receives_at.ensures in
     let q1 = c.begin_receive.new.process in
-    let leaves_q = c.in_ok-taken.ensures.leaves setting.model class_q c.classes.ensures.tabled can_receive in
+    let home_q = home_view c.home_at-home.result in
+    let leaves_q = leaves_there setting.model c.args.limits (record { classes = c.classes.result; limits = c.args.limits; process = c.args.receiver.now.process; clock = c.args.clock }) c.home_at-home.result t.receives.home (c.home_at-home.ensures.home t.receives.home t.receives.at_home) (λ a f. Takes a f c.args.parcel.now) q.state.held (term_view q.term) place_q (begun_process home_q (term_view q.term) place_q q1.state.held c.in_ok-taken.field-0)
+        c.in_ok-taken.ensures.leaves in
     let now_p = slice_index_or (slice_set ps1 j q1) i c.index-processes-from-in-Ok-2.result in
     let still_p = first_still ps i j p1 q1 c.index-processes-from-in-Ok-2.result t.apart t.sends.within in
     let p2 = c.finish.new.process in
@@ -247,9 +307,9 @@ returns-in_ok-finish-in-Ok-2-2-clause-steps c =
     let q2 = c.finish-in-Ok-2.new.process in
     communicated setting c.args.clock ps c.args.sender.now c.args.receiver.now c.args.parcel.now p1 q1 p2 q2 t.apart
     (acts_at setting c.args.clock ps c.args.sender.now (CanSend c.args.parcel.now) t.sends p at_p (λ a f. Hands a f c.args.parcel.now) class_p refl place_p c.as_slice-sends_at.ensures (Ok (process_view p2))
-    (leaves_finished seen_p (λ a f. Hands a f c.args.parcel.now) p p1 place_p c.in_ok-sent.field-0 leaves_p c.in-Ok.sent now_p p2 c.in-Ok.is still_p c.begin_send.ensures.term c.in_ok-finish-in-Ok-2.ensures))
+    (leaves_finished home_p seen_p (λ a f. Hands a f c.args.parcel.now) p p1 place_p c.in_ok-sent.field-0 leaves_p c.in-Ok.sent now_p p2 c.in-Ok.is still_p c.begin_send.ensures.term c.in_ok-finish-in-Ok-2.ensures))
     (acts_at setting c.args.clock ps c.args.receiver.now CanReceive t.receives q at_q (λ a f. Takes a f c.args.parcel.now) class_q refl place_q c.as_slice-receives_at.ensures (Ok (process_view q2))
-    (leaves_finished seen_q (λ a f. Takes a f c.args.parcel.now) q q1 place_q c.in_ok-taken.field-0 leaves_q c.in-Ok-2.taken now_q q2 c.in-Ok-2.is still_q c.begin_receive.ensures.term c.in_ok-finish-in-Ok-2-2.ensures))
+    (leaves_finished home_q seen_q (λ a f. Takes a f c.args.parcel.now) q q1 place_q c.in_ok-taken.field-0 leaves_q c.in-Ok-2.taken now_q q2 c.in-Ok-2.is still_q c.begin_receive.ensures.term c.in_ok-finish-in-Ok-2-2.ensures))
 
 pub returns-in-Err-2-clause-steps : goal.returns-in-Err-2-clause-steps
 returns-in-Err-2-clause-steps c =
@@ -265,7 +325,9 @@ returns-in-Err-2-clause-steps c =
     let seen_p = seen_at setting i class_p c.args.clock p.state.held in
     let place_p = c.as_slice-sends_at.result.now in
     let can_send = t.sends.able p at_p class_p refl place_p c.as_slice-sends_at.ensures in
-    let leaves_p = c.in_ok-sent.ensures.leaves setting.model class_p c.args.parcel.now c.classes.ensures.tabled can_send in
+    let home_p = home_view c.home_at-sends_home.result in
+    let leaves_p = leaves_there setting.model c.args.limits (record { classes = c.classes.result; limits = c.args.limits; process = c.args.sender.now.process; clock = c.args.clock }) c.home_at-sends_home.result t.sends.home (c.home_at-sends_home.ensures.home t.sends.home t.sends.at_home) (λ a f. Hands a f c.args.parcel.now) p.state.held (term_view p.term) place_p (begun_process home_p (term_view p.term) place_p p1.state.held c.in_ok-sent.field-0)
+        (c.in_ok-sent.ensures.leaves c.args.parcel.now (can_there setting.model c.args.limits (record { classes = c.classes.result; limits = c.args.limits; process = c.args.sender.now.process; clock = c.args.clock }) c.home_at-sends_home.result t.sends.home (c.home_at-sends_home.ensures.home t.sends.home t.sends.at_home) (CanSend c.args.parcel.now) p.state.held (term_view p.term) place_p can_send)) in
     let ps1 = slice_set ps i p1 in
     let q = slice_index_or ps1 j c.index-processes-to.result in
     let at_q = sym (get_other ps i j p1 t.apart) ∙ slice_get-get_or ps1 j c.index-processes-to.result (set_within ps i p1 j t.receives.within) in
@@ -274,12 +336,14 @@ returns-in-Err-2-clause-steps c =
     let place_q = c.as_slice-receives_at.result.now in
     let can_receive = t.receives.able q at_q class_q refl place_q c.as_slice-receives_at.ensures in
     let q1 = c.begin_receive.new.process in
-    let leaves_q = c.in_ok-taken.ensures.leaves setting.model class_q c.classes.ensures.tabled can_receive in
-    let so_far = swept (residual 0 (term_view p.term) place_p (left_by p1.state.held (term_view c.in-Ok.sent.part))) in
+    let home_q = home_view c.home_at-home.result in
+    let leaves_q = leaves_there setting.model c.args.limits (record { classes = c.classes.result; limits = c.args.limits; process = c.args.receiver.now.process; clock = c.args.clock }) c.home_at-home.result t.receives.home (c.home_at-home.ensures.home t.receives.home t.receives.at_home) (λ a f. Takes a f c.args.parcel.now) q.state.held (term_view q.term) place_q (begun_process home_q (term_view q.term) place_q q1.state.held c.in_ok-taken.field-0)
+        c.in_ok-taken.ensures.leaves in
+    let so_far = swept (residual home_p 0 (term_view p.term) place_p (left_by p1.state.held (term_view c.in-Ok.sent.part))) in
     receiver_trouble setting c.args.clock ps c.args.sender.now c.args.receiver.now c.args.parcel.now so_far c.in-Err-2.trouble
-    (acts_at setting c.args.clock ps c.args.sender.now (CanSend c.args.parcel.now) t.sends p at_p (λ a f. Hands a f c.args.parcel.now) class_p refl place_p c.as_slice-sends_at.ensures (Ok so_far) (leaves_so_far seen_p (λ a f. Hands a f c.args.parcel.now) p p1 place_p c.in_ok-sent.field-0 leaves_p c.in-Ok.sent c.in-Ok.is))
+    (acts_at setting c.args.clock ps c.args.sender.now (CanSend c.args.parcel.now) t.sends p at_p (λ a f. Hands a f c.args.parcel.now) class_p refl place_p c.as_slice-sends_at.ensures (Ok so_far) (leaves_so_far home_p seen_p (λ a f. Hands a f c.args.parcel.now) p p1 place_p c.in_ok-sent.field-0 leaves_p c.in-Ok.sent c.in-Ok.is))
     (acts_at setting c.args.clock ps c.args.receiver.now CanReceive t.receives q at_q (λ a f. Takes a f c.args.parcel.now) class_q refl place_q c.as_slice-receives_at.ensures (Err c.in-Err-2.trouble)
-    (leaves_trouble seen_q (λ a f. Takes a f c.args.parcel.now) q q1 place_q c.in_ok-taken.field-0 leaves_q c.in-Err-2.trouble c.in-Err-2.is))
+    (leaves_trouble home_q seen_q (λ a f. Takes a f c.args.parcel.now) q q1 place_q c.in_ok-taken.field-0 leaves_q c.in-Err-2.trouble c.in-Err-2.is))
 
 pub returns-in-Err-2-clause-stays : goal.returns-in-Err-2-clause-stays
 returns-in-Err-2-clause-stays c =

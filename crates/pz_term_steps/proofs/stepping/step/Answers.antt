@@ -8,17 +8,14 @@ use Rattle.pz_term_processes.specs.Standing.{setting_of, config_of}
 use Rattle.pz_term_steps.proofs.Nexts.{pair_offered, still_processes}
 use Rattle.pz_term_steps.proofs.stepping.step.Goals as goal
 
-pub communicate-requires : goal.communicate-requires
-communicate-requires c =
+pub communicate-requires-clause-pair : goal.communicate-requires-clause-pair
+communicate-requires-clause-pair c =
     let setting = setting_of (checked_model c.args.checked.now) c.args.limits in
-    let config = config_of c.args.clock c.args.processes.now in
-    record {
-      pair = (
-        c.in-Comm.wire,
-        c.in-Comm.message,
-        pair_offered setting config c.in-Comm.wire c.in-Comm.sender c.in-Comm.receiver c.in-Comm.message c.in-Comm.parcel (subst (λ (a : Action). Offers setting config a) c.in-Comm.is c.requires.offered),
-      );
-    }
+    let config = config_of c.args.clock c.args.processes.now in (
+      c.in-Comm.wire,
+      c.in-Comm.message,
+      pair_offered setting config c.in-Comm.wire c.in-Comm.sender c.in-Comm.receiver c.in-Comm.message c.in-Comm.parcel (subst (λ (a : Action). Offers setting config a) c.in-Comm.is c.requires.offered),
+    )
 
 pub returns-in-Internal-clause-processes : goal.returns-in-Internal-clause-processes
 returns-in-Internal-clause-processes c =

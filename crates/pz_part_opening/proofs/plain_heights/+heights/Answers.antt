@@ -8,7 +8,7 @@ use Rattle.pz_rules.specs.devices.Plainly.{plainly, plainly_all, plainly_each}
 use Rattle.pz_part_opening.proofs.Bounds.{greatest_more}
 use Rattle.pz_part_opening.proofs.Openings.{several_open}
 use Rattle.pz_part_opening.proofs.Within.{branch_lighter}
-use Rattle.pz_part_opening.proofs.heights.+heights.Goals as goal
+use Rattle.pz_part_opening.proofs.plain_heights.+heights.Goals as goal
 
 pub branches_within-loop-branch-preserved : goal.branches_within-loop-branch-preserved
 branches_within-loop-branch-preserved t c =
@@ -18,7 +18,7 @@ branches_within-loop-branch-preserved t c =
 
 pub all_within-returns-in-len1-up : goal.all_within-returns-in-len1-up
 all_within-returns-in-len1-up t c =
-    c.above.ensures (height (plainly (step.view c.step-item-2.result))) c.step_within-in-len1-up.ensures
+    c.above.ensures (height (plainly (step.view c.step-item-2.result))) c.plain_within-in-len1-up.ensures
     ∙ ap (λ (x : terms.Term). min (height x) c.args.room) (sym (several_open c.args.steps.now c.step-item-2.result c.in-len1-up.len_at_least c.step-item-2.is))
 
 pub branches_within-sequence_within-requires : goal.branches_within-sequence_within-requires

@@ -1,0 +1,11 @@
+-- A process at home, as its statements see it.
+use Rattle.pz_classes.specs.CheckedView.{checked_model}
+use Rattle.pz_state.specs.States.{StateView}
+use Rattle.pz_rules.specs.Settings.{Context}
+use Rattle.pz_part_opening.specs.declared.home.Home.{Home}
+use Rattle.pz_part_queries.specs.declared.standpoint.Standpoint.{Standpoint}
+use Rattle.pz_part_queries.specs.Standpoints.{seen_from}
+
+-- of the class at home there, in this state
+abbrev pub seen_home : Standpoint → Home → StateView → Context
+seen_home here home s = seen_from (checked_model home.checked.now) here home.class.0 s

@@ -1,0 +1,36 @@
+ghost use Rattle.std.specs.Prelude.{◌≡◌, Some, slice_get};
+ghost use Rattle.pz_syntax.specs.Classes.{ModelTree};
+ghost use Rattle.pz_classes.specs.CheckedView.{checked_model};
+ghost use Rattle.pz_classes.specs.declared.classes.Classes.{Classes};
+ghost use Rattle.pz_classes.specs.Tables.{HasClass};
+ghost use Rattle.pz_classes.specs.devices.Rows.{AreClasses};
+ghost use Rattle.pz_bind_levels.specs.Places.{Address};
+ghost use Rattle.pz_bind.specs.Nest.{processes};
+ghost use Rattle.pz_bind.specs.NetView.{HasProcess};
+ghost use Rattle.pz_bind.specs.devices.Nets.{IsNet};
+ghost use Rattle.pz_part_opening.specs.Homes.{home_view};
+ghost use Rattle.pz_term_steps.specs.devices.Deeds.{home_there};
+
+use pz_bind::Net;
+use pz_classes::Checked;
+use pz_part_opening::Home;
+use pz_rules::Limits;
+
+/// Where the statements of a process open.
+pub(crate) fn home_at<'a>(
+    checked: &'a Checked,
+    net: &Net,
+    limits: Limits,
+    process: u32,
+) -> Home<'a>
+    requires there { HasProcess net.now process }
+    requires of_model { ∥ IsNet (checked_model checked.now) net.now ∥₁ }
+    ensures home { (place : Address) →
+        slice_get (processes (checked_model checked.now)) process ≡ Some place →
+        home_view result ≡ home_there (checked_model checked.now) limits place }
+    ensures belongs { (m : ModelTree) (classes : Classes) → IsNet m net.now →
+        AreClasses m classes → HasClass classes result.class }
+{
+    let class = net.class(process);
+    Home::new(checked, class, limits)
+}
