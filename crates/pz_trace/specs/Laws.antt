@@ -26,7 +26,7 @@ use Rattle.pz_trace.specs.declared.ending.Ending.TheVariants.{Stop}
 use Rattle.pz_trace.specs.declared.headings.Heading.{Heading}
 use Rattle.pz_trace.specs.declared.headings.Heading.TheVariants.{Step}
 use Rattle.pz_trace.specs.Lines.{newline, header, header_of, time_line, action_line, end_line}
-use Rattle.pz_trace.specs.Forms.{form_of, limits_of, IsWritten}
+use Rattle.pz_trace.specs.Forms.{form_of, limits_of, IsWritten, HasHeader}
 use Rattle.pz_trace.specs.Headings.{IsHeading}
 use Rattle.pz_trace.specs.Named.{IsNamed, HasTroubled}
 
@@ -75,6 +75,10 @@ OneFirstLine = (line other rest left : List ℕ) → IsLine line → IsLine othe
 -- a header tells one form
 abbrev pub HeadersDiffer : Type 0
 HeadersDiffer = (f g : Form) → IsWritten f → IsWritten g → header_of f ≡ header_of g → f ≡ g
+
+-- a text begins with the header of one
+abbrev pub OneFormIsTold : Type 0
+OneFormIsTold = (f g : Form) (text : List ℕ) → HasHeader f text → HasHeader g text → f ≡ g
 
 -- and the limits that a form tells have that form
 abbrev pub FormsAreKept : Type 0

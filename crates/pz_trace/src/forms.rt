@@ -5,9 +5,9 @@ ghost use Rattle.std.specs.Fmt.{decimal};
 ghost use Rattle.pz_trace.specs.Lines as lines;
 ghost use Rattle.pz_trace.specs.Lines.{newline};
 ghost use Rattle.pz_trace.specs.Forms as forms;
-ghost use Rattle.pz_trace.specs.Forms.{AreUnits, IsForm};
+ghost use Rattle.pz_trace.specs.Forms.{AreUnits, IsForm, HasHeader};
 
-use crate::headings::{place_of, value_of};
+use crate::headings::{first_line, place_of, value_of};
 use pz_rules::{Edition, Limits};
 use std::alloc::{AllocError, Global};
 
@@ -67,6 +67,15 @@ pub fn read_header(line: &[u8]) -> Option<Form>
     }
     let units = third_told(line)?;
     Some(Form::Three { units })
+}
+
+/// The form that the first line of a text tells, as [`read_header`] reads it. None where the text begins with
+/// no such header, with its LF. Takes no memory.
+pub fn form_told(text: &[u8]) -> Option<Form>
+    ensures { MatchOption result ((f : Form) → HasHeader f text.now → ⊥) (λ f. HasHeader f text.now) }
+{
+    let line = first_line(text)?;
+    read_header(line)
 }
 
 // The units that the header of the third form tells.
