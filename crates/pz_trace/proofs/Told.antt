@@ -3,7 +3,7 @@ use Rattle.std.proofs.Common.{◌≡◌, ◌<◌, ◌^◌, refl, sym, subst, ◌
 use Rattle.std.specs.Prelude.{MatchOption}
 use Rattle.pz_trace.specs.declared.forms.Form.{Form}
 use Rattle.pz_trace.specs.declared.forms.Form.TheVariants.{One, Two, Three}
-use Rattle.pz_trace.specs.Lines.{newline, header_of}
+use Rattle.pz_trace.specs.Lines.{newline, header}
 use Rattle.pz_trace.specs.Forms.{IsForm, IsWritten, HasHeader}
 use Rattle.pz_trace.specs.Laws.{Unbroken, IsLine, OneFormIsTold}
 use Rattle.pz_trace.proofs.Digits.{lacks_first, lacks_rest}
@@ -23,10 +23,10 @@ no_header_without text unbroken f has =
 
 -- the form that the first line tells is that of the text
 pub told_first : (r : Option Form) (text line rest : List ℕ) → IsLine line → text ≡ line ++ rest
-    → MatchOption r ((f : Form) → IsForm f → line ≡ header_of f → ⊥) (λ f. IsForm f × (line ≡ header_of f))
+    → MatchOption r ((f : Form) → IsForm f → line ≡ header f → ⊥) (λ f. IsForm f × (line ≡ header f))
     → MatchOption r ((f : Form) → HasHeader f text → ⊥) (λ f. HasHeader f text)
 told_first None text line rest is_line is other =
-    λ f has. other f has.is_form (one_first_line line (header_of f) rest has.rest is_line (header_lines f) (sym is ∙ has.begins)).same_line
+    λ f has. other f has.is_form (one_first_line line (header f) rest has.rest is_line (header_lines f) (sym is ∙ has.begins)).same_line
 told_first (Some f) text line rest is_line is tells = record {
   is_form = tells.0;
   rest = rest;
@@ -41,4 +41,4 @@ written (Three units) is = omega (arith, is.1)
 pub one_form_is_told : OneFormIsTold
 one_form_is_told f g text has other =
     headers_differ f g (written f has.is_form) (written g other.is_form)
-    (one_first_line (header_of f) (header_of g) has.rest other.rest (header_lines f) (header_lines g) (sym has.begins ∙ other.begins)).same_line
+    (one_first_line (header f) (header g) has.rest other.rest (header_lines f) (header_lines g) (sym has.begins ∙ other.begins)).same_line

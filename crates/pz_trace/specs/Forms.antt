@@ -6,7 +6,7 @@ use Rattle.pz_rules.specs.declared.limits.Edition.TheVariants as edition
 use Rattle.pz_rules.specs.declared.limits.Limits.{Limits}
 use Rattle.pz_trace.specs.declared.forms.Form.{Form}
 use Rattle.pz_trace.specs.declared.forms.Form.TheVariants.{One, Two, Three}
-use Rattle.pz_trace.specs.Lines.{header_of}
+use Rattle.pz_trace.specs.Lines.{header}
 
 -- the depth of an evaluation where the first line tells no units, and where it does
 abbrev pub early_depth : ℕ
@@ -51,4 +51,4 @@ IsWritten (Three units) = units < 2 ^ 64
 pub record HasHeader (form : Form) (text : List ℕ) : Type 0 where
   pub is_form : IsForm form
   pub rest : List ℕ
-  pub begins : text ≡ header_of form ++ rest
+  pub begins : text ≡ header form ++ rest
