@@ -1,5 +1,5 @@
 -- What the first line of a text tells.
-use Rattle.std.proofs.Common.{◌≡◌, ◌<◌, ◌^◌, refl, sym, subst, ◌∙◌, ℕ, List, [], ◌∷◌, ◌++◌, Option, Some, None, arith}
+use Rattle.std.proofs.Common.{◌≡◌, ◌<◌, ◌^◌, refl, sym, ap, subst, ◌∙◌, ℕ, List, [], ◌∷◌, ◌++◌, Option, Some, None, arith}
 use Rattle.std.specs.Prelude.{MatchOption}
 use Rattle.pz_trace.specs.declared.forms.Form.{Form}
 use Rattle.pz_trace.specs.declared.forms.Form.TheVariants.{One, Two, Three}
@@ -30,7 +30,7 @@ told_first None text line rest is_line is other =
 told_first (Some f) text line rest is_line is tells = record {
   is_form = tells.0;
   rest = rest;
-  begins = is ∙ subst (λ (l : List ℕ). line ++ rest ≡ l ++ rest) tells.1 refl;
+  begins = is ∙ ap (λ (l : List ℕ). l ++ rest) tells.1;
 }
 
 written : (f : Form) → IsForm f → IsWritten f

@@ -72,7 +72,8 @@ pub fn read_header(line: &[u8]) -> Option<Form>
 /// The form that the first line of a text tells, as [`read_header`] reads it. None where the text begins with
 /// no such header, with its LF. Takes no memory.
 pub fn form_told(text: &[u8]) -> Option<Form>
-    ensures { MatchOption result ((f : Form) → HasHeader f text.now → ⊥) (λ f. HasHeader f text.now) }
+    ensures { MatchOption result ((f : Form) → HasHeader f text.now → ⊥)
+        (λ f. HasHeader f text.now) }
 {
     let line = first_line(text)?;
     read_header(line)
