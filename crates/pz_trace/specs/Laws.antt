@@ -73,7 +73,7 @@ OneFirstLine = (line other rest left : List ℕ) → IsLine line → IsLine othe
 abbrev pub HeadersDiffer : Type 0
 HeadersDiffer = (f g : Form) → IsWritten f → IsWritten g → header f ≡ header g → f ≡ g
 
--- a text begins with the header of one
+-- a text begins with the header of no more than one
 abbrev pub OneFormIsTold : Type 0
 OneFormIsTold = (f g : Form) (text : List ℕ) → HasHeader f text → HasHeader g text → f ≡ g
 

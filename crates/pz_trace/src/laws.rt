@@ -20,8 +20,8 @@ pub fn lines_differ()
     ensures stop_passing { StopIsNoPassing }
 {}
 
-/// A header tells one form, a text begins with the header of one, and the limits that a form tells have that
-/// form.
+/// A header tells one form, a text begins with the header of no more than one, and the limits that a form
+/// tells have that form.
 pub fn headers_differ()
     ensures one { HeadersDiffer }
     ensures told { OneFormIsTold }
