@@ -18,8 +18,8 @@ abbrev made : ℕ → Bool → Bool → Outline
 made h d b = record { height = h; done = d; bare = b }
 
 outlined : (h : ℕ) (d b : Bool) (t : Term) → h ≡ capped (height t) → d ≡ is_done t → b ≡ is_bare t → made h d b ≡ outline t
-outlined h d b t high done bare =
-    ap (λ (x : ℕ). made x d b) high ∙ ap (λ (x : Bool). made (capped (height t)) x b) done ∙ ap (λ (x : Bool). made (capped (height t)) (is_done t) x) bare
+outlined h d b t high ended bare =
+    ap (λ (x : ℕ). made x d b) high ∙ ap (λ (x : Bool). made (capped (height t)) x b) ended ∙ ap (λ (x : Bool). made (capped (height t)) (is_done t) x) bare
 
 pub outlined_above : (h n : ℕ) (t : Term) → h ≡ capped (suc n) → IsAbove t n → made h false false ≡ outline t
 outlined_above h n t high above = outlined h false false t (high ∙ ap capped (sym above.one_more)) (sym above.undone) (sym above.other)

@@ -143,12 +143,7 @@ pub(crate) fn outline_first(left: Outline, second: &Term) -> Outline
 }
 
 /// Of what is interrupted, whose second part has become another.
-pub(crate) fn outline_second(
-    home: &Home<'_>,
-    first: &Term,
-    left: Outline,
-    again: &Step,
-) -> Outline
+pub(crate) fn outline_second(home: &Home<'_>, first: &Term, left: Outline, again: &Step) -> Outline
     ensures { (s : StateView) (x : terms.Term) → left ≡ outline x →
         result ≡ outline (leaving.handled (home_view home.now) s (term_view first.now)
         (view again.now) x).term }

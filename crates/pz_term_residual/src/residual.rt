@@ -61,7 +61,15 @@ fn outline_inside(
             outline_abort(home, first.get(), second.get(), child, inner, part)
         }
         Term::Idle(first, second, again) => {
-            outline_idle(home, first.get(), second.get(), again.get(), child, inner, part)
+            outline_idle(
+                home,
+                first.get(),
+                second.get(),
+                again.get(),
+                child,
+                inner,
+                part,
+            )
         }
         // What is interrupted stands still.
         Term::Handling(first, second, again) => {
@@ -143,13 +151,7 @@ fn outline_idle(
 /// Takes no memory, and time linear in the term.
 ///
 /// A part at the place may act.
-pub fn stays_low(
-    home: &Home<'_>,
-    term: &Term,
-    place: &[usize],
-    part: &Term,
-    limit: u32,
-) -> bool
+pub fn stays_low(home: &Home<'_>, term: &Term, place: &[usize], part: &Term, limit: u32) -> bool
     requires { MayAct (term_view term.now) place.now }
     ensures { (f : ℕ) (s : StateView) → result ≡ nat_le
         (height (residual (home_view home.now) f (term_view term.now) place.now

@@ -8,7 +8,7 @@ use Rattle.pz_term_residual.proofs.settling.put_together.Given as goal
 
 abbrev pub invariant-loop-level : goal.invariant-loop-level
 invariant-loop-level l = record {
-  so_far : unwound (home_view l.home.now) l.levels.items (left_by l.state.held (term_view l.left)) ≡ unwound (home_view l.home.now) l.initial.levels.items (left_by l.initial.state.held (term_view l.initial.left));
+  so_far : unwound (home_view l.home) l.levels.items (left_by l.state.held (term_view l.left)) ≡ unwound (home_view l.home) l.initial.levels.items (left_by l.initial.state.held (term_view l.initial.left));
   marks : l.state.marks ≡ l.initial.state.marks;
   places : All HasItsPlace l.levels.items;
 }
