@@ -14,7 +14,7 @@ use Rattle.pz_term.specs.declared.standing.Standing.{Standing}
 use Rattle.pz_term.specs.declared.standing.Standing.TheVariants as standing
 use Rattle.pz_term.specs.declared.plain.Plain.{Plain}
 use Rattle.pz_term.specs.Simulations as simulations
-use Rattle.pz_term.specs.Simulations.{Simulation, stands, broken, IsMomentOf, AreOffersOf, IsOffer, setting_in, model_in}
+use Rattle.pz_term.specs.Simulations.{Simulation, stands, broken, IsMomentOf, AreOffersOf, IsOffer, setting_in, model_in, limits_in}
 use Rattle.pz_term.specs.Plains.{simulation_at, simulation_of, model_of}
 use Rattle.pz_term.specs.Laws.{OneMomentOf, OffersAreThere, OffersAreCounted, OffersAreNumbered, OffersAreDerived, OneOfferOf}
 
@@ -26,6 +26,9 @@ setting_at setting clock ps standing.Broken = refl
 
 pub model_is : (p : Plain) → model_of p ≡ model_in (simulation_of p)
 model_is p = ap (λ (setting : Setting). setting.model) (sym (setting_at _ p.clock p.processes.items p.standing))
+
+pub limits_are : (p : Plain) → p.limits ≡ limits_in (simulation_of p)
+limits_are p = ap (λ (setting : Setting). setting.limits) (sym (setting_at _ p.clock p.processes.items p.standing))
 
 pub one_moment_of : OneMoment → OneMomentOf
 one_moment_of one (stands setting c whole) m n x y = one setting c m n x y

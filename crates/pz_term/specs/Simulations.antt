@@ -5,6 +5,7 @@ use Rattle.pz_offer.specs.declared.trouble.Trouble.{Trouble}
 use Rattle.pz_rules.specs.declared.action.Action.{Action}
 use Rattle.pz_rules.specs.declared.moment.Moment.{Moment}
 use Rattle.pz_rules.specs.declared.moment.Moment.TheVariants.{Actions, Time, Stopped, Broken}
+use Rattle.pz_rules.specs.declared.limits.Limits.{Limits}
 use Rattle.pz_rules.specs.Settings.{Setting}
 use Rattle.pz_rules.specs.Configurations.{Config}
 use Rattle.pz_rules.specs.Offers.{IsOffers}
@@ -53,6 +54,10 @@ setting_in (broken setting) = setting
 -- nor does its model
 abbrev pub model_in : Simulation → ModelTree
 model_in s = (setting_in s).model
+
+-- nor what its evaluations and terms may take
+abbrev pub limits_in : Simulation → Limits
+limits_in s = (setting_in s).limits
 
 -- memory was wanting
 abbrev pub IsBroken : Simulation → Type 0

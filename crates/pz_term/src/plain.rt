@@ -52,7 +52,7 @@ impl Drop for Plain {
 
 impl Plain {
     ghost use Rattle.std.specs.Prelude.{ℕ};
-    ghost use Rattle.pz_term.specs.Simulations.{Starts, IsMomentOf, AreOffersOf, Chooses, Passes, IsBroken, ClockIs, setting_in, model_in, stands};
+    ghost use Rattle.pz_term.specs.Simulations.{Starts, IsMomentOf, AreOffersOf, Chooses, Passes, IsBroken, ClockIs, setting_in, model_in, limits_in, stands};
     ghost use Rattle.pz_term.specs.Refusals.{OnNoSuchOffer, OnChooseNotNow, OnChooseRefused, OnChooseNoMemory, NoActions, OnPassNotNow, OnPassRefused, OnPassNoMemory, NoTime};
     ghost use Rattle.pz_term.specs.Plains.{simulation_of, model_of};
 
@@ -118,6 +118,15 @@ impl Plain {
         ensures net { ∥ IsNet (model_in (simulation_of self.now)) result.now ∥₁ }
     {
         &self.net
+    }
+
+    /// What its evaluations and terms may take, and the edition of the rules by which it goes on. Takes no
+    /// memory.
+    pub fn limits(&self) -> Limits
+        ensures is { result ≡ self.now.limits }
+        ensures limits { result ≡ limits_in (simulation_of self.now) }
+    {
+        self.limits
     }
 
     /// The offers in their order: none unless the moment is `Actions`. Takes no memory.

@@ -10,7 +10,7 @@ use crate::simulator::Simulator;
 use pz_bind::Net;
 use pz_classes::Checked;
 use pz_nodes::Steps;
-use pz_rules::{Action, Moment};
+use pz_rules::{Action, Limits, Moment};
 use std::alloc::AllocError;
 use std::sync::ledger::Ledger;
 
@@ -33,6 +33,10 @@ impl Simulator for Plain {
 
     fn net(&self) -> &Net {
         self.net()
+    }
+
+    fn limits(&self) -> Limits {
+        self.limits()
     }
 
     fn offer(&self, k: u64) -> Result<Action, AllocError> {

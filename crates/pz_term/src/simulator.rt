@@ -1,14 +1,14 @@
 ghost use Rattle.std.specs.Prelude.{◌≡◌, ◌≤◌, ◌<◌, ℕ, IfOk, OnOk, IfErr};
 ghost use Rattle.pz_classes.specs.CheckedView.{checked_model};
 ghost use Rattle.pz_bind.specs.devices.Nets.{IsNet};
-ghost use Rattle.pz_term.specs.Simulations.{Simulation, IsMomentOf, IsOffer, Chooses, Passes, IsBroken, ClockIs, setting_in, model_in};
+ghost use Rattle.pz_term.specs.Simulations.{Simulation, IsMomentOf, IsOffer, Chooses, Passes, IsBroken, ClockIs, setting_in, model_in, limits_in};
 ghost use Rattle.pz_term.specs.Refusals.{OnNoSuchOffer, OnChooseNotNow, OnChooseRefused, OnChooseNoMemory, NoActions, OnPassNotNow, OnPassRefused, OnPassNoMemory, NoTime};
 
 use crate::refusal::{ChooseError, PassError};
 use pz_bind::Net;
 use pz_classes::Checked;
 use pz_nodes::Steps;
-use pz_rules::{Action, Moment};
+use pz_rules::{Action, Limits, Moment};
 use std::alloc::AllocError;
 use std::sync::ledger::Ledger;
 
@@ -34,6 +34,11 @@ pub trait Simulator {
     /// The net of the model. Takes no memory.
     fn net(&self) -> &Net
         ensures { ∥ IsNet (model_in (simulation self.now)) result.now ∥₁ };
+
+    /// What its evaluations and terms may take, and the edition of the rules by which it goes on. Takes no
+    /// memory.
+    fn limits(&self) -> Limits
+        ensures { result ≡ limits_in (simulation self.now) };
 
     /// The offer of this number, from 0, which is one of those that the moment counts. The only error is
     /// want of memory, and it breaks nothing.
