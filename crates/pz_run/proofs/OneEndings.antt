@@ -9,9 +9,10 @@ use Rattle.pz_offer.specs.declared.trouble.Trouble.TheVariants.{Fault, Spent, Hi
 use Rattle.pz_rules.specs.Runs.{Event}
 use Rattle.pz_trace.specs.declared.ending.Ending.{Ending}
 use Rattle.pz_trace.specs.declared.ending.Ending.TheVariants as ending
-use Rattle.pz_trace.specs.Lines.{newline, header, end_words, end_line}
-use Rattle.pz_trace.specs.TraceText.{event_line, events_text, run_ending}
-use Rattle.pz_trace.specs.Laws.{IsLine, HeaderIsLine, EndLinesAreLines, OneFirstLine}
+use Rattle.pz_trace.specs.Lines.{newline, end_words, end_line}
+use Rattle.pz_trace.specs.Forms.{form_of}
+use Rattle.pz_trace.specs.TraceText.{trace_header, event_line, events_text, run_ending}
+use Rattle.pz_trace.specs.Laws.{IsLine, HeadersAreLines, EndLinesAreLines, OneFirstLine}
 use Rattle.pz_trace.proofs.Digits.{cut_once, decimal_lacks}
 use Rattle.pz_run.specs.declared.status.Status.{Status}
 use Rattle.pz_run.specs.declared.status.Status.TheVariants.{Done, Deadlock, ModelFault}
@@ -64,9 +65,11 @@ module _ (first : OneFirstLine) (m : ModelTree) where
       let words = cut_once 32 (decimal clock) (end_words m e ++ newline) (decimal late) (end_words m d ++ newline) (decimal_lacks 32 clock (omega arith)) (decimal_lacks 32 late (omega arith)) same in
       status_is e ∙ ap status_by words.same_rest ∙ sym (status_is d)
 
-pub one_ending : OneFirstLine → HeaderIsLine → EndLinesAreLines → OneEnding
-one_ending first head_line end_lines setting trace tells x y =
+pub one_ending : OneFirstLine → HeadersAreLines → EndLinesAreLines → OneEnding
+one_ending first head_lines end_lines setting trace tells x y =
     let m = setting.model in
+    let header = trace_header setting in
+    let head_line = head_lines (form_of setting.limits) in
     let behind = (first header header (events_text m x.events ++ end_line m x.last.clock x.ending) (events_text m y.events ++ end_line m y.last.clock y.ending) head_line head_line
     (sym x.is_text ∙ y.is_text)).same_rest in
     same_status first m x.last.clock y.last.clock x.ending y.ending

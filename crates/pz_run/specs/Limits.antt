@@ -7,10 +7,3 @@ model_limit = 1048576
 
 abbrev pub trace_limit : ℕ
 trace_limit = 67108864
-
--- the depth that an evaluation may have, and the height that a term may have
-abbrev pub depth_limit : ℕ
-depth_limit = 400
-
-abbrev pub height_limit : ℕ
-height_limit = 1000

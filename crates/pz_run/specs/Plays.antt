@@ -1,9 +1,10 @@
 -- The runs that jobs ask for.
 use Rattle.std.specs.Prelude.{ℕ, Bool, true, false, Option, Some, None}
 use Rattle.pz_syntax.specs.Classes.{ModelTree}
-use Rattle.pz_rules.specs.declared.limits.Edition.TheVariants.{One}
 use Rattle.pz_rules.specs.Settings.{Setting}
 use Rattle.pz_rules.specs.ChosenRuns.{Policy}
+use Rattle.pz_trace.specs.declared.forms.Form.TheVariants.{One}
+use Rattle.pz_trace.specs.Forms.{limits_of}
 use Rattle.pz_words.specs.declared.jobs.Choice.{Choice}
 use Rattle.pz_words.specs.declared.jobs.RunLimits.{RunLimits}
 use Rattle.pz_words.specs.declared.jobs.Job.{Job}
@@ -11,7 +12,6 @@ use Rattle.pz_words.specs.declared.jobs.Job.TheVariants.{Run, Menu, Replay, Chec
 use Rattle.pz_run_playing.specs.Policies.{resolver_of, policy_of}
 use Rattle.pz_run_playing.specs.Playing as playing
 use Rattle.pz_run_playing.specs.Playing.{ChosenRun}
-use Rattle.pz_run.specs.Limits.{depth_limit, height_limit}
 use Rattle.pz_run.specs.declared.play.Telling.{Telling}
 use Rattle.pz_run.specs.declared.play.Telling.TheVariants as telling
 use Rattle.pz_run.specs.declared.play.Play.{Play}
@@ -37,9 +37,9 @@ play_of (Check model) = None
 play_of (Make n) = None
 play_of (Ring n choice limits) = Some (play choice limits telling.Summary)
 
--- each evaluation has so many units; the rules are those of the first edition
+-- the limits are those of traces of the first form, with so many units for each evaluation
 abbrev pub setting_with : ModelTree → ℕ → Setting
-setting_with m units = record { model = m; limits = record { units = units; depth = depth_limit; height = height_limit; edition = One } }
+setting_with m units = record { model = m; limits = limits_of One units }
 
 -- those of the job
 abbrev pub setting_for : ModelTree → Play → Setting

@@ -5,25 +5,20 @@ ghost use Rattle.pz_term.specs.Simulations.{Starts};
 ghost use Rattle.pz_term.specs.Plains.{simulation_of};
 ghost use Rattle.pz_run.specs.Plays.{setting_with};
 
-use crate::limits::{DEPTH_LIMIT, HEIGHT_LIMIT};
 use pz_bind::Net;
 use pz_classes::Checked;
-use pz_term::{Edition, Limits, Plain};
+use pz_term::Plain;
+use pz_trace::{Form, limits_of};
 use std::alloc::{AllocError, Global};
 use std::mem::drop;
 
-/// The simulator of the model at its start, with so many units for each evaluation. The only error is want
-/// of memory.
+/// The simulator of the model at its start, for runs of the first form with so many units for each
+/// evaluation. The only error is want of memory.
 pub(crate) fn start(alloc: Global, checked: Checked, units: u64) -> Result<Plain, AllocError>
     ensures { IfOk result (λ plain. Starts (setting_with (checked_model checked) units)
         (simulation_of plain)) }
 {
-    let limits = Limits {
-        units,
-        depth: DEPTH_LIMIT,
-        height: HEIGHT_LIMIT,
-        edition: Edition::One,
-    };
+    let limits = limits_of(Form::One, units);
     match Net::flatten(alloc, &checked) {
         Ok(net) => Plain::start(alloc, checked, net, limits),
         Err(error) => {

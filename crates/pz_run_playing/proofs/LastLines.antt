@@ -6,9 +6,9 @@ use Rattle.pz_bind.specs.declared.net.Net.{Net}
 use Rattle.pz_rules.specs.Runs.{Ending}
 use Rattle.pz_trace.specs.declared.ending.Ending.{Ending as LastEnding}
 use Rattle.pz_trace.specs.declared.ending.Ending.TheVariants as ending
-use Rattle.pz_trace.specs.Lines.{newline, header, end_words, end_line}
+use Rattle.pz_trace.specs.Lines.{newline, end_words, end_line}
 use Rattle.pz_trace.specs.Named.{IsNamedAtEnd}
-use Rattle.pz_trace.specs.TraceText.{events_text, run_ending}
+use Rattle.pz_trace.specs.TraceText.{trace_header, events_text, run_ending}
 use Rattle.pz_rules.specs.Runs.{Ends}
 use Rattle.pz_rules.specs.Laws.{IsOwn, ChosenRunsAreRuns}
 use Rattle.pz_run_playing.specs.Endings.{ending_words, last_line}
@@ -34,7 +34,7 @@ named_at_end net ending.Stop has = tt
 named_at_end net (ending.Trouble trouble) has = has trouble refl
 
 pub texts_are_trace_texts : RunTextsAreTraceTexts
-texts_are_trace_texts m events clock e = ap (λ (l : List ℕ). header ++ (events_text m events ++ l)) (end_is_last m clock e)
+texts_are_trace_texts setting events clock e = ap (λ (l : List ℕ). trace_header setting ++ (events_text setting.model events ++ l)) (end_is_last setting.model clock e)
 
 own_of : (e : LastEnding) → IsOwn (run_ending e)
 own_of ending.End = tt
@@ -54,5 +54,5 @@ chosen_runs_are_traces are_runs setting policy run e is =
       reaches = r.reaches;
       ending = e;
       ends = subst (λ (x : Ending). Ends setting run.end r.standing x) is r.ends;
-      is_text = ap (run_text setting.model run.events run.end.clock) is ∙ texts_are_trace_texts setting.model run.events run.end.clock e;
+      is_text = ap (run_text setting run.events run.end.clock) is ∙ texts_are_trace_texts setting run.events run.end.clock e;
     }

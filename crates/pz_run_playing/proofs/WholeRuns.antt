@@ -18,8 +18,7 @@ use Rattle.pz_rules.specs.Ports.{HasWires}
 use Rattle.pz_rules.specs.Runs.{Event, Standing, whole, stopped, Ending, ended, deadlocked, troubled, halted, refused}
 use Rattle.pz_rules.specs.ChosenRuns.{Policy}
 use Rattle.pz_trace.specs.declared.ending.Ending.TheVariants as ending
-use Rattle.pz_trace.specs.Lines.{header}
-use Rattle.pz_trace.specs.TraceText.{events_text}
+use Rattle.pz_trace.specs.TraceText.{trace_header, events_text}
 use Rattle.pz_term.specs.Simulations as simulations
 use Rattle.pz_term.specs.Simulations.{Simulation, stands, broken, Starts, IsMomentOf, AreOffersOf, setting_in}
 use Rattle.pz_run_playing.specs.declared.finale.Finale.{Finale}
@@ -88,18 +87,18 @@ run_to setting policy s to events ending x rest =
 
 module _ (known : Known) (policy : Policy) (lines : Bool) (s : Simulation) (start : Started (setting_in s) s) (before mid : SinkState) where
   -- nothing but the header, or a front of it
-  pub header_cut : IsReady s → (halt : Halt) → Wrote before mid (told lines header) (Some halt) → BrokenOff (setting_in s) policy lines before mid halt
+  pub header_cut : IsReady s → (halt : Halt) → Wrote before mid (told lines (trace_header (setting_in s))) (Some halt) → BrokenOff (setting_in s) policy lines before mid halt
   header_cut ready halt wrote =
       let r = some_rest known policy 0 s ready in
       let x = run_to (setting_in s) policy s r.to r.events r.ending start r.rest_of in
-      record { run = x.run; wrote = known.halts before mid (told lines header) (told_events lines (model_in s) x.run.events) halt wrote }
+      record { run = x.run; wrote = known.halts before mid (told lines (trace_header (setting_in s))) (told_events lines (model_in s) x.run.events) halt wrote }
 
-  module _ (now : SinkState) (wrote : Wrote before mid (told lines header) None) where
+  module _ (now : SinkState) (wrote : Wrote before mid (told lines (trace_header (setting_in s))) None) where
     pub lines_cut : (halt : Halt) → CutShort policy (model_in s) lines 0 s mid now halt → BrokenOff (setting_in s) policy lines before now halt
     lines_cut halt cut =
         let x = run_to (setting_in s) policy s cut.to cut.events cut.ending start cut.rest_of in
         let rest : Wrote mid now (told_events lines (model_in s) x.run.events) (Some halt) = subst (λ (es : List Event). Wrote mid now (told_events lines (model_in s) es) (Some halt)) (sym x.same_events) cut.wrote in
-        record { run = x.run; wrote = known.joins before mid now (told lines header) (told_events lines (model_in s) x.run.events) (Some halt) wrote rest }
+        record { run = x.run; wrote = known.joins before mid now (told lines (trace_header (setting_in s))) (told_events lines (model_in s) x.run.events) (Some halt) wrote rest }
 
     pub lines_ended : (t : Simulation) (played : Played) → Ended policy lines s t mid now played → PlayedThrough (setting_in s) policy lines t before now played
     lines_ended t played e =
@@ -107,7 +106,7 @@ module _ (known : Known) (policy : Policy) (lines : Bool) (s : Simulation) (star
         let rest : Wrote mid now (told_events lines (model_in s) x.run.events) None = subst (λ (es : List Event). Wrote mid now (told_events lines (model_in s) es) None) (sym x.same_events) e.wrote in
         record {
           run = x.run;
-          wrote = known.joins before mid now (told lines header) (told_events lines (model_in s) x.run.events) None wrote rest;
+          wrote = known.joins before mid now (told lines (trace_header (setting_in s))) (told_events lines (model_in s) x.run.events) None wrote rest;
           finale = sym x.same_ending;
           actions = e.actions ∙ ap actions_in (sym x.same_events);
           passes = e.passes ∙ ap passings_in (sym x.same_events);
@@ -135,27 +134,27 @@ module _ (setting : Setting) (policy : Policy) (telling : Telling) (t : Simulati
 module _ (known : Known) (setting : Setting) (policy : Policy) (t : Simulation) (before mid now : SinkState) where
   -- The trace
 
-  trace_is : (run : ChosenRun setting policy) → (header ++ events_text setting.model run.events) ++ last_line setting.model run.end.clock run.ending ≡ run_text setting.model run.events run.end.clock run.ending
-  trace_is run = append_assoc header (events_text setting.model run.events) (last_line setting.model run.end.clock run.ending)
+  trace_is : (run : ChosenRun setting policy) → (trace_header setting ++ events_text setting.model run.events) ++ last_line setting.model run.end.clock run.ending ≡ run_text setting run.events run.end.clock run.ending
+  trace_is run = append_assoc (trace_header setting) (events_text setting.model run.events) (last_line setting.model run.end.clock run.ending)
 
   pub trace_broken : (halt : Halt) (r : Result Finale Halt) → IsErrAnd r (λ e. e ≡ halt) → BrokenOff setting policy true before mid halt → Plays setting policy trace t before mid r
   trace_broken halt r is x =
-      plays_cut setting policy trace t before mid x.run (run_text setting.model x.run.events x.run.end.clock x.run.ending) halt r (err_is r halt is) of_trace
+      plays_cut setting policy trace t before mid x.run (run_text setting x.run.events x.run.end.clock x.run.ending) halt r (err_is r halt is) of_trace
       (subst (λ (l : List ℕ). Wrote before mid l (Some halt)) (trace_is x.run)
-      (known.halts before mid (header ++ events_text setting.model x.run.events) (last_line setting.model x.run.end.clock x.run.ending) halt x.wrote))
+      (known.halts before mid (trace_header setting ++ events_text setting.model x.run.events) (last_line setting.model x.run.end.clock x.run.ending) halt x.wrote))
 
   module _ (played : Played) (x : PlayedThrough setting policy true t before mid played) where
-    last_of : (halt : Option Halt) → Wrote mid now (last_line setting.model x.run.end.clock (ending_of played.finale)) halt → Wrote before now (run_text setting.model x.run.events x.run.end.clock x.run.ending) halt
+    last_of : (halt : Option Halt) → Wrote mid now (last_line setting.model x.run.end.clock (ending_of played.finale)) halt → Wrote before now (run_text setting x.run.events x.run.end.clock x.run.ending) halt
     last_of halt wrote =
         let last : Wrote mid now (last_line setting.model x.run.end.clock x.run.ending) halt = subst (λ (e : Ending). Wrote mid now (last_line setting.model x.run.end.clock e) halt) x.finale wrote in
         subst (λ (l : List ℕ). Wrote before now l halt) (trace_is x.run)
-        (known.joins before mid now (header ++ events_text setting.model x.run.events) (last_line setting.model x.run.end.clock x.run.ending) halt x.wrote last)
+        (known.joins before mid now (trace_header setting ++ events_text setting.model x.run.events) (last_line setting.model x.run.end.clock x.run.ending) halt x.wrote last)
 
     pub last_cut : (halt : Halt) (r : Result Finale Halt) → IsErrAnd r (λ e. e ≡ halt) → Wrote mid now (last_line setting.model x.run.end.clock (ending_of played.finale)) (Some halt) → Plays setting policy trace t before now r
-    last_cut halt r is wrote = plays_cut setting policy trace t before now x.run (run_text setting.model x.run.events x.run.end.clock x.run.ending) halt r (err_is r halt is) of_trace (last_of (Some halt) wrote)
+    last_cut halt r is wrote = plays_cut setting policy trace t before now x.run (run_text setting x.run.events x.run.end.clock x.run.ending) halt r (err_is r halt is) of_trace (last_of (Some halt) wrote)
 
     pub last_told : Wrote mid now (last_line setting.model x.run.end.clock (ending_of played.finale)) None → Plays setting policy trace t before now (Ok played.finale)
-    last_told wrote = plays_whole setting policy trace t before now x.run (run_text setting.model x.run.events x.run.end.clock x.run.ending) played.finale of_trace (last_of None wrote) x.finale x.arrives
+    last_told wrote = plays_whole setting policy trace t before now x.run (run_text setting x.run.events x.run.end.clock x.run.ending) played.finale of_trace (last_of None wrote) x.finale x.arrives
 
   -- The summary
 
@@ -231,7 +230,7 @@ left_where setting end (stopped trouble) offers ends are = absurd (no_trouble en
 
 -- what is told, by cases
 abbrev ToldIn : (setting : Setting) (events : List Event) (end : Config) (ending : Ending) → Telling → List ℕ → Type 0
-ToldIn setting events end ending trace text = text ≡ run_text setting.model events end.clock ending
+ToldIn setting events end ending trace text = text ≡ run_text setting events end.clock ending
 ToldIn setting events end ending summary text = Unit {0}
 ToldIn setting events end ending menu text = Unit {0}
 
@@ -248,13 +247,13 @@ stop_from (finale.Ended (ending.Trouble trouble)) h = cc
 stop_from (finale.Refused entry offers) h = cc
 
 module _ (known : Known) (setting : Setting) (policy : Policy) (t : Simulation) (before mid now : SinkState) where
-  traced : (halt : Option Halt) (run : ChosenRun setting policy) (text : List ℕ) → Tells setting run.events run.end run.ending trace text → Wrote before mid text halt → Wrote before mid (run_text setting.model run.events run.end.clock run.ending) halt
+  traced : (halt : Option Halt) (run : ChosenRun setting policy) (text : List ℕ) → Tells setting run.events run.end run.ending trace text → Wrote before mid text halt → Wrote before mid (run_text setting run.events run.end.clock run.ending) halt
   traced halt run text tells wrote = subst (λ (l : List ℕ). Wrote before mid l halt) (told_in setting run.events run.end run.ending trace text tells) wrote
 
   pub menu_broken : HasWires setting.model → (halt : Halt) (r : Result Finale Halt) → IsErrAnd r (λ e. e ≡ halt) → Plays setting policy trace t before mid (Err halt) → Plays setting policy menu t before mid r
   menu_broken wires halt r is x =
       let left = some_left known setting x.run.end wires x.run.ending in
-      let trace_text = run_text setting.model x.run.events x.run.end.clock x.run.ending in
+      let trace_text = run_text setting x.run.events x.run.end.clock x.run.ending in
       let offers = offers_text setting.model 0 left.0 in
       plays_cut setting policy menu t before mid x.run (trace_text ++ offers) halt r (err_is r halt is) (of_menu left.0 left.1)
       (known.halts before mid trace_text offers halt (traced (Some halt) x.run x.text x.tells x.wrote))
@@ -266,25 +265,25 @@ module _ (known : Known) (setting : Setting) (policy : Policy) (t : Simulation) 
         subst (λ (e : Ending). AreLeft setting x.run.end e offers) x.finale
         (left_where setting x.run.end x.run.standing offers ends (subst (λ (s : Simulation). AreOffersOf s offers) x.arrives are))
 
-    offers_told : (halt : Option Halt) → Wrote mid now (offers_text (model_in t) 0 offers) halt → Wrote before now (run_text setting.model x.run.events x.run.end.clock x.run.ending ++ offers_text setting.model 0 offers) halt
+    offers_told : (halt : Option Halt) → Wrote mid now (offers_text (model_in t) 0 offers) halt → Wrote before now (run_text setting x.run.events x.run.end.clock x.run.ending ++ offers_text setting.model 0 offers) halt
     offers_told halt wrote =
-        known.joins before mid now (run_text setting.model x.run.events x.run.end.clock x.run.ending) (offers_text setting.model 0 offers) halt (traced None x.run x.text x.tells x.wrote)
+        known.joins before mid now (run_text setting x.run.events x.run.end.clock x.run.ending) (offers_text setting.model 0 offers) halt (traced None x.run x.text x.tells x.wrote)
         (subst (λ (s : Simulation). Wrote mid now (offers_text (model_in s) 0 offers) halt) x.arrives wrote)
 
     pub menu_cut : (halt : Halt) (r : Result Finale Halt) → IsErrAnd r (λ e. e ≡ halt) → Wrote mid now (offers_text (model_in t) 0 offers) (Some halt) → Plays setting policy menu t before now r
     menu_cut halt r is wrote =
-        plays_cut setting policy menu t before now x.run (run_text setting.model x.run.events x.run.end.clock x.run.ending ++ offers_text setting.model 0 offers) halt r (err_is r halt is)
+        plays_cut setting policy menu t before now x.run (run_text setting x.run.events x.run.end.clock x.run.ending ++ offers_text setting.model 0 offers) halt r (err_is r halt is)
         (of_menu offers left_here) (offers_told (Some halt) wrote)
 
     pub menu_told : Wrote mid now (offers_text (model_in t) 0 offers) None → Plays setting policy menu t before now (Ok (finale.Ended ending.Stop))
     menu_told wrote =
-        plays_whole setting policy menu t before now x.run (run_text setting.model x.run.events x.run.end.clock x.run.ending ++ offers_text setting.model 0 offers) (finale.Ended ending.Stop)
+        plays_whole setting policy menu t before now x.run (run_text setting x.run.events x.run.end.clock x.run.ending ++ offers_text setting.model 0 offers) (finale.Ended ending.Stop)
         (of_menu offers left_here) (offers_told None wrote) x.finale x.arrives
 
   -- no offers are told
   pub menu_alone : (f : Finale) → (f ≡ finale.Ended ending.Stop → ⊥) → Plays setting policy trace t before mid (Ok f) → Plays setting policy menu t before mid (Ok f)
   menu_alone f not_stop x =
-      let trace_text = run_text setting.model x.run.events x.run.end.clock x.run.ending in
+      let trace_text = run_text setting x.run.events x.run.end.clock x.run.ending in
       let alone : trace_text ≡ trace_text ++ [] = sym (append-nil trace_text) in
       plays_whole setting policy menu t before mid x.run (trace_text ++ []) f (of_menu [] (not_stopped x.run.ending (λ h. not_stop (stop_from f (x.finale ∙ h)))))
       (subst (λ (l : List ℕ). Wrote before mid l None) alone (traced None x.run x.text x.tells x.wrote)) x.finale x.arrives

@@ -1,6 +1,5 @@
 -- Laws of runs that are chosen, and of their texts.
 use Rattle.std.specs.Prelude.{◌≡◌, ℕ, List}
-use Rattle.pz_syntax.specs.Classes.{ModelTree}
 use Rattle.pz_classes.specs.Soundness.{IsSound}
 use Rattle.pz_rules.specs.Settings.{Setting}
 use Rattle.pz_rules.specs.Runs.{Event}
@@ -17,9 +16,9 @@ HasOneRun = (setting : Setting) (policy : Policy) → IsSound setting.model → 
 
 -- unless an entry is refused, the text of a run is that of a trace
 abbrev pub RunTextsAreTraceTexts : Type 0
-RunTextsAreTraceTexts = (m : ModelTree) (events : List Event) (clock : ℕ) (ending : Ending) → run_text m events clock (run_ending ending) ≡ trace_text m events clock ending
+RunTextsAreTraceTexts = (setting : Setting) (events : List Event) (clock : ℕ) (ending : Ending) → run_text setting events clock (run_ending ending) ≡ trace_text setting events clock ending
 
 -- that of a run of the model
 abbrev pub ChosenRunsAreTraces : Type 0
 ChosenRunsAreTraces = (setting : Setting) (policy : Policy) (run : ChosenRun setting policy) (ending : Ending) → run.ending ≡ run_ending ending
-    → IsTrace setting (run_text setting.model run.events run.end.clock run.ending)
+    → IsTrace setting (run_text setting run.events run.end.clock run.ending)

@@ -40,10 +40,10 @@ pub data Telling : Type 0 where
   trace summary menu : Telling
 
 pub data Tells (setting : Setting) (events : List Event) (end : Config) (ending : Ending) : Telling → List ℕ → Type 0 where
-  of_trace : Tells setting events end ending trace (run_text setting.model events end.clock ending)
+  of_trace : Tells setting events end ending trace (run_text setting events end.clock ending)
   of_summary : Tells setting events end ending summary (summary_line setting.model events end.clock ending)
   of_menu : (offers : List Action) → AreLeft setting end ending offers
-      → Tells setting events end ending menu (run_text setting.model events end.clock ending ++ offers_text setting.model 0 offers)
+      → Tells setting events end ending menu (run_text setting events end.clock ending ++ offers_text setting.model 0 offers)
 
 -- The run was played: its text was written, unless that halted; and if it did not, the finale is its
 -- ending, and the simulator stands at its end.

@@ -189,7 +189,7 @@ pub(crate) fn play<S: Simulator, L: Ledger, W: Sink>(
 {
     rules_are_known();
     let _model = sim.checked().model();
-    tell_header(alloc, lines, out)?;
+    tell_header(alloc, sim, lines, out)?;
     let mut chooser = chooser_of(choice);
     let played = play_on(alloc, sim, &mut chooser, limits, lines, steps, out);
     drop(chooser);

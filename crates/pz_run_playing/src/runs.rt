@@ -18,7 +18,8 @@ use std::sync::ledger::Ledger;
 
 /// Plays the run that is chosen so, from the start of a simulator to its end, and writes its trace: the
 /// header, a line for each action and each passing of time before the simulator takes it, and the last
-/// line. It keeps one line at a time. The units of the limits are no matter here: the simulator has its own.
+/// line. It keeps one line at a time. The units of the limits are no matter here: the simulator has its own
+/// limits, which tell the form of the header.
 ///
 /// # Errors
 ///

@@ -8,13 +8,14 @@ ghost use Rattle.pz_rules.specs.Settings.{Setting};
 ghost use Rattle.pz_rules.specs.Configurations.{Config};
 ghost use Rattle.pz_rules.specs.Runs.{Standing};
 ghost use Rattle.pz_trace.specs.Lines as trace_lines;
+ghost use Rattle.pz_trace.specs.TraceText.{trace_header};
 ghost use Rattle.pz_term.specs.Simulations.{IsMomentOf, AreOffersOf, stands};
 ghost use Rattle.pz_run_playing.specs.Endings as endings;
 ghost use Rattle.pz_run_playing.specs.Endings.{ending_of};
 ghost use Rattle.pz_run_playing.specs.Summaries.{summary_of};
 ghost use Rattle.pz_run_playing.specs.Menus as menus;
 ghost use Rattle.pz_run_playing.specs.Menus.{offers_text};
-ghost use Rattle.pz_term.specs.Simulations.{model_in, clock_in, IsOffer};
+ghost use Rattle.pz_term.specs.Simulations.{setting_in, model_in, clock_in, IsOffer};
 ghost use Rattle.pz_run_playing.specs.devices.Rests.{IsTroubledIn};
 ghost use Rattle.pz_run_playing.specs.devices.Going.{told};
 
@@ -24,19 +25,31 @@ use crate::lines::{last_line, offer_line, summary_line};
 use crate::playing::Played;
 use pz_io::{Halt, Sink, put};
 use pz_term::{Moment, Simulator};
-use pz_trace::{action_line, header, time_line};
+use pz_trace::{action_line, form_of, header, time_line};
 use std::alloc::{AllocError, Global};
 
+// The first line of a run that a simulator goes through. The only error is want of memory.
+fn header_line<S: Simulator>(alloc: Global, sim: &S) -> Result<Vec<u8>, AllocError>
+    ensures { IfOk result (λ line. line.items ≡ trace_header (setting_in (S.simulation sim.now))) }
+{
+    header(alloc, form_of(sim.limits()))
+}
+
 /// Writes the first line, if lines are told.
-pub(crate) fn tell_header<W: Sink>(alloc: Global, lines: bool, out: &mut W) -> Result<(), Halt>
-    ensures { Wrote (W.state out.old) (W.state out.new) (told lines trace_lines.header)
-        (result_err result) }
+pub(crate) fn tell_header<S: Simulator, W: Sink>(
+    alloc: Global,
+    sim: &S,
+    lines: bool,
+    out: &mut W,
+) -> Result<(), Halt>
+    ensures { Wrote (W.state out.old) (W.state out.new)
+        (told lines (trace_header (setting_in (S.simulation sim.now)))) (result_err result) }
 {
     rules_are_known();
     if !lines {
         return Ok(());
     }
-    let line = header(alloc)?;
+    let line = header_line(alloc, sim)?;
     put(out, line.as_slice())
 }
 

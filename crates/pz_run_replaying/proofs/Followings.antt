@@ -15,7 +15,8 @@ use Rattle.pz_rules.specs.Steps.{Next, PassesTo}
 use Rattle.pz_rules.specs.Moments.{IsMoment}
 use Rattle.pz_rules.specs.Runs.{Standing, whole, stopped, IsChoice}
 use Rattle.pz_trace.specs.declared.ending.Ending.{Ending}
-use Rattle.pz_trace.specs.Lines.{header, time_line, action_line, end_line}
+use Rattle.pz_trace.specs.Lines.{time_line, action_line, end_line}
+use Rattle.pz_trace.specs.TraceText.{trace_header}
 use Rattle.pz_term.specs.Simulations.{stands}
 use Rattle.pz_run_replaying.specs.Stages.{Stage, unbegun, underway, concluded}
 use Rattle.pz_run_replaying.specs.devices.Known.{Known}
@@ -103,19 +104,19 @@ module _ (known : Known) (setting : Setting) (Q : Stage → Type 0) (line : List
 
   -- at the beginning
 
-  is_header : (t : Stage) (l : List ℕ) → Takes setting unbegun l t → l ≡ header
+  is_header : (t : Stage) (l : List ℕ) → Takes setting unbegun l t → l ≡ trace_header setting
   is_header _ _ (header_taken start is) = refl
 
   module _ (start : Config) (is_start : IsStart setting start) where
     begins : (t : Stage) (l : List ℕ) → Takes setting unbegun l t → t ≡ underway start whole
     begins _ _ (header_taken c is) = ap (λ (d : Config). underway d whole) (one_start setting c start is is_start)
 
-    begins_on : line ≡ header → Decided (Leads setting Q (underway start whole) lines) → Decided (First unbegun)
+    begins_on : line ≡ trace_header setting → Decided (Leads setting Q (underway start whole) lines) → Decided (First unbegun)
     begins_on same (inl more) = inl (record { to = underway start whole; takes = subst (λ (l : List ℕ). Takes setting unbegun l (underway start whole)) (sym same) (header_taken start is_start); more = more })
     begins_on same (inr none) = inr (λ x. none (subst (λ (t : Stage). Leads setting Q t lines) (begins x.to line x.takes) x.more))
 
-    unbegun_first : IsKept setting unbegun → Decided (line ≡ header) → Decided (First unbegun)
-    unbegun_first kept (inl same) = begins_on same (rest (underway start whole) (kept_taken known setting unbegun (underway start whole) header kept (header_taken start is_start)))
+    unbegun_first : IsKept setting unbegun → Decided (line ≡ trace_header setting) → Decided (First unbegun)
+    unbegun_first kept (inl same) = begins_on same (rest (underway start whole) (kept_taken known setting unbegun (underway start whole) (trace_header setting) kept (header_taken start is_start)))
     unbegun_first kept (inr other) = inr (λ x. other (is_header x.to line x.takes))
 
   -- where a run ends
@@ -280,7 +281,7 @@ module _ (known : Known) (setting : Setting) (Q : Stage → Type 0) (line : List
   no_first c standing e t takes = elim takes [ ]
 
   first_decided : (start : Config) → IsStart setting start → (s : Stage) → IsKept setting s → Decided (First s)
-  first_decided start is_start unbegun kept = unbegun_first start is_start kept (same_text line header)
+  first_decided start is_start unbegun kept = unbegun_first start is_start kept (same_text line (trace_header setting))
   first_decided start is_start (underway c standing) ready =
       let m = some_at known.some_moment setting c standing ready.wires in
       let e = some_end setting c standing m.0 m.1 in

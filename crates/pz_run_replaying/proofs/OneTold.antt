@@ -12,9 +12,9 @@ use Rattle.pz_rules.specs.Moments.{IsMoment}
 use Rattle.pz_rules.specs.Runs as runs
 use Rattle.pz_rules.specs.Runs.{Event, acted, passed, Standing, whole, stopped, IsChoice, Reaches, Ends}
 use Rattle.pz_trace.specs.declared.ending.Ending.{Ending}
-use Rattle.pz_trace.specs.Lines.{header, action_line, end_line}
+use Rattle.pz_trace.specs.Lines.{action_line, end_line}
 use Rattle.pz_trace.specs.Laws.{IsLine, HasUnbrokenNames}
-use Rattle.pz_trace.specs.TraceText.{event_line, events_text, run_ending, IsTrace}
+use Rattle.pz_trace.specs.TraceText.{trace_header, event_line, events_text, run_ending, IsTrace}
 use Rattle.pz_run_replaying.specs.Stages.{underway}
 use Rattle.pz_run_replaying.specs.Replays.{TellsLines}
 use Rattle.pz_run_replaying.specs.Laws.{CountFits, HasOneToldRun}
@@ -144,7 +144,7 @@ one_told_run known setting text sound tells x y few =
     let fits = known.start_fits setting x.start sound x.is_start in
     let ready : Ready setting x.start whole = record { sound = sound; wires = known.wires setting.model sound; all = fits.0; fit = fits.1; failed = tt } in
     let reaches : Reaches setting x.start y.events y.last y.standing = subst (λ (z : Config). Reaches setting z y.events y.last y.standing) (sym start) y.reaches in
-    let texts = append_cancel_left header (events_text setting.model x.events ++ end_line setting.model x.last.clock x.ending)
+    let texts = append_cancel_left (trace_header setting) (events_text setting.model x.events ++ end_line setting.model x.last.clock x.ending)
     (events_text setting.model y.events ++ end_line setting.model y.last.clock y.ending) (sym x.is_text ∙ y.is_text) in
     let same = one_way known setting tells.names x.start x.last y.last whole x.standing y.standing x.events y.events x.ending y.ending ready
     (goes_of setting x.start x.last x.events x.standing x.reaches) (goes_of setting x.start y.last y.events y.standing reaches) few

@@ -10,7 +10,7 @@ use Rattle.pz_io.specs.Writing.{Wrote}
 use Rattle.pz_classes.specs.Soundness.{IsSound}
 use Rattle.pz_rules.specs.Settings.{Setting}
 use Rattle.pz_rules.specs.Runs.{whole}
-use Rattle.pz_trace.specs.Lines.{header}
+use Rattle.pz_trace.specs.TraceText.{trace_header}
 use Rattle.pz_term.specs.Simulations.{Simulation, stands, Starts, starts}
 use Rattle.pz_run_replaying.specs.declared.replayed.Replayed.{Replayed}
 use Rattle.pz_run_replaying.specs.declared.replayed.Replayed.TheVariants.{Refused}
@@ -19,7 +19,7 @@ use Rattle.pz_run_replaying.specs.Expected.{Expects, the_header}
 use Rattle.pz_run_replaying.specs.Replays.{TellsLines, IsReplayed, refusal_text}
 use Rattle.pz_run_replaying.specs.devices.Known.{Known}
 use Rattle.pz_run_replaying.specs.devices.Fronts.{StartsWith}
-use Rattle.pz_term.specs.Simulations.{model_in}
+use Rattle.pz_term.specs.Simulations.{setting_in, model_in}
 use Rattle.pz_run_replaying.specs.devices.Readiness.{IsReady}
 use Rattle.pz_run_replaying.specs.devices.Taking.{Takes, header_taken, arrived, Differs}
 use Rattle.pz_run_replaying.specs.devices.Progress.{Progress, Answers}
@@ -37,36 +37,37 @@ progress_none : Known → (setting : Setting) (s : Simulation) (trace : List ℕ
 progress_none known setting _ trace (starts c is) sound =
     record { start = c; is_start = is; leads = nothing_told; path = arrived unbegun; kept = (sound, known.wires setting.model sound); is_trace = refl }
 
-only_header : (setting : Setting) (trace line left : List ℕ) (t : Stage) → ((rest : List ℕ) → trace ≡ header ++ rest → ⊥) → trace ≡ line ++ left → Takes setting unbegun line t → ⊥
+only_header : (setting : Setting) (trace line left : List ℕ) (t : Stage) → ((rest : List ℕ) → trace ≡ trace_header setting ++ rest → ⊥) → trace ≡ line ++ left → Takes setting unbegun line t → ⊥
 only_header setting trace _ left _ none is (header_taken start is_start) = none left is
 
-no_header : (setting : Setting) (trace : List ℕ) → ((rest : List ℕ) → trace ≡ header ++ rest → ⊥) → Differs setting unbegun trace
+no_header : (setting : Setting) (trace : List ℕ) → ((rest : List ℕ) → trace ≡ trace_header setting ++ rest → ⊥) → Differs setting unbegun trace
 no_header setting trace none = record { untaken = λ line left t is_line is takes. only_header setting trace line left t none is takes; unfinished = λ c standing e same nothing. cc }
 
 module _ (known : Known) (setting : Setting) (trace : List ℕ) (tells : TellsLines setting) (before : SinkState) where
   pub header_wanting : (s at : Simulation) → Starts setting s → IsSound (model_in s) → Answers setting trace [] before before at (Err NoMemory)
   header_wanting s at begins sound = answers_memory known setting trace [] unbegun trace (progress_none known setting s trace begins sound) tells before at
 
-  pub header_refused : (s : Simulation) (now : SinkState) (made : Vec ℕ Global) (result : Result Replayed Halt) → Starts setting s → IsSound (model_in s) → made.items ≡ header
-      → ((rest : List ℕ) → trace ≡ header ++ rest → ⊥) → Wrote before now (refusal_text 1 (Some made.items)) (result_err result) → IfOk result (λ replayed. replayed ≡ Refused 1)
+  pub header_refused : (s : Simulation) (now : SinkState) (made : Vec ℕ Global) (result : Result Replayed Halt) → Starts setting s → IsSound (model_in s) → made.items ≡ trace_header (setting_in s)
+      → ((rest : List ℕ) → trace ≡ trace_header (setting_in s) ++ rest → ⊥) → Wrote before now (refusal_text 1 (Some made.items)) (result_err result) → IfOk result (λ replayed. replayed ≡ Refused 1)
       → Answers setting trace [] before now s result
-  header_refused s now made result begins sound of none wrote is =
-      let x = progress_none known setting s trace begins sound in
+  header_refused _ now made result (starts c begins) sound of none wrote is =
+      let s = stands setting c whole in
+      let x = progress_none known setting s trace (starts c begins) sound in
       answers_refused known setting trace [] unbegun trace x tells before now s result (Some made.items) x.kept (no_header setting trace none)
-      (subst (λ (l : List ℕ). Expects setting trace unbegun (Some l)) (sym of) the_header) begins wrote is
+      (subst (λ (l : List ℕ). Expects setting trace unbegun (Some l)) (sym of) the_header) (starts c begins) wrote is
 
-  pub header_cut : (s at : Simulation) (now : SinkState) (halt : Halt) (len : ℕ) → Starts setting s → IsSound (model_in s) → StartsWith trace header len → Wrote before now header (Some halt)
+  pub header_cut : (s at : Simulation) (now : SinkState) (halt : Halt) (len : ℕ) → Starts setting s → IsSound (model_in s) → StartsWith trace (trace_header (setting_in s)) len → Wrote before now (trace_header (setting_in s)) (Some halt)
       → Answers setting trace [] before now at (Err halt)
   header_cut _ at now halt len (starts c is) sound front wrote =
       answers_cut known setting trace [] unbegun trace (progress_none known setting (stands setting c whole) trace (starts c is) sound) tells before now at
-      header (drop len trace) (underway c whole) halt tt (header_taken c is) front.splits wrote
+      (trace_header setting) (drop len trace) (underway c whole) halt tt (header_taken c is) front.splits wrote
 
   -- what is behind it was gone through
-  pub header_followed : (s at : Simulation) (mid now : SinkState) (result : Result Replayed Halt) (len : ℕ) → Starts setting s → IsSound (model_in s) → StartsWith trace header len → Wrote before mid header None
+  pub header_followed : (s at : Simulation) (mid now : SinkState) (result : Result Replayed Halt) (len : ℕ) → Starts setting s → IsSound (model_in s) → StartsWith trace (trace_header (setting_in s)) len → Wrote before mid (trace_header (setting_in s)) None
       → AnswersAll s (drop len trace) 2 mid now at result → Answers setting trace [] before now at result
   header_followed _ at mid now result len (starts c is) sound front wrote answers =
       let none = since_none known setting trace [] unbegun trace 1 before (progress_none known setting (stands setting c whole) trace (starts c is) sound) refl in
-      let y = since_on known setting trace [] unbegun trace 1 before before none mid header (drop len trace) (underway c whole) tt (header_taken c is) front.splits wrote in
+      let y = since_on known setting trace [] unbegun trace 1 before before none mid (trace_header setting) (drop len trace) (underway c whole) tt (header_taken c is) front.splits wrote in
       since_answers known setting trace [] (underway c whole) (drop len trace) 2 before mid y now at result (answers trace y.more tells y.progress y.counted)
 
 -- What a replay has come to, or would

@@ -20,8 +20,8 @@ use Rattle.pz_trace.specs.declared.headings.Heading.{Heading}
 use Rattle.pz_trace.specs.declared.headings.Heading.TheVariants.{Step, Other}
 use Rattle.pz_trace.specs.Headings.{IsHeading}
 use Rattle.pz_trace.specs.Laws.{Unbroken, IsLine, OneFirstLine}
-use Rattle.pz_trace.specs.Lines.{header, time_line, action_line, end_line}
-use Rattle.pz_trace.specs.TraceText.{run_ending, IsTrace}
+use Rattle.pz_trace.specs.Lines.{time_line, action_line, end_line}
+use Rattle.pz_trace.specs.TraceText.{trace_header, run_ending, IsTrace}
 use Rattle.pz_term.specs.Simulations.{Simulation, stands, starts}
 use Rattle.pz_run_replaying.specs.declared.replayed.Replayed.{Replayed}
 use Rattle.pz_run_replaying.specs.declared.replayed.Replayed.TheVariants.{Ended, Refused}
@@ -165,7 +165,7 @@ module _ (known : Known) where
     expects_at c Broken is = absurd (never_broken setting c Broken refl is.applies)
 
     some_expected : (s : Stage) → IsKept setting s → SomeExpected s
-    some_expected unbegun kept = record { expected = Some header; expects = the_header }
+    some_expected unbegun kept = record { expected = Some (trace_header setting); expects = the_header }
     some_expected (underway c whole) ready = let m = known.some_moment setting c ready.wires in expects_at c m.0 m.1
     some_expected (underway c (stopped t)) ready = expects_end c (stopped t) (ending.Trouble t) (runs.stops c t) (trouble_no_stop t)
     some_expected (concluded c standing e) ready = record { expected = None; expects = nothing_more c standing e }

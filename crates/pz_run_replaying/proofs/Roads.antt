@@ -14,9 +14,10 @@ use Rattle.pz_rules.specs.Moments.{IsMoment}
 use Rattle.pz_rules.specs.Runs as runs
 use Rattle.pz_rules.specs.Runs.{Event, acted, passed, Standing, whole, stopped, IsChoice, Reaches, Ends}
 use Rattle.pz_trace.specs.declared.ending.Ending.{Ending}
-use Rattle.pz_trace.specs.Lines.{header, end_line}
+use Rattle.pz_trace.specs.Lines.{end_line}
+use Rattle.pz_trace.specs.Forms.{form_of}
 use Rattle.pz_trace.specs.Laws.{IsLine}
-use Rattle.pz_trace.specs.TraceText.{event_line, events_text, IsTrace}
+use Rattle.pz_trace.specs.TraceText.{trace_header, event_line, events_text, IsTrace}
 use Rattle.pz_term.specs.Simulations.{stands}
 use Rattle.pz_run_replaying.specs.declared.replayed.Replayed.TheVariants.{Ended}
 use Rattle.pz_run_replaying.specs.Stages.{Stage, unbegun, underway, concluded, LeadsTo, nothing_told, events_told, end_told}
@@ -88,10 +89,10 @@ reaches_on setting _ d f _ more standing (runs.passes c next _ time events _ is 
     runs.passes c next f time (events ++ more) standing is passes (reaches_on setting next d f events more standing reaches rest)
 
 event_told : (setting : Setting) (start c next : Config) (events : List Event) (e : Event) (left : Standing) → IsStart setting start → Reaches setting start events c whole → Reaches setting c (e ∷ []) next left
-    → LeadsTo setting (header ∷ (map (event_line setting.model) events ++ event_line setting.model e ∷ [])) (underway next left)
+    → LeadsTo setting (trace_header setting ∷ (map (event_line setting.model) events ++ event_line setting.model e ∷ [])) (underway next left)
 event_told setting start c next events e left is reaches to =
     let lines : map (event_line setting.model) (events ++ e ∷ []) ≡ map (event_line setting.model) events ++ event_line setting.model e ∷ [] = map-append (event_line setting.model) events (e ∷ []) in
-    subst (λ (ls : List (List ℕ)). LeadsTo setting (header ∷ ls) (underway next left)) lines
+    subst (λ (ls : List (List ℕ)). LeadsTo setting (trace_header setting ∷ ls) (underway next left)) lines
     (events_told start next (events ++ e ∷ []) left is (reaches_on setting start c next events (e ∷ []) left reaches to))
 
 after_reached : (setting : Setting) (c next : Config) (left : Standing) (n k : ℕ) (a : Action) → IsMoment setting c (Actions n) → IsChoice setting c n k a → After setting c a next left → Reaches setting c (acted c.clock n k a ∷ []) next left
@@ -113,8 +114,8 @@ concat_events : (m : ModelTree) (events : List Event) → concat (map (event_lin
 concat_events m [] = refl
 concat_events m (e ∷ events) = ap (λ (l : List ℕ). event_line m e ++ l) (concat_events m events)
 
-whole_text : (m : ModelTree) (events : List Event) (last : List ℕ) → concat (header ∷ (map (event_line m) events ++ last ∷ [])) ≡ header ++ (events_text m events ++ last)
-whole_text m events last =
+whole_text : (header : List ℕ) (m : ModelTree) (events : List Event) (last : List ℕ) → concat (header ∷ (map (event_line m) events ++ last ∷ [])) ≡ header ++ (events_text m events ++ last)
+whole_text header m events last =
     ap (λ (l : List ℕ). header ++ l) (concat-append (map (event_line m) events) (last ∷ [])
     ∙ ap (λ (l : List ℕ). l ++ (last ++ [])) (concat_events m events) ∙ ap (λ (l : List ℕ). events_text m events ++ l) (append-nil last))
 
@@ -128,12 +129,12 @@ pub record IsLed (setting : Setting) (text : List ℕ) : Type 0 where
 
 pub trace_led : (setting : Setting) (text : List ℕ) → IsTrace setting text → IsLed setting text
 trace_led setting text run = record {
-  lines = header ∷ (map (event_line setting.model) run.events ++ end_line setting.model run.last.clock run.ending ∷ []);
+  lines = trace_header setting ∷ (map (event_line setting.model) run.events ++ end_line setting.model run.last.clock run.ending ∷ []);
   c = run.last;
   standing = run.standing;
   ending = run.ending;
   leads = end_told run.start run.last run.events run.standing run.ending run.is_start run.reaches run.ends;
-  is_text = run.is_text ∙ sym (whole_text setting.model run.events (end_line setting.model run.last.clock run.ending));
+  is_text = run.is_text ∙ sym (whole_text (trace_header setting) setting.model run.events (end_line setting.model run.last.clock run.ending));
 }
 
 pub led_trace : (setting : Setting) (text : List ℕ) (lines : List (List ℕ)) (c : Config) (standing : Standing) (e : Ending) → LeadsTo setting lines (concluded c standing e) → text ≡ concat lines → IsTrace setting text
@@ -146,7 +147,7 @@ led_trace setting text _ _ _ _ (end_told start c events standing e is reaches so
   reaches = reaches;
   ending = e;
   ends = so;
-  is_text = same ∙ whole_text setting.model events (end_line setting.model c.clock e);
+  is_text = same ∙ whole_text (trace_header setting) setting.model events (end_line setting.model c.clock e);
 }
 
 pub accepted : (setting : Setting) (text : List ℕ) (lines : List (List ℕ)) (c : Config) (standing : Standing) (e : Ending) → LeadsTo setting lines (concluded c standing e) → text ≡ concat lines → Replays setting text text (Ended e) (stands setting c standing)
@@ -159,14 +160,14 @@ accepted setting text _ _ _ _ (end_told start c events standing e is reaches so)
   reaches = reaches;
   ending = e;
   ends = so;
-  is_text = same ∙ whole_text setting.model events (end_line setting.model c.clock e);
+  is_text = same ∙ whole_text (trace_header setting) setting.model events (end_line setting.model c.clock e);
 })
 
 pub lines_told : Known → (setting : Setting) → TellsLines setting → (lines : List (List ℕ)) (s : Stage) → LeadsTo setting lines s → Each IsLine lines
 lines_told known setting tells _ _ nothing_told = tt
-lines_told known setting tells _ _ (events_told start c events standing is reaches) = (known.header_line, each_map (event_line setting.model) events (tells.events start c events standing is reaches))
+lines_told known setting tells _ _ (events_told start c events standing is reaches) = (known.header_lines (form_of setting.limits), each_map (event_line setting.model) events (tells.events start c events standing is reaches))
 lines_told known setting tells _ _ (end_told start c events standing e is reaches so) = (
-  known.header_line,
+  known.header_lines (form_of setting.limits),
   each_both (map (event_line setting.model) events) (end_line setting.model c.clock e ∷ []) (each_map (event_line setting.model) events (tells.events start c events standing is reaches))
       (known.end_lines setting.model c.clock e tells.names, tt),
 )
@@ -195,9 +196,9 @@ module _ (known : Known) (setting : Setting) where
 
   pub begun : (start : Config) (lines : List (List ℕ)) (s : Stage) → IsStart setting start → IsKept setting s → LeadsTo setting lines s → IsBegun setting lines
   begun start lines unbegun is kept leads =
-      let takes : Takes setting unbegun header (underway start whole) = header_taken start is in
-      let x = from_underway (lines ++ header ∷ []) start whole (kept_taken known setting unbegun (underway start whole) header kept takes) (leads_on setting lines unbegun (underway start whole) header leads takes) in
-      record { text = x.text; is_run = x.is_run; more = header ∷ x.more; is_text = x.is_text ∙ ap concat (append_assoc lines (header ∷ []) x.more) }
+      let takes : Takes setting unbegun (trace_header setting) (underway start whole) = header_taken start is in
+      let x = from_underway (lines ++ trace_header setting ∷ []) start whole (kept_taken known setting unbegun (underway start whole) (trace_header setting) kept takes) (leads_on setting lines unbegun (underway start whole) (trace_header setting) leads takes) in
+      record { text = x.text; is_run = x.is_run; more = trace_header setting ∷ x.more; is_text = x.is_text ∙ ap concat (append_assoc lines (trace_header setting ∷ []) x.more) }
   begun start lines (underway c standing) is kept leads = from_underway lines c standing kept leads
   begun start lines (concluded c standing e) is kept leads = record {
     text = concat lines;

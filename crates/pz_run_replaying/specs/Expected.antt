@@ -9,8 +9,8 @@ use Rattle.pz_rules.specs.Runs.{Standing, whole, IsChoice, Ends}
 use Rattle.pz_trace.specs.declared.ending.Ending.{Ending}
 use Rattle.pz_trace.specs.declared.ending.Ending.TheVariants.{Stop}
 use Rattle.pz_trace.specs.declared.headings.Heading.TheVariants.{Step}
-use Rattle.pz_trace.specs.Lines.{header, time_line, action_line, end_line}
-use Rattle.pz_trace.specs.TraceText.{run_ending}
+use Rattle.pz_trace.specs.Lines.{time_line, action_line, end_line}
+use Rattle.pz_trace.specs.TraceText.{trace_header, run_ending}
 use Rattle.pz_trace.specs.Headings.{IsHeading}
 use Rattle.pz_trace.specs.Laws.{IsLine}
 use Rattle.pz_run_replaying.specs.Stages.{Stage, unbegun, underway, concluded}
@@ -26,7 +26,7 @@ pub record NamesOffer (rest : List ℕ) (k : ℕ) : Type 0 where
   pub heading : IsHeading line (Step clock n k)
 
 pub data Expects (setting : Setting) (rest : List ℕ) : Stage → Option (List ℕ) → Type 0 where
-  the_header : Expects setting rest unbegun (Some header)
+  the_header : Expects setting rest unbegun (Some (trace_header setting))
   -- where there are offers, the line of the one that the trace names
   the_offer : (c : Config) (n k : ℕ) (a : Action) → IsMoment setting c (Actions n) → NamesOffer rest k → IsChoice setting c n k a
       → Expects setting rest (underway c whole) (Some (action_line setting.model c.clock n k a))

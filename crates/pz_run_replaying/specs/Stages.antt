@@ -5,8 +5,8 @@ use Rattle.pz_rules.specs.Configurations.{Config}
 use Rattle.pz_rules.specs.Starting.{IsStart}
 use Rattle.pz_rules.specs.Runs.{Event, Standing, Reaches, Ends}
 use Rattle.pz_trace.specs.declared.ending.Ending.{Ending}
-use Rattle.pz_trace.specs.Lines.{header, end_line}
-use Rattle.pz_trace.specs.TraceText.{event_line, run_ending}
+use Rattle.pz_trace.specs.Lines.{end_line}
+use Rattle.pz_trace.specs.TraceText.{trace_header, event_line, run_ending}
 use Rattle.pz_term.specs.Simulations.{Simulation, stands, Starts}
 
 pub data Stage : Type 0 where
@@ -20,10 +20,10 @@ pub data Stage : Type 0 where
 pub data LeadsTo (setting : Setting) : List (List ℕ) → Stage → Type 0 where
   nothing_told : LeadsTo setting [] unbegun
   events_told : (start c : Config) (events : List Event) (standing : Standing) → IsStart setting start → Reaches setting start events c standing
-      → LeadsTo setting (header ∷ map (event_line setting.model) events) (underway c standing)
+      → LeadsTo setting (trace_header setting ∷ map (event_line setting.model) events) (underway c standing)
   end_told : (start c : Config) (events : List Event) (standing : Standing) (ending : Ending)
       → IsStart setting start → Reaches setting start events c standing → Ends setting c standing (run_ending ending)
-      → LeadsTo setting (header ∷ (map (event_line setting.model) events ++ end_line setting.model c.clock ending ∷ [])) (concluded c standing ending)
+      → LeadsTo setting (trace_header setting ∷ (map (event_line setting.model) events ++ end_line setting.model c.clock ending ∷ [])) (concluded c standing ending)
 
 -- a simulator that has gone so far
 abbrev pub IsAt : Setting → Stage → Simulation → Type 0

@@ -1,7 +1,8 @@
 // A trace, line by line.
 
-ghost use Rattle.std.specs.Prelude.{◌≡◌, ◌<◌, ◌+◌, ◌^◌, ℕ, suc, List, [], length};
+ghost use Rattle.std.specs.Prelude.{◌≡◌, ◌<◌, ◌+◌, ◌^◌, ℕ, suc, List, [], length, IfOk};
 ghost use Rattle.pz_rules.specs.Settings.{Setting};
+ghost use Rattle.pz_trace.specs.TraceText.{trace_header};
 ghost use Rattle.pz_term.specs.Simulations.{Starts, setting_in};
 ghost use Rattle.pz_run_replaying.specs.Replays.{TellsLines, IsReplayed};
 ghost use Rattle.pz_run_replaying.specs.devices.Readiness.{IsReady, stage_of};
@@ -15,8 +16,8 @@ use crate::moving::go;
 use crate::refusing::{conclude, refuse};
 use pz_io::{Halt, Sink, put};
 use pz_term::{Simulator, Steps};
-use pz_trace::header;
-use std::alloc::Global;
+use pz_trace::{form_of, header};
+use std::alloc::{AllocError, Global};
 use std::sync::ledger::Ledger;
 
 // Goes through the lines of a trace behind its header, of which the first has this number, from 1.
@@ -56,6 +57,13 @@ fn follow<S: Simulator, L: Ledger, W: Sink>(
     }
 }
 
+// The first line of a run that a simulator goes through. The only error is want of memory.
+fn header_line<S: Simulator>(alloc: Global, sim: &S) -> Result<Vec<u8>, AllocError>
+    ensures { IfOk result (λ line. line.items ≡ trace_header (setting_in (S.simulation sim.now))) }
+{
+    header(alloc, form_of(sim.limits()))
+}
+
 // Goes through the lines of a trace.
 fn replay_lines<S: Simulator, L: Ledger, W: Sink>(
     alloc: Global,
@@ -71,7 +79,7 @@ fn replay_lines<S: Simulator, L: Ledger, W: Sink>(
 {
     rules_are_known();
     let _model = sim.checked().model();
-    let header = header(alloc)?;
+    let header = header_line(alloc, sim)?;
     let Some(len) = front_len(trace, header.as_slice()) else {
         return refuse(alloc, 1, Some(header), out);
     };

@@ -6,6 +6,7 @@ pub mod Cut
 pub mod EveryHeadings
 pub mod Naming
 pub mod Unbroken
+pub mod Told
 pub mod Happening
 pub mod Worked
 pub mod Rows

@@ -8,36 +8,46 @@ use Rattle.pz_copy.specs.Parcels.{ParcelView}
 use Rattle.pz_offer.specs.declared.trouble.Trouble.TheVariants.{Fault, Spent, High}
 use Rattle.pz_rules.specs.declared.action.Kind.TheVariants.{Skip, Eval, Expire, Call}
 use Rattle.pz_rules.specs.Runs.{acted, passed}
+use Rattle.pz_trace.specs.declared.forms.Form.TheVariants.{Two, Three}
 use Rattle.pz_trace.specs.declared.ending.Ending.TheVariants as ending
 use Rattle.pz_trace.specs.Labels.{label}
 use Rattle.pz_trace.specs.Lines.{action_line, end_line}
 use Rattle.pz_trace.specs.TraceText.{trace_text}
-use Rattle.pz_trace.proofs.Worked.{at, instance, process, system_of, does, hands, handing_on}
+use Rattle.pz_trace.proofs.Worked.{at, instance, process, system_of, told_by, by_first, does, hands, handing_on}
 
 -- system instances p : P
 abbrev alone : ModelTree
 alone = record { decls = process (codes "P") [] ∷ system_of (instance (codes "p") (codes "P") ∷ []) [] ∷ [] }
 
 -- it skips, waits and skips
-waiting : trace_text alone (acted 0 1 0 (does 0 Call 2 6) ∷ acted 0 1 0 (does 0 Skip 4 1) ∷ passed 0 3 ∷ acted 3 1 0 (does 0 Expire 5 1) ∷ acted 3 1 0 (does 0 Skip 6 1) ∷ []) 3 ending.End
+waiting : trace_text (by_first alone) (acted 0 1 0 (does 0 Call 2 6) ∷ acted 0 1 0 (does 0 Skip 4 1) ∷ passed 0 3 ∷ acted 3 1 0 (does 0 Expire 5 1) ∷ acted 3 1 0 (does 0 Skip 6 1) ∷ []) 3 ending.End
     ≡ codes "poosl-trace 1\n0 1 0 p call 2:6\n0 1 0 p skip 4:1\n0 time 3\n3 1 0 p expire 5:1\n3 1 0 p skip 6:1\n3 end\n"
 unfolding digits
 waiting = refl
 
 -- a call that ends in a loop without end, which is stopped
-stopped : trace_text alone (acted 0 1 0 (does 0 Call 2 6) ∷ acted 0 1 0 (does 0 Skip 3 15) ∷ acted 0 1 0 (does 0 Call 3 21) ∷ []) 0 ending.Stop
+stopped : trace_text (by_first alone) (acted 0 1 0 (does 0 Call 2 6) ∷ acted 0 1 0 (does 0 Skip 3 15) ∷ acted 0 1 0 (does 0 Call 3 21) ∷ []) 0 ending.Stop
     ≡ codes "poosl-trace 1\n0 1 0 p call 2:6\n0 1 0 p skip 3:15\n0 1 0 p call 3:21\n0 stop\n"
 unfolding digits
 stopped = refl
 
+-- runs that are stopped at once, by the limits of the other forms
+second : trace_text (told_by Two alone) [] 0 ending.Stop ≡ codes "poosl-trace 2\n0 stop\n"
+unfolding digits
+second = refl
+
+third : trace_text (told_by (Three 250) alone) [] 0 ending.Stop ≡ codes "poosl-trace 3 250\n0 stop\n"
+unfolding digits
+third = refl
+
 -- a guard without a value
-faulty : trace_text alone (acted 0 1 0 (does 0 Call 2 6) ∷ []) 0 (ending.Trouble (Fault DivideByZero 0 (at 4 8)))
+faulty : trace_text (by_first alone) (acted 0 1 0 (does 0 Call 2 6) ∷ []) 0 (ending.Trouble (Fault DivideByZero 0 (at 4 8)))
     ≡ codes "poosl-trace 1\n0 1 0 p call 2:6\n0 fault DivideByZero p 4:8\n"
 unfolding digits
 faulty = refl
 
 -- an evaluation without end: the action has its line
-spent : trace_text alone (acted 0 1 0 (does 0 Call 6 6) ∷ acted 0 1 0 (does 0 Eval 7 15) ∷ []) 0 (ending.Trouble (Spent 0 (at 7 15)))
+spent : trace_text (by_first alone) (acted 0 1 0 (does 0 Call 6 6) ∷ acted 0 1 0 (does 0 Eval 7 15) ∷ []) 0 (ending.Trouble (Spent 0 (at 7 15)))
     ≡ codes "poosl-trace 1\n0 1 0 p call 6:6\n0 1 0 p eval 7:15\n0 spent p 7:15\n"
 unfolding digits
 spent = refl

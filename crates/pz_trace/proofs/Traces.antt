@@ -10,7 +10,7 @@ use Rattle.pz_rules.specs.Runs.{Event, acted, passed}
 use Rattle.pz_trace.specs.declared.ending.Ending.TheVariants as ending
 use Rattle.pz_trace.specs.Lines.{newline}
 use Rattle.pz_trace.specs.TraceText.{trace_text}
-use Rattle.pz_trace.proofs.Worked.{id, instance, channel_of, inner, process, system_of, does, hands, nothing, first_and, handing_on, nested}
+use Rattle.pz_trace.proofs.Worked.{id, instance, channel_of, inner, process, system_of, by_first, does, hands, nothing, first_and, handing_on, nested}
 
 abbrev lines : List (List ℕ) → List ℕ
 lines texts = flat_map (λ l. l ++ newline) texts
@@ -35,7 +35,7 @@ condition_events =
     acted 0 1 0 (does 2 Call 10 6) ∷
     acted 0 1 0 (hands 0 1 2 (codes "m") (integer 3)) ∷ []
 
-condition : trace_text two_senders condition_events 0 ending.Deadlock ≡ lines
+condition : trace_text (by_first two_senders) condition_events 0 ending.Deadlock ≡ lines
     (codes "poosl-trace 1" ∷
     codes "0 3 0 a call 4:6" ∷
     codes "0 2 0 b call 4:6" ∷
@@ -66,7 +66,7 @@ interrupted_events =
     passed 11 6 ∷
     acted 17 1 0 (does 1 Expire 10 25) ∷ []
 
-interrupted : trace_text sender_and_receiver interrupted_events 17 ending.End ≡ lines
+interrupted : trace_text (by_first sender_and_receiver) interrupted_events 17 ending.End ≡ lines
     (codes "poosl-trace 1" ∷
     codes "0 2 0 s call 4:6" ∷
     codes "0 1 0 r call 9:6" ∷
@@ -94,7 +94,7 @@ effects_events =
     acted 4 1 0 (does 1 Expire 16 32) ∷
     acted 4 1 0 (hands 0 0 1 (codes "m") (integer 1)) ∷ []
 
-effects : trace_text sender_and_receiver effects_events 4 ending.End ≡ lines
+effects : trace_text (by_first sender_and_receiver) effects_events 4 ending.End ≡ lines
     (codes "poosl-trace 1" ∷
     codes "0 2 0 s call 9:6" ∷
     codes "0 2 0 s eval 10:15" ∷
@@ -122,7 +122,7 @@ handed_on_events =
     acted 0 1 0 (hands 0 0 1 (codes "m") (first_and 1)) ∷
     acted 0 1 0 (hands 1 1 2 (codes "m") (first_and 0)) ∷ []
 
-handed_on : trace_text handing_on handed_on_events 0 ending.End ≡ lines
+handed_on : trace_text (by_first handing_on) handed_on_events 0 ending.End ≡ lines
     (codes "poosl-trace 1" ∷
     codes "0 3 0 s call 9:6" ∷
     codes "0 3 0 s eval 11:1" ∷
@@ -151,7 +151,7 @@ clusters_events =
     acted 0 2 0 (hands 2 0 1 (codes "m") nothing) ∷
     acted 0 1 0 (hands 3 3 4 (codes "m") nothing) ∷ []
 
-clusters : trace_text nested clusters_events 0 ending.Deadlock ≡ lines
+clusters : trace_text (by_first nested) clusters_events 0 ending.Deadlock ≡ lines
     (codes "poosl-trace 1" ∷
     codes "0 7 0 c.s call 4:6" ∷
     codes "0 6 0 c.r call 9:6" ∷
@@ -218,7 +218,7 @@ lost_events =
     acted 6 2 0 (does 0 Test 10 25) ∷
     acted 6 1 0 (does 2 Call 22 40) ∷ []
 
-lost : trace_text lossy lost_events 6 ending.Deadlock ≡ lines
+lost : trace_text (by_first lossy) lost_events 6 ending.Deadlock ≡ lines
     (codes "poosl-trace 1" ∷
     codes "0 3 0 p call 4:6" ∷
     codes "0 3 0 p eval 10:17" ∷

@@ -33,7 +33,7 @@ use Rattle.pz_trace.specs.declared.ending.Ending.{Ending}
 use Rattle.pz_trace.specs.declared.ending.Ending.TheVariants as ending
 use Rattle.pz_trace.specs.Words.{kind_word, fault_word, pos_text}
 use Rattle.pz_trace.specs.Labels.{path_of, wire_of, spot, sending, label}
-use Rattle.pz_trace.specs.Lines.{newline, header, header_of, time_line, action_line, trouble_words, end_words, end_line}
+use Rattle.pz_trace.specs.Lines.{newline, header, time_line, action_line, trouble_words, end_words, end_line}
 use Rattle.pz_trace.specs.Laws.{Unbroken, IsLine, HasUnbrokenNames, HasUnbrokenMessage}
 use Rattle.pz_trace.proofs.Digits.{decimal_lacks}
 
@@ -214,14 +214,11 @@ ended front text whole is = record { front = front; unbroken = whole; ends = is 
 three : (a b c n : List ℕ) → a ++ (b ++ (c ++ n)) ≡ (a ++ (b ++ c)) ++ n
 three a b c n = simp append_assoc
 
-pub header_line : IsLine header
-header_line = ended (codes "poosl-trace 1") header refl refl
-
-pub header_lines : (form : Form) → IsLine (header_of form)
-header_lines One = ended (codes "poosl-trace 1") (header_of One) refl refl
-header_lines Two = ended (codes "poosl-trace 2") (header_of Two) refl refl
+pub header_lines : (form : Form) → IsLine (header form)
+header_lines One = ended (codes "poosl-trace 1") (header One) refl refl
+header_lines Two = ended (codes "poosl-trace 2") (header Two) refl refl
 header_lines (Three units) =
-    ended (codes "poosl-trace 3 " ++ decimal units) (header_of (Three units)) (joined (codes "poosl-trace 3 ") (decimal units) refl (decimal_unbroken units))
+    ended (codes "poosl-trace 3 " ++ decimal units) (header (Three units)) (joined (codes "poosl-trace 3 ") (decimal units) refl (decimal_unbroken units))
     (sym (append_assoc (codes "poosl-trace 3 ") (decimal units) newline))
 
 pub time_lines : (clock d : ℕ) → IsLine (time_line clock d)

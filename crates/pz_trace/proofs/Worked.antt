@@ -15,6 +15,10 @@ use Rattle.pz_offer.specs.declared.end.End.{End}
 use Rattle.pz_rules.specs.declared.action.Kind.{Kind}
 use Rattle.pz_rules.specs.declared.action.Action.{Action}
 use Rattle.pz_rules.specs.declared.action.Action.TheVariants.{Internal, Comm}
+use Rattle.pz_rules.specs.Settings.{Setting}
+use Rattle.pz_trace.specs.declared.forms.Form.{Form}
+use Rattle.pz_trace.specs.declared.forms.Form.TheVariants.{One}
+use Rattle.pz_trace.specs.Forms.{limits_of}
 
 abbrev pub at : ℕ → ℕ → Pos
 at line column = record { line = line; column = column }
@@ -36,6 +40,13 @@ process name ports = process_class (record { name = id name; parameters = None; 
 
 abbrev pub system_of : List Instance → List Channel → DeclTree
 system_of instances channels = system (record { pos = at 1 1; instances = Some instances; channels = Some channels })
+
+-- a model with the limits that a form tells, and with those of the first
+abbrev pub told_by : Form → ModelTree → Setting
+told_by form m = record { model = m; limits = limits_of form 100000 }
+
+abbrev pub by_first : ModelTree → Setting
+by_first m = told_by One m
 
 -- somewhere in the process of this number
 abbrev pub in_process : ℕ → End

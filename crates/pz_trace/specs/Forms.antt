@@ -1,11 +1,12 @@
 -- What the first line of a trace tells of the run: by which edition of the rules it was made, and with
 -- which limits.
-use Rattle.std.specs.Prelude.{◌≤◌, ◌<◌, ◌^◌, ℕ, nat_eq, if◌then◌else◌}
+use Rattle.std.specs.Prelude.{◌≡◌, ◌≤◌, ◌<◌, ◌^◌, ℕ, nat_eq, if◌then◌else◌, List, ◌++◌}
 use Rattle.pz_rules.specs.declared.limits.Edition.{Edition}
 use Rattle.pz_rules.specs.declared.limits.Edition.TheVariants as edition
 use Rattle.pz_rules.specs.declared.limits.Limits.{Limits}
 use Rattle.pz_trace.specs.declared.forms.Form.{Form}
 use Rattle.pz_trace.specs.declared.forms.Form.TheVariants.{One, Two, Three}
+use Rattle.pz_trace.specs.Lines.{header}
 
 -- the depth of an evaluation where the first line tells no units, and where it does
 abbrev pub early_depth : ℕ
@@ -45,3 +46,9 @@ abbrev pub IsWritten : Form → Type 0
 IsWritten One = Unit {0}
 IsWritten Two = Unit {0}
 IsWritten (Three units) = units < 2 ^ 64
+
+-- a text begins with the header of this form
+pub record HasHeader (form : Form) (text : List ℕ) : Type 0 where
+  pub is_form : IsForm form
+  pub rest : List ℕ
+  pub begins : text ≡ header form ++ rest

@@ -25,8 +25,8 @@ use Rattle.pz_trace.specs.declared.ending.Ending.{Ending}
 use Rattle.pz_trace.specs.declared.ending.Ending.TheVariants.{Stop}
 use Rattle.pz_trace.specs.declared.headings.Heading.{Heading}
 use Rattle.pz_trace.specs.declared.headings.Heading.TheVariants.{Step}
-use Rattle.pz_trace.specs.Lines.{newline, header, header_of, time_line, action_line, end_line}
-use Rattle.pz_trace.specs.Forms.{form_of, limits_of, IsWritten}
+use Rattle.pz_trace.specs.Lines.{newline, header, time_line, action_line, end_line}
+use Rattle.pz_trace.specs.Forms.{form_of, limits_of, IsWritten, HasHeader}
 use Rattle.pz_trace.specs.Headings.{IsHeading}
 use Rattle.pz_trace.specs.Named.{IsNamed, HasTroubled}
 
@@ -49,11 +49,8 @@ abbrev pub HasUnbrokenMessage : Action → Type 0
 HasUnbrokenMessage (Internal at kind pos) = Unit {0}
 HasUnbrokenMessage (Comm wire sender receiver message parcel) = Unbroken message
 
-abbrev pub HeaderIsLine : Type 0
-HeaderIsLine = IsLine header
-
 abbrev pub HeadersAreLines : Type 0
-HeadersAreLines = (form : Form) → IsLine (header_of form)
+HeadersAreLines = (form : Form) → IsLine (header form)
 
 abbrev pub TimeLinesAreLines : Type 0
 TimeLinesAreLines = (clock d : ℕ) → IsLine (time_line clock d)
@@ -74,7 +71,11 @@ OneFirstLine = (line other rest left : List ℕ) → IsLine line → IsLine othe
 
 -- a header tells one form
 abbrev pub HeadersDiffer : Type 0
-HeadersDiffer = (f g : Form) → IsWritten f → IsWritten g → header_of f ≡ header_of g → f ≡ g
+HeadersDiffer = (f g : Form) → IsWritten f → IsWritten g → header f ≡ header g → f ≡ g
+
+-- a text begins with the header of no more than one
+abbrev pub OneFormIsTold : Type 0
+OneFormIsTold = (f g : Form) (text : List ℕ) → HasHeader f text → HasHeader g text → f ≡ g
 
 -- and the limits that a form tells have that form
 abbrev pub FormsAreKept : Type 0

@@ -15,14 +15,11 @@ use Rattle.pz_trace.specs.Labels.{spot, label}
 abbrev pub newline : List ℕ
 newline = codes "\n"
 
-abbrev pub header : List ℕ
-header = codes "poosl-trace 1" ++ newline
-
 -- the first line by its form: `poosl-trace 1`, `poosl-trace 2` or `poosl-trace 3 units`
-abbrev pub header_of : Form → List ℕ
-header_of One = codes "poosl-trace 1\n"
-header_of Two = codes "poosl-trace 2\n"
-header_of (Three units) = codes "poosl-trace 3 " ++ (decimal units ++ newline)
+abbrev pub header : Form → List ℕ
+header One = codes "poosl-trace 1\n"
+header Two = codes "poosl-trace 2\n"
+header (Three units) = codes "poosl-trace 3 " ++ (decimal units ++ newline)
 
 -- `clock time d`
 abbrev pub time_line : ℕ → ℕ → List ℕ

@@ -5,9 +5,9 @@ ghost use Rattle.std.specs.Fmt.{decimal};
 ghost use Rattle.pz_trace.specs.Lines as lines;
 ghost use Rattle.pz_trace.specs.Lines.{newline};
 ghost use Rattle.pz_trace.specs.Forms as forms;
-ghost use Rattle.pz_trace.specs.Forms.{AreUnits, IsForm};
+ghost use Rattle.pz_trace.specs.Forms.{AreUnits, IsForm, HasHeader};
 
-use crate::headings::{place_of, value_of};
+use crate::headings::{first_line, place_of, value_of};
 use pz_rules::{Edition, Limits};
 use std::alloc::{AllocError, Global};
 
@@ -35,8 +35,8 @@ const HEIGHT: u32 = 1_000;
 const MOST_UNITS: u64 = 1_000_000_000;
 
 /// The first line of a trace of this form. The only error is want of memory.
-pub fn header_of(alloc: Global, form: Form) -> Result<Vec<u8>, AllocError>
-    ensures { IfOk result (λ line. line.items ≡ lines.header_of form) }
+pub fn header(alloc: Global, form: Form) -> Result<Vec<u8>, AllocError>
+    ensures { IfOk result (λ line. line.items ≡ lines.header form) }
 {
     match form {
         Form::One => plain_header(alloc, b"poosl-trace 1\n"),
@@ -56,8 +56,8 @@ fn plain_header(alloc: Global, text: &[u8]) -> Result<Vec<u8>, AllocError>
 /// The form whose header this line is, with its LF. None where it is the header of no form with from 1
 /// to 1,000,000,000 units. Takes no memory.
 pub fn read_header(line: &[u8]) -> Option<Form>
-    ensures { MatchOption result ((f : Form) → IsForm f → line.now ≡ lines.header_of f →
-        ⊥) (λ f. IsForm f × (line.now ≡ lines.header_of f)) }
+    ensures { MatchOption result ((f : Form) → IsForm f → line.now ≡ lines.header f →
+        ⊥) (λ f. IsForm f × (line.now ≡ lines.header f)) }
 {
     if line == b"poosl-trace 1\n".as_slice() {
         return Some(Form::One);
@@ -69,11 +69,21 @@ pub fn read_header(line: &[u8]) -> Option<Form>
     Some(Form::Three { units })
 }
 
+/// The form that the first line of a text tells, as [`read_header`] reads it. None where the text begins with
+/// no such header, with its LF. Takes no memory.
+pub fn form_told(text: &[u8]) -> Option<Form>
+    ensures { MatchOption result ((f : Form) → HasHeader f text.now → ⊥)
+        (λ f. HasHeader f text.now) }
+{
+    let line = first_line(text)?;
+    read_header(line)
+}
+
 // The units that the header of the third form tells.
 fn third_told(line: &[u8]) -> Option<u64>
     ensures { MatchOption result ((units : ℕ) → AreUnits units →
-        line.now ≡ lines.header_of (Form.Three units) → ⊥) (λ units. AreUnits units
-        × (line.now ≡ lines.header_of (Form.Three units))) }
+        line.now ≡ lines.header (Form.Three units) → ⊥) (λ units. AreUnits units
+        × (line.now ≡ lines.header (Form.Three units))) }
 {
     let told = behind(line, b"poosl-trace 3 ")?;
     units_told(told)

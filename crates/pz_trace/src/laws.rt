@@ -1,11 +1,11 @@
 // Laws of lines, each the contract of a function that does nothing.
 
-ghost use Rattle.pz_trace.specs.Laws.{HeaderIsLine, HeadersAreLines, HeadersDiffer, FormsAreKept, TimeLinesAreLines, ActionLinesAreLines, EndLinesAreLines, OneFirstLine, ActionLinesDiffer, StopIsNoAction, StopIsNoPassing, OneHeading, EveryHeading, ActionsHaveHeadings, OffersAreNamed, FaultsAreNamed, StopsAreNamed};
+ghost use Rattle.pz_trace.specs.Laws.{HeadersAreLines, HeadersDiffer, OneFormIsTold, FormsAreKept, TimeLinesAreLines, ActionLinesAreLines, EndLinesAreLines, OneFirstLine, ActionLinesDiffer, StopIsNoAction, StopIsNoPassing, OneHeading, EveryHeading, ActionsHaveHeadings, OffersAreNamed, FaultsAreNamed, StopsAreNamed};
 
 /// Each line ends with LF and has none before it, whatever a parcel holds, where no name of an
 /// instance, a class or a message has one. So a trace is cut into its lines at each LF.
 pub fn lines_stand_apart()
-    ensures header { HeaderIsLine }
+    ensures header { HeadersAreLines }
     ensures time { TimeLinesAreLines }
     ensures action { ActionLinesAreLines }
     ensures end { EndLinesAreLines }
@@ -20,10 +20,11 @@ pub fn lines_differ()
     ensures stop_passing { StopIsNoPassing }
 {}
 
-/// A header is a line and tells one form, and the limits that a form tells have that form.
+/// A header tells one form, a text begins with the header of no more than one, and the limits that a form
+/// tells have that form.
 pub fn headers_differ()
-    ensures lines { HeadersAreLines }
     ensures one { HeadersDiffer }
+    ensures told { OneFormIsTold }
     ensures kept { FormsAreKept }
 {}
 

@@ -11,7 +11,7 @@ mod names;
 mod words;
 
 pub use ending::Ending;
-pub use forms::{Form, form_of, header_of, limits_of, read_header};
+pub use forms::{Form, form_of, form_told, header, limits_of, read_header};
 pub use headings::{Heading, first_line, read_line};
 pub use labels::label;
-pub use lines::{action_line, end_line, end_words, header, time_line};
+pub use lines::{action_line, end_line, end_words, time_line};

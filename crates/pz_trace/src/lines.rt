@@ -20,15 +20,6 @@ use pz_rules::Action;
 use pz_syntax::Pos;
 use std::alloc::{AllocError, Global};
 
-/// The first line of a trace. The only error is want of memory.
-pub fn header(alloc: Global) -> Result<Vec<u8>, AllocError>
-    ensures { IfOk result (λ line. line.items ≡ lines.header) }
-{
-    let mut line = Vec::new(alloc);
-    line.extend_from_slice(b"poosl-trace 1\n")?;
-    Ok(line)
-}
-
 /// The line of an action that is chosen at a clock, in clock units: of so many offers the one of this
 /// number, from 0, and what it is (`label`, with its conditions). The only error is want of memory.
 pub fn action_line(

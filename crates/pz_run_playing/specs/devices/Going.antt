@@ -8,8 +8,7 @@ use Rattle.pz_rules.specs.Settings.{Setting}
 use Rattle.pz_rules.specs.Runs.{Event, Ending}
 use Rattle.pz_rules.specs.ChosenRuns.{Policy}
 use Rattle.pz_term.specs.Simulations.{Simulation, stands, setting_in}
-use Rattle.pz_trace.specs.Lines.{header}
-use Rattle.pz_trace.specs.TraceText.{events_text}
+use Rattle.pz_trace.specs.TraceText.{trace_header, events_text}
 use Rattle.pz_choice.specs.declared.chooser.Chooser.{Chooser}
 use Rattle.pz_choice.specs.Resolvers.{Resolver}
 use Rattle.pz_choice.specs.Choosers.{Stands}
@@ -87,7 +86,7 @@ pub record Ended (policy : Policy) (lines : Bool) (first at : Simulation) (befor
 -- the same of a run from the start of a model, with its header
 pub record PlayedThrough (setting : Setting) (policy : Policy) (lines : Bool) (at : Simulation) (before now : SinkState) (played : Played) : Type 0 where
   pub run : ChosenRun setting policy
-  pub wrote : Wrote before now (told lines header ++ told_events lines setting.model run.events) None
+  pub wrote : Wrote before now (told lines (trace_header setting) ++ told_events lines setting.model run.events) None
   pub finale : ending_of played.finale ≡ run.ending
   pub actions : played.actions ≡ actions_in run.events
   pub passes : played.passes ≡ passings_in run.events
@@ -96,7 +95,7 @@ pub record PlayedThrough (setting : Setting) (policy : Policy) (lines : Bool) (a
 -- something halted in it
 pub record BrokenOff (setting : Setting) (policy : Policy) (lines : Bool) (before now : SinkState) (halt : Halt) : Type 0 where
   pub run : ChosenRun setting policy
-  pub wrote : Wrote before now (told lines header ++ told_events lines setting.model run.events) (Some halt)
+  pub wrote : Wrote before now (told lines (trace_header setting) ++ told_events lines setting.model run.events) (Some halt)
 
 -- the same of a run that a chooser chooses, whoever that is
 pub record Course (limits : RunLimits) (lines : Bool) (begun : Chooser) (first : Simulation) (before : SinkState) (chooser : Chooser) (actions passes : ℕ) (at : Simulation) (now : SinkState) : Type 0 where

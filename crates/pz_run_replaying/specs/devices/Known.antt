@@ -1,6 +1,6 @@
 -- What is known of runs, of lines and of writing, by the laws of the crates below.
 use Rattle.pz_rules.specs.Laws.{OneListOfOffers, WiresAreKnown, OneMoment, EveryMoment, MomentsCountOffers, EveryPassing, OneNext, OnePassing, StaysWhole, StartFits, StaysFit, EveryNext}
-use Rattle.pz_trace.specs.Laws.{HeaderIsLine, EndLinesAreLines, OneFirstLine, ActionLinesDiffer, StopIsNoAction, StopIsNoPassing, OneHeading, EveryHeading, ActionsHaveHeadings, OffersAreNamed, FaultsAreNamed, StopsAreNamed}
+use Rattle.pz_trace.specs.Laws.{HeadersAreLines, EndLinesAreLines, OneFirstLine, ActionLinesDiffer, StopIsNoAction, StopIsNoPassing, OneHeading, EveryHeading, ActionsHaveHeadings, OffersAreNamed, FaultsAreNamed, StopsAreNamed}
 use Rattle.pz_term.specs.Laws.{OneMomentOf, OffersAreDerived, OneOfferOf}
 use Rattle.pz_io.specs.Laws.{NothingIsWritten, PiecesJoin, HaltsBeforeMore, MemoryMayBeWanting}
 
@@ -23,7 +23,7 @@ pub record Known : Type 0 where
   pub offers_named : OffersAreNamed
   pub faults_named : FaultsAreNamed
   pub stops_named : StopsAreNamed
-  pub header_line : HeaderIsLine
+  pub header_lines : HeadersAreLines
   pub end_lines : EndLinesAreLines
   pub one_line : OneFirstLine
   pub actions_differ : ActionLinesDiffer

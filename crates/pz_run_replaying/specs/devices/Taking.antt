@@ -12,9 +12,9 @@ use Rattle.pz_rules.specs.Steps.{Next, PassesTo}
 use Rattle.pz_rules.specs.Moments.{IsMoment}
 use Rattle.pz_rules.specs.Runs.{Standing, whole, stopped, IsChoice, Ends}
 use Rattle.pz_trace.specs.declared.ending.Ending.{Ending}
-use Rattle.pz_trace.specs.Lines.{header, time_line, action_line, end_line}
+use Rattle.pz_trace.specs.Lines.{time_line, action_line, end_line}
 use Rattle.pz_trace.specs.Laws.{IsLine}
-use Rattle.pz_trace.specs.TraceText.{run_ending}
+use Rattle.pz_trace.specs.TraceText.{trace_header, run_ending}
 use Rattle.pz_run_replaying.specs.Stages.{Stage, unbegun, underway, concluded}
 use Rattle.pz_run_replaying.specs.devices.Readiness.{Ready}
 
@@ -24,7 +24,7 @@ pub data After (setting : Setting) (c : Config) (a : Action) : Config → Standi
   fails : (trouble : Trouble) → Next setting c a (Err trouble) → After setting c a c (stopped trouble)
 
 pub data Takes (setting : Setting) : Stage → List ℕ → Stage → Type 0 where
-  header_taken : (start : Config) → IsStart setting start → Takes setting unbegun header (underway start whole)
+  header_taken : (start : Config) → IsStart setting start → Takes setting unbegun (trace_header setting) (underway start whole)
   action_taken : (c next : Config) (left : Standing) (n k : ℕ) (a : Action)
       → IsMoment setting c (Actions n) → IsChoice setting c n k a → After setting c a next left
       → Takes setting (underway c whole) (action_line setting.model c.clock n k a) (underway next left)

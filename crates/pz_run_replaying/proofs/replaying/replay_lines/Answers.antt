@@ -1,7 +1,8 @@
 use Rattle.std.proofs.Common.{◌≡◌, ℕ, List, Some, None, ap, sym, subst, ◌∙◌, ◌++◌}
 use Rattle.pz_io.specs.Writing.{Wrote}
 use Rattle.pz_io.specs.declared.writing.Halt.TheVariants.{NoMemory}
-use Rattle.pz_trace.specs.Lines.{header}
+use Rattle.pz_trace.specs.TraceText.{trace_header}
+use Rattle.pz_term.specs.Simulations.{setting_in}
 use Rattle.pz_run_replaying.specs.devices.Fronts.{StartsWith}
 use Rattle.pz_classes.specs.Soundness.{IsSound}
 use Rattle.pz_run_replaying.proofs.Written.{err_is}
@@ -26,7 +27,7 @@ returns-in_default g c = λ setting starts tells.
 pub returns-in_err-put : goal.returns-in_err-put
 returns-in_err-put g c =
     let sound = subst IsSound (c.model-model.ensures.is ∙ c.checked.ensures) c.model-model.ensures.sound in
-    let is : c.as_slice.result.now ≡ header = c.as_slice.ensures.value ∙ c.in_ok-header.ensures in
+    let is : c.as_slice.result.now ≡ trace_header (setting_in (g.S.Simulator.simulation c.args.sim.now)) = c.as_slice.ensures.value ∙ c.in_ok-header.ensures in
     let front = subst (λ (l : List ℕ). StartsWith c.args.trace.now l c.in-Some.len) is c.in-Some.ensures in
     let before = g.W.Sink.state c.args.out.now in
     let now = g.W.Sink.state c.put.new.out in
@@ -44,7 +45,7 @@ follow-requires-clause-ready g c =
 pub returns : goal.returns
 returns g c = λ setting starts tells.
     let sound = subst IsSound (c.model-model.ensures.is ∙ c.checked.ensures) c.model-model.ensures.sound in
-    let is : c.as_slice.result.now ≡ header = c.as_slice.ensures.value ∙ c.in_ok-header.ensures in
+    let is : c.as_slice.result.now ≡ trace_header (setting_in (g.S.Simulator.simulation c.args.sim.now)) = c.as_slice.ensures.value ∙ c.in_ok-header.ensures in
     let front = subst (λ (l : List ℕ). StartsWith c.args.trace.now l c.in-Some.len) is c.in-Some.ensures in
     let before = g.W.Sink.state c.args.out.now in
     let mid = g.W.Sink.state c.put.new.out in
