@@ -8,6 +8,7 @@ use Rattle.pz_syntax.specs.Classes.{DeclTree, data_class, process_class, cluster
 use Rattle.pz_check_violations.specs.declared.violation.Violation.{Violation}
 use Rattle.pz_check_violations.specs.Order.{violation}
 use Rattle.pz_classes_lineage.specs.Reached.{GoesRound}
+use Rattle.pz_classes.specs.declared.method_id.Counts.TheVariants.{Process}
 use Rattle.pz_classes.specs.declared.method_id.MethodId.{MethodId}
 use Rattle.pz_classes.specs.Kinds.{is_process}
 use Rattle.pz_classes.specs.Ancestors.{parent, ancestors}
@@ -104,13 +105,16 @@ number_within n s (t ∷ ss) k is = by_test (same_signature s t) (number_within 
     by_test true later here = let same : n ≡ k = cc in (omega arith, omega arith)
     by_test false later here = let r = later here in (let low : suc n ≤ k = r.0 in omega arith, let high : k < suc n + length ss = r.1 in omega arith)
 
--- no data class has a plain method
-no_data : (n : ℕ) (x : Id) (rs : List DataMethodTree) (k : ℕ) → first_with n (plain x) (map data_signature rs) ≡ Some k → ⊥
-no_data n x [] k is = cc
-no_data n x (r ∷ rs) k is = no_data (suc n) x rs k is
+-- no data class has a method of a process
+no_data : (n : ℕ) (name : List ℕ) (inputs outputs : ℕ) (rs : List DataMethodTree) (k : ℕ) → first_with n (record { name = name; counts = Process inputs outputs }) (map data_signature rs) ≡ Some k → ⊥
+no_data n name inputs outputs [] k is = cc
+no_data n name inputs outputs (r ∷ rs) k is = no_data (suc n) name inputs outputs rs k is
 
-module _ (m : ModelTree) (x : Id) where
-  -- what is known of a class that declares a plain method
+module _ (m : ModelTree) (name : List ℕ) (inputs outputs : ℕ) where
+  abbrev asked : Signature
+  asked = record { name = name; counts = Process inputs outputs }
+
+  -- what is known of a class that declares a method of a process
   pub record Owned (c k : ℕ) : Type 0 where
     pub index : ℕ
     pub numbered : c ≡ suc index
@@ -120,7 +124,7 @@ module _ (m : ModelTree) (x : Id) where
     pub first : methods_before m c ≤ k
     pub last : k < methods_before m c + length (signatures decl)
 
-  pub owned : (c k : ℕ) → own_method m (plain x) c ≡ Some (method_id k) → Owned c k
+  pub owned : (c k : ℕ) → own_method m asked c ≡ Some (method_id k) → Owned c k
   owned zero k own = cc
   owned (suc i) k own = by_decl (slice_get m.decls i) refl
     where
@@ -128,8 +132,8 @@ module _ (m : ModelTree) (x : Id) where
       number None e = cc
       number (Some j) e = let same : method_id j ≡ method_id k = cc in ap (λ (n : MethodId). Some n.0) same
 
-      sort : (d : DeclTree) → first_with (methods_before m (suc i)) (plain x) (signatures d) ≡ Some k → IsTrue (is_process d)
-      sort (data_class d) is = absurd (no_data (methods_before m (suc i)) x (unwrap_or d.methods []) k is)
+      sort : (d : DeclTree) → first_with (methods_before m (suc i)) asked (signatures d) ≡ Some k → IsTrue (is_process d)
+      sort (data_class d) is = absurd (no_data (methods_before m (suc i)) name inputs outputs (unwrap_or d.methods []) k is)
       sort (process_class p) is = refl
       sort (cluster_class d) is = cc
       sort (system s) is = cc
@@ -137,7 +141,7 @@ module _ (m : ModelTree) (x : Id) where
       by_decl : (o : Option DeclTree) → slice_get m.decls i ≡ o → Owned (suc i) k
       by_decl None here = let none : None ≡ Some (method_id k) = rw here at own in cc
       by_decl (Some d) here =
-          let is : option_map method_id (first_with (methods_before m (suc i)) (plain x) (signatures d)) ≡ Some (method_id k) = rw here at own in
-          let found : first_with (methods_before m (suc i)) (plain x) (signatures d) ≡ Some k = number (first_with (methods_before m (suc i)) (plain x) (signatures d)) is in
-          let within = number_within (methods_before m (suc i)) (plain x) (signatures d) k found in
+          let is : option_map method_id (first_with (methods_before m (suc i)) asked (signatures d)) ≡ Some (method_id k) = rw here at own in
+          let found : first_with (methods_before m (suc i)) asked (signatures d) ≡ Some k = number (first_with (methods_before m (suc i)) asked (signatures d)) is in
+          let within = number_within (methods_before m (suc i)) asked (signatures d) k found in
           record { index = i; numbered = refl; decl = d; there = here; process = sort d found; first = within.0; last = within.1 }

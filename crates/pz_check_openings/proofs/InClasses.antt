@@ -193,7 +193,7 @@ module _ (m : ModelTree) (c : ℕ) where
       sum_no_more (opened_in graph depth) (opened_to m c depth) (opened_no_more depth) (calls_at m k) in
       omega (arith, own, same, s)
 
-  so_large : (depth k : ℕ) → 1000000 < spread_to m c depth k → 1000000 < spread_in graph depth k
+  pub so_large : (depth k : ℕ) → 1000000 < spread_to m c depth k → 1000000 < spread_in graph depth k
   so_large depth k much = by_size (two_ways (spread_in graph depth k) 1000001)
     where
       two_ways : (u v : ℕ) → (u < v) ⊎ (v ≤ u)
@@ -241,9 +241,3 @@ large_breaks m c _ (large_in d k _ declared process (large_at o here finds (dept
     let name : o.name.pos ≡ r.0.name.pos = ap (λ (x : Outline). x.name.pos) r.2 in
     subst (λ (p : Pos). BreaksC24 m (violation 24 p)) (sym name)
     (rule.too_large c k depth d r.0 declared process (record { name = o.name.name; counts = Process o.inputs o.outputs }, finds) r.1 (large_so m c depth k much))
-
-pub breaks_large : (m : ModelTree) (v : Violation) → BreaksC24 m v → (c : ℕ) × LargeIn m (outlines m) c v
-breaks_large m _ (rule.too_large c k depth d r declared process (s, finds) at much) =
-    let same : s ≡ process_signature r = found_signature m s c k r finds at in
-    let own : process_method m c r.name.name (length (grouped r.inputs)) (length (grouped r.outputs)) ≡ Some (method_id k) = subst (λ (t : Signature). method_with m c t ≡ Some (method_id k)) same finds in
-    (c, large_in d k (violation 24 r.name.pos) declared process (large_at (outline_of r) (outline_there m k r at) own (depth, so_large m c depth k much)))

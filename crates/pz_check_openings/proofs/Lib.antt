@@ -11,4 +11,9 @@ mod Parts
 mod Ordering
 mod Marks
 mod Marking
+mod Capping
+mod Enough
+mod Kin
+mod Rising
+mod Sizing
 mod Telling

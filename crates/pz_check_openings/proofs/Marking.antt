@@ -37,7 +37,7 @@ module _ (m : ModelTree) (those : List (Option Outline)) (s : AreSuspects (outli
   to_rule : (v : Violation) → Found v → BreaksC23 m v
   to_rule v (c, below, (seen, here)) = round_breaks m c v (round_in_all (is_suspect s.rank) (outlines m) those s.are m c v here)
 
-  module _ (v : Violation) (d : Declaring (Kept m those s) m (λ line. RoundThrough (Kept m those s) m line v)) (o : Owned m d.declares.call d.class d.declares.method) where
+  module _ (v : Violation) (d : Declaring (Kept m those s) m (λ line. RoundThrough (Kept m those s) m line v)) (o : Owned m d.declares.call.name 0 0 d.class d.declares.method) where
     there : declaration m d.class ≡ Some o.decl
     there = ap (declaration m) o.numbered ∙ o.there
 
@@ -57,7 +57,7 @@ module _ (m : ModelTree) (those : List (Option Outline)) (s : AreSuspects (outli
   from_rule flat v breaks = by_class (through_suspects m those s v breaks)
     where
       by_declaring : Declaring (Kept m those s) m (λ line. RoundThrough (Kept m those s) m line v) → Found v
-      by_declaring d = found_there v d (owned m d.declares.call d.class d.declares.method d.declares.own)
+      by_declaring d = found_there v d (owned m d.declares.call.name 0 0 d.class d.declares.method d.declares.own)
 
       by_class : (c : ℕ) × RoundThrough (Kept m those s) m (ancestors m c) v → Found v
       by_class (c, through) = by_declaring (climb_round (Kept m those s) m flat c v through)

@@ -23,41 +23,14 @@ use Rattle.pz_check_openings.specs.devices.InClass.{methods_in, is_found, RoundI
 use Rattle.pz_check_openings.specs.devices.Settling.{Settles}
 use Rattle.pz_check_openings.proofs.Bounds.{settles_all}
 use Rattle.pz_check_openings.proofs.Gathering.{least_alike}
-use Rattle.pz_check_openings.proofs.InClasses.{large_breaks, breaks_large}
 
 module _ (m : ModelTree) where
-  -- a class with a declaration has a number below the count
-  numbered : (c : ℕ) (d : DeclTree) → declaration m c ≡ Some d → c < length m.decls + 1
-  numbered zero d is = omega arith
-  numbered (suc i) d is = let inside : i < length m.decls = slice_get_within m.decls i d is in omega arith
-
-  abbrev count : ℕ
-  count = length m.decls + 1
-
-  sizes_to : (v : Violation) → Among (LargeIn m (outlines m)) count v → BreaksC24 m v
-  sizes_to v (c, below, here) = large_breaks m c v here
-
-  sizes_from : (v : Violation) → BreaksC24 m v → Among (LargeIn m (outlines m)) count v
-  sizes_from v breaks = by_class (breaks_large m v breaks)
-    where
-      by_class : (c : ℕ) × LargeIn m (outlines m) c v → Among (LargeIn m (outlines m)) count v
-      by_class (c, here) = (c, below c v here, here)
-        where
-          below : (k : ℕ) (w : Violation) → LargeIn m (outlines m) k w → k < count
-          below k _ (large_in d j w declared process large) = numbered k d declared
-
-  pub sizes : (found : Option Violation) → LeastOf (Among (LargeIn m (outlines m)) count) found → LeastOf (BreaksC24 m) found
-  sizes found is = least_alike (Among (LargeIn m (outlines m)) count) (BreaksC24 m) sizes_to sizes_from found is
-
   -- what is told
   pub tell_round : (found : Option Violation) (v : Violation) → LeastOf (BreaksC23 m) found → found ≡ Some v → Tells m (Some v)
   tell_round found v least is = in_rounds (subst (LeastOf (BreaksC23 m)) is least)
 
-  pub tell_size : (also : List (Option Outline)) (found size : Option Violation) → LeastOf (BreaksC23 m) found → found ≡ None → also ≡ outlines m
-      → LeastOf (Among (LargeIn m also) count) size → Tells m size
-  tell_size also found size least is also_are large =
-      by_size size (subst (LeastOf (BreaksC23 m)) is least)
-      (sizes size (subst (λ (os : List (Option Outline)). LeastOf (Among (LargeIn m os) count) size) also_are large))
+  pub tell_size : (found size : Option Violation) → LeastOf (BreaksC23 m) found → found ≡ None → LeastOf (BreaksC24 m) size → Tells m size
+  tell_size found size least is large = by_size size (subst (LeastOf (BreaksC23 m)) is least) large
     where
       by_size : (o : Option Violation) → LeastOf (BreaksC23 m) None → LeastOf (BreaksC24 m) o → Tells m o
       by_size None none many = record { rounds = none; sizes = many }

@@ -3,3 +3,4 @@ pub mod Settling
 pub mod InClass
 pub mod Suspects
 pub mod Through
+pub mod Heavy

@@ -134,17 +134,22 @@ fn large_at_any(
     least
 }
 
-/// The same in the class of this number, where that is a process class. The only error is want of
-/// memory.
+/// The same in the class of this number, where that is a process class and has a mark. The only error
+/// is want of memory.
 fn large_in(
     alloc: Global,
     checked: &Checked,
     outlines: &[Option<Outline>],
+    marks: &[bool],
     class: u32,
 ) -> Result<Option<Violation>, AllocError>
     requires { HasClass (checked_classes checked.now) (class_id class) }
-    ensures { IfOk result (LeastOf (LargeIn (checked_model checked.now) outlines.now class)) }
+    ensures { IfOk result (LeastOf (Marked marks.now
+        (LargeIn (checked_model checked.now) outlines.now) class)) }
 {
+    if !is_marked(marks, class) {
+        return Ok(None);
+    }
     if !is_process(checked, class) {
         return Ok(None);
     }
@@ -165,13 +170,15 @@ pub(crate) fn large_in_any(
     alloc: Global,
     checked: &Checked,
     outlines: &[Option<Outline>],
+    marks: &[bool],
 ) -> Result<Option<Violation>, AllocError>
-    ensures { IfOk result (LeastOf (Among (LargeIn (checked_model checked.now) outlines.now)
+    ensures { IfOk result (LeastOf (Among
+        (Marked marks.now (LargeIn (checked_model checked.now) outlines.now))
         (length (checked_model checked.now).decls + 1))) }
 {
     let mut least = None;
     for class in 0..count(checked) {
-        let found = large_in(alloc, checked, outlines, class)?;
+        let found = large_in(alloc, checked, outlines, marks, class)?;
         least = sooner(least, found);
     }
     Ok(least)

@@ -4,6 +4,7 @@
 mod declaring;
 mod each_class;
 mod estimate;
+mod heavy;
 mod in_class;
 mod least;
 mod lookup;

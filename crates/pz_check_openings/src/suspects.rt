@@ -59,7 +59,7 @@ fn are_ordered(methods: &[Option<Outline>], names: &Numbering, ranks: &[u32]) ->
 }
 
 /// Whether the method is plain and begins with a call of its own rank, or of a higher one.
-fn is_suspect(method: &Outline, names: &Numbering, ranks: &[u32]) -> bool
+pub(crate) fn is_suspect(method: &Outline, names: &Numbering, ranks: &[u32]) -> bool
     ensures { result ≡ spec.is_suspect (value_of names.now ranks.now) method.now }
 {
     is_plain(method)

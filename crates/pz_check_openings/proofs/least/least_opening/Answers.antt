@@ -19,8 +19,9 @@ least_round_of-requires c = c.as_slice-4.ensures ∙ (c.in_ok-outlines.ensures �
 pub returns-in-Some : goal.returns-in-Some
 returns-in-Some c = tell_round (checked_model c.args.checked.now) c.in_ok-round.round c.in-Some.violation c.in_ok-round.ensures c.in-Some.is
 
+pub least_size_of-requires : goal.least_size_of-requires
+least_size_of-requires c = c.as_slice-in-None.ensures ∙ (c.in_ok-outlines.ensures ∙ ap outlines c.model.ensures.is)
+
 pub returns : goal.returns
 returns c =
-    IfOk-weaker c.large_in_any.result _ (Tells (checked_model c.args.checked.now)) (λ (found : Option Violation) large.
-    tell_size (checked_model c.args.checked.now) c.as_slice-in-None.result.now c.in_ok-round.round found c.in_ok-round.ensures c.in-None.is
-    (c.as_slice-in-None.ensures ∙ (c.in_ok-outlines.ensures ∙ ap outlines c.model.ensures.is)) large) c.large_in_any.ensures
+    IfOk-weaker c.least_size_of.result _ (Tells (checked_model c.args.checked.now)) (λ (found : Option Violation) large. tell_size (checked_model c.args.checked.now) c.in_ok-round.round found c.in_ok-round.ensures c.in-None.is large) c.least_size_of.ensures
