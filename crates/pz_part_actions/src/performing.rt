@@ -112,7 +112,17 @@ fn perform_step(
             codes.get().as_slice(),
         ),
         StepForm::If(test, steps, other) => {
-            perform_if(alloc, here, home, state, frame, pos, test.get(), steps, other)
+            perform_if(
+                alloc,
+                here,
+                home,
+                state,
+                frame,
+                pos,
+                test.get(),
+                steps,
+                other,
+            )
         }
         StepForm::While(test, body) => {
             perform_while(alloc, here, home, state, frame, step, test.get(), body)

@@ -17,12 +17,7 @@ use pz_part_opening::Home;
 use pz_rules::Limits;
 
 /// Where the statements of a process open.
-pub(crate) fn home_at<'a>(
-    checked: &'a Checked,
-    net: &Net,
-    limits: Limits,
-    process: u32,
-) -> Home<'a>
+pub(crate) fn home_at<'a>(checked: &'a Checked, net: &Net, limits: Limits, process: u32) -> Home<'a>
     requires there { HasProcess net.now process }
     requires of_model { ∥ IsNet (checked_model checked.now) net.now ∥₁ }
     ensures home { (place : Address) →

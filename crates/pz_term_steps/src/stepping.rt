@@ -115,7 +115,14 @@ fn communicate(
         ..here
     };
     let home = home_at(checked, net, limits, receiver.process);
-    match begin_receive(alloc, &there, &home, &mut processes[to], receives_at, parcel)? {
+    match begin_receive(
+        alloc,
+        &there,
+        &home,
+        &mut processes[to],
+        receives_at,
+        parcel,
+    )? {
         Ok(taken) => {
             finish(alloc, &sends_home, &mut processes[from], sends_at, sent)?;
             finish(alloc, &home, &mut processes[to], receives_at, taken)?;

@@ -88,7 +88,7 @@ returns-in_ok-finish-in-Ok-clause-steps c =
     let can = at.able p there (class_at m at.home) refl c.as_slice-place.result.now c.as_slice-place.ensures in
     let a = seen_at (setting_of m c.args.limits) c.args.at.now.process (class_at m at.home) c.args.clock p.state.held in
     let leaves = leaves_there m c.args.limits (record { classes = c.classes.result; limits = c.args.limits; process = c.args.at.now.process; clock = c.args.clock }) c.home_at-home.result at.home (c.home_at-home.ensures.home at.home at.at_home) Performs p.state.held (term_view p.term) c.as_slice-place.result.now
-        (begun_process (home_view c.home_at-home.result) (term_view p.term) c.as_slice-place.result.now c.begin_internal.new.process.state.held c.in_ok-begun.field-0) c.in_ok-begun.ensures.leaves in
+    (begun_process (home_view c.home_at-home.result) (term_view p.term) c.as_slice-place.result.now c.begin_internal.new.process.state.held c.in_ok-begun.field-0) c.in_ok-begun.ensures.leaves in
     acted (setting_of m c.args.limits) c.args.clock ps c.args.at.now c.finish.new.process
     (acts_at (setting_of m c.args.limits) c.args.clock ps c.args.at.now CanAct at p there Performs (class_at m at.home) refl c.as_slice-place.result.now c.as_slice-place.ensures (Ok (process_view c.finish.new.process))
     (leaves_finished (home_view c.home_at-home.result) a Performs p c.begin_internal.new.process c.as_slice-place.result.now c.in_ok-begun.field-0 leaves c.in-Ok.begun c.begin_internal.new.process c.finish.new.process
@@ -104,7 +104,7 @@ returns-in-Err-clause-steps c =
     let can = at.able p there (class_at m at.home) refl c.as_slice-place.result.now c.as_slice-place.ensures in
     let a = seen_at (setting_of m c.args.limits) c.args.at.now.process (class_at m at.home) c.args.clock p.state.held in
     let leaves = leaves_there m c.args.limits (record { classes = c.classes.result; limits = c.args.limits; process = c.args.at.now.process; clock = c.args.clock }) c.home_at-home.result at.home (c.home_at-home.ensures.home at.home at.at_home) Performs p.state.held (term_view p.term) c.as_slice-place.result.now
-        (begun_process (home_view c.home_at-home.result) (term_view p.term) c.as_slice-place.result.now c.begin_internal.new.process.state.held c.in_ok-begun.field-0) c.in_ok-begun.ensures.leaves in
+    (begun_process (home_view c.home_at-home.result) (term_view p.term) c.as_slice-place.result.now c.begin_internal.new.process.state.held c.in_ok-begun.field-0) c.in_ok-begun.ensures.leaves in
     acted_trouble (setting_of m c.args.limits) c.args.clock ps c.args.at.now c.in-Err.trouble
     (acts_at (setting_of m c.args.limits) c.args.clock ps c.args.at.now CanAct at p there Performs (class_at m at.home) refl c.as_slice-place.result.now c.as_slice-place.ensures (Err c.in-Err.trouble)
     (leaves_trouble (home_view c.home_at-home.result) a Performs p c.begin_internal.new.process c.as_slice-place.result.now c.in_ok-begun.field-0 leaves c.in-Err.trouble c.in-Err.is))

@@ -35,7 +35,7 @@ returns-in-Err-clause-steps c =
     let can_send = t.sends.able p at_p class_p refl place_p c.as_slice-sends_at.ensures in
     let home_p = home_view c.home_at-sends_home.result in
     let leaves_p = leaves_there setting.model c.args.limits (record { classes = c.classes.result; limits = c.args.limits; process = c.args.sender.now.process; clock = c.args.clock }) c.home_at-sends_home.result t.sends.home (c.home_at-sends_home.ensures.home t.sends.home t.sends.at_home) (λ a f. Hands a f c.args.parcel.now) p.state.held (term_view p.term) place_p (begun_process home_p (term_view p.term) place_p p1.state.held c.in_ok-sent.field-0)
-        (c.in_ok-sent.ensures.leaves c.args.parcel.now (can_there setting.model c.args.limits (record { classes = c.classes.result; limits = c.args.limits; process = c.args.sender.now.process; clock = c.args.clock }) c.home_at-sends_home.result t.sends.home (c.home_at-sends_home.ensures.home t.sends.home t.sends.at_home) (CanSend c.args.parcel.now) p.state.held (term_view p.term) place_p can_send)) in
+    (c.in_ok-sent.ensures.leaves c.args.parcel.now (can_there setting.model c.args.limits (record { classes = c.classes.result; limits = c.args.limits; process = c.args.sender.now.process; clock = c.args.clock }) c.home_at-sends_home.result t.sends.home (c.home_at-sends_home.ensures.home t.sends.home t.sends.at_home) (CanSend c.args.parcel.now) p.state.held (term_view p.term) place_p can_send)) in
     sender_trouble setting c.args.clock ps c.args.sender.now c.args.receiver.now c.args.parcel.now c.each_list_has_an_outcome.ensures.law c.requires.pair c.in-Err.trouble
     (acts_at setting c.args.clock ps c.args.sender.now (CanSend c.args.parcel.now) t.sends p at_p (λ a f. Hands a f c.args.parcel.now) class_p refl place_p c.as_slice-sends_at.ensures (Err c.in-Err.trouble)
     (leaves_trouble home_p seen_p (λ a f. Hands a f c.args.parcel.now) p p1 place_p c.in_ok-sent.field-0 leaves_p c.in-Err.trouble c.in-Err.is))
@@ -287,7 +287,7 @@ returns-in_ok-finish-in-Ok-2-2-clause-steps c =
     let can_send = t.sends.able p at_p class_p refl place_p c.as_slice-sends_at.ensures in
     let home_p = home_view c.home_at-sends_home.result in
     let leaves_p = leaves_there setting.model c.args.limits (record { classes = c.classes.result; limits = c.args.limits; process = c.args.sender.now.process; clock = c.args.clock }) c.home_at-sends_home.result t.sends.home (c.home_at-sends_home.ensures.home t.sends.home t.sends.at_home) (λ a f. Hands a f c.args.parcel.now) p.state.held (term_view p.term) place_p (begun_process home_p (term_view p.term) place_p p1.state.held c.in_ok-sent.field-0)
-        (c.in_ok-sent.ensures.leaves c.args.parcel.now (can_there setting.model c.args.limits (record { classes = c.classes.result; limits = c.args.limits; process = c.args.sender.now.process; clock = c.args.clock }) c.home_at-sends_home.result t.sends.home (c.home_at-sends_home.ensures.home t.sends.home t.sends.at_home) (CanSend c.args.parcel.now) p.state.held (term_view p.term) place_p can_send)) in
+    (c.in_ok-sent.ensures.leaves c.args.parcel.now (can_there setting.model c.args.limits (record { classes = c.classes.result; limits = c.args.limits; process = c.args.sender.now.process; clock = c.args.clock }) c.home_at-sends_home.result t.sends.home (c.home_at-sends_home.ensures.home t.sends.home t.sends.at_home) (CanSend c.args.parcel.now) p.state.held (term_view p.term) place_p can_send)) in
     let ps1 = slice_set ps i p1 in
     let q = slice_index_or ps1 j c.index-processes-to.result in
     let at_q = sym (get_other ps i j p1 t.apart) ∙ slice_get-get_or ps1 j c.index-processes-to.result (set_within ps i p1 j t.receives.within) in
@@ -298,7 +298,7 @@ returns-in_ok-finish-in-Ok-2-2-clause-steps c =
     let q1 = c.begin_receive.new.process in
     let home_q = home_view c.home_at-home.result in
     let leaves_q = leaves_there setting.model c.args.limits (record { classes = c.classes.result; limits = c.args.limits; process = c.args.receiver.now.process; clock = c.args.clock }) c.home_at-home.result t.receives.home (c.home_at-home.ensures.home t.receives.home t.receives.at_home) (λ a f. Takes a f c.args.parcel.now) q.state.held (term_view q.term) place_q (begun_process home_q (term_view q.term) place_q q1.state.held c.in_ok-taken.field-0)
-        c.in_ok-taken.ensures.leaves in
+    c.in_ok-taken.ensures.leaves in
     let now_p = slice_index_or (slice_set ps1 j q1) i c.index-processes-from-in-Ok-2.result in
     let still_p = first_still ps i j p1 q1 c.index-processes-from-in-Ok-2.result t.apart t.sends.within in
     let p2 = c.finish.new.process in
@@ -327,7 +327,7 @@ returns-in-Err-2-clause-steps c =
     let can_send = t.sends.able p at_p class_p refl place_p c.as_slice-sends_at.ensures in
     let home_p = home_view c.home_at-sends_home.result in
     let leaves_p = leaves_there setting.model c.args.limits (record { classes = c.classes.result; limits = c.args.limits; process = c.args.sender.now.process; clock = c.args.clock }) c.home_at-sends_home.result t.sends.home (c.home_at-sends_home.ensures.home t.sends.home t.sends.at_home) (λ a f. Hands a f c.args.parcel.now) p.state.held (term_view p.term) place_p (begun_process home_p (term_view p.term) place_p p1.state.held c.in_ok-sent.field-0)
-        (c.in_ok-sent.ensures.leaves c.args.parcel.now (can_there setting.model c.args.limits (record { classes = c.classes.result; limits = c.args.limits; process = c.args.sender.now.process; clock = c.args.clock }) c.home_at-sends_home.result t.sends.home (c.home_at-sends_home.ensures.home t.sends.home t.sends.at_home) (CanSend c.args.parcel.now) p.state.held (term_view p.term) place_p can_send)) in
+    (c.in_ok-sent.ensures.leaves c.args.parcel.now (can_there setting.model c.args.limits (record { classes = c.classes.result; limits = c.args.limits; process = c.args.sender.now.process; clock = c.args.clock }) c.home_at-sends_home.result t.sends.home (c.home_at-sends_home.ensures.home t.sends.home t.sends.at_home) (CanSend c.args.parcel.now) p.state.held (term_view p.term) place_p can_send)) in
     let ps1 = slice_set ps i p1 in
     let q = slice_index_or ps1 j c.index-processes-to.result in
     let at_q = sym (get_other ps i j p1 t.apart) ∙ slice_get-get_or ps1 j c.index-processes-to.result (set_within ps i p1 j t.receives.within) in
@@ -338,7 +338,7 @@ returns-in-Err-2-clause-steps c =
     let q1 = c.begin_receive.new.process in
     let home_q = home_view c.home_at-home.result in
     let leaves_q = leaves_there setting.model c.args.limits (record { classes = c.classes.result; limits = c.args.limits; process = c.args.receiver.now.process; clock = c.args.clock }) c.home_at-home.result t.receives.home (c.home_at-home.ensures.home t.receives.home t.receives.at_home) (λ a f. Takes a f c.args.parcel.now) q.state.held (term_view q.term) place_q (begun_process home_q (term_view q.term) place_q q1.state.held c.in_ok-taken.field-0)
-        c.in_ok-taken.ensures.leaves in
+    c.in_ok-taken.ensures.leaves in
     let so_far = swept (residual home_p 0 (term_view p.term) place_p (left_by p1.state.held (term_view c.in-Ok.sent.part))) in
     receiver_trouble setting c.args.clock ps c.args.sender.now c.args.receiver.now c.args.parcel.now so_far c.in-Err-2.trouble
     (acts_at setting c.args.clock ps c.args.sender.now (CanSend c.args.parcel.now) t.sends p at_p (λ a f. Hands a f c.args.parcel.now) class_p refl place_p c.as_slice-sends_at.ensures (Ok so_far) (leaves_so_far home_p seen_p (λ a f. Hands a f c.args.parcel.now) p p1 place_p c.in_ok-sent.field-0 leaves_p c.in-Ok.sent c.in-Ok.is))
