@@ -8,6 +8,7 @@ ghost use Rattle.pz_classes.specs.CheckedView.{checked_model};
 ghost use Rattle.pz_rules.specs.Terms as terms;
 ghost use Rattle.pz_rules.specs.InternalActions as actions;
 ghost use Rattle.pz_rules.specs.InternalActions.{Performs};
+ghost use Rattle.pz_rules.specs.Opening.{opened_all};
 ghost use Rattle.pz_rules.specs.View.{term_view};
 ghost use Rattle.pz_rules.specs.Becoming.{Became};
 ghost use Rattle.pz_eval.specs.Known.{AreKnown};
@@ -75,6 +76,23 @@ pub(crate) fn perform_if(
     }
 }
 
+/// The body of a `while` and then the same `while`.
+fn go_round(
+    alloc: Global,
+    home: &Home<'_>,
+    again: &Step,
+    body: &Shared<Items<Step>>,
+    state: &mut State,
+) -> Result<Term, AllocError>
+    ensures { IfOk result (λ term. Became (actions.before_loop (view again.now)
+        (opened_all (home_view home.now) (sequence_view body.now) state.old.held))
+        (term_view term) state.old state.new) }
+{
+    let rest = Rest::again(again.copy()?);
+    let first = Boxed::new(alloc, open_all(alloc, home, body, state)?)?;
+    Ok(Term::Seq(first, rest))
+}
+
 /// The body of a `while` and then the same `while`, or nothing.
 fn turned(
     alloc: Global,
@@ -87,12 +105,11 @@ fn turned(
     ensures { IfOk result (λ term. Became (actions.turned (home_view home.now) state.old.held
         (view again.now) (sequence_view body.now) truth) (term_view term) state.old state.new) }
 {
-    if !truth {
-        return Ok(Term::Done);
+    if truth {
+        go_round(alloc, home, again, body, state)
+    } else {
+        Ok(Term::Done)
     }
-    let rest = Rest::again(again.copy()?);
-    let first = Boxed::new(alloc, open_all(alloc, home, body, state)?)?;
-    Ok(Term::Seq(first, rest))
 }
 
 /// A `while`, with its condition and its body.

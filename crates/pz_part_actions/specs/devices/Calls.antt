@@ -10,7 +10,8 @@ use Rattle.pz_classes.specs.SoundBodies.{BodiesFit}
 use Rattle.pz_classes.specs.Tables.{HasClass}
 use Rattle.pz_classes.specs.devices.Rows.{AreClasses}
 use Rattle.pz_rules.specs.Terms.{frame}
-use Rattle.pz_rules.specs.Settings.{Process, left_by}
+use Rattle.pz_rules.specs.Settings as settings
+use Rattle.pz_rules.specs.Settings.{left_by}
 
 -- the classes are those of a model whose bodies fit, and this one has the method
 pub record IsCallable (classes : Classes) (class : ClassId) (name : List ℕ) (inputs outputs : ℕ) : Type 0 where
@@ -21,5 +22,5 @@ pub record IsCallable (classes : Classes) (class : ClassId) (name : List ℕ) (i
   pub there : HasBody model class.0 (record { name = name; counts = Process inputs outputs })
 
 -- a frame of this number round a body that has opened
-abbrev pub round_body : ℕ → ℕ → List Slot → Process → Process
+abbrev pub round_body : ℕ → ℕ → List Slot → settings.Process → settings.Process
 round_body number inputs results x = left_by x.state (frame number inputs results x.term)

@@ -11,5 +11,5 @@ returns c =
     IfOk-weaker c.framed.result _ _
     (λ term became.
     frame_entered (home_view c.args.home.now) c.args.state.now c.open_frame.new.self c.set_inputs.new.state c.framed.new.state c.in_ok-frame.frame.0 c.args.method.locals c.len-count.result c.args.results.now
-    (sequence_view c.args.method.steps.now) c.args.inputs c.into_vec.result.items (term_view term) c.in_ok-frame.ensures.least c.in_ok-frame.ensures.ok c.into_vec.ensures c.len-count.ensures c.in_ok-set_inputs.ensures.ok became)
+    (sequence_view c.args.method.steps.now) c.args.inputs c.into_vec.result.items (term_view term) c.in_ok-frame.ensures.least c.in_ok-frame.ensures.ok c.into_vec.ensures c.len-count.ensures c.in_ok-set_inputs.ensures became)
     c.framed.ensures

@@ -3,7 +3,7 @@ use Rattle.pz_classes_code.specs.declared.step.Step.{Step}
 use Rattle.pz_classes_code.specs.StepView.{sequence_view}
 use Rattle.pz_part_opening.specs.Homes.{home_view}
 use Rattle.pz_part_actions.proofs.Becomings.{goes_round}
-use Rattle.pz_part_actions.proofs.testing.turned.Goals as goal
+use Rattle.pz_part_actions.proofs.testing.go_round.Goals as goal
 
 pub returns : goal.returns
 returns c =
