@@ -26,7 +26,7 @@ use Rattle.pz_term_processes.specs.Standing.{process_view, config_of, AreProcess
 use Rattle.pz_term_steps.specs.devices.Deeds.{seen_at}
 use Rattle.pz_term_steps.specs.devices.Elapsing.{HasPassed, PassedAt}
 use Rattle.pz_term_steps.proofs.Lists.{some_is, get_same, get_other, mapped_there, image_there}
-use Rattle.pz_term_steps.proofs.Homes.{seen_is}
+use Rattle.pz_term_steps.proofs.AtHome.{seen_is}
 
 module _ (setting : Setting) (clock time : ℕ) where
   pub has_passed : (i : ℕ) (old new : Process)

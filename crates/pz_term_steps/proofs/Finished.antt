@@ -20,7 +20,7 @@ use Rattle.pz_rules.specs.Becoming.{Became}
 use Rattle.pz_rules.specs.Places.{MayAct}
 use Rattle.pz_term_steps.specs.declared.begun.Begun.{Begun}
 use Rattle.pz_term_steps.specs.devices.Deeds.{Ability, Leaves, begun_process, IsBegun, seen_at}
-use Rattle.pz_term_steps.proofs.Homes.{stands_at, Ready}
+use Rattle.pz_term_steps.proofs.AtHome.{stands_at, Ready}
 
 became_is : (x : rules.Process) (t : Term) (old new : Seen) → Became x t old new → ◌≡◌ {A = rules.Process} (record { term = t; state = new.held }) x
 became_is x t old new b =

@@ -1,7 +1,7 @@
 mod Lists
 mod Statements
 mod Marked
-mod Homes
+mod AtHome
 mod Finished
 mod Nexts
 mod Elapsed

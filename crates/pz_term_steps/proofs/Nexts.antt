@@ -42,7 +42,7 @@ use Rattle.pz_term_processes.specs.Standing.{process_view, config_of, AreProcess
 use Rattle.pz_term_steps.specs.Stepping.{reached}
 use Rattle.pz_term_steps.specs.devices.Deeds.{CanAct, CanSend, CanReceive}
 use Rattle.pz_term_steps.proofs.Lists.{both_set}
-use Rattle.pz_term_steps.proofs.Homes.{Ready, ready}
+use Rattle.pz_term_steps.proofs.AtHome.{Ready, ready}
 
 -- what is offered
 

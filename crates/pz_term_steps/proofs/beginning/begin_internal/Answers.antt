@@ -3,7 +3,7 @@ use Rattle.pz_rules.specs.View.{term_view}
 use Rattle.pz_classes.specs.CheckedView.{checked_model}
 use Rattle.pz_part_opening.specs.Homes.{home_view}
 use Rattle.pz_part_actions.specs.Homes.{seen_home}
-use Rattle.pz_part_actions.proofs.Becomings.{home_is}
+use Rattle.pz_term_steps.proofs.AtHome.{home_is}
 use Rattle.pz_rules.specs.Acting.{IsActing}
 use Rattle.pz_part_actions.specs.Becoming.{process_left}
 use Rattle.pz_term_steps.specs.devices.Deeds.{CanAct}
@@ -40,4 +40,4 @@ returns-clause-leaves c =
     (process_left c.perform.new.state.held c.in_ok-left.left) c.hold.result
     (home_view c.args.home.now) (home_is c.args.here.now c.args.home.now c.args.process.now.state.held c.requires.edition)
     c.in_ok-point.ensures.ok c.part_at.ensures c.pos_of-pos.ensures (λ pos can. c.in_ok-left.ensures.performs can.0 pos c.requires.knows can.1)
-    (c.hold.ensures.left c.args.process.now.state.held) c.hold.ensures.state
+    (c.hold.ensures.left c.args.process.now.state.held) c.hold.ensures.state c.requires.can

@@ -7,7 +7,7 @@ use Rattle.pz_rules.specs.View.{term_view}
 use Rattle.pz_classes.specs.CheckedView.{checked_model}
 use Rattle.pz_part_opening.specs.Homes.{home_view}
 use Rattle.pz_part_actions.specs.Homes.{seen_home}
-use Rattle.pz_part_actions.proofs.Becomings.{home_is}
+use Rattle.pz_term_steps.proofs.AtHome.{home_is}
 use Rattle.pz_rules.specs.Acting.{IsReceive}
 use Rattle.pz_part_actions.specs.Becoming.{done_left}
 use Rattle.pz_term_steps.specs.devices.Deeds.{CanReceive, settled_home}
@@ -42,4 +42,4 @@ returns-clause-leaves c =
     c.in_ok-point.ensures.ok c.part_at.ensures c.pos_of-pos.ensures (λ pos can. c.in_ok-left.ensures.takes (checked_model c.args.home.now.checked.now) c.args.home.now.class.0 pos can.0 can.1 can.2 c.requires.knows can.3)
     (c.hold.ensures.left c.args.process.now.state.held
     ∙ ap (λ (r : Result Process Trouble). and_then r (settled_home (home_view c.args.home.now) a c.pos_of-pos.result (term_view c.args.process.now.term) c.args.place.now)) (c.done_by.ensures c.take.new.state.held))
-    c.hold.ensures.state
+    c.hold.ensures.state c.requires.can

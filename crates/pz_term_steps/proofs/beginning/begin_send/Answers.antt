@@ -7,7 +7,7 @@ use Rattle.pz_rules.specs.View.{term_view}
 use Rattle.pz_classes.specs.CheckedView.{checked_model}
 use Rattle.pz_part_opening.specs.Homes.{home_view}
 use Rattle.pz_part_actions.specs.Homes.{seen_home}
-use Rattle.pz_part_actions.proofs.Becomings.{home_is}
+use Rattle.pz_term_steps.proofs.AtHome.{home_is}
 use Rattle.pz_rules.specs.Acting.{IsSend}
 use Rattle.pz_part_actions.specs.Becoming.{done_left}
 use Rattle.pz_term_steps.specs.devices.Deeds.{CanSend, settled_home}

@@ -12,7 +12,7 @@ use Rattle.pz_part_opening.specs.Homes.{home_view}
 use Rattle.pz_term_steps.specs.devices.Deeds.{CanAct, begun_process, seen_at}
 use Rattle.pz_term_steps.proofs.Lists.{set_back}
 use Rattle.pz_term_steps.proofs.Marked.{may_act}
-use Rattle.pz_term_steps.proofs.Homes.{net_has, term_fits, edition_there, class_there, knows_there, can_there, leaves_there}
+use Rattle.pz_term_steps.proofs.AtHome.{net_has, term_fits, edition_there, class_there, knows_there, can_there, leaves_there}
 use Rattle.pz_term_steps.proofs.Finished.{process_is, begun_trouble, acts_still, leaves_finished, leaves_trouble, acts_at}
 use Rattle.pz_term_steps.proofs.Nexts.{act_ready, acted, acted_trouble}
 use Rattle.pz_term_steps.proofs.stepping.act.Goals as goal

@@ -13,7 +13,7 @@ use Rattle.pz_term_processes.specs.Standing.{setting_of, process_view}
 use Rattle.pz_part_opening.specs.Homes.{home_view}
 use Rattle.pz_term_steps.specs.devices.Deeds.{CanSend, CanReceive, begun_process, seen_at}
 use Rattle.pz_term_steps.proofs.Lists.{get_other, set_back, set_within, first_still, second_still, both_back}
-use Rattle.pz_term_steps.proofs.Homes.{net_has, edition_there, knows_there, can_there, leaves_there}
+use Rattle.pz_term_steps.proofs.AtHome.{net_has, edition_there, knows_there, can_there, leaves_there}
 use Rattle.pz_term_steps.proofs.Marked.{may_act}
 use Rattle.pz_term_steps.proofs.Finished.{process_is, begun_latest, begun_undone, begun_trouble, acts_still, leaves_so_far, leaves_finished, leaves_trouble, acts_at}
 use Rattle.pz_term_steps.proofs.Nexts.{talk, communicated, sender_trouble, receiver_trouble}

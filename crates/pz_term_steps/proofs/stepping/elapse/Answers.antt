@@ -5,7 +5,7 @@ use Rattle.pz_classes.specs.CheckedView.{checked_model}
 use Rattle.pz_classes.specs.Soundness.{IsSound}
 use Rattle.pz_term_processes.specs.Standing.{setting_of, config_of}
 use Rattle.pz_term_steps.proofs.Marked.{known_is}
-use Rattle.pz_term_steps.proofs.Homes.{count_is}
+use Rattle.pz_term_steps.proofs.AtHome.{count_is}
 use Rattle.pz_term_steps.proofs.Elapsed.{has_passed, passed_more, left_more, all_passed, passed_processes}
 use Rattle.pz_term_steps.proofs.stepping.elapse.Goals as goal
 

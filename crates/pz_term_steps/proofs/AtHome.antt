@@ -24,10 +24,11 @@ use Rattle.pz_offer.specs.declared.end.End.{End}
 use Rattle.pz_offer.specs.PlaceOrder.{Place}
 use Rattle.pz_offer.specs.declared.trouble.Trouble.{Trouble}
 use Rattle.pz_state.specs.States.{StateView}
+use Rattle.pz_rules.specs.declared.limits.Edition.{Edition}
 use Rattle.pz_rules.specs.declared.limits.Limits.{Limits}
 use Rattle.pz_rules.specs.Terms.{Term}
 use Rattle.pz_rules.specs.Settings as rules
-use Rattle.pz_rules.specs.Settings.{Setting, Context}
+use Rattle.pz_rules.specs.Settings.{Setting, Context, home_of}
 use Rattle.pz_rules.specs.Configurations.{Stands}
 use Rattle.pz_rules.specs.Fitting.{TermFits}
 use Rattle.pz_rules.specs.Offers.{PartAt}
@@ -126,6 +127,10 @@ ready setting clock ps end can a f x pos part it = record {
         subst (λ (q : Place). CanDo can (seen_at setting end.process class clock p.state.held) (term_view p.term) q) (sym is_place)
         (subst (λ (k : ℕ). CanDo can (seen_at setting end.process k clock p.state.held) (term_view p.term) end.place) (sym is_class)
         (subst (λ (b : Context). CanDo can b (term_view p.term) end.place) seen here))
+
+-- where the edition is that of the home
+pub home_is : (here : Standpoint) (home : Home) (s : StateView) → here.limits.edition ≡ home.edition → home_of (seen_home here home s) ≡ home_view home
+home_is here home s edition = ap (λ (e : Edition). let h : rules.Home = record { model = checked_model home.checked.now; edition = e; class = home.class.0 } in h) edition
 
 -- at home there, of the code's home
 module _ (m : ModelTree) (limits : Limits) (here : Standpoint) (home : Home) (place : levels.Address) (is : home_view home ≡ home_there m limits place) where
