@@ -55,7 +55,7 @@ fn find_method<'a>(
     ensures { (m : ModelTree) → ∥ AreClasses m classes.now ∥₁ →
         IsMethod m class.0 name.now inputs outputs result.locals (sequence_view result.steps.now) }
 {
-    pz_term_processes::laws::trees_are_sets();
+    pz_rules::laws::trees_are_sets();
     let Some(method) = classes.process_method(class, name, inputs, outputs) else {
         unreachable!();
     };

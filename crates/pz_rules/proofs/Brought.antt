@@ -26,7 +26,8 @@ use Rattle.pz_rules.specs.InternalActions as actions
 use Rattle.pz_rules.specs.InternalActions.{Performs, done_in, chosen, turned, with_inputs, entered}
 use Rattle.pz_rules.specs.Messages as messages
 use Rattle.pz_rules.specs.Messages.{Hands, Takes}
-use Rattle.pz_rules.specs.Leaving.{replaced, joined, all_done, handled, aborted, interrupted, framed, around, residual, swept, not_too_high, settled}
+use Rattle.pz_rules.specs.Framing.{framed}
+use Rattle.pz_rules.specs.Leaving.{replaced, joined, all_done, handled, aborted, interrupted, around, residual, swept, not_too_high, settled}
 use Rattle.pz_rules.specs.devices.Pending.{pending, all_pending}
 use Rattle.pz_rules.specs.devices.Opened.{Holds, HoldAll, Brings, Bounds}
 

@@ -13,7 +13,8 @@ use Rattle.pz_offer.specs.PlaceOrder.{Place}
 use Rattle.pz_rules.specs.Terms.{Step, Steps, Term, done, leaf, wait, sequence, parallel, select, guarded, frame, abort, idle, handling, Terms, no_terms, and, term_at, child, frame_in}
 use Rattle.pz_rules.specs.Settings.{Process, Context, Home}
 use Rattle.pz_rules.specs.Opening.{step_opened, steps_opened, branches_opened, enter, opened, opened_all, opened_part}
-use Rattle.pz_rules.specs.Leaving.{replaced, joined, all_done, handled, aborted, interrupted, framed, around, residual}
+use Rattle.pz_rules.specs.Framing.{framed}
+use Rattle.pz_rules.specs.Leaving.{replaced, joined, all_done, handled, aborted, interrupted, around, residual}
 use Rattle.pz_rules.specs.Active as active
 use Rattle.pz_rules.specs.Active.{Active}
 use Rattle.pz_rules.specs.Fitting.{TermFits, TermsFit}

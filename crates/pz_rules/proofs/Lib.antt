@@ -1,6 +1,10 @@
 mod Lists
 pub mod Numbers
-pub mod Plain
+mod CodedTrees
+mod Named
+mod Deep
+mod Stable
+mod Outlined
 pub mod Begun
 mod Rests
 mod Found

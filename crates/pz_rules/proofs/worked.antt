@@ -15,3 +15,4 @@ mod GuardThatCloses
 mod TwoCalls
 mod ObjectsInMessages
 mod NoTalkToItself
+mod CallsThatOpen

@@ -11,7 +11,8 @@ use Rattle.pz_state.specs.States.{StateView, opened as with_frame}
 use Rattle.pz_offer.specs.declared.trouble.Trouble.{Trouble}
 use Rattle.pz_rules.specs.declared.action.Kind.{Kind}
 use Rattle.pz_rules.specs.declared.action.Kind.TheVariants.{Skip, Eval, Test, Expire, Call}
-use Rattle.pz_rules.specs.Terms.{Code, Codes, Step, Steps, Term, done, leaf, wait, sequence, frame}
+use Rattle.pz_rules.specs.Terms.{Code, Codes, Step, Steps, Term, done, leaf, wait, sequence}
+use Rattle.pz_rules.specs.Framing.{framed}
 use Rattle.pz_rules.specs.Opening.{opened_all, opened_part}
 use Rattle.pz_rules.specs.Settings.{Context, Process, left_by, Home, home_of}
 use Rattle.pz_rules.specs.FrameNumbers.{least_free}
@@ -56,7 +57,7 @@ abbrev pub entered : Home → StateView → ℕ → List Slot → Steps → List
 entered h s locals results body inputs =
     let number = least_free s.frames in
     let x = opened_all h body (with_inputs s number locals inputs) in
-    left_by x.state (frame number (length inputs) results x.term)
+    left_by x.state (framed number (length inputs) results x.term)
 
 -- What the acting part becomes, and the state afterwards; or the trouble of its evaluation. Each action
 -- has the place of its statement. It holds of a delay whatever is left of it, and so of parts that cannot

@@ -9,6 +9,7 @@ use Rattle.pz_offer.specs.PlaceOrder.{Place}
 use Rattle.pz_offer.specs.declared.trouble.Trouble.{Trouble}
 use Rattle.pz_offer.specs.declared.trouble.Trouble.TheVariants.{High}
 use Rattle.pz_rules.specs.Terms.{Step, Term, done, sequence, parallel, select, guarded, frame, abort, idle, handling, Terms, no_terms, and, child, height, frames_in, frame_in}
+use Rattle.pz_rules.specs.Framing.{framed}
 use Rattle.pz_rules.specs.Opening.{opened, opened_all}
 use Rattle.pz_rules.specs.Settings.{Context, Process, left_by, Home, home_of}
 use Rattle.pz_eval_binding.specs.Binding.{set_slots}
@@ -49,12 +50,6 @@ aborted u x = abort x u
 abbrev pub interrupted : Term → Step → Term → Term
 interrupted u again done = done
 interrupted u again x = idle x u again
-
--- A frame without outputs that is all of a frame without outputs stands in its place, so that calls
--- at the end of a method do not pile up.
-abbrev pub framed : ℕ → ℕ → List Slot → Term → Term
-framed number inputs [] (frame inner inner_inputs [] t) = frame inner inner_inputs [] t
-framed number inputs results x = frame number inputs results x
 
 -- A term in frame f and in state s whose child of this number has become x
 abbrev pub around : Home → ℕ → StateView → Term → ℕ → Term → Process

@@ -2,7 +2,9 @@ pub mod devices
 pub mod Terms
 pub mod Settings
 pub mod FrameNumbers
+pub mod Framing
 pub mod Opening
+pub mod Shallow
 pub mod Meanings
 pub mod Evaluations
 pub mod Active
@@ -29,4 +31,5 @@ pub mod Laws
 pub mod RestView
 pub mod View
 pub mod Openable
+pub mod CallLaws
 pub mod Becoming

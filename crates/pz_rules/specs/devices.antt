@@ -5,7 +5,9 @@ pub mod Passing
 pub mod Computed
 pub mod Pending
 pub mod Ends
-pub mod Plainly
+pub mod Sets
+pub mod Weights
+pub mod Outlines
 pub mod Start
 pub mod Opened
 pub mod Room

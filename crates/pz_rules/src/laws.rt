@@ -1,11 +1,15 @@
 // Laws of execution, each the contract of a function that does nothing.
 
 ghost use Rattle.pz_rules.specs.Laws.{OneListOfOffers, EveryListOfOffers, WiresAreKnown, OneMoment, EveryMoment, MomentsCountOffers, TimeWaits, LeastPasses, TimeIsPositive, EveryPassing, PassingTakes, BringsToZero, OneNext, OnePassing, StaysWhole, StartFits, StaysFit, EveryNext, OneChosenRun, EveryChosenRun, ChosenRunsAreRuns, WhatCanActs, WhatSendsIsASend, WhatReceivesIsAReceive, NumbersAreFree, OneNumberIsLeast, LowStays, LowPasses, OneStart, EveryStart};
+ghost use Rattle.pz_rules.specs.CallLaws.{MethodsAreShallow, CallsUnfold, CallsStand, CallsOfNoneStand};
 ghost use Rattle.pz_rules.specs.Clocks.{ClocksStayLow};
 ghost use Rattle.pz_rules.specs.devices.Room.{StartsHaveRoom, ActionsLeaveRoom, PassingsLeaveRoom, RoomIsLow, LessRoom};
 ghost use Rattle.pz_rules.specs.devices.Computed.{TestsAreComputed, TimesAreComputed, PartsAreComputed, PassingIsComputed, OnePassingIsComputed};
 ghost use Rattle.pz_rules.specs.devices.Ends.{PassingsEnd, ActivePartsFit};
+ghost use Rattle.pz_rules.specs.devices.Outlines.{OpeningsHaveOutlines, OutlinesUnfold, OutlinesOfNone, OutlinesInOne, OutlinesAreAsHigh, OutlinesAreAsDone};
+ghost use Rattle.pz_rules.specs.devices.Sets.{StatementsAreASet, BodiesAreASet};
 ghost use Rattle.pz_rules.specs.devices.Start.{StartIsComputed};
+ghost use Rattle.pz_rules.specs.devices.Weights.{CallsAreHeavier};
 ghost use Rattle.pz_rules.specs.devices.Walks.{InternalActionsAreListed, SendsAreListed, SendsHaveParcels, ReceivesAreListed, DelaysAreListed, TroublesAreListed};
 
 /// A configuration has no more than one list of offers, and has one where the wires of its model are
@@ -159,3 +163,35 @@ pub fn start_is_one()
 {
     pz_classes::laws::sound_classes_fit();
 }
+
+/// Where no method begins with itself, no more methods open in one another than there are. Then, in a sound
+/// model in edition Two, a plain call opens as a frame round the body of its method, which opens in it, and
+/// the body is lighter than the call. In edition One a plain call stands as it is, and in either edition so
+/// does a call of what is no method.
+pub fn calls_unfold()
+    ensures shallow { MethodsAreShallow }
+    ensures unfolds { CallsUnfold }
+    ensures stands { CallsStand }
+    ensures none { CallsOfNoneStand }
+    ensures heavier { CallsAreHeavier }
+{
+    pz_classes::laws::sound_bodies_fit();
+}
+
+/// But for the numbers of frames, what statements open as is computed without a state.
+pub fn openings_have_outlines()
+    ensures outlines { OpeningsHaveOutlines }
+    ensures unfold { OutlinesUnfold }
+    ensures none { OutlinesOfNone }
+    ensures one { OutlinesInOne }
+    ensures high { OutlinesAreAsHigh }
+    ensures done { OutlinesAreAsDone }
+{
+    calls_unfold();
+}
+
+/// Statements, and bodies of methods, that are merely equal are equal, also where there may be none.
+pub fn trees_are_sets()
+    ensures statements { StatementsAreASet }
+    ensures bodies { BodiesAreASet }
+{}

@@ -1,9 +1,10 @@
-/// The rules by which a model runs: what a call without arguments is.
+/// The rules by which a model runs: what a plain call is, one of a process method without inputs and
+/// without results.
 #[derive(Clone, Copy, Debug, PartialEq, Eq)]
 pub enum Edition {
-    /// A call is an action of its own.
+    /// It is an action of its own, like any other call.
     One,
-    /// A call without inputs and without results is to open at once. No rule says so yet.
+    /// It opens at once, as the frame of its method's body, and is no action.
     Two,
 }
 

@@ -1,4 +1,3 @@
-mod CodedTrees
 mod Given
 mod First
 mod Started

@@ -3,7 +3,6 @@
 //! The processes of a model before the first step.
 #![tactic(auto)]
 
-pub mod laws;
 mod process;
 mod starting;
 

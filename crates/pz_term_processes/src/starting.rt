@@ -44,7 +44,7 @@ fn first_of(
         StartsAs (setting_of (checked_model checked.now) limits) place (process_view first)) }
 {
     pz_classes::laws::sound_classes_fit();
-    crate::laws::trees_are_sets();
+    pz_rules::laws::trees_are_sets();
     let _model = checked.model();
     let Some(call) = checked.classes().init(net.class(process)) else {
         unreachable!()

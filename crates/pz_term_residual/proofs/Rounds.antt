@@ -7,7 +7,8 @@ use Rattle.pz_state.specs.States.{StateView}
 use Rattle.pz_rules.specs.Terms.{Step, Steps, Term, done, sequence, frame, idle, handling, height}
 use Rattle.pz_rules.specs.Settings.{Process, left_by, Home}
 use Rattle.pz_rules.specs.Opening.{opened, opened_all}
-use Rattle.pz_rules.specs.Leaving.{is_done, framed, around, handled}
+use Rattle.pz_rules.specs.Framing.{framed}
+use Rattle.pz_rules.specs.Leaving.{is_done, around, handled}
 use Rattle.pz_term_residual.specs.declared.outline.Outline.{Outline}
 use Rattle.pz_term_residual.specs.devices.Capped.{capped}
 use Rattle.pz_term_residual.specs.devices.Outlines.{outline, IsAbove, IsRound}

@@ -10,7 +10,8 @@ use Rattle.pz_offer.specs.PlaceOrder.{Place}
 use Rattle.pz_rules.specs.Terms.{Step, Steps, Term, done, leaf, wait, sequence, parallel, select, guarded, frame, abort, idle, handling, Terms, no_terms, and, frames_in, frames_in_all, child, term_at, count, frame_in}
 use Rattle.pz_rules.specs.Opening.{branches_opened, enter, opened, opened_all}
 use Rattle.pz_rules.specs.Settings.{Process, Home}
-use Rattle.pz_rules.specs.Leaving.{residual, replaced, is_done, all_done, joined, around, aborted, interrupted, handled, framed}
+use Rattle.pz_rules.specs.Framing.{framed}
+use Rattle.pz_rules.specs.Leaving.{residual, replaced, is_done, all_done, joined, around, aborted, interrupted, handled}
 use Rattle.pz_rules.specs.Laws.{part_of}
 use Rattle.pz_rules.specs.Places.{MayActIn, MayAct}
 use Rattle.pz_tree_standing.specs.FrameCounts.{count_in, times, if_done, gives_way, lost, lost_all}

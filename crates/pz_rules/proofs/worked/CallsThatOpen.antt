@@ -17,7 +17,7 @@ use Rattle.pz_state.specs.States.{StateView, initial}
 use Rattle.pz_rules.specs.declared.limits.Edition.TheVariants.{Two}
 use Rattle.pz_rules.specs.Terms.{Step, Term, leaf, sequence, parallel, frame, Terms, no_terms, and}
 use Rattle.pz_rules.specs.Settings.{Home, left_by}
-use Rattle.pz_rules_entering.specs.Entering.{opens_at_once}
+use Rattle.pz_rules.specs.Opening.{opened}
 
 -- Short forms
 
@@ -76,16 +76,16 @@ with_frames numbers = record { vars = []; frames = map (λ n. (n, [])) numbers; 
 
 -- The frame of `c` is all of that of `d`, which stands in its place; it stays in the state until the
 -- action is over. What stands behind a first statement waits.
-abbrev opened : Term
-opened = frame 1 0 [] (parallel (terms (frame 2 0 [] (leaf (skip (at 4 7))) ∷ frame 4 0 [] (sequence (leaf (skip (at 6 7))) (steps (calls (codes "d") 6 13 ∷ []))) ∷ [])))
+abbrev start_term : Term
+start_term = frame 1 0 [] (parallel (terms (frame 2 0 [] (leaf (skip (at 4 7))) ∷ frame 4 0 [] (sequence (leaf (skip (at 6 7))) (steps (calls (codes "d") 6 13 ∷ []))) ∷ [])))
 
-the_start_opens : opens_at_once home (calls (codes "a") 2 6) (initial []) ≡ left_by (with_frames (1 ∷ 2 ∷ 3 ∷ 4 ∷ [])) opened
+the_start_opens : opened home (calls (codes "a") 2 6) (initial []) ≡ left_by (with_frames (1 ∷ 2 ∷ 3 ∷ 4 ∷ [])) start_term
 the_start_opens = refl
 
 -- a frame that is free is taken first
-a_free_number : opens_at_once home (calls (codes "c") 5 7) (with_frames (2 ∷ [])) ≡ left_by (with_frames (1 ∷ 2 ∷ 3 ∷ [])) (frame 3 0 [] (sequence (leaf (skip (at 6 7))) (steps (calls (codes "d") 6 13 ∷ []))))
+a_free_number : opened home (calls (codes "c") 5 7) (with_frames (2 ∷ [])) ≡ left_by (with_frames (1 ∷ 2 ∷ 3 ∷ [])) (frame 3 0 [] (sequence (leaf (skip (at 6 7))) (steps (calls (codes "d") 6 13 ∷ []))))
 a_free_number = refl
 
 -- a method that is not there
-unknown_stands : opens_at_once home (calls (codes "e") 7 1) (with_frames []) ≡ left_by (with_frames []) (leaf (calls (codes "e") 7 1))
+unknown_stands : opened home (calls (codes "e") 7 1) (with_frames []) ≡ left_by (with_frames []) (leaf (calls (codes "e") 7 1))
 unknown_stands = refl

@@ -20,13 +20,13 @@ use Rattle.pz_rules.specs.Terms as terms
 use Rattle.pz_rules.specs.Terms.{Step, Steps, Terms, and}
 use Rattle.pz_rules.specs.Settings.{Process, left_by, Home}
 use Rattle.pz_rules.specs.FrameNumbers.{least_free}
-use Rattle.pz_rules.specs.Leaving.{framed}
+use Rattle.pz_rules.specs.Framing.{framed}
 use Rattle.pz_rules.specs.Opening.{Beside, step_opened, steps_opened, branches_opened}
-use Rattle.pz_rules_entering.specs.Entering.{in_frame, called_body, by_body, entered_to, depth_of, opens_at_once, all_open_at_once}
-use Rattle.pz_rules_entering.specs.Shallow.{Shallow}
-use Rattle.pz_rules_entering.specs.Laws.{CallsUnfold}
-use Rattle.pz_rules_entering.proofs.Named.{plain, call_means}
-use Rattle.pz_rules_entering.proofs.Deep.{has_called, methods_are_shallow}
+use Rattle.pz_rules.specs.Opening.{in_frame, called_body, by_body, entered_to, depth_of, opens_at_once, all_open_at_once}
+use Rattle.pz_rules.specs.Shallow.{Shallow}
+use Rattle.pz_rules.specs.CallLaws.{CallsUnfold}
+use Rattle.pz_rules.proofs.Named.{plain, call_means}
+use Rattle.pz_rules.proofs.Deep.{has_called, methods_are_shallow}
 
 module _ (P : Id → Type 0) where
   front : (xs ys : List Id) → AllByRecursion P (xs ++ ys) → AllByRecursion P xs

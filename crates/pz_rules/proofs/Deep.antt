@@ -17,9 +17,9 @@ use Rattle.pz_classes_openings.specs.Openings.{begun_at, HasMethod, called, Lead
 use Rattle.pz_classes_openings.specs.OpeningRules.{round}
 use Rattle.pz_classes_openings.proofs.Found.{Standing, found_there}
 use Rattle.pz_rules.specs.Openable.{IsProcessClass}
-use Rattle.pz_rules_entering.specs.Entering.{depth_of}
-use Rattle.pz_rules_entering.specs.Shallow.{Shallow}
-use Rattle.pz_rules_entering.specs.Laws.{NoRounds}
+use Rattle.pz_rules.specs.Opening.{depth_of}
+use Rattle.pz_rules.specs.Shallow.{Shallow}
+use Rattle.pz_rules.specs.CallLaws.{NoRounds}
 
 apart : (k : ℕ) (xs : List ℕ) → list_any (eqb k) xs ≡ false → AllByRecursion (λ y. eqb k y ≡ false) xs
 apart k [] none = tt

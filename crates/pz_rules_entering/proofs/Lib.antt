@@ -1,4 +1,0 @@
-pub mod Named
-pub mod Deep
-pub mod Stable
-pub mod Rows
