@@ -1,3 +1,2 @@
 mod Bounds
 mod Openings
-mod Within

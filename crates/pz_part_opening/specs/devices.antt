@@ -1,2 +1,2 @@
-pub mod Brackets
-pub mod Weights
+pub mod Spots
+pub mod Rounds

@@ -3,10 +3,8 @@
 
 mod heights;
 mod home;
-mod inside;
 mod opening;
-mod plain;
-mod plain_heights;
+mod spot;
 
 pub use heights::{opens_bare, opens_done, stays_within, step_within};
 pub use home::Home;
