@@ -22,14 +22,14 @@ use pz_items::{Items, Shared};
 
 /// What stands inside in the end, and whether a frame stands round it.
 #[derive(Clone, Copy)]
-struct Inside<'s> {
+struct Innermost<'s> {
     framed: bool,
     spot: Spot<'s>,
 }
 
 /// What stands inside in the end: no bracket and no plain call that opens is all that stands there. A frame
 /// that is all of a frame stands in its place, so one is left of those on the way.
-fn inside<'s>(home: &Home<'s>, spot: Spot<'s>) -> Inside<'s>
+fn go_inside<'s>(home: &Home<'s>, spot: Spot<'s>) -> Innermost<'s>
     ensures opened { outlined_all (home_view home.now) (spot_view spot) ≡
         round_outline result.framed (outlined_all (home_view home.now) (spot_view result.spot)) }
     ensures lighter { weight_all (home_view home.now) (spot_view result.spot) ≤
@@ -38,12 +38,12 @@ fn inside<'s>(home: &Home<'s>, spot: Spot<'s>) -> Inside<'s>
 {
     pz_rules::laws::calls_unfold();
     pz_rules::laws::openings_have_outlines();
-    let mut inner = Inside {
+    let mut inner = Innermost {
         framed: false,
         spot,
     };
     while let Some(way) = way_in(home, inner.spot) {
-        inner = Inside {
+        inner = Innermost {
             framed: inner.framed || way.locals.is_some(),
             spot: Spot::Several(way.steps),
         };
@@ -68,7 +68,7 @@ fn within(home: &Home<'_>, spot: Spot<'_>, room: u64) -> u64
     if room == 0 {
         return 0;
     }
-    let inner = inside(home, spot);
+    let inner = go_inside(home, spot);
     if inner.framed {
         above(standing_within(home, inner.spot, room - 1), room)
     } else {
@@ -197,7 +197,7 @@ pub fn opens_done(home: &Home<'_>, step: &Step) -> bool
         result ≡ is_done (opened (home_view home.now) (view step.now) s).term }
 {
     pz_rules::laws::openings_have_outlines();
-    let inner = inside(home, Spot::One(step));
+    let inner = go_inside(home, Spot::One(step));
     !inner.framed && is_empty(inner.spot)
 }
 
@@ -207,5 +207,5 @@ pub fn opens_bare(home: &Home<'_>, step: &Step) -> bool
         result ≡ is_bare (opened (home_view home.now) (view step.now) s).term }
 {
     pz_rules::laws::openings_have_outlines();
-    inside(home, Spot::One(step)).framed
+    go_inside(home, Spot::One(step)).framed
 }
