@@ -27,7 +27,7 @@ use Rattle.pz_rules.specs.Configurations.{Config, Stands, IsWhole}
 use Rattle.pz_rules.specs.Steps.{Deed, Acts, with_process, with_both, Next, internal, communication, PassesTo}
 use Rattle.pz_rules.specs.Offers as offers
 use Rattle.pz_rules.specs.Offers.{PartAt, IsPair, Offers}
-use Rattle.pz_rules.specs.Starting.{home_at, IsStart}
+use Rattle.pz_rules.specs.Starting.{IsStart}
 use Rattle.pz_rules.specs.Fitting.{TermFits, TermsFit, IsFit}
 use Rattle.pz_rules.proofs.Locals.{some_is}
 use Rattle.pz_rules.proofs.Fits.{opened_fits, fitted}

@@ -1,5 +1,5 @@
 -- But for the numbers of frames, what statements open as is computed without a state.
-use Rattle.std.proofs.Common.{◌≡◌, refl, sym, ap, subst, ◌∙◌, ℕ, zero, suc, max, List, [], ◌∷◌, Option, Some, None}
+use Rattle.std.proofs.Common.{◌≡◌, refl, sym, ap, ◌∙◌, ℕ, zero, suc, max, List, [], ◌∷◌, Option, Some, None}
 use Rattle.pz_syntax.specs.declared.tokens.Pos.{Pos}
 use Rattle.pz_syntax.specs.declared.names.Id.{Id}
 use Rattle.pz_syntax.specs.Expressions.{none, more}
@@ -16,10 +16,10 @@ use Rattle.pz_rules.specs.Settings.{Process, Home}
 use Rattle.pz_rules.specs.FrameNumbers.{least_free}
 use Rattle.pz_rules.specs.Framing.{framed}
 use Rattle.pz_rules.specs.Leaving.{is_done}
-use Rattle.pz_rules.specs.Opening.{step_opened, steps_opened, branches_opened, in_frame, called_body, by_body, entered_to, depth_of, enter_in, opened, opened_all}
+use Rattle.pz_rules.specs.Opening.{step_opened, steps_opened, branches_opened, in_frame, called_body, by_body, entered_to, depth_of, enter_in, opened_all}
 use Rattle.pz_rules.specs.Openable.{alone}
 use Rattle.pz_rules.specs.CallLaws.{plain_call, CallsUnfold, CallsStand, CallsOfNoneStand}
-use Rattle.pz_rules.specs.devices.Outlines.{outline, outline_each, step_outlined, steps_outlined, branches_outlined, by_body_outlined, outlined_to, outlined_in, outlined_all, OpeningsHaveOutlines, OutlinesUnfold, OutlinesOfNone, OutlinesInOne, OutlinesAreAsHigh, OutlinesAreAsDone}
+use Rattle.pz_rules.specs.devices.Outlines.{outline, outline_each, step_outlined, steps_outlined, branches_outlined, by_body_outlined, outlined_to, outlined_in, outlined_all, OpeningsHaveOutlines, OutlinesUnfold, OutlinesOfNone, OutlinesInOne}
 
 -- where plain calls have outlines, so have statements
 module _ (enter : Step → StateView → Process) (flat : Step → Term) (calls : (pos : Pos) (x : Id) (s : StateView) → outline (enter (plain_call pos x) s).term ≡ flat (plain_call pos x)) where

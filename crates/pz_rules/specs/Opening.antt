@@ -2,7 +2,7 @@
 -- guard, `abort` and `interrupt` open at once, from left to right, each part in the state that those
 -- before it leave. In edition Two so does a plain call, one without inputs and without results: as the
 -- frame of its method's body, by the class of the process. Every other statement stands as it is.
-use Rattle.std.specs.Prelude.{ℕ, zero, suc, List, [], length, Option, Some, None}
+use Rattle.std.specs.Prelude.{ℕ, zero, suc, [], length, Option, Some, None}
 use Rattle.pz_syntax.specs.declared.names.Id.{Id}
 use Rattle.pz_syntax.specs.Expressions.{none}
 use Rattle.pz_syntax.specs.Statements.{bracketed, guarded, parallel, select, abort, interrupt, call, no_statements, then, StatementPart, not_written, otherwise, Branches, no_branches, branch}

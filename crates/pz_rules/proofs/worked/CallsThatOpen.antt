@@ -19,7 +19,7 @@ use Rattle.pz_classes_code.specs.declared.slot.Slot.TheVariants.{Shared}
 use Rattle.pz_state.specs.States.{StateView, initial}
 use Rattle.pz_rules.specs.declared.limits.Edition.{Edition}
 use Rattle.pz_rules.specs.declared.limits.Edition.TheVariants.{One, Two}
-use Rattle.pz_rules.specs.Terms.{Step, Term, done, leaf, sequence, parallel, select, guarded, frame, idle}
+use Rattle.pz_rules.specs.Terms.{Term, done, leaf, sequence, parallel, select, guarded, frame, idle}
 use Rattle.pz_rules.specs.Settings.{Home, left_by}
 use Rattle.pz_rules.specs.Opening.{opened}
 use Rattle.pz_rules.specs.InternalActions.{entered}
