@@ -82,7 +82,7 @@ entered_to h (suc depth) (call pos method args results) s = by_body (called_body
 entered_to h (suc depth) r s = left_by s (leaf r)
 
 -- As deep as there are methods: where no method begins with itself, no call is deeper (`CallsUnfold` of
--- `Laws`).
+-- `CallLaws`).
 abbrev pub depth_of : ModelTree → ℕ
 depth_of m = length (methods m)
 

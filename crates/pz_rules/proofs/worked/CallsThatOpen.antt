@@ -8,6 +8,8 @@
 --   d()() skip; d()()
 --   e()() sel b()() or [true] d()() les
 --   f()() interrupt d()() with b()()
+--   process class Q extends P
+--   methods b()() d()()
 use Rattle.std.proofs.Common.{◌≡◌, ℕ, List, [], ◌∷◌, map, Some, None, codes, refl}
 use Rattle.pz_syntax.specs.declared.exprs.Literal.TheVariants as literal
 use Rattle.pz_syntax.specs.Expressions.{Expression, none}
@@ -53,6 +55,16 @@ model = record {
             method_of (id (codes "e") 7 1) (steps (statement.select (at 7 7) (branches (steps (calls (codes "b") 7 11 ∷ []) ∷ steps (statement.guarded (at 7 19) always (calls (codes "d") 7 26) ∷ []) ∷ [])) ∷ [])) ∷
             method_of (id (codes "f") 8 1) (steps (statement.interrupt (at 8 7) (steps (calls (codes "d") 8 17 ∷ [])) (calls (codes "b") 8 28) ∷ [])) ∷
             []);
+      }) ∷
+      process_class (record {
+        name = (id (codes "Q") 9 15);
+        parameters = None;
+        parent = Some (id (codes "P") 9 25);
+        ports = None;
+        messages = None;
+        variables = None;
+        start = None;
+        methods = Some (method_of (id (codes "b") 10 9) (steps (calls (codes "d") 10 15 ∷ [])) ∷ []);
       }) ∷ [];
 }
 
@@ -89,26 +101,30 @@ the_start_is_swept = refl
 the_start_stands : opened (home_in One) (calls (codes "a") 2 6) (initial []) ≡ left_by (initial []) (leaf (calls (codes "a") 2 6))
 the_start_stands = refl
 
+-- the method is that of the class of the process, also where an inherited body calls it
+in_the_child : opened (record { model = model; edition = Two; class = 2 }) (calls (codes "a") 2 6) (initial []) ≡ left_by (with_frames (1 ∷ 2 ∷ 3 ∷ 4 ∷ 5 ∷ [])) (frame 1 0 [] (parallel (terms (in_d 3 ∷ in_d 5 ∷ []))))
+in_the_child = refl
+
 -- a frame that is free is taken first
 a_free_number : opened home (calls (codes "c") 5 7) (with_frames (2 ∷ [])) ≡ left_by (with_frames (1 ∷ 2 ∷ 3 ∷ [])) (in_d 3)
 a_free_number = refl
 
 -- a method that is not there
-unknown_stands : opened home (calls (codes "z") 9 1) (with_frames []) ≡ left_by (with_frames []) (leaf (calls (codes "z") 9 1))
+unknown_stands : opened home (calls (codes "z") 11 1) (with_frames []) ≡ left_by (with_frames []) (leaf (calls (codes "z") 11 1))
 unknown_stands = refl
 
 -- all alternatives open, and so does what is behind a guard
 abbrev alternatives : Term
 alternatives = frame 1 0 [] (select (terms (in_b 2 ∷ guarded always (at 7 19) (in_d 3) ∷ [])))
 
-alternatives_open : opened home (calls (codes "e") 9 1) (initial []) ≡ left_by (with_frames (1 ∷ 2 ∷ 3 ∷ [])) alternatives
+alternatives_open : opened home (calls (codes "e") 11 1) (initial []) ≡ left_by (with_frames (1 ∷ 2 ∷ 3 ∷ [])) alternatives
 alternatives_open = refl
 
 -- so do both parts of an `interrupt`
 abbrev with_handler : ℕ → Term
 with_handler n = frame 1 0 [] (idle (in_d 2) (in_b n) (calls (codes "b") 8 28))
 
-both_parts_open : opened home (calls (codes "f") 9 1) (initial []) ≡ left_by (with_frames (1 ∷ 2 ∷ 3 ∷ [])) (with_handler 3)
+both_parts_open : opened home (calls (codes "f") 11 1) (initial []) ≡ left_by (with_frames (1 ∷ 2 ∷ 3 ∷ [])) (with_handler 3)
 both_parts_open = refl
 
 -- What actions leave
