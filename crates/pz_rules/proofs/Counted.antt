@@ -1,5 +1,5 @@
 -- A moment with actions counts the offers.
-use Rattle.std.proofs.Common.{◌≡◌, ◌≤◌, ℕ, length, refl, sym, arith}
+use Rattle.std.proofs.Common.{◌≡◌, ℕ, length, refl, sym, arith}
 use Rattle.pz_offer.specs.declared.trouble.Trouble.{Trouble}
 use Rattle.pz_rules.specs.declared.moment.Moment.{Moment}
 use Rattle.pz_rules.specs.declared.moment.Moment.TheVariants.{Actions, Time, Finished, Deadlock, Faulty}

@@ -4,6 +4,7 @@ mod CodedTrees
 mod Named
 mod Deep
 mod Stable
+mod Heavier
 mod Outlined
 pub mod Begun
 mod Rests

@@ -15,4 +15,5 @@ mod GuardThatCloses
 mod TwoCalls
 mod ObjectsInMessages
 mod NoTalkToItself
+mod TailCalls
 mod CallsThatOpen

@@ -181,7 +181,7 @@ pub fn calls_unfold()
 /// But for the numbers of frames, what statements open as is computed without a state.
 pub fn openings_have_outlines()
     ensures outlines { OpeningsHaveOutlines }
-    ensures unfold { OutlinesUnfold }
+    ensures unfolds { OutlinesUnfold }
     ensures none { OutlinesOfNone }
     ensures one { OutlinesInOne }
     ensures high { OutlinesAreAsHigh }
