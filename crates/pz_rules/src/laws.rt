@@ -1,6 +1,6 @@
 // Laws of execution, each the contract of a function that does nothing.
 
-ghost use Rattle.pz_rules.specs.Laws.{OneListOfOffers, EveryListOfOffers, WiresAreKnown, OneMoment, EveryMoment, MomentsCountOffers, TimeWaits, LeastPasses, TimeIsPositive, EveryPassing, PassingTakes, BringsToZero, OneNext, OnePassing, StaysWhole, StartFits, StaysFit, EveryNext, OneChosenRun, EveryChosenRun, ChosenRunsAreRuns, WhatCanActs, WhatSendsIsASend, WhatReceivesIsAReceive, NumbersAreFree, OneNumberIsLeast, LowStays, LowPasses, OneStart, EveryStart};
+ghost use Rattle.pz_rules.specs.Laws.{OneListOfOffers, EveryListOfOffers, WiresAreKnown, OneMoment, EveryMoment, MomentsCountOffers, TimeWaits, LeastPasses, TimeIsPositive, EveryPassing, PassingTakes, BringsToZero, OneNext, OnePassing, StaysWhole, StartFits, StaysFit, EveryNext, OneChosenRun, EveryChosenRun, ChosenRunsAreRuns, WhatCanActs, WhatSendsIsASend, WhatReceivesIsAReceive, NumbersAreFree, OneNumberIsLeast, LowStays, LowPasses, OneStart, EveryStart, ProcessesHaveClasses};
 ghost use Rattle.pz_rules.specs.CallLaws.{MethodsAreShallow, CallsUnfold, CallsStand, CallsOfNoneStand};
 ghost use Rattle.pz_rules.specs.Clocks.{ClocksStayLow};
 ghost use Rattle.pz_rules.specs.devices.Room.{StartsHaveRoom, ActionsLeaveRoom, PassingsLeaveRoom, RoomIsLow, LessRoom};
@@ -163,6 +163,11 @@ pub fn start_is_one()
 {
     pz_classes::laws::sound_classes_fit();
 }
+
+/// Each process of a model is of a process class.
+pub fn processes_have_classes()
+    ensures law { ProcessesHaveClasses }
+{}
 
 /// Where no method begins with itself, no more methods open in one another than there are. Then, in a sound
 /// model in edition Two, a plain call opens as a frame round the body of its method, which opens in it, and
