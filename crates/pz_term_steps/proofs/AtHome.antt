@@ -1,11 +1,9 @@
 -- What is offered of a configuration, of the code's processes that stand there.
-use Rattle.std.proofs.Common.{true, false, ◌≡◌, ℕ, ◌<◌, List, Result, Some, length, map, refl, sym, subst, ap, ◌∙◌}
+use Rattle.std.proofs.Common.{◌≡◌, ℕ, ◌<◌, List, Result, Some, length, map, refl, sym, subst, ap, ◌∙◌}
 use Rattle.std.specs.Prelude.{slice_get}
 use Rattle.std.specs.Coded.{le_prop}
 use Rattle.std.proofs.Math.Logic.{∥∥₁_elim, ∥∥₁_map₂, ∥∥₁_prop}
 use Rattle.std.proofs.Math.Nat.{ℕ_set}
-use Rattle.std.proofs.Math.Bool.{Bool-set}
-use Rattle.std.specs.Option.{option_map_or}
 use Rattle.std.proofs.lemmas.List.{length-map}
 use Rattle.std.proofs.lemmas.Option.{slice_get_within}
 use Rattle.pz_syntax.specs.declared.tokens.Pos.{Pos}
@@ -14,8 +12,6 @@ use Rattle.pz_value.specs.declared.value.ClassId.{ClassId}
 use Rattle.pz_classes.specs.CheckedView.{checked_model}
 use Rattle.pz_classes.specs.declared.classes.Classes.{Classes}
 use Rattle.pz_classes.specs.Soundness.{IsSound}
-use Rattle.pz_classes.specs.Kinds.{is_process}
-use Rattle.pz_classes.specs.Numbers.{declaration}
 use Rattle.pz_classes.specs.SoundBodies.{SoundBodiesFit}
 use Rattle.pz_classes.specs.Tables.{HasClass, class_id}
 use Rattle.pz_classes.specs.devices.Rows.{AreClasses}
@@ -34,8 +30,7 @@ use Rattle.pz_rules.specs.Settings as rules
 use Rattle.pz_rules.specs.Settings.{Setting, Context}
 use Rattle.pz_rules.specs.Configurations.{Stands}
 use Rattle.pz_rules.specs.Fitting.{TermFits}
-use Rattle.pz_rules.specs.Laws.{ProcessesHaveClasses}
-use Rattle.pz_rules.specs.Openable.{IsProcessClass}
+use Rattle.pz_rules.specs.Starting.{home_at}
 use Rattle.pz_rules.specs.Offers.{PartAt}
 use Rattle.pz_rules.specs.Active.{IsActive}
 use Rattle.pz_rules.specs.Steps.{Deed}
@@ -48,8 +43,8 @@ use Rattle.pz_part_actions.specs.Fitting.{FitsHere}
 use Rattle.pz_part_actions.specs.Homes.{seen_home}
 use Rattle.pz_part_opening.specs.declared.home.Home.{Home}
 use Rattle.pz_part_opening.specs.Homes.{home_view}
-use Rattle.pz_term_steps.specs.devices.Deeds.{Ability, CanDo, Leaves, home_there, seen_at}
-use Rattle.pz_term_steps.proofs.Lists.{some_is, image_there, there}
+use Rattle.pz_term_steps.specs.devices.Deeds.{Ability, CanDo, Leaves, seen_at}
+use Rattle.pz_term_steps.proofs.Lists.{some_is, image_there}
 
 -- the net and the processes of a model
 
@@ -57,21 +52,6 @@ pub net_has : (m : ModelTree) (net : Net) (i : ℕ) (home : levels.Address) → 
 net_has m net i home is there = ∥∥₁_elim is le_prop (λ known.
     let count : length net.nodes ≡ length (processes m) = ap (λ xs. length xs) known.nodes ∙ length-map (processes m) (node_at m) in
     subst (λ (n : ℕ). i < n) (sym count) (slice_get_within (processes m) i home there))
-
-pub class_is : (m : ModelTree) (net : Net) (i : ℕ) (home : levels.Address) (class : ClassId) → ∥ IsNet m net ∥₁ → slice_get (processes m) i ≡ Some home
-    → ((n : ModelTree) (place : levels.Address) → IsNet n net → slice_get (processes n) i ≡ Some place → class ≡ class_id (class_at n place))
-    → class.0 ≡ class_at m home
-class_is m net i home class is there told = ∥∥₁_elim is (ℕ_set class.0 (class_at m home)) (λ known. ap (λ (c : ClassId). c.0) (told m home known there))
-
--- a process of the net is of a process class
-pub process_class : (m : ModelTree) (net : Net) (i : ℕ) (class : ClassId) → ∥ IsNet m net ∥₁ → HasProcess net i → ProcessesHaveClasses
-    → ((n : ModelTree) (place : levels.Address) → IsNet n net → slice_get (processes n) i ≡ Some place → class ≡ class_id (class_at n place))
-    → IsProcessClass m class.0
-process_class m net i class is has law told =
-    ∥∥₁_elim is (Bool-set (option_map_or is_process (declaration m class.0) false) true) (λ known.
-    let count : length net.nodes ≡ length (processes m) = ap (λ xs. length xs) known.nodes ∙ length-map (processes m) (node_at m) in
-    let place = there (processes m) i (subst (λ (n : ℕ). i < n) count has) in
-    subst (IsProcessClass m) (sym (class_is m net i place.0 class is place.1 told)) (law m i place.0 place.1))
 
 pub count_is : (m : ModelTree) (limits : Limits) (clock : ℕ) (net : Net) (ps : List Process) (count : ℕ) → ∥ IsNet m net ∥₁ → ∥ AreProcesses (setting_of m limits) clock ps ∥₁
     → ((n : ModelTree) → IsNet n net → count ≡ length (processes n)) → count ≡ length ps
@@ -144,7 +124,7 @@ ready setting clock ps end can a f x pos part it = record {
         (subst (λ (b : Context). CanDo can b (term_view p.term) end.place) seen here))
 
 -- at home there, of the code's home
-module _ (m : ModelTree) (limits : Limits) (here : Standpoint) (home : Home) (place : levels.Address) (is : home_view home ≡ home_there m limits place) (same_limits : here.limits ≡ limits) where
+module _ (m : ModelTree) (limits : Limits) (here : Standpoint) (home : Home) (place : levels.Address) (is : home_view home ≡ home_at (setting_of m limits) place) (same_limits : here.limits ≡ limits) where
   seen_there : (s : StateView) → seen_home here home s ≡ seen_from m here (class_at m place) s
   seen_there s =
       ap (λ (h : rules.Home). seen_from h.model (record here { limits = record here.limits { edition = h.edition } }) h.class s) is

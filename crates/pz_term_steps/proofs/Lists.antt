@@ -60,9 +60,3 @@ mapped_there f (x ∷ xs) (suc i) y there = mapped_there f xs i y there
 
 pub image_there : {A B : Type 0} (f : A → B) (xs : List A) (i : ℕ) (x : A) → slice_get xs i ≡ Some x → slice_get (map f xs) i ≡ Some (f x)
 image_there f xs i x there = slice_get-map f xs i ∙ ap (option_map f) there
-
--- within a list something stands
-pub there : {A : Type 0} (xs : List A) (i : ℕ) → i < length xs → (x : A) × (slice_get xs i ≡ Some x)
-there [] i within = absurd (omega (arith, within))
-there (x ∷ xs) zero within = (x, refl)
-there (x ∷ xs) (suc i) within = there xs i (omega (arith, within))

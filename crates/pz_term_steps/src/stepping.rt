@@ -18,14 +18,13 @@ ghost use Rattle.pz_term_steps.specs.Stepping.{reached};
 
 use crate::beginning::{begin_internal, begin_receive, begin_send};
 use crate::begun::{finish, withdraw};
-use crate::homes::home_at;
 use pz_bind::Net;
 use pz_classes::Checked;
 use pz_copy::Parcel;
 use pz_offer::{End, Trouble};
 use pz_part_queries::Standpoint;
 use pz_rules::{Action, Limits, Moment, Term};
-use pz_term_processes::Process;
+use pz_term_processes::{Process, home_at};
 use pz_term_time::pass;
 use std::alloc::{AllocError, Global};
 use std::mem;
