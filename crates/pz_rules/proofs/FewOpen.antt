@@ -1,5 +1,5 @@
 -- In a process of a model that is sound for its edition, whatever opens brings few delays.
-use Rattle.std.proofs.Common.{◌≡◌, ◌≤◌, ◌+◌, ℕ, suc, List, [], ◌∷◌, ◌++◌, Some, refl, ap, arith}
+use Rattle.std.proofs.Common.{◌≡◌, ◌≤◌, ◌+◌, ℕ, suc, List, [], ◌++◌, Some, refl, ap, arith}
 use Rattle.std.specs.List.{sum_by}
 use Rattle.std.proofs.lemmas.List.Sums.{sum_by-cons, sum_by-append}
 use Rattle.pz_syntax.specs.declared.tokens.Pos.{Pos}
@@ -7,14 +7,13 @@ use Rattle.pz_syntax.specs.declared.names.Id.{Id}
 use Rattle.pz_syntax.specs.ModelForm.{Each}
 use Rattle.pz_syntax.specs.ModelText.{HasFewMarks}
 use Rattle.pz_syntax.specs.Expressions.{none, more}
-use Rattle.pz_syntax.specs.Statements.{bracketed, guarded, parallel, select, conditional, repeated, abort, interrupt, call, no_statements, then, StatementPart, not_written, otherwise, Branches, no_branches, branch}
+use Rattle.pz_syntax.specs.Statements.{bracketed, guarded, parallel, select, conditional, repeated, abort, interrupt, call, StatementPart, not_written, otherwise, Branches, no_branches, branch}
 use Rattle.pz_syntax.specs.Classes.{ModelTree}
 use Rattle.pz_value.specs.declared.value.ClassId.{ClassId}
 use Rattle.pz_classes_code.specs.declared.slot.Slot.{Slot}
 use Rattle.pz_classes.specs.declared.method_id.Counts.TheVariants.{Process as process_counts}
 use Rattle.pz_classes.specs.Bodies.{process_body}
 use Rattle.pz_classes.specs.Methods.{Signature}
-use Rattle.pz_classes.specs.Starts.{init}
 use Rattle.pz_classes_beginnings.specs.Beginning.{begun_all, plain_calls, all_plain_calls, plain_calls_of_part, plain_calls_of_each, statements_in_part, statements_in_each}
 use Rattle.pz_classes_openings.specs.Openings.{of_called, opened_to}
 use Rattle.pz_classes_openings.specs.OpeningRules.{Opens}
@@ -27,7 +26,7 @@ use Rattle.pz_rules.specs.Methods.{IsMethod}
 use Rattle.pz_rules.specs.Openable.{IsProcessClass, alone, inner, part_of, branches_of}
 use Rattle.pz_rules.specs.Opening.{steps_opened, called_body, depth_of, enter_in}
 use Rattle.pz_rules.specs.devices.Pending.{pending}
-use Rattle.pz_rules.specs.devices.Opened.{delays_in, delays_in_all, delays_in_part, delays_in_each, spread_of, home_in, IsClosed, Bounds}
+use Rattle.pz_rules.specs.devices.Opened.{delays_in_all, delays_in_part, delays_in_each, home_in, IsClosed, Bounds}
 use Rattle.pz_rules.specs.devices.Room.{most_delays, HasFewDelays, OpensFew}
 use Rattle.pz_rules.proofs.Begun.{begins_with_call}
 use Rattle.pz_rules.proofs.Opens.{opened_all_holds, stand_few, enter_few}

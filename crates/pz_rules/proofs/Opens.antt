@@ -149,7 +149,7 @@ stand_few h ts s = omega (arith, steps_few (enter_in One h) (λ x. 0) (λ at met
 
 module _ (h : Home) (brings : ℕ → Id → ℕ)
     (deeper : (depth : ℕ) (method : Id) (locals : ℕ) (body : Steps) → called_body h method ≡ Some (process_body locals body)
-        → delays_in_all body + sum_by (brings depth) (begun_all body) ≤ brings (suc depth) method) where
+    → delays_in_all body + sum_by (brings depth) (begun_all body) ≤ brings (suc depth) method) where
   entered_few : (depth : ℕ) (at : Pos) (method : Id) (s : StateView) → pending (entered_to h depth (call at method none []) s).term ≤ brings depth method
   entered_few zero at method s = omega arith
   entered_few (suc depth) at method s = by (called_body h method) refl (entered_few depth)

@@ -1,5 +1,5 @@
 -- In a process class of a model that opens, no method opens more than 1,000,000 statements.
-use Rattle.std.proofs.Common.{◌≡◌, refl, sym, ap, ◌∙◌, ◌≤◌, ◌<◌, ◌+◌, ℕ, zero, suc, false, List, ◌++◌, Option, Some, None, IsTrue, ◌⊎◌, inl, inr, arith}
+use Rattle.std.proofs.Common.{◌≡◌, refl, ap, ◌∙◌, ◌≤◌, ◌<◌, ◌+◌, ℕ, zero, suc, false, List, ◌++◌, Option, Some, None, IsTrue, ◌⊎◌, inl, inr, arith}
 use Rattle.std.specs.List.{sum_by}
 use Rattle.std.specs.Option.{option_map_or}
 use Rattle.std.proofs.lemmas.List.Sums.{sum_by-append}
@@ -11,10 +11,8 @@ use Rattle.pz_classes.specs.declared.method_id.Counts.TheVariants.{Process}
 use Rattle.pz_classes.specs.declared.method_id.MethodId.{MethodId}
 use Rattle.pz_classes.specs.Numbers.{declaration}
 use Rattle.pz_classes.specs.Kinds.{is_process}
-use Rattle.pz_classes.specs.Methods.{Signature, method_id}
-use Rattle.pz_classes.specs.Bodies.{process_body}
-use Rattle.pz_classes.specs.MethodBodies.{body_with}
-use Rattle.pz_classes_beginnings.specs.Beginning.{begun, begun_all, begun_each, plain_calls, all_plain_calls, plain_calls_of_part, plain_calls_of_each, statements_in, statements_in_all, statements_in_part, statements_in_each}
+use Rattle.pz_classes.specs.Methods.{Signature}
+use Rattle.pz_classes_beginnings.specs.Beginning.{begun, begun_all, begun_each, plain_calls, all_plain_calls, plain_calls_of_each, statements_in, statements_in_all, statements_in_part, statements_in_each}
 use Rattle.pz_classes_openings.specs.Methods.{method_at, body_at}
 use Rattle.pz_classes_openings.specs.Openings.{begun_at, calls_at, statements_at, HasMethod, called, of_called, opened_to, spread_to}
 use Rattle.pz_classes_openings.specs.OpeningRules.{Opens, too_large}
