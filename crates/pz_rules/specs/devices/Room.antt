@@ -28,8 +28,8 @@ most_delays = 2 ^ 32
 abbrev pub HasFewDelays : Steps → Type 0
 HasFewDelays ts = delays_in_all ts ≤ most_delays
 
--- What opens out of these statements in a process of this class brings no more delays: in edition One
--- it has only theirs; in edition Two no more statements ever open out of them.
+-- What opens out of these statements in a process of this class brings no more delays. In edition One
+-- they alone open. In edition Two their plain calls do so too, but no more statements ever open at once.
 abbrev pub OpensFew : Edition → ModelTree → ℕ → Steps → Type 0
 OpensFew One m class ts = HasFewDelays ts
 OpensFew Two m class ts = (depth : ℕ) → spread_of m class depth ts ≤ most_delays
