@@ -36,6 +36,10 @@ mod Pending
 mod Opens
 mod Brought
 mod Marks
+mod BodyNumbers
+mod Sizes
+mod FewOpen
+mod Crowd
 mod Room
 mod Existing
 mod Wires
