@@ -36,6 +36,7 @@ mod Pending
 mod Opens
 mod Brought
 mod Marks
+mod StatementCounts
 mod BodyNumbers
 mod Sizes
 mod FewOpen

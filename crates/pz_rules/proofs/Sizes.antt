@@ -16,10 +16,11 @@ use Rattle.pz_classes_beginnings.specs.Beginning.{begun, begun_all, begun_each, 
 use Rattle.pz_classes_openings.specs.Methods.{method_at, body_at}
 use Rattle.pz_classes_openings.specs.Openings.{begun_at, calls_at, statements_at, HasMethod, called, of_called, opened_to, spread_to}
 use Rattle.pz_classes_openings.specs.OpeningRules.{Opens, too_large}
-use Rattle.pz_classes_openings.proofs.Resolved.{begun_all_same, all_calls_same, all_as_many}
+use Rattle.pz_classes_openings.proofs.Resolved.{begun_all_same, all_calls_same}
 use Rattle.pz_rules.specs.Terms.{Steps}
 use Rattle.pz_rules.specs.Openable.{IsProcessClass}
 use Rattle.pz_rules.specs.devices.Opened.{delays_in, delays_in_all, delays_in_part, delays_in_each, spread_of}
+use Rattle.pz_rules.proofs.StatementCounts.{all_as_many}
 use Rattle.pz_rules.proofs.BodyNumbers.{IsBodyOf}
 
 module _ {X K Q : Type 0} where

@@ -111,8 +111,8 @@ pub fn passings_end()
     ensures law { PassingsEnd }
 {}
 
-/// The clock stays below 2^127 in a run of at most 10^9 actions, of a sound model whose text has fewer than
-/// 2^32 - 1 marks, if each passing is shorter than 2^64 clock units.
+/// The clock stays below 2^127 in a run of at most 10^9 actions, of a model that is sound for its edition and
+/// whose text has fewer than 2^32 - 1 marks, if each passing is shorter than 2^64 clock units.
 pub fn clocks_stay_low()
     ensures law { ClocksStayLow }
 {
