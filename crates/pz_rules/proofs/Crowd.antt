@@ -1,11 +1,10 @@
--- The processes of a model are of process classes, and in a sound one they are at most 10,000.
+-- The processes of a sound model are at most 10,000.
 use Rattle.std.proofs.Common.{◌≡◌, refl, sym, ap, subst, ◌∙◌, ℕ, zero, suc, ◌+◌, ◌≤◌, Bool, true, false, ◌||◌, List, [], ◌∷◌, ◌++◌, append_assoc, length, length-append, nat_lt, Option, Some, None, slice_get, arith}
 use Rattle.std.specs.Option.{option_map_or, unwrap_or}
 use Rattle.std.specs.List.{filter, flat_map}
 use Rattle.std.proofs.lemmas.Bool.Decides.{nat_tests}
 use Rattle.std.proofs.lemmas.List.{length_push}
-use Rattle.std.proofs.lemmas.List.Elements.{filter-append, filter_passes}
-use Rattle.std.proofs.lemmas.Option.{slice_get_within, get_or_from_slice_get}
+use Rattle.std.proofs.lemmas.List.Elements.{filter-append}
 use Rattle.pz_syntax.specs.declared.clusters.Instance.{Instance}
 use Rattle.pz_syntax.specs.declared.clusters.SystemDecl.{SystemDecl}
 use Rattle.pz_syntax.specs.Classes.{DeclTree, data_class, process_class, cluster_class, system, ModelTree}
@@ -17,18 +16,8 @@ use Rattle.pz_classes.specs.SizeRules.{system_of, systems, text_start, Totals, n
 use Rattle.pz_classes.specs.Soundness.{IsSound, a_word, holding, size, the_system}
 use Rattle.pz_bind_levels.specs.Places.{Address}
 use Rattle.pz_bind.specs.Nest.{first_system, each_instance, system_class, instances_in, class_of, class_at, instances_at, with_inside, inside, places, is_process_at, processes}
-use Rattle.pz_rules.specs.Openable.{IsProcessClass}
 
 module _ (m : ModelTree) where
-  process_at : (place : Address) → is_process_at m place ≡ true → IsProcessClass m (class_at m place)
-  process_at [] is = absurd cc
-  process_at (i ∷ up) is = is
-
-  pub process_class_at : (i : ℕ) (place : Address) → slice_get (processes m) i ≡ Some place → IsProcessClass m (class_at m place)
-  process_class_at i place at =
-      process_at place (subst (λ (x : Address). is_process_at m x ≡ true) (get_or_from_slice_get (processes m) i place place at)
-      (filter_passes (is_process_at m) (places m) i place (slice_get_within (processes m) i place at)))
-
   -- Processes among these places
 
   abbrev count : List Address → ℕ

@@ -42,7 +42,8 @@ use Rattle.pz_rules.proofs.Kept.{set_get}
 use Rattle.pz_rules.proofs.Pending.{fewer_pending}
 use Rattle.pz_rules.proofs.Brought.{LeavesFew, Grows, LeavesGrown, performs_few, hands_few, takes_few, growing, settled_grows}
 use Rattle.pz_rules.proofs.FewOpen.{few_bounds}
-use Rattle.pz_rules.proofs.Crowd.{process_class_at, few_processes}
+use Rattle.pz_rules.proofs.Starts.{of_process_class}
+use Rattle.pz_rules.proofs.Crowd.{few_processes}
 
 -- One or two processes of a list become others
 
@@ -205,7 +206,7 @@ abbrev IsFew : Setting → ℕ → Steps → Type 0
 IsFew setting class = OpensFew setting.limits.edition setting.model class
 
 all_bounded : (setting : Setting) → HasFewMarks setting.model → (setting.limits.edition ≡ Two → Opens setting.model) → AllBounded setting (IsFew setting) most_delays
-all_bounded setting few opens i place at = few_bounds setting (class_at setting.model place) few opens (process_class_at setting.model i place at)
+all_bounded setting few opens i place at = few_bounds setting (class_at setting.model place) few opens (of_process_class setting.model i place at)
 
 pub start_room : (setting : Setting) (c : Config) → IsSound setting.model → HasFewMarks setting.model → (setting.limits.edition ≡ Two → Opens setting.model) → IsStart setting c → HasRoom setting most_actions c
 start_room setting c sound few opens start =
