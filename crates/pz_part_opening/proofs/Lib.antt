@@ -1,2 +1,4 @@
 mod Bounds
+mod Inside
+mod Lighter
 mod Openings
