@@ -1,2 +1,4 @@
 mod Bounds
+mod Called
 mod Openings
+mod Ways
