@@ -1,7 +1,8 @@
 -- How statements that wait open, and alternatives one by one.
-use Rattle.std.proofs.Common.{◌≡◌, ℕ, ◌<◌, ◌≤◌, ◌+◌, true, false, List, [], ◌∷◌, ◌++◌, take, drop, length, get_or, Some, None, refl, sym, subst, ap, ◌∙◌, arith}
-use Rattle.std.specs.Prelude.{◌==◌}
+use Rattle.std.proofs.Common.{◌≡◌, ℕ, suc, ◌<◌, ◌≤◌, ◌+◌, true, false, List, [], ◌∷◌, ◌++◌, take, drop, length, get_or, Some, None, refl, sym, subst, ap, ◌∙◌, arith}
+use Rattle.std.specs.Prelude.{Bool, ◌==◌}
 use Rattle.std.specs.List.{slice_get}
+use Rattle.std.specs.Borrow.{Bor}
 use Rattle.std.proofs.lemmas.Bool.{true≢false, eqb-true}
 use Rattle.std.proofs.lemmas.Option.{same_Some, none-some}
 use Rattle.std.proofs.lemmas.List.{take_more}
@@ -9,7 +10,7 @@ use Rattle.pz_classes_code.specs.declared.step.Step.{Step}
 use Rattle.pz_classes_code.specs.StepView as step
 use Rattle.pz_rules.specs.declared.term.Term.{Term, fold-roll-Term}
 use Rattle.pz_rules.specs.declared.term.Term.TheOpen.{Term-F}
-use Rattle.pz_rules.specs.declared.term.Term.TheVariants.{Done, Seq, rolls-Done, rolls-Seq}
+use Rattle.pz_rules.specs.declared.term.Term.TheVariants.{Done, Leaf, Seq, rolls-Done, rolls-Leaf, rolls-Seq}
 use Rattle.pz_syntax.specs.Statements.{Branches}
 use Rattle.pz_value.specs.declared.value.ClassId.{ClassId}
 use Rattle.pz_classes_code.specs.declared.slot.Slot.{Slot}
@@ -21,12 +22,18 @@ use Rattle.pz_rules.specs.Settings.{Process, left_by, Home}
 use Rattle.pz_rules.specs.Opening.{Beside, steps_opened, branches_opened, opened, opened_all}
 use Rattle.pz_rules.specs.Becoming.{Became}
 use Rattle.pz_rules.specs.View.{term_view, term_step, terms_view, branches_view}
+use Rattle.pz_part_opening.specs.declared.spot.Spot.{Spot}
+use Rattle.pz_part_opening.specs.declared.spot.Spot.TheVariants.{Several}
+use Rattle.pz_part_opening.specs.devices.Spots.{spot_view}
 use Rattle.pz_part_opening.specs.devices.Rounds.{BecameBeside}
 
-pub term_seq : (t : Term) (rest : List Step) → term_view (Seq t rest) ≡ terms.sequence (term_view t) (step.sequence_view rest)
+term_seq : (t : Term) (rest : List Step) → term_view (Seq t rest) ≡ terms.sequence (term_view t) (step.sequence_view rest)
 term_seq t rest = ap term_view (sym (rolls-Seq t rest)) ∙ fold-roll-Term terms.Term term_step (Term-F.Seq t rest)
 
-pub view_Done : term_view Done ≡ terms.done
+pub view_Leaf : (s : Step) → term_view (Leaf s) ≡ terms.leaf (step.view s)
+view_Leaf s = ap term_view (sym (rolls-Leaf s)) ∙ fold-roll-Term terms.Term term_step (Term-F.Leaf s)
+
+view_Done : term_view Done ≡ terms.done
 view_Done = ap term_view (sym rolls-Done) ∙ fold-roll-Term terms.Term term_step Term-F.Done
 
 -- statements that wait, by the first of them
@@ -57,18 +64,49 @@ module _ (h : Home) (r : Step) (t : Term) (old new : Seen) (became : Became (ope
       }
 
 -- two statements or more
-pub several_open : (h : Home) (ts waiting : List Step) (r : Step) (t boxed : Term) (old new : Seen) → 2 ≤ length ts → r ≡ get_or ts 0 r → waiting ≡ drop 1 ts → boxed ≡ t
+
+some_there : (n : ℕ) → (suc n == 0) ≡ false
+some_there n = by (suc n == 0) refl
+  where
+    by : (b : Bool) → (suc n == 0) ≡ b → (suc n == 0) ≡ false
+    by true e = absurd (omega (arith, eqb-true (suc n) 0 e))
+    by false e = e
+
+several_open : (h : Home) (ts waiting : List Step) (r : Step) (t boxed : Term) (old new : Seen) → 2 ≤ length ts → r ≡ get_or ts 0 r → waiting ≡ drop 1 ts → boxed ≡ t
     → Became (opened h (step.view r) old.held) (term_view t) old new → Became (opened_all h (step.sequence_view ts) old.held) (term_view (Seq boxed waiting)) old new
 several_open h [] waiting r t boxed old new two is behind same began = absurd (omega (arith, two))
 several_open h (q ∷ []) waiting r t boxed old new two is behind same began = absurd (omega (arith, two))
-several_open h (q ∷ p ∷ rest) waiting r t boxed old new two is behind same began = more_wait h r t old new began (q ∷ p ∷ rest) waiting boxed (ap (λ (x : Step). Some x) is) behind same (ap (λ (l : List Step). length l == 0) behind ∙ refl)
+several_open h (q ∷ p ∷ rest) waiting r t boxed old new two is behind same began = more_wait h r t old new began (q ∷ p ∷ rest) waiting boxed (ap (λ (x : Step). Some x) is) behind same
+        (ap (λ (l : List Step). length l == 0) behind ∙ some_there (length rest))
 
 -- one alone
-pub one_opens : (h : Home) (ts : List Step) (r : Step) (t : terms.Term) (old new : Seen) → length ts ≡ 1 → r ≡ get_or ts 0 r
+one_opens : (h : Home) (ts : List Step) (r : Step) (t : terms.Term) (old new : Seen) → length ts ≡ 1 → r ≡ get_or ts 0 r
     → Became (opened h (step.view r) old.held) t old new → Became (opened_all h (step.sequence_view ts) old.held) t old new
 one_opens h [] r t old new one is began = absurd (omega (arith, one))
 one_opens h (q ∷ []) r t old new one is began = subst (λ (x : Step). Became (opened h (step.view x) old.held) t old new) is began
 one_opens h (q ∷ p ∷ rest) r t old new one is began = absurd (omega (arith, one))
+
+none_open : (h : Home) (ts : List Step) (s : Seen) → length ts < 1 → Became (opened_all h (step.sequence_view ts) s.held) (term_view Done) s s
+none_open h [] s empty = record { term = view_Done; state = refl }
+none_open h (q ∷ rest) s empty = absurd (omega (arith, empty))
+
+-- where they stand
+module _ (h : Home) (spot : Spot) (steps : Bor (List Step)) (ts : List Step) (is : spot ≡ Several steps) (same : ts ≡ steps.now) where
+  viewed : step.sequence_view ts ≡ spot_view spot
+  viewed = ap step.sequence_view same ∙ ap spot_view (sym is)
+
+  at_spot : (t : terms.Term) (old new : Seen) → Became (opened_all h (step.sequence_view ts) old.held) t old new → Became (opened_all h (spot_view spot) old.held) t old new
+  at_spot t old new = subst (λ (xs : terms.Steps). Became (opened_all h xs old.held) t old new) viewed
+
+  pub none_there : (s : Seen) → length ts < 1 → Became (opened_all h (spot_view spot) s.held) (term_view Done) s s
+  none_there s empty = at_spot (term_view Done) s s (none_open h ts s empty)
+
+  pub one_there : (r : Step) (t : terms.Term) (old new : Seen) → length ts ≡ 1 → r ≡ get_or ts 0 r → Became (opened h (step.view r) old.held) t old new → Became (opened_all h (spot_view spot) old.held) t old new
+  one_there r t old new one first began = at_spot t old new (one_opens h ts r t old new one first began)
+
+  pub several_there : (waiting : List Step) (r : Step) (t boxed : Term) (old new : Seen) → 2 ≤ length ts → r ≡ get_or ts 0 r → waiting ≡ drop 1 ts → boxed ≡ t
+      → Became (opened h (step.view r) old.held) (term_view t) old new → Became (opened_all h (spot_view spot) old.held) (term_view (Seq boxed waiting)) old new
+  several_there waiting r t boxed old new two first behind boxed_is began = at_spot (term_view (Seq boxed waiting)) old new (several_open h ts waiting r t boxed old new two first behind boxed_is began)
 
 -- alternatives, with a further one at the end
 

@@ -88,6 +88,7 @@ fn open_spot(
         state.old.held) (term_view term) state.old state.new) }
     ensures marks { state.new.marks ≡ state.old.marks }
 {
+    pz_rules::laws::calls_unfold();
     let inner = descend(&*home, spot, state)?;
     let term = open_standing(alloc, home, inner.spot, state)?;
     in_frame(alloc, inner.frame, term)
@@ -161,7 +162,10 @@ fn open_form(
             let second = Boxed::new(alloc, open_spot(alloc, home, second, state)?)?;
             Ok(Term::Idle(first, second, again.copy()?))
         }
-        _ => Ok(Term::Leaf(step.copy()?)),
+        _ => {
+            pz_rules::laws::calls_unfold();
+            Ok(Term::Leaf(step.copy()?))
+        }
     }
 }
 
