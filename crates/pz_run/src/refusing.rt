@@ -1,5 +1,5 @@
 // What is said where the first line of a trace is no header.
-ghost use Rattle.std.specs.Prelude.{◌++◌, IfOk, Some};
+ghost use Rattle.std.specs.Prelude.{◌≡◌, IfOk, Some};
 ghost use Rattle.std.specs.Result.{result_err};
 ghost use Rattle.pz_io.specs.Writing.{Wrote};
 ghost use Rattle.pz_trace.specs.Lines as lines;

@@ -6,6 +6,8 @@ use Rattle.pz_rules.specs.Settings.{Setting}
 use Rattle.pz_check_violations.specs.declared.violation.Violation.{Violation}
 use Rattle.pz_classes_openings.specs.OpeningRules.{IsOpeningViolation}
 use Rattle.pz_trace.specs.TraceText.{run_ending, IsTrace}
+use Rattle.pz_trace.specs.declared.forms.Form.{Form}
+use Rattle.pz_trace.specs.Forms.{HasHeader}
 use Rattle.pz_trace.specs.Laws.{OneFormIsTold}
 use Rattle.pz_run_replaying.specs.Replays.{TellsLines}
 use Rattle.pz_run_reading.specs.declared.refusal.Refusal.{Refusal}
@@ -39,9 +41,14 @@ pub record TracesKnown : Type 0 where
 pub data PrintsRefusal (text : List ℕ) : List ℕ → Status → Type 0 where
   refused : (r : Refusal) → IsRefused text r → ((m : ModelTree) → IsModelOf text m → ⊥) → PrintsRefusal text (model_refused_line r) ModelRefused
 
+-- the first line tells one form
+abbrev pub HasOneForm : List ℕ → Type 0
+HasOneForm trace = (f g : Form) → HasHeader f trace → HasHeader g trace → f ≡ g
+
 -- what is said of a trace, and the one status that goes with it
 pub record PrintsTrace (units : ℕ) (m : ModelTree) (trace bytes : List ℕ) (status : Status) : Type 0 where
   pub prints : PrintsReplay units m trace bytes status
+  pub one_form : HasOneForm trace
   pub only : OpensFor trace m → (tells : TellsRun m units trace) → status ≡ status_of (run_ending tells.run.ending)
   pub no_run : OpensFor trace m → (TellsRun m units trace → ⊥) → status ≡ TraceRefused
   pub closed : (v : Violation) → IsOfSecondEdition trace → IsOpeningViolation m v → status ≡ ModelRefused
