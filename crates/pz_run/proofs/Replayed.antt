@@ -1,6 +1,6 @@
 -- What was said of a trace that was replayed, and the promises of a replay.
-use Rattle.std.proofs.Common.{◌≡◌, ◌≢◌, ◌⊎◌, inl, inr, ⊎_elim, ◌∙◌, ◌<◌, ◌≤◌, ℕ, List, [], ◌∷◌, ◌++◌, true, Option, Some, None, Result, Ok, Err, length, refl, sym, subst, ap, arith, append_assoc}
-use Rattle.std.specs.Prelude.{Contains}
+use Rattle.std.proofs.Common.{◌≡◌, ◌≢◌, ◌⊎◌, inl, inr, ⊎_elim, ◌∙◌, ◌<◌, ◌≤◌, ℕ, List, [], ◌∷◌, ◌++◌, true, false, Option, Some, None, Result, Ok, Err, length, refl, sym, subst, ap, arith, append_assoc}
+use Rattle.std.specs.Prelude.{Contains, MatchOption}
 use Rattle.pz_io.specs.Outside.{Entries, FilesState, SinkState, lookup, raised, Rose, LacksName, FilesFailedLast, Exceeds}
 use Rattle.pz_io.specs.declared.writing.Halt.{Halt}
 use Rattle.pz_syntax.specs.Classes.{ModelTree}
@@ -10,6 +10,8 @@ use Rattle.pz_classes_openings.specs.OpeningRules.{IsOpeningViolation, in_rounds
 use Rattle.pz_rules.specs.Settings.{Setting}
 use Rattle.pz_rules.specs.Runs.{Ending}
 use Rattle.pz_trace.specs.declared.forms.Form.{Form}
+use Rattle.pz_trace.specs.declared.forms.Form.TheVariants.{One, Two, Three}
+use Rattle.pz_trace.specs.Lines.{header}
 use Rattle.pz_trace.specs.Forms.{HasHeader}
 use Rattle.pz_trace.specs.Laws.{OneFormIsTold}
 use Rattle.pz_trace.specs.TraceText.{run_ending, IsTrace}
@@ -18,7 +20,7 @@ use Rattle.pz_trace.specs.declared.ending.Ending.TheVariants as ending
 use Rattle.pz_term.specs.Simulations.{Simulation}
 use Rattle.pz_run_replaying.specs.declared.replayed.Replayed.{Replayed}
 use Rattle.pz_run_replaying.specs.declared.replayed.Replayed.TheVariants as replayed
-use Rattle.pz_run_replaying.specs.Replays.{Replays, accepts, refuses, TellsLines, IsReplayed}
+use Rattle.pz_run_replaying.specs.Replays.{refusal_text, Replays, accepts, refuses, TellsLines, IsReplayed}
 use Rattle.pz_words.specs.declared.jobs.Job.{Job}
 use Rattle.pz_words.specs.declared.jobs.Job.TheVariants.{Replay}
 use Rattle.pz_run_reading.specs.Models.{IsModelOf}
@@ -27,14 +29,15 @@ use Rattle.pz_run_reading.specs.Answers.{OnRefused}
 use Rattle.pz_run_reading.specs.declared.read_error.ReadModelError.{ReadModelError}
 use Rattle.pz_run_reading.specs.declared.read_error.ReadModelError.TheVariants.{NoMemory, Refused}
 use Rattle.pz_run_reading.specs.declared.refusal.Refusal.{Refusal}
-use Rattle.pz_run_reading.specs.declared.refusal.Refusal.TheVariants.{Violates}
+use Rattle.pz_run_reading.specs.declared.refusal.Refusal.TheVariants as refusal
+use Rattle.pz_run_reading.specs.Openings.{IsOpeningRefusal}
 use Rattle.pz_run_lines.specs.Lines.{read_fault_line, too_long_line, model_refused_line}
 use Rattle.pz_run.specs.Limits.{model_limit, trace_limit}
 use Rattle.pz_run.specs.declared.status.Status.{Status}
 use Rattle.pz_run.specs.declared.status.Status.TheVariants.{ModelRefused, TraceRefused, TooLong, ReadFault, WriteFault}
 use Rattle.pz_run.specs.Files.{JobFile, model_file, trace_file, files_of}
 use Rattle.pz_run.specs.Plays.{play_of, setting_with}
-use Rattle.pz_run.specs.Editions.{IsOfSecondEdition, OpensFor}
+use Rattle.pz_run.specs.Editions.{HasNoHeader, IsOfSecondEdition, OpensFor}
 use Rattle.pz_run.specs.Status.{status_of, replay_status}
 use Rattle.pz_run.specs.Output.{PrintsReplay, closed, no_header, replays, PrintsFile, lacks, too_long, reads, PrintsOnTrace, PrintsTraceFile, PrintsJob, Prints, does}
 use Rattle.pz_run.specs.Output as output
@@ -43,7 +46,7 @@ use Rattle.pz_run.specs.Promises as promises
 use Rattle.pz_run.specs.devices.Halting.{replayed_as}
 use Rattle.pz_run.specs.devices.Keeping.{KeepsPromises}
 use Rattle.pz_run.specs.devices.Reading.{FileOutcome, wanting, fault, long, whole, ReadsFile}
-use Rattle.pz_run.specs.devices.Replaying.{OneEnding, HasOneForm, PrintsRefusal, refused, PrintsTrace, IsOnlyModel, WasRead, ReplaysText, goes_on, ReplaysFiles, no_model, reads_on}
+use Rattle.pz_run.specs.devices.Replaying.{OneEnding, tells_first, HasOneForm, PrintsRefusal, refused, PrintsTrace, IsOnlyModel, WasRead, ReplaysText, goes_on, ReplaysFiles, no_model, reads_on}
 use Rattle.pz_run.specs.devices.Replaying as replaying
 use Rattle.pz_run.specs.devices.Saying.{Said, NothingWritten, Says, Answers}
 use Rattle.pz_run.specs.devices.Texts.{SaysRefusal}
@@ -86,6 +89,43 @@ module _ (units : ℕ) (m : ModelTree) (form : Form) (text : List ℕ) (is_told 
         (said_halted before now done.text (replay_status done.outcome) halt done.wrote);
   }
 
+module _ (units : ℕ) (m : ModelTree) (text : List ℕ) (before now : SinkState) (given : Status) where
+  -- of a model that does not open
+  pub closed_said : IsOfSecondEdition text → (e : ReadModelError) → OnRefused (IsOpeningRefusal m) e → SaysRefusal e before now given → Answers (PrintsReplay units m text) before now given
+  closed_said second NoMemory found says = inl says
+  closed_said second (Refused (refusal.Violates v)) found says = inr (record { bytes = model_refused_line (refusal.Violates v); wanted = ModelRefused; prints = closed v second found; said = says })
+  closed_said second (Refused (refusal.BadByte at)) found says = absurd found
+  closed_said second (Refused (refusal.OpenComment at)) found says = absurd found
+  closed_said second (Refused (refusal.OpenString at)) found says = absurd found
+  closed_said second (Refused (refusal.BadNumber at)) found says = absurd found
+  closed_said second (Refused (refusal.Syntax at)) found says = absurd found
+  closed_said second (Refused (refusal.TooNested at)) found says = absurd found
+
+  -- of a first line that is no header
+  pub header_said : rules.Opens m → HasNoHeader text → Said before now (refusal_text 1 (Some (header (Three units)))) TraceRefused given → Answers (PrintsReplay units m text) before now given
+  header_said opens none said = inr (record { bytes = refusal_text 1 (Some (header (Three units))); wanted = TraceRefused; prints = no_header opens none; said = said })
+
+-- ---- what the first line tells
+
+-- nothing
+pub tells_nothing : (told : Option Form) (text : List ℕ) → MatchOption told (HasNoHeader text) (λ form. HasHeader form text) → told ≡ None → HasNoHeader text
+tells_nothing None text is none = is
+tells_nothing (Some form) text is none = absurd cc
+
+-- the first form
+pub is_header : (told : Option Form) (text : List ℕ) → MatchOption told (HasNoHeader text) (λ form. HasHeader form text) → tells_first told ≡ true → HasHeader One text
+is_header None text is first = absurd cc
+is_header (Some One) text is first = is
+is_header (Some Two) text is first = absurd cc
+is_header (Some (Three units)) text is first = absurd cc
+
+-- another, or nothing
+pub is_second : OneFormIsTold → (told : Option Form) (text : List ℕ) → MatchOption told (HasNoHeader text) (λ form. HasHeader form text) → tells_first told ≡ false → IsOfSecondEdition text
+is_second one None text is other first = is One first
+is_second one (Some One) text is other first = cc
+is_second one (Some Two) text is other first = let same : Two ≡ One = one Two One text is first in cc
+is_second one (Some (Three units)) text is other first = let same : Three units ≡ One = one (Three units) One text is first in cc
+
 -- ---- the one status that goes with it
 
 -- a model that opens violates neither C23 nor C24
@@ -99,7 +139,7 @@ module _ (one : OneEnding) (told : OneFormIsTold) (units : ℕ) (m : ModelTree) 
     only_end : (bytes : List ℕ) (outcome : Replayed) (end : Simulation) → Replays (setting_with m form units) text bytes outcome end
         → (run : IsTrace (setting_with m form units) text) → replay_status outcome ≡ status_of (run_ending run.ending)
     only_end _ _ _ (accepts run) other = one (setting_with m form units) text (tells form) run other
-    only_end _ _ _ (refuses lines rest stage expected now refusal are is leads expects at) other = absurd (refusal.no_run other)
+    only_end _ _ _ (refuses lines rest stage expected now differs are is leads expects at) other = absurd (differs.no_run other)
 
     -- whichever run it tells, that is of this form
     only_told : (bytes : List ℕ) (outcome : Replayed) (end : Simulation) → Replays (setting_with m form units) text bytes outcome end
@@ -111,7 +151,7 @@ module _ (one : OneEnding) (told : OneFormIsTold) (units : ℕ) (m : ModelTree) 
     none_refused : (bytes : List ℕ) (outcome : Replayed) (end : Simulation) → Replays (setting_with m form units) text bytes outcome end
         → (TellsRun m units text → ⊥) → replay_status outcome ≡ TraceRefused
     none_refused _ _ _ (accepts run) none = absurd (none (record { form = form; is_told = is_told; run = run }))
-    none_refused _ _ _ (refuses lines rest stage expected now refusal are is leads expects at) none = refl
+    none_refused _ _ _ (refuses lines rest stage expected now differs are is leads expects at) none = refl
 
     of_form : (bytes : List ℕ) (outcome : Replayed) (end : Simulation) → Replays (setting_with m form units) text bytes outcome end → PrintsTrace units m text bytes (replay_status outcome)
     of_form bytes outcome end is = record {
@@ -423,12 +463,12 @@ module _ (model name : List ℕ) (units : ℕ) where
       replay_outcome : HasOneForm t → (form : Form) → HasHeader form t → OpensFor t m → (bytes : List ℕ) (outcome : Replayed) (end : Simulation) → Replays (setting_with m form units) t bytes outcome end → Outcome f job text (replay_status outcome)
       replay_outcome one form is_told asked _ _ _ (accepts run) =
           run_ended (run_ending run.ending) (told_can model name units run.ending) (λ tells. of_trace (record { replay = has_trace asked tells; tells = record { form = form; is_told = is_told; run = run }; ends = refl }))
-      replay_outcome one form is_told asked _ _ _ (refuses lines rest stage expected now refusal are is leads expects at) =
-          tells_none asked (only_form one form is_told refusal.no_run)
+      replay_outcome one form is_told asked _ _ _ (refuses lines rest stage expected now differs are is leads expects at) =
+          tells_none asked (only_form one form is_told differs.no_run)
 
       trace_outcome : HasOneForm t → (bytes : List ℕ) (wanted : Status) → PrintsReplay units m t bytes wanted → Outcome f job text wanted
       trace_outcome one _ _ (closed v second violates) =
-          outcomes.no_model (Violates v) (λ tells. on_trace t m v (is_trace tells) second is.is_model violates)
+          outcomes.no_model (refusal.Violates v) (λ tells. on_trace t m v (is_trace tells) second is.is_model violates)
       trace_outcome one _ _ (no_header opens none) = tells_none (λ _. opens) (λ x. none x.form x.is_told)
       trace_outcome one _ _ (replays form bytes outcome end is_told asked is) = replay_outcome one form is_told asked bytes outcome end is
 

@@ -15,7 +15,7 @@ ghost use Rattle.pz_run.specs.Editions.{HasNoHeader, IsOfSecondEdition, OpensFor
 ghost use Rattle.pz_run.specs.Output.{PrintsReplay};
 ghost use Rattle.pz_run.specs.devices.Saying.{Says, Answers};
 ghost use Rattle.pz_run.specs.devices.Reading.{ReadsFile};
-ghost use Rattle.pz_run.specs.devices.Replaying.{ReplaysText, ReplaysFiles};
+ghost use Rattle.pz_run.specs.devices.Replaying.{tells_first, ReplaysText, ReplaysFiles};
 
 use crate::Status;
 use crate::files::say_unread;
@@ -108,9 +108,22 @@ fn replay_trace<W: Sink>(
     ensures { Answers (PrintsReplay units (checked_model checked) trace.now) (W.state out.old)
         (W.state out.new) result }
 {
-    match form_told(trace) {
-        Some(Form::One) => replay_form(alloc, checked, Form::One, trace, units, out),
-        told => replay_second(alloc, checked, told, trace, units, out),
+    pz_trace::laws::headers_differ();
+    let told = form_told(trace);
+    if is_first(told) {
+        replay_form(alloc, checked, Form::One, trace, units, out)
+    } else {
+        replay_second(alloc, checked, told, trace, units, out)
+    }
+}
+
+// Whether the first line of a trace tells the first edition.
+fn is_first(told: Option<Form>) -> bool
+    ensures { result ≡ tells_first told }
+{
+    match told {
+        Some(Form::One) => true,
+        Some(Form::Two) | Some(Form::Three { .. }) | None => false,
     }
 }
 

@@ -1,5 +1,5 @@
 -- What was done with the two files of a replay.
-use Rattle.std.specs.Prelude.{◌≡◌, ◌≤◌, ℕ, List, [], ◌∷◌, ◌++◌, true, length, Some}
+use Rattle.std.specs.Prelude.{◌≡◌, ◌≤◌, ℕ, List, [], ◌∷◌, ◌++◌, Bool, true, false, length, Option, Some}
 use Rattle.pz_io.specs.Outside.{FilesState, SinkState, lookup, raised}
 use Rattle.pz_syntax.specs.Classes.{ModelTree}
 use Rattle.pz_rules.specs.Settings.{Setting}
@@ -7,6 +7,7 @@ use Rattle.pz_check_violations.specs.declared.violation.Violation.{Violation}
 use Rattle.pz_classes_openings.specs.OpeningRules.{IsOpeningViolation}
 use Rattle.pz_trace.specs.TraceText.{run_ending, IsTrace}
 use Rattle.pz_trace.specs.declared.forms.Form.{Form}
+use Rattle.pz_trace.specs.declared.forms.Form.TheVariants.{One}
 use Rattle.pz_trace.specs.Forms.{HasHeader}
 use Rattle.pz_trace.specs.Laws.{OneFormIsTold}
 use Rattle.pz_run_replaying.specs.Replays.{TellsLines}
@@ -40,6 +41,11 @@ pub record TracesKnown : Type 0 where
 -- why a text has no model
 pub data PrintsRefusal (text : List ℕ) : List ℕ → Status → Type 0 where
   refused : (r : Refusal) → IsRefused text r → ((m : ModelTree) → IsModelOf text m → ⊥) → PrintsRefusal text (model_refused_line r) ModelRefused
+
+-- the first edition is told, and not another or none
+abbrev pub tells_first : Option Form → Bool
+tells_first (Some One) = true
+tells_first told = false
 
 -- the first line tells one form
 abbrev pub HasOneForm : List ℕ → Type 0
