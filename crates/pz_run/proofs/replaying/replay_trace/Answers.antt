@@ -4,14 +4,14 @@ use Rattle.pz_run.proofs.Replayed.{is_header, is_second}
 use Rattle.pz_run.proofs.replaying.replay_trace.Goals as goal
 
 pub replay_form-requires-clause-told : goal.replay_form-requires-clause-told
-replay_form-requires-clause-told g c = is_header c.form_told.result c.args.trace.now c.form_told.ensures (sym c.is_first.ensures ∙ c.if-is_first.true)
+replay_form-requires-clause-told g c = is_header c.form_told-told.result c.args.trace.now c.form_told-told.ensures (sym c.is_first.ensures ∙ c.if-is_first.true)
 
 pub replay_form-requires-clause-asked : goal.replay_form-requires-clause-asked
-replay_form-requires-clause-asked g c = λ second. absurd (second (is_header c.form_told.result c.args.trace.now c.form_told.ensures (sym c.is_first.ensures ∙ c.if-is_first.true)))
+replay_form-requires-clause-asked g c = λ second. absurd (second (is_header c.form_told-told.result c.args.trace.now c.form_told-told.ensures (sym c.is_first.ensures ∙ c.if-is_first.true)))
 
 pub replay_form-requires-clause-tells : goal.replay_form-requires-clause-tells
 replay_form-requires-clause-tells g c = c.requires One
 
 pub replay_second-requires-clause-second : goal.replay_second-requires-clause-second
 replay_second-requires-clause-second g c =
-    is_second c.headers_differ.ensures.told c.form_told.result c.args.trace.now c.form_told.ensures (sym c.is_first.ensures ∙ c.if-is_first.false)
+    is_second c.headers_differ.ensures.told c.form_told-told.result c.args.trace.now c.form_told-told.ensures (sym c.is_first.ensures ∙ c.if-is_first.false)
