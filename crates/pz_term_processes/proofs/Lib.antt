@@ -1,4 +1,4 @@
 mod Given
 mod First
-mod Homes
+mod ProcessClasses
 mod Started
