@@ -201,7 +201,7 @@ pub fn open_step(
         state.new) }
     ensures marks { state.new.marks ≡ state.old.marks }
 {
-    open_spot(alloc, &*home, Spot::One(&*step), state)
+    open_spot(alloc, home, Spot::One(step), state)
 }
 
 /// The term of statements in a sequence, in the state that their opening leaves: the first stands open,
@@ -217,7 +217,7 @@ pub fn open_all(
         state.old state.new) }
     ensures marks { state.new.marks ≡ state.old.marks }
 {
-    open_spot(alloc, &*home, Spot::Several(&*steps), state)
+    open_spot(alloc, home, Spot::Several(steps), state)
 }
 
 /// The term of statements that wait, in the state that their opening leaves. The only error is want of
@@ -279,7 +279,7 @@ pub fn open_term(
         state.old.held) (term_view term) state.old state.new) }
     ensures err { OnErr result (state.new ≡ state.old) }
 {
-    let home = Home::new(&*checked, class, limits);
+    let home = Home::new(checked, class, limits);
     let steps = shared(alloc, steps)?;
     let before = state.mark()?;
     match open_all(alloc, &home, &steps, state) {
