@@ -15,7 +15,7 @@ use Rattle.pz_syntax.specs.Statements.{Branches}
 use Rattle.pz_value.specs.declared.value.ClassId.{ClassId}
 use Rattle.pz_classes_code.specs.declared.slot.Slot.{Slot}
 use Rattle.pz_state.specs.States.{StateView}
-use Rattle.pz_state.specs.Marks.{Seen, changed}
+use Rattle.pz_state.specs.Marks.{Seen, changed, marked, kept}
 use Rattle.pz_rules.specs.Terms as terms
 use Rattle.pz_rules.specs.Terms.{Terms, no_terms, and}
 use Rattle.pz_rules.specs.Settings.{Process, left_by, Home}
@@ -147,3 +147,16 @@ module _ (enter : terms.Step → StateView → Process) where
             ∙ ap (λ (ys : Beside). ys.terms) (sym whole);
         state = began.state ∙ ap (λ (s : Seen). changed s x.state) so_far.state ∙ ap (λ (ys : Beside). changed old ys.state) (sym whole);
       }
+
+-- behind a mark that is kept
+pub kept_became : (h g : Home) (ts us : List Step) (t : terms.Term) (old mid new last : Seen) (point : ℕ) → h ≡ g → ts ≡ us → mid ≡ marked old point → last ≡ kept new
+    → Became (opened_all h (step.sequence_view ts) mid.held) t mid new → Became (opened_all g (step.sequence_view us) old.held) t old last
+kept_became h g ts us t old mid new last point home same at_mark keeps became =
+    let p : Process = opened_all h (step.sequence_view ts) mid.held in
+    let whole : p ≡ opened_all g (step.sequence_view us) old.held
+          = ap (λ (x : Home). opened_all x (step.sequence_view ts) mid.held) home ∙ ap (λ (xs : List Step). opened_all g (step.sequence_view xs) mid.held) same
+          ∙ ap (λ (s : Seen). opened_all g (step.sequence_view us) s.held) at_mark in
+    record {
+      term = became.term ∙ ap (λ (x : Process). x.term) whole;
+      state = keeps ∙ ap kept became.state ∙ ap (λ (s : Seen). kept (changed s p.state)) at_mark ∙ ap (λ (x : Process). changed old x.state) whole;
+    }
