@@ -1,2 +1,6 @@
 mod Bounds
+mod Called
+mod Inside
+mod Lighter
 mod Openings
+mod Ways

@@ -55,12 +55,13 @@ fn way_into<'s>(home: &Home<'s>, step: &'s Step) -> Option<Way<'s>>
 
 /// The way further in. None where nothing alone stands there that has an inside.
 pub(crate) fn way_in<'s>(home: &Home<'s>, spot: Spot<'s>) -> Option<Way<'s>>
-    ensures { MatchOption result (Stands (home_view home.now) (spot_view spot))
-        (λ way. IsWay (home_view home.now) (spot_view spot) way) }
+    ensures { MatchOption result (Stands (home_view home.now) (spot_view spot.entry))
+        (λ way. IsWay (home_view home.now) (spot_view spot.entry) way) }
 {
     match spot {
         Spot::One(step) => way_into(home, step),
         Spot::Several(steps) => match steps.get().as_slice() {
+            [] => None,
             [step] => way_into(home, step),
             _ => None,
         },

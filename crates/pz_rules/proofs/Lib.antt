@@ -37,6 +37,11 @@ mod Pending
 mod Opens
 mod Brought
 mod Marks
+mod StatementCounts
+mod BodyNumbers
+mod Sizes
+mod FewOpen
+mod Crowd
 mod Room
 mod Existing
 mod Wires

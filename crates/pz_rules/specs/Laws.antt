@@ -19,6 +19,9 @@ use Rattle.pz_rules.specs.Acting.{IsActing, IsSend, IsReceive}
 use Rattle.pz_rules.specs.InternalActions.{Can}
 use Rattle.pz_rules.specs.Messages.{Sends, Receives}
 use Rattle.pz_rules.specs.Delays.{Delays}
+use Rattle.pz_bind_levels.specs.Places.{Address}
+use Rattle.pz_bind.specs.Nest.{processes, class_at}
+use Rattle.pz_rules.specs.Openable.{IsProcessClass}
 use Rattle.pz_rules.specs.Ports.{HasWires}
 use Rattle.pz_rules.specs.Starting.{IsStart}
 use Rattle.pz_rules.specs.Fitting.{IsFit}
@@ -198,3 +201,7 @@ OneStart = (setting : Setting) (c d : Config) → IsStart setting c → IsStart 
 
 abbrev pub EveryStart : Type 0
 EveryStart = (setting : Setting) → IsSound setting.model → (c : Config) × IsStart setting c
+
+-- each process is of a process class
+abbrev pub ProcessesHaveClasses : Type 0
+ProcessesHaveClasses = (m : ModelTree) (i : ℕ) (place : Address) → slice_get (processes m) i ≡ Some place → IsProcessClass m (class_at m place)

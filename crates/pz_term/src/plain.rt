@@ -2,6 +2,8 @@ ghost use Rattle.std.specs.Prelude.{◌≡◌, ◌≤◌, ◌<◌, Err, IfOk, On
 ghost use Rattle.pz_classes.specs.CheckedView.{checked_model};
 ghost use Rattle.pz_bind.specs.devices.Nets.{IsNet};
 ghost use Rattle.pz_term_processes.specs.Standing.{setting_of, config_of, AreProcesses};
+ghost use Rattle.pz_rules.specs.declared.limits.Edition.TheVariants.{Two};
+ghost use Rattle.pz_rules.specs.CallLaws.{NoRounds};
 ghost use Rattle.pz_rules.specs.Runs.{whole};
 ghost use Rattle.pz_term.specs.devices.Holding.{Holds};
 
@@ -28,6 +30,7 @@ pub struct Plain {
     processes: Vec<Process>,
     standing: Standing,
     ghost of_model: { ∥ IsNet (checked_model checked) net ∥₁ },
+    ghost rounds: { limits.edition ≡ Two → NoRounds (checked_model checked) },
     ghost holds: { ∥ Holds (setting_of (checked_model checked) limits) clock processes.items standing ∥₁ },
 }
 
@@ -52,12 +55,15 @@ impl Drop for Plain {
 
 impl Plain {
     ghost use Rattle.std.specs.Prelude.{ℕ};
+    ghost use Rattle.pz_classes_openings.specs.OpeningRules.{Opens};
     ghost use Rattle.pz_term.specs.Simulations.{Starts, IsMomentOf, AreOffersOf, Chooses, Passes, IsBroken, ClockIs, setting_in, model_in, limits_in, stands};
     ghost use Rattle.pz_term.specs.Refusals.{OnNoSuchOffer, OnChooseNotNow, OnChooseRefused, OnChooseNoMemory, NoActions, OnPassNotNow, OnPassRefused, OnPassNoMemory, NoTime};
     ghost use Rattle.pz_term.specs.Plains.{simulation_of, model_of};
 
     /// The simulator of a model before its first step, whose net this is. The only error is want of
     /// memory.
+    ///
+    /// In edition Two no method of the model begins with itself, and none opens as too much (C23, C24).
     pub fn start(
         alloc: Global,
         checked: Checked,
@@ -65,12 +71,13 @@ impl Plain {
         limits: Limits,
     ) -> Result<Plain, AllocError>
         requires of_model { ∥ IsNet (checked_model checked) net ∥₁ }
+        requires opens { limits.edition ≡ Two → Opens (checked_model checked) }
         ensures starts { IfOk result (λ plain. Starts (setting_of (checked_model checked) limits)
             (simulation_of plain)) }
         ensures checked { IfOk result (λ plain. plain.checked ≡ checked) }
         ensures net { IfOk result (λ plain. plain.net ≡ net) }
     {
-        let mut processes = start(alloc, &checked, &net)?;
+        let mut processes = start(alloc, &checked, &net, limits)?;
         let outlook = look_at(alloc, &checked, &net, limits, 0, &mut processes)?;
         Ok(Plain {
             alloc,

@@ -1,3 +1,4 @@
 mod Given
 mod First
+mod Homes
 mod Started

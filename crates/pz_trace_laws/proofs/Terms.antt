@@ -75,13 +75,13 @@ Whole home = home.edition ≡ Two → HasUnbrokenMessages home.model
 module _ (home : Home) (messages : HasUnbrokenMessages home.model) where
   by_body_whole : (o : Option BodyTree) (x : Id) (opens : Steps → StateView → Process) → ((ts : Steps) (s : StateView) → StatementsUnbroken ts → TermUnbroken (opens ts s).term)
       → called_body home x ≡ o → (t : Step) (s : StateView) → StatementUnbroken t → TermUnbroken (by_body o opens t s).term
-  by_body_whole None x opens open is t s h = h
-  by_body_whole (Some (data_body locals e)) x opens open is t s h = h
-  by_body_whole (Some (process_body locals body)) x opens open is t s h =
+  by_body_whole None x opens each is t s h = h
+  by_body_whole (Some (data_body locals e)) x opens each is t s h = h
+  by_body_whole (Some (process_body locals body)) x opens each is t s h =
       let number = least_free s.frames in
       let inner = with_frame s number locals in
       let whole = body_unbroken home.model (record { name = x.name; counts = process_counts 0 0 }) messages home.class (process_body locals body) is in
-      framed_whole number 0 [] (opens body inner).term (open body inner whole)
+      framed_whole number 0 [] (opens body inner).term (each body inner whole)
 
   entered_to_whole : (depth : ℕ) (t : Step) (s : StateView) → StatementUnbroken t → TermUnbroken (entered_to home depth t s).term
   entered_to_whole zero t s h = h
