@@ -1,4 +1,5 @@
 mod Given
 mod First
 mod ProcessClasses
-mod Started
+pub mod StatementPlaces
+mod Starts
