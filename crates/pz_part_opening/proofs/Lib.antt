@@ -2,6 +2,7 @@ mod Bounds
 mod Called
 mod Forms
 mod Lighter
+mod Opened
 mod Openings
 mod Outlining
 mod Ways

@@ -1,18 +1,16 @@
 -- Parts of what stands there are lighter.
-use Rattle.std.proofs.Common.{◌≡◌, ◌≤◌, ◌<◌, ◌+◌, ◌++◌, ℕ, zero, suc, List, [], ◌∷◌, length, get_or, sym, ap, ◌∙◌, arith}
+use Rattle.std.proofs.Common.{◌≡◌, ◌≤◌, ◌<◌, ℕ, zero, suc, List, [], ◌∷◌, length, get_or, sym, ap, ◌∙◌, arith}
 use Rattle.std.specs.Borrow.{Bor}
-use Rattle.std.specs.List.{sum_by}
 use Rattle.std.proofs.lemmas.List.Sums.{sum_by-append}
-use Rattle.pz_syntax.specs.declared.names.Id.{Id}
-use Rattle.pz_syntax.specs.Statements.{skip, delay, bracketed, block, guarded, parallel, select, conditional, repeated, abort, interrupt, send, receive, call, assignment, value, no_statements, then}
+use Rattle.pz_syntax.specs.Statements.{skip, delay, bracketed, block, guarded, parallel, select, conditional, repeated, abort, interrupt, send, receive, call, assignment, value}
 use Rattle.pz_classes_code.specs.declared.step.Step.{Step}
 use Rattle.pz_classes_code.specs.StepView as step
-use Rattle.pz_classes_beginnings.specs.Beginning.{begun_all, begun_each, statements_in, statements_in_all, statements_in_each}
+use Rattle.pz_classes_beginnings.specs.Beginning.{begun_all, begun_each, statements_in}
 use Rattle.pz_rules.specs.Terms as terms
 use Rattle.pz_rules.specs.Settings.{Home}
 use Rattle.pz_rules.specs.Openable.{alone}
 use Rattle.pz_rules.specs.View.{branches_view}
-use Rattle.pz_rules.specs.devices.Weights.{called_weight, weight, weight_all, weight_each}
+use Rattle.pz_rules.specs.devices.Weights.{called_weight, weight_all, weight_each}
 use Rattle.pz_part_opening.specs.declared.spot.Spot.{Spot}
 use Rattle.pz_part_opening.specs.declared.spot.Spot.TheVariants.{Several}
 use Rattle.pz_part_opening.specs.devices.Spots.{spot_view}
@@ -37,7 +35,7 @@ one_at_least (abort pos ts t) = omega arith
 one_at_least (interrupt pos ts t) = omega arith
 
 module _ (h : Home) where
-  branch_lighter : (bs : List (List Step)) (i : ℕ) (b : List Step) → i < length bs → b ≡ get_or bs i b → weight_all h (step.sequence_view b) ≤ weight_each h (branches_view bs)
+  pub branch_lighter : (bs : List (List Step)) (i : ℕ) (b : List Step) → i < length bs → b ≡ get_or bs i b → weight_all h (step.sequence_view b) ≤ weight_each h (branches_view bs)
   branch_lighter [] i b within is = absurd (omega (arith, within))
   branch_lighter (c ∷ bs) zero b within is =
       let same : weight_all h (step.sequence_view b) ≡ weight_all h (step.sequence_view c) = ap (λ (x : List Step). weight_all h (step.sequence_view x)) is in
@@ -47,9 +45,6 @@ module _ (h : Home) where
       let further = branch_lighter bs i b (omega (arith, within)) is in
       let both = sum_by-append (called_weight h) (begun_all (step.sequence_view c)) (begun_each (branches_view bs)) in
       omega (arith, further, both)
-
-  pub branch_before : (bs : List (List Step)) (i : ℕ) (b : List Step) → i < length bs → b ≡ get_or bs i b → weight_all h (step.sequence_view b) ≤ weight_each h (branches_view bs)
-  branch_before bs i b within is = branch_lighter bs i b within is
 
   -- the first of several
   pub first_lighter : (spot : Spot) (steps : Bor (List Step)) (got : List Step) (s : Step) → spot ≡ Several steps → got ≡ steps.now → 2 ≤ length got → s ≡ get_or got 0 s
