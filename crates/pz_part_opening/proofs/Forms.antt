@@ -23,7 +23,7 @@ use Rattle.pz_part_opening.proofs.Outlining.{call_stands}
 use Rattle.pz_part_opening.proofs.Ways.{view_of}
 
 -- a statement that has no part which opens
-abbrev IsSmall : Tree → Type 0
+abbrev pub IsSmall : Tree → Type 0
 IsSmall (guarded pos e t) = ⊥
 IsSmall (parallel pos bs) = ⊥
 IsSmall (select pos bs) = ⊥
@@ -73,7 +73,7 @@ module _ (pos : Pos) where
   small_form (StepForm-F.Call method args results) others = rolled (StepForm-F.Call method args results) tt
   small_form (StepForm-F.Eval e) others = rolled (StepForm-F.Eval e) tt
 
-is_small : (s : Step) → IsOther s.form → IsSmall (view s)
+pub is_small : (s : Step) → IsOther s.form → IsSmall (view s)
 is_small s others =
     let P : StepForm → Type 0 = λ x. IsOther x → IsSmall (form_view x s.pos) in
     subst IsSmall (sym (view_of s.pos s.form)) (subst P (roll-out-StepForm s.form) (small_form s.pos (out-StepForm s.form)) others)

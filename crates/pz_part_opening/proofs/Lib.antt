@@ -1,6 +1,7 @@
-mod Bounds
 mod Called
 mod Forms
+mod Framings
+mod Inside
 mod Lighter
 mod Opened
 mod Openings

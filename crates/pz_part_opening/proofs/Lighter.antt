@@ -1,5 +1,5 @@
--- Parts of what stands there are lighter.
-use Rattle.std.proofs.Common.{◌≡◌, ◌≤◌, ◌<◌, ℕ, zero, suc, List, [], ◌∷◌, length, get_or, sym, ap, ◌∙◌, arith}
+-- Parts of what stands there are lighter, and so is what is further in.
+use Rattle.std.proofs.Common.{◌≡◌, ◌≤◌, ◌<◌, ℕ, zero, suc, List, [], ◌∷◌, length, get_or, sym, ap, ◌∙◌, Option, Some, None, arith}
 use Rattle.std.specs.Borrow.{Bor}
 use Rattle.std.proofs.lemmas.List.Sums.{sum_by-append}
 use Rattle.pz_syntax.specs.Statements.{skip, delay, bracketed, block, guarded, parallel, select, conditional, repeated, abort, interrupt, send, receive, call, assignment, value}
@@ -10,10 +10,11 @@ use Rattle.pz_rules.specs.Terms as terms
 use Rattle.pz_rules.specs.Settings.{Home}
 use Rattle.pz_rules.specs.Openable.{alone}
 use Rattle.pz_rules.specs.View.{branches_view}
-use Rattle.pz_rules.specs.devices.Weights.{called_weight, weight_all, weight_each}
+use Rattle.pz_rules.specs.CallLaws.{plain_call}
+use Rattle.pz_rules.specs.devices.Weights.{called_weight, weight_all, weight_each, CallsAreHeavier}
 use Rattle.pz_part_opening.specs.declared.spot.Spot.{Spot}
 use Rattle.pz_part_opening.specs.declared.spot.Spot.TheVariants.{Several}
-use Rattle.pz_part_opening.specs.devices.Spots.{spot_view}
+use Rattle.pz_part_opening.specs.devices.Spots.{spot_view, IsInside}
 
 -- each statement is one
 one_at_least : (r : terms.Step) → 1 ≤ statements_in r
@@ -56,3 +57,14 @@ module _ (h : Home) where
       let part : weight_all h (alone (step.view s)) ≡ weight_all h (alone (step.view r)) = ap (λ (x : Step). weight_all h (alone (step.view x))) first in
       let some = one_at_least (step.view q) in
       omega (arith, whole, part, some)
+
+-- further in
+module _ (h : Home) (heavier : CallsAreHeavier) where
+  pub lighter_inside : (whole : terms.Steps) (locals : Option ℕ) (inner : terms.Steps) → IsInside h whole locals inner → weight_all h inner < weight_all h whole
+  lighter_inside whole None inner is =
+      let e : weight_all h whole ≡ weight_all h (alone (bracketed is.pos inner)) = ap (weight_all h) is.is in
+      omega (arith, e)
+  lighter_inside whole (Some locals) inner is =
+      let e : weight_all h whole ≡ weight_all h (alone (plain_call is.pos is.method)) = ap (weight_all h) is.is in
+      let lighter = heavier h is.pos is.method locals inner is.opens is.called in
+      omega (arith, e, lighter)

@@ -1,5 +1,5 @@
 -- Outlines of what stands there, further in and as it is.
-use Rattle.std.proofs.Common.{◌≡◌, ◌<◌, ℕ, zero, suc, Bool, true, false, ◌||◌, IsTrue, List, [], ◌∷◌, Option, Some, None, inl, inr, refl, sym, ap, subst, ◌∙◌, arith}
+use Rattle.std.proofs.Common.{◌≡◌, ◌<◌, ℕ, zero, suc, Bool, true, false, ◌||◌, IsTrue, List, [], ◌∷◌, Option, Some, None, inl, inr, refl, sym, ap, subst, ◌∙◌}
 use Rattle.std.specs.Borrow.{Bor}
 use Rattle.std.specs.Option.{is_some}
 use Rattle.pz_syntax.specs.declared.tokens.Pos.{Pos}
@@ -11,11 +11,10 @@ use Rattle.pz_classes_code.specs.declared.step.Step as code
 use Rattle.pz_classes_code.specs.StepView.{view, sequence_view}
 use Rattle.pz_rules.specs.declared.limits.Edition.{Edition}
 use Rattle.pz_rules.specs.declared.limits.Edition.TheVariants.{One, Two}
-use Rattle.pz_rules.specs.Terms.{Step, Steps, Term, leaf, frame, height}
+use Rattle.pz_rules.specs.Terms.{Step, Steps, Term, leaf, height}
 use Rattle.pz_rules.specs.Settings.{Home}
 use Rattle.pz_rules.specs.Framing.{framed}
 use Rattle.pz_rules.specs.Leaving.{is_done}
-use Rattle.pz_rules.specs.Openable.{alone}
 use Rattle.pz_rules.specs.Opening.{called_body, depth_of}
 use Rattle.pz_rules.specs.CallLaws.{plain_call}
 use Rattle.pz_rules.specs.devices.Outlines.{outlined, outlined_all, outlined_to, outlined_in, by_body_outlined, steps_outlined, OutlinesUnfold}
@@ -26,19 +25,10 @@ use Rattle.pz_part_opening.specs.declared.spot.Spot.TheVariants.{One as OneStep,
 use Rattle.pz_part_opening.specs.declared.spot.Way.{Way}
 use Rattle.pz_part_opening.specs.devices.Spots.{spot_view, CallStands, StepStands, Stands, IsInside, IsWay}
 use Rattle.pz_part_opening.specs.devices.Rounds.{round_outline}
+use Rattle.pz_part_opening.proofs.Framings.{framed_again, framed_as}
+use Rattle.pz_part_opening.proofs.Lighter.{lighter_inside}
 
--- a frame round a frame round a term is the one frame
-
-framed_twice : (t : Term) → framed 0 0 [] (framed 0 0 [] t) ≡ framed 0 0 [] t
-framed_twice (frame number inputs [] t) = refl
-framed_twice (frame number inputs (x ∷ xs) t) = refl
-framed_twice t = refl
-
-framed_round : (b : Bool) (t : Term) → framed 0 0 [] t ≡ round_outline b (framed 0 0 [] t)
-framed_round true t = sym (framed_twice t)
-framed_round false t = refl
-
--- One way further in
+-- one way further in
 
 pub was_framed : (before further after : Bool) → after ≡ before → before ≡ true → after ≡ (before || further)
 was_framed true further after same is = same
@@ -53,17 +43,8 @@ module _ (h : Home) (unfolds : OutlinesUnfold) (heavier : CallsAreHeavier) where
   inside_opens whole None inner is = ap (outlined_all h) is.is
   inside_opens whole (Some locals) inner is = ap (outlined_all h) is.is ∙ unfolds h is.pos is.method locals inner is.opens is.called
 
-  inside_lighter : (whole : Steps) (locals : Option ℕ) (inner : Steps) → IsInside h whole locals inner → weight_all h inner < weight_all h whole
-  inside_lighter whole None inner is =
-      let e : weight_all h whole ≡ weight_all h (alone (bracketed is.pos inner)) = ap (weight_all h) is.is in
-      omega (arith, e)
-  inside_lighter whole (Some locals) inner is =
-      let e : weight_all h whole ≡ weight_all h (alone (plain_call is.pos is.method)) = ap (weight_all h) is.is in
-      let lighter = heavier h is.pos is.method locals inner is.opens is.called in
-      omega (arith, e, lighter)
-
   rounds : (before further : Bool) (t : Term) → round_outline before (round_outline further t) ≡ round_outline (before || further) t
-  rounds true true t = framed_twice t
+  rounds true true t = framed_again 0 0 t
   rounds true false t = refl
   rounds false further t = refl
 
@@ -75,7 +56,7 @@ module _ (h : Home) (unfolds : OutlinesUnfold) (heavier : CallsAreHeavier) where
       ∙ rounds before (is_some way.locals) inner ∙ ap (λ (b : Bool). round_outline b inner) (sym joined)
 
   pub gets_lighter : (whole : Steps) (way : Way) → IsWay h whole way → weight_all h (sequence_view way.steps.now) < weight_all h whole
-  gets_lighter whole way is = inside_lighter whole way.locals (sequence_view way.steps.now) is
+  gets_lighter whole way is = lighter_inside h heavier whole way.locals (sequence_view way.steps.now) is
 
 -- a call that stands is a leaf
 
@@ -98,11 +79,6 @@ module _ (h : Home) (pos : Pos) (method : Id) where
   call_stands (inr never) = in_leaf h.edition never
 
 -- what stands is no frame without outputs
-
-not_bare : (t : Term) → is_bare t ≡ false → framed 0 0 [] t ≡ frame 0 0 [] t
-not_bare (frame number inputs [] t) other = let both : true ≡ false = other in cc
-not_bare (frame number inputs (x ∷ xs) t) other = refl
-not_bare t other = refl
 
 leaf_of : (P : Term → Type 0) (t : Term) (r : Step) → t ≡ leaf r → P (leaf r) → P t
 leaf_of P t r is holds = subst P (sym is) holds
@@ -128,7 +104,7 @@ module _ (h : Home) where
 
   -- a frame round it is one higher
   pub frame_stands : (ts : Steps) → Stands h ts → height (framed 0 0 [] (outlined_all h ts)) ≡ suc (height (outlined_all h ts))
-  frame_stands ts stands = ap height (not_bare (outlined_all h ts) (all_not_bare ts stands))
+  frame_stands ts stands = ap height (framed_as 0 (outlined_all h ts) (all_not_bare ts stands))
 
   -- it is done where there is no statement
 

@@ -39,10 +39,10 @@ fn descend<'s>(
     spot: Spot<'s>,
     state: &mut State,
 ) -> Result<Descent<'s>, AllocError>
-    ensures opened { IfOk result (λ inner. LeadsIn (home_view home.now) spot inner
+    ensures opened { IfOk result (λ inner. LeadsIn (home_view home.now) spot.entry inner
         state.old state.new) }
     ensures lighter { IfOk result (λ inner. weight_all (home_view home.now) (spot_view inner.spot) ≤
-        weight_all (home_view home.now) (spot_view spot)) }
+        weight_all (home_view home.now) (spot_view spot.entry)) }
     ensures stands { IfOk result (λ inner. Stands (home_view home.now) (spot_view inner.spot)) }
     ensures marks { state.new.marks ≡ state.old.marks }
 {
@@ -84,11 +84,13 @@ fn open_spot(
     spot: Spot<'_>,
     state: &mut State,
 ) -> Result<Term, AllocError>
-    ensures opened { IfOk result (λ term. Became (opened_all (home_view home.now) (spot_view spot)
+    ensures opened { IfOk result (λ term. Became (opened_all (home_view home.now) (spot_view spot.entry)
         state.old.held) (term_view term) state.old state.new) }
     ensures marks { state.new.marks ≡ state.old.marks }
 {
-    let inner = descend(home, spot, state)?;
+    pz_rules::laws::calls_unfold();
+    // Lent again, for no longer than the spot.
+    let inner = descend(&*home, spot, state)?;
     let term = open_standing(alloc, home, inner.spot, state)?;
     in_frame(alloc, inner.frame, term)
 }
@@ -102,7 +104,7 @@ fn open_standing(
     state: &mut State,
 ) -> Result<Term, AllocError>
     requires { Stands (home_view home.now) (spot_view spot) }
-    ensures opened { IfOk result (λ term. Became (opened_all (home_view home.now) (spot_view spot)
+    ensures opened { IfOk result (λ term. Became (opened_all (home_view home.now) (spot_view spot.entry)
         state.old.held) (term_view term) state.old state.new) }
     ensures marks { state.new.marks ≡ state.old.marks }
 {
@@ -150,18 +152,21 @@ fn open_form(
             Ok(Term::Sel(parts))
         }
         StepForm::Abort(first, second) => {
-            let first = Boxed::new(alloc, open_spot(alloc, home, Spot::Several(first), state)?)?;
-            let second = Spot::One(second.get());
+            let (first, second) = (Spot::Several(first), Spot::One(second.get()));
+            let first = Boxed::new(alloc, open_spot(alloc, home, first, state)?)?;
             let second = Boxed::new(alloc, open_spot(alloc, home, second, state)?)?;
             Ok(Term::Abort(first, second))
         }
         StepForm::Interrupt(first, again) => {
-            let first = Boxed::new(alloc, open_spot(alloc, home, Spot::Several(first), state)?)?;
-            let second = Spot::One(again.get());
+            let (first, second) = (Spot::Several(first), Spot::One(again.get()));
+            let first = Boxed::new(alloc, open_spot(alloc, home, first, state)?)?;
             let second = Boxed::new(alloc, open_spot(alloc, home, second, state)?)?;
             Ok(Term::Idle(first, second, again.copy()?))
         }
-        _ => Ok(Term::Leaf(step.copy()?)),
+        _ => {
+            pz_rules::laws::calls_unfold();
+            Ok(Term::Leaf(step.copy()?))
+        }
     }
 }
 
