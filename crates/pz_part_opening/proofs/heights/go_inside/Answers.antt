@@ -1,4 +1,4 @@
-use Rattle.std.proofs.Common.{refl, arith}
+use Rattle.std.proofs.Common.{arith}
 use Rattle.std.specs.Option.{is_some}
 use Rattle.pz_part_opening.specs.Homes.{home_view}
 use Rattle.pz_part_opening.specs.devices.Spots.{spot_view}
