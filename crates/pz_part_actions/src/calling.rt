@@ -19,20 +19,20 @@ ghost use Rattle.pz_part_opening.specs.Homes.{home_view};
 ghost use Rattle.pz_part_queries.specs.Standpoints.{Knows};
 ghost use Rattle.pz_part_actions.specs.Becoming.{process_left};
 ghost use Rattle.pz_part_actions.specs.Fitting.{FitsHere};
-ghost use Rattle.pz_part_actions.specs.Homes.{seen_home};
+ghost use Rattle.pz_part_actions.specs.devices.Standing.{seen_there};
 ghost use Rattle.pz_part_actions.specs.devices.Calls.{IsCallable, round_body};
 
 use crate::evaluating::evaluate_all;
 use pz_classes::{Body, Classes};
 use pz_classes_code::{Code, Slot, Step};
-use pz_items::{Boxed, Items, Shared};
+use pz_items::{Items, Shared};
 use pz_offer::Trouble;
 use pz_part_opening::{Home, open_all};
 use pz_part_queries::Standpoint;
 use pz_rules::Term;
 use pz_state::{FrameId, State};
 use pz_syntax::{Id, Pos};
-use pz_term_around::set_inputs;
+use pz_term_around::{framed, set_inputs};
 use pz_value::{ClassId, Value};
 use std::alloc::{AllocError, Global};
 
@@ -68,8 +68,9 @@ fn find_method<'a>(
     }
 }
 
-/// The frame of a method, round its body.
-fn framed(
+/// The frame of a method, round its body, which opens. A frame without outputs that is all of it stands in
+/// its place.
+fn round(
     alloc: Global,
     home: &Home<'_>,
     frame: FrameId,
@@ -83,13 +84,8 @@ fn framed(
         (term_view term) state.old state.new) }
 {
     let results = results.copy()?;
-    let body = Boxed::new(alloc, open_all(alloc, home, steps, state)?)?;
-    Ok(Term::Frame {
-        frame,
-        inputs,
-        results,
-        body,
-    })
+    let body = open_all(alloc, home, steps, state)?;
+    framed(alloc, frame, inputs, results, body)
 }
 
 /// A further frame, whose first locals have the values of the inputs, round the body of the method.
@@ -109,7 +105,7 @@ fn enter(
     let count = inputs.len();
     let frame = state.open_frame(method.locals)?;
     set_inputs(state, frame, inputs.into_vec())?;
-    framed(alloc, home, frame, count, results, method.steps, state)
+    round(alloc, home, frame, count, results, method.steps, state)
 }
 
 /// A call. Its arguments are evaluated in the frame of the caller, before that of the method opens.
@@ -129,7 +125,7 @@ pub(crate) fn perform_call(
     requires fits { ∥ FitsHere here.now home.now.class (terms.leaf
         (statements.call pos method.now (list_view args.now) results.now)) ∥₁ }
     ensures performs { Knows (checked_model home.now.checked.now) here.now →
-        IfOk result (λ left. Performs (seen_home here.now home.now state.old.held) frame.0
+        IfOk result (λ left. Performs (seen_there here.now home.now state.old.held) frame.0
         (terms.leaf (statements.call pos method.now (list_view args.now) results.now)) pos
         (process_left state.new.held left)) }
     ensures marks { OnOk result (state.new.marks ≡ state.old.marks) }

@@ -6,9 +6,11 @@ mod evaluating;
 mod handing;
 mod opening;
 mod performing;
+mod standing;
 mod taking;
 mod testing;
 
 pub use handing::hand;
 pub use performing::perform;
+pub use standing::at_home;
 pub use taking::take;

@@ -18,9 +18,11 @@ ghost use Rattle.pz_rules.specs.Acting.{IsActing};
 ghost use Rattle.pz_part_actions.specs.Becoming.{process_left, done_left};
 ghost use Rattle.pz_part_actions.specs.Fitting.{FitsHere};
 ghost use Rattle.pz_part_actions.specs.Homes.{seen_home};
+ghost use Rattle.pz_part_actions.specs.devices.Standing.{seen_there};
 
 use crate::calling::perform_call;
 use crate::evaluating::{evaluate, run, without_value};
+use crate::standing::at_home;
 use crate::testing::{perform_if, perform_while};
 use pz_classes_code::{Code, Step, StepForm};
 use pz_offer::Trouble;
@@ -93,7 +95,7 @@ fn perform_step(
     requires acts { IsActing (terms.leaf (view step.now)) }
     requires fits { ∥ FitsHere here.now home.now.class (terms.leaf (view step.now)) ∥₁ }
     ensures performs { Knows (checked_model home.now.checked.now) here.now →
-        IfOk result (λ left. Performs (seen_home here.now home.now state.old.held) frame.0
+        IfOk result (λ left. Performs (seen_there here.now home.now state.old.held) frame.0
         (terms.leaf (view step.now)) step.now.pos (process_left state.new.held left)) }
     ensures marks { OnOk result (state.new.marks ≡ state.old.marks) }
 {
@@ -146,10 +148,8 @@ fn perform_step(
     }
 }
 
-/// What a part becomes by itself, in a frame of a process of the class at home. Effects stay, and after a
-/// trouble some may: who calls marks the state before. The time is that of the evaluation, and
-/// linear in what is opened and in the inputs of a call. The only error is want of memory.
-pub fn perform(
+/// What a part becomes by itself, seen from a standpoint under the edition at home.
+fn perform_part(
     alloc: Global,
     here: &Standpoint<'_>,
     home: &Home<'_>,
@@ -163,8 +163,8 @@ pub fn perform(
     requires fits { ∥ FitsHere here.now home.now.class (term_view part.now) ∥₁ }
     ensures performs { (kind : Kind) (pos : Position) →
         Knows (checked_model home.now.checked.now) here.now →
-        Can (seen_home here.now home.now state.old.held) frame.0 (term_view part.now) kind pos →
-        IfOk result (λ left. Performs (seen_home here.now home.now state.old.held) frame.0
+        Can (seen_there here.now home.now state.old.held) frame.0 (term_view part.now) kind pos →
+        IfOk result (λ left. Performs (seen_there here.now home.now state.old.held) frame.0
         (term_view part.now) pos (process_left state.new.held left)) }
     ensures marks { OnOk result (state.new.marks ≡ state.old.marks) }
 {
@@ -173,4 +173,28 @@ pub fn perform(
         Term::Wait { .. } => Ok(Ok(Term::Done)),
         _ => unreachable!(),
     }
+}
+
+/// What a part becomes by itself, in a frame of a process of the class at home, by the edition there. Effects
+/// stay, and after a trouble some may: who calls marks the state before. The time is that of the evaluation,
+/// and linear in what is opened and in the inputs of a call. The only error is want of memory.
+pub fn perform(
+    alloc: Global,
+    here: &Standpoint<'_>,
+    home: &Home<'_>,
+    state: &mut State,
+    frame: FrameId,
+    part: &Term,
+) -> Result<Result<Term, Trouble>, AllocError>
+    requires known { AreKnown here.now.classes.now }
+    requires acts { IsActing (term_view part.now) }
+    requires fits { ∥ FitsHere here.now home.now.class (term_view part.now) ∥₁ }
+    ensures performs { (kind : Kind) (pos : Position) →
+        Knows (checked_model home.now.checked.now) here.now →
+        Can (seen_home here.now home.now state.old.held) frame.0 (term_view part.now) kind pos →
+        IfOk result (λ left. Performs (seen_home here.now home.now state.old.held) frame.0
+        (term_view part.now) pos (process_left state.new.held left)) }
+    ensures marks { OnOk result (state.new.marks ≡ state.old.marks) }
+{
+    perform_part(alloc, &at_home(here, home), home, state, frame, part)
 }

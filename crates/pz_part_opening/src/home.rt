@@ -18,7 +18,8 @@ pub struct Home<'a> {
     checked: &'a Checked,
     /// The number of the class.
     pub class: ClassId,
-    edition: Edition,
+    /// The edition of the rules.
+    pub edition: Edition,
     ghost process: { IsProcessClass (checked_model checked.now) class.0 },
     ghost rounds: { edition ≡ Two → NoRounds (checked_model checked.now) },
 }

@@ -1,24 +1,17 @@
--- The call with which a process starts stands as it is.
-use Rattle.std.proofs.Common.{◌≡◌, ℕ, List, [], ◌∷◌, Option, Some, None, refl, sym, subst, ap, ◌∙◌}
+-- A process starts with a call without results.
+use Rattle.std.proofs.Common.{◌≡◌, ℕ, List, [], ◌∷◌, Option, Some, None, subst}
 use Rattle.std.specs.Option.{option_map, option_or, option_and_then}
 use Rattle.pz_syntax.specs.declared.tokens.Pos.{Pos}
 use Rattle.pz_syntax.specs.declared.names.Id.{Id}
 use Rattle.pz_syntax.specs.Statements.{call}
 use Rattle.pz_syntax.specs.Classes.{StartTree, ModelTree}
-use Rattle.pz_value.specs.declared.value.Value.{Value}
 use Rattle.pz_classes_code.specs.Resolution.{resolved_all}
 use Rattle.pz_classes.specs.Numbers.{declaration}
 use Rattle.pz_classes.specs.Ancestors.{ancestors}
 use Rattle.pz_classes.specs.Methods.{nearest}
 use Rattle.pz_classes.specs.Bodies.{process_scope}
 use Rattle.pz_classes.specs.Starts.{own_start, start_call, own_call, init}
-use Rattle.pz_state.specs.States.{initial}
-use Rattle.pz_rules.specs.Terms.{Codes, Step, Term, leaf}
-use Rattle.pz_rules.specs.Settings.{left_by, Home}
-use Rattle.pz_rules.specs.Opening.{opened}
-use Rattle.pz_rules.specs.Leaving.{swept}
-use Rattle.pz_rules.specs.devices.Plainly.{plainly}
-use Rattle.pz_rules.proofs.Plain.{opens_plainly}
+use Rattle.pz_rules.specs.Terms.{Codes, Step}
 
 -- if there is one, it is so of it
 abbrev IfThere : (Step → Type 0) → Option Step → Type 0
@@ -42,11 +35,3 @@ module _ (m : ModelTree) where
     -- what holds of calls without results holds of it
     pub begins_with_call : (c : ℕ) (first : Step) → init m c ≡ Some first → Q first
     begins_with_call c first is = subst (IfThere Q) is (starts_of (ancestors m c))
-
-  call_stands : (c : ℕ) (first : Step) → init m c ≡ Some first → plainly first ≡ leaf first
-  call_stands = begins_with_call (λ t. plainly t ≡ leaf t) (λ pos method args. refl)
-
-  pub begins : (h : Home) (c : ℕ) (first : Step) (values : List Value) → init m c ≡ Some first → left_by (initial values) (leaf first) ≡ swept (opened h first (initial values))
-  begins h c first values is =
-      ap (λ (t : Term). swept (left_by (initial values) t)) (sym (call_stands c first is))
-      ∙ ap swept (sym (opens_plainly h first (initial values)))

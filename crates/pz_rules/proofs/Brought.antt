@@ -1,6 +1,6 @@
 -- What an action brings: of each process that acts at most what opens once. Where a term is done what is
 -- around it goes on, and so nothing is left of what had opened before.
-use Rattle.std.proofs.Common.{◌≤◌, ◌+◌, ℕ, zero, suc, Bool, true, false, List, [], ◌∷◌, Result, Ok, Err, arith}
+use Rattle.std.proofs.Common.{◌≤◌, ◌+◌, ℕ, zero, suc, Bool, true, false, List, length, Result, Ok, Err, arith}
 use Rattle.std.specs.Prelude.{if◌then◌else◌, nat_le}
 use Rattle.pz_syntax.specs.declared.tokens.Pos.{Pos}
 use Rattle.pz_syntax.specs.ModelForm.{Each}
@@ -19,17 +19,17 @@ use Rattle.pz_rules.specs.Settings.{Process, Context, home_of}
 use Rattle.pz_rules.specs.FrameNumbers.{least_free}
 use Rattle.pz_rules.specs.Meanings.{and_then, truth}
 use Rattle.pz_rules.specs.Openable.{alone, part_of}
-use Rattle.pz_rules.specs.Opening.{opened_part}
+use Rattle.pz_rules.specs.Opening.{opened_all, opened_part}
 use Rattle.pz_rules.specs.Active as active
 use Rattle.pz_rules.specs.Active.{Active, Reached}
 use Rattle.pz_rules.specs.InternalActions as actions
 use Rattle.pz_rules.specs.InternalActions.{Performs, done_in, chosen, turned, with_inputs, entered}
 use Rattle.pz_rules.specs.Messages as messages
 use Rattle.pz_rules.specs.Messages.{Hands, Takes}
-use Rattle.pz_rules.specs.Framing.{framed}
 use Rattle.pz_rules.specs.Leaving.{replaced, joined, all_done, handled, aborted, interrupted, around, residual, swept, not_too_high, settled}
 use Rattle.pz_rules.specs.devices.Pending.{pending, all_pending}
 use Rattle.pz_rules.specs.devices.Opened.{Holds, HoldAll, Brings, Bounds}
+use Rattle.pz_rules.proofs.Opens.{framed_as}
 
 module _ (P : Steps → Type 0) (most : ℕ) where
   -- what a part becomes
@@ -45,7 +45,7 @@ module _ (P : Steps → Type 0) (most : ℕ) where
   LeavesGrown t (Ok p) = Grows t p.term
   LeavesGrown t (Err u) = Unit {0}
 
-module _ (a : Context) (P : Steps → Type 0) (most : ℕ) (bounds : Bounds a.setting P most) where
+module _ (a : Context) (P : Steps → Type 0) (most : ℕ) (bounds : Bounds a.setting a.class P most) where
   -- What the acting part becomes
 
   none_pending : Brings P most done
@@ -65,18 +65,21 @@ module _ (a : Context) (P : Steps → Type 0) (most : ℕ) (bounds : Bounds a.se
 
   part_few : (other : StatementPart Slot ClassId ℕ) (s : StateView) → Each P (part_of other) → Brings P most (opened_part (home_of a) other s).term
   part_few not_written s h = none_pending
-  part_few (otherwise ts) s h = bounds.opens a.class ts s h.0
+  part_few (otherwise ts) s h = bounds.opens ts s h.0
 
   chosen_few : (s : StateView) (ts : Steps) (other : StatementPart Slot ClassId ℕ) (b : Bool) → P ts → Each P (part_of other) → Brings P most (chosen (home_of a) s ts other b).term
-  chosen_few s ts other true h k = bounds.opens a.class ts s h
+  chosen_few s ts other true h k = bounds.opens ts s h
   chosen_few s ts other false h k = part_few other s k
 
   turned_few : (s : StateView) (loop : Step) (ts : Steps) (b : Bool) → P ts → P (alone loop) → Brings P most (turned (home_of a) s loop ts b).term
-  turned_few s loop ts true h k = let x = bounds.opens a.class ts s h in ((x.0, k), x.1)
+  turned_few s loop ts true h k = let x = bounds.opens ts s h in ((x.0, k), x.1)
   turned_few s loop ts false h k = none_pending
 
   entered_few : (s : StateView) (locals : ℕ) (results : List Slot) (body : Steps) (r : Result (List Value) Trouble) → P body → LeavesFew P most (and_then r (λ vs. Ok (entered (home_of a) s locals results body vs)))
-  entered_few s locals results body (Ok vs) h = bounds.opens a.class body (with_inputs s (least_free s.frames) locals vs) h
+  entered_few s locals results body (Ok vs) h =
+      let number = least_free s.frames in
+      let state = with_inputs s number locals vs in
+      framed_as (Brings P most) (λ number inputs results y k. k) number (length vs) results (opened_all (home_of a) body state).term (bounds.opens body state h)
   entered_few s locals results body (Err t) h = tt
 
   pub performs_few : (f : ℕ) (t : Term) (pos : Pos) (q : Result Process Trouble) → Performs a f t pos q → Holds P t → LeavesFew P most q
@@ -92,7 +95,7 @@ module _ (a : Context) (P : Steps → Type 0) (most : ℕ) (bounds : Bounds a.se
   performs_few f _ _ _ (actions.elapses at e) h = none_pending
   performs_few f _ _ _ (actions.expires n at) h = none_pending
   performs_few f _ _ _ (actions.calls at method args results r s locals body gives is_method) h =
-      entered_few s locals results body r (bounds.bodies a.class method.name (how_many args) _ locals body is_method)
+      entered_few s locals results body r (bounds.bodies method.name (how_many args) _ locals body is_method)
 
   pub hands_few : (f : ℕ) (parcel : ParcelView) (t : Term) (pos : Pos) (q : Result Process Trouble) → Hands a f parcel t pos q → LeavesFew P most q
   hands_few f parcel _ _ _ (messages.hands at port name args after values s r end gives packed gives_block) = done_few r end
@@ -133,19 +136,12 @@ module _ (a : Context) (P : Steps → Type 0) (most : ℕ) (bounds : Bounds a.se
 
   -- each rule for a term that is done, and for another
   sequence_grows : (f : ℕ) (s : StateView) (t : Term) (rest : Steps) (i : ℕ) (y : Term) → P rest → Grows P most t y → Grows P most t (around (home_of a) f s (sequence t rest) i y).term
-  sequence_grows f s t rest i done h g = let x = bounds.opens a.class rest s h in let few = x.1 in (x.0, omega (arith, few))
+  sequence_grows f s t rest i done h g = let x = bounds.opens rest s h in let few = x.1 in (x.0, omega (arith, few))
   sequence_grows f s t rest i y h g = ((g.0, h), g.1)
 
   frame_grows : (f : ℕ) (s : StateView) (number inputs : ℕ) (results : List Slot) (t : Term) (i : ℕ) (y : Term) → Grows P most t y → Grows P most t (around (home_of a) f s (frame number inputs results t) i y).term
   frame_grows f s number inputs results t i done g = (tt, omega arith)
-  frame_grows f s number inputs results t i y g = framed_grows number inputs results y g
-    where
-      framed_grows : (number inputs : ℕ) (results : List Slot) (y : Term) → Grows P most t y → Grows P most t (framed number inputs results y)
-      framed_grows number inputs [] (frame inner inner_inputs [] x) g = g
-      framed_grows number inputs [] (frame inner inner_inputs (r ∷ rs) x) g = g
-      framed_grows number inputs (r ∷ rs) (frame inner inner_inputs inner_results x) g = g
-      framed_grows number inputs [] y g = g
-      framed_grows number inputs (r ∷ rs) y g = g
+  frame_grows f s number inputs results t i y g = framed_as (Grows P most t) (λ number inputs results y k. k) number inputs results y g
 
   aborted_grows : (t u y : Term) → Holds P u → Grows P most t y → Grows P most (abort t u) (aborted u y)
   aborted_grows t u done h g = (tt, omega arith)
@@ -156,7 +152,7 @@ module _ (a : Context) (P : Steps → Type 0) (most : ℕ) (bounds : Bounds a.se
   interrupted_grows t u again y h k g = let few = g.1 in ((g.0, h, k), omega (arith, few))
 
   handled_grows : (s : StateView) (t u : Term) (again : Step) (y : Term) → Holds P t → P (alone again) → Grows P most u y → Grows P most (idle t u again) (handled (home_of a) s t again y).term
-  handled_grows s t u again done h k g = let x = bounds.opens a.class (alone again) s k in let few = x.1 in ((h, x.0, k), omega (arith, few))
+  handled_grows s t u again done h k g = let x = bounds.opens (alone again) s k in let few = x.1 in ((h, x.0, k), omega (arith, few))
   handled_grows s t u again y h k g = let few = g.1 in ((h, g.0, k), omega (arith, few))
 
   child_holds : (t : Term) (i : ℕ) → Holds P t → Holds P (child t i)

@@ -27,7 +27,7 @@ use Rattle.pz_rules.specs.Configurations.{Config, Stands, IsWhole}
 use Rattle.pz_rules.specs.Steps.{Deed, Acts, with_process, with_both, Next, internal, communication, PassesTo}
 use Rattle.pz_rules.specs.Offers as offers
 use Rattle.pz_rules.specs.Offers.{PartAt, IsPair, Offers}
-use Rattle.pz_rules.specs.Starting.{home_at, IsStart}
+use Rattle.pz_rules.specs.Starting.{IsStart}
 use Rattle.pz_rules.specs.Fitting.{TermFits, TermsFit, IsFit}
 use Rattle.pz_rules.proofs.Locals.{some_is}
 use Rattle.pz_rules.proofs.Fits.{opened_fits, fitted}
@@ -100,7 +100,7 @@ module _ (setting : Setting) (c : Config) (sound : BodiesFit setting.model) (fit
 
   pub next_some : (action : Action) → Offers setting c action → (q : Result Config Trouble) × Next setting c action q
   next_some _ (offers.internal end a f t kind pos at can) =
-      let spot = fitted a.setting.model a.class (home_of a) 0 at.active (fits_there end.process at.process a at.stands) in
+      let spot = fitted a.setting.model a.class a.setting.limits.edition 0 at.active (fits_there end.process at.process a at.stands) in
       let x = acts_some Performs end a f t at (performs_some a f (sound_there end.process at.process a at.stands) spot.locals t kind pos can spot.fits) in
       (and_then x.0 (λ p. Ok (with_process c end.process p)), internal end kind pos x.0 x.1)
   next_some _ (offers.communication number sender receiver message parcel p judged) =
@@ -131,11 +131,11 @@ module _ (setting : Setting) (c : Config) (sound : BodiesFit setting.model) (fit
 
   acts_fit : (does : Deed) → KeepsFit does → (end : End) (q : Result Process Trouble) → Acts setting c does end q → LeftFits setting end.process q
   acts_fit does keeps end q x =
-      let spot = fitted x.seen.setting.model x.seen.class (home_of x.seen) 0 x.active (fits_there end.process x.process x.seen x.stands) in
+      let spot = fitted x.seen.setting.model x.seen.class x.seen.setting.limits.edition 0 x.active (fits_there end.process x.process x.seen x.stands) in
       let left = keeps x.seen x.frame (sound_there end.process x.process x.seen x.stands) spot.locals x.part x.pos x.left x.acts spot.fits in
       subst (LeftFits setting end.process) (sym x.leaves)
       (to_place end.process x.seen x.process (and_then x.left (settled x.seen x.pos x.process.term end.place)) x.stands
-      (settled_fits x.seen.setting.model x.seen.class x.seen x.pos x.process.term end.place spot.locals x.left left (λ y h. spot.leaves 0 y h)))
+      (settled_fits x.seen.setting.model x.seen.class x.seen x.pos x.process.term end.place spot.locals x.left left (λ y h. spot.leaves (sound_there end.process x.process x.seen x.stands) 0 y h)))
 
   internal_fits : (i : ℕ) (q : Result Process Trouble) → LeftFits setting i q → OutcomeFits setting (and_then q (λ p. Ok (with_process c i p)))
   internal_fits i (Ok p) h = put_fits setting c i p fit h
@@ -193,4 +193,4 @@ pub start_fits : (setting : Setting) (c : Config) → BodiesFit setting.model �
 start_fits setting c sound start i place p at is =
     let s = start.each i place p at is in
     subst (λ (r : Process). TermFits setting.model (class_at setting.model place) 0 r.term) (sym s.stands)
-    (opened_fits setting.model (class_at setting.model place) (home_at setting place) 0 s.call (initial (values_at setting.model place)) (sound.starts_fit (class_at setting.model place) s.call s.is_call))
+    (opened_fits setting.model (class_at setting.model place) setting.limits.edition sound 0 s.call (initial (values_at setting.model place)) (sound.starts_fit (class_at setting.model place) s.call s.is_call))

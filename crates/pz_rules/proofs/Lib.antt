@@ -4,6 +4,7 @@ mod CodedTrees
 mod Named
 mod Deep
 mod Stable
+mod Heavier
 mod Outlined
 pub mod Begun
 mod Rests
@@ -14,6 +15,7 @@ mod Noted
 mod Once
 mod Orders
 mod Nexts
+mod TooHigh
 mod Parcels
 mod OneMoment
 mod Counted
@@ -35,6 +37,11 @@ mod Pending
 mod Opens
 mod Brought
 mod Marks
+mod StatementCounts
+mod BodyNumbers
+mod Sizes
+mod FewOpen
+mod Crowd
 mod Room
 mod Existing
 mod Wires

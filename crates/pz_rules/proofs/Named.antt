@@ -11,7 +11,7 @@ use Rattle.pz_classes.specs.Methods.{Signature, method_id}
 use Rattle.pz_classes.specs.Bodies.{BodyTree, process_body, data_scope, process_scope, data_body_in, process_body_in, process_locals, own_bodies, bodies_from, bodies}
 use Rattle.pz_classes.specs.MethodBodies.{HasBody, process_method_body}
 use Rattle.pz_classes_beginnings.specs.Beginning.{begun_all}
-use Rattle.pz_classes_openings.specs.Methods.{declared_methods, methods, method_at}
+use Rattle.pz_classes_openings.specs.Methods.{declared_methods, methods}
 use Rattle.pz_classes_openings.specs.Openings.{begun_at, called}
 use Rattle.pz_classes_openings.proofs.Resolved.{begun_all_same}
 use Rattle.pz_rules.specs.Terms.{Steps}

@@ -18,9 +18,11 @@ use Rattle.pz_classes.specs.SoundBodies.{BodiesFit}
 use Rattle.pz_copy.specs.Parcels.{ParcelView}
 use Rattle.pz_offer.specs.declared.trouble.Trouble.{Trouble}
 use Rattle.pz_rules.specs.declared.action.Kind.{Kind}
+use Rattle.pz_rules.specs.declared.limits.Edition.{Edition}
 use Rattle.pz_rules.specs.Terms.{Code, Codes, Step, Steps, Term, leaf}
 use Rattle.pz_rules.specs.Settings.{Process, Context, in_state, Home, home_of}
 use Rattle.pz_rules.specs.FrameNumbers.{least_free}
+use Rattle.pz_rules.specs.Opening.{opened_all}
 use Rattle.pz_rules.specs.Meanings.{and_then, truth, fault}
 use Rattle.pz_rules.specs.Methods.{IsMethod}
 use Rattle.pz_rules.specs.InternalActions as actions
@@ -33,7 +35,7 @@ use Rattle.pz_rules.proofs.Found.{gives_found, gives_all_found, gives_part_found
 use Rattle.pz_rules.proofs.Locals.{some_is}
 use Rattle.pz_rules.proofs.Finite.{Known}
 use Rattle.pz_rules.proofs.Derived.{at_most_known}
-use Rattle.pz_rules.proofs.Fits.{opened_all_fits, opened_part_fits}
+use Rattle.pz_rules.proofs.Fits.{framed_fits, opened_all_fits, opened_part_fits}
 
 -- an outcome of a deed
 pub record SomeDeed (does : Pos → Result Process Trouble → Type 0) : Type 0 where
@@ -49,6 +51,9 @@ LeavesFit m c l (Err t) = Unit {0}
 module _ (a : Context) (f : ℕ) (sound : BodiesFit a.setting.model) (l : ℕ) where
   abbrev m : ModelTree
   m = a.setting.model
+
+  abbrev edition : Edition
+  edition = a.setting.limits.edition
 
   abbrev home : Home
   home = home_of a
@@ -89,7 +94,9 @@ module _ (a : Context) (f : ℕ) (sound : BodiesFit a.setting.model) (l : ℕ) w
       by (Err t) = tt
 
   entered_fits : (s : StateView) (locals : ℕ) (results : List Slot) (body : Steps) (r : Result (List Value) Trouble) → All (SlotFits m a.class process_code l) results → StatementsFit m a.class locals body → LeavesFit m a.class l (and_then r (λ vs. Ok (entered home s locals results body vs)))
-  entered_fits s locals results body (Ok vs) h k = (h, (locals, opened_all_fits m a.class home locals body (with_inputs s (least_free s.frames) locals vs) k))
+  entered_fits s locals results body (Ok vs) h k =
+      let x = opened_all home body (with_inputs s (least_free s.frames) locals vs) in
+      framed_fits m a.class edition l (least_free s.frames) (length vs) results x.term locals h (opened_all_fits m a.class edition sound locals body (with_inputs s (least_free s.frames) locals vs) k)
   entered_fits s locals results body (Err t) h k = tt
 
   body_fits : (method : Id) (inputs : ℕ) (results : List Slot) (locals : ℕ) (body : Steps) → CallFits m a.class l method inputs (length results) → IsMethod m a.class method.name inputs (length results) locals body → StatementsFit m a.class locals body
@@ -98,11 +105,11 @@ module _ (a : Context) (f : ℕ) (sound : BodiesFit a.setting.model) (l : ℕ) w
       (subst (λ (b : BodyTree). BodyFits m a.class (process_counts inputs (length results)) b) same (sound.methods_fit a.class (record { name = method.name; counts = process_counts inputs (length results) }) h.body h.is)).1
 
   chosen_fits : (s : StateView) (ts : Steps) (other : StatementPart Slot ClassId ℕ) (b : Bool) → StatementsFit m a.class l ts → OtherwiseFits m a.class l other → TermFits m a.class l (chosen home s ts other b).term
-  chosen_fits s ts other true h k = opened_all_fits m a.class home l ts s h
-  chosen_fits s ts other false h k = opened_part_fits m a.class home l other s k
+  chosen_fits s ts other true h k = opened_all_fits m a.class edition sound l ts s h
+  chosen_fits s ts other false h k = opened_part_fits m a.class edition sound l other s k
 
   turned_fits : (s : StateView) (loop : Step) (ts : Steps) (b : Bool) → StatementsFit m a.class l ts → StatementFits m a.class l loop → TermFits m a.class l (turned home s loop ts b).term
-  turned_fits s loop ts true h k = (opened_all_fits m a.class home l ts s h, (k, tt))
+  turned_fits s loop ts true h k = (opened_all_fits m a.class edition sound l ts s h, (k, tt))
   turned_fits s loop ts false h k = tt
 
   pub performs_fit : (t : Term) (pos : Pos) (q : Result Process Trouble) → Performs a f t pos q → TermFits m a.class l t → LeavesFit m a.class l q

@@ -1,5 +1,5 @@
 -- Statements of a list from some place on.
-use Rattle.std.proofs.Common.{◌≡◌, ℕ, zero, suc, ◌+◌, ◌≤◌, ◌<◌, List, [], ◌∷◌, drop, slice_get, refl, ap, ◌∙◌, length, arith}
+use Rattle.std.proofs.Common.{◌≡◌, ℕ, zero, suc, ◌+◌, ◌≤◌, List, [], ◌∷◌, drop, slice_get, refl, ap, ◌∙◌, length, arith}
 use Rattle.std.proofs.lemmas.List.{drop_all}
 
 module _ {X : Type 0} where

@@ -3,24 +3,22 @@ use Rattle.std.proofs.Common.{◌≡◌, ◌≤◌, ◌<◌, ◌+◌, ◌*◌, �
 use Rattle.std.specs.Prelude.{slice_get, slice_set}
 use Rattle.std.proofs.lemmas.Option.{slice_get_within}
 use Rattle.pz_syntax.specs.declared.tokens.Pos.{Pos}
-use Rattle.pz_syntax.specs.ModelForm.{Each}
 use Rattle.pz_syntax.specs.ModelText.{HasFewMarks}
-use Rattle.pz_syntax.specs.Statements.{bracketed, guarded as guarded_step, parallel as parallel_step, select as select_step, conditional, repeated, abort as abort_step, interrupt, StatementPart, not_written, otherwise, Branches, no_branches, branch}
-use Rattle.pz_value.specs.declared.value.ClassId.{ClassId}
-use Rattle.pz_classes_code.specs.declared.slot.Slot.{Slot}
 use Rattle.pz_classes.specs.Soundness.{IsSound}
+use Rattle.pz_classes_openings.specs.OpeningRules.{Opens}
+use Rattle.pz_bind_levels.specs.Places.{Address}
 use Rattle.pz_bind.specs.Nest.{processes, class_at}
 use Rattle.pz_bind.specs.Values.{values_at}
 use Rattle.pz_state.specs.States.{initial}
 use Rattle.pz_offer.specs.declared.end.End.{End}
 use Rattle.pz_offer.specs.declared.trouble.Trouble.{Trouble}
 use Rattle.pz_rules.specs.declared.action.Action.{Action}
+use Rattle.pz_rules.specs.declared.limits.Edition.TheVariants.{Two}
 use Rattle.pz_rules.specs.declared.moment.Moment.TheVariants.{Time}
-use Rattle.pz_rules.specs.Terms.{Step, Steps, Term, Terms}
-use Rattle.pz_rules.specs.Settings.{Setting, Process, Context, Home}
+use Rattle.pz_rules.specs.Terms.{Steps, Term, Terms}
+use Rattle.pz_rules.specs.Settings.{Setting, Process, Context}
 use Rattle.pz_rules.specs.Meanings.{and_then}
-use Rattle.pz_rules.specs.Openable.{alone, inner, part_of, branches_of}
-use Rattle.pz_rules.specs.Opening.{opened_all}
+use Rattle.pz_rules.specs.Openable.{alone}
 use Rattle.pz_rules.specs.InternalActions.{Performs}
 use Rattle.pz_rules.specs.Messages.{Hands, Takes}
 use Rattle.pz_rules.specs.Leaving.{settled}
@@ -36,57 +34,16 @@ use Rattle.pz_rules.specs.Runs.{Event, Standing, Reaches}
 use Rattle.pz_rules.specs.Laws.{WiresAreKnown}
 use Rattle.pz_rules.specs.Clocks.{actions_in, AreShort, most_actions, ClocksStayLow}
 use Rattle.pz_rules.specs.devices.Pending.{pending, list_pending}
-use Rattle.pz_rules.specs.devices.Opened.{delays_in, delays_in_part, delays_in_each, Holds, HoldAll, IsClosed, Bounds}
-use Rattle.pz_rules.specs.devices.Room.{most_delays, HasFewDelays, HasRoom}
+use Rattle.pz_rules.specs.devices.Opened.{Holds, HoldAll, Brings, Bounds}
+use Rattle.pz_rules.specs.devices.Room.{most_delays, OpensFew, HasRoom}
 use Rattle.pz_rules.proofs.Locals.{some_is, no_some}
-use Rattle.pz_rules.proofs.Begun.{begins_with_call}
 use Rattle.pz_rules.proofs.Elapsed.{there, stands_there, next_whole, passing_whole}
 use Rattle.pz_rules.proofs.Kept.{set_get}
 use Rattle.pz_rules.proofs.Pending.{fewer_pending}
-use Rattle.pz_rules.proofs.Opens.{opened_all_holds, opened_all_few}
 use Rattle.pz_rules.proofs.Brought.{LeavesFew, Grows, LeavesGrown, performs_few, hands_few, takes_few, growing, settled_grows}
-use Rattle.pz_rules.proofs.Marks.{bodies_few}
-
--- Statements with few delays
-
-few_each : (bs : Branches Slot ClassId ℕ) → delays_in_each bs ≤ most_delays → Each HasFewDelays (branches_of bs)
-few_each no_branches h = tt
-few_each (branch ts bs) h = (omega (arith, h), few_each bs (omega (arith, h)))
-
-few_part : (other : StatementPart Slot ClassId ℕ) → delays_in_part other ≤ most_delays → Each HasFewDelays (part_of other)
-few_part not_written h = tt
-few_part (otherwise ts) h = (h, tt)
-
-few_within : (t : Step) → HasFewDelays (alone t) → Each HasFewDelays (inner t)
-few_within (bracketed at ts) h = (omega (arith, h), tt)
-few_within (guarded_step at e t) h = (h, tt)
-few_within (parallel_step at bs) h = few_each bs (omega (arith, h))
-few_within (select_step at bs) h = few_each bs (omega (arith, h))
-few_within (conditional at e ts other) h = (omega (arith, h), few_part other (omega (arith, h)))
-few_within (repeated at e ts) h = (omega (arith, h), tt)
-few_within (abort_step at ts t) h = (omega (arith, h), (omega (arith, h), tt))
-few_within (interrupt at ts t) h = (omega (arith, h), (omega (arith, h), tt))
-few_within t h = tt
-
-few_closed : IsClosed HasFewDelays
-few_closed = record {
-  one = λ t ts h. omega (arith, h);
-  behind = λ t ts h. omega (arith, h);
-  within = few_within;
-}
-
--- a call has none
-call_few : (first : Step) → delays_in first ≡ 0 → HasFewDelays (alone first)
-call_few first none = omega (arith, none)
-
-few_bounds : (setting : Setting) → HasFewMarks setting.model → Bounds setting HasFewDelays most_delays
-few_bounds setting few = record {
-  closed = few_closed;
-  bodies = bodies_few setting.model few;
-  starts = λ class first is. call_few first (begins_with_call setting.model (λ t. delays_in t ≡ 0) (λ pos method args. refl) class first is);
-  opens = λ class ts s h. let at_most = opened_all_few (record { model = setting.model; edition = setting.limits.edition; class = class }) ts s in
-      (opened_all_holds HasFewDelays few_closed (record { model = setting.model; edition = setting.limits.edition; class = class }) ts s h, omega (arith, at_most, h));
-}
+use Rattle.pz_rules.proofs.FewOpen.{few_bounds}
+use Rattle.pz_rules.proofs.Starts.{of_process_class}
+use Rattle.pz_rules.proofs.Crowd.{few_processes}
 
 -- One or two processes of a list become others
 
@@ -111,66 +68,86 @@ pending_set_both (x ∷ ps) (suc i) zero k y z p q at is h l =
     omega (arith, same, l, pending_set ps i k y p at h)
 pending_set_both (x ∷ ps) (suc i) (suc j) k y z p q at is h l = omega (arith, pending_set_both ps i j k y z p q at is h l)
 
--- An action, in whatever way statements open
+-- An action, in whatever way statements open in a process of each class
 
-module _ (P : Steps → Type 0) where
+module _ (setting : Setting) (P : ℕ → Steps → Type 0) where
+  abbrev system : List Address
+  system = processes setting.model
+
+  abbrev class : Address → ℕ
+  class = class_at setting.model
+
   abbrev AllHold : List Process → Type 0
-  AllHold ps = (i : ℕ) (p : Process) → slice_get ps i ≡ Some p → Holds P p.term
+  AllHold ps = (i : ℕ) (place : Address) (p : Process) → slice_get system i ≡ Some place → slice_get ps i ≡ Some p → Holds (P (class place)) p.term
 
-  put_holds : (ps : List Process) (i : ℕ) (p : Process) → AllHold ps → Holds P p.term → AllHold (slice_set ps i p)
-  put_holds ps i p all h k q is = by (set_get ps i k p q is)
+  put_holds : (ps : List Process) (i : ℕ) (place : Address) (p : Process) → slice_get system i ≡ Some place → AllHold ps → Holds (P (class place)) p.term → AllHold (slice_set ps i p)
+  put_holds ps i place p stands all h k other q at is = by (set_get ps i k p q is)
     where
-      by : ((k ≡ i) × (q ≡ p)) ⊎ (slice_get ps k ≡ Some q) → Holds P q.term
-      by (inl same) = subst (λ (r : Process). Holds P r.term) (sym same.1) h
-      by (inr other) = all k q other
+      by : ((k ≡ i) × (q ≡ p)) ⊎ (slice_get ps k ≡ Some q) → Holds (P (class other)) q.term
+      by (inl same) =
+          let here : place ≡ other = some_is (sym stands ∙ ap (slice_get system) (sym same.0) ∙ at) in
+          subst (λ (r : Process). Holds (P (class other)) r.term) (sym same.1) (subst (λ (x : Address). Holds (P (class x)) p.term) here h)
+      by (inr old) = all k other q at old
 
-module _ (setting : Setting) (P : Steps → Type 0) (most : ℕ) (bounds : Bounds setting P most) (c : Config) (all : AllHold P c.processes) where
+  abbrev AllBounded : ℕ → Type 0
+  AllBounded most = (i : ℕ) (place : Address) → slice_get system i ≡ Some place → Bounds setting (class place) (P (class place)) most
+
+module _ (setting : Setting) (P : ℕ → Steps → Type 0) (most : ℕ) (bounds : AllBounded setting P most) (c : Config) (all : AllHold setting P c.processes) where
   -- a process that acts
+  record HasGrown (i : ℕ) (p : Process) : Type 0 where
+    place : Address
+    stands : slice_get (processes setting.model) i ≡ Some place
+    before : Process
+    here : slice_get c.processes i ≡ Some before
+    grows : Grows (P (class_at setting.model place)) most before.term p.term
+
   abbrev GrowsAt : ℕ → Result Process Trouble → Type 0
-  GrowsAt i (Ok p) = (z : Process) × (slice_get c.processes i ≡ Some z) × Grows P most z.term p.term
+  GrowsAt i (Ok p) = HasGrown i p
   GrowsAt i (Err t) = Unit {0}
 
-  abbrev BringsFew : Deed → Type 0
-  BringsFew does = (a : Context) (f : ℕ) (t : Term) (pos : Pos) (q : Result Process Trouble) → Bounds a.setting P most → does a f t pos q → Holds P t → LeavesFew P most q
+  abbrev BringsFew : Deed → Type 1
+  BringsFew does = (a : Context) (Q : Steps → Type 0) (f : ℕ) (t : Term) (pos : Pos) (q : Result Process Trouble) → Bounds a.setting a.class Q most → does a f t pos q → Holds Q t → LeavesFew Q most q
 
   acts_grow : (does : Deed) → BringsFew does → (end : End) (q : Result Process Trouble) → Acts setting c does end q → GrowsAt end.process q
   acts_grow does few end q x =
-      let here : Bounds x.seen.setting P most = subst (λ (z : Context). Bounds z.setting P most) (sym x.stands.seen) bounds in
-      let part = growing x.seen P most here x.active (all end.process x.process x.stands.is_here) in
-      let left = few x.seen x.frame x.part x.pos x.left here x.acts part.holds in
-      let outcome = settled_grows x.seen P most here x.process.term x.pos end.place x.left left (λ y h. part.leaves 0 y h) in
+      let place = x.stands.place in
+      let Q : Steps → Type 0 = P (class_at setting.model place) in
+      let here : Bounds x.seen.setting x.seen.class Q most = subst (λ (z : Context). Bounds z.setting z.class Q most) (sym x.stands.seen) (bounds end.process place x.stands.is_process) in
+      let part = growing x.seen Q most here x.active (all end.process place x.process x.stands.is_process x.stands.is_here) in
+      let left = few x.seen Q x.frame x.part x.pos x.left here x.acts part.holds in
+      let outcome = settled_grows x.seen Q most here x.process.term x.pos end.place x.left left (λ y h. part.leaves 0 y h) in
       subst (GrowsAt end.process) (sym x.leaves) (there_grows (and_then x.left (settled x.seen x.pos x.process.term end.place)) outcome)
     where
-      there_grows : (r : Result Process Trouble) → LeavesGrown P most x.process.term r → GrowsAt end.process r
-      there_grows (Ok p) h = (x.process, x.stands.is_here, h)
+      there_grows : (r : Result Process Trouble) → LeavesGrown (P (class_at setting.model x.stands.place)) most x.process.term r → GrowsAt end.process r
+      there_grows (Ok p) h = record { place = x.stands.place; stands = x.stands.is_process; before = x.process; here = x.stands.is_here; grows = h }
       there_grows (Err t) h = tt
 
   -- what a configuration becomes
   abbrev Outcome : Result Config Trouble → Type 0
-  Outcome (Ok next) = (next.clock ≡ c.clock) × AllHold P next.processes × (list_pending next.processes ≤ list_pending c.processes + 2 * most)
+  Outcome (Ok next) = (next.clock ≡ c.clock) × AllHold setting P next.processes × (list_pending next.processes ≤ list_pending c.processes + 2 * most)
   Outcome (Err t) = Unit {0}
 
   internal_grows : (i : ℕ) (q : Result Process Trouble) → GrowsAt i q → Outcome (and_then q (λ p. Ok (with_process c i p)))
   internal_grows i (Ok p) h =
-      let few = pending_set c.processes i most h.0 p h.1 h.2.1 in
-      (refl, put_holds P c.processes i p all h.2.0, omega (arith, few))
+      let few = pending_set c.processes i most h.before p h.here h.grows.1 in
+      (refl, put_holds setting P c.processes i h.place p h.stands all h.grows.0, omega (arith, few))
   internal_grows i (Err t) h = tt
 
   both_grow : (sender receiver : End) (q r : Result Process Trouble) → GrowsAt sender.process q → GrowsAt receiver.process r → Outcome (and_then q (λ p. and_then r (λ u. Ok (with_both c sender receiver p u))))
   both_grow sender receiver (Ok p) (Ok u) h k = (
     refl,
-    put_holds P (slice_set c.processes sender.process p) receiver.process u (put_holds P c.processes sender.process p all h.2.0) k.2.0,
-    pending_set_both c.processes sender.process receiver.process most h.0 k.0 p u h.1 k.1 h.2.1 k.2.1,
+    put_holds setting P (slice_set c.processes sender.process p) receiver.process k.place u k.stands (put_holds setting P c.processes sender.process h.place p h.stands all h.grows.0) k.grows.0,
+    pending_set_both c.processes sender.process receiver.process most h.before k.before p u h.here k.here h.grows.1 k.grows.1,
   )
   both_grow sender receiver (Ok p) (Err t) h k = tt
   both_grow sender receiver (Err t) r h k = tt
 
   outcome_grows : (action : Action) (q : Result Config Trouble) → Next setting c action q → Outcome q
-  outcome_grows _ _ (internal end kind pos result x) = internal_grows end.process result (acts_grow Performs (λ a f t pos q b h k. performs_few a P most b f t pos q h k) end result x)
+  outcome_grows _ _ (internal end kind pos result x) = internal_grows end.process result (acts_grow Performs (λ a Q f t pos q b h k. performs_few a Q most b f t pos q h k) end result x)
   outcome_grows _ _ (communication number sender receiver message parcel sent taken x y) =
       both_grow sender receiver sent taken
-      (acts_grow (λ a f. Hands a f parcel) (λ a f t pos q b h k. hands_few a P most b f parcel t pos q h) sender sent x)
-      (acts_grow (λ a f. Takes a f parcel) (λ a f t pos q b h k. takes_few a P most b f parcel t pos q h) receiver taken y)
+      (acts_grow (λ a f. Hands a f parcel) (λ a Q f t pos q b h k. hands_few a Q most b f parcel t pos q h) sender sent x)
+      (acts_grow (λ a f. Takes a f parcel) (λ a Q f t pos q b h k. takes_few a Q most b f parcel t pos q h) receiver taken y)
 
 -- A passing of time
 
@@ -194,58 +171,69 @@ mutual
   all_pass_hold P a d _ _ _ (delays.none f) h = h
   all_pass_hold P a d _ _ _ (delays.both f t x ts xs p q) h = (passes_hold P a d f t x p h.0, all_pass_hold P a d f ts xs q h.1)
 
-passing_holds : (P : Steps → Type 0) (setting : Setting) (c next : Config) (d : ℕ) → IsWhole setting c → AllHold P c.processes → PassesTo setting c d next → AllHold P next.processes
-passing_holds P setting c next d whole all passes i q is =
+passing_holds : (setting : Setting) (P : ℕ → Steps → Type 0) (c next : Config) (d : ℕ) → IsWhole setting c → AllHold setting P c.processes → PassesTo setting c d next → AllHold setting P next.processes
+passing_holds setting P c next d whole all passes i place q at is =
     let within : i < length c.processes = subst (λ (n : ℕ). i < n) passes.all (slice_get_within next.processes i q is) in
     let p = there c.processes i within in
     let a = stands_there setting c i p.0 whole p.1 within in
     let one = passes.each i p.0 a.0 a.1 in
     let same : (let r : Process = record { term = one.0; state = p.0.state } in r) ≡ q = some_is (sym one.2 ∙ is) in
-    subst (λ (r : Process). Holds P r.term) same (passes_hold P a.0 d 0 p.0.term one.0 one.1 (all i p.0 p.1))
+    subst (λ (r : Process). Holds (P (class_at setting.model place)) r.term) same (passes_hold (P (class_at setting.model place)) a.0 d 0 p.0.term one.0 one.1 (all i place p.0 at p.1))
 
--- The start brings nothing: a process begins with a call, which stands as it is
+-- The start: each process brings at most what opens once
 
-starts_as : (setting : Setting) (c : Config) → HasFewMarks setting.model → IsStart setting c → (i : ℕ) (p : Process) → slice_get c.processes i ≡ Some p → Holds HasFewDelays p.term × (pending p.term ≡ 0)
-starts_as setting c few start i p is =
-    let within : i < length (processes setting.model) = subst (λ (n : ℕ). i < n) start.all (slice_get_within c.processes i p is) in
-    let place = there (processes setting.model) i within in
-    let s = start.each i place.0 p place.1 is in
-    let class = class_at setting.model place.0 in
-    let none = begins_with_call setting.model (λ t. delays_in t ≡ 0) (λ pos method args. refl) class s.call s.is_call in
-    let home : Home = record { model = setting.model; edition = setting.limits.edition; class = class } in
-    let state = initial (values_at setting.model place.0) in
-    let at_most = opened_all_few home (alone s.call) state in
-    let here = opened_all_holds HasFewDelays few_closed home (alone s.call) state (call_few s.call none) in
-    let same : pending p.term ≡ pending (opened_all home (alone s.call) state).term = ap (λ (q : Process). pending q.term) s.stands in
-    (subst (λ (q : Process). Holds HasFewDelays q.term) (sym s.stands) here, omega (arith, same, at_most, none))
+module _ (setting : Setting) (c : Config) (P : ℕ → Steps → Type 0) (most : ℕ) (bounds : AllBounded setting P most) (start : IsStart setting c) where
+  starts_few : (i : ℕ) (place : Address) (p : Process) → slice_get (processes setting.model) i ≡ Some place → slice_get c.processes i ≡ Some p → Brings (P (class_at setting.model place)) most p.term
+  starts_few i place p at is =
+      let s = start.each i place p at is in
+      let b = bounds i place at in
+      subst (λ (q : Process). Brings (P (class_at setting.model place)) most q.term) (sym s.stands) (b.opens (alone s.call) (initial (values_at setting.model place)) (b.starts s.call s.is_call))
 
-none_pending : (ps : List Process) → ((i : ℕ) (p : Process) → slice_get ps i ≡ Some p → pending p.term ≡ 0) → list_pending ps ≡ 0
-none_pending [] each = refl
-none_pending (p ∷ ps) each = let first = each 0 p refl in omega (arith, first, none_pending ps (λ i q is. each (suc i) q is))
+  each_few : (i : ℕ) (p : Process) → slice_get c.processes i ≡ Some p → pending p.term ≤ most
+  each_few i p is =
+      let within : i < length (processes setting.model) = subst (λ (n : ℕ). i < n) start.all (slice_get_within c.processes i p is) in
+      let place = there (processes setting.model) i within in
+      (starts_few i place.0 p place.1 is).1
+
+few_pending : (ps : List Process) → ((i : ℕ) (p : Process) → slice_get ps i ≡ Some p → pending p.term ≤ most_delays) → list_pending ps ≤ most_delays * length ps
+few_pending [] each = omega arith
+few_pending (p ∷ ps) each = omega (arith, each 0 p refl, few_pending ps (λ i q is. each (suc i) q is))
 
 -- Room
 
-pub start_room : (setting : Setting) (c : Config) → IsSound setting.model → HasFewMarks setting.model → IsStart setting c → HasRoom setting most_actions c
-start_room setting c sound few start =
-    let none : list_pending c.processes ≡ 0 = none_pending c.processes (λ i p is. (starts_as setting c few start i p is).1) in
+-- what holds in a process of each class
+abbrev IsFew : Setting → ℕ → Steps → Type 0
+IsFew setting class = OpensFew setting.limits.edition setting.model class
+
+all_bounded : (setting : Setting) → HasFewMarks setting.model → (setting.limits.edition ≡ Two → Opens setting.model) → AllBounded setting (IsFew setting) most_delays
+all_bounded setting few opens i place at = few_bounds setting (class_at setting.model place) few opens (of_process_class setting.model i place at)
+
+pub start_room : (setting : Setting) (c : Config) → IsSound setting.model → HasFewMarks setting.model → (setting.limits.edition ≡ Two → Opens setting.model) → IsStart setting c → HasRoom setting most_actions c
+start_room setting c sound few opens start =
+    let bounds = all_bounded setting few opens in
+    let at_most = few_pending c.processes (each_few setting c (IsFew setting) most_delays bounds start) in
+    let many = few_processes setting.model sound in
     let clock = start.clock in
+    let all = start.all in
     record {
       sound = sound;
       few = few;
+      opens = opens;
       whole = start.all;
-      holds = λ i p is. (starts_as setting c few start i p is).0;
-      low = omega (arith, none, clock);
+      holds = λ i place p at is. (starts_few setting c (IsFew setting) most_delays bounds start i place p at is).0;
+      low = omega (arith, at_most, many, clock, all);
     }
 
 pub action_room : (setting : Setting) (c next : Config) (a : Action) (left : ℕ) → HasRoom setting (suc left) c → Next setting c a (Ok next) → HasRoom setting left next
 action_room setting c next a left room h =
-    let grown = outcome_grows setting HasFewDelays most_delays (few_bounds setting room.few) c room.holds a (Ok next) h in
+    let grown = outcome_grows setting (IsFew setting) most_delays (all_bounded setting room.few room.opens) c room.holds a (Ok next) h in
     let clock = grown.0 in
     let more = grown.2 in
     let low = room.low in
     record {
       sound = room.sound;
       few = room.few;
+      opens = room.opens;
       whole = next_whole setting c a next room.whole h;
       holds = grown.1;
       low = omega (arith, clock, more, low);
@@ -259,8 +247,9 @@ passing_room setting c next d left wires room is passes short =
     record {
       sound = room.sound;
       few = room.few;
+      opens = room.opens;
       whole = passing_whole setting c d next room.whole passes;
-      holds = passing_holds HasFewDelays setting c next d room.whole room.holds passes;
+      holds = passing_holds setting (IsFew setting) c next d room.whole room.holds passes;
       low = omega (arith, fewer, clock, low, short);
     }
 
@@ -270,7 +259,7 @@ room_low setting c left room = let low = room.low in omega (arith, low)
 pub less_room : (setting : Setting) (c : Config) (more left : ℕ) → left ≤ more → HasRoom setting more c → HasRoom setting left c
 less_room setting c more left less room =
     let low = room.low in
-    record { sound = room.sound; few = room.few; whole = room.whole; holds = room.holds; low = omega (arith, low, less) }
+    record { sound = room.sound; few = room.few; opens = room.opens; whole = room.whole; holds = room.holds; low = omega (arith, low, less) }
 
 -- Runs
 
@@ -283,5 +272,5 @@ reaches_low law setting _ _ _ _ room (runs.passes c next end d events standing i
     reaches_low law setting next end events standing (passing_room setting c next d (actions_in events) (law setting.model room.sound) room is h short.0) more short.1
 
 pub clock_low : WiresAreKnown → ClocksStayLow
-clock_low law setting start end events standing sound few is run short acts =
-    reaches_low law setting start end events standing (less_room setting start most_actions (actions_in events) acts (start_room setting start sound few is)) run short
+clock_low law setting start end events standing sound few opens is run short acts =
+    reaches_low law setting start end events standing (less_room setting start most_actions (actions_in events) acts (start_room setting start sound few opens is)) run short

@@ -1,5 +1,5 @@
 -- What a plain call opens as does not depend on how deep calls are followed, once that is deep enough.
-use Rattle.std.proofs.Common.{◌≡◌, refl, sym, ap, subst, ◌∙◌, ◌≤◌, ◌<◌, ℕ, zero, suc, List, [], ◌∷◌, ◌++◌, length, Option, Some, None, arith, Contains}
+use Rattle.std.proofs.Common.{◌≡◌, refl, sym, ap, subst, ◌∙◌, ◌≤◌, ℕ, zero, suc, List, [], ◌∷◌, ◌++◌, Option, Some, None, arith, Contains}
 use Rattle.std.specs.List.{AllByRecursion}
 use Rattle.pz_syntax.specs.declared.tokens.Pos.{Pos}
 use Rattle.pz_syntax.specs.declared.names.Id.{Id}
@@ -16,15 +16,16 @@ use Rattle.pz_classes.specs.SoundBodies.{BodiesFit, SoundBodiesFit}
 use Rattle.pz_classes_beginnings.specs.Beginning.{begun, begun_all, begun_each}
 use Rattle.pz_classes_openings.specs.Openings.{called}
 use Rattle.pz_state.specs.States.{StateView, opened as with_frame}
+use Rattle.pz_rules.specs.declared.limits.Edition.{Edition}
+use Rattle.pz_rules.specs.declared.limits.Edition.TheVariants.{One, Two}
 use Rattle.pz_rules.specs.Terms as terms
 use Rattle.pz_rules.specs.Terms.{Step, Steps, Terms, and}
 use Rattle.pz_rules.specs.Settings.{Process, left_by, Home}
 use Rattle.pz_rules.specs.FrameNumbers.{least_free}
 use Rattle.pz_rules.specs.Framing.{framed}
-use Rattle.pz_rules.specs.Opening.{Beside, step_opened, steps_opened, branches_opened}
-use Rattle.pz_rules.specs.Opening.{in_frame, called_body, by_body, entered_to, depth_of, opens_at_once, all_open_at_once}
+use Rattle.pz_rules.specs.Opening.{Beside, step_opened, steps_opened, branches_opened, in_frame, called_body, by_body, entered_to, depth_of, enter_in}
 use Rattle.pz_rules.specs.Shallow.{Shallow}
-use Rattle.pz_rules.specs.CallLaws.{CallsUnfold}
+use Rattle.pz_rules.specs.CallLaws.{plain_call, OpensCalls, CallsUnfold, CallsStand, CallsOfNoneStand}
 use Rattle.pz_rules.proofs.Named.{plain, call_means}
 use Rattle.pz_rules.proofs.Deep.{has_called, methods_are_shallow}
 
@@ -41,7 +42,7 @@ module _ (P : Id → Type 0) where
   joined [] ys h k = k
   joined (x ∷ xs) ys h k = (h.0, joined xs ys h.1 k)
 
-each_map : (P Q : Id → Type 0) → ((x : Id) → P x → Q x) → (xs : List Id) → AllByRecursion P xs → AllByRecursion Q xs
+pub each_map : (P Q : Id → Type 0) → ((x : Id) → P x → Q x) → (xs : List Id) → AllByRecursion P xs → AllByRecursion Q xs
 each_map P Q f [] h = tt
 each_map P Q f (x ∷ xs) h = (f x h.0, each_map P Q f xs h.1)
 
@@ -98,7 +99,7 @@ framed_same : (locals : ℕ) (inside other : StateView → Process) (s : StateVi
 framed_same locals inside other s same = ap (λ (x : Process). left_by x.state (framed (least_free s.frames) 0 [] x.term)) same
 
 module _ (m : ModelTree) (c : ℕ) where
-  abbrev Has : Id → Type 0
+  abbrev pub Has : Id → Type 0
   Has x = HasBody m c (plain x)
 
   -- the class has the methods that are called where what fits it begins
@@ -132,11 +133,8 @@ module _ (m : ModelTree) (c : ℕ) where
     each_begun_have l (branch ts bs) h = joined Has (begun_all ts) (begun_each bs) (all_begun_have l ts h.0) (each_begun_have l bs h.1)
 
 module _ (h : Home) (fit : BodiesFit h.model) where
-  abbrev plainly_called : Pos → Id → Step
-  plainly_called pos x = call pos x none []
-
   -- the class has the method that a call of this name means, and that is no deeper
-  abbrev IsShallow : ℕ → Id → Type 0
+  abbrev pub IsShallow : ℕ → Id → Type 0
   IsShallow n x = Has h.model h.class x × ((l : ℕ) → called h.model h.class x ≡ Some (method_id l) → Shallow h.model h.class n l)
 
   module _ (n : ℕ) (x : Id) (locals : ℕ) (body : Steps) (deep : IsShallow (suc n) x) (is : called_body h x ≡ Some (process_body locals body)) where
@@ -144,7 +142,7 @@ module _ (h : Home) (fit : BodiesFit h.model) where
     body_fits = let all = fit.methods_fit h.class (plain x) (process_body locals body) is in all.1
 
     -- so are those with which its body begins
-    begun_shallow : AllByRecursion (IsShallow n) (begun_all body)
+    pub begun_shallow : AllByRecursion (IsShallow n) (begun_all body)
     begun_shallow = both_of (Has h.model h.class) (λ y. (l : ℕ) → called h.model h.class y ≡ Some (method_id l) → Shallow h.model h.class n l) (begun_all body) (all_begun_have h.model h.class locals body body_fits) deeper
       where
         deeper : (y : Id) → Contains (begun_all body) y → (l : ℕ) → called h.model h.class y ≡ Some (method_id l) → Shallow h.model h.class n l
@@ -152,14 +150,14 @@ module _ (h : Home) (fit : BodiesFit h.model) where
             let means = call_means h.model h.class x locals body deep.0 is in
             deep.1 means.number means.is y l (subst (λ (ys : List Id). Contains ys y) means.begins among) named
 
-  not_there : (x : Id) (locals : ℕ) (body : Steps) → IsShallow zero x → called_body h x ≡ Some (process_body locals body) → ⊥
+  pub not_there : (x : Id) (locals : ℕ) (body : Steps) → IsShallow zero x → called_body h x ≡ Some (process_body locals body) → ⊥
   not_there x locals body deep is = let means = call_means h.model h.class x locals body deep.0 is in deep.1 means.number means.is
 
-  pub stable : (n k : ℕ) (x : Id) → IsShallow n x → n ≤ k → (pos : Pos) (s : StateView) → entered_to h k (plainly_called pos x) s ≡ entered_to h n (plainly_called pos x) s
+  pub stable : (n k : ℕ) (x : Id) → IsShallow n x → n ≤ k → (pos : Pos) (s : StateView) → entered_to h k (plain_call pos x) s ≡ entered_to h n (plain_call pos x) s
   stable zero zero x deep le pos s = refl
   stable zero (suc k) x deep le pos s = by_found (called_body h x) refl
     where
-      by_found : (o : Option BodyTree) → called_body h x ≡ o → by_body o (steps_opened (entered_to h k)) (plainly_called pos x) s ≡ left_by s (terms.leaf (plainly_called pos x))
+      by_found : (o : Option BodyTree) → called_body h x ≡ o → by_body o (steps_opened (entered_to h k)) (plain_call pos x) s ≡ left_by s (terms.leaf (plain_call pos x))
       by_found None is = refl
       by_found (Some (data_body locals e)) is = refl
       by_found (Some (process_body locals body)) is = absurd (not_there x locals body deep is)
@@ -167,7 +165,7 @@ module _ (h : Home) (fit : BodiesFit h.model) where
   stable (suc n) (suc k) x deep le pos s = by_found (called_body h x) refl (λ y shallow at t. stable n k y shallow (omega (arith, le)) at t)
     where
       by_found : (o : Option BodyTree) → called_body h x ≡ o → ((y : Id) → IsShallow n y → Same (entered_to h k) (entered_to h n) y)
-          → by_body o (steps_opened (entered_to h k)) (plainly_called pos x) s ≡ by_body o (steps_opened (entered_to h n)) (plainly_called pos x) s
+          → by_body o (steps_opened (entered_to h k)) (plain_call pos x) s ≡ by_body o (steps_opened (entered_to h n)) (plain_call pos x) s
       by_found None is below = refl
       by_found (Some (data_body locals e)) is below = refl
       by_found (Some (process_body locals body)) is below =
@@ -178,16 +176,40 @@ module _ (h : Home) (fit : BodiesFit h.model) where
 
   -- a call whose method is no deeper unfolds
   unfolds_at : (d : ℕ) (pos : Pos) (x : Id) (locals : ℕ) (body : Steps) (s : StateView) → IsShallow d x → called_body h x ≡ Some (process_body locals body)
-      → entered_to h d (plainly_called pos x) s ≡ in_frame locals (steps_opened (entered_to h d) body) s
+      → entered_to h d (plain_call pos x) s ≡ in_frame locals (steps_opened (entered_to h d) body) s
   unfolds_at zero pos x locals body s deep is = absurd (not_there x locals body deep is)
   unfolds_at (suc n) pos x locals body s deep is =
-      ap (λ (o : Option BodyTree). by_body o (steps_opened (entered_to h n)) (plainly_called pos x) s) is
+      ap (λ (o : Option BodyTree). by_body o (steps_opened (entered_to h n)) (plain_call pos x) s) is
       ∙ framed_same locals (steps_opened (entered_to h n) body) (steps_opened (entered_to h (suc n)) body) s
       (steps_same (entered_to h n) (entered_to h (suc n)) body
       (each_map (IsShallow n) (Same (entered_to h n) (entered_to h (suc n))) (λ y shallow at t. sym (stable n (suc n) y shallow (omega arith) at t)) (begun_all body) (begun_shallow n x locals body deep is))
       (with_frame s (least_free s.frames) locals))
 
+-- a plain call of such a class means a method, and that is no deeper than there are methods
+pub is_shallow : (h : Home) (fit : BodiesFit h.model) (method : Id) → OpensCalls h → HasBody h.model h.class (plain method) → IsShallow h fit (depth_of h.model) method
+is_shallow h fit method opens has = (has, λ l named. methods_are_shallow h.model h.class l opens.process opens.rounds (has_called h.model h.class method l named))
+
 pub calls_unfold : SoundBodiesFit → CallsUnfold
-calls_unfold bodies_fit h pos method around locals body s sound process apart fits is =
-    unfolds_at h (bodies_fit h.model sound) (depth_of h.model) pos method locals body s
-    (fits.0, λ l named. methods_are_shallow h.model h.class l process apart (has_called h.model h.class method l named)) is
+calls_unfold bodies_fit h pos method locals body s opens is =
+    let fit = bodies_fit h.model opens.sound in
+    subst (λ (e : Edition). enter_in e h (plain_call pos method) s ≡ in_frame locals (steps_opened (enter_in e h) body) s) (sym opens.edition)
+    (unfolds_at h fit (depth_of h.model) pos method locals body s (is_shallow h fit method opens is.has) is.is)
+
+pub calls_stand : CallsStand
+calls_stand h pos method s is = subst (λ (e : Edition). enter_in e h (plain_call pos method) s ≡ left_by s (terms.leaf (plain_call pos method))) (sym is) refl
+
+pub calls_of_none_stand : CallsOfNoneStand
+calls_of_none_stand h pos method s absent = by_edition h.edition
+  where
+    by_found : (n : ℕ) (o : Option BodyTree) → called_body h method ≡ o → by_body o (steps_opened (entered_to h n)) (plain_call pos method) s ≡ left_by s (terms.leaf (plain_call pos method))
+    by_found n None is = refl
+    by_found n (Some (data_body locals e)) is = refl
+    by_found n (Some (process_body locals body)) is = absurd (absent locals body is)
+
+    by_depth : (n : ℕ) → entered_to h n (plain_call pos method) s ≡ left_by s (terms.leaf (plain_call pos method))
+    by_depth zero = refl
+    by_depth (suc n) = by_found n (called_body h method) refl
+
+    by_edition : (e : Edition) → enter_in e h (plain_call pos method) s ≡ left_by s (terms.leaf (plain_call pos method))
+    by_edition One = refl
+    by_edition Two = by_depth (depth_of h.model)

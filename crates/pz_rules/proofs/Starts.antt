@@ -13,6 +13,7 @@ use Rattle.pz_bind_levels.specs.Places.{Address}
 use Rattle.pz_bind.specs.Nest.{class_at, is_process_at, places, processes}
 use Rattle.pz_rules.specs.Settings.{Setting, Process}
 use Rattle.pz_rules.specs.Configurations.{Config}
+use Rattle.pz_rules.specs.Openable.{IsProcessClass}
 use Rattle.pz_rules.specs.Starting.{StartsAs, IsStart}
 use Rattle.pz_rules.specs.devices.Start.{begins_by, start_at, start_of}
 use Rattle.pz_rules.proofs.Locals.{some_is}
@@ -81,3 +82,11 @@ computed setting fit = record {
         stands = so ∙ ap (begins_by setting place) starts.is_call;
       };
 }
+
+-- Each process is of a process class
+pub of_process_class : (m : ModelTree) (i : ℕ) (place : Address) → slice_get (processes m) i ≡ Some place → IsProcessClass m (class_at m place)
+of_process_class m i [] at = absurd (differ (stands_process m i [] at))
+  where
+    differ : false ≡ true → ⊥
+    differ e = cc
+of_process_class m i (k ∷ up) at = stands_process m i (k ∷ up) at

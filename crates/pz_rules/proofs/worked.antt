@@ -15,4 +15,6 @@ mod GuardThatCloses
 mod TwoCalls
 mod ObjectsInMessages
 mod NoTalkToItself
+mod TailCalls
 mod CallsThatOpen
+mod StartTooHigh

@@ -1,7 +1,9 @@
 -- How far the clock comes in a run.
-use Rattle.std.specs.Prelude.{ℕ, suc, ◌<◌, ◌≤◌, ◌^◌, List, [], ◌∷◌}
+use Rattle.std.specs.Prelude.{◌≡◌, ℕ, suc, ◌<◌, ◌≤◌, ◌^◌, List, [], ◌∷◌}
 use Rattle.pz_syntax.specs.ModelText.{HasFewMarks}
 use Rattle.pz_classes.specs.Soundness.{IsSound}
+use Rattle.pz_classes_openings.specs.OpeningRules.{Opens}
+use Rattle.pz_rules.specs.declared.limits.Edition.TheVariants.{Two}
 use Rattle.pz_rules.specs.Settings.{Setting}
 use Rattle.pz_rules.specs.Configurations.{Config}
 use Rattle.pz_rules.specs.Starting.{IsStart}
@@ -24,7 +26,8 @@ AreShort (passed clock time ∷ events) = (time < 2 ^ 64) × AreShort events
 abbrev pub most_actions : ℕ
 most_actions = 1000000000
 
--- in a run of so many actions, of a sound model whose text has few marks
+-- in a run of so many actions, of a model that is sound for its edition and whose text has few marks
 abbrev pub ClocksStayLow : Type 0
 ClocksStayLow = (setting : Setting) (start end : Config) (events : List Event) (standing : Standing) → IsSound setting.model → HasFewMarks setting.model
+    → (setting.limits.edition ≡ Two → Opens setting.model)
     → IsStart setting start → Reaches setting start events end standing → AreShort events → actions_in events ≤ most_actions → end.clock < 2 ^ 127

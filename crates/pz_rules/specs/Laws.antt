@@ -8,7 +8,7 @@ use Rattle.pz_offer.specs.PlaceOrder.{Place}
 use Rattle.pz_offer.specs.declared.trouble.Trouble.{Trouble}
 use Rattle.pz_rules.specs.declared.action.Action.{Action}
 use Rattle.pz_rules.specs.declared.moment.Moment.{Moment}
-use Rattle.pz_rules.specs.declared.moment.Moment.TheVariants.{Actions, Time}
+use Rattle.pz_rules.specs.declared.moment.Moment.TheVariants.{Actions, Time, Stopped}
 use Rattle.pz_copy.specs.Parcels.{ParcelView}
 use Rattle.pz_state.specs.States.{Frames, IsLeastFree}
 use Rattle.pz_rules.specs.declared.action.Kind.{Kind}
@@ -19,6 +19,9 @@ use Rattle.pz_rules.specs.Acting.{IsActing, IsSend, IsReceive}
 use Rattle.pz_rules.specs.InternalActions.{Can}
 use Rattle.pz_rules.specs.Messages.{Sends, Receives}
 use Rattle.pz_rules.specs.Delays.{Delays}
+use Rattle.pz_bind_levels.specs.Places.{Address}
+use Rattle.pz_bind.specs.Nest.{processes, class_at}
+use Rattle.pz_rules.specs.Openable.{IsProcessClass}
 use Rattle.pz_rules.specs.Ports.{HasWires}
 use Rattle.pz_rules.specs.Starting.{IsStart}
 use Rattle.pz_rules.specs.Fitting.{IsFit}
@@ -188,9 +191,17 @@ LowStays = (setting : Setting) (c next : Config) (a : Action) → IsLow setting 
 abbrev pub LowPasses : Type 0
 LowPasses = (setting : Setting) (c next : Config) (d : ℕ) → IsWhole setting c → IsLow setting c → PassesTo setting c d next → IsLow setting next
 
+-- there no process is told as too high
+abbrev pub LowIsNotStopped : Type 0
+LowIsNotStopped = (setting : Setting) (c : Config) (trouble : Trouble) → IsLow setting c → IsMoment setting c (Stopped trouble) → ⊥
+
 -- a model has no more than one start, and a sound one has one
 abbrev pub OneStart : Type 0
 OneStart = (setting : Setting) (c d : Config) → IsStart setting c → IsStart setting d → c ≡ d
 
 abbrev pub EveryStart : Type 0
 EveryStart = (setting : Setting) → IsSound setting.model → (c : Config) × IsStart setting c
+
+-- each process is of a process class
+abbrev pub ProcessesHaveClasses : Type 0
+ProcessesHaveClasses = (m : ModelTree) (i : ℕ) (place : Address) → slice_get (processes m) i ≡ Some place → IsProcessClass m (class_at m place)

@@ -12,7 +12,6 @@ use Rattle.pz_state.specs.declared.fault.FaultKind.TheVariants.{StoreFull}
 use Rattle.pz_state.specs.States.{StateView}
 use Rattle.pz_copy.specs.Parcels.{ParcelView}
 use Rattle.pz_copy.specs.Packing.{IsParcelOf}
-use Rattle.pz_copy.specs.Unpacking.{unpacked, unpacked_values}
 use Rattle.pz_offer.specs.declared.trouble.Trouble.{Trouble}
 use Rattle.pz_rules.specs.Terms.{Code, Term, leaf}
 use Rattle.pz_rules.specs.Settings.{Context, Process, in_state}

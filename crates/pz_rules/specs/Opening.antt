@@ -2,7 +2,7 @@
 -- guard, `abort` and `interrupt` open at once, from left to right, each part in the state that those
 -- before it leave. In edition Two so does a plain call, one without inputs and without results: as the
 -- frame of its method's body, by the class of the process. Every other statement stands as it is.
-use Rattle.std.specs.Prelude.{ℕ, zero, suc, List, [], length, Option, Some, None}
+use Rattle.std.specs.Prelude.{ℕ, zero, suc, [], length, Option, Some, None}
 use Rattle.pz_syntax.specs.declared.names.Id.{Id}
 use Rattle.pz_syntax.specs.Expressions.{none}
 use Rattle.pz_syntax.specs.Statements.{bracketed, guarded, parallel, select, abort, interrupt, call, no_statements, then, StatementPart, not_written, otherwise, Branches, no_branches, branch}
@@ -82,7 +82,7 @@ entered_to h (suc depth) (call pos method args results) s = by_body (called_body
 entered_to h (suc depth) r s = left_by s (leaf r)
 
 -- As deep as there are methods: where no method begins with itself, no call is deeper (`CallsUnfold` of
--- `Laws`).
+-- `CallLaws`).
 abbrev pub depth_of : ModelTree → ℕ
 depth_of m = length (methods m)
 

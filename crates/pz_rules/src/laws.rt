@@ -1,6 +1,6 @@
 // Laws of execution, each the contract of a function that does nothing.
 
-ghost use Rattle.pz_rules.specs.Laws.{OneListOfOffers, EveryListOfOffers, WiresAreKnown, OneMoment, EveryMoment, MomentsCountOffers, TimeWaits, LeastPasses, TimeIsPositive, EveryPassing, PassingTakes, BringsToZero, OneNext, OnePassing, StaysWhole, StartFits, StaysFit, EveryNext, OneChosenRun, EveryChosenRun, ChosenRunsAreRuns, WhatCanActs, WhatSendsIsASend, WhatReceivesIsAReceive, NumbersAreFree, OneNumberIsLeast, LowStays, LowPasses, OneStart, EveryStart};
+ghost use Rattle.pz_rules.specs.Laws.{OneListOfOffers, EveryListOfOffers, WiresAreKnown, OneMoment, EveryMoment, MomentsCountOffers, TimeWaits, LeastPasses, TimeIsPositive, EveryPassing, PassingTakes, BringsToZero, OneNext, OnePassing, StaysWhole, StartFits, StaysFit, EveryNext, OneChosenRun, EveryChosenRun, ChosenRunsAreRuns, WhatCanActs, WhatSendsIsASend, WhatReceivesIsAReceive, NumbersAreFree, OneNumberIsLeast, LowStays, LowPasses, LowIsNotStopped, OneStart, EveryStart, ProcessesHaveClasses};
 ghost use Rattle.pz_rules.specs.CallLaws.{MethodsAreShallow, CallsUnfold, CallsStand, CallsOfNoneStand};
 ghost use Rattle.pz_rules.specs.Clocks.{ClocksStayLow};
 ghost use Rattle.pz_rules.specs.devices.Room.{StartsHaveRoom, ActionsLeaveRoom, PassingsLeaveRoom, RoomIsLow, LessRoom};
@@ -111,8 +111,8 @@ pub fn passings_end()
     ensures law { PassingsEnd }
 {}
 
-/// The clock stays below 2^127 in a run of at most 10^9 actions, of a sound model whose text has fewer than
-/// 2^32 - 1 marks, if each passing is shorter than 2^64 clock units.
+/// The clock stays below 2^127 in a run of at most 10^9 actions, of a model that is sound for its edition and
+/// whose text has fewer than 2^32 - 1 marks, if each passing is shorter than 2^64 clock units.
 pub fn clocks_stay_low()
     ensures law { ClocksStayLow }
 {
@@ -149,10 +149,12 @@ pub fn frames_are_numbered()
     ensures one { OneNumberIsLeast }
 {}
 
-/// Where no term is higher than the limit, none is after an action or a passing of time.
+/// Where no term is higher than the limit, none is after an action or a passing of time, and the moment
+/// is not `Stopped`.
 pub fn low_terms_stay()
     ensures action { LowStays }
     ensures passing { LowPasses }
+    ensures moment { LowIsNotStopped }
 {}
 
 /// A model starts in no more than one configuration, and a sound one in the one that is computed.
@@ -163,6 +165,11 @@ pub fn start_is_one()
 {
     pz_classes::laws::sound_classes_fit();
 }
+
+/// Each process of a model is of a process class.
+pub fn processes_have_classes()
+    ensures law { ProcessesHaveClasses }
+{}
 
 /// Where no method begins with itself, no more methods open in one another than there are. Then, in a sound
 /// model in edition Two, a plain call opens as a frame round the body of its method, which opens in it, and
@@ -181,7 +188,7 @@ pub fn calls_unfold()
 /// But for the numbers of frames, what statements open as is computed without a state.
 pub fn openings_have_outlines()
     ensures outlines { OpeningsHaveOutlines }
-    ensures unfold { OutlinesUnfold }
+    ensures unfolds { OutlinesUnfold }
     ensures none { OutlinesOfNone }
     ensures one { OutlinesInOne }
     ensures high { OutlinesAreAsHigh }

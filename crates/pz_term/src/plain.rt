@@ -2,6 +2,8 @@ ghost use Rattle.std.specs.Prelude.{◌≡◌, ◌≤◌, ◌<◌, Err, IfOk, On
 ghost use Rattle.pz_classes.specs.CheckedView.{checked_model};
 ghost use Rattle.pz_bind.specs.devices.Nets.{IsNet};
 ghost use Rattle.pz_term_processes.specs.Standing.{setting_of, config_of, AreProcesses};
+ghost use Rattle.pz_rules.specs.declared.limits.Edition.TheVariants.{Two};
+ghost use Rattle.pz_rules.specs.CallLaws.{NoRounds};
 ghost use Rattle.pz_rules.specs.Runs.{whole};
 ghost use Rattle.pz_term.specs.devices.Holding.{Holds};
 
@@ -13,7 +15,7 @@ use pz_bind::Net;
 use pz_classes::Checked;
 use pz_offer::Trouble;
 use pz_rules::{Action, Limits, Moment};
-use pz_term_processes::{Process, start};
+use pz_term_processes::{Process, Started, start};
 use std::alloc::{AllocError, Global};
 use std::mem::{self, drop};
 
@@ -28,6 +30,7 @@ pub struct Plain {
     processes: Vec<Process>,
     standing: Standing,
     ghost of_model: { ∥ IsNet (checked_model checked) net ∥₁ },
+    ghost rounds: { limits.edition ≡ Two → NoRounds (checked_model checked) },
     ghost holds: { ∥ Holds (setting_of (checked_model checked) limits) clock processes.items standing ∥₁ },
 }
 
@@ -52,12 +55,15 @@ impl Drop for Plain {
 
 impl Plain {
     ghost use Rattle.std.specs.Prelude.{ℕ};
+    ghost use Rattle.pz_classes_openings.specs.OpeningRules.{Opens};
     ghost use Rattle.pz_term.specs.Simulations.{Starts, IsMomentOf, AreOffersOf, Chooses, Passes, IsBroken, ClockIs, setting_in, model_in, limits_in, stands};
     ghost use Rattle.pz_term.specs.Refusals.{OnNoSuchOffer, OnChooseNotNow, OnChooseRefused, OnChooseNoMemory, NoActions, OnPassNotNow, OnPassRefused, OnPassNoMemory, NoTime};
     ghost use Rattle.pz_term.specs.Plains.{simulation_of, model_of};
 
     /// The simulator of a model before its first step, whose net this is. The only error is want of
     /// memory.
+    ///
+    /// In edition Two no method of the model begins with itself, and none opens as too much (C23, C24).
     pub fn start(
         alloc: Global,
         checked: Checked,
@@ -65,13 +71,21 @@ impl Plain {
         limits: Limits,
     ) -> Result<Plain, AllocError>
         requires of_model { ∥ IsNet (checked_model checked) net ∥₁ }
+        requires opens { limits.edition ≡ Two → Opens (checked_model checked) }
         ensures starts { IfOk result (λ plain. Starts (setting_of (checked_model checked) limits)
             (simulation_of plain)) }
         ensures checked { IfOk result (λ plain. plain.checked ≡ checked) }
         ensures net { IfOk result (λ plain. plain.net ≡ net) }
     {
-        let mut processes = start(alloc, &checked, &net)?;
-        let outlook = look_at(alloc, &checked, &net, limits, 0, &mut processes)?;
+        pz_rules::laws::start_is_one();
+        let _model = checked.model();
+        let (processes, standing) = match start(alloc, &checked, &net, limits)? {
+            Started::Ready(mut processes) => {
+                let outlook = look_at(alloc, &checked, &net, limits, 0, &mut processes)?;
+                (processes, Standing::Whole(outlook))
+            }
+            Started::TooHigh(trouble) => (Vec::new(alloc), Standing::High(trouble)),
+        };
         Ok(Plain {
             alloc,
             checked,
@@ -79,7 +93,7 @@ impl Plain {
             limits,
             clock: 0,
             processes,
-            standing: Standing::Whole(outlook),
+            standing,
         })
     }
 
@@ -92,6 +106,7 @@ impl Plain {
         let _model = self.checked.model();
         match &self.standing {
             Standing::Whole(outlook) => outlook.moment,
+            Standing::High(trouble) => Moment::Stopped(*trouble),
             Standing::Stopped(trouble) => Moment::Stopped(*trouble),
             Standing::Broken => Moment::Broken,
         }
@@ -139,6 +154,7 @@ impl Plain {
         let _model = self.checked.model();
         match &self.standing {
             Standing::Whole(outlook) => outlook.actions.as_slice(),
+            Standing::High(_) => &[],
             Standing::Stopped(_) | Standing::Broken => &[],
         }
     }
@@ -284,6 +300,7 @@ impl Plain {
         ensures setting { setting_in (simulation_of self.new) ≡ setting_in
             (simulation_of self.old) }
     {
+        pz_rules::laws::one_moment();
         self.standing = Standing::Broken;
         let Some(clock) = self.clock.checked_add(time) else {
             return Err(AllocError);

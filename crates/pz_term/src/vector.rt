@@ -3,6 +3,8 @@
 ghost use Rattle.std.specs.Prelude.{◌≡◌, ◌+◌, IfOk, OnOk, OnErr};
 ghost use Rattle.pz_classes.specs.CheckedView.{checked_model};
 ghost use Rattle.pz_bind.specs.devices.Nets.{IsNet};
+ghost use Rattle.pz_rules.specs.declared.limits.Edition.TheVariants.{Two};
+ghost use Rattle.pz_rules.specs.CallLaws.{NoRounds};
 ghost use Rattle.pz_rules.specs.Offers.{Offers};
 ghost use Rattle.pz_rules.specs.Steps.{Next, PassesTo};
 ghost use Rattle.pz_rules.specs.Moments.{IsMoment};
@@ -53,6 +55,7 @@ pub(crate) fn step_at(
     action: &Action,
 ) -> Result<Result<(), Trouble>, AllocError>
     requires of_model { ∥ IsNet (checked_model checked.now) net.now ∥₁ }
+    requires rounds { limits.edition ≡ Two → NoRounds (checked_model checked.now) }
     requires processes { ∥ AreProcesses (setting_of (checked_model checked.now) limits) clock
         processes.old.items ∥₁ }
     requires offered { Offers (setting_of (checked_model checked.now) limits)

@@ -4,6 +4,7 @@ ghost use Rattle.std.specs.Prelude.{◌≡◌, ℕ, List, IfOk, false};
 ghost use Rattle.pz_classes_code.specs.StepView.{view, sequence_view};
 ghost use Rattle.pz_rules.specs.Terms as terms;
 ghost use Rattle.pz_rules.specs.Settings.{Home as RulesHome};
+ghost use Rattle.pz_rules.specs.Framing as framing;
 ghost use Rattle.pz_rules.specs.Leaving as leaving;
 ghost use Rattle.pz_rules.specs.View.{term_view, terms_view};
 ghost use Rattle.pz_rules.specs.Becoming.{Became};
@@ -160,14 +161,14 @@ pub fn is_bare(term: &Term) -> bool
 
 /// A frame round what is not done. A frame without outputs that is all of a frame without outputs
 /// stands in its place.
-fn framed(
+pub fn framed(
     alloc: Global,
     frame: FrameId,
     inputs: usize,
     results: Shared<Items<Slot>>,
     left: Term,
 ) -> Result<Term, AllocError>
-    ensures { IfOk result (λ term. term_view term ≡ leaving.framed frame.0 inputs results
+    ensures { IfOk result (λ term. term_view term ≡ framing.framed frame.0 inputs results
         (term_view left)) }
 {
     if results.get().as_slice().is_empty() && is_bare(&left) {

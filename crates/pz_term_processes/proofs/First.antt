@@ -15,8 +15,8 @@ use Rattle.pz_value.specs.declared.value.Value.TheVariants as value
 use Rattle.pz_value.specs.contracts.value.Value as value_contract
 use Rattle.pz_classes_code.specs.declared.step.Step.{Step}
 use Rattle.pz_classes_code.specs.StepView as step
-use Rattle.pz_state.specs.Marks.{Seen}
-use Rattle.pz_state.specs.States.{StateView}
+use Rattle.pz_state.specs.Marks.{Seen, changed}
+use Rattle.pz_state.specs.States.{StateView, initial}
 use Rattle.pz_state.specs.References.{RefersWithin}
 use Rattle.pz_classes.specs.declared.classes.Classes.{Classes}
 use Rattle.pz_classes.specs.Tables.{class_id}
@@ -29,14 +29,13 @@ use Rattle.pz_bind.specs.NetView.{HasProcess}
 use Rattle.pz_bind.specs.devices.Nets.{IsNet, node_at}
 use Rattle.pz_bind.specs.declared.net.Net.{Net}
 use Rattle.pz_rules.specs.declared.limits.Limits.{Limits}
-use Rattle.pz_rules.specs.declared.term.Term.{fold-roll-Term}
-use Rattle.pz_rules.specs.declared.term.Term.TheOpen.{Term-F}
-use Rattle.pz_rules.specs.declared.term.Term.TheVariants.{Leaf, rolls-Leaf}
 use Rattle.pz_rules.specs.Terms as terms
-use Rattle.pz_rules.specs.Settings.{Process}
-use Rattle.pz_rules.specs.View.{term_view, term_step}
+use Rattle.pz_rules.specs.Terms.{frames_in}
+use Rattle.pz_rules.specs.Settings.{Process, Home}
+use Rattle.pz_rules.specs.Opening.{opened}
+use Rattle.pz_rules.specs.Leaving.{only_frames, swept}
+use Rattle.pz_rules.specs.Becoming.{Became}
 use Rattle.pz_rules.specs.Starting.{home_at, StartsAs}
-use Rattle.pz_rules.proofs.Begun.{begins}
 use Rattle.pz_term_processes.specs.Standing.{setting_of}
 use Rattle.pz_term_processes.proofs.Given.{values_plain}
 
@@ -46,7 +45,7 @@ there (x ∷ xs) zero within = (x, refl)
 there (x ∷ xs) (suc i) within = there xs i (omega (arith, within))
 
 -- each process of a net stands somewhere
-stands : (m : ModelTree) (net : Net) (i : ℕ) → IsNet m net → HasProcess net i → (place : Address) × (slice_get (processes m) i ≡ Some place)
+pub stands : (m : ModelTree) (net : Net) (i : ℕ) → IsNet m net → HasProcess net i → (place : Address) × (slice_get (processes m) i ≡ Some place)
 stands m net i known within =
     let count : length net.nodes ≡ length (processes m) = ap (λ xs. length xs) known.nodes ∙ length-map (processes m) (node_at m) in
     there (processes m) i (subst (λ (n : ℕ). i < n) count within)
@@ -72,9 +71,6 @@ plain_values m net i values known within are k d below =
 values_merely : {A : Type 0} (xs ys : List Value) → ∥ A ∥₁ → (A → xs ≡ ys) → xs ≡ ys
 values_merely xs ys a is = ∥∥₁_elim a (Coded-set (coded_list value_contract.the_row.coded) xs ys) is
 
-view-Leaf : (s : Step) → term_view (Leaf s) ≡ terms.leaf (step.view s)
-view-Leaf s = ap term_view (sym (rolls-Leaf s)) ∙ fold-roll-Term terms.Term term_step (Term-F.Leaf s)
-
 some_is : {X : Type 0} {x y : X} → Some x ≡ Some y → x ≡ y
 some_is e = cc
 
@@ -91,18 +87,23 @@ call_is set m classes net i class call place tabled known at is calls =
     let here : class.0 ≡ class_at m place = ∥∥₁_elim known (ℕ_set class.0 (class_at m place)) (λ k. ap (λ (c : ClassId). c.0) (is m place k at)) in
     ∥∥₁_elim tabled (set (init m (class_at m place)) (Some (step.view call))) (λ k. sym (calls m k ∙ ap (init m) here))
 
-pub starts_as : (set : IsSet (Option terms.Step)) (m : ModelTree) (classes : Classes) (net : Net) (limits : Limits) (i : ℕ) (class : ClassId) (call copy : Step) (values : List Value) (state : Seen) (place : Address)
+-- a process that opens its call and then keeps the frames that stand
+pub starts_as : (set : IsSet (Option terms.Step)) (m : ModelTree) (classes : Classes) (net : Net) (limits : Limits) (i : ℕ) (class : ClassId) (call : Step) (values : List Value) (h : Home) (t : terms.Term) (first opened_in swept_in : Seen) (place : Address)
     → ∥ AreClasses m classes ∥₁ → ∥ IsNet m net ∥₁ → slice_get (processes m) i ≡ Some place → IsClassOf net i class → IsCallOf classes class (Some call) → AreValues net i values
-    → copy ≡ call → state.held ≡ record { vars = values; frames = []; objects = [] }
-    → StartsAs (setting_of m limits) place (record { term = term_view (Leaf copy); state = state.held })
-starts_as set m classes net limits i class call copy values state place tabled known at is calls are same held =
+    → h ≡ home_at (setting_of m limits) place → first.held ≡ initial values → Became (opened h (step.view call) first.held) t first opened_in
+    → swept_in ≡ changed opened_in (only_frames (frames_in t) opened_in.held)
+    → StartsAs (setting_of m limits) place (record { term = t; state = swept_in.held })
+starts_as set m classes net limits i class call values h t first opened_in swept_in place tabled known at is calls are home held became sweeps =
     let given : values ≡ values_at m place = values_merely values (values_at m place) known (λ k. are m place k at) in
+    let p = opened h (step.view call) first.held in
     record {
       call = step.view call;
       is_call = call_is set m classes net i class call place tabled known at is calls;
       stands =
-          ap (λ (t : terms.Term). let p : Process = record { term = t; state = state.held } in p) (view-Leaf copy ∙ ap (λ (s : Step). terms.leaf (step.view s)) same)
-          ∙ ap (λ (s : StateView). let p : Process = record { term = terms.leaf (step.view call); state = s } in p) held
-          ∙ ap (λ (vs : List Value). let p : Process = record { term = terms.leaf (step.view call); state = record { vars = vs; frames = []; objects = [] } } in p) given
-          ∙ begins m (home_at (setting_of m limits) place) (class_at m place) (step.view call) (values_at m place) (call_is set m classes net i class call place tabled known at is calls);
+          ap (λ (z : Seen). let q : Process = record { term = t; state = z.held } in q) sweeps
+          ∙ ap (λ (z : Seen). let q : Process = record { term = t; state = only_frames (frames_in t) z.held } in q) became.state
+          ∙ ap (λ (u : terms.Term). let q : Process = record { term = u; state = only_frames (frames_in u) p.state } in q) became.term
+          ∙ ap (λ (k : Home). swept (opened k (step.view call) first.held)) home
+          ∙ ap (λ (s : StateView). swept (opened (home_at (setting_of m limits) place) (step.view call) s)) held
+          ∙ ap (λ (vs : List Value). swept (opened (home_at (setting_of m limits) place) (step.view call) (initial vs))) given;
     }

@@ -1,3 +1,5 @@
 mod Given
 mod First
-mod Started
+mod ProcessClasses
+pub mod StatementPlaces
+mod Starts

@@ -3,8 +3,10 @@
 //! The processes of a model before the first step.
 #![tactic(auto)]
 
+mod homes;
 mod process;
 mod starting;
 
+pub use homes::home_at;
 pub use process::Process;
-pub use starting::start;
+pub use starting::{Started, start};

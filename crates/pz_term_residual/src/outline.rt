@@ -6,6 +6,7 @@ ghost use Rattle.pz_classes_code.specs.StepView.{view, sequence_view};
 ghost use Rattle.pz_state.specs.States.{StateView};
 ghost use Rattle.pz_rules.specs.Terms as terms;
 ghost use Rattle.pz_rules.specs.Terms.{height};
+ghost use Rattle.pz_rules.specs.Framing.{framed};
 ghost use Rattle.pz_rules.specs.Leaving as leaving;
 ghost use Rattle.pz_rules.specs.View.{term_view, terms_view};
 ghost use Rattle.pz_rules.specs.Settings.{Home as RulesHome};
@@ -158,7 +159,7 @@ pub(crate) fn outline_second(home: &Home<'_>, first: &Term, left: Outline, again
 /// all of it stands in its place.
 fn outline_bare(left: Outline) -> Outline
     ensures { (x : terms.Term) (number inputs : ℕ) → left ≡ outline x →
-        result ≡ outline (leaving.framed number inputs [] x) }
+        result ≡ outline (framed number inputs [] x) }
 {
     if left.bare {
         return left;

@@ -24,13 +24,13 @@ use Rattle.pz_offer.specs.declared.end.End.{End}
 use Rattle.pz_offer.specs.PlaceOrder.{Place}
 use Rattle.pz_offer.specs.declared.trouble.Trouble.{Trouble}
 use Rattle.pz_state.specs.States.{StateView}
-use Rattle.pz_rules.specs.declared.limits.Edition.{Edition}
 use Rattle.pz_rules.specs.declared.limits.Limits.{Limits}
 use Rattle.pz_rules.specs.Terms.{Term}
 use Rattle.pz_rules.specs.Settings as rules
-use Rattle.pz_rules.specs.Settings.{Setting, Context, home_of}
+use Rattle.pz_rules.specs.Settings.{Setting, Context}
 use Rattle.pz_rules.specs.Configurations.{Stands}
 use Rattle.pz_rules.specs.Fitting.{TermFits}
+use Rattle.pz_rules.specs.Starting.{home_at}
 use Rattle.pz_rules.specs.Offers.{PartAt}
 use Rattle.pz_rules.specs.Active.{IsActive}
 use Rattle.pz_rules.specs.Steps.{Deed}
@@ -43,7 +43,7 @@ use Rattle.pz_part_actions.specs.Fitting.{FitsHere}
 use Rattle.pz_part_actions.specs.Homes.{seen_home}
 use Rattle.pz_part_opening.specs.declared.home.Home.{Home}
 use Rattle.pz_part_opening.specs.Homes.{home_view}
-use Rattle.pz_term_steps.specs.devices.Deeds.{Ability, CanDo, Leaves, home_there, seen_at}
+use Rattle.pz_term_steps.specs.devices.Deeds.{Ability, CanDo, Leaves, seen_at}
 use Rattle.pz_term_steps.proofs.Lists.{some_is, image_there}
 
 -- the net and the processes of a model
@@ -52,11 +52,6 @@ pub net_has : (m : ModelTree) (net : Net) (i : ℕ) (home : levels.Address) → 
 net_has m net i home is there = ∥∥₁_elim is le_prop (λ known.
     let count : length net.nodes ≡ length (processes m) = ap (λ xs. length xs) known.nodes ∙ length-map (processes m) (node_at m) in
     subst (λ (n : ℕ). i < n) (sym count) (slice_get_within (processes m) i home there))
-
-pub class_is : (m : ModelTree) (net : Net) (i : ℕ) (home : levels.Address) (class : ClassId) → ∥ IsNet m net ∥₁ → slice_get (processes m) i ≡ Some home
-    → ((n : ModelTree) (place : levels.Address) → IsNet n net → slice_get (processes n) i ≡ Some place → class ≡ class_id (class_at n place))
-    → class.0 ≡ class_at m home
-class_is m net i home class is there told = ∥∥₁_elim is (ℕ_set class.0 (class_at m home)) (λ known. ap (λ (c : ClassId). c.0) (told m home known there))
 
 pub count_is : (m : ModelTree) (limits : Limits) (clock : ℕ) (net : Net) (ps : List Process) (count : ℕ) → ∥ IsNet m net ∥₁ → ∥ AreProcesses (setting_of m limits) clock ps ∥₁
     → ((n : ModelTree) → IsNet n net → count ≡ length (processes n)) → count ≡ length ps
@@ -128,17 +123,13 @@ ready setting clock ps end can a f x pos part it = record {
         (subst (λ (k : ℕ). CanDo can (seen_at setting end.process k clock p.state.held) (term_view p.term) end.place) (sym is_class)
         (subst (λ (b : Context). CanDo can b (term_view p.term) end.place) seen here))
 
--- where the edition is that of the home
-pub home_is : (here : Standpoint) (home : Home) (s : StateView) → here.limits.edition ≡ home.edition → home_of (seen_home here home s) ≡ home_view home
-home_is here home s edition = ap (λ (e : Edition). let h : rules.Home = record { model = checked_model home.checked.now; edition = e; class = home.class.0 } in h) edition
-
 -- at home there, of the code's home
-module _ (m : ModelTree) (limits : Limits) (here : Standpoint) (home : Home) (place : levels.Address) (is : home_view home ≡ home_there m limits place) where
+module _ (m : ModelTree) (limits : Limits) (here : Standpoint) (home : Home) (place : levels.Address) (is : home_view home ≡ home_at (setting_of m limits) place) (same_limits : here.limits ≡ limits) where
   seen_there : (s : StateView) → seen_home here home s ≡ seen_from m here (class_at m place) s
-  seen_there s = ap (λ (h : rules.Home). seen_from h.model here h.class s) is
-
-  pub edition_there : limits.edition ≡ home.edition
-  edition_there = sym (ap (λ (h : rules.Home). h.edition) is)
+  seen_there s =
+      ap (λ (h : rules.Home). seen_from h.model (record here { limits = record here.limits { edition = h.edition } }) h.class s) is
+      ∙ ap (λ (l : Limits). seen_from m (record here { limits = record l { edition = limits.edition } }) (class_at m place) s) same_limits
+      ∙ ap (λ (l : Limits). seen_from m (record here { limits = l }) (class_at m place) s) (sym same_limits)
 
   pub class_there : home.class.0 ≡ class_at m place
   class_there = ap (λ (h : rules.Home). h.class) is

@@ -15,13 +15,13 @@ ghost use Rattle.pz_part_queries.specs.Standpoints.{Knows};
 ghost use Rattle.pz_part_actions.specs.Becoming.{process_left, done_left};
 ghost use Rattle.pz_part_actions.specs.Fitting.{FitsHere};
 ghost use Rattle.pz_part_actions.specs.Homes.{seen_home};
-ghost use Rattle.pz_term_steps.specs.devices.StatementPlaces.{IsFrom};
+ghost use Rattle.pz_term_processes.specs.devices.StatementPlaces.{IsFrom};
 ghost use Rattle.pz_term_steps.specs.devices.Deeds.{CanAct, CanSend, CanReceive, CanDo, Leaves, begun_process, IsBegun};
 
 use crate::begun::{Begun, hold};
 use pz_copy::Parcel;
 use pz_offer::Trouble;
-use pz_part_actions::{hand, perform, take};
+use pz_part_actions::{at_home, hand, perform, take};
 use pz_part_opening::Home;
 use pz_part_queries::{Standpoint, part_at};
 use pz_rules::Term;
@@ -61,7 +61,6 @@ pub(crate) fn begin_internal(
     place: &[usize],
 ) -> Result<Result<Begun, Trouble>, AllocError>
     requires knows { Knows (checked_model home.now.checked.now) here.now }
-    requires edition { here.now.limits.edition ≡ home.now.edition }
     requires can { CanDo CanAct (seen_home here.now home.now process.old.state.held)
         (term_view process.old.term) place.now }
     requires fits { ∥ FitsHere here.now home.now.class (term_view process.old.term) ∥₁ }
@@ -91,7 +90,6 @@ pub(crate) fn begin_send(
     place: &[usize],
 ) -> Result<Result<Begun, Trouble>, AllocError>
     requires knows { Knows (checked_model home.now.checked.now) here.now }
-    requires edition { here.now.limits.edition ≡ home.now.edition }
     requires can { (parcel : ParcelView)
         × CanDo (CanSend parcel) (seen_home here.now home.now process.old.state.held)
         (term_view process.old.term) place.now }
@@ -110,7 +108,7 @@ pub(crate) fn begin_send(
     let point = process.state.mark()?;
     let (frame, part) = part_at(&process.term, FrameId(0), place);
     let pos = pos_of(part);
-    let left = hand(alloc, here, &mut process.state, frame, part)?;
+    let left = hand(alloc, &at_home(here, home), &mut process.state, frame, part)?;
     Ok(hold(here, home, process, place, point, pos, done_by(left)))
 }
 
@@ -124,7 +122,6 @@ pub(crate) fn begin_receive(
     parcel: &Parcel,
 ) -> Result<Result<Begun, Trouble>, AllocError>
     requires knows { Knows (checked_model home.now.checked.now) here.now }
-    requires edition { here.now.limits.edition ≡ home.now.edition }
     requires can { CanDo CanReceive (seen_home here.now home.now process.old.state.held)
         (term_view process.old.term) place.now }
     ensures leaves { IfOk result
@@ -140,6 +137,13 @@ pub(crate) fn begin_receive(
     let point = process.state.mark()?;
     let (frame, part) = part_at(&process.term, FrameId(0), place);
     let pos = pos_of(part);
-    let left = take(alloc, here, &mut process.state, frame, part, parcel)?;
+    let left = take(
+        alloc,
+        &at_home(here, home),
+        &mut process.state,
+        frame,
+        part,
+        parcel,
+    )?;
     Ok(hold(here, home, process, place, point, pos, done_by(left)))
 }

@@ -3,7 +3,6 @@
 
 mod beginning;
 mod begun;
-mod homes;
 mod stepping;
 
 pub use stepping::{elapse, step};

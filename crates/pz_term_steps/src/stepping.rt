@@ -4,6 +4,8 @@ ghost use Rattle.pz_syntax.specs.Classes.{ModelTree};
 ghost use Rattle.pz_classes.specs.CheckedView.{checked_model};
 ghost use Rattle.pz_bind.specs.devices.Nets.{IsNet};
 ghost use Rattle.pz_rules.specs.declared.action.Kind.{Kind};
+ghost use Rattle.pz_rules.specs.declared.limits.Edition.TheVariants.{Two};
+ghost use Rattle.pz_rules.specs.CallLaws.{NoRounds};
 ghost use Rattle.pz_rules.specs.Offers.{IsPair, Offers};
 ghost use Rattle.pz_rules.specs.Steps.{Next, PassesTo};
 ghost use Rattle.pz_rules.specs.Moments.{IsMoment};
@@ -16,14 +18,13 @@ ghost use Rattle.pz_term_steps.specs.Stepping.{reached};
 
 use crate::beginning::{begin_internal, begin_receive, begin_send};
 use crate::begun::{finish, withdraw};
-use crate::homes::home_at;
 use pz_bind::Net;
 use pz_classes::Checked;
 use pz_copy::Parcel;
 use pz_offer::{End, Trouble};
 use pz_part_queries::Standpoint;
 use pz_rules::{Action, Limits, Moment, Term};
-use pz_term_processes::Process;
+use pz_term_processes::{Process, home_at};
 use pz_term_time::pass;
 use std::alloc::{AllocError, Global};
 use std::mem;
@@ -39,6 +40,7 @@ fn act(
     at: &End,
 ) -> Result<Result<(), Trouble>, AllocError>
     requires of_model { ∥ IsNet (checked_model checked.now) net.now ∥₁ }
+    requires rounds { limits.edition ≡ Two → NoRounds (checked_model checked.now) }
     requires processes { ∥ AreProcesses (setting_of (checked_model checked.now) limits) clock
         processes.old ∥₁ }
     requires offered { (kind : Kind) × (pos : Pos)
@@ -85,6 +87,7 @@ fn communicate(
     parcel: &Parcel,
 ) -> Result<Result<(), Trouble>, AllocError>
     requires of_model { ∥ IsNet (checked_model checked.now) net.now ∥₁ }
+    requires rounds { limits.edition ≡ Two → NoRounds (checked_model checked.now) }
     requires pair { (number : ℕ) × (message : List ℕ)
         × IsPair (setting_of (checked_model checked.now) limits)
         (config_of clock processes.old) number sender.now receiver.now message parcel.now }
@@ -138,6 +141,8 @@ fn communicate(
 /// Takes an action that is offered at this clock, or says in which trouble it ends; then the processes
 /// stay as they are. Time is that of the evaluations that the action asks for, and linear in the terms
 /// of the processes that act. The only error is want of memory.
+///
+/// In edition Two no method of the model begins with itself.
 pub fn step(
     alloc: Global,
     checked: &Checked,
@@ -148,6 +153,7 @@ pub fn step(
     action: &Action,
 ) -> Result<Result<(), Trouble>, AllocError>
     requires of_model { ∥ IsNet (checked_model checked.now) net.now ∥₁ }
+    requires rounds { limits.edition ≡ Two → NoRounds (checked_model checked.now) }
     requires processes { ∥ AreProcesses (setting_of (checked_model checked.now) limits) clock
         processes.old ∥₁ }
     requires offered { Offers (setting_of (checked_model checked.now) limits)

@@ -28,6 +28,8 @@ use Rattle.pz_rules.specs.InternalActions as actions
 use Rattle.pz_rules.specs.InternalActions.{Performs, done_in, chosen, turned, with_inputs, entered}
 use Rattle.pz_rules.specs.Messages as messages
 use Rattle.pz_rules.specs.Messages.{Sends, Hands, Takes}
+use Rattle.pz_rules.specs.declared.limits.Edition.TheVariants.{Two}
+use Rattle.pz_rules.specs.Opening.{opened_all}
 use Rattle.pz_rules.specs.Leaving.{residual, swept, not_too_high, settled}
 use Rattle.pz_rules.specs.Delays as delays
 use Rattle.pz_rules.specs.Delays.{Passes, PassesAll}
@@ -41,7 +43,7 @@ use Rattle.pz_trace_laws.specs.Messages.{StatementUnbroken, StatementsUnbroken, 
 use Rattle.pz_trace_laws.specs.Standing.{TermUnbroken, TermsUnbroken, AllUnbroken}
 use Rattle.pz_trace_laws.proofs.Lists.{there}
 use Rattle.pz_trace_laws.proofs.Bodies.{body_unbroken, start_unbroken}
-use Rattle.pz_trace_laws.proofs.Terms.{opened_one, opened_rest, opened_other, part_of}
+use Rattle.pz_trace_laws.proofs.Terms.{Whole, framed_whole, opened_one, opened_rest, opened_other, part_of}
 
 some_is : {X : Type 0} {x y : X} → Some x ≡ Some y → x ≡ y
 some_is e = cc
@@ -65,17 +67,23 @@ tested_whole process at (Ok v) h each = by (truth process at v)
     by (Ok b) = each b
     by (Err t) = tt
 
-module _ (home : Home) where
+module _ (home : Home) (messages : HasUnbrokenMessages home.model) where
+  abbrev unbroken : Whole home
+  unbroken = λ two. messages
+
   entered_whole : (s : StateView) (locals : ℕ) (results : List Slot) (body : Steps) (r : Result (List Value) Trouble) → StatementsUnbroken body → LeftUnbroken (and_then r (λ vs. Ok (entered home s locals results body vs)))
-  entered_whole s locals results body (Ok vs) h = opened_rest home body (with_inputs s (least_free s.frames) locals vs) h
+  entered_whole s locals results body (Ok vs) h =
+      let number = least_free s.frames in
+      let inner = with_inputs s number locals vs in
+      framed_whole number (length vs) results (opened_all home body inner).term (opened_rest home unbroken body inner h)
   entered_whole s locals results body (Err t) h = tt
 
   chosen_whole : (s : StateView) (ts : Steps) (other : StatementPart Slot ClassId ℕ) (b : Bool) → StatementsUnbroken ts → OtherwiseUnbroken other → TermUnbroken (chosen home s ts other b).term
-  chosen_whole s ts other true h k = opened_rest home ts s h
-  chosen_whole s ts other false h k = opened_other home other s k
+  chosen_whole s ts other true h k = opened_rest home unbroken ts s h
+  chosen_whole s ts other false h k = opened_other home unbroken other s k
 
   turned_whole : (s : StateView) (loop : Step) (ts : Steps) (b : Bool) → StatementsUnbroken ts → StatementUnbroken loop → TermUnbroken (turned home s loop ts b).term
-  turned_whole s loop ts true h k = (opened_rest home ts s h, (k, tt))
+  turned_whole s loop ts true h k = (opened_rest home unbroken ts s h, (k, tt))
   turned_whole s loop ts false h k = tt
 
 abbrev KeepsUnbroken : ModelTree → Deed → Type 0
@@ -85,12 +93,12 @@ performs_whole : (m : ModelTree) → HasUnbrokenMessages m → KeepsUnbroken m P
 performs_whole m whole a f _ _ _ same (actions.skips at) h = tt
 performs_whole m whole a f _ _ _ same (actions.evaluates at e r s gives) h = done_whole r s
 performs_whole m whole a f _ _ _ same (actions.evaluates_block at es r s gives) h = done_whole r s
-performs_whole m whole a f _ _ _ same (actions.tests at e ts other r s gives) h = tested_whole a.process at r (chosen (home_of a) s ts other) (λ b. chosen_whole (home_of a) s ts other b h.0 h.1)
-performs_whole m whole a f _ _ _ same (actions.repeats at e ts r s gives) h = tested_whole a.process at r (turned (home_of a) s (repeated at e ts) ts) (λ b. turned_whole (home_of a) s (repeated at e ts) ts b h h)
+performs_whole m whole a f _ _ _ same (actions.tests at e ts other r s gives) h = tested_whole a.process at r (chosen (home_of a) s ts other) (λ b. chosen_whole (home_of a) (subst HasUnbrokenMessages (sym same) whole) s ts other b h.0 h.1)
+performs_whole m whole a f _ _ _ same (actions.repeats at e ts r s gives) h = tested_whole a.process at r (turned (home_of a) s (repeated at e ts) ts) (λ b. turned_whole (home_of a) (subst HasUnbrokenMessages (sym same) whole) s (repeated at e ts) ts b h h)
 performs_whole m whole a f _ _ _ same (actions.elapses at e) h = tt
 performs_whole m whole a f _ _ _ same (actions.expires n at) h = tt
 performs_whole m whole a f _ _ _ same (actions.calls at method args results r s locals body gives is_method) h =
-    entered_whole (home_of a) s locals results body r
+    entered_whole (home_of a) (subst HasUnbrokenMessages (sym same) whole) s locals results body r
     (body_unbroken a.setting.model (record { name = method.name; counts = process_counts (how_many args) (length results) }) (subst HasUnbrokenMessages (sym same) whole) a.class (process_body locals body) is_method.is_body)
 
 hands_whole : (m : ModelTree) (parcel : ParcelView) → KeepsUnbroken m (λ a f. Hands a f parcel)
@@ -133,11 +141,12 @@ settled_whole a pos t place (Ok y) h leaves = high_whole a pos (residual (home_o
 settled_whole a pos t place (Err e) h leaves = tt
 
 module _ (setting : Setting) (c : Config) (all : AllUnbroken c) where
-  acts_whole : (does : Deed) → KeepsUnbroken setting.model does → (end : End) (q : Result Process Trouble) → Acts setting c does end q → LeftUnbroken q
-  acts_whole does keeps end q x =
+  acts_whole : HasUnbrokenMessages setting.model → (does : Deed) → KeepsUnbroken setting.model does → (end : End) (q : Result Process Trouble) → Acts setting c does end q → LeftUnbroken q
+  acts_whole whole does keeps end q x =
+      let same : x.seen.setting.model ≡ setting.model = ap (λ (b : Context). b.setting.model) x.stands.seen in
       let part = part_of (home_of x.seen) x.active (all end.process x.process x.stands.is_here) in
-      let left = keeps x.seen x.frame x.part x.pos x.left (ap (λ (b : Context). b.setting.model) x.stands.seen) x.acts part.whole in
-      subst LeftUnbroken (sym x.leaves) (settled_whole x.seen x.pos x.process.term end.place x.left left (λ y h. part.leaves 0 y h))
+      let left = keeps x.seen x.frame x.part x.pos x.left same x.acts part.whole in
+      subst LeftUnbroken (sym x.leaves) (settled_whole x.seen x.pos x.process.term end.place x.left left (λ y h. part.leaves (λ two. subst HasUnbrokenMessages (sym same) whole) 0 y h))
 
   internal_whole : (i : ℕ) (q : Result Process Trouble) → LeftUnbroken q → OutcomeUnbroken (and_then q (λ p. Ok (with_process c i p)))
   internal_whole i (Ok p) h = put_whole c i p all h
@@ -149,11 +158,11 @@ module _ (setting : Setting) (c : Config) (all : AllUnbroken c) where
   both_whole sender receiver (Err t) r h k = tt
 
   outcome_whole : HasUnbrokenMessages setting.model → (action : Action) (q : Result Config Trouble) → Next setting c action q → OutcomeUnbroken q
-  outcome_whole whole _ _ (internal end kind pos result x) = internal_whole end.process result (acts_whole Performs (performs_whole setting.model whole) end result x)
+  outcome_whole whole _ _ (internal end kind pos result x) = internal_whole end.process result (acts_whole whole Performs (performs_whole setting.model whole) end result x)
   outcome_whole whole _ _ (communication number sender receiver message parcel sent taken x y) =
       both_whole sender receiver sent taken
-      (acts_whole (λ a f. Hands a f parcel) (hands_whole setting.model parcel) sender sent x)
-      (acts_whole (λ a f. Takes a f parcel) (takes_whole setting.model parcel) receiver taken y)
+      (acts_whole whole (λ a f. Hands a f parcel) (hands_whole setting.model parcel) sender sent x)
+      (acts_whole whole (λ a f. Takes a f parcel) (takes_whole setting.model parcel) receiver taken y)
 
   pub next_whole : HasUnbrokenMessages setting.model → (action : Action) (next : Config) → Next setting c action (Ok next) → AllUnbroken next
   next_whole whole action next h = outcome_whole whole action (Ok next) h
@@ -203,9 +212,9 @@ passing_whole setting c next d counted all passes i q is =
 
 -- the start
 
-pub start_whole : (setting : Setting) (c : Config) → IsStart setting c → AllUnbroken c
-start_whole setting c start i p is =
+pub start_whole : (setting : Setting) (c : Config) → (setting.limits.edition ≡ Two → HasUnbrokenMessages setting.model) → IsStart setting c → AllUnbroken c
+start_whole setting c whole start i p is =
     let place = there (processes setting.model) i (subst (λ (n : ℕ). i < n) start.all (slice_get_within c.processes i p is)) in
     let s = start.each i place.0 p place.1 is in
     subst (λ (r : Process). TermUnbroken r.term) (sym s.stands)
-    (opened_one (home_at setting place.0) s.call (initial (values_at setting.model place.0)) (start_unbroken setting.model (class_at setting.model place.0) s.call s.is_call))
+    (opened_one (home_at setting place.0) whole s.call (initial (values_at setting.model place.0)) (start_unbroken setting.model (class_at setting.model place.0) s.call s.is_call))

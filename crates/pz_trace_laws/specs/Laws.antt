@@ -1,8 +1,9 @@
 -- Laws of names and lines.
-use Rattle.std.specs.Prelude.{ℕ, List, Ok}
+use Rattle.std.specs.Prelude.{◌≡◌, ℕ, List, Ok}
 use Rattle.pz_syntax.specs.Classes.{ModelTree}
 use Rattle.pz_syntax.specs.ModelForm.{Each}
 use Rattle.pz_rules.specs.declared.action.Action.{Action}
+use Rattle.pz_rules.specs.declared.limits.Edition.TheVariants.{Two}
 use Rattle.pz_rules.specs.Settings.{Setting}
 use Rattle.pz_rules.specs.Configurations.{Config, IsWhole}
 use Rattle.pz_rules.specs.Starting.{IsStart}
@@ -23,10 +24,11 @@ NamesAreUnbroken = (text : List ℕ) (m : ModelTree) → IsModelOf text m → Ha
 abbrev pub MessagesAreUnbroken : Type 0
 MessagesAreUnbroken = (text : List ℕ) (m : ModelTree) → IsModelOf text m → HasUnbrokenMessages m
 
--- then what is left of the processes has none either, at the start and later
+-- then what is left of the processes has none either, at the start and later; in edition One a process
+-- starts as a call, whatever the messages
 
 abbrev pub StartIsUnbroken : Type 0
-StartIsUnbroken = (setting : Setting) (c : Config) → IsStart setting c → AllUnbroken c
+StartIsUnbroken = (setting : Setting) (c : Config) → (setting.limits.edition ≡ Two → HasUnbrokenMessages setting.model) → IsStart setting c → AllUnbroken c
 
 abbrev pub StaysUnbroken : Type 0
 StaysUnbroken = (setting : Setting) (c next : Config) (a : Action) (d : ℕ) → HasUnbrokenMessages setting.model → IsWhole setting c → AllUnbroken c

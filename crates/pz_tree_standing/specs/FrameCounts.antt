@@ -1,9 +1,11 @@
--- How often frames stand in a term, and which stand no longer after an action.
+-- How often frames stand in a term, which stand no longer after an action, and which open.
 use Rattle.std.specs.Prelude.{ℕ, zero, suc, ◌+◌, Bool, true, false, eqb, if◌then◌else◌, List, [], ◌∷◌, ◌++◌}
 use Rattle.pz_classes_code.specs.declared.slot.Slot.{Slot}
 use Rattle.pz_offer.specs.PlaceOrder.{Place}
-use Rattle.pz_rules.specs.Terms.{Term, done, select, frame, abort, idle, frames_in, frames_in_all, child, frame_in}
+use Rattle.pz_state.specs.States.{StateView}
+use Rattle.pz_rules.specs.Terms.{Term, done, sequence, select, frame, abort, idle, handling, frames_in, frames_in_all, child, frame_in}
 use Rattle.pz_rules.specs.Settings.{Process, Home}
+use Rattle.pz_rules.specs.Opening.{opened, opened_all}
 use Rattle.pz_rules.specs.Leaving.{replaced, is_done, residual}
 
 abbrev pub count_in : ℕ → List ℕ → ℕ
@@ -35,3 +37,18 @@ lost t i x = []
 abbrev pub lost_all : Home → ℕ → Term → Place → Process → List ℕ
 lost_all h f t [] x = []
 lost_all h f t (i ∷ place) x = lost_all h (frame_in t f) (child t i) place x ++ lost t i (residual h (frame_in t f) (child t i) place x).term
+
+-- what opens, on this level and in this state, once child i has become x: the statements behind what is
+-- done, and a second part that is done and stands afresh
+abbrev pub gained : Home → StateView → Term → ℕ → Term → List ℕ
+gained h s (sequence t rest) i x = if_done x (frames_in (opened_all h rest s).term)
+gained h s (idle t u again) (suc i) x = if_done x (frames_in (opened h again s).term)
+gained h s (handling t u again) i x = if_done x (frames_in (opened h again s).term)
+gained h s t i x = []
+
+-- all frames that open once the part at the place has become this
+abbrev pub gained_all : Home → ℕ → Term → Place → Process → List ℕ
+gained_all h f t [] x = []
+gained_all h f t (i ∷ place) x =
+    let inner = residual h (frame_in t f) (child t i) place x in
+    gained_all h (frame_in t f) (child t i) place x ++ gained h inner.state t i inner.term

@@ -4,6 +4,7 @@ use Rattle.pz_classes.specs.Soundness.{IsSound}
 use Rattle.pz_offer.specs.PlaceOrder.{Place}
 use Rattle.pz_nodes_shapes.specs.Rose.{Map, width, payload}
 use Rattle.pz_nodes_shapes.specs.Reading.{depth}
+use Rattle.pz_rules.specs.declared.limits.Edition.TheVariants.{One}
 use Rattle.pz_rules.specs.Terms.{Term, height}
 use Rattle.pz_rules.specs.Settings.{Context, Process, Home}
 use Rattle.pz_rules.specs.Laws.{part_of}
@@ -24,7 +25,7 @@ use Rattle.pz_tree_standing.specs.Whole.{IsNoShift, HasParts, Whole}
 use Rattle.pz_tree_standing.specs.Meaning.{StandsFor}
 use Rattle.pz_tree_standing.specs.Sound.{Sound}
 use Rattle.pz_tree_standing.specs.Calm.{Calm}
-use Rattle.pz_tree_standing.specs.FrameCounts.{count_in, times, lost_all}
+use Rattle.pz_tree_standing.specs.FrameCounts.{count_in, times, lost_all, gained_all}
 
 -- the nodes under a key stand for one term at most
 abbrev pub OneTerm : Type 0
@@ -74,11 +75,15 @@ abbrev pub RestsAreRight : Type 0
 RestsAreRight = (a : Context) (f c : ℕ) (s : Shape) → asks (term_of c s) ≡ false → Rests f c s
     → Right a f c s
 
--- An action on the part at a place: what stands afterwards and what is lost is what stood, but for the part, and what
--- that has become.
+-- An action on the part at a place: what stands afterwards and what is lost is what stood, but for the part, what
+-- that has become, and what opens.
 abbrev pub FramesStandOrAreLost : Type 0
 FramesStandOrAreLost = (h : Home) (n f : ℕ) (t : Term) (place : Place) (x : Process) → MayAct t place
-    → times n (residual h f t place x).term + (count_in n (lost_all h f t place x) + times n (part_of t place)) ≡ times n t + times n x.term
+    → times n (residual h f t place x).term + (count_in n (lost_all h f t place x) + times n (part_of t place)) ≡ times n t + times n x.term + count_in n (gained_all h f t place x)
+
+-- in edition One nothing opens with frames
+abbrev pub NoFramesOpenInOne : Type 0
+NoFramesOpenInOne = (h : Home) (n f : ℕ) (t : Term) (place : Place) (x : Process) → h.edition ≡ One → count_in n (gained_all h f t place x) ≡ 0
 
 -- nodes are no more than twice as deep as their term is high
 abbrev pub NoDeeperThanHigh : Type 0

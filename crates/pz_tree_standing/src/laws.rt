@@ -1,6 +1,6 @@
 // Laws of what nodes stand for, each the contract of a function that does nothing.
 
-ghost use Rattle.pz_tree_standing.specs.Laws.{OneTerm, ReachesWhatGoesOn, TimePasses, NothingElsePasses, StillRight, StillSound, UnwokenIsCalm, UnwokenIsSteadyToo, RestsAreRight, FramesStandOrAreLost, NoDeeperThanHigh};
+ghost use Rattle.pz_tree_standing.specs.Laws.{OneTerm, ReachesWhatGoesOn, TimePasses, NothingElsePasses, StillRight, StillSound, UnwokenIsCalm, UnwokenIsSteadyToo, RestsAreRight, FramesStandOrAreLost, NoFramesOpenInOne, NoDeeperThanHigh};
 ghost use Rattle.pz_tree_standing.specs.devices.Laws.{TimePassesComputed, StillRightComputed, StillSoundComputed, WrittenIsSummary, WrittenIsRight, ChildTerms, ChildFits, ChildRests, ChildRight, ShiftsAdd};
 
 /// The nodes under a key stand for one term at most.
@@ -75,7 +75,9 @@ pub fn children_are_replaced()
     ensures shifts_add { ShiftsAdd }
 {}
 
-/// An action loses the frames that stand no longer, and no others: each is counted.
+/// An action loses the frames that stand no longer, and no others, and opens those of what opens with it: each is
+/// counted. In edition One none opens so.
 pub fn frames_are_counted()
     ensures law { FramesStandOrAreLost }
+    ensures one { NoFramesOpenInOne }
 {}

@@ -9,7 +9,7 @@ use Rattle.pz_classes.specs.MethodBodies.{HasBody}
 use Rattle.pz_classes.specs.SoundBodies.{BodiesFit}
 use Rattle.pz_classes.specs.Tables.{HasClass}
 use Rattle.pz_classes.specs.devices.Rows.{AreClasses}
-use Rattle.pz_rules.specs.Terms.{frame}
+use Rattle.pz_rules.specs.Framing.{framed}
 use Rattle.pz_rules.specs.Settings as settings
 use Rattle.pz_rules.specs.Settings.{left_by}
 
@@ -23,4 +23,4 @@ pub record IsCallable (classes : Classes) (class : ClassId) (name : List ℕ) (i
 
 -- a frame of this number round a body that has opened
 abbrev pub round_body : ℕ → ℕ → List Slot → settings.Process → settings.Process
-round_body number inputs results x = left_by x.state (frame number inputs results x.term)
+round_body number inputs results x = left_by x.state (framed number inputs results x.term)

@@ -31,6 +31,7 @@ use Rattle.pz_rules.specs.declared.action.Kind.{Kind}
 use Rattle.pz_rules.specs.declared.action.Action.{Action}
 use Rattle.pz_rules.specs.declared.action.Action.TheVariants.{Internal}
 use Rattle.pz_rules.specs.Terms.{Term, frame, Terms, no_terms, and}
+use Rattle.pz_rules.specs.declared.limits.Edition.{Edition}
 use Rattle.pz_rules.specs.declared.limits.Edition.TheVariants.{One}
 use Rattle.pz_rules.specs.Settings.{Setting, Process}
 use Rattle.pz_rules.specs.Configurations.{Config}
@@ -94,8 +95,11 @@ evaluations = 0
 
 -- Where it stands
 
+abbrev pub in_edition : Edition → ModelTree → Setting
+in_edition edition m = record { model = m; limits = record { units = 1000; depth = 20; height = 100; edition = edition } }
+
 abbrev pub of_model : ModelTree → Setting
-of_model m = record { model = m; limits = record { units = 1000; depth = 20; height = 100; edition = One } }
+of_model = in_edition One
 
 abbrev pub at_clock : ℕ → List Process → Config
 at_clock clock processes = record { clock = clock; processes = processes }

@@ -1,8 +1,12 @@
 -- How many delays what opens may bring, in whatever way statements open.
 use Rattle.std.specs.Prelude.{◌≡◌, ◌≤◌, ℕ, ◌+◌, List, Some}
+use Rattle.std.specs.List.{sum_by}
 use Rattle.pz_syntax.specs.ModelForm.{Each}
 use Rattle.pz_syntax.specs.Statements.{Statement, delay, bracketed, guarded, parallel, select, conditional, repeated, abort, interrupt, Statements, no_statements, then, StatementPart, not_written, otherwise, Branches, no_branches, branch}
+use Rattle.pz_syntax.specs.Classes.{ModelTree}
 use Rattle.pz_classes.specs.Starts.{init}
+use Rattle.pz_classes_beginnings.specs.Beginning.{statements_in_all, all_plain_calls}
+use Rattle.pz_classes_openings.specs.Openings.{called, of_called, opened_to}
 use Rattle.pz_state.specs.States.{StateView}
 use Rattle.pz_rules.specs.Terms as terms
 use Rattle.pz_rules.specs.Terms.{Step, Steps, Term, done, leaf, wait, sequence, frame, idle, handling, Terms, no_terms, and}
@@ -39,6 +43,11 @@ module _ {X K Q : Type 0} where
     delays_in_each no_branches = 0
     delays_in_each (branch ts bs) = delays_in_all ts + delays_in_each bs
 
+-- So many statements ever open at once out of these in a process of this class: they, and those as which
+-- their plain calls open, followed so many methods deep.
+abbrev pub spread_of : ModelTree → ℕ → ℕ → Steps → ℕ
+spread_of m class depth ts = statements_in_all ts + sum_by (λ x. of_called (opened_to m class depth) (called m class x)) (all_plain_calls ts)
+
 -- a process of this class
 abbrev pub home_in : Setting → ℕ → Home
 home_in setting class = record { model = setting.model; edition = setting.limits.edition; class = class }
@@ -73,9 +82,10 @@ module _ (P : Steps → Type 0) where
   abbrev pub Brings : ℕ → Term → Type 0
   Brings most t = Holds t × (pending t ≤ most)
 
--- The statements that open in a run are such, and whatever opens brings at most so many delays.
-pub record Bounds (setting : Setting) (P : Steps → Type 0) (most : ℕ) : Type 0 where
+-- The statements that open in a process of this class are such, and whatever opens brings at most so many
+-- delays.
+pub record Bounds (setting : Setting) (class : ℕ) (P : Steps → Type 0) (most : ℕ) : Type 0 where
   pub closed : IsClosed P
-  pub bodies : (class : ℕ) (name : List ℕ) (inputs outputs locals : ℕ) (body : Steps) → IsMethod setting.model class name inputs outputs locals body → P body
-  pub starts : (class : ℕ) (call : Step) → init setting.model class ≡ Some call → P (alone call)
-  pub opens : (class : ℕ) (ts : Steps) (s : StateView) → P ts → Brings P most (opened_all (home_in setting class) ts s).term
+  pub bodies : (name : List ℕ) (inputs outputs locals : ℕ) (body : Steps) → IsMethod setting.model class name inputs outputs locals body → P body
+  pub starts : (call : Step) → init setting.model class ≡ Some call → P (alone call)
+  pub opens : (ts : Steps) (s : StateView) → P ts → Brings P most (opened_all (home_in setting class) ts s).term

@@ -27,10 +27,6 @@ use Rattle.pz_term_steps.specs.declared.begun.Begun.{Begun}
 abbrev pub seen_at : Setting → ℕ → ℕ → ℕ → StateView → Context
 seen_at setting i class clock s = record { setting = setting; process = i; class = class; clock = clock; state = s }
 
--- where the statements of the process at this place of the model open
-abbrev pub home_there : ModelTree → Limits → Address → Home
-home_there m limits place = record { model = m; edition = limits.edition; class = class_at m place }
-
 -- What a part can do, with the place of its statement: act by itself, send this parcel, receive.
 abbrev pub Ability : Type 1
 Ability = Context → ℕ → Term → Pos → Type 0

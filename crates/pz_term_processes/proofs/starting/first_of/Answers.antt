@@ -7,6 +7,8 @@ use Rattle.pz_state.specs.Marks.{Seen}
 use Rattle.std.specs.Option.{option_map, option_copied}
 use Rattle.pz_classes_code.specs.StepView as step
 use Rattle.pz_classes.specs.CheckedView.{checked_model}
+use Rattle.pz_rules.specs.View.{term_view}
+use Rattle.pz_part_opening.specs.Homes.{home_view}
 use Rattle.pz_term_processes.proofs.First.{plain_values, starts_as}
 use Rattle.pz_term_processes.proofs.starting.first_of.Goals as goal
 
@@ -16,6 +18,8 @@ new-state-requires c =
     (plain_values (checked_model c.args.checked.now) c.args.net.now c.args.process c.values.result.now c.requires.of_model c.requires.there c.values.ensures)
 
 pub returns : goal.returns
-returns c = λ limits place at.
-    starts_as c.trees_are_sets.ensures.statements (checked_model c.args.checked.now) c.classes.result.now c.args.net.now limits c.args.process c.class.result c.in-Some.call.now c.in_ok-copy.field-0 c.values.result.now c.new-state.result place
-    c.classes.ensures.tabled c.requires.of_model at c.class.ensures.is (λ m known. ap (λ r. option_map step.view (option_copied r)) (sym c.in-Some.is) ∙ c.init.ensures m known) c.values.ensures c.in_ok-copy.ensures (ap (λ (z : Seen). z.held) c.new-state.ensures ∙ ap (λ (vs : List Value). initial vs) c.in_ok-copies_of.ensures)
+returns c = λ place at.
+    starts_as c.trees_are_sets.ensures.statements (checked_model c.args.checked.now) c.classes.result.now c.args.net.now c.args.limits c.args.process c.class.result c.in-Some.call.now c.values.result.now
+    (home_view c.home_at-home.result) (term_view c.in_ok-term.term) c.new-state.result c.open_step.new.state c.sweep.new.state place
+    c.classes.ensures.tabled c.requires.of_model at c.class.ensures.is (λ m known. ap (λ r. option_map step.view (option_copied r)) (sym c.in-Some.is) ∙ c.init.ensures m known) c.values.ensures
+    (c.home_at-home.ensures.home place at) (ap (λ (z : Seen). z.held) c.new-state.ensures ∙ ap (λ (vs : List Value). initial vs) c.in_ok-copies_of.ensures) c.in_ok-term.ensures.opened c.in_ok-sweep.ensures

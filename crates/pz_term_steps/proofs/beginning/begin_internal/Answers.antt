@@ -1,9 +1,9 @@
+use Rattle.std.proofs.Common.{refl}
 use Rattle.pz_rules.specs.InternalActions.{Performs}
 use Rattle.pz_rules.specs.View.{term_view}
 use Rattle.pz_classes.specs.CheckedView.{checked_model}
 use Rattle.pz_part_opening.specs.Homes.{home_view}
-use Rattle.pz_part_actions.specs.Homes.{seen_home}
-use Rattle.pz_term_steps.proofs.AtHome.{home_is}
+use Rattle.pz_part_actions.specs.Homes.{standing_at, seen_home}
 use Rattle.pz_rules.specs.Acting.{IsActing}
 use Rattle.pz_part_actions.specs.Becoming.{process_left}
 use Rattle.pz_term_steps.specs.devices.Deeds.{CanAct}
@@ -35,9 +35,9 @@ perform-requires-clause-fits c =
 
 pub returns-clause-leaves : goal.returns-clause-leaves
 returns-clause-leaves c =
-    leaves_begun CanAct Performs (λ a f x pos can. acting_place a f x can.0 pos can.1) (checked_model c.args.home.now.checked.now) c.args.here.now c.args.home.now.class.0 (term_view c.args.process.now.term) c.args.place.now
+    leaves_begun CanAct Performs (λ a f x pos can. acting_place a f x can.0 pos can.1) (checked_model c.args.home.now.checked.now) (standing_at c.args.here.now c.args.home.now) c.args.home.now.class.0 (term_view c.args.process.now.term) c.args.place.now
     c.args.process.now.state c.mark.new.self c.perform.new.state c.hold.new.process.state c.in_ok-point.point c.part_at.result.0.0 (term_view c.part_at.result.1.now) c.pos_of-pos.result
     (process_left c.perform.new.state.held c.in_ok-left.left) c.hold.result
-    (home_view c.args.home.now) (home_is c.args.here.now c.args.home.now c.args.process.now.state.held c.requires.edition)
+    (home_view c.args.home.now) refl
     c.in_ok-point.ensures.ok c.part_at.ensures c.pos_of-pos.ensures (λ pos can. c.in_ok-left.ensures.performs can.0 pos c.requires.knows can.1)
     (c.hold.ensures.left c.args.process.now.state.held) c.hold.ensures.state c.requires.can

@@ -1,13 +1,16 @@
-use Rattle.std.proofs.Common.{◌∙◌, ap, Result}
+use Rattle.std.proofs.Common.{refl, ◌∙◌, ap, Result, sym, subst}
 use Rattle.pz_offer.specs.declared.trouble.Trouble.{Trouble}
+use Rattle.pz_syntax.specs.declared.tokens.Pos.{Pos}
+use Rattle.pz_eval.specs.Known.{AreKnown}
+use Rattle.pz_part_queries.specs.declared.standpoint.Standpoint.{Standpoint}
+use Rattle.pz_part_queries.specs.Standpoints.{Knows, seen_from}
 use Rattle.pz_rules.specs.Settings.{Process}
 use Rattle.pz_rules.specs.Meanings.{and_then}
 use Rattle.pz_rules.specs.Messages.{Hands}
 use Rattle.pz_rules.specs.View.{term_view}
 use Rattle.pz_classes.specs.CheckedView.{checked_model}
 use Rattle.pz_part_opening.specs.Homes.{home_view}
-use Rattle.pz_part_actions.specs.Homes.{seen_home}
-use Rattle.pz_term_steps.proofs.AtHome.{home_is}
+use Rattle.pz_part_actions.specs.Homes.{standing_at, seen_home}
 use Rattle.pz_rules.specs.Acting.{IsSend}
 use Rattle.pz_part_actions.specs.Becoming.{done_left}
 use Rattle.pz_term_steps.specs.devices.Deeds.{CanSend, settled_home}
@@ -30,16 +33,18 @@ hand-requires-clause-sends c =
     c.part_at.result.0.0 (term_view c.part_at.result.1.now) c.part_at.ensures (λ pos x. IsSend x) (λ f x pos can. c.offered_parts_act.ensures.sends _ f x pos can.0 can.1 c.requires.can.0 can.2)
 
 pub hand-requires-clause-known : goal.hand-requires-clause-known
-hand-requires-clause-known c = known_is (checked_model c.args.home.now.checked.now) c.args.here.now c.requires.knows
+hand-requires-clause-known c = subst (λ (x : Standpoint). AreKnown x.classes.now) (sym c.at_home.ensures) (known_is (checked_model c.args.home.now.checked.now) c.args.here.now c.requires.knows)
 
 pub returns-clause-leaves : goal.returns-clause-leaves
 returns-clause-leaves c = λ parcel.
     let a = seen_home c.args.here.now c.args.home.now c.args.process.now.state.held in
-    leaves_begun (CanSend parcel) (λ a f. Hands a f parcel) (λ a f x pos can. sending_place a f x pos can.0 can.1 parcel can.2) (checked_model c.args.home.now.checked.now) c.args.here.now c.args.home.now.class.0 (term_view c.args.process.now.term) c.args.place.now
+    leaves_begun (CanSend parcel) (λ a f. Hands a f parcel) (λ a f x pos can. sending_place a f x pos can.0 can.1 parcel can.2) (checked_model c.args.home.now.checked.now) (standing_at c.args.here.now c.args.home.now) c.args.home.now.class.0 (term_view c.args.process.now.term) c.args.place.now
     c.args.process.now.state c.mark.new.self c.hand.new.state c.hold.new.process.state c.in_ok-point.point c.part_at.result.0.0 (term_view c.part_at.result.1.now) c.pos_of-pos.result
     (done_left c.hand.new.state.held c.in_ok-left.left) c.hold.result
-    (home_view c.args.home.now) (home_is c.args.here.now c.args.home.now c.args.process.now.state.held c.requires.edition)
-    c.in_ok-point.ensures.ok c.part_at.ensures c.pos_of-pos.ensures (λ pos can. c.in_ok-left.ensures.hands (checked_model c.args.home.now.checked.now) c.args.home.now.class.0 pos can.0 can.1 parcel c.requires.knows can.2)
+    (home_view c.args.home.now) refl
+    c.in_ok-point.ensures.ok c.part_at.ensures c.pos_of-pos.ensures (subst (λ (x : Standpoint). Knows (checked_model c.args.home.now.checked.now) x → (pos : Pos) → CanSend parcel (seen_from (checked_model c.args.home.now.checked.now) x c.args.home.now.class.0 c.mark.new.self.held) c.part_at.result.0.0 (term_view c.part_at.result.1.now) pos
+        → Hands (seen_from (checked_model c.args.home.now.checked.now) x c.args.home.now.class.0 c.mark.new.self.held) c.part_at.result.0.0 parcel (term_view c.part_at.result.1.now) pos (done_left c.hand.new.state.held c.in_ok-left.left))
+        c.at_home.ensures (λ known pos can. c.in_ok-left.ensures.hands (checked_model c.args.home.now.checked.now) c.args.home.now.class.0 pos can.0 can.1 parcel known can.2) c.requires.knows)
     (c.hold.ensures.left c.args.process.now.state.held
     ∙ ap (λ (r : Result Process Trouble). and_then r (settled_home (home_view c.args.home.now) a c.pos_of-pos.result (term_view c.args.process.now.term) c.args.place.now)) (c.done_by.ensures c.hand.new.state.held))
     c.hold.ensures.state

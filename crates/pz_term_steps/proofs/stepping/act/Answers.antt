@@ -12,7 +12,7 @@ use Rattle.pz_part_opening.specs.Homes.{home_view}
 use Rattle.pz_term_steps.specs.devices.Deeds.{CanAct, begun_process, seen_at}
 use Rattle.pz_term_steps.proofs.Lists.{set_back}
 use Rattle.pz_term_steps.proofs.Marked.{may_act}
-use Rattle.pz_term_steps.proofs.AtHome.{net_has, term_fits, edition_there, class_there, knows_there, can_there, leaves_there}
+use Rattle.pz_term_steps.proofs.AtHome.{net_has, term_fits, class_there, knows_there, can_there, leaves_there}
 use Rattle.pz_term_steps.proofs.Finished.{process_is, begun_trouble, acts_still, leaves_finished, leaves_trouble, acts_at}
 use Rattle.pz_term_steps.proofs.Nexts.{act_ready, acted, acted_trouble}
 use Rattle.pz_term_steps.proofs.stepping.act.Goals as goal
@@ -36,15 +36,9 @@ begin_internal-requires-clause-knows c =
     let m = checked_model c.args.checked.now in
     let ps = c.args.processes.now in
     let at = act_ready (setting_of m c.args.limits) c.args.clock ps c.args.at.now c.requires.offered in
-    knows_there m c.args.limits (record { classes = c.classes.result; limits = c.args.limits; process = c.args.at.now.process; clock = c.args.clock }) c.home_at-home.result at.home (c.home_at-home.ensures.home at.home at.at_home)
+    knows_there m c.args.limits (record { classes = c.classes.result; limits = c.args.limits; process = c.args.at.now.process; clock = c.args.clock }) c.home_at-home.result at.home (c.home_at-home.ensures.home at.home at.at_home) refl
     c.classes.ensures.tabled
 
-pub begin_internal-requires-clause-edition : goal.begin_internal-requires-clause-edition
-begin_internal-requires-clause-edition c =
-    let m = checked_model c.args.checked.now in
-    let ps = c.args.processes.now in
-    let at = act_ready (setting_of m c.args.limits) c.args.clock ps c.args.at.now c.requires.offered in
-    edition_there m c.args.limits (record { classes = c.classes.result; limits = c.args.limits; process = c.args.at.now.process; clock = c.args.clock }) c.home_at-home.result at.home (c.home_at-home.ensures.home at.home at.at_home)
 
 pub begin_internal-requires-clause-can : goal.begin_internal-requires-clause-can
 begin_internal-requires-clause-can c =
@@ -53,7 +47,7 @@ begin_internal-requires-clause-can c =
     let at = act_ready (setting_of m c.args.limits) c.args.clock ps c.args.at.now c.requires.offered in
     let p = slice_index_or ps c.args.at.now.process c.index-processes-at.result in
     let there = slice_get-get_or ps c.args.at.now.process c.index-processes-at.result at.within in
-    can_there m c.args.limits (record { classes = c.classes.result; limits = c.args.limits; process = c.args.at.now.process; clock = c.args.clock }) c.home_at-home.result at.home (c.home_at-home.ensures.home at.home at.at_home)
+    can_there m c.args.limits (record { classes = c.classes.result; limits = c.args.limits; process = c.args.at.now.process; clock = c.args.clock }) c.home_at-home.result at.home (c.home_at-home.ensures.home at.home at.at_home) refl
     CanAct p.state.held (term_view p.term) c.as_slice-place.result.now (at.able p there (class_at m at.home) refl c.as_slice-place.result.now c.as_slice-place.ensures)
 
 pub begin_internal-requires-clause-fits : goal.begin_internal-requires-clause-fits
@@ -65,7 +59,7 @@ begin_internal-requires-clause-fits c =
     let there = slice_get-get_or ps c.args.at.now.process c.index-processes-at.result at.within in
     term_fits m c.args.limits c.args.clock c.args.net.now (record { classes = c.classes.result; limits = c.args.limits; process = c.args.at.now.process; clock = c.args.clock }) ps c.args.at.now.process at.home p c.home_at-home.result.class
     c.sound_bodies_fit.ensures.law (subst IsSound c.model-model.ensures.is c.model-model.ensures.sound) c.requires.of_model c.requires.processes c.classes.ensures.tabled c.home_at-home.ensures.belongs
-    at.at_home there (class_there m c.args.limits (record { classes = c.classes.result; limits = c.args.limits; process = c.args.at.now.process; clock = c.args.clock }) c.home_at-home.result at.home (c.home_at-home.ensures.home at.home at.at_home))
+    at.at_home there (class_there m c.args.limits (record { classes = c.classes.result; limits = c.args.limits; process = c.args.at.now.process; clock = c.args.clock }) c.home_at-home.result at.home (c.home_at-home.ensures.home at.home at.at_home) refl)
 
 pub finish-requires-clause-may_act : goal.finish-requires-clause-may_act
 finish-requires-clause-may_act c =
@@ -87,7 +81,7 @@ returns-in_ok-finish-in-Ok-clause-steps c =
     let there = slice_get-get_or ps c.args.at.now.process c.index-processes-at.result at.within in
     let can = at.able p there (class_at m at.home) refl c.as_slice-place.result.now c.as_slice-place.ensures in
     let a = seen_at (setting_of m c.args.limits) c.args.at.now.process (class_at m at.home) c.args.clock p.state.held in
-    let leaves = leaves_there m c.args.limits (record { classes = c.classes.result; limits = c.args.limits; process = c.args.at.now.process; clock = c.args.clock }) c.home_at-home.result at.home (c.home_at-home.ensures.home at.home at.at_home) Performs p.state.held (term_view p.term) c.as_slice-place.result.now
+    let leaves = leaves_there m c.args.limits (record { classes = c.classes.result; limits = c.args.limits; process = c.args.at.now.process; clock = c.args.clock }) c.home_at-home.result at.home (c.home_at-home.ensures.home at.home at.at_home) refl Performs p.state.held (term_view p.term) c.as_slice-place.result.now
     (begun_process (home_view c.home_at-home.result) (term_view p.term) c.as_slice-place.result.now c.begin_internal.new.process.state.held c.in_ok-begun.field-0) c.in_ok-begun.ensures.leaves in
     acted (setting_of m c.args.limits) c.args.clock ps c.args.at.now c.finish.new.process
     (acts_at (setting_of m c.args.limits) c.args.clock ps c.args.at.now CanAct at p there Performs (class_at m at.home) refl c.as_slice-place.result.now c.as_slice-place.ensures (Ok (process_view c.finish.new.process))
@@ -103,7 +97,7 @@ returns-in-Err-clause-steps c =
     let there = slice_get-get_or ps c.args.at.now.process c.index-processes-at.result at.within in
     let can = at.able p there (class_at m at.home) refl c.as_slice-place.result.now c.as_slice-place.ensures in
     let a = seen_at (setting_of m c.args.limits) c.args.at.now.process (class_at m at.home) c.args.clock p.state.held in
-    let leaves = leaves_there m c.args.limits (record { classes = c.classes.result; limits = c.args.limits; process = c.args.at.now.process; clock = c.args.clock }) c.home_at-home.result at.home (c.home_at-home.ensures.home at.home at.at_home) Performs p.state.held (term_view p.term) c.as_slice-place.result.now
+    let leaves = leaves_there m c.args.limits (record { classes = c.classes.result; limits = c.args.limits; process = c.args.at.now.process; clock = c.args.clock }) c.home_at-home.result at.home (c.home_at-home.ensures.home at.home at.at_home) refl Performs p.state.held (term_view p.term) c.as_slice-place.result.now
     (begun_process (home_view c.home_at-home.result) (term_view p.term) c.as_slice-place.result.now c.begin_internal.new.process.state.held c.in_ok-begun.field-0) c.in_ok-begun.ensures.leaves in
     acted_trouble (setting_of m c.args.limits) c.args.clock ps c.args.at.now c.in-Err.trouble
     (acts_at (setting_of m c.args.limits) c.args.clock ps c.args.at.now CanAct at p there Performs (class_at m at.home) refl c.as_slice-place.result.now c.as_slice-place.ensures (Err c.in-Err.trouble)

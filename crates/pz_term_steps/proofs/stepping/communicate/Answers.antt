@@ -13,7 +13,7 @@ use Rattle.pz_term_processes.specs.Standing.{setting_of, process_view}
 use Rattle.pz_part_opening.specs.Homes.{home_view}
 use Rattle.pz_term_steps.specs.devices.Deeds.{CanSend, CanReceive, begun_process, seen_at}
 use Rattle.pz_term_steps.proofs.Lists.{get_other, set_back, set_within, first_still, second_still, both_back}
-use Rattle.pz_term_steps.proofs.AtHome.{net_has, edition_there, knows_there, can_there, leaves_there}
+use Rattle.pz_term_steps.proofs.AtHome.{net_has, knows_there, can_there, leaves_there}
 use Rattle.pz_term_steps.proofs.Marked.{may_act}
 use Rattle.pz_term_steps.proofs.Finished.{process_is, begun_latest, begun_undone, begun_trouble, acts_still, leaves_so_far, leaves_finished, leaves_trouble, acts_at}
 use Rattle.pz_term_steps.proofs.Nexts.{talk, communicated, sender_trouble, receiver_trouble}
@@ -34,8 +34,8 @@ returns-in-Err-clause-steps c =
     let place_p = c.as_slice-sends_at.result.now in
     let can_send = t.sends.able p at_p class_p refl place_p c.as_slice-sends_at.ensures in
     let home_p = home_view c.home_at-sends_home.result in
-    let leaves_p = leaves_there setting.model c.args.limits (record { classes = c.classes.result; limits = c.args.limits; process = c.args.sender.now.process; clock = c.args.clock }) c.home_at-sends_home.result t.sends.home (c.home_at-sends_home.ensures.home t.sends.home t.sends.at_home) (λ a f. Hands a f c.args.parcel.now) p.state.held (term_view p.term) place_p (begun_process home_p (term_view p.term) place_p p1.state.held c.in_ok-sent.field-0)
-    (c.in_ok-sent.ensures.leaves c.args.parcel.now (can_there setting.model c.args.limits (record { classes = c.classes.result; limits = c.args.limits; process = c.args.sender.now.process; clock = c.args.clock }) c.home_at-sends_home.result t.sends.home (c.home_at-sends_home.ensures.home t.sends.home t.sends.at_home) (CanSend c.args.parcel.now) p.state.held (term_view p.term) place_p can_send)) in
+    let leaves_p = leaves_there setting.model c.args.limits (record { classes = c.classes.result; limits = c.args.limits; process = c.args.sender.now.process; clock = c.args.clock }) c.home_at-sends_home.result t.sends.home (c.home_at-sends_home.ensures.home t.sends.home t.sends.at_home) refl (λ a f. Hands a f c.args.parcel.now) p.state.held (term_view p.term) place_p (begun_process home_p (term_view p.term) place_p p1.state.held c.in_ok-sent.field-0)
+    (c.in_ok-sent.ensures.leaves c.args.parcel.now (can_there setting.model c.args.limits (record { classes = c.classes.result; limits = c.args.limits; process = c.args.sender.now.process; clock = c.args.clock }) c.home_at-sends_home.result t.sends.home (c.home_at-sends_home.ensures.home t.sends.home t.sends.at_home) refl (CanSend c.args.parcel.now) p.state.held (term_view p.term) place_p can_send)) in
     sender_trouble setting c.args.clock ps c.args.sender.now c.args.receiver.now c.args.parcel.now c.each_list_has_an_outcome.ensures.law c.requires.pair c.in-Err.trouble
     (acts_at setting c.args.clock ps c.args.sender.now (CanSend c.args.parcel.now) t.sends p at_p (λ a f. Hands a f c.args.parcel.now) class_p refl place_p c.as_slice-sends_at.ensures (Err c.in-Err.trouble)
     (leaves_trouble home_p seen_p (λ a f. Hands a f c.args.parcel.now) p p1 place_p c.in_ok-sent.field-0 leaves_p c.in-Err.trouble c.in-Err.is))
@@ -82,14 +82,8 @@ begin_send-requires-clause-knows c =
     let setting = setting_of (checked_model c.args.checked.now) c.args.limits in
     let ps = c.args.processes.now in
     let t = talk setting c.args.clock ps c.args.sender.now c.args.receiver.now c.args.parcel.now c.requires.pair in
-    knows_there setting.model c.args.limits (record { classes = c.classes.result; limits = c.args.limits; process = c.args.sender.now.process; clock = c.args.clock }) c.home_at-sends_home.result t.sends.home (c.home_at-sends_home.ensures.home t.sends.home t.sends.at_home) c.classes.ensures.tabled
+    knows_there setting.model c.args.limits (record { classes = c.classes.result; limits = c.args.limits; process = c.args.sender.now.process; clock = c.args.clock }) c.home_at-sends_home.result t.sends.home (c.home_at-sends_home.ensures.home t.sends.home t.sends.at_home) refl c.classes.ensures.tabled
 
-pub begin_send-requires-clause-edition : goal.begin_send-requires-clause-edition
-begin_send-requires-clause-edition c =
-    let setting = setting_of (checked_model c.args.checked.now) c.args.limits in
-    let ps = c.args.processes.now in
-    let t = talk setting c.args.clock ps c.args.sender.now c.args.receiver.now c.args.parcel.now c.requires.pair in
-    edition_there setting.model c.args.limits (record { classes = c.classes.result; limits = c.args.limits; process = c.args.sender.now.process; clock = c.args.clock }) c.home_at-sends_home.result t.sends.home (c.home_at-sends_home.ensures.home t.sends.home t.sends.at_home)
 
 pub begin_send-requires-clause-can : goal.begin_send-requires-clause-can
 begin_send-requires-clause-can c =
@@ -100,21 +94,15 @@ begin_send-requires-clause-can c =
     let p = slice_index_or ps i c.index-processes-from.result in
     let at_p = slice_get-get_or ps i c.index-processes-from.result t.sends.within in
     let place_p = c.as_slice-sends_at.result.now in
-    (c.args.parcel.now, can_there setting.model c.args.limits (record { classes = c.classes.result; limits = c.args.limits; process = c.args.sender.now.process; clock = c.args.clock }) c.home_at-sends_home.result t.sends.home (c.home_at-sends_home.ensures.home t.sends.home t.sends.at_home) (CanSend c.args.parcel.now) p.state.held (term_view p.term) place_p (t.sends.able p at_p (class_at setting.model t.sends.home) refl place_p c.as_slice-sends_at.ensures))
+    (c.args.parcel.now, can_there setting.model c.args.limits (record { classes = c.classes.result; limits = c.args.limits; process = c.args.sender.now.process; clock = c.args.clock }) c.home_at-sends_home.result t.sends.home (c.home_at-sends_home.ensures.home t.sends.home t.sends.at_home) refl (CanSend c.args.parcel.now) p.state.held (term_view p.term) place_p (t.sends.able p at_p (class_at setting.model t.sends.home) refl place_p c.as_slice-sends_at.ensures))
 
 pub begin_receive-requires-clause-knows : goal.begin_receive-requires-clause-knows
 begin_receive-requires-clause-knows c =
     let setting = setting_of (checked_model c.args.checked.now) c.args.limits in
     let ps = c.args.processes.now in
     let t = talk setting c.args.clock ps c.args.sender.now c.args.receiver.now c.args.parcel.now c.requires.pair in
-    knows_there setting.model c.args.limits (record { classes = c.classes.result; limits = c.args.limits; process = c.args.receiver.now.process; clock = c.args.clock }) c.home_at-home.result t.receives.home (c.home_at-home.ensures.home t.receives.home t.receives.at_home) c.classes.ensures.tabled
+    knows_there setting.model c.args.limits (record { classes = c.classes.result; limits = c.args.limits; process = c.args.receiver.now.process; clock = c.args.clock }) c.home_at-home.result t.receives.home (c.home_at-home.ensures.home t.receives.home t.receives.at_home) refl c.classes.ensures.tabled
 
-pub begin_receive-requires-clause-edition : goal.begin_receive-requires-clause-edition
-begin_receive-requires-clause-edition c =
-    let setting = setting_of (checked_model c.args.checked.now) c.args.limits in
-    let ps = c.args.processes.now in
-    let t = talk setting c.args.clock ps c.args.sender.now c.args.receiver.now c.args.parcel.now c.requires.pair in
-    edition_there setting.model c.args.limits (record { classes = c.classes.result; limits = c.args.limits; process = c.args.receiver.now.process; clock = c.args.clock }) c.home_at-home.result t.receives.home (c.home_at-home.ensures.home t.receives.home t.receives.at_home)
 
 pub begin_receive-requires-clause-can : goal.begin_receive-requires-clause-can
 begin_receive-requires-clause-can c =
@@ -133,7 +121,7 @@ begin_receive-requires-clause-can c =
     let seen_q = seen_at setting j class_q c.args.clock q.state.held in
     let place_q = c.as_slice-receives_at.result.now in
     let can_receive = t.receives.able q at_q class_q refl place_q c.as_slice-receives_at.ensures in
-    can_there setting.model c.args.limits (record { classes = c.classes.result; limits = c.args.limits; process = c.args.receiver.now.process; clock = c.args.clock }) c.home_at-home.result t.receives.home (c.home_at-home.ensures.home t.receives.home t.receives.at_home) CanReceive q.state.held (term_view q.term) place_q can_receive
+    can_there setting.model c.args.limits (record { classes = c.classes.result; limits = c.args.limits; process = c.args.receiver.now.process; clock = c.args.clock }) c.home_at-home.result t.receives.home (c.home_at-home.ensures.home t.receives.home t.receives.at_home) refl CanReceive q.state.held (term_view q.term) place_q can_receive
 
 pub bounds-processes-from-in-Ok-2 : goal.bounds-processes-from-in-Ok-2
 bounds-processes-from-in-Ok-2 c =
@@ -286,8 +274,8 @@ returns-in_ok-finish-in-Ok-2-2-clause-steps c =
     let place_p = c.as_slice-sends_at.result.now in
     let can_send = t.sends.able p at_p class_p refl place_p c.as_slice-sends_at.ensures in
     let home_p = home_view c.home_at-sends_home.result in
-    let leaves_p = leaves_there setting.model c.args.limits (record { classes = c.classes.result; limits = c.args.limits; process = c.args.sender.now.process; clock = c.args.clock }) c.home_at-sends_home.result t.sends.home (c.home_at-sends_home.ensures.home t.sends.home t.sends.at_home) (λ a f. Hands a f c.args.parcel.now) p.state.held (term_view p.term) place_p (begun_process home_p (term_view p.term) place_p p1.state.held c.in_ok-sent.field-0)
-    (c.in_ok-sent.ensures.leaves c.args.parcel.now (can_there setting.model c.args.limits (record { classes = c.classes.result; limits = c.args.limits; process = c.args.sender.now.process; clock = c.args.clock }) c.home_at-sends_home.result t.sends.home (c.home_at-sends_home.ensures.home t.sends.home t.sends.at_home) (CanSend c.args.parcel.now) p.state.held (term_view p.term) place_p can_send)) in
+    let leaves_p = leaves_there setting.model c.args.limits (record { classes = c.classes.result; limits = c.args.limits; process = c.args.sender.now.process; clock = c.args.clock }) c.home_at-sends_home.result t.sends.home (c.home_at-sends_home.ensures.home t.sends.home t.sends.at_home) refl (λ a f. Hands a f c.args.parcel.now) p.state.held (term_view p.term) place_p (begun_process home_p (term_view p.term) place_p p1.state.held c.in_ok-sent.field-0)
+    (c.in_ok-sent.ensures.leaves c.args.parcel.now (can_there setting.model c.args.limits (record { classes = c.classes.result; limits = c.args.limits; process = c.args.sender.now.process; clock = c.args.clock }) c.home_at-sends_home.result t.sends.home (c.home_at-sends_home.ensures.home t.sends.home t.sends.at_home) refl (CanSend c.args.parcel.now) p.state.held (term_view p.term) place_p can_send)) in
     let ps1 = slice_set ps i p1 in
     let q = slice_index_or ps1 j c.index-processes-to.result in
     let at_q = sym (get_other ps i j p1 t.apart) ∙ slice_get-get_or ps1 j c.index-processes-to.result (set_within ps i p1 j t.receives.within) in
@@ -297,7 +285,7 @@ returns-in_ok-finish-in-Ok-2-2-clause-steps c =
     let can_receive = t.receives.able q at_q class_q refl place_q c.as_slice-receives_at.ensures in
     let q1 = c.begin_receive.new.process in
     let home_q = home_view c.home_at-home.result in
-    let leaves_q = leaves_there setting.model c.args.limits (record { classes = c.classes.result; limits = c.args.limits; process = c.args.receiver.now.process; clock = c.args.clock }) c.home_at-home.result t.receives.home (c.home_at-home.ensures.home t.receives.home t.receives.at_home) (λ a f. Takes a f c.args.parcel.now) q.state.held (term_view q.term) place_q (begun_process home_q (term_view q.term) place_q q1.state.held c.in_ok-taken.field-0)
+    let leaves_q = leaves_there setting.model c.args.limits (record { classes = c.classes.result; limits = c.args.limits; process = c.args.receiver.now.process; clock = c.args.clock }) c.home_at-home.result t.receives.home (c.home_at-home.ensures.home t.receives.home t.receives.at_home) refl (λ a f. Takes a f c.args.parcel.now) q.state.held (term_view q.term) place_q (begun_process home_q (term_view q.term) place_q q1.state.held c.in_ok-taken.field-0)
     c.in_ok-taken.ensures.leaves in
     let now_p = slice_index_or (slice_set ps1 j q1) i c.index-processes-from-in-Ok-2.result in
     let still_p = first_still ps i j p1 q1 c.index-processes-from-in-Ok-2.result t.apart t.sends.within in
@@ -326,8 +314,8 @@ returns-in-Err-2-clause-steps c =
     let place_p = c.as_slice-sends_at.result.now in
     let can_send = t.sends.able p at_p class_p refl place_p c.as_slice-sends_at.ensures in
     let home_p = home_view c.home_at-sends_home.result in
-    let leaves_p = leaves_there setting.model c.args.limits (record { classes = c.classes.result; limits = c.args.limits; process = c.args.sender.now.process; clock = c.args.clock }) c.home_at-sends_home.result t.sends.home (c.home_at-sends_home.ensures.home t.sends.home t.sends.at_home) (λ a f. Hands a f c.args.parcel.now) p.state.held (term_view p.term) place_p (begun_process home_p (term_view p.term) place_p p1.state.held c.in_ok-sent.field-0)
-    (c.in_ok-sent.ensures.leaves c.args.parcel.now (can_there setting.model c.args.limits (record { classes = c.classes.result; limits = c.args.limits; process = c.args.sender.now.process; clock = c.args.clock }) c.home_at-sends_home.result t.sends.home (c.home_at-sends_home.ensures.home t.sends.home t.sends.at_home) (CanSend c.args.parcel.now) p.state.held (term_view p.term) place_p can_send)) in
+    let leaves_p = leaves_there setting.model c.args.limits (record { classes = c.classes.result; limits = c.args.limits; process = c.args.sender.now.process; clock = c.args.clock }) c.home_at-sends_home.result t.sends.home (c.home_at-sends_home.ensures.home t.sends.home t.sends.at_home) refl (λ a f. Hands a f c.args.parcel.now) p.state.held (term_view p.term) place_p (begun_process home_p (term_view p.term) place_p p1.state.held c.in_ok-sent.field-0)
+    (c.in_ok-sent.ensures.leaves c.args.parcel.now (can_there setting.model c.args.limits (record { classes = c.classes.result; limits = c.args.limits; process = c.args.sender.now.process; clock = c.args.clock }) c.home_at-sends_home.result t.sends.home (c.home_at-sends_home.ensures.home t.sends.home t.sends.at_home) refl (CanSend c.args.parcel.now) p.state.held (term_view p.term) place_p can_send)) in
     let ps1 = slice_set ps i p1 in
     let q = slice_index_or ps1 j c.index-processes-to.result in
     let at_q = sym (get_other ps i j p1 t.apart) ∙ slice_get-get_or ps1 j c.index-processes-to.result (set_within ps i p1 j t.receives.within) in
@@ -337,7 +325,7 @@ returns-in-Err-2-clause-steps c =
     let can_receive = t.receives.able q at_q class_q refl place_q c.as_slice-receives_at.ensures in
     let q1 = c.begin_receive.new.process in
     let home_q = home_view c.home_at-home.result in
-    let leaves_q = leaves_there setting.model c.args.limits (record { classes = c.classes.result; limits = c.args.limits; process = c.args.receiver.now.process; clock = c.args.clock }) c.home_at-home.result t.receives.home (c.home_at-home.ensures.home t.receives.home t.receives.at_home) (λ a f. Takes a f c.args.parcel.now) q.state.held (term_view q.term) place_q (begun_process home_q (term_view q.term) place_q q1.state.held c.in_ok-taken.field-0)
+    let leaves_q = leaves_there setting.model c.args.limits (record { classes = c.classes.result; limits = c.args.limits; process = c.args.receiver.now.process; clock = c.args.clock }) c.home_at-home.result t.receives.home (c.home_at-home.ensures.home t.receives.home t.receives.at_home) refl (λ a f. Takes a f c.args.parcel.now) q.state.held (term_view q.term) place_q (begun_process home_q (term_view q.term) place_q q1.state.held c.in_ok-taken.field-0)
     c.in_ok-taken.ensures.leaves in
     let so_far = swept (residual home_p 0 (term_view p.term) place_p (left_by p1.state.held (term_view c.in-Ok.sent.part))) in
     receiver_trouble setting c.args.clock ps c.args.sender.now c.args.receiver.now c.args.parcel.now so_far c.in-Err-2.trouble

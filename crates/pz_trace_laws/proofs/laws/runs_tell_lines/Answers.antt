@@ -11,5 +11,5 @@ returns c = record {
       let names = c.names_are_unbroken.ensures.names text setting.model is in
       let messages = c.names_are_unbroken.ensures.messages text setting.model is in
       events_told setting names messages c.one_next.ensures.whole c.lines_stand_apart.ensures.time c.lines_stand_apart.ensures.action
-      start end events standing begins.all (start_whole setting start begins) reaches;
+      start end events standing begins.all (start_whole setting start (λ two. messages) begins) reaches;
 }

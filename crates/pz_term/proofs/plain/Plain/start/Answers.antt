@@ -4,17 +4,18 @@ use Rattle.pz_term.proofs.Moved.{outlook_holds, starts_there}
 use Rattle.pz_term.proofs.plain.Plain.start.Goals as goal
 
 pub look_at-requires-clause-processes : goal.look_at-requires-clause-processes
-look_at-requires-clause-processes c = ∣ c.in_ok-processes.ensures.processes c.args.limits ∣₁
+look_at-requires-clause-processes c = ∣ c.in_ok-processes.ensures.processes ∣₁
 
 pub invariant_of-result : goal.invariant_of-result
 invariant_of-result c = record {
   of_model = c.requires.of_model;
+  rounds = λ two. (c.requires.opens two).rounds;
   holds =
       outlook_holds (setting_of (checked_model c.args.checked) c.args.limits) 0 c.in_ok-processes.processes.items c.look_at.new.processes.items c.in_ok-outlook.outlook c.in_ok-outlook.ensures.unchanged
-      (∣ c.in_ok-processes.ensures.processes c.args.limits ∣₁) c.in_ok-outlook.ensures.moment c.in_ok-outlook.ensures.actions;
+      (∣ c.in_ok-processes.ensures.processes ∣₁) c.in_ok-outlook.ensures.moment c.in_ok-outlook.ensures.actions;
 }
 
 pub returns-clause-starts : goal.returns-clause-starts
 returns-clause-starts c =
     starts_there (setting_of (checked_model c.args.checked) c.args.limits) c.in_ok-processes.processes.items c.look_at.new.processes.items c.in_ok-outlook.ensures.unchanged
-    (c.in_ok-processes.ensures.start c.args.limits)
+    c.in_ok-processes.ensures.start

@@ -3,8 +3,8 @@ use Rattle.pz_value.specs.declared.value.ClassId.{ClassId}
 use Rattle.pz_classes.specs.CheckedView.{checked_model}
 use Rattle.pz_classes.specs.Tables.{HasClass}
 use Rattle.pz_rules.specs.Settings as rules
-use Rattle.pz_term_steps.proofs.AtHome.{class_is}
-use Rattle.pz_term_steps.proofs.homes.home_at.Goals as goal
+use Rattle.pz_term_processes.proofs.ProcessClasses.{class_is, process_class}
+use Rattle.pz_term_processes.proofs.homes.home_at.Goals as goal
 
 pub returns-clause-home : goal.returns-clause-home
 returns-clause-home c = λ place there.
@@ -14,3 +14,7 @@ returns-clause-home c = λ place there.
 
 pub returns-clause-belongs : goal.returns-clause-belongs
 returns-clause-belongs c = λ m classes is are. subst (λ (k : ClassId). HasClass classes k) (sym c.new.ensures.class) (c.class-class.ensures.belongs m classes is are)
+
+pub new-requires-clause-process : goal.new-requires-clause-process
+new-requires-clause-process c =
+    process_class (checked_model c.args.checked.now) c.args.net.now c.args.process c.class-class.result c.requires.of_model c.requires.there c.processes_have_classes.ensures.law c.class-class.ensures.is

@@ -18,15 +18,15 @@ use Rattle.pz_term_processes.specs.declared.process.Process.{Process}
 use Rattle.pz_term_processes.specs.Standing.{setting_of, process_view, config_of, AreProcesses}
 
 -- the first n processes stand at their start
-pub record AreStarted (m : ModelTree) (n : ℕ) (ps : List Process) : Type 0 where
+pub record AreStarted (m : ModelTree) (limits : Limits) (n : ℕ) (ps : List Process) : Type 0 where
   pub count : length ps ≡ n
-  pub each : (limits : Limits) (i : ℕ) (place : Address) (p : Process) → slice_get (processes m) i ≡ Some place → slice_get ps i ≡ Some p → StartsAs (setting_of m limits) place (process_view p)
+  pub each : (i : ℕ) (place : Address) (p : Process) → slice_get (processes m) i ≡ Some place → slice_get ps i ≡ Some p → StartsAs (setting_of m limits) place (process_view p)
 
 no_some : (i : ℕ) (p : Process) → slice_get [] i ≡ Some p → ⊥
 no_some i p e = cc
 
-pub none_started : (m : ModelTree) → AreStarted m 0 []
-none_started m = record { count = refl; each = λ limits i place p at is. absurd (no_some i p is) }
+pub none_started : (m : ModelTree) (limits : Limits) → AreStarted m limits 0 []
+none_started m limits = record { count = refl; each = λ i place p at is. absurd (no_some i p is) }
 
 some_is : {X : Type 0} {x y : X} → Some x ≡ Some y → x ≡ y
 some_is e = cc
@@ -39,15 +39,15 @@ last_or_before P [] x before last (suc i) y is = absurd cc
 last_or_before P (z ∷ zs) x before last zero y is = before 0 y is
 last_or_before P (z ∷ zs) x before last (suc i) y is = last_or_before (λ j. P (suc j)) zs x (λ j w. before (suc j) w) last i y is
 
-pub next_started : (m : ModelTree) (n : ℕ) (ps : List Process) (p : Process) → AreStarted m n ps
-    → ((limits : Limits) (place : Address) → slice_get (processes m) n ≡ Some place → StartsAs (setting_of m limits) place (process_view p))
-    → AreStarted m (n + 1) (ps ++ p ∷ [])
-next_started m n ps p were starts = record {
+pub next_started : (m : ModelTree) (limits : Limits) (n : ℕ) (ps : List Process) (p : Process) → AreStarted m limits n ps
+    → ((place : Address) → slice_get (processes m) n ≡ Some place → StartsAs (setting_of m limits) place (process_view p))
+    → AreStarted m limits (n + 1) (ps ++ p ∷ [])
+next_started m limits n ps p were starts = record {
   count = length-append ps (p ∷ []) ∙ ap (λ (k : ℕ). k + 1) were.count;
-  each = λ limits i place q at is.
+  each = λ i place q at is.
       last_or_before (λ j x. (here : Address) → slice_get (processes m) j ≡ Some here → StartsAs (setting_of m limits) here (process_view x)) ps p
-      (λ j x x_is here h. were.each limits j here x h x_is)
-      (λ here h. starts limits here (subst (λ (k : ℕ). slice_get (processes m) k ≡ Some here) were.count h)) i q is place at;
+      (λ j x x_is here h. were.each j here x h x_is)
+      (λ here h. starts here (subst (λ (k : ℕ). slice_get (processes m) k ≡ Some here) were.count h)) i q is place at;
 }
 
 view_at : (ps : List Process) (i : ℕ) (q : rules.Process) → slice_get (map process_view ps) i ≡ Some q → (p : Process) × (slice_get ps i ≡ Some p) × (process_view p ≡ q)
@@ -55,13 +55,13 @@ view_at [] i q is = absurd cc
 view_at (p ∷ ps) zero q is = (p, refl, some_is is)
 view_at (p ∷ ps) (suc i) q is = view_at ps i q is
 
-pub all_started : (m : ModelTree) (n : ℕ) (ps : List Process) (limits : Limits) → n ≡ length (processes m) → AreStarted m n ps → IsStart (setting_of m limits) (config_of 0 ps)
+pub all_started : (m : ModelTree) (n : ℕ) (ps : List Process) (limits : Limits) → n ≡ length (processes m) → AreStarted m limits n ps → IsStart (setting_of m limits) (config_of 0 ps)
 all_started m n ps limits all were = record {
   clock = refl;
   all = length-map ps process_view ∙ were.count ∙ all;
   each = λ i place q at is.
       let p = view_at ps i q is in
-      subst (StartsAs (setting_of m limits) place) p.2 (were.each limits i place p.0 at p.1);
+      subst (StartsAs (setting_of m limits) place) p.2 (were.each i place p.0 at p.1);
 }
 
 -- how many there are
