@@ -151,14 +151,14 @@ fn open_form(
             Ok(Term::Sel(parts))
         }
         StepForm::Abort(first, second) => {
-            let first = Boxed::new(alloc, open_spot(alloc, home, Spot::Several(first), state)?)?;
-            let second = Spot::One(second.get());
+            let (first, second) = (Spot::Several(first), Spot::One(second.get()));
+            let first = Boxed::new(alloc, open_spot(alloc, home, first, state)?)?;
             let second = Boxed::new(alloc, open_spot(alloc, home, second, state)?)?;
             Ok(Term::Abort(first, second))
         }
         StepForm::Interrupt(first, again) => {
-            let first = Boxed::new(alloc, open_spot(alloc, home, Spot::Several(first), state)?)?;
-            let second = Spot::One(again.get());
+            let (first, second) = (Spot::Several(first), Spot::One(again.get()));
+            let first = Boxed::new(alloc, open_spot(alloc, home, first, state)?)?;
             let second = Boxed::new(alloc, open_spot(alloc, home, second, state)?)?;
             Ok(Term::Idle(first, second, again.copy()?))
         }

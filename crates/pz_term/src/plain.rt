@@ -15,7 +15,7 @@ use pz_bind::Net;
 use pz_classes::Checked;
 use pz_offer::Trouble;
 use pz_rules::{Action, Limits, Moment};
-use pz_term_processes::{Process, start};
+use pz_term_processes::{Process, Started, start};
 use std::alloc::{AllocError, Global};
 use std::mem::{self, drop};
 
@@ -77,8 +77,15 @@ impl Plain {
         ensures checked { IfOk result (λ plain. plain.checked ≡ checked) }
         ensures net { IfOk result (λ plain. plain.net ≡ net) }
     {
-        let mut processes = start(alloc, &checked, &net, limits)?;
-        let outlook = look_at(alloc, &checked, &net, limits, 0, &mut processes)?;
+        pz_rules::laws::start_is_one();
+        let _model = checked.model();
+        let (processes, standing) = match start(alloc, &checked, &net, limits)? {
+            Started::Ready(mut processes) => {
+                let outlook = look_at(alloc, &checked, &net, limits, 0, &mut processes)?;
+                (processes, Standing::Whole(outlook))
+            }
+            Started::TooHigh(trouble) => (Vec::new(alloc), Standing::High(trouble)),
+        };
         Ok(Plain {
             alloc,
             checked,
@@ -86,7 +93,7 @@ impl Plain {
             limits,
             clock: 0,
             processes,
-            standing: Standing::Whole(outlook),
+            standing,
         })
     }
 
@@ -99,6 +106,7 @@ impl Plain {
         let _model = self.checked.model();
         match &self.standing {
             Standing::Whole(outlook) => outlook.moment,
+            Standing::High(trouble) => Moment::Stopped(*trouble),
             Standing::Stopped(trouble) => Moment::Stopped(*trouble),
             Standing::Broken => Moment::Broken,
         }
@@ -146,6 +154,7 @@ impl Plain {
         let _model = self.checked.model();
         match &self.standing {
             Standing::Whole(outlook) => outlook.actions.as_slice(),
+            Standing::High(_) => &[],
             Standing::Stopped(_) | Standing::Broken => &[],
         }
     }
@@ -291,6 +300,7 @@ impl Plain {
         ensures setting { setting_in (simulation_of self.new) ≡ setting_in
             (simulation_of self.old) }
     {
+        pz_rules::laws::one_moment();
         self.standing = Standing::Broken;
         let Some(clock) = self.clock.checked_add(time) else {
             return Err(AllocError);

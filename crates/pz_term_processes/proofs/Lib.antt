@@ -1,4 +1,5 @@
 mod Given
 mod First
-mod Homes
-mod Started
+mod ProcessClasses
+pub mod StatementPlaces
+mod Starts

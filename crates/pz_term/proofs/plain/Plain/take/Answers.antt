@@ -13,7 +13,7 @@ index-action-requires c =
     omega (arith, within, c.in-Whole.outlook.actions.ok.0)
 
 pub step_at-requires-clause-processes : goal.step_at-requires-clause-processes
-step_at-requires-clause-processes c = kept_processes (setting_of (checked_model c.args.self.now.checked) c.args.self.now.limits) c.args.self.now.clock c.args.self.now.processes.items c.args.self.now.standing (Actions c.requires.there.0) tt c.requires.there.1 c.args.self.now.holds
+step_at-requires-clause-processes c = kept_processes (setting_of (checked_model c.args.self.now.checked) c.args.self.now.limits) c.args.self.now.clock c.args.self.now.processes.items c.args.self.now.standing (Actions c.requires.there.0) c.one_moment.ensures.one tt c.requires.there.1 c.args.self.now.holds
 
 pub step_at-requires-clause-offered : goal.step_at-requires-clause-offered
 step_at-requires-clause-offered c = action_offered (setting_of (checked_model c.args.self.now.checked) c.args.self.now.limits) c.args.self.now.clock c.args.self.now.processes.items c.args.self.now.standing c.in-Whole.outlook c.requires.there.0 c.args.k c.one_moment.ensures.one c.one_list_of_offers.ensures.one c.in-Whole.ensures.value c.requires.there.1 c.requires.there.2 c.args.self.now.holds c.index-action.result.now c.index-action.ensures
