@@ -93,6 +93,7 @@ one_more setting n all next i within = by (earlier i n (omega (arith, within)))
         step_up : (i < n) ⊎ (i ≡ n) → (suc i < suc n) ⊎ (suc i ≡ suc n)
         step_up (inl below) = inl (omega (arith, below))
         step_up (inr same) = inr (ap suc same)
+
     by : (i < n) ⊎ (i ≡ n) → BeginsLow setting i
     by (inl below) = all i below
     by (inr same) = subst (BeginsLow setting) (sym same) next
