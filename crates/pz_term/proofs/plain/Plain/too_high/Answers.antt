@@ -9,7 +9,7 @@ pub invariant_of-result : goal.invariant_of-result
 invariant_of-result c = record {
   of_model = c.requires.of_model;
   rounds = c.requires.rounds;
-  holds = high_holds (setting_of (checked_model c.args.checked) c.args.limits) c.new-processes.result.items c.args.trouble c.requires.high;
+  holds = high_holds (setting_of (checked_model c.args.checked) c.args.limits) c.new.result.items c.args.trouble c.requires.high;
 }
 
 pub returns-clause-starts : goal.returns-clause-starts
