@@ -104,11 +104,7 @@ fn a_command_line_gives_its_status_and_its_lines(rt: HostRuntime) -> Result<(), 
             "actions 1 passes 0 clock 0 stop\n",
         ),
         ("run m --steps 0", 0, "poosl-trace 3 100000\n0 stop\n"),
-        (
-            "run m --steps 0 --units 7",
-            0,
-            "poosl-trace 3 7\n0 stop\n",
-        ),
+        ("run m --steps 0 --units 7", 0, "poosl-trace 3 7\n0 stop\n"),
         (
             "run m --choices 1",
             5,
