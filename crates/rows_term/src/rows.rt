@@ -14,7 +14,7 @@ fn show_file(rt: &HostRuntime, name: &str, edition: Edition, play: Play<'_>) -> 
     }
 }
 
-fn show_model(rt: &HostRuntime, words: &str, edition: Edition) -> io::Result<()> {
+fn show_words(rt: &HostRuntime, words: &str, edition: Edition) -> io::Result<()> {
     match words.split_once(' ') {
         Some((name, steps)) => show_file(rt, name, edition, Play::Steps(steps)),
         None => println!(rt; "no steps"),
@@ -25,8 +25,8 @@ fn show_model(rt: &HostRuntime, words: &str, edition: Edition) -> io::Result<()>
 pub fn show_row(rt: &HostRuntime, line: &str) -> io::Result<()> {
     println!(rt; "> {line}")?;
     match line.split_once(' ') {
-        Some(("second", words)) => show_model(rt, words, Edition::Two),
-        _ => show_model(rt, line, Edition::One),
+        Some(("second", words)) => show_words(rt, words, Edition::Two),
+        _ => show_words(rt, line, Edition::One),
     }
 }
 

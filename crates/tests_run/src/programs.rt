@@ -283,7 +283,10 @@ fn a_model_that_calls_itself_stops_after_a_thousand_actions(rt: HostRuntime) -> 
 fn chain(alloc: Global, calls: u64, behind: &str, last: &str) -> Result<String, AllocError> {
     let mut text = String::from_str(alloc, "process class P\ninit m0()()\nmethods\n")?;
     for number in 0..calls {
-        let method = format!(in alloc; "m{number}()() m{}()(){behind}\n", number + 1)?;
+        let method = format!(in alloc;
+            "m{number}()() m{}()(){behind}\n",
+            number.saturating_add(1)
+        )?;
         text.push_str(method.as_str())?;
     }
     let end = format!(in alloc; "m{calls}()() {last}\nsystem instances p : P\n")?;
