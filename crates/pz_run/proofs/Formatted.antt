@@ -26,6 +26,7 @@ use Rattle.pz_run.specs.devices.Saying.{Said, Answers}
 use Rattle.pz_run.specs.devices.Texts.{SaysRefusal}
 use Rattle.pz_run.proofs.Outcomes.{Outcome, no_model, checked}
 use Rattle.pz_run.proofs.OneFiles.{OneFile, keeps_file}
+use Rattle.pz_run.proofs.OfJobs.{file_lacks, file_long, file_read}
 
 module _ (text : List ℕ) (before now : SinkState) (given : Status) where
   -- the text was laid out
@@ -59,23 +60,8 @@ format_ended : {X : Type 0} (model : List ℕ) (held : Entries) (text : List ℕ
 format_ended model held text e (of_choice x) = absurd (no_play model x.play x.is_play)
 format_ended model held text e (of_trace x) = format_told model held text x.replay
 
--- ---- what is printed of a file
-
-module _ (files : Entries) (model : List ℕ) where
-  abbrev Printed : Option (List ℕ) → List ℕ → Status → Type 0
-  Printed = PrintsFile (model_file model) PrintsLayout
-
-  file_lacks : lookup files model ≡ None → PrintsJob files (Format model) (read_fault_line model) ReadFault
-  file_lacks missing = subst (λ (o : Option (List ℕ)). Printed o (read_fault_line model) ReadFault) (sym missing) lacks
-
-  file_long : (text : List ℕ) → lookup files model ≡ Some text → model_limit < length text → PrintsJob files (Format model) (too_long_line model) TooLong
-  file_long text held long = subst (λ (o : Option (List ℕ)). Printed o (too_long_line model) TooLong) (sym held) (too_long text long)
-
-  file_read : (text bytes : List ℕ) (status : Status) → lookup files model ≡ Some text → length text ≤ model_limit → PrintsLayout text bytes status → PrintsJob files (Format model) bytes status
-  file_read text bytes status held short prints = subst (λ (o : Option (List ℕ)). Printed o bytes status) (sym held) (reads text bytes status short prints)
-
 format_outcome : (f : FilesState) (model text bytes : List ℕ) (status : Status) → PrintsLayout text bytes status → Outcome f (Format model) text status
-format_outcome f model text _ _ (opens_not r is) = no_model r is
+format_outcome f model text _ _ (opens_not r is) = no_model r (λ _. is)
 format_outcome f model text _ _ (lays_out bytes is) = checked
 
 formats_file : (model : List ℕ) → OneFile (Format model) model PrintsFormat
@@ -84,13 +70,13 @@ formats_file model = record {
   files = refl;
   has = tt;
   named = refl;
-  lacks = λ held missing. file_lacks held model missing;
-  long = λ held text is long. file_long held model text is long;
-  reads = λ held text bytes status is short x. file_read held model text bytes status is short x.prints;
+  lacks = λ held missing. file_lacks held model PrintsLayout missing;
+  long = λ held text is long. file_long held model PrintsLayout text is long;
+  reads = λ held text bytes status is short x. file_read held model PrintsLayout text bytes status is short x.prints;
   outcome = λ f text bytes status x. format_outcome f model text bytes status x.prints;
   only = λ held text bytes status prints e x. format_ended model held text e x;
   no_run = λ held text bytes status prints none. format_told model held text none.replay;
-  refused = λ text bytes status x. x.refused;
+  refused = λ held text bytes status x. x.refused;
 }
 
 pub keeps_format : (f g : FilesState) (before now : SinkState) (given : Status) (model : List ℕ) → ReadsFile (model_file model) PrintsFormat f g before now given → KeepsPromises (Some (Format model)) f g before now given

@@ -12,5 +12,6 @@ pub mod OfJobs
 pub mod Formatted
 pub mod FormatsBack
 pub mod OneEndings
+pub mod Headerless
 pub mod Replayed
 pub mod Asked

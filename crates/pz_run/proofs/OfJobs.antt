@@ -9,8 +9,7 @@ use Rattle.pz_words.specs.declared.jobs.Job.{Job}
 use Rattle.pz_words.specs.declared.jobs.Job.TheVariants.{Run, Menu, Replay, Check, Make, Ring, Format}
 use Rattle.pz_gen.specs.Ring.{model as ring_text}
 use Rattle.pz_run_reading.specs.declared.refusal.Refusal.{Refusal}
-use Rattle.pz_run_reading.specs.Models.{IsModelOf}
-use Rattle.pz_run_reading.specs.Refusals.{IsRefused}
+use Rattle.pz_run_reading.specs.Openings.{IsOpenModelOf, IsRefusedToOpen}
 use Rattle.pz_run_lines.specs.Lines.{read_fault_line, too_long_line}
 use Rattle.pz_run.specs.Limits.{model_limit}
 use Rattle.pz_run.specs.declared.play.Play.{Play}
@@ -34,47 +33,51 @@ use Rattle.pz_run.proofs.OneFiles.{OneFile, keeps_file}
 
 -- ---- what is printed of a file
 
-module _ (files : Entries) (name : List ℕ) (P : ModelTree → List ℕ → Status → Type 0) where
-  pub file_lacks : lookup files name ≡ None → PrintsModelFile files name P (read_fault_line name) ReadFault
-  file_lacks missing = subst (λ (o : Option (List ℕ)). PrintsFile (model_file name) (PrintsModel P) o (read_fault_line name) ReadFault) (sym missing) lacks
+module _ (files : Entries) (name : List ℕ) (P : List ℕ → List ℕ → Status → Type 0) where
+  abbrev Printed : Option (List ℕ) → List ℕ → Status → Type 0
+  Printed = PrintsFile (model_file name) P
 
-  pub file_long : (text : List ℕ) → lookup files name ≡ Some text → model_limit < length text → PrintsModelFile files name P (too_long_line name) TooLong
-  file_long text held long = subst (λ (o : Option (List ℕ)). PrintsFile (model_file name) (PrintsModel P) o (too_long_line name) TooLong) (sym held) (too_long text long)
+  pub file_lacks : lookup files name ≡ None → PrintsFile (model_file name) P (lookup files name) (read_fault_line name) ReadFault
+  file_lacks missing = subst (λ (o : Option (List ℕ)). Printed o (read_fault_line name) ReadFault) (sym missing) lacks
 
-  pub file_read : (text bytes : List ℕ) (status : Status) → lookup files name ≡ Some text → length text ≤ model_limit → PrintsModel P text bytes status → PrintsModelFile files name P bytes status
-  file_read text bytes status held short prints = subst (λ (o : Option (List ℕ)). PrintsFile (model_file name) (PrintsModel P) o bytes status) (sym held) (reads text bytes status short prints)
+  pub file_long : (text : List ℕ) → lookup files name ≡ Some text → model_limit < length text → PrintsFile (model_file name) P (lookup files name) (too_long_line name) TooLong
+  file_long text held long = subst (λ (o : Option (List ℕ)). Printed o (too_long_line name) TooLong) (sym held) (too_long text long)
+
+  pub file_read : (text bytes : List ℕ) (status : Status) → lookup files name ≡ Some text → length text ≤ model_limit → P text bytes status
+      → PrintsFile (model_file name) P (lookup files name) bytes status
+  file_read text bytes status held short prints = subst (λ (o : Option (List ℕ)). Printed o bytes status) (sym held) (reads text bytes status short prints)
 
 -- ---- runs
 
--- of a job with a run, opening is not asked
-play_refused : (job : Job) (p : Play) → play_of job ≡ Some p → (text : List ℕ) (r : Refusal) → IsRefusedFor job text r → IsRefused text r
-play_refused (Run model choice limits summary) p is text r refused = refused
-play_refused (Menu model choice limits) p is text r refused = refused
-play_refused (Replay model trace units) p is text r refused = refused
-play_refused (Check model) p is text r refused = refused
-play_refused (Make n) p is text r refused = refused
-play_refused (Ring n choice limits) p is text r refused = refused
-play_refused (Format model) p is text r refused = absurd cc
+-- of a job whose run is chosen, the model has to open
+play_refused : (held : Entries) (job : Job) (p : Play) → play_of job ≡ Some p → (text : List ℕ) (r : Refusal) → IsRefusedFor held job text r → IsRefusedToOpen text r
+play_refused held (Run model choice limits summary) p is text r refused = refused
+play_refused held (Menu model choice limits) p is text r refused = refused
+play_refused held (Replay model trace units) p is text r refused = absurd cc
+play_refused held (Check model) p is text r refused = refused
+play_refused held (Make n) p is text r refused = refused
+play_refused held (Ring n choice limits) p is text r refused = refused
+play_refused held (Format model) p is text r refused = refused
 
-refused_play : (job : Job) (p : Play) → play_of job ≡ Some p → (text : List ℕ) (r : Refusal) → IsRefused text r → IsRefusedFor job text r
-refused_play (Run model choice limits summary) p is text r refused = refused
-refused_play (Menu model choice limits) p is text r refused = refused
-refused_play (Replay model trace units) p is text r refused = refused
-refused_play (Check model) p is text r refused = refused
-refused_play (Make n) p is text r refused = refused
-refused_play (Ring n choice limits) p is text r refused = refused
-refused_play (Format model) p is text r refused = absurd cc
+refused_play : (held : Entries) (job : Job) (p : Play) → play_of job ≡ Some p → (text : List ℕ) (r : Refusal) → IsRefusedToOpen text r → IsRefusedFor held job text r
+refused_play held (Run model choice limits summary) p is text r refused = refused
+refused_play held (Menu model choice limits) p is text r refused = refused
+refused_play held (Replay model trace units) p is text r refused = absurd cc
+refused_play held (Check model) p is text r refused = refused
+refused_play held (Make n) p is text r refused = refused
+refused_play held (Ring n choice limits) p is text r refused = refused
+refused_play held (Format model) p is text r refused = refused
 
 none_played : (model name : List ℕ) (units : ℕ) (p : Play) → play_of (Replay model name units) ≡ Some p → ⊥
 none_played model name units p e = cc
 
 module _ (job : Job) (p : Play) (is_play : play_of job ≡ Some p) (text : List ℕ) where
-  run_outcome : (f : FilesState) (m : ModelTree) (bytes : List ℕ) (status : Status) → IsModelOf text m → PrintsRun p m bytes status → Outcome f job text status
+  run_outcome : (f : FilesState) (m : ModelTree) (bytes : List ℕ) (status : Status) → IsOpenModelOf text m → PrintsRun p m bytes status → Outcome f job text status
   run_outcome f m _ _ is (plays run told tells) =
       run_ended run.ending (chosen_can job p is_play run.ending) (λ _. of_choice (record { play = p; is_play = is_play; model = m; is_model = is; run = run; ends = refl }))
 
   play_outcome : (f : FilesState) (bytes : List ℕ) (status : Status) → PrintsModel (PrintsRun p) text bytes status → Outcome f job text status
-  play_outcome f _ _ (refuses r is) = no_model r (refused_play job p is_play text r is)
+  play_outcome f _ _ (refuses r is) = no_model r (λ _. refused_play f.held job p is_play text r is)
   play_outcome f _ _ (of_model m bytes status is prints) = run_outcome f m bytes status is prints
 
   no_trace : {X : Type 0} (held : Entries) → HasTrace held job text → X
@@ -96,13 +99,13 @@ plays_file job name p files has named is_play prints = record {
   files = files;
   has = has;
   named = named;
-  lacks = λ held missing. prints held (read_fault_line name) ReadFault (file_lacks held name (PrintsRun p) missing);
-  long = λ held text is long. prints held (too_long_line name) TooLong (file_long held name (PrintsRun p) text is long);
-  reads = λ held text bytes status is short x. prints held bytes status (file_read held name (PrintsRun p) text bytes status is short x.prints);
+  lacks = λ held missing. prints held (read_fault_line name) ReadFault (file_lacks held name (PrintsModel (PrintsRun p)) missing);
+  long = λ held text is long. prints held (too_long_line name) TooLong (file_long held name (PrintsModel (PrintsRun p)) text is long);
+  reads = λ held text bytes status is short x. prints held bytes status (file_read held name (PrintsModel (PrintsRun p)) text bytes status is short x.prints);
   outcome = λ f text bytes status x. play_outcome job p is_play text f bytes status x.prints;
   only = λ held text bytes status x. play_only job p is_play text held status x.only;
   no_run = λ held text bytes status x none. no_trace job p is_play text held none.replay;
-  refused = λ text bytes status x r is. x.refused r (play_refused job p is_play text r is);
+  refused = λ held text bytes status x r is. x.refused r (play_refused held job p is_play text r is);
 }
 
 module _ (f g : FilesState) (before now : SinkState) (given : Status) where
@@ -129,7 +132,7 @@ size_outcome : (f : FilesState) (job : Job) (text : List ℕ) (m : ModelTree) (b
 size_outcome f job text m _ _ (accepts processes wires is) = checked
 
 check_outcome : (f : FilesState) (model text bytes : List ℕ) (status : Status) → PrintsModel PrintsSize text bytes status → Outcome f (Check model) text status
-check_outcome f model text _ _ (refuses r is) = no_model r is
+check_outcome f model text _ _ (refuses r is) = no_model r (λ _. is)
 check_outcome f model text _ _ (of_model m bytes status is prints) = size_outcome f (Check model) text m bytes status prints
 
 -- neither a check nor a ring that is made has a run
@@ -147,13 +150,13 @@ checks_file model = record {
   files = refl;
   has = tt;
   named = refl;
-  lacks = λ held missing. file_lacks held model PrintsSize missing;
-  long = λ held text is long. file_long held model PrintsSize text is long;
-  reads = λ held text bytes status is short x. file_read held model PrintsSize text bytes status is short x.prints;
+  lacks = λ held missing. file_lacks held model (PrintsModel PrintsSize) missing;
+  long = λ held text is long. file_long held model (PrintsModel PrintsSize) text is long;
+  reads = λ held text bytes status is short x. file_read held model (PrintsModel PrintsSize) text bytes status is short x.prints;
   outcome = λ f text bytes status x. check_outcome f model text bytes status x.prints;
   only = λ held text bytes status prints e x. check_ended model held text e x;
   no_run = λ held text bytes status prints none. check_told model held text none.replay;
-  refused = λ text bytes status x. x.refused;
+  refused = λ held text bytes status x. x.refused;
 }
 
 pub keeps_check : (f g : FilesState) (before now : SinkState) (given : Status) (model : List ℕ) → ReadsFile (model_file model) PrintsCheck f g before now given → KeepsPromises (Some (Check model)) f g before now given
@@ -218,7 +221,7 @@ module _ (f : FilesState) (before now : SinkState) (given : Status) where
       opens = λ s. none_opened [] f s refl;
       ends = end.can;
       model_refused = end.model_refused;
-      no_model = λ none _ _. let y = same_text (λ j t. (r : Refusal) × IsRefusedFor j t r) (refused_in f.held job none) in x.refused y.0 y.1;
+      no_model = λ none _ _. let y = same_text (λ j t. (r : Refusal) × IsRefusedFor f.held j t r) (refused_in f.held job none) in x.refused y.0 y.1;
       deadlock = end.deadlock;
       model_fault = end.model_fault;
       choice_refused = end.choice_refused;

@@ -33,7 +33,7 @@ pub record OneFile (job : Job) (name : List ℕ) (P : List ℕ → List ℕ → 
   pub outcome : (f : FilesState) (text bytes : List ℕ) (status : Status) → P text bytes status → Outcome f job text status
   pub only : (held : Entries) (text bytes : List ℕ) (status : Status) → P text bytes status → (e : Ending) → HasEnding held job text e → status ≡ status_of e
   pub no_run : (held : Entries) (text bytes : List ℕ) (status : Status) → P text bytes status → TellsNoRun held job text → status ≡ TraceRefused
-  pub refused : (text bytes : List ℕ) (status : Status) → P text bytes status → (r : Refusal) → IsRefusedFor job text r → status ≡ ModelRefused
+  pub refused : (held : Entries) (text bytes : List ℕ) (status : Status) → P text bytes status → (r : Refusal) → IsRefusedFor held job text r → status ≡ ModelRefused
 
 missing_is : (text : List ℕ) → None ≡ Some text → ⊥
 missing_is text e = cc
@@ -129,7 +129,7 @@ module _ (job : Job) (name : List ℕ) (P : List ℕ → List ℕ → Status →
       opens = opens;
       ends = end.can;
       model_refused = end.model_refused;
-      no_model = λ none told _. let x = same_text (λ j t. (r : Refusal) × IsRefusedFor j t r) (refused_in f.held job none) told in one.refused text bytes wanted printed x.0 x.1;
+      no_model = λ none told _. let x = same_text (λ j t. (r : Refusal) × IsRefusedFor f.held j t r) (refused_in f.held job none) told in one.refused f.held text bytes wanted printed x.0 x.1;
       deadlock = end.deadlock;
       model_fault = end.model_fault;
       choice_refused = end.choice_refused;

@@ -47,7 +47,7 @@ told_can model name units (ending.Trouble trouble) = promises.model_fault (Repla
 -- ---- how the model of a text ends
 
 pub data Outcome (f : FilesState) (job : Job) (text : List ℕ) : Status → Type 0 where
-  no_model : (r : Refusal) → IsRefusedFor job text r → Outcome f job text ModelRefused
+  no_model : (r : Refusal) → (f.told ≡ true → IsRefusedFor f.held job text r) → Outcome f job text ModelRefused
   run_ended : (e : Ending) → CanEnd (Some job) (status_of e) → (f.told ≡ true → HasEnding f.held job text e) → Outcome f job text (status_of e)
   no_trace : CanEnd (Some job) TraceRefused → (f.told ≡ true → TellsNoRun f.held job text) → Outcome f job text TraceRefused
   checked : Outcome f job text Done
@@ -120,7 +120,7 @@ module _ (job : Job) (has : HasModel job) (text : List ℕ) (f : FilesState) (te
     can = promises.model_refused job has;
     no_fault = λ e. cc;
     not_long = λ e. cc;
-    model_refused = λ told _. record { job = job; is_asked = refl; text = text; is_text = text_for told; refusal = r; is_refused = is };
+    model_refused = λ told _. record { job = job; is_asked = refl; text = text; is_text = text_for told; refusal = r; is_refused = is told };
     deadlock = λ _ e. cc;
     model_fault = λ _ e. cc;
     choice_refused = λ _ e. cc;
@@ -177,5 +177,5 @@ run_in files job e ends = of_asked files (λ j text. HasEnding files j text e) j
 pub none_in : (files : Entries) (job : Job) → IsNoTrace (Some job) files → OfText files job (λ j text. TellsNoRun files j text)
 none_in files job none = of_asked files (λ j text. TellsNoRun files j text) job none.job none.is_asked (record { text = none.text; is_text = none.is_text; holds = none.tells_none })
 
-pub refused_in : (files : Entries) (job : Job) → IsNoModel (Some job) files → OfText files job (λ j text. (r : Refusal) × IsRefusedFor j text r)
-refused_in files job none = of_asked files (λ j text. (r : Refusal) × IsRefusedFor j text r) job none.job none.is_asked (record { text = none.text; is_text = none.is_text; holds = (none.refusal, none.is_refused) })
+pub refused_in : (files : Entries) (job : Job) → IsNoModel (Some job) files → OfText files job (λ j text. (r : Refusal) × IsRefusedFor files j text r)
+refused_in files job none = of_asked files (λ j text. (r : Refusal) × IsRefusedFor files j text r) job none.job none.is_asked (record { text = none.text; is_text = none.is_text; holds = (none.refusal, none.is_refused) })

@@ -1,28 +1,37 @@
 -- What the program prints for a job and the files, and how it ends: first the model's size, then
--- whether it is refused, then the size of a trace, then the run or what else is said of the model.
+-- whether it is refused, then the size of a trace, then the run or what else is said of the model. The
+-- model of a replay is asked for C23 and C24 once its trace was read.
 use Rattle.std.specs.Prelude.{◌<◌, ◌≤◌, ℕ, List, length, Option, Some, None}
 use Rattle.pz_io.specs.Outside.{Entries, lookup}
 use Rattle.pz_syntax.specs.Classes.{ModelTree}
+use Rattle.pz_check_violations.specs.declared.violation.Violation.{Violation}
+use Rattle.pz_classes_openings.specs.OpeningRules.{Opens, IsOpeningViolation}
+use Rattle.pz_trace.specs.declared.forms.Form.{Form}
+use Rattle.pz_trace.specs.declared.forms.Form.TheVariants.{Three}
+use Rattle.pz_trace.specs.Lines.{header}
+use Rattle.pz_trace.specs.Forms.{HasHeader}
 use Rattle.pz_words.specs.declared.jobs.Job.{Job}
 use Rattle.pz_words.specs.declared.jobs.Job.TheVariants.{Run, Menu, Replay, Check, Make, Ring, Format}
 use Rattle.pz_gen.specs.Ring.{model as ring_text}
 use Rattle.pz_run_reading.specs.declared.refusal.Refusal.{Refusal}
+use Rattle.pz_run_reading.specs.declared.refusal.Refusal.TheVariants.{Violates}
 use Rattle.pz_run_reading.specs.Models.{IsModelOf}
 use Rattle.pz_run_reading.specs.Refusals.{IsRefused}
-use Rattle.pz_run_reading.specs.Openings.{IsRefusedToOpen}
+use Rattle.pz_run_reading.specs.Openings.{IsOpenModelOf, IsRefusedToOpen}
 use Rattle.pz_run_reading.specs.Sizes.{HasSize}
 use Rattle.pz_run_formatting.specs.Layouts.{IsLayoutOf}
 use Rattle.pz_run_lines.specs.Lines.{usage_line, read_fault_line, too_long_line, accepted_line, model_refused_line}
 use Rattle.pz_run_playing.specs.Playing.{Tells}
 use Rattle.pz_term.specs.Simulations.{Simulation}
 use Rattle.pz_run_replaying.specs.declared.replayed.Replayed.{Replayed}
-use Rattle.pz_run_replaying.specs.Replays.{Replays}
+use Rattle.pz_run_replaying.specs.Replays.{refusal_text, Replays}
 use Rattle.pz_run.specs.declared.play.Play.{Play}
 use Rattle.pz_run.specs.declared.play.Telling.TheVariants as telling
 use Rattle.pz_run.specs.declared.status.Status.{Status}
-use Rattle.pz_run.specs.declared.status.Status.TheVariants.{Done, Usage, ModelRefused, TooLong, ReadFault}
+use Rattle.pz_run.specs.declared.status.Status.TheVariants.{Done, Usage, ModelRefused, TraceRefused, TooLong, ReadFault}
 use Rattle.pz_run.specs.Files.{JobFile, model_file, trace_file}
 use Rattle.pz_run.specs.Plays.{play, telling_when, told_of, setting_with, setting_for, RunOf}
+use Rattle.pz_run.specs.Editions.{HasNoHeader, IsOfSecondEdition, OpensFor}
 use Rattle.pz_run.specs.Status.{status_of, replay_status}
 
 -- what is told of the run of a model, and the status of its ending
@@ -30,9 +39,17 @@ pub data PrintsRun (p : Play) (m : ModelTree) : List ℕ → Status → Type 0 w
   plays : (run : RunOf p m) (text : List ℕ) → Tells (setting_for m p) run.events run.end run.ending (told_of p.telling) text
       → PrintsRun p m text (status_of run.ending)
 
--- what is said of a trace that is held against the runs of a model, with so many units for each evaluation
+-- What is said of a trace on a model that violates none of C1 to C22. The first line of the trace tells by
+-- which edition of the rules its run was made, and with which limits; where it tells no units, these are
+-- those of the job.
 pub data PrintsReplay (units : ℕ) (m : ModelTree) (trace : List ℕ) : List ℕ → Status → Type 0 where
-  replays : (text : List ℕ) (outcome : Replayed) (end : Simulation) → Replays (setting_with m units) trace text outcome end
+  -- the model violates C23 or C24
+  closed : (v : Violation) → IsOfSecondEdition trace → IsOpeningViolation m v → PrintsReplay units m trace (model_refused_line (Violates v)) ModelRefused
+  -- the first line is no header: that of a run by the words is expected
+  no_header : Opens m → HasNoHeader trace → PrintsReplay units m trace (refusal_text 1 (Some (header (Three units)))) TraceRefused
+  -- the trace is held against the runs of the form that it tells
+  replays : (form : Form) (text : List ℕ) (outcome : Replayed) (end : Simulation)
+      → HasHeader form trace → OpensFor trace m → Replays (setting_with m form units) trace text outcome end
       → PrintsReplay units m trace text (replay_status outcome)
 
 -- how large the system of a model is
@@ -43,10 +60,10 @@ pub data PrintsSize (m : ModelTree) : List ℕ → Status → Type 0 where
 pub data PrintsRing (n : ℕ) : List ℕ → Status → Type 0 where
   makes : PrintsRing n (ring_text n) Done
 
--- of a text: why it is refused, or what this is of its model
+-- of a text: why it is refused, or what this is of its model, which opens
 pub data PrintsModel (P : ModelTree → List ℕ → Status → Type 0) (text : List ℕ) : List ℕ → Status → Type 0 where
-  refuses : (r : Refusal) → IsRefused text r → PrintsModel P text (model_refused_line r) ModelRefused
-  of_model : (m : ModelTree) (bytes : List ℕ) (status : Status) → IsModelOf text m → P m bytes status → PrintsModel P text bytes status
+  refuses : (r : Refusal) → IsRefusedToOpen text r → PrintsModel P text (model_refused_line r) ModelRefused
+  of_model : (m : ModelTree) (bytes : List ℕ) (status : Status) → IsOpenModelOf text m → P m bytes status → PrintsModel P text bytes status
 
 -- of a text: the layout of its tokens and comments, if it is that of a model that opens; if not, why it is
 -- refused
@@ -67,10 +84,16 @@ PrintsModelFile files name P = PrintsFile (model_file name) (PrintsModel P) (loo
 abbrev pub PrintsTraceFile : Entries → List ℕ → ℕ → ModelTree → List ℕ → Status → Type 0
 PrintsTraceFile files name units m = PrintsFile (trace_file name) (PrintsReplay units m) (lookup files name)
 
+-- of the text of the model of a replay: why it is refused, whatever the trace is, or what is said of that
+pub data PrintsOnTrace (files : Entries) (name : List ℕ) (units : ℕ) (text : List ℕ) : List ℕ → Status → Type 0 where
+  refuses_at_once : (r : Refusal) → IsRefused text r → PrintsOnTrace files name units text (model_refused_line r) ModelRefused
+  goes_on : (m : ModelTree) (bytes : List ℕ) (status : Status) → IsModelOf text m → PrintsTraceFile files name units m bytes status
+      → PrintsOnTrace files name units text bytes status
+
 abbrev pub PrintsJob : Entries → Job → List ℕ → Status → Type 0
 PrintsJob files (Run model choice limits summary) = PrintsModelFile files model (PrintsRun (play choice limits (telling_when summary)))
 PrintsJob files (Menu model choice limits) = PrintsModelFile files model (PrintsRun (play choice limits telling.Menu))
-PrintsJob files (Replay model trace units) = PrintsModelFile files model (PrintsTraceFile files trace units)
+PrintsJob files (Replay model trace units) = PrintsFile (model_file model) (PrintsOnTrace files trace units) (lookup files model)
 PrintsJob files (Check model) = PrintsModelFile files model PrintsSize
 PrintsJob files (Make n) = PrintsRing n
 PrintsJob files (Ring n choice limits) = PrintsModel (PrintsRun (play choice limits telling.Summary)) (ring_text n)

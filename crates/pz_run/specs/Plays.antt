@@ -3,7 +3,8 @@ use Rattle.std.specs.Prelude.{ℕ, Bool, true, false, Option, Some, None}
 use Rattle.pz_syntax.specs.Classes.{ModelTree}
 use Rattle.pz_rules.specs.Settings.{Setting}
 use Rattle.pz_rules.specs.ChosenRuns.{Policy}
-use Rattle.pz_trace.specs.declared.forms.Form.TheVariants.{One}
+use Rattle.pz_trace.specs.declared.forms.Form.{Form}
+use Rattle.pz_trace.specs.declared.forms.Form.TheVariants.{Three}
 use Rattle.pz_trace.specs.Forms.{limits_of}
 use Rattle.pz_words.specs.declared.jobs.Choice.{Choice}
 use Rattle.pz_words.specs.declared.jobs.RunLimits.{RunLimits}
@@ -38,13 +39,14 @@ play_of (Make n) = None
 play_of (Ring n choice limits) = Some (play choice limits telling.Summary)
 play_of (Format model) = None
 
--- the limits are those of traces of the first form, with so many units for each evaluation
-abbrev pub setting_with : ModelTree → ℕ → Setting
-setting_with m units = record { model = m; limits = limits_of One units }
+-- the edition of the rules and the limits are those of traces of this form, with so many units for each
+-- evaluation where that tells none
+abbrev pub setting_with : ModelTree → Form → ℕ → Setting
+setting_with m form units = record { model = m; limits = limits_of form units }
 
--- those of the job
+-- a run that is chosen is of the third form, with the units of the job
 abbrev pub setting_for : ModelTree → Play → Setting
-setting_for m p = setting_with m p.limits.units
+setting_for m p = setting_with m (Three p.limits.units) p.limits.units
 
 abbrev pub policy_for : Play → Policy
 policy_for p = policy_of (resolver_of p.choice) p.limits

@@ -7,12 +7,17 @@ use Rattle.pz_syntax.specs.Classes.{ModelTree}
 use Rattle.pz_rules.specs.Runs.{Ending}
 use Rattle.pz_words.specs.declared.jobs.Job.{Job}
 use Rattle.pz_words.specs.declared.jobs.Job.TheVariants.{Run, Menu, Replay, Check, Make, Ring, Format}
+use Rattle.pz_check_violations.specs.declared.violation.Violation.{Violation}
+use Rattle.pz_classes_openings.specs.OpeningRules.{IsOpeningViolation}
+use Rattle.pz_trace.specs.declared.forms.Form.{Form}
+use Rattle.pz_trace.specs.Forms.{HasHeader}
 use Rattle.pz_trace.specs.TraceText.{run_ending, IsTrace}
 use Rattle.pz_gen.specs.Ring.{model as ring_text}
 use Rattle.pz_run_reading.specs.declared.refusal.Refusal.{Refusal}
+use Rattle.pz_run_reading.specs.declared.refusal.Refusal.TheVariants.{Violates}
 use Rattle.pz_run_reading.specs.Models.{IsModelOf}
 use Rattle.pz_run_reading.specs.Refusals.{IsRefused}
-use Rattle.pz_run_reading.specs.Openings.{IsRefusedToOpen}
+use Rattle.pz_run_reading.specs.Openings.{IsOpenModelOf, IsRefusedToOpen}
 use Rattle.pz_run_lines.specs.Lines.{read_fault_line}
 use Rattle.pz_run.specs.Limits.{model_limit, trace_limit}
 use Rattle.pz_run.specs.declared.play.Play.{Play}
@@ -20,6 +25,7 @@ use Rattle.pz_run.specs.declared.status.Status.{Status}
 use Rattle.pz_run.specs.declared.status.Status.TheVariants.{Done, Deadlock, Usage, ModelRefused, ModelFault, ChoiceRefused, TraceRefused, TooLong, ReadFault, WriteFault, NoMemory}
 use Rattle.pz_run.specs.Files.{JobFile, files_of}
 use Rattle.pz_run.specs.Plays.{play_of, setting_with, RunOf}
+use Rattle.pz_run.specs.Editions.{IsOfSecondEdition, OpensFor}
 use Rattle.pz_run.specs.Output.{Prints}
 
 -- The call came through: no write failed, memory was not wanting, and the files did not fail.
@@ -140,10 +146,22 @@ pub data IsTextFor (files : Entries) : Job → List ℕ → Type 0 where
   of_file : (job : Job) (name text : List ℕ) → model_name job ≡ Some name → lookup files name ≡ Some text → length text ≤ model_limit → IsTextFor files job text
   of_ring : (job : Job) (n : ℕ) → stations_of job ≡ Some n → IsTextFor files job (ring_text n)
 
--- what refuses the text of the model of a job: C23 and C24 are asked for `format` alone
-abbrev pub IsRefusedFor : Job → List ℕ → Refusal → Type 0
-IsRefusedFor (Format model) text r = IsRefusedToOpen text r
-IsRefusedFor job text r = IsRefused text r
+-- the trace that a file has, within the limit
+pub record IsTraceIn (files : Entries) (name trace : List ℕ) : Type 0 where
+  pub held : lookup files name ≡ Some trace
+  pub short : length trace ≤ trace_limit
+
+-- what refuses the text of the model of a replay: C23 and C24 are asked where the trace was read, and is not
+-- one of the first edition
+pub data IsRefusedOnTrace (files : Entries) (name text : List ℕ) : Refusal → Type 0 where
+  at_once : (r : Refusal) → IsRefused text r → IsRefusedOnTrace files name text r
+  on_trace : (trace : List ℕ) (m : ModelTree) (v : Violation)
+      → IsTraceIn files name trace → IsOfSecondEdition trace → IsModelOf text m → IsOpeningViolation m v → IsRefusedOnTrace files name text (Violates v)
+
+-- what refuses that of a job
+abbrev pub IsRefusedFor : Entries → Job → List ℕ → Refusal → Type 0
+IsRefusedFor files (Replay model trace units) text r = IsRefusedOnTrace files trace text r
+IsRefusedFor files job text r = IsRefusedToOpen text r
 
 -- the text of the model is refused
 pub record IsNoModel (a : Option Job) (files : Entries) : Type 0 where
@@ -152,9 +170,9 @@ pub record IsNoModel (a : Option Job) (files : Entries) : Type 0 where
   pub text : List ℕ
   pub is_text : IsTextFor files job text
   pub refusal : Refusal
-  pub is_refused : IsRefusedFor job text refusal
+  pub is_refused : IsRefusedFor files job text refusal
 
--- the text of the model of a job is that of this model
+-- the text of the model of a job is that of this model, which violates none of C1 to C22
 pub record HasModelText (a : Option Job) (files : Entries) : Type 0 where
   pub job : Job
   pub is_asked : a ≡ Some job
@@ -168,31 +186,35 @@ pub record ChosenEnds (job : Job) (text : List ℕ) (ending : Ending) : Type 0 w
   pub play : Play
   pub is_play : play_of job ≡ Some play
   pub model : ModelTree
-  pub is_model : IsModelOf text model
+  pub is_model : IsOpenModelOf text model
   pub run : RunOf play model
   pub ends : run.ending ≡ ending
 
--- the trace of a job, which is a replay on the model of this text: that of its file, within the limit
+-- the trace of a job, which is a replay on the model of this text: that of its file, within the limit; by its
+-- edition the model is sound
 pub record HasTrace (files : Entries) (job : Job) (text : List ℕ) : Type 0 where
   pub model_word : List ℕ
   pub trace_word : List ℕ
   pub units : ℕ
   pub is_replay : job ≡ Replay model_word trace_word units
   pub trace : List ℕ
-  pub held : lookup files trace_word ≡ Some trace
-  pub short : length trace ≤ trace_limit
+  pub is_trace : IsTraceIn files trace_word trace
   pub model : ModelTree
   pub is_model : IsModelOf text model
+  pub opens : OpensFor trace model
 
--- it is the text of a run of the model
-abbrev pub TellsRun : (files : Entries) (job : Job) (text : List ℕ) → HasTrace files job text → Type 0
-TellsRun files job text x = IsTrace (setting_with x.model x.units) x.trace
+-- a trace is the text of a run of this model, of the edition, depth and units that its first line tells, or
+-- with these units where that tells none
+pub record TellsRun (m : ModelTree) (units : ℕ) (trace : List ℕ) : Type 0 where
+  pub form : Form
+  pub is_told : HasHeader form trace
+  pub run : IsTrace (setting_with m form units) trace
 
 -- that run has this ending
 pub record ToldEnds (files : Entries) (job : Job) (text : List ℕ) (ending : Ending) : Type 0 where
   pub replay : HasTrace files job text
-  pub run : TellsRun files job text replay
-  pub ends : run_ending run.ending ≡ ending
+  pub tells : TellsRun replay.model replay.units replay.trace
+  pub ends : run_ending tells.run.ending ≡ ending
 
 -- the run of the model of this text, which the job asks for, has this ending
 pub data HasEnding (files : Entries) (job : Job) (text : List ℕ) (ending : Ending) : Type 0 where
@@ -207,10 +229,10 @@ pub record RunEnds (a : Option Job) (files : Entries) (ending : Ending) : Type 0
   pub is_text : IsTextFor files job text
   pub has_ending : HasEnding files job text ending
 
--- the trace of the job is the text of no run of the model of this text
+-- the trace of the job is the text of no such run of the model of this text
 pub record TellsNoRun (files : Entries) (job : Job) (text : List ℕ) : Type 0 where
   pub replay : HasTrace files job text
-  pub no_run : TellsRun files job text replay → ⊥
+  pub no_run : TellsRun replay.model replay.units replay.trace → ⊥
 
 -- the trace that is to be replayed is the text of no run of its model
 pub record IsNoTrace (a : Option Job) (files : Entries) : Type 0 where

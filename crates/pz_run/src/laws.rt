@@ -3,8 +3,8 @@
 ghost use Rattle.pz_run.specs.Formats.{FormatsReadBack};
 ghost use Rattle.pz_run.specs.devices.Replaying.{TracesKnown};
 
-/// Each event of a run of a model that was read has a line of its own, and a text is the trace of runs with
-/// one ending alone.
+/// Each event of a run of a model that was read has a line of its own, a text is the trace of runs with one
+/// ending alone, and its first line tells one form.
 pub(crate) fn traces_are_known()
     ensures { TracesKnown }
 {
@@ -12,6 +12,7 @@ pub(crate) fn traces_are_known()
     pz_trace_laws::laws::runs_tell_lines();
     pz_trace::laws::lines_stand_apart();
     pz_trace::laws::lines_differ();
+    pz_trace::laws::headers_differ();
 }
 
 /// What `format` prints for a model that it accepts, whose text is one of bytes, is a text of the same

@@ -10,6 +10,7 @@ mod play;
 mod playing;
 mod printing;
 mod program;
+mod refusing;
 mod replaying;
 mod rings;
 mod starting;

@@ -2,6 +2,7 @@
 ghost use Rattle.std.specs.Prelude.{◌≡◌, ◌<◌};
 ghost use Rattle.pz_syntax.specs.Classes.{ModelTree};
 ghost use Rattle.pz_classes.specs.CheckedView.{checked_model};
+ghost use Rattle.pz_classes_openings.specs.OpeningRules.{Opens};
 ghost use Rattle.pz_rules.specs.Settings.{Setting};
 ghost use Rattle.pz_term.specs.Simulations.{Starts};
 ghost use Rattle.pz_term.specs.Plains.{simulation_of};
@@ -17,6 +18,7 @@ use pz_classes::Checked;
 use pz_io::{Halt, Sink};
 use pz_run_playing::{Finale, play_menu, play_summary, play_trace};
 use pz_term::{Plain, Steps};
+use pz_trace::Form;
 use std::alloc::Global;
 use std::marker::Brand;
 use std::mem::drop;
@@ -65,10 +67,12 @@ fn play_plain<W: Sink>(alloc: Global, mut plain: Plain, play: Play, out: &mut W)
 
 /// Runs the model, prints what is told of its run, and gives the status of the run.
 pub fn run_model<W: Sink>(alloc: Global, checked: Checked, play: Play, out: &mut W) -> Status
+    requires { Opens (checked_model checked) }
     ensures { Answers (PrintsRun play (checked_model checked)) (W.state out.old)
         (W.state out.new) result }
 {
-    match start(alloc, checked, play.limits.units) {
+    let units = play.limits.units;
+    match start(alloc, checked, Form::Three { units }, units) {
         Ok(plain) => play_plain(alloc, plain, play, out),
         Err(_) => Status::NoMemory,
     }

@@ -22,9 +22,11 @@ use std::alloc::Global;
 /// The words are those of the command line after the program's name. `run MODEL` reads the named model,
 /// runs it and prints its trace or a summary, `menu MODEL` the trace and what there is to choose from at
 /// its end, `check MODEL` how many processes and wires it has. `replay MODEL TRACE` reads a trace too, once
-/// the model is accepted: it is printed again if it is that of a run of the model, and refused at the first
-/// line that differs if not. `make N` prints the model of a ring, and `ring N` runs that and prints a
-/// summary; these read no file. A model that violates a rule is refused.
+/// the model is accepted: it is printed again if it is that of a run of the model, of the edition, depth and
+/// units that its first line tells, and refused at the first line that differs if not. `make N` prints the
+/// model of a ring, and `ring N` runs that and prints a summary; these read no file. A model that violates a
+/// rule is refused: in a replay by C23 and C24 once the trace was read, and not by these where that is of the
+/// first edition.
 ///
 /// What is promised of the bytes that are printed holds over a sink that tells what it took, and what
 /// is promised of the contents of files over files that tell; the rest holds always. Want of memory,
@@ -104,7 +106,7 @@ pub fn run_program<F: Files, W: Sink>(
     ensures no_trace { OfAsked (map string_bytes words.now) (λ a.
         IsNoTrace a (F.state files.old).held → (F.state files.old).told ≡ true →
         CameThrough (F.state files.old) (F.state files.new) result → result ≡ Status.TraceRefused) }
-    // A second file is opened only once the model is accepted.
+    // A second file is opened only once C1 to C22 accept the model.
     ensures trace_opened { OfAsked (map string_bytes words.now) (λ a.
         (F.state files.old).told ≡ true →
         length (F.state files.old).opened + 1 < length (F.state files.new).opened →

@@ -1,29 +1,35 @@
 // Replays of traces.
-ghost use Rattle.std.specs.Prelude.{◌≡◌, ◌-◌, ◌<◌, ◌^◌, ℕ, length};
+ghost use Rattle.std.specs.Prelude.{◌≡◌, ◌-◌, ◌<◌, ◌^◌, ℕ, length, MatchOption};
 ghost use Rattle.pz_syntax.specs.Classes.{ModelTree};
 ghost use Rattle.pz_classes.specs.CheckedView.{checked_model};
+ghost use Rattle.pz_classes_openings.specs.OpeningRules.{Opens};
+ghost use Rattle.pz_rules.specs.declared.limits.Edition.TheVariants.{Two};
 ghost use Rattle.pz_rules.specs.Settings.{Setting};
+ghost use Rattle.pz_trace.specs.Forms.{HasHeader};
 ghost use Rattle.pz_term.specs.Simulations.{Starts};
 ghost use Rattle.pz_term.specs.Plains.{simulation_of};
 ghost use Rattle.pz_run_replaying.specs.Replays.{TellsLines, IsReplayed};
 ghost use Rattle.pz_run.specs.Files.{trace_file};
 ghost use Rattle.pz_run.specs.Plays.{setting_with};
+ghost use Rattle.pz_run.specs.Editions.{HasNoHeader, IsOfSecondEdition, OpensFor};
 ghost use Rattle.pz_run.specs.Output.{PrintsReplay};
 ghost use Rattle.pz_run.specs.devices.Saying.{Says, Answers};
 ghost use Rattle.pz_run.specs.devices.Reading.{ReadsFile};
-ghost use Rattle.pz_run.specs.devices.Replaying.{ReplaysText, ReplaysFiles};
+ghost use Rattle.pz_run.specs.devices.Replaying.{tells_first, ReplaysText, ReplaysFiles};
 
 use crate::Status;
 use crate::files::say_unread;
 use crate::laws::traces_are_known;
 use crate::limits::{MODEL_LIMIT, TRACE_LIMIT};
+use crate::refusing::refuse_header;
 use crate::starting::start;
 use crate::texts::say_refused;
 use pz_classes::Checked;
 use pz_io::{Files, Halt, Sink, read_all};
-use pz_run_reading::read_model;
+use pz_run_reading::{open_model, read_model};
 use pz_run_replaying::{Replayed, replay};
 use pz_term::{Plain, Steps};
+use pz_trace::{Form, form_told};
 use std::alloc::Global;
 use std::marker::Brand;
 use std::mem::drop;
@@ -77,7 +83,7 @@ fn replay_model<F: Files, W: Sink>(
     files: &mut F,
     out: &mut W,
 ) -> Status
-    requires { TellsLines (setting_with (checked_model checked) units) }
+    requires { (form : Form) → TellsLines (setting_with (checked_model checked) form units) }
     ensures { ReadsFile (trace_file trace.now) (PrintsReplay units (checked_model checked))
         (F.state files.old) (F.state files.new) (W.state out.old) (W.state out.new) result }
 {
@@ -90,7 +96,7 @@ fn replay_model<F: Files, W: Sink>(
     }
 }
 
-// Replays these bytes on a model.
+// Replays these bytes on a model. Their first line tells by which edition of the rules.
 fn replay_trace<W: Sink>(
     alloc: Global,
     checked: Checked,
@@ -98,11 +104,95 @@ fn replay_trace<W: Sink>(
     units: u64,
     out: &mut W,
 ) -> Status
-    requires { TellsLines (setting_with (checked_model checked) units) }
+    requires { (form : Form) → TellsLines (setting_with (checked_model checked) form units) }
     ensures { Answers (PrintsReplay units (checked_model checked) trace.now) (W.state out.old)
         (W.state out.new) result }
 {
-    match start(alloc, checked, units) {
+    pz_trace::laws::headers_differ();
+    let told = form_told(trace);
+    if is_first(told) {
+        replay_form(alloc, checked, Form::One, trace, units, out)
+    } else {
+        replay_second(alloc, checked, told, trace, units, out)
+    }
+}
+
+// Whether the first line of a trace tells the first edition.
+fn is_first(told: Option<Form>) -> bool
+    ensures { result ≡ tells_first told }
+{
+    match told {
+        Some(Form::One) => true,
+        Some(Form::Two) | Some(Form::Three { .. }) | None => false,
+    }
+}
+
+// The same by the second edition, whose models have to open.
+fn replay_second<W: Sink>(
+    alloc: Global,
+    checked: Checked,
+    told: Option<Form>,
+    trace: &[u8],
+    units: u64,
+    out: &mut W,
+) -> Status
+    requires told { MatchOption told (HasNoHeader trace.now) (λ form. HasHeader form trace.now) }
+    requires second { IsOfSecondEdition trace.now }
+    requires tells { (form : Form) → TellsLines (setting_with (checked_model checked) form units) }
+    ensures { Answers (PrintsReplay units (checked_model checked) trace.now) (W.state out.old)
+        (W.state out.new) result }
+{
+    match open_model(alloc, &checked) {
+        Ok(()) => replay_told(alloc, checked, told, trace, units, out),
+        Err(error) => {
+            drop(checked);
+            say_refused(alloc, error, out)
+        }
+    }
+}
+
+// The same on a model that opens.
+fn replay_told<W: Sink>(
+    alloc: Global,
+    checked: Checked,
+    told: Option<Form>,
+    trace: &[u8],
+    units: u64,
+    out: &mut W,
+) -> Status
+    requires told { MatchOption told (HasNoHeader trace.now) (λ form. HasHeader form trace.now) }
+    requires opens { Opens (checked_model checked) }
+    requires tells { (form : Form) → TellsLines (setting_with (checked_model checked) form units) }
+    ensures { Answers (PrintsReplay units (checked_model checked) trace.now) (W.state out.old)
+        (W.state out.new) result }
+{
+    match told {
+        Some(form) => replay_form(alloc, checked, form, trace, units, out),
+        None => {
+            drop(checked);
+            refuse_header(alloc, units, out)
+        }
+    }
+}
+
+// Replays the bytes of a trace of this form.
+fn replay_form<W: Sink>(
+    alloc: Global,
+    checked: Checked,
+    form: Form,
+    trace: &[u8],
+    units: u64,
+    out: &mut W,
+) -> Status
+    requires told { HasHeader form trace.now }
+    requires asked { OpensFor trace.now (checked_model checked) }
+    requires opens { (setting_with (checked_model checked) form units).limits.edition ≡ Two →
+        Opens (checked_model checked) }
+    requires tells { TellsLines (setting_with (checked_model checked) form units) }
+    ensures { Answers (PrintsReplay units (checked_model checked) trace.now) (W.state out.old)
+        (W.state out.new) result }
+{
+    match start(alloc, checked, form, units) {
         Ok(plain) => replay_plain(alloc, plain, trace, out),
         Err(_) => Status::NoMemory,
     }
@@ -132,9 +222,10 @@ fn replay_from<L: Ledger, W: Sink>(
 // The same, with the status of the replay.
 fn replay_plain<W: Sink>(alloc: Global, mut plain: Plain, trace: &[u8], out: &mut W) -> Status
     requires { (setting : Setting) × Starts setting (simulation_of plain) }
-    ensures { (m : ModelTree) (units : ℕ) → Starts (setting_with m units) (simulation_of plain) →
-        TellsLines (setting_with m units) → Says (PrintsReplay units m trace.now) (W.state out.old)
-        (W.state out.new) result }
+    ensures { (m : ModelTree) (form : Form) (units : ℕ) → HasHeader form trace.now →
+        OpensFor trace.now m → Starts (setting_with m form units) (simulation_of plain) →
+        TellsLines (setting_with m form units) →
+        Says (PrintsReplay units m trace.now) (W.state out.old) (W.state out.new) result }
 {
     let ended = replay_from::<Brand, W>(alloc, &mut plain, trace, Blank::new(1), out);
     drop(plain);

@@ -1,6 +1,8 @@
 // The start of a run.
-ghost use Rattle.std.specs.Prelude.{IfOk};
+ghost use Rattle.std.specs.Prelude.{◌≡◌, IfOk};
 ghost use Rattle.pz_classes.specs.CheckedView.{checked_model};
+ghost use Rattle.pz_classes_openings.specs.OpeningRules.{Opens};
+ghost use Rattle.pz_rules.specs.declared.limits.Edition.TheVariants.{Two};
 ghost use Rattle.pz_term.specs.Simulations.{Starts};
 ghost use Rattle.pz_term.specs.Plains.{simulation_of};
 ghost use Rattle.pz_run.specs.Plays.{setting_with};
@@ -12,13 +14,22 @@ use pz_trace::{Form, limits_of};
 use std::alloc::{AllocError, Global};
 use std::mem::drop;
 
-/// The simulator of the model at its start, for runs of the first form with so many units for each
-/// evaluation. The only error is want of memory.
-pub(crate) fn start(alloc: Global, checked: Checked, units: u64) -> Result<Plain, AllocError>
-    ensures { IfOk result (λ plain. Starts (setting_with (checked_model checked) units)
+/// The simulator of the model at its start, for runs of this form, with so many units for each evaluation
+/// where that tells none. The only error is want of memory.
+///
+/// A form of the second edition is for a model that opens.
+pub(crate) fn start(
+    alloc: Global,
+    checked: Checked,
+    form: Form,
+    units: u64,
+) -> Result<Plain, AllocError>
+    requires { (setting_with (checked_model checked) form units).limits.edition ≡ Two →
+        Opens (checked_model checked) }
+    ensures { IfOk result (λ plain. Starts (setting_with (checked_model checked) form units)
         (simulation_of plain)) }
 {
-    let limits = limits_of(Form::One, units);
+    let limits = limits_of(form, units);
     match Net::flatten(alloc, &checked) {
         Ok(net) => Plain::start(alloc, checked, net, limits),
         Err(error) => {

@@ -9,7 +9,7 @@ use crate::playing::run_model;
 use crate::printing::say_made;
 use pz_io::Sink;
 use pz_run_lines::{accepted_line, model_refused_line};
-use pz_run_reading::{ReadModelError, measure, read_model};
+use pz_run_reading::{ReadModelError, measure, read_open_model};
 use std::alloc::Global;
 
 /// Runs the model of this text, or says why that is refused.
@@ -18,8 +18,8 @@ pub fn run_text<W: Sink>(alloc: Global, text: &[u8], play: Play, out: &mut W) ->
     ensures { Answers (PrintsPlay play text.now) (W.state out.old) (W.state out.new) result }
 {
     pz_run_playing::laws::one_run();
-    pz_run_reading::laws::one_model();
-    match read_model(alloc, text) {
+    pz_run_reading::laws::open_or_refused();
+    match read_open_model(alloc, text) {
         Ok(checked) => run_model(alloc, checked, play, out),
         Err(error) => say_refused(alloc, error, out),
     }
@@ -30,7 +30,7 @@ pub fn check_text<W: Sink>(alloc: Global, text: &[u8], out: &mut W) -> Status
     requires { length text.now < 2 ^ 32 - 1 }
     ensures { Answers (PrintsCheck text.now) (W.state out.old) (W.state out.new) result }
 {
-    pz_run_reading::laws::one_model();
+    pz_run_reading::laws::open_or_refused();
     match measure(alloc, text) {
         Ok(size) => say_made(out, accepted_line(alloc, size), Status::Done),
         Err(error) => say_refused(alloc, error, out),

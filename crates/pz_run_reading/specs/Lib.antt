@@ -1,7 +1,7 @@
 pub mod Models
 pub mod Refusals
-pub mod Sizes
 pub mod Openings
+pub mod Sizes
 pub mod Answers
 pub mod Laws
 pub mod devices

@@ -3,15 +3,15 @@ use Rattle.std.specs.Prelude.{◌≡◌, ℕ, List, length}
 use Rattle.pz_syntax.specs.Classes.{ModelTree}
 use Rattle.pz_bind.specs.Nest as nest
 use Rattle.pz_bind.specs.Wires as wiring
-use Rattle.pz_run_reading.specs.Models.{IsModelOf}
+use Rattle.pz_run_reading.specs.Openings.{IsOpenModelOf}
 
 -- the system has so many processes and so many wires
 pub record HasSize (m : ModelTree) (processes wires : ℕ) : Type 0 where
   pub all_processes : length (nest.processes m) ≡ processes
   pub all_wires : length (wiring.wires m) ≡ wires
 
--- the text is that of a model whose system has so many processes and so many wires
+-- the text is that of a model that opens, whose system has so many processes and so many wires
 pub record IsAccepted (text : List ℕ) (processes wires : ℕ) : Type 0 where
   pub model : ModelTree
-  pub is_model : IsModelOf text model
+  pub is_model : IsOpenModelOf text model
   pub size : HasSize model processes wires

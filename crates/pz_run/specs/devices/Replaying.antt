@@ -1,9 +1,15 @@
 -- What was done with the two files of a replay.
-use Rattle.std.specs.Prelude.{◌≡◌, ◌≤◌, ℕ, List, [], ◌∷◌, ◌++◌, true, length, Some}
+use Rattle.std.specs.Prelude.{◌≡◌, ◌≤◌, ℕ, List, [], ◌∷◌, ◌++◌, Bool, true, false, length, Option, Some}
 use Rattle.pz_io.specs.Outside.{FilesState, SinkState, lookup, raised}
 use Rattle.pz_syntax.specs.Classes.{ModelTree}
 use Rattle.pz_rules.specs.Settings.{Setting}
+use Rattle.pz_check_violations.specs.declared.violation.Violation.{Violation}
+use Rattle.pz_classes_openings.specs.OpeningRules.{IsOpeningViolation}
 use Rattle.pz_trace.specs.TraceText.{run_ending, IsTrace}
+use Rattle.pz_trace.specs.declared.forms.Form.{Form}
+use Rattle.pz_trace.specs.declared.forms.Form.TheVariants.{One}
+use Rattle.pz_trace.specs.Forms.{HasHeader}
+use Rattle.pz_trace.specs.Laws.{OneFormIsTold}
 use Rattle.pz_run_replaying.specs.Replays.{TellsLines}
 use Rattle.pz_run_reading.specs.declared.refusal.Refusal.{Refusal}
 use Rattle.pz_run_reading.specs.Models.{IsModelOf}
@@ -12,9 +18,10 @@ use Rattle.pz_run_lines.specs.Lines.{model_refused_line}
 use Rattle.pz_run.specs.declared.status.Status.{Status}
 use Rattle.pz_run.specs.declared.status.Status.TheVariants.{ModelRefused, TraceRefused}
 use Rattle.pz_run.specs.Files.{JobFile, model_file, trace_file}
-use Rattle.pz_run.specs.Plays.{setting_with}
+use Rattle.pz_run.specs.Editions.{IsOfSecondEdition, OpensFor}
 use Rattle.pz_run.specs.Status.{status_of}
 use Rattle.pz_run.specs.Output.{PrintsReplay}
+use Rattle.pz_run.specs.Promises.{TellsRun}
 use Rattle.pz_run.specs.devices.Saying.{Answers}
 use Rattle.pz_run.specs.devices.Reading.{ReadsFile}
 
@@ -29,16 +36,28 @@ OneEnding = (setting : Setting) (trace : List ℕ) → TellsLines setting → (x
 pub record TracesKnown : Type 0 where
   pub lines : ReadModelsTellLines
   pub one : OneEnding
+  pub told : OneFormIsTold
 
 -- why a text has no model
 pub data PrintsRefusal (text : List ℕ) : List ℕ → Status → Type 0 where
   refused : (r : Refusal) → IsRefused text r → ((m : ModelTree) → IsModelOf text m → ⊥) → PrintsRefusal text (model_refused_line r) ModelRefused
 
+-- the first edition is told, and not another or none
+abbrev pub tells_first : Option Form → Bool
+tells_first (Some One) = true
+tells_first told = false
+
+-- the first line tells one form
+abbrev pub HasOneForm : List ℕ → Type 0
+HasOneForm trace = (f g : Form) → HasHeader f trace → HasHeader g trace → f ≡ g
+
 -- what is said of a trace, and the one status that goes with it
 pub record PrintsTrace (units : ℕ) (m : ModelTree) (trace bytes : List ℕ) (status : Status) : Type 0 where
   pub prints : PrintsReplay units m trace bytes status
-  pub only : (run : IsTrace (setting_with m units) trace) → status ≡ status_of (run_ending run.ending)
-  pub no_run : (IsTrace (setting_with m units) trace → ⊥) → status ≡ TraceRefused
+  pub one_form : HasOneForm trace
+  pub only : OpensFor trace m → (tells : TellsRun m units trace) → status ≡ status_of (run_ending tells.run.ending)
+  pub no_run : OpensFor trace m → (TellsRun m units trace → ⊥) → status ≡ TraceRefused
+  pub closed : (v : Violation) → IsOfSecondEdition trace → IsOpeningViolation m v → status ≡ ModelRefused
 
 -- the text has this model and no other, and is not refused
 pub record IsOnlyModel (text : List ℕ) (m : ModelTree) : Type 0 where

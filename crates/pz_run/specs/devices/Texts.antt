@@ -5,8 +5,7 @@ use Rattle.pz_syntax.specs.Classes.{ModelTree}
 use Rattle.pz_run_reading.specs.declared.read_error.ReadModelError.{ReadModelError}
 use Rattle.pz_run_reading.specs.declared.read_error.ReadModelError.TheVariants.{NoMemory, Refused}
 use Rattle.pz_run_reading.specs.declared.refusal.Refusal.{Refusal}
-use Rattle.pz_run_reading.specs.Models.{IsModelOf}
-use Rattle.pz_run_reading.specs.Refusals.{IsRefused}
+use Rattle.pz_run_reading.specs.Openings.{IsOpenModelOf, IsRefusedToOpen}
 use Rattle.pz_run_lines.specs.Lines.{model_refused_line}
 use Rattle.pz_run.specs.declared.play.Play.{Play}
 use Rattle.pz_run.specs.declared.status.Status.{Status}
@@ -18,11 +17,11 @@ use Rattle.pz_run.specs.devices.Saying.{Said, NothingWritten}
 
 -- whichever run of whichever model of the text that is, this is the status of its ending
 abbrev pub EndsOnlySo : Play → List ℕ → Status → Type 0
-EndsOnlySo p text status = (m : ModelTree) → IsModelOf text m → (run : RunOf p m) → status ≡ status_of run.ending
+EndsOnlySo p text status = (m : ModelTree) → IsOpenModelOf text m → (run : RunOf p m) → status ≡ status_of run.ending
 
 -- where the text is refused, this is the status of that
 abbrev pub IsRefusedSo : List ℕ → Status → Type 0
-IsRefusedSo text status = (r : Refusal) → IsRefused text r → status ≡ ModelRefused
+IsRefusedSo text status = (r : Refusal) → IsRefusedToOpen text r → status ≡ ModelRefused
 
 pub record PrintsPlay (p : Play) (text bytes : List ℕ) (status : Status) : Type 0 where
   pub prints : PrintsModel (PrintsRun p) text bytes status

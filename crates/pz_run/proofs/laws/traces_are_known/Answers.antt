@@ -8,4 +8,5 @@ returns c = record {
     events = λ start last events standing begins reaches. c.runs_tell_lines.ensures.events text setting start last events standing is begins reaches;
   };
   one = one_ending c.lines_differ.ensures.first c.lines_stand_apart.ensures.header c.lines_stand_apart.ensures.end;
+  told = c.headers_differ.ensures.told;
 }

@@ -1,10 +1,17 @@
-use Rattle.std.proofs.Common.{inr}
-use Rattle.pz_classes.specs.CheckedView.{checked_model}
-use Rattle.pz_run.proofs.Sayings.{nothing}
+use Rattle.std.proofs.Common.{◌≡◌, true, false, sym, ◌∙◌}
+use Rattle.pz_trace.specs.declared.forms.Form.TheVariants.{One}
+use Rattle.pz_run.proofs.Replayed.{is_header, is_second}
 use Rattle.pz_run.proofs.replaying.replay_trace.Goals as goal
 
-pub returns-in-Ok : goal.returns-in-Ok
-returns-in-Ok g c = inr (c.replay_plain.ensures (checked_model c.args.checked) c.args.units c.in-Ok.ensures c.requires)
+pub replay_form-requires-clause-told : goal.replay_form-requires-clause-told
+replay_form-requires-clause-told g c = is_header c.form_told-told.result c.args.trace.now c.form_told-told.ensures (sym c.is_first.ensures ∙ c.if-is_first.true)
 
-pub returns-in-Err : goal.returns-in-Err
-returns-in-Err g c = nothing _ _
+pub replay_form-requires-clause-asked : goal.replay_form-requires-clause-asked
+replay_form-requires-clause-asked g c = λ second. absurd (second (is_header c.form_told-told.result c.args.trace.now c.form_told-told.ensures (sym c.is_first.ensures ∙ c.if-is_first.true)))
+
+pub replay_form-requires-clause-tells : goal.replay_form-requires-clause-tells
+replay_form-requires-clause-tells g c = c.requires One
+
+pub replay_second-requires-clause-second : goal.replay_second-requires-clause-second
+replay_second-requires-clause-second g c =
+    is_second c.headers_differ.ensures.told c.form_told-told.result c.args.trace.now c.form_told-told.ensures (sym c.is_first.ensures ∙ c.if-is_first.false)

@@ -4,7 +4,7 @@ use Rattle.pz_run.proofs.texts.check_text.Goals as goal
 
 pub returns-in-Ok : goal.returns-in-Ok
 returns-in-Ok g c =
-    size_said c.args.text.now _ _ c.say_made.result c.one_model.ensures.never_refused c.in-Ok.size.processes c.in-Ok.size.wires c.in-Ok.ensures.found
+    size_said c.args.text.now _ _ c.say_made.result c.open_or_refused.ensures c.in-Ok.size.processes c.in-Ok.size.wires c.in-Ok.ensures.found
     (c.say_made.ensures (accepted_line c.in-Ok.size.processes c.in-Ok.size.wires) c.accepted_line.ensures)
 
 pub returns-in-Err : goal.returns-in-Err
