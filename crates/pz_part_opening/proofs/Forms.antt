@@ -1,22 +1,20 @@
 -- Heights of what stands there.
-use Rattle.std.proofs.Common.{◌≡◌, ◌≤◌, ◌<◌, ℕ, suc, min, List, [], ◌∷◌, length, get_or, refl, sym, ap, subst, ◌∙◌, arith}
+use Rattle.std.proofs.Common.{◌≡◌, ◌≤◌, ℕ, suc, min, List, [], ◌∷◌, length, get_or, refl, sym, ap, subst, ◌∙◌, arith}
 use Rattle.std.specs.Borrow.{Bor}
 use Rattle.pz_syntax.specs.declared.tokens.Pos.{Pos}
 use Rattle.pz_syntax.specs.Expressions.{none}
-use Rattle.pz_syntax.specs.Statements.{bracketed, guarded, parallel, select, abort, interrupt, call, no_statements, then}
+use Rattle.pz_syntax.specs.Statements.{bracketed, guarded, parallel, select, abort, interrupt, call}
 use Rattle.pz_classes_code.specs.declared.code.Code.{Code}
 use Rattle.pz_classes_code.specs.declared.step.Step.{Step, fold-Step}
 use Rattle.pz_classes_code.specs.declared.step.StepForm.{StepForm, fold-StepForm, map-StepForm}
 use Rattle.pz_classes_code.specs.declared.step.StepForm.TheOpen.{StepForm-F}
 use Rattle.pz_classes_code.specs.declared.step.StepForm.TheVariants as form
-use Rattle.pz_classes_code.specs.declared.step.StepForm.TheVariants.{rolls-Skip, rolls-Guard, rolls-Par, rolls-Sel, rolls-Abort, rolls-Interrupt}
+use Rattle.pz_classes_code.specs.declared.step.StepForm.TheVariants.{rolls-Guard, rolls-Par, rolls-Sel, rolls-Abort, rolls-Interrupt}
 use Rattle.pz_classes_code.specs.declared.step.StepForm.TheViews.{out-StepForm, roll-StepForm, roll-out-StepForm}
-use Rattle.pz_classes_code.specs.declared.step.StepForm.TheFolds.{fold-roll-StepForm, the_lemmas}
+use Rattle.pz_classes_code.specs.declared.step.StepForm.TheFolds.{fold-roll-StepForm}
 use Rattle.pz_classes_code.specs.StepView.{Tree, form_view, form_step, step_step, view, sequence_view}
-use Rattle.pz_rules.specs.Terms as terms
 use Rattle.pz_rules.specs.Terms.{height}
 use Rattle.pz_rules.specs.Settings.{Home}
-use Rattle.pz_rules.specs.CallLaws.{plain_call}
 use Rattle.pz_rules.specs.devices.Outlines.{outlined, outlined_all}
 use Rattle.pz_part_opening.specs.declared.spot.Spot.{Spot}
 use Rattle.pz_part_opening.specs.declared.spot.Spot.TheVariants.{Several}

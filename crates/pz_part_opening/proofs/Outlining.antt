@@ -1,5 +1,6 @@
 -- Outlines of what stands there, further in and as it is.
 use Rattle.std.proofs.Common.{◌≡◌, ◌<◌, ℕ, zero, suc, Bool, true, false, ◌||◌, IsTrue, List, [], ◌∷◌, Option, Some, None, inl, inr, refl, sym, ap, subst, ◌∙◌}
+use Rattle.std.specs.Borrow.{Bor}
 use Rattle.std.specs.Option.{is_some}
 use Rattle.pz_syntax.specs.declared.tokens.Pos.{Pos}
 use Rattle.pz_syntax.specs.declared.names.Id.{Id}
@@ -7,32 +8,27 @@ use Rattle.pz_syntax.specs.Expressions as expressions
 use Rattle.pz_syntax.specs.Statements.{bracketed, call, no_statements, then}
 use Rattle.pz_classes.specs.Bodies.{BodyTree, data_body, process_body}
 use Rattle.pz_classes_code.specs.declared.step.Step as code
-use Rattle.pz_classes_code.specs.StepView.{sequence_view, view as code_view}
+use Rattle.pz_classes_code.specs.StepView.{view, sequence_view}
 use Rattle.pz_rules.specs.declared.limits.Edition.{Edition}
 use Rattle.pz_rules.specs.declared.limits.Edition.TheVariants.{One, Two}
 use Rattle.pz_rules.specs.Terms.{Step, Steps, Term, leaf, height}
 use Rattle.pz_rules.specs.Settings.{Home}
 use Rattle.pz_rules.specs.Framing.{framed}
 use Rattle.pz_rules.specs.Leaving.{is_done}
-use Rattle.pz_rules.specs.Openable.{alone}
 use Rattle.pz_rules.specs.Opening.{called_body, depth_of}
 use Rattle.pz_rules.specs.CallLaws.{plain_call}
 use Rattle.pz_rules.specs.devices.Outlines.{outlined, outlined_all, outlined_to, outlined_in, by_body_outlined, steps_outlined, OutlinesUnfold}
 use Rattle.pz_rules.specs.devices.Weights.{weight_all, CallsAreHeavier}
 use Rattle.pz_part_opening.specs.Bare.{is_bare}
+use Rattle.pz_part_opening.specs.declared.spot.Spot.{Spot}
+use Rattle.pz_part_opening.specs.declared.spot.Spot.TheVariants.{One as OneStep, Several}
 use Rattle.pz_part_opening.specs.declared.spot.Way.{Way}
-use Rattle.pz_part_opening.specs.devices.Spots.{CallStands, StepStands, Stands, IsInside, IsWay}
+use Rattle.pz_part_opening.specs.devices.Spots.{spot_view, CallStands, StepStands, Stands, IsInside, IsWay}
 use Rattle.pz_part_opening.specs.devices.Rounds.{round_outline}
 use Rattle.pz_part_opening.proofs.Framings.{framed_again, framed_as}
 use Rattle.pz_part_opening.proofs.Lighter.{lighter_inside}
 
--- a frame round a frame round a term is the one frame
-
-framed_round : (b : Bool) (t : Term) → framed 0 0 [] t ≡ round_outline b (framed 0 0 [] t)
-framed_round true t = sym (framed_again 0 0 t)
-framed_round false t = refl
-
--- One way further in
+-- one way further in
 
 pub was_framed : (before further after : Bool) → after ≡ before → before ≡ true → after ≡ (before || further)
 was_framed true further after same is = same
@@ -101,7 +97,7 @@ module _ (h : Home) where
   step_not_done (call pos method expressions.none []) stands = leaf_of (λ (t : Term). is_done t ≡ false) (outlined h (plain_call pos method)) (plain_call pos method) (call_stands h pos method stands) refl
   step_not_done r stands = refl
 
-  all_not_bare : (ts : Steps) → Stands h ts → is_bare (outlined_all h ts) ≡ false
+  pub all_not_bare : (ts : Steps) → Stands h ts → is_bare (outlined_all h ts) ≡ false
   all_not_bare no_statements stands = refl
   all_not_bare ((then) r no_statements) stands = step_not_bare r stands
   all_not_bare ((then) r ((then) q rest)) stands = refl
@@ -110,13 +106,24 @@ module _ (h : Home) where
   pub frame_stands : (ts : Steps) → Stands h ts → height (framed 0 0 [] (outlined_all h ts)) ≡ suc (height (outlined_all h ts))
   frame_stands ts stands = ap height (framed_as 0 (outlined_all h ts) (all_not_bare ts stands))
 
-  -- is done where there is no statement
-  pub one_not_done : (r : Step) → Stands h (alone r) → false ≡ is_done (outlined_all h (alone r))
+  -- it is done where there is no statement
+
+  one_not_done : (r : Step) → StepStands h r → false ≡ is_done (outlined h r)
   one_not_done r stands = sym (step_not_done r stands)
 
-  pub done_if_none : (ts : List code.Step) → Stands h (sequence_view ts) → (b : Bool) → (IsTrue b → ts ≡ []) → (ts ≡ [] → IsTrue b) → b ≡ is_done (outlined_all h (sequence_view ts))
-  done_if_none [] stands true empty is_empty = refl
-  done_if_none [] stands false empty is_empty = is_empty refl
-  done_if_none (r ∷ ts) stands true empty is_empty = absurd (some_there r ts (empty refl))
-  done_if_none (r ∷ []) stands false empty is_empty = one_not_done (code_view r) stands
-  done_if_none (r ∷ q ∷ rest) stands false empty is_empty = refl
+  done_if_none : (ts : List code.Step) (b : Bool) → Stands h (sequence_view ts) → (IsTrue b → ts ≡ []) → (ts ≡ [] → IsTrue b) → b ≡ is_done (outlined_all h (sequence_view ts))
+  done_if_none [] true stands empty is_empty = refl
+  done_if_none [] false stands empty is_empty = is_empty refl
+  done_if_none (r ∷ ts) true stands empty is_empty = absurd (some_there r ts (empty refl))
+  done_if_none (r ∷ []) false stands empty is_empty = one_not_done (view r) stands
+  done_if_none (r ∷ q ∷ rest) false stands empty is_empty = refl
+
+  abbrev IsDone : Bool → Spot → Type 0
+  IsDone b spot = b ≡ is_done (outlined_all h (spot_view spot))
+
+  pub one_stands : (spot : Spot) (step : Bor code.Step) → spot ≡ OneStep step → Stands h (spot_view spot) → IsDone false spot
+  one_stands spot step is stands = subst (IsDone false) (sym is) (one_not_done (view step.now) (subst (λ (x : Spot). Stands h (spot_view x)) is stands))
+
+  pub stand_if_some : (spot : Spot) (steps : Bor (List code.Step)) (got : List code.Step) (b : Bool) → spot ≡ Several steps → got ≡ steps.now → (IsTrue b → got ≡ []) → (got ≡ [] → IsTrue b) → Stands h (spot_view spot) → IsDone b spot
+  stand_if_some spot steps got b is same empty is_empty stands =
+      subst (IsDone b) (sym is) (done_if_none steps.now b (subst (λ (x : Spot). Stands h (spot_view x)) is stands) (λ so. sym same ∙ empty so) (λ so. is_empty (same ∙ so)))

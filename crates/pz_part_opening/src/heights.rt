@@ -68,6 +68,7 @@ fn within(home: &Home<'_>, spot: Spot<'_>, room: u64) -> u64
     if room == 0 {
         return 0;
     }
+    // Lent again, for no longer than the spot.
     let inner = go_inside(&*home, spot);
     if inner.framed {
         above(standing_within(home, inner.spot, room - 1), room)

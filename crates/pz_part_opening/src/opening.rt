@@ -89,6 +89,7 @@ fn open_spot(
     ensures marks { state.new.marks ≡ state.old.marks }
 {
     pz_rules::laws::calls_unfold();
+    // Lent again, for no longer than the spot.
     let inner = descend(&*home, spot, state)?;
     let term = open_standing(alloc, home, inner.spot, state)?;
     in_frame(alloc, inner.frame, term)

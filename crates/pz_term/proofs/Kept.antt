@@ -68,6 +68,14 @@ kept_processes setting clock ps (standing.High trouble) m one g is h = absurd (n
 kept_processes setting clock ps (standing.Stopped trouble) m one g is h = absurd (goes_on_not m (Stopped trouble) is g (λ x. x))
 kept_processes setting clock ps standing.Broken m one g is h = absurd (goes_on_not m Broken is g (λ x. x))
 
+-- where there are offers, it is whole
+pub never_other : (setting : Setting) (clock : ℕ) (ps : List Process) (s found : Standing) (n : ℕ) → OneMoment → IsMomentOf (simulation_at setting clock ps s) (Actions n) → ∥ Holds setting clock ps s ∥₁ → found ≡ s
+    → ((x : Outlook) → found ≡ standing.Whole x → ⊥) → ⊥
+never_other setting clock ps (standing.Whole outlook) found n one is h same absent = absent outlook same
+never_other setting clock ps (standing.High trouble) found n one is h same absent = never_high setting clock ps trouble (Actions n) one tt is h
+never_other setting clock ps (standing.Stopped trouble) found n one is h same absent = goes_on_not (Actions n) (Stopped trouble) is tt (λ x. x)
+never_other setting clock ps standing.Broken found n one is h same absent = goes_on_not (Actions n) Broken is tt (λ x. x)
+
 -- the clock is that of the configuration
 pub clock_is : (setting : Setting) (clock : ℕ) (ps : List Process) (s : Standing) → ∥ Holds setting clock ps s ∥₁ → ClockIs (simulation_at setting clock ps s) clock
 clock_is setting clock ps (standing.Whole outlook) h = refl

@@ -2,4 +2,5 @@ mod Given
 mod First
 mod ProcessClasses
 pub mod StatementPlaces
+mod Beginnings
 mod Starts

@@ -1,8 +1,6 @@
-use Rattle.std.proofs.Common.{◌≡◌, ℕ, Bool, List, min, refl, ap, sym, ◌∙◌, arith}
-use Rattle.pz_classes_code.specs.declared.step.Step.{Step}
-use Rattle.pz_classes_code.specs.StepView.{view, sequence_view}
-use Rattle.pz_rules.specs.Openable.{alone}
-use Rattle.pz_rules.specs.Terms.{Term, height}
+use Rattle.std.proofs.Common.{ℕ, Bool, min, ap, sym, ◌∙◌, arith}
+use Rattle.pz_classes_code.specs.StepView.{view}
+use Rattle.pz_rules.specs.Terms.{height}
 use Rattle.pz_rules.specs.devices.Outlines.{outlined, outlined_all}
 use Rattle.pz_part_opening.specs.Homes.{home_view}
 use Rattle.pz_part_opening.specs.devices.Rounds.{round_outline}
