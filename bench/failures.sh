@@ -12,7 +12,7 @@
 source "$(dirname "${BASH_SOURCE[0]}")/common.sh"
 uses poosl_run
 data=$top/crates/rows_run/data
-lines=('run same_instant.poosl --choices 0,0,0,1' 'run cyclic_objects.poosl' 'run lost_item.poosl')
+lines=('run same_instant.poosl --choices 0,1' 'run cyclic_objects.poosl' 'run lost_item.poosl')
 (($# == 0)) || lines=("$@")
 
 cat >"$room/refusing.c" <<'END'

@@ -98,7 +98,7 @@ def mutant(rng, text):
     for _ in range(rng.choice([1, 1, 1, 2, 3])):
         text = rng.choice(WAYS)(rng, text)[:LONG]
     if rng.random() < 0.0005:
-        text += b" " * rng.choice([2**20 - len(text), 2**20 - len(text) + 1])
+        text += b" " * rng.choice([2**23 - len(text), 2**23 - len(text) + 1])
     return text
 
 

@@ -86,7 +86,7 @@ wrong_with() { # name, status and sum of the first run, those of the second
     echo "two answers: status $2, and then $4"
   elif [[ ! $2 =~ ^[0-7]$ ]]; then
     echo "status $2"
-  elif [[ $2 == 7 ]] && ((size <= 1048576)); then
+  elif [[ $2 == 7 ]] && ((size <= 8388608)); then
     echo "too long, of $size bytes"
   fi
 }

@@ -20,14 +20,14 @@ use Rattle.pz_rules.specs.Becoming.{Became}
 use Rattle.pz_part_opening.specs.declared.home.Home.{Home}
 use Rattle.pz_part_opening.specs.Homes.{home_view}
 use Rattle.pz_part_queries.specs.declared.standpoint.Standpoint.{Standpoint}
-use Rattle.pz_part_actions.specs.Homes.{seen_home}
+use Rattle.pz_part_actions.specs.devices.Standing.{seen_there}
 use Rattle.pz_part_actions.proofs.Forms.{shows_Seq}
 
 pub became_left : (p : Process) (t : Term) (old new : Seen) → Became p t old new → p ≡ left_by new.held t
 became_left p t old new became = ap (λ (x : Term). left_by p.state x) (sym became.term) ∙ ap (λ (z : Seen). left_by z.held t) (sym became.state)
 
 -- where the edition is that of the home
-pub home_is : (here : Standpoint) (home : Home) (s : StateView) → here.limits.edition ≡ home.edition → home_of (seen_home here home s) ≡ home_view home
+pub home_is : (here : Standpoint) (home : Home) (s : StateView) → here.limits.edition ≡ home.edition → home_of (seen_there here home s) ≡ home_view home
 home_is here home s edition = ap (λ (e : Edition). let h : rules.Home = record { model = checked_model home.checked.now; edition = e; class = home.class.0 } in h) edition
 
 -- the body of a loop, and then the loop

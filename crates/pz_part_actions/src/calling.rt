@@ -19,7 +19,7 @@ ghost use Rattle.pz_part_opening.specs.Homes.{home_view};
 ghost use Rattle.pz_part_queries.specs.Standpoints.{Knows};
 ghost use Rattle.pz_part_actions.specs.Becoming.{process_left};
 ghost use Rattle.pz_part_actions.specs.Fitting.{FitsHere};
-ghost use Rattle.pz_part_actions.specs.Homes.{seen_home};
+ghost use Rattle.pz_part_actions.specs.devices.Standing.{seen_there};
 ghost use Rattle.pz_part_actions.specs.devices.Calls.{IsCallable, round_body};
 
 use crate::evaluating::evaluate_all;
@@ -125,7 +125,7 @@ pub(crate) fn perform_call(
     requires fits { ∥ FitsHere here.now home.now.class (terms.leaf
         (statements.call pos method.now (list_view args.now) results.now)) ∥₁ }
     ensures performs { Knows (checked_model home.now.checked.now) here.now →
-        IfOk result (λ left. Performs (seen_home here.now home.now state.old.held) frame.0
+        IfOk result (λ left. Performs (seen_there here.now home.now state.old.held) frame.0
         (terms.leaf (statements.call pos method.now (list_view args.now) results.now)) pos
         (process_left state.new.held left)) }
     ensures marks { OnOk result (state.new.marks ≡ state.old.marks) }

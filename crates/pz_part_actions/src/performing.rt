@@ -18,6 +18,7 @@ ghost use Rattle.pz_rules.specs.Acting.{IsActing};
 ghost use Rattle.pz_part_actions.specs.Becoming.{process_left, done_left};
 ghost use Rattle.pz_part_actions.specs.Fitting.{FitsHere};
 ghost use Rattle.pz_part_actions.specs.Homes.{seen_home};
+ghost use Rattle.pz_part_actions.specs.devices.Standing.{seen_there};
 
 use crate::calling::perform_call;
 use crate::evaluating::{evaluate, run, without_value};
@@ -94,7 +95,7 @@ fn perform_step(
     requires acts { IsActing (terms.leaf (view step.now)) }
     requires fits { ∥ FitsHere here.now home.now.class (terms.leaf (view step.now)) ∥₁ }
     ensures performs { Knows (checked_model home.now.checked.now) here.now →
-        IfOk result (λ left. Performs (seen_home here.now home.now state.old.held) frame.0
+        IfOk result (λ left. Performs (seen_there here.now home.now state.old.held) frame.0
         (terms.leaf (view step.now)) step.now.pos (process_left state.new.held left)) }
     ensures marks { OnOk result (state.new.marks ≡ state.old.marks) }
 {
@@ -162,8 +163,8 @@ fn perform_part(
     requires fits { ∥ FitsHere here.now home.now.class (term_view part.now) ∥₁ }
     ensures performs { (kind : Kind) (pos : Position) →
         Knows (checked_model home.now.checked.now) here.now →
-        Can (seen_home here.now home.now state.old.held) frame.0 (term_view part.now) kind pos →
-        IfOk result (λ left. Performs (seen_home here.now home.now state.old.held) frame.0
+        Can (seen_there here.now home.now state.old.held) frame.0 (term_view part.now) kind pos →
+        IfOk result (λ left. Performs (seen_there here.now home.now state.old.held) frame.0
         (term_view part.now) pos (process_left state.new.held left)) }
     ensures marks { OnOk result (state.new.marks ≡ state.old.marks) }
 {

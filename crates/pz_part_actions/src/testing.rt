@@ -15,7 +15,7 @@ ghost use Rattle.pz_eval.specs.Known.{AreKnown};
 ghost use Rattle.pz_part_opening.specs.Homes.{home_view};
 ghost use Rattle.pz_part_queries.specs.Standpoints.{Knows};
 ghost use Rattle.pz_part_actions.specs.Becoming.{process_left};
-ghost use Rattle.pz_part_actions.specs.Homes.{seen_home};
+ghost use Rattle.pz_part_actions.specs.devices.Standing.{seen_there};
 ghost use Rattle.pz_part_actions.specs.devices.Parts.{otherwise_view};
 
 use crate::evaluating::test;
@@ -65,7 +65,7 @@ pub(crate) fn perform_if(
     requires known { AreKnown here.now.classes.now }
     requires edition { here.now.limits.edition ≡ home.now.edition }
     ensures performs { Knows (checked_model home.now.checked.now) here.now →
-        IfOk result (λ left. Performs (seen_home here.now home.now state.old.held) frame.0
+        IfOk result (λ left. Performs (seen_there here.now home.now state.old.held) frame.0
         (terms.leaf (statements.conditional pos (code.view condition.now) (sequence_view steps.now)
         (otherwise_view other.now))) pos (process_left state.new.held left)) }
     ensures marks { OnOk result (state.new.marks ≡ state.old.marks) }
@@ -128,7 +128,7 @@ pub(crate) fn perform_while(
     requires is { view step.now ≡ statements.repeated step.now.pos (code.view condition.now)
         (sequence_view body.now) }
     ensures performs { Knows (checked_model home.now.checked.now) here.now →
-        IfOk result (λ left. Performs (seen_home here.now home.now state.old.held) frame.0
+        IfOk result (λ left. Performs (seen_there here.now home.now state.old.held) frame.0
         (terms.leaf (view step.now)) step.now.pos (process_left state.new.held left)) }
     ensures marks { OnOk result (state.new.marks ≡ state.old.marks) }
 {

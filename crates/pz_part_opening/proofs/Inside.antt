@@ -1,52 +1,35 @@
--- What opens further in, and round what a frame stands.
-use Rattle.std.proofs.Common.{◌≡◌, ◌<◌, ◌≤◌, ◌+◌, ℕ, suc, Bool, true, false, List, [], ◌∷◌, Option, Some, None, refl, sym, subst, ap, ◌∙◌, inl, inr, rules}
+-- What opens where nothing further in does, what opens further in, and frames round it.
+use Rattle.std.proofs.Common.{◌≡◌, ℕ, false, [], ◌∷◌, Option, Some, None, refl, sym, subst, ap, ◌∙◌, inl, inr}
 use Rattle.std.proofs.lemmas.Option.{same_Some, none-some}
-use Rattle.pz_syntax.specs.declared.tokens.Pos.{Pos}
 use Rattle.pz_syntax.specs.Expressions.{none, more}
-use Rattle.pz_syntax.specs.Statements.{skip, delay, bracketed, block, guarded, parallel, select, conditional, repeated, abort, interrupt, send, receive, call, assignment, value, no_statements, then}
-use Rattle.pz_classes_code.specs.declared.code.Code.{Code}
-use Rattle.pz_classes_code.specs.declared.step.Step as code
-use Rattle.pz_classes_code.specs.declared.step.StepForm.{StepForm, fold-roll-StepForm}
-use Rattle.pz_classes_code.specs.declared.step.StepForm.TheOpen.{StepForm-F}
-use Rattle.pz_classes_code.specs.declared.step.StepForm.TheVariants as form
-use Rattle.pz_classes_code.specs.declared.step.StepForm.TheViews.{out-StepForm, roll-StepForm, roll-out-StepForm}
-use Rattle.pz_classes_code.specs.declared.step.StepForm.TheFolds.{the_lemmas}
-use Rattle.pz_classes_code.specs.StepView as step
+use Rattle.pz_syntax.specs.Statements.{bracketed, guarded, parallel, select, abort, interrupt, call, no_statements, then}
 use Rattle.pz_state.specs.States.{StateView, IsLeastFree, opened as with_frame}
 use Rattle.pz_state.specs.Marks.{Seen, changed}
 use Rattle.pz_state.specs.declared.state.FrameId.{FrameId}
-use Rattle.pz_rules.specs.Terms as terms
-use Rattle.pz_rules.specs.Terms.{Step, Steps, Term, frame, sequence, idle, handling, leaf, wait, done}
+use Rattle.pz_rules.specs.Terms.{Step, Steps, Term, leaf}
 use Rattle.pz_rules.specs.Settings.{Process, left_by, Home}
 use Rattle.pz_rules.specs.Framing.{framed}
-use Rattle.pz_rules.specs.FrameNumbers.{least_free}
 use Rattle.pz_rules.specs.Laws.{OneNumberIsLeast}
 use Rattle.pz_rules.specs.Opening.{in_frame, opened, opened_all}
 use Rattle.pz_rules.specs.Becoming.{Became}
-use Rattle.pz_rules.specs.CallLaws.{plain_call, CallsUnfold, CallsStand, CallsOfNoneStand}
+use Rattle.pz_rules.specs.CallLaws.{CallsUnfold, CallsStand, CallsOfNoneStand}
 use Rattle.pz_part_opening.specs.Bare.{is_bare}
 use Rattle.pz_part_opening.specs.declared.opening.Descent.{Descent}
 use Rattle.pz_part_opening.specs.declared.spot.Spot.{Spot}
 use Rattle.pz_part_opening.specs.devices.Spots.{spot_view, Stands, StepStands, IsBracketOf, IsCallOf, IsInside}
 use Rattle.pz_part_opening.specs.devices.Rounds.{round_frame, frame_round, LeadsIn}
+use Rattle.pz_part_opening.proofs.Forms.{IsSmall}
+use Rattle.pz_part_opening.proofs.Framings.{framed_again, framed_as}
 
--- a frame without outputs that is all of such a frame stands in its place
-
-framed_again : (a b : ℕ) (t : Term) → framed a 0 [] (framed b 0 [] t) ≡ framed b 0 [] t
-framed_again a b (frame number inputs [] t) = refl
-framed_again a b (frame number inputs (slot ∷ slots) t) = refl
-framed_again a b t = refl
+-- frames
 
 round_again : (outer : Option FrameId) (number : FrameId) (x : Process) → round_frame outer (round_frame (Some number) x) ≡ round_frame (Some number) x
 round_again None number x = refl
 round_again (Some outer) number x = ap (left_by x.state) (framed_again outer.0 number.0 x.term)
 
-framed_round : (number : ℕ) (t : Term) → is_bare t ≡ false → framed number 0 [] t ≡ frame number 0 [] t
-framed_round number (frame inner inputs [] t) bare = absurd (differ bare)
-  where
-    differ : true ≡ false → ⊥
-    differ e = cc
-framed_round number t bare = refl
+frame_round_is : (outer : Option FrameId) (x : Process) → is_bare x.term ≡ false → round_frame outer x ≡ left_by x.state (frame_round outer x.term)
+frame_round_is None x bare = refl
+frame_round_is (Some number) x bare = ap (left_by x.state) (framed_as number.0 x.term bare)
 
 -- what stands there, and has no inside, opens as no frame without outputs
 module _ (stands : CallsStand) (no_method : CallsOfNoneStand) where
@@ -63,70 +46,30 @@ module _ (stands : CallsStand) (no_method : CallsOfNoneStand) where
   not_bare h ((then) r no_statements) s there = step_not_bare h r s there
   not_bare h ((then) r ((then) q rest)) s there = refl
 
--- and is a leaf, if it has no parts that open
-abbrev pub HasNoParts : Step → Type 0
-HasNoParts (guarded pos test t) = ⊥
-HasNoParts (parallel pos bs) = ⊥
-HasNoParts (select pos bs) = ⊥
-HasNoParts (abort pos ts t) = ⊥
-HasNoParts (interrupt pos ts t) = ⊥
-HasNoParts _ = Unit {0}
+  -- and as a leaf, if it has no parts that open
+  leaf_opens : (h : Home) (r : Step) (s : StateView) → StepStands h r → IsSmall r → opened h r s ≡ left_by s (leaf r)
+  leaf_opens h (bracketed pos ts) s there small = absurd there
+  leaf_opens h (guarded pos test t) s there small = absurd small
+  leaf_opens h (parallel pos bs) s there small = absurd small
+  leaf_opens h (select pos bs) s there small = absurd small
+  leaf_opens h (abort pos ts t) s there small = absurd small
+  leaf_opens h (interrupt pos ts t) s there small = absurd small
+  leaf_opens h (call pos method none []) s (inl one) small = stands h pos method s one
+  leaf_opens h (call pos method none []) s (inr none_there) small = no_method h pos method s none_there
+  leaf_opens h (call pos method none (x ∷ xs)) s there small = refl
+  leaf_opens h (call pos method (more e es) results) s there small = refl
+  leaf_opens h r s there small = refl
 
-shows_step : (pos : Pos) (x : StepForm) → step.view (record { pos = pos; form = x }) ≡ step.form_view x pos
-shows_step pos x = search (rules, the_lemmas)
-
-module _ (x : StepForm) (no_guard : (e : Code) (t : code.Step) → x ≡ form.Guard e t → ⊥) (no_par : (bs : List (List code.Step)) → x ≡ form.Par bs → ⊥)
-    (no_sel : (bs : List (List code.Step)) → x ≡ form.Sel bs → ⊥) (no_abort : (ts : List code.Step) (t : code.Step) → x ≡ form.Abort ts t → ⊥)
-    (no_interrupt : (ts : List code.Step) (t : code.Step) → x ≡ form.Interrupt ts t → ⊥) where
-  formed : (pos : Pos) (y : StepForm-F StepForm code.Step) → roll-StepForm y ≡ x → HasNoParts (step.form_view x pos)
-  formed pos StepForm-F.Skip is = subst (λ (g : Pos → Step). HasNoParts (g pos)) (sym (fold-roll-StepForm (Pos → Step) Step step.form_step step.step_step StepForm-F.Skip) ∙ ap step.form_view is) tt
-  formed pos (StepForm-F.Delay e) is = subst (λ (g : Pos → Step). HasNoParts (g pos)) (sym (fold-roll-StepForm (Pos → Step) Step step.form_step step.step_step (StepForm-F.Delay e)) ∙ ap step.form_view is) tt
-  formed pos (StepForm-F.Group ts) is = subst (λ (g : Pos → Step). HasNoParts (g pos)) (sym (fold-roll-StepForm (Pos → Step) Step step.form_step step.step_step (StepForm-F.Group ts)) ∙ ap step.form_view is) tt
-  formed pos (StepForm-F.Block es) is = subst (λ (g : Pos → Step). HasNoParts (g pos)) (sym (fold-roll-StepForm (Pos → Step) Step step.form_step step.step_step (StepForm-F.Block es)) ∙ ap step.form_view is) tt
-  formed pos (StepForm-F.Guard e t) is = absurd (no_guard e t (sym is ∙ form.rolls-Guard e t))
-  formed pos (StepForm-F.Par bs) is = absurd (no_par bs (sym is ∙ form.rolls-Par bs))
-  formed pos (StepForm-F.Sel bs) is = absurd (no_sel bs (sym is ∙ form.rolls-Sel bs))
-  formed pos (StepForm-F.If e body other) is = subst (λ (g : Pos → Step). HasNoParts (g pos)) (sym (fold-roll-StepForm (Pos → Step) Step step.form_step step.step_step (StepForm-F.If e body other)) ∙ ap step.form_view is) tt
-  formed pos (StepForm-F.While e body) is = subst (λ (g : Pos → Step). HasNoParts (g pos)) (sym (fold-roll-StepForm (Pos → Step) Step step.form_step step.step_step (StepForm-F.While e body)) ∙ ap step.form_view is) tt
-  formed pos (StepForm-F.Abort ts t) is = absurd (no_abort ts t (sym is ∙ form.rolls-Abort ts t))
-  formed pos (StepForm-F.Interrupt ts t) is = absurd (no_interrupt ts t (sym is ∙ form.rolls-Interrupt ts t))
-  formed pos (StepForm-F.Send port name args after) is = subst (λ (g : Pos → Step). HasNoParts (g pos)) (sym (fold-roll-StepForm (Pos → Step) Step step.form_step step.step_step (StepForm-F.Send port name args after)) ∙ ap step.form_view is) tt
-  formed pos (StepForm-F.Receive port name into condition after) is = subst (λ (g : Pos → Step). HasNoParts (g pos)) (sym (fold-roll-StepForm (Pos → Step) Step step.form_step step.step_step (StepForm-F.Receive port name into condition after)) ∙ ap step.form_view is) tt
-  formed pos (StepForm-F.Call method args results) is = subst (λ (g : Pos → Step). HasNoParts (g pos)) (sym (fold-roll-StepForm (Pos → Step) Step step.form_step step.step_step (StepForm-F.Call method args results)) ∙ ap step.form_view is) tt
-  formed pos (StepForm-F.Eval e) is = subst (λ (g : Pos → Step). HasNoParts (g pos)) (sym (fold-roll-StepForm (Pos → Step) Step step.form_step step.step_step (StepForm-F.Eval e)) ∙ ap step.form_view is) tt
-
-  pub no_parts : (s : code.Step) → s.form ≡ x → HasNoParts (step.view s)
-  no_parts s is = rw (shows_step s.pos s.form ∙ ap (λ (y : StepForm). step.form_view y s.pos) is) (formed s.pos (out-StepForm x) (roll-out-StepForm x))
-
-module _ (stands : CallsStand) (no_method : CallsOfNoneStand) where
-  leaf_opens : (h : Home) (r : Step) (s : StateView) → StepStands h r → HasNoParts r → opened h r s ≡ left_by s (leaf r)
-  leaf_opens h (bracketed pos ts) s there none_in = absurd there
-  leaf_opens h (guarded pos test t) s there none_in = absurd none_in
-  leaf_opens h (parallel pos bs) s there none_in = absurd none_in
-  leaf_opens h (select pos bs) s there none_in = absurd none_in
-  leaf_opens h (abort pos ts t) s there none_in = absurd none_in
-  leaf_opens h (interrupt pos ts t) s there none_in = absurd none_in
-  leaf_opens h (call pos method none []) s (inl one) none_in = stands h pos method s one
-  leaf_opens h (call pos method none []) s (inr none_there) none_in = no_method h pos method s none_there
-  leaf_opens h (call pos method none (x ∷ xs)) s there none_in = refl
-  leaf_opens h (call pos method (more e es) results) s there none_in = refl
-  leaf_opens h r s there none_in = refl
-
-  pub leaf_became : (h : Home) (r : Step) (t : Term) (s : Seen) → StepStands h r → HasNoParts r → t ≡ leaf r → Became (opened h r s.held) t s s
-  leaf_became h r t s there none_in is = record {
-    term = is ∙ ap (λ (p : Process). p.term) (sym (leaf_opens h r s.held there none_in));
-    state = ap (λ (p : Process). changed s p.state) (sym (leaf_opens h r s.held there none_in));
+  pub leaf_became : (h : Home) (r : Step) (t : Term) (s : Seen) → StepStands h r → IsSmall r → t ≡ leaf r → Became (opened h r s.held) t s s
+  leaf_became h r t s there small is = record {
+    term = is ∙ ap (λ (p : Process). p.term) (sym (leaf_opens h r s.held there small));
+    state = ap (λ (p : Process). changed s p.state) (sym (leaf_opens h r s.held there small));
   }
 
-frame_round_is : (outer : Option FrameId) (x : Process) → is_bare x.term ≡ false → round_frame outer x ≡ left_by x.state (frame_round outer x.term)
-frame_round_is None x bare = refl
-frame_round_is (Some number) x bare = ap (left_by x.state) (framed_round number.0 x.term bare)
+-- ways in
 
 abbrev descent : Option FrameId → Spot → Descent
 descent outer inner = record { frame = outer; spot = inner }
-
-pub at_first : (h : Home) (spot : Spot) (s : Seen) → LeadsIn h spot (descent None spot) s s
-at_first h spot s = record { opens = refl; marks = refl }
 
 -- into a bracket
 into_bracket : (h : Home) (spot here inner : Spot) (outer : Option FrameId) (old new : Seen) → IsBracketOf (spot_view here) (spot_view inner)
@@ -171,7 +114,7 @@ pub by_bracket : (h : Home) (spot here inner : Spot) (locals : Option ℕ) (oute
     → after ≡ outer → LeadsIn h spot (descent outer here) old mid → LeadsIn h spot (descent after inner) old new
 by_bracket h spot here inner None outer after old mid new is none_there same last so_far =
     subst (λ (f : Option FrameId). LeadsIn h spot (descent f inner) old new) (sym last)
-        (subst (λ (s : Seen). LeadsIn h spot (descent outer inner) old s) (sym same) (into_bracket h spot here inner outer old mid is so_far))
+    (subst (λ (s : Seen). LeadsIn h spot (descent outer inner) old s) (sym same) (into_bracket h spot here inner outer old mid is so_far))
 by_bracket h spot here inner (Some locals) outer after old mid new is none_there same last so_far = absurd (none-some locals (sym none_there))
 
 -- what opened inside, with a frame round it
@@ -182,7 +125,7 @@ module _ (stands : CallsStand) (no_method : CallsOfNoneStand) where
   with_round h spot inner old mid new t whole leads there became is =
       let x = opened_all h (spot_view inner.spot) mid.held in
       let same : opened_all h (spot_view spot) old.held ≡ left_by x.state (frame_round inner.frame x.term)
-            = leads.opens ∙ frame_round_is inner.frame x (not_bare stands no_method h (spot_view inner.spot) mid.held there) in
+      = leads.opens ∙ frame_round_is inner.frame x (not_bare stands no_method h (spot_view inner.spot) mid.held there) in
       record {
         term = is ∙ ap (frame_round inner.frame) became.term ∙ ap (λ (p : Process). p.term) (sym same);
         state = became.state ∙ ap (λ (s : Seen). changed s x.state) leads.marks ∙ ap (λ (p : Process). changed old p.state) (sym same);

@@ -11,14 +11,11 @@ use Rattle.pz_classes_code.specs.StepView as step
 use Rattle.pz_rules.specs.declared.term.Term.{Term, fold-roll-Term}
 use Rattle.pz_rules.specs.declared.term.Term.TheOpen.{Term-F}
 use Rattle.pz_rules.specs.declared.term.Term.TheVariants.{Done, Leaf, Seq, rolls-Done, rolls-Leaf, rolls-Seq}
-use Rattle.pz_syntax.specs.Statements.{Branches}
-use Rattle.pz_value.specs.declared.value.ClassId.{ClassId}
-use Rattle.pz_classes_code.specs.declared.slot.Slot.{Slot}
 use Rattle.pz_state.specs.States.{StateView}
-use Rattle.pz_state.specs.Marks.{Seen, changed}
+use Rattle.pz_state.specs.Marks.{Seen, changed, marked, kept}
 use Rattle.pz_rules.specs.Terms as terms
 use Rattle.pz_rules.specs.Terms.{Terms, no_terms, and}
-use Rattle.pz_rules.specs.Settings.{Process, left_by, Home}
+use Rattle.pz_rules.specs.Settings.{Process, Home}
 use Rattle.pz_rules.specs.Opening.{Beside, steps_opened, branches_opened, opened, opened_all}
 use Rattle.pz_rules.specs.Becoming.{Became}
 use Rattle.pz_rules.specs.View.{term_view, term_step, terms_view, branches_view}
@@ -77,7 +74,7 @@ several_open : (h : Home) (ts waiting : List Step) (r : Step) (t boxed : Term) (
 several_open h [] waiting r t boxed old new two is behind same began = absurd (omega (arith, two))
 several_open h (q ∷ []) waiting r t boxed old new two is behind same began = absurd (omega (arith, two))
 several_open h (q ∷ p ∷ rest) waiting r t boxed old new two is behind same began = more_wait h r t old new began (q ∷ p ∷ rest) waiting boxed (ap (λ (x : Step). Some x) is) behind same
-        (ap (λ (l : List Step). length l == 0) behind ∙ some_there (length rest))
+    (ap (λ (l : List Step). length l == 0) behind ∙ some_there (length rest))
 
 -- one alone
 one_opens : (h : Home) (ts : List Step) (r : Step) (t : terms.Term) (old new : Seen) → length ts ≡ 1 → r ≡ get_or ts 0 r
@@ -139,11 +136,24 @@ module _ (enter : terms.Step → StateView → Process) where
       let x = steps_opened enter (step.sequence_view b) xs.state in
       let began : Became x (term_view t) mid new = subst (λ (s : StateView). Became (steps_opened enter (step.sequence_view b) s) (term_view t) mid new) at_mid became in
       let whole : branches_opened enter (branches_view (take (i + 1) bs)) old.held ≡ followed xs (step.sequence_view b)
-            = ap (λ (cs : List (List Step)). branches_opened enter (branches_view cs) old.held) (take_more bs i b within)
-            ∙ ap (λ (c : List Step). branches_opened enter (branches_view (take i bs ++ c ∷ [])) old.held) (sym is)
-            ∙ branches_push (take i bs) b old.held in
+      = ap (λ (cs : List (List Step)). branches_opened enter (branches_view cs) old.held) (take_more bs i b within)
+      ∙ ap (λ (c : List Step). branches_opened enter (branches_view (take i bs ++ c ∷ [])) old.held) (sym is)
+      ∙ branches_push (take i bs) b old.held in
       record {
         terms = ap terms_view more ∙ terms_push ts t ∙ ap (λ (us : Terms). with_last us (term_view t)) so_far.terms ∙ ap (λ (u : terms.Term). with_last xs.terms u) began.term
             ∙ ap (λ (ys : Beside). ys.terms) (sym whole);
         state = began.state ∙ ap (λ (s : Seen). changed s x.state) so_far.state ∙ ap (λ (ys : Beside). changed old ys.state) (sym whole);
       }
+
+-- behind a mark that is kept
+pub kept_became : (h g : Home) (ts us : List Step) (t : terms.Term) (old mid new last : Seen) (point : ℕ) → h ≡ g → ts ≡ us → mid ≡ marked old point → last ≡ kept new
+    → Became (opened_all h (step.sequence_view ts) mid.held) t mid new → Became (opened_all g (step.sequence_view us) old.held) t old last
+kept_became h g ts us t old mid new last point home same at_mark keeps became =
+    let p : Process = opened_all h (step.sequence_view ts) mid.held in
+    let whole : p ≡ opened_all g (step.sequence_view us) old.held
+    = ap (λ (x : Home). opened_all x (step.sequence_view ts) mid.held) home ∙ ap (λ (xs : List Step). opened_all g (step.sequence_view xs) mid.held) same
+    ∙ ap (λ (s : Seen). opened_all g (step.sequence_view us) s.held) at_mark in
+    record {
+      term = became.term ∙ ap (λ (x : Process). x.term) whole;
+      state = keeps ∙ ap kept became.state ∙ ap (λ (s : Seen). kept (changed s p.state)) at_mark ∙ ap (λ (x : Process). changed old x.state) whole;
+    }

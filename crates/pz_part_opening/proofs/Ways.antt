@@ -20,7 +20,7 @@ use Rattle.pz_part_opening.specs.declared.spot.Spot.TheVariants.{Several}
 
 -- what statements of the code stand for
 
-view_of : (pos : Pos) (x : StepForm) → step.view (record { pos = pos; form = x }) ≡ step.form_view x pos
+pub view_of : (pos : Pos) (x : StepForm) → step.view (record { pos = pos; form = x }) ≡ step.form_view x pos
 view_of pos x = search (rules, the_lemmas)
 
 shown_call : (pos : Pos) (method : Id) (args : List Code) (results : List Slot) → step.form_view (form.Call method args results) pos ≡ call pos method (list_view args) results

@@ -30,10 +30,10 @@ struct Innermost<'s> {
 /// What stands inside in the end: no bracket and no plain call that opens is all that stands there. A frame
 /// that is all of a frame stands in its place, so one is left of those on the way.
 fn go_inside<'s>(home: &Home<'s>, spot: Spot<'s>) -> Innermost<'s>
-    ensures opened { outlined_all (home_view home.now) (spot_view spot) ≡
+    ensures opened { outlined_all (home_view home.now) (spot_view spot.entry) ≡
         round_outline result.framed (outlined_all (home_view home.now) (spot_view result.spot)) }
     ensures lighter { weight_all (home_view home.now) (spot_view result.spot) ≤
-        weight_all (home_view home.now) (spot_view spot) }
+        weight_all (home_view home.now) (spot_view spot.entry) }
     ensures stands { Stands (home_view home.now) (spot_view result.spot) }
 {
     pz_rules::laws::calls_unfold();
@@ -63,12 +63,13 @@ fn above(part: u64, room: u64) -> u64
 /// to `room` of them in one another.
 #[cycle(heights)]
 fn within(home: &Home<'_>, spot: Spot<'_>, room: u64) -> u64
-    ensures { result ≡ min (height (outlined_all (home_view home.now) (spot_view spot))) room }
+    ensures { result ≡ min (height (outlined_all (home_view home.now) (spot_view spot.entry))) room }
 {
     if room == 0 {
         return 0;
     }
-    let inner = go_inside(home, spot);
+    // Lent again, for no longer than the spot.
+    let inner = go_inside(&*home, spot);
     if inner.framed {
         above(standing_within(home, inner.spot, room - 1), room)
     } else {
@@ -80,7 +81,7 @@ fn within(home: &Home<'_>, spot: Spot<'_>, room: u64) -> u64
 #[cycle(heights)]
 fn standing_within(home: &Home<'_>, spot: Spot<'_>, room: u64) -> u64
     requires { Stands (home_view home.now) (spot_view spot) }
-    ensures { result ≡ min (height (outlined_all (home_view home.now) (spot_view spot))) room }
+    ensures { result ≡ min (height (outlined_all (home_view home.now) (spot_view spot.entry))) room }
 {
     if room == 0 {
         return 0;
@@ -182,8 +183,8 @@ pub fn stays_within(home: &Home<'_>, steps: &[Step], room: u64) -> u64
 
 /// Whether no statement stands there.
 fn is_empty(spot: Spot<'_>) -> bool
-    ensures { (home : rules.Home) → Stands home (spot_view spot) →
-        result ≡ is_done (outlined_all home (spot_view spot)) }
+    ensures { (home : rules.Home) → Stands home (spot_view spot.entry) →
+        result ≡ is_done (outlined_all home (spot_view spot.entry)) }
 {
     match spot {
         Spot::One(_) => false,

@@ -89,6 +89,7 @@ fn open_spot(
     ensures marks { state.new.marks ≡ state.old.marks }
 {
     pz_rules::laws::calls_unfold();
+    // Lent again, for no longer than the spot.
     let inner = descend(&*home, spot, state)?;
     let term = open_standing(alloc, home, inner.spot, state)?;
     in_frame(alloc, inner.frame, term)
@@ -151,14 +152,14 @@ fn open_form(
             Ok(Term::Sel(parts))
         }
         StepForm::Abort(first, second) => {
-            let first = Boxed::new(alloc, open_spot(alloc, home, Spot::Several(first), state)?)?;
-            let second = Spot::One(second.get());
+            let (first, second) = (Spot::Several(first), Spot::One(second.get()));
+            let first = Boxed::new(alloc, open_spot(alloc, home, first, state)?)?;
             let second = Boxed::new(alloc, open_spot(alloc, home, second, state)?)?;
             Ok(Term::Abort(first, second))
         }
         StepForm::Interrupt(first, again) => {
-            let first = Boxed::new(alloc, open_spot(alloc, home, Spot::Several(first), state)?)?;
-            let second = Spot::One(again.get());
+            let (first, second) = (Spot::Several(first), Spot::One(again.get()));
+            let first = Boxed::new(alloc, open_spot(alloc, home, first, state)?)?;
             let second = Boxed::new(alloc, open_spot(alloc, home, second, state)?)?;
             Ok(Term::Idle(first, second, again.copy()?))
         }

@@ -9,7 +9,7 @@ use Rattle.pz_rules.specs.declared.moment.Moment.TheVariants.{Actions, Time, Fin
 use Rattle.pz_rules.specs.Settings.{Setting}
 use Rattle.pz_rules.specs.Configurations.{Config, IsWhole}
 use Rattle.pz_rules.specs.Steps.{Next, PassesTo}
-use Rattle.pz_rules.specs.Moments.{Candidate, faulty, acting, passing, finished, deadlock, rank, IsMoment}
+use Rattle.pz_rules.specs.Moments.{Candidate, high, faulty, acting, passing, finished, deadlock, rank, IsMoment}
 use Rattle.pz_rules.specs.Runs.{Event, acted, passed, IsChoice, Standing, whole, stopped, Reaches, Ending, ended, deadlocked, troubled, halted, refused, Ends}
 use Rattle.pz_rules.specs.Runs as runs
 use Rattle.pz_rules.specs.ChosenRuns as chosen
@@ -222,12 +222,13 @@ module _ (setting : Setting) (policy : Policy) where
   waits_at j clock Broken d h = stops_waits h
 
   -- the ranks of what is ever said
-  said : (c : Config) (m : Moment) → Candidate setting c m → (1 ≤ rank m) × (rank m ≤ 5)
-  said c _ (faulty t x) = (omega arith, omega arith)
-  said c _ (acting xs x some) = (omega arith, omega arith)
-  said c _ (passing d x) = (omega arith, omega arith)
-  said c _ (finished x) = (omega arith, omega arith)
-  said c _ deadlock = (omega arith, omega arith)
+  said : (c : Config) (m : Moment) → Candidate setting c m → rank m ≤ 5
+  said c _ (high t x) = omega arith
+  said c _ (faulty t x) = omega arith
+  said c _ (acting xs x some) = omega arith
+  said c _ (passing d x) = omega arith
+  said c _ (finished x) = omega arith
+  said c _ deadlock = omega arith
 
   -- How a run ends
 
@@ -266,8 +267,8 @@ module _ (setting : Setting) (policy : Policy) where
   ends_at j c Finished f is h own = ends_so c ended f (used_own ended f (policy.ahead j) h own) (runs.ends c is)
   ends_at j c Deadlock f is h own = ends_so c deadlocked f (used_own deadlocked f (policy.ahead j) h own) (runs.deadlocks c is)
   ends_at j c (Faulty t) f is h own = ends_so c (troubled t) f (stops_is h) (runs.faults c t is)
-  ends_at j c (Stopped t) f is h own = absurd (omega (arith, (said c (Stopped t) is.applies).0))
-  ends_at j c Broken f is h own = absurd (omega (arith, (said c Broken is.applies).1))
+  ends_at j c (Stopped t) f is h own = ends_so c (troubled t) f (stops_is h) (runs.highs c t is)
+  ends_at j c Broken f is h own = absurd (omega (arith, said c Broken is.applies))
 
   pub acting_at : (j : ℕ) (c : Config) (m : Moment) (n k : ℕ) → IsMoment setting c m → decided policy j c.clock m ≡ takes n k → IsMoment setting c (Actions n)
   acting_at j c m n k is h = subst (IsMoment setting c) (takes_at j c.clock m n k h) is

@@ -15,6 +15,7 @@ mod Noted
 mod Once
 mod Orders
 mod Nexts
+mod TooHigh
 mod Parcels
 mod OneMoment
 mod Counted

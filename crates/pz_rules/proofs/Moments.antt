@@ -13,7 +13,7 @@ use Rattle.pz_rules.specs.declared.action.Kind.TheVariants.{Expire}
 use Rattle.pz_rules.specs.declared.action.Action.{Action}
 use Rattle.pz_rules.specs.declared.action.Action.TheVariants.{Internal, Comm}
 use Rattle.pz_rules.specs.declared.moment.Moment.{Moment}
-use Rattle.pz_rules.specs.declared.moment.Moment.TheVariants.{Actions, Time, Finished, Deadlock, Faulty}
+use Rattle.pz_rules.specs.declared.moment.Moment.TheVariants.{Actions, Time, Finished, Deadlock, Faulty, Stopped}
 use Rattle.pz_rules.specs.Terms.{Term, done, leaf, wait, sequence, parallel, select, guarded, frame, abort, idle, handling}
 use Rattle.pz_rules.specs.Settings.{Setting, Process, Context}
 use Rattle.pz_rules.specs.Evaluations.{Lasts}
@@ -23,11 +23,13 @@ use Rattle.pz_rules.specs.Delays as delays
 use Rattle.pz_rules.specs.Delays.{Delays}
 use Rattle.pz_rules.specs.Ports.{HasWires}
 use Rattle.pz_rules.specs.Configurations.{Config}
+use Rattle.pz_rules.specs.Heights.{IsLow}
 use Rattle.pz_rules.specs.Offers.{PartAt, IsPair, Before, IsOffers, Offers, internal, communication}
-use Rattle.pz_rules.specs.Moments.{Source, SourceBefore, Troubles, IsLeastTrouble, IsLeft, IsLeast, AllDone, Candidate, faulty, acting, passing, finished, deadlock, rank, IsMoment}
+use Rattle.pz_rules.specs.Moments.{Source, SourceBefore, Troubles, IsLeastTrouble, IsLeft, IsLeast, IsFirstHigh, AllDone, Candidate, high, faulty, acting, passing, finished, deadlock, rank, IsMoment}
 use Rattle.pz_rules.specs.devices.Walk.{Doing, does}
 use Rattle.pz_rules.proofs.Locals.{some_is, does_complete}
 use Rattle.pz_rules.proofs.Orders.{Either, end_order, ThreeBefore, three_order, transitive, number_transitive, number_order, source_order, source_transitive, source_irreflexive, one_list}
+use Rattle.pz_rules.proofs.TooHigh.{NoneHigh, low_none, high_or_none}
 use Rattle.pz_rules.proofs.OneMoment.{part_at_once, computed_once, pair_once, trouble_once}
 use Rattle.pz_rules.proofs.Finite.{Known, sorted, Least, least}
 use Rattle.pz_rules.proofs.Derived.{Blame, IsBlame, offers, troubles, lefts}
@@ -156,66 +158,88 @@ module _ (setting : Setting) (c : Config) where
 
   -- What may be said, once earlier moments are excluded
 
-  rank_one : (n : Moment) → Candidate setting c n → 1 ≤ rank n
-  rank_one _ (faulty t x) = omega arith
-  rank_one _ (acting xs x some) = omega arith
-  rank_one _ (passing d x) = omega arith
-  rank_one _ (finished x) = omega arith
-  rank_one _ deadlock = omega arith
+  rank_one : NoneHigh setting c → (n : Moment) → Candidate setting c n → 1 ≤ rank n
+  rank_one low _ (high t x) = absurd (low t x)
+  rank_one low _ (faulty t x) = omega arith
+  rank_one low _ (acting xs x some) = omega arith
+  rank_one low _ (passing d x) = omega arith
+  rank_one low _ (finished x) = omega arith
+  rank_one low _ deadlock = omega arith
 
-  pub rank_two : NoTrouble → (n : Moment) → Candidate setting c n → 2 ≤ rank n
-  rank_two calm _ (faulty t x) = absurd (calm x.source t x.occurs)
-  rank_two calm _ (acting xs x some) = omega arith
-  rank_two calm _ (passing d x) = omega arith
-  rank_two calm _ (finished x) = omega arith
-  rank_two calm _ deadlock = omega arith
+  pub rank_two : NoneHigh setting c → NoTrouble → (n : Moment) → Candidate setting c n → 2 ≤ rank n
+  rank_two low calm _ (high t x) = absurd (low t x)
+  rank_two low calm _ (faulty t x) = absurd (calm x.source t x.occurs)
+  rank_two low calm _ (acting xs x some) = omega arith
+  rank_two low calm _ (passing d x) = omega arith
+  rank_two low calm _ (finished x) = omega arith
+  rank_two low calm _ deadlock = omega arith
 
   no_offers : (xs : List Action) → IsOffers setting c [] → IsOffers setting c xs → 1 ≤ length xs → ⊥
   no_offers xs none is some = omega (arith, some, ap length (one_list setting c xs [] is none))
 
-  pub rank_three : NoTrouble → IsOffers setting c [] → (n : Moment) → Candidate setting c n → 3 ≤ rank n
-  rank_three calm none _ (faulty t x) = absurd (calm x.source t x.occurs)
-  rank_three calm none _ (acting xs x some) = absurd (no_offers xs none x some)
-  rank_three calm none _ (passing d x) = omega arith
-  rank_three calm none _ (finished x) = omega arith
-  rank_three calm none _ deadlock = omega arith
+  pub rank_three : NoneHigh setting c → NoTrouble → IsOffers setting c [] → (n : Moment) → Candidate setting c n → 3 ≤ rank n
+  rank_three low calm none _ (high t x) = absurd (low t x)
+  rank_three low calm none _ (faulty t x) = absurd (calm x.source t x.occurs)
+  rank_three low calm none _ (acting xs x some) = absurd (no_offers xs none x some)
+  rank_three low calm none _ (passing d x) = omega arith
+  rank_three low calm none _ (finished x) = omega arith
+  rank_three low calm none _ deadlock = omega arith
 
-  pub rank_four : NoTrouble → IsOffers setting c [] → NoDelay → (n : Moment) → Candidate setting c n → 4 ≤ rank n
-  rank_four calm none still _ (faulty t x) = absurd (calm x.source t x.occurs)
-  rank_four calm none still _ (acting xs x some) = absurd (no_offers xs none x some)
-  rank_four calm none still _ (passing d x) = absurd (still d x.is_left)
-  rank_four calm none still _ (finished x) = omega arith
-  rank_four calm none still _ deadlock = omega arith
+  pub rank_four : NoneHigh setting c → NoTrouble → IsOffers setting c [] → NoDelay → (n : Moment) → Candidate setting c n → 4 ≤ rank n
+  rank_four low calm none still _ (high t x) = absurd (low t x)
+  rank_four low calm none still _ (faulty t x) = absurd (calm x.source t x.occurs)
+  rank_four low calm none still _ (acting xs x some) = absurd (no_offers xs none x some)
+  rank_four low calm none still _ (passing d x) = absurd (still d x.is_left)
+  rank_four low calm none still _ (finished x) = omega arith
+  rank_four low calm none still _ deadlock = omega arith
 
-  pub rank_five : NoTrouble → IsOffers setting c [] → NoDelay → (AllDone c → ⊥) → (n : Moment) → Candidate setting c n → 5 ≤ rank n
-  rank_five calm none still more _ (faulty t x) = absurd (calm x.source t x.occurs)
-  rank_five calm none still more _ (acting xs x some) = absurd (no_offers xs none x some)
-  rank_five calm none still more _ (passing d x) = absurd (still d x.is_left)
-  rank_five calm none still more _ (finished x) = absurd (more x)
-  rank_five calm none still more _ deadlock = omega arith
+  pub rank_five : NoneHigh setting c → NoTrouble → IsOffers setting c [] → NoDelay → (AllDone c → ⊥) → (n : Moment) → Candidate setting c n → 5 ≤ rank n
+  rank_five low calm none still more _ (high t x) = absurd (low t x)
+  rank_five low calm none still more _ (faulty t x) = absurd (calm x.source t x.occurs)
+  rank_five low calm none still more _ (acting xs x some) = absurd (no_offers xs none x some)
+  rank_five low calm none still more _ (passing d x) = absurd (still d x.is_left)
+  rank_five low calm none still more _ (finished x) = absurd (more x)
+  rank_five low calm none still more _ deadlock = omega arith
 
   pub record SomeMoment : Type 0 where
     pub moment : Moment
     pub is : IsMoment setting c moment
 
-  by_done : NoTrouble → IsOffers setting c [] → NoDelay → Known (AllDone c) → SomeMoment
-  by_done calm none still (inl all) = record { moment = Finished; is = record { applies = finished all; first = rank_four calm none still } }
-  by_done calm none still (inr more) = record { moment = Deadlock; is = record { applies = deadlock; first = rank_five calm none still more } }
+  by_done : NoneHigh setting c → NoTrouble → IsOffers setting c [] → NoDelay → Known (AllDone c) → SomeMoment
+  by_done low calm none still (inl all) = record { moment = Finished; is = record { applies = finished all; first = rank_four low calm none still } }
+  by_done low calm none still (inr more) = record { moment = Deadlock; is = record { applies = deadlock; first = rank_five low calm none still more } }
 
-  by_delay : NoTrouble → IsOffers setting c [] → SomeDelay ⊎ NoDelay → SomeMoment
-  by_delay calm none (inl d) = record { moment = Time d.0; is = record { applies = passing d.0 d.1; first = rank_three calm none } }
-  by_delay calm none (inr still) = by_done calm none still (all_known c.processes)
+  by_delay : NoneHigh setting c → NoTrouble → IsOffers setting c [] → SomeDelay ⊎ NoDelay → SomeMoment
+  by_delay low calm none (inl d) = record { moment = Time d.0; is = record { applies = passing d.0 d.1; first = rank_three low calm none } }
+  by_delay low calm none (inr still) = by_done low calm none still (all_known c.processes)
 
-  by_offers : NoTrouble → (xs : List Action) → IsOffers setting c xs → SomeMoment
-  by_offers calm [] is = by_delay calm is delay_or_none
-  by_offers calm (x ∷ xs) is = record { moment = Actions (length (x ∷ xs)); is = record { applies = acting (x ∷ xs) is (omega arith); first = rank_two calm } }
+  by_offers : NoneHigh setting c → NoTrouble → (xs : List Action) → IsOffers setting c xs → SomeMoment
+  by_offers low calm [] is = by_delay low calm is delay_or_none
+  by_offers low calm (x ∷ xs) is = record { moment = Actions (length (x ∷ xs)); is = record { applies = acting (x ∷ xs) is (omega arith); first = rank_two low calm } }
 
-  by_trouble : HasWires setting.model → SomeTrouble ⊎ NoTrouble → SomeMoment
-  by_trouble wires (inl t) = record { moment = Faulty t.0; is = record { applies = faulty t.0 t.1; first = rank_one } }
-  by_trouble wires (inr calm) = let os = offers_some wires in by_offers calm os.list os.is
+  by_trouble : HasWires setting.model → NoneHigh setting c → SomeTrouble ⊎ NoTrouble → SomeMoment
+  by_trouble wires low (inl t) = record { moment = Faulty t.0; is = record { applies = faulty t.0 t.1; first = rank_one low } }
+  by_trouble wires low (inr calm) = let os = offers_some wires in by_offers low calm os.list os.is
 
   pub moment_some : HasWires setting.model → SomeMoment
-  moment_some wires = by_trouble wires (trouble_or_none wires)
+  moment_some wires = by (high_or_none setting c)
+    where
+      by : ((t : Trouble) × IsFirstHigh setting c t) ⊎ NoneHigh setting c → SomeMoment
+      by (inl t) = record { moment = Stopped t.0; is = record { applies = high t.0 t.1; first = λ n x. omega arith } }
+      by (inr low) = by_trouble wires low (trouble_or_none wires)
+
+  -- Where no term is too high
+
+  low_moment : NoneHigh setting c → (m : Moment) (t : Trouble) → m ≡ Stopped t → Candidate setting c m → ⊥
+  low_moment low _ t e (high u x) = low u x
+  low_moment low _ t e (faulty u x) = omega (arith, ap rank e)
+  low_moment low _ t e (acting xs x some) = omega (arith, ap rank e)
+  low_moment low _ t e (passing d x) = omega (arith, ap rank e)
+  low_moment low _ t e (finished x) = omega (arith, ap rank e)
+  low_moment low _ t e deadlock = omega (arith, ap rank e)
+
+  pub low_is_not_stopped : (t : Trouble) → IsLow setting c → IsMoment setting c (Stopped t) → ⊥
+  low_is_not_stopped t low is = low_moment (low_none setting c low) (Stopped t) t refl is.applies
 
   -- Time waits
 
@@ -237,6 +261,7 @@ module _ (setting : Setting) (c : Config) where
 
   least_of : (m : Moment) (d : ℕ) → m ≡ Time d → Candidate setting c m → IsLeast setting c d
   least_of _ d e (passing n x) = subst (λ (k : ℕ). IsLeast setting c k) (time_is e) x
+  least_of _ d e (high t x) = absurd (omega (arith, ap rank e))
   least_of _ d e (faulty t x) = absurd (omega (arith, ap rank e))
   least_of _ d e (acting xs x some) = absurd (omega (arith, ap rank e))
   least_of _ d e (finished x) = absurd (omega (arith, ap rank e))
@@ -266,6 +291,7 @@ module _ (setting : Setting) (c : Config) where
     where
       count_is : {k l : ℕ} → Actions k ≡ Actions l → k ≡ l
       count_is d = cc
+  counted n _ e (high t x) xs h = absurd (omega (arith, ap rank e))
   counted n _ e (faulty t x) xs h = absurd (omega (arith, ap rank e))
   counted n _ e (passing d x) xs h = absurd (omega (arith, ap rank e))
   counted n _ e (finished x) xs h = absurd (omega (arith, ap rank e))

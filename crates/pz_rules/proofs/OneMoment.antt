@@ -6,7 +6,7 @@ use Rattle.pz_offer.specs.declared.end.End.{End}
 use Rattle.pz_offer.specs.declared.trouble.Trouble.{Trouble}
 use Rattle.pz_rules.specs.declared.action.Action.{Action}
 use Rattle.pz_rules.specs.declared.moment.Moment.{Moment}
-use Rattle.pz_rules.specs.declared.moment.Moment.TheVariants.{Actions, Time, Faulty}
+use Rattle.pz_rules.specs.declared.moment.Moment.TheVariants.{Actions, Time, Faulty, Stopped}
 use Rattle.pz_rules.specs.Terms.{Term}
 use Rattle.pz_rules.specs.Settings.{Setting, Process, Context}
 use Rattle.pz_rules.specs.Active.{IsActive}
@@ -14,12 +14,13 @@ use Rattle.pz_rules.specs.Messages.{Judges}
 use Rattle.pz_rules.specs.Asking.{Asks}
 use Rattle.pz_rules.specs.Configurations.{Config}
 use Rattle.pz_rules.specs.Offers.{PartAt, IsPair, IsJudged}
-use Rattle.pz_rules.specs.Moments.{Source, SourceBefore, Troubles, asked, judged, IsLeastTrouble, IsLeast, Candidate, faulty, acting, passing, finished, deadlock, rank, IsMoment}
+use Rattle.pz_rules.specs.Moments.{Source, SourceBefore, Troubles, asked, judged, IsLeastTrouble, IsLeast, Candidate, high, faulty, acting, passing, finished, deadlock, rank, IsMoment}
 use Rattle.pz_rules.specs.devices.Walk.{ActiveSend, sent_by, troubled_by}
 use Rattle.pz_rules.proofs.Locals.{some_is, sends_complete, asks_complete}
 use Rattle.pz_rules.proofs.Once.{active_once, judges_once}
 use Rattle.pz_rules.proofs.Orders.{one_list, Either, source_order}
 use Rattle.pz_rules.proofs.Nexts.{stands_once}
+use Rattle.pz_rules.proofs.TooHigh.{high_once}
 use Rattle.pz_rules.proofs.Parcels.{the_parcel, parcel_once}
 
 module _ (setting : Setting) (c : Config) where
@@ -90,6 +91,17 @@ module _ (setting : Setting) (c : Config) where
   least_once d e x y = omega (arith, x.least e y.is_left, y.least d x.is_left)
 
   by_rank : (m n : Moment) → rank m ≡ rank n → Candidate setting c m → Candidate setting c n → m ≡ n
+  by_rank _ _ e (high t x) (high u y) = ap Stopped (high_once setting c t u x y)
+  by_rank _ _ e (high t x) (faulty u y) = absurd (omega (arith, e))
+  by_rank _ _ e (high t x) (acting ys y some') = absurd (omega (arith, e))
+  by_rank _ _ e (high t x) (passing d' y) = absurd (omega (arith, e))
+  by_rank _ _ e (high t x) (finished y) = absurd (omega (arith, e))
+  by_rank _ _ e (high t x) deadlock = absurd (omega (arith, e))
+  by_rank _ _ e (faulty t x) (high u y) = absurd (omega (arith, e))
+  by_rank _ _ e (acting xs x some) (high u y) = absurd (omega (arith, e))
+  by_rank _ _ e (passing d x) (high u y) = absurd (omega (arith, e))
+  by_rank _ _ e (finished x) (high u y) = absurd (omega (arith, e))
+  by_rank _ _ e deadlock (high u y) = absurd (omega (arith, e))
   by_rank _ _ e (faulty t x) (faulty u y) = ap Faulty (least_trouble_once t u x y)
   by_rank _ _ e (acting xs x some) (acting ys y some') = ap (λ (l : List Action). Actions (length l)) (one_list setting c xs ys x y)
   by_rank _ _ e (passing d x) (passing d' y) = ap Time (least_once d d' x y)

@@ -17,3 +17,4 @@ mod ObjectsInMessages
 mod NoTalkToItself
 mod TailCalls
 mod CallsThatOpen
+mod StartTooHigh

@@ -41,7 +41,7 @@ abbrev pub entry_of : ℕ → Option ℕ → Decision
 entry_of n None = stops_with halted
 entry_of n (Some k) = if nat_lt k n then takes n k else stops_with (refused k n)
 
--- at a clock, once j actions were chosen; a configuration is never at the last two moments
+-- at a clock, once j actions were chosen; a configuration is never at the last moment
 abbrev pub decided : Policy → ℕ → ℕ → Moment → Decision
 decided policy j clock (Actions n) = if nat_le policy.steps j then stops_with halted else entry_of n (policy.choose j n)
 decided policy j clock (Time d) = if is_beyond policy.until clock d then stops_with halted else waits d

@@ -8,7 +8,7 @@ use Rattle.pz_offer.specs.PlaceOrder.{Place}
 use Rattle.pz_offer.specs.declared.trouble.Trouble.{Trouble}
 use Rattle.pz_rules.specs.declared.action.Action.{Action}
 use Rattle.pz_rules.specs.declared.moment.Moment.{Moment}
-use Rattle.pz_rules.specs.declared.moment.Moment.TheVariants.{Actions, Time}
+use Rattle.pz_rules.specs.declared.moment.Moment.TheVariants.{Actions, Time, Stopped}
 use Rattle.pz_copy.specs.Parcels.{ParcelView}
 use Rattle.pz_state.specs.States.{Frames, IsLeastFree}
 use Rattle.pz_rules.specs.declared.action.Kind.{Kind}
@@ -190,6 +190,10 @@ LowStays = (setting : Setting) (c next : Config) (a : Action) → IsLow setting 
 
 abbrev pub LowPasses : Type 0
 LowPasses = (setting : Setting) (c next : Config) (d : ℕ) → IsWhole setting c → IsLow setting c → PassesTo setting c d next → IsLow setting next
+
+-- there no process is told as too high
+abbrev pub LowIsNotStopped : Type 0
+LowIsNotStopped = (setting : Setting) (c : Config) (trouble : Trouble) → IsLow setting c → IsMoment setting c (Stopped trouble) → ⊥
 
 -- a model has no more than one start, and a sound one has one
 abbrev pub OneStart : Type 0

@@ -1,18 +1,37 @@
 -- What may happen next in a configuration: the first of these that applies.
-use Rattle.std.specs.Prelude.{◌≡◌, ◌≤◌, ℕ, List, All, length, Err}
+use Rattle.std.specs.Prelude.{◌≡◌, ◌≤◌, ◌<◌, ℕ, List, [], All, length, Some, Err, slice_get}
+use Rattle.pz_syntax.specs.declared.tokens.Pos.{Pos}
+use Rattle.pz_syntax.specs.declared.names.Id.{Id}
+use Rattle.pz_syntax.specs.Statements.{call}
+use Rattle.pz_classes.specs.Starts.{init}
 use Rattle.pz_copy.specs.Parcels.{ParcelView}
 use Rattle.pz_offer.specs.declared.end.End.{End}
 use Rattle.pz_offer.specs.declared.trouble.Trouble.{Trouble}
+use Rattle.pz_offer.specs.declared.trouble.Trouble.TheVariants.{High}
 use Rattle.pz_offer.specs.PlaceOrder.{EndBefore}
 use Rattle.pz_rules.specs.declared.action.Action.{Action}
 use Rattle.pz_rules.specs.declared.moment.Moment.{Moment}
 use Rattle.pz_rules.specs.declared.moment.Moment.TheVariants.{Actions, Time, Finished, Deadlock, Faulty, Stopped, Broken}
-use Rattle.pz_rules.specs.Terms.{Term, done}
-use Rattle.pz_rules.specs.Settings.{Setting, Context}
+use Rattle.pz_rules.specs.Terms.{Codes, Term, done, height}
+use Rattle.pz_rules.specs.Settings.{Setting, Process, Context}
 use Rattle.pz_rules.specs.Asking.{Asks}
 use Rattle.pz_rules.specs.Delays.{Delays}
-use Rattle.pz_rules.specs.Configurations.{Config}
+use Rattle.pz_rules.specs.Configurations.{Config, Stands}
 use Rattle.pz_rules.specs.Offers.{PartAt, IsPair, IsJudged, PairBefore, IsOffers}
+
+-- The first process whose term is higher than the limit, with the place of the `init` call of its class.
+pub record IsFirstHigh (setting : Setting) (c : Config) (trouble : Trouble) : Type 0 where
+  pub number : ℕ
+  pub process : Process
+  pub seen : Context
+  pub stands : Stands setting c number process seen
+  pub high : setting.limits.height < height process.term
+  pub first : (i : ℕ) (p : Process) → slice_get c.processes i ≡ Some p → i < number → height p.term ≤ setting.limits.height
+  pub pos : Pos
+  pub method : Id
+  pub args : Codes
+  pub begins : init setting.model seen.class ≡ Some (call pos method args [])
+  pub says : trouble ≡ High number pos
 
 -- where a trouble comes from: what an active part is asked, or the condition of a pair
 pub data Source : Type 0 where
@@ -54,9 +73,12 @@ pub record IsLeast (setting : Setting) (c : Config) (d : ℕ) : Type 0 where
 abbrev pub AllDone : Config → Type 0
 AllDone c = All (λ p. p.term ≡ done) c.processes
 
--- What may be said of a configuration. None is at `Stopped`, where the last action did not take place, or
--- at `Broken`: these are moments of a simulator.
+-- What may be said of a configuration. One is at `Stopped` where a term is too high, which is so at the
+-- start alone. Else `Stopped`, where the last action did not take place, is a moment of a simulator, and
+-- so is `Broken`.
 pub data Candidate (setting : Setting) (c : Config) : Moment → Type 0 where
+  -- some term is too high
+  high : (trouble : Trouble) → IsFirstHigh setting c trouble → Candidate setting c (Stopped trouble)
   -- what an active part is asked, or a condition, has no answer
   faulty : (trouble : Trouble) → IsLeastTrouble setting c trouble → Candidate setting c (Faulty trouble)
   -- there are offers

@@ -2,7 +2,7 @@
 use Rattle.std.specs.Prelude.{◌≡◌, ℕ, List, [], ◌∷◌, length, Some, Ok, Err, slice_get}
 use Rattle.pz_offer.specs.declared.trouble.Trouble.{Trouble}
 use Rattle.pz_rules.specs.declared.action.Action.{Action}
-use Rattle.pz_rules.specs.declared.moment.Moment.TheVariants.{Actions, Time, Finished, Deadlock, Faulty}
+use Rattle.pz_rules.specs.declared.moment.Moment.TheVariants.{Actions, Time, Finished, Deadlock, Faulty, Stopped}
 use Rattle.pz_rules.specs.Settings.{Setting}
 use Rattle.pz_rules.specs.Configurations.{Config}
 use Rattle.pz_rules.specs.Offers.{IsOffers}
@@ -56,6 +56,8 @@ pub data Ends (setting : Setting) : Config → Standing → Ending → Type 0 wh
   ends : (c : Config) → IsMoment setting c Finished → Ends setting c whole ended
   deadlocks : (c : Config) → IsMoment setting c Deadlock → Ends setting c whole deadlocked
   faults : (c : Config) (trouble : Trouble) → IsMoment setting c (Faulty trouble) → Ends setting c whole (troubled trouble)
+  -- what stands at the start is too high
+  highs : (c : Config) (trouble : Trouble) → IsMoment setting c (Stopped trouble) → Ends setting c whole (troubled trouble)
   stops : (c : Config) (trouble : Trouble) → Ends setting c (stopped trouble) (troubled trouble)
   halts_acting : (c : Config) (n : ℕ) → IsMoment setting c (Actions n) → Ends setting c whole halted
   halts_passing : (c : Config) (d : ℕ) → IsMoment setting c (Time d) → Ends setting c whole halted

@@ -1,6 +1,6 @@
 // Laws of execution, each the contract of a function that does nothing.
 
-ghost use Rattle.pz_rules.specs.Laws.{OneListOfOffers, EveryListOfOffers, WiresAreKnown, OneMoment, EveryMoment, MomentsCountOffers, TimeWaits, LeastPasses, TimeIsPositive, EveryPassing, PassingTakes, BringsToZero, OneNext, OnePassing, StaysWhole, StartFits, StaysFit, EveryNext, OneChosenRun, EveryChosenRun, ChosenRunsAreRuns, WhatCanActs, WhatSendsIsASend, WhatReceivesIsAReceive, NumbersAreFree, OneNumberIsLeast, LowStays, LowPasses, OneStart, EveryStart, ProcessesHaveClasses};
+ghost use Rattle.pz_rules.specs.Laws.{OneListOfOffers, EveryListOfOffers, WiresAreKnown, OneMoment, EveryMoment, MomentsCountOffers, TimeWaits, LeastPasses, TimeIsPositive, EveryPassing, PassingTakes, BringsToZero, OneNext, OnePassing, StaysWhole, StartFits, StaysFit, EveryNext, OneChosenRun, EveryChosenRun, ChosenRunsAreRuns, WhatCanActs, WhatSendsIsASend, WhatReceivesIsAReceive, NumbersAreFree, OneNumberIsLeast, LowStays, LowPasses, LowIsNotStopped, OneStart, EveryStart, ProcessesHaveClasses};
 ghost use Rattle.pz_rules.specs.CallLaws.{MethodsAreShallow, CallsUnfold, CallsStand, CallsOfNoneStand};
 ghost use Rattle.pz_rules.specs.Clocks.{ClocksStayLow};
 ghost use Rattle.pz_rules.specs.devices.Room.{StartsHaveRoom, ActionsLeaveRoom, PassingsLeaveRoom, RoomIsLow, LessRoom};
@@ -149,10 +149,12 @@ pub fn frames_are_numbered()
     ensures one { OneNumberIsLeast }
 {}
 
-/// Where no term is higher than the limit, none is after an action or a passing of time.
+/// Where no term is higher than the limit, none is after an action or a passing of time, and the moment
+/// is not `Stopped`.
 pub fn low_terms_stay()
     ensures action { LowStays }
     ensures passing { LowPasses }
+    ensures moment { LowIsNotStopped }
 {}
 
 /// A model starts in no more than one configuration, and a sound one in the one that is computed.

@@ -13,7 +13,8 @@ pub enum Moment {
     Deadlock,
     /// What an active part is asked has no answer.
     Faulty(Trouble),
-    /// The last action ended in a trouble, and did not take place.
+    /// The last action ended in a trouble, and did not take place; or, before any action, what stands at
+    /// the start is too high.
     Stopped(Trouble),
     /// No moment of a configuration: a simulator says it after want of memory.
     Broken,

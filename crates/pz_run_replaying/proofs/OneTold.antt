@@ -2,11 +2,9 @@
 use Rattle.std.proofs.Common.{◌≡◌, ◌<◌, ◌^◌, refl, sym, subst, ap, ◌∙◌, ℕ, List, [], ◌∷◌, ◌++◌, arith, append_assoc}
 use Rattle.std.proofs.lemmas.List.{append-nil, append_cancel_left}
 use Rattle.pz_syntax.specs.ModelForm.{Each}
-use Rattle.pz_classes.specs.Soundness.{IsSound}
 use Rattle.pz_rules.specs.declared.action.Action.{Action}
 use Rattle.pz_rules.specs.declared.moment.Moment.TheVariants.{Actions, Time}
 use Rattle.pz_rules.specs.Settings.{Setting}
-use Rattle.pz_rules.specs.Starting.{IsStart}
 use Rattle.pz_rules.specs.Configurations.{Config}
 use Rattle.pz_rules.specs.Moments.{IsMoment}
 use Rattle.pz_rules.specs.Runs as runs
@@ -14,9 +12,8 @@ use Rattle.pz_rules.specs.Runs.{Event, acted, passed, Standing, whole, stopped, 
 use Rattle.pz_trace.specs.declared.ending.Ending.{Ending}
 use Rattle.pz_trace.specs.Lines.{action_line, end_line}
 use Rattle.pz_trace.specs.Laws.{IsLine, HasUnbrokenNames}
-use Rattle.pz_trace.specs.TraceText.{trace_header, event_line, events_text, run_ending, IsTrace}
+use Rattle.pz_trace.specs.TraceText.{trace_header, event_line, events_text, run_ending}
 use Rattle.pz_run_replaying.specs.Stages.{underway}
-use Rattle.pz_run_replaying.specs.Replays.{TellsLines}
 use Rattle.pz_run_replaying.specs.Laws.{CountFits, HasOneToldRun}
 use Rattle.pz_run_replaying.specs.devices.Known.{Known}
 use Rattle.pz_run_replaying.specs.devices.Readiness.{Ready}

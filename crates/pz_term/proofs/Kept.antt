@@ -1,7 +1,8 @@
 -- What a whole simulator keeps, taken out of the bare fact that it does.
-use Rattle.std.proofs.Common.{◌≡◌, ◌⊎◌, inl, inr, ◌∙◌, ℕ, List, [], length, Some, refl, sym, ap, subst}
+use Rattle.std.proofs.Common.{arith, ◌≡◌, ◌⊎◌, inl, inr, ◌∙◌, ℕ, List, [], length, Some, refl, sym, ap, subst}
 use Rattle.std.specs.Prelude.{slice_get}
 use Rattle.std.proofs.Math.Logic.{∥∥₁_elim}
+use Rattle.std.proofs.Math.Nat.{ℕ_set}
 use Rattle.std.specs.Coded.{coded_list}
 use base.Stored.{Coded-set}
 use Rattle.pz_offer.specs.declared.trouble.Trouble.{Trouble}
@@ -18,6 +19,7 @@ use Rattle.pz_rules.specs.Moments as moments
 use Rattle.pz_rules.specs.Moments.{Candidate, IsMoment}
 use Rattle.pz_rules.specs.Runs.{whole, IsChoice}
 use Rattle.pz_rules.specs.Laws.{OneMoment, EveryMoment, OneListOfOffers}
+use Rattle.pz_rules.specs.devices.Start.{start_of}
 use Rattle.pz_term_processes.specs.declared.process.Process.{Process}
 use Rattle.pz_term_processes.specs.Standing.{config_of, AreProcesses}
 use Rattle.pz_term_enabled.specs.declared.looking.Outlook.{Outlook}
@@ -25,7 +27,7 @@ use Rattle.pz_term_enabled.specs.Looking.{AreActionsAt}
 use Rattle.pz_term.specs.declared.standing.Standing.{Standing}
 use Rattle.pz_term.specs.declared.standing.Standing.TheVariants as standing
 use Rattle.pz_term.specs.Simulations as simulations
-use Rattle.pz_term.specs.Simulations.{Simulation, stands, broken, IsMomentOf, AreOffersOf}
+use Rattle.pz_term.specs.Simulations.{Simulation, stands, broken, IsMomentOf, AreOffersOf, ClockIs}
 use Rattle.pz_term.specs.Plains.{simulation_at}
 use Rattle.pz_term.specs.devices.Holding.{IsOutlook, Holds}
 
@@ -38,25 +40,54 @@ GoesOn m = ⊥
 goes_on_not : (m n : Moment) → m ≡ n → GoesOn m → (GoesOn n → ⊥) → ⊥
 goes_on_not m n e g absent = absent (subst GoesOn e g)
 
+-- a start that is too high is at no other moment
+stopped_at : (setting : Setting) (clock : ℕ) (ps : List Process) (trouble : Trouble) → Holds setting clock ps (standing.High trouble) → IsMoment setting (start_of setting) (Stopped trouble)
+stopped_at setting clock ps trouble h = record { applies = moments.high trouble h.1; first = λ n applies. omega arith }
+
+pub never_high : (setting : Setting) (clock : ℕ) (ps : List Process) (trouble : Trouble) (m : Moment) → OneMoment → GoesOn m → IsMoment setting (start_of setting) m → ∥ Holds setting clock ps (standing.High trouble) ∥₁ → ⊥
+never_high setting clock ps trouble m one g is h = ∥∥₁_elim h (λ x y. absurd x) (λ k.
+    goes_on_not m (Stopped trouble) (one setting (start_of setting) m (Stopped trouble) is (stopped_at setting clock ps trouble k)) g (λ x. x))
+
 -- there the simulator is whole
-pub is_moment : (setting : Setting) (clock : ℕ) (ps : List Process) (s : Standing) (m : Moment) → GoesOn m → IsMomentOf (simulation_at setting clock ps s) m → IsMoment setting (config_of clock ps) m
-is_moment setting clock ps (standing.Whole outlook) m g is = is
-is_moment setting clock ps (standing.Stopped trouble) m g is = absurd (goes_on_not m (Stopped trouble) is g (λ x. x))
-is_moment setting clock ps standing.Broken m g is = absurd (goes_on_not m Broken is g (λ x. x))
+pub is_moment : (setting : Setting) (clock : ℕ) (ps : List Process) (s : Standing) (m : Moment) → OneMoment → GoesOn m → IsMomentOf (simulation_at setting clock ps s) m → ∥ Holds setting clock ps s ∥₁ → IsMoment setting (config_of clock ps) m
+is_moment setting clock ps (standing.Whole outlook) m one g is h = is
+is_moment setting clock ps (standing.High trouble) m one g is h = absurd (never_high setting clock ps trouble m one g is h)
+is_moment setting clock ps (standing.Stopped trouble) m one g is h = absurd (goes_on_not m (Stopped trouble) is g (λ x. x))
+is_moment setting clock ps standing.Broken m one g is h = absurd (goes_on_not m Broken is g (λ x. x))
 
-abbrev IsWhole : Standing → Type 0
-IsWhole (standing.Whole outlook) = Unit {0}
-IsWhole s = ⊥
+pub whole_at : (setting : Setting) (clock : ℕ) (ps : List Process) (s : Standing) (m : Moment) → OneMoment → GoesOn m → IsMomentOf (simulation_at setting clock ps s) m → ∥ Holds setting clock ps s ∥₁
+    → simulation_at setting clock ps s ≡ stands setting (config_of clock ps) whole
+whole_at setting clock ps (standing.Whole outlook) m one g is h = refl
+whole_at setting clock ps (standing.High trouble) m one g is h = absurd (never_high setting clock ps trouble m one g is h)
+whole_at setting clock ps (standing.Stopped trouble) m one g is h = absurd (goes_on_not m (Stopped trouble) is g (λ x. x))
+whole_at setting clock ps standing.Broken m one g is h = absurd (goes_on_not m Broken is g (λ x. x))
 
-pub whole_at : (setting : Setting) (clock : ℕ) (ps : List Process) (s : Standing) (m : Moment) → GoesOn m → IsMomentOf (simulation_at setting clock ps s) m → simulation_at setting clock ps s ≡ stands setting (config_of clock ps) whole
-whole_at setting clock ps (standing.Whole outlook) m g is = refl
-whole_at setting clock ps (standing.Stopped trouble) m g is = absurd (goes_on_not m (Stopped trouble) is g (λ x. x))
-whole_at setting clock ps standing.Broken m g is = absurd (goes_on_not m Broken is g (λ x. x))
+pub kept_processes : (setting : Setting) (clock : ℕ) (ps : List Process) (s : Standing) (m : Moment) → OneMoment → GoesOn m → IsMomentOf (simulation_at setting clock ps s) m → ∥ Holds setting clock ps s ∥₁ → ∥ AreProcesses setting clock ps ∥₁
+kept_processes setting clock ps (standing.Whole outlook) m one g is h = ∥∥₁_elim h squash₁ (λ k. ∣ k.are ∣₁)
+kept_processes setting clock ps (standing.High trouble) m one g is h = absurd (never_high setting clock ps trouble m one g is h)
+kept_processes setting clock ps (standing.Stopped trouble) m one g is h = absurd (goes_on_not m (Stopped trouble) is g (λ x. x))
+kept_processes setting clock ps standing.Broken m one g is h = absurd (goes_on_not m Broken is g (λ x. x))
 
-pub kept_processes : (setting : Setting) (clock : ℕ) (ps : List Process) (s : Standing) (m : Moment) → GoesOn m → IsMomentOf (simulation_at setting clock ps s) m → ∥ Holds setting clock ps s ∥₁ → ∥ AreProcesses setting clock ps ∥₁
-kept_processes setting clock ps (standing.Whole outlook) m g is h = ∥∥₁_elim h squash₁ (λ k. ∣ k.are ∣₁)
-kept_processes setting clock ps (standing.Stopped trouble) m g is h = absurd (goes_on_not m (Stopped trouble) is g (λ x. x))
-kept_processes setting clock ps standing.Broken m g is h = absurd (goes_on_not m Broken is g (λ x. x))
+-- where there are offers, it is whole
+pub never_other : (setting : Setting) (clock : ℕ) (ps : List Process) (s found : Standing) (n : ℕ) → OneMoment → IsMomentOf (simulation_at setting clock ps s) (Actions n) → ∥ Holds setting clock ps s ∥₁ → found ≡ s
+    → ((x : Outlook) → found ≡ standing.Whole x → ⊥) → ⊥
+never_other setting clock ps (standing.Whole outlook) found n one is h same absent = absent outlook same
+never_other setting clock ps (standing.High trouble) found n one is h same absent = never_high setting clock ps trouble (Actions n) one tt is h
+never_other setting clock ps (standing.Stopped trouble) found n one is h same absent = goes_on_not (Actions n) (Stopped trouble) is tt (λ x. x)
+never_other setting clock ps standing.Broken found n one is h same absent = goes_on_not (Actions n) Broken is tt (λ x. x)
+
+-- the clock is that of the configuration
+pub clock_is : (setting : Setting) (clock : ℕ) (ps : List Process) (s : Standing) → ∥ Holds setting clock ps s ∥₁ → ClockIs (simulation_at setting clock ps s) clock
+clock_is setting clock ps (standing.Whole outlook) h = refl
+clock_is setting clock ps (standing.High trouble) h = ∥∥₁_elim h (ℕ_set clock 0) (λ k. k.0)
+clock_is setting clock ps (standing.Stopped trouble) h = refl
+clock_is setting clock ps standing.Broken h = tt
+
+-- the moment of a start that is too high
+pub high_moment : (setting : Setting) (clock : ℕ) (ps : List Process) (trouble : Trouble) → EveryMoment → OneMoment → HasWires setting.model → ∥ Holds setting clock ps (standing.High trouble) ∥₁ → IsMoment setting (start_of setting) (Stopped trouble)
+high_moment setting clock ps trouble every one wires h =
+    let m = every setting (start_of setting) wires in
+    subst (IsMoment setting (start_of setting)) (∥∥₁_elim h (Coded-set moment_contract.the_row.coded m.0 (Stopped trouble)) (λ k. one setting (start_of setting) m.0 (Stopped trouble) m.1 (stopped_at setting clock ps trouble k))) m.1
 
 -- the moment that is shown is that of the configuration
 pub shown_moment : (setting : Setting) (clock : ℕ) (ps : List Process) (outlook : Outlook) → EveryMoment → OneMoment → HasWires setting.model → ∥ IsOutlook setting clock ps outlook ∥₁ → IsMoment setting (config_of clock ps) outlook.moment
@@ -70,6 +101,7 @@ OfActions setting c (Actions n) = (xs : List Action) × IsOffers setting c xs ×
 OfActions setting c m = Unit {0}
 
 pub of_actions : (setting : Setting) (c : Config) (m : Moment) → Candidate setting c m → OfActions setting c m
+of_actions setting c _ (moments.high trouble is) = tt
 of_actions setting c _ (moments.faulty trouble is) = tt
 of_actions setting c _ (moments.acting xs is some) = (xs, is, refl)
 of_actions setting c _ (moments.passing d is) = tt
@@ -161,6 +193,11 @@ module _ (setting : Setting) (clock : ℕ) (ps : List Process) (s : Standing) wh
   pub stopped_moment : (trouble : Trouble) → s ≡ standing.Stopped trouble → IsMomentOf simulation (Stopped trouble)
   stopped_moment trouble e = subst (λ (x : Standing). IsMomentOf (simulation_at setting clock ps x) (Stopped trouble)) (sym e) refl
 
+  pub too_high_moment : (trouble : Trouble) → s ≡ standing.High trouble → EveryMoment → OneMoment → HasWires setting.model → ∥ Holds setting clock ps s ∥₁ → IsMomentOf simulation (Stopped trouble)
+  too_high_moment trouble e every one wires h =
+      subst (λ (x : Standing). IsMomentOf (simulation_at setting clock ps x) (Stopped trouble)) (sym e)
+      (high_moment setting clock ps trouble every one wires (subst (λ (x : Standing). ∥ Holds setting clock ps x ∥₁) e h))
+
   pub broken_moment : s ≡ standing.Broken → IsMomentOf simulation Broken
   broken_moment e = subst (λ (x : Standing). IsMomentOf (simulation_at setting clock ps x) Broken) (sym e) refl
 
@@ -175,3 +212,9 @@ module _ (setting : Setting) (clock : ℕ) (ps : List Process) (s : Standing) wh
 
   pub no_offers : ((trouble : Trouble) × (s ≡ standing.Stopped trouble)) ⊎ (s ≡ standing.Broken) → AreOffersOf simulation []
   no_offers e = simulations.none simulation (λ n is. nowhere n e is)
+
+  -- where the start is too high there are none
+  pub none_too_high : (trouble : Trouble) → s ≡ standing.High trouble → OneMoment → ∥ Holds setting clock ps s ∥₁ → AreOffersOf simulation []
+  none_too_high trouble e one h = simulations.none simulation (λ n is.
+      never_high setting clock ps trouble (Actions n) one tt (subst (λ (x : Standing). IsMomentOf (simulation_at setting clock ps x) (Actions n)) e is)
+      (subst (λ (x : Standing). ∥ Holds setting clock ps x ∥₁) e h))

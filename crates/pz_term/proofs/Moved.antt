@@ -1,5 +1,5 @@
 -- How a simulator goes on.
-use Rattle.std.proofs.Common.{◌≡◌, ◌<◌, ◌+◌, ℕ, zero, suc, List, [], ◌∷◌, length, Some, Result, Ok, Err, sym, ap, subst, arith}
+use Rattle.std.proofs.Common.{◌≡◌, ◌<◌, ◌+◌, ℕ, zero, suc, List, [], ◌∷◌, length, Some, Result, Ok, Err, refl, sym, ap, subst, arith}
 use Rattle.std.specs.Prelude.{slice_get, slice_index_or, IfOk, OnErr, ⊤}
 use Rattle.std.proofs.Math.Logic.{∥∥₁_elim}
 use Rattle.std.specs.declared.alloc.AllocError.{AllocError}
@@ -9,7 +9,8 @@ use Rattle.pz_rules.specs.declared.moment.Moment.TheVariants.{Actions, Time}
 use Rattle.pz_rules.specs.Settings.{Setting}
 use Rattle.pz_rules.specs.Configurations.{Config}
 use Rattle.pz_rules.specs.Offers.{Offers}
-use Rattle.pz_rules.specs.Moments.{IsMoment}
+use Rattle.pz_rules.specs.Moments.{IsFirstHigh, IsMoment}
+use Rattle.pz_rules.specs.devices.Start.{start_of}
 use Rattle.pz_rules.specs.Steps.{Next, PassesTo}
 use Rattle.pz_rules.specs.Runs.{whole, stopped}
 use Rattle.pz_rules.specs.Starting.{IsStart}
@@ -37,6 +38,13 @@ outlook_holds setting clock old new outlook same are moment actions =
 pub starts_there : (setting : Setting) (old new : List Process) → new ≡ old → IsStart setting (config_of 0 old) → Starts setting (stands setting (config_of 0 new) whole)
 starts_there setting old new same start = subst (λ (ps : List Process). Starts setting (stands setting (config_of 0 ps) whole)) (sym same) (simulations.starts (config_of 0 old) start)
 
+-- a start that is too high
+pub high_holds : (setting : Setting) (ps : List Process) (trouble : Trouble) → IsFirstHigh setting (start_of setting) trouble → ∥ Holds setting 0 ps (standing.High trouble) ∥₁
+high_holds setting ps trouble high = ∣ (refl, high) ∣₁
+
+pub starts_high : (setting : Setting) → IsStart setting (start_of setting) → Starts setting (stands setting (start_of setting) whole)
+starts_high setting start = simulations.starts (start_of setting) start
+
 at_index : (xs : List Action) (k : ℕ) (a : Action) → k < length xs → a ≡ slice_index_or xs k a → slice_get xs k ≡ Some a
 at_index [] k a within e = absurd (omega (arith, within))
 at_index (x ∷ xs) zero a within e = ap (λ (y : Action). Some y) (sym e)
@@ -48,7 +56,7 @@ module _ (setting : Setting) (clock : ℕ) (ps : List Process) (s : Standing) (o
   c = config_of clock ps
 
   now : IsMoment setting c (Actions n)
-  now = is_moment setting clock ps s (Actions n) tt is
+  now = is_moment setting clock ps s (Actions n) one tt is h
 
   kept : ∥ IsOutlook setting clock ps outlook ∥₁
   kept = subst (λ (x : Standing). ∥ Holds setting clock ps x ∥₁) (sym e) h
@@ -60,7 +68,7 @@ module _ (setting : Setting) (clock : ℕ) (ps : List Process) (s : Standing) (o
   action_offered a at = subst (Offers setting c) (sym at) ((offers_shown setting clock ps outlook one single n now kept).derivable k a within_shown)
 
   old_is : simulation_at setting clock ps s ≡ stands setting c whole
-  old_is = whole_at setting clock ps s (Actions n) tt is
+  old_is = whole_at setting clock ps s (Actions n) one tt is h
 
   pub chosen_acts : (a : Action) (new : Simulation) (qs : List Process) (r : Result (Result ⊤ Trouble) AllocError) (q : Result ⊤ Trouble) (x : ⊤) → a ≡ slice_index_or outlook.actions.items k a
       → r ≡ Ok q → q ≡ Ok x → IfOk r (λ left. Next setting c a (reached clock qs left)) → new ≡ stands setting (config_of clock qs) whole → Chooses k (simulation_at setting clock ps s) new
@@ -81,9 +89,9 @@ module _ (setting : Setting) (clock : ℕ) (ps : List Process) (s : Standing) (o
       (subst (λ (us : List Process). Chooses k (stands setting c whole) (stands setting (config_of clock us) (stopped trouble))) (sym same)
       (simulations.stops setting c n a trouble now (choice_shown setting clock ps outlook one single n now kept k a (at_index outlook.actions.items k a within_shown at)) step))
 
-pub time_passes : (setting : Setting) (clock : ℕ) (ps qs : List Process) (s : Standing) (d : ℕ) (new : Simulation) → IsMomentOf (simulation_at setting clock ps s) (Time d)
+pub time_passes : (setting : Setting) (clock : ℕ) (ps qs : List Process) (s : Standing) (d : ℕ) (new : Simulation) → OneMoment → ∥ Holds setting clock ps s ∥₁ → IsMomentOf (simulation_at setting clock ps s) (Time d)
     → PassesTo setting (config_of clock ps) d (config_of (clock + d) qs) → new ≡ stands setting (config_of (clock + d) qs) whole → Passes (simulation_at setting clock ps s) new
-time_passes setting clock ps qs s d new is passes new_is =
-    subst (λ (old : Simulation). Passes old new) (sym (whole_at setting clock ps s (Time d) tt is))
+time_passes setting clock ps qs s d new one h is passes new_is =
+    subst (λ (old : Simulation). Passes old new) (sym (whole_at setting clock ps s (Time d) one tt is h))
     (subst (λ (y : Simulation). Passes (stands setting (config_of clock ps) whole) y) (sym new_is)
-    (simulations.passes setting (config_of clock ps) (config_of (clock + d) qs) d (is_moment setting clock ps s (Time d) tt is) passes))
+    (simulations.passes setting (config_of clock ps) (config_of (clock + d) qs) d (is_moment setting clock ps s (Time d) one tt is h) passes))

@@ -21,6 +21,7 @@ use Rattle.pz_term.specs.Laws.{OneMomentOf, OffersAreThere, OffersAreCounted, Of
 -- the setting of a plain simulator
 setting_at : (setting : Setting) (clock : ℕ) (ps : List Process) (x : Standing) → setting_in (simulation_at setting clock ps x) ≡ setting
 setting_at setting clock ps (standing.Whole outlook) = refl
+setting_at setting clock ps (standing.High trouble) = refl
 setting_at setting clock ps (standing.Stopped trouble) = refl
 setting_at setting clock ps standing.Broken = refl
 

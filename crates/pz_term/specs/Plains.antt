@@ -4,6 +4,7 @@ use Rattle.pz_syntax.specs.Classes.{ModelTree}
 use Rattle.pz_classes.specs.CheckedView.{checked_model}
 use Rattle.pz_rules.specs.Settings.{Setting}
 use Rattle.pz_rules.specs.Runs.{whole, stopped}
+use Rattle.pz_rules.specs.devices.Start.{start_of}
 use Rattle.pz_term_processes.specs.declared.process.Process.{Process}
 use Rattle.pz_term_processes.specs.Standing.{setting_of, config_of}
 use Rattle.pz_term.specs.declared.standing.Standing.{Standing}
@@ -11,8 +12,10 @@ use Rattle.pz_term.specs.declared.standing.Standing.TheVariants as standing
 use Rattle.pz_term.specs.declared.plain.Plain.{Plain}
 use Rattle.pz_term.specs.Simulations.{Simulation, stands, broken}
 
+-- a start that is too high stands as it is, whatever of it was built
 abbrev pub simulation_at : Setting → ℕ → List Process → Standing → Simulation
 simulation_at setting clock processes (standing.Whole outlook) = stands setting (config_of clock processes) whole
+simulation_at setting clock processes (standing.High trouble) = stands setting (start_of setting) whole
 simulation_at setting clock processes (standing.Stopped trouble) = stands setting (config_of clock processes) (stopped trouble)
 simulation_at setting clock processes standing.Broken = broken setting
 

@@ -5,6 +5,9 @@ ghost use Rattle.pz_term_processes.specs.Standing.{setting_of, config_of, ArePro
 ghost use Rattle.pz_rules.specs.declared.limits.Edition.TheVariants.{Two};
 ghost use Rattle.pz_rules.specs.CallLaws.{NoRounds};
 ghost use Rattle.pz_rules.specs.Runs.{whole};
+ghost use Rattle.pz_rules.specs.Starting.{IsStart};
+ghost use Rattle.pz_rules.specs.Moments.{IsFirstHigh};
+ghost use Rattle.pz_rules.specs.devices.Start.{start_of};
 ghost use Rattle.pz_term.specs.devices.Holding.{Holds};
 
 use crate::copying::copy_actions;
@@ -15,7 +18,7 @@ use pz_bind::Net;
 use pz_classes::Checked;
 use pz_offer::Trouble;
 use pz_rules::{Action, Limits, Moment};
-use pz_term_processes::{Process, start};
+use pz_term_processes::{Process, Started, start};
 use std::alloc::{AllocError, Global};
 use std::mem::{self, drop};
 
@@ -77,7 +80,34 @@ impl Plain {
         ensures checked { IfOk result (λ plain. plain.checked ≡ checked) }
         ensures net { IfOk result (λ plain. plain.net ≡ net) }
     {
-        let mut processes = start(alloc, &checked, &net, limits)?;
+        match start(alloc, &checked, &net, limits)? {
+            Started::Ready(processes) => Plain::ready(alloc, checked, net, limits, processes),
+            Started::TooHigh(trouble) => {
+                Ok(Plain::too_high(alloc, checked, net, limits, trouble))
+            }
+        }
+    }
+
+    // The simulator with these processes, which have just begun.
+    fn ready(
+        alloc: Global,
+        checked: Checked,
+        net: Net,
+        limits: Limits,
+        processes: Vec<Process>,
+    ) -> Result<Plain, AllocError>
+        requires of_model { ∥ IsNet (checked_model checked) net ∥₁ }
+        requires rounds { limits.edition ≡ Two → NoRounds (checked_model checked) }
+        requires start { IsStart (setting_of (checked_model checked) limits)
+            (config_of 0 processes.items) }
+        requires are { ∥ AreProcesses (setting_of (checked_model checked) limits) 0
+            processes.items ∥₁ }
+        ensures starts { IfOk result (λ plain. Starts (setting_of (checked_model checked) limits)
+            (simulation_of plain)) }
+        ensures checked { IfOk result (λ plain. plain.checked ≡ checked) }
+        ensures net { IfOk result (λ plain. plain.net ≡ net) }
+    {
+        let mut processes = processes;
         let outlook = look_at(alloc, &checked, &net, limits, 0, &mut processes)?;
         Ok(Plain {
             alloc,
@@ -90,6 +120,36 @@ impl Plain {
         })
     }
 
+    // The simulator at a start that is too high.
+    fn too_high(
+        alloc: Global,
+        checked: Checked,
+        net: Net,
+        limits: Limits,
+        trouble: Trouble,
+    ) -> Plain
+        requires of_model { ∥ IsNet (checked_model checked) net ∥₁ }
+        requires rounds { limits.edition ≡ Two → NoRounds (checked_model checked) }
+        requires high { IsFirstHigh (setting_of (checked_model checked) limits)
+            (start_of (setting_of (checked_model checked) limits)) trouble }
+        ensures starts { Starts (setting_of (checked_model checked) limits)
+            (simulation_of result) }
+        ensures checked { result.checked ≡ checked }
+        ensures net { result.net ≡ net }
+    {
+        pz_rules::laws::start_is_one();
+        let _model = checked.model();
+        Plain {
+            alloc,
+            checked,
+            net,
+            limits,
+            clock: 0,
+            processes: Vec::new(alloc),
+            standing: Standing::High(trouble),
+        }
+    }
+
     /// What may happen next. Takes no memory.
     pub fn moment(&self) -> Moment
         ensures { IsMomentOf (simulation_of self.now) result }
@@ -99,6 +159,7 @@ impl Plain {
         let _model = self.checked.model();
         match &self.standing {
             Standing::Whole(outlook) => outlook.moment,
+            Standing::High(trouble) => Moment::Stopped(*trouble),
             Standing::Stopped(trouble) => Moment::Stopped(*trouble),
             Standing::Broken => Moment::Broken,
         }
@@ -146,6 +207,7 @@ impl Plain {
         let _model = self.checked.model();
         match &self.standing {
             Standing::Whole(outlook) => outlook.actions.as_slice(),
+            Standing::High(_) => &[],
             Standing::Stopped(_) | Standing::Broken => &[],
         }
     }
@@ -291,6 +353,7 @@ impl Plain {
         ensures setting { setting_in (simulation_of self.new) ≡ setting_in
             (simulation_of self.old) }
     {
+        pz_rules::laws::one_moment();
         self.standing = Standing::Broken;
         let Some(clock) = self.clock.checked_add(time) else {
             return Err(AllocError);

@@ -6,6 +6,8 @@ use pz_term_enabled::Outlook;
 pub enum Standing {
     /// This may happen next.
     Whole(Outlook),
+    /// The start is too high: of the first such process this trouble is told, and no process was built.
+    High(Trouble),
     /// The last action ended in this trouble, and did not take place.
     Stopped(Trouble),
     /// Memory was wanting.

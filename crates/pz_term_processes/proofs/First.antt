@@ -39,7 +39,7 @@ use Rattle.pz_rules.specs.Starting.{home_at, StartsAs}
 use Rattle.pz_term_processes.specs.Standing.{setting_of}
 use Rattle.pz_term_processes.proofs.Given.{values_plain}
 
-there : {X : Type 0} (xs : List X) (i : ℕ) → i < length xs → (x : X) × (slice_get xs i ≡ Some x)
+pub there : {X : Type 0} (xs : List X) (i : ℕ) → i < length xs → (x : X) × (slice_get xs i ≡ Some x)
 there [] i within = absurd (omega (arith, within))
 there (x ∷ xs) zero within = (x, refl)
 there (x ∷ xs) (suc i) within = there xs i (omega (arith, within))
@@ -81,7 +81,7 @@ abbrev IsCallOf : Classes → ClassId → Option Step → Type 0
 IsCallOf classes class call = (m : ModelTree) → AreClasses m classes → option_map step.view call ≡ init m class.0
 
 -- the class and the call are those of the model
-call_is : (set : IsSet (Option terms.Step)) (m : ModelTree) (classes : Classes) (net : Net) (i : ℕ) (class : ClassId) (call : Step) (place : Address) → ∥ AreClasses m classes ∥₁ → ∥ IsNet m net ∥₁
+pub call_is : (set : IsSet (Option terms.Step)) (m : ModelTree) (classes : Classes) (net : Net) (i : ℕ) (class : ClassId) (call : Step) (place : Address) → ∥ AreClasses m classes ∥₁ → ∥ IsNet m net ∥₁
     → slice_get (processes m) i ≡ Some place → IsClassOf net i class → IsCallOf classes class (Some call) → init m (class_at m place) ≡ Some (step.view call)
 call_is set m classes net i class call place tabled known at is calls =
     let here : class.0 ≡ class_at m place = ∥∥₁_elim known (ℕ_set class.0 (class_at m place)) (λ k. ap (λ (c : ClassId). c.0) (is m place k at)) in

@@ -1,4 +1,6 @@
 mod Given
 mod First
-mod Homes
-mod Started
+mod ProcessClasses
+pub mod StatementPlaces
+mod Beginnings
+mod Starts

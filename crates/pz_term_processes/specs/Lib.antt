@@ -1,1 +1,3 @@
 pub mod Standing
+pub mod Starting
+pub mod devices

@@ -7,6 +7,7 @@ use Rattle.pz_rules.specs.Settings as rules
 use Rattle.pz_rules.specs.Settings.{Setting}
 use Rattle.pz_rules.specs.Configurations.{Config, IsWhole}
 use Rattle.pz_rules.specs.Fitting.{IsFit}
+use Rattle.pz_rules.specs.Heights.{IsLow}
 use Rattle.pz_term_processes.specs.declared.process.Process.{Process}
 
 abbrev pub setting_of : ModelTree → Limits → Setting
@@ -19,7 +20,8 @@ process_view p = record { term = term_view p.term; state = p.state.held }
 abbrev pub config_of : ℕ → List Process → Config
 config_of clock ps = record { clock = clock; processes = map process_view ps }
 
--- They are as many as the model has, and what is left of each fits its class.
+-- They are as many as the model has, and what is left of each fits its class and is not too high.
 pub record AreProcesses (setting : Setting) (clock : ℕ) (ps : List Process) : Type 0 where
   pub whole : IsWhole setting (config_of clock ps)
   pub fit : IsFit setting (config_of clock ps)
+  pub low : IsLow setting (config_of clock ps)

@@ -9,4 +9,4 @@ mod starting;
 
 pub use homes::home_at;
 pub use process::Process;
-pub use starting::start;
+pub use starting::{Started, start};

@@ -1,6 +1,6 @@
 // The processes before the first step. The only error is want of memory.
 
-ghost use Rattle.std.specs.Prelude.{◌≡◌, ℕ, [], Some, length, slice_get, All, IfOk};
+ghost use Rattle.std.specs.Prelude.{◌≡◌, ℕ, [], Some, length, slice_get, All, IfOk, MatchOption};
 ghost use Rattle.pz_classes.specs.CheckedView.{checked_model};
 ghost use Rattle.pz_state.specs.References.{RefersWithin};
 ghost use Rattle.pz_bind_levels.specs.Places.{Address};
@@ -10,13 +10,18 @@ ghost use Rattle.pz_bind.specs.devices.Nets.{IsNet};
 ghost use Rattle.pz_rules.specs.declared.limits.Edition.TheVariants.{Two};
 ghost use Rattle.pz_rules.specs.CallLaws.{NoRounds};
 ghost use Rattle.pz_rules.specs.Starting.{StartsAs, IsStart};
+ghost use Rattle.pz_rules.specs.Moments.{IsFirstHigh};
+ghost use Rattle.pz_rules.specs.devices.Start.{start_of};
+ghost use Rattle.pz_term_processes.specs.Starting.{OnReady, OnTooHigh, StartsLow};
+ghost use Rattle.pz_term_processes.specs.devices.Beginnings.{BeginsLow, BeginsHigh};
 ghost use Rattle.pz_term_processes.specs.Standing.{setting_of, process_view, config_of, AreProcesses};
 
 use crate::homes::home_at;
 use crate::process::Process;
 use pz_bind::Net;
 use pz_classes::Checked;
-use pz_part_opening::open_step;
+use pz_offer::Trouble;
+use pz_part_opening::{open_step, step_within};
 use pz_rules::Limits;
 use pz_state::State;
 use pz_term_residual::sweep;
@@ -62,11 +67,52 @@ fn first_of(
     Ok(Process { term, state })
 }
 
-/// The processes of a model as they begin, each with the call that its `init` names, opened, with the
-/// values that its parameters are given and all other variables nil. The only error is want of memory.
-///
-/// In edition Two no method of the model begins with itself.
-pub fn start(
+/// The trouble of a process that begins with a term which is too high: at the place of the call with which
+/// it begins. Nothing is built, and no memory is taken.
+fn too_high(checked: &Checked, net: &Net, limits: Limits, process: u32) -> Option<Trouble>
+    requires of_model { ∥ IsNet (checked_model checked.now) net.now ∥₁ }
+    requires rounds { limits.edition ≡ Two → NoRounds (checked_model checked.now) }
+    requires there { HasProcess net.now process }
+    ensures { MatchOption result
+        (BeginsLow (setting_of (checked_model checked.now) limits) process)
+        (BeginsHigh (setting_of (checked_model checked.now) limits) process) }
+{
+    pz_classes::laws::sound_classes_fit();
+    pz_rules::laws::trees_are_sets();
+    let _model = checked.model();
+    let Some(call) = checked.classes().init(net.class(process)) else {
+        unreachable!()
+    };
+    let home = home_at(checked, net, limits, process);
+    let most = u64::from(limits.height);
+    if step_within(&home, call, most + 1) <= most {
+        return None;
+    }
+    Some(Trouble::High {
+        process,
+        pos: call.pos,
+    })
+}
+
+/// The trouble of the first process that begins with a term which is too high.
+fn first_too_high(checked: &Checked, net: &Net, limits: Limits) -> Option<Trouble>
+    requires of_model { ∥ IsNet (checked_model checked.now) net.now ∥₁ }
+    requires rounds { limits.edition ≡ Two → NoRounds (checked_model checked.now) }
+    ensures { MatchOption result
+        (StartsLow (setting_of (checked_model checked.now) limits))
+        (IsFirstHigh (setting_of (checked_model checked.now) limits)
+        (start_of (setting_of (checked_model checked.now) limits))) }
+{
+    for process in 0..net.processes() {
+        if let Some(trouble) = too_high(checked, net, limits, process) {
+            return Some(trouble);
+        }
+    }
+    None
+}
+
+/// All processes as they begin.
+fn all_begun(
     alloc: Global,
     checked: &Checked,
     net: &Net,
@@ -74,16 +120,50 @@ pub fn start(
 ) -> Result<Vec<Process>, AllocError>
     requires of_model { ∥ IsNet (checked_model checked.now) net.now ∥₁ }
     requires rounds { limits.edition ≡ Two → NoRounds (checked_model checked.now) }
-    ensures start { IfOk result (λ processes.
+    ensures { IfOk result (λ processes.
         IsStart (setting_of (checked_model checked.now) limits) (config_of 0 processes.items)) }
-    ensures processes { IfOk result (λ processes.
-        AreProcesses (setting_of (checked_model checked.now) limits) 0 processes.items) }
 {
-    pz_rules::laws::what_fits_goes_on();
-    let _model = checked.model();
     let mut processes = Vec::new(alloc);
     for process in 0..net.processes() {
         processes.push(first_of(alloc, checked, net, limits, process)?)?;
     }
     Ok(processes)
+}
+
+/// How a model starts.
+pub enum Started {
+    /// The processes as they begin.
+    Ready(Vec<Process>),
+    /// The first process that is too high is told.
+    TooHigh(Trouble),
+}
+
+/// The processes of a model as they begin, each with the call that its `init` names, opened, with the
+/// values that its parameters are given and all other variables nil; or the trouble of the first that is too
+/// high, and then none is built. The only error is want of memory.
+///
+/// In edition Two no method of the model begins with itself.
+pub fn start(
+    alloc: Global,
+    checked: &Checked,
+    net: &Net,
+    limits: Limits,
+) -> Result<Started, AllocError>
+    requires of_model { ∥ IsNet (checked_model checked.now) net.now ∥₁ }
+    requires rounds { limits.edition ≡ Two → NoRounds (checked_model checked.now) }
+    ensures start { IfOk result (OnReady (λ processes.
+        IsStart (setting_of (checked_model checked.now) limits) (config_of 0 processes))) }
+    ensures processes { IfOk result (OnReady
+        (AreProcesses (setting_of (checked_model checked.now) limits) 0)) }
+    ensures high { IfOk result (OnTooHigh
+        (IsFirstHigh (setting_of (checked_model checked.now) limits)
+        (start_of (setting_of (checked_model checked.now) limits)))) }
+{
+    pz_rules::laws::what_fits_goes_on();
+    pz_rules::laws::start_is_one();
+    let _model = checked.model();
+    match first_too_high(checked, net, limits) {
+        Some(trouble) => Ok(Started::TooHigh(trouble)),
+        None => Ok(Started::Ready(all_begun(alloc, checked, net, limits)?)),
+    }
 }

@@ -13,7 +13,7 @@ use Rattle.pz_classes.specs.CheckedView.{checked_model}
 use Rattle.pz_classes.specs.declared.classes.Classes.{Classes}
 use Rattle.pz_classes.specs.Soundness.{IsSound}
 use Rattle.pz_classes.specs.SoundBodies.{SoundBodiesFit}
-use Rattle.pz_classes.specs.Tables.{HasClass, class_id}
+use Rattle.pz_classes.specs.Tables.{HasClass}
 use Rattle.pz_classes.specs.devices.Rows.{AreClasses}
 use Rattle.pz_bind_levels.specs.Places as levels
 use Rattle.pz_bind.specs.declared.net.Net.{Net}

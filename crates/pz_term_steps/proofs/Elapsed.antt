@@ -17,7 +17,7 @@ use Rattle.pz_rules.specs.Settings.{Setting, Context}
 use Rattle.pz_rules.specs.Delays.{Passes}
 use Rattle.pz_rules.specs.Configurations.{Config, Stands}
 use Rattle.pz_rules.specs.Steps.{PassesTo}
-use Rattle.pz_rules.specs.Laws.{StaysWhole, StaysFit}
+use Rattle.pz_rules.specs.Laws.{StaysWhole, StaysFit, LowPasses}
 use Rattle.pz_rules.specs.View.{term_view}
 use Rattle.pz_rules.specs.devices.Computed.{OnePassingIsComputed}
 use Rattle.pz_rules.specs.devices.Passing.{passed}
@@ -94,9 +94,10 @@ some_action : Action
 some_action = Internal (record { process = 0; place = [] }) Skip (record { line = 0; column = 0 })
 
 -- they are still the processes of the model
-pub passed_processes : (setting : Setting) (clock time : ℕ) (old new : List Process) → StaysWhole → StaysFit → IsSound setting.model → ∥ AreProcesses setting clock old ∥₁
+pub passed_processes : (setting : Setting) (clock time : ℕ) (old new : List Process) → StaysWhole → StaysFit → LowPasses → IsSound setting.model → ∥ AreProcesses setting clock old ∥₁
     → PassesTo setting (config_of clock old) time (config_of (clock + time) new) → ∥ AreProcesses setting (clock + time) new ∥₁
-passed_processes setting clock time old new whole fit sound are passes = ∥∥₁_map are (λ k. record {
+passed_processes setting clock time old new whole fit low sound are passes = ∥∥₁_map are (λ k. record {
   whole = (whole setting (config_of clock old) (config_of (clock + time) new) some_action time k.whole).1 passes;
   fit = (fit setting (config_of clock old) (config_of (clock + time) new) some_action time sound k.whole k.fit).1 passes;
+  low = low setting (config_of clock old) (config_of (clock + time) new) time k.whole k.low passes;
 })

@@ -24,7 +24,7 @@ use Rattle.pz_term_around.specs.Laws.{ActivePartsMayAct}
 use Rattle.pz_part_queries.specs.Parts.{IsPartAt}
 use Rattle.pz_part_actions.specs.Fitting.{FitsHere}
 use Rattle.pz_term_steps.specs.declared.begun.Begun.{Begun}
-use Rattle.pz_term_steps.specs.devices.StatementPlaces.{IsFrom}
+use Rattle.pz_term_processes.specs.devices.StatementPlaces.{IsFrom}
 use Rattle.pz_term_steps.specs.devices.Deeds.{Ability, CanDo, Leaves, settled_home, begun_process}
 use Rattle.pz_term_steps.proofs.Statements.{one_place}
 

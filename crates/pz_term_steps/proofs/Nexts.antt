@@ -36,7 +36,7 @@ use Rattle.pz_rules.specs.Offers as offers
 use Rattle.pz_rules.specs.Offers.{IsPair, Offers}
 use Rattle.pz_rules.specs.Steps as steps
 use Rattle.pz_rules.specs.Steps.{Acts, Next, with_both}
-use Rattle.pz_rules.specs.Laws.{StaysWhole, StaysFit}
+use Rattle.pz_rules.specs.Laws.{StaysWhole, StaysFit, LowStays}
 use Rattle.pz_term_processes.specs.declared.process.Process.{Process}
 use Rattle.pz_term_processes.specs.Standing.{process_view, config_of, AreProcesses}
 use Rattle.pz_term_steps.specs.Stepping.{reached}
@@ -149,12 +149,13 @@ module _ (setting : Setting) (clock : ℕ) (ps : List Process) where
 
 -- the processes afterwards
 pub still_processes : (setting : Setting) (clock : ℕ) (old new : List Process) (action : Action) (result : Result (Result ⊤ Trouble) AllocError)
-    → StaysWhole → StaysFit → IsSound setting.model → ∥ AreProcesses setting clock old ∥₁
+    → StaysWhole → StaysFit → LowStays → IsSound setting.model → ∥ AreProcesses setting clock old ∥₁
     → IfOk result (λ left. Next setting (config_of clock old) action (reached clock new left)) → IfOk result (λ left. OnErr left (new ≡ old))
     → OnOk result (∥ AreProcesses setting clock new ∥₁)
-still_processes setting clock old new action (Ok (Ok x)) whole fit sound are next stays = ∥∥₁_map are (λ k. record {
+still_processes setting clock old new action (Ok (Ok x)) whole fit low sound are next stays = ∥∥₁_map are (λ k. record {
   whole = (whole setting (config_of clock old) (config_of clock new) action 0 k.whole).0 next;
   fit = (fit setting (config_of clock old) (config_of clock new) action 0 sound k.whole k.fit).0 next;
+  low = low setting (config_of clock old) (config_of clock new) action k.low next;
 })
-still_processes setting clock old new action (Ok (Err trouble)) whole fit sound are next stays = subst (λ (ps : List Process). ∥ AreProcesses setting clock ps ∥₁) (sym stays) are
-still_processes setting clock old new action (Err e) whole fit sound are next stays = tt
+still_processes setting clock old new action (Ok (Err trouble)) whole fit low sound are next stays = subst (λ (ps : List Process). ∥ AreProcesses setting clock ps ∥₁) (sym stays) are
+still_processes setting clock old new action (Err e) whole fit low sound are next stays = tt

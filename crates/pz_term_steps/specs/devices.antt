@@ -1,3 +1,2 @@
-pub mod StatementPlaces
 pub mod Deeds
 pub mod Elapsing

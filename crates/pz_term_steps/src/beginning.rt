@@ -15,7 +15,7 @@ ghost use Rattle.pz_part_queries.specs.Standpoints.{Knows};
 ghost use Rattle.pz_part_actions.specs.Becoming.{process_left, done_left};
 ghost use Rattle.pz_part_actions.specs.Fitting.{FitsHere};
 ghost use Rattle.pz_part_actions.specs.Homes.{seen_home};
-ghost use Rattle.pz_term_steps.specs.devices.StatementPlaces.{IsFrom};
+ghost use Rattle.pz_term_processes.specs.devices.StatementPlaces.{IsFrom};
 ghost use Rattle.pz_term_steps.specs.devices.Deeds.{CanAct, CanSend, CanReceive, CanDo, Leaves, begun_process, IsBegun};
 
 use crate::begun::{Begun, hold};

@@ -166,6 +166,7 @@ pub fn step(
 {
     pz_rules::laws::one_next();
     pz_rules::laws::what_fits_goes_on();
+    pz_rules::laws::low_terms_stay();
     let _model = checked.model();
     match action {
         Action::Internal { at, .. } => act(alloc, checked, net, limits, clock, processes, at),
@@ -224,6 +225,7 @@ pub fn elapse(
     pz_rules::laws::passing_is_computed();
     pz_rules::laws::one_next();
     pz_rules::laws::what_fits_goes_on();
+    pz_rules::laws::low_terms_stay();
     let _model = checked.model();
     for number in 0..net.processes() {
         let here = Standpoint {

@@ -31,7 +31,7 @@ use Rattle.pz_offer.specs.declared.trouble.Trouble.{Trouble}
 use Rattle.pz_offer.specs.declared.trouble.Trouble.TheVariants.{Fault, Spent, High}
 use Rattle.pz_rules.specs.declared.action.Action.{Action}
 use Rattle.pz_rules.specs.declared.moment.Moment.{Moment}
-use Rattle.pz_rules.specs.declared.moment.Moment.TheVariants.{Faulty}
+use Rattle.pz_rules.specs.declared.moment.Moment.TheVariants.{Faulty, Stopped}
 use Rattle.pz_rules.specs.Terms.{Code, Codes, Term}
 use Rattle.pz_rules.specs.Settings.{Setting, Process, Context}
 use Rattle.pz_rules.specs.Meanings.{and_then, truth, duration}
@@ -202,11 +202,22 @@ module _ (setting : Setting) (c : Config) (net : Net) (is : ∥ IsNet setting.mo
       seen_named receiver.process active.process judged.seen t active.stands (judges_blame judged.seen judged.frame parcel judged.part (Err t) judged.judges t refl)
 
   says_named : (m : Moment) (t : Trouble) → Candidate setting c m → m ≡ Faulty t → HasTroubled net t
+  says_named _ t (moments.high u first) same = cc
   says_named _ t (moments.faulty u least) same = let equal : u ≡ t = cc in subst (HasTroubled net) equal (source_named least.source u least.occurs)
   says_named _ t (moments.acting actions is_offers some) same = cc
   says_named _ t (moments.passing d least) same = cc
   says_named _ t (moments.finished done) same = cc
   says_named _ t moments.deadlock same = cc
+
+  high_named : (m : Moment) (t : Trouble) → Candidate setting c m → m ≡ Stopped t → HasTroubled net t
+  high_named _ t (moments.high u first) same =
+      let equal : u ≡ t = cc in
+      subst (HasTroubled net) equal (subst (HasTroubled net) (sym first.says) (stands_named first.number first.process first.seen first.stands))
+  high_named _ t (moments.faulty u least) same = cc
+  high_named _ t (moments.acting actions is_offers some) same = cc
+  high_named _ t (moments.passing d least) same = cc
+  high_named _ t (moments.finished done) same = cc
+  high_named _ t moments.deadlock same = cc
 
   acts_named : (does : Deed) (at : End) (r : Result Process Trouble) → ((a : Context) (f : ℕ) (part : Term) (place : Pos) (q : Result Process Trouble) → does a f part place q → Blames a.process q)
       → Acts setting c does at r → (t : Trouble) → r ≡ Err t → HasTroubled net t
@@ -233,6 +244,9 @@ offers_named setting c net a is x = offer_named setting c net is a x
 
 pub faults_named : (setting : Setting) (c : Config) (net : Net) (t : Trouble) → ∥ IsNet setting.model net ∥₁ → IsMoment setting c (Faulty t) → HasTroubled net t
 faults_named setting c net t is x = says_named setting c net is (Faulty t) t x.applies refl
+
+pub highs_named : (setting : Setting) (c : Config) (net : Net) (t : Trouble) → ∥ IsNet setting.model net ∥₁ → IsMoment setting c (Stopped t) → HasTroubled net t
+highs_named setting c net t is x = high_named setting c net is (Stopped t) t x.applies refl
 
 pub stops_named : (setting : Setting) (c : Config) (net : Net) (a : Action) (t : Trouble) → ∥ IsNet setting.model net ∥₁ → Next setting c a (Err t) → HasTroubled net t
 stops_named setting c net a t is x = next_named setting c net is a (Err t) x t refl

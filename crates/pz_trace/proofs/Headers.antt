@@ -5,7 +5,7 @@ use Rattle.std.specs.Fmt.{digits, decimal}
 use Rattle.pz_trace.specs.declared.forms.Form.{Form}
 use Rattle.pz_trace.specs.declared.forms.Form.TheVariants.{One, Two, Three}
 use Rattle.pz_trace.specs.Lines.{newline, header}
-use Rattle.pz_trace.specs.Forms.{form_of, limits_of, AreUnits, IsForm}
+use Rattle.pz_trace.specs.Forms.{AreUnits, IsForm}
 use Rattle.pz_trace.specs.Laws.{HeadersDiffer, FormsAreKept}
 use Rattle.pz_trace.specs.devices.Reading.{StandsFirst}
 use Rattle.pz_trace.proofs.Digits.{cut_once, cancel, decimal_lacks}

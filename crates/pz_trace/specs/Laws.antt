@@ -14,7 +14,7 @@ use Rattle.pz_copy.specs.ParcelText.{name_of}
 use Rattle.pz_offer.specs.declared.trouble.Trouble.{Trouble}
 use Rattle.pz_rules.specs.declared.action.Action.{Action}
 use Rattle.pz_rules.specs.declared.action.Action.TheVariants.{Internal, Comm}
-use Rattle.pz_rules.specs.declared.moment.Moment.TheVariants.{Faulty}
+use Rattle.pz_rules.specs.declared.moment.Moment.TheVariants.{Faulty, Stopped}
 use Rattle.pz_rules.specs.Settings.{Setting}
 use Rattle.pz_rules.specs.Configurations.{Config}
 use Rattle.pz_rules.specs.Offers.{Offers}
@@ -105,9 +105,13 @@ ActionsHaveHeadings = (m : ModelTree) (clock n k : ℕ) (a : Action) → clock <
 abbrev pub OffersAreNamed : Type 0
 OffersAreNamed = (setting : Setting) (c : Config) (net : Net) (a : Action) → ∥ IsNet setting.model net ∥₁ → Offers setting c a → IsNamed net a
 
--- So do the troubles that come before any action, and those in which actions end.
+-- So do the troubles that come before an action, also that of a start that is too high, and those in which
+-- actions end.
 abbrev pub FaultsAreNamed : Type 0
 FaultsAreNamed = (setting : Setting) (c : Config) (net : Net) (trouble : Trouble) → ∥ IsNet setting.model net ∥₁ → IsMoment setting c (Faulty trouble) → HasTroubled net trouble
+
+abbrev pub HighsAreNamed : Type 0
+HighsAreNamed = (setting : Setting) (c : Config) (net : Net) (trouble : Trouble) → ∥ IsNet setting.model net ∥₁ → IsMoment setting c (Stopped trouble) → HasTroubled net trouble
 
 abbrev pub StopsAreNamed : Type 0
 StopsAreNamed = (setting : Setting) (c : Config) (net : Net) (a : Action) (trouble : Trouble) → ∥ IsNet setting.model net ∥₁ → Next setting c a (Err trouble) → HasTroubled net trouble

@@ -1,5 +1,5 @@
 -- The lines of a trace. Each begins with the clock, but for the first, and ends with LF.
-use Rattle.std.specs.Prelude.{ℕ, List, [], ◌∷◌, ◌++◌, codes}
+use Rattle.std.specs.Prelude.{ℕ, List, ◌++◌, codes}
 use Rattle.std.specs.Fmt.{decimal}
 use Rattle.pz_syntax.specs.Classes.{ModelTree}
 use Rattle.pz_offer.specs.declared.trouble.Trouble.{Trouble}

@@ -1,6 +1,6 @@
 // Laws of lines, each the contract of a function that does nothing.
 
-ghost use Rattle.pz_trace.specs.Laws.{HeadersAreLines, HeadersDiffer, OneFormIsTold, FormsAreKept, TimeLinesAreLines, ActionLinesAreLines, EndLinesAreLines, OneFirstLine, ActionLinesDiffer, StopIsNoAction, StopIsNoPassing, OneHeading, EveryHeading, ActionsHaveHeadings, OffersAreNamed, FaultsAreNamed, StopsAreNamed};
+ghost use Rattle.pz_trace.specs.Laws.{HeadersAreLines, HeadersDiffer, OneFormIsTold, FormsAreKept, TimeLinesAreLines, ActionLinesAreLines, EndLinesAreLines, OneFirstLine, ActionLinesDiffer, StopIsNoAction, StopIsNoPassing, OneHeading, EveryHeading, ActionsHaveHeadings, OffersAreNamed, FaultsAreNamed, HighsAreNamed, StopsAreNamed};
 
 /// Each line ends with LF and has none before it, whatever a parcel holds, where no name of an
 /// instance, a class or a message has one. So a trace is cut into its lines at each LF.
@@ -36,9 +36,11 @@ pub fn headings_tell_actions()
 {}
 
 /// What a line has to name is there: an action that is offered names processes, and a wire, of the
-/// net of the model, and a trouble before or in an action names a process of it.
+/// net of the model, and a trouble before or in an action names a process of it. So does that of a start
+/// that is too high.
 pub fn what_happens_is_named()
     ensures offers { OffersAreNamed }
     ensures faults { FaultsAreNamed }
+    ensures highs { HighsAreNamed }
     ensures stops { StopsAreNamed }
 {}

@@ -2,12 +2,13 @@
 
 ghost use Rattle.std.specs.Prelude.{◌≡◌, ◌<◌};
 ghost use Rattle.pz_classes.specs.CheckedView.{checked_model};
+ghost use Rattle.pz_classes_openings.specs.OpeningRules.{Opens};
 ghost use Rattle.pz_bind.specs.devices.Nets.{IsNet};
 
 use crate::plays::{Play, show_play};
 use pz_bind::Net;
 use pz_classes::Checked;
-use pz_run_reading::read_model;
+use pz_run_reading::{open_model, read_model};
 use pz_term::{Edition, Limits, Plain, Steps};
 use std::io;
 use std::marker::Brand;
@@ -17,12 +18,20 @@ use std::sync::ledger::{Blank, Ledger};
 /// The most bytes of a text.
 pub const LIMIT: usize = 1_048_576;
 
-/// What an evaluation and a term may take.
-const LIMITS: Limits = Limits {
+/// What an evaluation and a term may take, and by which rules.
+const FIRST: Limits = Limits {
     units: 100_000,
     depth: 400,
     height: 1_000,
     edition: Edition::One,
+};
+
+/// The same in the second edition.
+const SECOND: Limits = Limits {
+    units: 100_000,
+    depth: 20_000,
+    height: 1_000,
+    edition: Edition::Two,
 };
 
 // The one owner of a simulator, which is long to drop.
@@ -42,29 +51,52 @@ fn show_plain<L: Ledger>(
     answer
 }
 
-fn show_net(rt: &HostRuntime, checked: Checked, net: Net, play: Play<'_>) -> io::Result<()>
-    requires { ∥ IsNet (checked_model checked) net ∥₁ }
+fn show_net(
+    rt: &HostRuntime,
+    checked: Checked,
+    net: Net,
+    limits: Limits,
+    play: Play<'_>,
+) -> io::Result<()>
+    requires of_model { ∥ IsNet (checked_model checked) net ∥₁ }
+    requires opens { limits.edition ≡ Edition.Two → Opens (checked_model checked) }
 {
-    match Plain::start(rt.alloc(), checked, net, LIMITS) {
+    match Plain::start(rt.alloc(), checked, net, limits) {
         Ok(plain) => show_plain::<Brand>(rt, plain, play, Blank::new(1)),
         Err(_) => println!(rt; "no memory"),
     }
 }
 
-fn show_model(rt: &HostRuntime, checked: Checked, play: Play<'_>) -> io::Result<()> {
+fn show_model(rt: &HostRuntime, checked: Checked, limits: Limits, play: Play<'_>) -> io::Result<()>
+    requires opens { limits.edition ≡ Edition.Two → Opens (checked_model checked) }
+{
     match Net::flatten(rt.alloc(), &checked) {
-        Ok(net) => show_net(rt, checked, net, play),
+        Ok(net) => show_net(rt, checked, net, limits, play),
         Err(_) => println!(rt; "no memory"),
     }
 }
 
-/// Plays the model of a text from its start.
-pub fn show_text(rt: &HostRuntime, text: &[u8], play: Play<'_>) -> io::Result<()> {
+// A model runs by the second edition only where it opens.
+fn show_open(rt: &HostRuntime, checked: Checked, play: Play<'_>) -> io::Result<()> {
+    match open_model(rt.alloc(), &checked) {
+        Ok(()) => show_model(rt, checked, SECOND, play),
+        Err(error) => println!(rt; "no model: {error:?}"),
+    }
+}
+
+/// Plays the model of a text from its start, by the rules of an edition.
+pub fn show_text(
+    rt: &HostRuntime,
+    text: &[u8],
+    edition: Edition,
+    play: Play<'_>,
+) -> io::Result<()> {
     if text.len() > LIMIT {
         return println!(rt; "too long");
     }
-    match read_model(rt.alloc(), text) {
-        Ok(checked) => show_model(rt, checked, play),
-        Err(error) => println!(rt; "no model: {error:?}"),
+    match (read_model(rt.alloc(), text), edition) {
+        (Ok(checked), Edition::One) => show_model(rt, checked, FIRST, play),
+        (Ok(checked), Edition::Two) => show_open(rt, checked, play),
+        (Err(error), _) => println!(rt; "no model: {error:?}"),
     }
 }

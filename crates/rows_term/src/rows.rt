@@ -4,12 +4,20 @@ use crate::models::{LIMIT, show_text};
 use crate::plays::Play;
 use pz_gen::make;
 use pz_io::{OsFiles, read_all};
+use pz_term::Edition;
 use std::io;
 
-fn show_file(rt: &HostRuntime, name: &str, play: Play<'_>) -> io::Result<()> {
+fn show_file(rt: &HostRuntime, name: &str, edition: Edition, play: Play<'_>) -> io::Result<()> {
     match read_all(rt.alloc(), &mut OsFiles::new(*rt), name, LIMIT) {
-        Ok(text) => show_text(rt, text.as_slice(), play),
+        Ok(text) => show_text(rt, text.as_slice(), edition, play),
         Err(_) => println!(rt; "no file"),
+    }
+}
+
+fn show_words(rt: &HostRuntime, words: &str, edition: Edition) -> io::Result<()> {
+    match words.split_once(' ') {
+        Some((name, steps)) => show_file(rt, name, edition, Play::Steps(steps)),
+        None => println!(rt; "no steps"),
     }
 }
 
@@ -17,8 +25,8 @@ fn show_file(rt: &HostRuntime, name: &str, play: Play<'_>) -> io::Result<()> {
 pub fn show_row(rt: &HostRuntime, line: &str) -> io::Result<()> {
     println!(rt; "> {line}")?;
     match line.split_once(' ') {
-        Some((name, steps)) => show_file(rt, name, Play::Steps(steps)),
-        None => println!(rt; "no steps"),
+        Some(("second", words)) => show_words(rt, words, Edition::Two),
+        _ => show_words(rt, line, Edition::One),
     }
 }
 
@@ -30,5 +38,5 @@ pub fn show_ring(rt: &HostRuntime, stations: &str, events: &str) -> io::Result<(
         return println!(rt; "no ring");
     }
     let text = make(rt.alloc(), stations)?;
-    show_text(rt, text.as_slice(), Play::Events(events))
+    show_text(rt, text.as_slice(), Edition::One, Play::Events(events))
 }

@@ -1,5 +1,5 @@
 // One call of the files or one write that fails, each in turn, and all in parts of one byte. The model that is
-// run has 84 bytes, and its trace has 99 bytes in seven lines.
+// run has 84 bytes, and its trace has 89 bytes in six lines.
 use crate::programs::{MODEL, TRACE, call, expect, expect_through, one_file};
 use pz_io::{FailingFiles, NarrowFiles, NarrowSink, RoomySink};
 use std::alloc::{AllocError, Global};
@@ -73,9 +73,9 @@ fn a_write_that_fails_leaves_what_was_taken_before(rt: HostRuntime) -> Result<()
             expect_through(&rt, rt.alloc(), "run m", &mut files, writes, 9, front)?;
         }
     }
-    expect_narrow(&rt, rt.alloc(), 100, 0, trace)?;
+    expect_narrow(&rt, rt.alloc(), 90, 0, trace)?;
     let mut files = one_file(rt.alloc(), MODEL, 0)?;
-    let writes = vec![in rt.alloc(); 8]?;
+    let writes = vec![in rt.alloc(); 7]?;
     expect_through(&rt, rt.alloc(), "run m", &mut files, writes, 0, trace)?;
     Ok(())
 }

@@ -2,11 +2,13 @@
 use crate::programs::{expect, expect_through};
 use pz_io::{FailingFiles, MemFiles};
 use std::alloc::{AllocError, Global};
+use std::process::Abort;
 use std::test::Fail;
 
 const MODEL: &str =
     "process class S(d : Integer)\nports o\nmessages o!m\ninit a()()\nmethods a()() delay d; o!m\nprocess class R\nports i\nmessages i?m\ninit a()()\nmethods a()() sel i?m or delay 5; skip les\nsystem\ninstances s : S(d := 5) r : R\nchannels {s.o, r.i}\n";
 
+// Of the first edition, in which the calls are actions.
 const TRACE: &str =
     "poosl-trace 1\n0 2 0 s call 4:6\n0 1 0 r call 9:6\n0 time 5\n5 2 0 s expire 5:15\n5 2 1 #1 s ! m() -> r\n5 end\n";
 
@@ -18,10 +20,13 @@ fn two_files(alloc: Global, trace: Vec<u8>) -> Result<MemFiles, AllocError> {
     Ok(MemFiles::new(vec![in alloc; (m, model), (t, trace)]?))
 }
 
+const SECOND: &str =
+    "poosl-trace 3 100000\n0 time 5\n5 2 0 s expire 5:15\n5 2 1 #1 s ! m() -> r\n5 end\n";
+
 // What is expected in the place of a line that is missing or cut off: nothing of an action, since there no
 // number of an offer can be read.
 const EXPECTED: [&str; 7] = [
-    "expected poosl-trace 1\n",
+    "expected poosl-trace 3 100000\n",
     "",
     "",
     "expected 0 time 5\n",
@@ -30,9 +35,21 @@ const EXPECTED: [&str; 7] = [
     "expected 5 end\n",
 ];
 
-#[test]
-fn each_front_of_a_trace_is_refused_behind_its_whole_lines(rt: HostRuntime) -> Result<(), Fail> {
-    let trace = TRACE.as_bytes();
+const EXPECTED_OF_SECOND: [&str; 5] = [
+    "expected poosl-trace 3 100000\n",
+    "expected 0 time 5\n",
+    "",
+    "",
+    "expected 5 end\n",
+];
+
+// Replays each proper front of a trace, where a line of `expected` is what is told behind as many lines.
+fn expect_fronts(
+    rt: &impl Abort,
+    alloc: Global,
+    trace: &[u8],
+    expected: &[&str],
+) -> Result<(), AllocError> {
     for cut in 0..trace.len() {
         let front = &trace[..cut];
         let whole = match front.iter().rposition(|b| *b == b'\n') {
@@ -40,14 +57,23 @@ fn each_front_of_a_trace_is_refused_behind_its_whole_lines(rt: HostRuntime) -> R
             None => b"",
         };
         let lines = front.iter().filter(|b| **b == b'\n').count();
-        let expected = EXPECTED.get(lines).copied().unwrap_or("");
-        let refused = format!(in rt.alloc(); "refused line {}\n{expected}", lines + 1)?;
-        let mut output = whole.to_vec(rt.alloc())?;
+        let behind = expected.get(lines).copied().unwrap_or("");
+        let refused = format!(in alloc; "refused line {}\n{behind}", lines + 1)?;
+        let mut output = whole.to_vec(alloc)?;
         output.extend_from_slice(refused.as_bytes())?;
-        let mut files = two_files(rt.alloc(), front.to_vec(rt.alloc())?)?;
-        let none = Vec::new(rt.alloc());
-        expect_through(&rt, rt.alloc(), "replay m t", &mut files, none, 6, &output)?;
+        let mut files = two_files(alloc, front.to_vec(alloc)?)?;
+        let none = Vec::new(alloc);
+        expect_through(rt, alloc, "replay m t", &mut files, none, 6, &output)?;
     }
+    Ok(())
+}
+
+#[test]
+fn each_front_of_a_trace_is_refused_behind_its_whole_lines(rt: HostRuntime) -> Result<(), Fail> {
+    expect_fronts(&rt, rt.alloc(), TRACE.as_bytes(), &EXPECTED)?;
+    expect_fronts(&rt, rt.alloc(), SECOND.as_bytes(), &EXPECTED_OF_SECOND)?;
+    let mut files = two_files(rt.alloc(), SECOND.as_bytes().to_vec(rt.alloc())?)?;
+    expect(&rt, rt.alloc(), "replay m t", &mut files, 0, SECOND)?;
     Ok(())
 }
 

@@ -84,4 +84,4 @@ events =
 
 pub trace : Trace setting events Deadlock
 unfolding evaluations
-trace = traced setting refl (before (leaf begins) (number 2 ∷ []) ∷ before (leaf begins) (number 3 ∷ []) ∷ before (leaf listens) (Nil ∷ []) ∷ []) events Deadlock refl (acts refl refl refl refl refl (acts refl refl refl refl refl (acts refl refl refl refl refl (locks refl refl refl refl))))
+trace = traced setting refl (before (leaf begins) (number 2 ∷ []) ∷ before (leaf begins) (number 3 ∷ []) ∷ before (leaf listens) (Nil ∷ []) ∷ []) events Deadlock refl (acts refl refl refl refl refl refl (acts refl refl refl refl refl refl (acts refl refl refl refl refl refl (locks refl refl refl refl refl))))

@@ -88,7 +88,7 @@ later =
 
 works_out_later : Computed setting (at_clock 2 (within (parallel (terms (guarded test (at 7 1) (wait 3 (at 7 9)) ∷ sequence (leaf delays_again) (steps (reopens ∷ [])) ∷ []))) (number 0 ∷ []) ∷ [])) later Finished
 unfolding evaluations
-works_out_later = passes refl refl refl refl (acts refl refl refl refl refl (acts refl refl refl refl refl (passes refl refl refl refl (acts refl refl refl refl refl (ends refl refl refl refl)))))
+works_out_later = passes refl refl refl refl refl (acts refl refl refl refl refl refl (acts refl refl refl refl refl refl (passes refl refl refl refl refl (acts refl refl refl refl refl refl (ends refl refl refl refl refl)))))
 
 abbrev events : List Shown
 events =
@@ -101,4 +101,4 @@ events =
 
 pub trace : Trace setting events Finished
 unfolding evaluations
-trace = traced setting refl (before (leaf begins) (Nil ∷ []) ∷ []) events Finished refl (acts refl refl refl refl refl (acts refl refl refl refl refl (passes refl refl refl refl (acts refl refl refl refl refl (acts refl refl refl refl refl (works_out_later))))))
+trace = traced setting refl (before (leaf begins) (Nil ∷ []) ∷ []) events Finished refl (acts refl refl refl refl refl refl (acts refl refl refl refl refl refl (passes refl refl refl refl refl (acts refl refl refl refl refl refl (acts refl refl refl refl refl refl (works_out_later))))))

@@ -123,7 +123,7 @@ later =
 
 works_out_later : Computed setting (at_clock 11 (sender (sequence (wait 1 (at 5 29)) (steps (sends_again ∷ []))) ∷ at_work (wait 6 (at 10 25)) ∷ [])) later Finished
 unfolding evaluations
-works_out_later = passes refl refl refl refl (acts refl refl refl refl refl (acts refl refl refl refl refl (passes refl refl refl refl (acts refl refl refl refl refl (passes refl refl refl refl (acts refl refl refl refl refl (ends refl refl refl refl)))))))
+works_out_later = passes refl refl refl refl refl (acts refl refl refl refl refl refl (acts refl refl refl refl refl refl (passes refl refl refl refl refl (acts refl refl refl refl refl refl (passes refl refl refl refl refl (acts refl refl refl refl refl refl (ends refl refl refl refl refl)))))))
 
 abbrev events : List Shown
 events =
@@ -138,4 +138,4 @@ events =
 
 pub trace : Trace setting events Finished
 unfolding evaluations
-trace = traced setting refl (before (leaf begins) (number 4 ∷ []) ∷ before (leaf listens) [] ∷ []) events Finished refl (acts refl refl refl refl refl (acts refl refl refl refl refl (passes refl refl refl refl (acts refl refl refl refl refl (acts refl refl refl refl refl (passes refl refl refl refl (acts refl refl refl refl refl (works_out_later))))))))
+trace = traced setting refl (before (leaf begins) (number 4 ∷ []) ∷ before (leaf listens) [] ∷ []) events Finished refl (acts refl refl refl refl refl refl (acts refl refl refl refl refl refl (passes refl refl refl refl refl (acts refl refl refl refl refl refl (acts refl refl refl refl refl refl (passes refl refl refl refl refl (acts refl refl refl refl refl refl (works_out_later))))))))

@@ -113,4 +113,4 @@ events =
 
 pub trace : Trace setting events Deadlock
 unfolding evaluations
-trace = traced setting refl (before (leaf begins) (number 4 ∷ []) ∷ before (leaf listens) [] ∷ []) events Deadlock refl (acts refl refl refl refl refl (acts refl refl refl refl refl (passes refl refl refl refl (acts refl refl refl refl refl (passes refl refl refl refl (acts refl refl refl refl refl (acts refl refl refl refl refl (locks refl refl refl refl))))))))
+trace = traced setting refl (before (leaf begins) (number 4 ∷ []) ∷ before (leaf listens) [] ∷ []) events Deadlock refl (acts refl refl refl refl refl refl (acts refl refl refl refl refl refl (passes refl refl refl refl refl (acts refl refl refl refl refl refl (passes refl refl refl refl refl (acts refl refl refl refl refl refl (acts refl refl refl refl refl refl (locks refl refl refl refl refl))))))))

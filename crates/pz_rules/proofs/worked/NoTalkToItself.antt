@@ -60,4 +60,4 @@ events =
 
 pub trace : Trace setting events Deadlock
 unfolding evaluations
-trace = traced setting refl (before (leaf begins) [] ∷ []) events Deadlock refl (acts refl refl refl refl refl (locks refl refl refl refl))
+trace = traced setting refl (before (leaf begins) [] ∷ []) events Deadlock refl (acts refl refl refl refl refl refl (locks refl refl refl refl refl))

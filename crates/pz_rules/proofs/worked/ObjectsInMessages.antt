@@ -165,7 +165,7 @@ last =
 
 works_out_last : Computed setting (at_clock 0 (with_objects (leaf sends_both) (refs 0 1) cycle ∷ within (sequence (leaf hears) (steps (sends_one ∷ []))) nils ∷ within (leaf hears_last) nils ∷ [])) last Finished
 unfolding evaluations
-works_out_last = acts refl refl refl refl refl (acts refl refl refl refl refl (ends refl refl refl refl))
+works_out_last = acts refl refl refl refl refl refl (acts refl refl refl refl refl refl (ends refl refl refl refl refl))
 
 abbrev later : List Shown
 later =
@@ -175,7 +175,7 @@ later =
 
 works_out_later : Computed setting (at_clock 0 (with_objects (leaf sends_both) (refs 0 1) cycle ∷ before (leaf forwards) nils ∷ before (leaf ends_it) nils ∷ [])) later Finished
 unfolding evaluations
-works_out_later = acts refl refl refl refl refl (acts refl refl refl refl refl (works_out_last))
+works_out_later = acts refl refl refl refl refl refl (acts refl refl refl refl refl refl (works_out_last))
 
 abbrev events : List Shown
 events =
@@ -188,4 +188,4 @@ events =
 
 pub trace : Trace setting events Finished
 unfolding evaluations
-trace = traced setting refl (before (leaf begins) nils ∷ before (leaf forwards) nils ∷ before (leaf ends_it) nils ∷ []) events Finished refl (acts refl refl refl refl refl (acts refl refl refl refl refl (acts refl refl refl refl refl (acts refl refl refl refl refl (acts refl refl refl refl refl (works_out_later))))))
+trace = traced setting refl (before (leaf begins) nils ∷ before (leaf forwards) nils ∷ before (leaf ends_it) nils ∷ []) events Finished refl (acts refl refl refl refl refl refl (acts refl refl refl refl refl refl (acts refl refl refl refl refl refl (acts refl refl refl refl refl refl (acts refl refl refl refl refl refl (works_out_later))))))

@@ -2,7 +2,7 @@
 use Rattle.std.proofs.Common.{◌≡◌, ◌≤◌, ◌⊎◌, inl, inr, ℕ, zero, suc, Bool, true, false, List, [], ◌∷◌, length, Option, Some, None, Result, Ok, refl, sym, subst, ap, ◌∙◌, arith}
 use Rattle.std.specs.Prelude.{slice_get, nat_eq, nat_le, ◌&&◌}
 use Rattle.std.specs.List.{All, Contains, list_any, list_all}
-use Rattle.std.proofs.lemmas.Bool.{and_parts, and_cases}
+use Rattle.std.proofs.lemmas.Bool.{leb-true, and_parts, and_cases}
 use Rattle.std.proofs.lemmas.List.Elements.{All-nil, All-cons, All-contains}
 use Rattle.pz_classes.specs.Starts.{init}
 use Rattle.pz_bind_levels.specs.Places.{Address}
@@ -12,7 +12,7 @@ use Rattle.pz_offer.specs.declared.trouble.Trouble.{Trouble}
 use Rattle.pz_rules.specs.declared.action.Action.{Action}
 use Rattle.pz_rules.specs.declared.moment.Moment.{Moment}
 use Rattle.pz_rules.specs.declared.moment.Moment.TheVariants.{Actions, Time, Finished, Deadlock}
-use Rattle.pz_rules.specs.Terms.{Step, Term, done}
+use Rattle.pz_rules.specs.Terms.{Step, Term, done, height}
 use Rattle.pz_rules.specs.Settings.{Setting, Process}
 use Rattle.pz_rules.specs.Leaving.{is_done}
 use Rattle.pz_rules.specs.Configurations.{Config}
@@ -21,6 +21,7 @@ use Rattle.pz_rules.specs.Steps.{Next, PassesTo}
 use Rattle.pz_rules.specs.Moments.{IsLeft, IsLeast, acting, passing, finished, deadlock, IsMoment}
 use Rattle.pz_rules.specs.Starting.{begins_with, StartsAs, IsStart}
 use Rattle.pz_rules.proofs.Locals.{some_is, no_some}
+use Rattle.pz_rules.proofs.TooHigh.{NoneHigh, low_none}
 use Rattle.pz_rules.proofs.Moments.{NoDelay, rank_two, rank_three, rank_four, rank_five}
 use Rattle.pz_rules.proofs.Waiting.{next_config, passing_there}
 use Rattle.pz_rules.proofs.worked.Wiring.{no_true, IsFlat}
@@ -123,6 +124,11 @@ module _ (setting : Setting) where
   are_done [] = true
   are_done (p ∷ ps) = is_done p.term && are_done ps
 
+  -- whether no term is too high
+  abbrev are_low : List Process → Bool
+  are_low [] = true
+  are_low (p ∷ ps) = nat_le (height p.term) setting.limits.height && are_low ps
+
   abbrev next_by : Config → Option Action → Option (Result Config Trouble)
   next_by c None = None
   next_by c (Some a) = follows setting c a
@@ -135,17 +141,17 @@ module _ (setting : Setting) where
   named_by c None = None
   named_by c (Some a) = parcel_named setting c a
 
-  -- All that is computed, as it is to be: no trouble; the offers, in order; the parcel of the action; and
+  -- All that is computed, as it is to be: no term that is too high; no trouble; the offers, in order; the parcel of the action; and
   -- what the action leads to. Where time passes, there is no offer, and so much is the least that is left.
   pub data Computed : Config → List Shown → Moment → Type 0 where
     acts : {c next : Config} {offers : List Action} {number : ℕ} {events : List Shown} {moment : Moment}
-        → troubles setting c ≡ [] → offered setting c ≡ offers → ordered offers ≡ true → sent_by c (slice_get offers number) ≡ named_by c (slice_get offers number)
+        → are_low c.processes ≡ true → troubles setting c ≡ [] → offered setting c ≡ offers → ordered offers ≡ true → sent_by c (slice_get offers number) ≡ named_by c (slice_get offers number)
         → next_by c (slice_get offers number) ≡ Some (Ok next) → Computed next events moment → Computed c (takes offers number next ∷ events) moment
     passes : {c next : Config} {time : ℕ} {events : List Shown} {moment : Moment}
-        → troubles setting c ≡ [] → offered setting c ≡ [] → is_least time (lefts setting c) ≡ true → next_config setting c time ≡ next
+        → are_low c.processes ≡ true → troubles setting c ≡ [] → offered setting c ≡ [] → is_least time (lefts setting c) ≡ true → next_config setting c time ≡ next
         → Computed next events moment → Computed c (waits time next ∷ events) moment
-    ends : {c : Config} → troubles setting c ≡ [] → offered setting c ≡ [] → lefts setting c ≡ [] → are_done c.processes ≡ true → Computed c [] Finished
-    locks : {c : Config} → troubles setting c ≡ [] → offered setting c ≡ [] → lefts setting c ≡ [] → are_done c.processes ≡ false → Computed c [] Deadlock
+    ends : {c : Config} → are_low c.processes ≡ true → troubles setting c ≡ [] → offered setting c ≡ [] → lefts setting c ≡ [] → are_done c.processes ≡ true → Computed c [] Finished
+    locks : {c : Config} → are_low c.processes ≡ true → troubles setting c ≡ [] → offered setting c ≡ [] → lefts setting c ≡ [] → are_done c.processes ≡ false → Computed c [] Deadlock
 
   module _ (flat : IsFlat setting.model) where
     no_offers : (c : Config) → offered setting c ≡ [] → IsOffers setting c []
@@ -166,6 +172,14 @@ module _ (setting : Setting) where
         by (inl first) go = let e : p.term ≡ done = all 0 p (omega arith) in no_true (sym first ∙ ap is_done e)
         by (inr others) go = go others
 
+    low_terms : (ps : List Process) → are_low ps ≡ true → (i : ℕ) (p : Process) → slice_get ps i ≡ Some p → height p.term ≤ setting.limits.height
+    low_terms [] is i p here = no_some here
+    low_terms (q ∷ ps) is zero p here = subst (λ (r : Process). height r.term ≤ setting.limits.height) (some_is here) (leb-true (height q.term) setting.limits.height (and_parts (nat_le (height q.term) setting.limits.height) (are_low ps) is).0)
+    low_terms (q ∷ ps) is (suc i) p here = low_terms ps (and_parts (nat_le (height q.term) setting.limits.height) (are_low ps) is).1 i p here
+
+    none_high : (c : Config) → are_low c.processes ≡ true → NoneHigh setting c
+    none_high c is = low_none setting c (low_terms c.processes is)
+
     least : (c : Config) (d : ℕ) → is_least d (lefts setting c) ≡ true → IsLeast setting c d
     least c d is =
         let parts = and_parts (list_any (nat_eq d) (lefts setting c)) (list_all (nat_le d) (lefts setting c)) is in
@@ -174,34 +188,34 @@ module _ (setting : Setting) where
           least = λ n h. All-contains (λ k. d ≤ k) (lefts setting c) n (at_least d (lefts setting c) parts.1) (every_left setting c n h);
         }
 
-    taken_is : (c : Config) (offers : List Action) (number : ℕ) (next : Config) → troubles setting c ≡ [] → offered setting c ≡ offers → ordered offers ≡ true
+    taken_is : (c : Config) (offers : List Action) (number : ℕ) (next : Config) → are_low c.processes ≡ true → troubles setting c ≡ [] → offered setting c ≡ offers → ordered offers ≡ true
         → (o : Option Action) → slice_get offers number ≡ o → sent_by c o ≡ named_by c o → next_by c o ≡ Some (Ok next) → Taken setting c offers number next
-    taken_is c offers number next calm are in_order None chosen sent leads = no_some leads
-    taken_is c [] number next calm are in_order (Some a) chosen sent leads = no_some chosen
-    taken_is c (x ∷ xs) number next calm are in_order (Some a) chosen sent leads =
+    taken_is c offers number next low calm are in_order None chosen sent leads = no_some leads
+    taken_is c [] number next low calm are in_order (Some a) chosen sent leads = no_some chosen
+    taken_is c (x ∷ xs) number next low calm are in_order (Some a) chosen sent leads =
         let is = offers_are setting c flat (x ∷ xs) are in_order in
         record {
-          moment = record { applies = acting (x ∷ xs) is (omega arith); first = rank_two setting c (no_troubles setting c flat calm) };
+          moment = record { applies = acting (x ∷ xs) is (omega arith); first = rank_two setting c (none_high c low) (no_troubles setting c flat calm) };
           offered = is;
           action = a;
           chosen = chosen;
           leads = follows_is setting c a (Ok next) sent leads;
         }
 
-    waited_is : (c : Config) (time : ℕ) (next : Config) → troubles setting c ≡ [] → offered setting c ≡ [] → is_least time (lefts setting c) ≡ true → next_config setting c time ≡ next → Waited setting c time next
-    waited_is c time next calm none is leads = record {
-      moment = record { applies = passing time (least c time is); first = rank_three setting c (no_troubles setting c flat calm) (no_offers c none) };
+    waited_is : (c : Config) (time : ℕ) (next : Config) → are_low c.processes ≡ true → troubles setting c ≡ [] → offered setting c ≡ [] → is_least time (lefts setting c) ≡ true → next_config setting c time ≡ next → Waited setting c time next
+    waited_is c time next low calm none is leads = record {
+      moment = record { applies = passing time (least c time is); first = rank_three setting c (none_high c low) (no_troubles setting c flat calm) (no_offers c none) };
       leads = subst (PassesTo setting c time) leads (passing_there setting c time (no_troubles setting c flat calm));
     }
 
     pub shown : (c : Config) (events : List Shown) (moment : Moment) → Computed c events moment → Shows setting c events moment
-    shown _ _ _ (acts {c} {next} {offers} {number} {events} {moment} calm are in_order sent leads rest) =
-        (taken_is c offers number next calm are in_order (slice_get offers number) refl sent leads, shown next events moment rest)
-    shown _ _ _ (passes {c} {next} {time} {events} {moment} calm none is leads rest) = (waited_is c time next calm none is leads, shown next events moment rest)
-    shown _ _ _ (ends {c} calm none still all) =
-        record { applies = finished (all_are_done c.processes all); first = rank_four setting c (no_troubles setting c flat calm) (no_offers c none) (no_delays c still) }
-    shown _ _ _ (locks {c} calm none still more) =
-        record { applies = deadlock; first = rank_five setting c (no_troubles setting c flat calm) (no_offers c none) (no_delays c still) (not_done c.processes more) }
+    shown _ _ _ (acts {c} {next} {offers} {number} {events} {moment} low calm are in_order sent leads rest) =
+        (taken_is c offers number next low calm are in_order (slice_get offers number) refl sent leads, shown next events moment rest)
+    shown _ _ _ (passes {c} {next} {time} {events} {moment} low calm none is leads rest) = (waited_is c time next low calm none is leads, shown next events moment rest)
+    shown _ _ _ (ends {c} low calm none still all) =
+        record { applies = finished (all_are_done c.processes all); first = rank_four setting c (none_high c low) (no_troubles setting c flat calm) (no_offers c none) (no_delays c still) }
+    shown _ _ _ (locks {c} low calm none still more) =
+        record { applies = deadlock; first = rank_five setting c (none_high c low) (no_troubles setting c flat calm) (no_offers c none) (no_delays c still) (not_done c.processes more) }
 
   pub traced : IsFlat setting.model → (ps : List Process) (events : List Shown) (moment : Moment) → IsFirst setting ps → Computed (record { clock = 0; processes = ps }) events moment → Trace setting events moment
   traced flat ps events moment first h = record { start = record { clock = 0; processes = ps }; starts = starts_there setting ps first; shows = shown flat (record { clock = 0; processes = ps }) events moment h }

@@ -91,4 +91,4 @@ events =
 
 pub trace : Trace setting events Finished
 unfolding evaluations
-trace = traced setting refl (side_by_side (3 ∷ 4 ∷ []) in_c in_d ∷ []) events Finished refl (acts refl refl refl refl refl (acts refl refl refl refl refl (acts refl refl refl refl refl (ends refl refl refl refl))))
+trace = traced setting refl (side_by_side (3 ∷ 4 ∷ []) in_c in_d ∷ []) events Finished refl (acts refl refl refl refl refl refl (acts refl refl refl refl refl refl (acts refl refl refl refl refl refl (ends refl refl refl refl refl))))

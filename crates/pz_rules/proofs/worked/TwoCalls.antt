@@ -74,4 +74,4 @@ events =
 
 pub trace : Trace setting events Finished
 unfolding evaluations
-trace = traced setting refl (before (leaf begins) [] ∷ []) events Finished refl (acts refl refl refl refl refl (acts refl refl refl refl refl (acts refl refl refl refl refl (acts refl refl refl refl refl (acts refl refl refl refl refl (ends refl refl refl refl))))))
+trace = traced setting refl (before (leaf begins) [] ∷ []) events Finished refl (acts refl refl refl refl refl refl (acts refl refl refl refl refl refl (acts refl refl refl refl refl refl (acts refl refl refl refl refl refl (acts refl refl refl refl refl refl (ends refl refl refl refl refl))))))

@@ -104,4 +104,4 @@ events =
 
 pub trace : Trace setting events Finished
 unfolding evaluations
-trace = traced setting refl (before (leaf begins) (number 4 ∷ []) ∷ before (leaf listens) [] ∷ []) events Finished refl (acts refl refl refl refl refl (acts refl refl refl refl refl (passes refl refl refl refl (acts refl refl refl refl refl (acts refl refl refl refl refl (ends refl refl refl refl))))))
+trace = traced setting refl (before (leaf begins) (number 4 ∷ []) ∷ before (leaf listens) [] ∷ []) events Finished refl (acts refl refl refl refl refl refl (acts refl refl refl refl refl refl (passes refl refl refl refl refl (acts refl refl refl refl refl refl (acts refl refl refl refl refl refl (ends refl refl refl refl refl))))))

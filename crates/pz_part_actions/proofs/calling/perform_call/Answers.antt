@@ -5,7 +5,7 @@ use Rattle.pz_classes_code.specs.StepView.{sequence_view}
 use Rattle.pz_rules.specs.View.{term_view}
 use Rattle.pz_classes.specs.CheckedView.{checked_model}
 use Rattle.pz_part_opening.specs.Homes.{home_view}
-use Rattle.pz_part_actions.specs.Homes.{seen_home}
+use Rattle.pz_part_actions.specs.devices.Standing.{seen_there}
 use Rattle.pz_part_actions.proofs.Becomings.{home_is}
 use Rattle.pz_part_actions.proofs.Methods.{merely_callable, is_called}
 use Rattle.pz_part_actions.proofs.Calls.{call_entered, call_troubled}
@@ -18,7 +18,7 @@ find_method-called-requires c =
 
 pub returns-in_ok-enter-in-Ok-clause-performs : goal.returns-in_ok-enter-in-Ok-clause-performs
 returns-in_ok-enter-in-Ok-clause-performs c = λ known.
-    call_entered (seen_home c.args.here.now c.args.home.now c.args.state.now.held) c.args.frame.0 c.args.pos c.args.method.now (list_view c.args.args.now) c.args.results.now c.evaluate_all.new.state c.in_ok-values.field-0
+    call_entered (seen_there c.args.here.now c.args.home.now c.args.state.now.held) c.args.frame.0 c.args.pos c.args.method.now (list_view c.args.args.now) c.args.results.now c.evaluate_all.new.state c.in_ok-values.field-0
     (c.in_ok-values.ensures.gives (checked_model c.args.home.now.checked.now) c.args.home.now.class.0 known) c.find_method-called.result.locals (sequence_view c.find_method-called.result.steps.now)
     (is_called (checked_model c.args.home.now.checked.now) c.args.home.now.class.0 c.args.method.now c.args.args.now c.args.results.now c.as_bytes-name.result.now (length c.args.args.now) c.len-outputs.result c.find_method-called.result.locals c.find_method-called.result.steps.now
     (c.as_bytes-name.ensures.value ∙ c.as_str.ensures) refl (c.len-outputs.ensures ∙ ap (λ (xs : List Slot). length xs) c.get.ensures) (c.find_method-called.ensures (checked_model c.args.home.now.checked.now) known))
@@ -27,7 +27,7 @@ returns-in_ok-enter-in-Ok-clause-performs c = λ known.
 
 pub returns-in-Err-clause-performs : goal.returns-in-Err-clause-performs
 returns-in-Err-clause-performs c = λ known.
-    call_troubled (seen_home c.args.here.now c.args.home.now c.args.state.now.held) c.args.frame.0 c.args.pos c.args.method.now (list_view c.args.args.now) c.args.results.now c.evaluate_all.new.state c.in_ok-values.field-0
+    call_troubled (seen_there c.args.here.now c.args.home.now c.args.state.now.held) c.args.frame.0 c.args.pos c.args.method.now (list_view c.args.args.now) c.args.results.now c.evaluate_all.new.state c.in_ok-values.field-0
     (c.in_ok-values.ensures.gives (checked_model c.args.home.now.checked.now) c.args.home.now.class.0 known) c.find_method-called.result.locals (sequence_view c.find_method-called.result.steps.now)
     (is_called (checked_model c.args.home.now.checked.now) c.args.home.now.class.0 c.args.method.now c.args.args.now c.args.results.now c.as_bytes-name.result.now (length c.args.args.now) c.len-outputs.result c.find_method-called.result.locals c.find_method-called.result.steps.now
     (c.as_bytes-name.ensures.value ∙ c.as_str.ensures) refl (c.len-outputs.ensures ∙ ap (λ (xs : List Slot). length xs) c.get.ensures) (c.find_method-called.ensures (checked_model c.args.home.now.checked.now) known))

@@ -3,7 +3,7 @@ use Rattle.pz_classes_code.specs.declared.code.Code.{Code}
 use Rattle.pz_classes_code.specs.CodeView as code
 use Rattle.pz_classes_code.specs.StepView.{view, sequence_view}
 use Rattle.pz_syntax.specs.Statements.{conditional}
-use Rattle.pz_part_actions.specs.Homes.{seen_home}
+use Rattle.pz_part_actions.specs.devices.Standing.{seen_there}
 use Rattle.pz_part_actions.specs.devices.Parts.{otherwise_view}
 use Rattle.pz_part_actions.proofs.Forms.{is_skip, is_delay, is_if}
 use Rattle.pz_part_actions.proofs.Performed.{skip_performed, delay_performed, by_step}
@@ -11,15 +11,15 @@ use Rattle.pz_part_actions.proofs.performing.perform_step.Goals as goal
 
 pub returns-in-Skip-clause-performs : goal.returns-in-Skip-clause-performs
 returns-in-Skip-clause-performs c = λ known.
-    skip_performed (seen_home c.args.here.now c.args.home.now c.args.state.now.held) c.args.frame.0 c.args.step.now.pos (view c.args.step.now) (is_skip c.args.step.now c.in-Skip.is)
+    skip_performed (seen_there c.args.here.now c.args.home.now c.args.state.now.held) c.args.frame.0 c.args.step.now.pos (view c.args.step.now) (is_skip c.args.step.now c.in-Skip.is)
 
 pub returns-in-Delay-clause-performs : goal.returns-in-Delay-clause-performs
 returns-in-Delay-clause-performs c = λ known.
-    delay_performed (seen_home c.args.here.now c.args.home.now c.args.state.now.held) c.args.frame.0 c.args.step.now.pos (view c.args.step.now) (code.view c.in-Delay.field-0) (is_delay c.args.step.now c.in-Delay.field-0 c.in-Delay.is)
+    delay_performed (seen_there c.args.here.now c.args.home.now c.args.state.now.held) c.args.frame.0 c.args.step.now.pos (view c.args.step.now) (code.view c.in-Delay.field-0) (is_delay c.args.step.now c.in-Delay.field-0 c.in-Delay.is)
 
 pub returns-in-If-clause-performs : goal.returns-in-If-clause-performs
 returns-in-If-clause-performs c = λ known.
-    by_step (seen_home c.args.here.now c.args.home.now c.args.state.now.held) c.args.frame.0 c.args.step.now.pos c.perform_if.result c.perform_if.new.state.held (view c.args.step.now)
+    by_step (seen_there c.args.here.now c.args.home.now c.args.state.now.held) c.args.frame.0 c.args.step.now.pos c.perform_if.result c.perform_if.new.state.held (view c.args.step.now)
     (conditional c.args.step.now.pos (code.view c.get-in-If.result.now) (sequence_view c.in-If.steps) (otherwise_view c.in-If.other))
     (is_if c.args.step.now c.in-If.test c.in-If.steps c.in-If.other c.in-If.is ∙ ap (λ (test : Code). conditional c.args.step.now.pos (code.view test) (sequence_view c.in-If.steps) (otherwise_view c.in-If.other)) (sym c.get-in-If.ensures))
     (c.perform_if.ensures.performs known)

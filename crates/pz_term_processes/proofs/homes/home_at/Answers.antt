@@ -3,7 +3,7 @@ use Rattle.pz_value.specs.declared.value.ClassId.{ClassId}
 use Rattle.pz_classes.specs.CheckedView.{checked_model}
 use Rattle.pz_classes.specs.Tables.{HasClass}
 use Rattle.pz_rules.specs.Settings as rules
-use Rattle.pz_term_processes.proofs.Homes.{class_is, process_class}
+use Rattle.pz_term_processes.proofs.ProcessClasses.{class_is, process_class}
 use Rattle.pz_term_processes.proofs.homes.home_at.Goals as goal
 
 pub returns-clause-home : goal.returns-clause-home

@@ -1,26 +1,18 @@
-use Rattle.std.proofs.Common.{◌+◌, sym, subst, List, arith}
+use Rattle.std.proofs.Common.{Option, sym, subst}
+use Rattle.std.specs.Option.{MatchOption}
 use Rattle.pz_classes.specs.CheckedView.{checked_model}
 use Rattle.pz_classes.specs.Soundness.{IsSound}
-use Rattle.pz_term_processes.specs.declared.process.Process.{Process}
-use Rattle.pz_term_processes.proofs.Started.{AreStarted, none_started, next_started, all_started, counted, are_processes}
+use Rattle.pz_offer.specs.declared.trouble.Trouble.{Trouble}
+use Rattle.pz_rules.specs.Moments.{IsFirstHigh}
+use Rattle.pz_rules.specs.devices.Start.{start_of}
+use Rattle.pz_term_processes.specs.Starting.{StartsLow}
+use Rattle.pz_term_processes.specs.Standing.{setting_of}
+use Rattle.pz_term_processes.proofs.Starts.{are_processes}
 use Rattle.pz_term_processes.proofs.starting.start.Goals as goal
 
-pub loop-process-init : goal.loop-process-init
-loop-process-init c = subst (λ (ps : List Process). AreStarted (checked_model c.args.checked.now) c.args.limits 0 ps) (sym c.new-processes.ensures.items) (none_started (checked_model c.args.checked.now) c.args.limits)
-
-pub loop-process-preserved : goal.loop-process-preserved
-loop-process-preserved c =
-    subst (λ (ps : List Process). AreStarted (checked_model c.args.checked.now) c.args.limits (c.loop-process.process + 1) ps) (sym c.in_ok-push.ensures.items)
-    (next_started (checked_model c.args.checked.now) c.args.limits c.loop-process.process c.loop-process.processes.items c.in_ok-first_of.field-0 c.loop-process.invariant c.in_ok-first_of.ensures)
-
-pub returns-clause-start : goal.returns-clause-start
-returns-clause-start c =
-    all_started (checked_model c.args.checked.now) c.loop-process.process c.loop-process.processes.items c.args.limits
-    (let all = counted (checked_model c.args.checked.now) c.args.net.now c.processes-process-end.result c.requires.of_model c.processes-process-end.ensures.counted in
-    omega (arith, all, c.loop-process.auto.process-end, c.loop-process-test.false))
-    c.loop-process.invariant
-
-pub returns-clause-processes : goal.returns-clause-processes
-returns-clause-processes c =
-    are_processes c.what_fits_goes_on.ensures.start (checked_model c.args.checked.now) c.loop-process.processes.items c.args.limits
-    (subst IsSound c.model-model.ensures.is c.model-model.ensures.sound) (returns-clause-start c)
+pub returns-in_ok-all_begun-in-None-clause-processes : goal.returns-in_ok-all_begun-in-None-clause-processes
+returns-in_ok-all_begun-in-None-clause-processes c =
+    let setting = setting_of (checked_model c.args.checked.now) c.args.limits in
+    are_processes c.what_fits_goes_on.ensures.start c.start_is_one.ensures.one c.start_is_one.ensures.computed (checked_model c.args.checked.now) c.in_ok-all_begun-in-None.field-0.items c.args.limits
+    (subst IsSound c.model-model.ensures.is c.model-model.ensures.sound) c.in_ok-all_begun-in-None.ensures
+    (subst (λ (o : Option Trouble). MatchOption o (StartsLow setting) (IsFirstHigh setting (start_of setting))) c.in-None.is c.first_too_high.ensures)

@@ -43,8 +43,8 @@ returns-clause-leaves c = λ parcel.
     (done_left c.hand.new.state.held c.in_ok-left.left) c.hold.result
     (home_view c.args.home.now) refl
     c.in_ok-point.ensures.ok c.part_at.ensures c.pos_of-pos.ensures (subst (λ (x : Standpoint). Knows (checked_model c.args.home.now.checked.now) x → (pos : Pos) → CanSend parcel (seen_from (checked_model c.args.home.now.checked.now) x c.args.home.now.class.0 c.mark.new.self.held) c.part_at.result.0.0 (term_view c.part_at.result.1.now) pos
-        → Hands (seen_from (checked_model c.args.home.now.checked.now) x c.args.home.now.class.0 c.mark.new.self.held) c.part_at.result.0.0 parcel (term_view c.part_at.result.1.now) pos (done_left c.hand.new.state.held c.in_ok-left.left))
-        c.at_home.ensures (λ known pos can. c.in_ok-left.ensures.hands (checked_model c.args.home.now.checked.now) c.args.home.now.class.0 pos can.0 can.1 parcel known can.2) c.requires.knows)
+    → Hands (seen_from (checked_model c.args.home.now.checked.now) x c.args.home.now.class.0 c.mark.new.self.held) c.part_at.result.0.0 parcel (term_view c.part_at.result.1.now) pos (done_left c.hand.new.state.held c.in_ok-left.left))
+    c.at_home.ensures (λ known pos can. c.in_ok-left.ensures.hands (checked_model c.args.home.now.checked.now) c.args.home.now.class.0 pos can.0 can.1 parcel known can.2) c.requires.knows)
     (c.hold.ensures.left c.args.process.now.state.held
     ∙ ap (λ (r : Result Process Trouble). and_then r (settled_home (home_view c.args.home.now) a c.pos_of-pos.result (term_view c.args.process.now.term) c.args.place.now)) (c.done_by.ensures c.hand.new.state.held))
     c.hold.ensures.state

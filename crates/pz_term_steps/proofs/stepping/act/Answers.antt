@@ -39,7 +39,6 @@ begin_internal-requires-clause-knows c =
     knows_there m c.args.limits (record { classes = c.classes.result; limits = c.args.limits; process = c.args.at.now.process; clock = c.args.clock }) c.home_at-home.result at.home (c.home_at-home.ensures.home at.home at.at_home) refl
     c.classes.ensures.tabled
 
-
 pub begin_internal-requires-clause-can : goal.begin_internal-requires-clause-can
 begin_internal-requires-clause-can c =
     let m = checked_model c.args.checked.now in

@@ -84,7 +84,6 @@ begin_send-requires-clause-knows c =
     let t = talk setting c.args.clock ps c.args.sender.now c.args.receiver.now c.args.parcel.now c.requires.pair in
     knows_there setting.model c.args.limits (record { classes = c.classes.result; limits = c.args.limits; process = c.args.sender.now.process; clock = c.args.clock }) c.home_at-sends_home.result t.sends.home (c.home_at-sends_home.ensures.home t.sends.home t.sends.at_home) refl c.classes.ensures.tabled
 
-
 pub begin_send-requires-clause-can : goal.begin_send-requires-clause-can
 begin_send-requires-clause-can c =
     let setting = setting_of (checked_model c.args.checked.now) c.args.limits in
@@ -102,7 +101,6 @@ begin_receive-requires-clause-knows c =
     let ps = c.args.processes.now in
     let t = talk setting c.args.clock ps c.args.sender.now c.args.receiver.now c.args.parcel.now c.requires.pair in
     knows_there setting.model c.args.limits (record { classes = c.classes.result; limits = c.args.limits; process = c.args.receiver.now.process; clock = c.args.clock }) c.home_at-home.result t.receives.home (c.home_at-home.ensures.home t.receives.home t.receives.at_home) refl c.classes.ensures.tabled
-
 
 pub begin_receive-requires-clause-can : goal.begin_receive-requires-clause-can
 begin_receive-requires-clause-can c =

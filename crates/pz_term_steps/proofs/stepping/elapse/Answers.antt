@@ -46,7 +46,7 @@ returns-clause-processes c =
     let setting = setting_of m c.args.limits in
     let sound = subst IsSound c.model-model.ensures.is c.model-model.ensures.sound in
     let next = c.least_passes.ensures.some setting (config_of c.args.clock c.args.processes.now) c.args.time (c.wires_are_known.ensures.law m sound) c.requires.moment in
-    passed_processes setting c.args.clock c.args.time c.args.processes.now c.loop-number.processes c.one_next.ensures.whole c.what_fits_goes_on.ensures.stays sound c.requires.processes
+    passed_processes setting c.args.clock c.args.time c.args.processes.now c.loop-number.processes c.one_next.ensures.whole c.what_fits_goes_on.ensures.stays c.low_terms_stay.ensures.passing sound c.requires.processes
     (all_passed setting c.args.clock c.args.time c.passing_is_computed.ensures.only c.args.processes.now c.loop-number.processes c.processes-number-end.result next.0 next.1
     (count_is m c.args.limits c.args.clock c.args.net.now c.args.processes.now c.processes-number-end.result c.requires.of_model c.requires.processes c.processes-number-end.ensures.counted)
     c.loop-number.auto.processes (λ i p below there. c.loop-number.invariant.passed i p (omega (arith, below, c.loop-number-test.false)) there))

@@ -21,12 +21,12 @@ pub returns-in-Internal-clause-processes : goal.returns-in-Internal-clause-proce
 returns-in-Internal-clause-processes c =
     let setting = setting_of (checked_model c.args.checked.now) c.args.limits in
     still_processes setting c.args.clock c.args.processes.now c.act.new.processes (Internal c.in-Internal.at c.in-Internal.kind c.in-Internal.pos) c.act.result
-    c.one_next.ensures.whole c.what_fits_goes_on.ensures.stays (subst IsSound c.model-model.ensures.is c.model-model.ensures.sound) c.requires.processes
+    c.one_next.ensures.whole c.what_fits_goes_on.ensures.stays c.low_terms_stay.ensures.action (subst IsSound c.model-model.ensures.is c.model-model.ensures.sound) c.requires.processes
     (c.act.ensures.steps c.in-Internal.kind c.in-Internal.pos) c.act.ensures.stays
 
 pub returns-in-Comm-clause-processes : goal.returns-in-Comm-clause-processes
 returns-in-Comm-clause-processes c =
     let setting = setting_of (checked_model c.args.checked.now) c.args.limits in
     still_processes setting c.args.clock c.args.processes.now c.communicate.new.processes (Comm c.in-Comm.wire c.in-Comm.sender c.in-Comm.receiver c.in-Comm.message c.in-Comm.parcel) c.communicate.result
-    c.one_next.ensures.whole c.what_fits_goes_on.ensures.stays (subst IsSound c.model-model.ensures.is c.model-model.ensures.sound) c.requires.processes
+    c.one_next.ensures.whole c.what_fits_goes_on.ensures.stays c.low_terms_stay.ensures.action (subst IsSound c.model-model.ensures.is c.model-model.ensures.sound) c.requires.processes
     (c.communicate.ensures.steps c.in-Comm.wire c.in-Comm.message) c.communicate.ensures.stays

@@ -6,17 +6,20 @@ use Rattle.pz_rules.specs.Runs.{whole}
 use Rattle.pz_term_processes.specs.Standing.{setting_of, config_of}
 use Rattle.pz_term.specs.Simulations.{stands}
 use Rattle.pz_term.specs.Plains.{simulation_of}
-use Rattle.pz_term.proofs.Kept.{kept_processes}
+use Rattle.pz_term.proofs.Kept.{is_moment, kept_processes}
 use Rattle.pz_term.proofs.Moved.{time_passes}
 use Rattle.pz_term.proofs.plain.Plain.wait.Goals as goal
 
 pub elapse_at-requires-clause-processes : goal.elapse_at-requires-clause-processes
-elapse_at-requires-clause-processes c = kept_processes (setting_of (checked_model c.args.self.now.checked) c.args.self.now.limits) c.args.self.now.clock c.args.self.now.processes.items c.args.self.now.standing (Time c.args.time) tt c.requires.there c.args.self.now.holds
+elapse_at-requires-clause-processes c = kept_processes (setting_of (checked_model c.args.self.now.checked) c.args.self.now.limits) c.args.self.now.clock c.args.self.now.processes.items c.args.self.now.standing (Time c.args.time) c.one_moment.ensures.one tt c.requires.there c.args.self.now.holds
 
 pub returns-clause-ok : goal.returns-clause-ok
 returns-clause-ok c =
     on_ok_weaker c.look_on.result
     (λ is.
-    time_passes (setting_of (checked_model c.args.self.now.checked) c.args.self.now.limits) c.args.self.now.clock c.args.self.now.processes.items c.elapse_at.new.processes.items c.args.self.now.standing c.args.time (simulation_of c.look_on.new.self) c.requires.there c.in_ok-elapse_at.ensures.passes
+    time_passes (setting_of (checked_model c.args.self.now.checked) c.args.self.now.limits) c.args.self.now.clock c.args.self.now.processes.items c.elapse_at.new.processes.items c.args.self.now.standing c.args.time (simulation_of c.look_on.new.self) c.one_moment.ensures.one c.args.self.now.holds c.requires.there c.in_ok-elapse_at.ensures.passes
     (is ∙ ap (λ (n : ℕ). stands (setting_of (checked_model c.args.self.now.checked) c.args.self.now.limits) (config_of n c.elapse_at.new.processes.items) whole) c.in-Some.ensures.1))
     c.look_on.ensures.ok
+
+pub elapse_at-requires-clause-moment : goal.elapse_at-requires-clause-moment
+elapse_at-requires-clause-moment c = is_moment (setting_of (checked_model c.args.self.now.checked) c.args.self.now.limits) c.args.self.now.clock c.args.self.now.processes.items c.args.self.now.standing (Time c.args.time) c.one_moment.ensures.one tt c.requires.there c.args.self.now.holds

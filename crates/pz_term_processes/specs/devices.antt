@@ -1,0 +1,2 @@
+pub mod StatementPlaces
+pub mod Beginnings
