@@ -14,5 +14,6 @@ mod RingClasses
 mod RingEnds
 mod RingSize
 mod RingSound
+mod RingOpens
 mod Rings
 mod RingLength

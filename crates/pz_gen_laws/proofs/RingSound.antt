@@ -1,4 +1,4 @@
--- A ring violates no rule.
+-- A ring violates none of C1 to C22.
 use Rattle.std.proofs.Common.{sym, subst, ℕ, ◌≤◌}
 use Rattle.pz_syntax.specs.declared.tokens.Pos.{Pos}
 use Rattle.pz_syntax.specs.declared.clusters.SystemDecl.{SystemDecl}

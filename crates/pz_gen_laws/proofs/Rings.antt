@@ -14,6 +14,7 @@ use Rattle.pz_gen_laws.proofs.RingMarks.{marks_are_text}
 use Rattle.pz_gen_laws.proofs.RingForm.{is_model, nests, text_is, in_place}
 use Rattle.pz_gen_laws.proofs.RingSystem.{is_ring}
 use Rattle.pz_gen_laws.proofs.RingSound.{ring_is_sound}
+use Rattle.pz_gen_laws.proofs.RingOpens.{ring_opens}
 
 module _ (n : ℕ) where
   at : ℕ → Pos
@@ -35,4 +36,4 @@ module _ (n : ℕ) where
   }
 
 pub rings_are_models : RingsAreModels
-rings_are_models n several few = (tree (at n) n, ring_is_model n few)
+rings_are_models n several few = (tree (at n) n, record { is_model = ring_is_model n few; opens = ring_opens (at n) (place_system (at n) system_at (ring_system n)) })

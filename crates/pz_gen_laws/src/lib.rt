@@ -3,7 +3,7 @@
 
 ghost use Rattle.pz_gen_laws.specs.Rings.{RingsAreModels, RingsAreShort};
 
-/// The text of a ring of 2 to 1000 stations is that of a model that violates no rule.
+/// The text of a ring of 2 to 1000 stations is that of a model that violates no rule, and opens.
 pub fn ring_is_accepted()
     ensures law { RingsAreModels }
 {}
