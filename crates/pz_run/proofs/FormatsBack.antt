@@ -1,8 +1,6 @@
 -- What is read of what `format` prints.
-use Rattle.std.proofs.Common.{◌≡◌, ℕ, List, true, Option, Some, refl, subst}
-use Rattle.std.specs.List.{list_all}
+use Rattle.std.proofs.Common.{◌≡◌, ℕ, List, Option, Some, refl, subst}
 use Rattle.pz_io.specs.Outside.{Entries, lookup}
-use Rattle.pz_format.specs.ReadingBack.{is_byte}
 use Rattle.pz_words.specs.declared.jobs.Job.{Job}
 use Rattle.pz_words.specs.declared.jobs.Job.TheVariants.{Format}
 use Rattle.pz_run_formatting.specs.Layouts.{IsLayoutOf}

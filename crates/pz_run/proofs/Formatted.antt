@@ -1,23 +1,21 @@
 -- The promises of the layout of a model.
-use Rattle.std.proofs.Common.{◌≡◌, ◌<◌, ◌≤◌, inl, inr, ℕ, List, [], Option, Some, None, length, sym, subst, refl}
-use Rattle.pz_io.specs.Outside.{Entries, FilesState, SinkState, lookup}
+use Rattle.std.proofs.Common.{◌≡◌, inl, inr, ℕ, List, [], Some, refl}
+use Rattle.pz_io.specs.Outside.{Entries, FilesState, SinkState}
 use Rattle.pz_rules.specs.Runs.{Ending}
 use Rattle.pz_words.specs.declared.jobs.Job.TheVariants.{Replay, Format}
-use Rattle.pz_run_reading.specs.declared.refusal.Refusal.{Refusal}
 use Rattle.pz_run_reading.specs.declared.read_error.ReadModelError.{ReadModelError}
 use Rattle.pz_run_reading.specs.declared.read_error.ReadModelError.TheVariants.{NoMemory, Refused}
 use Rattle.pz_run_reading.specs.Openings.{IsRefusedToOpen}
 use Rattle.pz_run_reading.specs.Answers.{OnRefused}
 use Rattle.pz_run_reading.specs.Laws.{NoOpenModelIsRefused}
 use Rattle.pz_run_formatting.specs.Layouts.{IsLayoutOf}
-use Rattle.pz_run_lines.specs.Lines.{read_fault_line, too_long_line, model_refused_line}
-use Rattle.pz_run.specs.Limits.{model_limit}
+use Rattle.pz_run_lines.specs.Lines.{model_refused_line}
 use Rattle.pz_run.specs.declared.play.Play.{Play}
 use Rattle.pz_run.specs.declared.status.Status.{Status}
-use Rattle.pz_run.specs.declared.status.Status.TheVariants.{Done, ModelRefused, TooLong, ReadFault}
+use Rattle.pz_run.specs.declared.status.Status.TheVariants.{Done, ModelRefused}
 use Rattle.pz_run.specs.Files.{model_file}
 use Rattle.pz_run.specs.Plays.{play_of}
-use Rattle.pz_run.specs.Output.{PrintsLayout, opens_not, lays_out, PrintsFile, lacks, too_long, reads, PrintsJob}
+use Rattle.pz_run.specs.Output.{PrintsLayout, opens_not, lays_out, lacks, reads}
 use Rattle.pz_run.specs.Promises.{HasTrace, HasEnding, of_choice, of_trace}
 use Rattle.pz_run.specs.devices.Formatting.{PrintsFormat}
 use Rattle.pz_run.specs.devices.Keeping.{KeepsPromises}

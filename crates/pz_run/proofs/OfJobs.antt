@@ -20,7 +20,7 @@ use Rattle.pz_run.specs.Files.{model_file, files_of}
 use Rattle.pz_run.specs.Status.{status_of}
 use Rattle.pz_run.specs.Plays.{play, play_of, telling_when}
 use Rattle.pz_run.specs.Output.{PrintsRun, plays, PrintsSize, accepts, makes, PrintsModel, refuses, of_model, PrintsFile, lacks, too_long, reads, PrintsModelFile, PrintsJob, does}
-use Rattle.pz_run.specs.Promises.{HasModel, model_name, stations_of, IsRefusedFor, IsTextFor, of_file, of_ring, ChosenEnds, HasTrace, ToldEnds, HasEnding, of_choice, of_trace, RunEnds, TellsNoRun, IsNoTrace}
+use Rattle.pz_run.specs.Promises.{HasModel, model_name, stations_of, IsRefusedFor, IsTextFor, of_file, of_ring, HasTrace, HasEnding, of_choice, of_trace, TellsNoRun}
 use Rattle.pz_run.specs.Promises as promises
 use Rattle.pz_run.specs.devices.Keeping.{KeepsPromises}
 use Rattle.pz_run.specs.devices.Reading.{ReadsFile}

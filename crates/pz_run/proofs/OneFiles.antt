@@ -12,7 +12,7 @@ use Rattle.pz_run.specs.declared.status.Status.TheVariants.{ModelRefused, TraceR
 use Rattle.pz_run.specs.Files.{JobFile, model_file, files_of}
 use Rattle.pz_run.specs.Status.{status_of}
 use Rattle.pz_run.specs.Output.{Prints, does, PrintsJob}
-use Rattle.pz_run.specs.Promises.{Opens, OpensFiles, OpensLast, HasModel, model_name, IsTextFor, of_file, IsRefusedFor, HasEnding, RunEnds, TellsNoRun, IsNoTrace, CanEnd}
+use Rattle.pz_run.specs.Promises.{Opens, OpensFiles, OpensLast, HasModel, model_name, of_file, IsRefusedFor, HasEnding, TellsNoRun}
 use Rattle.pz_run.specs.Promises as promises
 use Rattle.pz_run.specs.devices.Keeping.{KeepsPromises}
 use Rattle.pz_run.specs.devices.Reading.{FileOutcome, wanting, fault, long, whole, ReadsFile}

@@ -7,7 +7,6 @@ use Rattle.pz_syntax.specs.Classes.{ModelTree}
 use Rattle.pz_check_violations.specs.declared.violation.Violation.{Violation}
 use Rattle.pz_classes_openings.specs.OpeningRules as rules
 use Rattle.pz_classes_openings.specs.OpeningRules.{IsOpeningViolation, in_rounds, in_sizes}
-use Rattle.pz_rules.specs.Settings.{Setting}
 use Rattle.pz_rules.specs.Runs.{Ending}
 use Rattle.pz_trace.specs.declared.forms.Form.{Form}
 use Rattle.pz_trace.specs.declared.forms.Form.TheVariants.{One, Two, Three}
@@ -41,7 +40,7 @@ use Rattle.pz_run.specs.Editions.{HasNoHeader, IsOfSecondEdition, OpensFor}
 use Rattle.pz_run.specs.Status.{status_of, replay_status}
 use Rattle.pz_run.specs.Output.{PrintsReplay, closed, no_header, replays, PrintsFile, lacks, too_long, reads, PrintsOnTrace, PrintsTraceFile, PrintsJob, Prints, does}
 use Rattle.pz_run.specs.Output as output
-use Rattle.pz_run.specs.Promises.{Opens, OpensFiles, OpensLast, IsTraceIn, IsRefusedOnTrace, at_once, on_trace, IsRefusedFor, IsNoModel, HasModelText, IsTextFor, of_file, ChosenEnds, HasTrace, TellsRun, ToldEnds, HasEnding, of_choice, of_trace, RunEnds, TellsNoRun, IsNoTrace, CanEnd}
+use Rattle.pz_run.specs.Promises.{Opens, OpensFiles, OpensLast, IsTraceIn, IsRefusedOnTrace, at_once, on_trace, IsRefusedFor, IsNoModel, HasModelText, IsTextFor, of_file, ChosenEnds, HasTrace, TellsRun, ToldEnds, HasEnding, of_choice, of_trace, RunEnds, TellsNoRun, IsNoTrace}
 use Rattle.pz_run.specs.Promises as promises
 use Rattle.pz_run.specs.devices.Halting.{replayed_as}
 use Rattle.pz_run.specs.devices.Keeping.{KeepsPromises}
@@ -52,7 +51,7 @@ use Rattle.pz_run.specs.devices.Saying.{Said, NothingWritten, Says, Answers}
 use Rattle.pz_run.specs.devices.Texts.{SaysRefusal}
 use Rattle.pz_run.proofs.Sayings.{said_whole, said_halted, answers_by}
 use Rattle.pz_run.proofs.OneEnd.{some_is}
-use Rattle.pz_run.proofs.Outcomes.{told_can, Outcome, run_ended, no_trace, EndsText, ends_text, IsTextOfFile, text_in, OfText, run_in, none_in, refused_in}
+use Rattle.pz_run.proofs.Outcomes.{told_can, Outcome, run_ended, no_trace, EndsText, ends_text, text_in, OfText, run_in, none_in, refused_in}
 use Rattle.pz_run.proofs.Outcomes as outcomes
 use Rattle.pz_run.proofs.Keeps.{raised_rose, IsFaultLine, Wants, keeps, keeps_nothing}
 use Rattle.pz_run.proofs.OneFiles.{OneFile, keeps_file}

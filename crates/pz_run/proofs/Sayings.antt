@@ -1,5 +1,5 @@
 -- What was said, by how its writing went.
-use Rattle.std.proofs.Common.{◌≢◌, inl, inr, ◌∙◌, ℕ, List, [], Some, None, refl, sym}
+use Rattle.std.proofs.Common.{◌≢◌, inl, inr, ℕ, List, [], Some, None, refl, sym}
 use Rattle.std.proofs.lemmas.List.{append-nil}
 use Rattle.pz_io.specs.Outside.{SinkState}
 use Rattle.pz_io.specs.Writing.{Wrote}
