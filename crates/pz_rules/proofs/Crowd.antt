@@ -1,5 +1,5 @@
 -- The processes of a sound model are at most 10,000.
-use Rattle.std.proofs.Common.{◌≡◌, refl, sym, ap, subst, ◌∙◌, ℕ, zero, suc, ◌+◌, ◌≤◌, Bool, true, false, ◌||◌, List, [], ◌∷◌, ◌++◌, append_assoc, length, length-append, nat_lt, Option, Some, None, slice_get, arith}
+use Rattle.std.proofs.Common.{◌≡◌, refl, sym, ap, ◌∙◌, ℕ, zero, suc, ◌+◌, ◌≤◌, Bool, true, false, ◌||◌, List, [], ◌∷◌, ◌++◌, append_assoc, length, length-append, nat_lt, Option, Some, None, slice_get, arith}
 use Rattle.std.specs.Option.{option_map_or, unwrap_or}
 use Rattle.std.specs.List.{filter, flat_map}
 use Rattle.std.proofs.lemmas.Bool.Decides.{nat_tests}
@@ -15,7 +15,7 @@ use Rattle.pz_classes.specs.Instances.{instances, instance_class}
 use Rattle.pz_classes.specs.SizeRules.{system_of, systems, text_start, Totals, nothing, all_of, one_of, expanded, system_size, HasNoSize, by_class, by_name, by_holding, by_system, no_system, too_large}
 use Rattle.pz_classes.specs.Soundness.{IsSound, a_word, holding, size, the_system}
 use Rattle.pz_bind_levels.specs.Places.{Address}
-use Rattle.pz_bind.specs.Nest.{first_system, each_instance, system_class, instances_in, class_of, class_at, instances_at, with_inside, inside, places, is_process_at, processes}
+use Rattle.pz_bind.specs.Nest.{first_system, each_instance, system_class, instances_in, class_of, class_at, instances_at, with_inside, inside, is_process_at, processes}
 
 module _ (m : ModelTree) where
   -- Processes among these places

@@ -1,5 +1,5 @@
 -- The trouble in which a chosen run ends names a process of the net.
-use Rattle.std.proofs.Common.{◌≡◌, ℕ, Bool, true, false, List, Option, Some, None, refl, subst, ap, ◌∙◌}
+use Rattle.std.proofs.Common.{◌≡◌, ℕ, Bool, true, false, List, Option, Some, None, subst, ap, ◌∙◌}
 use Rattle.std.specs.Prelude.{nat_le, nat_lt, if◌then◌else◌}
 use Rattle.pz_offer.specs.declared.trouble.Trouble.{Trouble}
 use Rattle.pz_bind.specs.declared.net.Net.{Net}
@@ -8,7 +8,7 @@ use Rattle.pz_rules.specs.declared.moment.Moment.{Moment}
 use Rattle.pz_rules.specs.declared.moment.Moment.TheVariants.{Actions, Time, Finished, Deadlock, Faulty, Stopped, Broken}
 use Rattle.pz_rules.specs.Settings.{Setting}
 use Rattle.pz_rules.specs.Configurations.{Config}
-use Rattle.pz_rules.specs.Moments.{Candidate, faulty, acting, passing, finished, deadlock, IsMoment}
+use Rattle.pz_rules.specs.Moments.{IsMoment}
 use Rattle.pz_rules.specs.Runs.{Event, Ending, ended, deadlocked, troubled, halted, refused}
 use Rattle.pz_rules.specs.ChosenRuns as chosen
 use Rattle.pz_rules.specs.ChosenRuns.{Policy, Decision, stops_with, takes, waits, is_beyond, used_up, entry_of, decided, IsChosenRun}
@@ -45,12 +45,8 @@ troubles : (d : Decision) (t : Trouble) → NoTrouble d → d ≡ stops_with (tr
 troubles d t none is = subst NoTrouble is none
 
 module _ (known : Known) (setting : Setting) (policy : Policy) (net : Net) (is_net : ∥ IsNet setting.model net ∥₁) where
-  says_nothing : (c : Config) (m : Moment) (t : Trouble) → m ≡ Stopped t → Candidate setting c m → ⊥
-  says_nothing c _ t e (faulty u least) = cc
-  says_nothing c _ t e (acting offers are some) = cc
-  says_nothing c _ t e (passing d least) = cc
-  says_nothing c _ t e (finished all) = cc
-  says_nothing c _ t e deadlock = cc
+  ending_is : {x y : Ending} → stops_with x ≡ stops_with y → x ≡ y
+  ending_is h = cc
 
   named_at : (j : ℕ) (c : Config) (m : Moment) (t : Trouble) → IsMoment setting c m → decided policy j c.clock m ≡ stops_with (troubled t) → HasTroubled net t
   named_at j c (Actions n) t is decides =
@@ -59,10 +55,7 @@ module _ (known : Known) (setting : Setting) (policy : Policy) (net : Net) (is_n
   named_at j c Finished t is decides = absurd (troubles (used_up ended (policy.ahead j)) t (used_none ended (policy.ahead j) tt) decides)
   named_at j c Deadlock t is decides = absurd (troubles (used_up deadlocked (policy.ahead j)) t (used_none deadlocked (policy.ahead j) tt) decides)
   named_at j c (Faulty u) t is decides = subst (HasTroubled net) (trouble_is (ending_is decides)) (known.faults_named setting c net u is_net is)
-    where
-      ending_is : {x y : Ending} → stops_with x ≡ stops_with y → x ≡ y
-      ending_is h = cc
-  named_at j c (Stopped u) t is decides = absurd (says_nothing c (Stopped u) u refl is.applies)
+  named_at j c (Stopped u) t is decides = subst (HasTroubled net) (trouble_is (ending_is decides)) (known.highs_named setting c net u is_net is)
   named_at j c Broken t is decides = absurd (troubles (stops_with halted) t tt decides)
 
   named : (j : ℕ) (c end : Config) (events : List Event) (ending : Ending) → IsChosenRun setting policy j c events end ending → (t : Trouble) → ending ≡ troubled t → HasTroubled net t

@@ -22,6 +22,7 @@ ends_as_it_stands : (setting : Setting) (c : Config) (standing : Standing) (endi
 ends_as_it_stands setting _ _ _ (runs.ends c is) = tt
 ends_as_it_stands setting _ _ _ (runs.deadlocks c is) = tt
 ends_as_it_stands setting _ _ _ (runs.faults c trouble is) = tt
+ends_as_it_stands setting _ _ _ (runs.highs c trouble is) = tt
 ends_as_it_stands setting _ _ _ (runs.stops c trouble) = refl
 ends_as_it_stands setting _ _ _ (runs.halts_acting c n is) = tt
 ends_as_it_stands setting _ _ _ (runs.halts_passing c d is) = tt

@@ -8,7 +8,7 @@ use Rattle.pz_rules.specs.declared.moment.Moment.{Moment}
 use Rattle.pz_rules.specs.declared.moment.Moment.TheVariants.{Actions, Time, Stopped, Broken}
 use Rattle.pz_rules.specs.Settings.{Setting}
 use Rattle.pz_rules.specs.Configurations.{Config}
-use Rattle.pz_rules.specs.Moments.{Candidate, faulty, acting, passing, finished, deadlock}
+use Rattle.pz_rules.specs.Moments.{Candidate, high, faulty, acting, passing, finished, deadlock}
 use Rattle.pz_rules.specs.Runs.{whole, stopped}
 use Rattle.pz_trace.specs.Named.{IsNamed}
 use Rattle.pz_term.specs.Simulations.{Simulation, stands, broken, IsMomentOf, IsOffer, ClockIs, model_in, clock_in}
@@ -34,6 +34,7 @@ actions_broken h = cc
 
 -- nothing says `Broken` of a configuration
 said : {setting : Setting} {c : Config} {m : Moment} → Candidate setting c m → m ≡ Broken → ⊥
+said (high trouble first) is = cc
 said (faulty trouble least) is = cc
 said (acting actions all some) is = cc
 said (passing d least) is = cc

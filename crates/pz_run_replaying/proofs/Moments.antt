@@ -6,7 +6,7 @@ use Rattle.pz_rules.specs.declared.moment.Moment.TheVariants.{Actions, Time, Fin
 use Rattle.pz_rules.specs.Settings.{Setting}
 use Rattle.pz_rules.specs.Ports.{HasWires}
 use Rattle.pz_rules.specs.Configurations.{Config}
-use Rattle.pz_rules.specs.Moments.{Candidate, faulty, acting, passing, finished, deadlock}
+use Rattle.pz_rules.specs.Moments.{Candidate, high, faulty, acting, passing, finished, deadlock}
 use Rattle.pz_rules.specs.Runs as runs
 use Rattle.pz_rules.specs.Runs.{Standing, whole, stopped, Ending as RunEnding, ended, deadlocked, troubled, halted, Ends}
 use Rattle.pz_rules.specs.Laws.{EveryMoment}
@@ -60,6 +60,7 @@ end_moment : (setting : Setting) (c : Config) (standing : Standing) (r : RunEndi
 end_moment setting _ _ _ e h (runs.ends c is) = record { moment = Finished; is_moment = is; is_end = ended_is e h }
 end_moment setting _ _ _ e h (runs.deadlocks c is) = record { moment = Deadlock; is_moment = is; is_end = deadlocked_is e h }
 end_moment setting _ _ _ e h (runs.faults c t is) = record { moment = Faulty t; is_moment = is; is_end = troubled_is e t h }
+end_moment setting _ _ _ e h (runs.highs c t is) = record { moment = Stopped t; is_moment = is; is_end = troubled_is e t h }
 end_moment setting _ _ _ e h (runs.stops c t) = record { moment = Stopped t; is_moment = refl; is_end = troubled_is e t h }
 end_moment setting _ _ _ e h (runs.halts_acting c n is) = record { moment = Actions n; is_moment = is; is_end = halted_is e h }
 end_moment setting _ _ _ e h (runs.halts_passing c d is) = record { moment = Time d; is_moment = is; is_end = halted_is e h }
@@ -81,14 +82,8 @@ one_end Broken e f x y = absurd x
 
 -- what is never said of a configuration
 
-pub never_stopped : (setting : Setting) (c : Config) (m : Moment) (t : Trouble) → m ≡ Stopped t → Candidate setting c m → ⊥
-never_stopped setting c _ t e (faulty u least) = cc
-never_stopped setting c _ t e (acting offers are some) = cc
-never_stopped setting c _ t e (passing d least) = cc
-never_stopped setting c _ t e (finished all) = cc
-never_stopped setting c _ t e deadlock = cc
-
 pub never_broken : (setting : Setting) (c : Config) (m : Moment) → m ≡ Broken → Candidate setting c m → ⊥
+never_broken setting c _ e (high u first) = cc
 never_broken setting c _ e (faulty u least) = cc
 never_broken setting c _ e (acting offers are some) = cc
 never_broken setting c _ e (passing d least) = cc
@@ -105,7 +100,7 @@ may_end setting c whole (Time d) e at is = subst (λ (x : Ending). Ends setting 
 may_end setting c whole Finished e at is = subst (λ (x : Ending). Ends setting c whole (run_ending x)) (sym is) (runs.ends c at)
 may_end setting c whole Deadlock e at is = subst (λ (x : Ending). Ends setting c whole (run_ending x)) (sym is) (runs.deadlocks c at)
 may_end setting c whole (Faulty t) e at is = subst (λ (x : Ending). Ends setting c whole (run_ending x)) (sym is) (runs.faults c t at)
-may_end setting c whole (Stopped t) e at is = absurd (never_stopped setting c (Stopped t) t refl at.applies)
+may_end setting c whole (Stopped t) e at is = subst (λ (x : Ending). Ends setting c whole (run_ending x)) (sym is) (runs.highs c t at)
 may_end setting c whole Broken e at is = absurd is
 may_end setting c (stopped u) (Actions n) e at is = cc
 may_end setting c (stopped u) (Time d) e at is = cc

@@ -21,7 +21,7 @@ use Rattle.pz_term.specs.Laws.{IsDerivedIn}
 use Rattle.pz_run_replaying.specs.Stages.{Stage, unbegun, concluded}
 use Rattle.pz_run_replaying.specs.devices.Known.{Known}
 use Rattle.pz_run_replaying.specs.devices.Readiness.{Ready, IsReady, IsEndAt, IsLast, EndsIn, IsNamedLast}
-use Rattle.pz_run_replaying.proofs.Moments.{MomentAt, may_end, never_stopped, never_broken}
+use Rattle.pz_run_replaying.proofs.Moments.{MomentAt, may_end, never_broken}
 
 -- Moments
 
@@ -100,7 +100,7 @@ named_by known setting c (stopped u) (Faulty t) e net ready at is no_stop is_net
   where
     faulty_stopped : Faulty t ≡ Stopped u → ⊥
     faulty_stopped h = cc
-named_by known setting c whole (Stopped t) e net ready at is no_stop is_net = absurd (never_stopped setting c (Stopped t) t refl at.applies)
+named_by known setting c whole (Stopped t) e net ready at is no_stop is_net = subst (IsNamedAtEnd net) (sym is) (known.highs_named setting c net t is_net at)
 named_by known setting c (stopped u) (Stopped t) e net ready at is no_stop is_net =
     let failed = ready.failed in
     subst (IsNamedAtEnd net) (sym (is ∙ ap (λ (v : Trouble). ending.Trouble v) (stopped_is at))) (known.stops_named setting c net failed.0 u is_net failed.1)

@@ -5,6 +5,9 @@ ghost use Rattle.pz_term_processes.specs.Standing.{setting_of, config_of, ArePro
 ghost use Rattle.pz_rules.specs.declared.limits.Edition.TheVariants.{Two};
 ghost use Rattle.pz_rules.specs.CallLaws.{NoRounds};
 ghost use Rattle.pz_rules.specs.Runs.{whole};
+ghost use Rattle.pz_rules.specs.Starting.{IsStart};
+ghost use Rattle.pz_rules.specs.Moments.{IsFirstHigh};
+ghost use Rattle.pz_rules.specs.devices.Start.{start_of};
 ghost use Rattle.pz_term.specs.devices.Holding.{Holds};
 
 use crate::copying::copy_actions;
@@ -77,15 +80,35 @@ impl Plain {
         ensures checked { IfOk result (λ plain. plain.checked ≡ checked) }
         ensures net { IfOk result (λ plain. plain.net ≡ net) }
     {
-        pz_rules::laws::start_is_one();
-        let _model = checked.model();
-        let (processes, standing) = match start(alloc, &checked, &net, limits)? {
-            Started::Ready(mut processes) => {
-                let outlook = look_at(alloc, &checked, &net, limits, 0, &mut processes)?;
-                (processes, Standing::Whole(outlook))
+        match start(alloc, &checked, &net, limits)? {
+            Started::Ready(processes) => Plain::ready(alloc, checked, net, limits, processes),
+            Started::TooHigh(trouble) => {
+                Ok(Plain::too_high(alloc, checked, net, limits, trouble))
             }
-            Started::TooHigh(trouble) => (Vec::new(alloc), Standing::High(trouble)),
-        };
+        }
+    }
+
+    // The simulator with these processes, which have just begun.
+    fn ready(
+        alloc: Global,
+        checked: Checked,
+        net: Net,
+        limits: Limits,
+        processes: Vec<Process>,
+    ) -> Result<Plain, AllocError>
+        requires of_model { ∥ IsNet (checked_model checked) net ∥₁ }
+        requires rounds { limits.edition ≡ Two → NoRounds (checked_model checked) }
+        requires start { IsStart (setting_of (checked_model checked) limits)
+            (config_of 0 processes.items) }
+        requires are { ∥ AreProcesses (setting_of (checked_model checked) limits) 0
+            processes.items ∥₁ }
+        ensures starts { IfOk result (λ plain. Starts (setting_of (checked_model checked) limits)
+            (simulation_of plain)) }
+        ensures checked { IfOk result (λ plain. plain.checked ≡ checked) }
+        ensures net { IfOk result (λ plain. plain.net ≡ net) }
+    {
+        let mut processes = processes;
+        let outlook = look_at(alloc, &checked, &net, limits, 0, &mut processes)?;
         Ok(Plain {
             alloc,
             checked,
@@ -93,8 +116,38 @@ impl Plain {
             limits,
             clock: 0,
             processes,
-            standing,
+            standing: Standing::Whole(outlook),
         })
+    }
+
+    // The simulator at a start that is too high.
+    fn too_high(
+        alloc: Global,
+        checked: Checked,
+        net: Net,
+        limits: Limits,
+        trouble: Trouble,
+    ) -> Plain
+        requires of_model { ∥ IsNet (checked_model checked) net ∥₁ }
+        requires rounds { limits.edition ≡ Two → NoRounds (checked_model checked) }
+        requires high { IsFirstHigh (setting_of (checked_model checked) limits)
+            (start_of (setting_of (checked_model checked) limits)) trouble }
+        ensures starts { Starts (setting_of (checked_model checked) limits)
+            (simulation_of result) }
+        ensures checked { result.checked ≡ checked }
+        ensures net { result.net ≡ net }
+    {
+        pz_rules::laws::start_is_one();
+        let _model = checked.model();
+        Plain {
+            alloc,
+            checked,
+            net,
+            limits,
+            clock: 0,
+            processes: Vec::new(alloc),
+            standing: Standing::High(trouble),
+        }
     }
 
     /// What may happen next. Takes no memory.

@@ -7,7 +7,7 @@ pub mod laws;
 mod slots;
 
 pub use around::{
-    all_done, framed, in_abort, in_frame, in_handling, in_interrupt, in_parallel, in_sequence, is_bare,
-    is_done,
+    all_done, framed, in_abort, in_frame, in_handling, in_interrupt, in_parallel, in_sequence,
+    is_bare, is_done,
 };
 pub use slots::{copy_locals, set_inputs};

@@ -11,9 +11,10 @@ use Rattle.pz_rules.specs.declared.moment.Moment.{Moment}
 use Rattle.pz_rules.specs.declared.moment.Moment.TheVariants.{Faulty}
 use Rattle.pz_rules.specs.Settings.{Setting}
 use Rattle.pz_rules.specs.Configurations.{Config}
+use Rattle.pz_rules.specs.Heights.{IsLow}
 use Rattle.pz_rules.specs.Offers.{Offers, Before, IsOffers}
 use Rattle.pz_rules.specs.Moments as moments
-use Rattle.pz_rules.specs.Moments.{Source, SourceBefore, part, pair, Troubles, IsLeastTrouble, IsLeft, AllDone, Candidate, rank, IsMoment}
+use Rattle.pz_rules.specs.Moments.{Source, SourceBefore, part, pair, Troubles, IsLeastTrouble, IsLeft, IsFirstHigh, AllDone, Candidate, rank, IsMoment}
 use Rattle.pz_rules.specs.Laws.{OneListOfOffers}
 use Rattle.pz_term_enabled.specs.Surveyed.{IsInternal, AreInternal, IsLeastLeft, IsFirstAsked, IsAsked, TellsDone, IsSurveyed}
 use Rattle.pz_term_enabled.specs.declared.findings.Survey.{Survey}
@@ -106,61 +107,71 @@ module _ (setting : Setting) (c : Config) where
 
   -- The first that applies
 
-  rank_one : (n : Moment) → Candidate setting c n → 1 ≤ rank n
-  rank_one _ (moments.faulty t x) = omega arith
-  rank_one _ (moments.acting xs x some) = omega arith
-  rank_one _ (moments.passing d x) = omega arith
-  rank_one _ (moments.finished x) = omega arith
-  rank_one _ moments.deadlock = omega arith
+  module _ (low : IsLow setting c) where
+    -- nothing is too high
+    none_high : (t : Trouble) → IsFirstHigh setting c t → ⊥
+    none_high t x = omega (arith, x.high, low x.number x.process x.stands.is_here)
 
-  faulty_is : (t : Trouble) → IsLeastTrouble setting c t → IsMoment setting c (Faulty t)
-  faulty_is t x = record { applies = moments.faulty t x; first = rank_one }
+    rank_one : (n : Moment) → Candidate setting c n → 1 ≤ rank n
+    rank_one _ (moments.high t x) = absurd (none_high t x)
+    rank_one _ (moments.faulty t x) = omega arith
+    rank_one _ (moments.acting xs x some) = omega arith
+    rank_one _ (moments.passing d x) = omega arith
+    rank_one _ (moments.finished x) = omega arith
+    rank_one _ moments.deadlock = omega arith
 
-  pub troubled_moment : (found : Survey) (trouble : Option Trouble) (t : Trouble) → trouble ≡ Some t → Decides setting c found trouble → IsMoment setting c (Faulty t)
-  troubled_moment found trouble t is x = faulty_is t (subst (λ (o : Option Trouble). IsTrouble setting c o) is x.trouble_is)
+    faulty_is : (t : Trouble) → IsLeastTrouble setting c t → IsMoment setting c (Faulty t)
+    faulty_is t x = record { applies = moments.faulty t x; first = rank_one }
 
-  rank_two : NoTrouble setting c → (n : Moment) → Candidate setting c n → 2 ≤ rank n
-  rank_two calm _ (moments.faulty t x) = absurd (calm x.source t x.occurs)
-  rank_two calm _ (moments.acting xs x some) = omega arith
-  rank_two calm _ (moments.passing d x) = omega arith
-  rank_two calm _ (moments.finished x) = omega arith
-  rank_two calm _ moments.deadlock = omega arith
+    pub troubled_moment : (found : Survey) (trouble : Option Trouble) (t : Trouble) → trouble ≡ Some t → Decides setting c found trouble → IsMoment setting c (Faulty t)
+    troubled_moment found trouble t is x = faulty_is t (subst (λ (o : Option Trouble). IsTrouble setting c o) is x.trouble_is)
 
-  module _ (law : OneListOfOffers) where
-    no_offers : (xs : List Action) → IsOffers setting c [] → IsOffers setting c xs → 1 ≤ length xs → ⊥
-    no_offers xs none is some = omega (arith, some, ap length (law setting c xs [] is none))
+    rank_two : NoTrouble setting c → (n : Moment) → Candidate setting c n → 2 ≤ rank n
+    rank_two calm _ (moments.high t x) = absurd (none_high t x)
+    rank_two calm _ (moments.faulty t x) = absurd (calm x.source t x.occurs)
+    rank_two calm _ (moments.acting xs x some) = omega arith
+    rank_two calm _ (moments.passing d x) = omega arith
+    rank_two calm _ (moments.finished x) = omega arith
+    rank_two calm _ moments.deadlock = omega arith
 
-    module _ (calm : NoTrouble setting c) (none : IsOffers setting c []) where
-      rank_three : (n : Moment) → Candidate setting c n → 3 ≤ rank n
-      rank_three _ (moments.faulty t x) = absurd (calm x.source t x.occurs)
-      rank_three _ (moments.acting xs x some) = absurd (no_offers xs none x some)
-      rank_three _ (moments.passing d x) = omega arith
-      rank_three _ (moments.finished x) = omega arith
-      rank_three _ moments.deadlock = omega arith
+    module _ (law : OneListOfOffers) where
+      no_offers : (xs : List Action) → IsOffers setting c [] → IsOffers setting c xs → 1 ≤ length xs → ⊥
+      no_offers xs none is some = omega (arith, some, ap length (law setting c xs [] is none))
 
-      rank_four : ((d : ℕ) → IsLeft setting c d → ⊥) → (n : Moment) → Candidate setting c n → 4 ≤ rank n
-      rank_four still _ (moments.faulty t x) = absurd (calm x.source t x.occurs)
-      rank_four still _ (moments.acting xs x some) = absurd (no_offers xs none x some)
-      rank_four still _ (moments.passing d x) = absurd (still d x.is_left)
-      rank_four still _ (moments.finished x) = omega arith
-      rank_four still _ moments.deadlock = omega arith
+      module _ (calm : NoTrouble setting c) (none : IsOffers setting c []) where
+        rank_three : (n : Moment) → Candidate setting c n → 3 ≤ rank n
+        rank_three _ (moments.high t x) = absurd (none_high t x)
+        rank_three _ (moments.faulty t x) = absurd (calm x.source t x.occurs)
+        rank_three _ (moments.acting xs x some) = absurd (no_offers xs none x some)
+        rank_three _ (moments.passing d x) = omega arith
+        rank_three _ (moments.finished x) = omega arith
+        rank_three _ moments.deadlock = omega arith
 
-      rank_five : ((d : ℕ) → IsLeft setting c d → ⊥) → (AllDone c → ⊥) → (n : Moment) → Candidate setting c n → 5 ≤ rank n
-      rank_five still more _ (moments.faulty t x) = absurd (calm x.source t x.occurs)
-      rank_five still more _ (moments.acting xs x some) = absurd (no_offers xs none x some)
-      rank_five still more _ (moments.passing d x) = absurd (still d x.is_left)
-      rank_five still more _ (moments.finished x) = absurd (more x)
-      rank_five still more _ moments.deadlock = omega arith
+        rank_four : ((d : ℕ) → IsLeft setting c d → ⊥) → (n : Moment) → Candidate setting c n → 4 ≤ rank n
+        rank_four still _ (moments.high t x) = absurd (none_high t x)
+        rank_four still _ (moments.faulty t x) = absurd (calm x.source t x.occurs)
+        rank_four still _ (moments.acting xs x some) = absurd (no_offers xs none x some)
+        rank_four still _ (moments.passing d x) = absurd (still d x.is_left)
+        rank_four still _ (moments.finished x) = omega arith
+        rank_four still _ moments.deadlock = omega arith
 
-    calm_is : (xs : List Action) (least : Option ℕ) (done : Bool) → NoTrouble setting c → IsOffers setting c xs → IsLeastLeft setting c least → TellsDone setting c done → IsMoment setting c (calm_moment (length xs) least done)
-    calm_is (x ∷ xs) least done calm is left tells = record { applies = moments.acting (x ∷ xs) is (omega arith); first = rank_two calm }
-    calm_is [] (Some d) done calm is left tells = record { applies = moments.passing d left; first = rank_three calm is }
-    calm_is [] None true calm is left tells = record { applies = moments.finished tells; first = rank_four calm is left }
-    calm_is [] None false calm is left tells = record { applies = moments.deadlock; first = rank_five calm is left tells }
+        rank_five : ((d : ℕ) → IsLeft setting c d → ⊥) → (AllDone c → ⊥) → (n : Moment) → Candidate setting c n → 5 ≤ rank n
+        rank_five still more _ (moments.high t x) = absurd (none_high t x)
+        rank_five still more _ (moments.faulty t x) = absurd (calm x.source t x.occurs)
+        rank_five still more _ (moments.acting xs x some) = absurd (no_offers xs none x some)
+        rank_five still more _ (moments.passing d x) = absurd (still d x.is_left)
+        rank_five still more _ (moments.finished x) = absurd (more x)
+        rank_five still more _ moments.deadlock = omega arith
 
-    pub found_moment : (found : Survey) (trouble : Option Trouble) → trouble ≡ None → Decides setting c found trouble → IsMoment setting c (calm_moment (length found.internal.items) found.least found.done)
-    found_moment found trouble none x =
-        calm_is found.internal.items found.least found.done (subst (λ (o : Option Trouble). IsTrouble setting c o) none x.trouble_is) (x.offers none) x.least x.done
+      calm_is : (xs : List Action) (least : Option ℕ) (done : Bool) → NoTrouble setting c → IsOffers setting c xs → IsLeastLeft setting c least → TellsDone setting c done → IsMoment setting c (calm_moment (length xs) least done)
+      calm_is (x ∷ xs) least done calm is left tells = record { applies = moments.acting (x ∷ xs) is (omega arith); first = rank_two calm }
+      calm_is [] (Some d) done calm is left tells = record { applies = moments.passing d left; first = rank_three calm is }
+      calm_is [] None true calm is left tells = record { applies = moments.finished tells; first = rank_four calm is left }
+      calm_is [] None false calm is left tells = record { applies = moments.deadlock; first = rank_five calm is left tells }
+
+      pub found_moment : (found : Survey) (trouble : Option Trouble) → trouble ≡ None → Decides setting c found trouble → IsMoment setting c (calm_moment (length found.internal.items) found.least found.done)
+      found_moment found trouble none x =
+          calm_is found.internal.items found.least found.done (subst (λ (o : Option Trouble). IsTrouble setting c o) none x.trouble_is) (x.offers none) x.least x.done
 
   calm_actions : (xs : List Action) (least : Option ℕ) (done : Bool) → IsOffers setting c xs → AreActionsAt setting c (calm_moment (length xs) least done) xs
   calm_actions (x ∷ xs) least done is = is

@@ -3,6 +3,7 @@ ghost use Rattle.pz_classes.specs.CheckedView.{checked_model};
 ghost use Rattle.pz_bind.specs.devices.Nets.{IsNet};
 ghost use Rattle.pz_rules.specs.Settings.{Setting};
 ghost use Rattle.pz_rules.specs.Configurations.{Config};
+ghost use Rattle.pz_rules.specs.Heights.{IsLow};
 ghost use Rattle.pz_rules.specs.Moments.{IsMoment};
 ghost use Rattle.pz_term_processes.specs.Standing.{setting_of, config_of, AreProcesses};
 ghost use Rattle.pz_term_enabled.specs.Surveyed.{IsSurveyed};
@@ -73,11 +74,11 @@ fn calm_moment(offers: usize, least: Option<u128>, done: bool) -> Moment
     }
 }
 
-/// The moment, with the actions that are offered, which are taken out of what was found. Takes no
-/// memory.
+/// The moment where no term is too high, with the actions that are offered, which are taken out of what
+/// was found. Takes no memory.
 fn decide(alloc: Global, found: &mut Survey, trouble: Option<Trouble>) -> Outlook
-    ensures moment { (setting : Setting) (c : Config) → Decides setting c found.old trouble →
-        IsMoment setting c result.moment }
+    ensures moment { (setting : Setting) (c : Config) → IsLow setting c →
+        Decides setting c found.old trouble → IsMoment setting c result.moment }
     ensures actions { (setting : Setting) (c : Config) → Decides setting c found.old trouble →
         AreActionsAt setting c result.moment result.actions.items }
 {

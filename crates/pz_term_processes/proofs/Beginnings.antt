@@ -1,7 +1,7 @@
 -- How high processes begin.
-use Rattle.std.proofs.Common.{◌≡◌, ◌≤◌, ◌<◌, ◌+◌, ◌⊎◌, inl, inr, min, ℕ, zero, suc, List, [], ◌∷◌, length, map, Option, Some, refl, sym, ap, subst, ◌∙◌, arith}
+use Rattle.std.proofs.Common.{◌≡◌, ◌≤◌, ◌<◌, ◌+◌, ◌⊎◌, inl, inr, min, ℕ, zero, suc, List, [], ◌∷◌, length, map, Option, Some, None, refl, sym, ap, subst, ◌∙◌, arith}
 use Rattle.std.specs.Prelude.{slice_get}
-use Rattle.std.specs.Option.{option_map}
+use Rattle.std.specs.Option.{option_map, MatchOption}
 use Rattle.std.proofs.lemmas.Option.{slice_get-map}
 use Rattle.pz_syntax.specs.declared.tokens.Pos.{Pos}
 use Rattle.pz_syntax.specs.declared.names.Id.{Id}
@@ -46,19 +46,19 @@ module _ (setting : Setting) (place : Address) (first : Step) (is_call : init se
       ap (λ (o : Option Step). height (begins_by setting place o).term) is_call
       ∙ ap (λ (k : Home). height (opened k first (initial (values_at setting.model place))).term) (sym home)
 
-  pub begins_low : (found : ℕ) → ((s : StateView) → found ≡ min (height (opened h first s).term) (setting.limits.height + 1)) → found ≤ setting.limits.height → height (start_at setting place).term ≤ setting.limits.height
-  begins_low found is within =
+  pub begins_low : (found most : ℕ) → most ≡ setting.limits.height → ((s : StateView) → found ≡ min (height (opened h first s).term) (most + 1)) → found ≤ most → height (start_at setting place).term ≤ setting.limits.height
+  begins_low found most limit is within =
       let one = is (initial (values_at setting.model place)) in
-      omega (arith, one, begins_so, within)
+      omega (arith, one, begins_so, within, limit)
 
-  pub begins_high : (i : ℕ) (trouble : Trouble) (s : code.Step) (found : ℕ) → ((s : StateView) → found ≡ min (height (opened h first s).term) (setting.limits.height + 1)) → setting.limits.height < found
+  pub begins_high : (i : ℕ) (trouble : Trouble) (s : code.Step) (found most : ℕ) → most ≡ setting.limits.height → ((s : StateView) → found ≡ min (height (opened h first s).term) (most + 1)) → most < found
       → step.view s ≡ first → trouble ≡ High i s.pos → IsHighAt setting i place trouble
-  begins_high i trouble s found is above same says =
+  begins_high i trouble s found most limit is above same says =
       let one = is (initial (values_at setting.model place)) in
       let call = begins_call setting.model (class_at setting.model place) first is_call in
       let here : s.pos ≡ statement_place first = step_place s ∙ ap statement_place same in
       record {
-        high = omega (arith, one, begins_so, above);
+        high = omega (arith, one, begins_so, above, limit);
         pos = statement_place first;
         method = call.method;
         args = call.args;
@@ -69,6 +69,17 @@ module _ (setting : Setting) (place : Address) (first : Step) (is_call : init se
 -- the first so many processes begin low
 abbrev pub AllBeginLow : Setting → ℕ → Type 0
 AllBeginLow setting n = (i : ℕ) → i < n → BeginsLow setting i
+
+pub none_yet : (setting : Setting) → AllBeginLow setting 0
+none_yet setting i within = absurd (omega (arith, within))
+
+-- what is said of an answer, of what it is
+pub of_none : (A : Type 0) (B : Trouble → Type 0) (r : Option Trouble) → ((x : Trouble) → r ≡ Some x → ⊥) → MatchOption r A B → A
+of_none A B None absent h = h
+of_none A B (Some x) absent h = absurd (absent x refl)
+
+pub of_some : (A : Type 0) (B : Trouble → Type 0) (r : Option Trouble) (x : Trouble) → r ≡ Some x → MatchOption r A B → B x
+of_some A B r x is h = subst (λ (o : Option Trouble). MatchOption o A B) is h
 
 pub one_more : (setting : Setting) (n : ℕ) → AllBeginLow setting n → BeginsLow setting n → AllBeginLow setting (n + 1)
 one_more setting n all next i within = by (earlier i n (omega (arith, within)))
@@ -82,6 +93,7 @@ one_more setting n all next i within = by (earlier i n (omega (arith, within)))
         step_up : (i < n) ⊎ (i ≡ n) → (suc i < suc n) ⊎ (suc i ≡ suc n)
         step_up (inl below) = inl (omega (arith, below))
         step_up (inr same) = inr (ap suc same)
+
     by : (i < n) ⊎ (i ≡ n) → BeginsLow setting i
     by (inl below) = all i below
     by (inr same) = subst (BeginsLow setting) (sym same) next

@@ -39,7 +39,7 @@ use Rattle.pz_rules.specs.Starting.{home_at, StartsAs}
 use Rattle.pz_term_processes.specs.Standing.{setting_of}
 use Rattle.pz_term_processes.proofs.Given.{values_plain}
 
-there : {X : Type 0} (xs : List X) (i : ℕ) → i < length xs → (x : X) × (slice_get xs i ≡ Some x)
+pub there : {X : Type 0} (xs : List X) (i : ℕ) → i < length xs → (x : X) × (slice_get xs i ≡ Some x)
 there [] i within = absurd (omega (arith, within))
 there (x ∷ xs) zero within = (x, refl)
 there (x ∷ xs) (suc i) within = there xs i (omega (arith, within))

@@ -13,7 +13,11 @@ use Rattle.pz_bind.specs.declared.net.Net.{Net}
 use Rattle.pz_rules.specs.declared.limits.Limits.{Limits}
 use Rattle.pz_rules.specs.Settings as rules
 use Rattle.pz_rules.specs.Starting.{StartsAs, IsStart}
-use Rattle.pz_rules.specs.Laws.{StartFits}
+use Rattle.pz_rules.specs.Heights.{IsLow}
+use Rattle.pz_rules.specs.Laws.{StartFits, OneStart}
+use Rattle.pz_rules.specs.devices.Start.{StartIsComputed}
+use Rattle.pz_term_processes.specs.Starting.{StartsLow}
+use Rattle.pz_term_processes.proofs.Beginnings.{starts_low}
 use Rattle.pz_term_processes.specs.declared.process.Process.{Process}
 use Rattle.pz_term_processes.specs.Standing.{setting_of, process_view, config_of, AreProcesses}
 
@@ -68,5 +72,8 @@ all_started m n ps limits all were = record {
 pub counted : (m : ModelTree) (net : Net) (n : ℕ) → ∥ IsNet m net ∥₁ → ((model : ModelTree) → IsNet model net → n ≡ length (processes model)) → n ≡ length (processes m)
 counted m net n known is = ∥∥₁_elim known (ℕ_set n (length (processes m))) (is m)
 
-pub are_processes : (law : StartFits) (m : ModelTree) (ps : List Process) (limits : Limits) → IsSound m → IsStart (setting_of m limits) (config_of 0 ps) → AreProcesses (setting_of m limits) 0 ps
-are_processes law m ps limits sound start = let h = law (setting_of m limits) (config_of 0 ps) sound start in record { whole = h.0; fit = h.1 }
+pub are_processes : (law : StartFits) (one : OneStart) (computed : StartIsComputed) (m : ModelTree) (ps : List Process) (limits : Limits) → IsSound m → IsStart (setting_of m limits) (config_of 0 ps) → StartsLow (setting_of m limits)
+    → AreProcesses (setting_of m limits) 0 ps
+are_processes law one computed m ps limits sound start low =
+    let h = law (setting_of m limits) (config_of 0 ps) sound start in
+    record { whole = h.0; fit = h.1; low = starts_low (setting_of m limits) (config_of 0 ps) one computed sound start low }

@@ -1,7 +1,7 @@
 -- What is known of runs, of names and of writing, by the laws of the crates below.
 use Rattle.pz_rules.specs.Laws.{WiresAreKnown, OneMoment, EveryMoment, MomentsCountOffers, TimeIsPositive, EveryPassing, StaysWhole, StartFits, StaysFit, EveryNext, EveryChosenRun, ChosenRunsAreRuns}
 use Rattle.pz_rules.specs.devices.Ends.{PassingsEnd}
-use Rattle.pz_trace.specs.Laws.{OffersAreNamed, FaultsAreNamed, StopsAreNamed}
+use Rattle.pz_trace.specs.Laws.{OffersAreNamed, FaultsAreNamed, HighsAreNamed, StopsAreNamed}
 use Rattle.pz_term.specs.Laws.{OneMomentOf, OffersAreThere, OffersAreCounted, OffersAreNumbered, OffersAreDerived, OneOfferOf}
 use Rattle.pz_io.specs.Laws.{NothingIsWritten, PiecesJoin, HaltsBeforeMore, MemoryMayBeWanting}
 
@@ -27,6 +27,7 @@ pub record Known : Type 0 where
   pub one_offer : OneOfferOf
   pub offers_named : OffersAreNamed
   pub faults_named : FaultsAreNamed
+  pub highs_named : HighsAreNamed
   pub stops_named : StopsAreNamed
   pub nothing : NothingIsWritten
   pub joins : PiecesJoin

@@ -1,6 +1,6 @@
 -- What is known of runs, of lines and of writing, by the laws of the crates below.
 use Rattle.pz_rules.specs.Laws.{OneListOfOffers, WiresAreKnown, OneMoment, EveryMoment, MomentsCountOffers, EveryPassing, OneNext, OnePassing, StaysWhole, StartFits, StaysFit, EveryNext}
-use Rattle.pz_trace.specs.Laws.{HeadersAreLines, EndLinesAreLines, OneFirstLine, ActionLinesDiffer, StopIsNoAction, StopIsNoPassing, OneHeading, EveryHeading, ActionsHaveHeadings, OffersAreNamed, FaultsAreNamed, StopsAreNamed}
+use Rattle.pz_trace.specs.Laws.{HeadersAreLines, EndLinesAreLines, OneFirstLine, ActionLinesDiffer, StopIsNoAction, StopIsNoPassing, OneHeading, EveryHeading, ActionsHaveHeadings, OffersAreNamed, FaultsAreNamed, HighsAreNamed, StopsAreNamed}
 use Rattle.pz_term.specs.Laws.{OneMomentOf, OffersAreDerived, OneOfferOf}
 use Rattle.pz_io.specs.Laws.{NothingIsWritten, PiecesJoin, HaltsBeforeMore, MemoryMayBeWanting}
 
@@ -22,6 +22,7 @@ pub record Known : Type 0 where
   pub one_offer : OneOfferOf
   pub offers_named : OffersAreNamed
   pub faults_named : FaultsAreNamed
+  pub highs_named : HighsAreNamed
   pub stops_named : StopsAreNamed
   pub header_lines : HeadersAreLines
   pub end_lines : EndLinesAreLines

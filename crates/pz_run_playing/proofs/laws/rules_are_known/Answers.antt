@@ -23,6 +23,7 @@ returns c = record {
   one_offer = c.simulators_show_one_moment.ensures.same;
   offers_named = c.what_happens_is_named.ensures.offers;
   faults_named = c.what_happens_is_named.ensures.faults;
+  highs_named = c.what_happens_is_named.ensures.highs;
   stops_named = c.what_happens_is_named.ensures.stops;
   nothing = c.pieces_join.ensures.nothing;
   joins = c.pieces_join.ensures.joins;

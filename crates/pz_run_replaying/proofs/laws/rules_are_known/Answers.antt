@@ -19,6 +19,7 @@ returns c = record {
   one_offer = c.simulators_show_one_moment.ensures.same;
   offers_named = c.what_happens_is_named.ensures.offers;
   faults_named = c.what_happens_is_named.ensures.faults;
+  highs_named = c.what_happens_is_named.ensures.highs;
   stops_named = c.what_happens_is_named.ensures.stops;
   header_lines = c.lines_stand_apart.ensures.header;
   end_lines = c.lines_stand_apart.ensures.end;

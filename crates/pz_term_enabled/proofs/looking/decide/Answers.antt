@@ -9,15 +9,15 @@ use Rattle.pz_term_enabled.proofs.Moments.{troubled_moment, found_moment, found_
 use Rattle.pz_term_enabled.proofs.looking.decide.Goals as goal
 
 pub returns-in-Some-clause-moment : goal.returns-in-Some-clause-moment
-returns-in-Some-clause-moment c setting config decides = troubled_moment setting config c.args.found.now c.args.trouble c.in-Some.trouble c.in-Some.is decides
+returns-in-Some-clause-moment c setting config low decides = troubled_moment setting config low c.args.found.now c.args.trouble c.in-Some.trouble c.in-Some.is decides
 
 pub returns-clause-moment : goal.returns-clause-moment
-returns-clause-moment c setting config decides =
+returns-clause-moment c setting config low decides =
     let found = c.args.found.now in
     let count : c.len.result ≡ length c.replace-actions.result.items = omega (arith, c.len.ensures, c.replace-actions.result.ok.0) in
     let offers : c.len.result ≡ length found.internal.items = count ∙ ap (λ (v : Vec Action Global). length v.items) c.replace-actions.ensures.value in
     subst (λ (m : Moment). IsMoment setting config m) (sym (c.calm_moment-moment.ensures ∙ ap (λ (n : ℕ). calm_moment n found.least found.done) offers))
-    (found_moment setting config c.one_list_of_offers.ensures.one found c.args.trouble c.in_default.is decides)
+    (found_moment setting config low c.one_list_of_offers.ensures.one found c.args.trouble c.in_default.is decides)
 
 pub returns-clause-actions : goal.returns-clause-actions
 returns-clause-actions c setting config decides =

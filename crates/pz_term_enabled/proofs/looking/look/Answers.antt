@@ -1,4 +1,6 @@
 use Rattle.std.proofs.Common.{List, subst}
+use Rattle.std.proofs.Math.Logic.{∥∥₁_elim}
+use Rattle.std.specs.Coded.{le_prop}
 use Rattle.pz_classes.specs.CheckedView.{checked_model}
 use Rattle.pz_term_processes.specs.declared.process.Process.{Process}
 use Rattle.pz_term_processes.specs.Standing.{setting_of, config_of}
@@ -9,6 +11,7 @@ pub returns-clause-moment : goal.returns-clause-moment
 returns-clause-moment c =
     let setting = setting_of (checked_model c.args.checked.now) c.args.limits in
     c.decide.ensures.moment setting (config_of c.args.clock c.args.processes.now)
+    (λ i p there. ∥∥₁_elim c.requires.processes le_prop (λ known. known.low i p there))
     (subst (λ (ps : List Process). Decides setting (config_of c.args.clock ps) c.find_trouble.new.found c.in_ok-trouble.trouble) c.in_ok-found.ensures.unchanged c.in_ok-trouble.ensures.decides)
 
 pub returns-clause-actions : goal.returns-clause-actions

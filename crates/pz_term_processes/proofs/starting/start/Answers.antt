@@ -1,21 +1,18 @@
-use Rattle.std.proofs.Common.{rules, ◌≡◌, ℕ, [], Some, length, slice_get, All, IfOk, MatchOption, ◌+◌, ◌-◌, ◌*◌, ◌<◌, ◌≤◌, ◌/◌, ◌%◌, Bool, true, false, nat_eq, nat_lt, List, ◌∷◌, ◌++◌, slice_index_or, slice_set, bit_and, bit_or, Fits, w8, w32, w64, Bor, MutBor}
+use Rattle.std.proofs.Common.{Option, sym, subst}
+use Rattle.std.specs.Option.{MatchOption}
 use Rattle.pz_classes.specs.CheckedView.{checked_model}
-use Rattle.pz_state.specs.References.{RefersWithin}
-use Rattle.pz_bind_levels.specs.Places.{Address}
-use Rattle.pz_bind.specs.Nest as nest
-use Rattle.pz_bind.specs.NetView.{HasProcess}
-use Rattle.pz_bind.specs.devices.Nets.{IsNet}
-use Rattle.pz_rules.specs.declared.limits.Edition.TheVariants.{Two}
-use Rattle.pz_rules.specs.CallLaws.{NoRounds}
-use Rattle.pz_rules.specs.Starting.{StartsAs, IsStart}
+use Rattle.pz_classes.specs.Soundness.{IsSound}
+use Rattle.pz_offer.specs.declared.trouble.Trouble.{Trouble}
 use Rattle.pz_rules.specs.Moments.{IsFirstHigh}
 use Rattle.pz_rules.specs.devices.Start.{start_of}
-use Rattle.pz_term_processes.specs.Starting.{OnReady, OnTooHigh, StartsLow}
-use Rattle.pz_term_processes.specs.devices.Beginnings.{BeginsLow, BeginsHigh}
-use Rattle.pz_term_processes.specs.Standing.{setting_of, process_view, config_of, AreProcesses}
+use Rattle.pz_term_processes.specs.Starting.{StartsLow}
+use Rattle.pz_term_processes.specs.Standing.{setting_of}
+use Rattle.pz_term_processes.proofs.Starts.{are_processes}
 use Rattle.pz_term_processes.proofs.starting.start.Goals as goal
 
--- src/starting.rt:146:1
-pub returns-in_ok-all_begun-in-None-clause-processes :
-    goal.returns-in_ok-all_begun-in-None-clause-processes
-returns-in_ok-all_begun-in-None-clause-processes c = ?
+pub returns-in_ok-all_begun-in-None-clause-processes : goal.returns-in_ok-all_begun-in-None-clause-processes
+returns-in_ok-all_begun-in-None-clause-processes c =
+    let setting = setting_of (checked_model c.args.checked.now) c.args.limits in
+    are_processes c.what_fits_goes_on.ensures.start c.start_is_one.ensures.one c.start_is_one.ensures.computed (checked_model c.args.checked.now) c.in_ok-all_begun-in-None.field-0.items c.args.limits
+    (subst IsSound c.model-model.ensures.is c.model-model.ensures.sound) c.in_ok-all_begun-in-None.ensures
+    (subst (λ (o : Option Trouble). MatchOption o (StartsLow setting) (IsFirstHigh setting (start_of setting))) c.in-None.is c.first_too_high.ensures)

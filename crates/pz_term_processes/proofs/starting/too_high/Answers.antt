@@ -1,24 +1,25 @@
-use Rattle.std.proofs.Common.{rules, ◌≡◌, ℕ, [], Some, length, slice_get, All, IfOk, MatchOption, ◌+◌, ◌-◌, ◌*◌, ◌<◌, ◌≤◌, ◌/◌, ◌%◌, Bool, true, false, nat_eq, nat_lt, List, ◌∷◌, ◌++◌, slice_index_or, slice_set, bit_and, bit_or, Fits, w8, w32, w64, Bor, MutBor}
+use Rattle.std.proofs.Common.{refl, sym, ap, ◌∙◌}
+use Rattle.std.specs.Option.{option_map, option_copied}
+use Rattle.pz_classes_code.specs.StepView as step
 use Rattle.pz_classes.specs.CheckedView.{checked_model}
-use Rattle.pz_state.specs.References.{RefersWithin}
-use Rattle.pz_bind_levels.specs.Places.{Address}
-use Rattle.pz_bind.specs.Nest as nest
-use Rattle.pz_bind.specs.NetView.{HasProcess}
-use Rattle.pz_bind.specs.devices.Nets.{IsNet}
-use Rattle.pz_rules.specs.declared.limits.Edition.TheVariants.{Two}
-use Rattle.pz_rules.specs.CallLaws.{NoRounds}
-use Rattle.pz_rules.specs.Starting.{StartsAs, IsStart}
-use Rattle.pz_rules.specs.Moments.{IsFirstHigh}
-use Rattle.pz_rules.specs.devices.Start.{start_of}
-use Rattle.pz_term_processes.specs.Starting.{OnReady, OnTooHigh, StartsLow}
-use Rattle.pz_term_processes.specs.devices.Beginnings.{BeginsLow, BeginsHigh}
-use Rattle.pz_term_processes.specs.Standing.{setting_of, process_view, config_of, AreProcesses}
+use Rattle.pz_offer.specs.declared.trouble.Trouble.TheVariants.{High}
+use Rattle.pz_part_opening.specs.Homes.{home_view}
+use Rattle.pz_term_processes.specs.Standing.{setting_of}
+use Rattle.pz_term_processes.proofs.First.{call_is}
+use Rattle.pz_term_processes.proofs.Beginnings.{begins_low, begins_high}
 use Rattle.pz_term_processes.proofs.starting.too_high.Goals as goal
 
--- src/starting.rt:89:9
 pub returns-then-step_within-most : goal.returns-then-step_within-most
-returns-then-step_within-most c = ?
+returns-then-step_within-most c = λ place at.
+    begins_low (setting_of (checked_model c.args.checked.now) c.args.limits) place (step.view c.in-Some.call.now)
+    (call_is c.trees_are_sets.ensures.statements (checked_model c.args.checked.now) c.classes.result.now c.args.net.now c.args.process c.class.result c.in-Some.call.now place
+    c.classes.ensures.tabled c.requires.of_model at c.class.ensures.is (λ m known. ap (λ r. option_map step.view (option_copied r)) (sym c.in-Some.is) ∙ c.init.ensures m known))
+    (home_view c.home_at-home.result) (c.home_at-home.ensures.home place at) c.step_within.result c.from-most.result c.from-most.ensures c.step_within.ensures c.if-step_within-most.true
 
--- src/starting.rt:72:1
 pub returns : goal.returns
-returns c = ?
+returns c = λ place at.
+    begins_high (setting_of (checked_model c.args.checked.now) c.args.limits) place (step.view c.in-Some.call.now)
+    (call_is c.trees_are_sets.ensures.statements (checked_model c.args.checked.now) c.classes.result.now c.args.net.now c.args.process c.class.result c.in-Some.call.now place
+    c.classes.ensures.tabled c.requires.of_model at c.class.ensures.is (λ m known. ap (λ r. option_map step.view (option_copied r)) (sym c.in-Some.is) ∙ c.init.ensures m known))
+    (home_view c.home_at-home.result) (c.home_at-home.ensures.home place at) c.args.process (High c.args.process c.in-Some.call.now.pos) c.in-Some.call.now c.step_within.result c.from-most.result c.from-most.ensures c.step_within.ensures
+    c.if-step_within-most.false refl refl

@@ -2,7 +2,7 @@ use Rattle.std.proofs.Common.{subst}
 use Rattle.pz_classes.specs.CheckedView.{checked_model}
 use Rattle.pz_classes.specs.Soundness.{IsSound}
 use Rattle.pz_term_processes.specs.Standing.{setting_of}
-use Rattle.pz_term.proofs.Kept.{whole_offers, no_offers}
+use Rattle.pz_term.proofs.Kept.{whole_offers, none_too_high, no_offers}
 use Rattle.pz_term.proofs.plain.Plain.offers.Goals as goal
 
 pub returns-in-Whole : goal.returns-in-Whole
@@ -12,3 +12,6 @@ returns-in-Whole c =
 
 pub returns-in-Stopped : goal.returns-in-Stopped
 returns-in-Stopped c = no_offers (setting_of (checked_model c.args.self.now.checked) c.args.self.now.limits) c.args.self.now.clock c.args.self.now.processes.items c.args.self.now.standing c.in-Stopped.is
+
+pub returns-in-High : goal.returns-in-High
+returns-in-High c = none_too_high (setting_of (checked_model c.args.self.now.checked) c.args.self.now.limits) c.args.self.now.clock c.args.self.now.processes.items c.args.self.now.standing c.in-High.field-0 c.in-High.is c.one_moment.ensures.one c.args.self.now.holds
