@@ -1,11 +1,10 @@
 -- A text has one model, or it is refused.
-use Rattle.std.proofs.Common.{◌≡◌, ℕ, List, sym, subst, ◌∙◌}
+use Rattle.std.proofs.Common.{◌≡◌, List, sym, subst, ◌∙◌}
 use Rattle.pz_syntax.specs.declared.tokens.Token.{Token}
 use Rattle.pz_syntax.specs.Classes.{ModelTree}
 use Rattle.pz_parser.specs.OneTree.{HasOnePlacedTree}
-use Rattle.pz_run_reading.specs.Models.{nesting_limit, IsTreeOf, IsModelOf}
-use Rattle.pz_run_reading.specs.Refusals.{IsRefused, no_tokens, no_tree, violates, IsViolation}
-use Rattle.pz_run_reading.specs.declared.refusal.Refusal.{Refusal}
+use Rattle.pz_run_reading.specs.Models.{nesting_limit, IsTreeOf}
+use Rattle.pz_run_reading.specs.Refusals.{no_tokens, no_tree, violates, IsViolation}
 use Rattle.pz_run_reading.specs.Laws.{HasOneModel, NoModelIsRefused}
 use Rattle.pz_run_reading.proofs.Trees.{OneList, NeverBoth, tree_of, tree_at}
 use Rattle.pz_run_reading.proofs.Causes.{unsound}

@@ -1,6 +1,5 @@
 -- Models that open, from what the parts of the reading say.
-use Rattle.std.proofs.Common.{◌≡◌, ℕ, List, Result, Ok, Err, refl, sym, subst}
-use Rattle.std.specs.Prelude.{MatchResult}
+use Rattle.std.proofs.Common.{◌≡◌, ℕ, List, refl, subst}
 use Rattle.pz_syntax.specs.Classes.{ModelTree}
 use Rattle.pz_check_violations.specs.declared.violation.Violation.{Violation}
 use Rattle.pz_classes_openings.specs.OpeningRules.{Opens, IsOpeningViolation, in_rounds, in_sizes}
@@ -9,11 +8,10 @@ use Rattle.pz_check.specs.declared.error.CheckError.TheVariants as check
 use Rattle.pz_check.specs.Together as together
 use Rattle.pz_run_reading.specs.Models.{IsModelOf}
 use Rattle.pz_run_reading.specs.Refusals.{IsRefused}
-use Rattle.pz_run_reading.specs.Openings.{IsOpenModelOf, IsRefusedToOpen, at_once, opening, IsOpeningRefusal}
+use Rattle.pz_run_reading.specs.Openings.{IsRefusedToOpen, at_once, opening, IsOpeningRefusal}
 use Rattle.pz_run_reading.specs.Answers.{OnRefused}
 use Rattle.pz_run_reading.specs.Laws.{HasOneModel, NoModelIsRefused, NoOpenModelIsRefused}
 use Rattle.pz_run_reading.specs.devices.Errors.{of_checker}
-use Rattle.pz_run_reading.specs.declared.refusal.Refusal.{Refusal}
 use Rattle.pz_run_reading.specs.declared.refusal.Refusal.TheVariants as refusal
 use Rattle.pz_run_reading.specs.declared.read_error.ReadModelError.{ReadModelError}
 use Rattle.pz_run_reading.specs.declared.read_error.ReadModelError.TheVariants.{NoMemory, Refused}

@@ -1,6 +1,3 @@
-use Rattle.std.proofs.Common.{ℕ, List, sym, subst}
-use Rattle.pz_run.specs.devices.Saying.{Said}
-use Rattle.pz_run.specs.declared.status.Status.TheVariants.{Done}
 use Rattle.pz_run.proofs.Formatted.{layout_said, no_layout_said}
 use Rattle.pz_run.proofs.formatting.format_text.Goals as goal
 
