@@ -1,20 +1,19 @@
 -- What has become of a process, as a whole, and at home.
-use Rattle.std.proofs.Common.{◌≡◌, true, false, Bool, List, [], ◌∷◌, sym, ap, ◌∙◌}
-use Rattle.std.proofs.lemmas.Bool.{true≢false}
+use Rattle.std.proofs.Common.{◌≡◌, List, [], ◌∷◌, sym, ap, ◌∙◌}
 use Rattle.pz_syntax.specs.Statements.{no_statements, then}
 use Rattle.pz_classes.specs.CheckedView.{checked_model}
 use Rattle.pz_classes_code.specs.declared.step.Step as code
 use Rattle.pz_classes_code.specs.StepView as step
 use Rattle.pz_state.specs.States.{StateView}
-use Rattle.pz_state.specs.Marks.{Seen, changed}
+use Rattle.pz_state.specs.Marks.{Seen}
 use Rattle.pz_rules.specs.declared.limits.Edition.{Edition}
 use Rattle.pz_rules.specs.declared.term.Term.{Term as Part}
 use Rattle.pz_rules.specs.declared.term.Term.TheVariants as form
-use Rattle.pz_rules.specs.Terms.{Step, Steps, Term, sequence}
+use Rattle.pz_rules.specs.Terms.{Steps, Term, sequence}
 use Rattle.pz_rules.specs.Settings.{Process, left_by, home_of}
 use Rattle.pz_rules.specs.Settings as rules
 use Rattle.pz_rules.specs.Opening.{opened_all}
-use Rattle.pz_rules.specs.InternalActions.{before_loop, turned}
+use Rattle.pz_rules.specs.InternalActions.{before_loop}
 use Rattle.pz_rules.specs.View.{term_view}
 use Rattle.pz_rules.specs.Becoming.{Became}
 use Rattle.pz_part_opening.specs.declared.home.Home.{Home}

@@ -1,5 +1,6 @@
 mod Forms
 mod Becomings
+mod Openings
 mod Performed
 mod Methods
 mod Calls

@@ -19,10 +19,8 @@ use Rattle.pz_rules.specs.Meanings.{and_then, truth}
 use Rattle.pz_rules.specs.Evaluations.{Gives}
 use Rattle.pz_rules.specs.InternalActions as actions
 use Rattle.pz_rules.specs.InternalActions.{Can, done_in, chosen, turned, Performs}
-use Rattle.pz_rules.specs.Becoming.{Became}
-use Rattle.pz_part_actions.specs.Becoming.{process_left, done_left}
+use Rattle.pz_part_actions.specs.Becoming.{process_left, done_left, HasPerformed}
 use Rattle.pz_part_actions.specs.devices.Effects.{Tested, ran, Ran}
-use Rattle.pz_part_actions.proofs.Becomings.{became_left}
 use Rattle.pz_part_actions.proofs.Forms.{shows_Done}
 
 -- effects alone
@@ -38,61 +36,59 @@ pub done_is : (s : StateView) → Ok (done_in s) ≡ process_left s (Ok form.Don
 done_is s = ap (λ (t : Term). let r : Result Process Trouble = Ok (left_by s t) in r) (sym shows_Done)
 
 module _ (a : Context) (f : ℕ) (at : Pos) where
-  abbrev Becomes : Step → Result Process Trouble → Type 0
-  Becomes s q = Performs a f (leaf s) at q
+  abbrev Turns : Step → Result Process Trouble → Type 0
+  Turns s q = Performs a f (leaf s) at q
 
   pub value_performed : (e : Code) (found : Result Value Trouble) (s : StateView) (end : Result (Unit {0}) Trouble) (q : Result code.Term Trouble)
-      → Gives a f at e found s → end ≡ ran found → process_left s q ≡ done_left s end → Becomes (value at e) (process_left s q)
+      → Gives a f at e found s → end ≡ ran found → process_left s q ≡ done_left s end → Turns (value at e) (process_left s q)
   value_performed e found s end q gives means is =
-      subst (λ (x : Result Process Trouble). Becomes (value at e) x) (ran_left s found ∙ ap (done_left s) (sym means) ∙ sym is) (actions.evaluates at e found s gives)
+      subst (λ (x : Result Process Trouble). Turns (value at e) x) (ran_left s found ∙ ap (done_left s) (sym means) ∙ sym is) (actions.evaluates at e found s gives)
 
-  pub block_performed : (es : Codes) (s : StateView) (end : Result (Unit {0}) Trouble) (q : Result code.Term Trouble) → Ran a f at (written es) end s → process_left s q ≡ done_left s end → Becomes (block at es) (process_left s q)
+  pub block_performed : (es : Codes) (s : StateView) (end : Result (Unit {0}) Trouble) (q : Result code.Term Trouble) → Ran a f at (written es) end s → process_left s q ≡ done_left s end → Turns (block at es) (process_left s q)
   block_performed es s end q run is =
-      subst (λ (x : Result Process Trouble). Becomes (block at es) x) (ran_left s run.found ∙ ap (done_left s) (sym run.means) ∙ sym is) (actions.evaluates_block at es run.found s run.gives)
+      subst (λ (x : Result Process Trouble). Turns (block at es) x) (ran_left s run.found ∙ ap (done_left s) (sym run.means) ∙ sym is) (actions.evaluates_block at es run.found s run.gives)
 
   -- by what a test says
   module _ (e : Code) (s : Seen) (r : Result Bool Trouble) (tested : Tested a f at e r s.held) where
     decided : (g : Bool → Result Process Trouble) → and_then tested.found (λ v. and_then (truth a.process at v) g) ≡ and_then r g
     decided g = chained tested.found (truth a.process at) g ∙ ap (λ (x : Result Bool Trouble). and_then x g) (sym tested.means)
 
-    if_becomes : (ts : Steps) (other : StatementPart Slot ClassId ℕ) → Becomes (conditional at e ts other) (and_then r (λ b. Ok (chosen (home_of a) s.held ts other b)))
-    if_becomes ts other = subst (λ (x : Result Process Trouble). Becomes (conditional at e ts other) x) (decided (λ b. Ok (chosen (home_of a) s.held ts other b))) (actions.tests at e ts other tested.found s.held tested.gives)
+    if_becomes : (ts : Steps) (other : StatementPart Slot ClassId ℕ) → Turns (conditional at e ts other) (and_then r (λ b. Ok (chosen (home_of a) s.held ts other b)))
+    if_becomes ts other = subst (λ (x : Result Process Trouble). Turns (conditional at e ts other) x) (decided (λ b. Ok (chosen (home_of a) s.held ts other b))) (actions.tests at e ts other tested.found s.held tested.gives)
 
-    while_becomes : (ts : Steps) → Becomes (repeated at e ts) (and_then r (λ b. Ok (turned (home_of a) s.held (repeated at e ts) ts b)))
-    while_becomes ts = subst (λ (x : Result Process Trouble). Becomes (repeated at e ts) x) (decided (λ b. Ok (turned (home_of a) s.held (repeated at e ts) ts b))) (actions.repeats at e ts tested.found s.held tested.gives)
+    while_becomes : (ts : Steps) → Turns (repeated at e ts) (and_then r (λ b. Ok (turned (home_of a) s.held (repeated at e ts) ts b)))
+    while_becomes ts = subst (λ (x : Result Process Trouble). Turns (repeated at e ts) x) (decided (λ b. Ok (turned (home_of a) s.held (repeated at e ts) ts b))) (actions.repeats at e ts tested.found s.held tested.gives)
 
-    pub if_troubled : (ts : Steps) (other : StatementPart Slot ClassId ℕ) (u : Trouble) → r ≡ Err u → Becomes (conditional at e ts other) (Err u)
+    pub if_troubled : (ts : Steps) (other : StatementPart Slot ClassId ℕ) (u : Trouble) → r ≡ Err u → Turns (conditional at e ts other) (Err u)
     if_troubled ts other u is =
-        subst (λ (x : Result Process Trouble). Becomes (conditional at e ts other) x) (ap (λ (x : Result Bool Trouble). and_then x (λ b. Ok (chosen (home_of a) s.held ts other b))) is) (if_becomes ts other)
+        subst (λ (x : Result Process Trouble). Turns (conditional at e ts other) x) (ap (λ (x : Result Bool Trouble). and_then x (λ b. Ok (chosen (home_of a) s.held ts other b))) is) (if_becomes ts other)
 
     -- in the words of a statement that is the loop
-    pub while_troubled : (loop : Step) (ts : Steps) (u : Trouble) → loop ≡ repeated at e ts → r ≡ Err u → Becomes loop (Err u)
+    pub while_troubled : (loop : Step) (ts : Steps) (u : Trouble) → loop ≡ repeated at e ts → r ≡ Err u → Turns loop (Err u)
     while_troubled loop ts u loop_is is =
-        subst (λ (l : Step). Becomes l (Err u)) (sym loop_is)
-        (subst (λ (x : Result Process Trouble). Becomes (repeated at e ts) x) (ap (λ (x : Result Bool Trouble). and_then x (λ b. Ok (turned (home_of a) s.held (repeated at e ts) ts b))) is) (while_becomes ts))
+        subst (λ (l : Step). Turns l (Err u)) (sym loop_is)
+        (subst (λ (x : Result Process Trouble). Turns (repeated at e ts) x) (ap (λ (x : Result Bool Trouble). and_then x (λ b. Ok (turned (home_of a) s.held (repeated at e ts) ts b))) is) (while_becomes ts))
 
     -- what then opens, at this home
-    module _ (h : Home) (home : home_of a ≡ h) (b : Bool) (t : Term) (new : Seen) (is : r ≡ Ok b) where
-      pub if_chosen : (ts : Steps) (other : StatementPart Slot ClassId ℕ) → Became (chosen h s.held ts other b) t s new → Becomes (conditional at e ts other) (Ok (left_by new.held t))
-      if_chosen ts other became =
-          subst (λ (x : Result Process Trouble). Becomes (conditional at e ts other) x)
+    module _ (h : Home) (home : home_of a ≡ h) (b : Bool) (is : r ≡ Ok b) where
+      pub if_chosen : (ts : Steps) (other : StatementPart Slot ClassId ℕ) → Turns (conditional at e ts other) (Ok (chosen h s.held ts other b))
+      if_chosen ts other =
+          subst (λ (x : Result Process Trouble). Turns (conditional at e ts other) x)
           (ap (λ (x : Result Bool Trouble). and_then x (λ c. Ok (chosen (home_of a) s.held ts other c))) is
-          ∙ ap (λ (k : Home). let q : Result Process Trouble = Ok (chosen k s.held ts other b) in q) home
-          ∙ ap (λ (p : Process). let q : Result Process Trouble = Ok p in q) (became_left (chosen h s.held ts other b) t s new became)) (if_becomes ts other)
+          ∙ ap (λ (k : Home). let q : Result Process Trouble = Ok (chosen k s.held ts other b) in q) home) (if_becomes ts other)
 
-      pub while_turned : (loop : Step) (ts : Steps) → loop ≡ repeated at e ts → Became (turned h s.held loop ts b) t s new → Becomes loop (Ok (left_by new.held t))
-      while_turned loop ts loop_is became =
-          subst (λ (l : Step). Becomes l (Ok (left_by new.held t))) (sym loop_is)
-          (subst (λ (x : Result Process Trouble). Becomes (repeated at e ts) x)
+      pub while_turned : (loop : Step) (ts : Steps) → loop ≡ repeated at e ts → Turns loop (Ok (turned h s.held loop ts b))
+      while_turned loop ts loop_is =
+          subst (λ (l : Step). Turns l (Ok (turned h s.held loop ts b))) (sym loop_is)
+          (subst (λ (x : Result Process Trouble). Turns (repeated at e ts) x)
           (ap (λ (x : Result Bool Trouble). and_then x (λ c. Ok (turned (home_of a) s.held (repeated at e ts) ts c))) is
           ∙ ap (λ (k : Home). let q : Result Process Trouble = Ok (turned k s.held (repeated at e ts) ts b) in q) home
-          ∙ ap (λ (l : Step). let q : Result Process Trouble = Ok (turned h s.held l ts b) in q) (sym loop_is)
-          ∙ ap (λ (p : Process). let q : Result Process Trouble = Ok p in q) (became_left (turned h s.held loop ts b) t s new became)) (while_becomes ts))
+          ∙ ap (λ (l : Step). let q : Result Process Trouble = Ok (turned h s.held l ts b) in q) (sym loop_is)) (while_becomes ts))
 
   -- a step that is this statement
   pub by_step : {E : Type 0} (r : Result (Result code.Term Trouble) E) (s : StateView) (x y : Step) → x ≡ y
-      → IfOk r (λ left. Performs a f (leaf y) at (process_left s left)) → IfOk r (λ left. Performs a f (leaf x) at (process_left s left))
-  by_step r s x y is = subst (λ (z : Step). IfOk r (λ left. Performs a f (leaf z) at (process_left s left))) (sym is)
+      → IfOk r (λ left. HasPerformed a f (leaf y) at (process_left s left)) → IfOk r (λ left. HasPerformed a f (leaf x) at (process_left s left))
+  by_step r s x y is = subst (λ (z : Step). IfOk r (λ left. HasPerformed a f (leaf z) at (process_left s left))) (sym is)
 
   pub skip_performed : (x : Step) → x ≡ skip at → Performs a f (leaf x) at (process_left a.state (Ok form.Done))
   skip_performed x is =

@@ -10,24 +10,24 @@ ghost use Rattle.pz_classes.specs.CheckedView.{checked_model};
 ghost use Rattle.pz_classes.specs.devices.Rows.{AreClasses};
 ghost use Rattle.pz_rules.specs.Terms as terms;
 ghost use Rattle.pz_rules.specs.Methods.{IsMethod};
-ghost use Rattle.pz_rules.specs.InternalActions.{entered, Performs};
+ghost use Rattle.pz_rules.specs.InternalActions.{entered};
 ghost use Rattle.pz_rules.specs.Opening.{opened_all};
-ghost use Rattle.pz_rules.specs.View.{term_view};
-ghost use Rattle.pz_rules.specs.Becoming.{Became};
 ghost use Rattle.pz_eval.specs.Known.{AreKnown};
 ghost use Rattle.pz_part_opening.specs.Homes.{home_view};
 ghost use Rattle.pz_part_queries.specs.Standpoints.{Knows};
-ghost use Rattle.pz_part_actions.specs.Becoming.{process_left};
+ghost use Rattle.pz_part_actions.specs.Becoming.{process_left, HasPerformed, IsBuiltLow};
 ghost use Rattle.pz_part_actions.specs.Fitting.{FitsHere};
 ghost use Rattle.pz_part_actions.specs.devices.Standing.{seen_there};
 ghost use Rattle.pz_part_actions.specs.devices.Calls.{IsCallable, round_body};
+ghost use Rattle.pz_part_actions.specs.devices.Openings.{OpensAs};
 
 use crate::evaluating::evaluate_all;
+use crate::opening::open_low;
 use pz_classes::{Body, Classes};
 use pz_classes_code::{Code, Slot, Step};
 use pz_items::{Items, Shared};
 use pz_offer::Trouble;
-use pz_part_opening::{Home, open_all};
+use pz_part_opening::Home;
 use pz_part_queries::Standpoint;
 use pz_rules::Term;
 use pz_state::{FrameId, State};
@@ -72,40 +72,63 @@ fn find_method<'a>(
 /// its place.
 fn round(
     alloc: Global,
+    here: &Standpoint<'_>,
     home: &Home<'_>,
+    pos: Pos,
     frame: FrameId,
     inputs: usize,
     results: &Shared<Items<Slot>>,
     steps: &Shared<Items<Step>>,
     state: &mut State,
-) -> Result<Term, AllocError>
-    ensures { IfOk result (λ term. Became (round_body frame.0 inputs results.now
-        (opened_all (home_view home.now) (sequence_view steps.now) state.old.held))
-        (term_view term) state.old state.new) }
+) -> Result<Result<Term, Trouble>, AllocError>
+    ensures opens { IfOk result (λ left. OpensAs here.now pos
+        (round_body frame.0 inputs results.now
+        (opened_all (home_view home.now) (sequence_view steps.now) state.old.held)) state.old
+        state.new left) }
+    ensures low { IfOk result (λ left. IsBuiltLow here.now left) }
+    ensures marks { state.new.marks ≡ state.old.marks }
 {
-    let results = results.copy()?;
-    let body = open_all(alloc, home, steps, state)?;
-    framed(alloc, frame, inputs, results, body)
+    match open_low(alloc, here, home, pos, steps, state)? {
+        Ok(body) => {
+            let results = results.copy()?;
+            Ok(Ok(framed(alloc, frame, inputs, results, body)?))
+        }
+        Err(trouble) => Ok(Err(trouble)),
+    }
 }
 
 /// A further frame, whose first locals have the values of the inputs, round the body of the method.
 fn enter(
     alloc: Global,
+    here: &Standpoint<'_>,
     home: &Home<'_>,
+    pos: Pos,
     state: &mut State,
     method: Method<'_>,
     inputs: Items<Value>,
     results: &Shared<Items<Slot>>,
-) -> Result<Term, AllocError>
+) -> Result<Result<Term, Trouble>, AllocError>
     requires { All (RefersWithin (length state.old.held.objects)) inputs }
-    ensures { IfOk result (λ term. Became (entered (home_view home.now) state.old.held
-        method.entry.locals results.now (sequence_view method.entry.steps.now) inputs)
-        (term_view term) state.old state.new) }
+    ensures opens { IfOk result (λ left. OpensAs here.now pos (entered (home_view home.now)
+        state.old.held method.entry.locals results.now (sequence_view method.entry.steps.now)
+        inputs) state.old state.new left) }
+    ensures low { IfOk result (λ left. IsBuiltLow here.now left) }
+    ensures marks { OnOk result (state.new.marks ≡ state.old.marks) }
 {
     let count = inputs.len();
     let frame = state.open_frame(method.locals)?;
     set_inputs(state, frame, inputs.into_vec())?;
-    round(alloc, home, frame, count, results, method.steps, state)
+    round(
+        alloc,
+        here,
+        home,
+        pos,
+        frame,
+        count,
+        results,
+        method.steps,
+        state,
+    )
 }
 
 /// A call. Its arguments are evaluated in the frame of the caller, before that of the method opens.
@@ -125,16 +148,17 @@ pub(crate) fn perform_call(
     requires fits { ∥ FitsHere here.now home.now.class (terms.leaf
         (statements.call pos method.now (list_view args.now) results.now)) ∥₁ }
     ensures performs { Knows (checked_model home.now.checked.now) here.now →
-        IfOk result (λ left. Performs (seen_there here.now home.now state.old.held) frame.0
+        IfOk result (λ left. HasPerformed (seen_there here.now home.now state.old.held) frame.0
         (terms.leaf (statements.call pos method.now (list_view args.now) results.now)) pos
         (process_left state.new.held left)) }
+    ensures low { IfOk result (λ left. IsBuiltLow here.now left) }
     ensures marks { OnOk result (state.new.marks ≡ state.old.marks) }
 {
     let name = method.name.as_str().as_bytes();
     let outputs = results.get().len();
     let called = find_method(here.classes, home.class, name, args.len(), outputs);
     match evaluate_all(alloc, here, state, frame, pos, args)? {
-        Ok(values) => Ok(Ok(enter(alloc, home, state, called, values, results)?)),
+        Ok(values) => enter(alloc, here, home, pos, state, called, values, results),
         Err(trouble) => Ok(Err(trouble)),
     }
 }

@@ -1,6 +1,6 @@
 //! What a part becomes by itself. The only error is want of memory.
 
-ghost use Rattle.std.specs.Prelude.{◌≡◌, ℕ, IfOk, OnOk};
+ghost use Rattle.std.specs.Prelude.{◌≡◌, ◌≤◌, ℕ, IfOk, OnOk};
 ghost use Rattle.pz_syntax.specs.Classes.{ModelTree};
 ghost use Rattle.pz_syntax.specs.declared.tokens.Pos.{Pos as Position};
 ghost use Rattle.pz_syntax.specs.Statements as statements;
@@ -10,12 +10,13 @@ ghost use Rattle.pz_classes_code.specs.StepView.{view};
 ghost use Rattle.pz_state.specs.States.{StateView};
 ghost use Rattle.pz_rules.specs.declared.action.Kind.{Kind};
 ghost use Rattle.pz_rules.specs.Terms as terms;
-ghost use Rattle.pz_rules.specs.InternalActions.{Can, Performs};
+ghost use Rattle.pz_rules.specs.Terms.{height};
+ghost use Rattle.pz_rules.specs.InternalActions.{Can};
 ghost use Rattle.pz_rules.specs.View.{term_view};
 ghost use Rattle.pz_eval.specs.Known.{AreKnown};
 ghost use Rattle.pz_part_queries.specs.Standpoints.{Knows, seen_from};
 ghost use Rattle.pz_rules.specs.Acting.{IsActing};
-ghost use Rattle.pz_part_actions.specs.Becoming.{process_left, done_left};
+ghost use Rattle.pz_part_actions.specs.Becoming.{process_left, done_left, HasPerformed, IsBuiltLow};
 ghost use Rattle.pz_part_actions.specs.Fitting.{FitsHere};
 ghost use Rattle.pz_part_actions.specs.Homes.{seen_home};
 ghost use Rattle.pz_part_actions.specs.devices.Standing.{seen_there};
@@ -35,7 +36,8 @@ use std::alloc::{AllocError, Global};
 
 /// Nothing is left, unless there is a trouble.
 fn done(end: Result<(), Trouble>) -> Result<Term, Trouble>
-    ensures { (s : StateView) → process_left s result ≡ done_left s end }
+    ensures left { (s : StateView) → process_left s result ≡ done_left s end }
+    ensures low { IfOk result (λ term. height (term_view term) ≤ 1) }
 {
     end?;
     Ok(Term::Done)
@@ -52,9 +54,10 @@ fn perform_value(
 ) -> Result<Result<Term, Trouble>, AllocError>
     requires { AreKnown here.now.classes.now }
     ensures performs { (m : ModelTree) (class : ℕ) → Knows m here.now →
-        IfOk result (λ left. Performs (seen_from m here.now class state.old.held) frame.0
+        IfOk result (λ left. HasPerformed (seen_from m here.now class state.old.held) frame.0
         (terms.leaf (statements.value pos (code_view code.now))) pos
         (process_left state.new.held left)) }
+    ensures low { IfOk result (λ left. IsBuiltLow here.now left) }
     ensures marks { state.new.marks ≡ state.old.marks }
 {
     let found = evaluate(alloc, here, state, frame, pos, code)?;
@@ -72,9 +75,10 @@ fn perform_block(
 ) -> Result<Result<Term, Trouble>, AllocError>
     requires { AreKnown here.now.classes.now }
     ensures performs { (m : ModelTree) (class : ℕ) → Knows m here.now →
-        IfOk result (λ left. Performs (seen_from m here.now class state.old.held) frame.0
+        IfOk result (λ left. HasPerformed (seen_from m here.now class state.old.held) frame.0
         (terms.leaf (statements.block pos (list_view codes.now))) pos
         (process_left state.new.held left)) }
+    ensures low { IfOk result (λ left. IsBuiltLow here.now left) }
     ensures marks { state.new.marks ≡ state.old.marks }
 {
     let end = run(alloc, here, state, frame, pos, codes)?;
@@ -95,8 +99,9 @@ fn perform_step(
     requires acts { IsActing (terms.leaf (view step.now)) }
     requires fits { ∥ FitsHere here.now home.now.class (terms.leaf (view step.now)) ∥₁ }
     ensures performs { Knows (checked_model home.now.checked.now) here.now →
-        IfOk result (λ left. Performs (seen_there here.now home.now state.old.held) frame.0
+        IfOk result (λ left. HasPerformed (seen_there here.now home.now state.old.held) frame.0
         (terms.leaf (view step.now)) step.now.pos (process_left state.new.held left)) }
+    ensures low { IfOk result (λ left. IsBuiltLow here.now left) }
     ensures marks { OnOk result (state.new.marks ≡ state.old.marks) }
 {
     let pos = step.pos;
@@ -164,8 +169,9 @@ fn perform_part(
     ensures performs { (kind : Kind) (pos : Position) →
         Knows (checked_model home.now.checked.now) here.now →
         Can (seen_there here.now home.now state.old.held) frame.0 (term_view part.now) kind pos →
-        IfOk result (λ left. Performs (seen_there here.now home.now state.old.held) frame.0
+        IfOk result (λ left. HasPerformed (seen_there here.now home.now state.old.held) frame.0
         (term_view part.now) pos (process_left state.new.held left)) }
+    ensures low { IfOk result (λ left. IsBuiltLow here.now left) }
     ensures marks { OnOk result (state.new.marks ≡ state.old.marks) }
 {
     match part {
@@ -175,9 +181,10 @@ fn perform_part(
     }
 }
 
-/// What a part becomes by itself, in a frame of a process of the class at home, by the edition there. Effects
-/// stay, and after a trouble some may: who calls marks the state before. The time is that of the evaluation,
-/// and linear in what is opened and in the inputs of a call. The only error is want of memory.
+/// What a part becomes by itself, in a frame of a process of the class at home, by the edition there. What
+/// would by itself be higher than a term may be is not built: that trouble is the answer. Effects stay, and
+/// after a trouble some may: who calls marks the state before. The time is that of the evaluation, and
+/// linear in what is opened and in the inputs of a call. The only error is want of memory.
 pub fn perform(
     alloc: Global,
     here: &Standpoint<'_>,
@@ -192,8 +199,9 @@ pub fn perform(
     ensures performs { (kind : Kind) (pos : Position) →
         Knows (checked_model home.now.checked.now) here.now →
         Can (seen_home here.now home.now state.old.held) frame.0 (term_view part.now) kind pos →
-        IfOk result (λ left. Performs (seen_home here.now home.now state.old.held) frame.0
+        IfOk result (λ left. HasPerformed (seen_home here.now home.now state.old.held) frame.0
         (term_view part.now) pos (process_left state.new.held left)) }
+    ensures low { IfOk result (λ left. IsBuiltLow here.now left) }
     ensures marks { OnOk result (state.new.marks ≡ state.old.marks) }
 {
     perform_part(alloc, &at_home(here, home), home, state, frame, part)

@@ -1,5 +1,6 @@
 mod Lists
 mod Statements
+mod Higher
 mod Marked
 mod AtHome
 mod Finished

@@ -22,11 +22,14 @@ use Rattle.pz_part_queries.specs.Standpoints.{Knows, seen_from}
 use Rattle.pz_rules.specs.Places.{MayAct}
 use Rattle.pz_term_around.specs.Laws.{ActivePartsMayAct}
 use Rattle.pz_part_queries.specs.Parts.{IsPartAt}
+use Rattle.pz_part_actions.specs.Becoming.{Becomes}
+use Rattle.pz_part_actions.specs.Becoming as becoming
 use Rattle.pz_part_actions.specs.Fitting.{FitsHere}
 use Rattle.pz_term_steps.specs.declared.begun.Begun.{Begun}
 use Rattle.pz_term_processes.specs.devices.StatementPlaces.{IsFrom}
 use Rattle.pz_term_steps.specs.devices.Deeds.{Ability, CanDo, Leaves, settled_home, begun_process}
 use Rattle.pz_term_steps.proofs.Statements.{one_place}
+use Rattle.pz_term_steps.proofs.Higher.{answer_settled}
 
 pub known_is : (m : ModelTree) (here : Standpoint) → Knows m here → AreKnown here.classes.now
 known_is m here known = ∥∥₁_map known (λ k. (m, k))
@@ -67,30 +70,38 @@ begun_held : (h : Home) (t : Term) (place : Place) (s2 s3 : Seen) (point : ℕ) 
 begun_held h t place s2 s3 point (Ok b) held = ap (λ (s : Seen). let r : Result Process Trouble = Ok (swept (residual h 0 t place (left_by s.held (term_view b.part)))) in r) held.0
 begun_held h t place s2 s3 point (Err e) held = refl
 
+-- what it becomes by its deed is answered so
+abbrev pub IsAnswered : Ability → Deed → Context → ℕ → Term → Result Process Trouble → Type 0
+IsAnswered can does a f y answer = (pos : Pos) → can a f y pos → (left : Result Process Trouble) × does a f y pos left × Becomes a pos left answer
+
+pub as_it_is : (can : Ability) (does : Deed) (a : Context) (f : ℕ) (y : Term) (left : Result Process Trouble) → ((pos : Pos) → can a f y pos → does a f y pos left) → IsAnswered can does a f y left
+as_it_is can does a f y left acts pos it = (left, acts pos it, becoming.is left)
+
 -- what a part leaves of its process, done in the marked state
 pub leaves_begun : (can : Ability) (does : Deed) → ((a : Context) (g : ℕ) (x : Term) (pos : Pos) → can a g x pos → IsFrom pos x)
-    → (m : ModelTree) (here : Standpoint) (class : ℕ) (t : Term) (place : Place) (s0 s1 s2 s3 : Seen) (point f : ℕ) (y : Term) (p : Pos) (left : Result Process Trouble) (r : Result Begun Trouble)
+    → (m : ModelTree) (here : Standpoint) (class : ℕ) (t : Term) (place : Place) (s0 s1 s2 s3 : Seen) (point f : ℕ) (y : Term) (p : Pos) (answer : Result Process Trouble) (r : Result Begun Trouble)
     → (h : Home) → home_of (seen_from m here class s0.held) ≡ h → s1 ≡ marked s0 point → IsPartAt 0 t place f y → IsFrom p y
-    → ((pos : Pos) → can (seen_from m here class s1.held) f y pos → does (seen_from m here class s1.held) f y pos left)
-    → begun_process h t place s2.held r ≡ and_then left (settled_home h (seen_from m here class s0.held) p t place)
+    → ActivePartsMayAct → IsAnswered can does (seen_from m here class s1.held) f y answer
+    → begun_process h t place s2.held r ≡ and_then answer (settled_home h (seen_from m here class s0.held) p t place)
     → MatchResult r (λ b. (s3 ≡ s2) × (b.point ≡ point)) (λ t. s3 ≡ undone s2)
     → CanDo can (seen_from m here class s0.held) t place
     → Leaves (seen_from m here class s0.held) does t place (begun_process h t place s3.held r)
-leaves_begun can does stands m here class t place s0 s1 s2 s3 point f y p left r h home is found from acts held state there =
+leaves_begun can does stands m here class t place s0 s1 s2 s3 point f y p answer r h home is found from law acts held state there =
     let same = same_part can (seen_from m here class s0.held) t place there f y found in
     let pos : Pos = there.it_holds.0 in
     let before : s1.held ≡ s0.held = ap (λ (s : Seen). s.held) is in
+    let acted = acts pos (moved (λ a g x. can a g x pos) m here class s0.held s1.held there.frame f there.part y (sym before) (sym same.0) (sym same.1) there.it_holds.1) in
     record {
       frame = there.frame;
       part = there.part;
       active = there.active;
       pos = pos;
-      left = left;
-      acts = moved (λ a g x. does a g x pos left) m here class s1.held s0.held f there.frame y there.part before same.0 same.1
-          (acts pos (moved (λ a g x. can a g x pos) m here class s0.held s1.held there.frame f there.part y (sym before) (sym same.0) (sym same.1) there.it_holds.1));
+      left = acted.0;
+      acts = moved (λ a g x. does a g x pos acted.0) m here class s1.held s0.held f there.frame y there.part before same.0 same.1 acted.1;
       leaves =
           begun_held h t place s2 s3 point r state ∙ held
-          ∙ ap (λ (k : Home). and_then left (settled_home k (seen_from m here class s0.held) p t place)) (sym home)
-          ∙ ap (λ (q : Pos). and_then left (settled (seen_from m here class s0.held) q t place))
-          (one_place y p pos from (part_is can (seen_from m here class s0.held) t place there f y found IsFrom (stands (seen_from m here class s0.held))));
+          ∙ ap (λ (k : Home). and_then answer (settled_home k (seen_from m here class s0.held) p t place)) (sym home)
+          ∙ ap (λ (q : Pos). and_then answer (settled (seen_from m here class s0.held) q t place))
+          (one_place y p pos from (part_is can (seen_from m here class s0.held) t place there f y found IsFrom (stands (seen_from m here class s0.held))))
+          ∙ answer_settled (seen_from m here class s1.held) pos t place (may_act can (seen_from m here class s0.held) t place there law) acted.0 answer acted.2;
     }

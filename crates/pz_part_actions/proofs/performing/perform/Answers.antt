@@ -4,14 +4,13 @@ use Rattle.std.proofs.Math.Logic.{∥∥₁_map}
 use Rattle.pz_syntax.specs.declared.tokens.Pos.{Pos}
 use Rattle.pz_classes.specs.CheckedView.{checked_model}
 use Rattle.pz_rules.specs.declared.action.Kind.{Kind}
-use Rattle.pz_rules.specs.InternalActions.{Can, Performs}
+use Rattle.pz_rules.specs.InternalActions.{Can}
 use Rattle.pz_rules.specs.View.{term_view}
 use Rattle.pz_eval.specs.Known.{AreKnown}
 use Rattle.pz_part_queries.specs.declared.standpoint.Standpoint.{Standpoint}
 use Rattle.pz_part_queries.specs.Standpoints.{Knows}
-use Rattle.pz_part_actions.specs.Becoming.{process_left}
+use Rattle.pz_part_actions.specs.Becoming.{process_left, HasPerformed}
 use Rattle.pz_part_actions.specs.Fitting.{FitsHere}
-use Rattle.pz_part_actions.specs.Homes.{standing_at}
 use Rattle.pz_part_actions.specs.devices.Standing.{seen_there}
 use Rattle.pz_part_actions.proofs.performing.perform.Goals as goal
 
@@ -30,5 +29,5 @@ pub returns-clause-performs : goal.returns-clause-performs
 returns-clause-performs c =
     subst
     (λ (x : Standpoint). (kind : Kind) (pos : Pos) → Knows (checked_model c.args.home.now.checked.now) x → Can (seen_there x c.args.home.now c.args.state.now.held) c.args.frame.0 (term_view c.args.part.now) kind pos
-    → IfOk c.perform_part.result (λ left. Performs (seen_there x c.args.home.now c.args.state.now.held) c.args.frame.0 (term_view c.args.part.now) pos (process_left c.perform_part.new.state.held left)))
+    → IfOk c.perform_part.result (λ left. HasPerformed (seen_there x c.args.home.now c.args.state.now.held) c.args.frame.0 (term_view c.args.part.now) pos (process_left c.perform_part.new.state.held left)))
     c.at_home.ensures c.perform_part.ensures.performs

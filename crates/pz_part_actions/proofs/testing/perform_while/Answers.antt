@@ -1,20 +1,29 @@
+use Rattle.std.proofs.Common.{Err, refl}
+use Rattle.std.proofs.lemmas.Result.{IfOk-weaker}
 use Rattle.pz_classes_code.specs.CodeView as code
 use Rattle.pz_classes_code.specs.StepView.{view, sequence_view}
-use Rattle.pz_rules.specs.View.{term_view}
+use Rattle.pz_rules.specs.Terms.{leaf}
+use Rattle.pz_rules.specs.InternalActions.{turned}
 use Rattle.pz_classes.specs.CheckedView.{checked_model}
 use Rattle.pz_part_opening.specs.Homes.{home_view}
 use Rattle.pz_part_actions.specs.devices.Standing.{seen_there}
 use Rattle.pz_part_actions.proofs.Becomings.{home_is}
+use Rattle.pz_part_actions.proofs.Openings.{answered, opening_answered}
 use Rattle.pz_part_actions.proofs.Performed.{while_turned, while_troubled}
 use Rattle.pz_part_actions.proofs.testing.perform_while.Goals as goal
 
-pub returns-in_ok-turned-in-Ok-clause-performs : goal.returns-in_ok-turned-in-Ok-clause-performs
-returns-in_ok-turned-in-Ok-clause-performs c = λ known.
-    while_turned (seen_there c.args.here.now c.args.home.now c.args.state.now.held) c.args.frame.0 c.args.step.now.pos (code.view c.args.condition.now) c.test.new.state c.in_ok-truth.field-0 (c.in_ok-truth.ensures.tests (checked_model c.args.home.now.checked.now) c.args.home.now.class.0 known)
-    (home_view c.args.home.now) (home_is c.args.here.now c.args.home.now c.args.state.now.held c.requires.edition) c.in-Ok.truth (term_view c.in_ok-turned-in-Ok.field-0) c.turned.new.state c.in-Ok.is
-    (view c.args.step.now) (sequence_view c.args.body.now) c.requires.is c.in_ok-turned-in-Ok.ensures
+pub returns-in-Ok-clause-performs : goal.returns-in-Ok-clause-performs
+returns-in-Ok-clause-performs c = λ known.
+    IfOk-weaker c.turned.result _ _
+    (λ left opens.
+    opening_answered c.args.here.now c.args.step.now.pos (turned (home_view c.args.home.now) c.test.new.state.held (view c.args.step.now) (sequence_view c.args.body.now) c.in-Ok.truth) c.test.new.state c.turned.new.state
+    (seen_there c.args.here.now c.args.home.now c.args.state.now.held) c.args.frame.0 (leaf (view c.args.step.now)) refl refl left
+    (while_turned (seen_there c.args.here.now c.args.home.now c.args.state.now.held) c.args.frame.0 c.args.step.now.pos (code.view c.args.condition.now) c.test.new.state c.in_ok-truth.field-0 (c.in_ok-truth.ensures.tests (checked_model c.args.home.now.checked.now) c.args.home.now.class.0 known)
+    (home_view c.args.home.now) (home_is c.args.here.now c.args.home.now c.args.state.now.held c.requires.edition) c.in-Ok.truth c.in-Ok.is (view c.args.step.now) (sequence_view c.args.body.now) c.requires.is) opens)
+    c.turned.ensures.opens
 
 pub returns-in-Err-clause-performs : goal.returns-in-Err-clause-performs
 returns-in-Err-clause-performs c = λ known.
-    while_troubled (seen_there c.args.here.now c.args.home.now c.args.state.now.held) c.args.frame.0 c.args.step.now.pos (code.view c.args.condition.now) c.test.new.state c.in_ok-truth.field-0 (c.in_ok-truth.ensures.tests (checked_model c.args.home.now.checked.now) c.args.home.now.class.0 known)
-    (view c.args.step.now) (sequence_view c.args.body.now) c.in-Err.trouble c.requires.is c.in-Err.is
+    answered (seen_there c.args.here.now c.args.home.now c.args.state.now.held) c.args.frame.0 (leaf (view c.args.step.now)) c.args.step.now.pos (Err c.in-Err.trouble)
+    (while_troubled (seen_there c.args.here.now c.args.home.now c.args.state.now.held) c.args.frame.0 c.args.step.now.pos (code.view c.args.condition.now) c.test.new.state c.in_ok-truth.field-0 (c.in_ok-truth.ensures.tests (checked_model c.args.home.now.checked.now) c.args.home.now.class.0 known)
+    (view c.args.step.now) (sequence_view c.args.body.now) c.in-Err.trouble c.requires.is c.in-Err.is)

@@ -39,5 +39,5 @@ returns-clause-leaves c =
     c.args.process.now.state c.mark.new.self c.perform.new.state c.hold.new.process.state c.in_ok-point.point c.part_at.result.0.0 (term_view c.part_at.result.1.now) c.pos_of-pos.result
     (process_left c.perform.new.state.held c.in_ok-left.left) c.hold.result
     (home_view c.args.home.now) refl
-    c.in_ok-point.ensures.ok c.part_at.ensures c.pos_of-pos.ensures (λ pos can. c.in_ok-left.ensures.performs can.0 pos c.requires.knows can.1)
+    c.in_ok-point.ensures.ok c.part_at.ensures c.pos_of-pos.ensures c.active_parts_may_act.ensures.law (λ pos can. let done = c.in_ok-left.ensures.performs can.0 pos c.requires.knows can.1 in (done.left, done.performs, done.becomes))
     (c.hold.ensures.left c.args.process.now.state.held) c.hold.ensures.state c.requires.can

@@ -15,7 +15,7 @@ use Rattle.pz_rules.specs.Acting.{IsReceive}
 use Rattle.pz_part_actions.specs.Becoming.{done_left}
 use Rattle.pz_term_steps.specs.devices.Deeds.{CanReceive, settled_home}
 use Rattle.pz_term_steps.proofs.Statements.{receiving_place}
-use Rattle.pz_term_steps.proofs.Marked.{known_is, may_act, part_is, place_is, leaves_begun}
+use Rattle.pz_term_steps.proofs.Marked.{known_is, may_act, part_is, place_is, as_it_is, leaves_begun}
 use Rattle.pz_term_steps.proofs.beginning.begin_receive.Goals as goal
 
 pub part_at-requires : goal.part_at-requires
@@ -42,9 +42,11 @@ returns-clause-leaves c =
     c.args.process.now.state c.mark.new.self c.take.new.state c.hold.new.process.state c.in_ok-point.point c.part_at.result.0.0 (term_view c.part_at.result.1.now) c.pos_of-pos.result
     (done_left c.take.new.state.held c.in_ok-left.left) c.hold.result
     (home_view c.args.home.now) refl
-    c.in_ok-point.ensures.ok c.part_at.ensures c.pos_of-pos.ensures (subst (λ (x : Standpoint). Knows (checked_model c.args.home.now.checked.now) x → (pos : Pos) → CanReceive (seen_from (checked_model c.args.home.now.checked.now) x c.args.home.now.class.0 c.mark.new.self.held) c.part_at.result.0.0 (term_view c.part_at.result.1.now) pos
+    c.in_ok-point.ensures.ok c.part_at.ensures c.pos_of-pos.ensures c.active_parts_may_act.ensures.law
+    (as_it_is CanReceive (λ a f. Takes a f c.args.parcel.now) (seen_home c.args.here.now c.args.home.now c.mark.new.self.held) c.part_at.result.0.0 (term_view c.part_at.result.1.now) (done_left c.take.new.state.held c.in_ok-left.left)
+    (subst (λ (x : Standpoint). Knows (checked_model c.args.home.now.checked.now) x → (pos : Pos) → CanReceive (seen_from (checked_model c.args.home.now.checked.now) x c.args.home.now.class.0 c.mark.new.self.held) c.part_at.result.0.0 (term_view c.part_at.result.1.now) pos
     → Takes (seen_from (checked_model c.args.home.now.checked.now) x c.args.home.now.class.0 c.mark.new.self.held) c.part_at.result.0.0 c.args.parcel.now (term_view c.part_at.result.1.now) pos (done_left c.take.new.state.held c.in_ok-left.left))
-    c.at_home.ensures (λ known pos can. c.in_ok-left.ensures.takes (checked_model c.args.home.now.checked.now) c.args.home.now.class.0 pos can.0 can.1 can.2 known can.3) c.requires.knows)
+    c.at_home.ensures (λ known pos can. c.in_ok-left.ensures.takes (checked_model c.args.home.now.checked.now) c.args.home.now.class.0 pos can.0 can.1 can.2 known can.3) c.requires.knows))
     (c.hold.ensures.left c.args.process.now.state.held
     ∙ ap (λ (r : Result Process Trouble). and_then r (settled_home (home_view c.args.home.now) a c.pos_of-pos.result (term_view c.args.process.now.term) c.args.place.now)) (c.done_by.ensures c.take.new.state.held))
     c.hold.ensures.state c.requires.can
