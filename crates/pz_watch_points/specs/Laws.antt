@@ -1,0 +1,29 @@
+-- Laws of the points of runs.
+use Rattle.std.specs.Prelude.{◌≤◌, ◌<◌, ℕ, List, length}
+use Rattle.pz_syntax.specs.Classes.{ModelTree}
+use Rattle.pz_rules.specs.Settings.{Setting}
+use Rattle.pz_rules.specs.Configurations.{Config}
+use Rattle.pz_rules.specs.Runs.{Event, Standing, Reaches}
+use Rattle.pz_trace.specs.TraceText.{event_line}
+use Rattle.pz_watch.specs.Points.{Point, clock_at, AreInOrder}
+use Rattle.pz_watch_points.specs.EventPoints.{event_point, points_of}
+use Rattle.pz_watch_points.specs.Shown.{Shows}
+
+-- the clocks of the points of a run never fall
+abbrev pub RunsAreInOrder : Type 0
+RunsAreInOrder = (setting : Setting) (start end : Config) (events : List Event) (standing : Standing)
+    → Reaches setting start events end standing → AreInOrder (points_of setting.model events)
+
+-- all clocks lie within these two
+pub record LieWithin (low high : ℕ) (points : List Point) : Type 0 where
+  pub above : (i : ℕ) → i < length points → low ≤ clock_at points i
+  pub below : (i : ℕ) → i < length points → clock_at points i ≤ high
+
+-- they lie between the clock at which it starts and the one that it leads to
+abbrev pub RunsLieWithin : Type 0
+RunsLieWithin = (setting : Setting) (start end : Config) (events : List Event) (standing : Standing)
+    → Reaches setting start events end standing → LieWithin start.clock end.clock (points_of setting.model events)
+
+-- the line of an event shows its point
+abbrev pub LinesShowPoints : Type 0
+LinesShowPoints = (m : ModelTree) (e : Event) → Shows (event_line m e) (event_point m e)

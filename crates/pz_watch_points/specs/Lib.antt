@@ -1,0 +1,3 @@
+pub mod EventPoints
+pub mod Shown
+pub mod Laws
