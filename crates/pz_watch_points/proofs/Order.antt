@@ -1,5 +1,5 @@
 -- The clocks of a run never fall.
-use Rattle.std.proofs.Common.{◌≡◌, refl, sym, ap, subst, ◌∙◌, ℕ, zero, suc, ◌≤◌, ◌<◌, ◌+◌, List, [], ◌∷◌, length, Result, Ok, Err, arith}
+use Rattle.std.proofs.Common.{◌≡◌, refl, sym, ap, subst, ◌∙◌, ℕ, zero, suc, ◌≤◌, ◌<◌, ◌+◌, List, [], ◌∷◌, ◌++◌, length, Result, Ok, Err, arith}
 use Rattle.pz_offer.specs.declared.trouble.Trouble.{Trouble}
 use Rattle.pz_rules.specs.declared.action.Action.{Action}
 use Rattle.pz_rules.specs.Settings.{Setting, Process}
@@ -93,3 +93,33 @@ runs_in_order setting start end events standing reaches = (run_goes setting star
 pub runs_within : (setting : Setting) (start end : Config) (events : List Event) (standing : Standing)
     → Reaches setting start events end standing → LieWithin start.clock end.clock (points_of setting.model events)
 runs_within setting start end events standing reaches = (run_goes setting start end events standing reaches).within
+
+-- a point behind all others
+
+above_onward : (xs : List Point) (x : Point) (low : ℕ) → low ≤ x.clock → ((i : ℕ) → i < length xs → low ≤ clock_at xs i) → (i : ℕ) → i < length (xs ++ x ∷ []) → low ≤ clock_at (xs ++ x ∷ []) i
+above_onward [] x low later above zero h = later
+above_onward [] x low later above (suc i) h = absurd (omega arith)
+above_onward (y ∷ ys) x low later above zero h = above zero (omega arith)
+above_onward (y ∷ ys) x low later above (suc i) h = above_onward ys x low later (λ j l. above (suc j) (omega arith)) i (omega arith)
+
+rises_onward : (xs : List Point) (x : Point) → ((i : ℕ) → i < length xs → clock_at xs i ≤ x.clock)
+    → ((i k : ℕ) → i ≤ k → k < length xs → clock_at xs i ≤ clock_at xs k)
+    → (i k : ℕ) → i ≤ k → k < length (xs ++ x ∷ []) → clock_at (xs ++ x ∷ []) i ≤ clock_at (xs ++ x ∷ []) k
+rises_onward [] x below rising zero zero h l = omega arith
+rises_onward [] x below rising (suc i) zero h l = absurd (omega arith)
+rises_onward [] x below rising i (suc k) h l = absurd (omega arith)
+rises_onward (y ∷ ys) x below rising zero k h l =
+    above_onward (y ∷ ys) x y.clock (below zero (omega arith)) (λ j m. rising zero j (omega arith) m) k l
+rises_onward (y ∷ ys) x below rising (suc i) zero h l = absurd (omega arith)
+rises_onward (y ∷ ys) x below rising (suc i) (suc k) h l =
+    rises_onward ys x (λ j m. below (suc j) (omega arith)) (λ j n m o. rising (suc j) (suc n) (omega arith) (omega arith)) i k (omega arith) (omega arith)
+
+pub runs_onward : (setting : Setting) (start end : Config) (events : List Event) (standing : Standing) (next : Point)
+    → Reaches setting start events end standing → end.clock ≤ next.clock → AreInOrder (points_of setting.model events ++ next ∷ [])
+runs_onward setting start end events standing next reaches later =
+    let goes = run_goes setting start end events standing reaches in
+    record {
+      rising =
+          rises_onward (points_of setting.model events) next
+          (λ i h. (let before = goes.within.below i h in omega arith)) (λ i k h l. goes.order.rising i k h l);
+    }

@@ -1,5 +1,5 @@
 -- Laws of the points of runs.
-use Rattle.std.specs.Prelude.{◌≤◌, ◌<◌, ℕ, List, length}
+use Rattle.std.specs.Prelude.{◌≤◌, ◌<◌, ℕ, List, [], ◌∷◌, ◌++◌, length}
 use Rattle.pz_syntax.specs.Classes.{ModelTree}
 use Rattle.pz_rules.specs.Settings.{Setting}
 use Rattle.pz_rules.specs.Configurations.{Config}
@@ -23,6 +23,11 @@ pub record LieWithin (low high : ℕ) (points : List Point) : Type 0 where
 abbrev pub RunsLieWithin : Type 0
 RunsLieWithin = (setting : Setting) (start end : Config) (events : List Event) (standing : Standing)
     → Reaches setting start events end standing → LieWithin start.clock end.clock (points_of setting.model events)
+
+-- nor do they with one more point, at the clock that it leads to or at a later one
+abbrev pub RunsGoOn : Type 0
+RunsGoOn = (setting : Setting) (start end : Config) (events : List Event) (standing : Standing) (next : Point)
+    → Reaches setting start events end standing → end.clock ≤ next.clock → AreInOrder (points_of setting.model events ++ next ∷ [])
 
 -- the line of an event shows its point
 abbrev pub LinesShowPoints : Type 0

@@ -1,11 +1,14 @@
 // Laws of the points of runs, each the contract of a function that does nothing.
 
-ghost use Rattle.pz_watch_points.specs.Laws.{RunsAreInOrder, RunsLieWithin, LinesShowPoints};
+ghost use Rattle.pz_watch_points.specs.Laws.{RunsAreInOrder, RunsLieWithin, RunsGoOn, LinesShowPoints};
 
-/// In each run the clocks of its points never fall, which is what a watch is fed with.
+/// In each run the clocks of its points never fall, and lie between those of its first and its last
+/// configuration. So with the point of whatever happens next they do not fall either, which is what a
+/// watch asks for.
 pub fn runs_are_in_order()
     ensures order { RunsAreInOrder }
     ensures within { RunsLieWithin }
+    ensures onward { RunsGoOn }
 {}
 
 /// The line of each event shows its point: the clock and the words are those of the line.
