@@ -1,3 +1,4 @@
 pub mod Naming
 pub mod Order
 pub mod Shown
+pub mod Rows
