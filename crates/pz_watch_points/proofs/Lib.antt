@@ -1,4 +1,4 @@
-pub mod Naming
+pub mod OnePoint
 pub mod Order
 pub mod Shown
 pub mod Rows

@@ -1,9 +1,14 @@
 -- Laws of the points of runs.
-use Rattle.std.specs.Prelude.{◌≤◌, ◌<◌, ℕ, List, [], ◌∷◌, ◌++◌, length}
+use Rattle.std.specs.Prelude.{◌≡◌, ◌≤◌, ◌<◌, ◌^◌, ℕ, nat_eq, false, List, [], ◌∷◌, ◌++◌, length}
+use Rattle.std.specs.List.{list_any}
 use Rattle.pz_syntax.specs.Classes.{ModelTree}
+use Rattle.pz_bind_levels.specs.Places.{Address}
+use Rattle.pz_bind.specs.Names.{name_at}
+use Rattle.pz_rules.specs.declared.action.Action.{Action}
+use Rattle.pz_rules.specs.declared.action.Action.TheVariants.{Internal, Comm}
 use Rattle.pz_rules.specs.Settings.{Setting}
 use Rattle.pz_rules.specs.Configurations.{Config}
-use Rattle.pz_rules.specs.Runs.{Event, Standing, Reaches}
+use Rattle.pz_rules.specs.Runs.{Event, acted, passed, Standing, Reaches}
 use Rattle.pz_trace.specs.TraceText.{event_line}
 use Rattle.pz_watch.specs.Points.{Point, clock_at, AreInOrder}
 use Rattle.pz_watch_points.specs.EventPoints.{event_point, points_of}
@@ -32,3 +37,25 @@ RunsGoOn = (setting : Setting) (start end : Config) (events : List Event) (stand
 -- the line of an event shows its point
 abbrev pub LinesShowPoints : Type 0
 LinesShowPoints = (m : ModelTree) (e : Event) → Shows (event_line m e) (event_point m e)
+
+-- the byte does not stand in the text
+abbrev pub Lacks : ℕ → List ℕ → Type 0
+Lacks byte text = list_any (nat_eq byte) text ≡ false
+
+-- no blank stands in the name of an instance
+abbrev pub HasPlainNames : ModelTree → Type 0
+HasPlainNames m = (up : Address) (i : ℕ) → Lacks 32 (name_at m up i)
+
+-- no opening parenthesis, which stands behind the message, in that of a message
+abbrev pub HasPlainMessage : Action → Type 0
+HasPlainMessage (Internal at kind pos) = Unit {0}
+HasPlainMessage (Comm wire sender receiver message parcel) = Lacks 40 message
+
+abbrev pub HasPlainEvent : Event → Type 0
+HasPlainEvent (acted clock n k a) = HasPlainMessage a
+HasPlainEvent (passed clock d) = Unit {0}
+
+-- then events with one line have one point, whatever is sent along: a line says all that a watch sees
+abbrev pub OneLineOnePoint : Type 0
+OneLineOnePoint = (m : ModelTree) (d e : Event) → HasPlainNames m → HasPlainEvent d → HasPlainEvent e
+    → (event_point m d).clock < 2 ^ 128 → (event_point m e).clock < 2 ^ 128 → event_line m d ≡ event_line m e → event_point m d ≡ event_point m e

@@ -1,6 +1,6 @@
 // Laws of the points of runs, each the contract of a function that does nothing.
 
-ghost use Rattle.pz_watch_points.specs.Laws.{RunsAreInOrder, RunsLieWithin, RunsGoOn, LinesShowPoints};
+ghost use Rattle.pz_watch_points.specs.Laws.{RunsAreInOrder, RunsLieWithin, RunsGoOn, LinesShowPoints, OneLineOnePoint};
 
 /// In each run the clocks of its points never fall, and lie between those of its first and its last
 /// configuration. So with the point of whatever happens next they do not fall either, which is what a
@@ -11,7 +11,10 @@ pub fn runs_are_in_order()
     ensures onward { RunsGoOn }
 {}
 
-/// The line of each event shows its point: the clock and the words are those of the line.
+/// The line of each event shows its point: the clock and the words are those of the line. Where no name
+/// of an instance has a blank, and none of a message an opening parenthesis, events of a model with one
+/// line have one point.
 pub fn lines_show_points()
-    ensures { LinesShowPoints }
+    ensures shown { LinesShowPoints }
+    ensures one { OneLineOnePoint }
 {}

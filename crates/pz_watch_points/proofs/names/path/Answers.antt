@@ -1,4 +1,4 @@
-use Rattle.pz_watch_points.proofs.Naming.{path_is}
+use Rattle.pz_trace.proofs.Naming.{path_is}
 use Rattle.pz_watch_points.proofs.names.path.Goals as goal
 
 pub returns : goal.returns
