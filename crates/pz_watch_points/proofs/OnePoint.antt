@@ -1,5 +1,5 @@
 -- Events with one line have one point.
-use Rattle.std.proofs.Common.{◌≡◌, ◌<◌, ◌^◌, refl, sym, ap, subst, ◌∙◌, ℕ, suc, List, [], ◌∷◌, ◌++◌, Option, Some, None, arith, codes, append_assoc}
+use Rattle.std.proofs.Common.{◌≡◌, refl, sym, ap, subst, ◌∙◌, ℕ, suc, List, [], ◌∷◌, ◌++◌, Option, Some, None, arith, codes, append_assoc}
 use Rattle.std.specs.Prelude.{nat_eq, slice_get}
 use Rattle.std.specs.Option.{option_map_or}
 use Rattle.std.specs.Fmt.{decimal}
@@ -25,7 +25,7 @@ use Rattle.pz_trace.specs.Lines.{newline}
 use Rattle.pz_trace.specs.TraceText.{event_line}
 use Rattle.pz_trace.proofs.Digits.{head_is, tail_is, lacks_first, lacks_rest, cut_once, decimal_lacks, decimal_begins}
 use Rattle.pz_trace.proofs.Numerals.{decimal_once}
-use Rattle.pz_watch.specs.Points.{Happening, passing, internal, communication, Point}
+use Rattle.pz_watch.specs.Points.{Happening, internal, communication, Point}
 use Rattle.pz_watch_points.specs.EventPoints.{happening_of, event_point}
 use Rattle.pz_watch_points.specs.Laws.{Lacks, HasPlainNames, HasPlainMessage, HasPlainEvent, OneLineOnePoint}
 

@@ -3,16 +3,28 @@ use Rattle.std.specs.Prelude.{◌≡◌, ◌≤◌, ◌<◌, ◌^◌, ℕ, nat_e
 use Rattle.std.specs.List.{list_any}
 use Rattle.pz_syntax.specs.Classes.{ModelTree}
 use Rattle.pz_bind_levels.specs.Places.{Address}
+use Rattle.pz_bind.specs.declared.net.Net.{Net}
 use Rattle.pz_bind.specs.Names.{name_at}
+use Rattle.pz_bind.specs.devices.Nets.{IsNet}
 use Rattle.pz_rules.specs.declared.action.Action.{Action}
 use Rattle.pz_rules.specs.declared.action.Action.TheVariants.{Internal, Comm}
 use Rattle.pz_rules.specs.Settings.{Setting}
 use Rattle.pz_rules.specs.Configurations.{Config}
+use Rattle.pz_rules.specs.Offers.{Offers}
 use Rattle.pz_rules.specs.Runs.{Event, acted, passed, Standing, Reaches}
+use Rattle.pz_trace.specs.Named.{IsNamed}
 use Rattle.pz_trace.specs.TraceText.{event_line}
 use Rattle.pz_watch.specs.Points.{Point, clock_at, AreInOrder}
 use Rattle.pz_watch_points.specs.EventPoints.{event_point, points_of}
 use Rattle.pz_watch_points.specs.Shown.{Shows}
+use Rattle.pz_watch_points.specs.Present.{HasProcesses}
+
+-- An action that its line names has its processes there, and so has each that is offered.
+abbrev pub NamedHaveProcesses : Type 0
+NamedHaveProcesses = (net : Net) (a : Action) → IsNamed net a → HasProcesses net a
+
+abbrev pub OffersHaveProcesses : Type 0
+OffersHaveProcesses = (setting : Setting) (c : Config) (net : Net) (a : Action) → ∥ IsNet setting.model net ∥₁ → Offers setting c a → HasProcesses net a
 
 -- the clocks of the points of a run never fall
 abbrev pub RunsAreInOrder : Type 0

@@ -1,6 +1,16 @@
-// Laws of the points of runs, each the contract of a function that does nothing.
+// Laws of the points of runs, each the contract of a function that does nothing but call laws of the
+// crates below.
 
-ghost use Rattle.pz_watch_points.specs.Laws.{RunsAreInOrder, RunsLieWithin, RunsGoOn, LinesShowPoints, OneLineOnePoint};
+ghost use Rattle.pz_watch_points.specs.Laws.{NamedHaveProcesses, OffersHaveProcesses, RunsAreInOrder, RunsLieWithin, RunsGoOn, LinesShowPoints, OneLineOnePoint};
+
+/// The processes of an action that its line names are those of the net, and so are those of each that is
+/// offered.
+pub fn processes_are_there()
+    ensures named { NamedHaveProcesses }
+    ensures offers { OffersHaveProcesses }
+{
+    pz_trace::laws::what_happens_is_named();
+}
 
 /// In each run the clocks of its points never fall, and lie between those of its first and its last
 /// configuration. So with the point of whatever happens next they do not fall either, which is what a

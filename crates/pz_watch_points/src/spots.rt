@@ -3,9 +3,9 @@
 ghost use Rattle.std.specs.Prelude.{◌≡◌};
 ghost use Rattle.pz_syntax.specs.Classes.{ModelTree};
 ghost use Rattle.pz_bind.specs.devices.Nets.{IsNet};
-ghost use Rattle.pz_trace.specs.Named.{IsNamed};
 ghost use Rattle.pz_watch.specs.SpotView.{happening, point_of};
 ghost use Rattle.pz_watch_points.specs.EventPoints.{happening_of, action_point, passing_point};
+ghost use Rattle.pz_watch_points.specs.Present.{HasProcesses};
 
 use crate::names::{kind_word, path};
 use pz_bind::Net;
@@ -15,9 +15,9 @@ use pz_watch::{Event, Spot};
 /// The point of an action that is chosen at a clock, in clock units. It borrows its words, from the
 /// net and from the action.
 ///
-/// The action names processes, and a wire, of the net, as each that is offered does.
+/// The processes of the action are those of the net, as those of each that is offered are.
 pub fn spot<'a>(net: &'a Net, clock: u128, action: &'a Action) -> Spot<'a>
-    requires { IsNamed net.now action.now }
+    requires { HasProcesses net.now action.now }
     ensures { (m : ModelTree) → ∥ IsNet m net.now ∥₁ →
         point_of result ≡ action_point m clock action.now }
 {
@@ -39,7 +39,7 @@ pub fn passing(clock: u128) -> Spot<'static>
 
 // What an action is, in the words of its line.
 fn event<'a>(net: &'a Net, action: &'a Action) -> Event<'a>
-    requires { IsNamed net.now action.now }
+    requires { HasProcesses net.now action.now }
     ensures { (m : ModelTree) → ∥ IsNet m net.now ∥₁ → happening result ≡ happening_of m action.now }
 {
     match action {
