@@ -1,0 +1,5 @@
+pub mod OnePoint
+pub mod Present
+pub mod Order
+pub mod Shown
+pub mod Rows

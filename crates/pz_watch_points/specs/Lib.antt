@@ -1,0 +1,4 @@
+pub mod EventPoints
+pub mod Shown
+pub mod Present
+pub mod Laws
