@@ -14,7 +14,7 @@ use Rattle.pz_classes_code.specs.declared.slot.Slot.{Slot}
 use Rattle.pz_classes.specs.declared.method_id.Counts.TheVariants.{Process as process_counts}
 use Rattle.pz_classes.specs.Bodies.{process_body}
 use Rattle.pz_classes.specs.Methods.{Signature}
-use Rattle.pz_classes_beginnings.specs.Beginning.{begun_all, plain_calls, all_plain_calls, plain_calls_of_part, plain_calls_of_each, statements_in_part, statements_in_each}
+use Rattle.pz_classes_beginnings.specs.Beginning.{begun_all, plain_calls, all_plain_calls, plain_calls_of_part, plain_calls_of_each, statements_in_all, statements_in_part, statements_in_each}
 use Rattle.pz_classes_openings.specs.Openings.{of_called, opened_to}
 use Rattle.pz_classes_openings.specs.OpeningRules.{Opens}
 use Rattle.pz_state.specs.States.{StateView}
@@ -26,7 +26,7 @@ use Rattle.pz_rules.specs.Methods.{IsMethod}
 use Rattle.pz_rules.specs.Openable.{IsProcessClass, alone, inner, part_of, branches_of}
 use Rattle.pz_rules.specs.Opening.{steps_opened, called_body, depth_of, enter_in}
 use Rattle.pz_rules.specs.devices.Pending.{pending}
-use Rattle.pz_rules.specs.devices.Opened.{delays_in_all, delays_in_part, delays_in_each, home_in, IsClosed, Bounds}
+use Rattle.pz_rules.specs.devices.Opened.{delays_in_all, delays_in_part, delays_in_each, spread_of, home_in, IsClosed, Bounds}
 use Rattle.pz_rules.specs.devices.Room.{most_delays, HasFewDelays, OpensFew}
 use Rattle.pz_rules.proofs.Begun.{begins_with_call}
 use Rattle.pz_rules.proofs.Opens.{opened_all_holds, stand_few, enter_few}
@@ -64,9 +64,10 @@ few_closed = record {
 
 -- Statements out of which few others open
 
-module _ (m : ModelTree) (c : ℕ) where
+module _ (m : ModelTree) (c most : ℕ) where
+  -- no more than so many
   abbrev Little : Steps → Type 0
-  Little = OpensFew Two m c
+  Little ts = (depth : ℕ) → spread_of m c depth ts ≤ most
 
   -- what the plain calls of these names open
   abbrev calls : ℕ → List Id → ℕ
@@ -78,14 +79,14 @@ module _ (m : ModelTree) (c : ℕ) where
   alone_is : (depth : ℕ) (t : Step) → calls depth (plain_calls t ++ []) ≡ calls depth (plain_calls t)
   alone_is depth t = omega (arith, both depth (plain_calls t) [])
 
-  little_each : (bs : Branches Slot ClassId ℕ) → ((depth : ℕ) → statements_in_each bs + calls depth (plain_calls_of_each bs) ≤ most_delays) → Each Little (branches_of bs)
+  little_each : (bs : Branches Slot ClassId ℕ) → ((depth : ℕ) → statements_in_each bs + calls depth (plain_calls_of_each bs) ≤ most) → Each Little (branches_of bs)
   little_each no_branches h = tt
   little_each (branch ts bs) h = (
     λ depth. omega (arith, h depth, both depth (all_plain_calls ts) (plain_calls_of_each bs)),
     little_each bs (λ depth. omega (arith, h depth, both depth (all_plain_calls ts) (plain_calls_of_each bs))),
   )
 
-  little_part : (other : StatementPart Slot ClassId ℕ) → ((depth : ℕ) → statements_in_part other + calls depth (plain_calls_of_part other) ≤ most_delays) → Each Little (part_of other)
+  little_part : (other : StatementPart Slot ClassId ℕ) → ((depth : ℕ) → statements_in_part other + calls depth (plain_calls_of_part other) ≤ most) → Each Little (part_of other)
   little_part not_written h = tt
   little_part (otherwise ts) h = (h, tt)
 
@@ -109,34 +110,38 @@ module _ (m : ModelTree) (c : ℕ) where
   )
   little_within t h = tt
 
-  little_closed : IsClosed Little
+  pub little_closed : IsClosed Little
   little_closed = record {
     one = λ t ts h depth. omega (arith, h depth, alone_is depth t, both depth (plain_calls t) (all_plain_calls ts));
     behind = λ t ts h depth. omega (arith, h depth, both depth (plain_calls t) (all_plain_calls ts));
     within = little_within;
   }
 
-  module _ (process : IsProcessClass m c) (opens : Opens m) where
-    -- the bodies of the class
-    little_body : (name : List ℕ) (inputs outputs locals : ℕ) (body : Steps) → IsMethod m c name inputs outputs locals body → Little body
-    little_body name inputs outputs locals body is depth =
-        let s : Signature = record { name = name; counts = process_counts inputs outputs } in
-        omega (arith, body_small m c process opens s body (body_of m c s locals body is.is_body) depth)
+module _ (m : ModelTree) (c : ℕ) (process : IsProcessClass m c) (opens : Opens m) where
+  -- the bodies of the class
+  little_body : (name : List ℕ) (inputs outputs locals : ℕ) (body : Steps) → IsMethod m c name inputs outputs locals body → OpensFew Two m c body
+  little_body name inputs outputs locals body is depth =
+      let s : Signature = record { name = name; counts = process_counts inputs outputs } in
+      omega (arith, body_small m c process opens s body (body_of m c s locals body is.is_body) depth)
 
-    -- a call alone
-    little_call : (at : Pos) (method : Id) (args : Codes) → Little (alone (call at method args []))
-    little_call at method none depth = omega (arith, call_small m c process opens depth method, sum_by-cons (call_opens m c depth) method [])
-    little_call at method (more e es) depth = omega arith
+  -- a call alone
+  little_call : (at : Pos) (method : Id) (args : Codes) → OpensFew Two m c (alone (call at method args []))
+  little_call at method none depth = omega (arith, call_small m c process opens depth method, sum_by-cons (call_opens m c depth) method [])
+  little_call at method (more e es) depth = omega arith
 
 module _ (h : Home) where
   -- a body opens as many as a call of its method
-  deeper : (depth : ℕ) (method : Id) (locals : ℕ) (body : Steps) → called_body h method ≡ Some (process_body locals body)
-      → delays_in_all body + sum_by (call_opens h.model h.class depth) (begun_all body) ≤ call_opens h.model h.class (suc depth) method
-  deeper depth method locals body is =
+  pub body_opens : (depth : ℕ) (method : Id) (locals : ℕ) (body : Steps) → called_body h method ≡ Some (process_body locals body)
+      → statements_in_all body + sum_by (call_opens h.model h.class depth) (begun_all body) ≡ call_opens h.model h.class (suc depth) method
+  body_opens depth method locals body is =
       let s : Signature = record { name = method.name; counts = process_counts 0 0 } in
       let b = body_of h.model h.class s locals body is in
       let same : call_opens h.model h.class (suc depth) method ≡ opened_to h.model h.class (suc depth) b.number = ap (of_called (opened_to h.model h.class (suc depth))) b.found in
-      omega (arith, all_delays_less body, opened_is h.model h.class s body b depth, same)
+      omega (arith, opened_is h.model h.class s body b depth, same)
+
+  deeper : (depth : ℕ) (method : Id) (locals : ℕ) (body : Steps) → called_body h method ≡ Some (process_body locals body)
+      → delays_in_all body + sum_by (call_opens h.model h.class depth) (begun_all body) ≤ call_opens h.model h.class (suc depth) method
+  deeper depth method locals body is = omega (arith, all_delays_less body, body_opens depth method locals body is)
 
   little_opens : (ts : Steps) (s : StateView) → OpensFew Two h.model h.class ts → pending (steps_opened (enter_in Two h) ts s).term ≤ most_delays
   little_opens ts s few =
@@ -148,7 +153,7 @@ module _ (h : Home) where
 module _ (m : ModelTree) (c : ℕ) (marks : HasFewMarks m) (process : IsProcessClass m c) where
   closed_in : (e : Edition) → IsClosed (OpensFew e m c)
   closed_in One = few_closed
-  closed_in Two = little_closed m c
+  closed_in Two = little_closed m c most_delays
 
   bodies_in : (e : Edition) → (e ≡ Two → Opens m) → (name : List ℕ) (inputs outputs locals : ℕ) (body : Steps) → IsMethod m c name inputs outputs locals body → OpensFew e m c body
   bodies_in One opens = bodies_few m marks c

@@ -41,6 +41,7 @@ mod StatementCounts
 mod BodyNumbers
 mod Sizes
 mod FewOpen
+mod SmallOpenings
 mod Crowd
 mod Room
 mod Existing

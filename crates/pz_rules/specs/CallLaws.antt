@@ -1,5 +1,5 @@
 -- Laws of plain calls, those without inputs and without results.
-use Rattle.std.specs.Prelude.{◌≡◌, ℕ, [], Some}
+use Rattle.std.specs.Prelude.{◌≡◌, ◌≤◌, ◌+◌, ℕ, List, [], length, Some}
 use Rattle.pz_syntax.specs.declared.tokens.Pos.{Pos}
 use Rattle.pz_syntax.specs.declared.names.Id.{Id}
 use Rattle.pz_syntax.specs.Expressions.{none}
@@ -10,13 +10,15 @@ use Rattle.pz_classes.specs.declared.method_id.Counts.TheVariants.{Process as pr
 use Rattle.pz_classes.specs.Bodies.{process_body}
 use Rattle.pz_classes.specs.MethodBodies.{HasBody}
 use Rattle.pz_classes.specs.Soundness.{IsSound}
+use Rattle.pz_classes.specs.Starts.{init}
 use Rattle.pz_classes_openings.specs.Openings.{HasMethod}
-use Rattle.pz_classes_openings.specs.OpeningRules.{BreaksC23}
+use Rattle.pz_classes_openings.specs.OpeningRules.{BreaksC23, Opens}
 use Rattle.pz_state.specs.States.{StateView}
 use Rattle.pz_rules.specs.declared.limits.Edition.TheVariants.{One, Two}
 use Rattle.pz_rules.specs.Terms.{Step, Steps, leaf}
 use Rattle.pz_rules.specs.Settings.{left_by, Home}
-use Rattle.pz_rules.specs.Openable.{IsProcessClass}
+use Rattle.pz_rules.specs.Openable.{IsProcessClass, IsPartOf}
+use Rattle.pz_rules.specs.Methods.{IsMethod}
 use Rattle.pz_rules.specs.Opening.{in_frame, called_body, depth_of, opened, opened_all}
 use Rattle.pz_rules.specs.Shallow.{Shallow}
 
@@ -58,3 +60,15 @@ abbrev pub CallsOfNoneStand : Type 0
 CallsOfNoneStand = (h : Home) (pos : Pos) (method : Id) (s : StateView)
     → ((locals : ℕ) (body : Steps) → called_body h method ≡ Some (process_body locals body) → ⊥)
     → opened h (plain_call pos method) s ≡ left_by s (leaf (plain_call pos method))
+
+-- In edition Two, in a model that violates neither C23 nor C24, what opens out of a body of a method that a
+-- process class has, or out of a part of it, brings at most 1,000,000 frames.
+abbrev pub BodiesBringFewFrames : Type 0
+BodiesBringFewFrames = (h : Home) (name : List ℕ) (inputs outputs locals : ℕ) (body part : Steps) (s : StateView) → h.edition ≡ Two → IsProcessClass h.model h.class → Opens h.model
+    → IsMethod h.model h.class name inputs outputs locals body → IsPartOf body part
+    → length (opened_all h part s).state.frames ≤ length s.frames + 1000000
+
+-- the call with which a process starts brings its own frame, and at most 1,000,000 more
+abbrev pub StartsBringFewFrames : Type 0
+StartsBringFewFrames = (h : Home) (first : Step) (s : StateView) → h.edition ≡ Two → IsProcessClass h.model h.class → Opens h.model → init h.model h.class ≡ Some first
+    → length (opened h first s).state.frames ≤ length s.frames + 1000001

@@ -1,7 +1,7 @@
 // Laws of execution, each the contract of a function that does nothing.
 
 ghost use Rattle.pz_rules.specs.Laws.{OneListOfOffers, EveryListOfOffers, WiresAreKnown, OneMoment, EveryMoment, MomentsCountOffers, TimeWaits, LeastPasses, TimeIsPositive, EveryPassing, PassingTakes, BringsToZero, OneNext, OnePassing, StaysWhole, StartFits, StaysFit, EveryNext, OneChosenRun, EveryChosenRun, ChosenRunsAreRuns, WhatCanActs, WhatSendsIsASend, WhatReceivesIsAReceive, NumbersAreFree, OneNumberIsLeast, LowStays, LowPasses, LowIsNotStopped, OneStart, EveryStart, ProcessesHaveClasses};
-ghost use Rattle.pz_rules.specs.CallLaws.{MethodsAreShallow, CallsUnfold, CallsStand, CallsOfNoneStand};
+ghost use Rattle.pz_rules.specs.CallLaws.{MethodsAreShallow, CallsUnfold, CallsStand, CallsOfNoneStand, BodiesBringFewFrames, StartsBringFewFrames};
 ghost use Rattle.pz_rules.specs.Clocks.{ClocksStayLow};
 ghost use Rattle.pz_rules.specs.devices.Room.{StartsHaveRoom, ActionsLeaveRoom, PassingsLeaveRoom, RoomIsLow, LessRoom};
 ghost use Rattle.pz_rules.specs.devices.Computed.{TestsAreComputed, TimesAreComputed, PartsAreComputed, PassingIsComputed, OnePassingIsComputed};
@@ -184,6 +184,14 @@ pub fn calls_unfold()
 {
     pz_classes::laws::sound_bodies_fit();
 }
+
+/// In edition Two, in a model whose openings end and are not too large, what opens out of a body of a
+/// process class, or out of a part of it, brings at most 1,000,000 frames; the call with which a process
+/// starts brings its own and at most 1,000,000 more.
+pub fn openings_are_small()
+    ensures bodies { BodiesBringFewFrames }
+    ensures starts { StartsBringFewFrames }
+{}
 
 /// But for the numbers of frames, what statements open as is computed without a state.
 pub fn openings_have_outlines()
