@@ -1,17 +1,16 @@
 -- One level down in the nodes.
-use Rattle.std.proofs.Common.{◌≡◌, ◌+◌, ◌<◌, ℕ, zero, suc, false, List, Option, Some, None, refl, ap, sym, ◌∙◌, subst, arith}
+use Rattle.std.proofs.Common.{◌≡◌, ◌+◌, ◌<◌, ℕ, zero, suc, Option, Some, None, refl, ap, sym, ◌∙◌, subst, arith}
 use Rattle.std.specs.Prelude.{slice_index_or}
 use Rattle.pz_nodes_shapes.specs.declared.node.Node.{Node}
-use Rattle.pz_nodes_shapes.specs.Rose.{node, none, gone, more, Map, root, roots, pick, width, Stands, StandAll}
+use Rattle.pz_nodes_shapes.specs.Rose.{node, none, gone, more, Map, root, roots, width, Stands, StandAll}
 use Rattle.pz_rules.specs.Terms.{Term, Terms, child, first_or, term_at, frame_in}
 use Rattle.pz_rules.specs.Terms as term
-use Rattle.pz_clock.specs.Shifts.{ShiftView, local}
 use Rattle.pz_tree_standing.specs.Heads.{Head, What, leaf, wait, sequence, parallel, select, guarded, frame, abort, idle, handling, shifted, Shape, Shapes, inner_clock, inner_frame, formed}
-use Rattle.pz_tree_standing.specs.Standing.{term_of, terms_of, term_of_option, Fits, FitAll, FitsOption}
+use Rattle.pz_tree_standing.specs.Standing.{term_of, terms_of, Fits, FitAll}
 use Rattle.pz_tree_standing.specs.Whole.{IsNoShift, HasParts, Whole, AreWhole}
 use Rattle.pz_tree_standing.specs.Meaning.{StandsFor}
-use Rattle.pz_tree_seeking.specs.Seeking.{StandsUnder, IsBare, IsBareUnder}
-use Rattle.pz_tree_seeking.specs.devices.Levels.{PastRule, ChildRule}
+use Rattle.pz_tree_seeking.specs.Seeking.{StandsUnder, IsBare}
+use Rattle.pz_tree_seeking.specs.devices.Levels.{ChildRule}
 
 -- ---------------------------------------------------------- children
 
@@ -98,49 +97,19 @@ level : (m : Map What) (k c : ℕ) (t : Term) (n : Node What) → m k ≡ Some n
 level m k c t n e u = level_of m k c t n e u.shape u.stands u.under u.whole u.fits u.means
 
 -- no shift node on top: its children are those of the term
-pub down_one : (m : Map What) (k f c j : ℕ) (n : Node What) → m k ≡ Some n → ChildRule m (Some k) f c j (slice_index_or n.kids j None) (inner_frame n.what.head f) (inner_clock n.what.head j c)
+down_one : (m : Map What) (k f c j : ℕ) (n : Node What) → m k ≡ Some n → ChildRule m (Some k) f c j (slice_index_or n.kids j None) (inner_frame n.what.head f) (inner_clock n.what.head j c)
 down_one m k f c j n e t u bare =
     let l = level m k c t n e u in
     let h = n.what.head in
     let no : IsNoShift h = subst IsBare e bare in
     let a : term_at (terms_of h c 0 l.below) j ≡ child t j = sym (ap (λ z. child z j) l.means ∙ form_child h c l.below j l.parts no) in
     let b : StandsUnder m (slice_index_or (roots l.below) j None) (inner_clock h j c) (term_at (terms_of h c 0 l.below) j) =
-        subst (λ z. StandsUnder m (slice_index_or (roots l.below) j None) (inner_clock h z c) (term_at (terms_of h c 0 l.below) j)) (let q : 0 + j ≡ j = omega arith in q) (kid_stands m h c 0 l.below j l.stand l.whole l.fit) in
-    (subst (λ z. StandsUnder m (slice_index_or z j None) (inner_clock h j c) (child t j)) (sym l.keys) (subst (StandsUnder m (slice_index_or (roots l.below) j None) (inner_clock h j c)) a b),
-    form_frame h c (terms_of h c 0 l.below) f no ∙ ap (λ z. frame_in z f) (sym l.means))
+    subst (λ z. StandsUnder m (slice_index_or (roots l.below) j None) (inner_clock h z c) (term_at (terms_of h c 0 l.below) j)) (let q : 0 + j ≡ j = omega arith in q) (kid_stands m h c 0 l.below j l.stand l.whole l.fit) in (
+      subst (λ z. StandsUnder m (slice_index_or z j None) (inner_clock h j c) (child t j)) (sym l.keys) (subst (StandsUnder m (slice_index_or (roots l.below) j None) (inner_clock h j c)) a b),
+      form_frame h c (terms_of h c 0 l.below) f no ∙ ap (λ z. frame_in z f) (sym l.means),
+    )
 
--- there is no part: it has no children
-pub none_below : (m : Map What) (f c j : ℕ) → ChildRule m None f c j None f c
-none_below m f c j t u bare = (ap (λ z. child z j) u, ap (λ z. frame_in z f) (sym u))
-
--- nothing is under the key
-pub nothing_there : (m : Map What) (k f c j : ℕ) → m k ≡ None → ChildRule m (Some k) f c j (Some k) f c
-nothing_there m k f c j e t u bare = absurd (no_node m k u.shape u.stands u.under e)
-  where
-    no_node : (m : Map What) (k : ℕ) (s : Shape) → Stands m s → root s ≡ k → m k ≡ None → ⊥
-    no_node m k (node i x ss) st un e = let f = st.0 in let g = ap m un in cc
-
-one_inside : (m : Map What) (c : ℕ) (s : ShiftView) (keys : List (Option ℕ)) (t : Term) (ss : Shapes) → keys ≡ roots ss → StandAll m ss → HasParts (shifted s) ss → AreWhole ss
-    → FitAll (shifted s) c 0 ss → t ≡ formed (shifted s) c (terms_of (shifted s) c 0 ss)
-    → StandsUnder m (slice_index_or keys 0 None) (local s c) t × IsBareUnder m (slice_index_or keys 0 None)
-one_inside m c s keys t none e st p wh fi me = absurd p
-one_inside m c s keys t (gone ss) e st p wh fi me = absurd p
-one_inside m c s keys t (more (node j y ts) none) e st p wh fi me =
-    subst (λ z. StandsUnder m (slice_index_or z 0 None) (local s c) t × IsBareUnder m (slice_index_or z 0 None)) (sym e)
-    (record { shape = node j y ts; stands = st.1; under = refl; whole = wh.0; fits = fi.0; means = me }, subst IsBare (sym st.1.0) p)
-one_inside m c s keys t (more (node j y ts) (gone ss)) e st p wh fi me = absurd p
-one_inside m c s keys t (more (node j y ts) (more r ss)) e st p wh fi me = absurd p
-
--- a shift node stands for what is below it, where the clock shows what it shows there
-pub past_one : (m : Map What) (k c : ℕ) (n : Node What) (s : ShiftView) → m k ≡ Some n → n.what.head ≡ shifted s → PastRule m (Some k) c (slice_index_or n.kids 0 None) (local s c)
-past_one m k c n s e h t u =
-    let l = level m k c t n e u in
-    one_inside m c s n.kids t l.below l.keys l.stand (subst (λ z. HasParts z l.below) h l.parts) l.whole (subst (λ z. FitAll z c 0 l.below) h l.fit)
-    (l.means ∙ ap (λ z. formed z c (terms_of z c 0 l.below)) h)
-
-pub no_shift : (m : Map What) (k c : ℕ) (n : Node What) → m k ≡ Some n → IsNoShift n.what.head → PastRule m (Some k) c (Some k) c
-no_shift m k c n e p t u = (u, subst IsBare (sym e) p)
-
+-- and so is what the code finds below it
 pub kid_found : (m : Map What) (o : Option ℕ) (k f c j : ℕ) (n : Node What) (below : Option ℕ) (inner clock : ℕ) → o ≡ Some k → m k ≡ Some n → below ≡ slice_index_or n.kids j None
     → inner ≡ inner_frame n.what.head f → clock ≡ inner_clock n.what.head j c → ChildRule m o f c j below inner clock
 kid_found m o k f c j n below inner clock is e b i l =

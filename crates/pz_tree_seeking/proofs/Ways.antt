@@ -1,15 +1,14 @@
 -- The way down a place, level by level.
-use Rattle.std.proofs.Common.{◌≡◌, ◌<◌, ◌+◌, ℕ, Option, List, [], ◌∷◌, length, drop, refl, ap, sym, ◌∙◌, subst, arith}
+use Rattle.std.proofs.Common.{◌≡◌, ◌<◌, ◌+◌, ℕ, Option, [], ◌∷◌, length, drop, refl, ap, sym, ◌∙◌, subst, arith}
 use Rattle.std.proofs.lemmas.List.{drop_all}
 use Rattle.pz_nodes_shapes.specs.Rose.{Map}
 use Rattle.pz_offer.specs.PlaceOrder.{Place}
 use Rattle.pz_rules.specs.Active as active
 use Rattle.pz_rules.specs.Active.{Active}
 use Rattle.pz_rules.specs.Laws.{part_of}
-use Rattle.pz_rules.specs.Settings.{Context}
 use Rattle.pz_rules.specs.Terms.{Term, child, frame_in}
 use Rattle.pz_tree_standing.specs.Heads.{What}
-use Rattle.pz_tree_seeking.specs.Seeking.{frame_at, StandsUnder, IsBareUnder, IsFound, SeekRule, ActiveAtPlace}
+use Rattle.pz_tree_seeking.specs.Seeking.{frame_at, StandsUnder, IsBareUnder, SeekRule, ActiveAtPlace}
 use Rattle.pz_tree_seeking.specs.devices.Levels.{PastRule, ChildRule}
 
 -- from here, the rest of a place leads where the place leads

@@ -100,12 +100,7 @@ fn past_shift<L: Ledger>(nodes: &Nodes<Node>, spot: Spot, steps: &mut Steps<L>) 
 }
 
 // The child of this number, of a part whose topmost node is no shift node.
-fn child_at<L: Ledger>(
-    nodes: &Nodes<Node>,
-    spot: Spot,
-    number: usize,
-    steps: &mut Steps<L>,
-) -> Spot
+fn child_at<L: Ledger>(nodes: &Nodes<Node>, spot: Spot, number: usize, steps: &mut Steps<L>) -> Spot
     ensures child { ChildRule (seen what_view (find nodes.now)) spot.key spot.frame.0 spot.clock
         number result.key result.frame.0 result.clock }
     ensures ticks { steps.new ≤ steps.old + 1 }
