@@ -2,7 +2,8 @@
 use Rattle.std.specs.Prelude.{◌≡◌, ℕ, [], ◌∷◌, Option, Some, None}
 use Rattle.pz_offer.specs.PlaceOrder.{Place}
 use Rattle.pz_nodes_shapes.specs.declared.node.Node.{Node}
-use Rattle.pz_nodes_shapes.specs.Rose.{Map}
+use Rattle.pz_nodes_shapes.specs.Rose.{Map, root, Stands}
+use Rattle.pz_nodes_shapes.specs.Seen.{seen}
 use Rattle.pz_rules.specs.Active.{Active}
 use Rattle.pz_rules.specs.Laws.{part_of}
 use Rattle.pz_rules.specs.Settings.{Context}
@@ -10,6 +11,9 @@ use Rattle.pz_rules.specs.Terms.{Term, done, child, frame_in}
 use Rattle.pz_tree_standing.specs.Heads.{What}
 use Rattle.pz_tree_standing.specs.Meaning.{StandsFor}
 use Rattle.pz_tree_standing.specs.Whole.{IsNoShift}
+use Rattle.pz_tree_nodes.specs.declared.node.What as lying
+use Rattle.pz_tree_nodes.specs.View.{Plant, what_view, term_in}
+use Rattle.pz_tree_nodes.specs.Tended.{Tended}
 
 -- the frame of the part at a place, of a term that stands in frame f
 abbrev pub frame_at : ℕ → Term → Place → ℕ
@@ -45,3 +49,7 @@ SeekRule m root f c place key frame clock = (t : Term) → StandsUnder m root c 
 abbrev pub ActiveAtPlace : Type 0
 ActiveAtPlace = (a : Context) (f : ℕ) (t : Term) (place : Place) (g : ℕ) (part : Term) → Active a f t place g part
     → (part ≡ part_of t place) × (g ≡ frame_at f t place)
+
+-- tended nodes, as they lie in a map, stand for their term
+abbrev pub TendedStand : Type 0
+TendedStand = (m : Map lying.What) (f c : ℕ) (p : Plant) → Stands m p → Tended f c p → StandsUnder (seen what_view m) (Some (root p)) c (term_in c p)
