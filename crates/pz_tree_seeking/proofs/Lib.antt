@@ -1,0 +1,4 @@
+mod Levels
+mod Ways
+mod Plants
+mod Rows
