@@ -20,7 +20,7 @@ use Rattle.pz_match.specs.Offers.{receiver, receivers}
 use Rattle.pz_match.specs.Judging.{Verdicts}
 use Rattle.pz_match.specs.devices.Kept.{Kept, kept, asks_in}
 use Rattle.pz_match.specs.devices.Tallies.{GroupsView, HasKey}
-use Rattle.pz_match.specs.devices.Asking.{asked, asked_in, row_of}
+use Rattle.pz_match.specs.devices.Asking.{asked, asked_in}
 use Rattle.pz_match.specs.devices.Holding.{ReceiveKeyed}
 use Rattle.pz_match.specs.devices.Seeking.{past, OnlyAt}
 use Rattle.pz_match.specs.devices.Updating.{Replaced, renewed_in, other_offers, silent}
@@ -29,6 +29,7 @@ use Rattle.pz_match.proofs.Asked.{rows_next, rows_skip}
 use Rattle.pz_match.proofs.Couples.{item_kept}
 use Rattle.pz_match.proofs.Fitting.{one_key}
 use Rattle.pz_match.proofs.Reaching.{between, follows_past, past_next}
+use Rattle.pz_match.proofs.Renewals.{none_asked}
 use Rattle.pz_match.proofs.Replacing.{new_here, new_there, new_length}
 use Rattle.pz_match.proofs.Updated.{all_seen}
 
@@ -101,14 +102,6 @@ module _ (f : Kept → List Row) where
         sym (append-nil rows) ∙ (ap (λ (zs : List Row). rows ++ zs) (sym nil) ∙ before)
 
 -- Who asks in no group says nothing
-
-none_asked : (says : Verdicts) (s : Sender) (g p : ℕ) (rs : List Receiving) → count_by (asks_in g) rs ≡ 0 → asked says s g p rs ≡ []
-none_asked says s g p [] none = refl
-none_asked says s g p (r ∷ rs) none = by (asks_in g r) (sym (sum_by-cons (λ (x : Receiving). if asks_in g x then 1 else 0) r rs) ∙ none) (none_asked says s g p rs)
-  where
-    by : (b : Bool) → (if b then 1 else 0) + count_by (asks_in g) rs ≡ 0 → (count_by (asks_in g) rs ≡ 0 → asked says s g p rs ≡ []) → (if b then row_of says s p r ∷ [] else []) ++ asked says s g p rs ≡ []
-    by true nil later = absurd (omega (arith, nil))
-    by false nil later = later (omega (arith, nil))
 
 pub only_these : (says : Verdicts) (s : Sender) (g : ℕ) (us : List ℕ) (xs : List Offers) → OnlyAt us (map kept xs) (λ e. count_by (asks_in g) e.receives)
     → (k : ℕ) (e : Offers) → k < length xs → e ≡ get_or xs k e → (Contains us k → ⊥) → asked_in says s g (kept e) ≡ []

@@ -26,3 +26,4 @@ pub mod Questions
 pub mod Reaching
 pub mod Noting
 pub mod Askers
+pub mod Changing

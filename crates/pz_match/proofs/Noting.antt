@@ -14,13 +14,14 @@ use Rattle.pz_match.specs.declared.offers.Sender.{Sender}
 use Rattle.pz_match.specs.declared.offers.Receiver.{Receiver}
 use Rattle.pz_match.specs.declared.kept.Sending.{Sending}
 use Rattle.pz_match.specs.declared.kept.Receiving.{Receiving}
+use Rattle.pz_match.specs.declared.users.Users.{Users}
 use Rattle.pz_match.specs.Offers.{sender, receiver, senders, receivers}
 use Rattle.pz_match.specs.Judging.{Verdicts}
 use Rattle.pz_match.specs.devices.Kept.{Kept}
 use Rattle.pz_match.specs.devices.Tallies.{GroupsView}
 use Rattle.pz_match.specs.devices.Asking.{renewed}
 use Rattle.pz_match.specs.devices.Updating.{Replaced, renewed_in, other_offers, silent}
-use Rattle.pz_match.specs.devices.Users.{HaveUsers, KeepsUsers, SendsNoted, ReceivesNoted}
+use Rattle.pz_match.specs.devices.Users.{HaveUsers, KeepsUsers, Noted, SendsNoted, ReceivesNoted}
 use Rattle.pz_match.proofs.Replacing.{new_here, new_there, new_length}
 use Rattle.pz_match.proofs.Updated.{all_seen}
 
@@ -45,6 +46,13 @@ module _ {X : Type 0} (wire : X → Option ℕ) (process : ℕ) where
 
 pub keeps_same : (a : List (List ℕ)) → KeepsUsers a a
 keeps_same a k n there = there
+
+-- before an update and after it
+pub keeps_users : (before after : Users) (all : List Kept) → KeepsUsers before.senders after.senders → KeepsUsers before.receivers after.receivers → HaveUsers before all → HaveUsers after all
+keeps_users before after all senders receivers have w = record {
+  sending = λ k e is. All-weaker (λ (s : Sending). s.sender.wire ≡ w → Contains (list_at before.senders w) k) (λ (s : Sending). s.sender.wire ≡ w → Contains (list_at after.senders w) k) (λ s ok on. senders w k (ok on)) e.sends ((have w).sending k e is);
+  receiving = λ k e is. All-weaker (λ (q : Receiving). q.receiver.wire ≡ w → Contains (list_at before.receivers w) k) (λ (q : Receiving). q.receiver.wire ≡ w → Contains (list_at after.receivers w) k) (λ q ok on. receivers w k (ok on)) e.receives ((have w).receiving k e is);
+}
 
 pub keeps_next : (a b c : List (List ℕ)) → KeepsUsers a b → KeepsUsers b c → KeepsUsers a c
 keeps_next a b c f g k n there = g k n (f k n there)
@@ -71,7 +79,7 @@ module _ (users : List (List ℕ)) (p w : ℕ) where
       by (Some v) here later = All-cons (λ (x : Receiver). x.wire ≡ w → Contains (list_at users w) p) (receiver p r v) (receivers p rs) (λ same. subst (λ n. Contains (list_at users n) p) same here) later
 
 module _ (says : Verdicts) (p : ℕ) (sends : List SendOffer) (receives : List ReceiveOffer) (g0 g1 : GroupsView) (all new : List Kept) (r : Replaced says p sends receives g0 all g1 new) (below : p < length all)
-    (before after : List (List ℕ)) (used : HaveUsers before all) (keeps : KeepsUsers before after) (sent : SendsNoted after p sends) (heard : ReceivesNoted after p receives) where
+    (before after : Users) (used : HaveUsers before all) (n : Noted before after p sends receives) where
   there : (k : ℕ) (e : Kept) → slice_get new k ≡ Some e → e ≡ get_or (other_offers says p r.sent r.heard all) k e
   there k e is = sym (get_or_from_slice_get (other_offers says p r.sent r.heard all) k e e (ap (λ (xs : List Kept). slice_get xs k) (sym r.is) ∙ is))
 
@@ -81,39 +89,39 @@ module _ (says : Verdicts) (p : ℕ) (sends : List SendOffer) (receives : List R
   pub users_after : HaveUsers after new
   users_after w = record { sending = sending; receiving = receiving }
     where
-      sending : (k : ℕ) (e : Kept) → slice_get new k ≡ Some e → All (λ (s : Sending). s.sender.wire ≡ w → Contains (list_at after w) k) e.sends
+      sending : (k : ℕ) (e : Kept) → slice_get new k ≡ Some e → All (λ (s : Sending). s.sender.wire ≡ w → Contains (list_at after.senders w) k) e.sends
       sending k e is = by (cases_eq k p)
         where
-          by : (k ≡ p) ⊎ (k ≢ p) → All (λ (s : Sending). s.sender.wire ≡ w → Contains (list_at after w) k) e.sends
+          by : (k ≡ p) ⊎ (k ≢ p) → All (λ (s : Sending). s.sender.wire ≡ w → Contains (list_at after.senders w) k) e.sends
           by (inl same) =
               let now : e ≡ record { process = p; sends = r.sent; receives = r.heard } = there k e is ∙ (ap (λ n. get_or (other_offers says p r.sent r.heard all) n e) same ∙ new_here says p r.sent r.heard all below e) in
-              let ok = all_seen (λ (x : Sender). x.wire ≡ w → Contains (list_at after w) p) (λ (s : Sending). s.sender) r.sent (subst (All (λ (x : Sender). x.wire ≡ w → Contains (list_at after w) p)) (sym r.same_sends) (sends_used after p w sends sent)) in
-              subst (λ n. All (λ (s : Sending). s.sender.wire ≡ w → Contains (list_at after w) n) e.sends) (sym same) (subst (λ (x : Kept). All (λ (s : Sending). s.sender.wire ≡ w → Contains (list_at after w) p) x.sends) (sym now) ok)
+              let ok = all_seen (λ (x : Sender). x.wire ≡ w → Contains (list_at after.senders w) p) (λ (s : Sending). s.sender) r.sent (subst (All (λ (x : Sender). x.wire ≡ w → Contains (list_at after.senders w) p)) (sym r.same_sends) (sends_used after.senders p w sends n.sending)) in
+              subst (λ n. All (λ (s : Sending). s.sender.wire ≡ w → Contains (list_at after.senders w) n) e.sends) (sym same) (subst (λ (x : Kept). All (λ (s : Sending). s.sender.wire ≡ w → Contains (list_at after.senders w) p) x.sends) (sym now) ok)
           by (inr other) =
               let lt = inside k e is in
               let now : e ≡ renewed_in says p r.heard (get_or all k e) = there k e is ∙ new_there says p r.sent r.heard all below k e other lt in
               let was = (used w).sending k (get_or all k e) (slice_get-get_or all k e lt) in
-              subst (λ (x : Kept). All (λ (s : Sending). s.sender.wire ≡ w → Contains (list_at after w) k) x.sends) (sym now)
-              (All-map (λ (s : Sending). s.sender.wire ≡ w → Contains (list_at after w) k) (renewed says p r.heard) (get_or all k e).sends
-              (All-weaker (λ (s : Sending). s.sender.wire ≡ w → Contains (list_at before w) k) (λ (s : Sending). s.sender.wire ≡ w → Contains (list_at after w) k) (λ s ok on. keeps w k (ok on)) (get_or all k e).sends was))
+              subst (λ (x : Kept). All (λ (s : Sending). s.sender.wire ≡ w → Contains (list_at after.senders w) k) x.sends) (sym now)
+              (All-map (λ (s : Sending). s.sender.wire ≡ w → Contains (list_at after.senders w) k) (renewed says p r.heard) (get_or all k e).sends
+              (All-weaker (λ (s : Sending). s.sender.wire ≡ w → Contains (list_at before.senders w) k) (λ (s : Sending). s.sender.wire ≡ w → Contains (list_at after.senders w) k) (λ s ok on. n.senders_kept w k (ok on)) (get_or all k e).sends was))
 
-      receiving : (k : ℕ) (e : Kept) → slice_get new k ≡ Some e → All (λ (q : Receiving). q.receiver.wire ≡ w → Contains (list_at after w) k) e.receives
+      receiving : (k : ℕ) (e : Kept) → slice_get new k ≡ Some e → All (λ (q : Receiving). q.receiver.wire ≡ w → Contains (list_at after.receivers w) k) e.receives
       receiving k e is = by (cases_eq k p)
         where
-          by : (k ≡ p) ⊎ (k ≢ p) → All (λ (q : Receiving). q.receiver.wire ≡ w → Contains (list_at after w) k) e.receives
+          by : (k ≡ p) ⊎ (k ≢ p) → All (λ (q : Receiving). q.receiver.wire ≡ w → Contains (list_at after.receivers w) k) e.receives
           by (inl same) =
               let now : e ≡ record { process = p; sends = r.sent; receives = r.heard } = there k e is ∙ (ap (λ n. get_or (other_offers says p r.sent r.heard all) n e) same ∙ new_here says p r.sent r.heard all below e) in
-              let ok = all_seen (λ (x : Receiver). x.wire ≡ w → Contains (list_at after w) p) (λ (q : Receiving). q.receiver) r.heard (subst (All (λ (x : Receiver). x.wire ≡ w → Contains (list_at after w) p)) (sym r.same_receives) (receives_used after p w receives heard)) in
-              subst (λ n. All (λ (q : Receiving). q.receiver.wire ≡ w → Contains (list_at after w) n) e.receives) (sym same) (subst (λ (x : Kept). All (λ (q : Receiving). q.receiver.wire ≡ w → Contains (list_at after w) p) x.receives) (sym now) ok)
+              let ok = all_seen (λ (x : Receiver). x.wire ≡ w → Contains (list_at after.receivers w) p) (λ (q : Receiving). q.receiver) r.heard (subst (All (λ (x : Receiver). x.wire ≡ w → Contains (list_at after.receivers w) p)) (sym r.same_receives) (receives_used after.receivers p w receives n.receiving)) in
+              subst (λ n. All (λ (q : Receiving). q.receiver.wire ≡ w → Contains (list_at after.receivers w) n) e.receives) (sym same) (subst (λ (x : Kept). All (λ (q : Receiving). q.receiver.wire ≡ w → Contains (list_at after.receivers w) p) x.receives) (sym now) ok)
           by (inr other) =
               let lt = inside k e is in
               let now : e ≡ renewed_in says p r.heard (get_or all k e) = there k e is ∙ new_there says p r.sent r.heard all below k e other lt in
               let was = (used w).receiving k (get_or all k e) (slice_get-get_or all k e lt) in
-              subst (λ (x : Kept). All (λ (q : Receiving). q.receiver.wire ≡ w → Contains (list_at after w) k) x.receives) (sym now)
-              (All-weaker (λ (q : Receiving). q.receiver.wire ≡ w → Contains (list_at before w) k) (λ (q : Receiving). q.receiver.wire ≡ w → Contains (list_at after w) k) (λ q ok on. keeps w k (ok on)) (get_or all k e).receives was)
+              subst (λ (x : Kept). All (λ (q : Receiving). q.receiver.wire ≡ w → Contains (list_at after.receivers w) k) x.receives) (sym now)
+              (All-weaker (λ (q : Receiving). q.receiver.wire ≡ w → Contains (list_at before.receivers w) k) (λ (q : Receiving). q.receiver.wire ≡ w → Contains (list_at after.receivers w) k) (λ q ok on. n.receivers_kept w k (ok on)) (get_or all k e).receives was)
 
 -- Nobody has offered anything yet
-pub none_used : (ns : List ℕ) → HaveUsers [] (map silent ns)
+pub none_used : (ns : List ℕ) → HaveUsers (record { senders = []; receivers = []; askers = [] }) (map silent ns)
 none_used ns w = record {
   sending = λ k e is. none (λ (s : Sending). s.sender.wire ≡ w → Contains (list_at [] w) k) k e is (λ x. x.sends) (λ n. refl);
   receiving = λ k e is. none (λ (q : Receiving). q.receiver.wire ≡ w → Contains (list_at [] w) k) k e is (λ x. x.receives) (λ n. refl);

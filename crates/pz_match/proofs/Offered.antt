@@ -1,6 +1,5 @@
 -- The parts of an update, put together.
 use Rattle.std.proofs.Common.{◌≡◌, ◌<◌, ◌+◌, refl, sym, ◌∙◌, ap, ℕ, Bool, true, false, ◌&&◌, nat_eq, List, [], ◌∷◌, ◌++◌, length, drop, get_or, Option, Some, None, if◌then◌else◌, arith}
-use Rattle.std.specs.Prelude.{count_by}
 use Rattle.std.specs.List.{flat_map}
 use Rattle.std.proofs.lemmas.List.{map-append, drop_more}
 use Rattle.std.proofs.lemmas.List.Elements.{All-append, All-weaker, All-nil, All-cons}
@@ -9,16 +8,17 @@ use Rattle.pz_offer.specs.declared.ends.SendOffer.{SendOffer}
 use Rattle.pz_offer.specs.declared.ends.ReceiveOffer.{ReceiveOffer}
 use Rattle.std.specs.Option.{option_map_or}
 use Rattle.pz_match.specs.declared.offers.Sender.{Sender}
+use Rattle.pz_match.specs.declared.offers.Receiver.{Receiver}
 use Rattle.pz_match.specs.declared.kept.Sending.{Sending}
 use Rattle.pz_match.specs.declared.kept.Receiving.{Receiving}
 use Rattle.pz_match.specs.declared.groups.Tally.{Tally}
-use Rattle.pz_match.specs.Offers.{senders, sender}
+use Rattle.pz_match.specs.Offers.{senders, sender, receiver}
 use Rattle.pz_match.specs.Judging.{Verdicts}
-use Rattle.pz_match.specs.devices.Kept.{Kept, free_in}
-use Rattle.pz_match.specs.devices.Tallies.{GroupsView, Follows, Moves, Alike, SameTallies, nothing, no_tally, plus, send_part, receive_tally, sends_part, receives_part, total_of, only_in, pick, yeses, troubled}
+use Rattle.pz_match.specs.devices.Kept.{Kept}
+use Rattle.pz_match.specs.devices.Tallies.{GroupsView, Follows, Moves, Alike, SameTallies, nothing, no_tally, plus, send_tally, send_part, receive_tally, sends_part, receives_part, total_of, only_in, pick}
 use Rattle.pz_match.specs.devices.Asking.{asked, asked_in, row_of}
 use Rattle.pz_match.specs.devices.Holding.{SendKeyed, ReceiveKeyed}
-use Rattle.pz_match.specs.devices.Updating.{Heard, Offered}
+use Rattle.pz_match.specs.devices.Updating.{Heard, Listens, Offered, Speaks}
 use Rattle.pz_match.proofs.Grouped.{follows_same, follows_next}
 
 -- Keys stay
@@ -103,7 +103,7 @@ only_none n g = alike (only_in n no_tally g) no_tally (by (nat_eq n g))
     by false = refl
 
 pub withdrawn_send : (a b c : GroupsView) (rs : List Receiving) (ss : List Sending) (i : ℕ) (s : Sending) (t : Tally) → i < length ss → s ≡ get_or ss i s
-    → t ≡ record { sends = 1; free = 0; own = count_by (free_in s.group) rs; asking = 0; yes = yeses s.rows; troubles = troubled s.rows }
+    → t ≡ send_tally rs s.group s.rows
     → Moves a b (sends_part rs ss) (sends_part rs (drop i ss)) → Moves b c (only_in s.group t) (only_in s.group no_tally) → Moves a c (sends_part rs ss) (sends_part rs (drop (i + 1) ss))
 withdrawn_send a b c rs ss i s t lt is tally m n =
     let first : drop i ss ≡ s ∷ drop (i + 1) ss = drop_more ss i s lt ∙ ap (λ (x : Sending). x ∷ drop (i + 1) ss) (sym is) in
@@ -122,22 +122,30 @@ withdrawn_receive a b c rs i r t lt is tally m n =
 pub one_sender : (p : ℕ) (s : SendOffer) (w : ℕ) → s.wire ≡ Some w → senders p (s ∷ []) ≡ sender p s w ∷ []
 one_sender p s w is = ap (λ (o : Option ℕ). option_map_or (λ wire. sender p s wire ∷ []) o [] ++ []) is
 
-module _ (says : Verdicts) (all : List Kept) (rs : List Receiving) (a b c : GroupsView) (p : ℕ) (offer : SendOffer) where
-  pub offered_one : (w : ℕ) (s : Sending) → offer.wire ≡ Some w → s.sender ≡ sender p offer w → Follows a b → SameTallies a b → SendKeyed b s → Follows b c → Moves b c nothing (send_part rs s)
-      → s.rows ≡ flat_map (asked_in says s.sender s.group) all → Offered says all rs a c p (offer ∷ []) (s ∷ [])
-  offered_one w s wire same f tallies key h moves rows = record {
+module _ (says : Verdicts) (all : List Kept) (rs : List Receiving) (a b c : GroupsView) (s : Sending) where
+  pub speaks : Follows a b → SameTallies a b → SendKeyed b s → Follows b c → Moves b c nothing (send_part rs s) → s.rows ≡ flat_map (asked_in says s.sender s.group) all → Speaks says all rs a c s
+  speaks f tallies key h moves rows = record {
     follows = follows_next f h;
-    moves = moves_same a b c nothing (sends_part rs (s ∷ [])) tallies (λ g. let m = moves g in record {
+    moves = moves_same a b c nothing (send_part rs s) tallies moves;
+    keyed = send_keyed h s key;
+    answered = rows;
+  }
+
+module _ (says : Verdicts) (all : List Kept) (rs : List Receiving) (a c : GroupsView) (p : ℕ) (offer : SendOffer) where
+  pub offered_one : (w : ℕ) (s : Sending) → offer.wire ≡ Some w → s.sender ≡ sender p offer w → Speaks says all rs a c s → Offered says all rs a c p (offer ∷ []) (s ∷ [])
+  offered_one w s wire same h = record {
+    follows = h.follows;
+    moves = λ g. let m = h.moves g in record {
       sends = omega (arith, m.sends);
       free = omega (arith, m.free);
       own = omega (arith, m.own);
       asking = omega (arith, m.asking);
       yes = omega (arith, m.yes);
       troubles = omega (arith, m.troubles);
-    });
-    keyed = All-cons (SendKeyed c) s [] (send_keyed h s key) (All-nil (SendKeyed c));
+    };
+    keyed = All-cons (SendKeyed c) s [] h.keyed (All-nil (SendKeyed c));
     same = ap (λ (x : Sender). x ∷ []) same ∙ sym (one_sender p offer w wire);
-    answered = All-cons (λ (s : Sending). s.rows ≡ flat_map (asked_in says s.sender s.group) all) s [] rows (All-nil (λ (s : Sending). s.rows ≡ flat_map (asked_in says s.sender s.group) all));
+    answered = All-cons (λ (s : Sending). s.rows ≡ flat_map (asked_in says s.sender s.group) all) s [] h.answered (All-nil (λ (s : Sending). s.rows ≡ flat_map (asked_in says s.sender s.group) all));
   }
 
   pub offered_nowhere : offer.wire ≡ None → Offered says all rs a a p (offer ∷ []) []
@@ -147,6 +155,32 @@ module _ (says : Verdicts) (all : List Kept) (rs : List Receiving) (a b c : Grou
     keyed = All-nil (SendKeyed a);
     same = sym (ap (λ (o : Option ℕ). option_map_or (λ wire. sender p offer wire ∷ []) o [] ++ []) none);
     answered = All-nil (λ (s : Sending). s.rows ≡ flat_map (asked_in says s.sender s.group) all);
+  }
+
+-- A receive
+
+module _ (a c : GroupsView) (p : ℕ) (offer : ReceiveOffer) where
+  pub heard_one : (w : ℕ) (r : Receiving) → offer.wire ≡ Some w → r.receiver ≡ receiver p offer w → Listens a c r → Heard a c p (offer ∷ []) (r ∷ [])
+  heard_one w r wire same h = record {
+    follows = h.follows;
+    moves = λ g. let m = h.moves g in record {
+      sends = omega (arith, m.sends);
+      free = omega (arith, m.free);
+      own = omega (arith, m.own);
+      asking = omega (arith, m.asking);
+      yes = omega (arith, m.yes);
+      troubles = omega (arith, m.troubles);
+    };
+    keyed = All-cons (ReceiveKeyed c) r [] h.keyed (All-nil (ReceiveKeyed c));
+    same = ap (λ (x : Receiver). x ∷ []) same ∙ sym (ap (λ (o : Option ℕ). option_map_or (λ wire. receiver p offer wire ∷ []) o [] ++ []) wire);
+  }
+
+  pub heard_nowhere : offer.wire ≡ None → Heard a a p (offer ∷ []) []
+  heard_nowhere none = record {
+    follows = follows_same a;
+    moves = moves_none a;
+    keyed = All-nil (ReceiveKeyed a);
+    same = sym (ap (λ (o : Option ℕ). option_map_or (λ wire. receiver p offer wire ∷ []) o [] ++ []) none);
   }
 
 -- where nothing asks

@@ -20,11 +20,10 @@ use Rattle.pz_match.specs.devices.Kept.{Kept, asks_in, rows_at, judged, next_ver
 use Rattle.pz_match.specs.devices.Tallies.{GroupsView}
 use Rattle.pz_match.specs.devices.Asking.{asked, renewed, rows_written, all_written}
 use Rattle.pz_match.specs.devices.Holding.{Holds, Sound, Answered, SendKeyed}
-use Rattle.pz_match.specs.devices.Updating.{renewed_in, silent, NoneAsks}
+use Rattle.pz_match.specs.devices.Updating.{renewed_in, silent}
 use Rattle.pz_match.proofs.Sums.{filter_flat, sum_same, sum_mapped, sum_flat, regroup}
 use Rattle.pz_match.proofs.Answered.{rows_by_process, one_of}
 use Rattle.pz_match.proofs.Replacing.{forgotten, rows_forgotten, rows_own, all_asked}
-use Rattle.pz_match.proofs.Renewals.{no_asked}
 use Rattle.pz_match.proofs.Sought.{numbered_at}
 use Rattle.pz_match.proofs.Staying.{wire_below}
 
@@ -192,15 +191,6 @@ module _ (p : ℕ) where
           let none : sum_by (rows_written p) (get_or (map (renewed_in says p heard) mid) p (silent p)).sends ≡ 0 = ap (λ (e : Kept). sum_by (rows_written p) e.sends) at in
           let whole = sum_by-set (λ (e : Kept). sum_by (rows_written p) e.sends) (map (renewed_in says p heard) mid) p (record { process = p; sends = sent; receives = heard }) (silent p) (omega (arith, below, length-map mid (renewed_in says p heard))) in
           omega (arith, none, whole, others_write, own_write)
-
-    -- where no receive asks
-    pub quiet_asks : NoneAsks heard → (all : List Kept) → asks_in_all all ≡ 0
-    quiet_asks none [] = refl
-    quiet_asks none (e ∷ all) = omega (arith, sum_by-cons (λ (x : Kept). sum_by asks_of x.sends) e all, go e.sends, quiet_asks none all)
-      where
-        go : (ss : List Sending) → sum_by asks_of ss ≡ 0
-        go [] = refl
-        go (s ∷ ss) = let here : asks_of s ≡ 0 = ap length (no_asked says s p heard none) in omega (arith, sum_by-cons asks_of s ss, here, go ss)
 
 -- as the calls below say it
 pub update_asks : (says : Verdicts) (p : ℕ) (heard : List Receiving) (sent : List Sending) (all : List Kept) (later : Verdicts) (hears : List Receiving) (mid : List Kept) → p < length all → later ≡ says → hears ≡ heard → mid ≡ set all p (silent p)

@@ -115,23 +115,23 @@ module _ (us : List ℕ) (up : Increasing us) where
 
 -- What the users of a wire have
 
-module _ (groups : GroupsView) (all : List Kept) (holds : Holds groups all) (us : List ℕ) (w : ℕ) (users : AreUsers us all w) (sort : Sort) where
-  pub only_senders : OnlyAt us all (from_process sort groups.groups w)
+module _ (groups : GroupsView) (all : List Kept) (holds : Holds groups all) (ss hs : List ℕ) (w : ℕ) (users : AreUsers ss hs all w) (sort : Sort) where
+  pub only_senders : OnlyAt ss all (from_process sort groups.groups w)
   only_senders k e is none = nil e.sends (users.sending k e is)
     where
-      off : (s : Sending) → (s.sender.wire ≡ w → Contains us k) → number_on sort groups.groups w e.receives s ≡ 0
+      off : (s : Sending) → (s.sender.wire ≡ w → Contains ss k) → number_on sort groups.groups w e.receives s ≡ 0
       off s among = ap (λ b. if b then number_of sort groups.groups e.receives s else 0) (ne_eqb s.sender.wire w (λ same. none (among same)))
 
-      nil : (ss : List Sending) → All (λ (s : Sending). s.sender.wire ≡ w → Contains us k) ss → sum_by (number_on sort groups.groups w e.receives) ss ≡ 0
+      nil : (xs : List Sending) → All (λ (s : Sending). s.sender.wire ≡ w → Contains ss k) xs → sum_by (number_on sort groups.groups w e.receives) xs ≡ 0
       nil [] ok = refl
-      nil (s ∷ ss) ok =
-          let here = off s (All-head (λ (s : Sending). s.sender.wire ≡ w → Contains us k) s ss ok) in
-          omega (arith, here, sum_by-cons (number_on sort groups.groups w e.receives) s ss, nil ss (All-tail (λ (s : Sending). s.sender.wire ≡ w → Contains us k) s ss ok))
+      nil (s ∷ xs) ok =
+          let here = off s (All-head (λ (s : Sending). s.sender.wire ≡ w → Contains ss k) s xs ok) in
+          omega (arith, here, sum_by-cons (number_on sort groups.groups w e.receives) s xs, nil xs (All-tail (λ (s : Sending). s.sender.wire ≡ w → Contains ss k) s xs ok))
 
-  pub only_receivers : (s : Sending) → SendKeyed groups s → s.sender.wire ≡ w → OnlyAt us all (λ e. length (sought sort (heard s e)))
+  pub only_receivers : (s : Sending) → SendKeyed groups s → s.sender.wire ≡ w → OnlyAt hs all (λ e. length (sought sort (heard s e)))
   only_receivers s key on k e is none = by (nat_eq e.process s.sender.end.process)
     where
-      apart : (r : Receiving) → ReceiveKeyed groups r → (r.receiver.wire ≡ w → Contains us k) → nat_eq r.group s.group ≡ false
+      apart : (r : Receiving) → ReceiveKeyed groups r → (r.receiver.wire ≡ w → Contains hs k) → nat_eq r.group s.group ≡ false
       apart r keyed among = ne_eqb r.group s.group (λ same. none (among (wire_same r keyed same)))
         where
           wire_same : (r : Receiving) → ReceiveKeyed groups r → r.group ≡ s.group → r.receiver.wire ≡ w
@@ -140,11 +140,11 @@ module _ (groups : GroupsView) (all : List Kept) (holds : Holds groups all) (us 
               let one : keyed.group ≡ key.group = cc in
               sym keyed.wire_is ∙ (ap (λ z. z.wire) one ∙ (key.wire_is ∙ on))
 
-      silent : (rows : List Row) (rs : List Receiving) → All (ReceiveKeyed groups) rs → All (λ (r : Receiving). r.receiver.wire ≡ w → Contains us k) rs → ◌≡◌ {A = List Judged} (answers s.sender s.group rows rs) []
+      silent : (rows : List Row) (rs : List Receiving) → All (ReceiveKeyed groups) rs → All (λ (r : Receiving). r.receiver.wire ≡ w → Contains hs k) rs → ◌≡◌ {A = List Judged} (answers s.sender s.group rows rs) []
       silent rows [] ok among = refl
       silent rows (r ∷ rs) ok among =
-          let other = apart r (All-head (ReceiveKeyed groups) r rs ok) (All-head (λ (r : Receiving). r.receiver.wire ≡ w → Contains us k) r rs among) in
-          pass (nat_eq r.group s.group) other rows ∙ silent rows rs (All-tail (ReceiveKeyed groups) r rs ok) (All-tail (λ (r : Receiving). r.receiver.wire ≡ w → Contains us k) r rs among)
+          let other = apart r (All-head (ReceiveKeyed groups) r rs ok) (All-head (λ (r : Receiving). r.receiver.wire ≡ w → Contains hs k) r rs among) in
+          pass (nat_eq r.group s.group) other rows ∙ silent rows rs (All-tail (ReceiveKeyed groups) r rs ok) (All-tail (λ (r : Receiving). r.receiver.wire ≡ w → Contains hs k) r rs among)
         where
           pass : (b : Bool) → nat_eq r.group s.group ≡ false → (rows : List Row) → answers s.sender s.group rows (r ∷ rs) ≡ answers s.sender s.group rows rs
           pass b other rows = rw other refl

@@ -1,19 +1,20 @@
 -- A send, and a process, that is asked for anew.
-use Rattle.std.proofs.Common.{◌≡◌, ◌≤◌, ◌<◌, ◌+◌, refl, sym, ◌∙◌, ap, subst, ℕ, zero, suc, Bool, true, false, not, ◌&&◌, ◌-◌, nat_eq, List, [], ◌∷◌, ◌++◌, length, get_or, set, take, drop, if◌then◌else◌, arith}
-use Rattle.std.specs.Prelude.{All, map, count_by}
+use Rattle.std.proofs.Common.{◌≡◌, ◌≤◌, ◌<◌, ◌+◌, refl, sym, ◌∙◌, ap, subst, ℕ, zero, suc, Bool, true, false, not, ◌-◌, nat_eq, List, [], ◌∷◌, ◌++◌, length, get_or, set, take, drop, if◌then◌else◌, arith}
+use Rattle.std.specs.Prelude.{All, map, count_by, sum_by}
 use Rattle.std.proofs.lemmas.List.{length-map, length-take-le, map_more, drop_more, set-append_right, append_assoc, get_or-append_right, get_or-drop, drop_all, take_all, append-nil}
+use Rattle.std.proofs.lemmas.List.Elements.{All-head, All-tail}
 use Rattle.std.proofs.lemmas.List.Sums.{sum_by-cons}
 use Rattle.pz_match.specs.declared.rows.Row.{Row}
 use Rattle.pz_match.specs.declared.groups.Tally.{Tally}
+use Rattle.pz_match.specs.declared.offers.Sender.{Sender}
 use Rattle.pz_match.specs.declared.kept.Sending.{Sending}
 use Rattle.pz_match.specs.declared.kept.Receiving.{Receiving}
 use Rattle.pz_match.specs.Judging.{Verdicts}
-use Rattle.std.proofs.lemmas.Bool.{false≢true}
 use Rattle.pz_match.specs.declared.kept.Offers.{Offers}
 use Rattle.pz_match.specs.devices.Kept.{Kept, kept, free_in, asks_in, rows_at}
 use Rattle.pz_match.specs.devices.Tallies.{GroupsView, Moves, Alike, tally_at, plus, pick, only_in, yeses, troubled, send_part, sends_part}
 use Rattle.pz_match.specs.devices.Asking.{asked, row_of, renewed}
-use Rattle.pz_match.specs.devices.Updating.{NoneAsks}
+use Rattle.pz_match.specs.devices.Updating.{Untouched, renewed_in}
 use Rattle.pz_match.proofs.Couples.{item_kept}
 use Rattle.pz_match.proofs.Replacing.{forgotten}
 
@@ -96,17 +97,13 @@ all_mapped f xs i le = (λ k. map f (take_all i xs le k) ++ drop_all i xs le k) 
 
 -- Where no receive asks, nothing is new
 
-pub no_asked : (says : Verdicts) (s : Sending) (p : ℕ) (rs : List Receiving) → NoneAsks rs → asked says s.sender s.group p rs ≡ []
-no_asked says s p [] none = refl
-no_asked says s p (r ∷ rs) none = by (asks_in s.group r) (no_one (nat_eq r.group s.group)) ∙ no_asked says s p rs (λ k d lt. none (suc k) d (omega (arith, lt)))
+pub none_asked : (says : Verdicts) (s : Sender) (g p : ℕ) (rs : List Receiving) → count_by (asks_in g) rs ≡ 0 → asked says s g p rs ≡ []
+none_asked says s g p [] none = refl
+none_asked says s g p (r ∷ rs) none = by (asks_in g r) (sym (sum_by-cons (λ (x : Receiving). if asks_in g x then 1 else 0) r rs) ∙ none) (none_asked says s g p rs)
   where
-    no_one : (b : Bool) → (b && r.receiver.conditional) ≡ false
-    no_one true = none 0 r (omega arith)
-    no_one false = refl
-
-    by : (b : Bool) → b ≡ false → (if b then row_of says s.sender p r ∷ [] else []) ++ asked says s.sender s.group p rs ≡ asked says s.sender s.group p rs
-    by true is = absurd (false≢true (sym is))
-    by false is = refl
+    by : (b : Bool) → (if b then 1 else 0) + count_by (asks_in g) rs ≡ 0 → (count_by (asks_in g) rs ≡ 0 → asked says s g p rs ≡ []) → (if b then row_of says s p r ∷ [] else []) ++ asked says s g p rs ≡ []
+    by true nil later = absurd (omega (arith, nil))
+    by false nil later = later (omega (arith, nil))
 
 no_rows : (p : ℕ) (rows : List Row) → length (rows_at p rows) ≡ 0 → forgotten p rows ≡ rows
 no_rows p [] none = refl
@@ -116,24 +113,25 @@ no_rows p (x ∷ xs) none = by (nat_eq x.process p) none (no_rows p xs)
     by true none later = absurd (omega (arith, none))
     by false none later = ap (λ (ys : List Row). x ∷ ys) (later none)
 
-pub none_counted : (g : ℕ) (rs : List Receiving) → NoneAsks rs → count_by (asks_in g) rs ≡ 0
-none_counted g [] none = refl
-none_counted g (r ∷ rs) none =
-    let here : (if asks_in g r then 1 else 0) ≡ 0 = no_one (nat_eq r.group g) in
-    omega (arith, here, sum_by-cons (λ (x : Receiving). if asks_in g x then 1 else 0) r rs, none_counted g rs (λ k d lt. none (suc k) d (omega (arith, lt))))
-  where
-    no_one : (b : Bool) → ◌≡◌ {A = ℕ} (if b && r.receiver.conditional then 1 else 0) 0
-    no_one true = ap (λ c. if c then 1 else 0) (none 0 r (omega arith))
-    no_one false = refl
-
-pub not_renewed : (says : Verdicts) (p : ℕ) (hears : List Receiving) (s : Sending) → NoneAsks hears → length (rows_at p s.rows) ≡ 0 → renewed says p hears s ≡ s
-not_renewed says p hears s none nil =
-    let rows : forgotten p s.rows ++ asked says s.sender s.group p hears ≡ s.rows = (λ i. no_rows p s.rows nil i ++ no_asked says s p hears none i) ∙ append-nil s.rows in
+not_renewed : (says : Verdicts) (p : ℕ) (hears : List Receiving) (s : Sending) → Untouched p hears s → renewed says p hears s ≡ s
+not_renewed says p hears s un =
+    let rows : forgotten p s.rows ++ asked says s.sender s.group p hears ≡ s.rows = (λ i. no_rows p s.rows un.rows i ++ none_asked says s.sender s.group p hears un.asks i) ∙ append-nil s.rows in
     λ i. record { sender = s.sender; group = s.group; rows = rows i }
 
 pub map_same : {X : Type 0} (f : X → X) (xs : List X) → All (λ x. f x ≡ x) xs → map f xs ≡ xs
 map_same f [] each = refl
 map_same f (x ∷ xs) each = λ i. each 0 x (omega arith) i ∷ map_same f xs (λ k d lt. each (suc k) d (omega (arith, lt))) i
+
+pub untouched_same : (says : Verdicts) (p : ℕ) (hears : List Receiving) (e : Kept) → All (Untouched p hears) e.sends → renewed_in says p hears e ≡ e
+untouched_same says p hears e each =
+    let same : map (renewed says p hears) e.sends ≡ e.sends = map_same (renewed says p hears) e.sends (λ n c under. not_renewed says p hears (get_or e.sends n c) (each n c under)) in
+    λ i. record { process = e.process; sends = same i; receives = e.receives }
+
+pub untouched_asks : (says : Verdicts) (p : ℕ) (hears : List Receiving) (ss : List Sending) → All (Untouched p hears) ss → sum_by (λ (s : Sending). length (asked says s.sender s.group p hears)) ss ≡ 0
+untouched_asks says p hears [] each = refl
+untouched_asks says p hears (s ∷ ss) each =
+    let here : length (asked says s.sender s.group p hears) ≡ 0 = ap length (none_asked says s.sender s.group p hears (All-head (Untouched p hears) s ss each).asks) in
+    omega (arith, sum_by-cons (λ (x : Sending). length (asked says x.sender x.group p hears)) s ss, here, untouched_asks says p hears ss (All-tail (Untouched p hears) s ss each))
 
 -- a process that is read is as it was
 pub item_first : (f : Kept → Kept) (now : List Offers) (first : List Kept) (i : ℕ) (e : Offers) → e ≡ get_or now i e → map kept now ≡ map f (take i first) ++ drop i first → i < length now → i < length first → (i < length first) × (kept e ≡ get_or first i (kept e))

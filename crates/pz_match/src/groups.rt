@@ -1,5 +1,6 @@
 use crate::finding::find;
 use pz_match_lists::{Counts, Lists};
+use pz_offer::Verdict;
 use pz_syntax::Name;
 use std::alloc::{AllocError, Global};
 use std::marker::Model;
@@ -11,6 +12,21 @@ pub(crate) enum Sort {
     Taken,
     /// Those whose condition has a trouble.
     Troubled,
+}
+
+impl Sort {
+    ghost use Rattle.std.specs.Prelude.{◌≡◌};
+    ghost use Rattle.pz_match.specs.devices.Seeking.{wants};
+
+    /// Whether a pair with this verdict is of the sort.
+    pub(crate) fn has(self, verdict: Verdict) -> bool
+        ensures { result ≡ wants self verdict }
+    {
+        match (self, verdict) {
+            (Sort::Taken, Verdict::Yes) | (Sort::Troubled, Verdict::Trouble(_)) => true,
+            _ => false,
+        }
+    }
 }
 
 /// How much a group has.

@@ -1,15 +1,28 @@
 // The receives that a process offers now.
 
-ghost use Rattle.std.specs.Prelude.{◌≡◌, [], ◌∷◌, IfOk, OnOk};
+ghost use Rattle.std.specs.Prelude.{◌≡◌, ℕ, [], ◌∷◌, ◌++◌, Contains, IfOk, OnOk};
 ghost use Rattle.std.specs.Option.{option_to_list};
-ghost use Rattle.pz_match.specs.devices.Updating.{Heard};
+ghost use Rattle.pz_match.specs.devices.Updating.{Heard, Listens};
+ghost use Rattle.pz_match.specs.devices.Users.{Gathered};
 
 use crate::groups::Groups;
 use crate::kept::Receiving;
 use crate::offers::Receiver;
 use crate::tallying::add_receive;
+use crate::users::Users;
+use pz_match_lists::{Lists, Numbers};
 use pz_offer::{End, ReceiveOffer};
 use std::alloc::AllocError;
+
+/// The group of a receive, which has one more. The only error is want of memory.
+fn join(groups: &mut Groups, receiver: &Receiver) -> Result<usize, AllocError>
+    ensures { IfOk result (λ g. Listens groups.old groups.new
+        (record { receiver = receiver.now; group = g })) }
+{
+    let group = groups.number(receiver.wire, &receiver.message, receiver.count)?;
+    add_receive(groups, group, receiver.conditional)?;
+    Ok(group)
+}
 
 /// A receive as it is kept, if it reaches a wire: its group has one more. The only error is want of
 /// memory.
@@ -24,26 +37,32 @@ fn hear_one(
     let Some(wire) = offer.wire else {
         return Ok(None);
     };
-    let group = groups.number(wire, &offer.message, offer.count)?;
-    let receive = Receiving {
-        receiver: Receiver {
-            end: End {
-                process,
-                place: offer.place,
-            },
-            wire,
-            message: offer.message,
-            count: offer.count,
-            conditional: offer.conditional,
+    let receiver = Receiver {
+        end: End {
+            process,
+            place: offer.place,
         },
-        group,
+        wire,
+        message: offer.message,
+        count: offer.count,
+        conditional: offer.conditional,
     };
-    add_receive(groups, &receive)?;
-    Ok(Some(receive))
+    let group = join(groups, &receiver)?;
+    Ok(Some(Receiving { receiver, group }))
+}
+
+/// One receive more, if there is one. The only error is want of memory.
+fn keep(kept: &mut Vec<Receiving>, receive: Option<Receiving>) -> Result<(), AllocError>
+    ensures { OnOk result (kept.new.items ≡ kept.old.items ++ option_to_list receive) }
+{
+    if let Some(receive) = receive {
+        kept.push(receive)?;
+    }
+    Ok(())
 }
 
 /// Keeps the receives that a process offers. The only error is want of memory.
-pub(crate) fn hear(
+fn hear(
     groups: &mut Groups,
     process: u32,
     offers: Vec<ReceiveOffer>,
@@ -53,9 +72,45 @@ pub(crate) fn hear(
     ensures { OnOk result (Heard groups.old groups.new process offers.items kept.new.items) }
 {
     for offer in offers {
-        if let Some(receive) = hear_one(groups, process, offer)? {
-            kept.push(receive)?;
+        let receive = hear_one(groups, process, offer)?;
+        keep(kept, receive)?;
+    }
+    Ok(())
+}
+
+/// The places of the processes that have ever sent over the wires of those of these receives that have a
+/// condition. The only error is want of memory.
+pub(crate) fn gather(
+    senders: &Lists,
+    receives: &[Receiving],
+    places: &mut Numbers,
+) -> Result<(), AllocError>
+    ensures keeps { (n : ℕ) → Contains places.old n → Contains places.new n }
+    ensures gathered { OnOk result (Gathered senders.now places.new receives.now) }
+{
+    for receive in receives {
+        if receive.receiver.conditional {
+            places.add_all(senders.list(receive.receiver.wire as usize))?;
         }
     }
     Ok(())
+}
+
+/// Keeps the receives that a process offers, and gathers the places of the processes whose sends they
+/// may be asked about. The only error is want of memory.
+pub(crate) fn listen(
+    groups: &mut Groups,
+    users: &Users,
+    places: &mut Numbers,
+    process: u32,
+    offers: Vec<ReceiveOffer>,
+    kept: &mut Vec<Receiving>,
+) -> Result<(), AllocError>
+    requires { kept.old.items ≡ [] }
+    ensures heard { OnOk result (Heard groups.old groups.new process offers.items kept.new.items) }
+    ensures keeps { (n : ℕ) → Contains places.old n → Contains places.new n }
+    ensures gathered { OnOk result (Gathered users.now.senders places.new kept.new.items) }
+{
+    hear(groups, process, offers, kept)?;
+    gather(&users.senders, kept.as_slice(), places)
 }

@@ -12,7 +12,7 @@ ghost use Rattle.pz_match.specs.devices.Users.{HaveAskers};
 ghost use Rattle.pz_match.specs.devices.Tallies.{total_of};
 ghost use Rattle.pz_match.specs.devices.Asking.{asked_in, MayAskAll};
 ghost use Rattle.pz_match.specs.devices.Holding.{ReceiveKeyed};
-ghost use Rattle.pz_match.specs.devices.Updating.{Offered, Covers, receivers_of};
+ghost use Rattle.pz_match.specs.devices.Updating.{Offered, Speaks, Covers, receivers_of};
 
 use crate::asking::ask_all;
 use crate::groups::Groups;
@@ -55,6 +55,40 @@ fn rows_for<J: Judge>(
     Ok(rows)
 }
 
+/// The group of a send of a process with these receives, which has one more, and what the conditional
+/// receives of other processes that fit say. The only error is want of memory.
+fn join<J: Judge>(
+    alloc: Global,
+    groups: &mut Groups,
+    all: &[Offers],
+    askers: &Lists,
+    receives: &[Receiving],
+    sender: &Sender,
+    judge: &mut J,
+) -> Result<(usize, Rows), AllocError>
+    requires keyed { All (λ e. All (ReceiveKeyed groups.old) e.receives) (map kept all.now) }
+    requires own { All (λ e. All (λ r. r.receiver.end.process ≡ e.process) e.receives)
+        (map kept all.now) }
+    requires covers { Covers groups.old (map kept all.now) }
+    requires askers { HaveAskers askers.now (map kept all.now) }
+    requires takes { MayTake J.takes judge.old (sender.now ∷ [])
+        (receivers_of (map kept all.now)) }
+    ensures speaks { IfOk result (λ x. Speaks (J.verdict judge.old) (map kept all.now)
+        receives.now groups.old groups.new
+        (record { sender = sender.now; group = x.0; rows = x.1 })) }
+    ensures stays { OnOk result (Stays J.takes J.verdict J.lent judge.old judge.new) }
+    ensures asked { IfOk result (λ x. J.asked judge.new ≡ J.asked judge.old + length x.1) }
+    ensures lent { J.lent judge.new ≡ J.lent judge.old }
+{
+    let values = sender.parcel.values().len();
+    let group = groups.number(sender.wire, &sender.message, values)?;
+    let asking = groups.tally(group).asking;
+    let askers = askers.list(sender.wire as usize);
+    let rows = rows_for(alloc, asking, all, askers, sender, group, judge)?;
+    add_send(groups, group, rows.as_slice(), receives)?;
+    Ok((group, rows))
+}
+
 /// A send as it is kept, if it reaches a wire: the conditional receives of other processes that fit
 /// are asked, and its group has one more. The only error is want of memory.
 fn offer_one<J: Judge>(
@@ -85,7 +119,6 @@ fn offer_one<J: Judge>(
     let Some(wire) = offer.wire else {
         return Ok(None);
     };
-    let group = groups.number(wire, &offer.message, offer.parcel.values().len())?;
     let sender = Sender {
         end: End {
             process,
@@ -95,16 +128,12 @@ fn offer_one<J: Judge>(
         message: offer.message,
         parcel: offer.parcel,
     };
-    let asking = groups.tally(group).asking;
-    let askers = askers.list(wire as usize);
-    let rows = rows_for(alloc, asking, all, askers, &sender, group, judge)?;
-    let send = Sending {
+    let joined = join(alloc, groups, all, askers, receives, &sender, judge)?;
+    Ok(Some(Sending {
         sender,
-        group,
-        rows,
-    };
-    add_send(groups, &send, receives)?;
-    Ok(Some(send))
+        group: joined.0,
+        rows: joined.1,
+    }))
 }
 
 /// One send more, if there is one. The only error is want of memory.

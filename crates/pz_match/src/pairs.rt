@@ -3,8 +3,8 @@ use crate::judge::Judge;
 use crate::kept::Offers;
 use crate::seeking::{find_trouble, pair_on};
 use crate::updating::{replace_in, silence};
-use crate::users::{note_askers, note_receives, note_sends};
-use pz_match_lists::Lists;
+use crate::users::Users;
+use pz_match_lists::Numbers;
 use pz_offer::{End, ReceiveOffer, SendOffer, Trouble};
 use std::alloc::{AllocError, Global};
 use std::marker::Model;
@@ -15,10 +15,9 @@ use std::marker::Model;
 pub struct Pairs {
     offers: Vec<Offers>,
     groups: Groups,
-    /// The processes that have offered something, by wire.
-    users: Lists,
-    /// Those that have offered a receive with a condition, by wire.
-    askers: Lists,
+    users: Users,
+    /// The places of the processes whose sends an update asks about: room for the next one.
+    places: Numbers,
     lost: bool,
 }
 
@@ -34,7 +33,7 @@ impl Model for Pairs {
     ghost view = { λ t. table_of (map kept t.offers.items) t.groups.wires t.lost };
 
     ghost invariant = { λ t. t.lost ≡ false →
-        Whole t.groups t.users t.askers (map kept t.offers.items) };
+        Whole t.groups t.users (map kept t.offers.items) };
 }
 
 impl Pairs {
@@ -58,8 +57,8 @@ impl Pairs {
         Ok(Pairs {
             offers,
             groups: Groups::new(alloc),
-            users: Lists::new(alloc),
-            askers: Lists::new(alloc),
+            users: Users::new(alloc),
+            places: Numbers::new(alloc),
             lost: false,
         })
     }
@@ -102,13 +101,13 @@ impl Pairs {
         ensures lost { OnErr result (self.new.lost ≡ true) }
     {
         self.lost = true;
-        note_sends(&mut self.users, process, sends.as_slice())?;
-        note_receives(&mut self.users, process, receives.as_slice())?;
-        note_askers(&mut self.askers, process, receives.as_slice())?;
+        self.users
+            .note(process, sends.as_slice(), receives.as_slice())?;
         replace_in(
             &mut self.offers,
             &mut self.groups,
-            &self.askers,
+            &self.users,
+            &mut self.places,
             process,
             sends,
             receives,
@@ -136,8 +135,10 @@ impl Pairs {
         match self.groups.wire_of(k) {
             None => Ok(None),
             Some((wire, rest)) => {
-                let users = self.users.list(wire);
-                pair_on(&self.groups, self.offers.as_slice(), users, wire, rest)
+                let senders = self.users.senders.list(wire);
+                let receivers = self.users.receivers.list(wire);
+                let offers = self.offers.as_slice();
+                pair_on(&self.groups, offers, senders, receivers, wire, rest)
             }
         }
     }

@@ -6,14 +6,15 @@ ghost use Rattle.pz_match.specs.Judging.{Stays};
 ghost use Rattle.pz_match.specs.devices.Kept.{kept};
 ghost use Rattle.pz_match.specs.devices.Tallies.{Follows, Moves, send_part, sends_part, part_of, total_of, yeses, troubled};
 ghost use Rattle.pz_match.specs.devices.Asking.{asked, MayAsk, renewed};
-ghost use Rattle.pz_match.specs.devices.Updating.{renewed_in};
+ghost use Rattle.pz_match.specs.devices.Updating.{TouchesOnly, renewed_in};
+ghost use Rattle.pz_match_lists.specs.Increasing.{Increasing};
 
 use crate::asking::ask;
-use crate::groups::{Groups, NOTHING, Tally};
+use crate::groups::{Groups, NOTHING, Sort, Tally};
 use crate::judge::Judge;
 use crate::kept::{Offers, Receiving, Sending};
 use crate::rows::Row;
-use crate::tallying::{adjust, troubled, yeses};
+use crate::tallying::{adjust, said};
 use std::alloc::AllocError;
 
 /// What rows add to the group of their send.
@@ -28,8 +29,8 @@ fn rows_tally(rows: &[Row]) -> Tally
     } }
 {
     Tally {
-        yes: yeses(rows) as u64,
-        troubles: troubled(rows) as u64,
+        yes: said(Sort::Taken, rows) as u64,
+        troubles: said(Sort::Troubled, rows) as u64,
         ..NOTHING
     }
 }
@@ -126,15 +127,19 @@ fn renew_offers<J: Judge>(
     Ok(())
 }
 
-/// Asks the receives of a process for the sends of all others, once it has none itself. The only error
-/// is want of memory.
+/// Asks the receives of a process for the sends of all others, once it has none itself: only the
+/// processes at these places have sends for which there is something new. The only error is want of
+/// memory.
 pub(crate) fn renew_all<J: Judge>(
     groups: &mut Groups,
     all: &mut [Offers],
+    places: &[usize],
     process: u32,
     receives: &[Receiving],
     judge: &mut J,
 ) -> Result<(), AllocError>
+    requires increasing { Increasing places.now }
+    requires only { TouchesOnly places.now process receives.now (map kept all.old) }
     requires groups { All (λ e. All (λ s. s.group < length groups.old.groups) e.sends)
         (map kept all.old) }
     requires takes { All (λ e. All (λ s. All (MayAsk J.takes judge.old s.sender s.group)
@@ -150,7 +155,11 @@ pub(crate) fn renew_all<J: Judge>(
         receives.now)) e.sends) (map kept all.old)) }
     ensures lent { J.lent judge.new ≡ J.lent judge.old }
 {
-    for place in 0..all.len() {
+    for at in 0..places.len() {
+        let place = places[at];
+        if place >= all.len() {
+            continue;
+        }
         renew_offers(groups, &mut all[place], process, receives, judge)?;
     }
     Ok(())

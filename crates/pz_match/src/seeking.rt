@@ -7,7 +7,7 @@ ghost use Rattle.pz_match.specs.Pairs.{ends, first_or, first_trouble, taken};
 ghost use Rattle.pz_match.specs.declared.rows.Row.{Row};
 ghost use Rattle.pz_match.specs.devices.Kept.{kept, rows_at, answers, heard, pairs_of, pairs_on, all_pairs};
 ghost use Rattle.pz_match.specs.devices.Holding.{Holds};
-ghost use Rattle.pz_match.specs.devices.Seeking.{wants, sought, number_of, number_on, IsAnswer, IsHit, IsSeat, IsTaker, IsCouple, IsSend, IsSendAt, IsReceive, IsReceiveAt, OnlyAt};
+ghost use Rattle.pz_match.specs.devices.Seeking.{sought, number_of, number_on, IsAnswer, IsHit, IsSeat, IsTaker, IsCouple, IsSend, IsSendAt, IsReceive, IsReceiveAt, OnlyAt};
 ghost use Rattle.pz_match.specs.devices.Users.{AreUsers, HaveUsers};
 ghost use Rattle.pz_match_lists.specs.Increasing.{Increasing};
 
@@ -15,22 +15,10 @@ use crate::groups::{Groups, Sort};
 use crate::kept::{Offers, Receiving, Sending};
 use crate::places::{Couple, Hit, Seat, Taker};
 use crate::rows::Row;
-use crate::tallying::{free_in, troubled, yeses};
-use pz_match_lists::Lists;
+use crate::tallying::{free_in, said};
+use crate::users::Users;
 use pz_offer::{End, Trouble, Verdict};
 use std::alloc::AllocError;
-
-impl Sort {
-    /// Whether a pair with this verdict is of the sort.
-    fn has(self, verdict: Verdict) -> bool
-        ensures { result ≡ wants self verdict }
-    {
-        match (self, verdict) {
-            (Sort::Taken, Verdict::Yes) | (Sort::Troubled, Verdict::Trouble(_)) => true,
-            _ => false,
-        }
-    }
-}
 
 /// How many pairs of a send are of the sort, in a process with these receives.
 fn number_of(sort: Sort, groups: &Groups, receives: &[Receiving], send: &Sending) -> u128
@@ -41,9 +29,9 @@ fn number_of(sort: Sort, groups: &Groups, receives: &[Receiving], send: &Sending
         Sort::Taken => {
             let own = free_in(receives, send.group) as u64;
             let free = groups.tally(send.group).free.saturating_sub(own);
-            u128::from(free) + yeses(rows) as u128
+            u128::from(free) + said(sort, rows) as u128
         }
-        Sort::Troubled => troubled(rows) as u128,
+        Sort::Troubled => said(sort, rows) as u128,
     }
 }
 
@@ -200,24 +188,27 @@ fn couple(
     }
 }
 
-/// The pair with this number of those of the sort on a wire, which these processes use.
+/// The pair with this number of those of the sort on a wire, over which these processes send and those
+/// receive.
 fn find_on(
     sort: Sort,
     groups: &Groups,
     all: &[Offers],
-    users: &[usize],
+    senders: &[usize],
+    receivers: &[usize],
     wire: usize,
     number: u64,
 ) -> Option<Couple>
     requires holds { Holds groups.now (map kept all.now) }
-    requires increasing { Increasing users.now }
-    requires users { AreUsers users.now (map kept all.now) wire }
+    requires senders { Increasing senders.now }
+    requires receivers { Increasing receivers.now }
+    requires users { AreUsers senders.now receivers.now (map kept all.now) wire }
     ensures { MatchOption result (length (sought sort (pairs_on (map kept all.now) wire)) ≤ number)
         (IsCouple (sought sort (pairs_on (map kept all.now) wire)) (map kept all.now) number) }
 {
     let mut rest = number;
-    for at in 0..users.len() {
-        let process = users[at];
+    for at in 0..senders.len() {
+        let process = senders[at];
         if process >= all.len() {
             continue;
         }
@@ -227,7 +218,7 @@ fn find_on(
                 let sends = offers.sends.as_slice();
                 let send = &sends[seat.place];
                 let sender = (process, seat.place);
-                return couple(sort, all, users, sender, send, seat.rest);
+                return couple(sort, all, receivers, sender, send, seat.rest);
             }
             Err(left) => rest = left,
         }
@@ -245,21 +236,29 @@ fn trouble_of(verdict: Verdict) -> Option<Trouble>
     }
 }
 
-/// The first trouble of a condition on a wire, which these processes use, in the order of the pairs.
-fn trouble_on(groups: &Groups, all: &[Offers], users: &[usize], wire: usize) -> Option<Trouble>
+/// The first trouble of a condition on a wire, over which these processes send and those receive, in
+/// the order of the pairs.
+fn trouble_on(
+    groups: &Groups,
+    all: &[Offers],
+    senders: &[usize],
+    receivers: &[usize],
+    wire: usize,
+) -> Option<Trouble>
     requires holds { Holds groups.now (map kept all.now) }
-    requires increasing { Increasing users.now }
-    requires users { AreUsers users.now (map kept all.now) wire }
+    requires senders { Increasing senders.now }
+    requires receivers { Increasing receivers.now }
+    requires users { AreUsers senders.now receivers.now (map kept all.now) wire }
     ensures { result ≡ first_trouble (pairs_on (map kept all.now) wire) }
 {
-    match find_on(Sort::Troubled, groups, all, users, wire, 0) {
+    match find_on(Sort::Troubled, groups, all, senders, receivers, wire, 0) {
         Some(couple) => trouble_of(couple.verdict),
         None => None,
     }
 }
 
 /// The first trouble of a condition, in the order of the pairs. Takes a step where there is none.
-pub(crate) fn find_trouble(groups: &Groups, all: &[Offers], users: &Lists) -> Option<Trouble>
+pub(crate) fn find_trouble(groups: &Groups, all: &[Offers], users: &Users) -> Option<Trouble>
     requires holds { Holds groups.now (map kept all.now) }
     requires users { HaveUsers users.now (map kept all.now) }
     ensures { result ≡ first_trouble (all_pairs (map kept all.now) groups.now.wires) }
@@ -268,7 +267,9 @@ pub(crate) fn find_trouble(groups: &Groups, all: &[Offers], users: &Lists) -> Op
         return None;
     }
     for wire in 0..groups.wires() {
-        match trouble_on(groups, all, users.list(wire), wire) {
+        let senders = users.senders.list(wire);
+        let receivers = users.receivers.list(wire);
+        match trouble_on(groups, all, senders, receivers, wire) {
             Some(trouble) => return Some(trouble),
             None => {}
         }
@@ -294,21 +295,24 @@ fn end_of_receive(all: &[Offers], process: usize, place: usize) -> Result<End, A
     all[process].receives[place].receiver.end.copy()
 }
 
-/// The ends of the taken pair with this number on a wire, which these processes use. The only error is want of memory.
+/// The ends of the taken pair with this number on a wire, over which these processes send and those
+/// receive. The only error is want of memory.
 pub(crate) fn pair_on(
     groups: &Groups,
     all: &[Offers],
-    users: &[usize],
+    senders: &[usize],
+    receivers: &[usize],
     wire: usize,
     number: u64,
 ) -> Result<Option<(End, End)>, AllocError>
     requires holds { Holds groups.now (map kept all.now) }
-    requires increasing { Increasing users.now }
-    requires users { AreUsers users.now (map kept all.now) wire }
+    requires senders { Increasing senders.now }
+    requires receivers { Increasing receivers.now }
+    requires users { AreUsers senders.now receivers.now (map kept all.now) wire }
     ensures { IfOk result (λ pair. pair ≡ slice_get
         (map ends (taken (pairs_on (map kept all.now) wire))) number) }
 {
-    match find_on(Sort::Taken, groups, all, users, wire, number) {
+    match find_on(Sort::Taken, groups, all, senders, receivers, wire, number) {
         None => Ok(None),
         Some(couple) => {
             let sender = end_of_send(all, couple.sender.0, couple.sender.1)?;

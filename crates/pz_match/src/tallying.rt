@@ -2,12 +2,12 @@
 
 ghost use Rattle.std.specs.Prelude.{◌≡◌, ◌<◌, length, count_by, All, OnOk};
 ghost use Rattle.pz_match.specs.devices.Kept.{free_in};
-ghost use Rattle.pz_match.specs.devices.Tallies.{Follows, Moves, nothing, only_in, yeses, troubled, sends_part, send_part, receives_part, receive_part, receive_tally};
+ghost use Rattle.pz_match.specs.devices.Tallies.{Follows, Moves, nothing, only_in, send_tally, sends_part, receives_part, receive_tally};
+ghost use Rattle.pz_match.specs.devices.Seeking.{wants};
 
-use crate::groups::{Groups, NOTHING, Tally};
+use crate::groups::{Groups, NOTHING, Sort, Tally};
 use crate::kept::{Receiving, Sending};
 use crate::rows::Row;
-use pz_offer::Verdict;
 use std::alloc::AllocError;
 
 /// How many of these receives are in a group and have no condition.
@@ -20,42 +20,22 @@ pub(crate) fn free_in(receives: &[Receiving], group: usize) -> usize
         .count()
 }
 
-/// How many of these say Yes.
-pub(crate) fn yeses(rows: &[Row]) -> usize
-    ensures { result ≡ yeses rows.now }
+/// How many of these are of the sort.
+pub(crate) fn said(sort: Sort, rows: &[Row]) -> usize
+    ensures { result ≡ count_by (λ r. wants sort r.verdict) rows.now }
 {
-    rows.iter()
-        .filter(|row| matches!(row.verdict, Verdict::Yes))
-        .count()
+    rows.iter().filter(|row| sort.has(row.verdict)).count()
 }
 
-/// How many of these are troubles.
-pub(crate) fn troubled(rows: &[Row]) -> usize
-    ensures { result ≡ troubled rows.now }
-{
-    rows.iter()
-        .filter(|row| matches!(row.verdict, Verdict::Trouble(_)))
-        .count()
-}
-
-/// What a send adds to its group, in a process with these receives.
-pub(crate) fn send_tally(send: &Sending, receives: &[Receiving]) -> Tally
-    ensures { result ≡ record {
-      sends = 1;
-      free = 0;
-      own = count_by
-          (free_in send.now.group) receives.now;
-      asking = 0;
-      yes = yeses send.now.rows;
-      troubles =
-          troubled send.now.rows;
-    } }
+/// What a send with these rows adds to its group, in a process with these receives.
+fn send_tally(group: usize, rows: &[Row], receives: &[Receiving]) -> Tally
+    ensures { result ≡ send_tally receives.now group rows.now }
 {
     Tally {
         sends: 1,
-        own: free_in(receives, send.group) as u64,
-        yes: yeses(send.rows.as_slice()) as u64,
-        troubles: troubled(send.rows.as_slice()) as u64,
+        own: free_in(receives, group) as u64,
+        yes: said(Sort::Taken, rows) as u64,
+        troubles: said(Sort::Troubled, rows) as u64,
         ..NOTHING
     }
 }
@@ -96,17 +76,17 @@ pub(crate) fn withdraw_sends(
     ensures count { OnOk result (length groups.new.groups ≡ length groups.old.groups) }
 {
     for send in sends {
-        let tally = send_tally(send, receives);
+        let tally = send_tally(send.group, send.rows.as_slice(), receives);
         adjust(groups, send.group, tally, NOTHING)?;
     }
     Ok(())
 }
 
 /// What a receive adds to its group.
-fn receive_tally(receive: &Receiving) -> Tally
-    ensures { result ≡ receive_tally receive.now.receiver.conditional }
+fn receive_tally(conditional: bool) -> Tally
+    ensures { result ≡ receive_tally conditional }
 {
-    if receive.receiver.conditional {
+    if conditional {
         Tally {
             asking: 1,
             ..NOTHING
@@ -127,33 +107,37 @@ pub(crate) fn withdraw_receives(
     ensures count { OnOk result (length groups.new.groups ≡ length groups.old.groups) }
 {
     for receive in receives {
-        let tally = receive_tally(receive);
+        let tally = receive_tally(receive.receiver.conditional);
         adjust(groups, receive.group, tally, NOTHING)?;
     }
     Ok(())
 }
 
-/// One more receive. The only error is want of memory.
-pub(crate) fn add_receive(groups: &mut Groups, receive: &Receiving) -> Result<(), AllocError>
-    requires { receive.now.group < length groups.old.groups }
-    ensures follows { OnOk result (Follows groups.old groups.new) }
-    ensures moves { OnOk result (Moves groups.old groups.new nothing (receive_part receive.now)) }
-{
-    let tally = receive_tally(receive);
-    adjust(groups, receive.group, NOTHING, tally)
-}
-
-/// One more send of a process with these receives. The only error is want of memory.
-pub(crate) fn add_send(
+/// One more receive, with a condition or without. The only error is want of memory.
+pub(crate) fn add_receive(
     groups: &mut Groups,
-    send: &Sending,
-    receives: &[Receiving],
+    group: usize,
+    conditional: bool,
 ) -> Result<(), AllocError>
-    requires { send.now.group < length groups.old.groups }
+    requires { group < length groups.old.groups }
     ensures follows { OnOk result (Follows groups.old groups.new) }
     ensures moves { OnOk result (Moves groups.old groups.new nothing
-        (send_part receives.now send.now)) }
+        (only_in group (receive_tally conditional))) }
 {
-    let tally = send_tally(send, receives);
-    adjust(groups, send.group, NOTHING, tally)
+    adjust(groups, group, NOTHING, receive_tally(conditional))
+}
+
+/// One more send, with these rows, of a process with these receives. The only error is want of memory.
+pub(crate) fn add_send(
+    groups: &mut Groups,
+    group: usize,
+    rows: &[Row],
+    receives: &[Receiving],
+) -> Result<(), AllocError>
+    requires { group < length groups.old.groups }
+    ensures follows { OnOk result (Follows groups.old groups.new) }
+    ensures moves { OnOk result (Moves groups.old groups.new nothing
+        (only_in group (send_tally receives.now group rows.now))) }
+{
+    adjust(groups, group, NOTHING, send_tally(group, rows, receives))
 }

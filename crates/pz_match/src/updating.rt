@@ -1,46 +1,45 @@
 // A process offers something else.
 
-ghost use Rattle.std.specs.Prelude.{◌≡◌, ◌<◌, ◌≤◌, ◌+◌, [], false, length, map, sum_by, All, IfOk, OnOk};
+ghost use Rattle.std.specs.Prelude.{◌≡◌, ◌<◌, ◌≤◌, ◌+◌, [], length, map, All, IfOk, OnOk};
 ghost use Rattle.pz_match.specs.Offers.{senders, receivers};
 ghost use Rattle.pz_match.specs.Judging.{MayTake, Stays};
 ghost use Rattle.pz_match.specs.devices.Lists.{upto};
 ghost use Rattle.pz_match.specs.devices.Kept.{kept};
-ghost use Rattle.pz_match.specs.devices.Tallies.{Distinct, Follows, Moves, nothing, part_of, total_of};
-ghost use Rattle.pz_match.specs.devices.Asking.{asked, MayAsk, all_written};
+ghost use Rattle.pz_match.specs.devices.Tallies.{Distinct, Follows, Moves, nothing, part_of};
+ghost use Rattle.pz_match.specs.devices.Asking.{all_written};
 ghost use Rattle.pz_match.specs.devices.Holding.{Holds};
-ghost use Rattle.pz_match.specs.devices.Users.{HaveAskers};
-ghost use Rattle.pz_match.specs.devices.Updating.{Replaced, NoneAsks, senders_of, receivers_of, silent, renewed_in};
+ghost use Rattle.pz_match.specs.devices.Users.{Gathered, HaveAskers, HaveUsers};
+ghost use Rattle.pz_match.specs.devices.Updating.{Replaced, senders_of, receivers_of, silent};
 
 use crate::groups::Groups;
-use crate::hearing::hear;
+use crate::hearing::{gather, listen};
 use crate::judge::Judge;
 use crate::kept::{Offers, Receiving, Sending};
 use crate::offering::offer;
 use crate::renewing::renew_all;
 use crate::tallying::{withdraw_receives, withdraw_sends};
-use pz_match_lists::Lists;
+use crate::users::Users;
+use pz_match_lists::Numbers;
 use pz_offer::{ReceiveOffer, SendOffer};
 use std::alloc::{AllocError, Global};
 use std::mem;
-
-/// Whether one of these receives has a condition.
-fn asks(receives: &[Receiving]) -> bool
-    ensures { result ≡ false → NoneAsks receives.now }
-{
-    receives.iter().any(|receive| receive.receiver.conditional)
-}
 
 /// Lists without elements, which keep their room for others.
 #[derive(Drop)]
 struct Room {
     sends: Vec<Sending>,
     receives: Vec<Receiving>,
-    /// Whether a receive that stood here had a condition.
-    asked: bool,
 }
 
-/// Takes away all that a process offers. The only error is want of memory.
-fn withdraw(alloc: Global, groups: &mut Groups, offers: &mut Offers) -> Result<Room, AllocError>
+/// Takes away all that a process offers, and gathers the places of the processes whose sends its
+/// receives may have answered. The only error is want of memory.
+fn withdraw(
+    alloc: Global,
+    groups: &mut Groups,
+    users: &Users,
+    places: &mut Numbers,
+    offers: &mut Offers,
+) -> Result<Room, AllocError>
     requires sends { All (λ s. s.group < length groups.old.groups) offers.old.sends.items }
     requires receives { All (λ r. r.group < length groups.old.groups) offers.old.receives.items }
     ensures silent { OnOk result (kept offers.new ≡ silent offers.old.process) }
@@ -48,62 +47,27 @@ fn withdraw(alloc: Global, groups: &mut Groups, offers: &mut Offers) -> Result<R
     ensures moves { OnOk result (Moves groups.old groups.new (part_of (kept offers.old)) nothing) }
     ensures sends_room { IfOk result (λ room. room.sends.items ≡ []) }
     ensures receives_room { IfOk result (λ room. room.receives.items ≡ []) }
-    ensures asked { IfOk result (λ room. room.asked ≡ false → NoneAsks offers.old.receives.items) }
+    ensures gathered { OnOk result (Gathered users.now.senders places.new
+        offers.old.receives.items) }
 {
-    let mut receives = mem::replace(&mut offers.receives, Vec::new(alloc));
+    places.clear();
+    gather(&users.senders, offers.receives.as_slice(), places)?;
+    withdraw_sends(groups, offers.sends.as_slice(), offers.receives.as_slice())?;
+    withdraw_receives(groups, offers.receives.as_slice())?;
     let mut sends = mem::replace(&mut offers.sends, Vec::new(alloc));
-    let asked = asks(receives.as_slice());
-    withdraw_sends(groups, sends.as_slice(), receives.as_slice())?;
-    withdraw_receives(groups, receives.as_slice())?;
+    let mut receives = mem::replace(&mut offers.receives, Vec::new(alloc));
     sends.clear();
     receives.clear();
-    Ok(Room {
-        sends,
-        receives,
-        asked,
-    })
-}
-
-/// Asks the sends of others anew, if something has changed for them. The only error is want of memory.
-fn renew_if<J: Judge>(
-    needed: bool,
-    groups: &mut Groups,
-    all: &mut [Offers],
-    process: u32,
-    receives: &[Receiving],
-    judge: &mut J,
-) -> Result<(), AllocError>
-    requires groups { All (λ e. All (λ s. s.group < length groups.old.groups) e.sends)
-        (map kept all.old) }
-    requires takes { All (λ e. All (λ s. All (MayAsk J.takes judge.old s.sender s.group)
-        receives.now) e.sends) (map kept all.old) }
-    requires same { needed ≡ false → map (renewed_in (J.verdict judge.old) process receives.now)
-        (map kept all.old) ≡ map kept all.old }
-    requires quiet { needed ≡ false → NoneAsks receives.now }
-    ensures all { OnOk result (map kept all.new ≡ map
-        (renewed_in (J.verdict judge.old) process receives.now) (map kept all.old)) }
-    ensures follows { OnOk result (Follows groups.old groups.new) }
-    ensures moves { OnOk result (Moves groups.old groups.new (total_of (map kept all.old))
-        (total_of (map kept all.new))) }
-    ensures stays { OnOk result (Stays J.takes J.verdict J.lent judge.old judge.new) }
-    ensures asked { OnOk result (J.asked judge.new ≡ J.asked judge.old + sum_by
-        (λ e. sum_by (λ s. length (asked (J.verdict judge.old) s.sender s.group process
-        receives.now)) e.sends) (map kept all.old)) }
-    ensures lent { J.lent judge.new ≡ J.lent judge.old }
-{
-    if !needed {
-        return Ok(());
-    }
-    renew_all(groups, all, process, receives, judge)
+    Ok(Room { sends, receives })
 }
 
 /// A process offers other sends and receives: those that it offered are forgotten, and the judge is
 /// asked about each pair with a condition and an end in the process. The only error is want of memory.
 pub(crate) fn replace<J: Judge>(
-    alloc: Global,
     all: &mut [Offers],
     groups: &mut Groups,
-    askers: &Lists,
+    users: &Users,
+    places: &mut Numbers,
     process: u32,
     sends: Vec<SendOffer>,
     receives: Vec<ReceiveOffer>,
@@ -111,7 +75,8 @@ pub(crate) fn replace<J: Judge>(
 ) -> Result<(), AllocError>
     requires within { process < length all.old }
     requires holds { Holds groups.old (map kept all.old) }
-    requires askers { HaveAskers askers.now (map kept all.old) }
+    requires users { HaveUsers users.now (map kept all.old) }
+    requires askers { HaveAskers users.now.askers (map kept all.old) }
     requires sends_asked { MayTake J.takes judge.old (senders process sends.items)
         (receivers_of (map kept all.old)) }
     requires receives_asked { MayTake J.takes judge.old (senders_of (map kept all.old))
@@ -124,25 +89,25 @@ pub(crate) fn replace<J: Judge>(
     ensures lent { J.lent judge.new ≡ J.lent judge.old }
 {
     let place = process as usize;
-    let room = withdraw(alloc, groups, &mut all[place])?;
+    let alloc = *sends.allocator();
+    let room = withdraw(alloc, groups, users, places, &mut all[place])?;
     let Room {
         sends: mut sent,
         receives: mut heard,
-        asked,
     } = room;
-    hear(groups, process, receives, &mut heard)?;
+    listen(groups, users, places, process, receives, &mut heard)?;
     offer(
         groups,
         all,
-        askers,
+        &users.askers,
         process,
         heard.as_slice(),
         sends,
         &mut sent,
         judge,
     )?;
-    let needed = asked || asks(heard.as_slice());
-    renew_if(needed, groups, all, process, heard.as_slice(), judge)?;
+    let changed = places.as_slice();
+    renew_all(groups, all, changed, process, heard.as_slice(), judge)?;
     let offers = &mut all[place];
     offers.sends = sent;
     offers.receives = heard;
@@ -168,7 +133,8 @@ pub(crate) fn silence(alloc: Global, processes: u32) -> Result<Vec<Offers>, Allo
 pub(crate) fn replace_in<J: Judge>(
     all: &mut Vec<Offers>,
     groups: &mut Groups,
-    askers: &Lists,
+    users: &Users,
+    places: &mut Numbers,
     process: u32,
     sends: Vec<SendOffer>,
     receives: Vec<ReceiveOffer>,
@@ -176,7 +142,8 @@ pub(crate) fn replace_in<J: Judge>(
 ) -> Result<(), AllocError>
     requires within { process < length all.old.items }
     requires holds { Holds groups.old (map kept all.old.items) }
-    requires askers { HaveAskers askers.now (map kept all.old.items) }
+    requires users { HaveUsers users.now (map kept all.old.items) }
+    requires askers { HaveAskers users.now.askers (map kept all.old.items) }
     requires sends_asked { MayTake J.takes judge.old (senders process sends.items)
         (receivers_of (map kept all.old.items)) }
     requires receives_asked { MayTake J.takes judge.old (senders_of (map kept all.old.items))
@@ -192,10 +159,9 @@ pub(crate) fn replace_in<J: Judge>(
     ensures distinct { OnOk result (Distinct groups.new.groups) }
 {
     groups.are_distinct();
-    let alloc = *all.allocator();
     let slice = all.as_mut_slice();
     replace(
-        alloc, slice, groups, askers, process, sends, receives, judge,
+        slice, groups, users, places, process, sends, receives, judge,
     )?;
     groups.are_distinct();
     Ok(())

@@ -6,7 +6,47 @@ ghost use Rattle.pz_match.specs.devices.Users.{KeepsUsers, SendsNoted, ReceivesN
 
 use pz_match_lists::Lists;
 use pz_offer::{ReceiveOffer, SendOffer};
-use std::alloc::AllocError;
+use std::alloc::{AllocError, Global};
+
+/// The processes that have ever offered something, by wire.
+#[derive(Drop)]
+pub(crate) struct Users {
+    pub(crate) senders: Lists,
+    pub(crate) receivers: Lists,
+    /// Those that have had a receive with a condition.
+    pub(crate) askers: Lists,
+}
+
+impl Users {
+    ghost use Rattle.std.specs.Prelude.{◌≡◌, [], OnOk};
+    ghost use Rattle.pz_match.specs.devices.Users.{Noted};
+
+    /// None yet. Takes no memory.
+    pub(crate) fn new(alloc: Global) -> Users
+        ensures { result ≡ record { senders = []; receivers = []; askers = [] } }
+    {
+        Users {
+            senders: Lists::new(alloc),
+            receivers: Lists::new(alloc),
+            askers: Lists::new(alloc),
+        }
+    }
+
+    /// Notes a process as a user of the wires of these offers. The only error is want of memory.
+    pub(crate) fn note(
+        &mut self,
+        process: u32,
+        sends: &[SendOffer],
+        receives: &[ReceiveOffer],
+    ) -> Result<(), AllocError>
+        ensures { OnOk result (Noted self.old self.new process sends.now receives.now) }
+    {
+        note_sends(&mut self.senders, process, sends)?;
+        note_receives(&mut self.receivers, process, receives)?;
+        note_askers(&mut self.askers, process, receives)?;
+        Ok(())
+    }
+}
 
 /// Notes a process as a user of a wire, if there is one. The only error is want of memory.
 fn note(users: &mut Lists, process: u32, wire: Option<u32>) -> Result<(), AllocError>
@@ -20,11 +60,7 @@ fn note(users: &mut Lists, process: u32, wire: Option<u32>) -> Result<(), AllocE
 }
 
 /// Notes a process as a user of the wires of these sends. The only error is want of memory.
-pub(crate) fn note_sends(
-    users: &mut Lists,
-    process: u32,
-    sends: &[SendOffer],
-) -> Result<(), AllocError>
+fn note_sends(users: &mut Lists, process: u32, sends: &[SendOffer]) -> Result<(), AllocError>
     ensures keeps { KeepsUsers users.old users.new }
     ensures noted { OnOk result (SendsNoted users.new process sends.now) }
 {
@@ -35,7 +71,7 @@ pub(crate) fn note_sends(
 }
 
 /// Notes a process as a user of the wires of these receives. The only error is want of memory.
-pub(crate) fn note_receives(
+fn note_receives(
     users: &mut Lists,
     process: u32,
     receives: &[ReceiveOffer],
@@ -62,7 +98,7 @@ fn asking_wire(receive: &ReceiveOffer) -> Option<u32>
 
 /// Notes a process as one that asks on a wire, for each of these receives that has a condition. The
 /// only error is want of memory.
-pub(crate) fn note_askers(
+fn note_askers(
     askers: &mut Lists,
     process: u32,
     receives: &[ReceiveOffer],

@@ -1,6 +1,6 @@
 -- A number that is put at its place.
 use Rattle.std.proofs.Common.{◌≡◌, ◌≢◌, ◌≤◌, ◌<◌, ◌+◌, ◌-◌, ◌⊎◌, inl, inr, refl, sym, ◌∙◌, ap, subst, ℕ, zero, suc, List, [], ◌∷◌, ◌++◌, length, get_or, set, arith}
-use Rattle.std.specs.Prelude.{Contains, insert, map, Ok, Err}
+use Rattle.std.specs.Prelude.{Contains, insert, Ok, Err}
 use Rattle.std.specs.Ordering.{nat_cmp}
 use Rattle.std.specs.List.Sorted.{IsBinarySearchResult}
 use Rattle.std.proofs.lemmas.Bool.{cases_eq}
@@ -77,38 +77,29 @@ there xs seen i y same up h =
 
 -- Lists of lists
 
-module _ {V : Type 0} (f : V → List ℕ) where
-  pub list_here : (xs : List V) (p : ℕ) (x : V) → p < length xs → x ≡ get_or xs p x → list_at (map f xs) p ≡ f x
-  list_here [] p x lt is = absurd (omega (arith, lt))
-  list_here (v ∷ vs) zero x lt is = ap f (sym is)
-  list_here (v ∷ vs) (suc p) x lt is = list_here vs p x (omega (arith, lt)) is
+pub set_here : (xs : List (List ℕ)) (p : ℕ) (ys : List ℕ) → p < length xs → list_at (set xs p ys) p ≡ ys
+set_here [] p ys lt = absurd (omega (arith, lt))
+set_here (x ∷ xs) zero ys lt = refl
+set_here (x ∷ xs) (suc p) ys lt = set_here xs p ys (omega (arith, lt))
 
-  pub set_here : (xs : List V) (p : ℕ) (y : V) → p < length xs → list_at (map f (set xs p y)) p ≡ f y
-  set_here [] p y lt = absurd (omega (arith, lt))
-  set_here (v ∷ vs) zero y lt = refl
-  set_here (v ∷ vs) (suc p) y lt = set_here vs p y (omega (arith, lt))
+set_elsewhere : (xs : List (List ℕ)) (p k : ℕ) (ys : List ℕ) → k ≢ p → list_at (set xs p ys) k ≡ list_at xs k
+set_elsewhere [] p k ys other = refl
+set_elsewhere (x ∷ xs) zero zero ys other = absurd (other refl)
+set_elsewhere (x ∷ xs) zero (suc k) ys other = refl
+set_elsewhere (x ∷ xs) (suc p) zero ys other = refl
+set_elsewhere (x ∷ xs) (suc p) (suc k) ys other = set_elsewhere xs p k ys (λ e. other (ap (λ n. suc n) e))
 
-  pub set_elsewhere : (xs : List V) (p k : ℕ) (y : V) → k ≢ p → list_at (map f (set xs p y)) k ≡ list_at (map f xs) k
-  set_elsewhere [] p k y other = refl
-  set_elsewhere (v ∷ vs) zero zero y other = absurd (other refl)
-  set_elsewhere (v ∷ vs) zero (suc k) y other = refl
-  set_elsewhere (v ∷ vs) (suc p) zero y other = refl
-  set_elsewhere (v ∷ vs) (suc p) (suc k) y other = set_elsewhere vs p k y (λ e. other (ap (λ n. suc n) e))
+pub empty_pushed : (xs : List (List ℕ)) (ys : List ℕ) (k : ℕ) → ys ≡ [] → list_at (xs ++ ys ∷ []) k ≡ list_at xs k
+empty_pushed [] ys zero none = none
+empty_pushed [] ys (suc k) none = refl
+empty_pushed (x ∷ xs) ys zero none = refl
+empty_pushed (x ∷ xs) ys (suc k) none = empty_pushed xs ys k none
 
-  pub empty_pushed : (xs : List V) (y : V) (k : ℕ) → f y ≡ [] → list_at (map f (xs ++ y ∷ [])) k ≡ list_at (map f xs) k
-  empty_pushed [] y zero none = none
-  empty_pushed [] y (suc k) none = refl
-  empty_pushed (v ∷ vs) y zero none = refl
-  empty_pushed (v ∷ vs) y (suc k) none = empty_pushed vs y k none
-
-  pub kept_in : (xs : List V) (p : ℕ) (x y : V) → p < length xs → x ≡ get_or xs p x → ((n : ℕ) → Contains (f x) n → Contains (f y) n) → (k n : ℕ) → Contains (list_at (map f xs) k) n → Contains (list_at (map f (set xs p y)) k) n
-  kept_in xs p x y lt is keeps k n has = by (cases_eq k p)
-    where
-      by : (k ≡ p) ⊎ (k ≢ p) → Contains (list_at (map f (set xs p y)) k) n
-      by (inl same) =
-          let was : Contains (f x) n = subst (λ (ms : List ℕ). Contains ms n) (ap (list_at (map f xs)) same ∙ list_here xs p x lt is) has in
-          subst (λ (ms : List ℕ). Contains ms n) (sym (ap (list_at (map f (set xs p y))) same ∙ set_here xs p y lt)) (keeps n was)
-      by (inr other) = subst (λ (ms : List ℕ). Contains ms n) (sym (set_elsewhere xs p k y other)) has
-
-pub increasing_none : (xs : List ℕ) → xs ≡ [] → Increasing xs
-increasing_none xs none i j d before within = let long : length xs ≡ 0 = ap length none in absurd (omega (arith, within, long))
+pub kept_in : (xs : List (List ℕ)) (p : ℕ) (ys zs : List ℕ) → p < length xs → ys ≡ list_at xs p → ((n : ℕ) → Contains ys n → Contains zs n) → (k n : ℕ) → Contains (list_at xs k) n → Contains (list_at (set xs p zs) k) n
+kept_in xs p ys zs lt is keeps k n has = by (cases_eq k p)
+  where
+    by : (k ≡ p) ⊎ (k ≢ p) → Contains (list_at (set xs p zs) k) n
+    by (inl same) =
+        let was : Contains ys n = subst (λ (ms : List ℕ). Contains ms n) (ap (list_at xs) same ∙ sym is) has in
+        subst (λ (ms : List ℕ). Contains ms n) (sym (ap (list_at (set xs p zs)) same ∙ set_here xs p zs lt)) (keeps n was)
+    by (inr other) = subst (λ (ms : List ℕ). Contains ms n) (sym (set_elsewhere xs p k zs other)) has

@@ -3,6 +3,8 @@
 
 mod counts;
 mod lists;
+mod numbers;
 
 pub use counts::Counts;
 pub use lists::Lists;
+pub use numbers::Numbers;

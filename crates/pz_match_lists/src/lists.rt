@@ -1,24 +1,22 @@
-ghost use Rattle.std.specs.Prelude.{◌≡◌, ◌<◌, ℕ, [], length, map, Contains, OnOk};
+ghost use Rattle.std.specs.Prelude.{◌≡◌, ◌<◌, ℕ, [], length, Contains, OnOk};
 ghost use Rattle.pz_match_lists.specs.Increasing.{Increasing, list_at};
 
+use crate::numbers::Numbers;
 use std::alloc::{AllocError, Global};
 use std::marker::Model;
 
 /// Increasing lists of numbers, by the number of the list. Contracts see the lists.
 #[derive(Drop)]
 pub struct Lists {
-    lists: Vec<Vec<usize>>,
+    lists: Vec<Numbers>,
 }
 
 impl Model for Lists {
-    ghost use Rattle.std.specs.Prelude.{List, ℕ, map, All};
-    ghost use Rattle.pz_match_lists.specs.Increasing.{Increasing};
+    ghost use Rattle.std.specs.Prelude.{List, ℕ};
 
     ghost Value = { List (List ℕ) };
 
-    ghost view = { λ l. map (λ v. v.items) l.lists.items };
-
-    ghost invariant = { λ l. All (λ v. Increasing v.items) l.lists.items };
+    ghost view = { λ l. l.lists.items };
 }
 
 impl Lists {
@@ -50,7 +48,7 @@ impl Lists {
             Contains (list_at self.new k) n }
     {
         self.reach(list)?;
-        insert(&mut self.lists[list as usize], number)
+        self.lists[list as usize].add(number)
     }
 
     /// There is a list with this number: further ones are empty. The only error is want of memory.
@@ -60,21 +58,8 @@ impl Lists {
     {
         let alloc = *self.lists.allocator();
         for _ in self.lists.len()..list as usize + 1 {
-            self.lists.push(Vec::new(alloc))?;
+            self.lists.push(Numbers::new(alloc))?;
         }
         Ok(())
-    }
-}
-
-/// Puts a number at its place, if it is not there. The only error is want of memory.
-fn insert(numbers: &mut Vec<usize>, number: usize) -> Result<(), AllocError>
-    requires { Increasing numbers.old.items }
-    ensures increasing { Increasing numbers.new.items }
-    ensures has { OnOk result (Contains numbers.new.items number) }
-    ensures keeps { (n : ℕ) → Contains numbers.old.items n → Contains numbers.new.items n }
-{
-    match numbers.binary_search(&number) {
-        Ok(_) => Ok(()),
-        Err(place) => Ok(numbers.insert(place, number)?),
     }
 }

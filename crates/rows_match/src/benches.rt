@@ -1,4 +1,4 @@
-//! Updates and pairs of a table with many receivers on one wire, to be timed.
+//! Updates and pairs of a table with many receivers on one wire, or with many wires, to be timed.
 
 ghost use Rattle.std.specs.Prelude.{◌≡◌, ◌+◌, ◌<◌, false, length, OnOk};
 
@@ -39,22 +39,51 @@ fn fill<L: Ledger>(
     update(alloc, table, size, &[on_wire(last)], asker)
 }
 
-/// So many updates of a process, which stops to send at one and sends again at the next.
+/// So many updates of a process, which takes back an offer of this kind at one and makes it again at
+/// the next.
 fn come_and_go<L: Ledger>(
     alloc: Global,
     table: &mut Pairs,
     asker: &mut Asker<L>,
     process: u32,
+    kind: Kind,
     times: u32,
 ) -> Result<(), AllocError>
     requires process { process < length table.old.senders }
     requires there { table.old.lost ≡ false }
+    ensures size { OnOk result (length table.new.senders ≡ length table.old.senders) }
     ensures there { OnOk result (table.new.lost ≡ false) }
 {
-    let wish = [on_wire(Kind::Send)];
+    let wish = [on_wire(kind)];
     for _ in 0..times / 2 {
         update(alloc, table, process, &[], asker)?;
         update(alloc, table, process, &wish, asker)?;
+    }
+    Ok(())
+}
+
+/// Each process sends over a wire of its own and receives over that of the next.
+fn fill_ring<L: Ledger>(
+    alloc: Global,
+    table: &mut Pairs,
+    asker: &mut Asker<L>,
+    size: u32,
+) -> Result<(), AllocError>
+    requires size { length table.old.senders ≡ size + 1 }
+    requires there { table.old.lost ≡ false }
+    ensures size { OnOk result (length table.new.senders ≡ size + 1) }
+    ensures there { OnOk result (table.new.lost ≡ false) }
+{
+    for process in 0..size {
+        let send = Wish {
+            wire: Some(process),
+            ..on_wire(Kind::Send)
+        };
+        let receive = Wish {
+            wire: Some((process + 1) % size),
+            ..on_wire(Kind::Receive)
+        };
+        update(alloc, table, process, &[send, receive], asker)?;
     }
     Ok(())
 }
@@ -84,21 +113,26 @@ fn run<L: Ledger>(
     requires there { table.old.lost ≡ false }
     ensures there { OnOk result (table.new.lost ≡ false) }
 {
-    let last = if bench == "conditions" {
-        Kind::Asking
-    } else {
-        Kind::Receive
-    };
-    fill(alloc, table, asker, size, last)?;
-    if bench == "pairs" {
-        come_and_go(alloc, table, asker, 0, 2)?;
+    if bench == "ring" {
+        fill_ring(alloc, table, asker, size)?;
         return seek(table, times);
     }
-    come_and_go(alloc, table, asker, 0, times)?;
+    let last = match bench {
+        "conditions" | "askers" => Kind::Asking,
+        _ => Kind::Receive,
+    };
+    fill(alloc, table, asker, size, last)?;
+    come_and_go(alloc, table, asker, 0, Kind::Send, 2)?;
+    match bench {
+        "pairs" => return seek(table, times),
+        "askers" => come_and_go(alloc, table, asker, size, Kind::Asking, times)?,
+        _ => come_and_go(alloc, table, asker, 0, Kind::Send, times)?,
+    }
     Ok(times)
 }
 
-/// One of the benches, in a table of so many processes and one: `updates`, `conditions` or `pairs`.
+/// One of the benches, in a table of so many processes and one: `updates`, `conditions`, `askers`, `pairs`
+/// or `ring`.
 pub fn show<L: Ledger>(
     rt: &HostRuntime,
     table: &mut Pairs,

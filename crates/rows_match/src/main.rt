@@ -6,8 +6,8 @@
 //! has them no more, the same offers; both show how many pairs are taken then, and how many questions it
 //! took. `pairs` shows all taken pairs and the first trouble, `kth K` one pair. `yes`, `no P`, `trouble P`
 //! and `mixed S` say what conditions say from now on. `random SEED N` does so many random updates, each held
-//! against the pairs that are found plainly. `rows_match updates N TIMES`, `rows_match conditions N TIMES`
-//! and `rows_match pairs N TIMES` are benches.
+//! against the pairs that are found plainly. `rows_match BENCH N TIMES` is a bench: `updates`, `conditions`,
+//! `askers`, `pairs` or `ring`.
 #![tactic(auto)]
 
 mod asker;

@@ -112,9 +112,12 @@ yeses rows = count_by (λ r. is_yes r.verdict) rows
 abbrev pub troubled : List Row → ℕ
 troubled rows = count_by (λ r. is_trouble r.verdict) rows
 
--- a send, in a process with these receives
+-- a send of a group, with these rows, in a process with these receives
+abbrev pub send_tally : List Receiving → ℕ → List Row → Tally
+send_tally rs g rows = record { sends = 1; free = 0; own = count_by (free_in g) rs; asking = 0; yes = yeses rows; troubles = troubled rows }
+
 abbrev pub send_part : List Receiving → Sending → ℕ → Tally
-send_part rs s = only_in s.group (record { sends = 1; free = 0; own = count_by (free_in s.group) rs; asking = 0; yes = yeses s.rows; troubles = troubled s.rows })
+send_part rs s = only_in s.group (send_tally rs s.group s.rows)
 
 abbrev pub receive_tally : Bool → Tally
 receive_tally true = record { sends = 0; free = 0; own = 0; asking = 1; yes = 0; troubles = 0 }

@@ -1,5 +1,5 @@
 -- What the parts of an update do.
-use Rattle.std.specs.Prelude.{◌≡◌, ◌≤◌, ℕ, false, List, [], map, slice_set, All}
+use Rattle.std.specs.Prelude.{◌≡◌, ◌≤◌, ℕ, List, Some, [], length, count_by, map, slice_get, slice_set, All, Contains}
 use Rattle.std.specs.List.{flat_map}
 use Rattle.pz_offer.specs.declared.ends.SendOffer.{SendOffer}
 use Rattle.pz_offer.specs.declared.ends.ReceiveOffer.{ReceiveOffer}
@@ -9,10 +9,23 @@ use Rattle.pz_match.specs.declared.kept.Sending.{Sending}
 use Rattle.pz_match.specs.declared.kept.Receiving.{Receiving}
 use Rattle.pz_match.specs.Offers.{senders, receivers}
 use Rattle.pz_match.specs.Judging.{Verdicts}
-use Rattle.pz_match.specs.devices.Kept.{Kept}
-use Rattle.pz_match.specs.devices.Tallies.{GroupsView, Follows, Moves, nothing, tally_at, sends_part, receives_part, total_of}
+use Rattle.pz_match.specs.devices.Kept.{Kept, asks_in, rows_at}
+use Rattle.pz_match.specs.devices.Tallies.{GroupsView, Follows, Moves, nothing, tally_at, send_part, sends_part, receive_part, receives_part, total_of}
 use Rattle.pz_match.specs.devices.Asking.{asked_in, renewed}
 use Rattle.pz_match.specs.devices.Holding.{SendKeyed, ReceiveKeyed, Holds}
+
+-- a receive is in its group
+pub record Listens (old new : GroupsView) (r : Receiving) : Type 0 where
+  pub follows : Follows old new
+  pub moves : Moves old new nothing (receive_part r)
+  pub keyed : ReceiveKeyed new r
+
+-- a send is in its group, with what all receives there say
+pub record Speaks (says : Verdicts) (all : List Kept) (rs : List Receiving) (old new : GroupsView) (s : Sending) : Type 0 where
+  pub follows : Follows old new
+  pub moves : Moves old new nothing (send_part rs s)
+  pub keyed : SendKeyed new s
+  pub answered : s.rows ≡ flat_map (asked_in says s.sender s.group) all
 
 -- the receives that are offered are kept, each in its group
 pub record Heard (old new : GroupsView) (process : ℕ) (offers : List ReceiveOffer) (more : List Receiving) : Type 0 where
@@ -47,8 +60,14 @@ renewed_in says process rs e = record { process = e.process; sends = map (renewe
 abbrev pub silent : ℕ → Kept
 silent process = record { process = process; sends = []; receives = [] }
 
-abbrev pub NoneAsks : List Receiving → Type 0
-NoneAsks = All (λ r. r.receiver.conditional ≡ false)
+-- a send for which a process has no rows, and which none of these receives is asked about
+pub record Untouched (process : ℕ) (rs : List Receiving) (s : Sending) : Type 0 where
+  pub rows : length (rows_at process s.rows) ≡ 0
+  pub asks : count_by (asks_in s.group) rs ≡ 0
+
+-- all others are at these places
+abbrev pub TouchesOnly : List ℕ → ℕ → List Receiving → List Kept → Type 0
+TouchesOnly places process rs all = (k : ℕ) (e : Kept) → slice_get all k ≡ Some e → (Contains places k → ⊥) → All (Untouched process rs) e.sends
 
 -- this process offers these, and all others are asked for anew
 abbrev pub other_offers : Verdicts → ℕ → List Sending → List Receiving → List Kept → List Kept

@@ -3,18 +3,20 @@ use Rattle.std.specs.Prelude.{◌≡◌, ℕ, true, List, Option, Some, None, Al
 use Rattle.pz_match_lists.specs.Increasing.{list_at}
 use Rattle.pz_offer.specs.declared.ends.SendOffer.{SendOffer}
 use Rattle.pz_offer.specs.declared.ends.ReceiveOffer.{ReceiveOffer}
+use Rattle.pz_match.specs.declared.kept.Receiving.{Receiving}
+use Rattle.pz_match.specs.declared.users.Users.{Users}
 use Rattle.pz_match.specs.devices.Kept.{Kept}
 use Rattle.pz_match.specs.devices.Tallies.{GroupsView}
 use Rattle.pz_match.specs.devices.Tables.{Stands}
 
--- each process that offers something over this wire is among these
-pub record AreUsers (users : List ℕ) (all : List Kept) (wire : ℕ) : Type 0 where
-  pub sending : (k : ℕ) (e : Kept) → slice_get all k ≡ Some e → All (λ s. s.sender.wire ≡ wire → Contains users k) e.sends
-  pub receiving : (k : ℕ) (e : Kept) → slice_get all k ≡ Some e → All (λ r. r.receiver.wire ≡ wire → Contains users k) e.receives
+-- each process that sends over this wire is among the first, and each that receives over it among the others
+pub record AreUsers (senders receivers : List ℕ) (all : List Kept) (wire : ℕ) : Type 0 where
+  pub sending : (k : ℕ) (e : Kept) → slice_get all k ≡ Some e → All (λ s. s.sender.wire ≡ wire → Contains senders k) e.sends
+  pub receiving : (k : ℕ) (e : Kept) → slice_get all k ≡ Some e → All (λ r. r.receiver.wire ≡ wire → Contains receivers k) e.receives
 
 -- of every wire
-abbrev pub HaveUsers : List (List ℕ) → List Kept → Type 0
-HaveUsers users all = (wire : ℕ) → AreUsers (list_at users wire) all wire
+abbrev pub HaveUsers : Users → List Kept → Type 0
+HaveUsers users all = (wire : ℕ) → AreUsers (list_at users.senders wire) (list_at users.receivers wire) all wire
 
 -- those that were there are there still
 abbrev pub KeepsUsers : List (List ℕ) → List (List ℕ) → Type 0
@@ -40,8 +42,21 @@ asking_wire r = if r.conditional then r.wire else None
 abbrev pub AskersNoted : List (List ℕ) → ℕ → List ReceiveOffer → Type 0
 AskersNoted askers process = All (λ r. IfSome (asking_wire r) (λ wire. Contains (list_at askers wire) process))
 
+-- of all these offers
+pub record Noted (old new : Users) (process : ℕ) (sends : List SendOffer) (receives : List ReceiveOffer) : Type 0 where
+  pub senders_kept : KeepsUsers old.senders new.senders
+  pub receivers_kept : KeepsUsers old.receivers new.receivers
+  pub askers_kept : KeepsUsers old.askers new.askers
+  pub sending : SendsNoted new.senders process sends
+  pub receiving : ReceivesNoted new.receivers process receives
+  pub asking : AskersNoted new.askers process receives
+
+-- who sends over the wires of those of these receives that have a condition is among these
+abbrev pub Gathered : List (List ℕ) → List ℕ → List Receiving → Type 0
+Gathered senders places = All (λ r. r.receiver.conditional ≡ true → (n : ℕ) → Contains (list_at senders r.receiver.wire) n → Contains places n)
+
 -- what a table keeps, who uses its wires included
-pub record Whole (groups : GroupsView) (users askers : List (List ℕ)) (all : List Kept) : Type 0 where
+pub record Whole (groups : GroupsView) (users : Users) (all : List Kept) : Type 0 where
   pub stands : Stands groups all
   pub used : HaveUsers users all
-  pub asks : HaveAskers askers all
+  pub asks : HaveAskers users.askers all

@@ -1,58 +1,15 @@
--- The send is kept in its group, with what is said to it.
-use Rattle.std.proofs.Common.{ap, sym, subst, refl, ℕ, List, [], ◌∷◌, length, arith}
-use Rattle.std.specs.Prelude.{map, count_by, All, Contains}
-use Rattle.std.proofs.lemmas.List.Elements.{All-weaker}
-use Rattle.std.proofs.lemmas.Option.{slice_get_within}
+-- The send is kept, with its group.
+use Rattle.std.proofs.Common.{refl, sym, subst, List}
+use Rattle.std.specs.Prelude.{map, Contains}
 use Rattle.pz_match.specs.declared.offers.Sender.{Sender}
-use Rattle.pz_match.specs.Offers.{sender, senders}
-use Rattle.pz_match.specs.devices.Kept.{Kept, kept, asks_in}
-use Rattle.pz_match.specs.devices.Tallies.{HasKey}
-use Rattle.pz_match.specs.devices.Holding.{ReceiveKeyed}
-use Rattle.pz_match.specs.devices.Seeking.{OnlyAt}
-use Rattle.pz_match.proofs.Askers.{only_askers}
-use Rattle.pz_match.proofs.Fitting.{may_ask_all}
-use Rattle.pz_match.proofs.Offered.{one_sender, offered_one, receive_keyed}
+use Rattle.pz_match.specs.devices.Kept.{kept}
+use Rattle.pz_match.proofs.Offered.{one_sender, offered_one}
 use Rattle.pz_match.proofs.offering.offer_one.Goals as goal
 
-pub rows_for-requires-clause-covers : goal.rows_for-requires-clause-covers
-rows_for-requires-clause-covers g c =
-    let known = c.requires.covers c.in_ok-group.group in
-    let same = (c.in_ok-group.ensures.tallies c.in_ok-group.group).asking in
-    let read = ap (λ t. t.asking) c.tally-asking.ensures in
-    omega (arith, known, same, read)
-
-pub rows_for-requires-clause-only : goal.rows_for-requires-clause-only
-rows_for-requires-clause-only g c =
-    let all = map kept c.args.all.now in
-    let key : HasKey c.number.new.self.groups c.in_ok-group.group c.in-Some.wire c.args.offer.message (length c.args.offer.parcel.values)
-    = subst (λ n. HasKey c.number.new.self.groups c.in_ok-group.group c.in-Some.wire c.args.offer.message n) (ap length c.values.ensures.values) c.in_ok-group.ensures.found in
-    subst (λ (us : List ℕ). OnlyAt us all (λ (e : Kept). count_by (asks_in c.in_ok-group.group) e.receives)) (sym c.list-askers.ensures.list)
-    (only_askers c.number.new.self all c.args.askers.now c.in-Some.wire c.in_ok-group.group c.args.offer.message (length c.args.offer.parcel.values) key
-    (All-weaker (λ (e : Kept). All (ReceiveKeyed c.args.groups.now) e.receives) (λ (e : Kept). All (ReceiveKeyed c.number.new.self) e.receives)
-    (λ e ok. All-weaker (ReceiveKeyed c.args.groups.now) (ReceiveKeyed c.number.new.self) (receive_keyed c.in_ok-group.ensures.follows) e.receives ok) all c.requires.keyed)
-    c.requires.askers)
-
-pub rows_for-requires-clause-takes : goal.rows_for-requires-clause-takes
-rows_for-requires-clause-takes g c =
-    let p = c.args.process in
-    let w = c.in-Some.wire in
-    let all = map kept c.args.all.now in
-    let s : Sender = sender p c.args.offer w in
-    let key : HasKey c.number.new.self.groups c.in_ok-group.group w c.args.offer.message (length c.args.offer.parcel.values)
-    = subst (λ n. HasKey c.number.new.self.groups c.in_ok-group.group w c.args.offer.message n) (ap length c.values.ensures.values) c.in_ok-group.ensures.found in
-    let among : Contains (senders p (c.args.offer ∷ [])) s = subst (λ (ss : List Sender). Contains ss s) (sym (one_sender p c.args.offer w c.in-Some.is)) (0, omega arith, refl) in
-    may_ask_all g.J.Judge.takes c.args.judge.now c.number.new.self all s c.in_ok-group.group (senders p (c.args.offer ∷ [])) key among
-    (All-weaker (λ (e : Kept). All (ReceiveKeyed c.args.groups.now) e.receives) (λ (e : Kept). All (ReceiveKeyed c.number.new.self) e.receives)
-    (λ e ok. All-weaker (ReceiveKeyed c.args.groups.now) (ReceiveKeyed c.number.new.self) (receive_keyed c.in_ok-group.ensures.follows) e.receives ok) all c.requires.keyed)
-    c.requires.own c.requires.takes
-
-pub add_send-requires : goal.add_send-requires
-add_send-requires g c =
-    let found = c.in_ok-group.ensures.found in
-    slice_get_within c.number.new.self.groups c.in_ok-group.group found.group found.there
+pub join-requires-clause-takes : goal.join-requires-clause-takes
+join-requires-clause-takes g c s r sends receives fit conditional =
+    c.requires.takes s r (subst (λ (ss : List Sender). Contains ss s) (sym (one_sender c.args.process c.args.offer c.in-Some.wire c.in-Some.is)) sends) receives fit conditional
 
 pub returns-clause-offered : goal.returns-clause-offered
 returns-clause-offered g c =
-    let key = subst (λ n. HasKey c.number.new.self.groups c.in_ok-group.group c.in-Some.wire c.args.offer.message n) (ap length c.values.ensures.values) c.in_ok-group.ensures.found in
-    offered_one (g.J.Judge.verdict c.args.judge.now) (map kept c.args.all.now) c.args.receives.now c.args.groups.now c.number.new.self c.add_send.new.groups c.args.process c.args.offer c.in-Some.wire _ c.in-Some.is refl
-    c.in_ok-group.ensures.follows c.in_ok-group.ensures.tallies key c.in_ok-add_send.ensures.follows c.in_ok-add_send.ensures.moves c.in_ok-rows.ensures.rows
+    offered_one (g.J.Judge.verdict c.args.judge.now) (map kept c.args.all.now) c.args.receives.now c.args.groups.now c.join.new.groups c.args.process c.args.offer c.in-Some.wire _ c.in-Some.is refl c.in_ok-joined.ensures.speaks

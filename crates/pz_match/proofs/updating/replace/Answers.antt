@@ -1,7 +1,6 @@
 -- Step by step.
-use Rattle.std.proofs.Common.{◌≡◌, ◌<◌, ◌+◌, ◌∙◌, ap, sym, subst, refl, List, length, get_or, set}
+use Rattle.std.proofs.Common.{◌≡◌, ◌<◌, ◌+◌, ◌∙◌, ap, sym, subst, refl, ℕ, List, length, get_or, set}
 use Rattle.std.specs.Prelude.{map, All, Contains}
-use Rattle.std.proofs.lemmas.Bool.{false≢true}
 use Rattle.std.proofs.lemmas.List.{get_or_default}
 use Rattle.std.proofs.lemmas.List.Elements.{All-weaker}
 use Rattle.pz_match.specs.declared.kept.Offers.{Offers}
@@ -13,19 +12,18 @@ use Rattle.pz_match.specs.devices.Kept.{Kept, kept}
 use Rattle.pz_match.specs.devices.Tallies.{Moves, total_of}
 use Rattle.pz_match.specs.devices.Asking.{MayAsk, all_written}
 use Rattle.pz_match.specs.devices.Holding.{ReceiveKeyed}
-use Rattle.pz_match.specs.devices.Updating.{Offered, Replaced, Covers, NoneAsks, silent, renewed_in, receivers_of}
+use Rattle.pz_match.specs.devices.Updating.{Offered, Replaced, Covers, TouchesOnly, silent, renewed_in, receivers_of}
 use Rattle.pz_match.proofs.Grouped.{follows_next}
 use Rattle.pz_match.proofs.Asked.{says_same}
 use Rattle.pz_match.proofs.Couples.{item_kept}
 use Rattle.pz_match.proofs.Fitting.{may_ask_sends}
 use Rattle.pz_match.proofs.Askers.{rest_askers}
-use Rattle.pz_match.specs.devices.Users.{HaveAskers}
+use Rattle.pz_match.specs.devices.Users.{Gathered, HaveAskers}
 use Rattle.pz_match.proofs.Offered.{receive_keyed}
 use Rattle.pz_match.proofs.Questions.{update_asks}
-use Rattle.pz_match.proofs.Steps.{among_rest, sends_within, receives_within, rest_keyed, rest_own, rest_sends_keyed, rest_within, rest_foreign, rest_same}
+use Rattle.pz_match.proofs.Steps.{among_rest, sends_within, receives_within, rest_keyed, rest_own, rest_sends_keyed, rest_within, rest_foreign, rest_touched}
 use Rattle.pz_match.proofs.Updated.{covers_heard, heard_own, sent_own, mid_is, stored_is, replaced_from}
 use Rattle.pz_match.proofs.updating.replace.Goals as goal
-use Rattle.pz_match.proofs.updating.replace.Goals.{then-asked, else-asked}
 
 pub withdraw-requires-clause-sends : goal.withdraw-requires-clause-sends
 withdraw-requires-clause-sends g c =
@@ -44,8 +42,8 @@ offer-requires-clause-keyed g c =
     let old : Offers = get_or c.args.all.now c.args.process c.index-all-place.result in
     let item = item_kept c.args.all.now c.args.process old c.requires.within (get_or_default c.args.all.now c.args.process c.index-all-place.result old c.requires.within) in
     let mid = mid_is c.args.process c.args.groups.now c.args.all.now old c.withdraw.new.offers c.requires.holds item.2 c.in_ok-room.ensures.silent in
-    subst (All (λ (e : Kept). All (ReceiveKeyed c.hear.new.groups) e.receives)) (sym mid)
-    (rest_keyed c.args.process c.args.groups.now (map kept c.args.all.now) c.requires.holds c.hear.new.groups (follows_next c.in_ok-room.ensures.follows c.in_ok-hear.ensures.follows))
+    subst (All (λ (e : Kept). All (ReceiveKeyed c.listen.new.groups) e.receives)) (sym mid)
+    (rest_keyed c.args.process c.args.groups.now (map kept c.args.all.now) c.requires.holds c.listen.new.groups (follows_next c.in_ok-room.ensures.follows c.in_ok-listen.ensures.heard.follows))
 
 pub offer-requires-clause-own : goal.offer-requires-clause-own
 offer-requires-clause-own g c =
@@ -60,15 +58,15 @@ offer-requires-clause-covers g c =
     let old : Offers = get_or c.args.all.now c.args.process c.index-all-place.result in
     let item = item_kept c.args.all.now c.args.process old c.requires.within (get_or_default c.args.all.now c.args.process c.index-all-place.result old c.requires.within) in
     let mid = mid_is c.args.process c.args.groups.now c.args.all.now old c.withdraw.new.offers c.requires.holds item.2 c.in_ok-room.ensures.silent in
-    subst (Covers c.hear.new.groups) (sym mid)
-    (covers_heard c.args.process c.args.groups.now c.withdraw.new.groups (map kept c.args.all.now) (kept old) item.0 item.1 c.requires.holds c.in_ok-room.ensures.moves c.hear.new.groups c.hear.new.kept.items c.in_ok-hear.ensures.moves)
+    subst (Covers c.listen.new.groups) (sym mid)
+    (covers_heard c.args.process c.args.groups.now c.withdraw.new.groups (map kept c.args.all.now) (kept old) item.0 item.1 c.requires.holds c.in_ok-room.ensures.moves c.listen.new.groups c.listen.new.kept.items c.in_ok-listen.ensures.heard.moves)
 
 pub offer-requires-clause-askers : goal.offer-requires-clause-askers
 offer-requires-clause-askers g c =
     let old : Offers = get_or c.args.all.now c.args.process c.index-all-place.result in
     let item = item_kept c.args.all.now c.args.process old c.requires.within (get_or_default c.args.all.now c.args.process c.index-all-place.result old c.requires.within) in
     let mid = mid_is c.args.process c.args.groups.now c.args.all.now old c.withdraw.new.offers c.requires.holds item.2 c.in_ok-room.ensures.silent in
-    subst (HaveAskers c.args.askers.now) (sym mid) (rest_askers c.args.askers.now (map kept c.args.all.now) c.args.process item.0 c.requires.askers)
+    subst (HaveAskers c.args.users.now.askers) (sym mid) (rest_askers c.args.users.now.askers (map kept c.args.all.now) c.args.process item.0 c.requires.askers)
 
 pub offer-requires-clause-takes : goal.offer-requires-clause-takes
 offer-requires-clause-takes g c s r sends receives fit conditional =
@@ -78,48 +76,48 @@ offer-requires-clause-takes g c s r sends receives fit conditional =
     c.requires.sends_asked s r sends
     (among_rest (λ (e : Kept). map (λ (q : Receiving). q.receiver) e.receives) (map kept c.args.all.now) c.args.process (silent c.args.process) r refl (subst (λ (xs : List Kept). Contains (receivers_of xs) r) mid receives)) fit conditional
 
-pub renew_if-requires-clause-groups : goal.renew_if-requires-clause-groups
-renew_if-requires-clause-groups g c =
+pub renew_all-requires-clause-groups : goal.renew_all-requires-clause-groups
+renew_all-requires-clause-groups g c =
     let old : Offers = get_or c.args.all.now c.args.process c.index-all-place.result in
     let item = item_kept c.args.all.now c.args.process old c.requires.within (get_or_default c.args.all.now c.args.process c.index-all-place.result old c.requires.within) in
     let mid = mid_is c.args.process c.args.groups.now c.args.all.now old c.withdraw.new.offers c.requires.holds item.2 c.in_ok-room.ensures.silent in
     subst (All (λ (e : Kept). All (λ (s : Sending). s.group < length c.offer.new.groups.groups) e.sends)) (sym mid)
-    (rest_within c.args.process c.args.groups.now (map kept c.args.all.now) c.requires.holds c.offer.new.groups (follows_next c.in_ok-room.ensures.follows (follows_next c.in_ok-hear.ensures.follows c.in_ok-offer.ensures.offered.follows)))
+    (rest_within c.args.process c.args.groups.now (map kept c.args.all.now) c.requires.holds c.offer.new.groups (follows_next c.in_ok-room.ensures.follows (follows_next c.in_ok-listen.ensures.heard.follows c.in_ok-offer.ensures.offered.follows)))
 
-pub renew_if-requires-clause-takes : goal.renew_if-requires-clause-takes
-renew_if-requires-clause-takes g c =
+pub renew_all-requires-clause-takes : goal.renew_all-requires-clause-takes
+renew_all-requires-clause-takes g c =
     let p = c.args.process in
     let old : Offers = get_or c.args.all.now p c.index-all-place.result in
     let item = item_kept c.args.all.now p old c.requires.within (get_or_default c.args.all.now p c.index-all-place.result old c.requires.within) in
     let mid = mid_is p c.args.groups.now c.args.all.now old c.withdraw.new.offers c.requires.holds item.2 c.in_ok-room.ensures.silent in
-    let follows = follows_next c.in_ok-room.ensures.follows (follows_next c.in_ok-hear.ensures.follows c.in_ok-offer.ensures.offered.follows) in
-    let heard = c.hear.new.kept.items in
+    let follows = follows_next c.in_ok-room.ensures.follows (follows_next c.in_ok-listen.ensures.heard.follows c.in_ok-offer.ensures.offered.follows) in
+    let heard = c.listen.new.kept.items in
     subst (λ (rs : List Receiving). All (λ (e : Kept). All (λ (s : Sending). All (MayAsk g.J.Judge.takes c.offer.new.judge s.sender s.group) rs) e.sends) (map kept (set c.args.all.now p c.withdraw.new.offers))) (sym c.as_slice-2.ensures.value)
     (subst (All (λ (e : Kept). All (λ (s : Sending). All (MayAsk g.J.Judge.takes c.offer.new.judge s.sender s.group) heard) e.sends)) (sym mid)
     (may_ask_sends g.J.Judge.takes c.offer.new.judge c.offer.new.groups (set (map kept c.args.all.now) p (silent p)) p heard (receivers p c.args.receives.items)
     (rest_sends_keyed p c.args.groups.now (map kept c.args.all.now) c.requires.holds c.offer.new.groups follows)
-    (All-weaker (ReceiveKeyed c.hear.new.groups) (ReceiveKeyed c.offer.new.groups) (receive_keyed c.in_ok-offer.ensures.offered.follows) heard c.in_ok-hear.ensures.keyed)
+    (All-weaker (ReceiveKeyed c.listen.new.groups) (ReceiveKeyed c.offer.new.groups) (receive_keyed c.in_ok-offer.ensures.offered.follows) heard c.in_ok-listen.ensures.heard.keyed)
     (rest_foreign p c.args.groups.now (map kept c.args.all.now) c.requires.holds item.0)
-    (heard_own p c.args.receives.items heard c.in_ok-hear.ensures.same) c.in_ok-hear.ensures.same
+    (heard_own p c.args.receives.items heard c.in_ok-listen.ensures.heard.same) c.in_ok-listen.ensures.heard.same
     (λ s r sends receives fit conditional.
     c.in_ok-offer.ensures.stays.takes_too s.end s.parcel r.end
     (c.requires.receives_asked s r (among_rest (λ (e : Kept). map (λ (q : Sending). q.sender) e.sends) (map kept c.args.all.now) p (silent p) s refl sends) receives fit conditional))))
 
-pub renew_if-requires-clause-same : goal.renew_if-requires-clause-same
-renew_if-requires-clause-same g c none =
+pub renew_all-requires-clause-only : goal.renew_all-requires-clause-only
+renew_all-requires-clause-only g c =
     let p = c.args.process in
     let old : Offers = get_or c.args.all.now p c.index-all-place.result in
     let item = item_kept c.args.all.now p old c.requires.within (get_or_default c.args.all.now p c.index-all-place.result old c.requires.within) in
     let mid = mid_is p c.args.groups.now c.args.all.now old c.withdraw.new.offers c.requires.holds item.2 c.in_ok-room.ensures.silent in
-    let before : NoneAsks old.receives.items
-    = c.in_ok-room.ensures.asked (elim c.if-asked.branch [ then-asked w ↦ absurd (false≢true (sym none ∙ (w.needed-is ∙ w.if-asked.true))) | else-asked w ↦ w.if-asked.false ]) in
-    let now : NoneAsks c.as_slice-2.result.now
-    = elim c.if-asked.branch [
-      | then-asked w ↦ absurd (false≢true (sym none ∙ (w.needed-is ∙ w.if-asked.true)))
-      | else-asked w ↦ subst NoneAsks (w.as_slice-else-asked.ensures.value ∙ sym c.as_slice-2.ensures.value) (w.asks-needed.ensures (sym w.needed-is ∙ none))
-    ] in
-    subst (λ (xs : List Kept). map (renewed_in (g.J.Judge.verdict c.offer.new.judge) p c.as_slice-2.result.now) xs ≡ xs) (sym mid)
-    (rest_same p c.args.groups.now (map kept c.args.all.now) c.requires.holds item.0 (g.J.Judge.verdict c.offer.new.judge) c.as_slice-2.result.now (kept old) item.2 before now)
+    let heard = c.listen.new.kept.items in
+    let before : Gathered c.args.users.now.senders c.listen.new.places old.receives.items
+    = λ k d lt asks n on. c.listen.ensures.keeps n (c.in_ok-room.ensures.gathered k d lt asks n on) in
+    let touched : TouchesOnly c.listen.new.places p heard (set (map kept c.args.all.now) p (silent p))
+    = rest_touched p c.args.groups.now (map kept c.args.all.now) c.requires.holds item.0 c.args.users.now c.requires.users c.listen.new.places heard c.listen.new.groups (follows_next c.in_ok-room.ensures.follows c.in_ok-listen.ensures.heard.follows)
+    c.in_ok-listen.ensures.heard.keyed (kept old) item.2 before c.in_ok-listen.ensures.gathered in
+    subst (λ (xs : List Kept). TouchesOnly c.as_slice-changed.result.now p c.as_slice-2.result.now xs) (sym mid)
+    (subst (λ (rs : List Receiving). TouchesOnly c.as_slice-changed.result.now p rs (set (map kept c.args.all.now) p (silent p))) (sym c.as_slice-2.ensures.value)
+    (subst (λ (us : List ℕ). TouchesOnly us p heard (set (map kept c.args.all.now) p (silent p))) (sym c.as_slice-changed.ensures.list) touched))
 
 pub returns-clause-replaced : goal.returns-clause-replaced
 returns-clause-replaced g c =
@@ -129,27 +127,20 @@ returns-clause-replaced g c =
     let old : Offers = get_or c.args.all.now p c.index-all-place.result in
     let item = item_kept c.args.all.now p old c.requires.within (get_or_default c.args.all.now p c.index-all-place.result old c.requires.within) in
     let mid = mid_is p c.args.groups.now c.args.all.now old c.withdraw.new.offers c.requires.holds item.2 c.in_ok-room.ensures.silent in
-    let heard = c.hear.new.kept.items in
+    let heard = c.listen.new.kept.items in
     let sent = c.offer.new.sent.items in
-    let offered : Offered says (set all p (silent p)) heard c.hear.new.groups c.offer.new.groups p c.args.sends.items sent
-    = subst (λ (xs : List Kept). Offered says xs heard c.hear.new.groups c.offer.new.groups p c.args.sends.items sent) mid
-    (subst (λ (rs : List Receiving). Offered says (map kept (set c.args.all.now p c.withdraw.new.offers)) rs c.hear.new.groups c.offer.new.groups p c.args.sends.items sent) c.as_slice.ensures.value c.in_ok-offer.ensures.offered) in
+    let offered : Offered says (set all p (silent p)) heard c.listen.new.groups c.offer.new.groups p c.args.sends.items sent
+    = subst (λ (xs : List Kept). Offered says xs heard c.listen.new.groups c.offer.new.groups p c.args.sends.items sent) mid
+    (subst (λ (rs : List Receiving). Offered says (map kept (set c.args.all.now p c.withdraw.new.offers)) rs c.listen.new.groups c.offer.new.groups p c.args.sends.items sent) c.as_slice.ensures.value c.in_ok-offer.ensures.offered) in
     let same : g.J.Judge.verdict c.offer.new.judge ≡ says = says_same c.in_ok-offer.ensures.stays in
-    let now : map kept c.renew_if.new.all ≡ map (renewed_in says p heard) (set all p (silent p))
-    = c.in_ok-renew_if.ensures.all ∙ (λ i. map (renewed_in (same i) p (c.as_slice-2.ensures.value i)) (mid i)) in
-    let moves : Moves c.offer.new.groups c.renew_if.new.groups (total_of (set all p (silent p))) (total_of (map (renewed_in says p heard) (set all p (silent p))))
-    = subst (λ (xs : List Kept). Moves c.offer.new.groups c.renew_if.new.groups (total_of (set all p (silent p))) (total_of xs)) now
-    (subst (λ (xs : List Kept). Moves c.offer.new.groups c.renew_if.new.groups (total_of xs) (total_of (map kept c.renew_if.new.all))) mid c.in_ok-renew_if.ensures.moves) in
-    subst (Replaced says p c.args.sends.items c.args.receives.items c.args.groups.now all c.renew_if.new.groups) (sym (stored_is says p all sent heard c.renew_if.new.all c.index-all-place-2.result _ item.0 now refl))
-    (replaced_from says p c.args.sends.items c.args.receives.items c.args.groups.now c.withdraw.new.groups c.hear.new.groups c.offer.new.groups c.renew_if.new.groups all (kept old) sent heard item.0 item.1 c.requires.holds
-    c.in_ok-room.ensures.follows c.in_ok-room.ensures.moves c.in_ok-hear.ensures offered c.in_ok-renew_if.ensures.follows moves)
-
-pub renew_if-requires-clause-quiet : goal.renew_if-requires-clause-quiet
-renew_if-requires-clause-quiet g c none =
-    elim c.if-asked.branch [
-      | then-asked w ↦ absurd (false≢true (sym none ∙ (w.needed-is ∙ w.if-asked.true)))
-      | else-asked w ↦ subst NoneAsks (w.as_slice-else-asked.ensures.value ∙ sym c.as_slice-2.ensures.value) (w.asks-needed.ensures (sym w.needed-is ∙ none))
-    ]
+    let now : map kept c.renew_all.new.all ≡ map (renewed_in says p heard) (set all p (silent p))
+    = c.in_ok-renew_all.ensures.all ∙ (λ i. map (renewed_in (same i) p (c.as_slice-2.ensures.value i)) (mid i)) in
+    let moves : Moves c.offer.new.groups c.renew_all.new.groups (total_of (set all p (silent p))) (total_of (map (renewed_in says p heard) (set all p (silent p))))
+    = subst (λ (xs : List Kept). Moves c.offer.new.groups c.renew_all.new.groups (total_of (set all p (silent p))) (total_of xs)) now
+    (subst (λ (xs : List Kept). Moves c.offer.new.groups c.renew_all.new.groups (total_of xs) (total_of (map kept c.renew_all.new.all))) mid c.in_ok-renew_all.ensures.moves) in
+    subst (Replaced says p c.args.sends.items c.args.receives.items c.args.groups.now all c.renew_all.new.groups) (sym (stored_is says p all sent heard c.renew_all.new.all c.index-all-place-2.result _ item.0 now refl))
+    (replaced_from says p c.args.sends.items c.args.receives.items c.args.groups.now c.withdraw.new.groups c.listen.new.groups c.offer.new.groups c.renew_all.new.groups all (kept old) sent heard item.0 item.1 c.requires.holds
+    c.in_ok-room.ensures.follows c.in_ok-room.ensures.moves c.in_ok-listen.ensures.heard offered c.in_ok-renew_all.ensures.follows moves)
 
 pub returns-clause-asked : goal.returns-clause-asked
 returns-clause-asked g c =
@@ -159,14 +150,14 @@ returns-clause-asked g c =
     let old : Offers = get_or c.args.all.now p c.index-all-place.result in
     let item = item_kept c.args.all.now p old c.requires.within (get_or_default c.args.all.now p c.index-all-place.result old c.requires.within) in
     let mid = mid_is p c.args.groups.now c.args.all.now old c.withdraw.new.offers c.requires.holds item.2 c.in_ok-room.ensures.silent in
-    let heard = c.hear.new.kept.items in
+    let heard = c.listen.new.kept.items in
     let sent = c.offer.new.sent.items in
-    let offered : Offered says (map kept (set c.args.all.now p c.withdraw.new.offers)) c.as_slice.result.now c.hear.new.groups c.offer.new.groups p c.args.sends.items sent = c.in_ok-offer.ensures.offered in
+    let offered : Offered says (map kept (set c.args.all.now p c.withdraw.new.offers)) c.as_slice.result.now c.listen.new.groups c.offer.new.groups p c.args.sends.items sent = c.in_ok-offer.ensures.offered in
     let same : g.J.Judge.verdict c.offer.new.judge ≡ says = says_same c.in_ok-offer.ensures.stays in
-    let now : map kept c.renew_if.new.all ≡ map (renewed_in says p heard) (set all p (silent p))
-    = c.in_ok-renew_if.ensures.all ∙ (λ i. map (renewed_in (same i) p (c.as_slice-2.ensures.value i)) (mid i)) in
-    let stored = stored_is says p all sent heard c.renew_if.new.all c.index-all-place-2.result _ item.0 now refl in
+    let now : map kept c.renew_all.new.all ≡ map (renewed_in says p heard) (set all p (silent p))
+    = c.in_ok-renew_all.ensures.all ∙ (λ i. map (renewed_in (same i) p (c.as_slice-2.ensures.value i)) (mid i)) in
+    let stored = stored_is says p all sent heard c.renew_all.new.all c.index-all-place-2.result _ item.0 now refl in
     let first = c.in_ok-offer.ensures.asked in
-    let second = c.in_ok-renew_if.ensures.asked in
-    let both = update_asks says p heard sent all (g.J.Judge.verdict c.offer.new.judge) c.as_slice-2.result.now (map kept (set c.args.all.now p c.withdraw.new.offers)) item.0 same c.as_slice-2.ensures.value mid (sent_own p c.args.sends.items sent offered.same) (rest_foreign p c.args.groups.now all c.requires.holds item.0) (g.J.Judge.asked c.args.judge.now) (g.J.Judge.asked c.offer.new.judge) (g.J.Judge.asked c.renew_if.new.judge) first second in
+    let second = c.in_ok-renew_all.ensures.asked in
+    let both = update_asks says p heard sent all (g.J.Judge.verdict c.offer.new.judge) c.as_slice-2.result.now (map kept (set c.args.all.now p c.withdraw.new.offers)) item.0 same c.as_slice-2.ensures.value mid (sent_own p c.args.sends.items sent offered.same) (rest_foreign p c.args.groups.now all c.requires.holds item.0) (g.J.Judge.asked c.args.judge.now) (g.J.Judge.asked c.offer.new.judge) (g.J.Judge.asked c.renew_all.new.judge) first second in
     both ∙ ap (λ (xs : List Kept). g.J.Judge.asked c.args.judge.now + all_written p xs) (sym stored)

@@ -3,6 +3,7 @@ use Rattle.std.proofs.Common.{◌∙◌, sym, ap, subst, ℕ, List, arith}
 use Rattle.std.specs.Prelude.{map}
 use Rattle.std.specs.List.{slice_get}
 use Rattle.std.proofs.lemmas.Result.{IfOk-weaker}
+use Rattle.pz_match_lists.specs.Increasing.{list_at}
 use Rattle.pz_match.specs.Pairs.{taken, ends}
 use Rattle.pz_match.specs.Table.{Table}
 use Rattle.pz_match.specs.declared.kept.Offers.{Offers}
@@ -23,13 +24,14 @@ returns-in-None c =
 pub pair_on-requires-clause-holds : goal.pair_on-requires-clause-holds
 pair_on-requires-clause-holds c =
     let there = ap (λ (t : Table). t.lost) c.self.view_is ∙ c.requires in
-    subst (λ (xs : List Offers). Holds c.self.inside.groups (map kept xs)) (sym c.as_slice.ensures.value) (c.self.invariant there).stands.holds
+    subst (λ (xs : List Offers). Holds c.self.inside.groups (map kept xs)) (sym c.as_slice-offers.ensures.value) (c.self.invariant there).stands.holds
 
 pub pair_on-requires-clause-users : goal.pair_on-requires-clause-users
 pair_on-requires-clause-users c =
     let there = ap (λ (t : Table). t.lost) c.self.view_is ∙ c.requires in
-    subst (λ (xs : List Offers). AreUsers c.list-users.result.now (map kept xs) c.in-Some.wire) (sym c.as_slice.ensures.value)
-    (subst (λ (us : List ℕ). AreUsers us (map kept c.self.inside.offers.items) c.in-Some.wire) (sym c.list-users.ensures.list) ((c.self.invariant there).used c.in-Some.wire))
+    subst (λ (xs : List Offers). AreUsers c.list-senders.result.now c.list-receivers.result.now (map kept xs) c.in-Some.wire) (sym c.as_slice-offers.ensures.value)
+    (subst (λ (ss : List ℕ). AreUsers ss c.list-receivers.result.now (map kept c.self.inside.offers.items) c.in-Some.wire) (sym c.list-senders.ensures.list)
+    (subst (λ (rs : List ℕ). AreUsers (list_at c.self.inside.users.senders c.in-Some.wire) rs (map kept c.self.inside.offers.items) c.in-Some.wire) (sym c.list-receivers.ensures.list) ((c.self.invariant there).used c.in-Some.wire)))
 
 pub returns-in-Some : goal.returns-in-Some
 returns-in-Some c =
@@ -38,6 +40,6 @@ returns-in-Some c =
     let all = map kept c.self.inside.offers.items in
     let found = c.in-Some.ensures in
     let same = at_wire groups all (c.self.invariant there).stands.holds groups.wires c.in-Some.wire c.in-Some.rest c.args.k found.0 found.1 found.2 in
-    let moved = ap (λ (xs : List Offers). slice_get (map ends (taken (pairs_on (map kept xs) c.in-Some.wire))) c.in-Some.rest) c.as_slice.ensures.value in
+    let moved = ap (λ (xs : List Offers). slice_get (map ends (taken (pairs_on (map kept xs) c.in-Some.wire))) c.in-Some.rest) c.as_slice-offers.ensures.value in
     let shown = ap (λ (t : Table). slice_get (map ends (taken t.pairs)) c.args.k) c.self.view_is in
     IfOk-weaker c.pair_on.result _ _ (λ pair is. is ∙ (moved ∙ (ends_same (taken (all_pairs all groups.wires)) (taken (pairs_on all c.in-Some.wire)) c.args.k c.in-Some.rest same ∙ shown))) c.pair_on.ensures

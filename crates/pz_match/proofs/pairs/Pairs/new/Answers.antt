@@ -1,6 +1,7 @@
 -- Nothing is offered.
-use Rattle.std.proofs.Common.{◌∙◌, sym, ap, subst, ℕ, List, []}
+use Rattle.std.proofs.Common.{◌∙◌, sym, ap, subst, []}
 use Rattle.std.specs.Prelude.{map}
+use Rattle.pz_match.specs.declared.users.Users.{Users}
 use Rattle.pz_match.specs.devices.Lists.{upto}
 use Rattle.pz_match.specs.devices.Kept.{kept}
 use Rattle.pz_match.specs.devices.Tallies.{GroupsView}
@@ -19,10 +20,10 @@ invariant_of-result c there =
           (subst (Stands (record { groups = []; wires = 0 })) (sym c.in_ok-offers.ensures)
           (record { holds = silent_holds c.args.processes; ordered = silent_ordered (upto c.args.processes) }));
       used =
-          subst (λ (us : List (List ℕ)). HaveUsers us (map kept c.in_ok-offers.offers.items)) (sym c.new-2.ensures)
-          (subst (HaveUsers []) (sym c.in_ok-offers.ensures) (none_used (upto c.args.processes)));
+          subst (λ (us : Users). HaveUsers us (map kept c.in_ok-offers.offers.items)) (sym c.new-2.ensures)
+          (subst (HaveUsers (record { senders = []; receivers = []; askers = [] })) (sym c.in_ok-offers.ensures) (none_used (upto c.args.processes)));
       asks =
-          subst (λ (us : List (List ℕ)). HaveAskers us (map kept c.in_ok-offers.offers.items)) (sym c.new-3.ensures)
+          subst (λ (us : Users). HaveAskers us.askers (map kept c.in_ok-offers.offers.items)) (sym c.new-2.ensures)
           (subst (HaveAskers []) (sym c.in_ok-offers.ensures) (none_asks (upto c.args.processes)));
     }
 

@@ -10,11 +10,10 @@ use Rattle.pz_match.specs.Table.{Table, all_senders, all_receivers}
 use Rattle.pz_match.specs.devices.Kept.{kept}
 use Rattle.pz_match.proofs.Ends.{senders_in, all_senders_are, all_receivers_are}
 use Rattle.pz_match.proofs.Shown.{are_pairs, are_free, stands_after, senders_shown, receivers_shown, said_now, others_there, questions_now}
-use Rattle.std.proofs.lemmas.List.Elements.{All-weaker}
 use Rattle.pz_offer.specs.declared.ends.SendOffer.{SendOffer}
 use Rattle.pz_offer.specs.declared.ends.ReceiveOffer.{ReceiveOffer}
-use Rattle.pz_match.specs.devices.Users.{SendsNoted, ReceivesNoted, AskersNoted}
-use Rattle.pz_match.proofs.Noting.{noted, kept_noted, keeps_next, users_after}
+use Rattle.pz_match.specs.devices.Users.{Noted}
+use Rattle.pz_match.proofs.Noting.{keeps_users, users_after}
 use Rattle.pz_match.proofs.Askers.{keeps_askers, askers_after}
 use Rattle.pz_match.proofs.pairs.Pairs.update.Goals as goal
 
@@ -28,10 +27,15 @@ replace_in-requires-clause-receives_asked g c s r sends hears fit conditional =
     c.requires.receives_asked s r
     (subst (λ (t : Table). Contains (all_senders t) s) c.self.view_is (subst (λ (ss : List Sender). Contains ss s) (sym (all_senders_are (map kept c.self.inside.offers.items))) sends)) hears fit conditional
 
+pub replace_in-requires-clause-users : goal.replace_in-requires-clause-users
+replace_in-requires-clause-users g c =
+    let whole = c.self.invariant (ap (λ (t : Table). t.lost) c.self.view_is ∙ c.requires.there) in
+    keeps_users c.self.inside.users c.note.new.self (map kept c.self.inside.offers.items) c.in_ok-note.ensures.senders_kept c.in_ok-note.ensures.receivers_kept whole.used
+
 pub replace_in-requires-clause-askers : goal.replace_in-requires-clause-askers
 replace_in-requires-clause-askers g c =
     let whole = c.self.invariant (ap (λ (t : Table). t.lost) c.self.view_is ∙ c.requires.there) in
-    keeps_askers c.self.inside.askers c.note_askers.new.askers (map kept c.self.inside.offers.items) c.note_askers.ensures.keeps whole.asks
+    keeps_askers c.self.inside.users.askers c.note.new.self.askers (map kept c.self.inside.offers.items) c.in_ok-note.ensures.askers_kept whole.asks
 
 pub invariant_of-self-2 : goal.invariant_of-self-2
 invariant_of-self-2 g c there =
@@ -40,20 +44,17 @@ invariant_of-self-2 g c there =
     let says = g.J.Judge.verdict c.args.judge.now in
     let new = map kept c.replace_in.new.all.items in
     let below : c.args.process < length all = subst (λ (n : ℕ). c.args.process < n) (ap (λ (t : Table). length t.senders) (sym c.self.view_is) ∙ length-map all senders_in) c.requires.process in
+    let noted : Noted c.self.inside.users c.note.new.self c.args.process c.args.sends.items c.args.receives.items
+    = subst (λ (ss : List SendOffer). Noted c.self.inside.users c.note.new.self c.args.process ss c.args.receives.items) c.as_slice.ensures.value
+    (subst (λ (rs : List ReceiveOffer). Noted c.self.inside.users c.note.new.self c.args.process c.as_slice.result.now rs) c.as_slice-2.ensures.value c.in_ok-note.ensures) in
     record {
       stands =
           stands_after says c.args.process c.args.sends.items c.args.receives.items c.self.inside.groups c.replace_in.new.groups all new whole.stands c.in_ok-replace_in.ensures.replaced below
           c.requires.sends_ordered c.requires.receives_ordered;
-      used =
-          users_after says c.args.process c.args.sends.items c.args.receives.items c.self.inside.groups c.replace_in.new.groups all new c.in_ok-replace_in.ensures.replaced below
-          c.self.inside.users c.note_receives.new.users whole.used (keeps_next c.self.inside.users c.note_sends.new.users c.note_receives.new.users c.note_sends.ensures.keeps c.note_receives.ensures.keeps)
-          (All-weaker (noted (λ (s : SendOffer). s.wire) c.args.process c.note_sends.new.users) (noted (λ (s : SendOffer). s.wire) c.args.process c.note_receives.new.users)
-          (kept_noted (λ (s : SendOffer). s.wire) c.args.process c.note_sends.new.users c.note_receives.new.users c.note_receives.ensures.keeps) c.args.sends.items (subst (λ (ss : List SendOffer). SendsNoted c.note_sends.new.users c.args.process ss) c.as_slice.ensures.value c.in_ok-note_sends.ensures.noted))
-          (subst (λ (rs : List ReceiveOffer). ReceivesNoted c.note_receives.new.users c.args.process rs) c.as_slice-2.ensures.value c.in_ok-note_receives.ensures.noted);
+      used = users_after says c.args.process c.args.sends.items c.args.receives.items c.self.inside.groups c.replace_in.new.groups all new c.in_ok-replace_in.ensures.replaced below c.self.inside.users c.note.new.self whole.used noted;
       asks =
           askers_after says c.args.process c.args.sends.items c.args.receives.items c.self.inside.groups c.replace_in.new.groups all new c.in_ok-replace_in.ensures.replaced below
-          c.self.inside.askers c.note_askers.new.askers whole.asks c.note_askers.ensures.keeps
-          (subst (λ (rs : List ReceiveOffer). AskersNoted c.note_askers.new.askers c.args.process rs) c.as_slice-3.ensures.value c.in_ok-note_askers.ensures.noted);
+          c.self.inside.users.askers c.note.new.self.askers whole.asks noted.askers_kept noted.asking;
     }
 
 pub returns-clause-senders : goal.returns-clause-senders
