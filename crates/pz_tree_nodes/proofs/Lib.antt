@@ -1,1 +1,4 @@
+pub mod Wakings
+pub mod Joins
+pub mod Blind
 pub mod Marks

@@ -1,4 +1,5 @@
 pub mod Keeping
 pub mod View
 pub mod Tended
+pub mod Fresh
 pub mod Laws

@@ -1,14 +1,14 @@
--- Nodes that are sound, and of which each says rightly whether something is asked below it.
-use Rattle.std.specs.Prelude.{◌≡◌, ℕ, Option, Some, None}
+-- Nodes that are sound, and each of which says rightly of its term what no clock decides.
+use Rattle.std.specs.Prelude.{ℕ, Option, Some, None}
 use Rattle.pz_nodes_shapes.specs.Rose.{node, none, gone, more}
-use Rattle.pz_tree_summary.specs.Asked.{asks}
 use Rattle.pz_tree_standing.specs.Sound.{Sound}
+use Rattle.pz_tree_nodes.specs.Keeping.{IsMarked}
 use Rattle.pz_tree_nodes.specs.View.{Plant, Plants, shape_of, term_in}
 
 abbrev mutual
-  -- at every clock, since no clock decides it
+  -- at every clock
   pub Marked : Plant → Type 0
-  Marked (node k x ps) = ((c : ℕ) → x.kept.asks ≡ asks (term_in c (node k x ps))) × AreMarked ps
+  Marked (node k x ps) = ((c : ℕ) → IsMarked (term_in c (node k x ps)) x.kept) × AreMarked ps
 
   pub AreMarked : Plants → Type 0
   AreMarked none = Unit {0}

@@ -1,6 +1,7 @@
 ghost use Rattle.std.specs.Prelude.{◌≡◌, IsTrue, IfOk};
 ghost use Rattle.pz_offer.specs.Summaries.{AreJoinable};
-ghost use Rattle.pz_tree_nodes.specs.Keeping.{kept_nothing, kept_asked, joined};
+ghost use Rattle.pz_tree_nodes.specs.Keeping as keeping;
+ghost use Rattle.pz_tree_nodes.specs.Keeping.{kept_none, kept_done, kept_asked, joined};
 
 use pz_offer::Summary;
 use std::alloc::AllocError;
@@ -13,26 +14,45 @@ pub struct Kept {
     pub summary: Summary,
     /// Whether a guard, a delay that has not begun or a send is there. What is interrupted does not count.
     pub asks: bool,
+    /// Whether an active delay has not begun; as the summary, of what was asked last.
+    pub starts: bool,
+    /// Whether an active part names the clock; as the summary, of what was asked last.
+    pub clocked: bool,
+    /// The height of the term.
+    pub height: u32,
 }
 
 impl Kept {
-    /// Of what can do nothing and is asked nothing.
-    pub fn nothing() -> Kept
-        ensures { result ≡ kept_nothing }
+    /// Of no part at all.
+    pub fn none() -> Kept
+        ensures { result ≡ kept_none }
     {
         Kept {
             summary: Summary::none(),
             asks: false,
+            starts: false,
+            clocked: false,
+            height: 0,
         }
     }
 
-    /// Of what was not asked yet what there is to ask.
+    /// Of a part that is done, or that can do nothing and is asked nothing.
+    pub fn done() -> Kept
+        ensures { result ≡ kept_done }
+    {
+        Kept {
+            height: 1,
+            ..Kept::none()
+        }
+    }
+
+    /// Of a statement that was not asked yet what there is to ask.
     pub fn asked() -> Kept
         ensures { result ≡ kept_asked }
     {
         Kept {
-            summary: Summary::none(),
             asks: true,
+            ..Kept::done()
         }
     }
 
@@ -46,7 +66,20 @@ impl Kept {
         Ok(Kept {
             summary: self.summary.join(&right.summary),
             asks: self.asks || right.asks,
+            starts: self.starts || right.starts,
+            clocked: self.clocked || right.clocked,
+            height: self.height.max(right.height),
         })
+    }
+
+    /// Of a node over parts of which this is kept. The only error is that it is higher than can be counted.
+    pub fn raised(&self) -> Result<Kept, AllocError>
+        ensures { IfOk result (λ above. above ≡ keeping.raised self.now) }
+    {
+        match self.height.checked_add(1) {
+            Some(height) => Ok(Kept { height, ..*self }),
+            None => Err(AllocError),
+        }
     }
 }
 

@@ -13,7 +13,7 @@ use Rattle.pz_rules.specs.View.{term_view, terms_view}
 use Rattle.pz_tree_nodes.specs.declared.kept.Kept.{Kept}
 use Rattle.pz_tree_nodes.specs.declared.node.Head.{Head}
 use Rattle.pz_tree_nodes.specs.declared.node.What.{What}
-use Rattle.pz_tree_nodes.specs.Keeping.{IsKept, AreKept, kept_nothing, joined}
+use Rattle.pz_tree_nodes.specs.Keeping.{IsKept, AreKept, kept_none, kept_done, joined}
 use Rattle.pz_tree_nodes.specs.View.{Plant, head_view, term_in_option}
 use Rattle.pz_tree_nodes.specs.Tended.{TendedOption}
 use Rattle.pz_tree_planting.specs.declared.parts.PlantedPart.{PlantedPart}
@@ -21,7 +21,8 @@ use Rattle.pz_tree_planting.specs.Planting.{EndsInTime, EndInTime, nodes_of, nod
 use Rattle.pz_tree_planting.specs.devices.Parts.{ArePlanted, PartRule, TwoRule, AllRule, PlantsOn, Forms, IsPut, Puts}
 use Rattle.pz_tree_planting.proofs.Made.{same, apart, stays, change_beside, put_over}
 use Rattle.pz_tree_planting.proofs.Tending.{node_means, node_tended}
-use Rattle.pz_tree_planting.proofs.Keeping.{done_kept, none_kept, more_kept, joined_associative, joined_nothing, nothing_joined}
+use Rattle.pz_tree_nodes.proofs.Joins.{joined_associative, joined_none, none_joined}
+use Rattle.pz_tree_planting.proofs.Keeping.{done_kept, none_kept, more_kept}
 
 -- ------------------------------------------------------------ parts side by side
 
@@ -109,17 +110,17 @@ two_under r m n p c old mid new h keys kept k l t v whole u put rule is ends for
     let x = rule b.0 b.1 in
     (x.planted, x.ticks, forms, keeps x.first x.second))
 
-pub all_under : {E : Type 0} (r : Result PlantedPart E) (m n p : Map What) (c old mid new : ℕ) (h : Head) (keys : List (Option ℕ)) (kept : Kept) (ts : Terms) (whole u : Term)
-    → IfOk r (λ x. Puts n p h keys kept mid new x.key x.kept) → AllRule m n c ts keys kept old mid → u ≡ whole
-    → (EndsInTime c whole → EndInTime c ts) → Forms c (head_view h) ts whole → (AreKept c ts kept → IsKept c whole kept)
+pub all_under : {E : Type 0} (r : Result PlantedPart E) (m n p : Map What) (c old mid new : ℕ) (h : Head) (keys : List (Option ℕ)) (kept k : Kept) (ts : Terms) (whole u : Term)
+    → IfOk r (λ x. Puts n p h keys kept mid new x.key x.kept) → AllRule m n c ts keys k old mid → u ≡ whole
+    → (EndsInTime c whole → EndInTime c ts) → Forms c (head_view h) ts whole → (AreKept c ts k → IsKept c whole kept)
     → IfOk r (λ x. PartRule m p c u x.key x.kept old new)
-all_under r m n p c old mid new h keys kept ts whole u put rule is ends forms keeps =
+all_under r m n p c old mid new h keys kept k ts whole u put rule is ends forms keeps =
     finished r m n p c old mid new h keys kept ts whole u put is (λ w.
     let x = rule (ends w) in
     (x.planted, x.ticks, forms, keeps x.kept))
 
-pub done_planted : (m : Map What) (c old : ℕ) (u : Term) → u ≡ Rattle.pz_rules.specs.Terms.done → PartRule m m c u None kept_nothing old old
-done_planted m c old u is = subst (λ z. PartRule m m c z None kept_nothing old old) (sym is) (λ w. record {
+pub done_planted : (m : Map What) (c old : ℕ) (u : Term) → u ≡ Rattle.pz_rules.specs.Terms.done → PartRule m m c u None kept_done old old
+done_planted m c old u is = subst (λ z. PartRule m m c z None kept_done old old) (sym is) (λ w. record {
   planted = record { plant = None; under = refl; made = same m; tended = λ f. tt; means = refl; size = refl };
   kept = done_kept c;
   ticks = omega arith;
@@ -149,8 +150,8 @@ one_beside m m1 n c old mid new t ts key keys k l a b w =
       ticks = omega (arith, x.ticks, y.ticks);
     }
 
-pub plants_at_first : (m : Map What) (c old : ℕ) (parts : List code.Term) → PlantsOn m m c parts 0 [] kept_nothing old old
-plants_at_first m c old parts n others k new rest = subst (λ z. AllRule m n c (terms_view parts) others z old new) (sym (nothing_joined k)) rest
+pub plants_at_first : (m : Map What) (c old : ℕ) (parts : List code.Term) → PlantsOn m m c parts 0 [] kept_none old old
+plants_at_first m c old parts n others k new rest = subst (λ z. AllRule m n c (terms_view parts) others z old new) (sym (none_joined k)) rest
 
 -- a list of which the places from i on are as they were
 module _ {A : Type 0} (all now : List A) (i : ℕ) (still : drop i now ≡ drop i all) where
@@ -195,7 +196,7 @@ nothing_left (x ∷ xs) (suc i) h = nothing_left xs i (omega arith)
 
 pub all_planted : (m0 m : Map What) (c : ℕ) (parts : List code.Term) (i : ℕ) (keys kids : List (Option ℕ)) (kept : Kept) (old now : ℕ) → length parts ≤ i → kids ≡ keys → PlantsOn m0 m c parts i keys kept old now → AllRule m0 m c (terms_view parts) kids kept old now
 all_planted m0 m c parts i keys kids kept old now ended e on =
-    let r : AllRule m m c no_terms [] kept_nothing now now = λ w. record { planted = no_parts m c; kept = none_kept c; ticks = omega arith } in
-    let whole = on m [] kept_nothing now (subst (λ z. AllRule m m c (terms_view z) [] kept_nothing now now) (sym (nothing_left parts i ended)) r) in
+    let r : AllRule m m c no_terms [] kept_none now now = λ w. record { planted = no_parts m c; kept = none_kept c; ticks = omega arith } in
+    let whole = on m [] kept_none now (subst (λ z. AllRule m m c (terms_view z) [] kept_none now now) (sym (nothing_left parts i ended)) r) in
     subst (λ z. AllRule m0 m c (terms_view parts) z kept old now) (append_none keys ∙ sym e)
-    (subst (λ z. AllRule m0 m c (terms_view parts) (keys ++ []) z old now) (joined_nothing kept) whole)
+    (subst (λ z. AllRule m0 m c (terms_view parts) (keys ++ []) z old now) (joined_none kept) whole)

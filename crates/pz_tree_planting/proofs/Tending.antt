@@ -10,10 +10,10 @@ use Rattle.pz_tree_standing.specs.Standing.{term_of, terms_of, Fits, FitAll}
 use Rattle.pz_tree_standing.specs.Resting.{Rests, RestAll}
 use Rattle.pz_tree_standing.specs.Whole.{AreWhole}
 use Rattle.pz_tree_nodes.specs.declared.node.What.{What}
-use Rattle.pz_tree_nodes.specs.Keeping.{IsKept}
+use Rattle.pz_tree_nodes.specs.Keeping.{IsMarked, IsKept}
 use Rattle.pz_tree_nodes.specs.View.{Plants, head_view, shape_of, shapes_of, term_in, terms_in}
 use Rattle.pz_tree_nodes.specs.Tended.{Tended, AreTended, AreMarked}
-use Rattle.pz_tree_nodes.proofs.Marks.{asks_alike}
+use Rattle.pz_tree_nodes.proofs.Marks.{marked_alike}
 use Rattle.pz_tree_planting.specs.devices.Parts.{Forms}
 
 as_wide : (c : ℕ) (ps : Plants) → width (shapes_of ps) ≡ count (terms_in c ps)
@@ -64,5 +64,5 @@ module _ (c k : ℕ) (x : What) (ts : Terms) (t : Term) (ps : Plants) (forms : F
         rest (head_view x.head) c forms.clocks (inner_frame (head_view x.head) f) 0 ps (tended (inner_frame (head_view x.head) f)),
       );
     };
-    marked = ((λ d. kept.mark ∙ ap asks node_means ∙ asks_alike c d (shape_of (node k x ps))), marked f c ps (tended f));
+    marked = ((λ d. marked_alike c d (shape_of (node k x ps)) x.kept (subst (λ z. IsMarked z x.kept) node_means kept.mark)), marked f c ps (tended f));
   }

@@ -1,12 +1,16 @@
-// What a node without children keeps.
+// What a node without children keeps, and what is kept of parts where the node over them keeps less.
 
-ghost use Rattle.std.specs.Prelude.{◌≡◌};
+ghost use Rattle.std.specs.Prelude.{◌≡◌, option_map};
+ghost use Rattle.pz_classes_code.specs.CodeView as code;
 ghost use Rattle.pz_classes_code.specs.StepView.{view};
+ghost use Rattle.pz_tree_summary.specs.Woken as woken;
+ghost use Rattle.pz_tree_planting.specs.devices.Leaves as leaves;
 ghost use Rattle.pz_tree_planting.specs.devices.Leaves.{statement_kept, kept_action, kept_receive, delay_kept};
 
-use pz_classes_code::{Step, StepForm};
+use pz_classes_code::{Code, Step, StepForm};
+use pz_items::Shared;
 use pz_offer::Summary;
-use pz_tree_nodes::Kept;
+use pz_tree_nodes::{Kept, names_clock};
 
 /// Of a statement that has not begun.
 pub(crate) fn leaf_kept(step: &Step) -> Kept
@@ -15,19 +19,19 @@ pub(crate) fn leaf_kept(step: &Step) -> Kept
     match &step.form {
         StepForm::Delay(_) => Kept::asked(),
         StepForm::Send { .. } => Kept::asked(),
-        StepForm::Receive { .. } => one_receive(),
+        StepForm::Receive { condition, .. } => one_receive(condition_names_clock(condition)),
         StepForm::Skip => one_action(),
         StepForm::Block(_) => one_action(),
         StepForm::If(..) => one_action(),
         StepForm::While(..) => one_action(),
         StepForm::Call { .. } => one_action(),
         StepForm::Eval(_) => one_action(),
-        StepForm::Group(_) => Kept::nothing(),
-        StepForm::Guard(..) => Kept::nothing(),
-        StepForm::Par(_) => Kept::nothing(),
-        StepForm::Sel(_) => Kept::nothing(),
-        StepForm::Abort(..) => Kept::nothing(),
-        StepForm::Interrupt(..) => Kept::nothing(),
+        StepForm::Group(_) => Kept::done(),
+        StepForm::Guard(..) => Kept::done(),
+        StepForm::Par(_) => Kept::done(),
+        StepForm::Sel(_) => Kept::done(),
+        StepForm::Abort(..) => Kept::done(),
+        StepForm::Interrupt(..) => Kept::done(),
     }
 }
 
@@ -39,19 +43,29 @@ fn one_action() -> Kept
             internal: 1,
             ..Summary::none()
         },
-        asks: false,
+        ..Kept::done()
     }
 }
 
-fn one_receive() -> Kept
-    ensures { result ≡ kept_receive }
+fn one_receive(clocked: bool) -> Kept
+    ensures { result ≡ kept_receive clocked }
 {
     Kept {
         summary: Summary {
             receives: 1,
             ..Summary::none()
         },
-        asks: false,
+        clocked,
+        ..Kept::done()
+    }
+}
+
+fn condition_names_clock(condition: &Option<Shared<Code>>) -> bool
+    ensures { result ≡ woken.condition_names_clock (option_map code.view condition.now) }
+{
+    match condition {
+        None => false,
+        Some(condition) => names_clock(condition.get()),
     }
 }
 
@@ -65,6 +79,26 @@ pub(crate) fn wait_kept(left: u128, due: u128) -> Kept
             due: Some(due),
             ..Summary::none()
         },
-        asks: false,
+        ..Kept::done()
+    }
+}
+
+/// Of what stands behind a guard that was not asked yet.
+pub(crate) fn unasked(body: &Kept) -> Kept
+    ensures { result ≡ leaves.unasked body.now }
+{
+    Kept {
+        height: body.height,
+        ..Kept::asked()
+    }
+}
+
+/// Of two parts, of which the first stands still.
+pub(crate) fn second_alone(first: &Kept, second: &Kept) -> Kept
+    ensures { result ≡ leaves.second_alone first.now second.now }
+{
+    Kept {
+        height: first.height.max(second.height),
+        ..*second
     }
 }

@@ -2,6 +2,7 @@
 
 ghost use Rattle.std.specs.Prelude.{◌≡◌, ◌+◌, ◌<◌, length, slice_index_or, slice_set, IfOk, OnOk};
 ghost use Rattle.pz_nodes.specs.Arena.{find};
+ghost use Rattle.pz_tree_nodes.specs.Keeping.{raised};
 ghost use Rattle.pz_tree_planting.specs.devices.Parts.{IsPut, Puts};
 
 use pz_nodes::{Key, Nodes, Steps};
@@ -76,4 +77,20 @@ pub(crate) fn put<L: Ledger>(
         key: Some(key),
         kept,
     })
+}
+
+/// The same over parts of which this is kept. The only error is want of memory, or that the node is higher
+/// than can be counted.
+pub(crate) fn put_over<L: Ledger>(
+    nodes: &mut Nodes<Node>,
+    head: Head,
+    kids: Kids,
+    parts: &Kept,
+    steps: &mut Steps<L>,
+) -> Result<PlantedPart, AllocError>
+    ensures { IfOk result (λ part. Puts (find nodes.old) (find nodes.new) head kids
+        (raised parts.now) steps.old steps.new part.key part.kept) }
+{
+    let kept = parts.raised()?;
+    put(nodes, head, kids, kept, steps)
 }

@@ -6,8 +6,8 @@ ghost use Rattle.pz_rules.specs.View.{term_view, terms_view};
 ghost use Rattle.pz_tree_planting.specs.Planting.{EndsInTime, nodes_of, Planted};
 ghost use Rattle.pz_tree_planting.specs.devices.Parts.{PartRule, TwoRule, AllRule};
 
-use crate::leaves::{leaf_kept, wait_kept};
-use crate::parts::{PlantedAll, PlantedPart, PlantedTwo, exchange, put};
+use crate::leaves::{leaf_kept, second_alone, unasked, wait_kept};
+use crate::parts::{PlantedAll, PlantedPart, PlantedTwo, exchange, put, put_over};
 use pz_clock::Shift;
 use pz_items::{Boxed, Items};
 use pz_nodes::{Key, Nodes, Steps};
@@ -31,7 +31,7 @@ fn plant_part<L: Ledger>(
     match term {
         Term::Done => Ok(PlantedPart {
             key: None,
-            kept: Kept::nothing(),
+            kept: Kept::done(),
         }),
         Term::Leaf(step) => {
             let kept = leaf_kept(&step);
@@ -44,27 +44,28 @@ fn plant_part<L: Ledger>(
         }
         Term::Seq(part, rest) => {
             let part = plant_boxed(alloc, nodes, part, clock, steps)?;
-            put(
+            put_over(
                 nodes,
                 Head::Seq(rest),
                 Kids::one(part.key),
-                part.kept,
+                &part.kept,
                 steps,
             )
         }
         Term::Par(parts) => {
             let all = plant_all(alloc, nodes, parts, clock, steps)?;
-            put(nodes, Head::Par, all.kids, all.kept, steps)
+            put_over(nodes, Head::Par, all.kids, &all.kept, steps)
         }
         Term::Sel(parts) => {
             let all = plant_all(alloc, nodes, parts, clock, steps)?;
-            put(nodes, Head::Sel, all.kids, all.kept, steps)
+            put_over(nodes, Head::Sel, all.kids, &all.kept, steps)
         }
         Term::Guard { test, pos, body } => {
             let body = plant_boxed(alloc, nodes, body, clock, steps)?;
             let shift = Shift::new();
             let head = Head::Guard { test, pos, shift };
-            put(nodes, head, Kids::one(body.key), Kept::asked(), steps)
+            let kept = unasked(&body.kept);
+            put_over(nodes, head, Kids::one(body.key), &kept, steps)
         }
         Term::Frame {
             frame,
@@ -78,21 +79,21 @@ fn plant_part<L: Ledger>(
                 inputs,
                 results,
             };
-            put(nodes, head, Kids::one(body.key), body.kept, steps)
+            put_over(nodes, head, Kids::one(body.key), &body.kept, steps)
         }
         Term::Abort(first, second) => {
             let two = plant_two(alloc, nodes, first, second, clock, steps)?;
             let kept = two.first.join(&two.second)?;
-            put(nodes, Head::Abort, two.kids, kept, steps)
+            put_over(nodes, Head::Abort, two.kids, &kept, steps)
         }
         Term::Idle(first, second, again) => {
             let two = plant_two(alloc, nodes, first, second, clock, steps)?;
             let kept = two.first.join(&two.second)?;
-            put(
+            put_over(
                 nodes,
                 Head::Idle(again, Shift::new()),
                 two.kids,
-                kept,
+                &kept,
                 steps,
             )
         }
@@ -100,13 +101,8 @@ fn plant_part<L: Ledger>(
         Term::Handling(first, second, again) => {
             let two = plant_two(alloc, nodes, first, second, clock, steps)?;
             let shift = Shift::new().freeze(clock);
-            put(
-                nodes,
-                Head::Handling(again, shift),
-                two.kids,
-                two.second,
-                steps,
-            )
+            let kept = second_alone(&two.first, &two.second);
+            put_over(nodes, Head::Handling(again, shift), two.kids, &kept, steps)
         }
     }
 }
@@ -160,7 +156,7 @@ fn plant_all<L: Ledger>(
 {
     let mut left = parts.into_vec();
     let mut keys = Vec::with_capacity(alloc, left.len())?;
-    let mut kept = Kept::nothing();
+    let mut kept = Kept::none();
     for index in 0..left.len() {
         let part = exchange(&mut left, index, Term::Done);
         let planted = plant_part(alloc, nodes, part, clock, steps)?;
@@ -175,11 +171,11 @@ fn plant_all<L: Ledger>(
 
 /// Makes nodes of a term, where the clock shows so much, in clock units, and hands out the key of the
 /// topmost; None where the term is done. Nothing else changes. What is kept of a part that is asked nothing
-/// is right at once, and of every part whether it is. One step for each node, of which there is one for each
-/// part that is not done.
+/// is right at once, and of every part whether it is and how high it is. One step for each node, of which
+/// there is one for each part that is not done.
 ///
-/// The only error is want of memory, or that there is more to do than can be counted; then the nodes may
-/// only be dropped.
+/// The only error is want of memory, or that there is more to do, or a part higher, than can be counted; then
+/// the nodes may only be dropped.
 pub fn plant<L: Ledger>(
     alloc: Global,
     nodes: &mut Nodes<Node>,

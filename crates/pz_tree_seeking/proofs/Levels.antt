@@ -22,7 +22,7 @@ past_the_last h c i (gone ss) (suc j) p = past_the_last h c (suc i) ss j (omega 
 past_the_last h c i (more s ss) (suc j) p = past_the_last h c (suc i) ss j (omega (arith, p))
 
 -- the child of a term is that of its node
-form_child : (h : Head) (c : ℕ) (ss : Shapes) (j : ℕ) → HasParts h ss → IsNoShift h → child (formed h c (terms_of h c 0 ss)) j ≡ term_at (terms_of h c 0 ss) j
+pub form_child : (h : Head) (c : ℕ) (ss : Shapes) (j : ℕ) → HasParts h ss → IsNoShift h → child (formed h c (terms_of h c 0 ss)) j ≡ term_at (terms_of h c 0 ss) j
 form_child (leaf s) c ss j p n = sym (past_the_last (leaf s) c 0 ss j (omega (arith, p)))
 form_child (wait due at) c ss j p n = sym (past_the_last (wait due at) c 0 ss j (omega (arith, p)))
 form_child (sequence rest) c ss zero p n = refl
@@ -47,7 +47,7 @@ form_child (handling again s) c ss (suc zero) p n = refl
 form_child (handling again s) c ss (suc (suc j)) p n = sym (past_the_last (handling again s) c 0 ss (suc (suc j)) (omega (arith, p)))
 form_child (shifted s) c ss j p n = absurd n
 
-form_frame : (h : Head) (c : ℕ) (ts : Terms) (f : ℕ) → IsNoShift h → inner_frame h f ≡ frame_in (formed h c ts) f
+pub form_frame : (h : Head) (c : ℕ) (ts : Terms) (f : ℕ) → IsNoShift h → inner_frame h f ≡ frame_in (formed h c ts) f
 form_frame (leaf s) c ts f n = refl
 form_frame (wait due at) c ts f n = refl
 form_frame (sequence rest) c ts f n = refl

@@ -1,14 +1,23 @@
 -- A worked term in its nodes, which the checker works out.
-use Rattle.std.proofs.Common.{[], ◌∷◌, Some, None, refl, arith}
+use Rattle.std.proofs.Common.{◌≡◌, ℕ, [], ◌∷◌, Some, None, refl, arith}
 use Rattle.std.specs.Prelude.{slice_index_or}
 use Rattle.pz_syntax.specs.declared.tokens.Pos.{Pos}
 use Rattle.pz_clock.specs.Shifts.{ShiftView}
 use Rattle.pz_nodes_shapes.specs.Rose.{node, none, gone, more, Map}
 use Rattle.pz_offer.specs.Summaries.{nothing}
-use Rattle.pz_rules.specs.Terms.{Term}
+use Rattle.pz_syntax.specs.Statements.{skip}
+use Rattle.pz_rules.specs.Settings.{Context}
+use Rattle.pz_rules.specs.Terms.{Step, Term}
 use Rattle.pz_rules.specs.Terms as term
-use Rattle.pz_tree_standing.specs.Heads.{Head, What, wait, frame, abort, shifted, Shape}
+use Rattle.pz_tree_standing.specs.Heads.{Head, What, wait, parallel, frame, abort, handling, shifted, Shape}
+use Rattle.pz_tree_nodes.specs.declared.kept.Kept.{Kept}
+use Rattle.pz_tree_nodes.specs.declared.node.Head.TheVariants as kind
+use Rattle.pz_tree_nodes.specs.declared.node.What as lying
+use Rattle.pz_tree_nodes.specs.Keeping.{kept_done}
 use Rattle.pz_tree_seeking.specs.Seeking.{StandsUnder, IsFound}
+use Rattle.pz_tree_seeking.specs.Standing.{RightUnder}
+use Rattle.pz_tree_seeking.specs.Choosing.{actions_in}
+use Rattle.pz_tree_seeking.specs.devices.Counts.{IsSought}
 
 abbrev at : Pos
 at = record { line = 1; column = 7 }
@@ -87,3 +96,59 @@ no_shift_found h = h.bare
 
 in_the_frame : IsFound map 0 method (0 ∷ 0 ∷ []) (Some 0) 0 16 → ⊥
 in_the_frame h = absurd (let e = h.in_frame in cc)
+
+-- A delay of which 1 is left stands tended and right, whatever the state and the frame, and has no action
+
+abbrev begun : lying.What
+begun = record { head = kind.Wait 17 at; kept = record kept_done { summary = record nothing { due = Some 17 } } }
+
+abbrev one_node : Map lying.What
+one_node k = slice_index_or (Some (record { what = begun; kids = [] }) ∷ []) k None
+
+stands_right : (a : Context) (f : ℕ) → RightUnder a one_node f (Some 0) 16 (term.wait 1 at)
+stands_right a f = record {
+  plant = node 0 begun none;
+  stands = (refl, refl, tt);
+  under = refl;
+  tended = record {
+    sound = record { whole = (refl, tt); fits = (omega arith, tt); rests = ((λ e b. refl), tt) };
+    marked = ((λ c. record { asked = refl; high = refl; flags = λ e b g. record { starts = refl; clocked = refl } }), tt);
+  };
+  right = (refl, tt, tt);
+  means = refl;
+}
+
+no_action : (a : Context) (f : ℕ) → actions_in a f (term.wait 1 at) ≡ []
+no_action a f = refl
+
+-- A `par` of a delay of which nothing is left, what is done, and two actions, by what its nodes keep: the second of
+-- all is the first of its last part
+
+abbrev again : Step
+again = skip at
+
+abbrev keeping : ℕ → Kept
+keeping n = record kept_done { summary = record nothing { internal = n } }
+
+abbrev lying_map : Map lying.What
+lying_map k = slice_index_or (
+    Some (record { what = record { head = kind.Wait 17 at; kept = keeping 1 }; kids = [] })
+    ∷ Some (record { what = record { head = kind.Abort; kept = keeping 2 }; kids = Some 2 ∷ Some 3 ∷ [] })
+    ∷ []
+    ) k None
+
+second_of_par : IsSought lying_map parallel (Some 0 ∷ None ∷ Some 1 ∷ []) 1 (Some (record { number = 2; left = 0 }))
+second_of_par = record { there = omega arith; active = refl; within = omega arith; before = refl }
+
+third_of_par : IsSought lying_map parallel (Some 0 ∷ None ∷ Some 1 ∷ []) 2 (Some (record { number = 2; left = 1 }))
+third_of_par = record { there = omega arith; active = refl; within = omega arith; before = refl }
+
+no_fourth : IsSought lying_map parallel (Some 0 ∷ None ∷ Some 1 ∷ []) 3 None
+no_fourth = omega arith
+
+-- of an interrupt that is at work the first part has none
+first_of_handler : IsSought lying_map (handling again late) (Some 1 ∷ Some 0 ∷ []) 0 (Some (record { number = 1; left = 0 }))
+first_of_handler = record { there = omega arith; active = refl; within = omega arith; before = refl }
+
+not_interrupted : IsSought lying_map (handling again late) (Some 1 ∷ Some 0 ∷ []) 0 (Some (record { number = 0; left = 0 })) → ⊥
+not_interrupted h = absurd (let e = h.active in cc)

@@ -1,2 +1,5 @@
 pub mod Seeking
+pub mod Standing
+pub mod Choosing
+pub mod Listing
 pub mod devices

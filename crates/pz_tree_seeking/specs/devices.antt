@@ -1,1 +1,5 @@
 pub mod Levels
+pub mod Own
+pub mod Counts
+pub mod Onward
+pub mod Adding

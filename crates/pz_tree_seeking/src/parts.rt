@@ -7,7 +7,7 @@ ghost use Rattle.pz_nodes_shapes.specs.Seen.{seen};
 ghost use Rattle.pz_tree_standing.specs.Heads.{first_only, inner_clock, inner_frame};
 ghost use Rattle.pz_tree_nodes.specs.View.{head_view, what_view};
 ghost use Rattle.pz_tree_seeking.specs.Seeking.{SeekRule};
-ghost use Rattle.pz_tree_seeking.specs.devices.Levels.{PastRule, ChildRule};
+ghost use Rattle.pz_tree_seeking.specs.devices.Levels.{PastRule, PastRightRule, ChildRule};
 
 use pz_clock::Shift;
 use pz_nodes::{Key, Nodes, Steps};
@@ -70,7 +70,7 @@ fn frame_inside(head: &Head, frame: FrameId) -> FrameId
     }
 }
 
-// The child of a node; None where it is gone.
+// The key of a child of a node; None where it is gone.
 fn kid_in(node: &Node, number: usize) -> Option<Key>
     ensures { result ≡ slice_index_or node.now.kids number None }
 {
@@ -78,8 +78,9 @@ fn kid_in(node: &Node, number: usize) -> Option<Key>
 }
 
 // Past the shift node, if there is one: it is no part of the term, and what is below it is none.
-fn past_shift<L: Ledger>(nodes: &Nodes<Node>, spot: Spot, steps: &mut Steps<L>) -> Spot
+pub(crate) fn past_shift<L: Ledger>(nodes: &Nodes<Node>, spot: Spot, steps: &mut Steps<L>) -> Spot
     ensures past { PastRule (seen what_view (find nodes.now)) spot.key spot.clock result.key result.clock }
+    ensures right { PastRightRule (find nodes.now) spot.key spot.frame.0 spot.clock result.key result.clock }
     ensures frame { result.frame ≡ spot.frame }
     ensures ticks { steps.new ≤ steps.old + 1 }
 {
@@ -99,6 +100,19 @@ fn past_shift<L: Ledger>(nodes: &Nodes<Node>, spot: Spot, steps: &mut Steps<L>) 
     }
 }
 
+// The child of this number, of a node that stands at a spot.
+pub(crate) fn child_in(node: &Node, spot: Spot, number: usize) -> Spot
+    ensures key { result.key ≡ slice_index_or node.now.kids number None }
+    ensures frame { result.frame.0 ≡ inner_frame (head_view node.now.what.head) spot.frame.0 }
+    ensures clock { result.clock ≡ inner_clock (head_view node.now.what.head) number spot.clock }
+{
+    Spot {
+        key: kid_in(node, number),
+        frame: frame_inside(&node.what.head, spot.frame),
+        clock: clock_inside(&node.what.head, number, spot.clock),
+    }
+}
+
 // The child of this number, of a part whose topmost node is no shift node.
 fn child_at<L: Ledger>(nodes: &Nodes<Node>, spot: Spot, number: usize, steps: &mut Steps<L>) -> Spot
     ensures child { ChildRule (seen what_view (find nodes.now)) spot.key spot.frame.0 spot.clock
@@ -111,11 +125,7 @@ fn child_at<L: Ledger>(nodes: &Nodes<Node>, spot: Spot, number: usize, steps: &m
     let Some(node) = nodes.get(key, steps) else {
         return spot;
     };
-    Spot {
-        key: kid_in(node, number),
-        frame: frame_inside(&node.what.head, spot.frame),
-        clock: clock_inside(&node.what.head, number, spot.clock),
-    }
+    child_in(node, spot, number)
 }
 
 /// The part at a place of the term that stands at `root`: the key of its topmost node, None where the part

@@ -18,7 +18,7 @@ some_unasked (and t ts) zero h = (or_neither (asks t) (any_asks ts) h).0
 some_unasked (and t ts) (suc j) h = some_unasked ts j (or_neither (asks t) (any_asks ts) h).1
 
 -- a child that is active is asked nothing, where the whole is not
-kid_unasked : (h : Head) (c : ℕ) (ts : Terms) → asks (formed h c ts) ≡ false → (j : ℕ) → reaches h j ≡ true → asks (term_at ts j) ≡ false
+pub kid_unasked : (h : Head) (c : ℕ) (ts : Terms) → asks (formed h c ts) ≡ false → (j : ℕ) → reaches h j ≡ true → asks (term_at ts j) ≡ false
 kid_unasked (head.leaf s) c ts e j r = absurd cc
 kid_unasked (head.wait due at) c ts e j r = absurd cc
 kid_unasked (head.sequence rest) c ts e zero r = e

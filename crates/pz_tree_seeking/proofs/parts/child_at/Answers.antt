@@ -11,5 +11,5 @@ returns-clause-child g c =
     let m = seen what_view (find c.args.nodes.now) in
     let n = seen_node what_view c.in-Some-get.node.now in
     let e : m c.in-Some.key ≡ Some n = ap (option_map (seen_node what_view)) (sym c.in-Some-get.ensures.value) in
-    kid_found m c.args.spot.key c.in-Some.key c.args.spot.frame.0 c.args.spot.clock c.args.number n c.kid_in.result c.frame_inside.result.0 c.clock_inside.result
-    c.in-Some.is e c.kid_in.ensures c.frame_inside.ensures c.clock_inside.ensures
+    kid_found m c.args.spot.key c.in-Some.key c.args.spot.frame.0 c.args.spot.clock c.args.number n c.child_in.result.key c.child_in.result.frame.0 c.child_in.result.clock
+    c.in-Some.is e c.child_in.ensures.key c.child_in.ensures.frame c.child_in.ensures.clock

@@ -1,0 +1,47 @@
+-- What the active children of a node add to it, of any sort of sum.
+use Rattle.std.specs.Prelude.{◌≡◌, ◌||◌, ◌<◌, ◌+◌, ◌^◌, ℕ, zero, suc, Bool, true, false, Option, Some, None}
+use Rattle.pz_offer.specs.Summaries.{nothing, join, shifted}
+use Rattle.pz_rules.specs.Settings.{Context}
+use Rattle.pz_rules.specs.Terms.{Term, Terms, no_terms, and}
+use Rattle.pz_tree_summary.specs.Summaries.{summary_of}
+use Rattle.pz_tree_summary.specs.Woken.{starts, clocked}
+use Rattle.pz_tree_standing.specs.Heads as heads
+use Rattle.pz_tree_standing.specs.Heads.{Head}
+use Rattle.pz_tree_standing.specs.Reached.{reaches}
+use Rattle.pz_tree_nodes.specs.declared.kept.Kept.{Kept}
+
+abbrev pub added : {V : Type 0} → (V → V → V) → Bool → V → V → V
+added plus true v w = plus v w
+added plus false v w = w
+
+-- of these children, of which the first has number i, each of the value that g says
+abbrev pub reached_sum : {V : Type 0} → V → (V → V → V) → Head → (Term → V) → ℕ → Terms → V
+reached_sum nil plus h g i no_terms = nil
+reached_sum nil plus h g i (and t ts) = added plus (reaches h i) (g t) (reached_sum nil plus h g (suc i) ts)
+
+-- it comes less than 2^64 clock units after this moment, if there is one
+abbrev pub IsSoon : ℕ → Option ℕ → Type 0
+IsSoon c None = Unit {0}
+IsSoon c (Some due) = due < c + 2 ^ 64
+
+-- what they keep, by the clock of the node, which shows c; in their frame f
+pub record Says (a : Context) (c f : ℕ) (h : Head) (i : ℕ) (ts : Terms) (k : Kept) : Type 0 where
+  pub summary : k.summary ≡ reached_sum nothing join h (summary_of a c f) i ts
+  pub starts : k.starts ≡ reached_sum false ◌||◌ h (starts a f) i ts
+  pub clocked : k.clocked ≡ reached_sum false ◌||◌ h (clocked a f) i ts
+  pub soon : IsSoon c k.summary.due
+
+-- by how much the clock of this child is behind that of the node, where it is active
+abbrev pub first_behind : ℕ → ℕ → ℕ
+first_behind by zero = by
+first_behind by (suc i) = 0
+
+abbrev pub behind_inside : Head → ℕ → ℕ
+behind_inside (heads.guarded e at s) i = s.behind
+behind_inside (heads.idle again s) i = first_behind s.behind i
+behind_inside (heads.shifted s) i = s.behind
+behind_inside h i = 0
+
+-- seen from a clock that is ahead by so much
+abbrev pub later : ℕ → Kept → Kept
+later by k = record k { summary = shifted by k.summary }

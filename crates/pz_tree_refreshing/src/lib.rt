@@ -1,0 +1,10 @@
+//! What the parts of a process are asked is asked again, in the nodes that stand for them.
+#![tactic(auto)]
+
+mod asking;
+mod inside;
+mod refreshing;
+mod spot;
+
+pub use refreshing::refresh;
+pub use spot::Spot;
