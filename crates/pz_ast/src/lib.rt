@@ -7,7 +7,7 @@ mod depth;
 pub mod laws;
 mod printing;
 
-pub use copying::{copy_expression, copy_statement, copy_statements};
+pub use copying::{copy_expression, copy_model, copy_statement, copy_statements};
 pub use depth::nesting;
 pub use printing::tokens_of;
 pub use pz_syntax::{

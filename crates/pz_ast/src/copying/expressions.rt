@@ -130,3 +130,16 @@ pub(crate) fn copy_part(
         Some(list) => Ok(Some(copy_list(alloc, list.as_slice())?)),
     }
 }
+
+/// The same of names.
+pub(crate) fn copy_id_part(
+    alloc: Global,
+    part: &Option<Items<Id>>,
+) -> Result<Option<Items<Id>>, AllocError>
+    ensures { IfOk result (λ copy. copy ≡ part.now) }
+{
+    match part {
+        None => Ok(None),
+        Some(ids) => Ok(Some(copy_ids(alloc, ids.as_slice())?)),
+    }
+}

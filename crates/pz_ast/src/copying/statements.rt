@@ -1,6 +1,8 @@
 ghost use Rattle.std.specs.Prelude.{◌≡◌, IfOk};
 
-use crate::copying::expressions::{copy_expression, copy_ids, copy_list as copy_exprs, copy_part};
+use crate::copying::expressions::{
+    copy_expression, copy_id_part, copy_ids, copy_list as copy_exprs, copy_part,
+};
 use pz_items::{Boxed, Items};
 use pz_syntax::{Expr, Id, Stmt, StmtForm};
 use std::alloc::{AllocError, Global};
@@ -153,18 +155,9 @@ fn copy_optional(
 ) -> Result<(Option<Items<Id>>, Option<Expr>, Option<Items<Expr>>), AllocError>
     ensures { IfOk result (λ copy. copy ≡ (into.now, condition.now, block.now)) }
 {
-    let into = copy_into(alloc, into)?;
+    let into = copy_id_part(alloc, into)?;
     let condition = copy_condition(alloc, condition)?;
     Ok((into, condition, copy_part(alloc, block)?))
-}
-
-fn copy_into(alloc: Global, into: &Option<Items<Id>>) -> Result<Option<Items<Id>>, AllocError>
-    ensures { IfOk result (λ copy. copy ≡ into.now) }
-{
-    match into {
-        None => Ok(None),
-        Some(ids) => Ok(Some(copy_ids(alloc, ids.as_slice())?)),
-    }
 }
 
 fn copy_condition(alloc: Global, condition: &Option<Expr>) -> Result<Option<Expr>, AllocError>

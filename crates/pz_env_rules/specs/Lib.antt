@@ -1,0 +1,11 @@
+pub mod Environment
+pub mod Ends
+pub mod Joining
+pub mod Driven
+pub mod Offers
+pub mod Moments
+pub mod Steps
+pub mod Runs
+pub mod ChosenRuns
+pub mod Text
+pub mod Laws

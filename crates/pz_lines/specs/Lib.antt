@@ -1,0 +1,4 @@
+pub mod Words
+pub mod Identifiers
+pub mod Numbers
+pub mod devices
