@@ -28,6 +28,7 @@ sized _ _ (jobs.check model is) = tt
 sized _ _ (jobs.make n size) = size
 sized _ _ (jobs.ring n options o size are full) = size
 sized _ _ (jobs.format model is) = tt
+sized _ _ (jobs.watch model watches options o is are_watches are full) = tt
 
 pub found_sized : (words : List (List ℕ)) (job : Job) → IsAsked words (Some job) → HasRingSize job
 found_sized words job is = sized words job ((is job).0 refl)

@@ -9,11 +9,11 @@ use Rattle.pz_rules.specs.Runs.{Ending, deadlocked, troubled, refused}
 use Rattle.pz_words.specs.declared.jobs.Job.{Job}
 use Rattle.pz_run_lines.specs.Lines.{usage_line, read_fault_line}
 use Rattle.pz_run.specs.declared.status.Status.{Status}
-use Rattle.pz_run.specs.declared.status.Status.TheVariants.{Deadlock, Usage, ModelRefused, ModelFault, ChoiceRefused, TraceRefused, TooLong, ReadFault, WriteFault, NoMemory}
+use Rattle.pz_run.specs.declared.status.Status.TheVariants.{Deadlock, Usage, ModelRefused, ModelFault, ChoiceRefused, TraceRefused, TooLong, ReadFault, WriteFault, NoMemory, WatchBroken, WatchRefused}
 use Rattle.pz_run.specs.Files.{JobFile, files_of}
 use Rattle.pz_run.specs.Status.{status_of}
 use Rattle.pz_run.specs.Output.{Prints, usage}
-use Rattle.pz_run.specs.Promises.{OpensFiles, OpensLast, IsPastLimit, Lacks, IsLonger, IsNoModel, HasModelText, RunEnds, IsNoTrace, CanEnd}
+use Rattle.pz_run.specs.Promises.{OpensFiles, OpensLast, IsPastLimit, Lacks, IsLonger, IsNoModel, HasModelText, RunEnds, IsNoTrace, IsBrokenAt, IsNoWatches, CanEnd}
 use Rattle.pz_run.specs.Promises as promises
 use Rattle.pz_run.specs.devices.Keeping.{KeepsPromises}
 use Rattle.pz_run.specs.devices.Saying.{Said, NothingWritten}
@@ -44,6 +44,10 @@ pub record Wants (a : Option Job) (f g : FilesState) (bytes : List ℕ) (wanted 
   pub run_end : (ending : Ending) → RunEnds a f.held ending → f.told ≡ true → ¬ ((wanted ≡ ReadFault) × Rose f.faults g.faults) → wanted ≡ status_of ending
   pub trace_refused : f.told ≡ true → wanted ≡ TraceRefused → IsNoTrace a f.held
   pub no_trace : IsNoTrace a f.held → f.told ≡ true → ¬ ((wanted ≡ ReadFault) × Rose f.faults g.faults) → wanted ≡ TraceRefused
+  pub watch_broken : f.told ≡ true → wanted ≡ WatchBroken → IsBrokenAt a f.held
+  pub broken_watch : IsBrokenAt a f.held → f.told ≡ true → ¬ ((wanted ≡ ReadFault) × Rose f.faults g.faults) → wanted ≡ WatchBroken
+  pub watch_refused : f.told ≡ true → wanted ≡ WatchRefused → IsNoWatches a f.held
+  pub no_watches : IsNoWatches a f.held → f.told ≡ true → ¬ ((wanted ≡ ReadFault) × Rose f.faults g.faults) → wanted ≡ WatchRefused
   pub trace_opened : f.told ≡ true → length f.opened + 1 < length g.opened → HasModelText a f.held
   pub too_long : wanted ≡ TooLong → IsPastLimit (files_of a) f g
   pub longer : f.told ≡ true → wanted ≡ TooLong → IsLonger (files_of a) f.held
@@ -88,6 +92,12 @@ module _ (a : Option Job) (f g : FilesState) (before now : SinkState) (bytes : L
     trace_refused = λ told is. wants.trace_refused told (is_wanted TraceRefused is (λ e. cc) (λ e. cc));
     no_trace = λ none told no_fault no_want unless.
         let same = said.is_wanted no_fault no_want in same ∙ wants.no_trace none told (λ both. unless (same ∙ both.0, both.1));
+    watch_broken = λ told is. wants.watch_broken told (is_wanted WatchBroken is (λ e. cc) (λ e. cc));
+    broken_watch = λ breaks told no_fault no_want unless.
+        let same = said.is_wanted no_fault no_want in same ∙ wants.broken_watch breaks told (λ both. unless (same ∙ both.0, both.1));
+    watch_refused = λ told is. wants.watch_refused told (is_wanted WatchRefused is (λ e. cc) (λ e. cc));
+    no_watches = λ none told no_fault no_want unless.
+        let same = said.is_wanted no_fault no_want in same ∙ wants.no_watches none told (λ both. unless (same ∙ both.0, both.1));
     trace_opened = wants.trace_opened;
     too_long = λ is. wants.too_long (is_wanted TooLong is (λ e. cc) (λ e. cc));
     longer = λ told is. wants.longer told (is_wanted TooLong is (λ e. cc) (λ e. cc));
@@ -114,6 +124,10 @@ keeps_nothing a f g before now given opens accepted kept none = record {
   run_end = λ _ _ _ _ no_want _. absurd (no_want none.wanting);
   trace_refused = λ _ is. absurd (other TraceRefused is (λ e. cc));
   no_trace = λ _ _ _ no_want _. absurd (no_want none.wanting);
+  watch_broken = λ _ is. absurd (other WatchBroken is (λ e. cc));
+  broken_watch = λ _ _ _ no_want _. absurd (no_want none.wanting);
+  watch_refused = λ _ is. absurd (other WatchRefused is (λ e. cc));
+  no_watches = λ _ _ _ no_want _. absurd (no_want none.wanting);
   trace_opened = accepted;
   too_long = λ is. absurd (other TooLong is (λ e. cc));
   longer = λ _ is. absurd (other TooLong is (λ e. cc));
@@ -164,6 +178,12 @@ keeps_usage f before now given said = keeps None f f before now usage_line Usage
     no_trace : IsNoTrace None f.held → ⊥
     no_trace none = no_job none.job none.is_asked
 
+    no_broken : IsBrokenAt None f.held → ⊥
+    no_broken breaks = no_job breaks.job breaks.is_asked
+
+    no_list : IsNoWatches None f.held → ⊥
+    no_list none = no_job none.job none.is_asked
+
     wants : Wants None f f usage_line Usage
     wants = record {
       prints = λ _ _. usage;
@@ -179,6 +199,10 @@ keeps_usage f before now given said = keeps None f f before now usage_line Usage
       trace_refused = λ _ is. cc;
       no_trace = λ none _ _. absurd (no_trace none);
       no_model = λ none _ _. absurd (no_text none);
+      watch_broken = λ _ is. cc;
+      broken_watch = λ breaks _ _. absurd (no_broken breaks);
+      watch_refused = λ _ is. cc;
+      no_watches = λ none _ _. absurd (no_list none);
       trace_opened = λ _ many. opened_never (length f.opened) many;
       too_long = λ is. cc;
       longer = λ _ is. cc;

@@ -14,4 +14,6 @@ pub mod FormatsBack
 pub mod OneEndings
 pub mod Headerless
 pub mod Replayed
+pub mod Judgings
+pub mod Watched
 pub mod Asked

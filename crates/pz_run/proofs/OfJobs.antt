@@ -6,7 +6,7 @@ use Rattle.pz_rules.specs.Runs.{Ending}
 use Rattle.pz_words.specs.declared.jobs.Choice.{Choice}
 use Rattle.pz_words.specs.declared.jobs.RunLimits.{RunLimits}
 use Rattle.pz_words.specs.declared.jobs.Job.{Job}
-use Rattle.pz_words.specs.declared.jobs.Job.TheVariants.{Run, Menu, Replay, Check, Make, Ring, Format}
+use Rattle.pz_words.specs.declared.jobs.Job.TheVariants.{Run, Menu, Replay, Check, Make, Ring, Format, Watch}
 use Rattle.pz_gen.specs.Ring.{model as ring_text}
 use Rattle.pz_run_reading.specs.declared.refusal.Refusal.{Refusal}
 use Rattle.pz_run_reading.specs.Openings.{IsOpenModelOf, IsRefusedToOpen}
@@ -20,7 +20,7 @@ use Rattle.pz_run.specs.Files.{model_file, files_of}
 use Rattle.pz_run.specs.Status.{status_of}
 use Rattle.pz_run.specs.Plays.{play, play_of, telling_when}
 use Rattle.pz_run.specs.Output.{PrintsRun, plays, PrintsSize, accepts, makes, PrintsModel, refuses, of_model, PrintsFile, lacks, too_long, reads, PrintsModelFile, PrintsJob, does}
-use Rattle.pz_run.specs.Promises.{HasModel, model_name, stations_of, IsRefusedFor, IsTextFor, of_file, of_ring, HasTrace, HasEnding, of_choice, of_trace, TellsNoRun}
+use Rattle.pz_run.specs.Promises.{HasModel, model_name, stations_of, IsRefusedFor, IsTextFor, of_file, of_ring, HasTrace, HasEnding, of_choice, of_trace, of_watches, TellsNoRun, HasWatches}
 use Rattle.pz_run.specs.Promises as promises
 use Rattle.pz_run.specs.devices.Keeping.{KeepsPromises}
 use Rattle.pz_run.specs.devices.Reading.{ReadsFile}
@@ -28,7 +28,7 @@ use Rattle.pz_run.specs.devices.Saying.{Said, Answers}
 use Rattle.pz_run.specs.devices.Texts.{EndsOnlySo, PrintsPlay, PrintsCheck}
 use Rattle.pz_run.proofs.OneEnd.{some_is}
 use Rattle.pz_run.proofs.Keeps.{Wants, keeps, keeps_nothing, none_opened, opened_never}
-use Rattle.pz_run.proofs.Outcomes.{chosen_can, Outcome, no_model, run_ended, checked, EndsText, ends_text, OfText, run_in, none_in, refused_in, ring_in}
+use Rattle.pz_run.proofs.Outcomes.{chosen_can, Outcome, no_model, run_ended, checked, EndsText, ends_text, OfText, IsUnjudged, unjudged, run_in, none_in, refused_in, broken_in, no_list_in, ring_in}
 use Rattle.pz_run.proofs.OneFiles.{OneFile, keeps_file}
 
 -- ---- what is printed of a file
@@ -58,6 +58,7 @@ play_refused held (Check model) p is text r refused = refused
 play_refused held (Make n) p is text r refused = refused
 play_refused held (Ring n choice limits) p is text r refused = refused
 play_refused held (Format model) p is text r refused = refused
+play_refused held (Watch model watches choice limits) p is text r refused = refused
 
 refused_play : (held : Entries) (job : Job) (p : Play) → play_of job ≡ Some p → (text : List ℕ) (r : Refusal) → IsRefusedToOpen text r → IsRefusedFor held job text r
 refused_play held (Run model choice limits summary) p is text r refused = refused
@@ -67,11 +68,25 @@ refused_play held (Check model) p is text r refused = refused
 refused_play held (Make n) p is text r refused = refused
 refused_play held (Ring n choice limits) p is text r refused = refused
 refused_play held (Format model) p is text r refused = refused
+refused_play held (Watch model watches choice limits) p is text r refused = refused
 
 none_played : (model name : List ℕ) (units : ℕ) (p : Play) → play_of (Replay model name units) ≡ Some p → ⊥
 none_played model name units p e = cc
 
+played_unjudged : (job : Job) (p : Play) → play_of job ≡ Some p → IsUnjudged job
+played_unjudged (Run model choice limits summary) p is = tt
+played_unjudged (Menu model choice limits) p is = tt
+played_unjudged (Replay model trace units) p is = tt
+played_unjudged (Check model) p is = tt
+played_unjudged (Make n) p is = tt
+played_unjudged (Ring n choice limits) p is = tt
+played_unjudged (Format model) p is = tt
+played_unjudged (Watch model watches choice limits) p is = cc
+
 module _ (job : Job) (p : Play) (is_play : play_of job ≡ Some p) (text : List ℕ) where
+  no_watches : {X : Type 0} (held : Entries) → HasWatches held job text → X
+  no_watches held x = unjudged held job text (played_unjudged job p is_play) x
+
   run_outcome : (f : FilesState) (m : ModelTree) (bytes : List ℕ) (status : Status) → IsOpenModelOf text m → PrintsRun p m bytes status → Outcome f job text status
   run_outcome f m _ _ is (plays run told tells) =
       run_ended run.ending (chosen_can job p is_play run.ending) (λ _. of_choice (record { play = p; is_play = is_play; model = m; is_model = is; run = run; ends = refl }))
@@ -85,6 +100,7 @@ module _ (job : Job) (p : Play) (is_play : play_of job ≡ Some p) (text : List 
 
   play_only : (held : Entries) (status : Status) → EndsOnlySo p text status → (ending : Ending) → HasEnding held job text ending → status ≡ status_of ending
   play_only held status only ending (of_trace x) = no_trace held x.replay
+  play_only held status only ending (of_watches x) = no_watches held x.judged.on
   play_only held status only ending (of_choice x) =
       let same : p ≡ x.play = some_is p x.play (sym is_play ∙ x.is_play) in
       let other : EndsOnlySo x.play text status = subst (λ (q : Play). EndsOnlySo q text status) same only in
@@ -105,6 +121,8 @@ plays_file job name p files has named is_play prints = record {
   outcome = λ f text bytes status x. play_outcome job p is_play text f bytes status x.prints;
   only = λ held text bytes status x. play_only job p is_play text held status x.only;
   no_run = λ held text bytes status x none. no_trace job p is_play text held none.replay;
+  breaks = λ held text bytes status x breaks. no_watches job p is_play text held breaks.judged.on;
+  no_list = λ held text bytes status x none. no_watches job p is_play text held none.on;
   refused = λ held text bytes status x r is. x.refused r (play_refused held job p is_play text r is);
 }
 
@@ -143,6 +161,7 @@ check_told model held text x = let same : Check model ≡ Replay x.model_word x.
 check_ended : {X : Type 0} (model : List ℕ) (held : Entries) (text : List ℕ) (e : Ending) → HasEnding held (Check model) text e → X
 check_ended model held text e (of_choice x) = absurd (no_play model x.play x.is_play)
 check_ended model held text e (of_trace x) = check_told model held text x.replay
+check_ended model held text e (of_watches x) = unjudged held (Check model) text tt x.judged.on
 
 checks_file : (model : List ℕ) → OneFile (Check model) model PrintsCheck
 checks_file model = record {
@@ -156,6 +175,8 @@ checks_file model = record {
   outcome = λ f text bytes status x. check_outcome f model text bytes status x.prints;
   only = λ held text bytes status prints e x. check_ended model held text e x;
   no_run = λ held text bytes status prints none. check_told model held text none.replay;
+  breaks = λ held text bytes status prints breaks. unjudged held (Check model) text tt breaks.judged.on;
+  no_list = λ held text bytes status prints none. unjudged held (Check model) text tt none.on;
   refused = λ held text bytes status x. x.refused;
 }
 
@@ -173,6 +194,7 @@ make_told n held text x = let same : Make n ≡ Replay x.model_word x.trace_word
 make_ended : {X : Type 0} (n : ℕ) (held : Entries) (text : List ℕ) (e : Ending) → HasEnding held (Make n) text e → X
 make_ended n held text e (of_choice x) = absurd (no_run n x.play x.is_play)
 make_ended n held text e (of_trace x) = make_told n held text x.replay
+make_ended n held text e (of_watches x) = unjudged held (Make n) text tt x.judged.on
 
 -- nor has a ring that is made a model that is read
 
@@ -205,6 +227,10 @@ module _ (f : FilesState) (before now : SinkState) (given : Status) where
         run_end = λ e ends _ _. let x = run_in f.held (Make n) e ends in make_ended n f.held x.text e x.holds;
         trace_refused = λ _ is. cc;
         no_trace = λ none _ _. let x = none_in f.held (Make n) none in make_told n f.held x.text x.holds.replay;
+        watch_broken = λ _ is. cc;
+        broken_watch = λ breaks _ _. let x = broken_in f.held (Make n) breaks in unjudged f.held (Make n) x.text tt x.holds.judged.on;
+        watch_refused = λ _ is. cc;
+        no_watches = λ none _ _. let x = no_list_in f.held (Make n) none in unjudged f.held (Make n) x.text tt x.holds.on;
         trace_opened = λ _ many. opened_never (length f.opened) many;
         too_long = λ is. cc;
         longer = λ _ is. cc;
@@ -228,6 +254,10 @@ module _ (f : FilesState) (before now : SinkState) (given : Status) where
       run_end = λ e ends _ _. play_only job p refl (ring_text n) f.held wanted x.only e (same_text (λ j t. HasEnding f.held j t e) (run_in f.held job e ends));
       trace_refused = end.trace_refused;
       no_trace = λ none _ _. no_trace job p refl (ring_text n) f.held (same_text (λ j t. TellsNoRun f.held j t) (none_in f.held job none)).replay;
+      watch_broken = end.watch_broken;
+      broken_watch = λ breaks _ _. let x = broken_in f.held job breaks in unjudged f.held job x.text tt x.holds.judged.on;
+      watch_refused = end.watch_refused;
+      no_watches = λ none _ _. let x = no_list_in f.held job none in unjudged f.held job x.text tt x.holds.on;
       trace_opened = λ _ many. opened_never (length f.opened) many;
       too_long = λ is. absurd (end.not_long is);
       longer = λ _ is. absurd (end.not_long is);

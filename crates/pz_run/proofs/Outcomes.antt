@@ -6,17 +6,19 @@ use Rattle.pz_rules.specs.Runs.{Ending, ended, deadlocked, troubled, halted, ref
 use Rattle.pz_trace.specs.declared.ending.Ending as trace
 use Rattle.pz_trace.specs.declared.ending.Ending.TheVariants as ending
 use Rattle.pz_trace.specs.TraceText.{run_ending}
+use Rattle.pz_words.specs.declared.jobs.Choice.{Choice}
+use Rattle.pz_words.specs.declared.jobs.RunLimits.{RunLimits}
 use Rattle.pz_words.specs.declared.jobs.Job.{Job}
-use Rattle.pz_words.specs.declared.jobs.Job.TheVariants.{Run, Menu, Replay, Check, Make, Ring, Format}
+use Rattle.pz_words.specs.declared.jobs.Job.TheVariants.{Run, Menu, Replay, Check, Make, Ring, Format, Watch}
 use Rattle.pz_gen.specs.Ring.{model as ring_text}
 use Rattle.pz_run_reading.specs.declared.refusal.Refusal.{Refusal}
 use Rattle.pz_run.specs.Limits.{model_limit}
 use Rattle.pz_run.specs.declared.play.Play.{Play}
 use Rattle.pz_run.specs.declared.status.Status.{Status}
-use Rattle.pz_run.specs.declared.status.Status.TheVariants.{Done, Deadlock, ModelRefused, ModelFault, ChoiceRefused, TraceRefused, TooLong, ReadFault}
+use Rattle.pz_run.specs.declared.status.Status.TheVariants.{Done, Deadlock, ModelRefused, ModelFault, ChoiceRefused, TraceRefused, TooLong, ReadFault, WatchBroken, WatchRefused}
 use Rattle.pz_run.specs.Plays.{play_of}
 use Rattle.pz_run.specs.Status.{status_of}
-use Rattle.pz_run.specs.Promises.{IsRefusedFor, IsNoModel, HasModel, HasRun, model_name, stations_of, IsTextFor, of_file, of_ring, HasEnding, RunEnds, TellsNoRun, IsNoTrace, CanEnd}
+use Rattle.pz_run.specs.Promises.{IsRefusedFor, IsNoModel, HasModel, HasRun, model_name, stations_of, IsTextFor, of_file, of_ring, HasEnding, RunEnds, TellsNoRun, IsNoTrace, HasWatches, BreaksWatch, IsBrokenAt, RefusesWatches, IsNoWatches, CanEnd}
 use Rattle.pz_run.specs.Promises as promises
 use Rattle.pz_run.proofs.OneEnd.{some_is}
 
@@ -30,6 +32,7 @@ chosen_runs (Check model) p is = cc
 chosen_runs (Make n) p is = cc
 chosen_runs (Ring n choice limits) p is = tt
 chosen_runs (Format model) p is = cc
+chosen_runs (Watch model watches choice limits) p is = cc
 
 pub chosen_can : (job : Job) (p : Play) → play_of job ≡ Some p → (e : Ending) → CanEnd (Some job) (status_of e)
 chosen_can job p is ended = promises.done job
@@ -44,12 +47,21 @@ told_can model name units ending.Stop = promises.done (Replay model name units)
 told_can model name units ending.Deadlock = promises.deadlock (Replay model name units) tt
 told_can model name units (ending.Trouble trouble) = promises.model_fault (Replay model name units) tt
 
+pub judged_can : (model watches : List ℕ) (choice : Choice) (limits : RunLimits) (e : Ending) → CanEnd (Some (Watch model watches choice limits)) (status_of e)
+judged_can model watches choice limits ended = promises.done (Watch model watches choice limits)
+judged_can model watches choice limits halted = promises.done (Watch model watches choice limits)
+judged_can model watches choice limits deadlocked = promises.deadlock (Watch model watches choice limits) tt
+judged_can model watches choice limits (troubled trouble) = promises.model_fault (Watch model watches choice limits) tt
+judged_can model watches choice limits (refused entry count) = promises.judged_refused model watches choice limits
+
 -- ---- how the model of a text ends
 
 pub data Outcome (f : FilesState) (job : Job) (text : List ℕ) : Status → Type 0 where
   no_model : (r : Refusal) → (f.told ≡ true → IsRefusedFor f.held job text r) → Outcome f job text ModelRefused
   run_ended : (e : Ending) → CanEnd (Some job) (status_of e) → (f.told ≡ true → HasEnding f.held job text e) → Outcome f job text (status_of e)
   no_trace : CanEnd (Some job) TraceRefused → (f.told ≡ true → TellsNoRun f.held job text) → Outcome f job text TraceRefused
+  watch_broken : CanEnd (Some job) WatchBroken → (f.told ≡ true → BreaksWatch f.held job text) → Outcome f job text WatchBroken
+  watch_refused : CanEnd (Some job) WatchRefused → (f.told ≡ true → RefusesWatches f.held job text) → Outcome f job text WatchRefused
   checked : Outcome f job text Done
 
 module _ (job : Job) (has : HasModel job) (text : List ℕ) (f : FilesState) (text_for : f.told ≡ true → IsTextFor f.held job text) where
@@ -63,6 +75,8 @@ module _ (job : Job) (has : HasModel job) (text : List ℕ) (f : FilesState) (te
     pub model_fault : f.told ≡ true → wanted ≡ ModelFault → (trouble : Trouble) × RunEnds (Some job) f.held (troubled trouble)
     pub choice_refused : f.told ≡ true → wanted ≡ ChoiceRefused → (entry : ℕ) × (count : ℕ) × RunEnds (Some job) f.held (refused entry count)
     pub trace_refused : f.told ≡ true → wanted ≡ TraceRefused → IsNoTrace (Some job) f.held
+    pub watch_broken : f.told ≡ true → wanted ≡ WatchBroken → IsBrokenAt (Some job) f.held
+    pub watch_refused : f.told ≡ true → wanted ≡ WatchRefused → IsNoWatches (Some job) f.held
 
   run_ends : (e : Ending) → (f.told ≡ true → HasEnding f.held job text e) → f.told ≡ true → RunEnds (Some job) f.held e
   run_ends e ends told = record { job = job; is_asked = refl; text = text; is_text = text_for told; has_ending = ends told }
@@ -77,6 +91,8 @@ module _ (job : Job) (has : HasModel job) (text : List ℕ) (f : FilesState) (te
     model_fault = λ _ e. cc;
     choice_refused = λ _ e. cc;
     trace_refused = λ _ e. cc;
+    watch_broken = λ _ e. cc;
+    watch_refused = λ _ e. cc;
   }
 
   ends_run : (e : Ending) → CanEnd (Some job) (status_of e) → (f.told ≡ true → HasEnding f.held job text e) → EndsText (status_of e)
@@ -91,6 +107,8 @@ module _ (job : Job) (has : HasModel job) (text : List ℕ) (f : FilesState) (te
     model_fault = λ _ e. cc;
     choice_refused = λ _ e. cc;
     trace_refused = λ _ e. cc;
+    watch_broken = λ _ e. cc;
+    watch_refused = λ _ e. cc;
   }
   ends_run (troubled trouble) can ends = record {
     can = can;
@@ -101,6 +119,8 @@ module _ (job : Job) (has : HasModel job) (text : List ℕ) (f : FilesState) (te
     model_fault = λ told _. (trouble, run_ends (troubled trouble) ends told);
     choice_refused = λ _ e. cc;
     trace_refused = λ _ e. cc;
+    watch_broken = λ _ e. cc;
+    watch_refused = λ _ e. cc;
   }
   ends_run (refused entry count) can ends = record {
     can = can;
@@ -111,6 +131,8 @@ module _ (job : Job) (has : HasModel job) (text : List ℕ) (f : FilesState) (te
     model_fault = λ _ e. cc;
     choice_refused = λ told _. (entry, count, run_ends (refused entry count) ends told);
     trace_refused = λ _ e. cc;
+    watch_broken = λ _ e. cc;
+    watch_refused = λ _ e. cc;
   }
 
   pub ends_text : (wanted : Status) → Outcome f job text wanted → EndsText wanted
@@ -125,6 +147,8 @@ module _ (job : Job) (has : HasModel job) (text : List ℕ) (f : FilesState) (te
     model_fault = λ _ e. cc;
     choice_refused = λ _ e. cc;
     trace_refused = λ _ e. cc;
+    watch_broken = λ _ e. cc;
+    watch_refused = λ _ e. cc;
   }
   ends_text _ (no_trace can tells_none) = record {
     can = can;
@@ -135,6 +159,32 @@ module _ (job : Job) (has : HasModel job) (text : List ℕ) (f : FilesState) (te
     model_fault = λ _ e. cc;
     choice_refused = λ _ e. cc;
     trace_refused = λ told _. record { job = job; is_asked = refl; text = text; is_text = text_for told; tells_none = tells_none told };
+    watch_broken = λ _ e. cc;
+    watch_refused = λ _ e. cc;
+  }
+  ends_text _ (watch_broken can breaks) = record {
+    can = can;
+    no_fault = λ e. cc;
+    not_long = λ e. cc;
+    model_refused = λ _ e. cc;
+    deadlock = λ _ e. cc;
+    model_fault = λ _ e. cc;
+    choice_refused = λ _ e. cc;
+    trace_refused = λ _ e. cc;
+    watch_broken = λ told _. record { job = job; is_asked = refl; text = text; is_text = text_for told; breaks = breaks told };
+    watch_refused = λ _ e. cc;
+  }
+  ends_text _ (watch_refused can refuses) = record {
+    can = can;
+    no_fault = λ e. cc;
+    not_long = λ e. cc;
+    model_refused = λ _ e. cc;
+    deadlock = λ _ e. cc;
+    model_fault = λ _ e. cc;
+    choice_refused = λ _ e. cc;
+    trace_refused = λ _ e. cc;
+    watch_broken = λ _ e. cc;
+    watch_refused = λ told _. record { job = job; is_asked = refl; text = text; is_text = text_for told; refuses = refuses told };
   }
 
 -- ---- the text of the model of a job
@@ -147,6 +197,7 @@ no_ring (Check model) name n named ring = cc
 no_ring (Make m) name n named ring = cc
 no_ring (Ring m choice limits) name n named ring = cc
 no_ring (Format model) name n named ring = cc
+no_ring (Watch model watches choice limits) name n named ring = cc
 
 -- it is that of the file of this name
 pub record IsTextOfFile (files : Entries) (name text : List ℕ) : Type 0 where
@@ -161,6 +212,14 @@ text_in files _ _ (of_ring job n ring) name same = absurd (no_ring job name n sa
 pub ring_in : (files : Entries) (job : Job) (text : List ℕ) → IsTextFor files job text → (n : ℕ) → stations_of job ≡ Some n → text ≡ ring_text n
 ring_in files _ _ (of_file job name text named is short) n same = absurd (no_ring job name n named same)
 ring_in files _ _ (of_ring job m ring) n same = ap ring_text (some_is m n (sym ring ∙ same))
+
+-- no watches judge its run
+abbrev pub IsUnjudged : Job → Type 0
+IsUnjudged (Watch model watches choice limits) = ⊥
+IsUnjudged job = Unit {0}
+
+pub unjudged : {X : Type 0} (held : Entries) (job : Job) (text : List ℕ) → IsUnjudged job → HasWatches held job text → X
+unjudged held job text is x = absurd (subst IsUnjudged x.is_watch is)
 
 -- what is known of the text of the model of a job
 pub record OfText (files : Entries) (job : Job) (Q : Job → List ℕ → Type 0) : Type 0 where
@@ -179,3 +238,9 @@ none_in files job none = of_asked files (λ j text. TellsNoRun files j text) job
 
 pub refused_in : (files : Entries) (job : Job) → IsNoModel (Some job) files → OfText files job (λ j text. (r : Refusal) × IsRefusedFor files j text r)
 refused_in files job none = of_asked files (λ j text. (r : Refusal) × IsRefusedFor files j text r) job none.job none.is_asked (record { text = none.text; is_text = none.is_text; holds = (none.refusal, none.is_refused) })
+
+pub broken_in : (files : Entries) (job : Job) → IsBrokenAt (Some job) files → OfText files job (λ j text. BreaksWatch files j text)
+broken_in files job breaks = of_asked files (λ j text. BreaksWatch files j text) job breaks.job breaks.is_asked (record { text = breaks.text; is_text = breaks.is_text; holds = breaks.breaks })
+
+pub no_list_in : (files : Entries) (job : Job) → IsNoWatches (Some job) files → OfText files job (λ j text. RefusesWatches files j text)
+no_list_in files job none = of_asked files (λ j text. RefusesWatches files j text) job none.job none.is_asked (record { text = none.text; is_text = none.is_text; holds = none.refuses })

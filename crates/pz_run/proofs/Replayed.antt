@@ -40,7 +40,7 @@ use Rattle.pz_run.specs.Editions.{HasNoHeader, IsOfSecondEdition, OpensFor}
 use Rattle.pz_run.specs.Status.{status_of, replay_status}
 use Rattle.pz_run.specs.Output.{PrintsReplay, closed, no_header, replays, PrintsFile, lacks, too_long, reads, PrintsOnTrace, PrintsTraceFile, PrintsJob, Prints, does}
 use Rattle.pz_run.specs.Output as output
-use Rattle.pz_run.specs.Promises.{Opens, OpensFiles, OpensLast, IsTraceIn, IsRefusedOnTrace, at_once, on_trace, IsRefusedFor, IsNoModel, HasModelText, IsTextFor, of_file, ChosenEnds, HasTrace, TellsRun, ToldEnds, HasEnding, of_choice, of_trace, RunEnds, TellsNoRun, IsNoTrace}
+use Rattle.pz_run.specs.Promises.{Opens, OpensFiles, OpensLast, IsTraceIn, IsRefusedOnTrace, at_once, on_trace, IsRefusedFor, IsNoModel, HasModelText, IsTextFor, of_file, ChosenEnds, HasTrace, TellsRun, ToldEnds, HasEnding, of_choice, of_trace, of_watches, RunEnds, TellsNoRun, IsNoTrace, IsBrokenAt, IsNoWatches}
 use Rattle.pz_run.specs.Promises as promises
 use Rattle.pz_run.specs.devices.Halting.{replayed_as}
 use Rattle.pz_run.specs.devices.Keeping.{KeepsPromises}
@@ -51,7 +51,7 @@ use Rattle.pz_run.specs.devices.Saying.{Said, NothingWritten, Says, Answers}
 use Rattle.pz_run.specs.devices.Texts.{SaysRefusal}
 use Rattle.pz_run.proofs.Sayings.{said_whole, said_halted, answers_by}
 use Rattle.pz_run.proofs.OneEnd.{some_is}
-use Rattle.pz_run.proofs.Outcomes.{told_can, Outcome, run_ended, no_trace, EndsText, ends_text, text_in, OfText, run_in, none_in, refused_in}
+use Rattle.pz_run.proofs.Outcomes.{told_can, Outcome, run_ended, no_trace, EndsText, ends_text, text_in, unjudged, OfText, run_in, none_in, refused_in, broken_in, no_list_in}
 use Rattle.pz_run.proofs.Outcomes as outcomes
 use Rattle.pz_run.proofs.Keeps.{raised_rose, IsFaultLine, Wants, keeps, keeps_nothing}
 use Rattle.pz_run.proofs.OneFiles.{OneFile, keeps_file}
@@ -235,6 +235,7 @@ module _ (model name : List ℕ) (units : ℕ) where
   refusal_only : (held : Entries) (text bytes : List ℕ) (status : Status) → PrintsRefusal text bytes status → (e : Ending) → HasEnding held job text e → status ≡ status_of e
   refusal_only held text bytes status prints e (of_choice x) = not_played text e x
   refusal_only held text bytes status prints e (of_trace x) = refusal_lacks text bytes status x.replay.model prints x.replay.is_model
+  refusal_only held text bytes status prints e (of_watches x) = unjudged held job text tt x.judged.on
 
   refusal_printed : (held : Entries) (text bytes : List ℕ) (status : Status) → lookup held model ≡ Some text → length text ≤ model_limit → PrintsRefusal text bytes status → PrintsJob held job bytes status
   refusal_printed held text _ _ is short (refused r wrong none) = file_read held model (PrintsOnTrace held name units) text (model_refused_line r) ModelRefused is short (output.refuses_at_once r wrong)
@@ -251,6 +252,8 @@ module _ (model name : List ℕ) (units : ℕ) where
     outcome = refusal_outcome;
     only = refusal_only;
     no_run = λ held text bytes status prints none. refusal_lacks text bytes status none.replay.model prints none.replay.is_model;
+    breaks = λ held text bytes status prints breaks. unjudged held job text tt breaks.judged.on;
+    no_list = λ held text bytes status prints none. unjudged held job text tt none.on;
     refused = λ held text bytes status prints _ _. refusal_is text bytes status prints;
   }
 
@@ -276,7 +279,15 @@ module _ (model name : List ℕ) (units : ℕ) where
     text_for tells = of_file job model text refl (was.content tells) was.short
 
     accepted : f.told ≡ true → HasModelText (Some job) f.held
-    accepted tells = record { job = job; is_asked = refl; text = text; is_text = text_for tells; model = m; is_model = is.is_model }
+    accepted tells = record { job = job; is_asked = refl; text = text; is_text = text_for tells; model = m; is_model = is.is_model; opens = λ at_once. absurd at_once }
+
+    -- no watches judge it
+
+    unbroken : {X : Type 0} → IsBrokenAt (Some job) f.held → X
+    unbroken breaks = let x = broken_in f.held job breaks in unjudged f.held job x.text tt x.holds.judged.on
+
+    no_lists : {X : Type 0} → IsNoWatches (Some job) f.held → X
+    no_lists none = let x = no_list_in f.held job none in unjudged f.held job x.text tt x.holds.on
 
     -- in the files at the start, and in those at which the trace was opened
 
@@ -356,6 +367,7 @@ module _ (model name : List ℕ) (units : ℕ) where
         told_replay : (d : Ending) → HasEnding f.held job text d → ToldEnds f.held job text d
         told_replay d (of_choice x) = not_played text d x
         told_replay d (of_trace x) = x
+        told_replay d (of_watches x) = unjudged f.held job text tt x.judged.on
 
     none_told : IsNoTrace (Some job) f.held → f.told ≡ true → TellsNoRun f.held job text
     none_told none tells = same_text (λ j t. TellsNoRun f.held j t) (none_in f.held job none) tells
@@ -397,6 +409,10 @@ module _ (model name : List ℕ) (units : ℕ) where
       run_end = λ e ends tells unless. ⊎_elim (λ x. absurd (unless (refl, rose x))) (λ x. missing_replay (run_told e ends tells).replay (same_held None x.1.1)) cause;
       trace_refused = λ _ is. cc;
       no_trace = λ none tells unless. ⊎_elim (λ x. absurd (unless (refl, rose x))) (λ x. missing_replay (none_told none tells).replay (same_held None x.1.1)) cause;
+      watch_broken = λ _ is. cc;
+      broken_watch = λ breaks _ _. unbroken breaks;
+      watch_refused = λ _ is. cc;
+      no_watches = λ none _ _. no_lists none;
       trace_opened = λ tells _. accepted tells;
       too_long = λ is. cc;
       longer = λ _ is. cc;
@@ -426,6 +442,10 @@ module _ (model name : List ℕ) (units : ℕ) where
       run_end = λ e ends tells _. long_replay (run_told e ends tells).replay (long_here tells);
       trace_refused = λ _ is. cc;
       no_trace = λ none tells _. long_replay (none_told none tells).replay (long_here tells);
+      watch_broken = λ _ is. cc;
+      broken_watch = λ breaks _ _. unbroken breaks;
+      watch_refused = λ _ is. cc;
+      no_watches = λ none _ _. no_lists none;
       trace_opened = λ tells _. accepted tells;
       too_long = λ _. (trace_file name, last, handed);
       longer = λ tells _. (trace_file name, among, long_here tells);
@@ -486,6 +506,10 @@ module _ (model name : List ℕ) (units : ℕ) where
         run_end = λ e ends tells _. same_end e (run_told e ends tells) tells;
         trace_refused = end.trace_refused;
         no_trace = λ none tells _. none_here (none_told none tells) tells;
+        watch_broken = end.watch_broken;
+        broken_watch = λ breaks _ _. unbroken breaks;
+        watch_refused = end.watch_refused;
+        no_watches = λ none _ _. no_lists none;
         trace_opened = λ tells _. accepted tells;
         too_long = λ is. absurd (end.not_long is);
         longer = λ _ is. absurd (end.not_long is);

@@ -1,9 +1,12 @@
 -- The limits of the program.
 use Rattle.std.specs.Prelude.{ℕ}
 
--- the most bytes that a model may have, and a trace
+-- the most bytes that a model may have, a trace, and a file of watches
 abbrev pub model_limit : ℕ
 model_limit = 8388608
 
 abbrev pub trace_limit : ℕ
 trace_limit = 67108864
+
+abbrev pub watch_limit : ℕ
+watch_limit = 65536

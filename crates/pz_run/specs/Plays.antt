@@ -9,7 +9,7 @@ use Rattle.pz_trace.specs.Forms.{limits_of}
 use Rattle.pz_words.specs.declared.jobs.Choice.{Choice}
 use Rattle.pz_words.specs.declared.jobs.RunLimits.{RunLimits}
 use Rattle.pz_words.specs.declared.jobs.Job.{Job}
-use Rattle.pz_words.specs.declared.jobs.Job.TheVariants.{Run, Menu, Replay, Check, Make, Ring, Format}
+use Rattle.pz_words.specs.declared.jobs.Job.TheVariants.{Run, Menu, Replay, Check, Make, Ring, Format, Watch}
 use Rattle.pz_run_playing.specs.Policies.{resolver_of, policy_of}
 use Rattle.pz_run_playing.specs.Playing as playing
 use Rattle.pz_run_playing.specs.Playing.{ChosenRun}
@@ -29,7 +29,7 @@ telling_when false = telling.Trace
 abbrev pub play : Choice → RunLimits → Telling → Play
 play choice limits told = record { choice = choice; limits = limits; telling = told }
 
--- the run that a job asks for by a choice, if it asks for one
+-- the run that a job asks for by a choice, if it asks for one that no watches judge
 abbrev pub play_of : Job → Option Play
 play_of (Run model choice limits summary) = Some (play choice limits (telling_when summary))
 play_of (Menu model choice limits) = Some (play choice limits telling.Menu)
@@ -38,6 +38,11 @@ play_of (Check model) = None
 play_of (Make n) = None
 play_of (Ring n choice limits) = Some (play choice limits telling.Summary)
 play_of (Format model) = None
+play_of (Watch model watches choice limits) = None
+
+-- the run that is judged by watches
+abbrev pub judged_play : Choice → RunLimits → Play
+judged_play choice limits = play choice limits telling.Trace
 
 -- the edition of the rules and the limits are those of traces of this form, with so many units for each
 -- evaluation where that tells none

@@ -5,27 +5,35 @@ use Rattle.pz_io.specs.Outside.{Entries, FilesState, SinkState, lookup, raised, 
 use Rattle.pz_io.specs.Writing.{TookAll, TookFront}
 use Rattle.pz_syntax.specs.Classes.{ModelTree}
 use Rattle.pz_rules.specs.Runs.{Ending}
+use Rattle.pz_words.specs.declared.jobs.Choice.{Choice}
+use Rattle.pz_words.specs.declared.jobs.RunLimits.{RunLimits}
 use Rattle.pz_words.specs.declared.jobs.Job.{Job}
-use Rattle.pz_words.specs.declared.jobs.Job.TheVariants.{Run, Menu, Replay, Check, Make, Ring, Format}
+use Rattle.pz_words.specs.declared.jobs.Job.TheVariants.{Run, Menu, Replay, Check, Make, Ring, Format, Watch}
 use Rattle.pz_check_violations.specs.declared.violation.Violation.{Violation}
+use Rattle.pz_classes_openings.specs.OpeningRules as rules
 use Rattle.pz_classes_openings.specs.OpeningRules.{IsOpeningViolation}
 use Rattle.pz_trace.specs.declared.forms.Form.{Form}
 use Rattle.pz_trace.specs.Forms.{HasHeader}
 use Rattle.pz_trace.specs.TraceText.{run_ending, IsTrace}
 use Rattle.pz_gen.specs.Ring.{model as ring_text}
+use Rattle.pz_watch.specs.Files.{NamedFormula, AreWatches, IsRefusedAt}
+use Rattle.pz_watch.specs.Names.{is_identifier}
+use Rattle.pz_watch.specs.Breaking.{AreBroken}
+use Rattle.pz_watch_points.specs.EventPoints.{points_of}
 use Rattle.pz_run_reading.specs.declared.refusal.Refusal.{Refusal}
 use Rattle.pz_run_reading.specs.declared.refusal.Refusal.TheVariants.{Violates}
 use Rattle.pz_run_reading.specs.Models.{IsModelOf}
 use Rattle.pz_run_reading.specs.Refusals.{IsRefused}
 use Rattle.pz_run_reading.specs.Openings.{IsOpenModelOf, IsRefusedToOpen}
 use Rattle.pz_run_lines.specs.Lines.{read_fault_line}
-use Rattle.pz_run.specs.Limits.{model_limit, trace_limit}
+use Rattle.pz_run.specs.Limits.{model_limit, trace_limit, watch_limit}
 use Rattle.pz_run.specs.declared.play.Play.{Play}
 use Rattle.pz_run.specs.declared.status.Status.{Status}
-use Rattle.pz_run.specs.declared.status.Status.TheVariants.{Done, Deadlock, Usage, ModelRefused, ModelFault, ChoiceRefused, TraceRefused, TooLong, ReadFault, WriteFault, NoMemory}
+use Rattle.pz_run.specs.declared.status.Status.TheVariants.{Done, Deadlock, Usage, ModelRefused, ModelFault, ChoiceRefused, TraceRefused, TooLong, ReadFault, WriteFault, NoMemory, WatchBroken, WatchRefused}
 use Rattle.pz_run.specs.Files.{JobFile, files_of}
-use Rattle.pz_run.specs.Plays.{play_of, setting_with, RunOf}
+use Rattle.pz_run.specs.Plays.{play_of, judged_play, setting_with, RunOf}
 use Rattle.pz_run.specs.Editions.{IsOfSecondEdition, OpensFor}
+use Rattle.pz_run.specs.Status.{status_of}
 use Rattle.pz_run.specs.Output.{Prints}
 
 -- The call came through: no write failed, memory was not wanting, and the files did not fail.
@@ -130,6 +138,7 @@ model_name (Check model) = Some model
 model_name (Make n) = None
 model_name (Ring n choice limits) = None
 model_name (Format model) = Some model
+model_name (Watch model watches choice limits) = Some model
 
 -- how many stations the ring has that a job runs
 abbrev pub stations_of : Job → Option ℕ
@@ -140,6 +149,7 @@ stations_of (Check model) = None
 stations_of (Make n) = None
 stations_of (Ring n choice limits) = Some n
 stations_of (Format model) = None
+stations_of (Watch model watches choice limits) = None
 
 -- the text of the model of a job: that of its file, within the limit, or of a ring
 pub data IsTextFor (files : Entries) : Job → List ℕ → Type 0 where
@@ -172,7 +182,13 @@ pub record IsNoModel (a : Option Job) (files : Entries) : Type 0 where
   pub refusal : Refusal
   pub is_refused : IsRefusedFor files job text refusal
 
--- the text of the model of a job is that of this model, which violates none of C1 to C22
+-- the model opens before anything else is asked: not so where a trace is replayed
+abbrev pub OpensAtOnce : Job → Type 0
+OpensAtOnce (Replay model trace units) = ⊥
+OpensAtOnce job = Unit {0}
+
+-- the text of the model of a job is that of this model, which violates none of C1 to C22, and but for a replay
+-- neither C23 nor C24
 pub record HasModelText (a : Option Job) (files : Entries) : Type 0 where
   pub job : Job
   pub is_asked : a ≡ Some job
@@ -180,6 +196,7 @@ pub record HasModelText (a : Option Job) (files : Entries) : Type 0 where
   pub is_text : IsTextFor files job text
   pub model : ModelTree
   pub is_model : IsModelOf text model
+  pub opens : OpensAtOnce job → rules.Opens model
 
 -- the run of the model of this text that the choice and the limits of the job decide has this ending
 pub record ChosenEnds (job : Job) (text : List ℕ) (ending : Ending) : Type 0 where
@@ -216,10 +233,53 @@ pub record ToldEnds (files : Entries) (job : Job) (text : List ℕ) (ending : En
   pub tells : TellsRun replay.model replay.units replay.trace
   pub ends : run_ending tells.run.ending ≡ ending
 
+-- the watches of a job, on the model of this text: the file that is to hold them, within the limit
+pub record HasWatches (files : Entries) (job : Job) (text : List ℕ) : Type 0 where
+  pub model_word : List ℕ
+  pub watch_word : List ℕ
+  pub choice : Choice
+  pub limits : RunLimits
+  pub is_watch : job ≡ Watch model_word watch_word choice limits
+  pub file : List ℕ
+  pub held : lookup files watch_word ≡ Some file
+  pub short : length file ≤ watch_limit
+  pub model : ModelTree
+  pub is_model : IsOpenModelOf text model
+
+-- the run of that model which the job asks for, and the watches that judge it
+pub record IsJudged (files : Entries) (job : Job) (text : List ℕ) : Type 0 where
+  pub on : HasWatches files job text
+  pub watches : List NamedFormula
+  pub are_watches : AreWatches is_identifier on.file watches
+  pub run : RunOf (judged_play on.choice on.limits) on.model
+
+-- some watch is broken at some point of that run
+abbrev pub HasBroken : (files : Entries) (job : Job) (text : List ℕ) → IsJudged files job text → Type 0
+HasBroken files job text x = AreBroken x.watches (points_of x.on.model x.run.events)
+
+-- that run has this ending, and where its status is Done, no watch is broken
+pub record JudgedEnds (files : Entries) (job : Job) (text : List ℕ) (ending : Ending) : Type 0 where
+  pub judged : IsJudged files job text
+  pub ends : judged.run.ending ≡ ending
+  pub kept : status_of ending ≡ Done → HasBroken files job text judged → ⊥
+
+-- its status is Done, and some watch is broken
+pub record BreaksWatch (files : Entries) (job : Job) (text : List ℕ) : Type 0 where
+  pub judged : IsJudged files job text
+  pub done : status_of judged.run.ending ≡ Done
+  pub broken : HasBroken files job text judged
+
+-- the file is no list of watches
+pub record RefusesWatches (files : Entries) (job : Job) (text : List ℕ) : Type 0 where
+  pub on : HasWatches files job text
+  pub line : ℕ
+  pub refused : IsRefusedAt is_identifier on.file line
+
 -- the run of the model of this text, which the job asks for, has this ending
 pub data HasEnding (files : Entries) (job : Job) (text : List ℕ) (ending : Ending) : Type 0 where
   of_choice : ChosenEnds job text ending → HasEnding files job text ending
   of_trace : ToldEnds files job text ending → HasEnding files job text ending
+  of_watches : JudgedEnds files job text ending → HasEnding files job text ending
 
 -- the run that is asked for has this ending
 pub record RunEnds (a : Option Job) (files : Entries) (ending : Ending) : Type 0 where
@@ -242,6 +302,22 @@ pub record IsNoTrace (a : Option Job) (files : Entries) : Type 0 where
   pub is_text : IsTextFor files job text
   pub tells_none : TellsNoRun files job text
 
+-- a watch of the job is broken
+pub record IsBrokenAt (a : Option Job) (files : Entries) : Type 0 where
+  pub job : Job
+  pub is_asked : a ≡ Some job
+  pub text : List ℕ
+  pub is_text : IsTextFor files job text
+  pub breaks : BreaksWatch files job text
+
+-- the file that is to hold the watches of the job is no list of watches
+pub record IsNoWatches (a : Option Job) (files : Entries) : Type 0 where
+  pub job : Job
+  pub is_asked : a ≡ Some job
+  pub text : List ℕ
+  pub is_text : IsTextFor files job text
+  pub refuses : RefusesWatches files job text
+
 -- it has a model, which is read or made
 abbrev pub HasModel : Job → Type 0
 HasModel (Make n) = ⊥
@@ -263,6 +339,9 @@ pub data CanEnd : Option Job → Status → Type 0 where
   deadlock : (job : Job) → HasRun job → CanEnd (Some job) Deadlock
   model_fault : (job : Job) → HasRun job → CanEnd (Some job) ModelFault
   choice_refused : (job : Job) (play : Play) → play_of job ≡ Some play → CanEnd (Some job) ChoiceRefused
+  judged_refused : (model watches : List ℕ) (choice : Choice) (limits : RunLimits) → CanEnd (Some (Watch model watches choice limits)) ChoiceRefused
+  watch_broken : (model watches : List ℕ) (choice : Choice) (limits : RunLimits) → CanEnd (Some (Watch model watches choice limits)) WatchBroken
+  watch_refused : (model watches : List ℕ) (choice : Choice) (limits : RunLimits) → CanEnd (Some (Watch model watches choice limits)) WatchRefused
   trace_refused : (model trace : List ℕ) (units : ℕ) → CanEnd (Some (Replay model trace units)) TraceRefused
   model_refused : (job : Job) → HasModel job → CanEnd (Some job) ModelRefused
   too_long : (job : Job) (file : JobFile) → Contains (files_of (Some job)) file → CanEnd (Some job) TooLong

@@ -5,4 +5,5 @@ pub mod Saying
 pub mod Texts
 pub mod Reading
 pub mod Replaying
+pub mod Judging
 pub mod Keeping

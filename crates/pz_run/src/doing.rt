@@ -9,6 +9,7 @@ use crate::formatting::format_file;
 use crate::play::{Play, Telling};
 use crate::replaying::replay_file;
 use crate::rings::{make_ring, run_ring};
+use crate::watching::watch_file;
 use pz_io::{Files, Sink};
 use pz_words::Job;
 use std::alloc::Global;
@@ -62,5 +63,18 @@ pub fn do_job<F: Files, W: Sink>(alloc: Global, job: Job, files: &mut F, out: &m
             run_ring(alloc, n, run, out)
         }
         Job::Format { model } => format_file(alloc, model.as_str(), files, out),
+        Job::Watch {
+            model,
+            watches,
+            choice,
+            limits,
+        } => {
+            let run = Play {
+                choice,
+                limits,
+                telling: Telling::Trace,
+            };
+            watch_file(alloc, model.as_str(), watches.as_str(), run, files, out)
+        }
     }
 }

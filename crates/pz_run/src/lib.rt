@@ -16,6 +16,7 @@ mod rings;
 mod starting;
 mod status;
 mod texts;
+mod watching;
 
 pub use laws::formats_read_back;
 pub use program::run_program;

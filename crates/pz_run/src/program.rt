@@ -6,7 +6,7 @@ ghost use Rattle.pz_rules.specs.Runs.{Ending, deadlocked, troubled, refused};
 ghost use Rattle.pz_run.specs.Words.{OfAsked};
 ghost use Rattle.pz_run.specs.Files.{files_of};
 ghost use Rattle.pz_run.specs.Status.{status_of};
-ghost use Rattle.pz_run.specs.Promises.{CameThrough, PrintsAll, PrintsFront, OpensFiles, EndsReading, EndsWriting, SaysFault, IsPastLimit, Lacks, IsLonger, IsNoModel, HasModelText, RunEnds, IsNoTrace, CanEnd};
+ghost use Rattle.pz_run.specs.Promises.{CameThrough, PrintsAll, PrintsFront, OpensFiles, EndsReading, EndsWriting, SaysFault, IsPastLimit, Lacks, IsLonger, IsNoModel, HasModelText, RunEnds, IsNoTrace, IsBrokenAt, IsNoWatches, CanEnd};
 ghost use Rattle.pz_run.specs.devices.Keeping.{KeepsPromises};
 
 use crate::Status;
@@ -23,7 +23,9 @@ use std::alloc::Global;
 /// runs it and prints its trace or a summary, `menu MODEL` the trace and what there is to choose from at
 /// its end, `check MODEL` how many processes and wires it has. `replay MODEL TRACE` reads a trace too, once
 /// the model is accepted: it is printed again if it is that of a run of the model, of the edition, depth and
-/// units that its first line tells, and refused at the first line that differs if not. `make N` prints the
+/// units that its first line tells, and refused at the first line that differs if not. `watch MODEL WATCHES` reads a file of
+/// watches once the model is accepted, runs that, and prints behind each line of the trace a line for each
+/// watch that is broken there; a file that is no list of watches is refused. `make N` prints the
 /// model of a ring, and `ring N` runs that and prints a summary; these read no file. A model that violates a
 /// rule is refused: in a replay by C23 and C24 once the trace was read, and not by these where that is of the
 /// first edition.
@@ -106,7 +108,22 @@ pub fn run_program<F: Files, W: Sink>(
     ensures no_trace { OfAsked (map string_bytes words.now) (λ a.
         IsNoTrace a (F.state files.old).held → (F.state files.old).told ≡ true →
         CameThrough (F.state files.old) (F.state files.new) result → result ≡ Status.TraceRefused) }
-    // A second file is opened only once C1 to C22 accept the model.
+    // Broken watches are told exactly where the run has ended or was stopped, and a watch is broken at one of
+    // its lines.
+    ensures watch_broken { OfAsked (map string_bytes words.now) (λ a.
+        (F.state files.old).told ≡ true → result ≡ Status.WatchBroken →
+        IsBrokenAt a (F.state files.old).held) }
+    ensures broken_watch { OfAsked (map string_bytes words.now) (λ a.
+        IsBrokenAt a (F.state files.old).held → (F.state files.old).told ≡ true →
+        CameThrough (F.state files.old) (F.state files.new) result → result ≡ Status.WatchBroken) }
+    // Watches are refused exactly where their file is no list of watches.
+    ensures watch_refused { OfAsked (map string_bytes words.now) (λ a.
+        (F.state files.old).told ≡ true → result ≡ Status.WatchRefused →
+        IsNoWatches a (F.state files.old).held) }
+    ensures no_watches { OfAsked (map string_bytes words.now) (λ a.
+        IsNoWatches a (F.state files.old).held → (F.state files.old).told ≡ true →
+        CameThrough (F.state files.old) (F.state files.new) result → result ≡ Status.WatchRefused) }
+    // A second file is opened only once C1 to C22 accept the model, and but for a replay C23 and C24 too.
     ensures trace_opened { OfAsked (map string_bytes words.now) (λ a.
         (F.state files.old).told ≡ true →
         length (F.state files.old).opened + 1 < length (F.state files.new).opened →

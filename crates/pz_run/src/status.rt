@@ -1,10 +1,10 @@
 ghost use Rattle.std.specs.Prelude.{◌≡◌};
 ghost use Rattle.pz_trace.specs.TraceText.{run_ending};
 ghost use Rattle.pz_run.specs.Status.{number_of, status_of};
-ghost use Rattle.pz_run.specs.devices.Halting.{halted_as, given_as, replayed_as};
+ghost use Rattle.pz_run.specs.devices.Halting.{halted_as, given_as, watched, judged_as, replayed_as};
 
 use pz_io::Halt;
-use pz_run_playing::Finale;
+use pz_run_playing::{Finale, Judged};
 use pz_run_replaying::Replayed;
 use pz_trace::Ending;
 
@@ -33,6 +33,10 @@ pub enum Status {
     WriteFault,
     /// Memory was wanting.
     NoMemory,
+    /// The run ended, or was stopped where it could go on, and a watch was broken.
+    WatchBroken,
+    /// A file is no list of watches.
+    WatchRefused,
 }
 
 impl Status {
@@ -52,6 +56,8 @@ impl Status {
             Status::ReadFault => 8,
             Status::WriteFault => 9,
             Status::NoMemory => 10,
+            Status::WatchBroken => 11,
+            Status::WatchRefused => 12,
         }
     }
 
@@ -83,6 +89,32 @@ impl Status {
         match ended {
             Ok(Finale::Ended(ending)) => Status::ended(ending),
             Ok(Finale::Refused { .. }) => Status::ChoiceRefused,
+            Err(halt) => Status::halted(halt),
+        }
+    }
+
+    // The same where watches have judged the run: a broken one is told in the place of `Done` alone.
+    fn watched(self, broken: bool) -> Status
+        ensures { result ≡ watched broken self }
+    {
+        match self {
+            Status::Done => {
+                if broken {
+                    Status::WatchBroken
+                } else {
+                    Status::Done
+                }
+            }
+            other => other,
+        }
+    }
+
+    /// That of a job whose run was played so, and judged by watches.
+    pub(crate) fn judged(ended: Result<Judged, Halt>) -> Status
+        ensures { result ≡ judged_as ended }
+    {
+        match ended {
+            Ok(judged) => Status::played(Ok(judged.finale)).watched(judged.broken),
             Err(halt) => Status::halted(halt),
         }
     }

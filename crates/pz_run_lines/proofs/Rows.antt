@@ -3,13 +3,17 @@ use Rattle.std.proofs.Common.{◌≡◌, refl, codes}
 use Rattle.std.specs.Fmt.{digits}
 use Rattle.pz_check_violations.specs.Order.{violation}
 use Rattle.pz_run_reading.specs.declared.refusal.Refusal.TheVariants.{Syntax, Violates}
-use Rattle.pz_run_lines.specs.Lines.{read_fault_line, too_long_line, accepted_line, model_refused_line}
+use Rattle.pz_run_lines.specs.Lines.{read_fault_line, too_long_line, watch_refused_line, accepted_line, model_refused_line}
 
 no_file : read_fault_line (codes "m") ≡ codes "read fault: m\n"
 no_file = refl
 
 long_file : too_long_line (codes "models/m") ≡ codes "too long: models/m\n"
 long_file = refl
+
+no_watches : watch_refused_line 101 ≡ codes "watch refused line 101\n"
+unfolding digits
+no_watches = refl
 
 -- seven processes in two clusters
 seven : accepted_line 7 4 ≡ codes "accepted 7 processes 4 wires\n"

@@ -11,7 +11,7 @@ newline = codes "\n"
 
 -- how the program is called
 abbrev pub usage_line : List ℕ
-usage_line = codes "usage: poosl_run run MODEL | menu MODEL | replay MODEL TRACE | check MODEL | make N | ring N | format MODEL\n"
+usage_line = codes "usage: poosl_run run MODEL | menu MODEL | replay MODEL TRACE | check MODEL | make N | ring N | format MODEL | watch MODEL WATCHES\n"
 
 -- a file that cannot be opened or read
 abbrev pub read_fault_line : List ℕ → List ℕ
@@ -20,6 +20,10 @@ read_fault_line name = codes "read fault: " ++ (name ++ newline)
 -- a file that is longer than its limit
 abbrev pub too_long_line : List ℕ → List ℕ
 too_long_line name = codes "too long: " ++ (name ++ newline)
+
+-- a file that is no list of watches: the line that is to blame
+abbrev pub watch_refused_line : ℕ → List ℕ
+watch_refused_line number = codes "watch refused line " ++ (decimal number ++ newline)
 
 -- a model that is accepted: how many processes and how many wires its system has
 abbrev pub accepted_line : ℕ → ℕ → List ℕ

@@ -12,7 +12,7 @@ use std::alloc::{AllocError, Global};
 pub fn usage_line() -> &'static [u8]
     ensures { result.now ≡ lines.usage_line }
 {
-    b"usage: poosl_run run MODEL | menu MODEL | replay MODEL TRACE | check MODEL | make N | ring N | format MODEL\n"
+    b"usage: poosl_run run MODEL | menu MODEL | replay MODEL TRACE | check MODEL | make N | ring N | format MODEL | watch MODEL WATCHES\n"
 }
 
 /// A file of this name cannot be opened or read. The only error is want of memory.
@@ -27,6 +27,14 @@ pub fn too_long_line(alloc: Global, name: &str) -> Result<Vec<u8>, AllocError>
     ensures { IfOk result (λ line. line.items ≡ lines.too_long_line name.now) }
 {
     Ok(format!(in alloc; "too long: {name}\n")?.into_bytes())
+}
+
+/// A file is no list of watches: the number of the line that is to blame, from 1. The only error is want of
+/// memory.
+pub fn watch_refused_line(alloc: Global, number: u32) -> Result<Vec<u8>, AllocError>
+    ensures { IfOk result (λ line. line.items ≡ lines.watch_refused_line number) }
+{
+    Ok(format!(in alloc; "watch refused line {number}\n")?.into_bytes())
 }
 
 /// A model is accepted, and its system is so large. The only error is want of memory.

@@ -2,6 +2,7 @@ pub mod Written
 pub mod Simulated
 pub mod Rests
 pub mod Steps
+pub mod Heard
 pub mod Onwards
 pub mod Goings
 pub mod Told

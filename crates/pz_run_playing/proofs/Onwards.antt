@@ -1,10 +1,9 @@
 -- What is told and counted of a run, step by step, and what it still comes to.
-use Rattle.std.proofs.Common.{◌≡◌, ◌+◌, ℕ, Bool, true, false, List, [], ◌∷◌, ◌++◌, Some, None, Ok, Err, refl, sym, subst, ap, ◌∙◌, arith, append_assoc, add-one}
+use Rattle.std.proofs.Common.{◌≡◌, ◌+◌, ℕ, false, List, [], ◌∷◌, ◌++◌, Some, None, Ok, Err, refl, sym, subst, ap, ◌∙◌, arith, append_assoc, add-one}
 use Rattle.std.proofs.lemmas.Bool.{cond-false}
 use Rattle.pz_io.specs.Outside.{SinkState}
 use Rattle.pz_io.specs.declared.writing.Halt.{Halt}
 use Rattle.pz_io.specs.Writing.{Wrote}
-use Rattle.pz_syntax.specs.Classes.{ModelTree}
 use Rattle.pz_offer.specs.declared.trouble.Trouble.{Trouble}
 use Rattle.pz_rules.specs.declared.action.Action.{Action}
 use Rattle.pz_rules.specs.declared.moment.Moment.{Moment}
@@ -14,53 +13,45 @@ use Rattle.pz_rules.specs.Configurations.{Config}
 use Rattle.pz_rules.specs.Moments.{IsMoment}
 use Rattle.pz_rules.specs.Steps.{Next, PassesTo}
 use Rattle.pz_rules.specs.Runs as runs
-use Rattle.pz_rules.specs.Runs.{Event, acted, passed, Standing, whole, stopped, IsChoice, Ending, troubled, halted}
+use Rattle.pz_rules.specs.Runs.{Event, acted, passed, whole, stopped, IsChoice, Ending, troubled, halted}
 use Rattle.pz_rules.specs.ChosenRuns as chosen
 use Rattle.pz_rules.specs.ChosenRuns.{Policy, stops_with, takes, waits, is_beyond, decided, IsChosenRun}
-use Rattle.pz_trace.specs.Lines.{action_line, time_line}
-use Rattle.pz_trace.specs.TraceText.{event_line}
 use Rattle.pz_term.specs.Simulations as simulations
 use Rattle.pz_term.specs.Simulations.{Simulation, stands, broken, IsMomentOf, Chooses, Passes}
 use Rattle.pz_run_playing.specs.devices.Known.{Known}
 use Rattle.pz_term.specs.Simulations.{clock_in, IsOffer}
 use Rattle.pz_run_playing.specs.devices.Rests.{IsReady, RestOf}
-use Rattle.pz_run_playing.specs.devices.Going.{told, told_events, Progress, progress, Since, Onward, CutShort}
+use Rattle.pz_run_playing.specs.Sayings.{Saying, said_after}
+use Rattle.pz_run_playing.specs.devices.Going.{Progress, progress, Since, Onward, CutShort}
 use Rattle.pz_run_playing.proofs.Simulated.{time_is, count_is}
 use Rattle.pz_run_playing.proofs.Rests.{HasRest}
 
-told_next : (lines : Bool) (m : ModelTree) (e : Event) (events : List Event) → told_events lines m (e ∷ events) ≡ told lines (event_line m e) ++ told_events lines m events
-told_next true m e events = refl
-told_next false m e events = refl
-
-pub told_none : (lines : Bool) (m : ModelTree) → told_events lines m [] ≡ []
-told_none true m = refl
-told_none false m = refl
-
-module _ (policy : Policy) (m : ModelTree) (lines : Bool) where
+module _ (policy : Policy) (say : Saying) where
   -- nothing happens
-  pub onward_none : (here : Progress) → Onward policy m lines here here []
-  onward_none here = record { since = λ rest to ending rest_of. record { events = rest; rest_of = rest_of; text = refl; actions = refl; passes = refl } }
+  pub onward_none : (here : Progress) → Onward policy say here here []
+  onward_none here = record { since = λ rest to ending rest_of. record { events = rest; rest_of = rest_of; text = refl; all = refl; actions = refl; passes = refl } }
 
   -- something, and then more
-  pub onward_then : (first mid here : Progress) (written more : List ℕ) → Onward policy m lines first mid written → Onward policy m lines mid here more → Onward policy m lines first here (written ++ more)
+  pub onward_then : (first mid here : Progress) (written more : List ℕ) → Onward policy say first mid written → Onward policy say mid here more → Onward policy say first here (written ++ more)
   onward_then first mid here written more one other = record { since = joined }
     where
-      joined : (rest : List Event) (to : Simulation) (ending : Ending) → RestOf policy here.actions here.at rest to ending → Since policy m lines first here (written ++ more) rest to ending
+      joined : (rest : List Event) (to : Simulation) (ending : Ending) → RestOf policy here.actions here.at rest to ending → Since policy say first here (written ++ more) rest to ending
       joined rest to ending rest_of =
           let x = other.since rest to ending rest_of in
           let y = one.since x.events to ending x.rest_of in
           record {
             events = y.events;
             rest_of = y.rest_of;
-            text = y.text ∙ ap (λ (l : List ℕ). written ++ l) x.text ∙ sym (append_assoc written more (told_events lines m rest));
+            text = y.text ∙ ap (λ (l : List ℕ). written ++ l) x.text ∙ sym (append_assoc written more (said_after say here.past rest));
+            all = y.all ∙ x.all;
             actions = y.actions ∙ x.actions;
             passes = y.passes ∙ x.passes;
           }
 
-  waited : (j p d : ℕ) (setting : Setting) (c next : Config) → IsMoment setting c (Time d) → is_beyond policy.until c.clock d ≡ false → PassesTo setting c d next
+  waited : (j p d : ℕ) (past : List Event) (setting : Setting) (c next : Config) → IsMoment setting c (Time d) → is_beyond policy.until c.clock d ≡ false → PassesTo setting c d next
       → (rest : List Event) (to : Simulation) (ending : Ending) → RestOf policy j (stands setting next whole) rest to ending
-      → Since policy m lines (progress j p (stands setting c whole)) (progress j (p + 1) (stands setting next whole)) (told lines (time_line c.clock d)) rest to ending
-  waited j p d setting c next is within passes rest to ending r = record {
+      → Since policy say (progress j p past (stands setting c whole)) (progress j (p + 1) (past ++ passed c.clock d ∷ []) (stands setting next whole)) (say past (passed c.clock d)) rest to ending
+  waited j p d past setting c next is within passes rest to ending r = record {
     events = passed c.clock d ∷ rest;
     rest_of = record {
       end = r.end;
@@ -70,29 +61,30 @@ module _ (policy : Policy) (m : ModelTree) (lines : Bool) where
       reaches = runs.passes c next r.end d rest r.standing is passes r.reaches;
       ends_as = r.ends_as;
     };
-    text = told_next lines m (passed c.clock d) rest;
+    text = refl;
+    all = sym (append_assoc past (passed c.clock d ∷ []) rest);
     actions = refl;
     passes = omega arith;
   }
 
   -- time passes
-  pub passes_onward : Known → (j p d : ℕ) (s t : Simulation) → IsMomentOf s (Time d) → is_beyond policy.until (clock_in s) d ≡ false → Passes s t
-      → Onward policy m lines (progress j p s) (progress j (p + 1) t) (told lines (time_line (clock_in s) d))
-  passes_onward known j p d _ _ now within (simulations.passes setting c next e is to) =
+  pub passes_onward : Known → (j p d : ℕ) (past : List Event) (s t : Simulation) → IsMomentOf s (Time d) → is_beyond policy.until (clock_in s) d ≡ false → Passes s t
+      → Onward policy say (progress j p past s) (progress j (p + 1) (past ++ passed (clock_in s) d ∷ []) t) (say past (passed (clock_in s) d))
+  passes_onward known j p d past _ _ now within (simulations.passes setting c next e is to) =
       let here : IsMoment setting c (Time d) = now in
       let same : e ≡ d = time_is (known.one_moment setting c (Time e) (Time d) is here) in
-      record { since = waited j p d setting c next here within (subst (λ (f : ℕ). PassesTo setting c f next) same to) }
+      record { since = waited j p d past setting c next here within (subst (λ (f : ℕ). PassesTo setting c f next) same to) }
 
   -- an action is chosen
-  pub record Acting (j p n k : ℕ) (s t : Simulation) : Type 0 where
+  pub record Acting (j p n k : ℕ) (past : List Event) (s t : Simulation) : Type 0 where
     pub action : Action
     pub is_offer : IsOffer s k action
-    pub onward : Onward policy m lines (progress j p s) (progress (j + 1) p t) (told lines (action_line m (clock_in s) n k action))
+    pub onward : Onward policy say (progress j p past s) (progress (j + 1) p (past ++ acted (clock_in s) n k action ∷ []) t) (say past (acted (clock_in s) n k action))
 
-  acted_on : (j p n k : ℕ) (setting : Setting) (c next : Config) (a : Action) → IsMoment setting c (Actions n) → decided policy j c.clock (Actions n) ≡ takes n k → IsChoice setting c n k a → Next setting c a (Ok next)
+  acted_on : (j p n k : ℕ) (past : List Event) (setting : Setting) (c next : Config) (a : Action) → IsMoment setting c (Actions n) → decided policy j c.clock (Actions n) ≡ takes n k → IsChoice setting c n k a → Next setting c a (Ok next)
       → (rest : List Event) (to : Simulation) (ending : Ending) → RestOf policy (j + 1) (stands setting next whole) rest to ending
-      → Since policy m lines (progress j p (stands setting c whole)) (progress (j + 1) p (stands setting next whole)) (told lines (action_line m c.clock n k a)) rest to ending
-  acted_on j p n k setting c next a is decides choice leads rest to ending r = record {
+      → Since policy say (progress j p past (stands setting c whole)) (progress (j + 1) p (past ++ acted c.clock n k a ∷ []) (stands setting next whole)) (say past (acted c.clock n k a)) rest to ending
+  acted_on j p n k past setting c next a is decides choice leads rest to ending r = record {
     events = acted c.clock n k a ∷ rest;
     rest_of = record {
       end = r.end;
@@ -102,15 +94,16 @@ module _ (policy : Policy) (m : ModelTree) (lines : Bool) where
       reaches = runs.acts c next r.end n k a rest r.standing is choice leads r.reaches;
       ends_as = r.ends_as;
     };
-    text = told_next lines m (acted c.clock n k a) rest;
+    text = refl;
+    all = sym (append_assoc past (acted c.clock n k a ∷ []) rest);
     actions = omega arith;
     passes = refl;
   }
 
-  stopped_in : (j p n k : ℕ) (setting : Setting) (c : Config) (a : Action) (trouble : Trouble) → IsMoment setting c (Actions n) → decided policy j c.clock (Actions n) ≡ takes n k → IsChoice setting c n k a → Next setting c a (Err trouble)
+  stopped_in : (j p n k : ℕ) (past : List Event) (setting : Setting) (c : Config) (a : Action) (trouble : Trouble) → IsMoment setting c (Actions n) → decided policy j c.clock (Actions n) ≡ takes n k → IsChoice setting c n k a → Next setting c a (Err trouble)
       → (rest : List Event) (to : Simulation) (ending : Ending) → RestOf policy (j + 1) (stands setting c (stopped trouble)) rest to ending
-      → Since policy m lines (progress j p (stands setting c whole)) (progress (j + 1) p (stands setting c (stopped trouble))) (told lines (action_line m c.clock n k a)) rest to ending
-  stopped_in j p n k setting c a trouble is decides choice fails rest to ending r = record {
+      → Since policy say (progress j p past (stands setting c whole)) (progress (j + 1) p (past ++ acted c.clock n k a ∷ []) (stands setting c (stopped trouble))) (say past (acted c.clock n k a)) rest to ending
+  stopped_in j p n k past setting c a trouble is decides choice fails rest to ending r = record {
     events = acted c.clock n k a ∷ rest;
     rest_of = record {
       end = c;
@@ -121,7 +114,8 @@ module _ (policy : Policy) (m : ModelTree) (lines : Bool) where
       reaches = subst (λ (es : List Event). runs.Reaches setting c (acted c.clock n k a ∷ es) c (stopped trouble)) (sym r.none) (runs.stops c n k a trouble is choice fails);
       ends_as = r.is_ending;
     };
-    text = told_next lines m (acted c.clock n k a) rest;
+    text = refl;
+    all = sym (append_assoc past (acted c.clock n k a ∷ []) rest);
     actions = omega arith;
     passes = refl;
   }
@@ -129,27 +123,27 @@ module _ (policy : Policy) (m : ModelTree) (lines : Bool) where
   as_counted : (setting : Setting) (c : Config) (i n k : ℕ) (a : Action) → i ≡ n → IsChoice setting c i k a → IsChoice setting c n k a
   as_counted setting c i n k a same choice = subst (λ (x : ℕ). IsChoice setting c x k a) same choice
 
-  pub acts_onward : Known → (j p n k : ℕ) (s t : Simulation) → IsMomentOf s (Actions n) → decided policy j (clock_in s) (Actions n) ≡ takes n k → Chooses k s t → Acting j p n k s t
-  acts_onward known j p n k _ _ now decides (simulations.acts setting c next i a is choice to) =
+  pub acts_onward : Known → (j p n k : ℕ) (past : List Event) (s t : Simulation) → IsMomentOf s (Actions n) → decided policy j (clock_in s) (Actions n) ≡ takes n k → Chooses k s t → Acting j p n k past s t
+  acts_onward known j p n k past _ _ now decides (simulations.acts setting c next i a is choice to) =
       let here : IsMoment setting c (Actions n) = now in
       let same : i ≡ n = count_is (known.one_moment setting c (Actions i) (Actions n) is here) in
       record {
         action = a;
         is_offer = record { offers = choice.offers; all = choice.all; chosen = choice.chosen };
-        onward = record { since = acted_on j p n k setting c next a here decides (as_counted setting c i n k a same choice) to };
+        onward = record { since = acted_on j p n k past setting c next a here decides (as_counted setting c i n k a same choice) to };
       }
-  acts_onward known j p n k _ _ now decides (simulations.stops setting c i a trouble is choice to) =
+  acts_onward known j p n k past _ _ now decides (simulations.stops setting c i a trouble is choice to) =
       let here : IsMoment setting c (Actions n) = now in
       let same : i ≡ n = count_is (known.one_moment setting c (Actions i) (Actions n) is here) in
       record {
         action = a;
         is_offer = record { offers = choice.offers; all = choice.all; chosen = choice.chosen };
-        onward = record { since = stopped_in j p n k setting c a trouble here decides (as_counted setting c i n k a same choice) to };
+        onward = record { since = stopped_in j p n k past setting c a trouble here decides (as_counted setting c i n k a same choice) to };
       }
 
   -- something halts in what comes next
-  pub cut_here : Known → (first here : Progress) (written : List ℕ) (before now : SinkState) (halt : Halt) → Onward policy m lines first here written → HasRest policy here.actions here.at
-      → Wrote before now written (Some halt) → CutShort policy m lines first.actions first.at before now halt
+  pub cut_here : Known → (first here : Progress) (written : List ℕ) (before now : SinkState) (halt : Halt) → Onward policy say first here written → HasRest policy here.actions here.at
+      → Wrote before now written (Some halt) → CutShort policy say first.actions first.past first.at before now halt
   cut_here known first here written before now halt onward r wrote =
       let x = onward.since r.events r.to r.ending r.rest_of in
       record {
@@ -157,12 +151,12 @@ module _ (policy : Policy) (m : ModelTree) (lines : Bool) where
         to = r.to;
         ending = r.ending;
         rest_of = x.rest_of;
-        wrote = subst (λ (text : List ℕ). Wrote before now text (Some halt)) (sym x.text) (known.halts before now written (told_events lines m r.events) halt wrote);
+        wrote = subst (λ (text : List ℕ). Wrote before now text (Some halt)) (sym x.text) (known.halts before now written (said_after say here.past r.events) halt wrote);
       }
 
   -- or later
-  pub cut_later : Known → (first here : Progress) (written : List ℕ) (before mid now : SinkState) (halt : Halt) → Onward policy m lines first here written → Wrote before mid written None
-      → CutShort policy m lines here.actions here.at mid now halt → CutShort policy m lines first.actions first.at before now halt
+  pub cut_later : Known → (first here : Progress) (written : List ℕ) (before mid now : SinkState) (halt : Halt) → Onward policy say first here written → Wrote before mid written None
+      → CutShort policy say here.actions here.past here.at mid now halt → CutShort policy say first.actions first.past first.at before now halt
   cut_later known first here written before mid now halt onward wrote cut =
       let x = onward.since cut.events cut.to cut.ending cut.rest_of in
       record {
@@ -170,7 +164,7 @@ module _ (policy : Policy) (m : ModelTree) (lines : Bool) where
         to = cut.to;
         ending = cut.ending;
         rest_of = x.rest_of;
-        wrote = subst (λ (text : List ℕ). Wrote before now text (Some halt)) (sym x.text) (known.joins before mid now written (told_events lines m cut.events) (Some halt) wrote cut.wrote);
+        wrote = subst (λ (text : List ℕ). Wrote before now text (Some halt)) (sym x.text) (known.joins before mid now written (said_after say here.past cut.events) (Some halt) wrote cut.wrote);
       }
 
 -- the run ends where the simulator stands

@@ -57,6 +57,13 @@ pub clock_of_actions : (s : Simulation) (n clock : ℕ) → IsMomentOf s (Action
 clock_of_actions (stands setting c standing) n clock now at = at
 clock_of_actions (broken setting) n clock now at = absurd (actions_broken now)
 
+time_broken : {d : ℕ} → Time d ≡ Broken → ⊥
+time_broken h = cc
+
+pub clock_of_time : (s : Simulation) (d clock : ℕ) → IsMomentOf s (Time d) → ClockIs s clock → clock ≡ clock_in s
+clock_of_time (stands setting c standing) d clock now at = at
+clock_of_time (broken setting) d clock now at = absurd (time_broken now)
+
 pub clock_of_ready : (s : Simulation) (clock : ℕ) → IsReady s → ClockIs s clock → clock ≡ clock_in s
 clock_of_ready (stands setting c standing) clock ready at = at
 clock_of_ready (broken setting) clock ready at = absurd ready

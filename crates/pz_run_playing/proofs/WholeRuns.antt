@@ -1,6 +1,8 @@
 -- Runs from the start of a model.
-use Rattle.std.proofs.Common.{◌≡◌, ℕ, Bool, true, false, List, [], ◌++◌, Option, Some, None, Result, Ok, Err, refl, sym, subst, ap, ◌∙◌, append_assoc}
+use Rattle.std.proofs.Common.{◌≡◌, ℕ, Bool, true, false, List, [], ◌∷◌, ◌++◌, Option, Some, None, Result, Ok, Err, refl, sym, subst, ap, ◌∙◌, append_assoc}
+use Rattle.std.specs.Prelude.{◌↔◌, IsTrue}
 use Rattle.std.specs.Result.{IsErrAnd}
+use Rattle.pz_syntax.specs.Classes.{ModelTree}
 use Rattle.std.proofs.lemmas.List.{append-nil}
 use Rattle.pz_io.specs.Outside.{SinkState}
 use Rattle.pz_io.specs.declared.writing.Halt.{Halt}
@@ -18,7 +20,10 @@ use Rattle.pz_rules.specs.Ports.{HasWires}
 use Rattle.pz_rules.specs.Runs.{Event, Standing, whole, stopped, Ending, ended, deadlocked, troubled, halted, refused}
 use Rattle.pz_rules.specs.ChosenRuns.{Policy}
 use Rattle.pz_trace.specs.declared.ending.Ending.TheVariants as ending
-use Rattle.pz_trace.specs.TraceText.{trace_header, events_text}
+use Rattle.pz_trace.specs.TraceText.{event_line, trace_header, events_text}
+use Rattle.pz_watch.specs.Files.{NamedFormula}
+use Rattle.pz_watch.specs.Breaking.{AreBroken}
+use Rattle.pz_watch_points.specs.EventPoints.{points_of}
 use Rattle.pz_term.specs.Simulations as simulations
 use Rattle.pz_term.specs.Simulations.{Simulation, stands, broken, Starts, IsMomentOf, AreOffersOf, setting_in}
 use Rattle.pz_run_playing.specs.declared.finale.Finale.{Finale}
@@ -30,9 +35,14 @@ use Rattle.pz_run_playing.specs.Summaries.{actions_in, passings_in, summary_of, 
 use Rattle.pz_run_playing.specs.Menus.{AreLeft, offered, no_offers, not_stopped, offers_text}
 use Rattle.pz_run_playing.specs.Playing.{EndsAs, ChosenRun, Telling, trace, summary, menu, Tells, of_trace, of_summary, of_menu, Plays}
 use Rattle.pz_run_playing.specs.devices.Known.{Known}
-use Rattle.pz_term.specs.Simulations.{model_in}
+use Rattle.pz_term.specs.Simulations.{model_in, clock_in}
 use Rattle.pz_run_playing.specs.devices.Rests.{IsReady, IsTroubledIn, ChosenRest, RestOf}
-use Rattle.pz_run_playing.specs.devices.Going.{told, told_events, CutShort, Ended, PlayedThrough, BrokenOff}
+use Rattle.pz_run_playing.specs.Sayings.{silence, line_of, judged_line, said_after}
+use Rattle.pz_run_playing.specs.Watched.{watched_text, PlaysWatched}
+use Rattle.pz_run_playing.specs.declared.finale.Judged.{Judged}
+use Rattle.pz_run_playing.specs.declared.listening.Listener.{Listener}
+use Rattle.pz_run_playing.specs.devices.Hearing.{Manner, silently, in_lines, with_watches, saying, Hears, HasHeard}
+use Rattle.pz_run_playing.specs.devices.Going.{told, CutShort, Ended, PlayedThrough, BrokenOff}
 use Rattle.pz_run_playing.proofs.Written.{err_is}
 use Rattle.pz_run_playing.proofs.Rests.{some_rest}
 use Rattle.pz_run_playing.proofs.Ends.{run_named}
@@ -85,28 +95,33 @@ run_to setting policy s to events ending x rest =
       is_end = r.is_end;
     }
 
-module _ (known : Known) (policy : Policy) (lines : Bool) (s : Simulation) (start : Started (setting_in s) s) (before mid : SinkState) where
+module _ (known : Known) (policy : Policy) (lines : Bool) (manner : Manner) (s : Simulation) (start : Started (setting_in s) s) (before mid : SinkState) where
+  abbrev all_of : List Event → List ℕ
+  all_of events = said_after (saying (model_in s) manner) [] events
+
   -- nothing but the header, or a front of it
-  pub header_cut : IsReady s → (halt : Halt) → Wrote before mid (told lines (trace_header (setting_in s))) (Some halt) → BrokenOff (setting_in s) policy lines before mid halt
+  pub header_cut : IsReady s → (halt : Halt) → Wrote before mid (told lines (trace_header (setting_in s))) (Some halt) → BrokenOff (setting_in s) policy lines manner before mid halt
   header_cut ready halt wrote =
       let r = some_rest known policy 0 s ready in
       let x = run_to (setting_in s) policy s r.to r.events r.ending start r.rest_of in
-      record { run = x.run; wrote = known.halts before mid (told lines (trace_header (setting_in s))) (told_events lines (model_in s) x.run.events) halt wrote }
+      record { run = x.run; wrote = known.halts before mid (told lines (trace_header (setting_in s))) (all_of x.run.events) halt wrote }
 
   module _ (now : SinkState) (wrote : Wrote before mid (told lines (trace_header (setting_in s))) None) where
-    pub lines_cut : (halt : Halt) → CutShort policy (model_in s) lines 0 s mid now halt → BrokenOff (setting_in s) policy lines before now halt
+    pub lines_cut : (halt : Halt) → CutShort policy (saying (model_in s) manner) 0 [] s mid now halt → BrokenOff (setting_in s) policy lines manner before now halt
     lines_cut halt cut =
         let x = run_to (setting_in s) policy s cut.to cut.events cut.ending start cut.rest_of in
-        let rest : Wrote mid now (told_events lines (model_in s) x.run.events) (Some halt) = subst (λ (es : List Event). Wrote mid now (told_events lines (model_in s) es) (Some halt)) (sym x.same_events) cut.wrote in
-        record { run = x.run; wrote = known.joins before mid now (told lines (trace_header (setting_in s))) (told_events lines (model_in s) x.run.events) (Some halt) wrote rest }
+        let rest : Wrote mid now (all_of x.run.events) (Some halt) = subst (λ (es : List Event). Wrote mid now (all_of es) (Some halt)) (sym x.same_events) cut.wrote in
+        record { run = x.run; wrote = known.joins before mid now (told lines (trace_header (setting_in s))) (all_of x.run.events) (Some halt) wrote rest }
 
-    pub lines_ended : (t : Simulation) (played : Played) → Ended policy lines s t mid now played → PlayedThrough (setting_in s) policy lines t before now played
-    lines_ended t played e =
+    pub lines_ended : (t : Simulation) (listener : Listener) (played : Played) → Ended policy manner s t mid now listener played → PlayedThrough (setting_in s) policy lines manner t before now listener played
+    lines_ended t listener played e =
         let x = run_to (setting_in s) policy s t e.events (ending_of played.finale) start e.rest_of in
-        let rest : Wrote mid now (told_events lines (model_in s) x.run.events) None = subst (λ (es : List Event). Wrote mid now (told_events lines (model_in s) es) None) (sym x.same_events) e.wrote in
+        let rest : Wrote mid now (all_of x.run.events) None = subst (λ (es : List Event). Wrote mid now (all_of es) None) (sym x.same_events) e.wrote in
+        let heard : HasHeard (model_in s) manner x.run.events (clock_in t) listener = subst (λ (es : List Event). HasHeard (model_in s) manner es (clock_in t) listener) (sym x.same_events) e.heard in
         record {
           run = x.run;
-          wrote = known.joins before mid now (told lines (trace_header (setting_in s))) (told_events lines (model_in s) x.run.events) None wrote rest;
+          wrote = known.joins before mid now (told lines (trace_header (setting_in s))) (all_of x.run.events) None wrote rest;
+          heard = subst (λ (n : ℕ). HasHeard (model_in s) manner x.run.events n listener) (ap clock_in x.is_end) heard;
           finale = sym x.same_ending;
           actions = e.actions ∙ ap actions_in (sym x.same_events);
           passes = e.passes ∙ ap passings_in (sym x.same_events);
@@ -114,11 +129,21 @@ module _ (known : Known) (policy : Policy) (lines : Bool) (s : Simulation) (star
         }
 
 -- what is told of a run that has finished names what is there
-pub through_named : Known → (setting : Setting) (policy : Policy) (lines : Bool) (t : Simulation) (before now : SinkState) (played : Played) → PlayedThrough setting policy lines t before now played → IsTroubledIn (model_in t) (ending_of played.finale)
-through_named known setting policy lines t before now played x =
+pub through_named : Known → (setting : Setting) (policy : Policy) (lines : Bool) (manner : Manner) (t : Simulation) (before now : SinkState) (listener : Listener) (played : Played)
+    → PlayedThrough setting policy lines manner t before now listener played → IsTroubledIn (model_in t) (ending_of played.finale)
+through_named known setting policy lines manner t before now listener played x =
     let named : IsTroubledIn setting.model x.run.ending = run_named known setting policy 0 x.run.start x.run.end x.run.events x.run.ending x.run.is_chosen in
     let model : model_in t ≡ setting.model = ap model_in x.arrives in
     subst (λ (e : Ending). IsTroubledIn (model_in t) e) (sym x.finale) (subst (λ (u : Simulation). IsTroubledIn (model_in u) x.run.ending) (sym x.arrives) named)
+
+-- lines alone are those of a trace
+said_lines : (m : ModelTree) (past events : List Event) → said_after (line_of m) past events ≡ events_text m events
+said_lines m past [] = refl
+said_lines m past (e ∷ events) = ap (λ (l : List ℕ). event_line m e ++ l) (said_lines m (past ++ e ∷ []) events)
+
+said_nothing : (past events : List Event) → said_after silence past events ≡ []
+said_nothing past [] = refl
+said_nothing past (e ∷ events) = said_nothing (past ++ e ∷ []) events
 
 module _ (setting : Setting) (policy : Policy) (telling : Telling) (t : Simulation) (before now : SinkState) where
   -- it was halted
@@ -134,21 +159,26 @@ module _ (setting : Setting) (policy : Policy) (telling : Telling) (t : Simulati
 module _ (known : Known) (setting : Setting) (policy : Policy) (t : Simulation) (before mid now : SinkState) where
   -- The trace
 
-  trace_is : (run : ChosenRun setting policy) → (trace_header setting ++ events_text setting.model run.events) ++ last_line setting.model run.end.clock run.ending ≡ run_text setting run.events run.end.clock run.ending
-  trace_is run = append_assoc (trace_header setting) (events_text setting.model run.events) (last_line setting.model run.end.clock run.ending)
+  abbrev its_lines : ChosenRun setting policy → List ℕ
+  its_lines run = said_after (line_of setting.model) [] run.events
 
-  pub trace_broken : (halt : Halt) (r : Result Finale Halt) → IsErrAnd r (λ e. e ≡ halt) → BrokenOff setting policy true before mid halt → Plays setting policy trace t before mid r
+  trace_is : (run : ChosenRun setting policy) → (trace_header setting ++ its_lines run) ++ last_line setting.model run.end.clock run.ending ≡ run_text setting run.events run.end.clock run.ending
+  trace_is run =
+      append_assoc (trace_header setting) (its_lines run) (last_line setting.model run.end.clock run.ending)
+      ∙ ap (λ (l : List ℕ). trace_header setting ++ (l ++ last_line setting.model run.end.clock run.ending)) (said_lines setting.model [] run.events)
+
+  pub trace_broken : (halt : Halt) (r : Result Finale Halt) → IsErrAnd r (λ e. e ≡ halt) → BrokenOff setting policy true in_lines before mid halt → Plays setting policy trace t before mid r
   trace_broken halt r is x =
       plays_cut setting policy trace t before mid x.run (run_text setting x.run.events x.run.end.clock x.run.ending) halt r (err_is r halt is) of_trace
       (subst (λ (l : List ℕ). Wrote before mid l (Some halt)) (trace_is x.run)
-      (known.halts before mid (trace_header setting ++ events_text setting.model x.run.events) (last_line setting.model x.run.end.clock x.run.ending) halt x.wrote))
+      (known.halts before mid (trace_header setting ++ its_lines x.run) (last_line setting.model x.run.end.clock x.run.ending) halt x.wrote))
 
-  module _ (played : Played) (x : PlayedThrough setting policy true t before mid played) where
+  module _ (listener : Listener) (played : Played) (x : PlayedThrough setting policy true in_lines t before mid listener played) where
     last_of : (halt : Option Halt) → Wrote mid now (last_line setting.model x.run.end.clock (ending_of played.finale)) halt → Wrote before now (run_text setting x.run.events x.run.end.clock x.run.ending) halt
     last_of halt wrote =
         let last : Wrote mid now (last_line setting.model x.run.end.clock x.run.ending) halt = subst (λ (e : Ending). Wrote mid now (last_line setting.model x.run.end.clock e) halt) x.finale wrote in
         subst (λ (l : List ℕ). Wrote before now l halt) (trace_is x.run)
-        (known.joins before mid now (trace_header setting ++ events_text setting.model x.run.events) (last_line setting.model x.run.end.clock x.run.ending) halt x.wrote last)
+        (known.joins before mid now (trace_header setting ++ its_lines x.run) (last_line setting.model x.run.end.clock x.run.ending) halt x.wrote last)
 
     pub last_cut : (halt : Halt) (r : Result Finale Halt) → IsErrAnd r (λ e. e ≡ halt) → Wrote mid now (last_line setting.model x.run.end.clock (ending_of played.finale)) (Some halt) → Plays setting policy trace t before now r
     last_cut halt r is wrote = plays_cut setting policy trace t before now x.run (run_text setting x.run.events x.run.end.clock x.run.ending) halt r (err_is r halt is) of_trace (last_of (Some halt) wrote)
@@ -158,25 +188,65 @@ module _ (known : Known) (setting : Setting) (policy : Policy) (t : Simulation) 
 
   -- The summary
 
-  pub summary_broken : (halt : Halt) (r : Result Finale Halt) → IsErrAnd r (λ e. e ≡ halt) → BrokenOff setting policy false before mid halt → Plays setting policy summary t before mid r
+  pub summary_broken : (halt : Halt) (r : Result Finale Halt) → IsErrAnd r (λ e. e ≡ halt) → BrokenOff setting policy false silently before mid halt → Plays setting policy summary t before mid r
   summary_broken halt r is x =
       plays_cut setting policy summary t before mid x.run (summary_line setting.model x.run.events x.run.end.clock x.run.ending) halt r (err_is r halt is) of_summary
-      (known.halts before mid [] (summary_line setting.model x.run.events x.run.end.clock x.run.ending) halt x.wrote)
+      (known.halts before mid [] (summary_line setting.model x.run.events x.run.end.clock x.run.ending) halt (subst (λ (l : List ℕ). Wrote before mid l (Some halt)) (said_nothing [] x.run.events) x.wrote))
 
-  module _ (played : Played) (x : PlayedThrough setting policy false t before mid played) where
+  module _ (listener : Listener) (played : Played) (x : PlayedThrough setting policy false silently t before mid listener played) where
     summary_told_of : (halt : Option Halt) → Wrote mid now (summary_of setting.model played.actions played.passes x.run.end.clock (ending_of played.finale)) halt → Wrote before now (summary_line setting.model x.run.events x.run.end.clock x.run.ending) halt
     summary_told_of halt wrote =
         let same : summary_of setting.model played.actions played.passes x.run.end.clock (ending_of played.finale) ≡ summary_line setting.model x.run.events x.run.end.clock x.run.ending =
         ap (λ (n : ℕ). summary_of setting.model n played.passes x.run.end.clock (ending_of played.finale)) x.actions
         ∙ ap (λ (n : ℕ). summary_of setting.model (actions_in x.run.events) n x.run.end.clock (ending_of played.finale)) x.passes
         ∙ ap (λ (e : Ending). summary_of setting.model (actions_in x.run.events) (passings_in x.run.events) x.run.end.clock e) x.finale in
-        known.joins before mid now [] (summary_line setting.model x.run.events x.run.end.clock x.run.ending) halt x.wrote (subst (λ (l : List ℕ). Wrote mid now l halt) same wrote)
+        known.joins before mid now [] (summary_line setting.model x.run.events x.run.end.clock x.run.ending) halt (subst (λ (l : List ℕ). Wrote before mid l None) (said_nothing [] x.run.events) x.wrote) (subst (λ (l : List ℕ). Wrote mid now l halt) same wrote)
 
     pub summary_cut : (halt : Halt) (r : Result Finale Halt) → IsErrAnd r (λ e. e ≡ halt) → Wrote mid now (summary_of setting.model played.actions played.passes x.run.end.clock (ending_of played.finale)) (Some halt) → Plays setting policy summary t before now r
     summary_cut halt r is wrote = plays_cut setting policy summary t before now x.run (summary_line setting.model x.run.events x.run.end.clock x.run.ending) halt r (err_is r halt is) of_summary (summary_told_of (Some halt) wrote)
 
     pub summary_told : Wrote mid now (summary_of setting.model played.actions played.passes x.run.end.clock (ending_of played.finale)) None → Plays setting policy summary t before now (Ok played.finale)
     summary_told wrote = plays_whole setting policy summary t before now x.run (summary_line setting.model x.run.events x.run.end.clock x.run.ending) played.finale of_summary (summary_told_of None wrote) x.finale x.arrives
+
+-- Judged by watches
+
+module _ (known : Known) (setting : Setting) (policy : Policy) (ws : List NamedFormula) (t : Simulation) (before mid now : SinkState) where
+  abbrev judged_lines : ChosenRun setting policy → List ℕ
+  judged_lines run = said_after (judged_line setting.model ws) [] run.events
+
+  watched_is : (run : ChosenRun setting policy) → (trace_header setting ++ judged_lines run) ++ last_line setting.model run.end.clock run.ending ≡ watched_text setting ws run.events run.end.clock run.ending
+  watched_is run = append_assoc (trace_header setting) (judged_lines run) (last_line setting.model run.end.clock run.ending)
+
+  pub watched_broken : (halt : Halt) (r : Result Judged Halt) → IsErrAnd r (λ e. e ≡ halt) → BrokenOff setting policy true (with_watches ws) before mid halt → PlaysWatched setting policy ws t before mid r
+  watched_broken halt r is x =
+      subst (λ (y : Result Judged Halt). PlaysWatched setting policy ws t before mid y) (sym (err_is r halt is)) (record {
+        run = x.run;
+        wrote = subst (λ (l : List ℕ). Wrote before mid l (Some halt)) (watched_is x.run)
+            (known.halts before mid (trace_header setting ++ judged_lines x.run) (last_line setting.model x.run.end.clock x.run.ending) halt x.wrote);
+        finale = tt;
+        broken = tt;
+        arrives = tt;
+      })
+
+  module _ (listener : Listener) (played : Played) (x : PlayedThrough setting policy true (with_watches ws) t before mid listener played) where
+    watched_last : (halt : Option Halt) → Wrote mid now (last_line setting.model x.run.end.clock (ending_of played.finale)) halt → Wrote before now (watched_text setting ws x.run.events x.run.end.clock x.run.ending) halt
+    watched_last halt wrote =
+        let last : Wrote mid now (last_line setting.model x.run.end.clock x.run.ending) halt = subst (λ (e : Ending). Wrote mid now (last_line setting.model x.run.end.clock e) halt) x.finale wrote in
+        subst (λ (l : List ℕ). Wrote before now l halt) (watched_is x.run)
+        (known.joins before mid now (trace_header setting ++ judged_lines x.run) (last_line setting.model x.run.end.clock x.run.ending) halt x.wrote last)
+
+    pub watched_cut : (halt : Halt) (r : Result Judged Halt) → IsErrAnd r (λ e. e ≡ halt) → Wrote mid now (last_line setting.model x.run.end.clock (ending_of played.finale)) (Some halt) → PlaysWatched setting policy ws t before now r
+    watched_cut halt r is wrote =
+        subst (λ (y : Result Judged Halt). PlaysWatched setting policy ws t before now y) (sym (err_is r halt is))
+        (record { run = x.run; wrote = watched_last (Some halt) wrote; finale = tt; broken = tt; arrives = tt })
+
+    pub watched_told : (flag : Bool) → ((past : List Event) → Hears setting.model (with_watches ws) past listener → (IsTrue flag) ↔ AreBroken ws (points_of setting.model past))
+        → Wrote mid now (last_line setting.model x.run.end.clock (ending_of played.finale)) None → PlaysWatched setting policy ws t before now (Ok (record { finale = played.finale; broken = flag }))
+    watched_told flag is wrote = record { run = x.run; wrote = watched_last None wrote; finale = x.finale; broken = is x.run.events x.heard.hears; arrives = x.arrives }
+
+pub watched_there : (setting : Setting) (s : Simulation) (policy : Policy) (ws : List NamedFormula) (t : Simulation) (before now : SinkState) (r : Result Judged Halt) → Starts setting s
+    → PlaysWatched (setting_in s) policy ws t before now r → PlaysWatched setting policy ws t before now r
+watched_there setting s policy ws t before now r start plays = subst (λ (x : Setting). PlaysWatched x policy ws t before now r) (its_setting setting s start) plays
 
 -- what was played in the setting of a simulator was played in that of its start
 pub plays_there : (setting : Setting) (s : Simulation) (policy : Policy) (telling : Telling) (t : Simulation) (before now : SinkState) (r : Result Finale Halt) → Starts setting s

@@ -1,6 +1,7 @@
 -- What was written where memory is wanting.
-use Rattle.std.proofs.Common.{◌≡◌, ℕ, List, [], Some, Result, Err, ap, ◌∙◌}
+use Rattle.std.proofs.Common.{◌≡◌, ℕ, List, [], Some, None, Result, Err, subst, ap, ◌∙◌}
 use Rattle.std.specs.Result.{IsErrAnd, result_err}
+use Rattle.std.proofs.lemmas.List.{append-nil}
 use Rattle.std.proofs.lemmas.Result.{err_from_is_err_and}
 use Rattle.pz_io.specs.Outside.{SinkState}
 use Rattle.pz_io.specs.declared.writing.Halt.{Halt}
@@ -18,3 +19,7 @@ halted_so r halt is = ap result_err (err_is r halt is)
 -- nothing of a text
 pub none_written : {T : Type 0} (known : Known) (s : SinkState) (text : List ℕ) (r : Result T Halt) → IsErrAnd r (λ e. e ≡ NoMemory) → Wrote s s text (result_err r)
 none_written known s text r is = rw (halted_so r NoMemory is) (known.wants s s [] text (known.nothing s))
+
+-- a text, and then memory was wanting
+pub whole_written : Known → (before now : SinkState) (text : List ℕ) → Wrote before now text None → Wrote before now text (Some NoMemory)
+whole_written known before now text wrote = subst (λ (l : List ℕ). Wrote before now l (Some NoMemory)) (append-nil text) (known.wants before now text [] wrote)

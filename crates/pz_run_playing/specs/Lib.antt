@@ -1,8 +1,10 @@
 pub mod Policies
 pub mod Endings
 pub mod RunText
+pub mod Sayings
 pub mod Summaries
 pub mod Menus
 pub mod Playing
+pub mod Watched
 pub mod Laws
 pub mod devices

@@ -34,4 +34,5 @@ pub(crate) fn rules_are_known()
     pz_term::laws::simulators_show_one_moment();
     pz_trace::laws::what_happens_is_named();
     pz_io::laws::pieces_join();
+    pz_watch_points::laws::processes_are_there();
 }

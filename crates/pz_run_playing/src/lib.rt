@@ -5,11 +5,13 @@
 mod choosing;
 mod deciding;
 mod finale;
+mod hearing;
 pub mod laws;
 mod lines;
+mod listening;
 mod playing;
 mod runs;
 mod telling;
 
-pub use finale::Finale;
-pub use runs::{play_menu, play_summary, play_trace};
+pub use finale::{Finale, Judged};
+pub use runs::{play_menu, play_summary, play_trace, play_watched};

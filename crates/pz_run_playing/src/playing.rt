@@ -1,25 +1,27 @@
 // A run, moment by moment.
 
-ghost use Rattle.std.specs.Prelude.{◌≡◌, ◌≤◌, ◌<◌, ℕ, IfOk, OnOk, IfErr};
+ghost use Rattle.std.specs.Prelude.{◌≡◌, ◌≤◌, ◌<◌, ℕ, List, [], ◌∷◌, ◌++◌, IfOk, OnOk, IfErr};
 ghost use Rattle.std.specs.Result.{result_err};
 ghost use Rattle.pz_io.specs.Writing.{Wrote};
-ghost use Rattle.pz_syntax.specs.Classes.{ModelTree};
 ghost use Rattle.pz_rules.specs.declared.action.Action.{Action as TheAction};
 ghost use Rattle.pz_rules.specs.ChosenRuns.{Policy};
 ghost use Rattle.pz_choice.specs.Resolvers.{Resolver};
 ghost use Rattle.pz_choice.specs.Choosers.{Stands};
-ghost use Rattle.pz_trace.specs.Lines as trace_lines;
+ghost use Rattle.pz_rules.specs.Runs.{Event, acted, passed};
 ghost use Rattle.pz_term.specs.Simulations.{Starts, IsMomentOf, Chooses, Passes, setting_in};
 ghost use Rattle.pz_run_playing.specs.Policies.{resolver_of, policy_of};
 ghost use Rattle.pz_term.specs.Simulations.{model_in, clock_in, IsOffer};
 ghost use Rattle.pz_run_playing.specs.devices.Rests.{IsReady, IsHeld};
-ghost use Rattle.pz_run_playing.specs.devices.Going.{told, Passing, CutShort, Ended, PlayedThrough, BrokenOff};
+ghost use Rattle.pz_run_playing.specs.devices.Hearing.{Manner, saying, tells_lines, Hears, HasHeard};
+ghost use Rattle.pz_run_playing.specs.devices.Going.{HasGone, Passing, CutShort, Ended, PlayedThrough, BrokenOff};
 
 use crate::choosing::chooser_of;
 use crate::deciding::{Decision, decide, is_beyond};
 use crate::finale::Finale;
+use crate::hearing::{hear_action, hear_passing};
 use crate::laws::rules_are_known;
-use crate::telling::{tell_action, tell_header, tell_passing};
+use crate::listening::Listener;
+use crate::telling::tell_header;
 use pz_choice::Chooser;
 use pz_io::{Halt, Sink};
 use pz_term::{ChooseError, Moment, PassError, Simulator, Steps};
@@ -44,19 +46,24 @@ fn pass<S: Simulator, L: Ledger, W: Sink>(
     alloc: Global,
     sim: &mut S,
     time: u128,
-    lines: bool,
+    listener: &mut Listener,
     steps: &mut Steps<L>,
     out: &mut W,
 ) -> Result<(), Halt>
     requires { IsMomentOf (S.simulation sim.old) (Moment.Time time) }
     ensures passes { OnOk result (Passes (S.simulation sim.old) (S.simulation sim.new)) }
     ensures setting { setting_in (S.simulation sim.new) ≡ setting_in (S.simulation sim.old) }
-    ensures wrote { Wrote (W.state out.old) (W.state out.new)
-        (told lines (trace_lines.time_line (clock_in (S.simulation sim.old)) time))
-        (result_err result) }
+    ensures wrote { (manner : Manner) (past : List Event) → let s = S.simulation sim.old in
+        HasHeard (model_in s) manner past (clock_in s) listener.old →
+        Wrote (W.state out.old) (W.state out.new)
+        (saying (model_in s) manner past (passed (clock_in s) time)) (result_err result) }
+    ensures heard { (manner : Manner) (past : List Event) → let s = S.simulation sim.old in
+        HasHeard (model_in s) manner past (clock_in s) listener.old →
+        OnOk result (HasHeard (model_in s) manner (past ++ passed (clock_in s) time ∷ [])
+        (clock_in s) listener.new) }
 {
     rules_are_known();
-    tell_passing(alloc, sim.clock(), time, lines, out)?;
+    hear_passing(alloc, sim.clock(), time, listener, out)?;
     match sim.pass(steps) {
         Ok(()) => Ok(()),
         Err(PassError::NoMemory) => Err(Halt::NoMemory),
@@ -70,7 +77,7 @@ fn act<S: Simulator, L: Ledger, W: Sink>(
     sim: &mut S,
     offers: u64,
     number: u64,
-    lines: bool,
+    listener: &mut Listener,
     steps: &mut Steps<L>,
     out: &mut W,
 ) -> Result<(), Halt>
@@ -79,13 +86,20 @@ fn act<S: Simulator, L: Ledger, W: Sink>(
     ensures chooses { OnOk result (Chooses number (S.simulation sim.old)
         (S.simulation sim.new)) }
     ensures setting { setting_in (S.simulation sim.new) ≡ setting_in (S.simulation sim.old) }
-    ensures wrote { (a : TheAction) → IsOffer (S.simulation sim.old) number a →
-        Wrote (W.state out.old) (W.state out.new) (told lines
-        (trace_lines.action_line (model_in (S.simulation sim.old))
-        (clock_in (S.simulation sim.old)) offers number a)) (result_err result) }
+    ensures wrote { (a : TheAction) (manner : Manner) (past : List Event) →
+        let s = S.simulation sim.old in
+        IsOffer s number a → HasHeard (model_in s) manner past (clock_in s) listener.old →
+        Wrote (W.state out.old) (W.state out.new)
+        (saying (model_in s) manner past (acted (clock_in s) offers number a))
+        (result_err result) }
+    ensures heard { (a : TheAction) (manner : Manner) (past : List Event) →
+        let s = S.simulation sim.old in
+        IsOffer s number a → HasHeard (model_in s) manner past (clock_in s) listener.old →
+        OnOk result (HasHeard (model_in s) manner (past ++ acted (clock_in s) offers number a ∷ [])
+        (clock_in s) listener.new) }
 {
     rules_are_known();
-    tell_action(alloc, sim, offers, number, lines, out)?;
+    hear_action(alloc, sim, offers, number, listener, out)?;
     match sim.choose(number, steps) {
         Ok(()) => Ok(()),
         Err(ChooseError::NoMemory) => Err(Halt::NoMemory),
@@ -101,18 +115,25 @@ fn pass_time<S: Simulator, L: Ledger, W: Sink>(
     sim: &mut S,
     until: Option<u64>,
     passes: u128,
-    lines: bool,
+    listener: &mut Listener,
     steps: &mut Steps<L>,
     out: &mut W,
 ) -> Result<u128, Halt>
     requires ready { IsReady (S.simulation sim.old) }
     requires within { passes ≤ clock_in (S.simulation sim.old) }
-    ensures passing { IfOk result (λ all. Passing until lines (S.simulation sim.old)
-        (W.state out.old) passes all (S.simulation sim.new) (W.state out.new)) }
+    ensures gone { IfOk result (λ all. HasGone (S.simulation sim.old) all
+        (S.simulation sim.new)) }
+    ensures passing { IfOk result (λ all. (manner : Manner) (past : List Event) →
+        let s = S.simulation sim.old in
+        HasHeard (model_in s) manner past (clock_in s) listener.old →
+        Passing until manner past s (W.state out.old) passes all (S.simulation sim.new)
+        listener.new (W.state out.new)) }
     ensures held { OnOk result (IsHeld until (S.simulation sim.new)) }
-    ensures cut { IfErr result (λ halt. (policy : Policy) (m : ModelTree) (actions : ℕ) →
-        policy.until ≡ until → CutShort policy m lines actions (S.simulation sim.old)
-        (W.state out.old) (W.state out.new) halt) }
+    ensures cut { IfErr result (λ halt. (policy : Policy) (actions : ℕ) (manner : Manner)
+        (past : List Event) → let s = S.simulation sim.old in policy.until ≡ until →
+        HasHeard (model_in s) manner past (clock_in s) listener.old →
+        CutShort policy (saying (model_in s) manner) actions past s (W.state out.old)
+        (W.state out.new) halt) }
 {
     rules_are_known();
     let mut all = passes;
@@ -124,7 +145,7 @@ fn pass_time<S: Simulator, L: Ledger, W: Sink>(
         if is_beyond(until, clock, time) {
             return Ok(all);
         }
-        pass(alloc, sim, time, lines, steps, out)?;
+        pass(alloc, sim, time, listener, steps, out)?;
         clock = sim.clock();
         all += 1;
     }
@@ -136,23 +157,27 @@ fn play_on<S: Simulator, L: Ledger, W: Sink>(
     sim: &mut S,
     chooser: &mut Chooser,
     limits: RunLimits,
-    lines: bool,
+    listener: &mut Listener,
     steps: &mut Steps<L>,
     out: &mut W,
 ) -> Result<Played, Halt>
     requires { IsReady (S.simulation sim.old) }
-    ensures ended { IfOk result (λ played. (r : Resolver) → Stands chooser.old r 0 →
-        Ended (policy_of r limits) lines (S.simulation sim.old) (S.simulation sim.new)
-        (W.state out.old) (W.state out.new) played) }
-    ensures cut { IfErr result (λ halt. (r : Resolver) → Stands chooser.old r 0 →
-        CutShort (policy_of r limits) (model_in (S.simulation sim.old)) lines 0
-        (S.simulation sim.old) (W.state out.old) (W.state out.new) halt) }
+    ensures ended { IfOk result (λ played. (r : Resolver) (manner : Manner) →
+        let s = S.simulation sim.old in
+        Stands chooser.old r 0 → HasHeard (model_in s) manner [] (clock_in s) listener.old →
+        Ended (policy_of r limits) manner s (S.simulation sim.new) (W.state out.old)
+        (W.state out.new) listener.new played) }
+    ensures cut { IfErr result (λ halt. (r : Resolver) (manner : Manner) →
+        let s = S.simulation sim.old in
+        Stands chooser.old r 0 → HasHeard (model_in s) manner [] (clock_in s) listener.old →
+        CutShort (policy_of r limits) (saying (model_in s) manner) 0 [] s (W.state out.old)
+        (W.state out.new) halt) }
 {
     rules_are_known();
     let mut actions = 0;
     let mut passes = 0;
     'actions: loop {
-        passes = pass_time(alloc, sim, limits.until, passes, lines, steps, out)?;
+        passes = pass_time(alloc, sim, limits.until, passes, listener, steps, out)?;
         match decide(sim.moment(), chooser, limits, actions) {
             Decision::Stop(finale) => {
                 return Ok(Played {
@@ -162,36 +187,41 @@ fn play_on<S: Simulator, L: Ledger, W: Sink>(
                 });
             }
             Decision::Take { offers, number } => {
-                act(alloc, sim, offers, number, lines, steps, out)?;
+                act(alloc, sim, offers, number, listener, steps, out)?;
                 actions += 1;
             }
         }
     }
 }
 
-/// Plays the run that is chosen so, from the start of a simulator on. Its header and its lines are told
-/// if they are asked for, and the last line is not.
+/// Plays the run that is chosen so, from the start of a simulator on. The listener is told of each event
+/// before the simulator goes on. Where it writes lines, the header is written too; the last line is not.
 pub(crate) fn play<S: Simulator, L: Ledger, W: Sink>(
     alloc: Global,
     sim: &mut S,
     choice: Choice,
     limits: RunLimits,
-    lines: bool,
+    listener: &mut Listener,
     steps: &mut Steps<L>,
     out: &mut W,
 ) -> Result<Played, Halt>
     requires { Starts (setting_in (S.simulation sim.old)) (S.simulation sim.old) }
-    ensures through { IfOk result (λ played. PlayedThrough (setting_in (S.simulation sim.old))
-        (policy_of (resolver_of choice) limits) lines (S.simulation sim.new) (W.state out.old)
-        (W.state out.new) played) }
-    ensures broken { IfErr result (λ halt. BrokenOff (setting_in (S.simulation sim.old))
-        (policy_of (resolver_of choice) limits) lines (W.state out.old) (W.state out.new) halt) }
+    ensures through { IfOk result (λ played. (manner : Manner) →
+        let setting = setting_in (S.simulation sim.old) in
+        Hears setting.model manner [] listener.old →
+        PlayedThrough setting (policy_of (resolver_of choice) limits) (tells_lines listener.old)
+        manner (S.simulation sim.new) (W.state out.old) (W.state out.new) listener.new played) }
+    ensures broken { IfErr result (λ halt. (manner : Manner) →
+        let setting = setting_in (S.simulation sim.old) in
+        Hears setting.model manner [] listener.old →
+        BrokenOff setting (policy_of (resolver_of choice) limits) (tells_lines listener.old)
+        manner (W.state out.old) (W.state out.new) halt) }
 {
     rules_are_known();
     let _model = sim.checked().model();
-    tell_header(alloc, sim, lines, out)?;
+    tell_header(alloc, sim, listener.tells_lines(), out)?;
     let mut chooser = chooser_of(choice);
-    let played = play_on(alloc, sim, &mut chooser, limits, lines, steps, out);
+    let played = play_on(alloc, sim, &mut chooser, limits, listener, steps, out);
     drop(chooser);
     played
 }

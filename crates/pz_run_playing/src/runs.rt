@@ -1,19 +1,28 @@
 // Runs of a simulator from its start to its end, and what is told of them.
 
+ghost use Rattle.std.specs.Prelude.{List, []};
 ghost use Rattle.pz_rules.specs.Settings.{Setting};
 ghost use Rattle.pz_term.specs.Simulations.{Starts};
 ghost use Rattle.pz_run_playing.specs.Policies.{resolver_of, policy_of};
+ghost use Rattle.pz_watch.specs.Files.{NamedFormula};
+ghost use Rattle.pz_watch.specs.devices.Standing.{StandForEach};
 ghost use Rattle.pz_run_playing.specs.Playing.{Plays, trace, summary, menu};
+ghost use Rattle.pz_run_playing.specs.Watched.{PlaysWatched};
 
-use crate::Finale;
+use crate::finale::{Finale, Judged};
 use crate::laws::rules_are_known;
-use crate::playing::play;
+use crate::listening::Listener;
+use crate::playing::{Played, play};
 use crate::telling::{tell_last, tell_offers, tell_summary};
 use pz_io::{Halt, Sink};
+use pz_items::Items;
 use pz_term::{Simulator, Steps};
 use pz_trace::Ending;
+use pz_watch::Watch;
+use pz_watch_judging::Watching;
 use pz_words::{Choice, RunLimits};
 use std::alloc::Global;
+use std::mem::drop;
 use std::sync::ledger::Ledger;
 
 /// Plays the run that is chosen so, from the start of a simulator to its end, and writes its trace: the
@@ -38,7 +47,10 @@ pub fn play_trace<S: Simulator, L: Ledger, W: Sink>(
         (W.state out.old) (W.state out.new) result }
 {
     rules_are_known();
-    let played = play(alloc, sim, choice, limits, true, steps, out)?;
+    let mut listener = Listener::Lines;
+    let played = play(alloc, sim, choice, limits, &mut listener, steps, out);
+    drop(listener);
+    let played = played?;
     tell_last(alloc, sim, played.finale, out)?;
     Ok(played.finale)
 }
@@ -62,7 +74,10 @@ pub fn play_summary<S: Simulator, L: Ledger, W: Sink>(
         (W.state out.old) (W.state out.new) result }
 {
     rules_are_known();
-    let played = play(alloc, sim, choice, limits, false, steps, out)?;
+    let mut listener = Listener::Silent;
+    let played = play(alloc, sim, choice, limits, &mut listener, steps, out);
+    drop(listener);
+    let played = played?;
     tell_summary(alloc, sim, played, out)?;
     Ok(played.finale)
 }
@@ -99,4 +114,37 @@ pub fn play_menu<S: Simulator, L: Ledger, W: Sink>(
         }
         _ => Ok(finale),
     }
+}
+
+/// Plays the run as [`play_trace`] does, and judges each line by these watches, which are before their first
+/// point: behind each line stands one for each watch that is broken there, in their order. They are
+/// fed in place.
+///
+/// # Errors
+///
+/// What was written is a front of that text. What has become of the simulator is left open.
+pub fn play_watched<S: Simulator, L: Ledger, W: Sink>(
+    alloc: Global,
+    sim: &mut S,
+    choice: Choice,
+    limits: RunLimits,
+    watches: Items<Watch>,
+    steps: &mut Steps<L>,
+    out: &mut W,
+) -> Result<Judged, Halt>
+    requires starts { (setting : Setting) × Starts setting (S.simulation sim.old) }
+    requires stand { (ws : List NamedFormula) × StandForEach watches ws [] }
+    ensures { (setting : Setting) (ws : List NamedFormula) →
+        Starts setting (S.simulation sim.old) → StandForEach watches ws [] →
+        PlaysWatched setting (policy_of (resolver_of choice) limits) ws (S.simulation sim.new)
+        (W.state out.old) (W.state out.new) result }
+{
+    rules_are_known();
+    let mut listener = Listener::Watches(Watching::new(watches));
+    let played = play(alloc, sim, choice, limits, &mut listener, steps, out);
+    let broken = listener.is_broken();
+    drop(listener);
+    let Played { finale, .. } = played?;
+    tell_last(alloc, sim, finale, out)?;
+    Ok(Judged { finale, broken })
 }

@@ -24,7 +24,7 @@ use crate::laws::rules_are_known;
 use crate::lines::{last_line, offer_line, summary_line};
 use crate::playing::Played;
 use pz_io::{Halt, Sink, put};
-use pz_term::{Moment, Simulator};
+use pz_term::{Action, Moment, Simulator};
 use pz_trace::{action_line, form_of, header, time_line};
 use std::alloc::{AllocError, Global};
 
@@ -53,21 +53,17 @@ pub(crate) fn tell_header<S: Simulator, W: Sink>(
     put(out, line.as_slice())
 }
 
-/// Writes the line of a passing of so much time from a clock on, in clock units, if lines are told.
+/// Writes the line of a passing of so much time from a clock on, in clock units.
 pub(crate) fn tell_passing<W: Sink>(
     alloc: Global,
     clock: u128,
     time: u128,
-    lines: bool,
     out: &mut W,
 ) -> Result<(), Halt>
-    ensures { Wrote (W.state out.old) (W.state out.new)
-        (told lines (trace_lines.time_line clock time)) (result_err result) }
+    ensures { Wrote (W.state out.old) (W.state out.new) (trace_lines.time_line clock time)
+        (result_err result) }
 {
     rules_are_known();
-    if !lines {
-        return Ok(());
-    }
     let line = time_line(alloc, clock, time)?;
     put(out, line.as_slice())
 }
@@ -78,15 +74,15 @@ fn line_of<S: Simulator>(
     sim: &S,
     offers: u64,
     number: u64,
+    action: &Action,
 ) -> Result<Vec<u8>, AllocError>
     requires moment { IsMomentOf (S.simulation sim.now) (Moment.Actions offers) }
-    requires there { number < offers }
-    ensures { IfOk result (λ line. (a : TheAction) → IsOffer (S.simulation sim.now) number a →
-        line.items ≡ trace_lines.action_line (model_in (S.simulation sim.now))
-        (clock_in (S.simulation sim.now)) offers number a) }
+    requires offered { IsOffer (S.simulation sim.now) number action.now }
+    ensures { IfOk result (λ line. line.items ≡ trace_lines.action_line
+        (model_in (S.simulation sim.now)) (clock_in (S.simulation sim.now)) offers number
+        action.now) }
 {
     rules_are_known();
-    let action = sim.offer(number)?;
     let clock = sim.clock();
     action_line(
         alloc,
@@ -95,32 +91,48 @@ fn line_of<S: Simulator>(
         clock,
         offers,
         number,
-        &action,
+        action,
     )
 }
 
-/// Writes the line of the offer of this number, from 0, which is taken, if lines are told.
+/// Writes the line of the offer of this number, from 0, which is taken.
+pub(crate) fn tell_offered<S: Simulator, W: Sink>(
+    alloc: Global,
+    sim: &S,
+    offers: u64,
+    number: u64,
+    action: &Action,
+    out: &mut W,
+) -> Result<(), Halt>
+    requires moment { IsMomentOf (S.simulation sim.now) (Moment.Actions offers) }
+    requires offered { IsOffer (S.simulation sim.now) number action.now }
+    ensures { Wrote (W.state out.old) (W.state out.new) (trace_lines.action_line
+        (model_in (S.simulation sim.now)) (clock_in (S.simulation sim.now)) offers number
+        action.now) (result_err result) }
+{
+    rules_are_known();
+    let line = line_of(alloc, sim, offers, number, action)?;
+    put(out, line.as_slice())
+}
+
+/// The same of whichever action that is.
 pub(crate) fn tell_action<S: Simulator, W: Sink>(
     alloc: Global,
     sim: &S,
     offers: u64,
     number: u64,
-    lines: bool,
     out: &mut W,
 ) -> Result<(), Halt>
     requires moment { IsMomentOf (S.simulation sim.now) (Moment.Actions offers) }
     requires there { number < offers }
     ensures { (a : TheAction) → IsOffer (S.simulation sim.now) number a →
-        Wrote (W.state out.old) (W.state out.new) (told lines
-        (trace_lines.action_line (model_in (S.simulation sim.now))
-        (clock_in (S.simulation sim.now)) offers number a)) (result_err result) }
+        Wrote (W.state out.old) (W.state out.new) (trace_lines.action_line
+        (model_in (S.simulation sim.now)) (clock_in (S.simulation sim.now)) offers number a)
+        (result_err result) }
 {
     rules_are_known();
-    if !lines {
-        return Ok(());
-    }
-    let line = line_of(alloc, sim, offers, number)?;
-    put(out, line.as_slice())
+    let action = sim.offer(number)?;
+    tell_offered(alloc, sim, offers, number, &action, out)
 }
 
 /// Writes the last line.

@@ -6,12 +6,12 @@ use Rattle.std.proofs.lemmas.Bool.{cond-false}
 use Rattle.std.proofs.lemmas.List.{take_all}
 use Rattle.pz_words.specs.declared.jobs.Choice.TheVariants as choice
 use Rattle.pz_words.specs.declared.jobs.Job.{Job}
-use Rattle.pz_words.specs.declared.jobs.Job.TheVariants.{Run, Menu, Replay, Check, Make, Ring, Format}
+use Rattle.pz_words.specs.declared.jobs.Job.TheVariants.{Run, Menu, Replay, Check, Make, Ring, Format, Watch}
 use Rattle.pz_words.specs.Jobs.{station_limit}
 use Rattle.pz_words.specs.declared.options.Options.{Options}
 use Rattle.pz_words.specs.Options.{nothing_said}
-use Rattle.pz_words.specs.Jobs.{choice_or, units_of, limits_of, is_name, IsRingSize, OnlyUnits, Asks, IsAsked, run, menu, replay, check, make, ring, format}
-use Rattle.pz_words.specs.devices.Reading.{only_if, then_maybe, is_none, name_of, stations_of, read_on, says_only_units, units_in, run_of, menu_of, replay_of, check_of, make_of, ring_of, format_of, job_of, job_in}
+use Rattle.pz_words.specs.Jobs.{choice_or, units_of, limits_of, is_name, IsRingSize, OnlyUnits, Asks, IsAsked, run, menu, replay, check, make, ring, format, watch}
+use Rattle.pz_words.specs.devices.Reading.{only_if, then_maybe, is_none, name_of, stations_of, read_on, says_only_units, units_in, run_of, menu_of, replay_of, check_of, make_of, ring_of, format_of, unsummed, watch_of, job_of, job_in}
 use Rattle.pz_words.proofs.Outcomes.{some_same, none_some, only_if_some, only_if_true, then_some, map_some, both_true, not_true, unless_some, by_word, none_is}
 use Rattle.pz_words.proofs.Numerals.{between_found, is_between}
 use Rattle.pz_words.proofs.Settings.{options_read, are_options}
@@ -65,6 +65,11 @@ module _ where
       ∙ ap (λ r. then_maybe r (λ o. if o.summary then None else Some (Ring n (choice_or choice.First o) (limits_of o)))) (options_read options o are)
       ∙ cond-false o.summary _ _ plain
   job_read _ _ (format model name) = ap (option_map (λ name. Format name)) (name_there model name)
+  job_read _ _ (watch model watches options o name other are plain) =
+      let told : unsummed options ≡ Some o = ap (λ r. then_maybe r (λ o. if o.summary then None else Some o)) (options_read options o are) ∙ cond-false o.summary None (Some o) plain in
+      ap (λ r. then_maybe r (λ o. then_maybe (name_of model) (λ name. option_map (λ w. Watch name w (choice_or choice.First o) (limits_of o)) (name_of watches)))) told
+      ∙ ap (λ r. then_maybe r (λ name. option_map (λ w. Watch name w (choice_or choice.First o) (limits_of o)) (name_of watches))) (name_there model name)
+      ∙ ap (option_map (λ w. Watch model w (choice_or choice.First o) (limits_of o))) (name_there watches other)
 
   run_asked : (words : List (List ℕ)) (j : Job) → run_of words ≡ Some j → Asks (codes "run" ∷ words) j
   run_asked [] j e = absurd (none_some j e)
@@ -136,37 +141,60 @@ module _ where
       subst (Asks (codes "format" ∷ model ∷ [])) (ap (λ (name : List ℕ). Format name) is.1 ∙ made.2) (format model is.0)
   format_asked (model ∷ other ∷ words) j e = absurd (none_some j e)
 
+  watch_asked : (words : List (List ℕ)) (j : Job) → watch_of words ≡ Some j → Asks (codes "watch" ∷ words) j
+  watch_asked [] j e = absurd (none_some j e)
+  watch_asked (model ∷ []) j e = absurd (none_some j e)
+  watch_asked (model ∷ watches ∷ options) j e =
+      let kept = then_some (unsummed options) _ j e in
+      let told = then_some (read_on nothing_said None options) _ kept.0 kept.1 in
+      let plain = unless_some told.0.summary _ kept.0 told.2 in
+      let same : told.0 ≡ kept.0 = some_same told.0 kept.0 plain.1 in
+      let first = then_some (name_of model) _ j kept.2 in
+      let made = map_some _ (name_of watches) j first.2 in
+      let is = is_there model first.0 first.1 in
+      let other = is_there watches made.0 made.1 in
+      subst (Asks (codes "watch" ∷ model ∷ watches ∷ options))
+      (ap (λ (o : Options). Watch model watches (choice_or choice.First o) (limits_of o)) same
+      ∙ ap (λ (name : List ℕ). Watch name watches (choice_or choice.First kept.0) (limits_of kept.0)) is.1
+      ∙ ap (λ (name : List ℕ). Watch first.0 name (choice_or choice.First kept.0) (limits_of kept.0)) other.1
+      ∙ made.2)
+      (watch model watches options told.0 is.0 other.0 (are_options options told.0 told.1) plain.0)
+
   asked : (command : List ℕ) (words : List (List ℕ)) (j : Job) → job_of command words ≡ Some j → Asks (command ∷ words) j
   asked command words j e = first (by_word command (codes "run") (run_of words) _ (Some j) e)
     where
       named : (name : List ℕ) → command ≡ name → Asks (name ∷ words) j → Asks (command ∷ words) j
       named name is asks = subst (λ (c : List ℕ). Asks (c ∷ words) j) (sym is) asks
 
-      seventh : ((command ≡ codes "format") × (format_of words ≡ Some j)) ⊎ (None ≡ Some j) → Asks (command ∷ words) j
-      seventh (inl is) = named (codes "format") is.0 (format_asked words j is.1)
-      seventh (inr never) = absurd (none_some j never)
+      eighth : ((command ≡ codes "watch") × (watch_of words ≡ Some j)) ⊎ (None ≡ Some j) → Asks (command ∷ words) j
+      eighth (inl is) = named (codes "watch") is.0 (watch_asked words j is.1)
+      eighth (inr never) = absurd (none_some j never)
 
-      sixth : ((command ≡ codes "ring") × (ring_of words ≡ Some j)) ⊎ ((if bytes_eq command (codes "format") then format_of words else None) ≡ Some j) → Asks (command ∷ words) j
+      seventh : ((command ≡ codes "format") × (format_of words ≡ Some j)) ⊎ ((if bytes_eq command (codes "watch") then watch_of words else None) ≡ Some j) → Asks (command ∷ words) j
+      seventh (inl is) = named (codes "format") is.0 (format_asked words j is.1)
+      seventh (inr other) = eighth (by_word command (codes "watch") _ _ (Some j) other)
+
+      sixth : ((command ≡ codes "ring") × (ring_of words ≡ Some j)) ⊎ ((if bytes_eq command (codes "format") then format_of words else (if bytes_eq command (codes "watch") then watch_of words else None)) ≡ Some j) → Asks (command ∷ words) j
       sixth (inl is) = named (codes "ring") is.0 (ring_asked words j is.1)
       sixth (inr other) = seventh (by_word command (codes "format") _ _ (Some j) other)
 
-      fifth : ((command ≡ codes "make") × (make_of words ≡ Some j)) ⊎ ((if bytes_eq command (codes "ring") then ring_of words else (if bytes_eq command (codes "format") then format_of words else None)) ≡ Some j) → Asks (command ∷ words) j
+      fifth : ((command ≡ codes "make") × (make_of words ≡ Some j)) ⊎ ((if bytes_eq command (codes "ring") then ring_of words else (if bytes_eq command (codes "format") then format_of words else (if bytes_eq command (codes "watch") then watch_of words else None))) ≡ Some j) → Asks (command ∷ words) j
       fifth (inl is) = named (codes "make") is.0 (make_asked words j is.1)
       fifth (inr other) = sixth (by_word command (codes "ring") _ _ (Some j) other)
 
-      fourth : ((command ≡ codes "check") × (check_of words ≡ Some j)) ⊎ ((if bytes_eq command (codes "make") then make_of words else (if bytes_eq command (codes "ring") then ring_of words else (if bytes_eq command (codes "format") then format_of words else None))) ≡ Some j) → Asks (command ∷ words) j
+      fourth : ((command ≡ codes "check") × (check_of words ≡ Some j)) ⊎ ((if bytes_eq command (codes "make") then make_of words else (if bytes_eq command (codes "ring") then ring_of words else (if bytes_eq command (codes "format") then format_of words else (if bytes_eq command (codes "watch") then watch_of words else None)))) ≡ Some j) → Asks (command ∷ words) j
       fourth (inl is) = named (codes "check") is.0 (check_asked words j is.1)
       fourth (inr other) = fifth (by_word command (codes "make") _ _ (Some j) other)
 
-      third : ((command ≡ codes "replay") × (replay_of words ≡ Some j)) ⊎ ((if bytes_eq command (codes "check") then check_of words else (if bytes_eq command (codes "make") then make_of words else (if bytes_eq command (codes "ring") then ring_of words else (if bytes_eq command (codes "format") then format_of words else None)))) ≡ Some j) → Asks (command ∷ words) j
+      third : ((command ≡ codes "replay") × (replay_of words ≡ Some j)) ⊎ ((if bytes_eq command (codes "check") then check_of words else (if bytes_eq command (codes "make") then make_of words else (if bytes_eq command (codes "ring") then ring_of words else (if bytes_eq command (codes "format") then format_of words else (if bytes_eq command (codes "watch") then watch_of words else None))))) ≡ Some j) → Asks (command ∷ words) j
       third (inl is) = named (codes "replay") is.0 (replay_asked words j is.1)
       third (inr other) = fourth (by_word command (codes "check") _ _ (Some j) other)
 
-      second : ((command ≡ codes "menu") × (menu_of words ≡ Some j)) ⊎ ((if bytes_eq command (codes "replay") then replay_of words else (if bytes_eq command (codes "check") then check_of words else (if bytes_eq command (codes "make") then make_of words else (if bytes_eq command (codes "ring") then ring_of words else (if bytes_eq command (codes "format") then format_of words else None))))) ≡ Some j) → Asks (command ∷ words) j
+      second : ((command ≡ codes "menu") × (menu_of words ≡ Some j)) ⊎ ((if bytes_eq command (codes "replay") then replay_of words else (if bytes_eq command (codes "check") then check_of words else (if bytes_eq command (codes "make") then make_of words else (if bytes_eq command (codes "ring") then ring_of words else (if bytes_eq command (codes "format") then format_of words else (if bytes_eq command (codes "watch") then watch_of words else None)))))) ≡ Some j) → Asks (command ∷ words) j
       second (inl is) = named (codes "menu") is.0 (menu_asked words j is.1)
       second (inr other) = third (by_word command (codes "replay") _ _ (Some j) other)
 
-      first : ((command ≡ codes "run") × (run_of words ≡ Some j)) ⊎ ((if bytes_eq command (codes "menu") then menu_of words else (if bytes_eq command (codes "replay") then replay_of words else (if bytes_eq command (codes "check") then check_of words else (if bytes_eq command (codes "make") then make_of words else (if bytes_eq command (codes "ring") then ring_of words else (if bytes_eq command (codes "format") then format_of words else None)))))) ≡ Some j) → Asks (command ∷ words) j
+      first : ((command ≡ codes "run") × (run_of words ≡ Some j)) ⊎ ((if bytes_eq command (codes "menu") then menu_of words else (if bytes_eq command (codes "replay") then replay_of words else (if bytes_eq command (codes "check") then check_of words else (if bytes_eq command (codes "make") then make_of words else (if bytes_eq command (codes "ring") then ring_of words else (if bytes_eq command (codes "format") then format_of words else (if bytes_eq command (codes "watch") then watch_of words else None))))))) ≡ Some j) → Asks (command ∷ words) j
       first (inl is) = named (codes "run") is.0 (run_asked words j is.1)
       first (inr other) = second (by_word command (codes "menu") _ _ (Some j) other)
 

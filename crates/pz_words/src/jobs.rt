@@ -104,4 +104,11 @@ pub enum Job {
     Format {
         model: FileName,
     },
+    /// To run a model, and to judge each line of its trace by the watches of a file.
+    Watch {
+        model: FileName,
+        watches: FileName,
+        choice: Choice,
+        limits: RunLimits,
+    },
 }

@@ -56,6 +56,9 @@ fn read_job(alloc: Global, command: &str, words: &[String]) -> Result<Option<Job
     if command == "format" {
         return read_format(words);
     }
+    if command == "watch" {
+        return read_watch(alloc, words);
+    }
     Ok(None)
 }
 
@@ -233,4 +236,43 @@ fn read_format(words: &[String]) -> Result<Option<Job>, AllocError>
         return Ok(None);
     };
     Ok(Some(Job::Format { model }))
+}
+
+/// What the words of options say, where they do not ask for the summary. The only error is want of
+/// memory.
+fn read_unsummed(alloc: Global, words: &[String]) -> Result<Option<Options>, AllocError>
+    ensures { IfOk result (λ found. found ≡ device.unsummed (map string_bytes words.now)) }
+{
+    let Some(options) = read_options(alloc, words)? else {
+        return Ok(None);
+    };
+    if options.summary {
+        Ok(None)
+    } else {
+        Ok(Some(options))
+    }
+}
+
+fn read_watch(alloc: Global, words: &[String]) -> Result<Option<Job>, AllocError>
+    ensures { IfOk result (λ found. found ≡ device.watch_of (map string_bytes words.now)) }
+{
+    let [model, watches, options @ ..] = words else {
+        return Ok(None);
+    };
+    let Some(options) = read_unsummed(alloc, options)? else {
+        return Ok(None);
+    };
+    let Some(model) = file_name(model)? else {
+        return Ok(None);
+    };
+    let Some(watches) = file_name(watches)? else {
+        return Ok(None);
+    };
+    let limits = options.limits();
+    Ok(Some(Job::Watch {
+        model,
+        watches,
+        choice: options.into_choice(Choice::First),
+        limits,
+    }))
 }

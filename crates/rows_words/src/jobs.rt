@@ -75,6 +75,18 @@ pub fn show(rt: &HostRuntime, job: &Job) -> io::Result<()> {
             let name = model.as_str();
             print!(rt; "format {name}")?;
         }
+        Job::Watch {
+            model,
+            watches,
+            choice,
+            limits,
+        } => {
+            let name = model.as_str();
+            let watches = watches.as_str();
+            print!(rt; "watch {name} {watches}")?;
+            show_choice(rt, choice)?;
+            show_limits(rt, limits)?;
+        }
     }
     println!(rt;)
 }

@@ -7,3 +7,5 @@ mod failures;
 mod programs;
 #[cfg(test)]
 mod replays;
+#[cfg(test)]
+mod watches;

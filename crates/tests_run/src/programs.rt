@@ -91,7 +91,7 @@ fn expect_of(
 #[test]
 fn a_command_line_gives_its_status_and_its_lines(rt: HostRuntime) -> Result<(), Fail> {
     let usage =
-        "usage: poosl_run run MODEL | menu MODEL | replay MODEL TRACE | check MODEL | make N | ring N | format MODEL\n";
+        "usage: poosl_run run MODEL | menu MODEL | replay MODEL TRACE | check MODEL | make N | ring N | format MODEL | watch MODEL WATCHES\n";
     let rows = [
         ("run m", 0, TRACE),
         ("run m --first", 0, TRACE),
@@ -129,6 +129,8 @@ fn a_command_line_gives_its_status_and_its_lines(rt: HostRuntime) -> Result<(), 
         ("make 1", 2, usage),
         ("ring 1001", 2, usage),
         ("format m m", 2, usage),
+        ("watch m", 2, usage),
+        ("watch m w --summary", 2, usage),
         ("", 2, usage),
     ];
     for (line, status, output) in rows {

@@ -4,6 +4,7 @@ use Rattle.pz_rules.specs.devices.Ends.{PassingsEnd}
 use Rattle.pz_trace.specs.Laws.{OffersAreNamed, FaultsAreNamed, HighsAreNamed, StopsAreNamed}
 use Rattle.pz_term.specs.Laws.{OneMomentOf, OffersAreThere, OffersAreCounted, OffersAreNumbered, OffersAreDerived, OneOfferOf}
 use Rattle.pz_io.specs.Laws.{NothingIsWritten, PiecesJoin, HaltsBeforeMore, MemoryMayBeWanting}
+use Rattle.pz_watch_points.specs.Laws.{NamedHaveProcesses}
 
 pub record Known : Type 0 where
   pub wires : WiresAreKnown
@@ -33,3 +34,4 @@ pub record Known : Type 0 where
   pub joins : PiecesJoin
   pub halts : HaltsBeforeMore
   pub wants : MemoryMayBeWanting
+  pub processes_there : NamedHaveProcesses

@@ -5,7 +5,7 @@ use Rattle.std.specs.Fmt.{decimal}
 use Rattle.std.specs.Str.Parse.{digits_value}
 use Rattle.pz_words.specs.declared.jobs.Choice.TheVariants as choice
 use Rattle.pz_words.specs.declared.jobs.Job.{Job}
-use Rattle.pz_words.specs.declared.jobs.Job.TheVariants.{Run, Menu, Replay, Check, Make, Ring, Format}
+use Rattle.pz_words.specs.declared.jobs.Job.TheVariants.{Run, Menu, Replay, Check, Make, Ring, Format, Watch}
 use Rattle.pz_words.specs.Jobs.{station_limit}
 use Rattle.pz_words.specs.declared.options.OptionWord.{OptionWord}
 use Rattle.pz_words.specs.declared.options.OptionWord.TheVariants.{Chooses, Steps, Until, Units, Summary}
@@ -153,6 +153,14 @@ format_of [] = None
 format_of (model ∷ []) = option_map (λ name. Format name) (name_of model)
 format_of (model ∷ other ∷ words) = None
 
+abbrev pub unsummed : List (List ℕ) → Option Options
+unsummed options = then_maybe (read_on nothing_said None options) (λ o. if o.summary then None else Some o)
+
+abbrev pub watch_of : List (List ℕ) → Option Job
+watch_of [] = None
+watch_of (model ∷ []) = None
+watch_of (model ∷ watches ∷ options) = then_maybe (unsummed options) (λ o. then_maybe (name_of model) (λ name. option_map (λ w. Watch name w (choice_or choice.First o) (limits_of o)) (name_of watches)))
+
 abbrev pub job_of : List ℕ → List (List ℕ) → Option Job
 job_of command words =
     if bytes_eq command (codes "run") then run_of words
@@ -161,7 +169,8 @@ job_of command words =
     else (if bytes_eq command (codes "check") then check_of words
     else (if bytes_eq command (codes "make") then make_of words
     else (if bytes_eq command (codes "ring") then ring_of words
-    else (if bytes_eq command (codes "format") then format_of words else None))))))
+    else (if bytes_eq command (codes "format") then format_of words
+    else (if bytes_eq command (codes "watch") then watch_of words else None)))))))
 
 abbrev pub job_in : List (List ℕ) → Option Job
 job_in [] = None

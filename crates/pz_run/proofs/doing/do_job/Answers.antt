@@ -1,6 +1,7 @@
 use Rattle.pz_run.proofs.OfJobs.{keeps_run, keeps_menu, keeps_check, keeps_make, keeps_ring}
 use Rattle.pz_run.proofs.Formatted.{keeps_format}
 use Rattle.pz_run.proofs.Replayed.{keeps_replay}
+use Rattle.pz_run.proofs.Watched.{keeps_watch}
 use Rattle.pz_run.proofs.doing.do_job.Goals as goal
 
 pub returns-in-Run : goal.returns-in-Run
@@ -33,3 +34,9 @@ returns-in-Replay g c =
 pub returns-in-Format : goal.returns-in-Format
 returns-in-Format g c =
     rw c.in-Format.is (keeps_format _ _ _ _ c.format_file.result c.in-Format.model (rw c.as_str-in-Format.ensures at c.format_file.ensures))
+
+pub returns-in-Watch : goal.returns-in-Watch
+returns-in-Watch g c =
+    rw c.in-Watch.is
+    (keeps_watch _ _ _ _ c.watch_file.result c.in-Watch.model c.in-Watch.watches c.in-Watch.choice c.in-Watch.limits
+    (rw (c.as_str-in-Watch.ensures, c.as_str-in-Watch-2.ensures) at c.watch_file.ensures))

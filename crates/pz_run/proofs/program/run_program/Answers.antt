@@ -74,3 +74,15 @@ returns-clause-longer g c = λ a asked. (c.run_words.ensures.kept a asked).longe
 
 pub returns-clause-read_cause : goal.returns-clause-read_cause
 returns-clause-read_cause g c = λ a asked. (c.run_words.ensures.kept a asked).read_cause
+
+pub returns-clause-watch_broken : goal.returns-clause-watch_broken
+returns-clause-watch_broken g c = λ a asked. (c.run_words.ensures.kept a asked).watch_broken
+
+pub returns-clause-broken_watch : goal.returns-clause-broken_watch
+returns-clause-broken_watch g c = λ a asked breaks told x. (c.run_words.ensures.kept a asked).broken_watch breaks told x.written x.ample x.read
+
+pub returns-clause-watch_refused : goal.returns-clause-watch_refused
+returns-clause-watch_refused g c = λ a asked. (c.run_words.ensures.kept a asked).watch_refused
+
+pub returns-clause-no_watches : goal.returns-clause-no_watches
+returns-clause-no_watches g c = λ a asked none told x. (c.run_words.ensures.kept a asked).no_watches none told x.written x.ample x.read

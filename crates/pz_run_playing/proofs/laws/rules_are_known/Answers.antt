@@ -29,4 +29,5 @@ returns c = record {
   joins = c.pieces_join.ensures.joins;
   halts = c.pieces_join.ensures.halts;
   wants = c.pieces_join.ensures.wants;
+  processes_there = c.processes_are_there.ensures.named;
 }

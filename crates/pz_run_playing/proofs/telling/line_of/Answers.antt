@@ -1,27 +1,23 @@
-use Rattle.std.proofs.Common.{◌≡◌, ◌∙◌}
+use Rattle.std.proofs.Common.{◌≡◌, ◌∙◌, refl}
 use Rattle.std.proofs.lemmas.Result.{IfOk-weaker}
 use Rattle.pz_classes.specs.CheckedView.{checked_model}
-use Rattle.pz_rules.specs.declared.action.Action.{Action}
 use Rattle.pz_trace.specs.Lines.{action_line}
-use Rattle.pz_term.specs.Simulations.{model_in, clock_in, IsOffer}
+use Rattle.pz_term.specs.Simulations.{model_in, clock_in}
 use Rattle.pz_run_playing.proofs.Simulated.{clock_of_actions, named_here}
 use Rattle.pz_run_playing.proofs.Told.{same_line}
 use Rattle.pz_run_playing.proofs.telling.line_of.Goals as goal
 
 pub action_line-requires-clause-named : goal.action_line-requires-clause-named
 action_line-requires-clause-named g c =
-    named_here c.rules_are_known.ensures (g.S.Simulator.simulation c.args.sim.now) c.args.number c.in_ok-action.action c.net.result.now c.in_ok-action.ensures c.net.ensures
+    named_here c.rules_are_known.ensures (g.S.Simulator.simulation c.args.sim.now) c.args.number c.args.action.now c.net.result.now c.requires.offered c.net.ensures
 
 pub returns : goal.returns
 returns g c =
-    let known = c.rules_are_known.ensures in
     let s = g.S.Simulator.simulation c.args.sim.now in
-    let b = c.in_ok-action.action in
+    let b = c.args.action.now in
     let model : checked_model c.checked.result.now ≡ model_in s = c.checked.ensures in
     let clock : c.clock-clock.result ≡ clock_in s = clock_of_actions s c.args.offers c.clock-clock.result c.requires.moment c.clock-clock.ensures in
     IfOk-weaker c.action_line.result
     (λ line. line.items ≡ action_line (checked_model c.checked.result.now) c.clock-clock.result c.args.offers c.args.number b)
-    (λ line. (a : Action) → IsOffer s c.args.number a → line.items ≡ action_line (model_in s) (clock_in s) c.args.offers c.args.number a)
-    (λ line is a offer.
-    is ∙ same_line (checked_model c.checked.result.now) (model_in s) c.clock-clock.result (clock_in s) c.args.offers c.args.number b a model clock
-    (known.one_offer s c.args.number b a c.in_ok-action.ensures offer)) c.action_line.ensures
+    (λ line. line.items ≡ action_line (model_in s) (clock_in s) c.args.offers c.args.number b)
+    (λ line is. is ∙ same_line (checked_model c.checked.result.now) (model_in s) c.clock-clock.result (clock_in s) c.args.offers c.args.number b b model clock refl) c.action_line.ensures

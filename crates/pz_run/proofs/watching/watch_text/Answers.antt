@@ -1,0 +1,22 @@
+use Rattle.std.proofs.Common.{refl}
+use Rattle.pz_classes.specs.CheckedView.{checked_model}
+use Rattle.pz_run.specs.Files.{watch_file}
+use Rattle.pz_run.specs.devices.Judging.{refuses, goes_on}
+use Rattle.pz_run.proofs.Judgings.{of_reading, closed_said}
+use Rattle.pz_run.proofs.watching.watch_text.Goals as goal
+
+pub watch_model-requires : goal.watch_model-requires
+watch_model-requires g c = c.in-Ok.ensures.found.opens
+
+pub returns-in-Ok : goal.returns-in-Ok
+returns-in-Ok g c =
+    goes_on (checked_model c.in-Ok.checked) (record {
+      is_model = c.in-Ok.ensures.found;
+      only = c.in-Ok.ensures.only;
+      unrefused = λ r. c.open_or_refused.ensures c.args.text.now (checked_model c.in-Ok.checked) r c.in-Ok.ensures.found;
+    })
+    (of_reading c.one_run.ensures c.files_have_one_answer.ensures.list c.files_have_one_answer.ensures.never_both c.args.play (checked_model c.in-Ok.checked)
+    c.in-Ok.ensures.found.is_model.sound (watch_file c.args.watches.now) _ _ _ _ c.watch_model.result c.watch_model.ensures)
+
+pub returns-in-Err : goal.returns-in-Err
+returns-in-Err g c = refuses refl (closed_said c.args.text.now _ _ c.say_refused.result c.in-Err.error c.in-Err.ensures.refused c.in-Err.ensures.only c.say_refused.ensures)

@@ -1,0 +1,206 @@
+// Runs that watches judge.
+ghost use Rattle.std.specs.Prelude.{◌≡◌, ◌-◌, ◌<◌, ◌^◌, ℕ, List, [], length};
+ghost use Rattle.pz_syntax.specs.Classes.{ModelTree};
+ghost use Rattle.pz_classes.specs.CheckedView.{checked_model};
+ghost use Rattle.pz_classes_openings.specs.OpeningRules.{Opens};
+ghost use Rattle.pz_rules.specs.Settings.{Setting};
+ghost use Rattle.pz_term.specs.Simulations.{Starts};
+ghost use Rattle.pz_term.specs.Plains.{simulation_of};
+ghost use Rattle.pz_watch.specs.declared.errors.ReadWatchesError.TheVariants.{Refused};
+ghost use Rattle.pz_watch.specs.Files.{NamedFormula, AreWatches, IsRefusedAt};
+ghost use Rattle.pz_watch.specs.Names.{is_identifier};
+ghost use Rattle.pz_watch.specs.devices.Standing.{StandForEach};
+ghost use Rattle.pz_run_playing.specs.Watched.{PlaysWatched};
+ghost use Rattle.pz_run.specs.Files.{watch_file as file_of};
+ghost use Rattle.pz_run.specs.Plays.{setting_for, policy_for};
+ghost use Rattle.pz_run.specs.Output.{PrintsJudged};
+ghost use Rattle.pz_run.specs.devices.Saying.{Says, Answers};
+ghost use Rattle.pz_run.specs.devices.Reading.{ReadsFile};
+ghost use Rattle.pz_run.specs.devices.Judging.{JudgesText, JudgesFiles};
+
+use crate::Status;
+use crate::files::say_unread;
+use crate::limits::{MODEL_LIMIT, WATCH_LIMIT};
+use crate::play::Play;
+use crate::printing::say_made;
+use crate::starting::start;
+use crate::texts::say_refused;
+use pz_classes::Checked;
+use pz_io::{Files, Halt, Sink, read_all};
+use pz_items::Items;
+use pz_run_lines::watch_refused_line;
+use pz_run_playing::{Judged, play_watched};
+use pz_run_reading::read_open_model;
+use pz_term::{Plain, Steps};
+use pz_trace::Form;
+use pz_watch::{ReadWatchesError, Watch, read_watches};
+use std::alloc::Global;
+use std::marker::Brand;
+use std::mem::drop;
+use std::sync::ledger::{Blank, Ledger};
+
+/// Runs a model and judges its run by watches, each of which is a file. The watches are opened once the model
+/// is accepted.
+pub fn watch_file<F: Files, W: Sink>(
+    alloc: Global,
+    model: &str,
+    watches: &str,
+    play: Play,
+    files: &mut F,
+    out: &mut W,
+) -> Status
+    ensures { JudgesFiles model.now watches.now play (F.state files.old) (F.state files.new)
+        (W.state out.old) (W.state out.new) result }
+{
+    match read_all(alloc, files, model, MODEL_LIMIT) {
+        Ok(text) => watch_text(alloc, text.as_slice(), watches, play, files, out),
+        Err(error) => say_unread(alloc, error, model, out),
+    }
+}
+
+// The same of the text of a model.
+fn watch_text<F: Files, W: Sink>(
+    alloc: Global,
+    text: &[u8],
+    watches: &str,
+    play: Play,
+    files: &mut F,
+    out: &mut W,
+) -> Status
+    requires { length text.now < 2 ^ 32 - 1 }
+    ensures { JudgesText watches.now play (F.state files.old) (F.state files.new)
+        (W.state out.old) (W.state out.new) result text.now }
+{
+    pz_run_playing::laws::one_run();
+    pz_watch::laws::files_have_one_answer();
+    pz_run_reading::laws::open_or_refused();
+    match read_open_model(alloc, text) {
+        Ok(checked) => watch_model(alloc, checked, watches, play, files, out),
+        Err(error) => say_refused(alloc, error, out),
+    }
+}
+
+// The same of a model that opens.
+fn watch_model<F: Files, W: Sink>(
+    alloc: Global,
+    checked: Checked,
+    watches: &str,
+    play: Play,
+    files: &mut F,
+    out: &mut W,
+) -> Status
+    requires { Opens (checked_model checked) }
+    ensures { ReadsFile (file_of watches.now) (PrintsJudged play (checked_model checked))
+        (F.state files.old) (F.state files.new) (W.state out.old) (W.state out.new) result }
+{
+    match read_all(alloc, files, watches, WATCH_LIMIT) {
+        Ok(file) => watch_lines(alloc, checked, file.as_slice(), play, out),
+        Err(error) => {
+            drop(checked);
+            say_unread(alloc, error, watches, out)
+        }
+    }
+}
+
+// Judges the run of a model by the watches of this text, or says at which line it is no list of watches.
+fn watch_lines<W: Sink>(
+    alloc: Global,
+    checked: Checked,
+    file: &[u8],
+    play: Play,
+    out: &mut W,
+) -> Status
+    requires { Opens (checked_model checked) }
+    ensures { Answers (PrintsJudged play (checked_model checked) file.now) (W.state out.old)
+        (W.state out.new) result }
+{
+    match read_watches(alloc, file) {
+        Ok(watches) => judge_model(alloc, checked, watches, play, out),
+        Err(error) => {
+            drop(checked);
+            say_no_watches(alloc, error, out)
+        }
+    }
+}
+
+// Says at which line a file is no list of watches.
+fn say_no_watches<W: Sink>(alloc: Global, error: ReadWatchesError, out: &mut W) -> Status
+    ensures { (m : ModelTree) (play : Play) (file : List ℕ) →
+        ((line : ℕ) → error ≡ Refused line → IsRefusedAt is_identifier file line) →
+        Answers (PrintsJudged play m file) (W.state out.old) (W.state out.new) result }
+{
+    match error {
+        ReadWatchesError::NoMemory => Status::NoMemory,
+        ReadWatchesError::Refused(line) => say_made(
+            out,
+            watch_refused_line(alloc, line),
+            Status::WatchRefused,
+        ),
+    }
+}
+
+// Runs the model and judges its run by these watches.
+fn judge_model<W: Sink>(
+    alloc: Global,
+    checked: Checked,
+    watches: Items<Watch>,
+    play: Play,
+    out: &mut W,
+) -> Status
+    requires opens { Opens (checked_model checked) }
+    requires stand { (ws : List NamedFormula) × StandForEach watches ws [] }
+    ensures { (file : List ℕ) (ws : List NamedFormula) → AreWatches is_identifier file ws →
+        StandForEach watches ws [] → Answers (PrintsJudged play (checked_model checked) file)
+        (W.state out.old) (W.state out.new) result }
+{
+    let units = play.limits.units;
+    match start(alloc, checked, Form::Three { units }, units) {
+        Ok(plain) => judge_plain(alloc, plain, watches, play, out),
+        Err(_) => Status::NoMemory,
+    }
+}
+
+// Plays the run from the start of a simulator on. The steps that it takes are counted in a ledger of their
+// own.
+fn judge_from<L: Ledger, W: Sink>(
+    alloc: Global,
+    plain: &mut Plain,
+    watches: Items<Watch>,
+    play: Play,
+    ledger: Blank,
+    out: &mut W,
+) -> Result<Judged, Halt>
+    requires name { ledger.name ≡ L.name }
+    requires parts { ledger.parts ≡ L.parts }
+    requires some { 0 < L.parts }
+    requires starts { (setting : Setting) × Starts setting (simulation_of plain.old) }
+    requires stand { (ws : List NamedFormula) × StandForEach watches ws [] }
+    ensures { (setting : Setting) (ws : List NamedFormula) →
+        Starts setting (simulation_of plain.old) → StandForEach watches ws [] →
+        PlaysWatched setting (policy_for play) ws (simulation_of plain.new)
+        (W.state out.old) (W.state out.new) result }
+{
+    let Play { choice, limits, .. } = play;
+    let mut steps = Steps::<L>::new(ledger);
+    play_watched(alloc, plain, choice, limits, watches, &mut steps, out)
+}
+
+// The same, with the status of the run.
+fn judge_plain<W: Sink>(
+    alloc: Global,
+    mut plain: Plain,
+    watches: Items<Watch>,
+    play: Play,
+    out: &mut W,
+) -> Status
+    requires starts { (setting : Setting) × Starts setting (simulation_of plain) }
+    requires stand { (ws : List NamedFormula) × StandForEach watches ws [] }
+    ensures { (m : ModelTree) (file : List ℕ) (ws : List NamedFormula) →
+        Starts (setting_for m play) (simulation_of plain) → AreWatches is_identifier file ws →
+        StandForEach watches ws [] →
+        Says (PrintsJudged play m file) (W.state out.old) (W.state out.new) result }
+{
+    let ended = judge_from::<Brand, W>(alloc, &mut plain, watches, play, Blank::new(1), out);
+    drop(plain);
+    Status::judged(ended)
+}

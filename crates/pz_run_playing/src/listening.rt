@@ -1,0 +1,45 @@
+ghost use Rattle.std.specs.Prelude.{◌≡◌, ◌↔◌, List, IsTrue};
+ghost use Rattle.pz_syntax.specs.Classes.{ModelTree};
+ghost use Rattle.pz_rules.specs.Runs.{Event};
+ghost use Rattle.pz_watch.specs.Files.{NamedFormula};
+ghost use Rattle.pz_watch.specs.Breaking.{AreBroken};
+ghost use Rattle.pz_watch_points.specs.EventPoints.{points_of};
+ghost use Rattle.pz_run_playing.specs.devices.Hearing as hearing;
+ghost use Rattle.pz_run_playing.specs.devices.Hearing.{Hears, with_watches};
+
+use pz_watch_judging::Watching;
+
+/// Who is told what happens in a run, while it goes on.
+#[derive(Drop)]
+pub(crate) enum Listener {
+    /// Nobody: nothing is written.
+    Silent,
+    /// Lines are written.
+    Lines,
+    /// Lines are written, and behind each those of the watches that are broken there.
+    Watches(Watching),
+}
+
+impl Listener {
+    /// Whether lines are written.
+    pub(crate) fn tells_lines(&self) -> bool
+        ensures { result ≡ hearing.tells_lines self.now }
+    {
+        match self {
+            Listener::Silent => false,
+            Listener::Lines | Listener::Watches(_) => true,
+        }
+    }
+
+    /// Whether some watch was broken at some point so far.
+    pub(crate) fn is_broken(&self) -> bool
+        ensures { (m : ModelTree) (ws : List NamedFormula) (past : List Event) →
+            Hears m (with_watches ws) past self.now →
+            (IsTrue result) ↔ AreBroken ws (points_of m past) }
+    {
+        match self {
+            Listener::Silent | Listener::Lines => false,
+            Listener::Watches(watching) => watching.is_broken(),
+        }
+    }
+}
