@@ -1,0 +1,6 @@
+pub mod Lines
+pub mod Shown
+pub mod Advancing
+pub mod Replies
+pub mod Sessions
+pub mod Laws

@@ -1,0 +1,23 @@
+-- Laws of sessions.
+use Rattle.std.specs.Prelude.{◌≡◌, ℕ, List, [], ◌∷◌, ◌++◌}
+use Rattle.pz_rules.specs.Settings.{Setting}
+use Rattle.pz_term.specs.Simulations.{Simulation, Starts, Chooses, Passes}
+use Rattle.pz_debug_session.specs.declared.step.Step.{Step}
+use Rattle.pz_debug_session.specs.declared.step.Step.TheVariants.{Pick, Pass}
+use Rattle.pz_debug_session.specs.Steps.{StandsAfter}
+
+-- a list of steps leads to one place
+abbrev pub OnePlace : Type 0
+OnePlace = (setting : Setting) (steps : List Step) (s t : Simulation) → StandsAfter setting steps s → StandsAfter setting steps t → s ≡ t
+
+-- no step leads to the start
+abbrev pub BeginsAtStart : Type 0
+BeginsAtStart = (setting : Setting) (s : Simulation) → Starts setting s → StandsAfter setting [] s
+
+-- and each step from there on
+
+abbrev pub GoesOnByChoice : Type 0
+GoesOnByChoice = (setting : Setting) (steps : List Step) (k : ℕ) (s t : Simulation) → StandsAfter setting steps s → Chooses k s t → StandsAfter setting (steps ++ Pick k ∷ []) t
+
+abbrev pub GoesOnByPassing : Type 0
+GoesOnByPassing = (setting : Setting) (steps : List Step) (s t : Simulation) → StandsAfter setting steps s → Passes s t → StandsAfter setting (steps ++ Pass ∷ []) t

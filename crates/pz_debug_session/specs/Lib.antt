@@ -1,0 +1,5 @@
+pub mod Steps
+pub mod Sessions
+pub mod Refusals
+pub mod Laws
+pub mod devices
