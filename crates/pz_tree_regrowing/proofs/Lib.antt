@@ -1,0 +1,16 @@
+mod Kids
+mod Marking
+mod Tending
+mod LocalClocks
+mod Leaving
+mod Sizes
+mod Others
+mod Finishing
+mod ByForm
+mod ShiftNodes
+mod Interrupts
+mod Calls
+mod Openings
+mod Children
+mod Rounds
+mod Writes

@@ -1,0 +1,57 @@
+-- What becomes of the nodes of a term once a part of it has become another.
+use Rattle.std.specs.Prelude.{◌≡◌, ◌≤◌, ◌+◌, ◌*◌, ℕ, List, ◌++◌, Option, Some, None}
+use Rattle.pz_state.specs.Marks.{Seen}
+use Rattle.pz_offer.specs.PlaceOrder.{Place}
+use Rattle.pz_nodes_shapes.specs.Rose.{Map, has_option, Stands}
+use Rattle.pz_nodes_shapes.specs.Change.{BecomesOption}
+use Rattle.pz_rules.specs.Terms.{Term}
+use Rattle.pz_rules.specs.Settings.{left_by, Home}
+use Rattle.pz_rules.specs.Leaving.{residual}
+use Rattle.pz_rules.specs.Places.{MayAct}
+use Rattle.pz_rules.specs.Becoming.{Became}
+use Rattle.pz_tree_standing.specs.FrameCounts.{lost_all}
+use Rattle.pz_tree_nodes.specs.declared.node.What.{What}
+use Rattle.pz_tree_nodes.specs.View.{Plant, term_in_option}
+use Rattle.pz_tree_nodes.specs.Tended.{TendedOption}
+use Rattle.pz_tree_planting.specs.Planting.{root_of}
+use Rattle.pz_tree_regrowing.specs.Costs.{on_way, made_all, dropped_all}
+
+-- what a call works on: the nodes, the state, the frames that stand no longer, and the steps that were taken
+pub record Work : Type 0 where
+  pub map : Map What
+  pub state : Seen
+  pub lost : List ℕ
+  pub steps : ℕ
+
+abbrev pub at_work : Map What → Seen → List ℕ → ℕ → Work
+at_work m s lost steps = record { map = m; state = s; lost = lost; steps = steps }
+
+abbrev pub StandsOption : Map What → Option Plant → Type 0
+StandsOption m None = Unit {0}
+StandsOption m (Some p) = Stands m p
+
+-- at most so many steps for each part on the way to the place, made and dropped
+abbrev pub steps_for : Home → ℕ → Term → Place → Seen → Term → ℕ
+steps_for h f t place s x =
+    12 * on_way t place + made_all h f t place (left_by s.held x) + 2 * dropped_all h f t place (left_by s.held x)
+
+-- Of a term in frame f whose clock shows c, the part at the place has become x. Under the key that is handed out
+-- stands what stands for what that leaves, in the state that it leaves, and it is tended. All its keys were used
+-- by the term before or had no node, and nothing else has changed. The frames that stand no longer come behind
+-- those that were handed out before.
+pub record Regrown (h : Home) (f c : ℕ) (p : Option Plant) (place : Place) (x : Term) (out : Option ℕ) (a b : Work) : Type 0 where
+  pub plant : Option Plant
+  pub under : root_of plant ≡ out
+  pub becomes : BecomesOption a.map b.map (has_option p) plant
+  pub tended : TendedOption f c plant
+  pub means : Became (residual h f (term_in_option c p) place (left_by a.state.held x)) (term_in_option c plant) a.state b.state
+  pub lost : b.lost ≡ a.lost ++ lost_all h f (term_in_option c p) place (left_by a.state.held x)
+  pub ticks : b.steps ≤ a.steps + steps_for h f (term_in_option c p) place a.state x
+
+-- whatever tended nodes stand under the key, for a term of which a part at the place may act
+abbrev pub RegrowRule : Home → Option ℕ → ℕ → ℕ → Place → Term → Option ℕ → Work → Work → Type 0
+RegrowRule h key f c place x out a b =
+    (p : Option Plant)
+    → root_of p ≡ key → StandsOption a.map p → TendedOption f c p
+    → MayAct (term_in_option c p) place
+    → Regrown h f c p place x out a b

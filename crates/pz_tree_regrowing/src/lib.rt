@@ -1,0 +1,12 @@
+//! What becomes of the nodes of a term once a part of it has become another.
+#![tactic(auto)]
+
+mod clocks;
+mod forms;
+mod frames;
+mod keeping;
+mod nodes;
+mod regrowing;
+mod shifts;
+
+pub use regrowing::regrow;
