@@ -23,8 +23,8 @@ use Rattle.pz_tree_nodes.specs.Fresh.{Flagged}
 use Rattle.pz_tree_nodes.proofs.Joins.{joined_associative, joined_none, none_joined}
 use Rattle.pz_tree_nodes.proofs.Wakings.{or_none}
 use Rattle.pz_tree_refreshing.specs.Live.{live_below}
-use Rattle.pz_tree_refreshing.specs.Refreshing.{IsShort, HasRoom}
-use Rattle.pz_tree_refreshing.specs.devices.Reached.{added, reached_sum, IsSoon, Says, behind_inside, later}
+use Rattle.pz_tree_refreshing.specs.Refreshing.{IsShort, HasRoom, IsSoon}
+use Rattle.pz_tree_refreshing.specs.devices.Reached.{added, reached_sum, Says, behind_inside, later}
 use Rattle.pz_tree_refreshing.specs.devices.Levels.{IsBare, NodeRefreshed, KidsRefreshed, IsLeft, IsBrought, AtRule, KidRule, KidsRule, RefreshesOn}
 use Rattle.pz_tree_refreshing.proofs.Short.{least_soon, clock_back, room_inside, may_shift, soon_here, here_later}
 use Rattle.pz_tree_refreshing.proofs.Sums.{plus_added, added_nil}

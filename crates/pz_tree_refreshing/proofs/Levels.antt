@@ -27,8 +27,7 @@ use Rattle.pz_tree_nodes.specs.View.{Plant, Plants, head_view, shape_of, shapes_
 use Rattle.pz_tree_nodes.specs.Tended.{Tended, AreMarked}
 use Rattle.pz_tree_nodes.proofs.Marks.{marked_alike, unasked_right, unasked_flagged}
 use Rattle.pz_tree_refreshing.specs.Live.{live_below, live_among}
-use Rattle.pz_tree_refreshing.specs.Refreshing.{IsShort, HasRoom, IsRefreshed, RefreshRule}
-use Rattle.pz_tree_refreshing.specs.devices.Reached.{IsSoon}
+use Rattle.pz_tree_refreshing.specs.Refreshing.{IsShort, HasRoom, IsRefreshed, RefreshRule, IsSoon}
 use Rattle.pz_tree_refreshing.specs.devices.Asked.{IsAsked, AskRule}
 use Rattle.pz_tree_refreshing.specs.devices.Levels.{IsPutBack, NodeRefreshed, NodeRule, AtRule, written, KidsTended, KidsShort, AreBare, KidsRefreshed, KidsRule}
 use Rattle.pz_tree_refreshing.proofs.Gates.{may_ask}
@@ -339,6 +338,7 @@ is_refreshed a m n f c p k old new x = record {
   means = x.means;
   tended = x.tended;
   fresh = x.fresh;
+  soon = subst (λ (z : Kept). IsSoon c z.summary.due) x.kept x.soon;
   ticks = omega (arith, x.ticks);
 }
 

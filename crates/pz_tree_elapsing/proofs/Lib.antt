@@ -1,0 +1,6 @@
+mod Goings
+mod Shorts
+mod Quiet
+mod Staying
+mod ByForm
+mod Delaying
