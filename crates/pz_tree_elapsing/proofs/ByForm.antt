@@ -101,6 +101,15 @@ turned (guarded x at s) abort c p e = absurd (let q = e no_terms in cc)
 turned (guarded x at s) (idle again t) c p e = absurd (let q = e no_terms in cc)
 turned (guarded x at s) (handling again t) c p e = absurd (let q = e no_terms in cc)
 turned (guarded x at s) (shifted t) c p e = absurd (let q = e no_terms in cc)
+turned (wait due at) g c p e = absurd p
+turned (sequence rest) g c p e = absurd p
+turned parallel g c p e = absurd p
+turned select g c p e = absurd p
+turned (frame number inputs results) g c p e = absurd p
+turned abort g c p e = absurd p
+turned (idle again s) g c p e = absurd p
+turned (handling again s) g c p e = absurd p
+turned (shifted s) g c p e = absurd p
 
 plain_turns : (h : Head) (was : Bool) → IsPlain h → Turns (turn_of was h) h h
 plain_turns (leaf s) was p = absurd p

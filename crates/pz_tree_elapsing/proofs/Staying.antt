@@ -4,6 +4,7 @@ use Rattle.std.specs.Prelude.{map}
 use Rattle.pz_syntax.specs.Statements as statement
 use Rattle.pz_eval_rules.specs.Clocks.{DataIsTimeless}
 use Rattle.pz_nodes_shapes.specs.Rose.{node, none, gone, more, Map, payload, Stands}
+use Rattle.pz_nodes_shapes.proofs.Frames.{not_both}
 use Rattle.pz_offer.specs.declared.summary.Summary.{Summary}
 use Rattle.pz_offer.specs.declared.trouble.Trouble.{Trouble}
 use Rattle.pz_rules.specs.Settings.{Context}
@@ -156,11 +157,16 @@ module _ (tests : TestIsSteady) (a : Context) (d : ℕ) (methods : DataIsTimeles
 -- ---------------------------------------------------------- nothing wakes
 
 not_equal : (m n : ℕ) → eqb m n ≡ false → m ≡ n → ⊥
-not_equal m n e q = absurd (let z : eqb m n ≡ true = grind arith in sym z ∙ e)
+not_equal m n e q = let z : eqb m n ≡ true = grind arith in not_both (eqb m n) z e
 
 past : (c : ℕ) (due : Option ℕ) → IsNotBefore c due → is_due c due ≡ false → IsAfter c due
 past c None h e = tt
 past c (Some due) h e = let g : due ≡ c → ⊥ = not_equal due c e in omega (arith, h, g)
+
+gate_short : (r : Result Bool Trouble) (x t : Term) → (r ≡ Ok true → IsShort x) → IsShort t → IsShort (if_open r x t)
+gate_short (Ok true) x t p q = p refl
+gate_short (Ok false) x t p q = q
+gate_short (Err u) x t p q = q
 
 mutual
   short_later : (a : Context) (d f : ℕ) (t : Term) → Steady a d f t → IsShort t → IsShort (passed a d f t)
@@ -179,11 +185,6 @@ mutual
   shorts_later : (a : Context) (d f : ℕ) (ts : Terms) → AreSteady a d f ts → AreShort ts → AreShort (passed_all a d f ts)
   shorts_later a d f no_terms st h = tt
   shorts_later a d f (and t ts) st h = (short_later a d f t st.0 h.0, shorts_later a d f ts st.1 h.1)
-
-  gate_short : (r : Result Bool Trouble) (x t : Term) → (r ≡ Ok true → IsShort x) → IsShort t → IsShort (if_open r x t)
-  gate_short (Ok true) x t p q = p refl
-  gate_short (Ok false) x t p q = q
-  gate_short (Err u) x t p q = q
 
 top_summary : (a : Context) (f c : ℕ) (p : Plant) → Right a f c (shape_of p) → (payload p).kept.summary ≡ summary_of a c f (term_in c p)
 top_summary a f c (node k x ps) r = r.0

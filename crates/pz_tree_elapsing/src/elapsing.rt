@@ -62,13 +62,13 @@ fn later(kept: &Kept, by: u128) -> Kept
     }
 }
 
-/// What a node keeps, from what it kept, whether it is asked something itself, and what it adds to what its
-/// active children keep.
-fn written(before: &Kept, own_asks: bool, now: &Kept) -> Kept
-    ensures { result ≡ levels.written before.now own_asks now.now }
+/// What a node keeps, from what it kept, whether something is asked at it or below it, and what it adds to
+/// what its active children keep.
+fn written(before: &Kept, asks: bool, now: &Kept) -> Kept
+    ensures { result ≡ levels.written before.now asks now.now }
 {
     Kept {
-        asks: own_asks || now.asks,
+        asks,
         height: before.height,
         ..*now
     }
@@ -196,7 +196,8 @@ fn elapse_node<L: Ledger>(
     let woken = wake(alloc, here, state, spot, head, &before)?;
     let turn = turn_of(was_open, &woken.head);
     let all = turned(alloc, here, state, nodes, turn, &woken.head, keys, all, spot, steps)?;
-    let kept = written(&before, own_asks(&woken.head), &woken.kept.join(&all)?);
+    let asks = own_asks(&woken.head) || all.asks;
+    let kept = written(&before, asks, &woken.kept.join(&all)?);
     let head = woken.into_head();
     let what = What { head, kept };
     put_back(nodes, spot.key, Node { what, kids }, steps);

@@ -57,9 +57,10 @@ AtRule b m n f now fuel key k old new = (a : Context) (d c : ℕ) → later a d 
     → (p : Plant) → Stands m p → root p ≡ key → depth p ≤ fuel → DataIsTimeless a.setting.model
     → MayElapse a d f c p → HasRoom now → NodeElapsed a d m n f c p k (old + 1) new
 
--- what a node keeps, from what it kept and what it adds to what its active children keep
+-- What a node keeps, from what it kept, whether something is asked at it or below it, and what it adds to what its
+-- active children keep.
 abbrev pub written : Kept → Bool → Kept → Kept
-written before own_asks now = record now { asks = own_asks || now.asks; height = before.height }
+written before asks now = record now { asks = asks; height = before.height }
 
 -- ------------------------------------------------------------ children
 
