@@ -274,3 +274,9 @@ guard_wakes tests a d f c e at s k unnamed ts w =
     (guard_asked (later a d) f (c + d) e at s s (Ok true) true None (sym same) (refl, refl)
     (record { fits = head_onward (guarded e at s) c d tt w.fits; local = refl; runs = run }) kept_none
     (λ i. record kept_none { summary = nothing; clocked = sym unnamed i }))
+
+pub guard_goes : TestIsSteady → (a : Context) (d f c : ℕ) (e : Code) (at : Pos) (s : ShiftView) (h : Head) (k own : Kept) (g : Head) → h ≡ guarded e at s → g ≡ guarded e at s → own ≡ kept_none → asked_anew h ≡ false → WakeRule a d f c h k g own
+guard_goes tests a d f c e at s h k own g h_is g_is own_is unnamed =
+    subst (λ z. WakeRule a d f c z k g own) (sym h_is)
+    (subst (λ z. WakeRule a d f c (guarded e at s) k z own) (sym g_is)
+    (subst (WakeRule a d f c (guarded e at s) k (guarded e at s)) (sym own_is) (guard_wakes tests a d f c e at s k (sym (ap asked_anew h_is) ∙ unnamed))))

@@ -8,3 +8,4 @@ mod Delaying
 mod Kids
 mod Turns
 mod Levels
+mod Rows

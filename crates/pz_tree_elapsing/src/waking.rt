@@ -1,6 +1,6 @@
 // What wakes in a node as time passes, and what becomes of it.
 
-ghost use Rattle.std.specs.Prelude.{◌≡◌, ◌+◌, ℕ, IfOk};
+ghost use Rattle.std.specs.Prelude.{◌≡◌, ◌+◌, ℕ, false, IfOk};
 ghost use Rattle.pz_syntax.specs.Classes.{ModelTree};
 ghost use Rattle.pz_classes_code.specs.StepView.{view};
 ghost use Rattle.pz_eval.specs.Known.{AreKnown};
