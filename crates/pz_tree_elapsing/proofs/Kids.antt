@@ -1,6 +1,8 @@
 -- Time passes over the children of a node, one after another.
 use Rattle.std.proofs.Common.{◌≡◌, ◌≤◌, ◌+◌, ◌*◌, ◌||◌, ℕ, zero, suc, Bool, true, false, List, [], ◌∷◌, length, drop, Option, Some, None, refl, ap, sym, ◌∙◌, subst, arith, inl, inr}
 use Rattle.pz_eval_rules.specs.Clocks.{DataIsTimeless}
+use Rattle.std.specs.Prelude.{IfSome}
+use Rattle.pz_nodes_shapes.specs.declared.node.Node.{Node}
 use Rattle.pz_nodes_shapes.specs.Rose.{node, none, gone, more, Map, root, roots, payload, has, has_any, Stands, StandAll}
 use Rattle.pz_nodes_shapes.specs.Reading.{depth, depths}
 use Rattle.pz_nodes_shapes.proofs.Frames.{or_neither, unless, decided, not_both, stands_kept}
@@ -25,7 +27,7 @@ use Rattle.pz_tree_nodes.specs.Fresh.{Flagged}
 use Rattle.pz_tree_nodes.proofs.Joins.{joined_associative, joined_none, none_joined}
 use Rattle.pz_tree_nodes.proofs.Wakings.{or_none}
 use Rattle.pz_tree_refreshing.specs.Live.{live_below}
-use Rattle.pz_tree_refreshing.specs.Refreshing.{IsShort, HasRoom, IsSoon}
+use Rattle.pz_tree_refreshing.specs.Refreshing.{IsShort, HasRoom, IsSoon, RefreshRule}
 use Rattle.pz_tree_refreshing.specs.devices.Reached as reached
 use Rattle.pz_tree_refreshing.specs.devices.Reached.{added, reached_sum, Says, behind_inside}
 use Rattle.pz_tree_refreshing.specs.devices.Levels.{IsBare, IsLeft}
@@ -35,7 +37,7 @@ use Rattle.pz_tree_refreshing.proofs.Kids.{says_more, says_gone, says_unreached,
 use Rattle.pz_tree_elapsing.specs.Waking.{visited, woken_below}
 use Rattle.pz_tree_elapsing.specs.Elapsing.{MayElapse}
 use Rattle.pz_tree_elapsing.specs.devices.Wakes.{if_reached, passed_reached}
-use Rattle.pz_tree_elapsing.specs.devices.Levels.{NodeElapsed, AtRule, KidsMayElapse, KidsElapsed, KidsRule, IsBrought, KidRule, ElapsesOn}
+use Rattle.pz_tree_elapsing.specs.devices.Levels.{NodeElapsed, AtRule, KidsMayElapse, KidsElapsed, KidsRule, IsBrought, KidRule, ElapsesOn, ReturnRule}
 use Rattle.pz_tree_elapsing.proofs.Goings.{IsNoWait, head_onward}
 
 or_left : (b : Bool) → false || b ≡ b
@@ -298,3 +300,19 @@ module _ (b : Context) (m : Map What) (f : ℕ) (h : Head) (now i fuel : ℕ) (k
       brought = subst (λ z. MayShift z kept.summary → k ≡ reached.later z kept) bys brought;
     }),
   )
+
+-- ---------------------------------------------------------- a child that has become active
+
+pub kept_there : (x : Option (Node What)) (was : Node What) (k : Kept) → IfSome x (λ w. k ≡ w.what.kept) → x ≡ Some was → k ≡ was.what.kept
+kept_there x was k h e = subst (λ z. IfSome z (λ w. k ≡ w.what.kept)) e h
+
+pub has_returned : (b : Context) (m n : Map What) (f : ℕ) (g : Head) (now key home clock by : ℕ) (kept k : Kept) (kid : Option ℕ) (old mid new : ℕ) → Some key ≡ kid → home ≡ f → clock ≡ inner_clock g 0 now → by ≡ behind_inside g 0
+    → RefreshRule b m n key home clock old mid → ((was : Node What) → n key ≡ Some was → kept ≡ was.what.kept) → (MayShift by kept.summary → k ≡ reached.later by kept) → new ≡ mid + 1 → ReturnRule b m n f g now kid k old new
+has_returned b m n f g now key home clock by kept k kid old mid new is homes clocks bys rule there brought tick = subst (λ z. ReturnRule b m n f g now z k old new) is (record {
+  mid = mid;
+  rule = subst (λ z. RefreshRule b m n key z (inner_clock g 0 now) old mid) homes (subst (λ z. RefreshRule b m n key home z old mid) clocks rule);
+  brought = λ was e may.
+      let same : kept ≡ was.what.kept = there was e in
+      brought (subst (λ z. MayShift z kept.summary) (sym bys) (subst (λ (z : Kept). MayShift (behind_inside g 0) z.summary) (sym same) may)) ∙ λ i. reached.later (bys i) (same i);
+  ticks = tick;
+})

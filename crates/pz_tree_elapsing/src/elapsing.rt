@@ -1,6 +1,6 @@
 //! Time passes over nodes, along those in which something wakes.
 
-ghost use Rattle.std.specs.Prelude.{◌≡◌, ◌+◌, ◌*◌, ℕ, Some, None, IfOk, OnOk};
+ghost use Rattle.std.specs.Prelude.{◌≡◌, ◌+◌, ◌*◌, ℕ, Some, None, IfSome, IfOk, OnOk};
 ghost use Rattle.pz_syntax.specs.Classes.{ModelTree};
 ghost use Rattle.pz_eval.specs.Known.{AreKnown};
 ghost use Rattle.pz_nodes.specs.Arena.{find, Updates};
@@ -12,10 +12,9 @@ ghost use Rattle.pz_tree_refreshing.specs.devices.Reached as reached;
 ghost use Rattle.pz_tree_elapsing.specs.Elapsing.{ElapseRule};
 ghost use Rattle.pz_tree_elapsing.specs.devices.Levels as levels;
 ghost use Rattle.pz_tree_elapsing.specs.devices.Levels.{NodeRule, AtRule, KidRule, KidsRule, ReturnRule, TurnRule};
-ghost use Rattle.pz_tree_elapsing.specs.devices.Wakes as device;
 
 use crate::turning::{Turn, turn_of};
-use crate::waking::{own_asks, wake, wakes};
+use crate::waking::{asks, wake, wakes};
 use pz_nodes::{Key, Nodes, Steps};
 use pz_nodes_shapes::Kids;
 use pz_offer::Summary;
@@ -94,7 +93,7 @@ fn first_kid(kids: &[Option<Key>]) -> Option<Key>
 
 /// What the node under a key keeps.
 fn kept_under<L: Ledger>(nodes: &Nodes<Node>, key: Key, steps: &mut Steps<L>) -> Kept
-    ensures kept { (was : Node) → find nodes.now key ≡ Some was → result ≡ was.what.kept }
+    ensures kept { IfSome (find nodes.now key) (λ was. result ≡ was.what.kept) }
     ensures ticks { steps.new ≡ steps.old + 1 }
 {
     match nodes.get(key, steps) {
@@ -191,12 +190,12 @@ fn elapse_node<L: Ledger>(
     let before = what.kept;
     let head = what.into_head();
     let keys = kids.as_slice();
-    let all = elapse_kids(alloc, here, state, nodes, &head, keys, spot, less, steps)?;
+    let stayed = elapse_kids(alloc, here, state, nodes, &head, keys, spot, less, steps)?;
     let was_open = reaches(&head, 0);
     let woken = wake(alloc, here, state, spot, head, &before)?;
     let turn = turn_of(was_open, &woken.head);
-    let all = turned(alloc, here, state, nodes, turn, &woken.head, keys, all, spot, steps)?;
-    let asks = own_asks(&woken.head) || all.asks;
+    let all = turned(alloc, here, state, nodes, turn, &woken.head, keys, stayed, spot, steps)?;
+    let asks = asks(&woken.head, &all);
     let kept = written(&before, asks, &woken.kept.join(&all)?);
     let head = woken.into_head();
     let what = What { head, kept };

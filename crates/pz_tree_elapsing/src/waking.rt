@@ -1,6 +1,6 @@
 // What wakes in a node as time passes, and what becomes of it.
 
-ghost use Rattle.std.specs.Prelude.{◌≡◌, ◌+◌, ℕ, false, IfOk};
+ghost use Rattle.std.specs.Prelude.{◌≡◌, ◌||◌, ◌+◌, ℕ, false, IfOk};
 ghost use Rattle.pz_syntax.specs.Classes.{ModelTree};
 ghost use Rattle.pz_classes_code.specs.StepView.{view};
 ghost use Rattle.pz_eval.specs.Known.{AreKnown};
@@ -67,7 +67,7 @@ fn statement_asks(step: &Step) -> bool
 }
 
 /// Whether something is asked at the node itself.
-pub(crate) fn own_asks(head: &Head) -> bool
+fn own_asks(head: &Head) -> bool
     ensures { result ≡ device.own_asks (head_view head.now) }
 {
     match head {
@@ -83,6 +83,13 @@ pub(crate) fn own_asks(head: &Head) -> bool
         Head::Handling(..) => false,
         Head::Shifted(_) => false,
     }
+}
+
+/// Whether something is asked at the node or below it, where its active children keep this.
+pub(crate) fn asks(head: &Head, below: &Kept) -> bool
+    ensures { result ≡ device.own_asks (head_view head.now) || below.now.asks }
+{
+    own_asks(head) || below.asks
 }
 
 fn statement_asked_anew(step: &Step) -> bool
@@ -252,7 +259,7 @@ pub(crate) fn wake(
     kept: &Kept,
 ) -> Result<What, AllocError>
     requires { AreKnown here.now.classes.now }
-    ensures wakes { IfOk result (λ x. (m : ModelTree) (class : ℕ) → Knows m here.now →
+    ensures wakes { (m : ModelTree) (class : ℕ) → Knows m here.now → IfOk result (λ x.
         (a : Context) (d c : ℕ) → later a d ≡ seen_from m here.now class state.old.held →
         c + d ≡ spot.clock →
         WakeRule a d spot.frame.0 c (head_view head) kept.now (head_view x.head) x.kept) }
