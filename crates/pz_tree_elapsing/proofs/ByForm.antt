@@ -1,50 +1,40 @@
 -- What becomes of a node in which something wakes, form by form.
-use Rattle.std.proofs.Common.{◌≡◌, ◌<◌, ◌≤◌, ◌+◌, ◌-◌, ◌^◌, ◌||◌, eqb, if◌then◌else◌, ℕ, zero, suc, Bool, true, false, List, Option, Some, None, Result, Ok, Err, refl, ap, sym, ◌∙◌, subst, arith, inl, inr}
-use Rattle.std.specs.Prelude.{map, option_map}
+use Rattle.std.proofs.Common.{◌≡◌, ◌+◌, ◌||◌, ℕ, zero, suc, Bool, true, false, List, None, Result, Ok, Err, refl, ap, sym, ◌∙◌, subst, inl, inr}
+use Rattle.std.specs.Prelude.{map}
 use Rattle.pz_syntax.specs.declared.tokens.Pos.{Pos}
 use Rattle.pz_syntax.specs.Statements as statement
 use Rattle.pz_clock.specs.Shifts.{ShiftView, is_running}
-use Rattle.pz_eval_rules.specs.Clocks.{names_clock, DataIsTimeless}
+use Rattle.pz_eval_rules.specs.Clocks.{names_clock}
 use Rattle.pz_nodes_shapes.proofs.Frames.{decided, not_both}
 use Rattle.pz_offer.specs.declared.summary.Summary.{Summary}
 use Rattle.pz_offer.specs.declared.trouble.Trouble.{Trouble}
-use Rattle.pz_offer.specs.Summaries.{nothing, join}
-use Rattle.pz_offer.proofs.Joins.{join_left, join_right}
+use Rattle.pz_offer.specs.Summaries.{nothing}
 use Rattle.pz_rules.specs.Settings.{Context}
-use Rattle.pz_rules.specs.Terms.{Code, Step, Term, Terms, no_terms, and, term_at}
-use Rattle.pz_rules.specs.Terms as term
-use Rattle.pz_rules.specs.devices.Found.{tested, lasting}
-use Rattle.pz_rules.specs.devices.Passing.{passed, begun}
+use Rattle.pz_rules.specs.Terms.{Code, Step, Terms, no_terms, term_at}
+use Rattle.pz_rules.specs.devices.Found.{tested}
+use Rattle.pz_rules.specs.devices.Passing.{begun}
 use Rattle.pz_rules.specs.devices.Walk.{ActivePart, under, behind, active_parts}
 use Rattle.pz_tree_summary.specs.Steady.{later}
 use Rattle.pz_tree_summary.specs.Summaries.{summary_of, gated}
-use Rattle.pz_tree_summary.specs.Woken.{any_part, begins, is_clocked, statement_begins, statement_names_clock, starts, clocked}
+use Rattle.pz_tree_summary.specs.Woken.{any_part, begins, is_clocked}
 use Rattle.pz_tree_summary.specs.devices.Laws.{TestIsSteady}
-use Rattle.pz_tree_summary.specs.devices.Tallies.{one, own_summary}
 use Rattle.pz_tree_summary.proofs.Tallies.{summary_guarded}
-use Rattle.pz_tree_summary.proofs.Unasked.{alone}
-use Rattle.pz_tree_standing.specs.Heads.{Head, leaf, wait, sequence, parallel, select, guarded, frame, abort, idle, handling, shifted, Shapes, inner_clock, inner_frame, formed}
-use Rattle.pz_tree_standing.specs.Standing.{HeadFits}
+use Rattle.pz_tree_standing.specs.Heads.{Head, leaf, wait, sequence, parallel, select, guarded, frame, abort, idle, handling, shifted, inner_frame, formed}
 use Rattle.pz_tree_standing.specs.Reached.{reaches, is_true, GateRight}
 use Rattle.pz_tree_standing.specs.Calm.{HasBegun}
 use Rattle.pz_tree_standing.proofs.Still.{is_ok}
 use Rattle.pz_tree_nodes.specs.declared.kept.Kept.{Kept}
 use Rattle.pz_tree_nodes.specs.declared.node.Head as lying
 use Rattle.pz_tree_nodes.specs.declared.node.What.{What}
-use Rattle.pz_tree_nodes.specs.Keeping.{HasFlags, kept_none}
+use Rattle.pz_tree_nodes.specs.Keeping.{kept_none}
 use Rattle.pz_tree_nodes.specs.View.{head_view}
-use Rattle.pz_tree_nodes.proofs.Wakings.{or_none}
-use Rattle.pz_tree_refreshing.specs.Refreshing.{IsShort, AreShort, HasRoom, IsSoon}
-use Rattle.pz_tree_refreshing.specs.devices.Reached.{reached_sum}
-use Rattle.pz_tree_refreshing.specs.devices.Asked.{MayAsk, IsAsked, AskRule, IsGated}
+use Rattle.pz_tree_refreshing.specs.Refreshing.{IsShort}
+use Rattle.pz_tree_refreshing.specs.devices.Asked.{MayAsk, IsAsked, AskRule}
 use Rattle.pz_tree_refreshing.proofs.Gates.{plain_asked, guard_asked}
-use Rattle.pz_tree_refreshing.proofs.Sums.{IsPlain, none_sum}
-use Rattle.pz_tree_elapsing.specs.declared.turning.Turn.{Turn}
-use Rattle.pz_tree_elapsing.specs.declared.turning.Turn.TheVariants.{Same, Shut, Opened}
+use Rattle.pz_tree_refreshing.proofs.Sums.{IsPlain}
 use Rattle.pz_tree_elapsing.specs.Waking.{wakes, is_due}
-use Rattle.pz_tree_elapsing.specs.Elapsing.{IsNotBefore}
-use Rattle.pz_tree_elapsing.specs.devices.Wakes.{own_asks, asked_anew, statement_asked_anew, kept_of_wait, turn_by, turn_of, Turns, passed_reached, IsWaking, IsWoken, WakeRule}
-use Rattle.pz_tree_elapsing.proofs.Goings.{IsNoWait, head_onward, form_goes, leaf_stays}
+use Rattle.pz_tree_elapsing.specs.devices.Wakes.{asked_anew, statement_asked_anew, turn_by, turn_of, Turns, passed_reached, IsWoken, WakeRule}
+use Rattle.pz_tree_elapsing.proofs.Goings.{IsNoWait, head_onward, form_goes}
 use Rattle.pz_tree_elapsing.proofs.Shorts.{formed_short}
 
 or_left : (b : Bool) → false || b ≡ b

@@ -17,7 +17,7 @@ use Rattle.pz_rules.specs.devices.Passing.{begun}
 use Rattle.pz_rules.specs.devices.Walk.{expiry, answered, trouble_of}
 use Rattle.pz_tree_summary.specs.Steady.{later}
 use Rattle.pz_tree_summary.specs.Summaries.{summary_of}
-use Rattle.pz_tree_summary.specs.Woken.{statement_begins, statement_names_clock, starts, clocked}
+use Rattle.pz_tree_summary.specs.Woken.{starts, clocked}
 use Rattle.pz_tree_summary.specs.devices.Tallies.{one, own_summary}
 use Rattle.pz_tree_summary.proofs.Unasked.{alone}
 use Rattle.pz_tree_standing.specs.Heads.{Head, leaf, wait}
@@ -29,7 +29,7 @@ use Rattle.pz_tree_refreshing.specs.devices.Reached.{reached_sum}
 use Rattle.pz_tree_refreshing.proofs.Sums.{none_sum}
 use Rattle.pz_tree_elapsing.specs.Waking.{wakes, is_due}
 use Rattle.pz_tree_elapsing.specs.Elapsing.{IsNotBefore}
-use Rattle.pz_tree_elapsing.specs.devices.Wakes.{begins_at, statement_asked_anew, kept_of_wait, IsWaking, IsWoken, WakeRule}
+use Rattle.pz_tree_elapsing.specs.devices.Wakes.{begins_at, statement_asked_anew, kept_of_wait, IsWoken, WakeRule}
 use Rattle.pz_tree_elapsing.proofs.Goings.{leaf_stays}
 
 or_left : (b : Bool) → false || b ≡ b

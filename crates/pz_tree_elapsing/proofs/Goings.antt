@@ -1,9 +1,8 @@
 -- Time passes over the active children of a node: what the node stands for then.
-use Rattle.std.proofs.Common.{◌≡◌, ◌<◌, ◌≤◌, ◌+◌, ◌-◌, ◌⊎◌, inl, inr, ℕ, zero, suc, Bool, true, false, Option, Some, None, Result, Ok, Err, refl, ap, sym, ◌∙◌, subst, arith}
+use Rattle.std.proofs.Common.{◌≡◌, ◌<◌, ◌+◌, ◌-◌, ℕ, zero, suc, Bool, true, false, Option, Some, None, Result, Ok, Err, refl, ap, sym, ◌∙◌, arith}
 use Rattle.pz_syntax.specs.Statements as statement
 use Rattle.pz_clock.specs.Shifts.{ShiftView, is_running, ShiftFits, FitsSince}
 use Rattle.pz_nodes_shapes.specs.Rose.{node, none, gone, more, width}
-use Rattle.pz_nodes_shapes.proofs.Frames.{decided}
 use Rattle.pz_offer.specs.declared.trouble.Trouble.{Trouble}
 use Rattle.pz_rules.specs.Settings.{Context}
 use Rattle.pz_rules.specs.Terms.{Step, Term, done, Terms, no_terms, and, term_at}

@@ -1,14 +1,14 @@
 -- Time passes over the children of a node, one after another.
-use Rattle.std.proofs.Common.{◌≡◌, ◌≤◌, ◌+◌, ◌*◌, ◌||◌, ℕ, zero, suc, Bool, true, false, List, [], ◌∷◌, length, drop, Option, Some, None, refl, ap, sym, ◌∙◌, subst, arith, inl, inr}
+use Rattle.std.proofs.Common.{◌≡◌, ◌≤◌, ◌+◌, ◌*◌, ◌||◌, ℕ, suc, Bool, true, false, List, [], ◌∷◌, length, drop, Option, Some, None, refl, ap, sym, ◌∙◌, subst, arith, inl, inr}
 use Rattle.pz_eval_rules.specs.Clocks.{DataIsTimeless}
 use Rattle.std.specs.Prelude.{IfSome}
 use Rattle.pz_nodes_shapes.specs.declared.node.Node.{Node}
 use Rattle.pz_nodes_shapes.specs.Rose.{node, none, gone, more, Map, root, roots, payload, has, has_any, Stands, StandAll}
-use Rattle.pz_nodes_shapes.specs.Reading.{depth, depths}
+use Rattle.pz_nodes_shapes.specs.Reading.{depth}
 use Rattle.pz_nodes_shapes.proofs.Frames.{or_neither, unless, decided, not_both, stands_kept}
 use Rattle.pz_offer.specs.Summaries.{MayShift}
 use Rattle.pz_rules.specs.Settings.{Context}
-use Rattle.pz_rules.specs.Terms.{Term, done, Terms, no_terms, and}
+use Rattle.pz_rules.specs.Terms.{Term, done, no_terms, and}
 use Rattle.pz_rules.specs.devices.Passing.{passed}
 use Rattle.pz_tree_summary.specs.Asked.{asks}
 use Rattle.pz_tree_summary.specs.Steady.{later}
@@ -36,8 +36,8 @@ use Rattle.pz_tree_refreshing.proofs.Sums.{plus_added}
 use Rattle.pz_tree_refreshing.proofs.Kids.{says_more, says_gone, says_unreached, says_reached, still_stand, kid_is, rest_is, nothing_left}
 use Rattle.pz_tree_elapsing.specs.Waking.{visited, woken_below}
 use Rattle.pz_tree_elapsing.specs.Elapsing.{MayElapse}
-use Rattle.pz_tree_elapsing.specs.devices.Wakes.{if_reached, passed_reached}
-use Rattle.pz_tree_elapsing.specs.devices.Levels.{NodeElapsed, AtRule, KidsMayElapse, KidsElapsed, KidsRule, IsBrought, KidRule, ElapsesOn, ReturnRule}
+use Rattle.pz_tree_elapsing.specs.devices.Wakes.{if_reached}
+use Rattle.pz_tree_elapsing.specs.devices.Levels.{NodeElapsed, AtRule, KidsElapsed, KidsRule, IsBrought, KidRule, ElapsesOn, ReturnRule}
 use Rattle.pz_tree_elapsing.proofs.Goings.{IsNoWait, head_onward}
 
 or_left : (b : Bool) → false || b ≡ b
@@ -153,7 +153,7 @@ module _ (a : Context) (d : ℕ) (m n : Map What) (f : ℕ) (h : Head) (c i : �
               ∙ sym (or_none (asks (term_in after r.plant))) ∙ sym (ap (λ z. added ◌||◌ z (asks (term_in after r.plant)) false) e);
           ticks =
               let cost : visited (reaches h i) (reaches h i) (woken_below after p r.plant) (live_below r.plant) ≡ suc (woken_below (before + d) p r.plant) =
-                  ap (λ z. visited z z (woken_below after p r.plant) (live_below r.plant)) e ∙ ap (λ z. suc (woken_below z p r.plant)) goes in
+              ap (λ z. visited z z (woken_below after p r.plant) (live_below r.plant)) e ∙ ap (λ z. suc (woken_below z p r.plant)) goes in
               omega (arith, r.ticks, cost);
         }
 

@@ -1,27 +1,24 @@
 -- Time passes over a node: it is taken in hand, time passes over its active children, it becomes what it becomes, what
 -- has become active is refreshed, and it is put back.
-use Rattle.std.proofs.Common.{◌≡◌, ◌<◌, ◌≤◌, ◌+◌, ◌*◌, ◌||◌, ℕ, suc, max, eqb, if◌then◌else◌, Bool, true, false, List, length, Option, Some, None, refl, ap, sym, ◌∙◌, subst, arith, inl}
-use Rattle.pz_classes.specs.Soundness.{IsSound}
+use Rattle.std.proofs.Common.{◌≡◌, ◌<◌, ◌≤◌, ◌+◌, ◌*◌, ◌||◌, ℕ, suc, eqb, if◌then◌else◌, true, false, List, Option, Some, None, refl, ap, sym, ◌∙◌, subst, arith, inl}
 use Rattle.pz_eval_rules.specs.Clocks.{DataIsTimeless}
 use Rattle.pz_eval_rules.specs.Laws.{SoundDataIsTimeless}
 use Rattle.pz_nodes_shapes.specs.declared.node.Node.{Node}
-use Rattle.pz_nodes_shapes.specs.Rose.{node, none, gone, more, Map, root, roots, width, payload, has, has_any, Stands}
+use Rattle.pz_nodes_shapes.specs.Rose.{node, none, gone, more, Map, roots, width, payload, has, has_any, Stands}
 use Rattle.pz_nodes_shapes.specs.Change.{OnlyAt}
 use Rattle.pz_nodes_shapes.specs.Reading.{depth, depths}
 use Rattle.pz_nodes_shapes.proofs.Frames.{or_neither, not_both, other_than, below_stand}
-use Rattle.pz_offer.specs.declared.summary.Summary.{Summary}
 use Rattle.pz_offer.specs.Summaries.{join}
 use Rattle.pz_rules.specs.Settings.{Context}
-use Rattle.pz_rules.specs.Terms.{done, Terms, and, term_at, height}
+use Rattle.pz_rules.specs.Terms.{Terms, term_at, height}
 use Rattle.pz_rules.specs.devices.Computed.{PassingIsComputed}
 use Rattle.pz_rules.specs.devices.Passing.{passed}
 use Rattle.pz_rules.specs.Delays.{Passes}
-use Rattle.pz_tree_summary.specs.Asked.{asks}
 use Rattle.pz_tree_summary.specs.Steady.{later}
 use Rattle.pz_tree_summary.specs.Summaries.{summary_of}
 use Rattle.pz_tree_summary.specs.devices.Laws.{TestIsSteady}
 use Rattle.pz_tree_summary.proofs.Unasked.{unasked_is_steady}
-use Rattle.pz_tree_standing.specs.Heads.{Head, Shapes, inner_clock, inner_frame, formed}
+use Rattle.pz_tree_standing.specs.Heads.{Head, inner_clock, inner_frame, formed}
 use Rattle.pz_tree_standing.specs.Laws.{NoDeeperThanHigh}
 use Rattle.pz_tree_standing.specs.Standing.{terms_of, HeadFits, FitAll}
 use Rattle.pz_tree_standing.specs.Reached.{reaches}
@@ -39,13 +36,13 @@ use Rattle.pz_tree_nodes.specs.Fresh.{AllFlagged}
 use Rattle.pz_tree_nodes.specs.Laws.{UnwokenAreCalm, UnwokenAreSteady}
 use Rattle.pz_tree_nodes.proofs.Marks.{marked_alike}
 use Rattle.pz_tree_refreshing.specs.Refreshing.{IsShort, HasRoom, IsSoon}
-use Rattle.pz_tree_refreshing.specs.devices.Reached.{reached_sum, Says, behind_inside}
+use Rattle.pz_tree_refreshing.specs.devices.Reached.{Says, behind_inside}
 use Rattle.pz_tree_refreshing.specs.devices.Levels.{IsPutBack, KidsTended}
 use Rattle.pz_tree_refreshing.proofs.Short.{least_soon, clock_back}
 use Rattle.pz_tree_refreshing.proofs.Levels.{kids_whole, kids_fit, kids_rest, kids_marked, some_is_none, same_node, what_in, keys_in, absent, kept_top, high_top, as_deep}
 use Rattle.pz_tree_elapsing.specs.Waking.{wakes, woken_below, woken_among}
-use Rattle.pz_tree_elapsing.specs.Elapsing.{IsNotBefore, MayElapse, HasElapsed, ElapseRule}
-use Rattle.pz_tree_elapsing.specs.devices.Wakes.{own_asks, turn_of, IsWaking, IsWoken, WakeRule}
+use Rattle.pz_tree_elapsing.specs.Elapsing.{MayElapse, HasElapsed, ElapseRule}
+use Rattle.pz_tree_elapsing.specs.devices.Wakes.{own_asks, turn_of, IsWoken, WakeRule}
 use Rattle.pz_tree_elapsing.specs.devices.Levels.{NodeElapsed, NodeRule, AtRule, written, KidsMayElapse, KidsElapsed, KidsRule, TurnRule}
 use Rattle.pz_tree_elapsing.proofs.Goings.{stands_still}
 use Rattle.pz_tree_elapsing.proofs.Shorts.{kid_short}
@@ -87,8 +84,7 @@ module _ (a : Context) (d f : ℕ) (h : Head) (c : ℕ) (fits : HeadFits h c) wh
   kids_may i (more p ps) q s l w t r m right flagged =
       let inner = inner_clock h i c in
       let tended : Tended f inner p = record { sound = record { whole = w.0; fits = t.0; rests = r.0 }; marked = m.0 } in
-      let short : IsShort (term_in inner p) = l 0 (let z : 0 < suc (width (shapes_of ps)) = omega arith in z) in
-      (
+      let short : IsShort (term_in inner p) = l 0 (let z : 0 < suc (width (shapes_of ps)) = omega arith in z) in (
         (λ e.
             let quiet : IsQuiet (inner + d) (payload p).kept.summary = subst (IsQuiet (inner + d)) (sym (right_top a f inner p (right.0 e)))
             (quiet_inside a d c inner (behind_inside h i) f (term_in inner p) (clock_back h c i fits e) (q 0 (subst (λ z. reaches h z ≡ true) (sym (first i)) e))) in

@@ -1,9 +1,9 @@
 -- What a passing of time does not change of a term, and what is asked nothing.
-use Rattle.std.proofs.Common.{◌≡◌, ◌||◌, ℕ, suc, max, Bool, true, false, List, Result, Ok, Err, refl, ap, sym, ◌∙◌}
+use Rattle.std.proofs.Common.{◌≡◌, ◌||◌, ℕ, suc, max, Bool, true, false, Result, Ok, Err, refl, ap, sym, ◌∙◌}
 use Rattle.pz_syntax.specs.Statements as statement
 use Rattle.pz_offer.specs.declared.trouble.Trouble.{Trouble}
 use Rattle.pz_rules.specs.Settings.{Context}
-use Rattle.pz_rules.specs.Terms.{Code, Step, Term, done, leaf, wait, sequence, parallel, select, guarded, frame, abort, idle, handling, Terms, no_terms, and, term_at, height, greatest_height}
+use Rattle.pz_rules.specs.Terms.{Code, Step, Term, done, leaf, wait, sequence, parallel, select, guarded, frame, abort, idle, handling, Terms, no_terms, and, height, greatest_height}
 use Rattle.pz_rules.specs.devices.Found.{tested, lasting}
 use Rattle.pz_rules.specs.devices.Passing.{passed, passed_all, if_open, begun}
 use Rattle.pz_rules.specs.devices.Walk.{active_parts}

@@ -1,5 +1,5 @@
 -- Where a node has no trouble, and nothing of it is due before a moment, the same is so of each active child.
-use Rattle.std.proofs.Common.{◌≡◌, ◌≤◌, ◌+◌, ℕ, zero, suc, min, Bool, true, false, Option, Some, None, Result, Ok, Err, refl, ap, sym, ◌∙◌, subst, arith}
+use Rattle.std.proofs.Common.{◌≡◌, ◌+◌, ℕ, zero, suc, Bool, true, false, Option, Some, None, refl, ap, sym, ◌∙◌, subst, arith}
 use Rattle.std.specs.Prelude.{option_map}
 use Rattle.std.specs.Option.{option_or}
 use Rattle.pz_clock.specs.Shifts.{is_running}
@@ -13,7 +13,7 @@ use Rattle.pz_tree_summary.specs.Summaries.{summary_of, gated}
 use Rattle.pz_tree_summary.proofs.Tallies.{summary_guarded}
 use Rattle.pz_tree_standing.specs.Heads.{Head, inner_frame, formed}
 use Rattle.pz_tree_standing.specs.Heads as head
-use Rattle.pz_tree_standing.specs.Reached.{reaches, is_true, GateRight}
+use Rattle.pz_tree_standing.specs.Reached.{reaches, GateRight}
 use Rattle.pz_tree_standing.proofs.Still.{is_ok}
 use Rattle.pz_tree_refreshing.specs.devices.Reached.{added, reached_sum}
 use Rattle.pz_tree_refreshing.proofs.Short.{here_later}

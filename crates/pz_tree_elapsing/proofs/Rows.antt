@@ -1,5 +1,5 @@
 -- Worked nodes: in how many of them something wakes, and what a passing leaves, which the checker works out.
-use Rattle.std.proofs.Common.{◌≡◌, ◌+◌, ℕ, true, false, Option, Some, None, Ok, refl}
+use Rattle.std.proofs.Common.{◌≡◌, ℕ, true, Option, Some, None, refl}
 use Rattle.pz_syntax.specs.declared.tokens.Pos.{Pos}
 use Rattle.pz_classes_code.specs.declared.code.Code.{Code}
 use Rattle.pz_classes_code.specs.declared.step.Step.{Step}
@@ -8,14 +8,13 @@ use Rattle.pz_clock.specs.Shifts.{ShiftView}
 use Rattle.pz_nodes_shapes.specs.Rose.{node, none, gone, more}
 use Rattle.pz_offer.specs.Summaries.{nothing}
 use Rattle.pz_rules.specs.Settings.{Context}
-use Rattle.pz_rules.specs.Terms.{Term, wait, abort, handling, parallel, no_terms, and}
-use Rattle.pz_rules.specs.Terms as term
+use Rattle.pz_rules.specs.Terms.{wait, handling}
 use Rattle.pz_rules.specs.devices.Passing.{passed}
 use Rattle.pz_tree_nodes.specs.declared.kept.Kept.{Kept}
 use Rattle.pz_tree_nodes.specs.declared.node.Head.TheVariants as kind
 use Rattle.pz_tree_nodes.specs.Keeping.{kept_done, kept_asked, raised, joined}
 use Rattle.pz_tree_nodes.specs.View.{Plant, term_in}
-use Rattle.pz_tree_elapsing.specs.Waking.{wakes, woken_nodes}
+use Rattle.pz_tree_elapsing.specs.Waking.{woken_nodes}
 
 -- what is due at this moment
 abbrev due_at : ℕ → Kept

@@ -1,5 +1,5 @@
 -- Delays are short, before and after.
-use Rattle.std.proofs.Common.{◌≡◌, ◌<◌, ◌+◌, ℕ, zero, suc, Bool, true, false, List, Option, Some, None, Result, Ok, Err, refl, ap, sym, ◌∙◌, subst, arith}
+use Rattle.std.proofs.Common.{◌≡◌, ◌<◌, ℕ, zero, suc, Bool, true, false, List, Result, Ok, Err, refl, sym, subst, arith}
 use Rattle.pz_syntax.specs.Statements as statement
 use Rattle.pz_nodes_shapes.specs.Rose.{node, none, gone, more, width}
 use Rattle.pz_offer.specs.declared.summary.Summary.{Summary}

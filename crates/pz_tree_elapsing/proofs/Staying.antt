@@ -1,5 +1,5 @@
 -- Nodes in which nothing wakes: they stay as they are, and are right.
-use Rattle.std.proofs.Common.{◌≡◌, ◌<◌, ◌≤◌, ◌+◌, ◌||◌, eqb, ℕ, zero, suc, Bool, true, false, List, Option, Some, None, Result, Ok, Err, refl, ap, sym, ◌∙◌, subst, arith}
+use Rattle.std.proofs.Common.{◌≡◌, ◌+◌, ◌||◌, eqb, ℕ, suc, Bool, true, false, Option, Some, None, Result, Ok, Err, refl, ap, sym, ◌∙◌, subst, arith}
 use Rattle.std.specs.Prelude.{map}
 use Rattle.pz_syntax.specs.Statements as statement
 use Rattle.pz_eval_rules.specs.Clocks.{DataIsTimeless}
@@ -11,16 +11,16 @@ use Rattle.pz_rules.specs.Settings.{Context}
 use Rattle.pz_rules.specs.Terms.{Step, Term, done, leaf, wait, sequence, parallel, select, guarded, frame, abort, idle, handling, Terms, no_terms, and, term_at}
 use Rattle.pz_rules.specs.devices.Found.{tested}
 use Rattle.pz_rules.specs.devices.Passing.{passed, passed_all, if_open}
-use Rattle.pz_rules.specs.devices.Walk.{ActivePart, under, behind, active_parts, active_children}
+use Rattle.pz_rules.specs.devices.Walk.{under, behind, active_parts}
 use Rattle.pz_tree_summary.specs.Steady.{later, StatementIsSteady, Steady, AreSteady}
 use Rattle.pz_tree_summary.specs.Summaries.{summary_of}
-use Rattle.pz_tree_summary.specs.Woken.{any_part, begins, is_clocked, starts, clocked, IsAfter}
+use Rattle.pz_tree_summary.specs.Woken.{any_part, begins, is_clocked, IsAfter}
 use Rattle.pz_tree_summary.specs.devices.Laws.{TestIsSteady}
 use Rattle.pz_tree_summary.proofs.Unasked.{or_neither}
 use Rattle.pz_tree_standing.specs.Heads.{Head, inner_clock, inner_frame}
-use Rattle.pz_tree_standing.specs.Standing.{term_of, terms_of, HeadFits, Fits, FitAll}
-use Rattle.pz_tree_standing.specs.Reached.{reaches, GateRight}
-use Rattle.pz_tree_standing.specs.Right.{Right, RightAll}
+use Rattle.pz_tree_standing.specs.Standing.{terms_of, HeadFits, Fits, FitAll}
+use Rattle.pz_tree_standing.specs.Reached.{reaches}
+use Rattle.pz_tree_standing.specs.Right.{Right}
 use Rattle.pz_tree_standing.specs.Calm.{Calm, CalmAll}
 use Rattle.pz_tree_standing.specs.devices.Laws.{StillRightComputed, StillSoundComputed}
 use Rattle.pz_tree_standing.proofs.Passing.{clock_goes, time_passes}
@@ -138,8 +138,7 @@ module _ (tests : TestIsSteady) (a : Context) (d : ℕ) (methods : DataIsTimeles
   mutual
     flagged_later : (f c : ℕ) (p : Plant) → Fits c (shape_of p) → Calm a f (shape_of p) → Steady a d f (term_in c p) → Flagged a f c p → Flagged (later a d) f (c + d) p
     flagged_later f c (node k x ps) fits calm st w =
-        let h = head_view x.head in
-        (
+        let h = head_view x.head in (
           subst (λ t. HasFlags (later a d) f t x.kept) (sym (time_passes a d f c (shape_of (node k x ps)) fits calm)) (flags_later f (term_in c (node k x ps)) x.kept st w.0),
           flagged_kids (inner_frame h f) h c 0 ps fits.0 fits.1 calm.2
               (λ j r. kid_steady a d f h c (terms_of h c 0 (shapes_of ps)) calm.1 st j (let n : 0 + j ≡ j = omega arith in subst (λ z. reaches h z ≡ true) n r)) w.1,

@@ -1,34 +1,32 @@
 -- The gate of a node has turned, or not, when time has passed over its children.
-use Rattle.std.proofs.Common.{◌≡◌, ◌≤◌, ◌+◌, ◌*◌, ◌||◌, ℕ, zero, suc, Bool, true, false, List, [], ◌∷◌, Option, Some, None, refl, ap, sym, ◌∙◌, subst, arith, inl, inr}
-use Rattle.pz_nodes_shapes.specs.declared.node.Node.{Node}
-use Rattle.pz_nodes_shapes.specs.Rose.{node, none, gone, more, Map, root, roots, kids, payload, width, has, has_any, Stands, StandAll}
+use Rattle.std.proofs.Common.{◌≡◌, ◌≤◌, ◌+◌, ◌*◌, ◌||◌, ℕ, suc, Bool, true, false, List, ◌∷◌, Option, Some, refl, ap, sym, ◌∙◌, subst, arith}
+use Rattle.pz_nodes_shapes.specs.Rose.{node, none, gone, more, Map, root, roots, kids, payload, has, has_any, Stands, StandAll}
 use Rattle.pz_nodes_shapes.proofs.Frames.{or_neither, unless, not_both}
-use Rattle.pz_offer.specs.Summaries.{nothing, join, MayShift}
+use Rattle.pz_offer.specs.Summaries.{nothing, join}
 use Rattle.pz_rules.specs.Settings.{Context}
-use Rattle.pz_rules.specs.Terms.{Term, done, Terms, no_terms, and}
+use Rattle.pz_rules.specs.Terms.{Term, Terms, no_terms, and}
 use Rattle.pz_tree_summary.specs.Asked.{asks}
 use Rattle.pz_tree_summary.specs.Steady.{later}
 use Rattle.pz_tree_summary.specs.Summaries.{summary_of}
 use Rattle.pz_tree_summary.specs.Woken.{starts, clocked}
-use Rattle.pz_tree_standing.specs.Heads.{Head, leaf, wait, sequence, parallel, select, guarded, frame, abort, idle, handling, shifted, Shapes, inner_clock, inner_frame}
+use Rattle.pz_tree_standing.specs.Heads.{Head, leaf, wait, sequence, parallel, select, guarded, frame, abort, idle, handling, shifted, Shapes, inner_clock}
 use Rattle.pz_tree_standing.specs.Standing.{terms_of, HeadFits}
 use Rattle.pz_tree_standing.specs.Reached.{reaches}
 use Rattle.pz_tree_standing.specs.Right.{Right, RightAll}
 use Rattle.pz_tree_standing.specs.Whole.{HasParts}
 use Rattle.pz_tree_nodes.specs.declared.kept.Kept.{Kept}
 use Rattle.pz_tree_nodes.specs.declared.node.What.{What}
-use Rattle.pz_tree_nodes.specs.Keeping.{HasFlags, kept_none, joined}
-use Rattle.pz_tree_nodes.specs.View.{Plant, Plants, shape_of, shapes_of, term_in}
+use Rattle.pz_tree_nodes.specs.Keeping.{kept_none}
+use Rattle.pz_tree_nodes.specs.View.{Plant, Plants, shapes_of, term_in}
 use Rattle.pz_tree_nodes.specs.Tended.{Tended}
 use Rattle.pz_tree_nodes.specs.Fresh.{Flagged, AllFlagged}
 use Rattle.pz_tree_nodes.proofs.Joins.{joined_none}
 use Rattle.pz_tree_refreshing.specs.Live.{live_below}
-use Rattle.pz_tree_refreshing.specs.Refreshing.{IsShort, AreShort, HasRoom, IsSoon, IsRefreshed, RefreshRule}
+use Rattle.pz_tree_refreshing.specs.Refreshing.{AreShort, HasRoom, IsRefreshed}
 use Rattle.pz_tree_refreshing.specs.devices.Reached as reached
 use Rattle.pz_tree_refreshing.specs.devices.Reached.{added, reached_sum, Says, behind_inside}
 use Rattle.pz_tree_refreshing.specs.devices.Levels.{IsLeft, KidsTended}
 use Rattle.pz_tree_refreshing.proofs.Short.{clock_back, room_inside, may_shift}
-use Rattle.pz_tree_refreshing.proofs.Sums.{none_sum}
 use Rattle.pz_tree_refreshing.proofs.Kids.{says_more, says_gone, says_reached, still_stand}
 use Rattle.pz_tree_refreshing.proofs.Levels.{same_terms, same_width, same_parts}
 use Rattle.pz_tree_elapsing.specs.declared.turning.Turn.{Turn}
@@ -110,7 +108,7 @@ first_visited h g c none q qs e r s = absurd cc
 first_visited h g c (gone ps) q qs e r s = absurd cc
 first_visited h g c (more p ps) q qs e r s =
     let z : visited (reaches h 0) (reaches g 0) (woken_below (inner_clock h 0 c) p q) (live_below q) ≡ suc (live_below q) =
-        λ i. visited (r i) (s i) (woken_below (inner_clock h 0 c) p q) (live_below q) in
+    λ i. visited (r i) (s i) (woken_below (inner_clock h 0 c) p q) (live_below q) in
     omega (arith, z)
 
 -- ---------------------------------------------------------- children that are not active

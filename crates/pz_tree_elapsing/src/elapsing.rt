@@ -194,7 +194,18 @@ fn elapse_node<L: Ledger>(
     let was_open = reaches(&head, 0);
     let woken = wake(alloc, here, state, spot, head, &before)?;
     let turn = turn_of(was_open, &woken.head);
-    let all = turned(alloc, here, state, nodes, turn, &woken.head, keys, stayed, spot, steps)?;
+    let all = turned(
+        alloc,
+        here,
+        state,
+        nodes,
+        turn,
+        &woken.head,
+        keys,
+        stayed,
+        spot,
+        steps,
+    )?;
     let asks = asks(&woken.head, &all);
     let kept = written(&before, asks, &woken.kept.join(&all)?);
     let head = woken.into_head();

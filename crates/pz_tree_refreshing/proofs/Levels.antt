@@ -10,7 +10,6 @@ use Rattle.pz_rules.specs.Settings.{Context}
 use Rattle.pz_rules.specs.Terms.{done, Terms, and, term_at, height}
 use Rattle.pz_tree_summary.specs.Asked.{asks}
 use Rattle.pz_tree_summary.specs.Summaries.{summary_of}
-use Rattle.pz_tree_summary.specs.Woken.{starts, clocked}
 use Rattle.pz_tree_standing.specs.Heads.{Head, leaf, wait, sequence, parallel, select, guarded, frame, abort, idle, handling, shifted, Shapes, inner_clock, inner_frame, formed}
 use Rattle.pz_tree_standing.specs.Laws.{NoDeeperThanHigh}
 use Rattle.pz_tree_standing.specs.Standing.{term_of, terms_of, FitAll}

@@ -9,13 +9,13 @@ use Rattle.pz_rules.specs.Settings.{Context}
 use Rattle.pz_rules.specs.devices.Passing.{passed}
 use Rattle.pz_tree_summary.specs.Asked.{asks}
 use Rattle.pz_tree_summary.specs.Steady.{later}
-use Rattle.pz_tree_standing.specs.Heads.{Head, inner_clock, inner_frame}
+use Rattle.pz_tree_standing.specs.Heads.{Head, inner_clock}
 use Rattle.pz_tree_standing.specs.Standing.{terms_of, HeadFits}
 use Rattle.pz_tree_standing.specs.Reached.{reaches}
 use Rattle.pz_tree_standing.specs.Right.{RightAll}
 use Rattle.pz_tree_nodes.specs.declared.kept.Kept.{Kept}
 use Rattle.pz_tree_nodes.specs.declared.node.What.{What}
-use Rattle.pz_tree_nodes.specs.Keeping.{kept_none, joined}
+use Rattle.pz_tree_nodes.specs.Keeping.{joined}
 use Rattle.pz_tree_nodes.specs.View.{Plant, Plants, shapes_of, term_in}
 use Rattle.pz_tree_nodes.specs.Tended.{Tended}
 use Rattle.pz_tree_nodes.specs.Fresh.{Fresh, AllFlagged}

@@ -3,17 +3,13 @@ use Rattle.std.proofs.lemmas.Result.{IfOk-weaker}
 use Rattle.std.proofs.lemmas.List.{drop_more}
 use Rattle.pz_nodes.specs.Arena.{find}
 use Rattle.pz_part_queries.specs.Standpoints.{seen_from}
-use Rattle.pz_rules.specs.Settings.{Context}
 use Rattle.pz_state.specs.Marks.{Seen}
-use Rattle.pz_tree_summary.specs.Steady.{later}
 use Rattle.pz_tree_standing.specs.Heads.{inner_frame}
 use Rattle.pz_tree_standing.specs.Reached.{reaches}
-use Rattle.pz_tree_nodes.specs.declared.kept.Kept.{Kept}
 use Rattle.pz_tree_nodes.specs.declared.node.Head as lying
 use Rattle.pz_tree_nodes.specs.View.{head_view}
 use Rattle.pz_tree_elapsing.specs.declared.turning.Turn.{Turn}
-use Rattle.pz_tree_elapsing.specs.Waking.{wakes}
-use Rattle.pz_tree_elapsing.specs.devices.Wakes.{own_asks, turn_of, WakeRule}
+use Rattle.pz_tree_elapsing.specs.devices.Wakes.{turn_of, WakeRule}
 use Rattle.pz_tree_elapsing.specs.devices.Levels.{KidRule, KidsRule, TurnRule, written}
 use Rattle.pz_tree_elapsing.proofs.Kids.{on_at_first, on_next, on_last, kid_brought}
 use Rattle.pz_tree_elapsing.proofs.Levels.{node_elapsed, sleeps_at, woken_at}

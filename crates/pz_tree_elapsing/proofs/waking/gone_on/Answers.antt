@@ -76,7 +76,7 @@ returns-in-Wait c = record {
 
 pub returns-in-Leaf : goal.returns-in-Leaf
 returns-in-Leaf c = record {
-  goes = 
+  goes =
       subst (λ (z : lying.Head). IfOk c.begun.result (λ x. (a : Context) (d f t : ℕ) → t + d ≡ c.args.clock → asked_anew (head_view z) ≡ false → WakeRule a d f t (head_view z) c.args.kept.now (head_view x.head) x.kept)) (sym c.in-Leaf.is)
       c.begun.ensures.goes;
 }
