@@ -1,5 +1,5 @@
 -- The internal actions of all processes, one process behind the other.
-use Rattle.std.proofs.Common.{◌≡◌, ◌<◌, ◌≤◌, ◌+◌, ◌⊎◌, inl, inr, ℕ, zero, suc, List, [], ◌∷◌, ◌++◌, map, length, take, Option, Some, None, refl, sym, subst, ap, ◌∙◌, length-append, arith}
+use Rattle.std.proofs.Common.{◌≡◌, ◌<◌, ◌≤◌, ◌+◌, ◌-◌, ◌⊎◌, inl, inr, ℕ, zero, suc, List, [], ◌∷◌, ◌++◌, map, length, take, Option, Some, None, refl, sym, subst, ap, ◌∙◌, length-append, arith}
 use Rattle.std.specs.Prelude.{slice_get, All, AllPairs, Contains}
 use Rattle.std.proofs.lemmas.Bool.{cases_lt}
 use Rattle.std.proofs.lemmas.Option.{same_Some}
@@ -24,7 +24,7 @@ use Rattle.pz_sim_totals.specs.Sums as sums
 use Rattle.pz_sim_laws.specs.Members.{Member, config_of, AreMembers}
 use Rattle.pz_sim_laws.specs.Deciding.{total_of, total_of_all}
 use Rattle.pz_sim_laws.proofs.Lists.{AllPairs-nil, AllPairs-append, AllPairs-map, Contains-none, Contains-map, from_map, all_got, all_by, got_cons, got_behind, got_mapped, Contains-append_cases}
-use Rattle.pz_sim_laws.proofs.Standing.{end_at, part_of_member, in_member, IsTail}
+use Rattle.pz_sim_laws.proofs.Standing.{end_at, part_of_member, in_member, IsTail, next_tail, first_here, none_left, one_here, from_cases, all_tail}
 
 abbrev pub action_of : ℕ → Noted walk.Doing → Action
 action_of i d = Internal (end_at i d.place) d.what.kind d.what.pos
@@ -78,12 +78,6 @@ module _ (setting : Setting) (clock : ℕ) (ms : List Member) (are : AreMembers 
     pub offered : Offers setting (config_of clock ms) a
     pub from : i ≤ (end_of a).process
 
-  next_tail : (i : ℕ) (m : Member) (tail : List Member) → IsTail ms i (m ∷ tail) → IsTail ms (suc i) tail
-  next_tail i m tail is k = is (suc k) ∙ ap (slice_get ms) (let e : i + suc k ≡ suc i + k = omega arith in e)
-
-  first_here : (i : ℕ) (m : Member) (tail : List Member) → IsTail ms i (m ∷ tail) → slice_get ms i ≡ Some m
-  first_here i m tail is = ap (slice_get ms) (let e : i ≡ i + 0 = omega arith in e) ∙ sym (is 0)
-
   -- those of one process
 
   offered_here : (i : ℕ) (m : Member) → slice_get ms i ≡ Some m → (a : Action) → Contains (actions_of i m) a → IsInternal a × Offers setting (config_of clock ms) a × ((end_of a).process ≡ i)
@@ -104,10 +98,10 @@ module _ (setting : Setting) (clock : ℕ) (ms : List Member) (are : AreMembers 
 
   pub offered_from : (i : ℕ) (tail : List Member) → IsTail ms i tail → (a : Action) → Contains (actions_from i tail) a → IsOffered i a
   offered_from i [] is a there = absurd (Contains-none a there)
-  offered_from i (m ∷ tail) is a there = by (Contains-append_cases (actions_of i m) (actions_from (suc i) tail) a there) (λ later. offered_from (suc i) tail (next_tail i m tail is) a later)
+  offered_from i (m ∷ tail) is a there = by (Contains-append_cases (actions_of i m) (actions_from (suc i) tail) a there) (λ later. offered_from (suc i) tail (next_tail ms i m tail is) a later)
     where
       by : Contains (actions_of i m) a ⊎ Contains (actions_from (suc i) tail) a → (Contains (actions_from (suc i) tail) a → IsOffered (suc i) a) → IsOffered i a
-      by (inl here) go = let x = offered_here i m (first_here i m tail is) a here in let same = x.2 in record { is_internal = x.0; offered = x.1; from = omega (arith, same) }
+      by (inl here) go = let x = offered_here i m (first_here ms i m tail is) a here in let same = x.2 in record { is_internal = x.0; offered = x.1; from = omega (arith, same) }
       by (inr later) go = let x = go later in let le = x.from in record { is_internal = x.is_internal; offered = x.offered; from = omega (arith, le) }
 
   before_of : (x y : Action) → IsInternal x → IsInternal y → EndBefore (end_of x) (end_of y) → Before x y
@@ -118,9 +112,9 @@ module _ (setting : Setting) (clock : ℕ) (ms : List Member) (are : AreMembers 
   pub ordered_from : (i : ℕ) (tail : List Member) → IsTail ms i tail → AllPairs Before (actions_from i tail)
   ordered_from i [] is = AllPairs-nil Before
   ordered_from i (m ∷ tail) is =
-      AllPairs-append Before (actions_of i m) (actions_from (suc i) tail) (ordered_here i m) (ordered_from (suc i) tail (next_tail i m tail is)) (λ x y first second.
-      let a = offered_here i m (first_here i m tail is) x first in
-      let b = offered_from (suc i) tail (next_tail i m tail is) y second in
+      AllPairs-append Before (actions_of i m) (actions_from (suc i) tail) (ordered_here i m) (ordered_from (suc i) tail (next_tail ms i m tail is)) (λ x y first second.
+      let a = offered_here i m (first_here ms i m tail is) x first in
+      let b = offered_from (suc i) tail (next_tail ms i m tail is) y second in
       let same = a.2 in
       let le = b.from in
       before_of x y a.0 b.is_internal (inl (omega (arith, same, le))))
@@ -133,34 +127,25 @@ module _ (setting : Setting) (clock : ℕ) (ms : List Member) (are : AreMembers 
 
   every_from : (i : ℕ) (tail : List Member) → IsTail ms i tail → (at : End) (kind : Kind) (pos : Pos) (m : Member) → i ≤ at.process → slice_get ms at.process ≡ Some m
       → IsThere m.seen m.term at.place (λ f part. Can m.seen f part kind pos) → Contains (actions_from i tail) (Internal at kind pos)
-  every_from i [] tail at kind pos m from is there =
-      let on : slice_get ms at.process ≡ None = sym (tail (at.process - i) ∙ ap (slice_get ms) (let e : i + (at.process - i) ≡ at.process = omega (arith, from) in e)) in
-      absurd (none_some m (sym on ∙ is))
+  every_from i [] is at kind pos m from here there = absurd (none_left ms i is at.process m from here)
+  every_from i (x ∷ tail) is at kind pos m from here there = by (from_cases i at.process from) (λ le. every_from (suc i) tail (next_tail ms i x tail is) at kind pos m le here there)
     where
-      none_some : (x : Member) → (let o : Option Member = None in o) ≡ Some x → ⊥
-      none_some x e = cc
-  every_from i (x ∷ tail) is at kind pos m from here there = by (cases_lt i at.process) (λ le. every_from (suc i) tail (next_tail i x tail is) at kind pos m le here there)
-    where
-      by : (i < at.process) ⊎ (at.process ≤ i) → (suc i ≤ at.process → Contains (actions_from (suc i) tail) (Internal at kind pos)) → Contains (actions_from i (x ∷ tail)) (Internal at kind pos)
-      by (inl less) go = Contains-append_right (actions_of i x) (actions_from (suc i) tail) (Internal at kind pos) (go (omega (arith, less)))
-      by (inr more) go =
-          let same : at.process ≡ i = omega (arith, more, from) in
-          let one : m ≡ x = same_Some m x (sym here ∙ ap (slice_get ms) same ∙ first_here i x tail is) in
+      by : (at.process ≡ i) ⊎ (suc i ≤ at.process) → (suc i ≤ at.process → Contains (actions_from (suc i) tail) (Internal at kind pos)) → Contains (actions_from i (x ∷ tail)) (Internal at kind pos)
+      by (inl same) go =
+          let one : m ≡ x = one_here ms i at.process x m tail is same here in
           Contains-append_left (actions_of i x) (actions_from (suc i) tail) (Internal at kind pos) (subst (λ (y : Member). Contains (actions_of i y) (Internal at kind pos)) one (every_here i m at kind pos same there))
-
-  all_tail : IsTail ms 0 ms
-  all_tail k = ap (slice_get ms) (let e : k ≡ 0 + k = omega arith in e)
+      by (inr later) go = Contains-append_right (actions_of i x) (actions_from (suc i) tail) (Internal at kind pos) (go later)
 
   -- all of them
 
   pub every_internal : (a : Action) → IsInternal a → Offers setting (config_of clock ms) a → Contains (actions_from 0 ms) a
   every_internal _ is (offers.internal at a f part kind pos active can) =
       let x = in_member setting clock ms are (λ (b : Context) (g : ℕ) (t : Term). Can b g t kind pos) at a f part active can in
-      every_from 0 ms all_tail at kind pos x.member (omega arith) x.is x.is_there
+      every_from 0 ms (all_tail ms) at kind pos x.member (omega arith) x.is x.is_there
   every_internal _ is (offers.communication number sender receiver message parcel pair judged) = absurd is
 
   pub internal_offered : (a : Action) → Contains (actions_from 0 ms) a → IsOffered 0 a
-  internal_offered a there = offered_from 0 ms all_tail a there
+  internal_offered a there = offered_from 0 ms (all_tail ms) a there
 
   pub internal_ordered : AllPairs Before (actions_from 0 ms)
-  internal_ordered = ordered_from 0 ms all_tail
+  internal_ordered = ordered_from 0 ms (all_tail ms)

@@ -1,2 +1,12 @@
 mod Lists
 mod Standing
+mod Rows
+mod Verdicts
+mod Pairing
+mod Internals
+mod Sums
+mod Moments
+mod Replacing
+mod Leading
+mod Outlasting
+mod Enduring

@@ -30,17 +30,10 @@ use Rattle.pz_sim_laws.specs.Offering.{AreSenders, AreReceivers, in_all}
 use Rattle.pz_sim_laws.specs.Couples.{answer, communication, IsCouple, IsRight, AreCouples, IsTruthful}
 use Rattle.pz_sim_laws.proofs.Lists.{Contains-cases, Contains-none, Contains-first, Contains-later, AllPairs-head, AllPairs-tail, AllPairs-map, all_got, all_by, Contains-map, from_map, kept_there, from_kept}
 use Rattle.pz_sim_laws.proofs.Rows.{IsSender, IsReceiver, Received, sender_is, sender_there, receiver_is, receiver_there}
+use Rattle.pz_sim_laws.proofs.Sums.{place_asymmetric}
 use Rattle.pz_sim_laws.proofs.Verdicts.{verdict_once, right}
 
 -- of two pairs no more than one is before the other
-
-place_asymmetric : (p q : Place) → PlaceBefore p q → PlaceBefore q p → ⊥
-place_asymmetric p [] a b = a
-place_asymmetric [] (j ∷ q) a b = b
-place_asymmetric (i ∷ p) (j ∷ q) (inl a) (inl b) = omega (arith, a, b)
-place_asymmetric (i ∷ p) (j ∷ q) (inl a) (inr (e, b)) = omega (arith, a, e)
-place_asymmetric (i ∷ p) (j ∷ q) (inr (e, a)) (inl b) = omega (arith, e, b)
-place_asymmetric (i ∷ p) (j ∷ q) (inr (e, a)) (inr (f, b)) = place_asymmetric p q a b
 
 end_asymmetric : (a b : End) → EndBefore a b → EndBefore b a → ⊥
 end_asymmetric a b (inl x) (inl y) = omega (arith, x, y)

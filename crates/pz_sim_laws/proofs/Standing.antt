@@ -1,6 +1,7 @@
 -- Members of a system, as the configuration has them.
-use Rattle.std.proofs.Common.{◌≡◌, ◌<◌, ◌+◌, ℕ, List, map, set, length, Option, Some, refl, sym, subst, ap, ◌∙◌, arith}
+use Rattle.std.proofs.Common.{◌≡◌, ◌<◌, ◌≤◌, ◌+◌, ◌-◌, ◌⊎◌, inl, inr, ℕ, suc, List, [], ◌∷◌, map, length, Option, Some, None, sym, subst, ap, ◌∙◌, arith}
 use Rattle.std.specs.Prelude.{slice_get}
+use Rattle.std.proofs.lemmas.Bool.{cases_lt}
 use Rattle.std.proofs.lemmas.Option.{same_Some, slice_get_within}
 use Rattle.std.proofs.lemmas.List.{length-map}
 use Rattle.pz_bind_levels.specs.Places.{Address}
@@ -77,3 +78,28 @@ module _ (setting : Setting) (clock : ℕ) (ms : List Member) (are : AreMembers 
 -- the members from number i on
 abbrev pub IsTail : List Member → ℕ → List Member → Type 0
 IsTail ms i tail = (k : ℕ) → slice_get tail k ≡ slice_get ms (i + k)
+
+pub next_tail : (ms : List Member) (i : ℕ) (m : Member) (tail : List Member) → IsTail ms i (m ∷ tail) → IsTail ms (suc i) tail
+next_tail ms i m tail is k = is (suc k) ∙ ap (slice_get ms) (let e : i + suc k ≡ suc i + k = omega arith in e)
+
+pub first_here : (ms : List Member) (i : ℕ) (m : Member) (tail : List Member) → IsTail ms i (m ∷ tail) → slice_get ms i ≡ Some m
+first_here ms i m tail is = ap (slice_get ms) (let e : i ≡ i + 0 = omega arith in e) ∙ sym (is 0)
+
+pub none_left : (ms : List Member) (i : ℕ) → IsTail ms i [] → (k : ℕ) (m : Member) → i ≤ k → slice_get ms k ≡ Some m → ⊥
+none_left ms i is k m le here = none_some m (is (k - i) ∙ ap (slice_get ms) (let e : i + (k - i) ≡ k = omega (arith, le) in e) ∙ here)
+  where
+    none_some : (x : Member) → (let o : Option Member = None in o) ≡ Some x → ⊥
+    none_some x e = cc
+
+pub one_here : (ms : List Member) (i k : ℕ) (x m : Member) (tail : List Member) → IsTail ms i (x ∷ tail) → k ≡ i → slice_get ms k ≡ Some m → m ≡ x
+one_here ms i k x m tail is same here = same_Some m x (sym here ∙ ap (slice_get ms) same ∙ first_here ms i x tail is)
+
+pub from_cases : (i k : ℕ) → i ≤ k → (k ≡ i) ⊎ (suc i ≤ k)
+from_cases i k le = by (cases_lt i k)
+  where
+    by : (i < k) ⊎ (k ≤ i) → (k ≡ i) ⊎ (suc i ≤ k)
+    by (inl less) = inr (omega (arith, less))
+    by (inr more) = inl (omega (arith, more, le))
+
+pub all_tail : (ms : List Member) → IsTail ms 0 ms
+all_tail ms k = ap (slice_get ms) (let e : k ≡ 0 + k = omega arith in e)

@@ -23,9 +23,9 @@ use Rattle.pz_sim_totals.specs.Sums as sums
 use Rattle.pz_sim_laws.specs.Members.{Member, process_of, config_of, AreMembers}
 use Rattle.pz_sim_laws.specs.Deciding.{unfinished, total_of, total_of_all}
 use Rattle.pz_sim_laws.proofs.Lists.{Contains-cases, Contains-none, Contains-first, Contains-later, AllPairs-head, all_got, all_by, some_there, from_map}
-use Rattle.pz_sim_laws.proofs.Standing.{end_at, part_of_member, in_member, InMember, IsTail}
+use Rattle.pz_sim_laws.proofs.Standing.{end_at, part_of_member, in_member, IsTail, next_tail, first_here, none_left, one_here, from_cases, all_tail}
 
-place_asymmetric : (p q : Place) → PlaceBefore p q → PlaceBefore q p → ⊥
+pub place_asymmetric : (p q : Place) → PlaceBefore p q → PlaceBefore q p → ⊥
 place_asymmetric p [] a b = a
 place_asymmetric [] (j ∷ q) a b = b
 place_asymmetric (i ∷ p) (j ∷ q) (inl a) (inl b) = omega (arith, a, b)
@@ -94,28 +94,6 @@ least_from clock P None h = λ due x. h x.0 x.1
 least_from clock P (Some d) h = ((d, h.0, refl), λ due x. let le = h.1 x.0 x.1 in let e = x.2 in omega (arith, le, e))
 
 module _ (setting : Setting) (clock : ℕ) (ms : List Member) (are : AreMembers setting clock ms) where
-  next_tail : (i : ℕ) (m : Member) (tail : List Member) → IsTail ms i (m ∷ tail) → IsTail ms (suc i) tail
-  next_tail i m tail is k = is (suc k) ∙ ap (slice_get ms) (let e : i + suc k ≡ suc i + k = omega arith in e)
-
-  first_here : (i : ℕ) (m : Member) (tail : List Member) → IsTail ms i (m ∷ tail) → slice_get ms i ≡ Some m
-  first_here i m tail is = ap (slice_get ms) (let e : i ≡ i + 0 = omega arith in e) ∙ sym (is 0)
-
-  none_left : (i : ℕ) → IsTail ms i [] → (k : ℕ) (m : Member) → i ≤ k → slice_get ms k ≡ Some m → ⊥
-  none_left i is k m le here = none_some m (is (k - i) ∙ ap (slice_get ms) (let e : i + (k - i) ≡ k = omega (arith, le) in e) ∙ here)
-    where
-      none_some : (x : Member) → (let o : Option Member = None in o) ≡ Some x → ⊥
-      none_some x e = cc
-
-  one_here : (i k : ℕ) (x m : Member) (tail : List Member) → IsTail ms i (x ∷ tail) → k ≡ i → slice_get ms k ≡ Some m → m ≡ x
-  one_here i k x m tail is same here = same_Some m x (sym here ∙ ap (slice_get ms) same ∙ first_here i x tail is)
-
-  from_cases : (i k : ℕ) → i ≤ k → (k ≡ i) ⊎ (suc i ≤ k)
-  from_cases i k le = by (cases_lt i k)
-    where
-      by : (i < k) ⊎ (k ≤ i) → (k ≡ i) ⊎ (suc i ≤ k)
-      by (inl less) = inr (omega (arith, less))
-      by (inr more) = inl (omega (arith, more, le))
-
   -- What is left of delays
 
   -- so much is left of a delay of a member from number i on, and it is over then
@@ -144,28 +122,25 @@ module _ (setting : Setting) (clock : ℕ) (ms : List Member) (are : AreMembers 
           then_over = x.2;
         }
 
-    pub least_due : (i : ℕ) (tail : List Member) → IsTail ms i tail → IsLeastOf (IsDue i) (total_of_all clock tail).summary.due
-    least_due i [] is = λ due x. none_left i is x.at.process x.member x.from x.is
+    least_due : (i : ℕ) (tail : List Member) → IsTail ms i tail → IsLeastOf (IsDue i) (total_of_all clock tail).summary.due
+    least_due i [] is = λ due x. none_left ms i is x.at.process x.member x.from x.is
     least_due i (m ∷ tail) is =
         least_same (λ due. ((n : ℕ) × IsNoted (active_delays m.seen m.term) n × (clock + n ≡ due)) ⊎ IsDue (suc i) due) (IsDue i) to (λ due x. from due x (from_cases i x.at.process x.from))
         (least (option_map (λ left. clock + left) (least_of (active_delays m.seen m.term))) (total_of_all clock tail).summary.due)
         (least_both (λ due. (n : ℕ) × IsNoted (active_delays m.seen m.term) n × (clock + n ≡ due)) (IsDue (suc i)) (option_map (λ left. clock + left) (least_of (active_delays m.seen m.term))) (total_of_all clock tail).summary.due
         (least_from clock (IsNoted (active_delays m.seen m.term)) (least_of (active_delays m.seen m.term)) (least_noted (active_delays m.seen m.term)))
-        (least_due (suc i) tail (next_tail i m tail is)))
+        (least_due (suc i) tail (next_tail ms i m tail is)))
       where
         to : (due : ℕ) → ((n : ℕ) × IsNoted (active_delays m.seen m.term) n × (clock + n ≡ due)) ⊎ IsDue (suc i) due → IsDue i due
-        to due (inl x) = due_here i m (first_here i m tail is) due x
+        to due (inl x) = due_here i m (first_here ms i m tail is) due x
         to due (inr x) = let le = x.from in record { at = x.at; member = x.member; is = x.is; from = omega (arith, le); left = x.left; there = x.there; then_over = x.then_over }
 
         from : (due : ℕ) (x : IsDue i due) → (x.at.process ≡ i) ⊎ (suc i ≤ x.at.process) → ((n : ℕ) × IsNoted (active_delays m.seen m.term) n × (clock + n ≡ due)) ⊎ IsDue (suc i) due
         from due x (inl same) =
-            let one = one_here i x.at.process m x.member tail is same x.is in
+            let one = one_here ms i x.at.process m x.member tail is same x.is in
             let there : IsThere m.seen m.term x.at.place (λ f t. Delays m.seen f t x.left) = subst (λ (y : Member). IsThere y.seen y.term x.at.place (λ f t. Delays y.seen f t x.left)) one x.there in
             inl (x.left, (record { place = x.at.place; what = x.left }, (law m.seen m.term).every x.at.place x.left there, refl), x.then_over)
         from due x (inr later) = inr (record { at = x.at; member = x.member; is = x.is; from = later; left = x.left; there = x.there; then_over = x.then_over })
-
-    all_tail : IsTail ms 0 ms
-    all_tail k = ap (slice_get ms) (let e : k ≡ 0 + k = omega arith in e)
 
     -- the least that is left is the time to the first moment at which one is over
     abbrev pub IsLeastLeft : Option ℕ → Type 0
@@ -197,7 +172,7 @@ module _ (setting : Setting) (clock : ℕ) (ms : List Member) (are : AreMembers 
         }
 
     pub least_left : IsLeastLeft (total_of_all clock ms).summary.due
-    least_left = least_of_all (total_of_all clock ms).summary.due (least_due 0 ms all_tail)
+    least_left = least_of_all (total_of_all clock ms).summary.due (least_due 0 ms (all_tail ms))
 
   -- Troubles
 
@@ -216,7 +191,7 @@ module _ (setting : Setting) (clock : ℕ) (ms : List Member) (are : AreMembers 
   module _ (law : TroublesAreListed) where
     asked_here : (i : ℕ) (m : Member) (at : End) (t : Trouble) (tail : List Member) → IsTail ms i (m ∷ tail) → at.process ≡ i → Asked i at t → Contains (active_troubles m.seen m.term) (record { place = at.place; what = t })
     asked_here i m at t tail is same x =
-        let one = one_here i at.process m x.0 tail is same x.1 in
+        let one = one_here ms i at.process m x.0 tail is same x.1 in
         let there : IsThere m.seen m.term at.place (λ f u. Asks m.seen f u t) = subst (λ (y : Member). IsThere y.seen y.term at.place (λ f u. Asks y.seen f u t)) one x.3 in
         (law m.seen m.term).every at.place t there
 
@@ -249,7 +224,7 @@ module _ (setting : Setting) (clock : ℕ) (ms : List Member) (are : AreMembers 
         let lists : Lists m.seen m.term (λ t f u. Asks m.seen f u t) (n ∷ ns) = subst (λ (l : List (Noted Trouble)). Lists m.seen m.term (λ t f u. Asks m.seen f u t) l) are_so (law m.seen m.term) in
         record {
           at = end_at i n.place;
-          occurs = (m, first_here i m tail is, omega arith, all_got (λ (k : Noted Trouble). IsThere m.seen m.term k.place (λ f u. Asks m.seen f u k.what)) (n ∷ ns) n lists.derivable (Contains-first n ns));
+          occurs = (m, first_here ms i m tail is, omega arith, all_got (λ (k : Noted Trouble). IsThere m.seen m.term k.place (λ f u. Asks m.seen f u k.what)) (n ∷ ns) n lists.derivable (Contains-first n ns));
           first = none_before lists.ordered;
         }
       where
@@ -260,8 +235,8 @@ module _ (setting : Setting) (clock : ℕ) (ms : List Member) (are : AreMembers 
             not_before n it ns ordered before (Contains-cases n ns it (subst (λ (l : List (Noted Trouble)). Contains l it) are_so (asked_here i m other u tail is same x)))
 
     first_from : (i : ℕ) (tail : List Member) → IsTail ms i tail → IsFirstOf i (total_of_all clock tail).summary.trouble
-    first_from i [] is = λ at t x. none_left i is at.process x.0 x.2 x.1
-    first_from i (m ∷ tail) is = by (active_troubles m.seen m.term) refl (first_from (suc i) tail (next_tail i m tail is))
+    first_from i [] is = λ at t x. none_left ms i is at.process x.0 x.2 x.1
+    first_from i (m ∷ tail) is = by (active_troubles m.seen m.term) refl (first_from (suc i) tail (next_tail ms i m tail is))
       where
         by : (ns : List (Noted Trouble)) → active_troubles m.seen m.term ≡ ns → IsFirstOf (suc i) (total_of_all clock tail).summary.trouble
             → IsFirstOf i (option_or (first_of (active_troubles m.seen m.term)) (total_of_all clock tail).summary.trouble)
@@ -314,7 +289,7 @@ module _ (setting : Setting) (clock : ℕ) (ms : List Member) (are : AreMembers 
         }
 
     pub first_asked : IsAsked (total_of_all clock ms).summary.trouble
-    first_asked = first_of_all (total_of_all clock ms).summary.trouble (first_from 0 ms (λ k. ap (slice_get ms) (let e : k ≡ 0 + k = omega arith in e)))
+    first_asked = first_of_all (total_of_all clock ms).summary.trouble (first_from 0 ms (all_tail ms))
 
 -- Whether all is done
 

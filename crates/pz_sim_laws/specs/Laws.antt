@@ -16,6 +16,7 @@ use Rattle.pz_rules.specs.declared.action.Action.{Action}
 use Rattle.pz_rules.specs.declared.action.Action.TheVariants.{Internal, Comm}
 use Rattle.pz_rules.specs.Terms.{Term}
 use Rattle.pz_rules.specs.Settings.{Setting, Process}
+use Rattle.pz_rules.specs.Ports.{HasWires}
 use Rattle.pz_rules.specs.Heights.{IsLow}
 use Rattle.pz_rules.specs.Moments.{IsMoment}
 use Rattle.pz_rules.specs.Offers.{IsPair}
@@ -57,10 +58,11 @@ CommunicationsFollow = (setting : Setting) (clock : ℕ) (ms : List Member) (ps 
     → (j : ℕ) (p : Judged) → slice_get (taken ps) j ≡ Some p
     → IsChoice setting (config_of clock ms) (offers_in (total_of_all clock ms) ps) ((total_of_all clock ms).summary.internal + j) (communication p)
 
--- the pairs of what all processes offer, with what is so of their receives, are those of the rules
+-- where the wires of the model are known: the pairs of what all processes offer, with what is so of their receives, are those
+-- of the rules
 abbrev pub PairsAreCouples : Type 0
 PairsAreCouples = (setting : Setting) (clock : ℕ) (ms : List Member) (sends : List (List Sender)) (receives : List (List Receiver)) (ps : List Judged)
-    → AreMembers setting clock ms → AreSenders ms sends → AreReceivers ms receives
+    → HasWires setting.model → AreMembers setting clock ms → AreSenders ms sends → AreReceivers ms receives
     → ArePairs (in_all sends) (in_all receives) ps → All (IsTruthful ms) ps → AreCouples setting (config_of clock ms) ps
 
 -- a receive that is offered stands in its process

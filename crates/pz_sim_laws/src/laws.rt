@@ -8,6 +8,7 @@ pub fn moments_are_decided()
 {
     pz_rules::laws::one_list_of_offers();
     pz_rules::laws::walks_list_what_is_active();
+    pz_part_queries::laws::one_verdict();
 }
 
 /// The offers by their numbers: the internal actions, process by process, and behind them the pairs that are
@@ -17,6 +18,7 @@ pub fn offers_are_numbered()
     ensures communications { CommunicationsFollow }
 {
     pz_rules::laws::walks_list_what_is_active();
+    pz_part_queries::laws::one_verdict();
 }
 
 /// The pairs of what all processes offer are those of the rules. What is offered stands in its process, in
@@ -29,7 +31,6 @@ pub fn pairs_are_those_of_the_rules()
 {
     pz_rules::laws::walks_list_what_is_active();
     pz_rules::laws::offered_parts_act();
-    pz_part_queries::laws::one_verdict();
 }
 
 /// Where one process is replaced, what the others offer and what their receives say stays.
@@ -53,8 +54,8 @@ pub fn steps_lead_on()
     pz_eval_rules::laws::each_list_has_an_outcome();
 }
 
-/// A process that does not name the clock offers the same after a passing of time, and its receives say the
-/// same.
+/// In a sound model a process that does not name the clock offers the same after a passing of time, and its
+/// receives say the same.
 pub fn unclocked_offers_outlast()
     ensures sends { SendsOutlast }
     ensures receives { ReceivesOutlast }
@@ -65,4 +66,5 @@ pub fn unclocked_offers_outlast()
     pz_rules::laws::passing_is_computed();
     pz_rules::laws::evaluations_are_computed();
     pz_rules::laws::walks_list_what_is_active();
+    pz_rules::laws::offered_parts_act();
 }
