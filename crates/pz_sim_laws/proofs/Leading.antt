@@ -90,13 +90,13 @@ communication_leads setting clock ms wire sender receiver message parcel m n (Er
 
 -- a receive takes each parcel somehow
 
-part_some : EachListHasAnOutcome → (a : Context) (f : ℕ) (at : Pos) (es : Part Slot ClassId) → (r : Result (List Value) Trouble) × (s : StateView) × GivesPart a f at es r s
+pub part_some : EachListHasAnOutcome → (a : Context) (f : ℕ) (at : Pos) (es : Part Slot ClassId) → (r : Result (List Value) Trouble) × (s : StateView) × GivesPart a f at es r s
 part_some law a f at left_out = (Ok [], a.state, (refl, refl))
 part_some law a f at (written es) =
     let found = law a.setting.model a.clock f a.state es (allowance a.setting.limits) in
     (values_or_trouble a.process at found.0.listed, found.0.state, record { outcome = found.0.listed; finds = found.1; means = refl })
 
-takes_some : EachListHasAnOutcome → (a : Context) (f : ℕ) (parcel : ParcelView) (part : Term) (pos : Pos) (port : ℕ) (message : List ℕ) (count : ℕ)
+pub takes_some : EachListHasAnOutcome → (a : Context) (f : ℕ) (parcel : ParcelView) (part : Term) (pos : Pos) (port : ℕ) (message : List ℕ) (count : ℕ)
     → Receives part pos port message count → (r : Result Process Trouble) × Takes a f parcel part pos r
 takes_some law a f parcel _ _ _ _ _ (messages.receives at port name into condition block) = by_room (cases_lt object_limit (length a.state.objects + length parcel.objects))
   where

@@ -10,3 +10,7 @@ mod Replacing
 mod Leading
 mod Outlasting
 mod Enduring
+mod Saying
+mod Sets
+mod Merely
+mod Worked

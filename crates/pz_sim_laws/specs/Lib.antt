@@ -5,3 +5,5 @@ pub mod Deciding
 pub mod Deeds
 pub mod Elapsing
 pub mod Laws
+pub mod Leading
+pub mod devices
