@@ -1,8 +1,7 @@
 -- As time passes, a receive that does not name the clock stays where it stands, and says the same.
-use Rattle.std.proofs.Common.{◌≡◌, ◌<◌, ◌≤◌, ◌+◌, ◌⊎◌, inl, inr, ℕ, zero, suc, Bool, true, false, List, [], ◌∷◌, ◌++◌, map, Option, Some, None, Result, Ok, Err, refl, sym, subst, ap, ◌∙◌, arith}
+use Rattle.std.proofs.Common.{◌≡◌, ◌<◌, ◌+◌, ℕ, zero, suc, Bool, true, false, List, [], ◌∷◌, map, Result, Ok, Err, refl, sym, subst, ap, ◌∙◌, arith}
 use Rattle.std.specs.Prelude.{Contains}
 use Rattle.std.specs.List.{AllZip}
-use Rattle.std.proofs.lemmas.Bool.{true≢false}
 use Rattle.pz_syntax.specs.declared.tokens.Pos.{Pos}
 use Rattle.pz_syntax.specs.Statements as statement
 use Rattle.pz_classes.specs.Soundness.{IsSound}
@@ -11,7 +10,7 @@ use Rattle.pz_offer.specs.declared.trouble.Trouble.{Trouble}
 use Rattle.pz_offer.specs.declared.ends.SendOffer.{SendOffer}
 use Rattle.pz_offer.specs.declared.ends.ReceiveOffer.{ReceiveOffer}
 use Rattle.pz_offer.specs.PlaceOrder.{Place}
-use Rattle.pz_eval_rules.specs.Clocks.{names_clock, DataIsTimeless}
+use Rattle.pz_eval_rules.specs.Clocks.{names_clock}
 use Rattle.pz_eval_rules.specs.Laws.{SoundDataIsTimeless, UnclockedIsTimeless}
 use Rattle.pz_eval_rules.specs.devices.Laws.{UnclockedListIsComputedTheSame}
 use Rattle.pz_rules.specs.Terms.{Code, Step, Term, done, leaf, wait, sequence, parallel, select, guarded, frame, abort, idle, handling, Terms, no_terms, and, term_at, child, count, frame_in}
@@ -25,8 +24,8 @@ use Rattle.pz_rules.specs.Messages as messages
 use Rattle.pz_rules.specs.Messages.{Receives, Judges, bound}
 use Rattle.pz_rules.specs.Laws.{WhatReceivesIsAReceive}
 use Rattle.pz_rules.specs.devices.Computed.{TestsAreComputed, OnePassingIsComputed}
-use Rattle.pz_rules.specs.devices.Found.{tested, lasting}
-use Rattle.pz_rules.specs.devices.Passing.{passed, passed_all, begun, if_open}
+use Rattle.pz_rules.specs.devices.Found.{tested}
+use Rattle.pz_rules.specs.devices.Passing.{passed, passed_all, if_open}
 use Rattle.pz_rules.specs.devices.Walk as walk
 use Rattle.pz_rules.specs.devices.Walk.{ActivePart, Noted, here, under, behind, active_parts, active_children, active_sends, active_receives}
 use Rattle.pz_rules.specs.devices.Walks.{IsThere, ReceivesAreListed}

@@ -1,13 +1,12 @@
 -- The internal actions of all processes, one process behind the other.
-use Rattle.std.proofs.Common.{◌≡◌, ◌<◌, ◌≤◌, ◌+◌, ◌-◌, ◌⊎◌, inl, inr, ℕ, zero, suc, List, [], ◌∷◌, ◌++◌, map, length, take, Option, Some, None, refl, sym, subst, ap, ◌∙◌, length-append, arith}
-use Rattle.std.specs.Prelude.{slice_get, All, AllPairs, Contains}
-use Rattle.std.proofs.lemmas.Bool.{cases_lt}
+use Rattle.std.proofs.Common.{◌≡◌, ◌≤◌, ◌+◌, ◌⊎◌, inl, inr, ℕ, zero, suc, List, [], ◌∷◌, ◌++◌, map, length, take, Some, refl, sym, subst, ap, ◌∙◌, length-append, arith}
+use Rattle.std.specs.Prelude.{slice_get, AllPairs, Contains}
 use Rattle.std.proofs.lemmas.Option.{same_Some}
 use Rattle.std.proofs.lemmas.List.{length-map}
 use Rattle.std.proofs.lemmas.List.Elements.{Contains-append_left, Contains-append_right}
 use Rattle.pz_syntax.specs.declared.tokens.Pos.{Pos}
 use Rattle.pz_offer.specs.declared.end.End.{End}
-use Rattle.pz_offer.specs.PlaceOrder.{Place, PlaceBefore, EndBefore}
+use Rattle.pz_offer.specs.PlaceOrder.{PlaceBefore, EndBefore}
 use Rattle.pz_rules.specs.declared.action.Kind.{Kind}
 use Rattle.pz_rules.specs.declared.action.Action.{Action}
 use Rattle.pz_rules.specs.declared.action.Action.TheVariants.{Internal, Comm}
@@ -19,11 +18,10 @@ use Rattle.pz_rules.specs.Offers.{Offers, Before}
 use Rattle.pz_rules.specs.devices.Walk as walk
 use Rattle.pz_rules.specs.devices.Walk.{Noted, internal_actions}
 use Rattle.pz_rules.specs.devices.Walks.{IsThere, InternalActionsAreListed}
-use Rattle.pz_sim_totals.specs.declared.total.Total.{Total}
 use Rattle.pz_sim_totals.specs.Sums as sums
 use Rattle.pz_sim_laws.specs.Members.{Member, config_of, AreMembers}
 use Rattle.pz_sim_laws.specs.Deciding.{total_of, total_of_all}
-use Rattle.pz_sim_laws.proofs.Lists.{AllPairs-nil, AllPairs-append, AllPairs-map, Contains-none, Contains-map, from_map, all_got, all_by, got_cons, got_behind, got_mapped, Contains-append_cases}
+use Rattle.pz_sim_laws.proofs.Lists.{AllPairs-nil, AllPairs-append, AllPairs-map, Contains-none, Contains-map, from_map, all_got, got_cons, got_behind, got_mapped, Contains-append_cases}
 use Rattle.pz_sim_laws.proofs.Standing.{end_at, part_of_member, in_member, IsTail, next_tail, first_here, none_left, one_here, from_cases, all_tail}
 
 abbrev pub action_of : ℕ → Noted walk.Doing → Action

@@ -2,7 +2,7 @@
 use Rattle.std.proofs.Common.{◌≡◌, ◌≢◌, ◌<◌, ◌≤◌, ◌+◌, ◌⊎◌, inl, inr, ℕ, List, [], map, set, length, Some, Result, Ok, Err, refl, sym, subst, ap, ◌∙◌, arith}
 use Rattle.std.specs.Prelude.{slice_get}
 use Rattle.std.proofs.lemmas.Bool.{cases_lt}
-use Rattle.std.proofs.lemmas.Option.{same_Some, slice_get_within}
+use Rattle.std.proofs.lemmas.Option.{slice_get_within}
 use Rattle.std.proofs.lemmas.List.{length-map, length-set, map-set}
 use Rattle.pz_syntax.specs.declared.tokens.Pos.{Pos}
 use Rattle.pz_syntax.specs.Expressions.{Part, left_out, written}
@@ -38,7 +38,7 @@ use Rattle.pz_tree_summary.specs.Steady.{later}
 use Rattle.pz_sim_laws.specs.Members.{Member, process_of, config_of, become, AreMembers}
 use Rattle.pz_sim_laws.specs.Deeds.{Manner, alone, handing, taking, deed}
 use Rattle.pz_sim_laws.specs.Elapsing.{Elapsed}
-use Rattle.pz_sim_laws.proofs.Lists.{some_there, got_mapped, set_same, set_other, set_there}
+use Rattle.pz_sim_laws.proofs.Lists.{some_there, got_mapped, set_same, set_other}
 use Rattle.pz_sim_laws.proofs.Standing.{stands_of, sits_of}
 use Rattle.pz_sim_laws.proofs.Replacing.{same_or_apart}
 

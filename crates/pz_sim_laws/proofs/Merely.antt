@@ -1,15 +1,13 @@
 -- Of a moment, an offer, a next configuration there is one at most and one can be found, so what is merely so is so.
-use Rattle.std.proofs.Common.{◌≡◌, ◌<◌, ◌+◌, ℕ, List, length, Option, Some, None, Result, Ok, Err, refl, sym, subst, ap, ◌∙◌, arith}
+use Rattle.std.proofs.Common.{◌≡◌, ◌<◌, ℕ, List, length, Option, Some, None, Result, Ok, Err, refl, sym, subst, ap, ◌∙◌}
 use Rattle.std.specs.Prelude.{slice_get}
 use Rattle.std.proofs.Math.Logic.{∥∥₁_elim}
 use Rattle.std.proofs.Math.Nat.{ℕ_set}
-use Rattle.std.specs.Coded.{Coded-set, le_prop, coded_list, coded_option}
+use Rattle.std.specs.Coded.{Coded-set, le_prop, coded_option}
 use Rattle.std.proofs.lemmas.Option.{same_Some, slice_get_within}
 use Rattle.pz_syntax.specs.declared.tokens.Pos.{Pos}
 use Rattle.pz_syntax.specs.declared.names.Id.{Id}
-use Rattle.pz_syntax.specs.Expressions.{Part, left_out, written}
 use Rattle.pz_syntax.specs.Statements as statement
-use Rattle.pz_value.specs.declared.value.ClassId.{ClassId}
 use Rattle.pz_value.specs.declared.value.Value.{Value}
 use Rattle.pz_classes_code.specs.declared.slot.Slot.{Slot}
 use Rattle.pz_classes.specs.declared.method_id.Counts.TheVariants.{Process as process_counts}
@@ -30,16 +28,15 @@ use Rattle.pz_rules.specs.declared.moment.Moment.{Moment}
 use Rattle.pz_rules.specs.contracts.moment.Moment as moment_row
 use Rattle.pz_rules.specs.declared.moment.Moment.TheVariants.{Time}
 use Rattle.pz_rules.specs.Terms.{Code, Codes, Term, leaf}
-use Rattle.pz_rules.specs.Settings.{Setting, Process, Context, in_state, home_of}
+use Rattle.pz_rules.specs.Settings.{Setting, Process, Context, in_state}
 use Rattle.pz_rules.specs.Active.{IsActive}
-use Rattle.pz_rules.specs.Evaluations.{allowance, value_or_trouble, values_or_trouble, Gives, GivesAll, GivesPart}
+use Rattle.pz_rules.specs.Evaluations.{allowance, value_or_trouble, values_or_trouble, Gives, GivesAll}
 use Rattle.pz_rules.specs.InternalActions as actions
 use Rattle.pz_rules.specs.InternalActions.{Can, Performs, done_in}
 use Rattle.pz_rules.specs.Leaving.{settled}
 use Rattle.pz_rules.specs.Meanings.{and_then}
 use Rattle.pz_rules.specs.Messages as messages
 use Rattle.pz_rules.specs.Messages.{Sends, Hands}
-use Rattle.pz_rules.specs.Ports.{HasWires}
 use Rattle.pz_rules.specs.Fitting.{IsFit, TermFits}
 use Rattle.pz_rules.specs.Configurations.{Config, IsWhole, Stands}
 use Rattle.pz_rules.specs.Offers as offers
@@ -156,18 +153,31 @@ module _ (outcomes : EachHasAnOutcome) (lists : EachListHasAnOutcome) where
 
     next_some : (a : Action) → Offers setting c a → (r : Result Config Trouble) × Next setting c a r
     next_some _ (offers.internal at a f part kind pos active can) =
-        let does = performs_some a f (model_is at.process active.process a active.stands) part kind pos can (stands_fit at.process active.process a active.stands f at.place part active.active) in
-        (_, steps.internal at kind pos (and_then does.left (settled a does.pos active.process.term at.place)) (record {
-          process = active.process; seen = a; stands = active.stands; frame = f; part = part; active = active.active; pos = does.pos; left = does.left; acts = does.is; leaves = refl;
-        }))
+        let does = performs_some a f (model_is at.process active.process a active.stands) part kind pos can (stands_fit at.process active.process a active.stands f at.place part active.active) in (
+          _,
+          steps.internal at kind pos (and_then does.left (settled a does.pos active.process.term at.place)) (record {
+            process = active.process;
+            seen = a;
+            stands = active.stands;
+            frame = f;
+            part = part;
+            active = active.active;
+            pos = does.pos;
+            left = does.left;
+            acts = does.is;
+            leaves = refl;
+          }),
+        )
     next_some _ (offers.communication wire sender receiver message parcel pair judged) =
         let sent = hands_some pair.sends_at pair.sends_frame pair.sends_part pair.sends_pos pair.sends_port message parcel pair.sends in
         let taken = takes_some lists pair.receives_at pair.receives_frame parcel pair.receives_part pair.receives_pos pair.receives_port message (length parcel.values) pair.receives in
         let s = pair.sender_active in
-        let t = pair.receiver_active in
-        (_, steps.communication wire sender receiver message parcel (and_then sent.left (settled pair.sends_at sent.pos s.process.term sender.place)) (and_then taken.0 (settled pair.receives_at pair.receives_pos t.process.term receiver.place))
-        (record { process = s.process; seen = pair.sends_at; stands = s.stands; frame = pair.sends_frame; part = pair.sends_part; active = s.active; pos = sent.pos; left = sent.left; acts = sent.is; leaves = refl })
-        (record { process = t.process; seen = pair.receives_at; stands = t.stands; frame = pair.receives_frame; part = pair.receives_part; active = t.active; pos = pair.receives_pos; left = taken.0; acts = taken.1; leaves = refl }))
+        let t = pair.receiver_active in (
+          _,
+          steps.communication wire sender receiver message parcel (and_then sent.left (settled pair.sends_at sent.pos s.process.term sender.place)) (and_then taken.0 (settled pair.receives_at pair.receives_pos t.process.term receiver.place))
+              (record { process = s.process; seen = pair.sends_at; stands = s.stands; frame = pair.sends_frame; part = pair.sends_part; active = s.active; pos = sent.pos; left = sent.left; acts = sent.is; leaves = refl })
+              (record { process = t.process; seen = pair.receives_at; stands = t.stands; frame = pair.receives_frame; part = pair.receives_part; active = t.active; pos = pair.receives_pos; left = taken.0; acts = taken.1; leaves = refl }),
+        )
 
     -- one result
 

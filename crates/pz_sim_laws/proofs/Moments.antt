@@ -1,16 +1,14 @@
 -- The moment is the first that applies, and each offer has its number.
-use Rattle.std.proofs.Common.{◌≡◌, ◌≤◌, ◌<◌, ◌+◌, ◌-◌, ◌⊎◌, inl, inr, ℕ, zero, suc, Bool, true, false, List, [], ◌∷◌, ◌++◌, map, length, Option, Some, None, refl, sym, subst, ap, ◌∙◌, length-append, arith}
-use Rattle.std.specs.Prelude.{AllPairs, Contains, All, slice_get}
+use Rattle.std.proofs.Common.{◌≡◌, ◌≤◌, ◌+◌, ◌-◌, ◌⊎◌, inl, inr, ℕ, zero, suc, List, [], ◌∷◌, ◌++◌, map, length, Option, Some, None, sym, subst, ap, ◌∙◌, length-append, arith}
+use Rattle.std.specs.Prelude.{Contains, slice_get}
 use Rattle.std.specs.Option.{option_or}
 use Rattle.std.proofs.lemmas.List.{length-map}
 use Rattle.std.proofs.lemmas.List.Elements.{Contains-append_left, Contains-append_right}
-use Rattle.pz_offer.specs.declared.end.End.{End}
 use Rattle.pz_offer.specs.declared.trouble.Trouble.{Trouble}
 use Rattle.pz_match.specs.Pairs.{Judged, taken, first_trouble}
 use Rattle.pz_rules.specs.declared.action.Action.{Action}
 use Rattle.pz_rules.specs.declared.action.Action.TheVariants.{Internal, Comm}
 use Rattle.pz_rules.specs.declared.moment.Moment.{Moment}
-use Rattle.pz_rules.specs.declared.moment.Moment.TheVariants.{Faulty}
 use Rattle.pz_rules.specs.Settings.{Setting}
 use Rattle.pz_rules.specs.Heights.{IsLow}
 use Rattle.pz_rules.specs.Offers.{Offers, Before, IsOffers}
@@ -22,9 +20,7 @@ use Rattle.pz_rules.specs.devices.Walk as walk
 use Rattle.pz_rules.specs.devices.Walk.{Noted, internal_actions}
 use Rattle.pz_rules.specs.devices.Walks.{InternalActionsAreListed, DelaysAreListed, TroublesAreListed}
 use Rattle.pz_part_queries.specs.Laws.{OneVerdict}
-use Rattle.pz_sim_totals.specs.declared.total.Total.{Total}
 use Rattle.pz_sim_totals.specs.declared.totals.Found.{Found}
-use Rattle.pz_sim_totals.specs.Sums as sums
 use Rattle.pz_sim_totals.specs.Sums.{IsAction}
 use Rattle.pz_sim_laws.specs.Members.{Member, config_of, AreMembers}
 use Rattle.pz_sim_laws.specs.Couples.{communication, AreCouples}

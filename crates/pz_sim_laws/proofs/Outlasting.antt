@@ -1,49 +1,26 @@
 -- As time passes, what does not name the clock sends, receives and says the same.
-use Rattle.std.proofs.Common.{◌≡◌, ◌<◌, ◌≤◌, ◌+◌, ◌⊎◌, inl, inr, ℕ, zero, suc, Bool, true, false, ◌||◌, List, [], ◌∷◌, ◌++◌, map, length, Option, Some, None, Result, Ok, Err, refl, sym, subst, ap, ◌∙◌, arith}
-use Rattle.std.specs.Prelude.{Contains}
-use Rattle.std.specs.List.{AllZip, cons_option}
+use Rattle.std.proofs.Common.{◌≡◌, ◌+◌, ℕ, suc, Bool, true, false, ◌||◌, List, [], ◌∷◌, ◌++◌, map, Option, Some, None, Result, Ok, Err, refl, sym, ap, ◌∙◌}
+use Rattle.std.specs.List.{cons_option}
 use Rattle.std.proofs.lemmas.Bool.{true≢false}
 use Rattle.pz_syntax.specs.declared.tokens.Pos.{Pos}
 use Rattle.pz_syntax.specs.Expressions.{Part, left_out, written}
 use Rattle.pz_syntax.specs.Statements as statement
 use Rattle.pz_value.specs.declared.value.ClassId.{ClassId}
-use Rattle.pz_value.specs.declared.value.Value.{Value}
 use Rattle.pz_classes_code.specs.declared.slot.Slot.{Slot}
-use Rattle.pz_classes.specs.Soundness.{IsSound}
-use Rattle.pz_copy.specs.Parcels.{ParcelView}
 use Rattle.pz_offer.specs.declared.trouble.Trouble.{Trouble}
-use Rattle.pz_offer.specs.declared.ends.SendOffer.{SendOffer}
-use Rattle.pz_offer.specs.declared.ends.ReceiveOffer.{ReceiveOffer}
 use Rattle.pz_offer.specs.PlaceOrder.{Place}
 use Rattle.pz_eval_rules.specs.Clocks.{names_clock, part_names_clock, DataIsTimeless}
-use Rattle.pz_eval_rules.specs.Laws.{SoundDataIsTimeless, UnclockedIsTimeless}
 use Rattle.pz_eval_rules.specs.devices.Laws.{UnclockedListIsComputedTheSame}
 use Rattle.pz_eval_rules.specs.devices.Outcomes.{listed_of, state_after}
-use Rattle.pz_rules.specs.Terms.{Code, Step, Term, done, leaf, wait, sequence, parallel, select, guarded, frame, abort, idle, handling, Terms, no_terms, and, term_at, first_or, child, count, frame_in}
-use Rattle.pz_rules.specs.Settings.{Context, in_state}
-use Rattle.pz_rules.specs.Evaluations.{Tests, allowance, values_or_trouble}
-use Rattle.pz_rules.specs.Active as active
-use Rattle.pz_rules.specs.Active.{Active, IsActive, Reached}
-use Rattle.pz_rules.specs.Acting.{IsReceive}
-use Rattle.pz_rules.specs.Messages as messages
-use Rattle.pz_rules.specs.Messages.{Receives, Judges}
-use Rattle.pz_rules.specs.Delays.{Passes}
-use Rattle.pz_rules.specs.Laws.{WhatReceivesIsAReceive}
-use Rattle.pz_rules.specs.devices.Computed.{TestsAreComputed, OnePassingIsComputed}
+use Rattle.pz_rules.specs.Terms.{Code, Step, Term, done, leaf, wait, sequence, parallel, select, guarded, frame, abort, idle, handling, Terms, no_terms, and}
+use Rattle.pz_rules.specs.Settings.{Context}
+use Rattle.pz_rules.specs.Evaluations.{allowance, values_or_trouble}
 use Rattle.pz_rules.specs.devices.Found.{tested, lasting, found_part, left_part}
 use Rattle.pz_rules.specs.devices.Passing.{passed, passed_all, begun, if_open}
-use Rattle.pz_rules.specs.devices.Walk as walk
 use Rattle.pz_rules.specs.devices.Walk.{ActivePart, Noted, here, under, behind, active_parts, active_children, noted, noted_at, sending, sent_by, received_by, active_sends, active_receives}
-use Rattle.pz_rules.specs.devices.Walks.{IsThere, ReceivesAreListed}
 use Rattle.pz_tree_summary.specs.Steady.{later}
 use Rattle.pz_tree_summary.specs.Woken.{any_part, statement_names_clock, is_clocked, clocked}
 use Rattle.pz_tree_summary.specs.devices.Laws.{TestIsSteady}
-use Rattle.pz_sim_laws.specs.Members.{Member}
-use Rattle.pz_sim_laws.specs.Offering.{IsSendOffer, IsReceiveOffer, AreSendOffers, AreReceiveOffers}
-use Rattle.pz_sim_laws.specs.Couples.{SaysAt}
-use Rattle.pz_sim_laws.specs.Elapsing.{Elapsed, HasReceive}
-use Rattle.pz_sim_laws.proofs.Lists.{Contains-first, Contains-later, all_got}
-use Rattle.pz_sim_laws.proofs.Verdicts.{active_once}
 
 -- no part names the clock
 

@@ -1,6 +1,6 @@
 -- The pairs of a kept table are those of the rules: their communications, and the first trouble of a condition.
-use Rattle.std.proofs.Common.{◌≡◌, ◌≢◌, ◌<◌, ◌≤◌, ◌+◌, ◌⊎◌, inl, inr, ℕ, suc, Bool, true, false, List, [], ◌∷◌, map, length, Option, Some, None, Result, Ok, Err, refl, sym, subst, ap, ◌∙◌, arith}
-use Rattle.std.specs.Prelude.{slice_get, filter, All, AllPairs, Contains}
+use Rattle.std.proofs.Common.{◌≡◌, ◌⊎◌, inl, inr, ℕ, Bool, true, false, List, [], ◌∷◌, map, length, Option, Some, None, Result, Ok, Err, refl, sym, subst, ap, ◌∙◌, arith}
+use Rattle.std.specs.Prelude.{All, AllPairs, Contains}
 use Rattle.std.proofs.lemmas.Bool.{true≢false}
 use Rattle.std.proofs.lemmas.List.Kept.{AllPairs-filter}
 use Rattle.pz_copy.specs.Parcels.{ParcelView}
@@ -8,7 +8,7 @@ use Rattle.pz_offer.specs.declared.end.End.{End}
 use Rattle.pz_offer.specs.declared.trouble.Trouble.{Trouble}
 use Rattle.pz_offer.specs.declared.ends.Verdict.{Verdict}
 use Rattle.pz_offer.specs.declared.ends.Verdict.TheVariants as says
-use Rattle.pz_offer.specs.PlaceOrder.{Place, PlaceBefore, EndBefore}
+use Rattle.pz_offer.specs.PlaceOrder.{EndBefore}
 use Rattle.pz_match.specs.declared.offers.Sender.{Sender}
 use Rattle.pz_match.specs.declared.offers.Receiver.{Receiver}
 use Rattle.pz_match.specs.Offers as match_offers
@@ -29,7 +29,7 @@ use Rattle.pz_sim_laws.specs.Members.{Member, config_of, AreMembers}
 use Rattle.pz_sim_laws.specs.Offering.{AreSenders, AreReceivers, in_all}
 use Rattle.pz_sim_laws.specs.Couples.{answer, communication, IsCouple, IsRight, AreCouples, IsTruthful}
 use Rattle.pz_sim_laws.proofs.Lists.{Contains-cases, Contains-none, Contains-first, Contains-later, AllPairs-head, AllPairs-tail, AllPairs-map, all_got, all_by, Contains-map, from_map, kept_there, from_kept}
-use Rattle.pz_sim_laws.proofs.Rows.{IsSender, IsReceiver, Received, sender_is, sender_there, receiver_is, receiver_there}
+use Rattle.pz_sim_laws.proofs.Rows.{IsSender, IsReceiver, sender_is, sender_there, receiver_is, receiver_there}
 use Rattle.pz_sim_laws.proofs.Sums.{place_asymmetric}
 use Rattle.pz_sim_laws.proofs.Verdicts.{verdict_once, right}
 

@@ -1,5 +1,5 @@
 -- One process is replaced, and the others stay.
-use Rattle.std.proofs.Common.{◌≡◌, ◌≢◌, ◌<◌, ◌≤◌, ◌⊎◌, inl, inr, ℕ, Bool, true, false, not, ◌||◌, nat_eq, List, map, set, length, Some, refl, sym, subst, ap, ◌∙◌, arith}
+use Rattle.std.proofs.Common.{◌≡◌, ◌≢◌, ◌<◌, ◌≤◌, ◌⊎◌, inl, inr, ℕ, Bool, true, false, not, ◌||◌, nat_eq, List, set, Some, refl, sym, subst, ap, ◌∙◌, arith}
 use Rattle.std.specs.Prelude.{slice_get, filter, All, Contains}
 use Rattle.std.proofs.lemmas.Bool.{cases_lt, true≢false, eq-eqb}
 use Rattle.std.proofs.lemmas.List.{length-set}

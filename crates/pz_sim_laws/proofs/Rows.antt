@@ -1,7 +1,6 @@
 -- What all processes offer over wires is what the rules derive.
-use Rattle.std.proofs.Common.{◌≡◌, ◌<◌, ◌⊎◌, inl, inr, ℕ, Bool, true, false, List, [], ◌∷◌, length, Option, Some, None, refl, sym, subst, ap, ◌∙◌, arith}
-use Rattle.std.specs.Prelude.{slice_get, Contains, AllPairs, Ok}
-use Rattle.std.specs.List.{AllZip, flat_map}
+use Rattle.std.proofs.Common.{◌≡◌, ◌<◌, ◌⊎◌, inl, inr, ℕ, List, [], ◌∷◌, Option, Some, None, refl, sym, subst, ap, ◌∙◌}
+use Rattle.std.specs.Prelude.{slice_get, Contains, AllPairs}
 use Rattle.std.specs.Option.{option_map_or}
 use Rattle.std.proofs.lemmas.Option.{same_Some, slice_get_within}
 use Rattle.pz_syntax.specs.declared.tokens.Pos.{Pos}
@@ -12,11 +11,11 @@ use Rattle.pz_offer.specs.declared.ends.ReceiveOffer.{ReceiveOffer}
 use Rattle.pz_offer.specs.PlaceOrder.{Place, PlaceBefore}
 use Rattle.pz_match.specs.declared.offers.Sender.{Sender}
 use Rattle.pz_match.specs.declared.offers.Receiver.{Receiver}
-use Rattle.pz_match.specs.Offers.{sender, senders, receiver, receivers}
+use Rattle.pz_match.specs.Offers.{sender, senders, receiver}
 use Rattle.pz_rules.specs.Terms.{Term}
 use Rattle.pz_rules.specs.Settings.{Setting, Context}
 use Rattle.pz_rules.specs.Active.{IsActive}
-use Rattle.pz_rules.specs.Messages.{Sends, sends, Receives, Judges}
+use Rattle.pz_rules.specs.Messages.{Sends, sends, Receives}
 use Rattle.pz_rules.specs.Ports.{IsWire, HasWires}
 use Rattle.pz_rules.specs.Offers.{PartAt}
 use Rattle.pz_rules.specs.devices.Walk as walk

@@ -1,5 +1,5 @@
 -- A receive says to a parcel what is computed, and nothing else.
-use Rattle.std.proofs.Common.{◌≡◌, ◌<◌, ◌≤◌, ◌+◌, ◌⊎◌, inl, inr, ℕ, Bool, true, false, nat_le, if◌then◌else◌, List, [], ◌∷◌, length, Option, Some, None, Result, Ok, Err, refl, sym, subst, ap, ◌∙◌, arith}
+use Rattle.std.proofs.Common.{◌≡◌, ◌<◌, ◌≤◌, ◌+◌, ◌⊎◌, inl, inr, ℕ, Bool, true, false, nat_le, if◌then◌else◌, length, Some, None, Result, refl, sym, subst, arith}
 use Rattle.std.proofs.lemmas.Bool.{cases_lt, true≢false}
 use Rattle.pz_syntax.specs.declared.tokens.Pos.{Pos}
 use Rattle.pz_syntax.specs.Statements as statement
@@ -9,7 +9,7 @@ use Rattle.pz_state.specs.declared.fault.FaultKind.TheVariants.{StoreFull}
 use Rattle.pz_offer.specs.declared.trouble.Trouble.{Trouble}
 use Rattle.pz_offer.specs.PlaceOrder.{Place}
 use Rattle.pz_eval_rules.specs.Laws.{EachHasAnOutcome}
-use Rattle.pz_rules.specs.Terms.{Code, Step, Term, done, leaf, wait, sequence, parallel, select, guarded, frame, abort, idle, handling, child, frame_in}
+use Rattle.pz_rules.specs.Terms.{Code, Step, Term, done, leaf, wait, sequence, parallel, select, guarded, frame, abort, idle, handling}
 use Rattle.pz_rules.specs.Settings.{Context, in_state}
 use Rattle.pz_rules.specs.Evaluations.{allowance, value_or_trouble, Tests}
 use Rattle.pz_rules.specs.Active as active
@@ -24,7 +24,7 @@ use Rattle.pz_rules.specs.devices.Found.{tested}
 use Rattle.pz_part_queries.specs.Laws.{OneVerdict}
 use Rattle.pz_sim_laws.specs.Couples.{SaysAt}
 use Rattle.pz_sim_laws.specs.Elapsing.{HasReceive}
-use Rattle.pz_sim_laws.specs.devices.Saying.{frame_of, condition_says, statement_says, part_says, said_at}
+use Rattle.pz_sim_laws.specs.devices.Saying.{frame_of, statement_says, part_says, said_at}
 
 record IsAt (f : ℕ) (t : Term) (place : Place) (g : ℕ) (part : Term) : Type 0 where
   pub frame_is : g ≡ frame_of f t place

@@ -1,11 +1,10 @@
 -- Terms, processes and configurations that are merely equal are equal: a term can be told by a statement.
-use Rattle.std.proofs.Common.{◌≡◌, ℕ, List, [], ◌∷◌, Option, Some, None, refl, ap}
+use Rattle.std.proofs.Common.{◌≡◌, ℕ, List, [], Option, Some, None, refl, ap}
 use Rattle.std.specs.Coded.{Coded, Coded-set, coded_ℕ, coded_list, coded×, code_by}
 use ghost.Sets.{retract_set}
 use mathlib.Core.List.{is_set}
 use Rattle.std.proofs.Math.Nat.{ℕ_set}
 use Rattle.pz_syntax.specs.declared.tokens.Pos.{Pos}
-use Rattle.pz_syntax.specs.declared.names.Id.{Id}
 use Rattle.pz_syntax.specs.Expressions as expression
 use Rattle.pz_syntax.specs.Statements as statement
 use Rattle.pz_syntax.specs.Statements.{Statement, Statements, no_statements, then, Branches, no_branches, branch}
@@ -16,7 +15,7 @@ use Rattle.pz_value.specs.contracts.value.Value as value_row
 use Rattle.pz_classes_code.specs.declared.slot.Slot.{Slot}
 use Rattle.pz_state.specs.Objects.{ObjectView}
 use Rattle.pz_state.specs.States.{StateView}
-use Rattle.pz_rules.specs.Terms.{Code, Step, Steps, Term, done, leaf, wait, sequence, parallel, select, guarded, frame, abort, idle, handling, Terms, no_terms, and}
+use Rattle.pz_rules.specs.Terms.{Step, Steps, Term, done, leaf, wait, sequence, parallel, select, guarded, frame, abort, idle, handling, Terms, no_terms, and}
 use Rattle.pz_rules.specs.Settings.{Process}
 use Rattle.pz_rules.specs.Configurations.{Config}
 use Rattle.pz_rules.specs.devices.Sets.{StatementsAreASet}

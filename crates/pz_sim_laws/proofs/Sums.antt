@@ -1,10 +1,8 @@
 -- What totals say of all processes: the first trouble, when the first delay is over, whether all is done.
-use Rattle.std.proofs.Common.{◌≡◌, ◌<◌, ◌≤◌, ◌+◌, ◌-◌, ◌⊎◌, inl, inr, ℕ, zero, suc, min, Bool, true, false, List, [], ◌∷◌, map, length, Option, Some, None, refl, sym, subst, ap, ◌∙◌, arith}
+use Rattle.std.proofs.Common.{◌≡◌, ◌<◌, ◌≤◌, ◌+◌, ◌-◌, ◌⊎◌, inl, inr, ℕ, zero, suc, min, Bool, true, false, List, [], ◌∷◌, map, Option, Some, None, refl, sym, subst, ap, ◌∙◌, arith}
 use Rattle.std.specs.Prelude.{slice_get, option_map, All, AllPairs, Contains}
 use Rattle.std.specs.Option.{option_or}
 use Rattle.std.proofs.lemmas.Bool.{cases_lt, true≢false}
-use Rattle.std.proofs.lemmas.Option.{same_Some}
-use Rattle.std.proofs.lemmas.List.Elements.{Contains-get_or}
 use Rattle.pz_offer.specs.declared.end.End.{End}
 use Rattle.pz_offer.specs.declared.trouble.Trouble.{Trouble}
 use Rattle.pz_offer.specs.PlaceOrder.{Place, PlaceBefore, EndBefore}
@@ -18,11 +16,10 @@ use Rattle.pz_rules.specs.Offers.{PartAt}
 use Rattle.pz_rules.specs.Moments.{Source, part, pair, Troubles, asked, judged, IsLeft, IsLeast, AllDone}
 use Rattle.pz_rules.specs.devices.Walk.{Noted, active_delays, active_troubles}
 use Rattle.pz_rules.specs.devices.Walks.{IsThere, Lists, DelaysAreListed, TroublesAreListed}
-use Rattle.pz_tree_summary.specs.Summaries.{summary_of, least_of, first_of}
-use Rattle.pz_sim_totals.specs.Sums as sums
+use Rattle.pz_tree_summary.specs.Summaries.{least_of, first_of}
 use Rattle.pz_sim_laws.specs.Members.{Member, process_of, config_of, AreMembers}
-use Rattle.pz_sim_laws.specs.Deciding.{unfinished, total_of, total_of_all}
-use Rattle.pz_sim_laws.proofs.Lists.{Contains-cases, Contains-none, Contains-first, Contains-later, AllPairs-head, all_got, all_by, some_there, from_map}
+use Rattle.pz_sim_laws.specs.Deciding.{unfinished, total_of_all}
+use Rattle.pz_sim_laws.proofs.Lists.{Contains-cases, Contains-none, Contains-first, Contains-later, AllPairs-head, all_got}
 use Rattle.pz_sim_laws.proofs.Standing.{end_at, part_of_member, in_member, IsTail, next_tail, first_here, none_left, one_here, from_cases, all_tail}
 
 pub place_asymmetric : (p q : Place) → PlaceBefore p q → PlaceBefore q p → ⊥

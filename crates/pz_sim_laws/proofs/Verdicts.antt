@@ -1,12 +1,11 @@
 -- What the receive at an end says to a parcel: one thing, and that which is kept of it.
 use Rattle.std.proofs.Common.{◌≡◌, ℕ, Bool, true, false, List, Result, Ok, Some, refl, sym, subst, ap, ◌∙◌}
-use Rattle.std.specs.Prelude.{slice_get, All, Contains}
+use Rattle.std.specs.Prelude.{slice_get, Contains}
 use Rattle.std.proofs.lemmas.Option.{same_Some}
 use Rattle.pz_copy.specs.Parcels.{ParcelView}
 use Rattle.pz_offer.specs.declared.end.End.{End}
 use Rattle.pz_offer.specs.declared.trouble.Trouble.{Trouble}
 use Rattle.pz_offer.specs.declared.ends.Verdict.{Verdict}
-use Rattle.pz_offer.specs.declared.ends.Verdict.TheVariants as says
 use Rattle.pz_offer.specs.PlaceOrder.{Place}
 use Rattle.pz_match.specs.declared.offers.Receiver.{Receiver}
 use Rattle.pz_match.specs.Pairs.{Judged}
@@ -14,7 +13,6 @@ use Rattle.pz_rules.specs.Terms.{Term}
 use Rattle.pz_rules.specs.Settings.{Setting, Process, Context}
 use Rattle.pz_rules.specs.Active as active
 use Rattle.pz_rules.specs.Active.{Active, IsActive}
-use Rattle.pz_rules.specs.Acting.{IsReceive}
 use Rattle.pz_rules.specs.Messages.{Receives, Judges}
 use Rattle.pz_rules.specs.Offers.{IsJudged}
 use Rattle.pz_rules.specs.Laws.{WhatReceivesIsAReceive}
@@ -27,7 +25,7 @@ use Rattle.pz_sim_laws.specs.Offering.{AreReceivers, in_all}
 use Rattle.pz_sim_laws.specs.Couples.{answer, IsTruthful}
 use Rattle.pz_sim_laws.specs.Elapsing.{HasReceive}
 use Rattle.pz_sim_laws.proofs.Lists.{all_got}
-use Rattle.pz_sim_laws.proofs.Standing.{end_at, sits_of, part_of_member}
+use Rattle.pz_sim_laws.proofs.Standing.{sits_of, part_of_member}
 use Rattle.pz_sim_laws.proofs.Rows.{InRow, in_row}
 
 pub record SamePart (g h : ℕ) (x y : Term) : Type 0 where

@@ -1,5 +1,5 @@
 -- Laws of systems that are known process by process.
-use Rattle.std.specs.Prelude.{◌≡◌, ◌≢◌, ◌+◌, ℕ, true, false, not, List, length, map, filter, slice_get, slice_set, Bool, All, AllPairs, Contains, Some, Result, Ok, Err}
+use Rattle.std.specs.Prelude.{◌≡◌, ◌+◌, ℕ, true, false, not, List, length, map, filter, slice_get, slice_set, Bool, All, AllPairs, Contains, Some, Result, Ok, Err}
 use Rattle.pz_syntax.specs.declared.tokens.Pos.{Pos}
 use Rattle.pz_classes.specs.Soundness.{IsSound}
 use Rattle.pz_copy.specs.Parcels.{ParcelView}
@@ -12,7 +12,6 @@ use Rattle.pz_match.specs.declared.offers.Sender.{Sender}
 use Rattle.pz_match.specs.declared.offers.Receiver.{Receiver}
 use Rattle.pz_match.specs.Pairs.{Judged, ArePairs, taken, touches}
 use Rattle.pz_rules.specs.declared.action.Kind.{Kind}
-use Rattle.pz_rules.specs.declared.action.Action.{Action}
 use Rattle.pz_rules.specs.declared.action.Action.TheVariants.{Internal, Comm}
 use Rattle.pz_rules.specs.Terms.{Term}
 use Rattle.pz_rules.specs.Settings.{Setting, Process}
