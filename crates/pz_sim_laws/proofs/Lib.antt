@@ -1,0 +1,16 @@
+mod Lists
+mod Standing
+mod Rows
+mod Verdicts
+mod Pairing
+mod Internals
+mod Sums
+mod Moments
+mod Replacing
+mod Leading
+mod Outlasting
+mod Enduring
+mod Saying
+mod Sets
+mod Merely
+mod Worked

@@ -1,0 +1,15 @@
+-- How a part acts: by itself, or in a communication with this parcel.
+use Rattle.pz_copy.specs.Parcels.{ParcelView}
+use Rattle.pz_rules.specs.InternalActions.{Performs}
+use Rattle.pz_rules.specs.Messages.{Hands, Takes}
+use Rattle.pz_rules.specs.Steps.{Deed}
+
+pub data Manner : Type 0 where
+  alone : Manner
+  handing : ParcelView → Manner
+  taking : ParcelView → Manner
+
+abbrev pub deed : Manner → Deed
+deed alone = Performs
+deed (handing parcel) = λ a f. Hands a f parcel
+deed (taking parcel) = λ a f. Takes a f parcel

@@ -1,0 +1,9 @@
+pub mod Members
+pub mod Offering
+pub mod Couples
+pub mod Deciding
+pub mod Deeds
+pub mod Elapsing
+pub mod Laws
+pub mod Leading
+pub mod devices
