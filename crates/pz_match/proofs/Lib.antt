@@ -27,3 +27,5 @@ pub mod Reaching
 pub mod Noting
 pub mod Askers
 pub mod Changing
+pub mod Shifting
+pub mod Shared

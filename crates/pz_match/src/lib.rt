@@ -14,6 +14,7 @@ mod places;
 mod renewing;
 mod rows;
 mod seeking;
+mod sharing;
 mod tallying;
 mod updating;
 mod users;

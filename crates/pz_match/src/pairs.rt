@@ -2,9 +2,10 @@ use crate::groups::Groups;
 use crate::judge::Judge;
 use crate::kept::Offers;
 use crate::seeking::{find_trouble, pair_on};
+use crate::sharing::{Way, shift};
 use crate::updating::{replace_in, silence};
 use crate::users::Users;
-use pz_match_lists::Numbers;
+use pz_match_lists::{Numbers, Shares};
 use pz_offer::{End, ReceiveOffer, SendOffer, Trouble};
 use std::alloc::{AllocError, Global};
 use std::marker::Model;
@@ -16,6 +17,7 @@ pub struct Pairs {
     offers: Vec<Offers>,
     groups: Groups,
     users: Users,
+    shares: Shares,
     /// The places of the processes whose sends an update asks about: room for the next one.
     places: Numbers,
     lost: bool,
@@ -33,7 +35,7 @@ impl Model for Pairs {
     ghost view = { λ t. table_of (map kept t.offers.items) t.groups.wires t.lost };
 
     ghost invariant = { λ t. t.lost ≡ false →
-        Whole t.groups t.users (map kept t.offers.items) };
+        Whole t.groups t.users t.shares (map kept t.offers.items) };
 }
 
 impl Pairs {
@@ -58,6 +60,7 @@ impl Pairs {
             offers,
             groups: Groups::new(alloc),
             users: Users::new(alloc),
+            shares: Shares::new(alloc),
             places: Numbers::new(alloc),
             lost: false,
         })
@@ -103,6 +106,7 @@ impl Pairs {
         self.lost = true;
         self.users
             .note(process, sends.as_slice(), receives.as_slice())?;
+        shift(&mut self.shares, self.offers.as_slice(), process, Way::Off)?;
         replace_in(
             &mut self.offers,
             &mut self.groups,
@@ -113,6 +117,7 @@ impl Pairs {
             receives,
             judge,
         )?;
+        shift(&mut self.shares, self.offers.as_slice(), process, Way::On)?;
         self.lost = false;
         Ok(())
     }
