@@ -29,3 +29,5 @@ pub mod Askers
 pub mod Changing
 pub mod Shifting
 pub mod Shared
+pub mod Passing
+pub mod Freed

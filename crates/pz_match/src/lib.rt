@@ -15,6 +15,7 @@ mod renewing;
 mod rows;
 mod seeking;
 mod sharing;
+mod skipping;
 mod tallying;
 mod updating;
 mod users;

@@ -19,7 +19,7 @@ loop-at-preserved-then-process-all c =
     let us = c.args.senders.now in
     let at = c.loop-at.at in
     let past_all = c.if-process-all.true in
-    let only = only_senders c.args.groups.now all c.requires.holds us c.args.receivers.now c.args.wire c.requires.users c.args.sort in
+    let only = only_senders c.args.groups.now all c.requires.holds (λ k. k) us c.args.receivers.now c.args.wire c.requires.users c.args.sort in
     record {
       within = omega (arith, c.loop-at-test.true);
       adds = no_user us c.requires.senders all (from_process c.args.sort c.args.groups.now.groups c.args.wire) only at (get_or us at 0) c.loop-at.rest c.args.number c.loop-at-test.true refl (omega (arith, past_all, length-map c.args.all.now kept)) c.loop-at.invariant.adds;
@@ -37,10 +37,10 @@ couple-requires-clause-only c =
     let lt = slice_get_within e.sends.items c.in-Ok.seat.place c.in-Ok.ensures.item c.in-Ok.ensures.there in
     let at_place = slice_get-get_or e.sends.items c.in-Ok.seat.place c.index-sends-seat.result lt ∙ ap (λ (x : Sending). Some x) (sym is_send) in
     let same : c.in-Ok.ensures.item ≡ c.index-sends-seat.result = some_same c.in-Ok.ensures.item c.index-sends-seat.result (sym c.in-Ok.ensures.there ∙ at_place) in
-    let wire = on_the_wire c.args.groups.now all c.requires.holds us c.args.receivers.now c.args.wire c.requires.users c.args.sort (kept e).receives c.in-Ok.ensures.item c.in-Ok.seat.rest c.in-Ok.ensures.inside in
+    let wire = on_the_wire c.args.groups.now all c.requires.holds (λ k. k) us c.args.receivers.now c.args.wire c.requires.users c.args.sort (kept e).receives c.in-Ok.ensures.item c.in-Ok.seat.rest c.in-Ok.ensures.inside in
     let key : SendKeyed c.args.groups.now c.index-sends-seat.result
     = subst (SendKeyed c.args.groups.now) (sym is_send) (All-get_or (SendKeyed c.args.groups.now) e.sends.items c.in-Ok.seat.place c.index-sends-seat.result lt (sound_at c.args.groups.now all c.requires.holds (get_or us at 0) (kept e) item.2).sends_keyed) in
-    only_receivers c.args.groups.now all c.requires.holds us c.args.receivers.now c.args.wire c.requires.users c.args.sort c.index-sends-seat.result key (ap (λ (s : Sending). s.sender.wire) (sym same) ∙ wire)
+    only_receivers c.args.groups.now all c.requires.holds (λ k. k) us c.args.receivers.now c.args.wire c.requires.users c.args.sort c.index-sends-seat.result key (ap (λ (s : Sending). s.sender.wire) (sym same) ∙ wire)
 
 pub loop-at-preserved : goal.loop-at-preserved
 loop-at-preserved c =
@@ -50,7 +50,7 @@ loop-at-preserved c =
     let e = c.index-all-process.result in
     let there = c.if-process-all.false in
     let item = item_kept c.args.all.now (get_or us at 0) e (omega (arith, there)) c.index-all-process.is in
-    let only = only_senders c.args.groups.now all c.requires.holds us c.args.receivers.now c.args.wire c.requires.users c.args.sort in
+    let only = only_senders c.args.groups.now all c.requires.holds (λ k. k) us c.args.receivers.now c.args.wire c.requires.users c.args.sort in
     record {
       within = omega (arith, c.loop-at-test.true);
       adds = user_passes us c.requires.senders all (from_process c.args.sort c.args.groups.now.groups c.args.wire) only at c.loop-at.rest c.in-Err.left c.args.number (kept e) c.loop-at-test.true item.0 item.1 c.in-Err.ensures c.loop-at.invariant.adds;
@@ -59,7 +59,7 @@ loop-at-preserved c =
 pub returns : goal.returns
 returns c =
     let all = map kept c.args.all.now in
-    let only = only_senders c.args.groups.now all c.requires.holds c.args.senders.now c.args.receivers.now c.args.wire c.requires.users c.args.sort in
+    let only = only_senders c.args.groups.now all c.requires.holds (λ k. k) c.args.senders.now c.args.receivers.now c.args.wire c.requires.users c.args.sort in
     none_found c.args.sort c.args.groups.now all c.requires.holds c.args.wire c.loop-at.rest c.args.number
     (all_passed c.args.senders.now c.requires.senders all (from_process c.args.sort c.args.groups.now.groups c.args.wire) only c.loop-at.at c.loop-at.rest c.args.number c.loop-at.invariant.within (omega (arith, c.loop-at-test.false)) c.loop-at.invariant.adds)
 
@@ -72,7 +72,7 @@ returns-in-Ok c =
     let there = c.if-process-all.false in
     let item = item_kept c.args.all.now (get_or us at 0) e (omega (arith, there)) c.index-all-process.is in
     let is_send : c.index-sends-seat.result ≡ get_or e.sends.items c.in-Ok.seat.place c.index-sends-seat.result = c.index-sends-seat.is ∙ ap (λ (xs : List Sending). get_or xs c.in-Ok.seat.place c.index-sends-seat.result) c.as_slice-sends.ensures.value in
-    let only = only_senders c.args.groups.now all c.requires.holds us c.args.receivers.now c.args.wire c.requires.users c.args.sort in
+    let only = only_senders c.args.groups.now all c.requires.holds (λ k. k) us c.args.receivers.now c.args.wire c.requires.users c.args.sort in
     let here = at_user us c.requires.senders all (from_process c.args.sort c.args.groups.now.groups c.args.wire) only at (get_or us at 0) c.loop-at.rest c.args.number c.loop-at-test.true refl (follows_past us c.requires.senders all (from_process c.args.sort c.args.groups.now.groups c.args.wire) only at c.loop-at-test.true) c.loop-at.invariant.adds in
     couple_found c.args.sort c.args.groups.now all c.requires.holds c.args.wire c.couple.result (get_or us at 0) c.args.number c.loop-at.rest (kept e) c.in-Ok.seat c.index-sends-seat.result item.2 here c.in-Ok.ensures
     (slice_get-get_or e.sends.items c.in-Ok.seat.place c.index-sends-seat.result (slice_get_within e.sends.items c.in-Ok.seat.place c.in-Ok.ensures.item c.in-Ok.ensures.there) ∙ ap (λ (x : Sending). Some x) (sym is_send))

@@ -7,5 +7,5 @@ abbrev pub invariant-loop-receive : goal.invariant-loop-receive
 invariant-loop-receive l =
     record {
       shifts : Shifts l.block l.initial.shares l.shares (side l.way (receives_part l.receives) (receives_part (drop l.receive-index l.receives)))
-      (side l.way (receives_part (drop l.receive-index l.receives)) (receives_part l.receives));
+          (side l.way (receives_part (drop l.receive-index l.receives)) (receives_part l.receives));
     }

@@ -7,5 +7,5 @@ abbrev pub invariant-loop-send : goal.invariant-loop-send
 invariant-loop-send l =
     record {
       shifts : Shifts l.block l.initial.shares l.shares (side l.way (sends_part l.receives l.sends) (sends_part l.receives (drop l.send-index l.sends)))
-      (side l.way (sends_part l.receives (drop l.send-index l.sends)) (sends_part l.receives l.sends));
+          (side l.way (sends_part l.receives (drop l.send-index l.sends)) (sends_part l.receives l.sends));
     }
