@@ -142,8 +142,18 @@ impl Pairs {
             Some((wire, rest)) => {
                 let senders = self.users.senders.list(wire);
                 let receivers = self.users.receivers.list(wire);
+                let blocks = self.users.blocks.list(wire);
                 let offers = self.offers.as_slice();
-                pair_on(&self.groups, offers, senders, receivers, wire, rest)
+                pair_on(
+                    &self.groups,
+                    offers,
+                    &self.shares,
+                    senders,
+                    receivers,
+                    blocks,
+                    wire,
+                    rest,
+                )
             }
         }
     }
@@ -153,6 +163,11 @@ impl Pairs {
         requires { self.now.lost ≡ false }
         ensures { result ≡ first_trouble self.now.pairs }
     {
-        find_trouble(&self.groups, self.offers.as_slice(), &self.users)
+        find_trouble(
+            &self.groups,
+            self.offers.as_slice(),
+            &self.shares,
+            &self.users,
+        )
     }
 }

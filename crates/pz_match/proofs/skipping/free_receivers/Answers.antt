@@ -22,7 +22,7 @@ loop-at-preserved c =
     = c.taken_by-pairs.ensures
     ∙ (ap (λ n. taken_by c.args.shares.now s n (get_or blocks u 0)) own ∙ block_free c.args.groups.now all c.requires.holds s c.requires.answered c.args.receives.now c.requires.own c.requires.none c.args.shares.now c.requires.shared (get_or blocks u 0)) in
     let next =
-      skipped (λ e. length (sought Taken (heard s e))) blocks c.requires.increasing all
-      (only_receivers c.args.groups.now all c.requires.holds (λ k. k / 64) blocks blocks s.sender.wire c.requires.blocks Taken s c.requires.keyed refl)
-      u c.taken_by-pairs.result c.args.number c.loop-at.seat c.in-Some.next lt c.loop-at.invariant.place_is c.loop-at.invariant.adds pairs c.in-Some.ensures in
+    skipped (λ e. length (sought Taken (heard s e))) blocks c.requires.increasing all
+    (only_receivers c.args.groups.now all c.requires.holds (λ k. k / 64) blocks blocks s.sender.wire c.requires.blocks Taken s c.requires.keyed refl)
+    u c.taken_by-pairs.result c.args.number c.loop-at.seat c.in-Some.next lt c.loop-at.invariant.place_is c.loop-at.invariant.adds pairs c.in-Some.ensures in
     record { within = omega (arith, c.loop-at-test.true); place_is = next.0; adds = next.1 }

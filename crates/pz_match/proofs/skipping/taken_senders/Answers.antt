@@ -18,7 +18,7 @@ loop-at-preserved c =
     let lt : u < length blocks = omega (arith, c.loop-at-test.true) in
     let pairs = block_taken groups all c.requires.holds c.args.wire c.args.shares.now c.requires.shared (get_or blocks u 0) c.in-Some.pairs c.in-Some.ensures in
     let next =
-      skipped (from_process Taken groups.groups c.args.wire) blocks c.requires.increasing all
-      (only_senders groups all c.requires.holds (λ k. k / 64) blocks blocks c.args.wire c.requires.blocks Taken)
-      u c.in-Some.pairs c.args.number c.loop-at.seat c.in-Some-behind.next lt c.loop-at.invariant.place_is c.loop-at.invariant.adds pairs c.in-Some-behind.ensures in
+    skipped (from_process Taken groups.groups c.args.wire) blocks c.requires.increasing all
+    (only_senders groups all c.requires.holds (λ k. k / 64) blocks blocks c.args.wire c.requires.blocks Taken)
+    u c.in-Some.pairs c.args.number c.loop-at.seat c.in-Some-behind.next lt c.loop-at.invariant.place_is c.loop-at.invariant.adds pairs c.in-Some-behind.ensures in
     record { within = omega (arith, c.loop-at-test.true); place_is = next.0; adds = next.1 }
