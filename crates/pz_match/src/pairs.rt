@@ -1,6 +1,7 @@
 use crate::groups::Groups;
 use crate::judge::Judge;
 use crate::kept::Offers;
+use crate::rows::Spare;
 use crate::seeking::{find_trouble, pair_on};
 use crate::sharing::{Way, shift};
 use crate::updating::{replace_in, silence};
@@ -20,6 +21,8 @@ pub struct Pairs {
     shares: Shares,
     /// The places of the processes whose sends an update asks about: room for the next one.
     places: Numbers,
+    /// Rows of sends that are gone: room for those that come.
+    spare: Spare,
     lost: bool,
 }
 
@@ -62,6 +65,7 @@ impl Pairs {
             users: Users::new(alloc),
             shares: Shares::new(alloc),
             places: Numbers::new(alloc),
+            spare: Spare::new(alloc),
             lost: false,
         })
     }
@@ -112,6 +116,7 @@ impl Pairs {
             &mut self.groups,
             &self.users,
             &mut self.places,
+            &mut self.spare,
             process,
             sends,
             receives,

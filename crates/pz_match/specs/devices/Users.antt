@@ -75,5 +75,5 @@ pub record Whole (groups : GroupsView) (users : Users) (shares : List (List Part
   pub stands : Stands groups all
   pub used : HaveUsers users all
   pub asks : HaveAskers users.askers all
-  pub blocks : HaveBlocks users.blocks all
+  pub in_blocks : HaveBlocks users.blocks all
   pub shared : Shared shares all

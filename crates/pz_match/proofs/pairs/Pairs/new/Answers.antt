@@ -28,7 +28,7 @@ invariant_of-result c there =
       asks =
           subst (λ (us : Users). HaveAskers us.askers (map kept c.in_ok-offers.offers.items)) (sym c.new-2.ensures)
           (subst (HaveAskers []) (sym c.in_ok-offers.ensures) (none_asks (upto c.args.processes)));
-      blocks =
+      in_blocks =
           subst (λ (us : Users). HaveBlocks us.blocks (map kept c.in_ok-offers.offers.items)) (sym c.new-2.ensures)
           (subst (HaveBlocks []) (sym c.in_ok-offers.ensures) (none_by (λ k. k / 64) (upto c.args.processes)));
       shared =

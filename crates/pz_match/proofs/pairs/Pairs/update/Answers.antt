@@ -62,9 +62,9 @@ invariant_of-self-2 g c there =
       asks =
           askers_after says c.args.process c.args.sends.items c.args.receives.items c.self.inside.groups c.replace_in.new.groups all new c.in_ok-replace_in.ensures.replaced below
           c.self.inside.users.askers c.note.new.self.askers whole.asks noted.askers_kept noted.asking;
-      blocks =
+      in_blocks =
           used_after says c.args.process c.args.sends.items c.args.receives.items c.self.inside.groups c.replace_in.new.groups all new c.in_ok-replace_in.ensures.replaced below
-          (λ k. k / 64) c.self.inside.users.blocks c.note.new.self.blocks c.self.inside.users.blocks c.note.new.self.blocks whole.blocks noted.blocks_kept noted.blocks_kept noted.sending_blocks noted.receiving_blocks;
+          (λ k. k / 64) c.self.inside.users.blocks c.note.new.self.blocks c.self.inside.users.blocks c.note.new.self.blocks whole.in_blocks noted.blocks_kept noted.blocks_kept noted.sending_blocks noted.receiving_blocks;
       shared =
           let r = c.in_ok-replace_in.ensures.replaced in
           let old : Kept = get_or all c.args.process (silent c.args.process) in
