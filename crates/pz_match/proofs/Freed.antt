@@ -1,11 +1,11 @@
 -- The receives of a block without a condition that take a send.
-use Rattle.std.proofs.Common.{◌≡◌, ◌≢◌, ◌≤◌, ◌<◌, ◌+◌, ◌-◌, ◌*◌, ◌/◌, ◌⊎◌, inl, inr, refl, sym, ◌∙◌, ap, subst, ℕ, zero, suc, Bool, true, false, nat_eq, List, [], ◌∷◌, length, take, drop, get_or, Some, if◌then◌else◌, arith}
-use Rattle.std.specs.Prelude.{All, sum_by, count_by, filter}
+use Rattle.std.proofs.Common.{◌≡◌, ◌≢◌, ◌≤◌, ◌<◌, ◌+◌, ◌-◌, ◌*◌, ◌/◌, ◌⊎◌, inl, inr, refl, sym, ◌∙◌, ap, ℕ, Bool, true, false, nat_eq, List, [], ◌∷◌, length, take, drop, get_or, Some, if◌then◌else◌, arith}
+use Rattle.std.specs.Prelude.{All, sum_by, count_by}
 use Rattle.std.specs.List.{slice_get}
 use Rattle.std.proofs.lemmas.Bool.{eq-eqb, ne_eqb, eqb-true, eqb-false}
 use Rattle.std.proofs.lemmas.List.Elements.{All-take, All-drop}
-use Rattle.std.proofs.lemmas.List.Sums.{sum_by-cons, sum_by_more}
-use Rattle.std.proofs.lemmas.Option.{slice_get_within, get_or_from_slice_get, slice_get-get_or}
+use Rattle.std.proofs.lemmas.List.Sums.{sum_by_more}
+use Rattle.std.proofs.lemmas.Option.{slice_get_within, get_or_from_slice_get}
 use Rattle.pz_match_lists.specs.declared.shares.Part.{Part}
 use Rattle.pz_match_lists.specs.Shares.{share_at}
 use Rattle.pz_match.specs.declared.rows.Row.{Row}
@@ -14,12 +14,12 @@ use Rattle.pz_match.specs.declared.kept.Receiving.{Receiving}
 use Rattle.pz_match.specs.declared.groups.Sort.TheVariants.{Taken}
 use Rattle.pz_match.specs.Pairs.{is_yes}
 use Rattle.pz_match.specs.devices.Kept.{Kept, free_in, rows_at, heard}
-use Rattle.pz_match.specs.devices.Tallies.{GroupsView, total_of, yeses}
+use Rattle.pz_match.specs.devices.Tallies.{GroupsView, yeses}
 use Rattle.pz_match.specs.devices.Holding.{Holds, Answered}
 use Rattle.pz_match.specs.devices.Seeking.{wants, sought}
 use Rattle.pz_match.specs.devices.Sharing.{block_of, Shared, taken_by, AreOwn}
 use Rattle.pz_match.proofs.Sums.{sum_same, sum_both}
-use Rattle.pz_match.proofs.Answered.{others, one_process, count_cons}
+use Rattle.pz_match.proofs.Answered.{one_process, count_cons}
 use Rattle.pz_match.proofs.Counting.{total_free}
 use Rattle.pz_match.proofs.Reaching.{gap_by}
 use Rattle.pz_match.proofs.Passing.{sum_plus}

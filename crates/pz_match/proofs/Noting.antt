@@ -21,7 +21,7 @@ use Rattle.pz_match.specs.devices.Kept.{Kept}
 use Rattle.pz_match.specs.devices.Tallies.{GroupsView}
 use Rattle.pz_match.specs.devices.Asking.{renewed}
 use Rattle.pz_match.specs.devices.Updating.{Replaced, renewed_in, other_offers, silent}
-use Rattle.pz_match.specs.devices.Users.{AreUsersBy, HaveUsers, KeepsUsers, Noted, SendsNoted, ReceivesNoted}
+use Rattle.pz_match.specs.devices.Users.{AreUsersBy, HaveUsers, KeepsUsers, SendsNoted, ReceivesNoted}
 use Rattle.pz_match.proofs.Replacing.{new_here, new_there, new_length}
 use Rattle.pz_match.proofs.Updated.{all_seen}
 

@@ -1,30 +1,27 @@
 -- Blocks of processes that a search passes over.
-use Rattle.std.proofs.Common.{◌≡◌, ◌≢◌, ◌≤◌, ◌<◌, ◌+◌, ◌-◌, ◌*◌, ◌/◌, ◌⊎◌, inl, inr, refl, sym, ◌∙◌, ap, subst, ℕ, zero, suc, Bool, true, false, nat_eq, List, [], ◌∷◌, length, take, drop, get_or, Option, Some, None, if◌then◌else◌, arith}
-use Rattle.std.specs.Prelude.{All, Contains, sum_by, count_by, map}
+use Rattle.std.proofs.Common.{◌≡◌, ◌≤◌, ◌<◌, ◌+◌, ◌-◌, ◌*◌, ◌/◌, ◌⊎◌, inl, inr, refl, sym, ◌∙◌, ap, subst, ℕ, zero, suc, Bool, true, false, nat_eq, List, [], ◌∷◌, length, take, drop, get_or, Option, Some, None, if◌then◌else◌, arith}
+use Rattle.std.specs.Prelude.{All, Contains, sum_by, count_by}
 use Rattle.std.specs.List.{slice_get}
 use Rattle.std.specs.Option.{option_map_or}
-use Rattle.std.proofs.lemmas.Bool.{eqb-true, eqb-false, ne_eqb}
-use Rattle.std.proofs.lemmas.List.{get_or_default, take_all, length-take, length-drop}
+use Rattle.std.proofs.lemmas.Bool.{eqb-true, ne_eqb}
 use Rattle.std.proofs.lemmas.List.Elements.{All-take, All-drop}
 use Rattle.std.proofs.lemmas.List.Sums.{sum_by-cons}
-use Rattle.std.proofs.lemmas.Option.{slice_get-get_or, get_or_from_slice_get, slice_get_within, none-some}
+use Rattle.std.proofs.lemmas.Option.{slice_get-get_or, get_or_from_slice_get, slice_get_within}
 use Rattle.pz_match_lists.specs.Increasing.{Increasing, list_at}
 use Rattle.pz_match_lists.specs.declared.shares.Part.{Part}
 use Rattle.pz_match_lists.specs.Shares.{share_at}
 use Rattle.pz_match.specs.declared.groups.Group.{Group}
 use Rattle.pz_match.specs.declared.groups.Tally.{Tally}
-use Rattle.pz_match.specs.declared.kept.Sending.{Sending}
-use Rattle.pz_match.specs.declared.kept.Receiving.{Receiving}
 use Rattle.pz_match.specs.declared.groups.Sort.TheVariants.{Taken}
 use Rattle.pz_match.specs.declared.places.Seat.{Seat}
 use Rattle.pz_match.specs.devices.Lists.{upto}
 use Rattle.pz_match.specs.devices.Kept.{Kept, free_in}
-use Rattle.pz_match.specs.devices.Tallies.{GroupsView, HasKey, AreListed, tally_at, no_tally, total_of, part_of, yeses}
+use Rattle.pz_match.specs.devices.Tallies.{GroupsView, HasKey, AreListed, tally_at, no_tally, total_of}
 use Rattle.pz_match.specs.devices.Holding.{Holds, Sound}
-use Rattle.pz_match.specs.devices.Seeking.{past, OnlyAmong, number_on, from_process}
+use Rattle.pz_match.specs.devices.Seeking.{past, OnlyAmong, from_process}
 use Rattle.pz_match.specs.devices.Sharing.{block_of, Shared, share_taken, part_on, Calm, IsTakenFrom, AreListedOn, IsBehind, OnlyIn}
 use Rattle.pz_match.proofs.Sums.{sum_same, get_upto, length_upto}
-use Rattle.pz_match.proofs.Counting.{Sent, sent, free_all, total_free, takes, takes_on, taken_of, counted_on, part_counts, few_free, all_upto}
+use Rattle.pz_match.proofs.Counting.{Sent, sent, free_all, total_free, takes_on, taken_of, counted_on, part_counts, few_free, all_upto}
 use Rattle.pz_match.proofs.Sought.{keys_of, takes_are}
 use Rattle.pz_match.proofs.Reaching.{between, past_next, follows_past, user_adds, no_user, all_passed, gap_by}
 

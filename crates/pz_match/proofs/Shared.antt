@@ -1,16 +1,15 @@
 -- The shares of blocks after an update.
-use Rattle.std.proofs.Common.{◌≡◌, ◌≢◌, ◌≤◌, ◌<◌, ◌+◌, ◌-◌, ◌*◌, ◌/◌, ◌⊎◌, inl, inr, refl, sym, ◌∙◌, ap, subst, ℕ, Bool, true, false, nat_eq, List, [], ◌∷◌, length, take, drop, get_or, set, Some, arith}
+use Rattle.std.proofs.Common.{◌≡◌, ◌≢◌, ◌≤◌, ◌<◌, ◌+◌, ◌-◌, ◌*◌, ◌/◌, ◌⊎◌, inl, inr, refl, sym, ◌∙◌, ap, ℕ, Bool, true, false, nat_eq, List, [], ◌∷◌, length, take, drop, get_or, set, Some, arith}
 use Rattle.std.specs.Prelude.{map}
 use Rattle.std.specs.List.{slice_get}
 use Rattle.std.proofs.lemmas.Option.{slice_get-get_or}
 use Rattle.std.proofs.lemmas.Bool.{eqb-true, eqb-false}
-use Rattle.std.proofs.lemmas.List.{take-map, drop-map, drop-set-lt, drop-set-add, take-set-le, length-take, length-drop, length-map, get_or-drop, get_or-take, get_or-map, get_or_default}
+use Rattle.std.proofs.lemmas.List.{take-map, drop-map, drop-set-lt, drop-set-add, take-set-le, length-take, length-drop, length-map, get_or-drop, get_or-take, get_or-map}
 use Rattle.std.proofs.Math.Seq.{take-set-lt}
 use Rattle.pz_match_lists.specs.declared.shares.Part.{Part}
 use Rattle.pz_match_lists.specs.Shares.{share_at}
 use Rattle.pz_offer.specs.declared.ends.SendOffer.{SendOffer}
 use Rattle.pz_offer.specs.declared.ends.ReceiveOffer.{ReceiveOffer}
-use Rattle.pz_match.specs.declared.groups.Tally.{Tally}
 use Rattle.pz_match.specs.declared.kept.Sending.{Sending}
 use Rattle.pz_match.specs.declared.kept.Receiving.{Receiving}
 use Rattle.pz_match.specs.Judging.{Verdicts}

@@ -1,5 +1,5 @@
 -- Offers that go from the shares, or come.
-use Rattle.std.proofs.Common.{◌≡◌, ◌<◌, ◌+◌, ◌/◌, refl, sym, ◌∙◌, ap, ℕ, Bool, true, false, nat_eq, List, [], ◌∷◌, length, drop, get_or, arith}
+use Rattle.std.proofs.Common.{◌≡◌, ◌<◌, ◌+◌, refl, sym, ◌∙◌, ap, ℕ, Bool, true, false, nat_eq, List, [], ◌∷◌, length, drop, get_or, arith}
 use Rattle.std.proofs.lemmas.List.{drop_more}
 use Rattle.pz_match_lists.specs.declared.shares.Part.{Part}
 use Rattle.pz_match_lists.specs.Shares.{share_at}
@@ -8,8 +8,7 @@ use Rattle.pz_match.specs.declared.kept.Sending.{Sending}
 use Rattle.pz_match.specs.declared.kept.Receiving.{Receiving}
 use Rattle.pz_match.specs.declared.sharing.Way.{Way}
 use Rattle.pz_match.specs.declared.sharing.Way.TheVariants.{Off, On}
-use Rattle.pz_match.specs.devices.Kept.{Kept}
-use Rattle.pz_match.specs.devices.Tallies.{no_tally, nothing, plus, pick, only_in, send_tally, receive_tally, send_part, sends_part, receive_part, receives_part, part_of}
+use Rattle.pz_match.specs.devices.Tallies.{nothing, plus, pick, only_in, send_tally, receive_tally, send_part, sends_part, receive_part, receives_part}
 use Rattle.pz_match.specs.devices.Sharing.{side, Shifted, Shifts}
 
 -- What is alike in shares

@@ -1,8 +1,6 @@
 -- The groups of the wire, one by one.
-use Rattle.std.proofs.Common.{◌≡◌, ◌≤◌, sym, ◌∙◌, ap, Some, get_or, length, arith}
-use Rattle.std.specs.List.{slice_get}
-use Rattle.std.proofs.lemmas.Option.{slice_get_within, get_or_from_slice_get}
-use Rattle.pz_match.specs.declared.groups.Group.{Group}
+use Rattle.std.proofs.Common.{◌≤◌, ◌∙◌, ap, get_or, length, arith}
+use Rattle.std.proofs.lemmas.Option.{slice_get_within}
 use Rattle.pz_match.specs.devices.Sharing.{share_taken}
 use Rattle.pz_match_lists.specs.declared.shares.Share.{Share}
 use Rattle.pz_match.proofs.Passing.{part_more, part_over, part_all, calm_more, calm_all, calm_here}

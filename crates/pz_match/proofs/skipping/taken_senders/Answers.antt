@@ -1,10 +1,9 @@
 -- Block by block.
 use Rattle.std.proofs.Common.{◌<◌, ◌/◌, get_or, length, arith}
-use Rattle.std.specs.Prelude.{map, sum_by}
+use Rattle.std.specs.Prelude.{map}
 use Rattle.pz_match.specs.declared.groups.Sort.TheVariants.{Taken}
 use Rattle.pz_match.specs.devices.Kept.{kept}
 use Rattle.pz_match.specs.devices.Seeking.{from_process}
-use Rattle.pz_match.specs.devices.Sharing.{block_of, IsBehind, IsTakenFrom}
 use Rattle.pz_match.proofs.Reaching.{only_senders}
 use Rattle.pz_match.proofs.Passing.{skipped, block_taken}
 use Rattle.pz_match.proofs.skipping.taken_senders.Goals as goal

@@ -1,5 +1,5 @@
 -- What a search finds, or where it would be.
-use Rattle.std.proofs.Common.{◌≡◌, ◌<◌, refl, get_or, arith}
+use Rattle.std.proofs.Common.{◌<◌, refl, get_or, arith}
 use Rattle.pz_match_lists.proofs.Inserting.{wanting, found_below, found_behind}
 use Rattle.pz_match_lists.proofs.numbers.below.Goals as goal
 

@@ -1,8 +1,7 @@
 -- The groups of the wire are listed.
-use Rattle.std.proofs.Common.{◌≡◌, ◌∙◌, sym, ap, subst, List}
+use Rattle.std.proofs.Common.{sym, subst, List}
 use Rattle.pz_match.specs.declared.groups.Group.{Group}
-use Rattle.pz_match.specs.devices.Tallies.{GroupsView}
-use Rattle.pz_match.specs.devices.Sharing.{AreListedOn, IsTakenFrom}
+use Rattle.pz_match.specs.devices.Sharing.{AreListedOn}
 use Rattle.pz_match.proofs.Passing.{listed_on}
 use Rattle.pz_match.proofs.groups.Groups.taken_from.Goals as goal
 

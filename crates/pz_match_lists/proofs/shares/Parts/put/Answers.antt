@@ -1,8 +1,6 @@
 -- The part that was found is written over, or one is put at its place.
-use Rattle.std.proofs.Common.{◌≡◌, sym, ap, subst, ℕ, List, nat_eq, if◌then◌else◌}
-use Rattle.pz_match_lists.specs.declared.shares.Share.{Share}
+use Rattle.std.proofs.Common.{sym, subst, List}
 use Rattle.pz_match_lists.specs.declared.shares.Part.{Part}
-use Rattle.pz_match_lists.specs.Shares.{share_in}
 use Rattle.pz_match_lists.specs.devices.Parts.{IsPartAt, IsGapFor}
 use Rattle.pz_match_lists.proofs.Parting.{gets_set, ordered_set, gets_insert, ordered_insert}
 use Rattle.pz_match_lists.proofs.shares.Parts.put.Goals as goal

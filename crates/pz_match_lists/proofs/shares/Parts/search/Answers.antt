@@ -1,5 +1,5 @@
 -- The closure gives the block of a part.
-use Rattle.std.proofs.Common.{rules, sym, subst, List, Result, IfOk, IfErr, ℕ}
+use Rattle.std.proofs.Common.{rules}
 use Rattle.std.proofs.lemmas.List.Sorted.{answers_always}
 use Rattle.pz_match_lists.proofs.Parting.{searched}
 use Rattle.pz_match_lists.proofs.shares.Parts.search.Goals as goal

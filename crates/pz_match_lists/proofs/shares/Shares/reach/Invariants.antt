@@ -1,4 +1,4 @@
-use Rattle.std.proofs.Common.{◌≡◌, ◌≤◌, ℕ, length}
+use Rattle.std.proofs.Common.{◌≡◌, ℕ, length}
 use Rattle.pz_match_lists.specs.Shares.{share_at}
 use Rattle.pz_match_lists.proofs.shares.Shares.reach.Given as goal
 
