@@ -4,9 +4,9 @@ source "$(dirname "${BASH_SOURCE[0]}")/common.sh"
 uses rows_match updates 1 0
 
 # What stands there before is timed by itself, and taken off.
-for shape in "10 ${1:-2000000} ${2:-2000000}" "100 ${1:-2000000} ${2:-1000000}" "1000 ${1:-2000000} ${2:-100000}" "10000 ${1:-2000000} ${2:-10000}"; do
-  read -r receivers often seldom <<<"$shape"
-  for case in "updates $often updates" "conditions $often updates beside a condition" "askers $often updates of a condition" "pairs $seldom pairs sought" "ring $often pairs sought on wires of their own"; do
+times_each=${1:-2000000}
+for receivers in 10 100 1000 10000; do
+  for case in "updates $times_each updates" "conditions $times_each updates beside a condition" "askers $times_each updates of a condition" "pairs $times_each pairs sought" "ring $times_each pairs sought on wires of their own"; do
     read -r words times what <<<"$case"
     spend "$program" "$words" "$receivers" 0
     begun=$seconds

@@ -18,7 +18,7 @@ use Rattle.pz_match.specs.devices.Kept.{Kept, free_in, asks_in, rows_at, next_ve
 use Rattle.pz_match.specs.devices.Holding.{Answered}
 use Rattle.pz_match.proofs.Sums.{filter_flat, sum_same, sum_both, regroup, sum_mapped}
 
-count_cons : {X : Type 0} (p : X → Bool) (x : X) (xs : List X) → count_by p (x ∷ xs) ≡ (if p x then 1 else 0) + count_by p xs
+pub count_cons : {X : Type 0} (p : X → Bool) (x : X) (xs : List X) → count_by p (x ∷ xs) ≡ (if p x then 1 else 0) + count_by p xs
 count_cons p x xs = sum_by-cons (λ y. if p y then 1 else 0) x xs
 
 module _ (want : Verdict → Bool) where
@@ -140,10 +140,10 @@ module _ (f : Kept → ℕ) where
 
 module _ (want : Verdict → Bool) (all : List Kept) (s : Sending) (own : Kept)
     (numbered : map (λ e. e.process) all ≡ upto (length all)) (places : Numbered 0 all) (answered : Answered all s) (there : slice_get all s.sender.end.process ≡ Some own) where
-  abbrev others : Kept → ℕ
+  abbrev pub others : Kept → ℕ
   others e = if nat_eq e.process s.sender.end.process then 0 else count_by (free_in s.group) e.receives
 
-  one_process : All (λ e. length (wanted want (heard s e)) ≡ frees want (others e) + rows_wanted want (rows_at e.process s.rows)) all
+  pub one_process : All (λ e. length (wanted want (heard s e)) ≡ frees want (others e) + rows_wanted want (rows_at e.process s.rows)) all
   one_process = go all answered.each
     where
       one : (e : Kept) → length (rows_at e.process s.rows) ≡ (if nat_eq e.process s.sender.end.process then 0 else count_by (asks_in s.group) e.receives)

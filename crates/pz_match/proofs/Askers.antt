@@ -68,7 +68,7 @@ module _ (f : Kept → List Row) where
     -- the next of them is reached
     to_user : (u : ℕ) → u < length us → flat_map f (map kept (drop (past us u) xs)) ≡ flat_map f (map kept (drop (get_or us u 0) xs))
     to_user u lt =
-        let le : past us u ≤ get_or us u 0 = follows_past us up [] (λ e. 0) (λ k e is none. refl) u lt in
+        let le : past us u ≤ get_or us u 0 = follows_past us up {X = Kept} [] (λ e. 0) (λ k e is none. refl) u lt in
         let end : past us u + (get_or us u 0 - past us u) ≡ get_or us u 0 = omega (arith, le) in
         quiet_between xs (past us u) (get_or us u 0 - past us u) (λ k e from to below is. only k e below is (between us up u k (omega (arith, lt)) from (λ inside. omega (arith, to, end))))
         ∙ ap (λ k. flat_map f (map kept (drop k xs))) end

@@ -44,7 +44,7 @@ module _ (us : List ℕ) (up : Increasing us) (f : Kept → Kept) (all : List Ke
 
   -- the next of them is reached
   pub to_place : (u : ℕ) → u < length us → map f (take (past us u) all) ++ drop (past us u) all ≡ map f (take (get_or us u 0) all) ++ drop (get_or us u 0) all
-  to_place u lt = sym (gap (past us u) (get_or us u 0) (follows_past us up [] (λ e. 0) (λ k e is none. refl) u lt) (λ k from to. between us up u k (omega (arith, lt)) from (λ inside. to)))
+  to_place u lt = sym (gap (past us u) (get_or us u 0) (follows_past us up {X = Kept} [] (λ e. 0) (λ k e is none. refl) u lt) (λ k from to. between us up u k (omega (arith, lt)) from (λ inside. to)))
 
   -- no such process
   pub nowhere : (u : ℕ) → u < length us → length all ≤ get_or us u 0 → map f (take (past us u) all) ++ drop (past us u) all ≡ map f (take (past us (u + 1)) all) ++ drop (past us (u + 1)) all

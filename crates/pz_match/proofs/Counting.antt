@@ -158,20 +158,20 @@ module _ (all : List Kept) where
         sum_flat (λ (y : Sent). f y.process y.send) (λ (e : Kept). map (λ s. record { process = e; send = s }) e.sends) xs
         ∙ sum_same _ (λ e. sum_by (f e) e.sends) xs (λ k d lt. sum_mapped (λ (y : Sent). f y.process y.send) (λ s. record { process = get_or xs k d; send = s }) (get_or xs k d).sends)
 
-  module _ (groups : List Group) (w : ℕ)
-      (tallied : (g : ℕ) → Alike (tally_at groups g) (total_of all g))
-      (keyed : All (λ (y : Sent). HasKey groups y.send.group y.send.sender.wire y.send.sender.message (length y.send.sender.parcel.values)) (sent all)) where
+  -- of some processes
+  module _ (groups : List Group) (w : ℕ) (xs : List Kept) (few : (i : ℕ) → All (λ (e : Kept). count_by (free_in i) e.receives ≤ free_all all i) xs)
+      (keyed : All (λ (y : Sent). HasKey groups y.send.group y.send.sender.wire y.send.sender.message (length y.send.sender.parcel.values)) (sent xs)) where
     abbrev of_group : ℕ → Sent → ℕ
     of_group i y = if nat_eq y.send.group i then takes_on w y.process y.send else 0
 
-    in_range : All (λ (y : Sent). y.send.group < length groups) (sent all)
+    in_range : All (λ (y : Sent). y.send.group < length groups) (sent xs)
     in_range =
         All-weaker (λ (y : Sent). HasKey groups y.send.group y.send.sender.wire y.send.sender.message (length y.send.sender.parcel.values)) (λ (y : Sent). y.send.group < length groups)
-        (λ y key. slice_get_within groups y.send.group key.group key.there) (sent all) keyed
+        (λ y key. slice_get_within groups y.send.group key.group key.there) (sent xs) keyed
 
     -- of a group on this wire all sends are, of another none
-    on_or_off : (i : ℕ) (x : Group) → slice_get groups i ≡ Some x → sum_by (of_group i) (sent all) ≡ (if nat_eq x.wire w then sum_by (λ (y : Sent). if nat_eq y.send.group i then takes y.process y.send else 0) (sent all) else 0)
-    on_or_off i x there = go (sent all) keyed
+    on_or_off : (i : ℕ) (x : Group) → slice_get groups i ≡ Some x → sum_by (of_group i) (sent xs) ≡ (if nat_eq x.wire w then sum_by (λ (y : Sent). if nat_eq y.send.group i then takes y.process y.send else 0) (sent xs) else 0)
+    on_or_off i x there = go (sent xs) keyed
       where
         one : (y : Sent) → HasKey groups y.send.group y.send.sender.wire y.send.sender.message (length y.send.sender.parcel.values) → of_group i y ≡ (if nat_eq x.wire w then (if nat_eq y.send.group i then takes y.process y.send else 0) else 0)
         one y key = by (nat_eq y.send.group i) refl
@@ -207,14 +207,11 @@ module _ (all : List Kept) where
             let later = go ys (All-tail (λ (y : Sent). HasKey groups y.send.group y.send.sender.wire y.send.sender.message (length y.send.sender.parcel.values)) y ys keys) in
             sum_by-cons (of_group i) y ys ∙ ((λ k. first k + later k) ∙ split (nat_eq x.wire w) y ys)
 
-    few : (i : ℕ) → All (λ e. count_by (free_in i) e.receives ≤ free_all all i) all
-    few i = λ k d lt. get_or-le-sum_by (λ (e : Kept). count_by (free_in i) e.receives) all k d lt
-
     -- by the number of the group
-    in_group_is : (i : ℕ) → sum_by (λ (y : Sent). if nat_eq y.send.group i then takes y.process y.send else 0) (sent all) ≡ sum_by (in_group i (free_all all i)) all
+    in_group_is : (i : ℕ) → sum_by (λ (y : Sent). if nat_eq y.send.group i then takes y.process y.send else 0) (sent xs) ≡ sum_by (in_group i (free_all all i)) xs
     in_group_is i =
-        sum_sent (λ e s. if nat_eq s.group i then takes e s else 0) all
-        ∙ sum_same (λ e. sum_by (λ s. if nat_eq s.group i then takes e s else 0) e.sends) (in_group i (free_all all i)) all (λ k d lt. each (get_or all k d))
+        sum_sent (λ e s. if nat_eq s.group i then takes e s else 0) xs
+        ∙ sum_same (λ e. sum_by (λ s. if nat_eq s.group i then takes e s else 0) e.sends) (in_group i (free_all all i)) xs (λ k d lt. each (get_or xs k d))
       where
         each : (e : Kept) → sum_by (λ s. if nat_eq s.group i then takes e s else 0) e.sends ≡ in_group i (free_all all i) e
         each e = sum_same (λ s. if nat_eq s.group i then takes e s else 0) (λ s. if nat_eq s.group i then (free_all all i - count_by (free_in i) e.receives) + yeses s.rows else 0) e.sends (λ k d lt. one (get_or e.sends k d))
@@ -226,33 +223,52 @@ module _ (all : List Kept) where
                 by true is = ap (λ g. (free_all all g - count_by (free_in g) e.receives) + yeses s.rows) (eqb-true s.group i is)
                 by false is = refl
 
-    one_group : (i : ℕ) (x : Group) → slice_get groups i ≡ Some x → sum_by (of_group i) (sent all) ≡ taken_on w x
-    one_group i x there =
-        on_or_off i x there
-        ∙ ap (λ n. if nat_eq x.wire w then n else 0)
-        (in_group_is i
-        ∙ (group_counts i (free_all all i) all (few i)
-        ∙ (let is : tally_at groups i ≡ x.tally = ap (λ (o : Option Group). option_map_or (λ z. z.tally) o no_tally) there in
-        let alike = tallied i in
-        let free : free_all all i ≡ (tally_at groups i).free = sym (alike.free ∙ total_free i all) in
-        let sends : (total_of all i).sends ≡ (tally_at groups i).sends = sym alike.sends in
-        let product : (total_of all i).sends * free_all all i ≡ (tally_at groups i).sends * (tally_at groups i).free = λ k. sends k * free k in
-        let counted : ((total_of all i).sends * free_all all i - (total_of all i).own) + (total_of all i).yes ≡ taken_in (tally_at groups i) = omega (arith, product, alike.own, alike.yes) in
-        counted ∙ ap taken_in is)))
+    -- in a group
+    abbrev pub taken_of : ℕ → ℕ
+    taken_of i = ((total_of xs i).sends * free_all all i - (total_of xs i).own) + (total_of xs i).yes
 
-    -- what the groups of a wire count is the sum over its sends
-    pub wire_counts : on_wire groups w ≡ sum_by (λ e. sum_by (takes_on w e) e.sends) all
-    wire_counts =
-        sum_indexed (taken_on w) groups
-        ∙ (sum_same (at_place (taken_on w) groups) (λ i. sum_by (of_group i) (sent all)) (upto (length groups))
-        (all_upto (λ i. at_place (taken_on w) groups i ≡ sum_by (of_group i) (sent all)) (length groups) (λ i lt. here i lt (slice_get groups i) refl))
-        ∙ (regroup (λ (y : Sent). y.send.group) (λ (y : Sent). takes_on w y.process y.send) (length groups) (sent all) in_range
-        ∙ sum_sent (takes_on w) all))
+    abbrev pub counted_on : ℕ → ℕ
+    counted_on i = option_map_or (λ (x : Group). if nat_eq x.wire w then taken_of i else 0) (slice_get groups i) 0
+
+    one_group : (i : ℕ) (x : Group) → slice_get groups i ≡ Some x → sum_by (of_group i) (sent xs) ≡ (if nat_eq x.wire w then taken_of i else 0)
+    one_group i x there = on_or_off i x there ∙ ap (λ n. if nat_eq x.wire w then n else 0) (in_group_is i ∙ group_counts i (free_all all i) xs (few i))
+
+    -- what the groups count is the sum over the sends
+    pub part_counts : sum_by counted_on (upto (length groups)) ≡ sum_by (λ e. sum_by (takes_on w e) e.sends) xs
+    part_counts =
+        sum_same counted_on (λ i. sum_by (of_group i) (sent xs)) (upto (length groups))
+        (all_upto (λ i. counted_on i ≡ sum_by (of_group i) (sent xs)) (length groups) (λ i lt. here i lt (slice_get groups i) refl))
+        ∙ (regroup (λ (y : Sent). y.send.group) (λ (y : Sent). takes_on w y.process y.send) (length groups) (sent xs) in_range
+        ∙ sum_sent (takes_on w) xs)
       where
-        here : (i : ℕ) → i < length groups → (o : Option Group) → slice_get groups i ≡ o → at_place (taken_on w) groups i ≡ sum_by (of_group i) (sent all)
+        here : (i : ℕ) → i < length groups → (o : Option Group) → slice_get groups i ≡ o → counted_on i ≡ sum_by (of_group i) (sent xs)
         here i lt None is = absurd (none-some (get_or groups i (head_of groups lt)) (sym is ∙ slice_get-get_or groups i (head_of groups lt) lt))
           where
-            head_of : (xs : List Group) → i < length xs → Group
+            head_of : (ys : List Group) → i < length ys → Group
             head_of [] h = absurd (omega (arith, h))
-            head_of (x ∷ xs) h = x
-        here i lt (Some x) is = ap (λ (o : Option Group). option_map_or (taken_on w) o 0) is ∙ sym (one_group i x is)
+            head_of (x ∷ ys) h = x
+        here i lt (Some x) is = ap (λ (o : Option Group). option_map_or (λ (x : Group). if nat_eq x.wire w then taken_of i else 0) o 0) is ∙ sym (one_group i x is)
+
+  pub few_free : (i : ℕ) → All (λ (e : Kept). count_by (free_in i) e.receives ≤ free_all all i) all
+  few_free i = λ k d lt. get_or-le-sum_by (λ (e : Kept). count_by (free_in i) e.receives) all k d lt
+
+  -- what the groups of a wire count is the sum over its sends
+  pub wire_counts : (groups : List Group) (w : ℕ) → ((g : ℕ) → Alike (tally_at groups g) (total_of all g))
+      → All (λ (y : Sent). HasKey groups y.send.group y.send.sender.wire y.send.sender.message (length y.send.sender.parcel.values)) (sent all)
+      → on_wire groups w ≡ sum_by (λ e. sum_by (takes_on w e) e.sends) all
+  wire_counts groups w tallied keyed =
+      sum_indexed (taken_on w) groups
+      ∙ (sum_same (at_place (taken_on w) groups) (counted_on groups w all few_free keyed) (upto (length groups))
+      (all_upto (λ i. at_place (taken_on w) groups i ≡ counted_on groups w all few_free keyed i) (length groups) (λ i lt. here i (slice_get groups i) refl))
+      ∙ part_counts groups w all few_free keyed)
+    where
+      here : (i : ℕ) (o : Option Group) → slice_get groups i ≡ o → option_map_or (taken_on w) o 0 ≡ option_map_or (λ (x : Group). if nat_eq x.wire w then taken_of groups w all few_free keyed i else 0) o 0
+      here i None there = refl
+      here i (Some x) there =
+          let is : tally_at groups i ≡ x.tally = ap (λ (o : Option Group). option_map_or (λ z. z.tally) o no_tally) there in
+          let alike = tallied i in
+          let free : free_all all i ≡ (tally_at groups i).free = sym (alike.free ∙ total_free i all) in
+          let sends : (total_of all i).sends ≡ (tally_at groups i).sends = sym alike.sends in
+          let product : (total_of all i).sends * free_all all i ≡ (tally_at groups i).sends * (tally_at groups i).free = λ k. sends k * free k in
+          let counted : ((total_of all i).sends * free_all all i - (total_of all i).own) + (total_of all i).yes ≡ taken_in (tally_at groups i) = omega (arith, product, alike.own, alike.yes) in
+          ap (λ n. if nat_eq x.wire w then n else 0) (sym (counted ∙ ap taken_in is))

@@ -27,3 +27,7 @@ pub mod Reaching
 pub mod Noting
 pub mod Askers
 pub mod Changing
+pub mod Shifting
+pub mod Shared
+pub mod Passing
+pub mod Freed

@@ -21,7 +21,7 @@ use Rattle.pz_match.specs.devices.Kept.{Kept}
 use Rattle.pz_match.specs.devices.Tallies.{GroupsView}
 use Rattle.pz_match.specs.devices.Asking.{renewed}
 use Rattle.pz_match.specs.devices.Updating.{Replaced, renewed_in, other_offers, silent}
-use Rattle.pz_match.specs.devices.Users.{HaveUsers, KeepsUsers, Noted, SendsNoted, ReceivesNoted}
+use Rattle.pz_match.specs.devices.Users.{AreUsersBy, HaveUsers, KeepsUsers, SendsNoted, ReceivesNoted}
 use Rattle.pz_match.proofs.Replacing.{new_here, new_there, new_length}
 use Rattle.pz_match.proofs.Updated.{all_seen}
 
@@ -48,89 +48,98 @@ pub keeps_same : (a : List (List ℕ)) → KeepsUsers a a
 keeps_same a k n there = there
 
 -- before an update and after it
+module _ (number : ℕ → ℕ) (s0 s1 r0 r1 : List (List ℕ)) (all : List Kept) where
+  pub keeps_by : KeepsUsers s0 s1 → KeepsUsers r0 r1 → ((w : ℕ) → AreUsersBy number (list_at s0 w) (list_at r0 w) all w) → (w : ℕ) → AreUsersBy number (list_at s1 w) (list_at r1 w) all w
+  keeps_by senders receivers have w = record {
+    sending = λ k e is. All-weaker (λ (s : Sending). s.sender.wire ≡ w → Contains (list_at s0 w) (number k)) (λ (s : Sending). s.sender.wire ≡ w → Contains (list_at s1 w) (number k)) (λ s ok on. senders w (number k) (ok on)) e.sends ((have w).sending k e is);
+    receiving = λ k e is. All-weaker (λ (q : Receiving). q.receiver.wire ≡ w → Contains (list_at r0 w) (number k)) (λ (q : Receiving). q.receiver.wire ≡ w → Contains (list_at r1 w) (number k)) (λ q ok on. receivers w (number k) (ok on)) e.receives ((have w).receiving k e is);
+  }
+
 pub keeps_users : (before after : Users) (all : List Kept) → KeepsUsers before.senders after.senders → KeepsUsers before.receivers after.receivers → HaveUsers before all → HaveUsers after all
-keeps_users before after all senders receivers have w = record {
-  sending = λ k e is. All-weaker (λ (s : Sending). s.sender.wire ≡ w → Contains (list_at before.senders w) k) (λ (s : Sending). s.sender.wire ≡ w → Contains (list_at after.senders w) k) (λ s ok on. senders w k (ok on)) e.sends ((have w).sending k e is);
-  receiving = λ k e is. All-weaker (λ (q : Receiving). q.receiver.wire ≡ w → Contains (list_at before.receivers w) k) (λ (q : Receiving). q.receiver.wire ≡ w → Contains (list_at after.receivers w) k) (λ q ok on. receivers w k (ok on)) e.receives ((have w).receiving k e is);
-}
+keeps_users before after all senders receivers have = keeps_by (λ k. k) before.senders after.senders before.receivers after.receivers all senders receivers have
 
 pub keeps_next : (a b c : List (List ℕ)) → KeepsUsers a b → KeepsUsers b c → KeepsUsers a c
 keeps_next a b c f g k n there = g k n (f k n there)
 
 -- After the update
 
-module _ (users : List (List ℕ)) (p w : ℕ) where
-  sends_used : (ss : List SendOffer) → SendsNoted users p ss → All (λ (x : Sender). x.wire ≡ w → Contains (list_at users w) p) (senders p ss)
-  sends_used [] ok = All-nil (λ (x : Sender). x.wire ≡ w → Contains (list_at users w) p)
-  sends_used (s ∷ ss) ok = by s.wire (All-head (λ (s : SendOffer). IfSome s.wire (λ w. Contains (list_at users w) p)) s ss ok) (sends_used ss (All-tail (λ (s : SendOffer). IfSome s.wire (λ w. Contains (list_at users w) p)) s ss ok))
+module _ (users : List (List ℕ)) (n p w : ℕ) where
+  sends_used : (ss : List SendOffer) → SendsNoted users n ss → All (λ (x : Sender). x.wire ≡ w → Contains (list_at users w) n) (senders p ss)
+  sends_used [] ok = All-nil (λ (x : Sender). x.wire ≡ w → Contains (list_at users w) n)
+  sends_used (s ∷ ss) ok = by s.wire (All-head (λ (s : SendOffer). IfSome s.wire (λ w. Contains (list_at users w) n)) s ss ok) (sends_used ss (All-tail (λ (s : SendOffer). IfSome s.wire (λ w. Contains (list_at users w) n)) s ss ok))
     where
-      by : (o : Option ℕ) → IfSome o (λ w. Contains (list_at users w) p) → All (λ (x : Sender). x.wire ≡ w → Contains (list_at users w) p) (senders p ss)
-          → All (λ (x : Sender). x.wire ≡ w → Contains (list_at users w) p) (option_map_or (λ wire. sender p s wire ∷ []) o [] ++ senders p ss)
+      by : (o : Option ℕ) → IfSome o (λ w. Contains (list_at users w) n) → All (λ (x : Sender). x.wire ≡ w → Contains (list_at users w) n) (senders p ss)
+          → All (λ (x : Sender). x.wire ≡ w → Contains (list_at users w) n) (option_map_or (λ wire. sender p s wire ∷ []) o [] ++ senders p ss)
       by None here later = later
-      by (Some v) here later = All-cons (λ (x : Sender). x.wire ≡ w → Contains (list_at users w) p) (sender p s v) (senders p ss) (λ same. subst (λ n. Contains (list_at users n) p) same here) later
+      by (Some v) here later = All-cons (λ (x : Sender). x.wire ≡ w → Contains (list_at users w) n) (sender p s v) (senders p ss) (λ same. subst (λ v. Contains (list_at users v) n) same here) later
 
-  receives_used : (rs : List ReceiveOffer) → ReceivesNoted users p rs → All (λ (x : Receiver). x.wire ≡ w → Contains (list_at users w) p) (receivers p rs)
-  receives_used [] ok = All-nil (λ (x : Receiver). x.wire ≡ w → Contains (list_at users w) p)
-  receives_used (r ∷ rs) ok = by r.wire (All-head (λ (r : ReceiveOffer). IfSome r.wire (λ w. Contains (list_at users w) p)) r rs ok) (receives_used rs (All-tail (λ (r : ReceiveOffer). IfSome r.wire (λ w. Contains (list_at users w) p)) r rs ok))
+  receives_used : (rs : List ReceiveOffer) → ReceivesNoted users n rs → All (λ (x : Receiver). x.wire ≡ w → Contains (list_at users w) n) (receivers p rs)
+  receives_used [] ok = All-nil (λ (x : Receiver). x.wire ≡ w → Contains (list_at users w) n)
+  receives_used (r ∷ rs) ok = by r.wire (All-head (λ (r : ReceiveOffer). IfSome r.wire (λ w. Contains (list_at users w) n)) r rs ok) (receives_used rs (All-tail (λ (r : ReceiveOffer). IfSome r.wire (λ w. Contains (list_at users w) n)) r rs ok))
     where
-      by : (o : Option ℕ) → IfSome o (λ w. Contains (list_at users w) p) → All (λ (x : Receiver). x.wire ≡ w → Contains (list_at users w) p) (receivers p rs)
-          → All (λ (x : Receiver). x.wire ≡ w → Contains (list_at users w) p) (option_map_or (λ wire. receiver p r wire ∷ []) o [] ++ receivers p rs)
+      by : (o : Option ℕ) → IfSome o (λ w. Contains (list_at users w) n) → All (λ (x : Receiver). x.wire ≡ w → Contains (list_at users w) n) (receivers p rs)
+          → All (λ (x : Receiver). x.wire ≡ w → Contains (list_at users w) n) (option_map_or (λ wire. receiver p r wire ∷ []) o [] ++ receivers p rs)
       by None here later = later
-      by (Some v) here later = All-cons (λ (x : Receiver). x.wire ≡ w → Contains (list_at users w) p) (receiver p r v) (receivers p rs) (λ same. subst (λ n. Contains (list_at users n) p) same here) later
+      by (Some v) here later = All-cons (λ (x : Receiver). x.wire ≡ w → Contains (list_at users w) n) (receiver p r v) (receivers p rs) (λ same. subst (λ v. Contains (list_at users v) n) same here) later
 
 module _ (says : Verdicts) (p : ℕ) (sends : List SendOffer) (receives : List ReceiveOffer) (g0 g1 : GroupsView) (all new : List Kept) (r : Replaced says p sends receives g0 all g1 new) (below : p < length all)
-    (before after : Users) (used : HaveUsers before all) (n : Noted before after p sends receives) where
+    (number : ℕ → ℕ) (s0 s1 r0 r1 : List (List ℕ)) (used : (w : ℕ) → AreUsersBy number (list_at s0 w) (list_at r0 w) all w)
+    (keeps_s : KeepsUsers s0 s1) (keeps_r : KeepsUsers r0 r1) (noted_s : SendsNoted s1 (number p) sends) (noted_r : ReceivesNoted r1 (number p) receives) where
   there : (k : ℕ) (e : Kept) → slice_get new k ≡ Some e → e ≡ get_or (other_offers says p r.sent r.heard all) k e
   there k e is = sym (get_or_from_slice_get (other_offers says p r.sent r.heard all) k e e (ap (λ (xs : List Kept). slice_get xs k) (sym r.is) ∙ is))
 
   inside : (k : ℕ) (e : Kept) → slice_get new k ≡ Some e → k < length all
   inside k e is = let lt = slice_get_within new k e is in let long = ap length r.is in omega (arith, lt, long, new_length says p r.sent r.heard all below)
 
-  pub users_after : HaveUsers after new
-  users_after w = record { sending = sending; receiving = receiving }
+  pub used_after : (w : ℕ) → AreUsersBy number (list_at s1 w) (list_at r1 w) new w
+  used_after w = record { sending = sending; receiving = receiving }
     where
-      sending : (k : ℕ) (e : Kept) → slice_get new k ≡ Some e → All (λ (s : Sending). s.sender.wire ≡ w → Contains (list_at after.senders w) k) e.sends
+      sending : (k : ℕ) (e : Kept) → slice_get new k ≡ Some e → All (λ (s : Sending). s.sender.wire ≡ w → Contains (list_at s1 w) (number k)) e.sends
       sending k e is = by (cases_eq k p)
         where
-          by : (k ≡ p) ⊎ (k ≢ p) → All (λ (s : Sending). s.sender.wire ≡ w → Contains (list_at after.senders w) k) e.sends
+          by : (k ≡ p) ⊎ (k ≢ p) → All (λ (s : Sending). s.sender.wire ≡ w → Contains (list_at s1 w) (number k)) e.sends
           by (inl same) =
               let now : e ≡ record { process = p; sends = r.sent; receives = r.heard } = there k e is ∙ (ap (λ n. get_or (other_offers says p r.sent r.heard all) n e) same ∙ new_here says p r.sent r.heard all below e) in
-              let ok = all_seen (λ (x : Sender). x.wire ≡ w → Contains (list_at after.senders w) p) (λ (s : Sending). s.sender) r.sent (subst (All (λ (x : Sender). x.wire ≡ w → Contains (list_at after.senders w) p)) (sym r.same_sends) (sends_used after.senders p w sends n.sending)) in
-              subst (λ n. All (λ (s : Sending). s.sender.wire ≡ w → Contains (list_at after.senders w) n) e.sends) (sym same) (subst (λ (x : Kept). All (λ (s : Sending). s.sender.wire ≡ w → Contains (list_at after.senders w) p) x.sends) (sym now) ok)
+              let ok = all_seen (λ (x : Sender). x.wire ≡ w → Contains (list_at s1 w) (number p)) (λ (s : Sending). s.sender) r.sent (subst (All (λ (x : Sender). x.wire ≡ w → Contains (list_at s1 w) (number p))) (sym r.same_sends) (sends_used s1 (number p) p w sends noted_s)) in
+              subst (λ n. All (λ (s : Sending). s.sender.wire ≡ w → Contains (list_at s1 w) (number n)) e.sends) (sym same) (subst (λ (x : Kept). All (λ (s : Sending). s.sender.wire ≡ w → Contains (list_at s1 w) (number p)) x.sends) (sym now) ok)
           by (inr other) =
               let lt = inside k e is in
               let now : e ≡ renewed_in says p r.heard (get_or all k e) = there k e is ∙ new_there says p r.sent r.heard all below k e other lt in
               let was = (used w).sending k (get_or all k e) (slice_get-get_or all k e lt) in
-              subst (λ (x : Kept). All (λ (s : Sending). s.sender.wire ≡ w → Contains (list_at after.senders w) k) x.sends) (sym now)
-              (All-map (λ (s : Sending). s.sender.wire ≡ w → Contains (list_at after.senders w) k) (renewed says p r.heard) (get_or all k e).sends
-              (All-weaker (λ (s : Sending). s.sender.wire ≡ w → Contains (list_at before.senders w) k) (λ (s : Sending). s.sender.wire ≡ w → Contains (list_at after.senders w) k) (λ s ok on. n.senders_kept w k (ok on)) (get_or all k e).sends was))
+              subst (λ (x : Kept). All (λ (s : Sending). s.sender.wire ≡ w → Contains (list_at s1 w) (number k)) x.sends) (sym now)
+              (All-map (λ (s : Sending). s.sender.wire ≡ w → Contains (list_at s1 w) (number k)) (renewed says p r.heard) (get_or all k e).sends
+              (All-weaker (λ (s : Sending). s.sender.wire ≡ w → Contains (list_at s0 w) (number k)) (λ (s : Sending). s.sender.wire ≡ w → Contains (list_at s1 w) (number k)) (λ s ok on. keeps_s w (number k) (ok on)) (get_or all k e).sends was))
 
-      receiving : (k : ℕ) (e : Kept) → slice_get new k ≡ Some e → All (λ (q : Receiving). q.receiver.wire ≡ w → Contains (list_at after.receivers w) k) e.receives
+      receiving : (k : ℕ) (e : Kept) → slice_get new k ≡ Some e → All (λ (q : Receiving). q.receiver.wire ≡ w → Contains (list_at r1 w) (number k)) e.receives
       receiving k e is = by (cases_eq k p)
         where
-          by : (k ≡ p) ⊎ (k ≢ p) → All (λ (q : Receiving). q.receiver.wire ≡ w → Contains (list_at after.receivers w) k) e.receives
+          by : (k ≡ p) ⊎ (k ≢ p) → All (λ (q : Receiving). q.receiver.wire ≡ w → Contains (list_at r1 w) (number k)) e.receives
           by (inl same) =
               let now : e ≡ record { process = p; sends = r.sent; receives = r.heard } = there k e is ∙ (ap (λ n. get_or (other_offers says p r.sent r.heard all) n e) same ∙ new_here says p r.sent r.heard all below e) in
-              let ok = all_seen (λ (x : Receiver). x.wire ≡ w → Contains (list_at after.receivers w) p) (λ (q : Receiving). q.receiver) r.heard (subst (All (λ (x : Receiver). x.wire ≡ w → Contains (list_at after.receivers w) p)) (sym r.same_receives) (receives_used after.receivers p w receives n.receiving)) in
-              subst (λ n. All (λ (q : Receiving). q.receiver.wire ≡ w → Contains (list_at after.receivers w) n) e.receives) (sym same) (subst (λ (x : Kept). All (λ (q : Receiving). q.receiver.wire ≡ w → Contains (list_at after.receivers w) p) x.receives) (sym now) ok)
+              let ok = all_seen (λ (x : Receiver). x.wire ≡ w → Contains (list_at r1 w) (number p)) (λ (q : Receiving). q.receiver) r.heard (subst (All (λ (x : Receiver). x.wire ≡ w → Contains (list_at r1 w) (number p))) (sym r.same_receives) (receives_used r1 (number p) p w receives noted_r)) in
+              subst (λ n. All (λ (q : Receiving). q.receiver.wire ≡ w → Contains (list_at r1 w) (number n)) e.receives) (sym same) (subst (λ (x : Kept). All (λ (q : Receiving). q.receiver.wire ≡ w → Contains (list_at r1 w) (number p)) x.receives) (sym now) ok)
           by (inr other) =
               let lt = inside k e is in
               let now : e ≡ renewed_in says p r.heard (get_or all k e) = there k e is ∙ new_there says p r.sent r.heard all below k e other lt in
               let was = (used w).receiving k (get_or all k e) (slice_get-get_or all k e lt) in
-              subst (λ (x : Kept). All (λ (q : Receiving). q.receiver.wire ≡ w → Contains (list_at after.receivers w) k) x.receives) (sym now)
-              (All-weaker (λ (q : Receiving). q.receiver.wire ≡ w → Contains (list_at before.receivers w) k) (λ (q : Receiving). q.receiver.wire ≡ w → Contains (list_at after.receivers w) k) (λ q ok on. n.receivers_kept w k (ok on)) (get_or all k e).receives was)
+              subst (λ (x : Kept). All (λ (q : Receiving). q.receiver.wire ≡ w → Contains (list_at r1 w) (number k)) x.receives) (sym now)
+              (All-weaker (λ (q : Receiving). q.receiver.wire ≡ w → Contains (list_at r0 w) (number k)) (λ (q : Receiving). q.receiver.wire ≡ w → Contains (list_at r1 w) (number k)) (λ q ok on. keeps_r w (number k) (ok on)) (get_or all k e).receives was)
 
 -- Nobody has offered anything yet
-pub none_used : (ns : List ℕ) → HaveUsers (record { senders = []; receivers = []; askers = [] }) (map silent ns)
-none_used ns w = record {
-  sending = λ k e is. none (λ (s : Sending). s.sender.wire ≡ w → Contains (list_at [] w) k) k e is (λ x. x.sends) (λ n. refl);
-  receiving = λ k e is. none (λ (q : Receiving). q.receiver.wire ≡ w → Contains (list_at [] w) k) k e is (λ x. x.receives) (λ n. refl);
-}
-  where
-    none : {X : Type 0} (P : X → Type 0) (k : ℕ) (e : Kept) → slice_get (map silent ns) k ≡ Some e → (f : Kept → List X) → ((n : ℕ) → f (silent n) ≡ []) → All P (f e)
-    none {X} P k e is f empty = go ns k is
-      where
-        go : (ms : List ℕ) (k : ℕ) → slice_get (map silent ms) k ≡ Some e → All P (f e)
-        go [] k is = cc
-        go (m ∷ ms) zero is = let one : silent m ≡ e = cc in subst (All P) (sym (ap f (sym one) ∙ empty m)) (All-nil P)
-        go (m ∷ ms) (suc k) is = go ms k is
+module _ (number : ℕ → ℕ) where
+  pub none_by : (ns : List ℕ) (w : ℕ) → AreUsersBy number [] [] (map silent ns) w
+  none_by ns w = record {
+    sending = λ k e is. none (λ (s : Sending). s.sender.wire ≡ w → Contains [] (number k)) k e is (λ x. x.sends) (λ n. refl);
+    receiving = λ k e is. none (λ (q : Receiving). q.receiver.wire ≡ w → Contains [] (number k)) k e is (λ x. x.receives) (λ n. refl);
+  }
+    where
+      none : {X : Type 0} (P : X → Type 0) (k : ℕ) (e : Kept) → slice_get (map silent ns) k ≡ Some e → (f : Kept → List X) → ((n : ℕ) → f (silent n) ≡ []) → All P (f e)
+      none {X} P k e is f empty = go ns k is
+        where
+          go : (ms : List ℕ) (k : ℕ) → slice_get (map silent ms) k ≡ Some e → All P (f e)
+          go [] k is = cc
+          go (m ∷ ms) zero is = let one : silent m ≡ e = cc in subst (All P) (sym (ap f (sym one) ∙ empty m)) (All-nil P)
+          go (m ∷ ms) (suc k) is = go ms k is
+
+pub none_used : (ns : List ℕ) → HaveUsers (record { senders = []; receivers = []; askers = []; blocks = [] }) (map silent ns)
+none_used ns w = none_by (λ k. k) ns w

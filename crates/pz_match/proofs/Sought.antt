@@ -28,7 +28,7 @@ module _ (groups : GroupsView) (all : List Kept) (holds : Holds groups all) wher
       let there : Some i ≡ Some e.process = sym (get_upto (length all) i (slice_get_within all i e is)) ∙ (ap (λ (ns : List ℕ). slice_get ns i) (sym holds.numbered) ∙ named) in
       sym (same_Some i e.process there)
 
-  places : Numbered 0 all
+  pub places : Numbered 0 all
   places = record { at = λ i e is. numbered_at i e is ∙ omega arith }
 
   pub sound_at : (i : ℕ) (e : Kept) → slice_get all i ≡ Some e → Sound groups all e
@@ -113,28 +113,29 @@ module _ (groups : GroupsView) (all : List Kept) (holds : Holds groups all) wher
 
   -- The taken pairs of a wire are what its groups count
 
+  pub keys_of : (xs : List Kept) → All (Sound groups all) xs → All (λ (y : Sent). HasKey groups.groups y.send.group y.send.sender.wire y.send.sender.message (length y.send.sender.parcel.values)) (sent xs)
+  keys_of [] ok = All-nil (λ (y : Sent). HasKey groups.groups y.send.group y.send.sender.wire y.send.sender.message (length y.send.sender.parcel.values))
+  keys_of (e ∷ xs) ok =
+      All-append (λ (y : Sent). HasKey groups.groups y.send.group y.send.sender.wire y.send.sender.message (length y.send.sender.parcel.values)) (map (λ s. record { process = e; send = s }) e.sends) (sent xs)
+      (All-map (λ (y : Sent). HasKey groups.groups y.send.group y.send.sender.wire y.send.sender.message (length y.send.sender.parcel.values)) (λ s. record { process = e; send = s }) e.sends (All-head (Sound groups all) e xs ok).sends_keyed)
+      (keys_of xs (All-tail (Sound groups all) e xs ok))
+
   keys : All (λ (y : Sent). HasKey groups.groups y.send.group y.send.sender.wire y.send.sender.message (length y.send.sender.parcel.values)) (sent all)
-  keys = go all holds.sound
+  keys = keys_of all holds.sound
+
+  -- of a process
+  pub takes_are : (w : ℕ) (e : Kept) → sum_by (takes_on all w e) e.sends ≡ from_process Taken w e
+  takes_are w e = sum_same (takes_on all w e) (number_on Taken groups.groups w e.receives) e.sends (λ k d lt. one (get_or e.sends k d))
     where
-      go : (xs : List Kept) → All (Sound groups all) xs → All (λ (y : Sent). HasKey groups.groups y.send.group y.send.sender.wire y.send.sender.message (length y.send.sender.parcel.values)) (sent xs)
-      go [] ok = All-nil (λ (y : Sent). HasKey groups.groups y.send.group y.send.sender.wire y.send.sender.message (length y.send.sender.parcel.values))
-      go (e ∷ xs) ok =
-          All-append (λ (y : Sent). HasKey groups.groups y.send.group y.send.sender.wire y.send.sender.message (length y.send.sender.parcel.values)) (map (λ s. record { process = e; send = s }) e.sends) (sent xs)
-          (All-map (λ (y : Sent). HasKey groups.groups y.send.group y.send.sender.wire y.send.sender.message (length y.send.sender.parcel.values)) (λ s. record { process = e; send = s }) e.sends (All-head (Sound groups all) e xs ok).sends_keyed)
-          (go xs (All-tail (Sound groups all) e xs ok))
+      one : (s : Sending) → takes_on all w e s ≡ number_on Taken groups.groups w e.receives s
+      one s =
+          let free : (tally_at groups.groups s.group).free ≡ free_all all s.group = (holds.tallied s.group).free ∙ total_free s.group all in
+          ap (λ n. if nat_eq s.sender.wire w then (n - count_by (free_in s.group) e.receives) + yeses s.rows else 0) (sym free)
 
   pub on_wire_is : (w : ℕ) → on_wire groups.groups w ≡ length (sought Taken (pairs_on all w))
   on_wire_is w =
       wire_counts all groups.groups w holds.tallied keys
-      ∙ (sum_same (λ e. sum_by (takes_on all w e) e.sends) (from_process Taken w) all (λ k d lt. same (get_or all k d)) ∙ wire_counted Taken w)
-    where
-      same : (e : Kept) → sum_by (takes_on all w e) e.sends ≡ from_process Taken w e
-      same e = sum_same (takes_on all w e) (number_on Taken groups.groups w e.receives) e.sends (λ k d lt. one (get_or e.sends k d))
-        where
-          one : (s : Sending) → takes_on all w e s ≡ number_on Taken groups.groups w e.receives s
-          one s =
-              let free : (tally_at groups.groups s.group).free ≡ free_all all s.group = (holds.tallied s.group).free ∙ total_free s.group all in
-              ap (λ n. if nat_eq s.sender.wire w then (n - count_by (free_in s.group) e.receives) + yeses s.rows else 0) (sym free)
+      ∙ (sum_same (λ e. sum_by (takes_on all w e) e.sends) (from_process Taken w) all (λ k d lt. takes_are w (get_or all k d)) ∙ wire_counted Taken w)
 
   pub total_is : (n : ℕ) → sum_by (on_wire groups.groups) (upto n) ≡ length (sought Taken (all_pairs all n))
   total_is n =

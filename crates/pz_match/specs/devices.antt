@@ -8,3 +8,4 @@ pub mod Updating
 pub mod Tables
 pub mod Ordering
 pub mod Users
+pub mod Sharing

@@ -1,5 +1,6 @@
 use crate::finding::find;
-use pz_match_lists::{Counts, Lists};
+use crate::skipping::taken_from;
+use pz_match_lists::{Counts, Lists, Shares};
 use pz_offer::Verdict;
 use pz_syntax::Name;
 use std::alloc::{AllocError, Global};
@@ -128,7 +129,8 @@ impl Model for Groups {
 }
 
 impl Groups {
-    ghost use Rattle.std.specs.Prelude.{◌≡◌, ◌<◌, ◌≤◌, ◌+◌, ℕ, [], length, sum_by, All, OnOk, IfOk, MatchOption};
+    ghost use Rattle.std.specs.Prelude.{◌≡◌, ◌<◌, ◌≤◌, ◌+◌, ℕ, [], length, sum_by, All, OnOk, IfOk, IfSome, MatchOption};
+    ghost use Rattle.pz_match.specs.devices.Sharing.{IsTakenFrom};
     ghost use Rattle.pz_match.specs.devices.Lists.{upto};
     ghost use Rattle.pz_match.specs.devices.Tallies.{HasKey, Distinct, Follows, SameTallies, tally_at, with_tally, on_wire};
 
@@ -264,5 +266,14 @@ impl Groups {
             pair) × (x.1 < on_wire self.now.groups x.0)) }
     {
         self.counts.find(pair)
+    }
+
+    /// How many pairs are taken of the sends of a block on a wire; none where receives with conditions
+    /// take any on the wire, or where the number is 2^64 or more.
+    pub(crate) fn taken_from(&self, shares: &Shares, wire: usize, block: usize) -> Option<u64>
+        ensures { IfSome result (IsTakenFrom self.now.groups shares.now wire block) }
+    {
+        let numbers = self.numbers.list(wire);
+        taken_from(self.groups.as_slice(), numbers, shares, wire, block)
     }
 }

@@ -14,6 +14,8 @@ mod places;
 mod renewing;
 mod rows;
 mod seeking;
+mod sharing;
+mod skipping;
 mod tallying;
 mod updating;
 mod users;

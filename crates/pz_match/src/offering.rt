@@ -19,7 +19,7 @@ use crate::groups::Groups;
 use crate::judge::Judge;
 use crate::kept::{Offers, Receiving, Sending};
 use crate::offers::Sender;
-use crate::rows::Rows;
+use crate::rows::{Rows, Spare};
 use crate::tallying::add_send;
 use pz_match_lists::Lists;
 use pz_offer::{End, SendOffer};
@@ -29,6 +29,7 @@ use std::alloc::{AllocError, Global};
 /// these processes have any. The only error is want of memory.
 fn rows_for<J: Judge>(
     alloc: Global,
+    spare: &mut Spare,
     asking: u64,
     all: &[Offers],
     askers: &[usize],
@@ -47,10 +48,10 @@ fn rows_for<J: Judge>(
     ensures asked { IfOk result (λ rows. J.asked judge.new ≡ J.asked judge.old + length rows) }
     ensures lent { J.lent judge.new ≡ J.lent judge.old }
 {
-    let mut rows = Rows::new(alloc);
     if asking == 0 {
-        return Ok(rows);
+        return Ok(Rows::new(alloc));
     }
+    let mut rows = spare.take();
     ask_all(all, askers, sender, group, &mut rows, judge)?;
     Ok(rows)
 }
@@ -59,6 +60,7 @@ fn rows_for<J: Judge>(
 /// receives of other processes that fit say. The only error is want of memory.
 fn join<J: Judge>(
     alloc: Global,
+    spare: &mut Spare,
     groups: &mut Groups,
     all: &[Offers],
     askers: &Lists,
@@ -84,7 +86,7 @@ fn join<J: Judge>(
     let group = groups.number(sender.wire, &sender.message, values)?;
     let asking = groups.tally(group).asking;
     let askers = askers.list(sender.wire as usize);
-    let rows = rows_for(alloc, asking, all, askers, sender, group, judge)?;
+    let rows = rows_for(alloc, spare, asking, all, askers, sender, group, judge)?;
     add_send(groups, group, rows.as_slice(), receives)?;
     Ok((group, rows))
 }
@@ -93,6 +95,7 @@ fn join<J: Judge>(
 /// are asked, and its group has one more. The only error is want of memory.
 fn offer_one<J: Judge>(
     alloc: Global,
+    spare: &mut Spare,
     groups: &mut Groups,
     all: &[Offers],
     askers: &Lists,
@@ -128,7 +131,7 @@ fn offer_one<J: Judge>(
         message: offer.message,
         parcel: offer.parcel,
     };
-    let joined = join(alloc, groups, all, askers, receives, &sender, judge)?;
+    let joined = join(alloc, spare, groups, all, askers, receives, &sender, judge)?;
     Ok(Some(Sending {
         sender,
         group: joined.0,
@@ -148,6 +151,7 @@ fn keep(sent: &mut Vec<Sending>, send: Option<Sending>) -> Result<(), AllocError
 
 /// Keeps the sends that a process with these receives offers. The only error is want of memory.
 pub(crate) fn offer<J: Judge>(
+    spare: &mut Spare,
     groups: &mut Groups,
     all: &[Offers],
     askers: &Lists,
@@ -174,7 +178,9 @@ pub(crate) fn offer<J: Judge>(
 {
     let alloc = *sent.allocator();
     for offer in offers {
-        let send = offer_one(alloc, groups, all, askers, process, receives, offer, judge)?;
+        let send = offer_one(
+            alloc, spare, groups, all, askers, process, receives, offer, judge,
+        )?;
         keep(sent, send)?;
     }
     Ok(())

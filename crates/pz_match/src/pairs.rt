@@ -1,10 +1,12 @@
 use crate::groups::Groups;
 use crate::judge::Judge;
 use crate::kept::Offers;
+use crate::rows::Spare;
 use crate::seeking::{find_trouble, pair_on};
+use crate::sharing::{Way, shift};
 use crate::updating::{replace_in, silence};
 use crate::users::Users;
-use pz_match_lists::Numbers;
+use pz_match_lists::{Numbers, Shares};
 use pz_offer::{End, ReceiveOffer, SendOffer, Trouble};
 use std::alloc::{AllocError, Global};
 use std::marker::Model;
@@ -16,8 +18,11 @@ pub struct Pairs {
     offers: Vec<Offers>,
     groups: Groups,
     users: Users,
+    shares: Shares,
     /// The places of the processes whose sends an update asks about: room for the next one.
     places: Numbers,
+    /// Rows of sends that are gone: room for those that come.
+    spare: Spare,
     lost: bool,
 }
 
@@ -33,7 +38,7 @@ impl Model for Pairs {
     ghost view = { λ t. table_of (map kept t.offers.items) t.groups.wires t.lost };
 
     ghost invariant = { λ t. t.lost ≡ false →
-        Whole t.groups t.users (map kept t.offers.items) };
+        Whole t.groups t.users t.shares (map kept t.offers.items) };
 }
 
 impl Pairs {
@@ -58,7 +63,9 @@ impl Pairs {
             offers,
             groups: Groups::new(alloc),
             users: Users::new(alloc),
+            shares: Shares::new(alloc),
             places: Numbers::new(alloc),
+            spare: Spare::new(alloc),
             lost: false,
         })
     }
@@ -103,16 +110,19 @@ impl Pairs {
         self.lost = true;
         self.users
             .note(process, sends.as_slice(), receives.as_slice())?;
+        shift(&mut self.shares, self.offers.as_slice(), process, Way::Off)?;
         replace_in(
             &mut self.offers,
             &mut self.groups,
             &self.users,
             &mut self.places,
+            &mut self.spare,
             process,
             sends,
             receives,
             judge,
         )?;
+        shift(&mut self.shares, self.offers.as_slice(), process, Way::On)?;
         self.lost = false;
         Ok(())
     }
@@ -137,8 +147,18 @@ impl Pairs {
             Some((wire, rest)) => {
                 let senders = self.users.senders.list(wire);
                 let receivers = self.users.receivers.list(wire);
+                let blocks = self.users.blocks.list(wire);
                 let offers = self.offers.as_slice();
-                pair_on(&self.groups, offers, senders, receivers, wire, rest)
+                pair_on(
+                    &self.groups,
+                    offers,
+                    &self.shares,
+                    senders,
+                    receivers,
+                    blocks,
+                    wire,
+                    rest,
+                )
             }
         }
     }
@@ -148,6 +168,11 @@ impl Pairs {
         requires { self.now.lost ≡ false }
         ensures { result ≡ first_trouble self.now.pairs }
     {
-        find_trouble(&self.groups, self.offers.as_slice(), &self.users)
+        find_trouble(
+            &self.groups,
+            self.offers.as_slice(),
+            &self.shares,
+            &self.users,
+        )
     }
 }

@@ -59,3 +59,53 @@ impl Rows {
         Ok(())
     }
 }
+
+/// Lists of rows that have none, whose room is kept for use again.
+#[derive(Drop)]
+pub(crate) struct Spare {
+    lists: Vec<Rows>,
+}
+
+impl Model for Spare {
+    ghost use Rattle.std.specs.Prelude.{◌≡◌, List, [], All};
+    ghost use Rattle.pz_match.specs.declared.rows.Row.{Row};
+
+    ghost Value = { List (List Row) };
+
+    ghost view = { λ s. s.lists.items };
+
+    ghost invariant = { λ s. All (λ rows. rows ≡ []) s.lists.items };
+}
+
+impl Spare {
+    /// None yet. Takes no memory.
+    pub(crate) fn new(alloc: Global) -> Spare
+        ensures { result ≡ [] }
+    {
+        Spare {
+            lists: Vec::new(alloc),
+        }
+    }
+
+    /// A list without rows, with room if there is one that has any.
+    pub(crate) fn take(&mut self) -> Rows
+        ensures { result ≡ [] }
+    {
+        let alloc = *self.lists.allocator();
+        match self.lists.pop() {
+            Some(rows) => rows,
+            None => Rows::new(alloc),
+        }
+    }
+
+    /// Keeps the room of a list, if it has any. The only error is want of memory.
+    pub(crate) fn keep(&mut self, rows: Rows) -> Result<(), AllocError> {
+        if rows.rows.capacity() == 0 {
+            return Ok(());
+        }
+        let mut rows = rows;
+        rows.rows.clear();
+        self.lists.push(rows)?;
+        Ok(())
+    }
+}

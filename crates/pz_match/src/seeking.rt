@@ -1,22 +1,25 @@
 // The k-th pair of one sort.
 
-ghost use Rattle.std.specs.Prelude.{◌≡◌, ◌<◌, ◌≤◌, ◌+◌, None, length, sum_by, drop, map, slice_get, slice_index_or, IfOk, MatchOption, MatchResult};
+ghost use Rattle.std.specs.Prelude.{◌≡◌, ◌<◌, ◌≤◌, ◌+◌, None, length, sum_by, take, drop, map, slice_get, slice_index_or, IfOk, MatchOption, MatchResult};
 ghost use Rattle.pz_match.specs.declared.kept.Sending.{Sending};
 ghost use Rattle.pz_match.specs.declared.kept.Receiving.{Receiving};
 ghost use Rattle.pz_match.specs.Pairs.{ends, first_or, first_trouble, taken};
 ghost use Rattle.pz_match.specs.declared.rows.Row.{Row};
 ghost use Rattle.pz_match.specs.devices.Kept.{kept, rows_at, answers, heard, pairs_of, pairs_on, all_pairs};
-ghost use Rattle.pz_match.specs.devices.Holding.{Holds};
+ghost use Rattle.pz_match.specs.devices.Holding.{Holds, Answered, SendKeyed};
+ghost use Rattle.pz_match.specs.devices.Sharing.{Shared, AreOwn};
 ghost use Rattle.pz_match.specs.devices.Seeking.{sought, number_of, number_on, IsAnswer, IsHit, IsSeat, IsTaker, IsCouple, IsSend, IsSendAt, IsReceive, IsReceiveAt, OnlyAt};
-ghost use Rattle.pz_match.specs.devices.Users.{AreUsers, HaveUsers};
+ghost use Rattle.pz_match.specs.devices.Users.{AreUsers, HaveUsers, AreBlocks, HaveBlocks};
 ghost use Rattle.pz_match_lists.specs.Increasing.{Increasing};
 
 use crate::groups::{Groups, Sort};
 use crate::kept::{Offers, Receiving, Sending};
 use crate::places::{Couple, Hit, Seat, Taker};
 use crate::rows::Row;
+use crate::skipping::{skip_receivers, skip_senders};
 use crate::tallying::{free_in, said};
 use crate::users::Users;
+use pz_match_lists::{Shares, below};
 use pz_offer::{End, Trouble, Verdict};
 use std::alloc::AllocError;
 
@@ -127,22 +130,26 @@ fn find_in(sort: Sort, send: &Sending, offers: &Offers, number: u64) -> Result<H
     Err(rest)
 }
 
-/// The receive with the pair of this number of a send, among those of these processes.
+/// The receive with the pair of this number of a send, among those of these processes, if so much is left
+/// of the number at that place.
 fn find_taker(
     sort: Sort,
     all: &[Offers],
     users: &[usize],
     send: &Sending,
     number: u64,
+    start: Seat,
 ) -> Option<Taker>
+    requires start { sum_by (λ e. length (sought sort (heard send.now e))) (take start.place
+        (map kept all.now)) + start.rest ≡ number }
     requires increasing { Increasing users.now }
     requires only { OnlyAt users.now (map kept all.now) (λ e. length (sought sort
         (heard send.now e))) }
     ensures { MatchOption result (length (sought sort (pairs_of (map kept all.now) send.now)) ≤
         number) (IsTaker sort (map kept all.now) send.now number) }
 {
-    let mut rest = number;
-    for at in 0..users.len() {
+    let mut rest = start.rest;
+    for at in below(users, start.place)..users.len() {
         let process = users[at];
         if process >= all.len() {
             continue;
@@ -159,15 +166,27 @@ fn find_taker(
     None
 }
 
-/// The pair with this number of a send that stands at this place, with receives of these processes.
+/// The pair with this number of a send that stands at this place, in a process with these receives, with
+/// receives of these processes, which are in these blocks.
 fn couple(
     sort: Sort,
+    groups: &Groups,
     all: &[Offers],
+    shares: &Shares,
     users: &[usize],
+    blocks: &[usize],
     sender: (usize, usize),
     send: &Sending,
+    receives: &[Receiving],
     number: u64,
 ) -> Option<Couple>
+    requires holds { Holds groups.now (map kept all.now) }
+    requires shared { Shared shares.now (map kept all.now) }
+    requires blocks_increasing { Increasing blocks.now }
+    requires blocks { AreBlocks blocks.now (map kept all.now) send.now.sender.wire }
+    requires keyed { SendKeyed groups.now send.now }
+    requires answered { Answered (map kept all.now) send.now }
+    requires own { AreOwn (map kept all.now) send.now.sender.end.process receives.now }
     requires increasing { Increasing users.now }
     requires only { OnlyAt users.now (map kept all.now) (λ e. length (sought sort
         (heard send.now e))) }
@@ -178,7 +197,8 @@ fn couple(
           hit = record { place = c.receiver.1; verdict = c.verdict };
         })) }
 {
-    match find_taker(sort, all, users, send, number) {
+    let start = skip_receivers(sort, groups, all, shares, blocks, send, receives, number);
+    match find_taker(sort, all, users, send, number, start) {
         Some(taker) => Some(Couple {
             sender,
             receiver: (taker.process, taker.hit.place),
@@ -189,25 +209,31 @@ fn couple(
 }
 
 /// The pair with this number of those of the sort on a wire, over which these processes send and those
-/// receive.
+/// receive, which are in these blocks.
 fn find_on(
     sort: Sort,
     groups: &Groups,
     all: &[Offers],
+    shares: &Shares,
     senders: &[usize],
     receivers: &[usize],
+    blocks: &[usize],
     wire: usize,
     number: u64,
 ) -> Option<Couple>
     requires holds { Holds groups.now (map kept all.now) }
+    requires shared { Shared shares.now (map kept all.now) }
+    requires increasing { Increasing blocks.now }
+    requires blocks { AreBlocks blocks.now (map kept all.now) wire }
     requires senders { Increasing senders.now }
     requires receivers { Increasing receivers.now }
     requires users { AreUsers senders.now receivers.now (map kept all.now) wire }
     ensures { MatchOption result (length (sought sort (pairs_on (map kept all.now) wire)) ≤ number)
         (IsCouple (sought sort (pairs_on (map kept all.now) wire)) (map kept all.now) number) }
 {
-    let mut rest = number;
-    for at in 0..senders.len() {
+    let start = skip_senders(sort, groups, all, shares, blocks, wire, number);
+    let mut rest = start.rest;
+    for at in below(senders, start.place)..senders.len() {
         let process = senders[at];
         if process >= all.len() {
             continue;
@@ -218,7 +244,10 @@ fn find_on(
                 let sends = offers.sends.as_slice();
                 let send = &sends[seat.place];
                 let sender = (process, seat.place);
-                return couple(sort, all, receivers, sender, send, seat.rest);
+                let receives = offers.receives.as_slice();
+                return couple(
+                    sort, groups, all, shares, receivers, blocks, sender, send, receives, seat.rest,
+                );
             }
             Err(left) => rest = left,
         }
@@ -236,31 +265,53 @@ fn trouble_of(verdict: Verdict) -> Option<Trouble>
     }
 }
 
-/// The first trouble of a condition on a wire, over which these processes send and those receive, in
-/// the order of the pairs.
+/// The first trouble of a condition on a wire, over which these processes send and those receive, which are
+/// in these blocks, in the order of the pairs.
 fn trouble_on(
     groups: &Groups,
     all: &[Offers],
+    shares: &Shares,
     senders: &[usize],
     receivers: &[usize],
+    blocks: &[usize],
     wire: usize,
 ) -> Option<Trouble>
     requires holds { Holds groups.now (map kept all.now) }
+    requires shared { Shared shares.now (map kept all.now) }
+    requires increasing { Increasing blocks.now }
+    requires blocks { AreBlocks blocks.now (map kept all.now) wire }
     requires senders { Increasing senders.now }
     requires receivers { Increasing receivers.now }
     requires users { AreUsers senders.now receivers.now (map kept all.now) wire }
     ensures { result ≡ first_trouble (pairs_on (map kept all.now) wire) }
 {
-    match find_on(Sort::Troubled, groups, all, senders, receivers, wire, 0) {
+    match find_on(
+        Sort::Troubled,
+        groups,
+        all,
+        shares,
+        senders,
+        receivers,
+        blocks,
+        wire,
+        0,
+    ) {
         Some(couple) => trouble_of(couple.verdict),
         None => None,
     }
 }
 
 /// The first trouble of a condition, in the order of the pairs. Takes a step where there is none.
-pub(crate) fn find_trouble(groups: &Groups, all: &[Offers], users: &Users) -> Option<Trouble>
+pub(crate) fn find_trouble(
+    groups: &Groups,
+    all: &[Offers],
+    shares: &Shares,
+    users: &Users,
+) -> Option<Trouble>
     requires holds { Holds groups.now (map kept all.now) }
+    requires shared { Shared shares.now (map kept all.now) }
     requires users { HaveUsers users.now (map kept all.now) }
+    requires blocks { HaveBlocks users.now.blocks (map kept all.now) }
     ensures { result ≡ first_trouble (all_pairs (map kept all.now) groups.now.wires) }
 {
     if groups.troubles() == 0 {
@@ -269,7 +320,8 @@ pub(crate) fn find_trouble(groups: &Groups, all: &[Offers], users: &Users) -> Op
     for wire in 0..groups.wires() {
         let senders = users.senders.list(wire);
         let receivers = users.receivers.list(wire);
-        match trouble_on(groups, all, senders, receivers, wire) {
+        let blocks = users.blocks.list(wire);
+        match trouble_on(groups, all, shares, senders, receivers, blocks, wire) {
             Some(trouble) => return Some(trouble),
             None => {}
         }
@@ -296,23 +348,38 @@ fn end_of_receive(all: &[Offers], process: usize, place: usize) -> Result<End, A
 }
 
 /// The ends of the taken pair with this number on a wire, over which these processes send and those
-/// receive. The only error is want of memory.
+/// receive, which are in these blocks. The only error is want of memory.
 pub(crate) fn pair_on(
     groups: &Groups,
     all: &[Offers],
+    shares: &Shares,
     senders: &[usize],
     receivers: &[usize],
+    blocks: &[usize],
     wire: usize,
     number: u64,
 ) -> Result<Option<(End, End)>, AllocError>
     requires holds { Holds groups.now (map kept all.now) }
+    requires shared { Shared shares.now (map kept all.now) }
+    requires increasing { Increasing blocks.now }
+    requires blocks { AreBlocks blocks.now (map kept all.now) wire }
     requires senders { Increasing senders.now }
     requires receivers { Increasing receivers.now }
     requires users { AreUsers senders.now receivers.now (map kept all.now) wire }
     ensures { IfOk result (λ pair. pair ≡ slice_get
         (map ends (taken (pairs_on (map kept all.now) wire))) number) }
 {
-    match find_on(Sort::Taken, groups, all, senders, receivers, wire, number) {
+    match find_on(
+        Sort::Taken,
+        groups,
+        all,
+        shares,
+        senders,
+        receivers,
+        blocks,
+        wire,
+        number,
+    ) {
         None => Ok(None),
         Some(couple) => {
             let sender = end_of_send(all, couple.sender.0, couple.sender.1)?;

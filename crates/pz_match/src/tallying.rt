@@ -28,7 +28,7 @@ pub(crate) fn said(sort: Sort, rows: &[Row]) -> usize
 }
 
 /// What a send with these rows adds to its group, in a process with these receives.
-fn send_tally(group: usize, rows: &[Row], receives: &[Receiving]) -> Tally
+pub(crate) fn send_tally(group: usize, rows: &[Row], receives: &[Receiving]) -> Tally
     ensures { result ≡ send_tally receives.now group rows.now }
 {
     Tally {
@@ -83,7 +83,7 @@ pub(crate) fn withdraw_sends(
 }
 
 /// What a receive adds to its group.
-fn receive_tally(conditional: bool) -> Tally
+pub(crate) fn receive_tally(conditional: bool) -> Tally
     ensures { result ≡ receive_tally conditional }
 {
     if conditional {

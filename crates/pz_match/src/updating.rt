@@ -17,6 +17,7 @@ use crate::judge::Judge;
 use crate::kept::{Offers, Receiving, Sending};
 use crate::offering::offer;
 use crate::renewing::renew_all;
+use crate::rows::Spare;
 use crate::tallying::{withdraw_receives, withdraw_sends};
 use crate::users::Users;
 use pz_match_lists::Numbers;
@@ -31,10 +32,24 @@ struct Room {
     receives: Vec<Receiving>,
 }
 
+/// Keeps the room of the rows of these sends, which go. The only error is want of memory.
+fn clear(spare: &mut Spare, sends: &mut Vec<Sending>) -> Result<(), AllocError>
+    ensures { OnOk result (sends.new.items ≡ []) }
+{
+    for _ in 0..sends.len() {
+        if let Some(send) = sends.pop() {
+            spare.keep(send.rows)?;
+        }
+    }
+    sends.clear();
+    Ok(())
+}
+
 /// Takes away all that a process offers, and gathers the places of the processes whose sends its
 /// receives may have answered. The only error is want of memory.
 fn withdraw(
     alloc: Global,
+    spare: &mut Spare,
     groups: &mut Groups,
     users: &Users,
     places: &mut Numbers,
@@ -56,7 +71,7 @@ fn withdraw(
     withdraw_receives(groups, offers.receives.as_slice())?;
     let mut sends = mem::replace(&mut offers.sends, Vec::new(alloc));
     let mut receives = mem::replace(&mut offers.receives, Vec::new(alloc));
-    sends.clear();
+    clear(spare, &mut sends)?;
     receives.clear();
     Ok(Room { sends, receives })
 }
@@ -68,6 +83,7 @@ pub(crate) fn replace<J: Judge>(
     groups: &mut Groups,
     users: &Users,
     places: &mut Numbers,
+    spare: &mut Spare,
     process: u32,
     sends: Vec<SendOffer>,
     receives: Vec<ReceiveOffer>,
@@ -90,13 +106,14 @@ pub(crate) fn replace<J: Judge>(
 {
     let place = process as usize;
     let alloc = *sends.allocator();
-    let room = withdraw(alloc, groups, users, places, &mut all[place])?;
+    let room = withdraw(alloc, spare, groups, users, places, &mut all[place])?;
     let Room {
         sends: mut sent,
         receives: mut heard,
     } = room;
     listen(groups, users, places, process, receives, &mut heard)?;
     offer(
+        spare,
         groups,
         all,
         &users.askers,
@@ -135,6 +152,7 @@ pub(crate) fn replace_in<J: Judge>(
     groups: &mut Groups,
     users: &Users,
     places: &mut Numbers,
+    spare: &mut Spare,
     process: u32,
     sends: Vec<SendOffer>,
     receives: Vec<ReceiveOffer>,
@@ -161,7 +179,7 @@ pub(crate) fn replace_in<J: Judge>(
     groups.are_distinct();
     let slice = all.as_mut_slice();
     replace(
-        slice, groups, users, places, process, sends, receives, judge,
+        slice, groups, users, places, spare, process, sends, receives, judge,
     )?;
     groups.are_distinct();
     Ok(())

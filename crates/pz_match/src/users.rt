@@ -4,6 +4,7 @@ ghost use Rattle.std.specs.Prelude.{◌≡◌, Contains, IfSome, OnOk};
 ghost use Rattle.pz_match_lists.specs.Increasing.{list_at};
 ghost use Rattle.pz_match.specs.devices.Users.{KeepsUsers, SendsNoted, ReceivesNoted, AskersNoted, asking_wire};
 
+use crate::sharing::BLOCK;
 use pz_match_lists::Lists;
 use pz_offer::{ReceiveOffer, SendOffer};
 use std::alloc::{AllocError, Global};
@@ -15,6 +16,8 @@ pub(crate) struct Users {
     pub(crate) receivers: Lists,
     /// Those that have had a receive with a condition.
     pub(crate) askers: Lists,
+    /// The blocks of all of them.
+    pub(crate) blocks: Lists,
 }
 
 impl Users {
@@ -23,12 +26,13 @@ impl Users {
 
     /// None yet. Takes no memory.
     pub(crate) fn new(alloc: Global) -> Users
-        ensures { result ≡ record { senders = []; receivers = []; askers = [] } }
+        ensures { result ≡ record { senders = []; receivers = []; askers = []; blocks = [] } }
     {
         Users {
             senders: Lists::new(alloc),
             receivers: Lists::new(alloc),
             askers: Lists::new(alloc),
+            blocks: Lists::new(alloc),
         }
     }
 
@@ -44,6 +48,9 @@ impl Users {
         note_sends(&mut self.senders, process, sends)?;
         note_receives(&mut self.receivers, process, receives)?;
         note_askers(&mut self.askers, process, receives)?;
+        let block = process / BLOCK as u32;
+        note_sends(&mut self.blocks, block, sends)?;
+        note_receives(&mut self.blocks, block, receives)?;
         Ok(())
     }
 }

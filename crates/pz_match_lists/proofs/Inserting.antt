@@ -75,6 +75,17 @@ there xs seen i y same up h =
     let found = searched xs y (Ok i) (subst (λ (zs : List ℕ). IsBinarySearchResult (λ z. nat_cmp z y) zs (Ok i)) same h) (rises xs up) in
     (i, found.0, get_or_default xs i y 0 found.0 ∙ found.1)
 
+-- the numbers on both sides of one that is found
+module _ (xs : List ℕ) (i y : ℕ) (up : Increasing xs) (h : IsBinarySearchResult (λ z. nat_cmp z y) xs (Ok i)) where
+  here : (i < length xs) × (get_or xs i 0 ≡ y)
+  here = searched xs y (Ok i) h (rises xs up)
+
+  pub found_below : (k : ℕ) → k < i → get_or xs k 0 < y
+  found_below k lt = let less = up k i 0 lt here.0 in omega (arith, less, here.1)
+
+  pub found_behind : (k : ℕ) → i ≤ k → k < length xs → y ≤ get_or xs k 0
+  found_behind k le lt = let more = rises xs up i k le lt in omega (arith, more, here.1)
+
 -- Lists of lists
 
 pub set_here : (xs : List (List ℕ)) (p : ℕ) (ys : List ℕ) → p < length xs → list_at (set xs p ys) p ≡ ys

@@ -1,2 +1,3 @@
 pub mod Increasing
+pub mod Shares
 pub mod devices

@@ -4,7 +4,9 @@
 mod counts;
 mod lists;
 mod numbers;
+mod shares;
 
 pub use counts::Counts;
 pub use lists::Lists;
-pub use numbers::Numbers;
+pub use numbers::{Numbers, below};
+pub use shares::{Part, Share, Shares};

@@ -1,4 +1,4 @@
-ghost use Rattle.std.specs.Prelude.{◌≡◌, ℕ, [], Contains, OnOk};
+ghost use Rattle.std.specs.Prelude.{◌≡◌, ◌<◌, ◌≤◌, ℕ, [], length, slice_index, Contains, OnOk};
 ghost use Rattle.pz_match_lists.specs.Increasing.{Increasing};
 
 use std::alloc::{AllocError, Global};
@@ -68,5 +68,18 @@ impl Numbers {
             self.add(*number)?;
         }
         Ok(())
+    }
+}
+
+/// How many of these numbers are below one, where they increase.
+pub fn below(numbers: &[usize], number: usize) -> usize
+    requires { Increasing numbers.now }
+    ensures within { result ≤ length numbers.now }
+    ensures before { (k : ℕ) → k < result → slice_index numbers.now k < number }
+    ensures behind { (k : ℕ) → result ≤ k → k < length numbers.now →
+        number ≤ slice_index numbers.now k }
+{
+    match numbers.binary_search(&number) {
+        Ok(place) | Err(place) => place,
     }
 }

@@ -93,6 +93,9 @@ abbrev pub past : List ℕ → ℕ → ℕ
 past numbers zero = 0
 past numbers (suc n) = slice_index_or numbers n 0 + 1
 
--- the processes that have any of these are among those with these numbers
+-- what has any of these is at one of these places
+abbrev pub OnlyAmong : {X : Type 0} → List ℕ → List X → (X → ℕ) → Type 0
+OnlyAmong {X} places all f = (k : ℕ) (e : X) → slice_get all k ≡ Some e → (Contains places k → ⊥) → f e ≡ 0
+
 abbrev pub OnlyAt : List ℕ → List Kept → (Kept → ℕ) → Type 0
-OnlyAt users all f = (k : ℕ) (e : Kept) → slice_get all k ≡ Some e → (Contains users k → ⊥) → f e ≡ 0
+OnlyAt = OnlyAmong {X = Kept}

@@ -1,5 +1,5 @@
 -- Who has offered something over a wire.
-use Rattle.std.specs.Prelude.{◌≡◌, ℕ, true, List, Option, Some, None, All, Contains, IfSome, slice_get, if◌then◌else◌}
+use Rattle.std.specs.Prelude.{◌≡◌, ◌/◌, ℕ, true, List, Option, Some, None, All, Contains, IfSome, slice_get, if◌then◌else◌}
 use Rattle.pz_match_lists.specs.Increasing.{list_at}
 use Rattle.pz_offer.specs.declared.ends.SendOffer.{SendOffer}
 use Rattle.pz_offer.specs.declared.ends.ReceiveOffer.{ReceiveOffer}
@@ -7,16 +7,28 @@ use Rattle.pz_match.specs.declared.kept.Receiving.{Receiving}
 use Rattle.pz_match.specs.declared.users.Users.{Users}
 use Rattle.pz_match.specs.devices.Kept.{Kept}
 use Rattle.pz_match.specs.devices.Tallies.{GroupsView}
+use Rattle.pz_match_lists.specs.declared.shares.Part.{Part}
 use Rattle.pz_match.specs.devices.Tables.{Stands}
+use Rattle.pz_match.specs.devices.Sharing.{Shared}
 
--- each process that sends over this wire is among the first, and each that receives over it among the others
-pub record AreUsers (senders receivers : List ℕ) (all : List Kept) (wire : ℕ) : Type 0 where
-  pub sending : (k : ℕ) (e : Kept) → slice_get all k ≡ Some e → All (λ s. s.sender.wire ≡ wire → Contains senders k) e.sends
-  pub receiving : (k : ℕ) (e : Kept) → slice_get all k ≡ Some e → All (λ r. r.receiver.wire ≡ wire → Contains receivers k) e.receives
+-- each process that sends over this wire is among the first, by its number or that of its block, and each that receives over it among the others
+pub record AreUsersBy (number : ℕ → ℕ) (senders receivers : List ℕ) (all : List Kept) (wire : ℕ) : Type 0 where
+  pub sending : (k : ℕ) (e : Kept) → slice_get all k ≡ Some e → All (λ s. s.sender.wire ≡ wire → Contains senders (number k)) e.sends
+  pub receiving : (k : ℕ) (e : Kept) → slice_get all k ≡ Some e → All (λ r. r.receiver.wire ≡ wire → Contains receivers (number k)) e.receives
+
+abbrev pub AreUsers : List ℕ → List ℕ → List Kept → ℕ → Type 0
+AreUsers = AreUsersBy (λ k. k)
 
 -- of every wire
+
 abbrev pub HaveUsers : Users → List Kept → Type 0
 HaveUsers users all = (wire : ℕ) → AreUsers (list_at users.senders wire) (list_at users.receivers wire) all wire
+
+abbrev pub AreBlocks : List ℕ → List Kept → ℕ → Type 0
+AreBlocks blocks = AreUsersBy (λ k. k / 64) blocks blocks
+
+abbrev pub HaveBlocks : List (List ℕ) → List Kept → Type 0
+HaveBlocks blocks all = (wire : ℕ) → AreBlocks (list_at blocks wire) all wire
 
 -- those that were there are there still
 abbrev pub KeepsUsers : List (List ℕ) → List (List ℕ) → Type 0
@@ -50,13 +62,18 @@ pub record Noted (old new : Users) (process : ℕ) (sends : List SendOffer) (rec
   pub sending : SendsNoted new.senders process sends
   pub receiving : ReceivesNoted new.receivers process receives
   pub asking : AskersNoted new.askers process receives
+  pub blocks_kept : KeepsUsers old.blocks new.blocks
+  pub sending_blocks : SendsNoted new.blocks (process / 64) sends
+  pub receiving_blocks : ReceivesNoted new.blocks (process / 64) receives
 
 -- who sends over the wires of those of these receives that have a condition is among these
 abbrev pub Gathered : List (List ℕ) → List ℕ → List Receiving → Type 0
 Gathered senders places = All (λ r. r.receiver.conditional ≡ true → (n : ℕ) → Contains (list_at senders r.receiver.wire) n → Contains places n)
 
 -- what a table keeps, who uses its wires included
-pub record Whole (groups : GroupsView) (users : Users) (all : List Kept) : Type 0 where
+pub record Whole (groups : GroupsView) (users : Users) (shares : List (List Part)) (all : List Kept) : Type 0 where
   pub stands : Stands groups all
   pub used : HaveUsers users all
   pub asks : HaveAskers users.askers all
+  pub in_blocks : HaveBlocks users.blocks all
+  pub shared : Shared shares all

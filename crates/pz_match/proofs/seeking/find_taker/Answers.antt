@@ -6,8 +6,17 @@ use Rattle.pz_match.specs.devices.Kept.{kept, heard}
 use Rattle.pz_match.specs.devices.Seeking.{sought}
 use Rattle.pz_match.proofs.Hits.{heard_own, heard_other, taker_found, taker_none}
 use Rattle.pz_match.proofs.Couples.{item_kept}
-use Rattle.pz_match.proofs.Reaching.{no_user, user_passes, at_user, follows_past, all_passed}
+use Rattle.pz_match.proofs.Reaching.{from_below, no_user, user_passes, at_user, follows_past, all_passed}
 use Rattle.pz_match.proofs.seeking.find_taker.Goals as goal
+
+pub loop-at-init : goal.loop-at-init
+loop-at-init c =
+    record {
+      within = c.below-at.ensures.within;
+      adds =
+          from_below c.args.users.now c.requires.increasing (map kept c.args.all.now) (λ e. length (sought c.args.sort (heard c.args.send.now e))) c.requires.only c.below-at.result c.args.start.place c.args.start.rest c.args.number
+          c.below-at.ensures.within c.below-at.ensures.before c.below-at.ensures.behind c.requires.start;
+    }
 
 pub loop-at-preserved-then-process-all : goal.loop-at-preserved-then-process-all
 loop-at-preserved-then-process-all c =

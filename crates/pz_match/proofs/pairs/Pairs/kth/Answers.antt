@@ -9,7 +9,8 @@ use Rattle.pz_match.specs.Table.{Table}
 use Rattle.pz_match.specs.declared.kept.Offers.{Offers}
 use Rattle.pz_match.specs.devices.Kept.{kept, pairs_on, all_pairs}
 use Rattle.pz_match.specs.devices.Holding.{Holds}
-use Rattle.pz_match.specs.devices.Users.{AreUsers}
+use Rattle.pz_match.specs.devices.Users.{AreUsers, AreBlocks}
+use Rattle.pz_match.specs.devices.Sharing.{Shared}
 use Rattle.pz_match.proofs.Sought.{total_is, at_wire}
 use Rattle.pz_match.proofs.Ends.{ends_none, ends_same}
 use Rattle.pz_match.proofs.pairs.Pairs.kth.Goals as goal
@@ -32,6 +33,17 @@ pair_on-requires-clause-users c =
     subst (λ (xs : List Offers). AreUsers c.list-senders.result.now c.list-receivers.result.now (map kept xs) c.in-Some.wire) (sym c.as_slice-offers.ensures.value)
     (subst (λ (ss : List ℕ). AreUsers ss c.list-receivers.result.now (map kept c.self.inside.offers.items) c.in-Some.wire) (sym c.list-senders.ensures.list)
     (subst (λ (rs : List ℕ). AreUsers (list_at c.self.inside.users.senders c.in-Some.wire) rs (map kept c.self.inside.offers.items) c.in-Some.wire) (sym c.list-receivers.ensures.list) ((c.self.invariant there).used c.in-Some.wire)))
+
+pub pair_on-requires-clause-shared : goal.pair_on-requires-clause-shared
+pair_on-requires-clause-shared c =
+    let there = ap (λ (t : Table). t.lost) c.self.view_is ∙ c.requires in
+    subst (λ (xs : List Offers). Shared c.self.inside.shares (map kept xs)) (sym c.as_slice-offers.ensures.value) (c.self.invariant there).shared
+
+pub pair_on-requires-clause-blocks : goal.pair_on-requires-clause-blocks
+pair_on-requires-clause-blocks c =
+    let there = ap (λ (t : Table). t.lost) c.self.view_is ∙ c.requires in
+    subst (λ (xs : List Offers). AreBlocks c.list-blocks.result.now (map kept xs) c.in-Some.wire) (sym c.as_slice-offers.ensures.value)
+    (subst (λ (bs : List ℕ). AreBlocks bs (map kept c.self.inside.offers.items) c.in-Some.wire) (sym c.list-blocks.ensures.list) ((c.self.invariant there).in_blocks c.in-Some.wire))
 
 pub returns-in-Some : goal.returns-in-Some
 returns-in-Some c =

@@ -1,19 +1,24 @@
 -- What is shown of an update.
-use Rattle.std.proofs.Common.{◌<◌, ◌+◌, ◌∙◌, sym, ap, subst, ℕ, false, List, length, set}
+use Rattle.std.proofs.Common.{◌≡◌, ◌<◌, ◌+◌, ◌/◌, ◌∙◌, sym, ap, subst, ℕ, false, List, length, get_or, set, Some}
+use Rattle.std.specs.List.{slice_get}
+use Rattle.std.proofs.lemmas.Option.{slice_get-get_or}
 use Rattle.std.specs.Prelude.{map, not, filter, Contains}
-use Rattle.std.proofs.lemmas.List.{length-map}
+use Rattle.std.proofs.lemmas.List.{length-map, get_or_default}
+use Rattle.pz_match.specs.declared.kept.Offers.{Offers}
+use Rattle.pz_match.specs.devices.Updating.{silent}
+use Rattle.pz_match.proofs.Shared.{shared_after, new_at}
 use Rattle.pz_match.specs.declared.offers.Sender.{Sender}
 use Rattle.pz_match.specs.declared.offers.Receiver.{Receiver}
 use Rattle.pz_match.specs.Offers.{senders, receivers}
 use Rattle.pz_match.specs.Pairs.{touches}
 use Rattle.pz_match.specs.Table.{Table, all_senders, all_receivers}
-use Rattle.pz_match.specs.devices.Kept.{kept}
+use Rattle.pz_match.specs.devices.Kept.{Kept, kept}
 use Rattle.pz_match.proofs.Ends.{senders_in, all_senders_are, all_receivers_are}
 use Rattle.pz_match.proofs.Shown.{are_pairs, are_free, stands_after, senders_shown, receivers_shown, said_now, others_there, questions_now}
 use Rattle.pz_offer.specs.declared.ends.SendOffer.{SendOffer}
 use Rattle.pz_offer.specs.declared.ends.ReceiveOffer.{ReceiveOffer}
 use Rattle.pz_match.specs.devices.Users.{Noted}
-use Rattle.pz_match.proofs.Noting.{keeps_users, users_after}
+use Rattle.pz_match.proofs.Noting.{keeps_users, used_after}
 use Rattle.pz_match.proofs.Askers.{keeps_askers, askers_after}
 use Rattle.pz_match.proofs.pairs.Pairs.update.Goals as goal
 
@@ -51,10 +56,26 @@ invariant_of-self-2 g c there =
       stands =
           stands_after says c.args.process c.args.sends.items c.args.receives.items c.self.inside.groups c.replace_in.new.groups all new whole.stands c.in_ok-replace_in.ensures.replaced below
           c.requires.sends_ordered c.requires.receives_ordered;
-      used = users_after says c.args.process c.args.sends.items c.args.receives.items c.self.inside.groups c.replace_in.new.groups all new c.in_ok-replace_in.ensures.replaced below c.self.inside.users c.note.new.self whole.used noted;
+      used =
+          used_after says c.args.process c.args.sends.items c.args.receives.items c.self.inside.groups c.replace_in.new.groups all new c.in_ok-replace_in.ensures.replaced below
+          (λ k. k) c.self.inside.users.senders c.note.new.self.senders c.self.inside.users.receivers c.note.new.self.receivers whole.used noted.senders_kept noted.receivers_kept noted.sending noted.receiving;
       asks =
           askers_after says c.args.process c.args.sends.items c.args.receives.items c.self.inside.groups c.replace_in.new.groups all new c.in_ok-replace_in.ensures.replaced below
           c.self.inside.users.askers c.note.new.self.askers whole.asks noted.askers_kept noted.asking;
+      in_blocks =
+          used_after says c.args.process c.args.sends.items c.args.receives.items c.self.inside.groups c.replace_in.new.groups all new c.in_ok-replace_in.ensures.replaced below
+          (λ k. k / 64) c.self.inside.users.blocks c.note.new.self.blocks c.self.inside.users.blocks c.note.new.self.blocks whole.in_blocks noted.blocks_kept noted.blocks_kept noted.sending_blocks noted.receiving_blocks;
+      shared =
+          let r = c.in_ok-replace_in.ensures.replaced in
+          let old : Kept = get_or all c.args.process (silent c.args.process) in
+          let is : old ≡ get_or all c.args.process old = get_or_default all c.args.process (silent c.args.process) old below in
+          let now : Kept = record { process = c.args.process; sends = r.sent; receives = r.heard } in
+          let was_there : slice_get (map kept c.as_slice-3.result.now) c.args.process ≡ Some old
+          = ap (λ (xs : List Offers). slice_get (map kept xs) c.args.process) c.as_slice-3.ensures.value ∙ slice_get-get_or all c.args.process (silent c.args.process) below in
+          let is_there : slice_get (map kept c.as_slice-4.result.now) c.args.process ≡ Some now
+          = ap (λ (xs : List Offers). slice_get (map kept xs) c.args.process) c.as_slice-4.ensures.value ∙ new_at says c.args.process c.args.sends.items c.args.receives.items c.self.inside.groups c.replace_in.new.groups all new r below in
+          shared_after says c.args.process c.args.sends.items c.args.receives.items c.self.inside.groups c.replace_in.new.groups all new r below
+          c.self.inside.shares c.shift.new.shares c.shift-2.new.shares whole.shared old is (c.in_ok-shift.ensures old was_there) (c.in_ok-shift-2.ensures now is_there);
     }
 
 pub returns-clause-senders : goal.returns-clause-senders

@@ -1,0 +1,1 @@
+-- The sends and the receives of the process.

@@ -1,0 +1,17 @@
+-- The closure gives the block of a part.
+use Rattle.std.proofs.Common.{rules}
+use Rattle.std.proofs.lemmas.List.Sorted.{answers_always}
+use Rattle.pz_match_lists.proofs.Parting.{searched}
+use Rattle.pz_match_lists.proofs.shares.Parts.search.Goals as goal
+
+pub returns-clause-found : goal.returns-clause-found
+returns-clause-found c =
+    let facts = c.binary_search_by_key.ensures in
+    let by_key = facts.position (λ part. part.block) (answers_always _ _ _ (λ f a r g called. search rules)) in
+    rw (← c.self.view_is, ← c.deref.ensures.value) (searched _ (rw c.deref.ensures.value c.self.invariant) c.args.block _ facts.bound by_key).found
+
+pub returns-clause-absent : goal.returns-clause-absent
+returns-clause-absent c =
+    let facts = c.binary_search_by_key.ensures in
+    let by_key = facts.position (λ part. part.block) (answers_always _ _ _ (λ f a r g called. search rules)) in
+    rw (← c.self.view_is, ← c.deref.ensures.value) (searched _ (rw c.deref.ensures.value c.self.invariant) c.args.block _ facts.bound by_key).absent
