@@ -90,8 +90,9 @@ fn close_unless(frame: FrameId, standing: &[u64], state: &mut State) -> Result<(
     state.close_frame(frame)
 }
 
-/// Closes all open frames but these, which are in order. The only error is want of memory.
-fn close_others(standing: &[u64], state: &mut State) -> Result<(), AllocError>
+/// Closes all open frames but these, which are in order; open marks stay. Time is linear in the open frames, but
+/// for a logarithm. The only error is want of memory, and of the state nothing is said then.
+pub fn close_others(standing: &[u64], state: &mut State) -> Result<(), AllocError>
     requires { IsNonDecreasing standing.now }
     ensures { OnOk result (state.new ≡ changed state.old
         (only_frames standing.now state.old.held)) }

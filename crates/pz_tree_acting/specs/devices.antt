@@ -1,2 +1,4 @@
+pub mod StatementPlaces
 pub mod Begun
+pub mod Parts
 pub mod Listing
