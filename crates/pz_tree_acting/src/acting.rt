@@ -4,7 +4,58 @@ ghost use Rattle.std.specs.Prelude.{◌≡◌, ◌×◌, IfOk, OnErr, OnOk};
 ghost use Rattle.pz_classes.specs.CheckedView.{checked_model};
 ghost use Rattle.pz_nodes.specs.Arena.{find};
 ghost use Rattle.pz_part_queries.specs.Standpoints.{Knows};
+ghost use Rattle.pz_part_opening.specs.Homes.{home_view};
+ghost use Rattle.pz_rules.specs.View.{term_view};
+ghost use Rattle.pz_state.specs.Marks.{IsLatest};
+ghost use Rattle.pz_tree_planting.specs.Planting.{EndsInTime};
 ghost use Rattle.pz_tree_acting.specs.Acting.{MayBeDone, ActRule, TrialRule};
+ghost use Rattle.pz_tree_acting.specs.devices.Begun.{StayRule};
+
+use crate::beginning::{Begun, begin};
+use crate::how::How;
+use crate::sweeping::sweep;
+use pz_nodes::{Key, Nodes, Steps};
+use pz_offer::Trouble;
+use pz_part_opening::Home;
+use pz_part_queries::Standpoint;
+use pz_state::{FrameId, State};
+use pz_tree_nodes::Node;
+use pz_tree_regrowing::regrow;
+use pz_tree_seeking::Spot;
+use std::alloc::{AllocError, Global};
+use std::sync::ledger::Ledger;
+
+// What a part did stays: the nodes become those of what is left, and the frames that stand no longer leave the state.
+fn finish<L: Ledger>(
+    alloc: Global,
+    home: &Home<'_>,
+    nodes: &mut Nodes<Node>,
+    root: Option<Key>,
+    clock: u128,
+    place: &[usize],
+    begun: Begun,
+    state: &mut State,
+    steps: &mut Steps<L>,
+) -> Result<Option<Key>, AllocError>
+    requires latest { IsLatest state.old begun.point }
+    requires ends { EndsInTime clock (term_view begun.part) }
+    ensures { IfOk result (λ out. StayRule (home_view home.now) (find nodes.old) (find nodes.new) root clock
+        place.now (term_view begun.part) out state.old state.new) }
+{
+    let Begun { point, part } = begun;
+    let whole = Spot {
+        key: root,
+        frame: FrameId(0),
+        clock,
+    };
+    let mut lost = Vec::new(alloc);
+    let out = regrow(
+        alloc, home, nodes, whole, place, part, state, &mut lost, steps,
+    )?;
+    sweep(alloc, nodes, out, state, steps)?;
+    state.keep(point);
+    Ok(out)
+}
 
 /// The part at the place of the term that stands at `root` acts, in its state and by the clock of the standpoint.
 /// Hands out the key of what stands for what that leaves, None where nothing is left; or the trouble, and then
@@ -29,14 +80,12 @@ pub fn act<L: Ledger>(
         place.now left state.old state.new) }
     ensures stays { IfOk result (λ left. OnErr left ((nodes.new ≡ nodes.old) × (state.new ≡ state.old))) }
 {
-    let spot = Spot {
-        key: root,
-        frame: FrameId(0),
-        clock: here.clock,
-    };
+    pz_term_around::laws::active_parts_may_act();
     match begin(alloc, here, home, nodes, root, place, how, state, steps)? {
         Ok(begun) => {
-            let out = finish(alloc, home, nodes, spot, place, begun, state, steps)?;
+            let out = finish(
+                alloc, home, nodes, root, here.clock, place, begun, state, steps,
+            )?;
             Ok(Ok(out))
         }
         Err(trouble) => Ok(Err(trouble)),

@@ -1,11 +1,11 @@
 // The frames that stand in the term of nodes. The only error is want of memory.
 
 ghost use Rattle.std.specs.Prelude.{◌≡◌, ◌++◌, OnOk, IfOk};
-ghost use Rattle.std.specs.List.Sorted.{IsNonDecreasing, IsPermutation};
+ghost use Rattle.std.specs.List.Sorted.{IsNonDecreasing};
 ghost use Rattle.pz_nodes.specs.Arena.{find};
 ghost use Rattle.pz_tree_dropping.specs.devices.Frames.{frames_here};
 ghost use Rattle.pz_tree_nodes.specs.View.{head_view};
-ghost use Rattle.pz_tree_acting.specs.devices.Listing.{ListRule, ListAllRule, StandingRule};
+ghost use Rattle.pz_tree_acting.specs.devices.Listing.{ListRule, ListAllRule, DeepRule, StandingRule, SortedRule};
 
 use pz_nodes::{Key, Nodes, Steps};
 use pz_tree_nodes::{Head, Node};
@@ -66,9 +66,44 @@ fn list_all<L: Ledger>(
 }
 
 // Nodes are no more than twice as deep as their term is high.
-fn levels_under<L: Ledger>(nodes: &Nodes<Node>, key: Key, steps: &mut Steps<L>) -> u64 {
+fn levels_under<L: Ledger>(nodes: &Nodes<Node>, key: Key, steps: &mut Steps<L>) -> u64
+    ensures { DeepRule (find nodes.now) key result }
+{
     match nodes.get(key, steps) {
         Some(node) => u64::from(node.what.kept.height) * 2,
         None => 0,
     }
+}
+
+// The frames below a key that may be none.
+fn list_under<L: Ledger>(
+    alloc: Global,
+    nodes: &Nodes<Node>,
+    key: Option<Key>,
+    steps: &mut Steps<L>,
+) -> Result<Vec<u64>, AllocError>
+    ensures { IfOk result (λ frames. StandingRule (find nodes.now) key frames.items) }
+{
+    let mut frames = Vec::new(alloc);
+    if let Some(key) = key {
+        let levels = levels_under(nodes, key, steps);
+        list_frames(nodes, key, levels, &mut frames, steps)?;
+    }
+    Ok(frames)
+}
+
+/// The numbers of the frames that stand in the term of the nodes under a key, in order; one step a node, and one.
+/// The only error is want of memory.
+pub(crate) fn standing_frames<L: Ledger>(
+    alloc: Global,
+    nodes: &Nodes<Node>,
+    key: Option<Key>,
+    steps: &mut Steps<L>,
+) -> Result<Vec<u64>, AllocError>
+    ensures frames { IfOk result (λ frames. SortedRule (find nodes.now) key frames.items) }
+    ensures sorted { IfOk result (λ frames. IsNonDecreasing frames.items) }
+{
+    let mut frames = list_under(alloc, nodes, key, steps)?;
+    frames.sort()?;
+    Ok(frames)
 }
