@@ -1,3 +1,4 @@
+pub mod Closing
 pub mod Capped
 pub mod Outlines
 pub mod devices

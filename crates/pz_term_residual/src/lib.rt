@@ -18,4 +18,4 @@ pub use outline::{
 };
 pub use residual::stays_low;
 pub use settling::settle;
-pub use sweeping::{close_others, sweep};
+pub use sweeping::{close_others, close_those, sweep};

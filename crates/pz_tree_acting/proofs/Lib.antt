@@ -3,6 +3,7 @@ mod Statements
 mod Higher
 mod Calm
 mod Parts
+mod Frames
 mod Listing
 mod Marked
 mod Finished

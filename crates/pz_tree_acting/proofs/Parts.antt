@@ -16,7 +16,12 @@ use Rattle.pz_tree_standing.specs.Whole.{IsNoShift}
 use Rattle.pz_tree_nodes.specs.declared.node.What as lying
 use Rattle.pz_tree_nodes.specs.View.{Plant, head_view, what_view, term_in_option}
 use Rattle.pz_tree_seeking.specs.Seeking.{frame_at, StandsUnder, IsBareUnder, IsFound, ActiveAtPlace, TendedStand}
+use Rattle.pz_copy.specs.Parcels.{ParcelView}
+use Rattle.pz_tree_acting.specs.declared.how.How.{How}
+use Rattle.pz_tree_acting.specs.declared.how.How.TheVariants.{Internal, Send, Receive}
+use Rattle.pz_tree_acting.specs.Deeds.{able}
 use Rattle.pz_tree_acting.specs.Acting.{Rooted}
+use Rattle.pz_tree_acting.proofs.Statements.{acting_place, sending_place, receiving_place}
 use Rattle.pz_tree_acting.specs.devices.Parts.{IsSimple, PartRule, HeadRule}
 use Rattle.pz_tree_acting.specs.devices.StatementPlaces.{IsFrom}
 
@@ -90,3 +95,10 @@ found_at law t place f y framed is a g x active =
 pub rooted_stands : TendedStand → (m : Map lying.What) (key : Option ℕ) (c : ℕ) (p : Option Plant) → Rooted m key c p → StandsUnder (seen what_view m) key c (term_in_option c p)
 rooted_stands law m key c None r = subst (λ k. StandsUnder (seen what_view m) k c done) r.under refl
 rooted_stands law m key c (Some p) r = subst (λ k. StandsUnder (seen what_view m) k c (term_in_option c (Some p))) r.under (law m 0 c p r.stands r.tended)
+
+-- ------------------------------------------------------------ the place of its statement
+
+pub able_place : (how : How) (parcel : ParcelView) (a : Context) (g : ℕ) (x : Term) (pos : Pos) → able how parcel a g x pos → IsFrom pos x
+able_place Internal parcel a g x pos can = acting_place a g x can.0 pos can.1
+able_place Send parcel a g x pos can = sending_place a g x pos can.0 can.1 parcel can.2
+able_place (Receive taken) parcel a g x pos can = receiving_place x pos can.0 can.1 can.2 can.3

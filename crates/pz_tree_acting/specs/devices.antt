@@ -2,3 +2,4 @@ pub mod StatementPlaces
 pub mod Begun
 pub mod Parts
 pub mod Listing
+pub mod Closing

@@ -12,8 +12,8 @@ ghost use Rattle.pz_tree_acting.specs.Acting.{MayBeDone, ActRule, TrialRule};
 ghost use Rattle.pz_tree_acting.specs.devices.Begun.{StayRule};
 
 use crate::beginning::{Begun, begin};
+use crate::closing::close_frames;
 use crate::how::How;
-use crate::sweeping::sweep;
 use pz_nodes::{Key, Nodes, Steps};
 use pz_offer::Trouble;
 use pz_part_opening::Home;
@@ -48,11 +48,13 @@ fn finish<L: Ledger>(
         frame: FrameId(0),
         clock,
     };
+    pz_tree_standing::laws::frames_are_counted();
+    pz_tree_frames::laws::openings_open_frames();
     let mut lost = Vec::new(alloc);
     let out = regrow(
         alloc, home, nodes, whole, place, part, state, &mut lost, steps,
     )?;
-    sweep(alloc, nodes, out, state, steps)?;
+    close_frames(alloc, home.edition, nodes, out, &lost, state, steps)?;
     state.keep(point);
     Ok(out)
 }
@@ -81,6 +83,8 @@ pub fn act<L: Ledger>(
     ensures stays { IfOk result (λ left. OnErr left ((nodes.new ≡ nodes.old) × (state.new ≡ state.old))) }
 {
     pz_term_around::laws::active_parts_may_act();
+    pz_rules::laws::offered_parts_act();
+    pz_tree_seeking::laws::active_parts_are_at_their_places();
     match begin(alloc, here, home, nodes, root, place, how, state, steps)? {
         Ok(begun) => {
             let out = finish(

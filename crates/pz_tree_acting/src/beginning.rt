@@ -12,7 +12,7 @@ ghost use Rattle.pz_state.specs.Marks.{IsLatest, undone};
 ghost use Rattle.pz_state.specs.States.{StateView};
 ghost use Rattle.pz_tree_planting.specs.Planting.{EndsInTime};
 ghost use Rattle.pz_tree_acting.specs.Acting.{MayBeDone};
-ghost use Rattle.pz_tree_acting.specs.devices.Begun.{ActsSo, DeedRule, IsBegun, HoldRule, BeginRule};
+ghost use Rattle.pz_tree_acting.specs.devices.Begun.{ActsSo, DeedRule, IsBegun, Opens, HoldRule, BeginRule};
 
 use crate::how::How;
 use crate::parts::{part_under, pos_of};
@@ -131,6 +131,7 @@ pub(crate) fn begin<L: Ledger>(
     ensures leaves { IfOk result (λ begun. BeginRule here.now home.now how (find nodes.now) root place.now
         state.old.held state.new.held begun) }
     ensures state { IfOk result (IsBegun state.old state.new) }
+    ensures opens { IfOk result (Opens home.now.edition state.old.held state.new.held) }
     ensures ends { IfOk result (λ begun. IfOk begun (λ b. EndsInTime here.now.clock (term_view b.part))) }
 {
     pz_term_around::laws::active_parts_may_act();
@@ -138,6 +139,7 @@ pub(crate) fn begin<L: Ledger>(
     pz_rules::laws::active_parts_fit();
     pz_tree_seeking::laws::active_parts_are_at_their_places();
     pz_tree_seeking::laws::tended_nodes_stand();
+    pz_tree_frames::laws::deeds_open_frames();
     let whole = Spot {
         key: root,
         frame: FrameId(0),

@@ -3,10 +3,10 @@
 
 mod acting;
 mod beginning;
+mod closing;
 mod how;
 mod listing;
 mod parts;
-mod sweeping;
 
 pub use acting::{act, trial};
 pub use how::How;

@@ -12,6 +12,8 @@ use Rattle.pz_part_opening.specs.Homes.{home_view}
 use Rattle.pz_part_queries.specs.declared.standpoint.Standpoint.{Standpoint}
 use Rattle.pz_rules.specs.declared.term.Term as code
 use Rattle.pz_rules.specs.Acting.{IsActing, IsSend, IsReceive}
+use Rattle.pz_rules.specs.declared.limits.Edition.{Edition}
+use Rattle.pz_rules.specs.Laws.{part_of}
 use Rattle.pz_rules.specs.Leaving.{residual, swept, not_too_high}
 use Rattle.pz_rules.specs.Meanings.{and_then}
 use Rattle.pz_rules.specs.Places.{MayAct}
@@ -22,6 +24,8 @@ use Rattle.pz_rules.specs.View.{term_view}
 use Rattle.pz_state.specs.Marks.{Seen, older}
 use Rattle.pz_state.specs.States.{StateView}
 use Rattle.pz_syntax.specs.declared.tokens.Pos.{Pos}
+use Rattle.pz_tree_standing.specs.FrameCounts.{times}
+use Rattle.pz_tree_frames.specs.Frames.{open_as, FramesStand, HaveOpened}
 use Rattle.pz_tree_nodes.specs.declared.node.What.{What}
 use Rattle.pz_tree_nodes.specs.View.{Plant, term_in_option}
 use Rattle.pz_tree_nodes.specs.Tended.{TendedOption}
@@ -63,6 +67,11 @@ abbrev pub IsBegun : Seen → Seen → Result Begun Trouble → Type 0
 IsBegun old new (Ok begun) = new.marks ≡ (begun.point, old.held) ∷ old.marks
 IsBegun old new (Err trouble) = new ≡ old
 
+-- what the part has become stands in frames that have opened since
+abbrev pub Opens : Edition → StateView → StateView → Result Begun Trouble → Type 0
+Opens e old new (Ok begun) = (n : ℕ) → HaveOpened e (times n (term_view begun.part)) (open_as n old) (open_as n new)
+Opens e old new (Err trouble) = Unit {0}
+
 -- by whatever tended nodes stand under the root
 abbrev pub HoldRule : Standpoint → opening.Home → Map What → Option ℕ → Place → Pos → StateView → Result code.Term Trouble → Result Begun Trouble → Type 0
 HoldRule here home m root place pos held left result =
@@ -86,7 +95,14 @@ pub record Stays (h : Home) (m n : Map What) (c : ℕ) (p : Option Plant) (place
   pub becomes : BecomesOption m n (has_option p) plant
   pub tended : TendedOption 0 c plant
   pub means : ◌≡◌ {A = Process} (left_by new.held (term_in_option c plant)) (swept (residual h 0 (term_in_option c p) place (left_by old.held x)))
+  pub frames : FramesStand (term_in_option c plant) new.held
   pub marks : new.marks ≡ older old.marks
 
+-- where just the frames of the term and of what the part has become are open, and none in the part itself
+pub record IsReady (e : Edition) (t : Term) (place : Place) (x : Term) (s : StateView) : Type 0 where
+  pub may_act : MayAct t place
+  pub opened : (n : ℕ) → HaveOpened e (times n x) (times n t) (open_as n s)
+  pub alone : (n : ℕ) → times n (part_of t place) ≡ 0
+
 abbrev pub StayRule : Home → Map What → Map What → Option ℕ → ℕ → Place → Term → Option ℕ → Seen → Seen → Type 0
-StayRule h m n root c place x out old new = (p : Option Plant) → Rooted m root c p → MayAct (term_in_option c p) place → Stays h m n c p place x out old new
+StayRule h m n root c place x out old new = (p : Option Plant) → Rooted m root c p → IsReady h.edition (term_in_option c p) place x old.held → Stays h m n c p place x out old new
