@@ -186,3 +186,9 @@ module _ (here : Standpoint) (home : opening.Home) (how : How) (m : Map What) (r
       alone k (terms.abort t u) h = absurd h
       alone k (terms.idle t u again) h = absurd h
       alone k (terms.handling t u again) h = absurd h
+
+pub begun_has_opened : (e : Edition) (old new : StateView) (r : Result Begun Trouble) (begun : Begun) → r ≡ Ok begun → Opens e old new r → Opens e old new (Ok begun)
+begun_has_opened e old new r begun is opens = subst (Opens e old new) is opens
+
+pub begun_ends : (c : ℕ) (r : Result Begun Trouble) (begun : Begun) → r ≡ Ok begun → IfOk r (λ b. Rattle.pz_tree_planting.specs.Planting.EndsInTime c (term_view b.part)) → Rattle.pz_tree_planting.specs.Planting.EndsInTime c (term_view begun.part)
+begun_ends c r begun is ends = subst (λ x. IfOk x (λ b. Rattle.pz_tree_planting.specs.Planting.EndsInTime c (term_view b.part))) is ends

@@ -11,6 +11,17 @@ use Rattle.pz_rules.specs.declared.limits.Edition.{Edition}
 use Rattle.pz_rules.specs.declared.limits.Edition.TheVariants.{One, Two}
 use Rattle.pz_rules.specs.Terms.{Term, frames_in}
 use Rattle.pz_rules.specs.Leaving.{only_frames}
+use Rattle.std.specs.Prelude.{OnOk, Result, Ok, Err, Option}
+use Rattle.std.specs.List.Sorted.{IsPermutation}
+use Rattle.std.proofs.lemmas.List.Elements.{filter_agree}
+use Rattle.std.proofs.lemmas.List.Sorted.{list_any-IsPermutation}
+use Rattle.pz_nodes_shapes.specs.Rose.{Map}
+use Rattle.pz_state.specs.declared.state.FrameId.{FrameId}
+use Rattle.pz_tree_nodes.specs.declared.node.What.{What}
+use Rattle.pz_tree_nodes.specs.View.{Plant, term_in_option}
+use Rattle.pz_tree_dropping.specs.Dropping as dropping
+use Rattle.pz_tree_acting.specs.devices.Listing.{SortedRule, SweepRule}
+use Rattle.pz_tree_acting.specs.devices.Closing.{LostRule, CloseRule}
 use Rattle.pz_term_residual.specs.Closing.{without_frames}
 use Rattle.pz_tree_standing.specs.FrameCounts.{count_in, times}
 use Rattle.pz_tree_frames.specs.Frames.{numbers, open_as, FramesStand, HaveOpened}
@@ -100,7 +111,7 @@ count_kept p n (f ∷ fs) = by (eqb n f.0) refl (p f.0) refl (p n) refl (count_k
 
 -- ------------------------------------------------------------ what is lost and what stands
 
-abbrev Once : StateView → Type 0
+abbrev pub Once : StateView → Type 0
 Once s = AllPairs (λ m n. m < n) (map (λ f. f.0) s.frames)
 
 abbrev stands_in : Term → ℕ → Bool
@@ -150,3 +161,45 @@ others_lost t lost gone s same once counts = (
 
 pub swept_stand : (t : Term) (lost : List ℕ) (s : StateView) → Once s → ((n : ℕ) → times n t + count_in n lost ≤ open_as n s) → FramesStand t (only_frames (frames_in t) s)
 swept_stand t lost s once counts = still_stand t s (λ n. let c = counts n in omega (arith, c)) once
+
+-- ------------------------------------------------------------ what is closed
+
+pub numbers_none : (fs : List FrameId) → eqb (length fs) 0 ≡ true → dropping.numbers fs ≡ []
+numbers_none [] e = refl
+numbers_none (f ∷ fs) e = absurd (let z : length (f ∷ fs) ≡ 0 = eqb-true (length (f ∷ fs)) 0 e in omega (arith, z))
+
+pub empty_closed : (lost : List ℕ) (s : Seen) → lost ≡ [] → LostRule lost s s
+empty_closed lost s none t counts =
+    let p = none_lost t lost s.held none counts in
+    record { state = ap (changed s) p.0; stand = p.1 }
+
+pub those_closed : (lost gone : List ℕ) (s u : Seen) → IsPermutation lost gone → Once s.held → u ≡ changed s (without_frames gone s.held) → LostRule lost s u
+those_closed lost gone s u perm once is t counts =
+    let p = others_lost t lost gone s.held (λ n. sym (list_any-IsPermutation (nat_eq n) lost gone perm)) once counts in
+    let state : u ≡ changed s (only_frames (frames_in t) s.held) = is ∙ ap (changed s) p.0 in
+    record { state = state; stand = subst (λ (z : Seen). FramesStand t z.held) (sym state) p.1 }
+
+-- the order of the numbers does not matter
+pub same_frames : (xs ys : List ℕ) (s : StateView) → IsPermutation xs ys → only_frames ys s ≡ only_frames xs s
+same_frames xs ys s permuted =
+    ap (λ (fs : Frames). let t : StateView = record s { frames = fs } in t)
+    (filter_agree (λ (f : ℕ × List Value). list_any (nat_eq f.0) ys) (λ (f : ℕ × List Value). list_any (nat_eq f.0) xs) (λ f. sym (list_any-IsPermutation (nat_eq f.0) xs ys permuted)) s.frames)
+
+pub others_closed : (m : Map What) (key : Option ℕ) (standing : List ℕ) (s u : Seen) → SortedRule m key standing → u ≡ changed s (only_frames standing s.held) → SweepRule m key s u
+others_closed m key standing s u rule is f c p r st t = is ∙ ap (changed s) (same_frames (frames_in (term_in_option c p)) standing s.held (rule f c p r st t))
+
+pub close_one : (e : Edition) → e ≡ One → (m : Map What) (key : Option ℕ) (lost : List ℕ) (s u : Seen) → LostRule lost s u → CloseRule e m key lost s u
+close_one e is m key lost s u rule f c p r st t counts = rule (term_in_option c p) (λ n. subst (λ z. HaveOpened z (times n (term_in_option c p)) (count_in n lost) (open_as n s.held)) is (counts n))
+
+pub close_two : (e : Edition) → e ≡ Two → (m : Map What) (key : Option ℕ) (lost : List ℕ) (s u : Seen) → SweepRule m key s u → Once s.held → CloseRule e m key lost s u
+close_two e is m key lost s u rule once f c p r st t counts =
+    let x = term_in_option c p in
+    let state = rule f c p r st t in
+    record {
+      state = state;
+      stand = subst (λ (z : Seen). FramesStand x z.held) (sym state) (swept_stand x lost s.held once (λ n. subst (λ z. HaveOpened z (times n x) (count_in n lost) (open_as n s.held)) is (counts n)));
+    }
+
+pub on_both : {T E : Type 0} (r : Result T E) (A B C : Type 0) → (A → B → C) → OnOk r A → OnOk r B → OnOk r C
+on_both (Ok x) A B C f a b = f a b
+on_both (Err e) A B C f a b = tt

@@ -6,4 +6,5 @@ mod Parts
 mod Frames
 mod Listing
 mod Marked
+mod Beginning
 mod Finished

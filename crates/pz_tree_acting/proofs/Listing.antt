@@ -121,7 +121,7 @@ past_one m keys levels i key before now next within is one on after rule =
     on after (subst (λ ks. ListAllRule m ks levels now after) (sym (drop_more keys i None within ∙ ap (λ k. k ∷ drop (i + 1) keys) is)) (more_listed m key (drop (i + 1) keys) levels now next after one rule))
 
 pub all_listed : (m : Map What) (keys : List (Option ℕ)) (levels i : ℕ) (before now : List ℕ) → length keys ≤ i → ListsOn m keys levels i before now → ListAllRule m keys levels before now
-all_listed m keys levels i before now past on = on now (subst (λ ks. ListAllRule m ks levels now now) (sym (drop_all keys i past)) (none_listed m levels now))
+all_listed m keys levels i before now past on = on now (subst (λ ks. ListAllRule m ks levels now now) (sym (drop_all i keys past)) (none_listed m levels now))
 
 -- ------------------------------------------------------------ the whole
 

@@ -102,3 +102,6 @@ pub able_place : (how : How) (parcel : ParcelView) (a : Context) (g : ℕ) (x : 
 able_place Internal parcel a g x pos can = acting_place a g x can.0 pos can.1
 able_place Send parcel a g x pos can = sending_place a g x pos can.0 can.1 parcel can.2
 able_place (Receive taken) parcel a g x pos can = receiving_place x pos can.0 can.1 can.2 can.3
+
+pub vacant_seen : (m : Map lying.What) (key : Option ℕ) (k c : ℕ) (t : Term) → key ≡ Some k → None ≡ m k → PartRule (seen what_view m) key c t
+vacant_seen m key k c t is v = vacant_under (seen what_view m) key k c t is (ap (λ (o : Option (Node lying.What)). Rattle.std.specs.Prelude.option_map (seen_node what_view) o) (sym v))

@@ -7,15 +7,17 @@ ghost use Rattle.pz_nodes.specs.Arena.{find};
 ghost use Rattle.pz_part_actions.specs.Becoming.{process_left, done_left};
 ghost use Rattle.pz_part_actions.specs.Fitting.{FitsHere};
 ghost use Rattle.pz_part_queries.specs.Standpoints.{Knows};
+ghost use Rattle.pz_rules.specs.Acting.{IsSend, IsReceive};
 ghost use Rattle.pz_rules.specs.View.{term_view};
 ghost use Rattle.pz_state.specs.Marks.{IsLatest, undone};
 ghost use Rattle.pz_state.specs.States.{StateView};
 ghost use Rattle.pz_tree_planting.specs.Planting.{EndsInTime};
 ghost use Rattle.pz_tree_acting.specs.Acting.{MayBeDone};
-ghost use Rattle.pz_tree_acting.specs.devices.Begun.{ActsSo, DeedRule, IsBegun, Opens, HoldRule, BeginRule};
+ghost use Rattle.pz_tree_acting.specs.devices.Begun.{ActsSo, IsHanded, IsTaken, DeedRule, IsBegun, Opens, HoldRule, BeginRule};
 
 use crate::how::How;
 use crate::parts::{part_under, pos_of};
+use pz_copy::Parcel;
 use pz_nodes::{Key, Nodes, Steps};
 use pz_offer::Trouble;
 use pz_part_actions::{at_home, hand, perform, take};
@@ -47,7 +49,46 @@ fn done_by(left: Result<(), Trouble>) -> Result<Term, Trouble>
     }
 }
 
-// The deed of a part in its frame. Effects stay, and after a trouble some may.
+// A send hands over its parcel. Effects stay, and after a trouble some may.
+fn do_send(
+    alloc: Global,
+    here: &Standpoint<'_>,
+    home: &Home<'_>,
+    state: &mut State,
+    frame: FrameId,
+    part: &Term,
+) -> Result<Result<Term, Trouble>, AllocError>
+    requires knows { Knows (checked_model home.now.checked.now) here.now }
+    requires sends { IsSend (term_view part.now) }
+    ensures answers { IfOk result (IsHanded here.now home.now state.old.held frame.0 (term_view part.now)
+        state.new.held) }
+    ensures marks { OnOk result (state.new.marks ≡ state.old.marks) }
+{
+    let left = hand(alloc, &at_home(here, home), state, frame, part)?;
+    Ok(done_by(left))
+}
+
+// A receive takes this parcel.
+fn do_receive(
+    alloc: Global,
+    here: &Standpoint<'_>,
+    home: &Home<'_>,
+    state: &mut State,
+    frame: FrameId,
+    part: &Term,
+    parcel: &Parcel,
+) -> Result<Result<Term, Trouble>, AllocError>
+    requires knows { Knows (checked_model home.now.checked.now) here.now }
+    requires receives { IsReceive (term_view part.now) }
+    ensures answers { IfOk result (IsTaken here.now home.now state.old.held frame.0 (term_view part.now)
+        parcel.now state.new.held) }
+    ensures marks { OnOk result (state.new.marks ≡ state.old.marks) }
+{
+    let left = take(alloc, &at_home(here, home), state, frame, part, parcel)?;
+    Ok(done_by(left))
+}
+
+// The deed of a part in its frame.
 fn do_deed(
     alloc: Global,
     here: &Standpoint<'_>,
@@ -66,14 +107,8 @@ fn do_deed(
 {
     match how {
         How::Internal => perform(alloc, here, home, state, frame, part),
-        How::Send => {
-            let left = hand(alloc, &at_home(here, home), state, frame, part)?;
-            Ok(done_by(left))
-        }
-        How::Receive(parcel) => {
-            let left = take(alloc, &at_home(here, home), state, frame, part, parcel)?;
-            Ok(done_by(left))
-        }
+        How::Send => do_send(alloc, here, home, state, frame, part),
+        How::Receive(parcel) => do_receive(alloc, here, home, state, frame, part, parcel),
     }
 }
 

@@ -69,6 +69,7 @@ fn list_all<L: Ledger>(
 fn levels_under<L: Ledger>(nodes: &Nodes<Node>, key: Key, steps: &mut Steps<L>) -> u64
     ensures { DeepRule (find nodes.now) key result }
 {
+    pz_tree_standing::laws::nodes_are_no_deeper();
     match nodes.get(key, steps) {
         Some(node) => u64::from(node.what.kept.height) * 2,
         None => 0,
@@ -85,10 +86,11 @@ fn list_under<L: Ledger>(
     ensures { IfOk result (λ frames. StandingRule (find nodes.now) key frames.items) }
 {
     let mut frames = Vec::new(alloc);
-    if let Some(key) = key {
-        let levels = levels_under(nodes, key, steps);
-        list_frames(nodes, key, levels, &mut frames, steps)?;
-    }
+    let Some(key) = key else {
+        return Ok(frames);
+    };
+    let levels = levels_under(nodes, key, steps);
+    list_frames(nodes, key, levels, &mut frames, steps)?;
     Ok(frames)
 }
 

@@ -6,13 +6,14 @@ use Rattle.pz_clock.specs.Shifts.{local}
 use Rattle.pz_nodes_shapes.specs.declared.node.Node.{Node}
 use Rattle.pz_nodes_shapes.specs.Rose.{node, none, gone, more, Map, root, roots, pick, Stands, StandAll}
 use Rattle.pz_offer.specs.PlaceOrder.{Place}
-use Rattle.pz_rules.specs.Terms.{Term, done, child, term_at, frame_in}
+use Rattle.pz_rules.specs.Terms.{Term, done, child, term_at, frame_in, height}
 use Rattle.pz_rules.specs.Settings.{Home, left_by}
 use Rattle.pz_rules.specs.Places.{MayActIn, MayAct}
 use Rattle.pz_rules.specs.Leaving.{residual}
 use Rattle.pz_term_residual.specs.declared.outline.Outline.{Outline}
 use Rattle.pz_term_residual.specs.Capped.{capped}
-use Rattle.pz_term_residual.specs.Outlines.{IsRound, IsLeft}
+use Rattle.pz_term_residual.specs.Outlines.{outline, IsRound, IsLeft}
+use Rattle.pz_tree_heights.specs.Heights.{LowRule, FewSteps}
 use Rattle.pz_tree_standing.specs.Heads as heads
 use Rattle.pz_tree_standing.specs.Heads.{inner_clock, formed}
 use Rattle.pz_tree_standing.specs.Standing.{terms_of}
@@ -27,7 +28,7 @@ use Rattle.pz_tree_regrowing.specs.Costs.{beside, on_way}
 use Rattle.pz_tree_regrowing.specs.Regrowing.{StandsOption}
 use Rattle.pz_tree_regrowing.specs.devices.Levels.{kid_terms}
 use Rattle.pz_tree_regrowing.specs.devices.Rounds.{IsBareOption}
-use Rattle.pz_tree_heights.specs.devices.Reading.{IsHigh, IsPast, PastRule}
+use Rattle.pz_tree_heights.specs.devices.Reading.{IsHigh, IsPast, PastRule, past_key}
 use Rattle.pz_tree_heights.specs.devices.Outlining.{AreKids, Rounded, HomeRoundRule, Outlined, OutlineRule, BareOutlineRule}
 use Rattle.pz_tree_heights.proofs.Children.{form_child}
 use Rattle.pz_tree_heights.proofs.Kids.{same_node, picked_root, picked_stands, picked_high, picked_term}
@@ -48,7 +49,7 @@ module _ (m : Map What) (key : Option ℕ) (k : ℕ) (n : Node What) (is : key �
       let e : j ≡ k = (let g : Some j ≡ Some k = r ∙ is in cc) in
       same_node n (record { what = x; kids = roots ps }) (stood ∙ ap m (sym e) ∙ st.0)
 
-  pub past_bare : IsNoShift (head_view n.what.head) → PastRule m key key
+  past_bare : IsNoShift (head_view n.what.head) → PastRule m key key
   past_bare bare c None r st high = absurd (let e : None ≡ Some k = r ∙ is in cc)
   past_bare bare c (Some (node j x ps)) r st high = record {
     clock = c;
@@ -60,7 +61,12 @@ module _ (m : Map What) (key : Option ℕ) (k : ℕ) (n : Node What) (is : key �
     means = refl;
   }
 
-  pub past_shifted : (shift : Rattle.pz_clock.specs.Shifts.ShiftView) (below : Option ℕ) → n.what.head ≡ kind.Shifted shift → below ≡ slice_index_or n.kids 0 None → PastRule m key below
+  bare : (h : Head) → n.what.head ≡ h → {below : Option ℕ} → below ≡ past_key (head_view n.what.head) n.kids key → IsNoShift (head_view h) → past_key (head_view h) n.kids key ≡ key → PastRule m key below
+  bare h same e none is_key =
+      subst (PastRule m key) (sym (e ∙ ap (λ (h : Head). past_key (head_view h) n.kids key) same ∙ is_key))
+      (past_bare (subst (λ (h : Head). IsNoShift (head_view h)) (sym same) none))
+
+  past_shifted : (shift : Rattle.pz_clock.specs.Shifts.ShiftView) (below : Option ℕ) → n.what.head ≡ kind.Shifted shift → below ≡ slice_index_or n.kids 0 None → PastRule m key below
   past_shifted shift below head is_below c None r st high = absurd (let e : None ≡ Some k = r ∙ is in cc)
   past_shifted shift below head is_below c (Some (node j x ps)) r st high =
       let same = node_is j x ps r st in
@@ -83,6 +89,22 @@ module _ (m : Map What) (key : Option ℕ) (k : ℕ) (n : Node What) (is : key �
       }
       through (more (node i y ts) (gone qs)) shifts under s one w k = absurd one
       through (more (node i y ts) (more q qs)) shifts under s one w k = absurd one
+
+  pub past_node : (below : Option ℕ) → below ≡ past_key (head_view n.what.head) n.kids key → PastRule m key below
+  past_node below e = by n.what.head refl e
+    where
+      by : (h : Head) → n.what.head ≡ h → below ≡ past_key (head_view n.what.head) n.kids key → PastRule m key below
+      by (kind.Shifted s) same e = past_shifted s below same (e ∙ ap (λ (h : Head). past_key (head_view h) n.kids key) same)
+      by (kind.Leaf s) same e = bare (kind.Leaf s) same e tt refl
+      by (kind.Wait due pos) same e = bare (kind.Wait due pos) same e tt refl
+      by (kind.Seq rest) same e = bare (kind.Seq rest) same e tt refl
+      by kind.Par same e = bare kind.Par same e tt refl
+      by kind.Sel same e = bare kind.Sel same e tt refl
+      by (kind.Guard test pos shift) same e = bare (kind.Guard test pos shift) same e tt refl
+      by (kind.Frame frame inputs results) same e = bare (kind.Frame frame inputs results) same e tt refl
+      by kind.Abort same e = bare kind.Abort same e tt refl
+      by (kind.Idle again shift) same e = bare (kind.Idle again shift) same e tt refl
+      by (kind.Handling again shift) same e = bare (kind.Handling again shift) same e tt refl
 
 -- ------------------------------------------------------------ level by level
 
@@ -123,7 +145,7 @@ module _ (home : Home) (m : Map What) (key : Option ℕ) (k : ℕ) (n : Node Wha
       let kid : child t i ≡ term_in_option d (pick ps i) = form_child h c (shapes_of ps) i high.0.0 bare ∙ picked_term h c 0 ps i in
       let under : root_of (pick ps i) ≡ below = sym (is_below ∙ ap (λ (o : Node What). slice_index_or o.kids i None) same ∙ picked_root ps i) in
       let deep = inner d (pick ps i) under (picked_stands m ps i st.2) (picked_high ps i high.0.1 high.1.1) (subst (λ u. MayAct u rest) kid may.1) in
-      let kids : AreKids m h (roots ps) ps = record { stand = st.2; keys = refl; parts = high.0.0; whole = high.0.1; marked = high.1.1 } in
+      let kids : AreKids m h (roots ps) ps = record { stand = st.2; under = refl; parts = high.0.0; whole = high.0.1; marked = high.1.1 } in
       let outer : Rounded home h c ps i left result mid new =
       subst (λ (o : Node What). HomeRoundRule home m (head_view o.what.head) o.kids i left result mid new) same around c ps kids bare may.0 in
       let way : on_way (child t i) rest ≡ on_way (term_in_option d (pick ps i)) rest = ap (λ u. on_way u rest) kid in
@@ -157,3 +179,16 @@ tended_high f c (Some p) t = (t.sound.whole, t.marked)
 -- below 32 bits nothing is lost
 pub low_as_ever : (n high wide limit : ℕ) → high ≡ capped n → wide ≡ limit → limit < 2 ^ 32 → leb high wide ≡ leb n limit
 low_as_ever n high wide limit is same low = grind (arith, nat_tests)
+
+pub low_after : (home : Home) (m : Map What) (root : Option ℕ) (place : Place) (x : Term) (part result : Outline) (old new wide limit : ℕ)
+    → part ≡ outline x → OutlineRule home m root place part result old new → wide ≡ limit → limit < 2 ^ 32 → LowRule home m root place x limit (leb result.height wide)
+low_after home m root place x part result old new wide limit is rule same low f c g p s r st t may =
+    let o = rule c p r st (tended_high f c p t) may in
+    low_as_ever (height (residual home g (term_in_option c p) place (left_by s x)).term) result.height wide limit
+    (ap (λ (z : Outline). z.height) (o.left g s x is)) same low
+
+pub few_after : (home : Home) (m : Map What) (root : Option ℕ) (place : Place) (part result : Outline) (old new : ℕ) → OutlineRule home m root place part result old new → FewSteps m root place old new
+few_after home m root place part result old new rule f c p r st t may =
+    let o = rule c p r st (tended_high f c p t) may in
+    let ticks = o.ticks in
+    omega (arith, ticks)

@@ -55,7 +55,7 @@ module _ (m : Map What) (h : Head) (c : ℕ) where
 
   all_live : (i : ℕ) (ps : Plants) → AreWhole (shapes_of ps) → living (terms_of h c i (shapes_of ps)) ≡ all_there (roots ps)
   all_live i none w = refl
-  all_live i (gone ps) w = all_live (suc i) ps w
+  all_live i (gone ps) w = let e = all_live (suc i) ps w in omega (arith, e)
   all_live i (more p ps) w = λ n. (if some_undone (inner_clock h i c) p w.0 n then 0 else 1) + all_live (suc i) ps w.1 n
 
 -- ------------------------------------------------------------ one in the place of another
@@ -83,7 +83,7 @@ module _ (m : Map What) (h : Head) (c : ℕ) where
     high = λ x.
         sym (capped_max (height x) (greatest_height (terms_of h c (suc i) (shapes_of ps))) (capped (height x)) (highest m behind) refl (ap (highest m) (sym e) ∙ all_high m h c (suc i) ps s k))
         ∙ none_before (max (capped (height x)) (highest m behind));
-    live = all_live m h c (suc i) ps w ∙ ap all_there e;
+    live = let l = all_live m h c (suc i) ps w ∙ ap all_there e in omega (arith, l);
   }
 
   past_gone : (ts : Terms) (i : ℕ) (before behind : List (Option ℕ)) → Parted m ts i before behind → Parted m (and done ts) (suc i) (None ∷ before) behind
@@ -92,7 +92,7 @@ module _ (m : Map What) (h : Head) (c : ℕ) where
     high = λ x.
         one_gone (greatest_height (replaced ts i x)) ∙ ap (λ z. max 1 z) (q.high x)
         ∙ max_assoc 1 (highest m before) (max (capped (height x)) (highest m behind));
-    live = q.live;
+    live = let l = q.live in omega (arith, l);
   }
 
   past_one : (d : ℕ) (p : Plant) (ts : Terms) (i : ℕ) (before behind : List (Option ℕ)) → Stands m p → Marked p → (is_done (term_in d p) ≡ false) → Parted m ts i before behind
@@ -103,7 +103,7 @@ module _ (m : Map What) (h : Head) (c : ℕ) where
         sym (capped_max (height (term_in d p)) (greatest_height (replaced ts i x)) (high_at m (Some (root p))) (capped (greatest_height (replaced ts i x))) (high_is m d p s k) refl)
         ∙ ap (λ z. max (high_at m (Some (root p))) z) (q.high x)
         ∙ max_assoc (high_at m (Some (root p))) (highest m before) (max (capped (height x)) (highest m behind));
-    live = (λ n. (if undone n then 0 else 1) + q.live n) ∙ refl;
+    live = let one : (if is_done (term_in d p) then 0 else 1) ≡ 1 = ap (λ (b : Bool). if b then 0 else 1) undone in let l = q.live in omega (arith, l, one);
   }
 
   pub parted : (i : ℕ) (ps : Plants) (before : List (Option ℕ)) (acting : Option ℕ) (behind : List (Option ℕ)) → roots ps ≡ before ++ acting ∷ behind
@@ -142,12 +142,12 @@ module _ (m : Map What) (keys : List (Option ℕ)) where
 
   pub at_last : (i all : ℕ) → length keys ≤ i → max all (highest m (drop i keys)) ≡ highest m keys → all ≡ highest m keys
   at_last i all w so_far =
-      let none : highest m (drop i keys) ≡ 0 = ap (highest m) (drop_all keys i w) in
+      let none : highest m (drop i keys) ≡ 0 = ap (highest m) (drop_all i keys w) in
       omega (arith, so_far, none)
 
   pub counted_at_last : (i steps old : ℕ) → length keys ≤ i → steps + all_there (drop i keys) ≡ old + all_there keys → steps ≡ old + all_there keys
   counted_at_last i steps old w so_far =
-      let none : all_there (drop i keys) ≡ 0 = ap all_there (drop_all keys i w) in
+      let none : all_there (drop i keys) ≡ 0 = ap all_there (drop_all i keys w) in
       omega (arith, so_far, none)
 
 -- a list cut where a part stands

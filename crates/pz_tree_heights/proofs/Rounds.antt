@@ -46,14 +46,14 @@ module _ (h : Home) (left result : Outline) (m : Map What) (ts : Terms) (i : ℕ
 
 -- a part of that number is there
 pub within : (m : Map What) (keys : List (Option ℕ)) (ps : Plants) (c i : ℕ) → AreKids m heads.parallel keys ps → MayActIn (formed heads.parallel c (kid_terms heads.parallel c ps)) i → i < length keys
-within m keys ps c i k may = omega (arith, may, width_terms heads.parallel c 0 ps, width_keys ps, ap (λ (l : List (Option ℕ)). length l) k.keys)
+within m keys ps c i k may = omega (arith, may, width_terms heads.parallel c 0 ps, width_keys ps, ap (λ (l : List (Option ℕ)). length l) k.under)
 
 module _ (m : Map What) (keys before from behind : List (Option ℕ)) (i : ℕ) (acting : Option ℕ) (left result : Outline) (old new : ℕ)
     (front : before ≡ take i keys) (back : from ≡ drop i keys) (first : from ≡ acting ∷ behind) (long : length before ≡ i) where
   parts : (c : ℕ) (ps : Plants) → AreKids m heads.parallel keys ps → Parted m (kid_terms heads.parallel c ps) i before behind
   parts c ps k =
       subst (λ z. Parted m (kid_terms heads.parallel c ps) z before behind) long
-      (parted m heads.parallel c 0 ps before acting behind (k.keys ∙ sym (cut keys before from behind i acting front back first)) k.stand k.whole k.marked)
+      (parted m heads.parallel c 0 ps before acting behind (k.under ∙ sym (cut keys before from behind i acting front back first)) k.stand k.whole k.marked)
 
   pub parallel_done : (are_gone before && (left.done && are_gone behind)) ≡ true → result ≡ outline done → new ≡ old → RoundRule m heads.parallel keys i left result old new
   parallel_done is_true is tick home c ps k bare may =
@@ -87,7 +87,7 @@ module _ (m : Map What) (keys : List (Option ℕ)) (left result : Outline) (old 
       → RoundRule m heads.abort keys i left result old new
   abort_goes_on i second key first is high tick rounds home c ps k bare may =
       let ts = kid_terms heads.abort c ps in
-      let so : second ≡ capped (height (term_at ts 1)) = high ∙ ap (high_at m) (is ∙ ap (λ z. slice_index_or z 1 None) (sym k.keys)) ∙ kid_high m heads.abort c ps 1 k.stand k.whole k.marked in
+      let so : second ≡ capped (height (term_at ts 1)) = high ∙ ap (high_at m) (is ∙ ap (λ z. slice_index_or z 1 None) (sym k.under)) ∙ kid_high m heads.abort c ps 1 k.stand k.whole k.marked in
       record {
         round = subst (λ z. IsRound home left (formed heads.abort c ts) z result) (sym first) (rounds home (term_at ts 0) (term_at ts 1) so);
         ticks = few key tick (beside (formed heads.abort c ts) i);
@@ -99,7 +99,7 @@ module _ (m : Map What) (keys : List (Option ℕ)) (left result : Outline) (old 
   idle_goes_on home again shift i second key first is high tick rounds c ps k bare may =
       let h = heads.idle again shift in
       let ts = kid_terms h c ps in
-      let so : second ≡ capped (height (term_at ts 1)) = high ∙ ap (high_at m) (is ∙ ap (λ z. slice_index_or z 1 None) (sym k.keys)) ∙ kid_high m h c ps 1 k.stand k.whole k.marked in
+      let so : second ≡ capped (height (term_at ts 1)) = high ∙ ap (high_at m) (is ∙ ap (λ z. slice_index_or z 1 None) (sym k.under)) ∙ kid_high m h c ps 1 k.stand k.whole k.marked in
       record {
         round = subst (λ z. IsRound home left (formed h c ts) z result) (sym first) (rounds home (term_at ts 0) (term_at ts 1) again so);
         ticks = few key tick (beside (formed h c ts) i);
@@ -120,7 +120,7 @@ module _ (m : Map What) (keys : List (Option ℕ)) (left result : Outline) (old 
   )
     where
       so : (h : Head) (c : ℕ) (ps : Plants) → AreKids m h keys ps → first ≡ capped (height (term_at (kid_terms h c ps) 0))
-      so h c ps k = high ∙ ap (high_at m) (is ∙ ap (λ z. slice_index_or z 0 None) (sym k.keys)) ∙ kid_high m h c ps 0 k.stand k.whole k.marked
+      so h c ps k = high ∙ ap (high_at m) (is ∙ ap (λ z. slice_index_or z 0 None) (sym k.under)) ∙ kid_high m h c ps 0 k.stand k.whole k.marked
 
   pub idle_second : (home : Home) (again : Step) (shift : ShiftView) (i : ℕ) → (i ≡ 0 → ⊥) → SecondRule home m again keys left result old new → HomeRoundRule home m (heads.idle again shift) keys i left result old new
   idle_second home again shift i other rule c ps k bare may =

@@ -2,8 +2,9 @@
 
 ghost use Rattle.std.specs.Prelude.{◌≡◌, ◌≤◌, ◌+◌, None, slice_index_or};
 ghost use Rattle.pz_nodes.specs.Arena.{find};
+ghost use Rattle.pz_tree_nodes.specs.View.{head_view};
 ghost use Rattle.pz_tree_regrowing.specs.devices.Levels.{there, all_there, are_gone};
-ghost use Rattle.pz_tree_heights.specs.devices.Reading.{high_at, highest, PastRule};
+ghost use Rattle.pz_tree_heights.specs.devices.Reading.{high_at, highest, past_key, PastRule};
 
 use pz_nodes::{Key, Nodes, Steps};
 use pz_nodes_shapes::Kids;
@@ -63,6 +64,16 @@ pub(crate) fn all_gone(keys: &[Option<Key>]) -> bool
     true
 }
 
+// What is below a node that stands under this key, if it is a shift node, or the node itself.
+fn past(node: &Node, key: Option<Key>) -> Option<Key>
+    ensures { result ≡ past_key (head_view node.now.what.head) node.now.kids key }
+{
+    match &node.what.head {
+        Head::Shifted(_) => kid_in(&node.kids, 0),
+        _ => key,
+    }
+}
+
 /// Past the shift node, if there is one: it is no part of the term.
 pub(crate) fn past_shift<L: Ledger>(
     nodes: &Nodes<Node>,
@@ -72,10 +83,11 @@ pub(crate) fn past_shift<L: Ledger>(
     ensures past { PastRule (find nodes.now) key result }
     ensures ticks { steps.new ≤ steps.old + 1 }
 {
-    let own = key?;
-    let node = nodes.get(own, steps)?;
-    match &node.what.head {
-        Head::Shifted(_) => kid_in(&node.kids, 0),
-        _ => key,
+    let Some(own) = key else {
+        return None;
+    };
+    match nodes.get(own, steps) {
+        Some(node) => past(node, key),
+        None => None,
     }
 }

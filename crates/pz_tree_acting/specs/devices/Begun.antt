@@ -16,6 +16,7 @@ use Rattle.pz_rules.specs.declared.limits.Edition.{Edition}
 use Rattle.pz_rules.specs.Laws.{part_of}
 use Rattle.pz_rules.specs.Leaving.{residual, swept, not_too_high}
 use Rattle.pz_rules.specs.Meanings.{and_then}
+use Rattle.pz_rules.specs.Messages.{Hands, Takes}
 use Rattle.pz_rules.specs.Places.{MayAct}
 use Rattle.pz_rules.specs.Settings.{Process, Context, left_by, Home}
 use Rattle.pz_rules.specs.Steps.{Deed}
@@ -33,7 +34,7 @@ use Rattle.pz_tree_planting.specs.Planting.{root_of}
 use Rattle.pz_tree_acting.specs.declared.how.How.{How}
 use Rattle.pz_tree_acting.specs.declared.how.How.TheVariants.{Internal, Send, Receive}
 use Rattle.pz_tree_acting.specs.declared.beginning.Begun.{Begun}
-use Rattle.pz_tree_acting.specs.Deeds.{Ability, able, deed, CanDo, Leaves}
+use Rattle.pz_tree_acting.specs.Deeds.{Ability, CanSend, CanReceive, able, deed, CanDo, Leaves}
 use Rattle.pz_tree_acting.specs.Acting.{Rooted}
 
 -- ------------------------------------------------------------ the deed
@@ -47,6 +48,14 @@ ActsSo (Receive taken) part = IsReceive part
 -- what it becomes by its deed is answered so
 abbrev pub IsAnswered : Ability → Deed → Context → ℕ → Term → Result Process Trouble → Type 0
 IsAnswered can does a f y answer = (pos : Pos) → can a f y pos → (left : Result Process Trouble) × does a f y pos left × Becomes a pos left answer
+
+-- so it is of a send, whatever parcel it offers
+abbrev pub IsHanded : Standpoint → opening.Home → StateView → ℕ → Term → StateView → Result code.Term Trouble → Type 0
+IsHanded here home s f part new left = (parcel : ParcelView) → IsAnswered (CanSend parcel) (λ a g. Hands a g parcel) (seen_home here home s) f part (process_left new left)
+
+-- and of a receive that takes this parcel
+abbrev pub IsTaken : Standpoint → opening.Home → StateView → ℕ → Term → ParcelView → StateView → Result code.Term Trouble → Type 0
+IsTaken here home s f part parcel new left = IsAnswered CanReceive (λ a g. Takes a g parcel) (seen_home here home s) f part (process_left new left)
 
 abbrev pub DeedRule : Standpoint → opening.Home → How → StateView → ℕ → Term → Result Process Trouble → Type 0
 DeedRule here home how s f part answer = (parcel : ParcelView) → IsAnswered (able how parcel) (deed how parcel) (seen_home here home s) f part answer

@@ -25,7 +25,7 @@ use Rattle.pz_tree_heights.specs.devices.Reading.{IsHigh}
 -- children of a node of this form, under these keys
 pub record AreKids (m : Map What) (h : Head) (keys : List (Option ℕ)) (ps : Plants) : Type 0 where
   pub stand : StandAll m ps
-  pub keys : roots ps ≡ keys
+  pub under : roots ps ≡ keys
   pub parts : HasParts h (shapes_of ps)
   pub whole : AreWhole (shapes_of ps)
   pub marked : AreMarked ps

@@ -1,7 +1,8 @@
 -- What is read of nodes.
-use Rattle.std.specs.Prelude.{◌≡◌, ℕ, max, List, [], ◌∷◌, Option, Some, None}
+use Rattle.std.specs.Prelude.{◌≡◌, ℕ, max, slice_index_or, List, [], ◌∷◌, Option, Some, None}
 use Rattle.pz_nodes_shapes.specs.declared.node.Node.{Node}
 use Rattle.pz_nodes_shapes.specs.Rose.{node, none, gone, more, Map}
+use Rattle.pz_tree_standing.specs.Heads.{Head, shifted}
 use Rattle.pz_tree_standing.specs.Whole.{Whole}
 use Rattle.pz_term_residual.specs.Capped.{capped}
 use Rattle.pz_tree_nodes.specs.declared.node.What.{What}
@@ -29,6 +30,11 @@ highest m (k ∷ ks) = max (high_at m k) (highest m ks)
 abbrev pub IsHigh : Option Plant → Type 0
 IsHigh None = Unit {0}
 IsHigh (Some p) = Whole (shape_of p) × Marked p
+
+-- of a node under a key: what is below it, if it is a shift node, or itself
+abbrev pub past_key : Head → List (Option ℕ) → Option ℕ → Option ℕ
+past_key (shifted s) keys key = slice_index_or keys 0 None
+past_key h keys key = key
 
 -- the same term, where its clock shows d, without a shift node on top
 pub record IsPast (m : Map What) (c : ℕ) (p : Option Plant) (below : Option ℕ) : Type 0 where

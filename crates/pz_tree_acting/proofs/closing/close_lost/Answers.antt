@@ -1,0 +1,13 @@
+use Rattle.std.proofs.Common.{◌∙◌, sym}
+use Rattle.std.proofs.lemmas.Result.{on_ok_weaker}
+use Rattle.pz_tree_dropping.specs.Dropping.{numbers}
+use Rattle.pz_tree_acting.proofs.Frames.{numbers_none, empty_closed, those_closed}
+use Rattle.pz_tree_acting.proofs.closing.close_lost.Goals as goal
+
+pub returns-then-is_empty : goal.returns-then-is_empty
+returns-then-is_empty c = empty_closed (numbers c.args.lost.now) c.args.state.now (numbers_none c.args.lost.now (sym c.is_empty.ensures ∙ c.if-is_empty.true))
+
+pub returns : goal.returns
+returns c = on_ok_weaker c.close_those.result
+    (λ is. those_closed (numbers c.args.lost.now) c.deref.result.now c.args.state.now c.close_those.new.state c.in_ok-gone.ensures.frames c.close_those.ensures.ordered is)
+    c.close_those.ensures.closed

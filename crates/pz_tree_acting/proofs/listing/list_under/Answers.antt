@@ -1,0 +1,6 @@
+use Rattle.pz_nodes.specs.Arena.{find}
+use Rattle.pz_tree_acting.proofs.Listing.{none_stands, some_stand}
+use Rattle.pz_tree_acting.proofs.listing.list_under.Goals as goal
+
+pub returns : goal.returns
+returns g c = some_stand (find c.args.nodes.now) c.args.key c.in-Some.key c.levels_under-levels.result c.list_frames.new.frames.items c.in-Some.is c.levels_under-levels.ensures c.in_ok-list_frames.ensures
