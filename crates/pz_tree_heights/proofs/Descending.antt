@@ -62,9 +62,9 @@ module _ (m : Map What) (key : Option ℕ) (k : ℕ) (n : Node What) (is : key �
   }
 
   bare : (h : Head) → n.what.head ≡ h → {below : Option ℕ} → below ≡ past_key (head_view n.what.head) n.kids key → IsNoShift (head_view h) → past_key (head_view h) n.kids key ≡ key → PastRule m key below
-  bare h same e none is_key =
+  bare h same e free is_key =
       subst (PastRule m key) (sym (e ∙ ap (λ (h : Head). past_key (head_view h) n.kids key) same ∙ is_key))
-      (past_bare (subst (λ (h : Head). IsNoShift (head_view h)) (sym same) none))
+      (past_bare (subst (λ (h : Head). IsNoShift (head_view h)) (sym same) free))
 
   past_shifted : (shift : Rattle.pz_clock.specs.Shifts.ShiftView) (below : Option ℕ) → n.what.head ≡ kind.Shifted shift → below ≡ slice_index_or n.kids 0 None → PastRule m key below
   past_shifted shift below head is_below c None r st high = absurd (let e : None ≡ Some k = r ∙ is in cc)

@@ -103,7 +103,7 @@ module _ (m : Map What) (h : Head) (c : ℕ) where
         sym (capped_max (height (term_in d p)) (greatest_height (replaced ts i x)) (high_at m (Some (root p))) (capped (greatest_height (replaced ts i x))) (high_is m d p s k) refl)
         ∙ ap (λ z. max (high_at m (Some (root p))) z) (q.high x)
         ∙ max_assoc (high_at m (Some (root p))) (highest m before) (max (capped (height x)) (highest m behind));
-    live = let one : (if is_done (term_in d p) then 0 else 1) ≡ 1 = ap (λ (b : Bool). if b then 0 else 1) undone in let l = q.live in omega (arith, l, one);
+    live = let one : ◌≡◌ {A = ℕ} (if is_done (term_in d p) then 0 else 1) 1 = ap (λ (b : Bool). if b then 0 else 1) undone in let l = q.live in omega (arith, l, one);
   }
 
   pub parted : (i : ℕ) (ps : Plants) (before : List (Option ℕ)) (acting : Option ℕ) (behind : List (Option ℕ)) → roots ps ≡ before ++ acting ∷ behind

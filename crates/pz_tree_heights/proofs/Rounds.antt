@@ -145,3 +145,6 @@ module _ (m : Map What) (keys : List (Option ℕ)) (left result : Outline) (old 
 
   pub guard_round : (home : Home) (test : term.Code) (at : Rattle.pz_syntax.specs.declared.tokens.Pos.Pos) (shift : ShiftView) (i : ℕ) → result ≡ left → new ≡ old → HomeRoundRule home m (heads.guarded test at shift) keys i left result old new
   guard_round home test at shift i is tick c ps k bare may = record { round = λ f s x same. is ∙ same; ticks = omega (arith, tick) }
+
+  pub by_head : (home : Home) (i : ℕ) (h k : Head) → h ≡ k → HomeRoundRule home m k keys i left result old new → HomeRoundRule home m h keys i left result old new
+  by_head home i h k same rule = subst (λ (z : Head). HomeRoundRule home m z keys i left result old new) (sym same) rule

@@ -41,5 +41,6 @@ pub(crate) fn outline_parallel<L: Ledger>(
     }
     let first = greatest_under(nodes, before, steps);
     let last = greatest_under(nodes, behind, steps);
-    outline_above(first.max(left.height.max(last)))
+    let others = left.height.max(last);
+    outline_above(first.max(others))
 }

@@ -14,7 +14,7 @@ returns-in_default-clause-part g c = none_under (seen what_view (find c.args.nod
 pub returns-in-None-clause-part : goal.returns-in-None-clause-part
 returns-in-None-clause-part g c = vacant_seen (find c.args.nodes.now) c.args.spot.key c.in-Some.key c.args.spot.clock _ c.in-Some.is c.in-None.ensures.value
 
-pub returns-in-Some-clause-part : goal.returns-in-Some-clause-part
-returns-in-Some-clause-part g c = IfOk-weaker c.own_part.result (λ t. HeadRule (head_view c.in-Some-get.node.now.what.head) c.args.spot.clock (term_view t))
+pub returns-in-Some-get-clause-part : goal.returns-in-Some-get-clause-part
+returns-in-Some-get-clause-part g c = IfOk-weaker c.own_part.result (λ t. HeadRule (head_view c.in-Some-get.node.now.what.head) c.args.spot.clock (term_view t))
     (λ t. PartRule (seen what_view (find c.args.nodes.now)) c.args.spot.key c.args.spot.clock (term_view t))
     (λ t rule. part_under (find c.args.nodes.now) c.args.spot.key c.in-Some.key c.args.spot.clock c.in-Some-get.node.now (term_view t) c.in-Some.is c.in-Some-get.ensures.value rule) c.own_part.ensures
