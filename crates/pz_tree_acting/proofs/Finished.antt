@@ -43,7 +43,7 @@ use Rattle.pz_tree_acting.specs.Acting.{Rooted, Acted, ActedOr, ActRule, Answers
 use Rattle.pz_tree_acting.specs.devices.Begun.{settled_home, begun_process, IsBegun, Opens, HoldRule, BeginRule, IsReady, Stays, StayRule}
 use Rattle.pz_tree_acting.specs.devices.Closing.{CloseRule}
 use Rattle.pz_tree_acting.specs.devices.Parts.{IsSimple}
-use Rattle.pz_tree_acting.proofs.Parts.{simple_from, able_place}
+use Rattle.pz_tree_acting.proofs.Found.{simple_from, able_place}
 
 -- ------------------------------------------------------------ whether the whole stays low
 

@@ -2,9 +2,9 @@ mod StatementPlaces
 mod Statements
 mod Higher
 mod Calm
-mod Parts
+mod Found
 mod Frames
-mod Listing
+mod Listed
 mod Marked
-mod Beginning
+mod Begins
 mod Finished

@@ -1,6 +1,6 @@
 // An action takes place, or is tried.
 
-ghost use Rattle.std.specs.Prelude.{◌≡◌, ◌×◌, IfOk, OnErr, OnOk};
+ghost use Rattle.std.specs.Prelude.{◌≡◌, IfOk, OnErr, OnOk};
 ghost use Rattle.pz_classes.specs.CheckedView.{checked_model};
 ghost use Rattle.pz_nodes.specs.Arena.{find};
 ghost use Rattle.pz_part_queries.specs.Standpoints.{Knows};

@@ -1,7 +1,7 @@
 // What an active part does, as far as it can still be undone: the mark from before is open, and at a trouble all is
 // as it was. After want of memory, which is the only error, nothing is promised of the state.
 
-ghost use Rattle.std.specs.Prelude.{◌≡◌, ◌≤◌, ◌+◌, ◌×◌, ℕ, IfOk, OnOk, MatchResult};
+ghost use Rattle.std.specs.Prelude.{◌≡◌, ◌≤◌, ◌+◌, ℕ, IfOk, OnOk, MatchResult};
 ghost use Rattle.pz_classes.specs.CheckedView.{checked_model};
 ghost use Rattle.pz_nodes.specs.Arena.{find};
 ghost use Rattle.pz_part_actions.specs.Becoming.{process_left, done_left};

@@ -9,9 +9,9 @@ use Rattle.pz_state.specs.Marks.{Seen}
 use Rattle.pz_tree_nodes.specs.View.{term_in_option}
 use Rattle.pz_tree_acting.specs.Deeds.{able, deed}
 use Rattle.pz_tree_acting.specs.devices.Begun.{ActsSo}
-use Rattle.pz_tree_acting.proofs.Parts.{able_place}
+use Rattle.pz_tree_acting.proofs.Found.{able_place}
 use Rattle.pz_tree_acting.proofs.Marked.{may_act, part_is, place_is, part_fits, leaves_begun}
-use Rattle.pz_tree_acting.proofs.Beginning.{located, acts_so, begun_state, deed_can, deed_calm, deed_opened, begun_calm, begun_opens}
+use Rattle.pz_tree_acting.proofs.Begins.{located, acts_so, begun_state, deed_can, deed_calm, deed_opened, begun_calm, begun_opens}
 use Rattle.pz_tree_acting.proofs.beginning.begin.Goals as goal
 
 pub pos_of-pos-requires : goal.pos_of-pos-requires

@@ -6,7 +6,7 @@ use Rattle.pz_rules.specs.View.{term_view}
 use Rattle.pz_tree_acting.specs.declared.how.How.{How}
 use Rattle.pz_tree_acting.specs.devices.Begun.{ActsSo, IsTaken, DeedRule}
 use Rattle.pz_tree_acting.proofs.Marked.{known_is}
-use Rattle.pz_tree_acting.proofs.Beginning.{done_alone, done_handing}
+use Rattle.pz_tree_acting.proofs.Begins.{done_alone, done_handing}
 use Rattle.pz_tree_acting.proofs.beginning.do_deed.Goals as goal
 
 pub perform-requires-clause-known : goal.perform-requires-clause-known

@@ -3,7 +3,7 @@ use Rattle.std.proofs.lemmas.Result.{on_ok_weaker}
 use Rattle.pz_nodes.specs.Arena.{find}
 use Rattle.pz_nodes_shapes.proofs.Drops.{none_or}
 use Rattle.pz_tree_acting.specs.devices.Listing.{ListAllRule}
-use Rattle.pz_tree_acting.proofs.Listing.{too_deep, not_there, one_listed, past_gone, past_one, all_listed}
+use Rattle.pz_tree_acting.proofs.Listed.{too_deep, not_there, one_listed, past_gone, past_one, all_listed}
 use Rattle.pz_tree_acting.proofs.listing.+listing.Goals as goal
 use Rattle.pz_tree_acting.proofs.listing.+listing.Goals.{list_all-in-Some+in_ok-list_frames, list_all-in_default}
 

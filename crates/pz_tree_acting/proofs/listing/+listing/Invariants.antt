@@ -1,6 +1,6 @@
 use Rattle.std.proofs.Common.{◌+◌, ◌*◌}
 use Rattle.pz_nodes.specs.Arena.{find}
-use Rattle.pz_tree_acting.proofs.Listing.{ListsOn}
+use Rattle.pz_tree_acting.proofs.Listed.{ListsOn}
 use Rattle.pz_tree_acting.proofs.listing.+listing.Given as goal
 
 abbrev pub invariant-list_all-loop-key : goal.invariant-list_all-loop-key

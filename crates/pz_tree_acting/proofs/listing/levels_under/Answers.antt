@@ -1,6 +1,6 @@
 use Rattle.std.proofs.Common.{refl}
 use Rattle.pz_nodes.specs.Arena.{find}
-use Rattle.pz_tree_acting.proofs.Listing.{deep_enough, nowhere_deep}
+use Rattle.pz_tree_acting.proofs.Listed.{deep_enough, nowhere_deep}
 use Rattle.pz_tree_acting.proofs.listing.levels_under.Goals as goal
 
 pub returns-in-Some : goal.returns-in-Some

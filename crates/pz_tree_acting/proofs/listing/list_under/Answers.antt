@@ -1,5 +1,5 @@
 use Rattle.pz_nodes.specs.Arena.{find}
-use Rattle.pz_tree_acting.proofs.Listing.{none_stands, some_stand}
+use Rattle.pz_tree_acting.proofs.Listed.{none_stands, some_stand}
 use Rattle.pz_tree_acting.proofs.listing.list_under.Goals as goal
 
 pub returns : goal.returns

@@ -5,7 +5,7 @@ use Rattle.pz_nodes_shapes.specs.Seen.{seen}
 use Rattle.pz_rules.specs.View.{term_view}
 use Rattle.pz_tree_nodes.specs.View.{head_view, what_view}
 use Rattle.pz_tree_acting.specs.devices.Parts.{HeadRule, PartRule}
-use Rattle.pz_tree_acting.proofs.Parts.{none_under, vacant_seen, part_under}
+use Rattle.pz_tree_acting.proofs.Found.{none_under, vacant_seen, part_under}
 use Rattle.pz_tree_acting.proofs.parts.part_under.Goals as goal
 
 pub returns-in_default-clause-part : goal.returns-in_default-clause-part
