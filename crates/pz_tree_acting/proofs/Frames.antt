@@ -88,13 +88,13 @@ filter_all p fs h = filter_same p (λ n. true) fs h ∙ every fs
   where
     every : (fs : Frames) → filter (λ (f : ℕ × List Value). true) fs ≡ fs
     every [] = refl
-    every (f ∷ fs) = refl
+    every (f ∷ fs) = ap (λ l. f ∷ l) (every fs)
 
 -- how many of a number are left
 count_kept : (p : ℕ → Bool) (n : ℕ) (fs : Frames) → count_in n (open_numbers (filter (λ f. p f.0) fs)) ≡ (if p n then count_in n (open_numbers fs) else 0)
 count_kept p n [] = by (p n)
   where
-    by : (b : Bool) → 0 ≡ (if b then 0 else 0)
+    by : (b : Bool) → ◌≡◌ {A = ℕ} 0 (if b then 0 else 0)
     by true = refl
     by false = refl
 count_kept p n (f ∷ fs) = by (eqb n f.0) refl (p f.0) refl (p n) refl (count_kept p n fs)
@@ -105,9 +105,9 @@ count_kept p n (f ∷ fs) = by (eqb n f.0) refl (p f.0) refl (p n) refl (count_k
     by e same true here true there others = omega (arith, others)
     by e same false here false there others = others
     by true same true here false there others = absurd (let is : n ≡ f.0 = eqb-true n f.0 same in let k : p n ≡ p f.0 = ap p is in cc)
-    by false same true here false there others = rw same others
+    by false same true here false there others = rw same (omega (arith, others))
     by true same false here true there others = absurd (let is : n ≡ f.0 = eqb-true n f.0 same in let k : p n ≡ p f.0 = ap p is in cc)
-    by false same false here true there others = rw same others
+    by false same false here true there others = rw same (omega (arith, others))
 
 -- ------------------------------------------------------------ what is lost and what stands
 

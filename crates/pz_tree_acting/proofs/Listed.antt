@@ -65,10 +65,10 @@ same_node : (n o : Node What) → ◌≡◌ {A = Option (Node What)} (Some n) (S
 same_node n o e = cc
 
 pub too_deep : (m : Map What) (key levels : ℕ) (before after : List ℕ) → levels ≡ 0 → ListRule m key levels before after
-too_deep m key levels before after none c (node k x ps) st r w d = absurd (omega (arith, none, d))
+too_deep m key levels before after zeroed c (node k x ps) st r w d = absurd (omega (arith, zeroed, d))
 
 pub not_there : (m : Map What) (key levels : ℕ) (before after : List ℕ) → None ≡ m key → ListRule m key levels before after
-not_there m key levels before after none c (node k x ps) st r w d = absurd (let e : m k ≡ None = ap m r ∙ sym none in let f = st.0 in cc)
+not_there m key levels before after vacant c (node k x ps) st r w d = absurd (let e : m k ≡ None = ap m r ∙ sym vacant in let f = st.0 in cc)
 
 pub one_listed : (m : Map What) (key levels less : ℕ) (n : Node What) (before own after : List ℕ) → Some n ≡ m key → less ≡ levels - 1
     → own ≡ before ++ frames_here (head_view n.what.head) → ListAllRule m n.kids less own after → ListRule m key levels before after
@@ -87,25 +87,46 @@ one_listed m key levels less n before own after stood fewer here below c (node k
 abbrev pub ListsOn : Map What → List (Option ℕ) → ℕ → ℕ → List ℕ → List ℕ → Type 0
 ListsOn m keys levels i before now = (after : List ℕ) → ListAllRule m (drop i keys) levels now after → ListAllRule m keys levels before after
 
-pub none_listed : (m : Map What) (levels : ℕ) (fs : List ℕ) → ListAllRule m [] levels fs fs
-none_listed m levels fs h c i none st r w d = sym (append_none fs)
-none_listed m levels fs h c i (gone ps) st r w d = absurd cc
-none_listed m levels fs h c i (more p ps) st r w d = absurd cc
+gone_tail : (xs ys : List (Option ℕ)) → ◌≡◌ {A = List (Option ℕ)} (None ∷ xs) (None ∷ ys) → xs ≡ ys
+gone_tail xs ys e = cc
+
+more_head : (j k : ℕ) (xs ys : List (Option ℕ)) → ◌≡◌ {A = List (Option ℕ)} (Some j ∷ xs) (Some k ∷ ys) → j ≡ k
+more_head j k xs ys e = cc
+
+more_tail : (j k : ℕ) (xs ys : List (Option ℕ)) → ◌≡◌ {A = List (Option ℕ)} (Some j ∷ xs) (Some k ∷ ys) → xs ≡ ys
+more_tail j k xs ys e = cc
+
+no_key : (k : Option ℕ) (xs : List (Option ℕ)) → ◌≡◌ {A = List (Option ℕ)} [] (k ∷ xs) → ⊥
+no_key k xs e = cc
+
+not_gone : (j : ℕ) (xs ys : List (Option ℕ)) → ◌≡◌ {A = List (Option ℕ)} (Some j ∷ xs) (None ∷ ys) → ⊥
+not_gone j xs ys e = cc
+
+not_there_yet : (j : ℕ) (xs ys : List (Option ℕ)) → ◌≡◌ {A = List (Option ℕ)} (None ∷ xs) (Some j ∷ ys) → ⊥
+not_there_yet j xs ys e = cc
 
 gone_listed : (m : Map What) (keys : List (Option ℕ)) (levels : ℕ) (fs gs : List ℕ) → ListAllRule m keys levels fs gs → ListAllRule m (None ∷ keys) levels fs gs
-gone_listed m keys levels fs gs rule h c i none st r w d = absurd cc
-gone_listed m keys levels fs gs rule h c i (gone ps) st r w d = rule h c (suc i) ps st cc w d
-gone_listed m keys levels fs gs rule h c i (more p ps) st r w d = absurd cc
+gone_listed m keys levels fs gs rule h c i none st r w d = absurd (no_key None keys r)
+gone_listed m keys levels fs gs rule h c i (gone ps) st r w d = rule h c (suc i) ps st (gone_tail (roots ps) keys r) w d
+gone_listed m keys levels fs gs rule h c i (more p ps) st r w d = absurd (not_gone (root p) (roots ps) keys r)
 
 more_listed : (m : Map What) (key : ℕ) (keys : List (Option ℕ)) (levels : ℕ) (fs gs hs : List ℕ) → ListRule m key levels fs gs → ListAllRule m keys levels gs hs → ListAllRule m (Some key ∷ keys) levels fs hs
-more_listed m key keys levels fs gs hs one rule h c i none st r w d = absurd cc
-more_listed m key keys levels fs gs hs one rule h c i (gone ps) st r w d = absurd cc
+more_listed m key keys levels fs gs hs one rule h c i none st r w d = absurd (no_key (Some key) keys r)
+more_listed m key keys levels fs gs hs one rule h c i (gone ps) st r w d = absurd (not_there_yet key (roots ps) keys r)
 more_listed m key keys levels fs gs hs one rule h c i (more p ps) st r w d =
-    let first = one (inner_clock h i c) p st.1 cc w.0 (omega (arith, d)) in
-    let others = rule h c (suc i) ps st.2 cc w.1 (omega (arith, d)) in
+    let first = one (inner_clock h i c) p st.1 (more_head (root p) key (roots ps) keys r) w.0 (omega (arith, d)) in
+    let others = rule h c (suc i) ps st.2 (more_tail (root p) key (roots ps) keys r) w.1 (omega (arith, d)) in
     let t = frames_in (term_in (inner_clock h i c) p) in
     let ts = frames_in_all (terms_of h c (suc i) (shapes_of ps)) in
     others ∙ ap (λ l. l ++ ts) first ∙ append_assoc fs t ts
+
+no_first : (k : Option ℕ) (xs : List (Option ℕ)) → ◌≡◌ {A = List (Option ℕ)} (k ∷ xs) [] → ⊥
+no_first k xs e = cc
+
+pub none_listed : (m : Map What) (levels : ℕ) (fs : List ℕ) → ListAllRule m [] levels fs fs
+none_listed m levels fs h c i none st r w d = sym (append_none fs)
+none_listed m levels fs h c i (gone ps) st r w d = absurd (no_first None (roots ps) r)
+none_listed m levels fs h c i (more p ps) st r w d = absurd (no_first (Some (root p)) (roots ps) r)
 
 pub sets_out : (m : Map What) (keys : List (Option ℕ)) (levels : ℕ) (fs : List ℕ) → ListsOn m keys levels 0 fs fs
 sets_out m keys levels fs after rule = rule
@@ -133,7 +154,7 @@ deep_enough law m key levels high n stood is twice f c (node k x ps) r st t =
     omega (arith, no_deeper, kept, twice)
 
 pub nowhere_deep : (m : Map What) (key levels : ℕ) → None ≡ m key → DeepRule m key levels
-nowhere_deep m key levels none f c (node k x ps) r st t = absurd (let e : m k ≡ None = ap m r ∙ sym none in let g = st.0 in cc)
+nowhere_deep m key levels vacant f c (node k x ps) r st t = absurd (let e : m k ≡ None = ap m r ∙ sym vacant in let g = st.0 in cc)
 
 pub none_stands : (m : Map What) (key : Option ℕ) → key ≡ None → StandingRule m key []
 none_stands m key is f c None r st t = refl

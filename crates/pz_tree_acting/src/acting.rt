@@ -78,7 +78,7 @@ pub fn act<L: Ledger>(
 ) -> Result<Result<Option<Key>, Trouble>, AllocError>
     requires knows { Knows (checked_model home.now.checked.now) here.now }
     requires can { MayBeDone here.now home.now how (find nodes.old) root state.old.held place.now }
-    ensures acts { IfOk result (λ left. ActRule here.now home.now how (find nodes.old) (find nodes.new) root
+    ensures acts { IfOk result (λ left. ActRule here.now home.now how.entry (find nodes.old) (find nodes.new) root
         place.now left state.old state.new) }
     ensures stays { IfOk result (λ left. OnErr left ((nodes.new ≡ nodes.old) × (state.new ≡ state.old))) }
 {
@@ -111,7 +111,7 @@ pub fn trial<L: Ledger>(
 ) -> Result<Result<(), Trouble>, AllocError>
     requires knows { Knows (checked_model home.now.checked.now) here.now }
     requires can { MayBeDone here.now home.now how (find nodes.now) root state.old.held place.now }
-    ensures answers { IfOk result (λ left. TrialRule here.now home.now how (find nodes.now) root place.now left
+    ensures answers { IfOk result (λ left. TrialRule here.now home.now how.entry (find nodes.now) root place.now left
         state.old.held) }
     ensures stays { OnOk result (state.new ≡ state.old) }
 {

@@ -101,7 +101,7 @@ fn do_deed(
     requires knows { Knows (checked_model home.now.checked.now) here.now }
     requires acts { ActsSo how (term_view part.now) }
     requires fits { ∥ FitsHere here.now home.now.class (term_view part.now) ∥₁ }
-    ensures answers { IfOk result (λ left. DeedRule here.now home.now how state.old.held frame.0
+    ensures answers { IfOk result (λ left. DeedRule here.now home.now how.entry state.old.held frame.0
         (term_view part.now) (process_left state.new.held left)) }
     ensures marks { OnOk result (state.new.marks ≡ state.old.marks) }
 {
@@ -163,7 +163,7 @@ pub(crate) fn begin<L: Ledger>(
 ) -> Result<Result<Begun, Trouble>, AllocError>
     requires knows { Knows (checked_model home.now.checked.now) here.now }
     requires can { MayBeDone here.now home.now how (find nodes.now) root state.old.held place.now }
-    ensures leaves { IfOk result (λ begun. BeginRule here.now home.now how (find nodes.now) root place.now
+    ensures leaves { IfOk result (λ begun. BeginRule here.now home.now how.entry (find nodes.now) root place.now
         state.old.held state.new.held begun) }
     ensures state { IfOk result (IsBegun state.old state.new) }
     ensures opens { IfOk result (Opens home.now.edition state.old.held state.new.held) }

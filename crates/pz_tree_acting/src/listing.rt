@@ -1,6 +1,6 @@
 // The frames that stand in the term of nodes. The only error is want of memory.
 
-ghost use Rattle.std.specs.Prelude.{◌≡◌, ◌++◌, OnOk, IfOk};
+ghost use Rattle.std.specs.Prelude.{◌≡◌, ◌*◌, ◌++◌, OnOk, IfOk};
 ghost use Rattle.std.specs.List.Sorted.{IsNonDecreasing};
 ghost use Rattle.pz_nodes.specs.Arena.{find};
 ghost use Rattle.pz_tree_dropping.specs.devices.Frames.{frames_here};
@@ -65,13 +65,19 @@ fn list_all<L: Ledger>(
     Ok(())
 }
 
+fn twice(height: u32) -> u64
+    ensures { result ≡ height * 2 }
+{
+    u64::from(height) * 2
+}
+
 // Nodes are no more than twice as deep as their term is high.
 fn levels_under<L: Ledger>(nodes: &Nodes<Node>, key: Key, steps: &mut Steps<L>) -> u64
     ensures { DeepRule (find nodes.now) key result }
 {
     pz_tree_standing::laws::nodes_are_no_deeper();
     match nodes.get(key, steps) {
-        Some(node) => u64::from(node.what.kept.height) * 2,
+        Some(node) => twice(node.what.kept.height),
         None => 0,
     }
 }

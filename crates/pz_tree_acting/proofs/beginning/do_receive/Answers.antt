@@ -15,8 +15,8 @@ use Rattle.pz_tree_acting.specs.devices.Begun.{IsAnswered}
 use Rattle.pz_tree_acting.proofs.Marked.{known_is, as_it_is}
 use Rattle.pz_tree_acting.proofs.beginning.do_receive.Goals as goal
 
-pub take-left-requires-clause-known : goal.take-left-requires-clause-known
-take-left-requires-clause-known c = subst (λ (x : Standpoint). AreKnown x.classes.now) (sym c.at_home.ensures) (known_is (checked_model c.args.home.now.checked.now) c.args.here.now c.requires.knows)
+pub take-requires-clause-known : goal.take-requires-clause-known
+take-requires-clause-known c = subst (λ (x : Standpoint). AreKnown x.classes.now) (sym c.at_home.ensures) (known_is (checked_model c.args.home.now.checked.now) c.args.here.now c.requires.knows)
 
 pub returns-clause-answers : goal.returns-clause-answers
 returns-clause-answers c =
@@ -25,8 +25,8 @@ returns-clause-answers c =
     let s = c.args.state.now.held in
     let f = c.args.frame.0 in
     let y = term_view c.args.part.now in
-    let left = done_left c.take-left.new.state.held c.in_ok-left.left in
-    subst (λ (r : Result Process Trouble). IsAnswered (CanReceive) (λ a g. Takes a g c.args.parcel.now) (seen_home c.args.here.now c.args.home.now s) f y r) (sym (c.done_by.ensures c.take-left.new.state.held))
+    let left = done_left c.take.new.state.held c.in_ok-left.left in
+    subst (λ (r : Result Process Trouble). IsAnswered (CanReceive) (λ a g. Takes a g c.args.parcel.now) (seen_home c.args.here.now c.args.home.now s) f y r) (sym (c.done_by.ensures c.take.new.state.held))
     (as_it_is (CanReceive) (λ a g. Takes a g c.args.parcel.now) (seen_home c.args.here.now c.args.home.now s) f y left
     (subst (λ (x : Standpoint). Knows m x → (pos : Pos) → CanReceive (seen_from m x class s) f y pos → Takes (seen_from m x class s) f c.args.parcel.now y pos left)
     c.at_home.ensures (λ known pos can. c.in_ok-left.ensures.takes m class pos can.0 can.1 can.2 known can.3) c.requires.knows))

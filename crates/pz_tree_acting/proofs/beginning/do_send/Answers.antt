@@ -15,8 +15,8 @@ use Rattle.pz_tree_acting.specs.devices.Begun.{IsAnswered}
 use Rattle.pz_tree_acting.proofs.Marked.{known_is, as_it_is}
 use Rattle.pz_tree_acting.proofs.beginning.do_send.Goals as goal
 
-pub hand-left-requires-clause-known : goal.hand-left-requires-clause-known
-hand-left-requires-clause-known c = subst (λ (x : Standpoint). AreKnown x.classes.now) (sym c.at_home.ensures) (known_is (checked_model c.args.home.now.checked.now) c.args.here.now c.requires.knows)
+pub hand-requires-clause-known : goal.hand-requires-clause-known
+hand-requires-clause-known c = subst (λ (x : Standpoint). AreKnown x.classes.now) (sym c.at_home.ensures) (known_is (checked_model c.args.home.now.checked.now) c.args.here.now c.requires.knows)
 
 pub returns-clause-answers : goal.returns-clause-answers
 returns-clause-answers c = λ parcel.
@@ -25,8 +25,8 @@ returns-clause-answers c = λ parcel.
     let s = c.args.state.now.held in
     let f = c.args.frame.0 in
     let y = term_view c.args.part.now in
-    let left = done_left c.hand-left.new.state.held c.in_ok-left.left in
-    subst (λ (r : Result Process Trouble). IsAnswered (CanSend parcel) (λ a g. Hands a g parcel) (seen_home c.args.here.now c.args.home.now s) f y r) (sym (c.done_by.ensures c.hand-left.new.state.held))
+    let left = done_left c.hand.new.state.held c.in_ok-left.left in
+    subst (λ (r : Result Process Trouble). IsAnswered (CanSend parcel) (λ a g. Hands a g parcel) (seen_home c.args.here.now c.args.home.now s) f y r) (sym (c.done_by.ensures c.hand.new.state.held))
     (as_it_is (CanSend parcel) (λ a g. Hands a g parcel) (seen_home c.args.here.now c.args.home.now s) f y left
     (subst (λ (x : Standpoint). Knows m x → (pos : Pos) → CanSend parcel (seen_from m x class s) f y pos → Hands (seen_from m x class s) f parcel y pos left)
     c.at_home.ensures (λ known pos can. c.in_ok-left.ensures.hands m class pos can.0 can.1 parcel known can.2) c.requires.knows))

@@ -22,7 +22,7 @@ pub list_frames-returns-then-levels-eq0 : goal.list_frames-returns-then-levels-e
 list_frames-returns-then-levels-eq0 g t c = too_deep (find c.args.nodes.now) c.args.key c.args.levels c.args.frames.now.items c.args.frames.now.items c.if-levels-eq0.true
 
 pub list_frames-returns-in_default : goal.list_frames-returns-in_default
-list_frames-returns-in_default g t c = not_there (find c.args.nodes.now) c.args.key c.args.levels c.args.frames.now.items c.args.frames.now.items (sym (c.get.ensures.value) ∙ c.in_default.ensures)
+list_frames-returns-in_default g t c = not_there (find c.args.nodes.now) c.args.key c.args.levels c.args.frames.now.items c.args.frames.now.items c.in_default.ensures.value
 
 pub list_frames-returns : goal.list_frames-returns
 list_frames-returns g t c =
