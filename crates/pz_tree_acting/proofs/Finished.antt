@@ -40,7 +40,7 @@ use Rattle.pz_tree_acting.specs.declared.how.How.{How}
 use Rattle.pz_tree_acting.specs.declared.beginning.Begun.{Begun}
 use Rattle.pz_tree_acting.specs.Deeds.{able, deed, CanDo, Leaves}
 use Rattle.pz_tree_acting.specs.Acting.{Rooted, Acted, ActedOr, ActRule, Answers, TrialRule}
-use Rattle.pz_tree_acting.specs.devices.Begun.{settled_home, begun_process, IsBegun, Opens, HoldRule, BeginRule, IsReady, Stays, StayRule}
+use Rattle.pz_tree_acting.specs.devices.Begun.{settled_home, begun_process, IsBegun, Opens, HoldRule, BeginRule, IsReady, MayGoOn, Stays, StayRule}
 use Rattle.pz_tree_acting.specs.devices.Closing.{CloseRule}
 use Rattle.pz_tree_acting.specs.devices.Parts.{IsSimple}
 use Rattle.pz_tree_acting.proofs.Found.{simple_from, able_place}
@@ -115,6 +115,13 @@ stays counted around h m n root c place x out s0 s1 s2 s3 none found old new is_
     stood : (q : Option Plant) → BecomesOption m n (has_option p) q → StandsOption n q
     stood None b = tt
     stood (Some q) b = b.stands
+
+pub still_latest : (h : Home) (m n : Map What) (root : Option ℕ) (c : ℕ) (place : Place) (x : Term) (out : Option ℕ) (s0 s1 s2 : Seen) (none found : List ℕ) (old new point : ℕ)
+    → RegrowRule h root 0 c place x out (at_work m s0 none old) (at_work n s1 found new) → MayGoOn m root c place → s2.marks ≡ s1.marks → IsLatest s0 point → IsLatest s2 point
+still_latest h m n root c place x out s0 s1 s2 none found old new point regrows stands same latest =
+    let rooted = stands.1 in
+    let g = regrows stands.0 rooted.under rooted.stands rooted.tended stands.2 in
+    ap point_of_first (same ∙ ap (λ (s : Seen). s.marks) g.means.state) ∙ latest
 
 -- ------------------------------------------------------------ of what has begun
 

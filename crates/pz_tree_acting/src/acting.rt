@@ -9,7 +9,7 @@ ghost use Rattle.pz_rules.specs.View.{term_view};
 ghost use Rattle.pz_state.specs.Marks.{IsLatest};
 ghost use Rattle.pz_tree_planting.specs.Planting.{EndsInTime};
 ghost use Rattle.pz_tree_acting.specs.Acting.{MayBeDone, ActRule, TrialRule};
-ghost use Rattle.pz_tree_acting.specs.devices.Begun.{StayRule};
+ghost use Rattle.pz_tree_acting.specs.devices.Begun.{MayGoOn, StayRule};
 
 use crate::beginning::{Begun, begin};
 use crate::closing::close_frames;
@@ -38,6 +38,7 @@ fn finish<L: Ledger>(
     steps: &mut Steps<L>,
 ) -> Result<Option<Key>, AllocError>
     requires latest { IsLatest state.old begun.point }
+    requires stands { MayGoOn (find nodes.old) root clock place.now }
     requires ends { EndsInTime clock (term_view begun.part) }
     ensures { IfOk result (λ out. StayRule (home_view home.now) (find nodes.old) (find nodes.new) root clock
         place.now (term_view begun.part) out state.old state.new) }

@@ -28,6 +28,7 @@ fn sweep<L: Ledger>(
 ) -> Result<(), AllocError>
     ensures swept { OnOk result (SweepRule (find nodes.now) key state.old state.new) }
     ensures ordered { OnOk result (AllPairs (λ m n. m < n) (map (λ f. f.0) state.old.held.frames)) }
+    ensures marks { OnOk result (state.new.marks ≡ state.old.marks) }
 {
     let standing = standing_frames(alloc, nodes, key, steps)?;
     close_others(&standing, state)
@@ -48,7 +49,8 @@ fn in_order(alloc: Global, frames: &[FrameId]) -> Result<Vec<u64>, AllocError>
 
 // Closes the frames that are lost, if they are just those that do not stand.
 fn close_lost(alloc: Global, lost: &[FrameId], state: &mut State) -> Result<(), AllocError>
-    ensures { OnOk result (LostRule (numbers lost.now) state.old state.new) }
+    ensures closed { OnOk result (LostRule (numbers lost.now) state.old state.new) }
+    ensures marks { OnOk result (state.new.marks ≡ state.old.marks) }
 {
     if lost.is_empty() {
         return Ok(());
@@ -69,7 +71,9 @@ pub(crate) fn close_frames<L: Ledger>(
     state: &mut State,
     steps: &mut Steps<L>,
 ) -> Result<(), AllocError>
-    ensures { OnOk result (CloseRule edition (find nodes.now) key (numbers lost.now) state.old state.new) }
+    ensures closed { OnOk result (CloseRule edition (find nodes.now) key (numbers lost.now) state.old
+        state.new) }
+    ensures marks { OnOk result (state.new.marks ≡ state.old.marks) }
 {
     match edition {
         Edition::One => close_lost(alloc, lost, state),

@@ -107,6 +107,10 @@ pub record Stays (h : Home) (m n : Map What) (c : ℕ) (p : Option Plant) (place
   pub frames : FramesStand (term_in_option c plant) new.held
   pub marks : new.marks ≡ older old.marks
 
+-- some tended nodes stand under the root, for a term of which a part at the place may act
+abbrev pub MayGoOn : Map What → Option ℕ → ℕ → Place → Type 0
+MayGoOn m root c place = (p : Option Plant) × Rooted m root c p × MayAct (term_in_option c p) place
+
 -- where just the frames of the term and of what the part has become are open, and none in the part itself
 pub record IsReady (e : Edition) (t : Term) (place : Place) (x : Term) (s : StateView) : Type 0 where
   pub may_act : MayAct t place

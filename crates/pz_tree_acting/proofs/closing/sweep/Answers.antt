@@ -2,7 +2,7 @@ use Rattle.std.proofs.Common.{ℕ, List, ap, ◌∙◌}
 use Rattle.std.proofs.lemmas.Result.{on_ok_weaker}
 use Rattle.pz_nodes.specs.Arena.{find}
 use Rattle.pz_rules.specs.Leaving.{only_frames}
-use Rattle.pz_state.specs.Marks.{changed}
+use Rattle.pz_state.specs.Marks.{Seen, changed}
 use Rattle.pz_tree_acting.proofs.Frames.{others_closed}
 use Rattle.pz_tree_acting.proofs.closing.sweep.Goals as goal
 
@@ -14,3 +14,6 @@ returns-clause-swept g c = on_ok_weaker c.close_others.result
 
 pub returns-clause-ordered : goal.returns-clause-ordered
 returns-clause-ordered g c = on_ok_weaker c.close_others.result (λ is. c.close_others.ensures.ordered) c.close_others.ensures.closed
+
+pub returns-clause-marks : goal.returns-clause-marks
+returns-clause-marks g c = on_ok_weaker c.close_others.result (λ is. ap (λ (s : Seen). s.marks) is) c.close_others.ensures.closed
