@@ -1,15 +1,14 @@
 -- What a deed opens, and what opens around the part that did it.
-use Rattle.std.proofs.Common.{◌≡◌, ◌≤◌, ◌+◌, ℕ, zero, suc, Bool, true, false, eqb, List, [], ◌∷◌, ◌++◌, length, Option, Some, None, Result, Ok, Err, refl, sym, ap, ◌∙◌, subst, arith}
-use Rattle.std.specs.Prelude.{if◌then◌else◌, map}
+use Rattle.std.proofs.Common.{◌≡◌, ◌≤◌, ◌+◌, ℕ, zero, suc, Bool, true, false, eqb, List, [], ◌∷◌, ◌++◌, length, Result, Ok, Err, refl, ap, ◌∙◌, subst, arith}
+use Rattle.std.specs.Prelude.{if◌then◌else◌}
 use Rattle.pz_syntax.specs.declared.tokens.Pos.{Pos}
 use Rattle.pz_syntax.specs.Expressions.{Part, left_out, written}
-use Rattle.pz_syntax.specs.Statements.{StatementPart, not_written, otherwise, conditional, repeated}
+use Rattle.pz_syntax.specs.Statements.{StatementPart, not_written, otherwise, repeated}
 use Rattle.pz_value.specs.declared.value.ClassId.{ClassId}
 use Rattle.pz_value.specs.declared.value.Value.{Value}
 use Rattle.pz_classes_code.specs.declared.slot.Slot.{Slot}
 use Rattle.pz_classes_code.specs.declared.slot.Slot.TheVariants.{Local, Shared, Unknown}
 use Rattle.pz_copy.specs.Parcels.{ParcelView}
-use Rattle.pz_eval_binding.specs.Binding as binding
 use Rattle.pz_eval_binding.specs.Binding.{set_slot, set_slots, first_slots}
 use Rattle.pz_offer.specs.PlaceOrder.{Place}
 use Rattle.pz_offer.specs.declared.trouble.Trouble.{Trouble}
@@ -18,10 +17,10 @@ use Rattle.pz_state.specs.States as states
 use Rattle.pz_rules.specs.declared.limits.Edition.{Edition}
 use Rattle.pz_rules.specs.declared.limits.Edition.TheVariants.{One, Two}
 use Rattle.pz_rules.specs.Terms.{Step, Steps, Term, Terms, done, leaf, wait, sequence, parallel, select, guarded, frame, abort, idle, handling, frames_in, child, frame_in}
-use Rattle.pz_rules.specs.Settings.{Context, Process, Home, home_of, left_by, in_state}
+use Rattle.pz_rules.specs.Settings.{Context, Process, Home, home_of, in_state}
 use Rattle.pz_rules.specs.FrameNumbers.{least_free}
 use Rattle.pz_rules.specs.Framing.{framed}
-use Rattle.pz_rules.specs.Opening.{opened, opened_all}
+use Rattle.pz_rules.specs.Opening.{opened_all}
 use Rattle.pz_rules.specs.Meanings.{and_then, truth}
 use Rattle.pz_rules.specs.Evaluations.{Gives, GivesAll, GivesPart}
 use Rattle.pz_rules.specs.InternalActions as actions

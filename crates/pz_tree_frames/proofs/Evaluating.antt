@@ -1,10 +1,10 @@
 -- No evaluation opens or closes a frame.
-use Rattle.std.proofs.Common.{◌≡◌, ℕ, Bool, true, false, List, [], ◌∷◌, length, Option, Some, None, Result, Ok, Err, refl, sym, ap, ◌∙◌, subst}
+use Rattle.std.proofs.Common.{◌≡◌, ℕ, Bool, true, false, List, [], ◌∷◌, length, Option, Some, None, refl, ap, ◌∙◌, subst}
 use Rattle.std.specs.Prelude.{if◌then◌else◌, nat_eq, nat_lt, ◌^◌, pos, map}
 use Rattle.pz_syntax.specs.declared.tokens.Pos.{Pos}
 use Rattle.pz_syntax.specs.declared.tokens.Symbol.{Symbol}
 use Rattle.pz_syntax.specs.declared.names.Id.{Id}
-use Rattle.pz_syntax.specs.Expressions.{Links, Sendings, Part, left_out, written}
+use Rattle.pz_syntax.specs.Expressions.{Links, Sendings}
 use Rattle.pz_syntax.specs.Classes.{ModelTree}
 use Rattle.pz_value.specs.declared.value.ClassId.{ClassId}
 use Rattle.pz_value.specs.declared.value.Value.{Value}
@@ -12,16 +12,15 @@ use Rattle.pz_value.specs.declared.value.Value.TheVariants.{Nil, Bool as Boolean
 use Rattle.pz_classes_code.specs.declared.slot.Slot.{Slot}
 use Rattle.pz_classes_code.specs.declared.slot.Slot.TheVariants.{Local, Shared, Unknown}
 use Rattle.pz_classes_code.specs.CodeView.{Tree}
-use Rattle.pz_state.specs.declared.fault.FaultKind.{FaultKind}
 use Rattle.pz_state.specs.declared.fault.FaultKind.TheVariants.{StoreFull, ClockTooLarge}
-use Rattle.pz_state.specs.States.{StateView, Frames, at_frame, made, object, object_limit, set_local}
+use Rattle.pz_state.specs.States.{StateView, Frames, at_frame, made, object, object_limit}
 use Rattle.pz_prims.specs.declared.answer.Prim.{Prim}
 use Rattle.pz_prims.specs.declared.answer.Prim.TheVariants as prim
-use Rattle.pz_prims.specs.Table.{Outcome, outcome}
+use Rattle.pz_prims.specs.Table.{outcome}
 use Rattle.pz_classes.specs.Members.{fields}
-use Rattle.pz_eval_rules.specs.Memories.{Memory, Location, in_process, in_object, with_state, write, started, left}
+use Rattle.pz_eval_rules.specs.Memories.{Memory, Location, in_process, in_object, with_state, write}
 use Rattle.pz_eval_rules.specs.Answers.{Stop, ends, fault, Answer, gives, stops, ended, ended_list}
-use Rattle.pz_eval_rules.specs.Steps.{Codes, time, created, spelling, told, told_outcome, applied, applied_alone, Reply, answers, runs, method_reply, data_method, class_reply, reply_by, reply_to, reply}
+use Rattle.pz_eval_rules.specs.Steps.{Codes, spelling, told, applied, applied_alone, Reply, answers, runs, method_reply, data_method, class_reply, reply_by, reply}
 use Rattle.pz_eval_rules.specs.Evaluation.{Evaluates, a_constant, a_variable, itself, the_time, a_new, in_brackets, a_chain, a_chain_stops, some_sends, some_sends_stop, a_unary, a_unary_stops, an_assignment, an_assignment_stops, a_return, a_return_stops, an_if, an_if_wrong, an_if_stops, a_while, InSequence, no_more, one_more, one_stops, Arguments, no_argument, an_argument, an_argument_stops, Operators, no_operator, an_operator, an_operator_wrong, an_operand_stops, Selectors, no_selector, an_answer, an_answer_wrong, a_method, a_method_wrong, arguments_stop, Turns, a_turn, a_turn_stops, over, a_test_wrong, a_test_stops}
 use Rattle.pz_eval_rules.specs.Outcomes.{Finds, a_value, a_fault, too_much, FindsAll, all_values, one_fault, all_too_much}
 use Rattle.pz_eval_rules.specs.Outcomes as outcomes

@@ -12,13 +12,13 @@ use Rattle.pz_state.specs.States.{StateView, Frames, with_frame, nils}
 use Rattle.pz_state.specs.States as states
 use Rattle.pz_rules.specs.declared.limits.Edition.{Edition}
 use Rattle.pz_rules.specs.declared.limits.Edition.TheVariants.{One, Two}
-use Rattle.pz_rules.specs.Terms.{Step, Steps, Term, Terms, done, leaf, wait, sequence, parallel, select, guarded, frame, abort, idle, handling, frames_in, frames_in_all}
+use Rattle.pz_rules.specs.Terms.{Step, Steps, Term, done, leaf, wait, sequence, parallel, select, guarded, frame, abort, idle, handling, frames_in, frames_in_all}
 use Rattle.pz_rules.specs.Settings.{Process, Home}
 use Rattle.pz_rules.specs.FrameNumbers.{least_free}
 use Rattle.pz_rules.specs.Framing.{framed}
 use Rattle.pz_rules.specs.Opening.{step_opened, steps_opened, branches_opened, called_body, by_body, entered_to, depth_of, enter_in, enter, opened, opened_all}
 use Rattle.pz_tree_standing.specs.FrameCounts.{count_in, times}
-use Rattle.pz_tree_frames.specs.Frames.{numbers, open_as, HaveOpened}
+use Rattle.pz_tree_frames.specs.Frames.{open_as, HaveOpened}
 
 pub count_append : (n : ℕ) (ms ks : List ℕ) → count_in n (ms ++ ks) ≡ count_in n ms + count_in n ks
 count_append n [] ks = (let e : count_in n ks ≡ 0 + count_in n ks = omega arith in e)

@@ -1,6 +1,6 @@
 -- No primitive value opens or closes a frame.
 use Rattle.std.proofs.Common.{◌≡◌, ℕ, zero, suc, Bool, true, false, List, [], ◌∷◌, length, Option, Some, None, Ok, Err, refl}
-use Rattle.std.specs.Prelude.{if◌then◌else◌, ℤ, pos, negsuc, nat_le, bytes_eq, option_map, codes}
+use Rattle.std.specs.Prelude.{if◌then◌else◌, pos, negsuc, nat_le, bytes_eq, option_map, codes}
 use Rattle.std.specs.Option.{option_map_or}
 use Rattle.pz_value.specs.declared.value.Value.{Value}
 use Rattle.pz_value.specs.declared.value.Value.TheVariants as value
@@ -11,7 +11,7 @@ use Rattle.pz_prims.specs.EveryValue.{every_value}
 use Rattle.pz_prims.specs.Integers.{of_integer}
 use Rattle.pz_prims.specs.Strings.{at_place}
 use Rattle.pz_prims.specs.Arrays.{Changed, arrays, state_after, resize, put, item_at}
-use Rattle.pz_prims.specs.Table.{Outcome, outcome, of_itself, of_array, told, is_array}
+use Rattle.pz_prims.specs.Table.{Outcome, outcome, of_itself, told, is_array}
 use Rattle.pz_tree_frames.specs.Frames.{numbers}
 
 abbrev Good : StateView → Option (Answer Changed) → Type 0

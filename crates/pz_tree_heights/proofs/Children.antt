@@ -39,4 +39,3 @@ form_child (handling again s) c ss zero p n = refl
 form_child (handling again s) c ss (suc zero) p n = refl
 form_child (handling again s) c ss (suc (suc j)) p n = sym (past_the_last (handling again s) c 0 ss (suc (suc j)) (omega (arith, p)))
 form_child (shifted s) c ss j p n = absurd n
-

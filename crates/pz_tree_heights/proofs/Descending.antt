@@ -1,14 +1,14 @@
 -- From a term to its part at a place, and back.
-use Rattle.std.proofs.Common.{◌≡◌, ◌≤◌, ◌<◌, ℕ, zero, suc, ◌+◌, ◌*◌, ◌^◌, Bool, leb, List, [], ◌∷◌, length, Option, Some, None, refl, sym, ap, ◌∙◌, subst, arith}
+use Rattle.std.proofs.Common.{◌≡◌, ◌≤◌, ◌<◌, ℕ, ◌+◌, ◌^◌, leb, [], ◌∷◌, length, Option, Some, None, refl, sym, ap, ◌∙◌, subst, arith}
 use Rattle.std.specs.Prelude.{slice_index_or}
 use Rattle.std.proofs.lemmas.Bool.Decides.{nat_tests}
 use Rattle.pz_clock.specs.Shifts.{local}
 use Rattle.pz_nodes_shapes.specs.declared.node.Node.{Node}
 use Rattle.pz_nodes_shapes.specs.Rose.{node, none, gone, more, Map, root, roots, pick, Stands, StandAll}
 use Rattle.pz_offer.specs.PlaceOrder.{Place}
-use Rattle.pz_rules.specs.Terms.{Term, done, child, term_at, frame_in, height}
+use Rattle.pz_rules.specs.Terms.{Term, done, child, frame_in, height}
 use Rattle.pz_rules.specs.Settings.{Home, left_by}
-use Rattle.pz_rules.specs.Places.{MayActIn, MayAct}
+use Rattle.pz_rules.specs.Places.{MayAct}
 use Rattle.pz_rules.specs.Leaving.{residual}
 use Rattle.pz_term_residual.specs.declared.outline.Outline.{Outline}
 use Rattle.pz_term_residual.specs.Capped.{capped}
@@ -21,15 +21,13 @@ use Rattle.pz_tree_standing.specs.Whole.{IsNoShift, HasParts, OneInside, AreWhol
 use Rattle.pz_tree_nodes.specs.declared.node.Head.{Head}
 use Rattle.pz_tree_nodes.specs.declared.node.Head.TheVariants as kind
 use Rattle.pz_tree_nodes.specs.declared.node.What.{What}
-use Rattle.pz_tree_nodes.specs.View.{Plant, Plants, head_view, shapes_of, term_in, term_in_option}
+use Rattle.pz_tree_nodes.specs.View.{Plant, Plants, head_view, shapes_of, term_in_option}
 use Rattle.pz_tree_nodes.specs.Tended.{Tended, TendedOption}
 use Rattle.pz_tree_planting.specs.Planting.{root_of}
-use Rattle.pz_tree_regrowing.specs.Costs.{beside, on_way}
-use Rattle.pz_tree_regrowing.specs.Regrowing.{StandsOption}
+use Rattle.pz_tree_regrowing.specs.Costs.{on_way}
 use Rattle.pz_tree_regrowing.specs.devices.Levels.{kid_terms}
-use Rattle.pz_tree_regrowing.specs.devices.Rounds.{IsBareOption}
 use Rattle.pz_tree_heights.specs.devices.Reading.{IsHigh, IsPast, PastRule, past_key}
-use Rattle.pz_tree_heights.specs.devices.Outlining.{AreKids, Rounded, HomeRoundRule, Outlined, OutlineRule, BareOutlineRule}
+use Rattle.pz_tree_heights.specs.devices.Outlining.{AreKids, Rounded, HomeRoundRule, OutlineRule, BareOutlineRule}
 use Rattle.pz_tree_heights.proofs.Children.{form_child}
 use Rattle.pz_tree_heights.proofs.Kids.{same_node, picked_root, picked_stands, picked_high, picked_term}
 

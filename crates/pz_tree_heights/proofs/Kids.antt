@@ -1,9 +1,9 @@
 -- Children of a node: which is where, what they stand for, and that what a node stands for is not done.
-use Rattle.std.proofs.Common.{◌≡◌, ◌≤◌, ◌<◌, ℕ, zero, suc, ◌+◌, ◌∷◌, [], List, length, false, Option, Some, None, refl, ap, ◌∙◌, subst, sym, arith}
+use Rattle.std.proofs.Common.{◌≡◌, ◌≤◌, ℕ, zero, suc, ◌+◌, length, false, Option, Some, None, refl, ap, ◌∙◌, arith}
 use Rattle.std.specs.Prelude.{slice_index_or}
 use Rattle.pz_nodes_shapes.specs.declared.node.Node.{Node}
 use Rattle.pz_nodes_shapes.specs.Rose.{node, none, gone, more, Map, roots, pick, width, StandAll}
-use Rattle.pz_rules.specs.Terms.{Terms, done, term_at, count}
+use Rattle.pz_rules.specs.Terms.{Terms, term_at, count}
 use Rattle.pz_rules.specs.Leaving.{is_done}
 use Rattle.pz_tree_standing.specs.Heads.{Head, leaf, wait, sequence, parallel, select, guarded, frame, abort, idle, handling, shifted, Shapes, inner_clock, formed}
 use Rattle.pz_tree_standing.specs.Standing.{terms_of}

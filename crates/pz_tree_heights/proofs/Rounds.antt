@@ -1,30 +1,28 @@
 -- The outline of what is around a part that has become another, form by form.
-use Rattle.std.proofs.Common.{◌≡◌, ◌≤◌, ◌<◌, ℕ, zero, suc, ◌+◌, max, Bool, true, false, ◌&&◌, List, [], ◌∷◌, ◌++◌, length, take, drop, Option, None, refl, sym, ap, ◌∙◌, subst, arith}
+use Rattle.std.proofs.Common.{◌≡◌, ◌≤◌, ◌<◌, ℕ, zero, suc, ◌+◌, max, Bool, true, false, ◌&&◌, List, ◌∷◌, length, take, drop, Option, None, refl, sym, ap, ◌∙◌, subst, arith}
 use Rattle.std.specs.Prelude.{if◌then◌else◌, slice_index_or}
 use Rattle.pz_clock.specs.Shifts.{ShiftView}
-use Rattle.pz_nodes_shapes.specs.Rose.{Map, roots, StandAll}
+use Rattle.pz_nodes_shapes.specs.Rose.{Map}
 use Rattle.pz_state.specs.States.{StateView}
 use Rattle.pz_classes_code.specs.declared.slot.Slot.{Slot}
 use Rattle.pz_rules.specs.Terms.{Term, Terms, Step, Steps, done, term_at, height, greatest_height}
 use Rattle.pz_rules.specs.Terms as term
 use Rattle.pz_rules.specs.Settings.{Home}
 use Rattle.pz_rules.specs.Places.{MayActIn}
-use Rattle.pz_rules.specs.Leaving.{is_done, all_done, joined, replaced, handled}
+use Rattle.pz_rules.specs.Leaving.{all_done, replaced, handled}
 use Rattle.pz_term_residual.specs.declared.outline.Outline.{Outline}
 use Rattle.pz_term_residual.specs.Capped.{capped}
 use Rattle.pz_term_residual.specs.Outlines.{outline, IsAbove, IsRound}
 use Rattle.pz_tree_standing.specs.Heads.{Head, formed}
 use Rattle.pz_tree_standing.specs.Heads as heads
-use Rattle.pz_tree_standing.specs.Whole.{AreWhole, IsNoShift}
 use Rattle.pz_tree_nodes.specs.declared.node.What.{What}
-use Rattle.pz_tree_nodes.specs.View.{Plants, shapes_of}
-use Rattle.pz_tree_nodes.specs.Tended.{AreMarked}
+use Rattle.pz_tree_nodes.specs.View.{Plants}
 use Rattle.pz_tree_regrowing.specs.Costs.{beside}
 use Rattle.pz_tree_regrowing.specs.devices.Levels.{there, all_there, are_gone, kid_terms}
 use Rattle.pz_tree_heights.specs.devices.Reading.{high_at, highest}
 use Rattle.pz_tree_heights.specs.devices.Outlining.{AreKids, Rounded, HomeRoundRule, RoundRule, SecondRule}
 use Rattle.pz_tree_heights.proofs.Kids.{few_there, width_terms, width_keys}
-use Rattle.pz_tree_heights.proofs.Highs.{Parted, parted, kid_high, cut, capped_max}
+use Rattle.pz_tree_heights.proofs.Highs.{Parted, parted, kid_high, cut}
 
 -- ------------------------------------------------------------ parts side by side
 

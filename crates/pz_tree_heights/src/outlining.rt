@@ -133,7 +133,15 @@ fn outline_bare<L: Ledger>(
     };
     let child = kid_in(&node.kids, *number);
     let left = outline_after(home, nodes, child, inner, part, steps);
-    outline_round(home, nodes, &node.what.head, &node.kids, *number, left, steps)
+    outline_round(
+        home,
+        nodes,
+        &node.what.head,
+        &node.kids,
+        *number,
+        left,
+        steps,
+    )
 }
 
 // Of the term under a key, once its part at the place has become one of this outline.

@@ -1,7 +1,7 @@
 -- What is read of nodes.
 use Rattle.std.specs.Prelude.{◌≡◌, ℕ, max, slice_index_or, List, [], ◌∷◌, Option, Some, None}
 use Rattle.pz_nodes_shapes.specs.declared.node.Node.{Node}
-use Rattle.pz_nodes_shapes.specs.Rose.{node, none, gone, more, Map}
+use Rattle.pz_nodes_shapes.specs.Rose.{Map}
 use Rattle.pz_tree_standing.specs.Heads.{Head, shifted}
 use Rattle.pz_tree_standing.specs.Whole.{Whole}
 use Rattle.pz_term_residual.specs.Capped.{capped}

@@ -1,4 +1,4 @@
-use Rattle.std.proofs.Common.{sym, ◌∙◌, ◌<◌, length, refl, arith}
+use Rattle.std.proofs.Common.{sym, ◌∙◌, refl, arith}
 use Rattle.pz_nodes.specs.Arena.{find}
 use Rattle.pz_tree_heights.proofs.Rounds.{no_part, parallel_done, parallel_stays}
 use Rattle.pz_tree_heights.proofs.beside.outline_parallel.Goals as goal

@@ -1,7 +1,7 @@
 use Rattle.std.proofs.Common.{refl}
 use Rattle.pz_nodes.specs.Arena.{find}
 use Rattle.pz_part_opening.specs.Homes.{home_view}
-use Rattle.pz_tree_heights.proofs.Descending.{arrives, nothing_acts, nothing_stands, level_outlined, outlined}
+use Rattle.pz_tree_heights.proofs.Descending.{arrives, nothing_acts, level_outlined, outlined}
 use Rattle.pz_tree_heights.proofs.outlining.+outlines.Goals as goal
 
 pub outline_after-returns : goal.outline_after-returns

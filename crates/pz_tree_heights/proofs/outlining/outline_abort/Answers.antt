@@ -1,6 +1,5 @@
-use Rattle.std.proofs.Common.{refl}
 use Rattle.pz_nodes.specs.Arena.{find}
-use Rattle.pz_tree_heights.proofs.Rounds.{abort_second, abort_goes_on}
+use Rattle.pz_tree_heights.proofs.Rounds.{abort_goes_on}
 use Rattle.pz_tree_heights.proofs.outlining.outline_abort.Goals as goal
 
 pub returns : goal.returns

@@ -1,4 +1,4 @@
-use Rattle.std.proofs.Common.{ap, arith}
+use Rattle.std.proofs.Common.{arith}
 use Rattle.pz_nodes.specs.Arena.{find}
 use Rattle.pz_part_opening.specs.Homes.{home_view}
 use Rattle.pz_rules.specs.View.{term_view}
