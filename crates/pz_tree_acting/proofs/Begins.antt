@@ -1,5 +1,5 @@
 -- A part that is found in the nodes does its deed under a mark.
-use Rattle.std.proofs.Common.{◌≡◌, ℕ, List, ◌∷◌, Option, Result, Ok, Err, refl, sym, subst, ap, ◌∙◌}
+use Rattle.std.proofs.Common.{◌≡◌, ℕ, List, ◌∷◌, Option, Result, Ok, Err, sym, subst, ap, ◌∙◌}
 use Rattle.std.specs.Prelude.{MatchResult, IfOk}
 use Rattle.pz_syntax.specs.declared.tokens.Pos.{Pos}
 use Rattle.pz_copy.specs.Parcels.{ParcelView}
@@ -36,7 +36,7 @@ use Rattle.pz_tree_acting.specs.Acting.{Rooted}
 use Rattle.pz_tree_acting.specs.devices.Begun.{ActsSo, IsHanded, DeedRule, IsBegun, Opens}
 use Rattle.pz_tree_acting.specs.devices.Parts.{IsSimple, PartRule}
 use Rattle.pz_tree_acting.proofs.Found.{simple_from, able_place, found_at, rooted_stands}
-use Rattle.pz_tree_acting.proofs.Calm.{EndsLeft, deed_ends, answer_ends, part_ends}
+use Rattle.pz_tree_acting.proofs.Calm.{deed_ends, answer_ends, part_ends}
 
 -- ------------------------------------------------------------ the part
 

@@ -1,9 +1,9 @@
 -- What is left of a process, once what its part did stays or is undone.
-use Rattle.std.proofs.Common.{◌≡◌, ℕ, Bool, true, leb, List, [], ◌∷◌, ◌++◌, ◌+◌, arith, Result, Ok, Err, Option, Some, None, refl, sym, subst, ap, ◌∙◌}
+use Rattle.std.proofs.Common.{◌≡◌, ℕ, Bool, true, List, [], ◌++◌, ◌+◌, arith, Result, Ok, Err, Option, Some, None, refl, sym, subst, ap, ◌∙◌}
 use Rattle.std.specs.Prelude.{if◌then◌else◌, nat_le, IfOk}
 use Rattle.pz_syntax.specs.declared.tokens.Pos.{Pos}
 use Rattle.pz_state.specs.States.{StateView}
-use Rattle.pz_state.specs.Marks.{Seen, IsLatest, point_of_first, undone, undone_from, kept, changed, older}
+use Rattle.pz_state.specs.Marks.{Seen, IsLatest, point_of_first, undone, undone_from, kept, older}
 use Rattle.pz_copy.specs.Parcels.{ParcelView}
 use Rattle.pz_nodes_shapes.specs.Rose.{Map, has_option}
 use Rattle.pz_nodes_shapes.specs.Change.{BecomesOption}
@@ -23,7 +23,7 @@ use Rattle.pz_rules.specs.declared.limits.Edition.{Edition}
 use Rattle.pz_rules.specs.declared.limits.Edition.TheVariants.{One, Two}
 use Rattle.pz_rules.specs.Laws.{part_of}
 use Rattle.pz_rules.specs.Terms as terms
-use Rattle.pz_rules.specs.Leaving.{residual, swept, only_frames, not_too_high}
+use Rattle.pz_rules.specs.Leaving.{residual, swept}
 use Rattle.pz_rules.specs.Meanings.{and_then}
 use Rattle.pz_rules.specs.Places.{MayAct}
 use Rattle.pz_rules.specs.View.{term_view}
@@ -34,13 +34,13 @@ use Rattle.pz_tree_standing.specs.Laws.{FramesStandOrAreLost}
 use Rattle.pz_tree_frames.specs.Frames.{open_as, FramesStand, HaveOpened, AroundOpens}
 use Rattle.pz_tree_seeking.specs.Seeking.{ActiveAtPlace}
 use Rattle.pz_term_around.specs.Laws.{ActivePartsMayAct}
-use Rattle.pz_tree_regrowing.specs.Regrowing.{at_work, StandsOption, Regrown, RegrowRule}
+use Rattle.pz_tree_regrowing.specs.Regrowing.{at_work, StandsOption, RegrowRule}
 use Rattle.pz_tree_heights.specs.Heights.{LowRule}
 use Rattle.pz_tree_acting.specs.declared.how.How.{How}
 use Rattle.pz_tree_acting.specs.declared.beginning.Begun.{Begun}
 use Rattle.pz_tree_acting.specs.Deeds.{able, deed, CanDo, Leaves}
-use Rattle.pz_tree_acting.specs.Acting.{Rooted, Acted, ActedOr, ActRule, Answers, TrialRule}
-use Rattle.pz_tree_acting.specs.devices.Begun.{settled_home, begun_process, IsBegun, Opens, HoldRule, BeginRule, IsReady, MayGoOn, Stays, StayRule}
+use Rattle.pz_tree_acting.specs.Acting.{Rooted, ActRule, TrialRule}
+use Rattle.pz_tree_acting.specs.devices.Begun.{settled_home, begun_process, IsBegun, Opens, HoldRule, BeginRule, MayGoOn, StayRule}
 use Rattle.pz_tree_acting.specs.devices.Closing.{CloseRule}
 use Rattle.pz_tree_acting.specs.devices.Parts.{IsSimple}
 use Rattle.pz_tree_acting.proofs.Found.{simple_from, able_place}

@@ -1,9 +1,9 @@
 -- Frames that are closed, counted: those that are lost are exactly the open ones that do not stand.
-use Rattle.std.proofs.Common.{◌≡◌, ◌≤◌, ◌<◌, ◌+◌, ℕ, zero, suc, Bool, true, false, cond, not, eqb, ◌||◌, nat_eq, List, [], ◌∷◌, map, length, get_or, refl, sym, ap, ◌∙◌, subst, arith}
+use Rattle.std.proofs.Common.{◌≡◌, ◌≤◌, ◌<◌, ◌+◌, ℕ, suc, Bool, true, false, cond, not, eqb, ◌||◌, nat_eq, List, [], ◌∷◌, map, length, get_or, refl, sym, ap, ◌∙◌, subst, arith}
 use Rattle.std.specs.Prelude.{if◌then◌else◌}
 use Rattle.std.proofs.Common.{eq-eqb}
 use Rattle.std.proofs.lemmas.Bool.{ne_eqb, eqb-true}
-use Rattle.std.specs.List.{list_any, filter, AllPairs, All}
+use Rattle.std.specs.List.{list_any, filter, AllPairs}
 use Rattle.pz_value.specs.declared.value.Value.{Value}
 use Rattle.pz_state.specs.States.{StateView, Frames}
 use Rattle.pz_state.specs.Marks.{Seen, changed}
@@ -18,13 +18,13 @@ use Rattle.std.proofs.lemmas.List.Sorted.{list_any-IsPermutation}
 use Rattle.pz_nodes_shapes.specs.Rose.{Map}
 use Rattle.pz_state.specs.declared.state.FrameId.{FrameId}
 use Rattle.pz_tree_nodes.specs.declared.node.What.{What}
-use Rattle.pz_tree_nodes.specs.View.{Plant, term_in_option}
+use Rattle.pz_tree_nodes.specs.View.{term_in_option}
 use Rattle.pz_tree_dropping.specs.Dropping as dropping
 use Rattle.pz_tree_acting.specs.devices.Listing.{SortedRule, SweepRule}
 use Rattle.pz_tree_acting.specs.devices.Closing.{LostRule, CloseRule}
 use Rattle.pz_term_residual.specs.Closing.{without_frames}
 use Rattle.pz_tree_standing.specs.FrameCounts.{count_in, times}
-use Rattle.pz_tree_frames.specs.Frames.{numbers, open_as, FramesStand, HaveOpened}
+use Rattle.pz_tree_frames.specs.Frames.{open_as, FramesStand, HaveOpened}
 
 -- ------------------------------------------------------------ among numbers
 

@@ -1,21 +1,16 @@
 -- Frames listed, node by node and part by part.
-use Rattle.std.proofs.Common.{◌≡◌, ◌<◌, ◌≤◌, ℕ, zero, suc, ◌+◌, ◌-◌, ◌*◌, max, List, [], ◌∷◌, ◌++◌, length, get_or, drop, append_assoc, Option, Some, None, refl, ap, sym, ◌∙◌, subst, arith}
+use Rattle.std.proofs.Common.{◌≡◌, ◌<◌, ◌≤◌, ℕ, suc, ◌+◌, ◌-◌, ◌*◌, List, [], ◌∷◌, ◌++◌, length, get_or, drop, append_assoc, Option, Some, None, refl, ap, sym, ◌∙◌, subst, arith}
 use Rattle.std.proofs.lemmas.List.{drop_more, drop_all}
 use Rattle.std.specs.List.Sorted.{IsPermutation}
 use Rattle.pz_nodes_shapes.specs.declared.node.Node.{Node}
-use Rattle.pz_nodes_shapes.specs.Rose.{node, none, gone, more, Map, root, roots, width, Stands, StandAll}
-use Rattle.pz_nodes_shapes.specs.Reading.{depth, depths}
+use Rattle.pz_nodes_shapes.specs.Rose.{node, none, gone, more, Map, root, roots, width}
 use Rattle.pz_rules.specs.Terms.{frames_in, frames_in_all, term_at, height}
-use Rattle.pz_rules.specs.Leaving.{only_frames}
 use Rattle.pz_tree_standing.specs.Heads.{Head, leaf, wait, sequence, parallel, select, guarded, frame, abort, idle, handling, shifted, Shapes, inner_clock, formed}
 use Rattle.pz_tree_standing.specs.Standing.{terms_of}
-use Rattle.pz_tree_standing.specs.Whole.{HasParts, Whole, AreWhole}
+use Rattle.pz_tree_standing.specs.Whole.{HasParts}
 use Rattle.pz_tree_standing.specs.Laws.{NoDeeperThanHigh}
 use Rattle.pz_tree_nodes.specs.declared.node.What.{What}
-use Rattle.pz_tree_nodes.specs.View.{Plant, Plants, head_view, term_in, term_in_option, shape_of, shapes_of}
-use Rattle.pz_tree_nodes.specs.Tended.{Tended, TendedOption}
-use Rattle.pz_tree_planting.specs.Planting.{root_of}
-use Rattle.pz_tree_regrowing.specs.Regrowing.{StandsOption}
+use Rattle.pz_tree_nodes.specs.View.{head_view, term_in, shape_of, shapes_of}
 use Rattle.pz_tree_dropping.specs.devices.Frames.{frames_here}
 use Rattle.pz_tree_acting.specs.devices.Listing.{ListRule, ListAllRule, DeepRule, StandingRule, SortedRule}
 

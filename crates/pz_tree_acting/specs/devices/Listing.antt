@@ -1,5 +1,5 @@
 -- The frames that stand in a term, listed from its nodes; and the state without the others.
-use Rattle.std.specs.Prelude.{◌≡◌, ◌≤◌, ◌++◌, ℕ, List, Option, Some, None}
+use Rattle.std.specs.Prelude.{◌≡◌, ◌≤◌, ◌++◌, ℕ, List, Option}
 use Rattle.std.specs.List.Sorted.{IsPermutation}
 use Rattle.pz_nodes_shapes.specs.Rose.{Map, root, roots, Stands, StandAll}
 use Rattle.pz_nodes_shapes.specs.Reading.{depth, depths}

@@ -1,8 +1,7 @@
-use Rattle.std.proofs.Common.{Ok, Err, refl}
+use Rattle.std.proofs.Common.{refl}
 use Rattle.pz_nodes.specs.Arena.{find}
 use Rattle.pz_part_actions.specs.Homes.{seen_home}
 use Rattle.pz_tree_nodes.specs.View.{term_in_option}
-use Rattle.pz_tree_acting.specs.devices.Begun.{Opens}
 use Rattle.pz_tree_acting.proofs.Finished.{begun_latest, begun_trouble, begun_older, begun_has_opened, begun_ends, acts_trouble, acts_well}
 use Rattle.pz_tree_acting.proofs.acting.act.Goals as goal
 

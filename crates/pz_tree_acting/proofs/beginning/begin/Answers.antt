@@ -23,7 +23,7 @@ pos_of-pos-requires g c =
     let spot = c.part_at-spot.result in
     let y = term_view c.in_ok-part.part in
     let found = located c.tended_nodes_stand.ensures.law c.active_parts_are_at_their_places.ensures.law (find c.args.nodes.now) c.args.root c.args.here.now.clock r.plant r.rooted how r.parcel a c.args.place.now r.can
-        spot.key spot.frame.0 spot.clock c.part_at-spot.ensures.found y c.in_ok-part.ensures.part in
+    spot.key spot.frame.0 spot.clock c.part_at-spot.ensures.found y c.in_ok-part.ensures.part in
     place_is (able how r.parcel) a t c.args.place.now r.can spot.frame.0 y found (λ f x pos can. able_place how r.parcel a f x pos can)
 
 pub do_deed-requires-clause-acts : goal.do_deed-requires-clause-acts
@@ -35,7 +35,7 @@ do_deed-requires-clause-acts g c =
     let spot = c.part_at-spot.result in
     let y = term_view c.in_ok-part.part in
     let found = located c.tended_nodes_stand.ensures.law c.active_parts_are_at_their_places.ensures.law (find c.args.nodes.now) c.args.root c.args.here.now.clock r.plant r.rooted how r.parcel a c.args.place.now r.can
-        spot.key spot.frame.0 spot.clock c.part_at-spot.ensures.found y c.in_ok-part.ensures.part in
+    spot.key spot.frame.0 spot.clock c.part_at-spot.ensures.found y c.in_ok-part.ensures.part in
     part_is (able how r.parcel) a t c.args.place.now r.can spot.frame.0 y found (λ pos x. ActsSo how x)
     (acts_so c.offered_parts_act.ensures.acts c.offered_parts_act.ensures.sends c.offered_parts_act.ensures.receives how r.parcel a)
 
@@ -48,7 +48,7 @@ do_deed-requires-clause-fits g c =
     let spot = c.part_at-spot.result in
     let y = term_view c.in_ok-part.part in
     let found = located c.tended_nodes_stand.ensures.law c.active_parts_are_at_their_places.ensures.law (find c.args.nodes.now) c.args.root c.args.here.now.clock r.plant r.rooted how r.parcel a c.args.place.now r.can
-        spot.key spot.frame.0 spot.clock c.part_at-spot.ensures.found y c.in_ok-part.ensures.part in
+    spot.key spot.frame.0 spot.clock c.part_at-spot.ensures.found y c.in_ok-part.ensures.part in
     part_fits (able how r.parcel) a t c.args.place.now r.can spot.frame.0 y found c.active_parts_fit.ensures.law c.args.here.now c.args.home.now.class r.fits
 
 pub returns-clause-leaves : goal.returns-clause-leaves
@@ -60,7 +60,7 @@ returns-clause-leaves g c = λ p parcel rooted there.
     let spot = c.part_at-spot.result in
     let y = term_view c.in_ok-part.part in
     let found = located c.tended_nodes_stand.ensures.law c.active_parts_are_at_their_places.ensures.law (find c.args.nodes.now) c.args.root c.args.here.now.clock p rooted how parcel a place there
-        spot.key spot.frame.0 spot.clock c.part_at-spot.ensures.found y c.in_ok-part.ensures.part in
+    spot.key spot.frame.0 spot.clock c.part_at-spot.ensures.found y c.in_ok-part.ensures.part in
     leaves_begun (able how parcel) (deed how parcel) (able_place how parcel) (checked_model c.args.home.now.checked.now) (standing_at c.args.here.now c.args.home.now) c.args.home.now.class.0 t place
     c.args.state.now c.mark.new.self c.do_deed.new.state c.hold.new.state c.in_ok-point.point spot.frame.0 y c.pos_of-pos.result
     (process_left c.do_deed.new.state.held c.in_ok-left.left) c.hold.result (home_view c.args.home.now) refl
@@ -80,7 +80,7 @@ returns-clause-opens g c =
     let spot = c.part_at-spot.result in
     let y = term_view c.in_ok-part.part in
     let found = located c.tended_nodes_stand.ensures.law c.active_parts_are_at_their_places.ensures.law (find c.args.nodes.now) c.args.root c.args.here.now.clock r.plant r.rooted how r.parcel a c.args.place.now r.can
-        spot.key spot.frame.0 spot.clock c.part_at-spot.ensures.found y c.in_ok-part.ensures.part in
+    spot.key spot.frame.0 spot.clock c.part_at-spot.ensures.found y c.in_ok-part.ensures.part in
     let can = deed_can c.args.here.now c.args.home.now how r.parcel c.args.state.now.held c.mark.new.self.held t c.args.place.now r.can spot.frame.0 y found (ap (λ (s : Seen). s.held) c.in_ok-point.ensures.ok) in
     begun_opens c.args.home.now.edition c.args.state.now c.mark.new.self c.do_deed.new.state c.hold.new.state c.in_ok-point.point c.in_ok-left.left c.hold.result c.in_ok-point.ensures.ok c.hold.ensures.part c.hold.ensures.state
     (deed_opened c.args.here.now c.args.home.now how r.parcel c.mark.new.self.held c.do_deed.new.state.held spot.frame.0 y c.in_ok-left.left c.in_ok-left.ensures.answers r.can.it_holds.0 can
@@ -95,7 +95,7 @@ returns-clause-ends g c =
     let spot = c.part_at-spot.result in
     let y = term_view c.in_ok-part.part in
     let found = located c.tended_nodes_stand.ensures.law c.active_parts_are_at_their_places.ensures.law (find c.args.nodes.now) c.args.root c.args.here.now.clock r.plant r.rooted how r.parcel a c.args.place.now r.can
-        spot.key spot.frame.0 spot.clock c.part_at-spot.ensures.found y c.in_ok-part.ensures.part in
+    spot.key spot.frame.0 spot.clock c.part_at-spot.ensures.found y c.in_ok-part.ensures.part in
     let can = deed_can c.args.here.now c.args.home.now how r.parcel c.args.state.now.held c.mark.new.self.held t c.args.place.now r.can spot.frame.0 y found (ap (λ (s : Seen). s.held) c.in_ok-point.ensures.ok) in
     begun_calm c.args.here.now.clock c.in_ok-left.left c.hold.result c.hold.ensures.part
     (deed_calm c.args.here.now c.args.home.now how r.parcel c.mark.new.self.held c.do_deed.new.state.held spot.frame.0 y c.in_ok-left.left c.in_ok-left.ensures.answers r.can.it_holds.0 can c.args.here.now.clock)

@@ -1,4 +1,3 @@
-use Rattle.std.specs.List.{AllPairs}
 use Rattle.std.proofs.lemmas.Result.{on_ok_weaker}
 use Rattle.pz_nodes.specs.Arena.{find}
 use Rattle.pz_tree_dropping.specs.Dropping.{numbers}

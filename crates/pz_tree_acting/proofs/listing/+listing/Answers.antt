@@ -1,4 +1,4 @@
-use Rattle.std.proofs.Common.{◌∙◌, ◌-◌, sym, subst, arith}
+use Rattle.std.proofs.Common.{◌-◌, subst, arith}
 use Rattle.std.proofs.lemmas.Result.{on_ok_weaker}
 use Rattle.pz_nodes.specs.Arena.{find}
 use Rattle.pz_nodes_shapes.proofs.Drops.{none_or}

@@ -1,6 +1,4 @@
 use Rattle.std.proofs.lemmas.List.Sorted.{IsNonDecreasingBy-from_sort}
-use Rattle.pz_nodes.specs.Arena.{find}
-use Rattle.pz_tree_acting.proofs.Listed.{sorted_stand}
 use Rattle.pz_tree_acting.proofs.listing.standing_frames.Goals as goal
 
 pub returns-clause-sorted : goal.returns-clause-sorted
