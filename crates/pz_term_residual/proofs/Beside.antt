@@ -9,8 +9,8 @@ use Rattle.pz_rules.specs.Leaving.{is_done, all_done, replaced}
 use Rattle.pz_rules.specs.Settings.{Home}
 use Rattle.pz_rules.specs.View.{term_view, terms_view}
 use Rattle.pz_term_residual.specs.declared.outline.Outline.{Outline}
-use Rattle.pz_term_residual.specs.devices.Capped.{capped}
-use Rattle.pz_term_residual.specs.devices.Outlines.{outline, IsAbove, IsRound}
+use Rattle.pz_term_residual.specs.Capped.{capped}
+use Rattle.pz_term_residual.specs.Outlines.{outline, IsAbove, IsRound}
 use Rattle.pz_term_residual.proofs.Capping.{capped_max}
 
 -- one part after the other

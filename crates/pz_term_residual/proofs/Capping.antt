@@ -2,7 +2,7 @@
 use Rattle.std.proofs.Common.{◌≡◌, ◌<◌, ◌+◌, ◌^◌, max, ℕ, leb, List, ◌∷◌, length, drop, get_or, sym, ap, ◌∙◌, arith}
 use Rattle.std.proofs.lemmas.Bool.Decides.{nat_tests}
 use Rattle.std.proofs.lemmas.List.{drop_more}
-use Rattle.pz_term_residual.specs.devices.Capped.{capped}
+use Rattle.pz_term_residual.specs.Capped.{capped}
 
 pub capped_max : (m n a b result : ℕ) → result ≡ max a b → a ≡ capped m → b ≡ capped n → result ≡ capped (max m n)
 capped_max m n a b result greater first second = omega arith

@@ -1,7 +1,7 @@
 -- Frames that are closed one after the other.
 use Rattle.std.proofs.Common.{◌≡◌, ◌<◌, ◌+◌, ℕ, Bool, true, false, cond, nat_eq, List, [], ◌∷◌, ◌++◌, map, length, take, drop, get_or, IsSome, refl, sym, ap, ◌∙◌, arith, eq-eqb, append_assoc, append-nil}
 use Rattle.std.specs.Prelude.{if◌then◌else◌}
-use Rattle.std.specs.List.{list_any, filter, All, AllPairs}
+use Rattle.std.specs.List.{filter, All, AllPairs}
 use Rattle.std.proofs.lemmas.Bool.{ne_eqb}
 use Rattle.std.proofs.lemmas.List.{drop_more, get_or-take, get_or-map, length-map, length-take-le}
 use Rattle.std.proofs.lemmas.List.Elements.{All-head, All-tail, All-filter, filter_more}
@@ -35,8 +35,8 @@ closed_there (g ∷ gs) f behind below =
     let other : nat_eq g.0 f.0 ≡ false = ne_eqb g.0 f.0 (λ e. omega arith) in
     rw other (ap (λ (hs : Frames). g ∷ hs) (closed_there gs f behind (All-tail (λ (h : OpenFrame). h.0 < f.0) g gs below)))
 
-abbrev keeps : List ℕ → OpenFrame → Bool
-keeps standing f = list_any (nat_eq f.0) standing
+abbrev keeps : (ℕ → Bool) → OpenFrame → Bool
+keeps stays f = stays f.0
 
 abbrev with_frames : StateView → Frames → StateView
 with_frames s fs = record s { frames = fs }
@@ -52,9 +52,9 @@ below_next fs k within ordered j d inside =
     omega (arith, less, this, next)
 
 -- one frame after the other
-module _ (standing : List ℕ) (o : StateView) (k : ℕ) (within : k < length o.frames) where
+module _ (stays : ℕ → Bool) (o : StateView) (k : ℕ) (within : k < length o.frames) where
   abbrev front : Frames
-  front = filter (keeps standing) (take k o.frames)
+  front = filter (keeps stays) (take k o.frames)
 
   abbrev this : OpenFrame
   this = get_or o.frames k none_there
@@ -65,24 +65,24 @@ module _ (standing : List ℕ) (o : StateView) (k : ℕ) (within : k < length o.
   from_here : drop k o.frames ≡ this ∷ rest
   from_here = drop_more o.frames k none_there within
 
-  longer : (b : Bool) → keeps standing this ≡ b → filter (keeps standing) (take (k + 1) o.frames) ≡ front ++ cond b (this ∷ []) []
-  longer b is = filter_more (keeps standing) o.frames k none_there within ∙ ap (λ (c : Bool). front ++ cond c (this ∷ []) []) is
+  longer : (b : Bool) → keeps stays this ≡ b → filter (keeps stays) (take (k + 1) o.frames) ≡ front ++ cond b (this ∷ []) []
+  longer b is = filter_more (keeps stays) o.frames k none_there within ∙ ap (λ (c : Bool). front ++ cond c (this ∷ []) []) is
 
   next_closed : AllPairs (λ m n. m < n) (map (λ (f : OpenFrame). f.0) o.frames)
-      → (if keeps standing this then swept_up_to standing k o else closed (swept_up_to standing k o) this.0) ≡ swept_up_to standing (k + 1) o
-  next_closed ordered = by (keeps standing this) refl
+      → (if keeps stays this then swept_up_to stays k o else closed (swept_up_to stays k o) this.0) ≡ swept_up_to stays (k + 1) o
+  next_closed ordered = by (keeps stays this) refl
     where
-      by : (b : Bool) → keeps standing this ≡ b → (if b then swept_up_to standing k o else closed (swept_up_to standing k o) this.0) ≡ swept_up_to standing (k + 1) o
+      by : (b : Bool) → keeps stays this ≡ b → (if b then swept_up_to stays k o else closed (swept_up_to stays k o) this.0) ≡ swept_up_to stays (k + 1) o
       by true is =
           ap (with_frames o) (ap (λ (fs : Frames). front ++ fs) from_here ∙ sym (append_assoc front (this ∷ []) rest) ∙ ap (λ (fs : Frames). fs ++ rest) (sym (longer true is)))
       by false is =
           ap (with_frames o)
           (ap (λ (fs : Frames). without_frame this.0 (front ++ fs)) from_here
-          ∙ closed_there front this rest (All-filter (keeps standing) (λ (g : OpenFrame). g.0 < this.0) (take k o.frames) (below_next o.frames k within ordered))
+          ∙ closed_there front this rest (All-filter (keeps stays) (λ (g : OpenFrame). g.0 < this.0) (take k o.frames) (below_next o.frames k within ordered))
           ∙ ap (λ (fs : Frames). fs ++ rest) (sym (append-nil front))
           ∙ ap (λ (fs : Frames). fs ++ rest) (sym (longer false is)))
 
-  this_there : (n : ℕ) (was s : Seen) → was.held ≡ o → n ≡ this.0 → s ≡ changed was (swept_up_to standing k o) → HasFrame s.held n
+  this_there : (n : ℕ) (was s : Seen) → was.held ≡ o → n ≡ this.0 → s ≡ changed was (swept_up_to stays k o) → HasFrame s.held n
   this_there n was s held number so_far =
       let same : locals_in s.held.frames n ≡ locals_in (front ++ this ∷ rest) this.0 =
       ap (λ (z : Seen). locals_in z.held.frames n) so_far ∙ ap (λ (fs : Frames). locals_in (front ++ fs) n) from_here ∙ ap (λ (m : ℕ). locals_in (front ++ this ∷ rest) m) number in
@@ -101,16 +101,16 @@ number_is frames fs k within same =
     )
 
 -- the frames by their numbers, of which so many are done with
-module _ (standing : List ℕ) (frames : List FrameId) (o s : Seen) (k : ℕ) (within : k < length frames)
-    (same : map (λ (n : FrameId). n.0) frames ≡ map (λ (f : OpenFrame). f.0) o.held.frames) (so_far : s ≡ changed o (swept_up_to standing k o.held)) where
+module _ (stays : ℕ → Bool) (frames : List FrameId) (o s : Seen) (k : ℕ) (within : k < length frames)
+    (same : map (λ (n : FrameId). n.0) frames ≡ map (λ (f : OpenFrame). f.0) o.held.frames) (so_far : s ≡ changed o (swept_up_to stays k o.held)) where
   pub frame_there : HasFrame s.held (get_or frames k unnumbered).0
-  frame_there = let at = number_is frames o.held.frames k within same in this_there standing o.held k at.0 (get_or frames k unnumbered).0 o s refl at.1 so_far
+  frame_there = let at = number_is frames o.held.frames k within same in this_there stays o.held k at.0 (get_or frames k unnumbered).0 o s refl at.1 so_far
 
   pub one_closed : (t : Seen) → AllPairs (λ m n. m < n) (map (λ (f : OpenFrame). f.0) o.held.frames)
-      → t ≡ changed s (if list_any (nat_eq (get_or frames k unnumbered).0) standing then s.held else closed s.held (get_or frames k unnumbered).0) → t ≡ changed o (swept_up_to standing (k + 1) o.held)
+      → t ≡ changed s (if stays (get_or frames k unnumbered).0 then s.held else closed s.held (get_or frames k unnumbered).0) → t ≡ changed o (swept_up_to stays (k + 1) o.held)
   one_closed t ordered closes =
       let at = number_is frames o.held.frames k within same in
       closes
-      ∙ ap (λ (z : Seen). changed z (if list_any (nat_eq (get_or frames k unnumbered).0) standing then z.held else closed z.held (get_or frames k unnumbered).0)) so_far
-      ∙ ap (λ (n : ℕ). changed o (if list_any (nat_eq n) standing then swept_up_to standing k o.held else closed (swept_up_to standing k o.held) n)) at.1
-      ∙ ap (changed o) (next_closed standing o.held k at.0 ordered)
+      ∙ ap (λ (z : Seen). changed z (if stays (get_or frames k unnumbered).0 then z.held else closed z.held (get_or frames k unnumbered).0)) so_far
+      ∙ ap (λ (n : ℕ). changed o (if stays n then swept_up_to stays k o.held else closed (swept_up_to stays k o.held) n)) at.1
+      ∙ ap (changed o) (next_closed stays o.held k at.0 ordered)

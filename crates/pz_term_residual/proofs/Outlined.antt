@@ -11,8 +11,8 @@ use Rattle.pz_rules.specs.Opening.{opened, opened_all}
 use Rattle.pz_rules.specs.Leaving.{is_done}
 use Rattle.pz_part_opening.specs.Bare.{is_bare}
 use Rattle.pz_term_residual.specs.declared.outline.Outline.{Outline}
-use Rattle.pz_term_residual.specs.devices.Capped.{capped}
-use Rattle.pz_term_residual.specs.devices.Outlines.{outline, IsAbove}
+use Rattle.pz_term_residual.specs.Capped.{capped}
+use Rattle.pz_term_residual.specs.Outlines.{outline, IsAbove}
 
 abbrev made : ℕ → Bool → Bool → Outline
 made h d b = record { height = h; done = d; bare = b }

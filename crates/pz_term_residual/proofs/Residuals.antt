@@ -10,7 +10,7 @@ use Rattle.pz_rules.specs.Places.{MayAct}
 use Rattle.pz_rules.specs.Settings.{left_by, Home}
 use Rattle.pz_rules.specs.Leaving.{residual}
 use Rattle.pz_term_residual.specs.declared.outline.Outline.{Outline}
-use Rattle.pz_term_residual.specs.devices.Outlines.{IsRound, IsLeft}
+use Rattle.pz_term_residual.specs.Outlines.{IsRound, IsLeft}
 use Rattle.pz_term_residual.proofs.Beside.{count_is, part_is, part_at, parted}
 
 -- where a part may act

@@ -10,8 +10,8 @@ use Rattle.pz_rules.specs.Opening.{opened, opened_all}
 use Rattle.pz_rules.specs.Framing.{framed}
 use Rattle.pz_rules.specs.Leaving.{is_done, around, handled}
 use Rattle.pz_term_residual.specs.declared.outline.Outline.{Outline}
-use Rattle.pz_term_residual.specs.devices.Capped.{capped}
-use Rattle.pz_term_residual.specs.devices.Outlines.{outline, IsAbove, IsRound}
+use Rattle.pz_term_residual.specs.Capped.{capped}
+use Rattle.pz_term_residual.specs.Outlines.{outline, IsAbove, IsRound}
 use Rattle.pz_term_residual.proofs.Capping.{capped_max}
 
 -- a term of which nothing is left

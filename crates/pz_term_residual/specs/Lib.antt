@@ -1,1 +1,4 @@
+pub mod Closing
+pub mod Capped
+pub mod Outlines
 pub mod devices

@@ -1,4 +1,2 @@
-pub mod Capped
-pub mod Outlines
 pub mod Unwound
 pub mod Swept

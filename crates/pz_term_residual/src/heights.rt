@@ -3,7 +3,7 @@
 ghost use Rattle.std.specs.Prelude.{◌≡◌, ℕ, suc};
 ghost use Rattle.pz_rules.specs.Terms.{height, greatest_height};
 ghost use Rattle.pz_rules.specs.View.{term_view, terms_view};
-ghost use Rattle.pz_term_residual.specs.devices.Capped.{capped};
+ghost use Rattle.pz_term_residual.specs.Capped.{capped};
 
 use pz_rules::Term;
 

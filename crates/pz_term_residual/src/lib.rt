@@ -12,6 +12,10 @@ mod residual;
 mod settling;
 mod sweeping;
 
+pub use outline::{
+    Outline, outline_above, outline_done, outline_first, outline_frame, outline_of, outline_second,
+    outline_sequence,
+};
 pub use residual::stays_low;
 pub use settling::settle;
-pub use sweeping::sweep;
+pub use sweeping::{close_others, close_those, sweep};

@@ -12,8 +12,8 @@ ghost use Rattle.pz_rules.specs.View.{term_view, terms_view};
 ghost use Rattle.pz_rules.specs.Settings.{Home as RulesHome};
 ghost use Rattle.pz_rules.specs.Opening.{opened, opened_all};
 ghost use Rattle.pz_part_opening.specs.Homes.{home_view};
-ghost use Rattle.pz_term_residual.specs.devices.Capped.{capped};
-ghost use Rattle.pz_term_residual.specs.devices.Outlines.{outline, IsAbove, IsRound};
+ghost use Rattle.pz_term_residual.specs.Capped.{capped};
+ghost use Rattle.pz_term_residual.specs.Outlines.{outline, IsAbove, IsRound};
 
 use crate::heights::{above, greatest_of, height_of};
 use pz_classes_code::{Slot, Step};
@@ -24,16 +24,17 @@ use pz_term_around::{all_done, is_bare, is_done};
 
 /// What matters of a term for the height of what is around it.
 #[derive(Clone, Copy)]
-pub(crate) struct Outline {
+pub struct Outline {
     /// The height, which stands still at the end of its type.
-    pub(crate) height: u64,
+    pub height: u64,
     /// Whether nothing is left.
-    pub(crate) done: bool,
+    pub done: bool,
     /// Whether it is a frame without outputs.
-    pub(crate) bare: bool,
+    pub bare: bool,
 }
 
-pub(crate) fn outline_of(term: &Term) -> Outline
+/// Of this term. Time is linear in it.
+pub fn outline_of(term: &Term) -> Outline
     ensures { result ≡ outline (term_view term.now) }
 {
     Outline {
@@ -44,7 +45,7 @@ pub(crate) fn outline_of(term: &Term) -> Outline
 }
 
 /// Of a term, neither done nor a frame without outputs, whose greatest part has this height.
-fn outline_above(part: u64) -> Outline
+pub fn outline_above(part: u64) -> Outline
     ensures { (t : terms.Term) (n : ℕ) → part ≡ capped n → IsAbove t n → result ≡ outline t }
 {
     Outline {
@@ -54,7 +55,8 @@ fn outline_above(part: u64) -> Outline
     }
 }
 
-fn outline_done() -> Outline
+/// Of what is done.
+pub fn outline_done() -> Outline
     ensures { result ≡ outline terms.done }
 {
     Outline {
@@ -99,7 +101,7 @@ fn outline_rest(home: &Home<'_>, rest: &Rest) -> Outline
 }
 
 /// Of what is open, with statements behind it.
-pub(crate) fn outline_sequence(home: &Home<'_>, left: Outline, rest: &Rest) -> Outline
+pub fn outline_sequence(home: &Home<'_>, left: Outline, rest: &Rest) -> Outline
     ensures { (t : terms.Term) (i : ℕ) → IsRound (home_view home.now) left
         (terms.sequence t (sequence_view rest.now)) i result }
 {
@@ -130,29 +132,30 @@ pub(crate) fn outline_parallel(before: &[Term], left: Outline, behind: &[Term]) 
     outline_above(greatest_of(before).max(others))
 }
 
-/// Of two parts, of which the first has become another; when that is done, the whole is.
-pub(crate) fn outline_first(left: Outline, second: &Term) -> Outline
-    ensures abort { (home : RulesHome) (t : terms.Term) → IsRound home left
-        (terms.abort t (term_view second.now)) 0 result }
-    ensures idle { (home : RulesHome) (t : terms.Term) (again : terms.Step) →
-        IsRound home left (terms.idle t (term_view second.now) again) 0 result }
+/// Of two parts, of which the first has become another and the second is so high; when the first is done, the
+/// whole is.
+pub fn outline_first(left: Outline, second: u64) -> Outline
+    ensures abort { (home : RulesHome) (t u : terms.Term) → second ≡ capped (height u) →
+        IsRound home left (terms.abort t u) 0 result }
+    ensures idle { (home : RulesHome) (t u : terms.Term) (again : terms.Step) →
+        second ≡ capped (height u) → IsRound home left (terms.idle t u again) 0 result }
 {
     if left.done {
         return left;
     }
-    outline_above(left.height.max(height_of(second)))
+    outline_above(left.height.max(second))
 }
 
-/// Of what is interrupted, whose second part has become another.
-pub(crate) fn outline_second(home: &Home<'_>, first: &Term, left: Outline, again: &Step) -> Outline
-    ensures { (s : StateView) (x : terms.Term) → left ≡ outline x →
-        result ≡ outline (leaving.handled (home_view home.now) s (term_view first.now)
-        (view again.now) x).term }
+/// Of what is interrupted and is so high, whose second part has become another.
+pub fn outline_second(home: &Home<'_>, first: u64, left: Outline, again: &Step) -> Outline
+    ensures { (t : terms.Term) (s : StateView) (x : terms.Term) → first ≡ capped (height t) →
+        left ≡ outline x →
+        result ≡ outline (leaving.handled (home_view home.now) s t (view again.now) x).term }
 {
     if left.done {
-        return outline_above(height_of(first).max(opened_height(home, again)));
+        return outline_above(first.max(opened_height(home, again)));
     }
-    outline_above(height_of(first).max(left.height))
+    outline_above(first.max(left.height))
 }
 
 /// Of a frame without outputs whose body has become another, where a frame without outputs that is
@@ -172,7 +175,7 @@ fn outline_bare(left: Outline) -> Outline
 }
 
 /// Of a frame whose body has become another.
-pub(crate) fn outline_frame(results: &Shared<Items<Slot>>, left: Outline) -> Outline
+pub fn outline_frame(results: &Shared<Items<Slot>>, left: Outline) -> Outline
     ensures { (home : RulesHome) (number inputs : ℕ) (t : terms.Term) (i : ℕ) →
         IsRound home left (terms.frame number inputs results.now t) i result }
 {

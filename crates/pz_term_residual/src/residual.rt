@@ -10,8 +10,9 @@ ghost use Rattle.pz_rules.specs.Places.{MayAct};
 ghost use Rattle.pz_rules.specs.Settings.{left_by};
 ghost use Rattle.pz_rules.specs.Leaving.{residual};
 ghost use Rattle.pz_part_opening.specs.Homes.{home_view};
-ghost use Rattle.pz_term_residual.specs.devices.Outlines.{IsLeft};
+ghost use Rattle.pz_term_residual.specs.Outlines.{IsLeft};
 
+use crate::heights::height_of;
 use crate::outline::{
     Outline, outline_first, outline_frame, outline_of, outline_parallel, outline_second,
     outline_sequence,
@@ -75,7 +76,7 @@ fn outline_inside(
         Term::Handling(first, second, again) => {
             outline_second(
                 home,
-                first.get(),
+                height_of(first.get()),
                 outline_after(home, second.get(), inner, part),
                 again.get(),
             )
@@ -119,7 +120,7 @@ fn outline_abort(
         (terms.abort (term_view first.now) (term_view second.now)) (child ∷ inner.now) result }
 {
     if child == 0 {
-        return outline_first(outline_after(home, first, inner, part), second);
+        return outline_first(outline_after(home, first, inner, part), height_of(second));
     }
     outline_after(home, second, inner, part)
 }
@@ -142,9 +143,14 @@ fn outline_idle(
         (child ∷ inner.now) result }
 {
     if child == 0 {
-        return outline_first(outline_after(home, first, inner, part), second);
+        return outline_first(outline_after(home, first, inner, part), height_of(second));
     }
-    outline_second(home, first, outline_after(home, second, inner, part), again)
+    outline_second(
+        home,
+        height_of(first),
+        outline_after(home, second, inner, part),
+        again,
+    )
 }
 
 /// Whether a term will be no higher than the limit once its part at the place has become this one.

@@ -1,13 +1,14 @@
 //! The frames that stand no longer.
 
-ghost use Rattle.std.specs.Prelude.{◌≡◌, ◌++◌, nat_eq, if◌then◌else◌, IfOk, OnOk};
-ghost use Rattle.std.specs.List.{list_any};
+ghost use Rattle.std.specs.Prelude.{◌≡◌, ◌<◌, ◌++◌, nat_eq, not, map, if◌then◌else◌, IfOk, OnOk};
+ghost use Rattle.std.specs.List.{list_any, AllPairs};
 ghost use Rattle.std.specs.List.Sorted.{IsNonDecreasing, IsPermutation};
 ghost use Rattle.pz_state.specs.States.{HasFrame, closed};
 ghost use Rattle.pz_state.specs.Marks.{changed};
 ghost use Rattle.pz_rules.specs.Terms.{frames_in, frames_in_all};
 ghost use Rattle.pz_rules.specs.Leaving.{only_frames};
 ghost use Rattle.pz_rules.specs.View.{term_view, terms_view};
+ghost use Rattle.pz_term_residual.specs.Closing.{without_frames};
 
 use pz_rules::Term;
 use pz_state::{FrameId, State};
@@ -90,15 +91,45 @@ fn close_unless(frame: FrameId, standing: &[u64], state: &mut State) -> Result<(
     state.close_frame(frame)
 }
 
-/// Closes all open frames but these, which are in order. The only error is want of memory.
-fn close_others(standing: &[u64], state: &mut State) -> Result<(), AllocError>
+/// Closes all open frames but these, which are in order; open marks stay. Time is linear in the open frames, but
+/// for a logarithm. The only error is want of memory, and of the state nothing is said then.
+pub fn close_others(standing: &[u64], state: &mut State) -> Result<(), AllocError>
     requires { IsNonDecreasing standing.now }
-    ensures { OnOk result (state.new ≡ changed state.old
+    ensures closed { OnOk result (state.new ≡ changed state.old
         (only_frames standing.now state.old.held)) }
+    ensures ordered { AllPairs (λ m n. m < n) (map (λ f. f.0) state.old.held.frames) }
 {
     let frames = state.frames()?;
     for frame in &frames {
         close_unless(*frame, standing, state)?;
+    }
+    Ok(())
+}
+
+/// Closes the frame if it is among these, which are in order. The only error is want of memory.
+fn close_if(frame: FrameId, gone: &[u64], state: &mut State) -> Result<(), AllocError>
+    requires sorted { IsNonDecreasing gone.now }
+    requires there { HasFrame state.old.held frame.0 }
+    ensures { OnOk result (state.new ≡ changed state.old
+        (if not (list_any (nat_eq frame.0) gone.now) then state.old.held else closed state.old.held
+        frame.0)) }
+{
+    if !is_among(frame, gone) {
+        return Ok(());
+    }
+    state.close_frame(frame)
+}
+
+/// Closes those of the open frames that are among these, which are in order; open marks stay. Time is linear in the
+/// open frames, but for a logarithm. The only error is want of memory, and of the state nothing is said then.
+pub fn close_those(gone: &[u64], state: &mut State) -> Result<(), AllocError>
+    requires { IsNonDecreasing gone.now }
+    ensures closed { OnOk result (state.new ≡ changed state.old (without_frames gone.now state.old.held)) }
+    ensures ordered { AllPairs (λ m n. m < n) (map (λ f. f.0) state.old.held.frames) }
+{
+    let frames = state.frames()?;
+    for frame in &frames {
+        close_if(*frame, gone, state)?;
     }
     Ok(())
 }

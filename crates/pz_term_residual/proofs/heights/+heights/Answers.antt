@@ -2,7 +2,7 @@ use Rattle.std.proofs.Common.{List, refl}
 use Rattle.pz_rules.specs.declared.term.Term.{Term}
 use Rattle.pz_rules.specs.Terms.{height, greatest_height}
 use Rattle.pz_rules.specs.View.{term_view, terms_view}
-use Rattle.pz_term_residual.specs.devices.Capped.{capped}
+use Rattle.pz_term_residual.specs.Capped.{capped}
 use Rattle.pz_term_residual.proofs.Capping.{greatest_more}
 use Rattle.pz_term_residual.proofs.heights.+heights.Goals as goal
 

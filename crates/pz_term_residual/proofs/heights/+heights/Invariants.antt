@@ -1,7 +1,7 @@
 use Rattle.std.proofs.Common.{◌≡◌, ◌+◌, ◌*◌, max, drop}
 use Rattle.pz_rules.specs.Terms.{greatest_height}
 use Rattle.pz_rules.specs.View.{terms_view}
-use Rattle.pz_term_residual.specs.devices.Capped.{capped}
+use Rattle.pz_term_residual.specs.Capped.{capped}
 use Rattle.pz_term_residual.proofs.heights.+heights.Given as goal
 
 abbrev pub invariant-greatest_of-loop-part : goal.invariant-greatest_of-loop-part

@@ -32,12 +32,12 @@ outline_among-returns t c =
 pub outline_abort-returns-then-child-eq0 : goal.outline_abort-returns-then-child-eq0
 outline_abort-returns-then-child-eq0 t c =
     abort_left_first (home_view c.args.home.now) c.args.part c.outline_first.result c.outline_after.result (term_view c.args.first.now) (term_view c.args.second.now) c.args.child c.args.inner.now
-    c.if-child-eq0.true c.outline_after.ensures (c.outline_first.ensures.abort (home_view c.args.home.now))
+    c.if-child-eq0.true c.outline_after.ensures (λ v. c.outline_first.ensures.abort (home_view c.args.home.now) v (term_view c.args.second.now) c.height_of.ensures)
 
 pub outline_idle-returns-then-child-eq0 : goal.outline_idle-returns-then-child-eq0
 outline_idle-returns-then-child-eq0 t c =
     idle_left_first (home_view c.args.home.now) c.args.part c.outline_first.result c.outline_after.result (term_view c.args.first.now) (term_view c.args.second.now) (step.view c.args.again.now) c.args.child c.args.inner.now
-    c.if-child-eq0.true c.outline_after.ensures (c.outline_first.ensures.idle (home_view c.args.home.now))
+    c.if-child-eq0.true c.outline_after.ensures (λ v s. c.outline_first.ensures.idle (home_view c.args.home.now) v (term_view c.args.second.now) s c.height_of.ensures)
 
 pub outline_inside-offset_bounds-as_slice-child : goal.outline_inside-offset_bounds-as_slice-child
 outline_inside-offset_bounds-as_slice-child t c =

@@ -1,15 +1,16 @@
-use Rattle.std.proofs.Common.{List, map, ap, ◌∙◌}
+use Rattle.std.proofs.Common.{nat_eq, List, map, ap, ◌∙◌}
+use Rattle.std.specs.List.{list_any}
 use Rattle.pz_state.specs.declared.state.FrameId.{FrameId}
 use Rattle.pz_term_residual.proofs.Closing.{frame_there, one_closed}
 use Rattle.pz_term_residual.proofs.sweeping.close_others.Goals as goal
 
 pub close_unless-requires-clause-there : goal.close_unless-requires-clause-there
 close_unless-requires-clause-there c =
-    frame_there c.args.standing.now c.deref-frame-items.result.now c.args.state.now c.loop-frame.state c.loop-frame.frame-index c.loop-frame-test.true
+    frame_there (λ n. list_any (nat_eq n) c.args.standing.now) c.deref-frame-items.result.now c.args.state.now c.loop-frame.state c.loop-frame.frame-index c.loop-frame-test.true
     (ap (λ (l : List FrameId). map (λ (n : FrameId). n.0) l) c.deref-frame-items.ensures.value ∙ c.in_ok-frames.ensures.frames) c.loop-frame.invariant
 
 pub loop-frame-preserved : goal.loop-frame-preserved
 loop-frame-preserved c =
-    one_closed c.args.standing.now c.deref-frame-items.result.now c.args.state.now c.loop-frame.state c.loop-frame.frame-index c.loop-frame-test.true
+    one_closed (λ n. list_any (nat_eq n) c.args.standing.now) c.deref-frame-items.result.now c.args.state.now c.loop-frame.state c.loop-frame.frame-index c.loop-frame-test.true
     (ap (λ (l : List FrameId). map (λ (n : FrameId). n.0) l) c.deref-frame-items.ensures.value ∙ c.in_ok-frames.ensures.frames) c.loop-frame.invariant
     c.close_unless.new.state c.frames.ensures.ordered c.in_ok-close_unless.ensures

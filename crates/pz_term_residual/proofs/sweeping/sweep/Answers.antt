@@ -13,4 +13,4 @@ returns c =
     (λ swept. swept
     ∙ ap (λ (l : List ℕ). changed c.args.state.now (only_frames l c.args.state.now.held)) c.deref.ensures.value
     ∙ ap (changed c.args.state.now) (same_frames (frames_in (term_view c.args.term.now)) c.in_ok-standing.standing.items c.args.state.now.held c.in_ok-standing.ensures.frames))
-    c.close_others.ensures
+    c.close_others.ensures.closed

@@ -7,7 +7,7 @@ use Rattle.pz_rules.specs.Leaving.{is_done, around, residual}
 use Rattle.pz_rules.specs.Settings.{left_by, Home}
 use Rattle.pz_part_opening.specs.Bare.{is_bare}
 use Rattle.pz_term_residual.specs.declared.outline.Outline.{Outline}
-use Rattle.pz_term_residual.specs.devices.Capped.{capped}
+use Rattle.pz_term_residual.specs.Capped.{capped}
 
 abbrev pub outline : Term → Outline
 outline t = record { height = capped (height t); done = is_done t; bare = is_bare t }

@@ -1,0 +1,10 @@
+mod StatementPlaces
+mod Statements
+mod Higher
+mod Calm
+mod Found
+mod Frames
+mod Listed
+mod Marked
+mod Begins
+mod Finished

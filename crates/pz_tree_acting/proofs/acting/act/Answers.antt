@@ -1,0 +1,33 @@
+use Rattle.std.proofs.Common.{refl}
+use Rattle.pz_nodes.specs.Arena.{find}
+use Rattle.pz_part_actions.specs.Homes.{seen_home}
+use Rattle.pz_tree_nodes.specs.View.{term_in_option}
+use Rattle.pz_tree_acting.proofs.Finished.{begun_latest, begun_trouble, begun_older, begun_has_opened, begun_ends, acts_trouble, acts_well}
+use Rattle.pz_tree_acting.proofs.acting.act.Goals as goal
+
+pub finish-requires-clause-latest : goal.finish-requires-clause-latest
+finish-requires-clause-latest g c = begun_latest c.args.state.now c.begin.new.state c.in_ok-begun.field-0 c.in-Ok.begun c.in-Ok.is c.in_ok-begun.ensures.state
+
+pub finish-requires-clause-ends : goal.finish-requires-clause-ends
+finish-requires-clause-ends g c = begun_ends c.args.here.now.clock c.in_ok-begun.field-0 c.in-Ok.begun c.in-Ok.is c.in_ok-begun.ensures.ends
+
+pub finish-requires-clause-stands : goal.finish-requires-clause-stands
+finish-requires-clause-stands g c =
+    let r = c.requires.can in
+    (r.plant, r.rooted, c.active_parts_may_act.ensures.law (seen_home c.args.here.now c.args.home.now c.args.state.now.held) (term_in_option c.args.here.now.clock r.plant) c.args.place.now r.can.frame r.can.part r.can.active)
+
+pub returns-in_ok-out-in-Ok-clause-acts : goal.returns-in_ok-out-in-Ok-clause-acts
+returns-in_ok-out-in-Ok-clause-acts g c =
+    acts_well c.args.here.now c.args.home.now c.args.how (find c.args.nodes.now) c.args.root c.args.place.now c.args.state.now c.begin.new.state c.in_ok-begun.field-0 c.in_ok-begun.ensures.leaves
+    c.active_parts_may_act.ensures.law c.active_parts_are_at_their_places.ensures.law c.in-Ok.begun (find c.finish.new.nodes) c.finish.new.state c.in_ok-out-in-Ok.out c.in-Ok.is
+    (begun_older c.args.state.now c.begin.new.state c.in_ok-begun.field-0 c.in-Ok.begun c.in-Ok.is c.in_ok-begun.ensures.state)
+    (begun_has_opened c.args.home.now.edition c.args.state.now.held c.begin.new.state.held c.in_ok-begun.field-0 c.in-Ok.begun c.in-Ok.is c.in_ok-begun.ensures.opens)
+    c.in_ok-out-in-Ok.ensures
+
+pub returns-in-Err-clause-acts : goal.returns-in-Err-clause-acts
+returns-in-Err-clause-acts g c =
+    acts_trouble c.args.here.now c.args.home.now c.args.how (find c.args.nodes.now) c.args.root c.args.place.now c.args.state.now c.begin.new.state c.in_ok-begun.field-0 c.in_ok-begun.ensures.leaves
+    (find c.args.nodes.now) c.begin.new.state c.in-Err.trouble c.in-Err.is
+
+pub returns-in-Err-clause-stays : goal.returns-in-Err-clause-stays
+returns-in-Err-clause-stays g c = (refl, begun_trouble c.args.state.now c.begin.new.state c.in_ok-begun.field-0 c.in-Err.trouble c.in-Err.is c.in_ok-begun.ensures.state)

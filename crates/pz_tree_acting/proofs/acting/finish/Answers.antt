@@ -1,0 +1,21 @@
+use Rattle.std.proofs.Common.{List, ap, subst}
+use Rattle.pz_nodes.specs.Arena.{find}
+use Rattle.pz_part_opening.specs.Homes.{home_view}
+use Rattle.pz_rules.specs.View.{term_view}
+use Rattle.pz_state.specs.declared.state.FrameId.{FrameId}
+use Rattle.pz_tree_dropping.specs.Dropping.{numbers}
+use Rattle.pz_tree_acting.specs.devices.Closing.{CloseRule}
+use Rattle.pz_tree_acting.proofs.Finished.{stays, still_latest}
+use Rattle.pz_tree_acting.proofs.acting.finish.Goals as goal
+
+pub returns : goal.returns
+returns g c =
+    stays c.frames_are_counted.ensures.law c.openings_open_frames.ensures.law (home_view c.args.home.now) (find c.args.nodes.now) (find c.regrow.new.nodes) c.args.root c.args.clock c.args.place.now (term_view c.args.begun.part) c.in_ok-out.out
+    c.args.state.now c.regrow.new.state c.close_frames.new.state c.keep.new.self (numbers c.new-lost.result.items) (numbers c.regrow.new.lost.items) c.args.steps.now c.regrow.new.steps
+    (ap numbers c.new-lost.ensures.items) c.in_ok-out.ensures.regrown
+    (subst (λ (l : List FrameId). CloseRule c.args.home.now.edition (find c.regrow.new.nodes) c.in_ok-out.out (numbers l) c.regrow.new.state c.close_frames.new.state) c.deref.ensures.value c.in_ok-close_frames.ensures.closed) c.keep.ensures
+
+pub keep-requires : goal.keep-requires
+keep-requires g c =
+    still_latest (home_view c.args.home.now) (find c.args.nodes.now) (find c.regrow.new.nodes) c.args.root c.args.clock c.args.place.now (term_view c.args.begun.part) c.in_ok-out.out c.args.state.now c.regrow.new.state c.close_frames.new.state
+    (numbers c.new-lost.result.items) (numbers c.regrow.new.lost.items) c.args.steps.now c.regrow.new.steps c.args.begun.point c.in_ok-out.ensures.regrown c.requires.stands c.in_ok-close_frames.ensures.marks c.requires.latest

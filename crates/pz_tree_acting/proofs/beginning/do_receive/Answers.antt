@@ -1,0 +1,32 @@
+use Rattle.std.proofs.Common.{Result, sym, subst}
+use Rattle.pz_syntax.specs.declared.tokens.Pos.{Pos}
+use Rattle.pz_classes.specs.CheckedView.{checked_model}
+use Rattle.pz_eval.specs.Known.{AreKnown}
+use Rattle.pz_offer.specs.declared.trouble.Trouble.{Trouble}
+use Rattle.pz_part_actions.specs.Becoming.{done_left}
+use Rattle.pz_part_actions.specs.Homes.{seen_home}
+use Rattle.pz_part_queries.specs.Standpoints.{Knows, seen_from}
+use Rattle.pz_part_queries.specs.declared.standpoint.Standpoint.{Standpoint}
+use Rattle.pz_rules.specs.Messages.{Takes}
+use Rattle.pz_rules.specs.Settings.{Process}
+use Rattle.pz_rules.specs.View.{term_view}
+use Rattle.pz_tree_acting.specs.Deeds.{CanReceive}
+use Rattle.pz_tree_acting.specs.devices.Begun.{IsAnswered}
+use Rattle.pz_tree_acting.proofs.Marked.{known_is, as_it_is}
+use Rattle.pz_tree_acting.proofs.beginning.do_receive.Goals as goal
+
+pub take-requires-clause-known : goal.take-requires-clause-known
+take-requires-clause-known c = subst (λ (x : Standpoint). AreKnown x.classes.now) (sym c.at_home.ensures) (known_is (checked_model c.args.home.now.checked.now) c.args.here.now c.requires.knows)
+
+pub returns-clause-answers : goal.returns-clause-answers
+returns-clause-answers c =
+    let m = checked_model c.args.home.now.checked.now in
+    let class = c.args.home.now.class.0 in
+    let s = c.args.state.now.held in
+    let f = c.args.frame.0 in
+    let y = term_view c.args.part.now in
+    let left = done_left c.take.new.state.held c.in_ok-left.left in
+    subst (λ (r : Result Process Trouble). IsAnswered (CanReceive) (λ a g. Takes a g c.args.parcel.now) (seen_home c.args.here.now c.args.home.now s) f y r) (sym (c.done_by.ensures c.take.new.state.held))
+    (as_it_is (CanReceive) (λ a g. Takes a g c.args.parcel.now) (seen_home c.args.here.now c.args.home.now s) f y left
+    (subst (λ (x : Standpoint). Knows m x → (pos : Pos) → CanReceive (seen_from m x class s) f y pos → Takes (seen_from m x class s) f c.args.parcel.now y pos left)
+    c.at_home.ensures (λ known pos can. c.in_ok-left.ensures.takes m class pos can.0 can.1 can.2 known can.3) c.requires.knows))

@@ -1,0 +1,19 @@
+use Rattle.std.proofs.Common.{ℕ, List, ap, ◌∙◌}
+use Rattle.std.proofs.lemmas.Result.{on_ok_weaker}
+use Rattle.pz_nodes.specs.Arena.{find}
+use Rattle.pz_rules.specs.Leaving.{only_frames}
+use Rattle.pz_state.specs.Marks.{Seen, changed}
+use Rattle.pz_tree_acting.proofs.Frames.{others_closed}
+use Rattle.pz_tree_acting.proofs.closing.sweep.Goals as goal
+
+pub returns-clause-swept : goal.returns-clause-swept
+returns-clause-swept g c = on_ok_weaker c.close_others.result
+    (λ is. others_closed (find c.args.nodes.now) c.args.key c.in_ok-standing.standing.items c.args.state.now c.close_others.new.state c.in_ok-standing.ensures.frames
+    (is ∙ ap (λ (l : List ℕ). changed c.args.state.now (only_frames l c.args.state.now.held)) c.deref.ensures.value))
+    c.close_others.ensures.closed
+
+pub returns-clause-ordered : goal.returns-clause-ordered
+returns-clause-ordered g c = on_ok_weaker c.close_others.result (λ is. c.close_others.ensures.ordered) c.close_others.ensures.closed
+
+pub returns-clause-marks : goal.returns-clause-marks
+returns-clause-marks g c = on_ok_weaker c.close_others.result (λ is. ap (λ (s : Seen). s.marks) is) c.close_others.ensures.closed

@@ -1,0 +1,5 @@
+pub mod StatementPlaces
+pub mod Begun
+pub mod Parts
+pub mod Listing
+pub mod Closing

@@ -1,0 +1,12 @@
+//! An action of a process whose term stands in nodes.
+#![tactic(auto)]
+
+mod acting;
+mod beginning;
+mod closing;
+mod how;
+mod listing;
+mod parts;
+
+pub use acting::{act, trial};
+pub use how::How;

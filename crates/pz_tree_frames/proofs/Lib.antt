@@ -1,0 +1,4 @@
+mod Primitives
+mod Evaluating
+mod Opening
+mod Deeds

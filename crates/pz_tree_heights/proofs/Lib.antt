@@ -1,0 +1,5 @@
+mod Children
+mod Kids
+mod Highs
+mod Rounds
+mod Descending
