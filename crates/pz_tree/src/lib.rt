@@ -1,0 +1,16 @@
+//! An execution tree: what is left of one process, as nodes that keep what can be done there.
+#![tactic(auto)]
+
+mod acting;
+mod found;
+mod judging;
+mod offering;
+mod refreshing;
+mod standing;
+mod starting;
+mod summing;
+mod tree;
+
+pub use acting::{Acted, How};
+pub use found::InternalAction;
+pub use tree::Tree;

@@ -1,0 +1,74 @@
+// What a process is asked is asked again, and time passes.
+
+ghost use Rattle.std.specs.Prelude.{◌≡◌, ◌≤◌, ◌-◌, ◌+◌, ◌*◌, None, OnOk, IfSome};
+ghost use Rattle.pz_classes.specs.CheckedView.{checked_model};
+ghost use Rattle.pz_rules.specs.Delays.{Passes};
+ghost use Rattle.pz_tree_summary.specs.Summaries.{summary_of};
+ghost use Rattle.pz_tree_summary.specs.Steady.{later};
+ghost use Rattle.pz_tree.specs.Trees.{at_in, term_in, process_in, live_in, IsThere, IsFresh};
+
+impl Tree {
+    /// What there is to ask is asked again: guards, delays that have not begun and the arguments of sends, as
+    /// far as they are active. Its process stays as it is. Takes no more steps than sixteen for each live
+    /// node, and sixteen more.
+    ///
+    /// The clock is that of the tree. The only error is want of memory, or that there is more to do than can
+    /// be counted; then the tree may only be dropped.
+    pub fn refresh<L: Ledger>(
+        &mut self,
+        checked: &Checked,
+        clock: u128,
+        steps: &mut Steps<L>,
+    ) -> Result<(), AllocError>
+        requires there { ∥ IsThere (checked_model checked.now) self.old ∥₁ }
+        requires clock { clock ≡ self.old.clock }
+        ensures fresh { OnOk result (∥ IsFresh (checked_model checked.now) self.new ∥₁) }
+        ensures process { OnOk result (process_in self.new ≡ process_in self.old) }
+        ensures seen { OnOk result (at_in (checked_model checked.now) self.new ≡
+            at_in (checked_model checked.now) self.old) }
+        ensures ticks { OnOk result (steps.new ≤ steps.old + 16 * (1 + live_in self.new)) }
+    {
+        let Some(key) = self.root else {
+            return Ok(());
+        };
+        let here = self.standpoint(checked);
+        let root = Spot {
+            key,
+            frame: FrameId(0),
+            clock: self.clock,
+        };
+        refresh(
+            self.alloc,
+            &here,
+            &mut self.state,
+            &mut self.nodes,
+            root,
+            steps,
+        )
+    }
+
+    /// Lets time pass, to this moment of the clock. What is asked is asked again where that may answer
+    /// otherwise, so nothing has to be refreshed.
+    ///
+    /// No active part has a trouble, and no active delay is over before this moment. The only error is want
+    /// of memory, or that there is more to do than can be counted; then the tree may only be dropped.
+    pub fn pass_to<L: Ledger>(
+        &mut self,
+        checked: &Checked,
+        clock: u128,
+        steps: &mut Steps<L>,
+    ) -> Result<(), AllocError>
+        requires fresh { ∥ IsFresh (checked_model checked.now) self.old ∥₁ }
+        requires later { self.old.clock ≤ clock }
+        requires room { HasRoom clock }
+        requires no_trouble { (summary_of (at_in (checked_model checked.now) self.old) self.old.clock 0
+            (term_in self.old)).trouble ≡ None }
+        requires due { IfSome (summary_of (at_in (checked_model checked.now) self.old) self.old.clock 0
+            (term_in self.old)).due (λ due. clock ≤ due) }
+        ensures passes { IsFresh (checked_model checked.now) self.old → OnOk result
+            (Passes (at_in (checked_model checked.now) self.old) (clock - self.old.clock) 0
+            (term_in self.old) (term_in self.new)) }
+        ensures seen { OnOk result (at_in (checked_model checked.now) self.new ≡
+            later (at_in (checked_model checked.now) self.old) (clock - self.old.clock)) }
+        ensures fresh { OnOk result (∥ IsFresh (checked_model checked.now) self.new ∥₁) }
+}
