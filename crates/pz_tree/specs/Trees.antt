@@ -19,7 +19,7 @@ use Rattle.pz_tree.specs.declared.tree.Tree.{Tree}
 
 -- What stands under its root. None where nothing is left of its process.
 abbrev pub plant_in : Tree → Option Plant
-plant_in t = option_and_then t.root (read (live t.nodes) (find t.nodes))
+plant_in t = option_and_then (read (live t.nodes) (find t.nodes)) t.root
 
 -- what is left of its process, and the process
 abbrev pub term_in : Tree → Term

@@ -14,19 +14,9 @@ use pz_classes::Checked;
 use pz_copy::Parcel;
 use pz_nodes::Steps;
 use pz_offer::{Place, Trouble};
+use pz_tree_acting::How;
 use std::alloc::AllocError;
 use std::sync::ledger::Ledger;
-
-/// How a part acts.
-#[derive(Drop)]
-pub enum How {
-    /// By itself.
-    Internal,
-    /// It hands over the parcel of its values.
-    Send,
-    /// It takes this parcel.
-    Receive(Parcel),
-}
 
 /// What comes of it.
 #[derive(Drop)]
@@ -50,7 +40,7 @@ impl Tree {
         checked: &Checked,
         clock: u128,
         place: &Place,
-        how: How,
+        how: How<'_>,
         steps: &mut Steps<L>,
     ) -> Result<Acted, AllocError>
         requires fresh { ∥ IsFresh (checked_model checked.now) self.old ∥₁ }
@@ -76,7 +66,7 @@ impl Tree {
         checked: &Checked,
         clock: u128,
         place: &Place,
-        how: &How,
+        how: How<'_>,
         steps: &mut Steps<L>,
     ) -> Result<Acted, AllocError>
         requires fresh { ∥ IsFresh (checked_model checked.now) self.old ∥₁ }
@@ -84,12 +74,12 @@ impl Tree {
         requires fits { ∥ TermFits (checked_model checked.now) self.old.class.0 0
             (term_in self.old) ∥₁ }
         requires rounds { self.old.limits.edition ≡ Two → NoRounds (checked_model checked.now) }
-        requires can { ∥ CanDo how.now (at_in (checked_model checked.now) self.old)
+        requires can { ∥ CanDo how (at_in (checked_model checked.now) self.old)
             (term_in self.old) place.now ∥₁ }
         ensures answers { IsFresh (checked_model checked.now) self.old →
-            CanDo how.now (at_in (checked_model checked.now) self.old) (term_in self.old) place.now →
+            CanDo how (at_in (checked_model checked.now) self.old) (term_in self.old) place.now →
             IfOk result (λ answer. (left : Process) × Answers
-            (at_in (checked_model checked.now) self.old) (term_in self.old) place.now how.now answer
+            (at_in (checked_model checked.now) self.old) (term_in self.old) place.now how answer
             left) }
         ensures unchanged { self.new ≡ self.old }
 }

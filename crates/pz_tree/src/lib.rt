@@ -11,6 +11,7 @@ mod starting;
 mod summing;
 mod tree;
 
-pub use acting::{Acted, How};
+pub use acting::Acted;
 pub use found::InternalAction;
+pub use pz_tree_acting::How;
 pub use tree::Tree;
