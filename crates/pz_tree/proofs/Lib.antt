@@ -1,3 +1,5 @@
 mod Reading
 mod Short
 mod Changed
+mod Wired
+mod Asked
