@@ -1,7 +1,6 @@
 -- Delays that have begun have less than 2^64 clock units left: what opens has none, so neither has a process that has
 -- just begun, and an action leaves those that there were.
-use Rattle.std.proofs.Common.{◌≡◌, ◌≤◌, ◌<◌, ◌+◌, ◌^◌, if◌then◌else◌, nat_le, ℕ, zero, suc, Bool, true, false, List, [], ◌∷◌, Option, Some, None, Result, Ok, Err, refl, sym, ap, subst, ◌∙◌, arith}
-use Rattle.pz_syntax.specs.declared.tokens.Pos.{Pos}
+use Rattle.std.proofs.Common.{if◌then◌else◌, ℕ, zero, suc, Bool, true, false, List, [], ◌∷◌, Option, Some, None, sym, subst, arith}
 use Rattle.pz_syntax.specs.Expressions as expression
 use Rattle.pz_syntax.specs.Statements as statement
 use Rattle.pz_syntax.specs.Statements.{Branches, no_branches, branch, no_statements, then, StatementPart, not_written, otherwise}
@@ -15,7 +14,7 @@ use Rattle.pz_state.specs.States.{StateView, initial, opened as with_frame}
 use Rattle.pz_rules.specs.declared.limits.Edition.{Edition}
 use Rattle.pz_rules.specs.declared.limits.Edition.TheVariants.{One, Two}
 use Rattle.pz_rules.specs.Terms.{Step, Steps, Term, done, leaf, wait, sequence, parallel, select, guarded, frame, abort, idle, handling, Terms, no_terms, and, term_at, first_or, child, frame_in}
-use Rattle.pz_rules.specs.Settings.{Setting, Process, Home, left_by}
+use Rattle.pz_rules.specs.Settings.{Setting, Process, Home}
 use Rattle.pz_rules.specs.FrameNumbers.{least_free}
 use Rattle.pz_rules.specs.Framing.{framed}
 use Rattle.pz_rules.specs.Opening.{step_opened, steps_opened, branches_opened, called_body, by_body, entered_to, depth_of, enter_in, enter, opened, opened_all, opened_part}
@@ -46,7 +45,7 @@ mutual
 
 -- ---------------------------------------------------------- what opens
 
-framed_short : (number inputs : ℕ) (results : List Slot) (t : Term) → IsShort t → IsShort (framed number inputs results t)
+pub framed_short : (number inputs : ℕ) (results : List Slot) (t : Term) → IsShort t → IsShort (framed number inputs results t)
 framed_short number inputs (r ∷ rs) t h = h
 framed_short number inputs [] (frame inner ins [] t) h = h
 framed_short number inputs [] (frame inner ins (r ∷ rs) t) h = h
