@@ -5,7 +5,17 @@ ghost use Rattle.pz_classes.specs.CheckedView.{checked_model};
 ghost use Rattle.pz_rules.specs.Delays.{Passes};
 ghost use Rattle.pz_tree_summary.specs.Summaries.{summary_of};
 ghost use Rattle.pz_tree_summary.specs.Steady.{later};
+ghost use Rattle.pz_tree_refreshing.specs.Refreshing.{HasRoom};
 ghost use Rattle.pz_tree.specs.Trees.{at_in, term_in, process_in, live_in, IsThere, IsFresh};
+
+use crate::tree::Tree;
+use pz_classes::Checked;
+use pz_nodes::Steps;
+use pz_state::FrameId;
+use pz_tree_elapsing::elapse;
+use pz_tree_refreshing::{Spot, refresh};
+use std::alloc::AllocError;
+use std::sync::ledger::Ledger;
 
 impl Tree {
     /// What there is to ask is asked again: guards, delays that have not begun and the arguments of sends, as
@@ -71,4 +81,26 @@ impl Tree {
         ensures seen { OnOk result (at_in (checked_model checked.now) self.new ≡
             later (at_in (checked_model checked.now) self.old) (clock - self.old.clock)) }
         ensures fresh { OnOk result (∥ IsFresh (checked_model checked.now) self.new ∥₁) }
+    {
+        pz_rules::laws::walks_list_what_is_active();
+        let _model = checked.model();
+        self.clock = clock;
+        let Some(key) = self.root else {
+            return Ok(());
+        };
+        let here = self.standpoint(checked);
+        let root = Spot {
+            key,
+            frame: FrameId(0),
+            clock,
+        };
+        elapse(
+            self.alloc,
+            &here,
+            &mut self.state,
+            &mut self.nodes,
+            root,
+            steps,
+        )
+    }
 }
