@@ -3,3 +3,10 @@ mod Short
 mod Changed
 mod Wired
 mod Asked
+mod Heights
+mod Unasked
+mod Left
+mod Started
+mod Judged
+mod Offered
+mod Moved

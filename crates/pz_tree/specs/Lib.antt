@@ -1,4 +1,3 @@
 pub mod Trees
 pub mod Asking
-pub mod Acting
 pub mod devices

@@ -1,4 +1,3 @@
 pub mod Kept
 pub mod Receiving
-pub mod Sending
 pub mod Wires

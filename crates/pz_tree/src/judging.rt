@@ -6,7 +6,7 @@ ghost use Rattle.pz_copy.specs.Packing.{IsParcelOf};
 ghost use Rattle.pz_nodes.specs.Arena.{find};
 ghost use Rattle.pz_state.specs.States as states;
 ghost use Rattle.pz_tree.specs.Asking.{HasReceive, JudgesAt, said_by};
-ghost use Rattle.pz_tree.specs.Trees.{at_in, term_in, process_in, IsThere};
+ghost use Rattle.pz_tree.specs.Trees.{at_in, term_in, process_in, IsFresh};
 ghost use Rattle.pz_tree.specs.devices.Receiving.{ReceiveRule};
 ghost use Rattle.pz_tree_standing.specs.Heads as heads;
 ghost use Rattle.pz_tree_nodes.specs.View.{head_view};
@@ -38,8 +38,28 @@ fn statement_of(head: &Head) -> Result<Term, AllocError>
     }
 }
 
-// The part at a place, if it is a statement, and the frame in which it stands.
-fn statement_at<L: Ledger>(
+// The part at a place, if it is a statement that has not begun, and the frame in which it stands.
+pub(crate) fn statement_at<L: Ledger>(
+    nodes: &Nodes<Node>,
+    root: Spot,
+    place: &[usize],
+    steps: &mut Steps<L>,
+) -> Result<(FrameId, Term), AllocError>
+    ensures { IfOk result (λ found. ReceiveRule (find nodes.now) root.key root.frame.0 root.clock
+        place.now found.0 found.1) }
+{
+    let spot = part_at(nodes, root, place, steps);
+    let Some(key) = spot.key else {
+        return Ok((spot.frame, Term::Done));
+    };
+    let Some(node) = nodes.get(key, steps) else {
+        return Ok((spot.frame, Term::Done));
+    };
+    let part = statement_of(&node.what.head)?;
+    Ok((spot.frame, part))
+}
+
+fn statement_in<L: Ledger>(
     nodes: &Nodes<Node>,
     root: Spot,
     place: &[usize],
@@ -52,14 +72,7 @@ fn statement_at<L: Ledger>(
         place.now found.0 found.1) }
 {
     let mut steps = Steps::<L>::new(ledger);
-    let spot = part_at(nodes, root, place, &mut steps);
-    let Some(key) = spot.key else {
-        return Ok((spot.frame, Term::Done));
-    };
-    match nodes.get(key, &mut steps) {
-        Some(node) => Ok((spot.frame, statement_of(&node.what.head)?)),
-        None => Ok((spot.frame, Term::Done)),
-    }
+    statement_at(nodes, root, place, &mut steps)
 }
 
 fn verdict_of(said: Result<bool, Trouble>) -> Verdict
@@ -94,13 +107,12 @@ impl Tree {
             place.now parcel.now) }
         ensures unchanged { self.new ≡ self.old }
     {
+        pz_tree_seeking::laws::active_parts_are_at_their_places();
+        pz_tree_seeking::laws::tended_nodes_stand();
         let here = self.standpoint(checked);
-        let (frame, part) = statement_at::<Brand>(
-            &self.nodes,
-            self.spot(),
-            place.as_slice(),
-            Blank::new(1),
-        )?;
+        let root = self.spot();
+        let found = statement_in::<Brand>(&self.nodes, root, place.as_slice(), Blank::new(1))?;
+        let (frame, part) = found;
         let said = judge(self.alloc, &here, &mut self.state, frame, &part, parcel)?;
         Ok(verdict_of(said))
     }

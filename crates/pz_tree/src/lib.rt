@@ -1,7 +1,6 @@
 //! An execution tree: what is left of one process, as nodes that keep what can be done there.
 #![tactic(auto)]
 
-mod acting;
 mod found;
 mod judging;
 mod offering;
@@ -11,7 +10,5 @@ mod starting;
 mod summing;
 mod tree;
 
-pub use acting::Acted;
 pub use found::InternalAction;
-pub use pz_tree_acting::How;
 pub use tree::Tree;

@@ -5,14 +5,14 @@ ghost use Rattle.pz_syntax.specs.Classes.{ModelTree};
 ghost use Rattle.pz_classes.specs.CheckedView.{checked_model};
 ghost use Rattle.pz_bind.specs.NetView.{HasProcess};
 ghost use Rattle.pz_bind.specs.devices.Nets.{IsNet};
-ghost use Rattle.pz_eval_operations.specs.Known.{AreKnown};
+ghost use Rattle.pz_eval.specs.Known.{AreKnown};
 ghost use Rattle.pz_nodes.specs.Arena.{find};
 ghost use Rattle.pz_part_queries.specs.Standpoints.{Knows, seen_from};
 ghost use Rattle.pz_rules.specs.Fitting.{TermFits};
 ghost use Rattle.pz_tree_offering.specs.Offers.{SendsRule, ReceivesRule};
 ghost use Rattle.pz_tree.specs.Asking.{AreSendOffers, AreReceiveOffers};
 ghost use Rattle.pz_tree.specs.Trees.{at_in, term_in, IsFresh};
-ghost use Rattle.pz_tree.specs.devices.Wires.{WireRule, AreSentOver, AreReceivedOver};
+ghost use Rattle.pz_tree.specs.devices.Wires.{WireRule, IsSentOver, AreSentOver, IsReceivedOver, AreReceivedOver};
 
 use crate::tree::Tree;
 use pz_bind::Net;
@@ -74,8 +74,27 @@ fn wire_of(net: &Net, process: u32, port: u32) -> Option<u32>
     net.wire(process, port)
 }
 
-// With the wires of their ports.
-fn over_wires(
+// A send over the wire of its port.
+fn sent_over(net: &Net, process: u32, send: ActiveSend) -> SendOffer
+    requires { HasProcess net.now process }
+    ensures { IsSentOver net.now process result send }
+{
+    let wire = wire_of(net, process, send.port);
+    let ActiveSend {
+        place,
+        port: _,
+        message,
+        parcel,
+    } = send;
+    SendOffer {
+        wire,
+        place,
+        message,
+        parcel,
+    }
+}
+
+fn all_sent_over(
     alloc: Global,
     net: &Net,
     process: u32,
@@ -86,24 +105,36 @@ fn over_wires(
 {
     let mut offers = Vec::with_capacity(alloc, sends.len())?;
     for send in sends {
-        let wire = wire_of(net, process, send.port);
-        let ActiveSend {
-            place,
-            port: _,
-            message,
-            parcel,
-        } = send;
-        offers.push(SendOffer {
-            wire,
-            place,
-            message,
-            parcel,
-        })?;
+        offers.push(sent_over(net, process, send))?;
     }
     Ok(offers)
 }
 
-fn over_their_wires(
+// A receive over the wire of its port.
+fn received_over(net: &Net, process: u32, receive: ActiveReceive) -> ReceiveOffer
+    requires { HasProcess net.now process }
+    ensures { IsReceivedOver net.now process result receive }
+{
+    let wire = wire_of(net, process, receive.port);
+    let ActiveReceive {
+        place,
+        port: _,
+        message,
+        count,
+        conditional,
+        uses_clock,
+    } = receive;
+    ReceiveOffer {
+        wire,
+        place,
+        message,
+        count,
+        conditional,
+        uses_clock,
+    }
+}
+
+fn all_received_over(
     alloc: Global,
     net: &Net,
     process: u32,
@@ -114,23 +145,7 @@ fn over_their_wires(
 {
     let mut offers = Vec::with_capacity(alloc, receives.len())?;
     for receive in receives {
-        let wire = wire_of(net, process, receive.port);
-        let ActiveReceive {
-            place,
-            port: _,
-            message,
-            count,
-            conditional,
-            uses_clock,
-        } = receive;
-        offers.push(ReceiveOffer {
-            wire,
-            place,
-            message,
-            count,
-            conditional,
-            uses_clock,
-        })?;
+        offers.push(received_over(net, process, receive))?;
     }
     Ok(offers)
 }
@@ -149,6 +164,8 @@ impl Tree {
             (term_in self.old) offers.items) }
         ensures unchanged { self.new ≡ self.old }
     {
+        pz_rules::laws::walks_list_what_is_active();
+        pz_rules::laws::active_parts_fit();
         let here = self.standpoint(checked);
         let root = self.spot();
         let sends = sends_in::<Brand>(
@@ -159,7 +176,7 @@ impl Tree {
             root,
             Blank::new(1),
         )?;
-        over_wires(self.alloc, net, self.process, sends)
+        all_sent_over(self.alloc, net, self.process, sends)
     }
 
     /// The active receives, by place, each with the wire that its port reaches in the net of the model.
@@ -173,14 +190,17 @@ impl Tree {
             IfOk result (λ offers. AreReceiveOffers (at_in (checked_model checked.now) self.now)
             (term_in self.now) offers.items) }
     {
+        pz_rules::laws::walks_list_what_is_active();
+        pz_rules::laws::active_parts_fit();
         let _model = checked.model();
+        let root = self.spot();
         let receives = receives_in::<Brand>(
             self.alloc,
             &self.nodes,
-            self.spot(),
+            root,
             self.limits.height,
             Blank::new(1),
         )?;
-        over_their_wires(self.alloc, net, self.process, receives)
+        all_received_over(self.alloc, net, self.process, receives)
     }
 }

@@ -1,18 +1,13 @@
-// What a process is asked is asked again, and time passes.
+// What a process is asked is asked again.
 
-ghost use Rattle.std.specs.Prelude.{◌≡◌, ◌≤◌, ◌-◌, ◌+◌, ◌*◌, None, OnOk, IfSome};
+ghost use Rattle.std.specs.Prelude.{◌≡◌, ◌≤◌, ◌+◌, ◌*◌, OnOk};
 ghost use Rattle.pz_classes.specs.CheckedView.{checked_model};
-ghost use Rattle.pz_rules.specs.Delays.{Passes};
-ghost use Rattle.pz_tree_summary.specs.Summaries.{summary_of};
-ghost use Rattle.pz_tree_summary.specs.Steady.{later};
-ghost use Rattle.pz_tree_refreshing.specs.Refreshing.{HasRoom};
-ghost use Rattle.pz_tree.specs.Trees.{at_in, term_in, process_in, live_in, IsThere, IsFresh};
+ghost use Rattle.pz_tree.specs.Trees.{at_in, process_in, live_in, IsThere, IsFresh};
 
 use crate::tree::Tree;
 use pz_classes::Checked;
 use pz_nodes::Steps;
 use pz_state::FrameId;
-use pz_tree_elapsing::elapse;
 use pz_tree_refreshing::{Spot, refresh};
 use std::alloc::AllocError;
 use std::sync::ledger::Ledger;
@@ -33,7 +28,8 @@ impl Tree {
         requires there { ∥ IsThere (checked_model checked.now) self.old ∥₁ }
         requires clock { clock ≡ self.old.clock }
         ensures fresh { OnOk result (∥ IsFresh (checked_model checked.now) self.new ∥₁) }
-        ensures process { OnOk result (process_in self.new ≡ process_in self.old) }
+        ensures process { IsThere (checked_model checked.now) self.old →
+            OnOk result (process_in self.new ≡ process_in self.old) }
         ensures seen { OnOk result (at_in (checked_model checked.now) self.new ≡
             at_in (checked_model checked.now) self.old) }
         ensures ticks { OnOk result (steps.new ≤ steps.old + 16 * (1 + live_in self.new)) }
@@ -48,53 +44,6 @@ impl Tree {
             clock: self.clock,
         };
         refresh(
-            self.alloc,
-            &here,
-            &mut self.state,
-            &mut self.nodes,
-            root,
-            steps,
-        )
-    }
-
-    /// Lets time pass, to this moment of the clock. What is asked is asked again where that may answer
-    /// otherwise, so nothing has to be refreshed.
-    ///
-    /// No active part has a trouble, and no active delay is over before this moment. The only error is want
-    /// of memory, or that there is more to do than can be counted; then the tree may only be dropped.
-    pub fn pass_to<L: Ledger>(
-        &mut self,
-        checked: &Checked,
-        clock: u128,
-        steps: &mut Steps<L>,
-    ) -> Result<(), AllocError>
-        requires fresh { ∥ IsFresh (checked_model checked.now) self.old ∥₁ }
-        requires later { self.old.clock ≤ clock }
-        requires room { HasRoom clock }
-        requires no_trouble { (summary_of (at_in (checked_model checked.now) self.old) self.old.clock 0
-            (term_in self.old)).trouble ≡ None }
-        requires due { IfSome (summary_of (at_in (checked_model checked.now) self.old) self.old.clock 0
-            (term_in self.old)).due (λ due. clock ≤ due) }
-        ensures passes { IsFresh (checked_model checked.now) self.old → OnOk result
-            (Passes (at_in (checked_model checked.now) self.old) (clock - self.old.clock) 0
-            (term_in self.old) (term_in self.new)) }
-        ensures seen { OnOk result (at_in (checked_model checked.now) self.new ≡
-            later (at_in (checked_model checked.now) self.old) (clock - self.old.clock)) }
-        ensures fresh { OnOk result (∥ IsFresh (checked_model checked.now) self.new ∥₁) }
-    {
-        pz_rules::laws::walks_list_what_is_active();
-        let _model = checked.model();
-        self.clock = clock;
-        let Some(key) = self.root else {
-            return Ok(());
-        };
-        let here = self.standpoint(checked);
-        let root = Spot {
-            key,
-            frame: FrameId(0),
-            clock,
-        };
-        elapse(
             self.alloc,
             &here,
             &mut self.state,

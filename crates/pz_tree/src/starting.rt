@@ -16,29 +16,46 @@ use crate::tree::Tree;
 use pz_bind::Net;
 use pz_classes::Checked;
 use pz_nodes::{Nodes, Steps};
-use pz_rules::Limits;
+use pz_rules::{Limits, Term};
+use pz_state::State;
 use pz_term_processes::Process;
 use pz_tree_planting::plant;
 use std::alloc::{AllocError, Global};
 use std::marker::Brand;
+use std::mem;
 use std::sync::ledger::{Blank, Ledger};
 
-// The nodes of a process that has just begun. Nothing was asked yet.
+// The tree of a process that has just begun, of which nothing was asked yet.
 fn planted<L: Ledger>(
     alloc: Global,
+    checked: &Checked,
     net: &Net,
     limits: Limits,
     process: u32,
     begun: Process,
     steps: &mut Steps<L>,
 ) -> Result<Tree, AllocError>
+    requires of_model { ∥ IsNet (checked_model checked.now) net.now ∥₁ }
     requires there { HasProcess net.now process }
-    requires begins { BeginsSomewhere (term_view begun.term) }
+    requires begins { (place : Address) →
+        slice_get (processes (checked_model checked.now)) process ≡ Some place →
+        StartsAs (setting_of (checked_model checked.now) limits) place (process_view begun) }
+    requires low { height (term_view begun.term) ≤ limits.height }
     ensures process { IfOk result (λ tree. process_in tree ≡ process_view begun) }
-    ensures kept { IfOk result (λ tree. IsPlanted process limits tree) }
-    ensures there { (m : ModelTree) → IsNet m net.now → IfOk result (λ tree. IsThere m tree) }
+    ensures seen { IfOk result (λ tree. (place : Address) →
+        slice_get (processes (checked_model checked.now)) process ≡ Some place →
+        at_in (checked_model checked.now) tree ≡ record {
+        setting = setting_of (checked_model checked.now) limits; process = process;
+        class = class_at (checked_model checked.now) place; clock = 0;
+        state = begun.state.held }) }
+    ensures there { IfOk result (λ tree. IsThere (checked_model checked.now) tree) }
+    ensures clock { IfOk result (λ tree. tree.clock ≡ 0) }
 {
-    let Process { term, state } = begun;
+    let _model = checked.model();
+    let class = net.class(process);
+    let mut begun = begun;
+    let term = mem::replace(&mut begun.term, Term::Done);
+    let state = mem::replace(&mut begun.state, State::new(alloc, Vec::new(alloc)));
     let mut nodes = Nodes::new(alloc);
     let root = plant(alloc, &mut nodes, term, 0, steps)?;
     Ok(Tree {
@@ -48,9 +65,42 @@ fn planted<L: Ledger>(
         state,
         clock: 0,
         process,
-        class: net.class(process),
+        class,
         limits,
     })
+}
+
+fn start_in<L: Ledger>(
+    alloc: Global,
+    checked: &Checked,
+    net: &Net,
+    limits: Limits,
+    process: u32,
+    begun: Process,
+    ledger: Blank,
+) -> Result<Tree, AllocError>
+    requires name { ledger.name ≡ L.name }
+    requires parts { ledger.parts ≡ L.parts }
+    requires some { 0 < L.parts }
+    requires of_model { ∥ IsNet (checked_model checked.now) net.now ∥₁ }
+    requires there { HasProcess net.now process }
+    requires begins { (place : Address) →
+        slice_get (processes (checked_model checked.now)) process ≡ Some place →
+        StartsAs (setting_of (checked_model checked.now) limits) place (process_view begun) }
+    requires low { height (term_view begun.term) ≤ limits.height }
+    ensures process { IfOk result (λ tree. process_in tree ≡ process_view begun) }
+    ensures seen { IfOk result (λ tree. (place : Address) →
+        slice_get (processes (checked_model checked.now)) process ≡ Some place →
+        at_in (checked_model checked.now) tree ≡ record {
+        setting = setting_of (checked_model checked.now) limits; process = process;
+        class = class_at (checked_model checked.now) place; clock = 0;
+        state = begun.state.held }) }
+    ensures fresh { IfOk result (λ tree. ∥ IsFresh (checked_model checked.now) tree ∥₁) }
+{
+    let mut steps = Steps::<L>::new(ledger);
+    let mut tree = planted(alloc, checked, net, limits, process, begun, &mut steps)?;
+    tree.refresh(checked, 0, &mut steps)?;
+    Ok(tree)
 }
 
 impl Tree {
@@ -78,7 +128,7 @@ impl Tree {
             setting = setting_of (checked_model checked.now) limits; process = process;
             class = class_at (checked_model checked.now) place; clock = 0;
             state = begun.state.held }) }
-        ensures fresh { IfOk result (IsFresh (checked_model checked.now)) }
+        ensures fresh { IfOk result (λ tree. ∥ IsFresh (checked_model checked.now) tree ∥₁) }
     {
         start_in::<Brand>(alloc, checked, net, limits, process, begun, Blank::new(1))
     }

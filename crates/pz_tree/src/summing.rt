@@ -34,10 +34,10 @@ fn kept_under<L: Ledger>(nodes: &Nodes<Node>, key: Option<Key>, ledger: Blank) -
     let Some(key) = key else {
         return Kept::done();
     };
-    match nodes.get(key, &mut steps) {
-        None => Kept::done(),
-        Some(node) => node.what.kept,
-    }
+    let Some(node) = nodes.get(key, &mut steps) else {
+        return Kept::done();
+    };
+    node.what.kept
 }
 
 fn kth_in<L: Ledger>(
@@ -71,7 +71,7 @@ impl Tree {
     /// are, when the first active delay is over, and the first trouble of what active parts are asked. Takes
     /// no memory.
     pub fn summary(&self) -> Summary
-        requires fresh { ∥ (m : ModelTree) × IsFresh m self.now ∥₁ }
+        requires fresh { ∥ ((m : ModelTree) × IsFresh m self.now) ∥₁ }
         ensures summary { (m : ModelTree) → IsFresh m self.now →
             result ≡ summary_of (at_in m self.now) self.now.clock 0 (term_in self.now) }
     {
@@ -81,7 +81,7 @@ impl Tree {
     /// Whether an active part names `currentTime`: a guard, a delay that has not begun, a send in its
     /// arguments, or a receive in its condition. Takes no memory.
     pub fn names_clock(&self) -> bool
-        requires fresh { ∥ (m : ModelTree) × IsFresh m self.now ∥₁ }
+        requires fresh { ∥ ((m : ModelTree) × IsFresh m self.now) ∥₁ }
         ensures names { (m : ModelTree) → IsFresh m self.now →
             result ≡ clocked (at_in m self.now) 0 (term_in self.now) }
     {
@@ -90,7 +90,7 @@ impl Tree {
 
     /// Whether nothing is left of its process. Takes no memory.
     pub fn is_done(&self) -> bool
-        requires there { ∥ (m : ModelTree) × IsThere m self.now ∥₁ }
+        requires there { ∥ ((m : ModelTree) × IsThere m self.now) ∥₁ }
         ensures done { (m : ModelTree) → IsThere m self.now →
             result ≡ leaving.is_done (term_in self.now) }
     {
@@ -100,15 +100,16 @@ impl Tree {
     /// The internal action of this number, from 0, by place. None exactly where there are no more than so
     /// many. The only error is want of memory.
     pub fn kth_internal(&self, k: u64) -> Result<Option<InternalAction>, AllocError>
-        requires fresh { ∥ (m : ModelTree) × IsFresh m self.now ∥₁ }
+        requires fresh { ∥ ((m : ModelTree) × IsFresh m self.now) ∥₁ }
         ensures found { (m : ModelTree) → IsFresh m self.now → IfOk result (λ action.
             option_map noted_view action ≡
             slice_get (internal_actions (at_in m self.now) (term_in self.now)) k) }
     {
+        let root = self.spot();
         let found = kth_in::<Brand>(
             self.alloc,
             &self.nodes,
-            self.spot(),
+            root,
             self.limits.height,
             k,
             Blank::new(1),

@@ -14,8 +14,8 @@ use Rattle.pz_tree_nodes.specs.View.{what_view}
 use Rattle.pz_tree_seeking.specs.Seeking.{frame_at, StandsUnder}
 
 pub record IsFoundReceive (f : ℕ) (t : terms.Term) (place : Place) (frame : FrameId) (part : Term) : Type 0 where
-  pub frame : frame.0 ≡ frame_at f t place
-  pub part : term_view part ≡ part_of t place
+  pub in_frame : frame.0 ≡ frame_at f t place
+  pub is_part : term_view part ≡ part_of t place
 
 -- whatever term stands under the root, of which a receive stands at the place
 abbrev pub ReceiveRule : Map What → Option ℕ → ℕ → ℕ → Place → FrameId → Term → Type 0
