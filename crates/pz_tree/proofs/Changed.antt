@@ -1,5 +1,6 @@
 -- A tree of which nodes have changed.
-use Rattle.std.proofs.Common.{◌≡◌, ◌≤◌, ◌+◌, ◌*◌, ℕ, Option, Some, None, refl, sym, ap, subst, ◌∙◌, arith}
+use Rattle.std.proofs.Common.{◌≡◌, ◌≤◌, ◌+◌, ◌*◌, ℕ, Option, Some, None, Result, Ok, Err, refl, sym, ap, subst, ◌∙◌, arith}
+use Rattle.std.specs.Prelude.{OnOk}
 use Rattle.pz_syntax.specs.Classes.{ModelTree}
 use Rattle.pz_nodes.specs.Arena.{Arena, find}
 use Rattle.pz_nodes_shapes.specs.declared.node.Node.{Node}
@@ -16,6 +17,10 @@ use Rattle.pz_tree_refreshing.specs.Refreshing.{IsShort, RefreshRule, IsRefreshe
 use Rattle.pz_tree.specs.declared.tree.Tree.{Tree}
 use Rattle.pz_tree.specs.Trees.{plant_in, term_in, process_in, at_in, IsOf, IsThere, FreshOption, IsFresh, live_of, live_in}
 use Rattle.pz_tree.proofs.Reading.{Under, is_read, its_term, there_by, fresh_by}
+
+pub on_ok : {E A B : Type 0} (r : Result (Unit {0}) E) → (A → B) → OnOk r A → OnOk r B
+on_ok (Ok x) f a = f a
+on_ok (Err e) f a = tt
 
 -- the tree over these nodes, with this state
 abbrev pub over : Tree → Arena (Node What) → Seen → Tree
