@@ -23,8 +23,8 @@ use Rattle.pz_tree_nodes.specs.Fresh.{Flagged}
 use Rattle.pz_tree_nodes.proofs.Joins.{joined_associative, joined_none, none_joined}
 use Rattle.pz_tree_nodes.proofs.Wakings.{or_none}
 use Rattle.pz_tree_refreshing.specs.Live.{live_below}
-use Rattle.pz_tree_refreshing.specs.Refreshing.{IsShort, HasRoom}
-use Rattle.pz_tree_refreshing.specs.devices.Reached.{added, reached_sum, IsSoon, Says, behind_inside, later}
+use Rattle.pz_tree_refreshing.specs.Refreshing.{IsShort, HasRoom, IsSoon}
+use Rattle.pz_tree_refreshing.specs.devices.Reached.{added, reached_sum, Says, behind_inside, later}
 use Rattle.pz_tree_refreshing.specs.devices.Levels.{IsBare, NodeRefreshed, KidsRefreshed, IsLeft, IsBrought, AtRule, KidRule, KidsRule, RefreshesOn}
 use Rattle.pz_tree_refreshing.proofs.Short.{least_soon, clock_back, room_inside, may_shift, soon_here, here_later}
 use Rattle.pz_tree_refreshing.proofs.Sums.{plus_added, added_nil}
@@ -35,7 +35,7 @@ or_left b = refl
 -- ---------------------------------------------------------- what children keep
 
 -- one, before others
-says_more : (a : Context) (c f : ℕ) (h : Head) (i : ℕ) (t : Term) (ts : Terms) (k l : Kept) → Says a c f h i (and t no_terms) k → Says a c f h (suc i) ts l → Says a c f h i (and t ts) (joined k l)
+pub says_more : (a : Context) (c f : ℕ) (h : Head) (i : ℕ) (t : Term) (ts : Terms) (k l : Kept) → Says a c f h i (and t no_terms) k → Says a c f h (suc i) ts l → Says a c f h i (and t ts) (joined k l)
 says_more a c f h i t ts k l p q = record {
   summary = (λ n. join (p.summary n) (q.summary n))
       ∙ plus_added nothing join join_left join_right (reaches h i) (summary_of a c f t) (reached_sum nothing join h (summary_of a c f) (suc i) ts);
@@ -47,7 +47,7 @@ says_more a c f h i t ts k l p q = record {
 }
 
 -- a child that is gone adds nothing
-says_gone : (a : Context) (c f : ℕ) (h : Head) (i : ℕ) (ts : Terms) (l : Kept) → Says a c f h (suc i) ts l → Says a c f h i (and done ts) l
+pub says_gone : (a : Context) (c f : ℕ) (h : Head) (i : ℕ) (ts : Terms) (l : Kept) → Says a c f h (suc i) ts l → Says a c f h i (and done ts) l
 says_gone a c f h i ts l q = record {
   summary = q.summary ∙ sym (added_nil nothing join join_left join_right (reaches h i) (summary_of a c f done) (reached_sum nothing join h (summary_of a c f) (suc i) ts) refl);
   starts = q.starts ∙ sym (added_nil false ◌||◌ or_left or_none (reaches h i) (starts a f done) (reached_sum false ◌||◌ h (starts a f) (suc i) ts) refl);
@@ -56,7 +56,7 @@ says_gone a c f h i ts l q = record {
 }
 
 -- nor does one that is not active
-says_unreached : (a : Context) (c f : ℕ) (h : Head) (i : ℕ) (t : Term) (k : Kept) → reaches h i ≡ false → k ≡ kept_none → Says a c f h i (and t no_terms) k
+pub says_unreached : (a : Context) (c f : ℕ) (h : Head) (i : ℕ) (t : Term) (k : Kept) → reaches h i ≡ false → k ≡ kept_none → Says a c f h i (and t no_terms) k
 says_unreached a c f h i t k e n = subst (Says a c f h i (and t no_terms)) (sym n) (record {
   summary = sym (ap (λ b. added join b (summary_of a c f t) nothing) e);
   starts = sym (ap (λ b. added ◌||◌ b (starts a f t) false) e);
@@ -65,7 +65,7 @@ says_unreached a c f h i t k e n = subst (Says a c f h i (and t no_terms)) (sym 
 })
 
 -- an active one that keeps what is right
-says_reached : (a : Context) (c f : ℕ) (h : Head) (i inner by : ℕ) (t : Term) (k kept : Kept) → reaches h i ≡ true → inner + by ≡ c
+pub says_reached : (a : Context) (c f : ℕ) (h : Head) (i inner by : ℕ) (t : Term) (k kept : Kept) → reaches h i ≡ true → inner + by ≡ c
     → kept.summary ≡ summary_of a inner f t → HasFlags a f t kept → IsSoon inner kept.summary.due → k ≡ later by kept → Says a c f h i (and t no_terms) k
 says_reached a c f h i inner by t k kept e back right flags soon is = subst (Says a c f h i (and t no_terms)) (sym is) (record {
   summary = ap (shifted by) right ∙ here_later a c inner by f t back ∙ sym (join_right (summary_of a c f t)) ∙ sym (ap (λ b. added join b (summary_of a c f t) nothing) e);
@@ -210,13 +210,13 @@ module _ (a : Context) (m m1 n : Map What) (f : ℕ) (h : Head) (c i : ℕ) (p :
   }
 
 -- what stands stays, where only what is apart from it has changed
-still_stand : (m n : Map What) (p : Plant) (ps : Plants) → StandAll m (more p ps) → ((j : ℕ) → has p j ≡ false → n j ≡ m j) → StandAll n ps
+pub still_stand : (m n : Map What) (p : Plant) (ps : Plants) → StandAll m (more p ps) → ((j : ℕ) → has p j ≡ false → n j ≡ m j) → StandAll n ps
 still_stand m n p ps st only = all_kept m n ps (λ j e. only j (unless (has p j) (λ g. st.0 j g e))) st.2
 
-kid_is : (x y : Option ℕ) (xs ys : List (Option ℕ)) → ◌≡◌ {A = List (Option ℕ)} (x ∷ xs) (y ∷ ys) → x ≡ y
+pub kid_is : (x y : Option ℕ) (xs ys : List (Option ℕ)) → ◌≡◌ {A = List (Option ℕ)} (x ∷ xs) (y ∷ ys) → x ≡ y
 kid_is x y xs ys e = cc
 
-rest_is : (x y : Option ℕ) (xs ys : List (Option ℕ)) → ◌≡◌ {A = List (Option ℕ)} (x ∷ xs) (y ∷ ys) → xs ≡ ys
+pub rest_is : (x y : Option ℕ) (xs ys : List (Option ℕ)) → ◌≡◌ {A = List (Option ℕ)} (x ∷ xs) (y ∷ ys) → xs ≡ ys
 rest_is x y xs ys e = cc
 
 pub kids_beside : (a : Context) (m m1 n : Map What) (f : ℕ) (h : Head) (c i fuel : ℕ) (kid : Option ℕ) (rest : List (Option ℕ)) (k l : Kept) (old mid new : ℕ)
@@ -248,7 +248,7 @@ on_next a m0 m m1 f h c fuel kids i kid kept k after old now mid e g x on n l ne
     let whole = on n (joined k l) new (subst (λ z. KidsRule a m n f h c i fuel z (joined k l) now new) (sym e) rule) in
     subst (λ z. KidsRule a m0 n f h c 0 fuel kids z old new) (sym (joined_associative kept k l) ∙ ap (λ z. joined z l) (sym g)) whole
 
-nothing_left : {A : Type 0} (xs : List A) (i : ℕ) → length xs ≤ i → drop i xs ≡ []
+pub nothing_left : {A : Type 0} (xs : List A) (i : ℕ) → length xs ≤ i → drop i xs ≡ []
 nothing_left [] i h = grind (arith, common_steps)
 nothing_left (x ∷ xs) zero h = absurd (omega arith)
 nothing_left (x ∷ xs) (suc i) h = nothing_left xs i (omega arith)

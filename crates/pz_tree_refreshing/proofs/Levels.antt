@@ -10,7 +10,6 @@ use Rattle.pz_rules.specs.Settings.{Context}
 use Rattle.pz_rules.specs.Terms.{done, Terms, and, term_at, height}
 use Rattle.pz_tree_summary.specs.Asked.{asks}
 use Rattle.pz_tree_summary.specs.Summaries.{summary_of}
-use Rattle.pz_tree_summary.specs.Woken.{starts, clocked}
 use Rattle.pz_tree_standing.specs.Heads.{Head, leaf, wait, sequence, parallel, select, guarded, frame, abort, idle, handling, shifted, Shapes, inner_clock, inner_frame, formed}
 use Rattle.pz_tree_standing.specs.Laws.{NoDeeperThanHigh}
 use Rattle.pz_tree_standing.specs.Standing.{term_of, terms_of, FitAll}
@@ -27,8 +26,7 @@ use Rattle.pz_tree_nodes.specs.View.{Plant, Plants, head_view, shape_of, shapes_
 use Rattle.pz_tree_nodes.specs.Tended.{Tended, AreMarked}
 use Rattle.pz_tree_nodes.proofs.Marks.{marked_alike, unasked_right, unasked_flagged}
 use Rattle.pz_tree_refreshing.specs.Live.{live_below, live_among}
-use Rattle.pz_tree_refreshing.specs.Refreshing.{IsShort, HasRoom, IsRefreshed, RefreshRule}
-use Rattle.pz_tree_refreshing.specs.devices.Reached.{IsSoon}
+use Rattle.pz_tree_refreshing.specs.Refreshing.{IsShort, HasRoom, IsRefreshed, RefreshRule, IsSoon}
 use Rattle.pz_tree_refreshing.specs.devices.Asked.{IsAsked, AskRule}
 use Rattle.pz_tree_refreshing.specs.devices.Levels.{IsPutBack, NodeRefreshed, NodeRule, AtRule, written, KidsTended, KidsShort, AreBare, KidsRefreshed, KidsRule}
 use Rattle.pz_tree_refreshing.proofs.Gates.{may_ask}
@@ -38,12 +36,12 @@ use Rattle.pz_tree_refreshing.proofs.Short.{least_soon, short_soon, short_kid}
 
 -- the clocks of two heads show the same
 module _ (h g : Head) (c : ℕ) (clocks : (i : ℕ) → inner_clock g i c ≡ inner_clock h i c) where
-  same_terms : (i : ℕ) (ss : Shapes) → terms_of g c i ss ≡ terms_of h c i ss
+  pub same_terms : (i : ℕ) (ss : Shapes) → terms_of g c i ss ≡ terms_of h c i ss
   same_terms i none = refl
   same_terms i (gone ss) = ap (and done) (same_terms (suc i) ss)
   same_terms i (more s ss) = λ n. and (term_of (clocks i n) s) (same_terms (suc i) ss n)
 
-  kids_tended : (f i : ℕ) (ps : Plants) → AreWhole (shapes_of ps) → FitAll h c i (shapes_of ps) → RestAll f h c i (shapes_of ps) → AreMarked ps → KidsTended f g c i ps
+  pub kids_tended : (f i : ℕ) (ps : Plants) → AreWhole (shapes_of ps) → FitAll h c i (shapes_of ps) → RestAll f h c i (shapes_of ps) → AreMarked ps → KidsTended f g c i ps
   kids_tended f i none w t r m = tt
   kids_tended f i (gone ps) w t r m = kids_tended f (suc i) ps w t r m
   kids_tended f i (more p ps) w t r m = (
@@ -51,22 +49,22 @@ module _ (h g : Head) (c : ℕ) (clocks : (i : ℕ) → inner_clock g i c ≡ in
     kids_tended f (suc i) ps w.1 t.1 r.1 m.1,
   )
 
-kids_whole : (f : ℕ) (g : Head) (c i : ℕ) (ps : Plants) → KidsTended f g c i ps → AreWhole (shapes_of ps)
+pub kids_whole : (f : ℕ) (g : Head) (c i : ℕ) (ps : Plants) → KidsTended f g c i ps → AreWhole (shapes_of ps)
 kids_whole f g c i none t = tt
 kids_whole f g c i (gone ps) t = kids_whole f g c (suc i) ps t
 kids_whole f g c i (more p ps) t = (t.0.sound.whole, kids_whole f g c (suc i) ps t.1)
 
-kids_fit : (f : ℕ) (g : Head) (c i : ℕ) (ps : Plants) → KidsTended f g c i ps → FitAll g c i (shapes_of ps)
+pub kids_fit : (f : ℕ) (g : Head) (c i : ℕ) (ps : Plants) → KidsTended f g c i ps → FitAll g c i (shapes_of ps)
 kids_fit f g c i none t = tt
 kids_fit f g c i (gone ps) t = kids_fit f g c (suc i) ps t
 kids_fit f g c i (more p ps) t = (t.0.sound.fits, kids_fit f g c (suc i) ps t.1)
 
-kids_rest : (f : ℕ) (g : Head) (c i : ℕ) (ps : Plants) → KidsTended f g c i ps → RestAll f g c i (shapes_of ps)
+pub kids_rest : (f : ℕ) (g : Head) (c i : ℕ) (ps : Plants) → KidsTended f g c i ps → RestAll f g c i (shapes_of ps)
 kids_rest f g c i none t = tt
 kids_rest f g c i (gone ps) t = kids_rest f g c (suc i) ps t
 kids_rest f g c i (more p ps) t = (t.0.sound.rests, kids_rest f g c (suc i) ps t.1)
 
-kids_marked : (f : ℕ) (g : Head) (c i : ℕ) (ps : Plants) → KidsTended f g c i ps → AreMarked ps
+pub kids_marked : (f : ℕ) (g : Head) (c i : ℕ) (ps : Plants) → KidsTended f g c i ps → AreMarked ps
 kids_marked f g c i none t = tt
 kids_marked f g c i (gone ps) t = kids_marked f g c (suc i) ps t
 kids_marked f g c i (more p ps) t = (t.0.marked, kids_marked f g c (suc i) ps t.1)
@@ -86,7 +84,7 @@ wide none = refl
 wide (gone ps) = ap suc (wide ps)
 wide (more p ps) = ap suc (wide ps)
 
-same_width : (ps qs : Plants) → roots qs ≡ roots ps → width (shapes_of qs) ≡ width (shapes_of ps)
+pub same_width : (ps qs : Plants) → roots qs ≡ roots ps → width (shapes_of qs) ≡ width (shapes_of ps)
 same_width ps qs e = wide qs ∙ ap (λ (z : List (Option ℕ)). length z) e ∙ sym (wide ps)
 
 one_inside : (ps qs : Plants) → roots qs ≡ roots ps → (AreBare ps → AreBare qs) → OneInside (shapes_of ps) → OneInside (shapes_of qs)
@@ -106,7 +104,7 @@ one_inside (more p none) (more q (gone qs)) e b o = absurd cc
 one_inside (more p none) (more q (more r qs)) e b o = absurd cc
 one_inside (more (node k x ts) none) (more (node j y us) none) e b o = (b (o, tt)).0
 
-same_parts : (h : Head) (ps qs : Plants) → roots qs ≡ roots ps → (AreBare ps → AreBare qs) → HasParts h (shapes_of ps) → HasParts h (shapes_of qs)
+pub same_parts : (h : Head) (ps qs : Plants) → roots qs ≡ roots ps → (AreBare ps → AreBare qs) → HasParts h (shapes_of ps) → HasParts h (shapes_of qs)
 same_parts (leaf s) ps qs e b p = same_width ps qs e ∙ p
 same_parts (wait due at) ps qs e b p = same_width ps qs e ∙ p
 same_parts (sequence rest) ps qs e b p = same_width ps qs e ∙ p
@@ -121,7 +119,7 @@ same_parts (shifted s) ps qs e b p = one_inside ps qs e b p
 
 -- ---------------------------------------------------------- one level
 
-some_is_none : (w : Node What) → ◌≡◌ {A = Option (Node What)} (Some w) None → ⊥
+pub some_is_none : (w : Node What) → ◌≡◌ {A = Option (Node What)} (Some w) None → ⊥
 some_is_none w e = absurd cc
 
 -- a node in hand that was asked, and of which the children were refreshed
@@ -231,16 +229,16 @@ module _ (a : Context) (m m1 n1 : Map What) (f c fuel k : ℕ) (x : What) (ps : 
 
 -- ---------------------------------------------------------- whatever stands under the key
 
-abbrev what_in : What → Option (Node What) → What
+abbrev pub what_in : What → Option (Node What) → What
 what_in d None = d
 what_in d (Some w) = w.what
 
-abbrev keys_in : List (Option ℕ) → Option (Node What) → List (Option ℕ)
+abbrev pub keys_in : List (Option ℕ) → Option (Node What) → List (Option ℕ)
 keys_in d None = d
 keys_in d (Some w) = w.kids
 
 -- the node under the key is the topmost of what stands there
-same_node : (m : Map What) (k key : ℕ) (x : What) (ps : Plants) (was : Node What) → Stands m (node k x ps) → k ≡ key → m key ≡ Some was → ◌≡◌ {A = Option (Node What)} (Some was) (Some (record { what = x; kids = roots ps }))
+pub same_node : (m : Map What) (k key : ℕ) (x : What) (ps : Plants) (was : Node What) → Stands m (node k x ps) → k ≡ key → m key ≡ Some was → ◌≡◌ {A = Option (Node What)} (Some was) (Some (record { what = x; kids = roots ps }))
 same_node m k key x ps was st r e = sym e ∙ ap m (sym r) ∙ st.0
 
 pub node_refreshed : (a : Context) (m m1 n1 n : Map What) (f c fuel less key : ℕ) (was : Node What) (now : lying.Head) (own all kept : Kept) (hollow : Node What) (old mid new : ℕ)
@@ -262,7 +260,7 @@ node_refreshed a m m1 n1 n f c fuel less key was now own all kept hollow old mid
 pub no_fuel : (a : Context) (m n : Map What) (f c key : ℕ) (k : Kept) (old new fuel : ℕ) → fuel ≡ 0 → NodeRule a m n f c fuel key k old new
 no_fuel a m n f c key k old new fuel z (node j x ps) st r deep = absurd (omega (arith, deep, z))
 
-absent : (m : Map What) (key : ℕ) (p : Plant) → m key ≡ None → Stands m p → root p ≡ key → ⊥
+pub absent : (m : Map What) (key : ℕ) (p : Plant) → m key ≡ None → Stands m p → root p ≡ key → ⊥
 absent m key (node k x ps) e st r = some_is_none (record { what = x; kids = roots ps }) (sym st.0 ∙ ap m r ∙ e)
 
 pub no_node : (a : Context) (m n : Map What) (f c key : ℕ) (k : Kept) (old new fuel : ℕ) → m key ≡ None → NodeRule a m n f c fuel key k old new
@@ -270,7 +268,7 @@ no_node a m n f c key k old new fuel e p st r deep t asked short room = absurd (
 
 -- ---------------------------------------------------------- what is asked nothing
 
-kept_top : (m : Map What) (key : ℕ) (p : Plant) (was : Node What) → Stands m p → root p ≡ key → m key ≡ Some was → was.what.kept ≡ (payload p).kept
+pub kept_top : (m : Map What) (key : ℕ) (p : Plant) (was : Node What) → Stands m p → root p ≡ key → m key ≡ Some was → was.what.kept ≡ (payload p).kept
 kept_top m key (node k x ps) was st r e = ap (λ (w : What). w.kept) (ap (what_in x) (same_node m k key x ps was st r e))
 
 unasked : (f c : ℕ) (p : Plant) → Tended f c p → (payload p).kept.asks ≡ false → asks (term_in c p) ≡ false
@@ -315,7 +313,7 @@ asked_at a m n f c fuel key k kept old mid new was e keeps asks_so tick rule p s
 -- ---------------------------------------------------------- the whole
 
 mutual
-  as_deep : (p : Plant) → depth (shape_of p) ≡ depth p
+  pub as_deep : (p : Plant) → depth (shape_of p) ≡ depth p
   as_deep (node k x ps) = ap suc (all_deep ps)
 
   all_deep : (ps : Plants) → depths (shapes_of ps) ≡ depths ps
@@ -339,6 +337,7 @@ is_refreshed a m n f c p k old new x = record {
   means = x.means;
   tended = x.tended;
   fresh = x.fresh;
+  soon = subst (λ (z : Kept). IsSoon c z.summary.due) x.kept x.soon;
   ticks = omega (arith, x.ticks);
 }
 
@@ -348,7 +347,7 @@ refreshed_absent a m n f c key old new e p st r t short room = absurd (absent m 
 pub refreshed_still : (a : Context) (m : Map What) (f c key : ℕ) (k : Kept) (old new : ℕ) (was : Node What) → m key ≡ Some was → k ≡ was.what.kept → k.asks ≡ false → new ≡ old + 1 → RefreshRule a m m key f c old new
 refreshed_still a m f c key k old new was e keeps unasks tick p st r t short room = is_refreshed a m m f c p k old new (still a m f c key k old new was e keeps unasks tick p st r t short)
 
-high_top : (f c : ℕ) (p : Plant) → Tended f c p → (payload p).kept.height ≡ height (term_in c p)
+pub high_top : (f c : ℕ) (p : Plant) → Tended f c p → (payload p).kept.height ≡ height (term_in c p)
 high_top f c (node k x ps) t = (t.marked.0 c).high
 
 pub refreshed_asked : NoDeeperThanHigh → (a : Context) (m n : Map What) (f c key fuel : ℕ) (k kept : Kept) (old mid new : ℕ) (was : Node What) → m key ≡ Some was → kept ≡ was.what.kept → kept.asks ≡ true → fuel ≡ 2 * kept.height → mid ≡ old + 1

@@ -1,8 +1,8 @@
-mod Reaching
-mod Sums
-mod Gates
+pub mod Reaching
+pub mod Sums
+pub mod Gates
 mod Statements
-mod Short
-mod Kids
-mod Levels
+pub mod Short
+pub mod Kids
+pub mod Levels
 mod Rows

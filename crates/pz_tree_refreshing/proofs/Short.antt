@@ -15,8 +15,8 @@ use Rattle.pz_tree_standing.specs.Heads as head
 use Rattle.pz_tree_standing.specs.Standing.{HeadFits}
 use Rattle.pz_tree_standing.specs.Reached.{reaches}
 use Rattle.pz_tree_nodes.specs.declared.kept.Kept.{Kept}
-use Rattle.pz_tree_refreshing.specs.Refreshing.{IsShort, AreShort, HasRoom}
-use Rattle.pz_tree_refreshing.specs.devices.Reached.{IsSoon, behind_inside, later}
+use Rattle.pz_tree_refreshing.specs.Refreshing.{IsShort, AreShort, HasRoom, IsSoon}
+use Rattle.pz_tree_refreshing.specs.devices.Reached.{behind_inside, later}
 
 pub least_soon : (c : ℕ) (x y : Option ℕ) → IsSoon c x → IsSoon c y → IsSoon c (least x y)
 least_soon c None y h g = g

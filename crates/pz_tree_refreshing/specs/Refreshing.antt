@@ -1,6 +1,6 @@
 -- What becomes of nodes whose parts are asked again.
-use Rattle.std.specs.Prelude.{◌≡◌, ◌<◌, ◌≤◌, ◌+◌, ◌*◌, ◌^◌, ℕ}
-use Rattle.pz_nodes_shapes.specs.Rose.{Map, root, has, Stands}
+use Rattle.std.specs.Prelude.{◌≡◌, ◌<◌, ◌≤◌, ◌+◌, ◌*◌, ◌^◌, ℕ, Option, Some, None}
+use Rattle.pz_nodes_shapes.specs.Rose.{Map, root, payload, has, Stands}
 use Rattle.pz_nodes_shapes.specs.Change.{Becomes}
 use Rattle.pz_rules.specs.Settings.{Context}
 use Rattle.pz_rules.specs.Terms.{Term, done, leaf, wait, sequence, parallel, select, guarded, frame, abort, idle, handling, Terms, no_terms, and}
@@ -33,9 +33,14 @@ abbrev mutual
 abbrev pub HasRoom : ℕ → Type 0
 HasRoom c = c + 2 ^ 64 ≤ 2 ^ 128
 
+-- it comes less than 2^64 clock units after this moment, if there is one
+abbrev pub IsSoon : ℕ → Option ℕ → Type 0
+IsSoon c None = Unit {0}
+IsSoon c (Some due) = due < c + 2 ^ 64
+
 -- In frame f, where its clock shows c. The same keys have nodes that stand for the same term by the same clock. They
--- are tended as before, right as far as they are active, and say rightly what a passing of time may wake. Nothing
--- else has changed, and each live node took three steps at most.
+-- are tended as before, right as far as they are active, and say rightly what a passing of time may wake. What the
+-- topmost keeps is due soon. Nothing else has changed, and each live node took three steps at most.
 pub record IsRefreshed (a : Context) (m n : Map What) (f c : ℕ) (p : Plant) (old new : ℕ) : Type 0 where
   pub plant : Plant
   pub under : root plant ≡ root p
@@ -44,6 +49,7 @@ pub record IsRefreshed (a : Context) (m n : Map What) (f c : ℕ) (p : Plant) (o
   pub means : term_in c plant ≡ term_in c p
   pub tended : Tended f c plant
   pub fresh : Fresh a f c plant
+  pub soon : IsSoon c (payload plant).kept.summary.due
   pub ticks : new ≤ old + 3 * live_nodes plant
 
 -- whatever stands under the key

@@ -232,7 +232,7 @@ fn unasked(head: Head) -> What
 
 /// Asks a node what there is to ask of it, but nothing below it: hands it out with what it adds by itself.
 /// The state stays as it is. The only error is want of memory.
-pub(crate) fn ask(
+pub fn ask(
     alloc: Global,
     here: &Standpoint<'_>,
     state: &mut State,

@@ -24,7 +24,7 @@ fn is_second(number: usize) -> bool
 }
 
 /// Whether the child of this number is active where the node is.
-pub(crate) fn reaches(head: &Head, number: usize) -> bool
+pub fn reaches(head: &Head, number: usize) -> bool
     ensures { result ≡ reached.reaches (head_view head.now) number }
 {
     match head {
@@ -64,7 +64,7 @@ fn first_clock(shift: &Shift, number: usize, clock: u128) -> u128
 }
 
 /// What the clock of this child shows.
-pub(crate) fn clock_inside(head: &Head, number: usize, clock: u128) -> u128
+pub fn clock_inside(head: &Head, number: usize, clock: u128) -> u128
     ensures { result ≡ inner_clock (head_view head.now) number clock }
 {
     match head {
@@ -77,7 +77,7 @@ pub(crate) fn clock_inside(head: &Head, number: usize, clock: u128) -> u128
 }
 
 /// By how much the clock of this child is behind that of the node, where it is active.
-pub(crate) fn behind_inside(head: &Head, number: usize) -> u128
+pub fn behind_inside(head: &Head, number: usize) -> u128
     ensures { result ≡ devices.behind_inside (head_view head.now) number }
 {
     match head {
@@ -89,7 +89,7 @@ pub(crate) fn behind_inside(head: &Head, number: usize) -> u128
 }
 
 /// The frame in which the children stand.
-pub(crate) fn frame_inside(head: &Head, frame: FrameId) -> FrameId
+pub fn frame_inside(head: &Head, frame: FrameId) -> FrameId
     ensures { result.0 ≡ inner_frame (head_view head.now) frame.0 }
 {
     match head {

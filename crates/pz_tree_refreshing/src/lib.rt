@@ -6,5 +6,7 @@ mod inside;
 mod refreshing;
 mod spot;
 
+pub use asking::ask;
+pub use inside::{behind_inside, clock_inside, frame_inside, reaches};
 pub use refreshing::refresh;
 pub use spot::Spot;

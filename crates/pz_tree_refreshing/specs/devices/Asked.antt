@@ -18,8 +18,8 @@ use Rattle.pz_tree_standing.specs.Reached.{GateRight}
 use Rattle.pz_tree_standing.specs.Whole.{IsNoShift, HasParts}
 use Rattle.pz_tree_nodes.specs.declared.kept.Kept.{Kept}
 use Rattle.pz_tree_nodes.specs.Keeping.{kept_none}
-use Rattle.pz_tree_refreshing.specs.Refreshing.{HasRoom}
-use Rattle.pz_tree_refreshing.specs.devices.Reached.{reached_sum, IsSoon}
+use Rattle.pz_tree_refreshing.specs.Refreshing.{HasRoom, IsSoon}
+use Rattle.pz_tree_refreshing.specs.devices.Reached.{reached_sum}
 
 -- something may be asked at it or below it
 abbrev pub MayAsk : Head → Type 0

@@ -18,8 +18,8 @@ use Rattle.pz_tree_nodes.specs.View.{Plant, Plants, head_view, shapes_of, term_i
 use Rattle.pz_tree_nodes.specs.Tended.{Tended}
 use Rattle.pz_tree_nodes.specs.Fresh.{Fresh, AllFlagged}
 use Rattle.pz_tree_refreshing.specs.Live.{live_below, live_among}
-use Rattle.pz_tree_refreshing.specs.Refreshing.{IsShort, HasRoom}
-use Rattle.pz_tree_refreshing.specs.devices.Reached.{IsSoon, Says, behind_inside, later}
+use Rattle.pz_tree_refreshing.specs.Refreshing.{IsShort, HasRoom, IsSoon}
+use Rattle.pz_tree_refreshing.specs.devices.Reached.{Says, behind_inside, later}
 
 -- the topmost node is no shift node
 abbrev pub IsBare : Plant → Type 0

@@ -1,5 +1,5 @@
 -- What the active children of a node add to it, of any sort of sum.
-use Rattle.std.specs.Prelude.{◌≡◌, ◌||◌, ◌<◌, ◌+◌, ◌^◌, ℕ, zero, suc, Bool, true, false, Option, Some, None}
+use Rattle.std.specs.Prelude.{◌≡◌, ◌||◌, ℕ, zero, suc, Bool, true, false}
 use Rattle.pz_offer.specs.Summaries.{nothing, join, shifted}
 use Rattle.pz_rules.specs.Settings.{Context}
 use Rattle.pz_rules.specs.Terms.{Term, Terms, no_terms, and}
@@ -9,6 +9,7 @@ use Rattle.pz_tree_standing.specs.Heads as heads
 use Rattle.pz_tree_standing.specs.Heads.{Head}
 use Rattle.pz_tree_standing.specs.Reached.{reaches}
 use Rattle.pz_tree_nodes.specs.declared.kept.Kept.{Kept}
+use Rattle.pz_tree_refreshing.specs.Refreshing.{IsSoon}
 
 abbrev pub added : {V : Type 0} → (V → V → V) → Bool → V → V → V
 added plus true v w = plus v w
@@ -18,11 +19,6 @@ added plus false v w = w
 abbrev pub reached_sum : {V : Type 0} → V → (V → V → V) → Head → (Term → V) → ℕ → Terms → V
 reached_sum nil plus h g i no_terms = nil
 reached_sum nil plus h g i (and t ts) = added plus (reaches h i) (g t) (reached_sum nil plus h g (suc i) ts)
-
--- it comes less than 2^64 clock units after this moment, if there is one
-abbrev pub IsSoon : ℕ → Option ℕ → Type 0
-IsSoon c None = Unit {0}
-IsSoon c (Some due) = due < c + 2 ^ 64
 
 -- what they keep, by the clock of the node, which shows c; in their frame f
 pub record Says (a : Context) (c f : ℕ) (h : Head) (i : ℕ) (ts : Terms) (k : Kept) : Type 0 where

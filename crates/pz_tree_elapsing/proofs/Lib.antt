@@ -1,0 +1,11 @@
+mod Goings
+mod Shorts
+mod Quiet
+mod Passing
+mod Staying
+mod ByForm
+mod Delaying
+mod Kids
+mod Turns
+mod Levels
+mod Rows

@@ -1,0 +1,8 @@
+//! Time passes, in the nodes that stand for a process.
+#![tactic(auto)]
+
+mod elapsing;
+mod turning;
+mod waking;
+
+pub use elapsing::elapse;
