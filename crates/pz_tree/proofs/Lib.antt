@@ -5,8 +5,8 @@ mod Wired
 mod Asked
 mod Heights
 mod Unasked
-mod Left
 mod Started
 mod Judged
 mod Offered
 mod Moved
+mod Elapsed

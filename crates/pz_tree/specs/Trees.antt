@@ -15,6 +15,7 @@ use Rattle.pz_tree_planting.specs.Planting.{root_of}
 use Rattle.pz_tree_regrowing.specs.Regrowing.{StandsOption}
 use Rattle.pz_tree_refreshing.specs.Live.{live_nodes}
 use Rattle.pz_tree_refreshing.specs.Refreshing.{IsShort, HasRoom}
+use Rattle.pz_tree_elapsing.specs.Waking.{woken_nodes}
 use Rattle.pz_tree.specs.declared.tree.Tree.{Tree}
 
 -- What stands under its root. None where nothing is left of its process.
@@ -67,3 +68,11 @@ live_of (Some p) = live_nodes p
 
 abbrev pub live_in : Tree → ℕ
 live_in t = live_of (plant_in t)
+
+-- in how many of its nodes something woke, before and after time has passed, where the clock now shows c
+abbrev pub woken_of : ℕ → Option Plant → Option Plant → ℕ
+woken_of c (Some p) (Some q) = woken_nodes c p q
+woken_of c p q = 0
+
+abbrev pub woken_in : Tree → Tree → ℕ
+woken_in t u = woken_of u.clock (plant_in t) (plant_in u)

@@ -4,6 +4,7 @@
 mod found;
 mod judging;
 mod offering;
+mod passing;
 mod refreshing;
 mod standing;
 mod starting;
