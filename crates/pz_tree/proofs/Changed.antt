@@ -15,7 +15,7 @@ use Rattle.pz_tree_planting.specs.Planting.{root_of}
 use Rattle.pz_tree_regrowing.specs.Regrowing.{StandsOption}
 use Rattle.pz_tree_refreshing.specs.Refreshing.{IsShort, RefreshRule, IsRefreshed}
 use Rattle.pz_tree.specs.declared.tree.Tree.{Tree}
-use Rattle.pz_tree.specs.Trees.{plant_in, term_in, process_in, at_in, IsOf, IsThere, FreshOption, IsFresh, live_of, live_in}
+use Rattle.pz_tree.specs.Trees.{plant_in, term_in, process_in, at_in, IsThere, FreshOption, IsFresh, live_of, live_in}
 use Rattle.pz_tree.proofs.Reading.{Under, is_read, its_term, there_by, fresh_by}
 
 pub on_ok : {E A B : Type 0} (r : Result (Unit {0}) E) → (A → B) → OnOk r A → OnOk r B
@@ -45,7 +45,7 @@ module _ (m : ModelTree) (t : Tree) (there : IsThere m t) (old new : ℕ) where
           stands = r.made.stands;
         } in
         let now : IsThere m u = there_by m u (Some r.plant) under (record { place = there.of_model.place; is_process = there.of_model.is_process; class = there.of_model.class }) r.tended
-            (subst IsShort same there.short) there.room (subst (λ (x : Term). height x ≤ t.limits.height) same there.low) in
+        (subst IsShort same there.short) there.room (subst (λ (x : Term). height x ≤ t.limits.height) same there.low) in
         record {
           fresh = fresh_by m u (Some r.plant) under r.fresh now;
           process = ap (left_by t.state.held) (its_term u (Some r.plant) under ∙ sym same);

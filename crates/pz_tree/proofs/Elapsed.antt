@@ -1,13 +1,12 @@
 -- A tree over which time has passed.
-use Rattle.std.proofs.Common.{◌≡◌, ◌≤◌, ◌+◌, ◌-◌, ◌*◌, ℕ, Option, Some, None, refl, sym, ap, subst, ◌∙◌, arith}
+use Rattle.std.proofs.Common.{◌≡◌, ◌≤◌, ◌+◌, ◌*◌, ℕ, Option, Some, None, refl, sym, ap, subst, ◌∙◌, arith}
 use Rattle.std.specs.Prelude.{IfSome}
 use Rattle.pz_syntax.specs.Classes.{ModelTree}
 use Rattle.pz_classes.specs.Soundness.{IsSound}
 use Rattle.pz_nodes.specs.Arena.{Arena, find}
 use Rattle.pz_nodes_shapes.specs.declared.node.Node.{Node}
-use Rattle.pz_nodes_shapes.specs.Rose.{node, root}
+use Rattle.pz_nodes_shapes.specs.Rose.{root}
 use Rattle.pz_rules.specs.Delays.{Passes, is_done}
-use Rattle.pz_rules.specs.Settings.{Context}
 use Rattle.pz_rules.specs.Terms.{Term, done, height}
 use Rattle.pz_rules.specs.devices.Computed.{IsUntroubled}
 use Rattle.pz_rules.specs.devices.Walks.{TroublesAreListed}
@@ -20,9 +19,9 @@ use Rattle.pz_tree_nodes.specs.Tended.{TendedOption}
 use Rattle.pz_tree_planting.specs.Planting.{root_of}
 use Rattle.pz_tree_regrowing.specs.Regrowing.{StandsOption}
 use Rattle.pz_tree_refreshing.specs.Refreshing.{IsShort, HasRoom}
-use Rattle.pz_tree_elapsing.specs.Elapsing.{IsNotBefore, MayElapse, HasElapsed, ElapseRule}
+use Rattle.pz_tree_elapsing.specs.Elapsing.{IsNotBefore, HasElapsed, ElapseRule}
 use Rattle.pz_tree.specs.declared.tree.Tree.{Tree}
-use Rattle.pz_tree.specs.Trees.{plant_in, term_in, at_in, woken_of, woken_in, IsOf, IsThere, FreshOption, IsFresh}
+use Rattle.pz_tree.specs.Trees.{plant_in, term_in, at_in, woken_of, woken_in, IsThere, FreshOption, IsFresh}
 use Rattle.pz_tree.specs.devices.Kept.{kept_of}
 use Rattle.pz_tree.proofs.Asked.{kept_summary}
 use Rattle.pz_tree.proofs.Reading.{Under, is_read, its_term, there_by, fresh_by}
@@ -67,8 +66,8 @@ module _ (m : ModelTree) (t : Tree) (fresh : IsFresh m t) (d : ℕ) (room : HasR
           } in
           let high : height (term_in_option now (Some r.plant)) ≡ height (term_in t) = ap height r.computed ∙ passed_high (at_in m t) d 0 (term_in_option t.clock (Some p)) ∙ ap height (sym was) in
           let there : IsThere m u = there_by m u (Some r.plant) under
-              (record { place = fresh.there.of_model.place; is_process = fresh.there.of_model.is_process; class = fresh.there.of_model.class })
-              r.tended r.short room (let low = fresh.there.low in omega (arith, low, high)) in
+          (record { place = fresh.there.of_model.place; is_process = fresh.there.of_model.is_process; class = fresh.there.of_model.class })
+          r.tended r.short room (let low = fresh.there.low in omega (arith, low, high)) in
           record {
             passes =
                 subst (λ (x : Term). Passes (at_in m t) d 0 (term_in t) x) (sym (its_term u (Some r.plant) under))
@@ -88,8 +87,8 @@ module _ (m : ModelTree) (t : Tree) (fresh : IsFresh m t) (d : ℕ) (room : HasR
           none_some e = cc
       by_plant key old new at rule (Some p) is =
           let kept : (kept_of (Some p)).summary ≡ summary_of (at_in m t) t.clock 0 (term_in t) =
-              kept_summary (at_in m t) t.clock (Some p) (subst (FreshOption (at_in m t) 0 t.clock) is fresh.fresh)
-              ∙ ap (λ (q : Option Plant). summary_of (at_in m t) t.clock 0 (term_in_option t.clock q)) (sym is) in
+          kept_summary (at_in m t) t.clock (Some p) (subst (FreshOption (at_in m t) 0 t.clock) is fresh.fresh)
+          ∙ ap (λ (q : Option Plant). summary_of (at_in m t) t.clock 0 (term_in_option t.clock q)) (sym is) in
           some_elapsed p old new is (rule (at_in m t) d t.clock refl refl p
           (subst (StandsOption (find t.nodes)) is fresh.there.stands)
           (same (ap root_of (sym is) ∙ fresh.there.under ∙ at))
@@ -125,8 +124,8 @@ module _ (m : ModelTree) (t : Tree) (fresh : IsFresh m t) (d : ℕ) (room : HasR
           let under : Under v None = record { under = ap root_of (sym is) ∙ fresh.there.under; stands = tt } in
           let was : term_in t ≡ done = ap (term_in_option t.clock) is in
           let there : IsThere m v = there_by m v None under
-              (record { place = fresh.there.of_model.place; is_process = fresh.there.of_model.is_process; class = fresh.there.of_model.class })
-              tt tt room (let low = fresh.there.low in let high : height (term_in t) ≡ 1 = ap height was in omega (arith, low, high)) in
+          (record { place = fresh.there.of_model.place; is_process = fresh.there.of_model.is_process; class = fresh.there.of_model.class })
+          tt tt room (let low = fresh.there.low in let high : height (term_in t) ≡ 1 = ap height was in omega (arith, low, high)) in
           record {
             passes =
                 subst (λ (x : Term). Passes (at_in m t) d 0 (term_in t) x) (sym (its_term v None under))

@@ -1,5 +1,5 @@
 -- The receive at a place, and what it says.
-use Rattle.std.proofs.Common.{◌≡◌, ℕ, Option, Some, None, Result, Ok, Err, refl, sym, ap, subst, ◌∙◌}
+use Rattle.std.proofs.Common.{◌≡◌, ℕ, Option, Some, None, refl, sym, ap, subst, ◌∙◌}
 use Rattle.std.specs.Prelude.{option_map}
 use Rattle.std.proofs.Math.Logic.{∥∥₁_elim}
 use Rattle.pz_syntax.specs.Statements as statement
@@ -11,11 +11,9 @@ use Rattle.pz_nodes_shapes.specs.Rose.{node, Map, root, roots, Stands}
 use Rattle.pz_nodes_shapes.specs.Seen.{seen, seen_node}
 use Rattle.pz_offer.specs.PlaceOrder.{Place}
 use Rattle.pz_offer.specs.declared.ends.Verdict.{Verdict}
-use Rattle.pz_rules.specs.Active.{IsActive}
 use Rattle.pz_rules.specs.Acting.{IsReceive}
 use Rattle.pz_rules.specs.Laws.{part_of}
 use Rattle.pz_rules.specs.Messages.{Judges}
-use Rattle.pz_rules.specs.Settings.{Context}
 use Rattle.pz_rules.specs.Terms.{Step, Term, Terms, done}
 use Rattle.pz_rules.specs.Terms as term
 use Rattle.pz_rules.specs.View.{term_view}
@@ -31,7 +29,7 @@ use Rattle.pz_tree_nodes.specs.View.{Plant, head_view, what_view, term_in_option
 use Rattle.pz_tree_nodes.specs.Tended.{TendedOption}
 use Rattle.pz_tree_planting.specs.Planting.{root_of}
 use Rattle.pz_tree_regrowing.specs.Regrowing.{StandsOption}
-use Rattle.pz_tree_seeking.specs.Seeking.{frame_at, StandsUnder, IsBare, IsBareUnder, IsFound, SeekRule, ActiveAtPlace, TendedStand}
+use Rattle.pz_tree_seeking.specs.Seeking.{frame_at, StandsUnder, IsBare, IsBareUnder, SeekRule, ActiveAtPlace, TendedStand}
 use Rattle.pz_tree.specs.declared.tree.Tree.{Tree}
 use Rattle.pz_tree.specs.Asking.{HasReceive, said_by, JudgesAt}
 use Rattle.pz_tree.specs.Trees.{plant_in, term_in, at_in, IsThere, IsFresh}
@@ -160,7 +158,7 @@ module _ (m : ModelTree) (t : Tree) (there : IsThere m t) (law : TendedStand) wh
           (law (find t.nodes) 0 t.clock p (subst (StandsOption (find t.nodes)) is there.stands) (subst (TendedOption 0 t.clock) is there.tended)))
 
 module _ (m : ModelTree) (t : Tree) (place : Place) (at : ActiveAtPlace) (law : TendedStand) (frame : FrameId) (part : code.Term) (key : Option ℕ) (clock whole : ℕ)
-  (at_root : key ≡ t.root) (in_none : whole ≡ 0) (by_clock : clock ≡ t.clock) (rule : ReceiveRule (find t.nodes) key whole clock place frame part) where
+    (at_root : key ≡ t.root) (in_none : whole ≡ 0) (by_clock : clock ≡ t.clock) (rule : ReceiveRule (find t.nodes) key whole clock place frame part) where
   found_so : IsThere m t → IsReceive (part_of (term_in t) place) → IsFoundReceive whole (term_in t) place frame part
   found_so there is = rule (term_in t) (stands_under m t there law key clock at_root by_clock) is
 

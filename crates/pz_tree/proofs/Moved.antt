@@ -1,5 +1,5 @@
 -- Each of a list becomes another, one after the other.
-use Rattle.std.proofs.Common.{◌≡◌, List, [], ◌∷◌, ◌++◌, refl, sym, subst, append_assoc, append-nil}
+use Rattle.std.proofs.Common.{◌≡◌, List, [], ◌∷◌, ◌++◌, sym, subst, append_assoc, append-nil}
 use Rattle.pz_tree_seeking.specs.Listing.{Each}
 
 module _ {X Y : Type 0} (R : Y → X → Type 0) where

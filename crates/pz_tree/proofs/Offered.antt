@@ -23,7 +23,7 @@ use Rattle.pz_tree.proofs.Asked.{right_there}
 use Rattle.pz_tree.proofs.Wired.{sent_offers, received_offers}
 
 module _ (m : ModelTree) (t : Tree) (fresh : IsFresh m t) (net : Net) (known : IsNet m net) (fits : TermFits m t.class.0 0 (term_in t)) (law : ActivePartsFit)
-  (key : Option ℕ) (frame clock levels : ℕ) (at_root : key ≡ t.root) (in_none : frame ≡ 0) (by_clock : clock ≡ t.clock) (limit : levels ≡ t.limits.height) where
+    (key : Option ℕ) (frame clock levels : ℕ) (at_root : key ≡ t.root) (in_none : frame ≡ 0) (by_clock : clock ≡ t.clock) (limit : levels ≡ t.limits.height) where
   fits_there : TermFits m (class_at m fresh.there.of_model.place) 0 (term_in t)
   fits_there = subst (λ (c : ℕ). TermFits m c 0 (term_in t)) fresh.there.of_model.class fits
 

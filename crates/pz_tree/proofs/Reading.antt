@@ -7,8 +7,7 @@ use Rattle.pz_nodes_shapes.specs.declared.node.Node.{Node}
 use Rattle.pz_nodes_shapes.specs.Reading.{read}
 use Rattle.pz_nodes_shapes.proofs.Readings.{reads, depth_le}
 use Rattle.pz_nodes_shapes.proofs.Sizes.{size_le_live}
-use Rattle.pz_rules.specs.Settings.{Context}
-use Rattle.pz_rules.specs.Terms.{Term, height}
+use Rattle.pz_rules.specs.Terms.{height}
 use Rattle.pz_tree_nodes.specs.declared.node.What.{What}
 use Rattle.pz_tree_nodes.specs.View.{Plant, term_in_option}
 use Rattle.pz_tree_nodes.specs.Tended.{TendedOption}

@@ -18,7 +18,7 @@ use Rattle.pz_nodes_shapes.specs.Rose.{Map}
 use Rattle.pz_nodes_shapes.specs.Change.{no_key, BecomesOption}
 use Rattle.pz_rules.specs.Terms.{Term, height}
 use Rattle.pz_tree_nodes.specs.declared.node.What.{What}
-use Rattle.pz_tree_nodes.specs.View.{Plant, term_in_option}
+use Rattle.pz_tree_nodes.specs.View.{Plant}
 use Rattle.pz_tree_planting.specs.Planting.{Planted}
 use Rattle.pz_tree_regrowing.specs.Regrowing.{StandsOption}
 use Rattle.pz_tree_refreshing.specs.Refreshing.{IsShort, HasRoom}

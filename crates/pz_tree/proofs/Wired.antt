@@ -1,5 +1,5 @@
 -- Offers over the wires of which the net speaks are offers by the rules.
-use Rattle.std.proofs.Common.{◌≡◌, ◌<◌, ℕ, zero, suc, List, [], ◌∷◌, length, get_or, Option, Some, None, refl, sym, ap, subst, ◌∙◌, arith}
+use Rattle.std.proofs.Common.{◌≡◌, ◌<◌, ℕ, suc, List, [], ◌∷◌, length, get_or, Option, Some, None, sym, ap, subst, ◌∙◌, arith}
 use Rattle.std.specs.Prelude.{slice_get, All}
 use Rattle.std.proofs.lemmas.List.{length-map}
 use Rattle.std.proofs.lemmas.Option.{same_Some, slice_get-get_or}
@@ -22,15 +22,15 @@ use Rattle.pz_rules.specs.Terms.{Term}
 use Rattle.pz_rules.specs.devices.Ends.{ActivePartsFit}
 use Rattle.pz_rules.specs.devices.Walk.{Noted, active_sends, active_receives}
 use Rattle.pz_rules.specs.devices.Walk as walk
-use Rattle.pz_rules.specs.devices.Walks.{IsThere, Lists, Offering, offering, SendsAreListed, ReceivesAreListed}
+use Rattle.pz_rules.specs.devices.Walks.{IsThere, Offering, offering, SendsAreListed, ReceivesAreListed}
 use Rattle.pz_rules.specs.Laws.{part_of}
 use Rattle.pz_tree_seeking.specs.Listing.{Each}
 use Rattle.pz_tree_offering.specs.declared.offers.ActiveSend.{ActiveSend}
 use Rattle.pz_tree_offering.specs.declared.offers.ActiveReceive.{ActiveReceive}
-use Rattle.pz_tree_offering.specs.Offers.{IsSend, AreSends, has_condition, IsReceive, AreReceives}
+use Rattle.pz_tree_offering.specs.Offers.{AreSends, has_condition, AreReceives}
 use Rattle.pz_tree_summary.specs.Woken.{is_clocked}
 use Rattle.pz_tree.specs.Asking.{ReachesWire, IsSendOffer, AreSendOffers, IsReceiveOffer, AreReceiveOffers}
-use Rattle.pz_tree.specs.devices.Wires.{WireRule, IsSentOver, AreSentOver, IsReceivedOver, AreReceivedOver}
+use Rattle.pz_tree.specs.devices.Wires.{WireRule, AreSentOver, AreReceivedOver}
 
 head_of : {X : Type 0} (P : X → Type 0) (x : X) (xs : List X) → All P (x ∷ xs) → P x
 head_of P x xs all = all 0 x (omega arith)
@@ -87,8 +87,7 @@ module _ (m : ModelTree) (net : Net) (i : ℕ) (known : IsNet m net) (place : Ad
     all_sent (x ∷ xs) (y ∷ ys) (n ∷ ns) over are there =
         let one = head_of (λ (k : Noted walk.ActiveSend). IsThere a t k.place (λ f part. Offering a f part k.what)) n ns there in
         let fit = law m (class_at m place) 0 a 0 t n.place one.frame one.part one.active fits in
-        let within = send_port fit.0 a one.frame one.part n.what one.it_holds fit.1 in
-        (
+        let within = send_port fit.0 a one.frame one.part n.what one.it_holds fit.1 in (
           record {
             place = over.0.place ∙ are.0.place;
             wire = reached_in n.what.port x.wire (wire_reached n.what.port x.wire within (subst (λ (port : ℕ). WireRule net i port x.wire) are.0.port over.0.wire));
@@ -112,8 +111,7 @@ module _ (m : ModelTree) (net : Net) (i : ℕ) (known : IsNet m net) (place : Ad
         let one = head_of (λ (k : Noted walk.ActiveReceive). IsThere a t k.place (λ f part. Receives part k.what.pos k.what.port k.what.message k.what.count)) n ns there in
         let fit = law m (class_at m place) 0 a 0 t n.place one.frame one.part one.active fits in
         let within = receive_port fit.0 one.part n.what one.it_holds fit.1 in
-        let where_is = sym over.0.place in
-        (
+        let where_is = sym over.0.place in (
           record {
             place = over.0.place ∙ are.0.place;
             wire = reached_in n.what.port x.wire (wire_reached n.what.port x.wire within (subst (λ (port : ℕ). WireRule net i port x.wire) are.0.port over.0.wire));

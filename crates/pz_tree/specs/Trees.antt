@@ -1,5 +1,5 @@
 -- What an execution tree stands for, and when what it keeps is right.
-use Rattle.std.specs.Prelude.{◌≡◌, ◌≤◌, ◌+◌, ◌*◌, ℕ, suc, Bool, Option, Some, None, slice_get}
+use Rattle.std.specs.Prelude.{◌≡◌, ◌≤◌, ℕ, Option, Some, None, slice_get}
 use Rattle.std.specs.Option.{option_and_then}
 use Rattle.pz_syntax.specs.Classes.{ModelTree}
 use Rattle.pz_bind_levels.specs.Places.{Address}

@@ -23,7 +23,7 @@ use pz_rules::Term;
 use pz_state::FrameId;
 use pz_tree_nodes::{Head, Node};
 use pz_tree_seeking::{Spot, part_at};
-use std::alloc::{AllocError, Global};
+use std::alloc::AllocError;
 use std::marker::Brand;
 use std::sync::ledger::{Blank, Ledger};
 

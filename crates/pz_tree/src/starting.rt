@@ -45,9 +45,12 @@ fn planted<L: Ledger>(
     ensures seen { IfOk result (λ tree. (place : Address) →
         slice_get (processes (checked_model checked.now)) process ≡ Some place →
         at_in (checked_model checked.now) tree ≡ record {
-        setting = setting_of (checked_model checked.now) limits; process = process;
-        class = class_at (checked_model checked.now) place; clock = 0;
-        state = begun.state.held }) }
+          setting = setting_of (checked_model checked.now) limits;
+          process = process;
+          class = class_at (checked_model checked.now) place;
+          clock = 0;
+          state = begun.state.held;
+        }) }
     ensures there { IfOk result (λ tree. IsThere (checked_model checked.now) tree) }
     ensures clock { IfOk result (λ tree. tree.clock ≡ 0) }
 {
@@ -92,9 +95,12 @@ fn start_in<L: Ledger>(
     ensures seen { IfOk result (λ tree. (place : Address) →
         slice_get (processes (checked_model checked.now)) process ≡ Some place →
         at_in (checked_model checked.now) tree ≡ record {
-        setting = setting_of (checked_model checked.now) limits; process = process;
-        class = class_at (checked_model checked.now) place; clock = 0;
-        state = begun.state.held }) }
+          setting = setting_of (checked_model checked.now) limits;
+          process = process;
+          class = class_at (checked_model checked.now) place;
+          clock = 0;
+          state = begun.state.held;
+        }) }
     ensures fresh { IfOk result (λ tree. ∥ IsFresh (checked_model checked.now) tree ∥₁) }
 {
     let mut steps = Steps::<L>::new(ledger);
@@ -125,9 +131,12 @@ impl Tree {
         ensures seen { IfOk result (λ tree. (place : Address) →
             slice_get (processes (checked_model checked.now)) process ≡ Some place →
             at_in (checked_model checked.now) tree ≡ record {
-            setting = setting_of (checked_model checked.now) limits; process = process;
-            class = class_at (checked_model checked.now) place; clock = 0;
-            state = begun.state.held }) }
+              setting = setting_of (checked_model checked.now) limits;
+              process = process;
+              class = class_at (checked_model checked.now) place;
+              clock = 0;
+              state = begun.state.held;
+            }) }
         ensures fresh { IfOk result (λ tree. ∥ IsFresh (checked_model checked.now) tree ∥₁) }
     {
         start_in::<Brand>(alloc, checked, net, limits, process, begun, Blank::new(1))

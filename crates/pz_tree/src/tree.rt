@@ -1,17 +1,11 @@
-use pz_classes::Checked;
 use pz_nodes::{Key, Nodes};
-use pz_part_queries::Standpoint;
 use pz_rules::Limits;
-use pz_state::{FrameId, State};
+use pz_state::State;
 use pz_tree_nodes::Node;
-use pz_tree_seeking::Spot;
 use pz_value::ClassId;
 use std::alloc::Global;
 
 /// What is left of one process, as nodes that keep in short what can be done below them, and its state.
-///
-/// What a call costs does not grow with what stands beside the parts that it asks or changes. The only error
-/// of a call is want of memory, or that there is more to do than can be counted.
 pub struct Tree {
     pub(crate) alloc: Global,
     pub(crate) nodes: Nodes<Node>,

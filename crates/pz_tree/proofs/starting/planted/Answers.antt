@@ -1,4 +1,4 @@
-use Rattle.std.proofs.Common.{◌≡◌, ◌≤◌, ◌∙◌, refl, sym, ap, subst, arith}
+use Rattle.std.proofs.Common.{◌≤◌, ◌∙◌, sym, ap, subst, arith}
 use Rattle.pz_classes.specs.CheckedView.{checked_model}
 use Rattle.pz_nodes.specs.Arena.{find}
 use Rattle.pz_rules.specs.Settings.{left_by}

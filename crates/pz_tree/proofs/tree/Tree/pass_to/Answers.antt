@@ -1,4 +1,4 @@
-use Rattle.std.proofs.Common.{◌≡◌, ◌+◌, ◌-◌, ℕ, subst, refl, arith}
+use Rattle.std.proofs.Common.{◌≡◌, ◌+◌, ◌-◌, subst, refl, arith}
 use Rattle.std.proofs.Math.Logic.{∥∥₁_map, ∥∥₁_elim}
 use Rattle.std.proofs.Math.Bridge.{le_prop}
 use Rattle.pz_classes.specs.CheckedView.{checked_model}
@@ -6,7 +6,7 @@ use Rattle.pz_classes.specs.Soundness.{IsSound}
 use Rattle.pz_nodes.specs.Arena.{find}
 use Rattle.pz_rules.specs.Settings.{Context}
 use Rattle.pz_tree_elapsing.specs.Elapsing.{ElapseRule}
-use Rattle.pz_tree.specs.Trees.{at_in, IsFresh}
+use Rattle.pz_tree.specs.Trees.{IsFresh}
 use Rattle.pz_tree.proofs.Changed.{on_ok}
 use Rattle.pz_tree.proofs.Elapsed.{elapsed_at, nothing_elapsed_at, seen_later}
 use Rattle.pz_tree.proofs.tree.Tree.pass_to.Goals as goal
