@@ -1,0 +1,12 @@
+mod Reading
+mod Short
+mod Changed
+mod Wired
+mod Asked
+mod Heights
+mod Unasked
+mod Started
+mod Judged
+mod Offered
+mod Moved
+mod Elapsed

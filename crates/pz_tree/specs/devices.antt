@@ -1,0 +1,3 @@
+pub mod Kept
+pub mod Receiving
+pub mod Wires

@@ -1,0 +1,15 @@
+//! An execution tree: what is left of one process, as nodes that keep what can be done there.
+#![tactic(auto)]
+
+mod found;
+mod judging;
+mod offering;
+mod passing;
+mod refreshing;
+mod standing;
+mod starting;
+mod summing;
+mod tree;
+
+pub use found::InternalAction;
+pub use tree::Tree;

@@ -1,0 +1,45 @@
+// How a tree sees its model and its nodes.
+
+ghost use Rattle.std.specs.Prelude.{◌≡◌};
+ghost use Rattle.pz_syntax.specs.Classes.{ModelTree};
+ghost use Rattle.pz_classes.specs.CheckedView.{checked_model};
+ghost use Rattle.pz_eval.specs.Known.{AreKnown};
+ghost use Rattle.pz_part_queries.specs.Standpoints.{Knows, seen_from};
+ghost use Rattle.pz_tree.specs.Trees.{at_in};
+
+use crate::tree::Tree;
+use pz_classes::Checked;
+use pz_part_queries::Standpoint;
+use pz_state::FrameId;
+use pz_tree_seeking::Spot;
+
+impl Tree {
+    // Where the whole term stands: in no frame.
+    pub(crate) fn spot(&self) -> Spot
+        ensures key { result.key ≡ self.now.root }
+        ensures frame { result.frame.0 ≡ 0 }
+        ensures clock { result.clock ≡ self.now.clock }
+    {
+        Spot {
+            key: self.root,
+            frame: FrameId(0),
+            clock: self.clock,
+        }
+    }
+
+    // From where its statements see the model.
+    pub(crate) fn standpoint<'a>(&self, checked: &'a Checked) -> Standpoint<'a>
+        ensures seen { (m : ModelTree) →
+            seen_from m result self.now.class.0 self.now.state.held ≡ at_in m self.now }
+        ensures knows { Knows (checked_model checked.now) result }
+        ensures known { AreKnown result.classes.now }
+        ensures limits { result.limits ≡ self.now.limits }
+    {
+        Standpoint {
+            classes: checked.classes(),
+            limits: self.limits,
+            process: self.process,
+            clock: self.clock,
+        }
+    }
+}
