@@ -3,5 +3,6 @@ mod Given
 mod Kept
 mod Moved
 mod Opened
+mod Rooms
 mod Shown
 mod Variables

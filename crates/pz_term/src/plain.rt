@@ -59,9 +59,9 @@ impl Drop for Plain {
 }
 
 impl Plain {
-    ghost use Rattle.std.specs.Prelude.{ℕ};
+    ghost use Rattle.std.specs.Prelude.{◌+◌, ◌^◌, ℕ};
     ghost use Rattle.pz_classes_openings.specs.OpeningRules.{Opens};
-    ghost use Rattle.pz_term.specs.Simulations.{Starts, IsMomentOf, AreOffersOf, Chooses, Passes, IsBroken, ClockIs, setting_in, model_in, limits_in, stands};
+    ghost use Rattle.pz_term.specs.Simulations.{Starts, IsMomentOf, AreOffersOf, Chooses, Passes, IsBroken, ClockIs, setting_in, model_in, limits_in, clock_in, stands};
     ghost use Rattle.pz_term.specs.Refusals.{OnNoSuchOffer, OnChooseNotNow, OnChooseRefused, OnChooseNoMemory, NoActions, OnPassNotNow, OnPassRefused, OnPassNoMemory, NoTime};
     ghost use Rattle.pz_term.specs.Shown.{IsShown, CanShow};
     ghost use Rattle.pz_term.specs.Plains.{simulation_of, model_of};
@@ -342,15 +342,19 @@ impl Plain {
         Ok(())
     }
 
-    /// Lets time pass, by the least that is left of an active delay. Takes the time of a moment.
+    /// Lets time pass, by the least that is left of an active delay, which is less than 2^64 clock units.
+    /// Takes the time of a moment. The clock is below 2^127.
     ///
     /// # Errors
     ///
     /// But for `NoMemory`, `NotNow` comes exactly where the moment is not `Time`; then nothing has
-    /// changed. After `NoMemory` the simulator is broken. A clock past 2^128 - 1, to which no machine
-    /// comes, is taken for want of memory.
+    /// changed. After `NoMemory` the simulator is broken. A delay of 2^64 clock units or more, which no
+    /// Integer of the program says, is taken for want of memory.
     pub fn pass(&mut self) -> Result<(), PassError>
+        requires low { clock_in (simulation_of self.old) < 2 ^ 127 }
         ensures ok { OnOk result (Passes (simulation_of self.old) (simulation_of self.new)) }
+        ensures short { OnOk result (clock_in (simulation_of self.new) <
+            clock_in (simulation_of self.old) + 2 ^ 64) }
         ensures not_now { IfErr result (OnPassNotNow
             (λ moment. IsMomentOf (simulation_of self.old) moment × NoTime moment)) }
         ensures refused { IfErr result (OnPassRefused (self.new ≡ self.old)) }
@@ -370,16 +374,20 @@ impl Plain {
     // Lets so much time pass, which can.
     fn wait(&mut self, time: u128) -> Result<(), AllocError>
         requires there { IsMomentOf (simulation_of self.old) (Moment.Time time) }
+        requires low { clock_in (simulation_of self.old) < 2 ^ 127 }
         ensures ok { OnOk result (Passes (simulation_of self.old) (simulation_of self.new)) }
+        ensures short { OnOk result (clock_in (simulation_of self.new) <
+            clock_in (simulation_of self.old) + 2 ^ 64) }
         ensures broken { OnErr result (IsBroken (simulation_of self.new)) }
         ensures setting { setting_in (simulation_of self.new) ≡ setting_in
             (simulation_of self.old) }
     {
         pz_rules::laws::one_moment();
         self.standing = Standing::Broken;
-        let Some(clock) = self.clock.checked_add(time) else {
+        // No delay is so long. That is not proved: what is left of a delay is kept as a number of 128 bits.
+        if u128::from(u64::MAX) < time {
             return Err(AllocError);
-        };
+        }
         elapse_at(
             self.alloc,
             &self.checked,
@@ -389,7 +397,7 @@ impl Plain {
             &mut self.processes,
             time,
         )?;
-        self.clock = clock;
+        self.clock += time;
         self.look_on()
     }
 }
