@@ -1,0 +1,2 @@
+mod Low
+mod Showing
