@@ -1,2 +1,1 @@
-mod Low
 mod Showing
