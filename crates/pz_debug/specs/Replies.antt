@@ -12,6 +12,7 @@ use Rattle.pz_trace.specs.declared.ending.Ending.TheVariants as ending
 use Rattle.pz_trace.specs.declared.ending.Ending.TheVariants.{End, Trouble}
 use Rattle.pz_trace.specs.Lines.{action_line, time_line, end_line}
 use Rattle.pz_term.specs.Simulations.{Simulation, stands, IsMomentOf, AreOffersOf, IsOffer, clock_in}
+use Rattle.pz_term.specs.Shown.{HoldsValue}
 use Rattle.pz_term.specs.Refusals.{NoTime}
 use Rattle.pz_run_playing.specs.Menus.{offers_text}
 use Rattle.pz_run_playing.specs.Endings.{last_line}
@@ -20,7 +21,7 @@ use Rattle.pz_debug_session.specs.declared.step.Step.{Step}
 use Rattle.pz_debug_session.specs.declared.step.Step.TheVariants.{Pick, Pass}
 use Rattle.pz_debug_session.specs.Steps.{StandsAfter}
 use Rattle.pz_debug.specs.Lines.{menu_line, waiting_line, refused_pass_line, back_line, refused_back_line, show_line, refused_show_line, refused_command_line}
-use Rattle.pz_debug.specs.Shown.{IsVariable, Holds}
+use Rattle.pz_debug.specs.Shown.{IsVariable}
 use Rattle.pz_debug.specs.Advancing.{Advances}
 
 -- how many offers the moment counts; none where it is not `Actions`
@@ -58,6 +59,6 @@ pub data Replies (setting : Setting) (line : ℕ) : List Step → Command → Li
       → Replies setting line xs (back n) (back_line (length xs - n) (clock_in s)) (take (length xs - n) xs)
   too_far : (n : ℕ) (xs : List Step) → length xs < n → Replies setting line xs (back n) (refused_back_line n (length xs)) xs
   shows : (xs : List Step) (c : Config) (standing : Standing) (path name : List ℕ) (i v : ℕ) (parcel : ParcelView) → StandsAfter setting xs (stands setting c standing)
-      → IsVariable setting.model path name i v → Holds c i v parcel → Replies setting line xs (show path name) (show_line setting.model path name parcel) xs
+      → IsVariable setting.model path name i v → HoldsValue c i v parcel → Replies setting line xs (show path name) (show_line setting.model path name parcel) xs
   shows_none : (xs : List Step) (path name : List ℕ) → ((i v : ℕ) → IsVariable setting.model path name i v → ⊥) → Replies setting line xs (show path name) refused_show_line xs
   is_unknown : (xs : List Step) → Replies setting line xs unknown (refused_command_line line) xs

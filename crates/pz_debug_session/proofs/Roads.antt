@@ -1,7 +1,7 @@
 -- Steps lead on in one way.
-use Rattle.std.proofs.Common.{◌≡◌, ◌<◌, ◌≤◌, ◌+◌, ℕ, zero, suc, List, [], ◌∷◌, ◌++◌, length, get_or, take, drop, drop-cons, Some, Result, Ok, Err, refl, sym, ap, subst, ◌∙◌, arith}
+use Rattle.std.proofs.Common.{◌≡◌, ◌<◌, ◌≤◌, ◌+◌, ◌^◌, ℕ, zero, suc, List, [], ◌∷◌, ◌++◌, length, get_or, take, drop, drop-cons, Some, Result, Ok, Err, refl, sym, ap, subst, ◌∙◌, arith}
 use Rattle.std.specs.Prelude.{slice_get}
-use Rattle.std.proofs.lemmas.List.{take_all}
+use Rattle.std.proofs.lemmas.List.{take_all, take-append-drop}
 use Rattle.std.proofs.Math.Seq.{take-suc}
 use Rattle.pz_offer.specs.declared.trouble.Trouble.{Trouble}
 use Rattle.pz_rules.specs.declared.action.Action.{Action}
@@ -13,11 +13,11 @@ use Rattle.pz_rules.specs.Runs.{whole, stopped, IsChoice}
 use Rattle.pz_rules.specs.Steps.{Next, PassesTo}
 use Rattle.pz_rules.specs.Laws.{OneListOfOffers}
 use Rattle.pz_term.specs.Simulations as simulations
-use Rattle.pz_term.specs.Simulations.{Simulation, stands, broken, IsMomentOf, Chooses, Passes}
+use Rattle.pz_term.specs.Simulations.{Simulation, stands, broken, IsMomentOf, Chooses, Passes, clock_in}
 use Rattle.pz_debug_session.specs.declared.step.Step.{Step}
 use Rattle.pz_debug_session.specs.declared.step.Step.TheVariants.{Pick, Pass}
 use Rattle.pz_debug_session.specs.devices.Known.{Known}
-use Rattle.pz_debug_session.specs.devices.Leading.{Takes, CanTake, Leads, arrived, further, IsWholeAt, OnTheWay}
+use Rattle.pz_debug_session.specs.devices.Leading.{Takes, CanTake, Leads, arrived, further, AreLow, IsWholeAt, OnTheWay}
 
 -- A step that is taken can be
 
@@ -29,10 +29,15 @@ below_there (x ∷ xs) (suc k) a e = let more : k < length xs = below_there xs k
 choice_within : (setting : Setting) (c : Config) (n k : ℕ) (a : Action) → IsChoice setting c n k a → k < n
 choice_within setting c n k a choice = omega (arith, choice.count, below_there choice.offers k a choice.chosen)
 
-pub can_take : (step : Step) (s t : Simulation) → Takes step s t → CanTake step s
-can_take (Pick k) _ _ (simulations.acts setting c next n a is choice to) = (n, is, choice_within setting c n k a choice)
-can_take (Pick k) _ _ (simulations.stops setting c n a trouble is choice to) = (n, is, choice_within setting c n k a choice)
-can_take Pass _ _ (simulations.passes setting c next d is to) = (d, is)
+-- where the clock is low, if it is a passing
+abbrev pub IsLowFor : Step → Simulation → Type 0
+IsLowFor (Pick k) s = Unit {0}
+IsLowFor Pass s = clock_in s < 2 ^ 127
+
+pub can_take : (step : Step) (s t : Simulation) → Takes step s t → IsLowFor step s → CanTake step s
+can_take (Pick k) _ _ (simulations.acts setting c next n a is choice to) low = (n, is, choice_within setting c n k a choice)
+can_take (Pick k) _ _ (simulations.stops setting c n a trouble is choice to) low = (n, is, choice_within setting c n k a choice)
+can_take Pass _ _ (simulations.passes setting c next d is to) low = (d, is, low)
 
 -- It leads to one place
 
@@ -127,8 +132,15 @@ module _ (steps : List Step) (i : ℕ) (d : Step) (first here : Simulation) (wit
   next_of : (m : Simulation) × Takes step here m × Leads m (drop (suc i) steps) way.to
   next_of = first_of here way.to step (drop (suc i) steps) (subst (λ (l : List Step). Leads here l way.to) (drop-cons steps i d within) way.after)
 
-  pub next_can : CanTake step here
-  next_can = can_take step here next_of.0 next_of.1
+  pub next_can : AreLow first steps → CanTake step here
+  next_can low = can_take step here next_of.0 next_of.1 (is_low step refl)
+    where
+      parts : steps ≡ take i steps ++ step ∷ drop (suc i) steps
+      parts = sym (take-append-drop i steps) ∙ ap (λ (l : List Step). take i steps ++ l) (drop-cons steps i d within)
+
+      is_low : (x : Step) → step ≡ x → IsLowFor x here
+      is_low (Pick k) e = tt
+      is_low Pass e = low (take i steps) (drop (suc i) steps) here (parts ∙ ap (λ (x : Step). take i steps ++ x ∷ drop (suc i) steps) e) way.before
 
   pub goes_further : Known → (next : Simulation) → Takes step here next → OnTheWay steps (i + 1) first next
   goes_further known next takes =

@@ -1,10 +1,10 @@
 -- Laws of sessions.
-use Rattle.std.specs.Prelude.{◌≡◌, ℕ, List, [], ◌∷◌, ◌++◌}
+use Rattle.std.specs.Prelude.{◌≡◌, ◌<◌, ◌^◌, ℕ, List, [], ◌∷◌, ◌++◌}
 use Rattle.pz_rules.specs.Settings.{Setting}
-use Rattle.pz_term.specs.Simulations.{Simulation, Starts, Chooses, Passes}
+use Rattle.pz_term.specs.Simulations.{Simulation, Starts, Chooses, Passes, clock_in}
 use Rattle.pz_debug_session.specs.declared.step.Step.{Step}
 use Rattle.pz_debug_session.specs.declared.step.Step.TheVariants.{Pick, Pass}
-use Rattle.pz_debug_session.specs.Steps.{StandsAfter}
+use Rattle.pz_debug_session.specs.Steps.{StandsAfter, StandsLow}
 
 -- a list of steps leads to one place
 abbrev pub OnePlace : Type 0
@@ -21,3 +21,14 @@ GoesOnByChoice = (setting : Setting) (steps : List Step) (k : ℕ) (s t : Simula
 
 abbrev pub GoesOnByPassing : Type 0
 GoesOnByPassing = (setting : Setting) (steps : List Step) (s t : Simulation) → StandsAfter setting steps s → Passes s t → StandsAfter setting (steps ++ Pass ∷ []) t
+
+-- the same of sessions whose passings are taken where the clock is below 2^127
+
+abbrev pub BeginsLow : Type 0
+BeginsLow = (setting : Setting) (s : Simulation) → Starts setting s → StandsLow setting [] s
+
+abbrev pub StaysLowByChoice : Type 0
+StaysLowByChoice = (setting : Setting) (steps : List Step) (k : ℕ) (s t : Simulation) → StandsLow setting steps s → Chooses k s t → StandsLow setting (steps ++ Pick k ∷ []) t
+
+abbrev pub StaysLowByPassing : Type 0
+StaysLowByPassing = (setting : Setting) (steps : List Step) (s t : Simulation) → StandsLow setting steps s → Passes s t → clock_in s < 2 ^ 127 → StandsLow setting (steps ++ Pass ∷ []) t

@@ -1,10 +1,10 @@
 -- The steps of a session, and the runs that they are taken in.
-use Rattle.std.specs.Prelude.{◌≡◌, List, map}
+use Rattle.std.specs.Prelude.{◌≡◌, ◌<◌, ◌^◌, List, ◌∷◌, ◌++◌, map}
 use Rattle.pz_rules.specs.Settings.{Setting}
 use Rattle.pz_rules.specs.Configurations.{Config}
 use Rattle.pz_rules.specs.Starting.{IsStart}
 use Rattle.pz_rules.specs.Runs.{Event, acted, passed, Standing, Reaches}
-use Rattle.pz_term.specs.Simulations.{Simulation, stands}
+use Rattle.pz_term.specs.Simulations.{Simulation, stands, clock_in}
 use Rattle.pz_debug_session.specs.declared.step.Step.{Step}
 use Rattle.pz_debug_session.specs.declared.step.Step.TheVariants.{Pick, Pass}
 
@@ -24,3 +24,8 @@ pub record StandsAfter (setting : Setting) (steps : List Step) (s : Simulation) 
   pub reaches : Reaches setting start events end standing
   pub are_steps : steps ≡ map step_of events
   pub is_there : s ≡ stands setting end standing
+
+-- The same, and each passing was taken where the clock was below 2^127, as `pass` asks.
+pub record StandsLow (setting : Setting) (steps : List Step) (s : Simulation) : Type 0 where
+  pub after : StandsAfter setting steps s
+  pub low : (ys zs : List Step) (m : Simulation) → steps ≡ ys ++ Pass ∷ zs → StandsAfter setting ys m → clock_in m < 2 ^ 127

@@ -1,6 +1,6 @@
 // Laws of sessions, the contracts of functions that do nothing.
 
-ghost use Rattle.pz_debug_session.specs.Laws.{OnePlace, BeginsAtStart, GoesOnByChoice, GoesOnByPassing};
+ghost use Rattle.pz_debug_session.specs.Laws.{OnePlace, BeginsAtStart, GoesOnByChoice, GoesOnByPassing, BeginsLow, StaysLowByChoice, StaysLowByPassing};
 ghost use Rattle.pz_debug_session.specs.devices.Known.{Known};
 
 /// A list of steps leads to one place.
@@ -11,12 +11,17 @@ pub fn sessions_have_one_place()
 }
 
 /// Before its first step a session stands at the start of a run. After each step it stands where its
-/// steps lead, with this one.
+/// steps lead, with this one; and its passings were taken where the clock was below 2^127, if this one was.
 pub fn sessions_go_on()
     ensures start { BeginsAtStart }
     ensures choice { GoesOnByChoice }
     ensures passing { GoesOnByPassing }
-{}
+    ensures low_start { BeginsLow }
+    ensures low_choice { StaysLowByChoice }
+    ensures low_passing { StaysLowByPassing }
+{
+    rules_are_known();
+}
 
 /// What is known of runs.
 pub(crate) fn rules_are_known()

@@ -1,16 +1,17 @@
-ghost use Rattle.std.specs.Prelude.{◌≡◌, ◌≤◌, ◌<◌, ◌-◌, ℕ, [], ◌∷◌, ◌++◌, length, take, IfOk, OnOk, IfErr, OnErr, Err};
+ghost use Rattle.std.specs.Prelude.{◌≡◌, ◌≤◌, ◌<◌, ◌+◌, ◌-◌, ◌^◌, ℕ, [], ◌∷◌, ◌++◌, length, take, IfOk, OnOk, IfErr, OnErr, Err};
 ghost use Rattle.pz_classes.specs.CheckedView.{checked_model};
 ghost use Rattle.pz_classes_openings.specs.OpeningRules.{Opens};
 ghost use Rattle.pz_bind.specs.devices.Nets.{IsNet};
 ghost use Rattle.pz_rules.specs.declared.limits.Edition.TheVariants.{Two};
 ghost use Rattle.pz_term_processes.specs.Standing.{setting_of};
-ghost use Rattle.pz_term.specs.Simulations.{Starts, IsMomentOf, IsOffer, Chooses, Passes, IsBroken, ClockIs, setting_in, model_in, limits_in};
+ghost use Rattle.pz_term.specs.Simulations.{Starts, IsMomentOf, IsOffer, Chooses, Passes, IsBroken, ClockIs, setting_in, model_in, limits_in, clock_in};
+ghost use Rattle.pz_term.specs.Shown.{IsShown, CanShow};
 ghost use Rattle.pz_term.specs.Refusals.{OnNoSuchOffer, OnChooseNotNow, OnChooseRefused, OnChooseNoMemory, NoActions, OnPassNotNow, OnPassRefused, OnPassNoMemory, NoTime};
 ghost use Rattle.pz_debug_session.specs.declared.step.Step.TheVariants as step;
-ghost use Rattle.pz_debug_session.specs.Steps.{StandsAfter};
+ghost use Rattle.pz_debug_session.specs.Steps.{StandsLow};
 ghost use Rattle.pz_debug_session.specs.Sessions.{steps_in, stands_in};
 ghost use Rattle.pz_debug_session.specs.Refusals.{OnTooFar};
-ghost use Rattle.pz_debug_session.specs.devices.Leading.{Takes, CanTake};
+ghost use Rattle.pz_debug_session.specs.devices.Leading.{Takes, CanTake, IsShort};
 
 use crate::again::play_again;
 use crate::engine::Engine;
@@ -19,7 +20,7 @@ use crate::step::Step;
 use crate::taking::take;
 use pz_bind::Net;
 use pz_classes::Checked;
-use pz_term::{Action, ChooseError, Limits, Moment, PassError};
+use pz_term::{Action, ChooseError, Limits, Moment, Parcel, PassError};
 use std::alloc::{AllocError, Global};
 
 /// A stepping session: a simulator, and the steps that it has taken from the start of a run on. It keeps
@@ -134,6 +135,18 @@ impl<E: Engine + Drop> Session<E> {
         }
     }
 
+    /// The value of a variable of a process at the moment, as a parcel with all objects to which it
+    /// leads; nil where the process has no such variable. The only error is want of memory, and it breaks
+    /// nothing.
+    ///
+    /// Memory was never wanting for a step, and the process is one of the net.
+    pub fn shown(&self, process: u32, variable: u32) -> Result<Parcel, AllocError>
+        requires { CanShow (stands_in E.simulation self.now) process }
+        ensures { IfOk result (IsShown (stands_in E.simulation self.now) process variable) }
+    {
+        self.engine.shown(process, variable)
+    }
+
     /// Chooses the offer of this number, from 0, which is one step: the action takes place, or the moment
     /// becomes `Stopped` where it ends in a trouble.
     ///
@@ -172,15 +185,19 @@ impl<E: Engine + Drop> Session<E> {
         }
     }
 
-    /// Lets time pass, by the least that is left of an active delay, which is one step.
+    /// Lets time pass, by the least that is left of an active delay, which is less than 2^64 clock units.
+    /// That is one step. The clock is below 2^127.
     ///
     /// # Errors
     ///
     /// But for `NoMemory`, `NotNow` comes exactly where the moment is not `Time`; then nothing has
     /// changed. After `NoMemory` the moment is `Broken`.
     pub fn pass(&mut self) -> Result<(), PassError>
+        requires low { clock_in (stands_in E.simulation self.old) < 2 ^ 127 }
         ensures ok { OnOk result (Passes (stands_in E.simulation self.old)
             (stands_in E.simulation self.new)) }
+        ensures short { OnOk result (clock_in (stands_in E.simulation self.new) <
+            clock_in (stands_in E.simulation self.old) + 2 ^ 64) }
         ensures steps { OnOk result (steps_in self.new ≡ steps_in self.old ++ step.Pass ∷ []) }
         ensures not_now { IfErr result (OnPassNotNow
             (λ moment. IsMomentOf (stands_in E.simulation self.old) moment × NoTime moment)) }
@@ -205,6 +222,8 @@ impl<E: Engine + Drop> Session<E> {
         requires { CanTake step (stands_in E.simulation self.old) }
         ensures ok { OnOk result (Takes step (stands_in E.simulation self.old)
             (stands_in E.simulation self.new)) }
+        ensures short { OnOk result (IsShort step (stands_in E.simulation self.old)
+            (stands_in E.simulation self.new)) }
         ensures steps { OnOk result (steps_in self.new ≡ steps_in self.old ++ step ∷ []) }
         ensures broken { OnErr result (IsBroken (stands_in E.simulation self.new)) }
         ensures steps_stay { OnErr result (steps_in self.new ≡ steps_in self.old) }
@@ -228,19 +247,19 @@ impl<E: Engine + Drop> Session<E> {
     /// by another simulator that takes the place of the first one. Takes the time of these steps, and for
     /// that time the memory of both.
     ///
-    /// The session is where its steps lead, as it is unless memory was wanting for a step; and the model
-    /// is one with which it may begin.
+    /// The session is where its steps lead, and took its passings where the clock was low, as it is and did
+    /// unless memory was wanting for a step; and the model is one with which it may begin.
     ///
     /// # Errors
     ///
     /// But for `NoMemory`, `TooFar` comes exactly where fewer steps were taken. Nothing has changed then,
     /// nor after `NoMemory`.
     pub fn back(&mut self, n: u64) -> Result<(), BackError>
-        requires place { StandsAfter (setting_in (stands_in E.simulation self.old))
+        requires place { StandsLow (setting_in (stands_in E.simulation self.old))
             (steps_in self.old) (stands_in E.simulation self.old) }
         requires opens { (limits_in (stands_in E.simulation self.old)).edition ≡ Two →
             Opens (model_in (stands_in E.simulation self.old)) }
-        ensures place { OnOk result (StandsAfter (setting_in (stands_in E.simulation self.old))
+        ensures place { OnOk result (StandsLow (setting_in (stands_in E.simulation self.old))
             (steps_in self.new) (stands_in E.simulation self.new)) }
         ensures steps { OnOk result (steps_in self.new ≡
             take (length (steps_in self.old) - n) (steps_in self.old)) }

@@ -1,9 +1,9 @@
 // Steps of a simulator, each with a count of its own that nobody reads.
 
-ghost use Rattle.std.specs.Prelude.{◌≡◌, ◌≤◌, ◌<◌, IfErr, OnOk, OnErr, ℕ};
-ghost use Rattle.pz_term.specs.Simulations.{Simulation, IsMomentOf, Chooses, Passes, IsBroken, setting_in};
+ghost use Rattle.std.specs.Prelude.{◌≡◌, ◌≤◌, ◌<◌, ◌+◌, ◌^◌, IfErr, OnOk, OnErr, ℕ};
+ghost use Rattle.pz_term.specs.Simulations.{Simulation, IsMomentOf, Chooses, Passes, IsBroken, setting_in, clock_in};
 ghost use Rattle.pz_term.specs.Refusals.{OnNoSuchOffer, OnChooseNotNow, OnChooseRefused, OnChooseNoMemory, NoActions, OnPassNotNow, OnPassRefused, OnPassNoMemory, NoTime};
-ghost use Rattle.pz_debug_session.specs.devices.Leading.{Takes, CanTake, Leads, IsWholeAt};
+ghost use Rattle.pz_debug_session.specs.devices.Leading.{Takes, CanTake, IsShort, Leads, AreLow, IsWholeAt};
 
 use crate::laws::rules_are_known;
 use crate::step::Step;
@@ -39,7 +39,10 @@ fn pass_in<E: Simulator, L: Ledger>(engine: &mut E, ledger: Blank) -> Result<(),
     requires name { ledger.name ≡ L.name }
     requires parts { ledger.parts ≡ L.parts }
     requires some { 0 < L.parts }
+    requires low { clock_in (E.simulation engine.old) < 2 ^ 127 }
     ensures ok { OnOk result (Passes (E.simulation engine.old) (E.simulation engine.new)) }
+    ensures short { OnOk result (clock_in (E.simulation engine.new) <
+        clock_in (E.simulation engine.old) + 2 ^ 64) }
     ensures not_now { IfErr result (OnPassNotNow
         (λ moment. IsMomentOf (E.simulation engine.old) moment × NoTime moment)) }
     ensures refused { IfErr result (OnPassRefused (engine.new ≡ engine.old)) }
@@ -55,6 +58,8 @@ fn pass_in<E: Simulator, L: Ledger>(engine: &mut E, ledger: Blank) -> Result<(),
 pub(crate) fn take<E: Simulator>(engine: &mut E, step: Step) -> Result<(), AllocError>
     requires { CanTake step (E.simulation engine.old) }
     ensures ok { OnOk result (Takes step (E.simulation engine.old) (E.simulation engine.new)) }
+    ensures short { OnOk result (IsShort step (E.simulation engine.old)
+        (E.simulation engine.new)) }
     ensures broken { OnErr result (IsBroken (E.simulation engine.new)) }
     ensures setting { setting_in (E.simulation engine.new) ≡ setting_in
         (E.simulation engine.old) }
@@ -82,8 +87,11 @@ fn choose<E: Simulator>(engine: &mut E, k: u64) -> Result<(), AllocError>
 }
 
 fn pass<E: Simulator>(engine: &mut E) -> Result<(), AllocError>
-    requires { (d : ℕ) × IsMomentOf (E.simulation engine.old) (Moment.Time d) }
+    requires time { (d : ℕ) × IsMomentOf (E.simulation engine.old) (Moment.Time d) }
+    requires low { clock_in (E.simulation engine.old) < 2 ^ 127 }
     ensures ok { OnOk result (Passes (E.simulation engine.old) (E.simulation engine.new)) }
+    ensures short { OnOk result (clock_in (E.simulation engine.new) <
+        clock_in (E.simulation engine.old) + 2 ^ 64) }
     ensures broken { OnErr result (IsBroken (E.simulation engine.new)) }
     ensures setting { setting_in (E.simulation engine.new) ≡ setting_in
         (E.simulation engine.old) }
@@ -101,6 +109,7 @@ fn pass<E: Simulator>(engine: &mut E) -> Result<(), AllocError>
 pub(crate) fn take_all<E: Simulator>(engine: &mut E, steps: &[Step]) -> Result<(), AllocError>
     requires whole { IsWholeAt (E.simulation engine.old) }
     requires leads { (to : Simulation) × Leads (E.simulation engine.old) steps.now to }
+    requires low { AreLow (E.simulation engine.old) steps.now }
     ensures { OnOk result (Leads (E.simulation engine.old) steps.now (E.simulation engine.new)) }
 {
     rules_are_known();

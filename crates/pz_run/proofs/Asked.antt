@@ -1,12 +1,17 @@
 -- What words ask for.
-use Rattle.std.proofs.Common.{◌≡◌, ℕ, List, Option, Some, None, refl, sym, subst}
+use Rattle.std.proofs.Common.{◌≡◌, ◌≤◌, ℕ, suc, List, [], ◌∷◌, Option, Some, None, refl, sym, subst, arith}
+use Rattle.std.specs.Prelude.{All}
 use Rattle.pz_io.specs.Outside.{FilesState, SinkState}
 use Rattle.pz_words.specs.declared.jobs.Job.{Job}
-use Rattle.pz_words.specs.Jobs.{Asks, IsAsked}
+use Rattle.pz_words.specs.declared.options.Options.{Options}
+use Rattle.pz_words.specs.declared.options.OptionWord.{OptionWord}
+use Rattle.pz_words.specs.declared.options.OptionWord.TheVariants.{Chooses, Steps, Until, Units, Summary}
+use Rattle.pz_words.specs.Options.{step_limit, IsAllowed, nothing_said, with_option, said_with, AreOptions}
+use Rattle.pz_words.specs.Jobs.{Asks, IsAsked, or_else, usual_steps}
 use Rattle.pz_words.specs.Jobs as jobs
 use Rattle.pz_run.specs.declared.status.Status.{Status}
 use Rattle.pz_run.specs.Words.{OfAsked}
-use Rattle.pz_run.specs.devices.Words.{HasRingSize}
+use Rattle.pz_run.specs.devices.Words.{HasRingSize, HasFewActions}
 use Rattle.pz_run.specs.devices.Keeping.{KeepsPromises}
 
 one_asked : (words : List (List ℕ)) (x y : Option Job) → IsAsked words x → IsAsked words y → x ≡ y
@@ -32,3 +37,35 @@ sized _ _ (jobs.watch model watches options o is are_watches are full) = tt
 
 pub found_sized : (words : List (List ℕ)) (job : Job) → IsAsked words (Some job) → HasRingSize job
 found_sized words job is = sized words job ((is job).0 refl)
+
+-- how many actions options allow
+
+abbrev AllowsFew : Options → Type 0
+AllowsFew o = or_else usual_steps o.steps ≤ step_limit
+
+with_few : (s : OptionWord) (o : Options) → IsAllowed s → AllowsFew o → AllowsFew (with_option s o)
+with_few (Chooses c) o is few = few
+with_few (Steps n) o is few = is
+with_few (Until n) o is few = few
+with_few (Units n) o is few = few
+with_few Summary o is few = few
+
+said_few : (o : Options) (ss : List OptionWord) → All IsAllowed ss → AllowsFew o → AllowsFew (said_with o ss)
+said_few o [] all few = few
+said_few o (s ∷ ss) all few = said_few (with_option s o) ss (λ k d below. all (suc k) d (omega (arith, below))) (with_few s o (all 0 s (omega arith)) few)
+
+options_few : (words : List (List ℕ)) (o : Options) → AreOptions words o → AllowsFew o
+options_few words o are = subst AllowsFew (sym are.meant) (said_few nothing_said are.settings are.allowed (omega arith))
+
+asks_few : (words : List (List ℕ)) (job : Job) → Asks words job → HasFewActions job
+asks_few _ _ (jobs.run model options o is are) = options_few options o are
+asks_few _ _ (jobs.menu model options o is are full) = options_few options o are
+asks_few _ _ (jobs.replay model trace options o is is_trace are only) = tt
+asks_few _ _ (jobs.check model is) = tt
+asks_few _ _ (jobs.make n size) = tt
+asks_few _ _ (jobs.ring n options o size are full) = options_few options o are
+asks_few _ _ (jobs.format model is) = tt
+asks_few _ _ (jobs.watch model watches options o is are_watches are full) = options_few options o are
+
+pub found_few : (words : List (List ℕ)) (job : Job) → IsAsked words (Some job) → HasFewActions job
+found_few words job is = asks_few words job ((is job).0 refl)

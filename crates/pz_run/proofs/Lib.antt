@@ -17,3 +17,4 @@ pub mod Replayed
 pub mod Judgings
 pub mod Watched
 pub mod Asked
+pub mod Begins

@@ -1,6 +1,6 @@
 // Jobs.
 ghost use Rattle.std.specs.Prelude.{Some};
-ghost use Rattle.pz_run.specs.devices.Words.{HasRingSize};
+ghost use Rattle.pz_run.specs.devices.Words.{HasRingSize, HasFewActions};
 ghost use Rattle.pz_run.specs.devices.Keeping.{KeepsPromises};
 
 use crate::Status;
@@ -16,7 +16,8 @@ use std::alloc::Global;
 
 /// Does the job, over the files, and prints to the sink.
 pub fn do_job<F: Files, W: Sink>(alloc: Global, job: Job, files: &mut F, out: &mut W) -> Status
-    requires { HasRingSize job }
+    requires size { HasRingSize job }
+    requires few { HasFewActions job }
     ensures { KeepsPromises (Some job) (F.state files.old) (F.state files.new) (W.state out.old)
         (W.state out.new) result }
 {

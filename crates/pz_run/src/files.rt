@@ -1,4 +1,6 @@
 // What is done with the one file of a job, which is that of a model.
+ghost use Rattle.std.specs.Prelude.{◌≤◌};
+ghost use Rattle.pz_rules.specs.Clocks.{most_actions};
 ghost use Rattle.pz_run.specs.Files.{model_file};
 ghost use Rattle.pz_run.specs.devices.Reading.{ReadsFile, SaysUnread};
 ghost use Rattle.pz_run.specs.devices.Texts.{PrintsPlay, PrintsCheck};
@@ -20,6 +22,7 @@ pub fn run_file<F: Files, W: Sink>(
     files: &mut F,
     out: &mut W,
 ) -> Status
+    requires { play.limits.steps ≤ most_actions }
     ensures { ReadsFile (model_file name.now) (PrintsPlay play) (F.state files.old)
         (F.state files.new) (W.state out.old) (W.state out.new) result }
 {

@@ -1,10 +1,12 @@
 // Runs of models.
-ghost use Rattle.std.specs.Prelude.{◌≡◌, ◌<◌};
+ghost use Rattle.std.specs.Prelude.{◌≡◌, ◌≤◌, ◌<◌};
 ghost use Rattle.pz_syntax.specs.Classes.{ModelTree};
 ghost use Rattle.pz_classes.specs.CheckedView.{checked_model};
 ghost use Rattle.pz_classes_openings.specs.OpeningRules.{Opens};
+ghost use Rattle.pz_rules.specs.declared.limits.Edition.TheVariants.{Two};
 ghost use Rattle.pz_rules.specs.Settings.{Setting};
-ghost use Rattle.pz_term.specs.Simulations.{Starts};
+ghost use Rattle.pz_rules.specs.Clocks.{most_actions};
+ghost use Rattle.pz_term.specs.Simulations.{Starts, model_in, limits_in};
 ghost use Rattle.pz_term.specs.Plains.{simulation_of};
 ghost use Rattle.pz_run_playing.specs.Playing.{Plays};
 ghost use Rattle.pz_run.specs.Plays.{told_of, setting_for, policy_for};
@@ -37,6 +39,9 @@ fn play_from<L: Ledger, W: Sink>(
     requires parts { ledger.parts ≡ L.parts }
     requires some { 0 < L.parts }
     requires starts { (setting : Setting) × Starts setting (simulation_of plain.old) }
+    requires opens { (limits_in (simulation_of plain.old)).edition ≡ Two →
+        Opens (model_in (simulation_of plain.old)) }
+    requires few { play.limits.steps ≤ most_actions }
     ensures { (setting : Setting) → Starts setting (simulation_of plain.old) →
         Plays setting (policy_for play) (told_of play.telling) (simulation_of plain.new)
         (W.state out.old) (W.state out.new) result }
@@ -56,7 +61,10 @@ fn play_from<L: Ledger, W: Sink>(
 
 // The same, with the status of the run.
 fn play_plain<W: Sink>(alloc: Global, mut plain: Plain, play: Play, out: &mut W) -> Status
-    requires { (setting : Setting) × Starts setting (simulation_of plain) }
+    requires starts { (setting : Setting) × Starts setting (simulation_of plain) }
+    requires opens { (limits_in (simulation_of plain)).edition ≡ Two →
+        Opens (model_in (simulation_of plain)) }
+    requires few { play.limits.steps ≤ most_actions }
     ensures { (m : ModelTree) → Starts (setting_for m play) (simulation_of plain) →
         Says (PrintsRun play m) (W.state out.old) (W.state out.new) result }
 {
@@ -67,7 +75,8 @@ fn play_plain<W: Sink>(alloc: Global, mut plain: Plain, play: Play, out: &mut W)
 
 /// Runs the model, prints what is told of its run, and gives the status of the run.
 pub fn run_model<W: Sink>(alloc: Global, checked: Checked, play: Play, out: &mut W) -> Status
-    requires { Opens (checked_model checked) }
+    requires opens { Opens (checked_model checked) }
+    requires few { play.limits.steps ≤ most_actions }
     ensures { Answers (PrintsRun play (checked_model checked)) (W.state out.old)
         (W.state out.new) result }
 {

@@ -1,12 +1,13 @@
 // Replays of traces.
-ghost use Rattle.std.specs.Prelude.{◌≡◌, ◌-◌, ◌<◌, ◌^◌, ℕ, length, MatchOption};
+ghost use Rattle.std.specs.Prelude.{◌≡◌, ◌-◌, ◌≤◌, ◌<◌, ◌^◌, ℕ, length, MatchOption};
 ghost use Rattle.pz_syntax.specs.Classes.{ModelTree};
 ghost use Rattle.pz_classes.specs.CheckedView.{checked_model};
 ghost use Rattle.pz_classes_openings.specs.OpeningRules.{Opens};
 ghost use Rattle.pz_rules.specs.declared.limits.Edition.TheVariants.{Two};
 ghost use Rattle.pz_rules.specs.Settings.{Setting};
+ghost use Rattle.pz_rules.specs.Clocks.{most_actions};
 ghost use Rattle.pz_trace.specs.Forms.{HasHeader};
-ghost use Rattle.pz_term.specs.Simulations.{Starts};
+ghost use Rattle.pz_term.specs.Simulations.{Starts, model_in, limits_in};
 ghost use Rattle.pz_term.specs.Plains.{simulation_of};
 ghost use Rattle.pz_run_replaying.specs.Replays.{TellsLines, IsReplayed};
 ghost use Rattle.pz_run.specs.Files.{trace_file};
@@ -104,7 +105,8 @@ fn replay_trace<W: Sink>(
     units: u64,
     out: &mut W,
 ) -> Status
-    requires { (form : Form) → TellsLines (setting_with (checked_model checked) form units) }
+    requires tells { (form : Form) → TellsLines (setting_with (checked_model checked) form units) }
+    requires few { length trace.now ≤ most_actions }
     ensures { Answers (PrintsReplay units (checked_model checked) trace.now) (W.state out.old)
         (W.state out.new) result }
 {
@@ -139,6 +141,7 @@ fn replay_second<W: Sink>(
     requires told { MatchOption told (HasNoHeader trace.now) (λ form. HasHeader form trace.now) }
     requires second { IsOfSecondEdition trace.now }
     requires tells { (form : Form) → TellsLines (setting_with (checked_model checked) form units) }
+    requires few { length trace.now ≤ most_actions }
     ensures { Answers (PrintsReplay units (checked_model checked) trace.now) (W.state out.old)
         (W.state out.new) result }
 {
@@ -163,6 +166,7 @@ fn replay_told<W: Sink>(
     requires told { MatchOption told (HasNoHeader trace.now) (λ form. HasHeader form trace.now) }
     requires opens { Opens (checked_model checked) }
     requires tells { (form : Form) → TellsLines (setting_with (checked_model checked) form units) }
+    requires few { length trace.now ≤ most_actions }
     ensures { Answers (PrintsReplay units (checked_model checked) trace.now) (W.state out.old)
         (W.state out.new) result }
 {
@@ -189,6 +193,7 @@ fn replay_form<W: Sink>(
     requires opens { (setting_with (checked_model checked) form units).limits.edition ≡ Two →
         Opens (checked_model checked) }
     requires tells { TellsLines (setting_with (checked_model checked) form units) }
+    requires few { length trace.now ≤ most_actions }
     ensures { Answers (PrintsReplay units (checked_model checked) trace.now) (W.state out.old)
         (W.state out.new) result }
 {
@@ -211,6 +216,9 @@ fn replay_from<L: Ledger, W: Sink>(
     requires parts { ledger.parts ≡ L.parts }
     requires some { 0 < L.parts }
     requires starts { (setting : Setting) × Starts setting (simulation_of plain.old) }
+    requires opens { (limits_in (simulation_of plain.old)).edition ≡ Two →
+        Opens (model_in (simulation_of plain.old)) }
+    requires few { length trace.now ≤ most_actions }
     ensures { (setting : Setting) → Starts setting (simulation_of plain.old) → TellsLines setting →
         IsReplayed setting trace.now (simulation_of plain.new) (W.state out.old)
         (W.state out.new) result }
@@ -221,7 +229,10 @@ fn replay_from<L: Ledger, W: Sink>(
 
 // The same, with the status of the replay.
 fn replay_plain<W: Sink>(alloc: Global, mut plain: Plain, trace: &[u8], out: &mut W) -> Status
-    requires { (setting : Setting) × Starts setting (simulation_of plain) }
+    requires starts { (setting : Setting) × Starts setting (simulation_of plain) }
+    requires opens { (limits_in (simulation_of plain)).edition ≡ Two →
+        Opens (model_in (simulation_of plain)) }
+    requires few { length trace.now ≤ most_actions }
     ensures { (m : ModelTree) (form : Form) (units : ℕ) → HasHeader form trace.now →
         OpensFor trace.now m → Starts (setting_with m form units) (simulation_of plain) →
         TellsLines (setting_with m form units) →

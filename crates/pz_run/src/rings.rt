@@ -1,4 +1,6 @@
 // The model of a ring.
+ghost use Rattle.std.specs.Prelude.{◌≤◌};
+ghost use Rattle.pz_rules.specs.Clocks.{most_actions};
 ghost use Rattle.pz_words.specs.Jobs.{IsRingSize};
 ghost use Rattle.pz_gen.specs.Ring.{model as ring_text};
 ghost use Rattle.pz_run.specs.devices.Saying.{Said, Answers};
@@ -22,7 +24,8 @@ pub fn make_ring<W: Sink>(alloc: Global, n: u32, out: &mut W) -> Status
 
 /// Runs the model of a ring with this many stations.
 pub fn run_ring<W: Sink>(alloc: Global, n: u32, play: Play, out: &mut W) -> Status
-    requires { IsRingSize n }
+    requires size { IsRingSize n }
+    requires few { play.limits.steps ≤ most_actions }
     ensures { Answers (PrintsPlay play (ring_text n)) (W.state out.old) (W.state out.new) result }
 {
     match make(alloc, n) {

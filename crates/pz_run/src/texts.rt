@@ -1,5 +1,6 @@
 // What is done with the text of a model.
-ghost use Rattle.std.specs.Prelude.{◌-◌, ◌<◌, ◌^◌, length};
+ghost use Rattle.std.specs.Prelude.{◌-◌, ◌≤◌, ◌<◌, ◌^◌, length};
+ghost use Rattle.pz_rules.specs.Clocks.{most_actions};
 ghost use Rattle.pz_run.specs.devices.Saying.{Answers};
 ghost use Rattle.pz_run.specs.devices.Texts.{PrintsPlay, PrintsCheck, SaysRefusal};
 
@@ -14,7 +15,8 @@ use std::alloc::Global;
 
 /// Runs the model of this text, or says why that is refused.
 pub fn run_text<W: Sink>(alloc: Global, text: &[u8], play: Play, out: &mut W) -> Status
-    requires { length text.now < 2 ^ 32 - 1 }
+    requires short { length text.now < 2 ^ 32 - 1 }
+    requires few { play.limits.steps ≤ most_actions }
     ensures { Answers (PrintsPlay play text.now) (W.state out.old) (W.state out.new) result }
 {
     pz_run_playing::laws::one_run();

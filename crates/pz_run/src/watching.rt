@@ -1,10 +1,12 @@
 // Runs that watches judge.
-ghost use Rattle.std.specs.Prelude.{◌≡◌, ◌-◌, ◌<◌, ◌^◌, ℕ, List, [], length};
+ghost use Rattle.std.specs.Prelude.{◌≡◌, ◌-◌, ◌≤◌, ◌<◌, ◌^◌, ℕ, List, [], length};
 ghost use Rattle.pz_syntax.specs.Classes.{ModelTree};
 ghost use Rattle.pz_classes.specs.CheckedView.{checked_model};
 ghost use Rattle.pz_classes_openings.specs.OpeningRules.{Opens};
+ghost use Rattle.pz_rules.specs.declared.limits.Edition.TheVariants.{Two};
 ghost use Rattle.pz_rules.specs.Settings.{Setting};
-ghost use Rattle.pz_term.specs.Simulations.{Starts};
+ghost use Rattle.pz_rules.specs.Clocks.{most_actions};
+ghost use Rattle.pz_term.specs.Simulations.{Starts, model_in, limits_in};
 ghost use Rattle.pz_term.specs.Plains.{simulation_of};
 ghost use Rattle.pz_watch.specs.declared.errors.ReadWatchesError.TheVariants.{Refused};
 ghost use Rattle.pz_watch.specs.Files.{NamedFormula, AreWatches, IsRefusedAt};
@@ -49,6 +51,7 @@ pub fn watch_file<F: Files, W: Sink>(
     files: &mut F,
     out: &mut W,
 ) -> Status
+    requires { play.limits.steps ≤ most_actions }
     ensures { JudgesFiles model.now watches.now play (F.state files.old) (F.state files.new)
         (W.state out.old) (W.state out.new) result }
 {
@@ -67,7 +70,8 @@ fn watch_text<F: Files, W: Sink>(
     files: &mut F,
     out: &mut W,
 ) -> Status
-    requires { length text.now < 2 ^ 32 - 1 }
+    requires short { length text.now < 2 ^ 32 - 1 }
+    requires few { play.limits.steps ≤ most_actions }
     ensures { JudgesText watches.now play (F.state files.old) (F.state files.new)
         (W.state out.old) (W.state out.new) result text.now }
 {
@@ -89,7 +93,8 @@ fn watch_model<F: Files, W: Sink>(
     files: &mut F,
     out: &mut W,
 ) -> Status
-    requires { Opens (checked_model checked) }
+    requires opens { Opens (checked_model checked) }
+    requires few { play.limits.steps ≤ most_actions }
     ensures { ReadsFile (file_of watches.now) (PrintsJudged play (checked_model checked))
         (F.state files.old) (F.state files.new) (W.state out.old) (W.state out.new) result }
 {
@@ -110,7 +115,8 @@ fn watch_lines<W: Sink>(
     play: Play,
     out: &mut W,
 ) -> Status
-    requires { Opens (checked_model checked) }
+    requires opens { Opens (checked_model checked) }
+    requires few { play.limits.steps ≤ most_actions }
     ensures { Answers (PrintsJudged play (checked_model checked) file.now) (W.state out.old)
         (W.state out.new) result }
 {
@@ -148,6 +154,7 @@ fn judge_model<W: Sink>(
     out: &mut W,
 ) -> Status
     requires opens { Opens (checked_model checked) }
+    requires few { play.limits.steps ≤ most_actions }
     requires stand { (ws : List NamedFormula) × StandForEach watches ws [] }
     ensures { (file : List ℕ) (ws : List NamedFormula) → AreWatches is_identifier file ws →
         StandForEach watches ws [] → Answers (PrintsJudged play (checked_model checked) file)
@@ -174,6 +181,9 @@ fn judge_from<L: Ledger, W: Sink>(
     requires parts { ledger.parts ≡ L.parts }
     requires some { 0 < L.parts }
     requires starts { (setting : Setting) × Starts setting (simulation_of plain.old) }
+    requires opens { (limits_in (simulation_of plain.old)).edition ≡ Two →
+        Opens (model_in (simulation_of plain.old)) }
+    requires few { play.limits.steps ≤ most_actions }
     requires stand { (ws : List NamedFormula) × StandForEach watches ws [] }
     ensures { (setting : Setting) (ws : List NamedFormula) →
         Starts setting (simulation_of plain.old) → StandForEach watches ws [] →
@@ -194,6 +204,9 @@ fn judge_plain<W: Sink>(
     out: &mut W,
 ) -> Status
     requires starts { (setting : Setting) × Starts setting (simulation_of plain) }
+    requires opens { (limits_in (simulation_of plain)).edition ≡ Two →
+        Opens (model_in (simulation_of plain)) }
+    requires few { play.limits.steps ≤ most_actions }
     requires stand { (ws : List NamedFormula) × StandForEach watches ws [] }
     ensures { (m : ModelTree) (file : List ℕ) (ws : List NamedFormula) →
         Starts (setting_for m play) (simulation_of plain) → AreWatches is_identifier file ws →

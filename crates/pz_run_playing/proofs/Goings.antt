@@ -1,5 +1,5 @@
 -- A run on its way: where it begins, what each step leaves of it, and where it ends or is cut short.
-use Rattle.std.proofs.Common.{◌≡◌, ◌≤◌, ◌<◌, ◌+◌, ℕ, Bool, true, false, List, [], ◌∷◌, ◌++◌, Option, Some, None, refl, sym, subst, ap, ◌∙◌, arith}
+use Rattle.std.proofs.Common.{◌≡◌, ◌≤◌, ◌<◌, ◌+◌, ◌-◌, ℕ, suc, Bool, true, false, List, [], ◌∷◌, ◌++◌, Option, Some, None, refl, sym, subst, ap, ◌∙◌, arith}
 use Rattle.std.proofs.lemmas.List.{append-nil}
 use Rattle.pz_io.specs.Outside.{SinkState}
 use Rattle.pz_io.specs.declared.writing.Halt.{Halt}
@@ -16,6 +16,7 @@ use Rattle.pz_run_playing.specs.declared.playing.Played.{Played}
 use Rattle.pz_run_playing.specs.Endings.{ending_of}
 use Rattle.pz_run_playing.specs.devices.Known.{Known}
 use Rattle.pz_term.specs.Simulations.{model_in, clock_in, IsOffer}
+use Rattle.pz_term.specs.devices.Room.{HasRoomFor}
 use Rattle.pz_run_playing.specs.devices.Rests.{IsReady, IsHeld}
 use Rattle.pz_run_playing.specs.Sayings.{Saying, said_after}
 use Rattle.pz_run_playing.specs.declared.listening.Listener.{Listener}
@@ -55,6 +56,18 @@ gone_chosen known first s t passes k x to same = record {
   setting = same ∙ x.setting;
   within = omega (arith, x.within, clock_chosen k s t to);
 }
+
+-- the room of one more action
+pub room_of_one : (steps actions : ℕ) (s : Simulation) → actions < steps → HasRoomFor (steps - actions) s → HasRoomFor (suc (steps - (actions + 1))) s
+room_of_one steps actions s more room =
+    let same : steps - actions ≡ suc (steps - (actions + 1)) = omega (arith, more) in
+    subst (λ (n : ℕ). HasRoomFor n s) same room
+
+-- before the first action
+pub room_of_all : (steps : ℕ) (s : Simulation) → HasRoomFor steps s → HasRoomFor (steps - 0) s
+room_of_all steps s room =
+    let same : steps ≡ steps - 0 = omega arith in
+    subst (λ (n : ℕ). HasRoomFor n s) same room
 
 -- what is heard of the model of one is heard of that of the other
 heard_in : (first s : Simulation) (manner : Manner) (past : List Event) (clock : ℕ) (listener : Listener) → setting_in s ≡ setting_in first → HasHeard (model_in first) manner past clock listener → HasHeard (model_in s) manner past clock listener

@@ -1,16 +1,20 @@
 // A run, moment by moment.
 
-ghost use Rattle.std.specs.Prelude.{◌≡◌, ◌≤◌, ◌<◌, ℕ, List, [], ◌∷◌, ◌++◌, IfOk, OnOk, IfErr};
+ghost use Rattle.std.specs.Prelude.{◌≡◌, ◌≤◌, ◌<◌, ◌+◌, ◌^◌, ℕ, List, [], ◌∷◌, ◌++◌, IfOk, OnOk, IfErr};
 ghost use Rattle.std.specs.Result.{result_err};
 ghost use Rattle.pz_io.specs.Writing.{Wrote};
 ghost use Rattle.pz_rules.specs.declared.action.Action.{Action as TheAction};
 ghost use Rattle.pz_rules.specs.ChosenRuns.{Policy};
+ghost use Rattle.pz_rules.specs.Clocks.{most_actions};
+ghost use Rattle.pz_rules.specs.declared.limits.Edition.TheVariants.{Two};
+ghost use Rattle.pz_classes_openings.specs.OpeningRules.{Opens};
 ghost use Rattle.pz_choice.specs.Resolvers.{Resolver};
 ghost use Rattle.pz_choice.specs.Choosers.{Stands};
 ghost use Rattle.pz_rules.specs.Runs.{Event, acted, passed};
 ghost use Rattle.pz_term.specs.Simulations.{Starts, IsMomentOf, Chooses, Passes, setting_in};
 ghost use Rattle.pz_run_playing.specs.Policies.{resolver_of, policy_of};
-ghost use Rattle.pz_term.specs.Simulations.{model_in, clock_in, IsOffer};
+ghost use Rattle.pz_term.specs.Simulations.{model_in, limits_in, clock_in, IsOffer};
+ghost use Rattle.pz_term.specs.devices.Room.{HasRoomFor};
 ghost use Rattle.pz_run_playing.specs.devices.Rests.{IsReady, IsHeld};
 ghost use Rattle.pz_run_playing.specs.devices.Hearing.{Manner, saying, tells_lines, Hears, HasHeard};
 ghost use Rattle.pz_run_playing.specs.devices.Going.{HasGone, Passing, CutShort, Ended, PlayedThrough, BrokenOff};
@@ -50,8 +54,11 @@ fn pass<S: Simulator, L: Ledger, W: Sink>(
     steps: &mut Steps<L>,
     out: &mut W,
 ) -> Result<(), Halt>
-    requires { IsMomentOf (S.simulation sim.old) (Moment.Time time) }
+    requires moment { IsMomentOf (S.simulation sim.old) (Moment.Time time) }
+    requires low { clock_in (S.simulation sim.old) < 2 ^ 127 }
     ensures passes { OnOk result (Passes (S.simulation sim.old) (S.simulation sim.new)) }
+    ensures short { OnOk result (clock_in (S.simulation sim.new) <
+        clock_in (S.simulation sim.old) + 2 ^ 64) }
     ensures setting { setting_in (S.simulation sim.new) ≡ setting_in (S.simulation sim.old) }
     ensures wrote { (manner : Manner) (past : List Event) → let s = S.simulation sim.old in
         HasHeard (model_in s) manner past (clock_in s) listener.old →
@@ -121,6 +128,7 @@ fn pass_time<S: Simulator, L: Ledger, W: Sink>(
 ) -> Result<u128, Halt>
     requires ready { IsReady (S.simulation sim.old) }
     requires within { passes ≤ clock_in (S.simulation sim.old) }
+    requires room { HasRoomFor 0 (S.simulation sim.old) }
     ensures gone { IfOk result (λ all. HasGone (S.simulation sim.old) all
         (S.simulation sim.new)) }
     ensures passing { IfOk result (λ all. (manner : Manner) (past : List Event) →
@@ -129,6 +137,8 @@ fn pass_time<S: Simulator, L: Ledger, W: Sink>(
         Passing until manner past s (W.state out.old) passes all (S.simulation sim.new)
         listener.new (W.state out.new)) }
     ensures held { OnOk result (IsHeld until (S.simulation sim.new)) }
+    ensures room { OnOk result ((left : ℕ) → HasRoomFor left (S.simulation sim.old) →
+        HasRoomFor left (S.simulation sim.new)) }
     ensures cut { IfErr result (λ halt. (policy : Policy) (actions : ℕ) (manner : Manner)
         (past : List Event) → let s = S.simulation sim.old in policy.until ≡ until →
         HasHeard (model_in s) manner past (clock_in s) listener.old →
@@ -161,7 +171,8 @@ fn play_on<S: Simulator, L: Ledger, W: Sink>(
     steps: &mut Steps<L>,
     out: &mut W,
 ) -> Result<Played, Halt>
-    requires { IsReady (S.simulation sim.old) }
+    requires ready { IsReady (S.simulation sim.old) }
+    requires room { HasRoomFor limits.steps (S.simulation sim.old) }
     ensures ended { IfOk result (λ played. (r : Resolver) (manner : Manner) →
         let s = S.simulation sim.old in
         Stands chooser.old r 0 → HasHeard (model_in s) manner [] (clock_in s) listener.old →
@@ -205,7 +216,10 @@ pub(crate) fn play<S: Simulator, L: Ledger, W: Sink>(
     steps: &mut Steps<L>,
     out: &mut W,
 ) -> Result<Played, Halt>
-    requires { Starts (setting_in (S.simulation sim.old)) (S.simulation sim.old) }
+    requires starts { Starts (setting_in (S.simulation sim.old)) (S.simulation sim.old) }
+    requires opens { (limits_in (S.simulation sim.old)).edition ≡ Two →
+        Opens (model_in (S.simulation sim.old)) }
+    requires few { limits.steps ≤ most_actions }
     ensures through { IfOk result (λ played. (manner : Manner) →
         let setting = setting_in (S.simulation sim.old) in
         Hears setting.model manner [] listener.old →

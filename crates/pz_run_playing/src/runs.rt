@@ -1,8 +1,11 @@
 // Runs of a simulator from its start to its end, and what is told of them.
 
-ghost use Rattle.std.specs.Prelude.{List, []};
+ghost use Rattle.std.specs.Prelude.{◌≡◌, ◌≤◌, List, []};
+ghost use Rattle.pz_classes_openings.specs.OpeningRules.{Opens};
+ghost use Rattle.pz_rules.specs.declared.limits.Edition.TheVariants.{Two};
 ghost use Rattle.pz_rules.specs.Settings.{Setting};
-ghost use Rattle.pz_term.specs.Simulations.{Starts};
+ghost use Rattle.pz_rules.specs.Clocks.{most_actions};
+ghost use Rattle.pz_term.specs.Simulations.{Starts, model_in, limits_in};
 ghost use Rattle.pz_run_playing.specs.Policies.{resolver_of, policy_of};
 ghost use Rattle.pz_watch.specs.Files.{NamedFormula};
 ghost use Rattle.pz_watch.specs.devices.Standing.{StandForEach};
@@ -41,7 +44,10 @@ pub fn play_trace<S: Simulator, L: Ledger, W: Sink>(
     steps: &mut Steps<L>,
     out: &mut W,
 ) -> Result<Finale, Halt>
-    requires { (setting : Setting) × Starts setting (S.simulation sim.old) }
+    requires starts { (setting : Setting) × Starts setting (S.simulation sim.old) }
+    requires opens { (limits_in (S.simulation sim.old)).edition ≡ Two →
+        Opens (model_in (S.simulation sim.old)) }
+    requires few { limits.steps ≤ most_actions }
     ensures { (setting : Setting) → Starts setting (S.simulation sim.old) →
         Plays setting (policy_of (resolver_of choice) limits) trace (S.simulation sim.new)
         (W.state out.old) (W.state out.new) result }
@@ -68,7 +74,10 @@ pub fn play_summary<S: Simulator, L: Ledger, W: Sink>(
     steps: &mut Steps<L>,
     out: &mut W,
 ) -> Result<Finale, Halt>
-    requires { (setting : Setting) × Starts setting (S.simulation sim.old) }
+    requires starts { (setting : Setting) × Starts setting (S.simulation sim.old) }
+    requires opens { (limits_in (S.simulation sim.old)).edition ≡ Two →
+        Opens (model_in (S.simulation sim.old)) }
+    requires few { limits.steps ≤ most_actions }
     ensures { (setting : Setting) → Starts setting (S.simulation sim.old) →
         Plays setting (policy_of (resolver_of choice) limits) summary (S.simulation sim.new)
         (W.state out.old) (W.state out.new) result }
@@ -96,7 +105,10 @@ pub fn play_menu<S: Simulator, L: Ledger, W: Sink>(
     steps: &mut Steps<L>,
     out: &mut W,
 ) -> Result<Finale, Halt>
-    requires { (setting : Setting) × Starts setting (S.simulation sim.old) }
+    requires starts { (setting : Setting) × Starts setting (S.simulation sim.old) }
+    requires opens { (limits_in (S.simulation sim.old)).edition ≡ Two →
+        Opens (model_in (S.simulation sim.old)) }
+    requires few { limits.steps ≤ most_actions }
     ensures { (setting : Setting) → Starts setting (S.simulation sim.old) →
         Plays setting (policy_of (resolver_of choice) limits) menu (S.simulation sim.new)
         (W.state out.old) (W.state out.new) result }
@@ -133,6 +145,9 @@ pub fn play_watched<S: Simulator, L: Ledger, W: Sink>(
     out: &mut W,
 ) -> Result<Judged, Halt>
     requires starts { (setting : Setting) × Starts setting (S.simulation sim.old) }
+    requires opens { (limits_in (S.simulation sim.old)).edition ≡ Two →
+        Opens (model_in (S.simulation sim.old)) }
+    requires few { limits.steps ≤ most_actions }
     requires stand { (ws : List NamedFormula) × StandForEach watches ws [] }
     ensures { (setting : Setting) (ws : List NamedFormula) →
         Starts setting (S.simulation sim.old) → StandForEach watches ws [] →

@@ -16,3 +16,4 @@ pub mod Outcomes
 pub mod Openings
 pub mod Written
 pub mod OneTold
+pub mod Rooms

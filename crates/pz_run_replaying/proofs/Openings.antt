@@ -27,6 +27,9 @@ use Rattle.pz_run_replaying.proofs.Goings.{answers_memory, answers_cut, answers_
 use Rattle.pz_run_replaying.proofs.Looping.{AnswersAll}
 use Rattle.pz_run_replaying.proofs.Outcomes.{SomeReplay, some_replay}
 
+pub starts_in : (setting : Setting) (s : Simulation) → Starts setting s → Starts (setting_in s) s
+starts_in setting _ (starts c is) = starts c is
+
 pub ready_there : Known → (setting : Setting) (s : Simulation) → Starts setting s → IsSound (model_in s) → IsReady s
 ready_there known setting _ (starts c is) sound =
     let fits = known.start_fits setting c sound is in

@@ -1,9 +1,10 @@
 // How a simulator goes on as a line of a trace tells.
 
-ghost use Rattle.std.specs.Prelude.{◌≡◌, OnOk, IsOkUnless};
+ghost use Rattle.std.specs.Prelude.{◌≡◌, ◌<◌, ◌+◌, ◌^◌, ℕ, suc, OnOk, IsOkUnless};
 ghost use Rattle.std.specs.Result.{result_err};
 ghost use Rattle.pz_io.specs.Writing.{Wrote};
-ghost use Rattle.pz_term.specs.Simulations.{IsMomentOf, Chooses, Passes, setting_in};
+ghost use Rattle.pz_term.specs.Simulations.{IsMomentOf, Chooses, Passes, setting_in, clock_in};
+ghost use Rattle.pz_term.specs.devices.Room.{HasRoomFor};
 ghost use Rattle.pz_run_replaying.specs.devices.Judging.{MayMove, Moves};
 
 use crate::judging::Move;
@@ -36,8 +37,11 @@ fn act<S: Simulator, L: Ledger>(
 
 // Lets so much time pass, which can.
 fn wait<S: Simulator, L: Ledger>(sim: &mut S, time: u128, steps: &mut Steps<L>) -> Result<(), Halt>
-    requires { MayMove (S.simulation sim.old) (Move.Wait time) }
+    requires may { MayMove (S.simulation sim.old) (Move.Wait time) }
+    requires low { clock_in (S.simulation sim.old) < 2 ^ 127 }
     ensures passes { OnOk result (Passes (S.simulation sim.old) (S.simulation sim.new)) }
+    ensures short { OnOk result (clock_in (S.simulation sim.new) <
+        clock_in (S.simulation sim.old) + 2 ^ 64) }
     ensures setting { setting_in (S.simulation sim.new) ≡ setting_in (S.simulation sim.old) }
     ensures memory { IsOkUnless result Halt.NoMemory }
 {
@@ -59,8 +63,11 @@ pub(crate) fn go<S: Simulator, L: Ledger, W: Sink>(
     steps: &mut Steps<L>,
     out: &mut W,
 ) -> Result<(), Halt>
-    requires { MayMove (S.simulation sim.old) step }
+    requires may { MayMove (S.simulation sim.old) step }
+    requires room { HasRoomFor 0 (S.simulation sim.old) }
     ensures moves { OnOk result (Moves step (S.simulation sim.old) (S.simulation sim.new)) }
+    ensures room { (left : ℕ) → HasRoomFor (suc left) (S.simulation sim.old) →
+        OnOk result (HasRoomFor left (S.simulation sim.new)) }
     ensures setting { setting_in (S.simulation sim.new) ≡ setting_in (S.simulation sim.old) }
     ensures wrote { Wrote (W.state out.old) (W.state out.new) line.now (result_err result) }
 {

@@ -1,9 +1,13 @@
 // A trace, line by line.
 
-ghost use Rattle.std.specs.Prelude.{◌≡◌, ◌<◌, ◌+◌, ◌^◌, ℕ, suc, List, [], length, IfOk};
+ghost use Rattle.std.specs.Prelude.{◌≡◌, ◌≤◌, ◌<◌, ◌+◌, ◌^◌, ℕ, suc, List, [], length, IfOk};
+ghost use Rattle.pz_classes_openings.specs.OpeningRules.{Opens};
+ghost use Rattle.pz_rules.specs.declared.limits.Edition.TheVariants.{Two};
 ghost use Rattle.pz_rules.specs.Settings.{Setting};
+ghost use Rattle.pz_rules.specs.Clocks.{most_actions};
 ghost use Rattle.pz_trace.specs.TraceText.{trace_header};
-ghost use Rattle.pz_term.specs.Simulations.{Starts, setting_in};
+ghost use Rattle.pz_term.specs.Simulations.{Starts, setting_in, model_in, limits_in};
+ghost use Rattle.pz_term.specs.devices.Room.{HasRoomFor};
 ghost use Rattle.pz_run_replaying.specs.Replays.{TellsLines, IsReplayed};
 ghost use Rattle.pz_run_replaying.specs.devices.Readiness.{IsReady, stage_of};
 ghost use Rattle.pz_run_replaying.specs.devices.Progress.{Progress, Answers};
@@ -30,6 +34,7 @@ fn follow<S: Simulator, L: Ledger, W: Sink>(
     out: &mut W,
 ) -> Result<Replayed, Halt>
     requires ready { IsReady (S.simulation sim.old) }
+    requires room { HasRoomFor (length trace.now) (S.simulation sim.old) }
     requires short { first + length trace.now < 2 ^ 64 }
     ensures { (whole : List ℕ) (lines : List (List ℕ)) →
         TellsLines (setting_in (S.simulation sim.old)) →
@@ -72,7 +77,10 @@ fn replay_lines<S: Simulator, L: Ledger, W: Sink>(
     steps: &mut Steps<L>,
     out: &mut W,
 ) -> Result<Replayed, Halt>
-    requires { (setting : Setting) × Starts setting (S.simulation sim.old) }
+    requires starts { (setting : Setting) × Starts setting (S.simulation sim.old) }
+    requires opens { (limits_in (S.simulation sim.old)).edition ≡ Two →
+        Opens (model_in (S.simulation sim.old)) }
+    requires few { length trace.now ≤ most_actions }
     ensures { (setting : Setting) → Starts setting (S.simulation sim.old) → TellsLines setting →
         Answers setting trace.now [] (W.state out.old) (W.state out.new)
         (S.simulation sim.new) result }
@@ -107,7 +115,10 @@ pub fn replay<S: Simulator, L: Ledger, W: Sink>(
     steps: &mut Steps<L>,
     out: &mut W,
 ) -> Result<Replayed, Halt>
-    requires { (setting : Setting) × Starts setting (S.simulation sim.old) }
+    requires starts { (setting : Setting) × Starts setting (S.simulation sim.old) }
+    requires opens { (limits_in (S.simulation sim.old)).edition ≡ Two →
+        Opens (model_in (S.simulation sim.old)) }
+    requires few { length trace.now ≤ most_actions }
     ensures { (setting : Setting) → Starts setting (S.simulation sim.old) → TellsLines setting →
         IsReplayed setting trace.now (S.simulation sim.new) (W.state out.old)
         (W.state out.new) result }

@@ -23,7 +23,7 @@ use Rattle.pz_term_steps.specs.Stepping.{reached}
 use Rattle.pz_term.specs.declared.standing.Standing.{Standing}
 use Rattle.pz_term.specs.declared.standing.Standing.TheVariants as standing
 use Rattle.pz_term.specs.Simulations as simulations
-use Rattle.pz_term.specs.Simulations.{Simulation, stands, IsMomentOf, Starts, Chooses, Passes}
+use Rattle.pz_term.specs.Simulations.{Simulation, stands, IsMomentOf, Starts, Chooses, Passes, clock_in}
 use Rattle.pz_term.specs.Plains.{simulation_at}
 use Rattle.pz_term.specs.devices.Holding.{IsOutlook, Holds}
 use Rattle.pz_term.proofs.Kept.{is_moment, whole_at, count_shown, offers_shown, choice_shown}
@@ -95,3 +95,7 @@ time_passes setting clock ps qs s d new one h is passes new_is =
     subst (λ (old : Simulation). Passes old new) (sym (whole_at setting clock ps s (Time d) one tt is h))
     (subst (λ (y : Simulation). Passes (stands setting (config_of clock ps) whole) y) (sym new_is)
     (simulations.passes setting (config_of clock ps) (config_of (clock + d) qs) d (is_moment setting clock ps s (Time d) one tt is h) passes))
+
+-- where time may pass, the clock is that of the configuration
+pub clock_there : (setting : Setting) (clock : ℕ) (ps : List Process) (s : Standing) (d : ℕ) → OneMoment → ∥ Holds setting clock ps s ∥₁ → IsMomentOf (simulation_at setting clock ps s) (Time d) → clock_in (simulation_at setting clock ps s) ≡ clock
+clock_there setting clock ps s d one h is = ap (λ (x : Simulation). clock_in x) (whole_at setting clock ps s (Time d) one tt is h)

@@ -1,6 +1,7 @@
-// Laws of simulators, the contract of a function that does nothing.
+// Laws of simulators, each the contract of a function that does nothing.
 
 ghost use Rattle.pz_term.specs.Laws.{OneMomentOf, OffersAreThere, OffersAreCounted, OffersAreNumbered, OffersAreDerived, OneOfferOf};
+ghost use Rattle.pz_term.specs.devices.Room.{StartsWithRoom, ChoicesTakeRoom, PassingsTakeNoRoom, RoomMeansLow, LessRoomToo};
 
 /// A simulator has no more than one moment. Where that counts offers they are there, so many; each has its
 /// number, which tells it, and is one by the rules, in the configuration at which the simulator stands.
@@ -14,4 +15,17 @@ pub fn simulators_show_one_moment()
 {
     pz_rules::laws::one_moment();
     pz_rules::laws::one_list_of_offers();
+}
+
+/// Room for as many actions as a run has is there at the start, an action takes the room of one, a passing
+/// that is short takes none, and where there is room and time may pass the clock is below 2^127, so that
+/// `pass` may be called.
+pub fn room_is_left()
+    ensures start { StartsWithRoom }
+    ensures choice { ChoicesTakeRoom }
+    ensures passing { PassingsTakeNoRoom }
+    ensures low { RoomMeansLow }
+    ensures less { LessRoomToo }
+{
+    pz_rules::laws::room_is_left();
 }

@@ -12,10 +12,12 @@ ghost use Rattle.pz_term.specs.devices.Holding.{Holds};
 
 use crate::copying::copy_actions;
 use crate::refusal::{ChooseError, PassError};
+use crate::showing::{shown_at_start, shown_in};
 use crate::standing::Standing;
 use crate::vector::{elapse_at, look_at, step_at};
 use pz_bind::Net;
 use pz_classes::Checked;
+use pz_copy::Parcel;
 use pz_offer::Trouble;
 use pz_rules::{Action, Limits, Moment};
 use pz_term_processes::{Process, Started, start};
@@ -57,10 +59,11 @@ impl Drop for Plain {
 }
 
 impl Plain {
-    ghost use Rattle.std.specs.Prelude.{ℕ};
+    ghost use Rattle.std.specs.Prelude.{◌+◌, ◌^◌, ℕ};
     ghost use Rattle.pz_classes_openings.specs.OpeningRules.{Opens};
-    ghost use Rattle.pz_term.specs.Simulations.{Starts, IsMomentOf, AreOffersOf, Chooses, Passes, IsBroken, ClockIs, setting_in, model_in, limits_in, stands};
+    ghost use Rattle.pz_term.specs.Simulations.{Starts, IsMomentOf, AreOffersOf, Chooses, Passes, IsBroken, ClockIs, setting_in, model_in, limits_in, clock_in, stands};
     ghost use Rattle.pz_term.specs.Refusals.{OnNoSuchOffer, OnChooseNotNow, OnChooseRefused, OnChooseNoMemory, NoActions, OnPassNotNow, OnPassRefused, OnPassNoMemory, NoTime};
+    ghost use Rattle.pz_term.specs.Shown.{IsShown, CanShow};
     ghost use Rattle.pz_term.specs.Plains.{simulation_of, model_of};
 
     /// The simulator of a model before its first step, whose net this is. The only error is want of
@@ -222,6 +225,25 @@ impl Plain {
         copy_actions(self.alloc, self.offers())
     }
 
+    /// The value of a variable of a process at the moment, as a parcel with all objects to which it
+    /// leads; nil where the process has no such variable. The only error is want of memory, and it breaks
+    /// nothing.
+    ///
+    /// Memory was never wanting, and the process is one of the net.
+    pub fn shown(&self, process: u32, variable: u32) -> Result<Parcel, AllocError>
+        requires { CanShow (simulation_of self.now) process }
+        ensures { IfOk result (IsShown (simulation_of self.now) process variable) }
+    {
+        match &self.standing {
+            Standing::Whole(_) | Standing::Stopped(_) => {
+                let process = &self.processes[process as usize];
+                shown_in(self.alloc, &process.state, variable)
+            }
+            Standing::High(_) => { shown_at_start(self.alloc, self.net.values(process), variable) }
+            Standing::Broken => unreachable!(),
+        }
+    }
+
     /// Chooses the offer of this number, from 0: the action takes place, or the moment becomes
     /// `Stopped` where it ends in a trouble. Takes the time of a moment.
     ///
@@ -320,15 +342,19 @@ impl Plain {
         Ok(())
     }
 
-    /// Lets time pass, by the least that is left of an active delay. Takes the time of a moment.
+    /// Lets time pass, by the least that is left of an active delay, which is less than 2^64 clock units.
+    /// Takes the time of a moment. The clock is below 2^127.
     ///
     /// # Errors
     ///
     /// But for `NoMemory`, `NotNow` comes exactly where the moment is not `Time`; then nothing has
-    /// changed. After `NoMemory` the simulator is broken. A clock past 2^128 - 1, to which no machine
-    /// comes, is taken for want of memory.
+    /// changed. After `NoMemory` the simulator is broken. A delay of 2^64 clock units or more, which no
+    /// Integer of the program says, is taken for want of memory.
     pub fn pass(&mut self) -> Result<(), PassError>
+        requires low { clock_in (simulation_of self.old) < 2 ^ 127 }
         ensures ok { OnOk result (Passes (simulation_of self.old) (simulation_of self.new)) }
+        ensures short { OnOk result (clock_in (simulation_of self.new) <
+            clock_in (simulation_of self.old) + 2 ^ 64) }
         ensures not_now { IfErr result (OnPassNotNow
             (λ moment. IsMomentOf (simulation_of self.old) moment × NoTime moment)) }
         ensures refused { IfErr result (OnPassRefused (self.new ≡ self.old)) }
@@ -348,16 +374,20 @@ impl Plain {
     // Lets so much time pass, which can.
     fn wait(&mut self, time: u128) -> Result<(), AllocError>
         requires there { IsMomentOf (simulation_of self.old) (Moment.Time time) }
+        requires low { clock_in (simulation_of self.old) < 2 ^ 127 }
         ensures ok { OnOk result (Passes (simulation_of self.old) (simulation_of self.new)) }
+        ensures short { OnOk result (clock_in (simulation_of self.new) <
+            clock_in (simulation_of self.old) + 2 ^ 64) }
         ensures broken { OnErr result (IsBroken (simulation_of self.new)) }
         ensures setting { setting_in (simulation_of self.new) ≡ setting_in
             (simulation_of self.old) }
     {
         pz_rules::laws::one_moment();
         self.standing = Standing::Broken;
-        let Some(clock) = self.clock.checked_add(time) else {
+        // No delay is so long. That is not proved: what is left of a delay is kept as a number of 128 bits.
+        if u128::from(u64::MAX) < time {
             return Err(AllocError);
-        };
+        }
         elapse_at(
             self.alloc,
             &self.checked,
@@ -367,7 +397,7 @@ impl Plain {
             &mut self.processes,
             time,
         )?;
-        self.clock = clock;
+        self.clock += time;
         self.look_on()
     }
 }

@@ -1,12 +1,14 @@
-ghost use Rattle.std.specs.Prelude.{◌≡◌, ◌≤◌, ◌<◌, ℕ, IfOk, OnOk, IfErr};
+ghost use Rattle.std.specs.Prelude.{◌≡◌, ◌≤◌, ◌<◌, ◌+◌, ◌^◌, ℕ, IfOk, OnOk, IfErr};
 ghost use Rattle.pz_classes.specs.CheckedView.{checked_model};
 ghost use Rattle.pz_bind.specs.devices.Nets.{IsNet};
-ghost use Rattle.pz_term.specs.Simulations.{Simulation, IsMomentOf, IsOffer, Chooses, Passes, IsBroken, ClockIs, setting_in, model_in, limits_in};
+ghost use Rattle.pz_term.specs.Simulations.{Simulation, IsMomentOf, IsOffer, Chooses, Passes, IsBroken, ClockIs, setting_in, model_in, limits_in, clock_in};
+ghost use Rattle.pz_term.specs.Shown.{IsShown, CanShow};
 ghost use Rattle.pz_term.specs.Refusals.{OnNoSuchOffer, OnChooseNotNow, OnChooseRefused, OnChooseNoMemory, NoActions, OnPassNotNow, OnPassRefused, OnPassNoMemory, NoTime};
 
 use crate::refusal::{ChooseError, PassError};
 use pz_bind::Net;
 use pz_classes::Checked;
+use pz_copy::Parcel;
 use pz_nodes::Steps;
 use pz_rules::{Action, Limits, Moment};
 use std::alloc::AllocError;
@@ -46,6 +48,15 @@ pub trait Simulator {
         requires { (n : ℕ) × IsMomentOf (simulation self.now) (Moment.Actions n) × (k < n) }
         ensures { IfOk result (IsOffer (simulation self.now) k) };
 
+    /// The value of a variable of a process at the moment, as a parcel with all objects to which it
+    /// leads; nil where the process has no such variable. The only error is want of memory, and it breaks
+    /// nothing.
+    ///
+    /// Memory was never wanting, and the process is one of the net.
+    fn shown(&self, process: u32, variable: u32) -> Result<Parcel, AllocError>
+        requires { CanShow (simulation self.now) process }
+        ensures { IfOk result (IsShown (simulation self.now) process variable) };
+
     /// Chooses the offer of this number, from 0: the action takes place, or the moment becomes
     /// `Stopped` where it ends in a trouble.
     ///
@@ -65,15 +76,18 @@ pub trait Simulator {
         ensures broken { IfErr result (OnChooseNoMemory (IsBroken (simulation self.new))) }
         ensures setting { setting_in (simulation self.new) ≡ setting_in (simulation self.old) };
 
-    /// Lets time pass, by the least that is left of an active delay.
+    /// Lets time pass, by the least that is left of an active delay, which is less than 2^64 clock units.
+    /// The clock is below 2^127.
     ///
     /// # Errors
     ///
     /// But for `NoMemory`, `NotNow` comes exactly where the moment is not `Time`; then nothing has
-    /// changed. After `NoMemory` the simulator is broken. A clock past 2^128 - 1, to which no machine
-    /// comes, is taken for want of memory.
+    /// changed. After `NoMemory` the simulator is broken.
     fn pass<L: Ledger>(&mut self, steps: &mut Steps<L>) -> Result<(), PassError>
+        requires low { clock_in (simulation self.old) < 2 ^ 127 }
         ensures ok { OnOk result (Passes (simulation self.old) (simulation self.new)) }
+        ensures short { OnOk result (clock_in (simulation self.new) <
+            clock_in (simulation self.old) + 2 ^ 64) }
         ensures not_now { IfErr result (OnPassNotNow
             (λ moment. IsMomentOf (simulation self.old) moment × NoTime moment)) }
         ensures refused { IfErr result (OnPassRefused (self.new ≡ self.old)) }

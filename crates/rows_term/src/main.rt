@@ -2,7 +2,7 @@
 //! the clock, the moment and the offers. Nothing is promised here: the output is the test.
 //!
 //! A line `MODEL STEP ..` of the input names a file and steps: a number chooses the offer of this number,
-//! and `pass` lets time pass. The word `second` before it asks for the second edition of the rules, in
+//! `pass` lets time pass, and `values` shows what variables hold. The word `second` before it asks for the second edition of the rules, in
 //! which a call without inputs and results is no action. With the arguments `ring STATIONS EVENTS` it plays so many events of a ring,
 //! of the offers always the first.
 #![tactic(auto)]
@@ -11,6 +11,7 @@ mod models;
 mod offers;
 mod plays;
 mod rows;
+mod values;
 
 use std::{env, io};
 

@@ -1,6 +1,10 @@
 //! Steps of a simulator.
 
+ghost use Rattle.std.specs.Prelude.{◌≡◌, ◌<◌, ◌^◌, true};
+ghost use Rattle.pz_term.specs.Simulations.{clock_in};
+
 use crate::offers::{show_moment, show_offers};
+use crate::values::show_values;
 use pz_term::{Moment, Simulator, Steps};
 use std::io;
 use std::sync::ledger::Ledger;
@@ -27,11 +31,21 @@ fn choose<S: Simulator, L: Ledger>(
     println!(rt; "choose {number}: {answer:?}")
 }
 
+// Whether the clock is low enough for time to pass.
+fn is_low<S: Simulator>(sim: &S) -> bool
+    ensures { result ≡ true → clock_in (S.simulation sim.now) < 2 ^ 127 }
+{
+    sim.clock() <= u128::MAX / 2
+}
+
 fn pass<S: Simulator, L: Ledger>(
     rt: &HostRuntime,
     sim: &mut S,
     steps: &mut Steps<L>,
 ) -> io::Result<()> {
+    if !is_low(sim) {
+        return println!(rt; "pass: the clock is too high");
+    }
     let answer = sim.pass(steps);
     println!(rt; "pass: {answer:?}")
 }
@@ -50,6 +64,7 @@ fn take_step<S: Simulator, L: Ledger>(
     match word {
         "pass" => pass(rt, sim, steps),
         "copies" => show_copies(rt, sim),
+        "values" => show_values(rt, sim),
         _ => choose(rt, sim, word, steps),
     }
 }
@@ -82,7 +97,9 @@ fn go_on<S: Simulator, L: Ledger>(sim: &mut S, steps: &mut Steps<L>) -> bool {
     match sim.moment() {
         Moment::Actions(_) => sim.choose(0, steps).is_ok(),
         Moment::Time(_) => {
-            let _passed = sim.pass(steps);
+            if is_low(sim) {
+                let _passed = sim.pass(steps);
+            }
             false
         }
         _ => false,

@@ -1,6 +1,8 @@
 -- What is known of the jobs that words ask for.
+use Rattle.std.specs.Prelude.{◌≤◌}
+use Rattle.pz_rules.specs.Clocks.{most_actions}
 use Rattle.pz_words.specs.declared.jobs.Job.{Job}
-use Rattle.pz_words.specs.declared.jobs.Job.TheVariants.{Make, Ring}
+use Rattle.pz_words.specs.declared.jobs.Job.TheVariants.{Run, Menu, Make, Ring, Watch}
 use Rattle.pz_words.specs.Jobs.{IsRingSize}
 
 -- a ring has no more stations than it may have
@@ -8,3 +10,11 @@ abbrev pub HasRingSize : Job → Type 0
 HasRingSize (Make n) = IsRingSize n
 HasRingSize (Ring n choice limits) = IsRingSize n
 HasRingSize job = Unit {0}
+
+-- a run takes no more actions than a run may take
+abbrev pub HasFewActions : Job → Type 0
+HasFewActions (Run model choice limits summary) = limits.steps ≤ most_actions
+HasFewActions (Menu model choice limits) = limits.steps ≤ most_actions
+HasFewActions (Ring n choice limits) = limits.steps ≤ most_actions
+HasFewActions (Watch model watches choice limits) = limits.steps ≤ most_actions
+HasFewActions job = Unit {0}

@@ -1,5 +1,5 @@
 -- A run on its way: what was told and counted of it, and what it still comes to.
-use Rattle.std.specs.Prelude.{◌≡◌, ◌≤◌, ℕ, ◌+◌, Bool, if◌then◌else◌, List, [], ◌++◌, Option, Some, None}
+use Rattle.std.specs.Prelude.{◌≡◌, ◌≤◌, ℕ, ◌+◌, ◌-◌, Bool, if◌then◌else◌, List, [], ◌++◌, Option, Some, None}
 use Rattle.pz_io.specs.Outside.{SinkState}
 use Rattle.pz_io.specs.declared.writing.Halt.{Halt}
 use Rattle.pz_io.specs.Writing.{Wrote}
@@ -7,6 +7,7 @@ use Rattle.pz_rules.specs.Settings.{Setting}
 use Rattle.pz_rules.specs.Runs.{Event, Ending}
 use Rattle.pz_rules.specs.ChosenRuns.{Policy}
 use Rattle.pz_term.specs.Simulations.{Simulation, stands, setting_in, model_in, clock_in}
+use Rattle.pz_term.specs.devices.Room.{HasRoomFor}
 use Rattle.pz_trace.specs.TraceText.{trace_header}
 use Rattle.pz_choice.specs.declared.chooser.Chooser.{Chooser}
 use Rattle.pz_choice.specs.Resolvers.{Resolver}
@@ -108,5 +109,6 @@ pub record BrokenOff (setting : Setting) (policy : Policy) (lines : Bool) (manne
 -- the same of a run that a chooser chooses, whoever that is, for whatever a listener hears
 pub record Course (limits : RunLimits) (begun : Chooser) (listening : Listener) (first : Simulation) (before : SinkState) (chooser : Chooser) (actions passes : ℕ) (at : Simulation) (listener : Listener) (now : SinkState) : Type 0 where
   pub gone : HasGone first passes at
+  pub room : HasRoomFor (limits.steps - actions) at
   pub stands_at : (r : Resolver) → Stands begun r 0 → Stands chooser r actions
   pub going : (r : Resolver) (manner : Manner) → Stands begun r 0 → HasHeard (model_in first) manner [] (clock_in first) listening → Going (policy_of r limits) manner first before actions passes at listener now

@@ -3,6 +3,7 @@ use Rattle.pz_rules.specs.Laws.{WiresAreKnown, OneMoment, EveryMoment, MomentsCo
 use Rattle.pz_rules.specs.devices.Ends.{PassingsEnd}
 use Rattle.pz_trace.specs.Laws.{OffersAreNamed, FaultsAreNamed, HighsAreNamed, StopsAreNamed}
 use Rattle.pz_term.specs.Laws.{OneMomentOf, OffersAreThere, OffersAreCounted, OffersAreNumbered, OffersAreDerived, OneOfferOf}
+use Rattle.pz_term.specs.devices.Room.{StartsWithRoom, ChoicesTakeRoom, PassingsTakeNoRoom, RoomMeansLow, LessRoomToo}
 use Rattle.pz_io.specs.Laws.{NothingIsWritten, PiecesJoin, HaltsBeforeMore, MemoryMayBeWanting}
 use Rattle.pz_watch_points.specs.Laws.{NamedHaveProcesses}
 
@@ -26,6 +27,11 @@ pub record Known : Type 0 where
   pub offers_numbered : OffersAreNumbered
   pub offers_derived : OffersAreDerived
   pub one_offer : OneOfferOf
+  pub room_at_start : StartsWithRoom
+  pub choices_take : ChoicesTakeRoom
+  pub passings_take : PassingsTakeNoRoom
+  pub room_is_low : RoomMeansLow
+  pub less_room : LessRoomToo
   pub offers_named : OffersAreNamed
   pub faults_named : FaultsAreNamed
   pub highs_named : HighsAreNamed

@@ -2,6 +2,7 @@
 use Rattle.pz_rules.specs.Laws.{OneListOfOffers, WiresAreKnown, OneMoment, EveryMoment, MomentsCountOffers, EveryPassing, OneNext, OnePassing, StaysWhole, StartFits, StaysFit, EveryNext}
 use Rattle.pz_trace.specs.Laws.{HeadersAreLines, EndLinesAreLines, OneFirstLine, ActionLinesDiffer, StopIsNoAction, StopIsNoPassing, OneHeading, EveryHeading, ActionsHaveHeadings, OffersAreNamed, FaultsAreNamed, HighsAreNamed, StopsAreNamed}
 use Rattle.pz_term.specs.Laws.{OneMomentOf, OffersAreDerived, OneOfferOf}
+use Rattle.pz_term.specs.devices.Room.{StartsWithRoom, ChoicesTakeRoom, PassingsTakeNoRoom, RoomMeansLow, LessRoomToo}
 use Rattle.pz_io.specs.Laws.{NothingIsWritten, PiecesJoin, HaltsBeforeMore, MemoryMayBeWanting}
 
 pub record Known : Type 0 where
@@ -20,6 +21,11 @@ pub record Known : Type 0 where
   pub one_moment_of : OneMomentOf
   pub offers_derived : OffersAreDerived
   pub one_offer : OneOfferOf
+  pub room_at_start : StartsWithRoom
+  pub choices_take : ChoicesTakeRoom
+  pub passings_take : PassingsTakeNoRoom
+  pub room_is_low : RoomMeansLow
+  pub less_room : LessRoomToo
   pub offers_named : OffersAreNamed
   pub faults_named : FaultsAreNamed
   pub highs_named : HighsAreNamed

@@ -9,7 +9,7 @@ loop-step-init g c =
 pub take-requires : goal.take-requires
 take-requires g c =
     next_can c.args.steps.now c.loop-step.step-index (Pick 0) (g.E.Simulator.simulation c.args.engine.now) (g.E.Simulator.simulation c.loop-step.engine)
-    c.loop-step-test.true c.loop-step.invariant
+    c.loop-step-test.true c.loop-step.invariant c.requires.low
 
 pub loop-step-preserved : goal.loop-step-preserved
 loop-step-preserved g c =

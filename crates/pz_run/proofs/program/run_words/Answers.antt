@@ -2,13 +2,18 @@ use Rattle.std.proofs.Common.{Some, None, refl, subst, map, string_bytes}
 use Rattle.pz_words.specs.Jobs.{IsAsked}
 use Rattle.pz_run.specs.Files.{files_of}
 use Rattle.pz_run.specs.declared.status.Status.TheVariants.{NoMemory}
-use Rattle.pz_run.proofs.Asked.{keeps_asked, found_sized}
+use Rattle.pz_run.proofs.Asked.{keeps_asked, found_sized, found_few}
 use Rattle.pz_run.proofs.Keeps.{keeps_usage, keeps_nothing, not_opened, opened_never}
 use Rattle.pz_run.proofs.program.run_words.Goals as goal
 
-pub do_job-requires : goal.do_job-requires
-do_job-requires g c =
+pub do_job-requires-clause-size : goal.do_job-requires-clause-size
+do_job-requires-clause-size g c =
     found_sized (map string_bytes c.args.words.now) c.in-Ok-Some.job
+    (subst (IsAsked (map string_bytes c.args.words.now)) c.in-Ok-Some.field-0-is c.in-Ok-Some.ensures.reads)
+
+pub do_job-requires-clause-few : goal.do_job-requires-clause-few
+do_job-requires-clause-few g c =
+    found_few (map string_bytes c.args.words.now) c.in-Ok-Some.job
     (subst (IsAsked (map string_bytes c.args.words.now)) c.in-Ok-Some.field-0-is c.in-Ok-Some.ensures.reads)
 
 pub returns-in-Ok-Some : goal.returns-in-Ok-Some

@@ -1,4 +1,4 @@
-use Rattle.std.proofs.Common.{ℕ, Err, ap, refl}
+use Rattle.std.proofs.Common.{ℕ, List, length, Err, ap, refl, arith}
 use Rattle.std.specs.Prelude.{Vec}
 use Rattle.std.specs.declared.alloc.Global.{Global}
 use Rattle.pz_classes.specs.CheckedView.{checked_model}
@@ -7,6 +7,11 @@ use Rattle.pz_run.specs.Output.{PrintsReplay}
 use Rattle.pz_run.specs.devices.Reading.{whole}
 use Rattle.pz_run.proofs.Unread.{not_fault, unread}
 use Rattle.pz_run.proofs.replaying.replay_model.Goals as goal
+
+pub replay_trace-requires-clause-few : goal.replay_trace-requires-clause-few
+replay_trace-requires-clause-few g c =
+    let same = ap (λ (bytes : List ℕ). length bytes) c.as_slice.ensures.value in
+    omega (arith, same, c.in-Ok.ensures.limit)
 
 pub returns-in-Ok : goal.returns-in-Ok
 returns-in-Ok g c = record {

@@ -10,7 +10,7 @@ pub replay_form-requires-clause-asked : goal.replay_form-requires-clause-asked
 replay_form-requires-clause-asked g c = λ second. absurd (second (is_header c.form_told-told.result c.args.trace.now c.form_told-told.ensures (sym c.is_first.ensures ∙ c.if-is_first.true)))
 
 pub replay_form-requires-clause-tells : goal.replay_form-requires-clause-tells
-replay_form-requires-clause-tells g c = c.requires One
+replay_form-requires-clause-tells g c = c.requires.tells One
 
 pub replay_second-requires-clause-second : goal.replay_second-requires-clause-second
 replay_second-requires-clause-second g c =

@@ -2,8 +2,8 @@ use Rattle.pz_classes.specs.CheckedView.{checked_model}
 use Rattle.pz_run.proofs.OfTexts.{run_said, refusal_said}
 use Rattle.pz_run.proofs.texts.run_text.Goals as goal
 
-pub run_model-requires : goal.run_model-requires
-run_model-requires g c = c.in-Ok.ensures.found.opens
+pub run_model-requires-clause-opens : goal.run_model-requires-clause-opens
+run_model-requires-clause-opens g c = c.in-Ok.ensures.found.opens
 
 pub returns-in-Ok : goal.returns-in-Ok
 returns-in-Ok g c =

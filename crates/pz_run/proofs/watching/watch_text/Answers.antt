@@ -5,8 +5,8 @@ use Rattle.pz_run.specs.devices.Judging.{refuses, goes_on}
 use Rattle.pz_run.proofs.Judgings.{of_reading, closed_said}
 use Rattle.pz_run.proofs.watching.watch_text.Goals as goal
 
-pub watch_model-requires : goal.watch_model-requires
-watch_model-requires g c = c.in-Ok.ensures.found.opens
+pub watch_model-requires-clause-opens : goal.watch_model-requires-clause-opens
+watch_model-requires-clause-opens g c = c.in-Ok.ensures.found.opens
 
 pub returns-in-Ok : goal.returns-in-Ok
 returns-in-Ok g c =

@@ -11,6 +11,7 @@ passings-init g c =
       gone_none s c.args.passes c.requires.ready c.requires.within,
       λ manner past heard. passing_none c.rules_are_known.ensures c.args.until manner past s (g.W.Sink.state c.args.out.now) c.args.passes c.args.listener.now heard,
       c.clock-clock.ensures,
+      λ left room. room,
     )
 
 pub returns-then-is_beyond-clause-held : goal.returns-then-is_beyond-clause-held
@@ -19,6 +20,9 @@ returns-then-is_beyond-clause-held g c =
     let clock = clock_of_ready s c.passings.clock c.passings.invariant.0.ready c.passings.invariant.2 in
     held_now c.rules_are_known.ensures.one_moment_of c.args.until s c.in-Time.time c.in-Time.ensures
     (asked_there c.args.until s c.passings.clock c.in-Time.time c.is_beyond.result true clock c.is_beyond.ensures c.if-is_beyond.true)
+
+pub pass-requires-clause-low : goal.pass-requires-clause-low
+pass-requires-clause-low g c = c.rules_are_known.ensures.room_is_low 0 c.in-Time.time (g.S.Simulator.simulation c.passings.sim) (c.passings.invariant.3 0 c.requires.room) c.in-Time.ensures
 
 pub returns-in_err-pass-clause-cut : goal.returns-in_err-pass-clause-cut
 returns-in_err-pass-clause-cut g c =
@@ -58,4 +62,5 @@ passings-preserved g c =
           c.passings.all s c.passings.invariant.0 c.passings.listener (g.W.Sink.state c.passings.out) (c.passings.invariant.1 manner past heard)
           c.in-Time.time c.in-Time.ensures within t (g.W.Sink.state c.pass.new.out) c.pass.new.listener done.passes (record { wrote = done.wrote; heard = done.heard }),
       c.clock-clock-in-passings.ensures,
+      λ left room. c.rules_are_known.ensures.passings_take left s t (c.passings.invariant.3 left room) done.passes done.short,
     )

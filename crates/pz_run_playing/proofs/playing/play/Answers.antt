@@ -8,7 +8,9 @@ use Rattle.pz_term.specs.Simulations.{setting_in, model_in, clock_in}
 use Rattle.pz_run_playing.specs.Policies.{resolver_of, policy_of}
 use Rattle.pz_run_playing.specs.devices.Hearing.{Manner, saying, tells_lines, Hears, HasHeard}
 use Rattle.pz_run_playing.specs.devices.Going.{told, CutShort, Ended, PlayedThrough, BrokenOff}
+use Rattle.pz_syntax.specs.ModelText.{HasFewMarks}
 use Rattle.pz_classes.specs.Soundness.{IsSound}
+use Rattle.pz_rules.specs.Clocks.{most_actions}
 use Rattle.pz_run_playing.proofs.Heard.{heard_none}
 use Rattle.pz_run_playing.proofs.WholeRuns.{start_in, ready_at, header_cut, lines_cut, lines_ended}
 use Rattle.pz_run_playing.proofs.Written.{err_is}
@@ -18,7 +20,7 @@ pub returns-in_err-tell_header-clause-broken : goal.returns-in_err-tell_header-c
 returns-in_err-tell_header-clause-broken g c =
     let known = c.rules_are_known.ensures in
     let s = g.S.Simulator.simulation c.args.sim.now in
-    let start = start_in (setting_in s) s c.requires in
+    let start = start_in (setting_in s) s c.requires.starts in
     let sound = subst IsSound (c.model-model.ensures.is ∙ c.checked.ensures) c.model-model.ensures.sound in
     let before = g.W.Sink.state c.args.out.now in
     let mid = g.W.Sink.state c.tell_header.new.out in
@@ -28,11 +30,18 @@ returns-in_err-tell_header-clause-broken g c =
     header_cut known (policy_of (resolver_of c.args.choice) c.args.limits) (tells_lines c.args.listener.now) manner s start before mid
     (ready_at known (setting_in s) s sound start) c.in_err-tell_header.field-0.0 wrote)
 
-pub play_on-played-requires : goal.play_on-played-requires
-play_on-played-requires g c =
+pub play_on-played-requires-clause-ready : goal.play_on-played-requires-clause-ready
+play_on-played-requires-clause-ready g c =
     let s = g.S.Simulator.simulation c.args.sim.now in
     let sound = subst IsSound (c.model-model.ensures.is ∙ c.checked.ensures) c.model-model.ensures.sound in
-    ready_at c.rules_are_known.ensures (setting_in s) s sound (start_in (setting_in s) s c.requires)
+    ready_at c.rules_are_known.ensures (setting_in s) s sound (start_in (setting_in s) s c.requires.starts)
+
+pub play_on-played-requires-clause-room : goal.play_on-played-requires-clause-room
+play_on-played-requires-clause-room g c =
+    let s = g.S.Simulator.simulation c.args.sim.now in
+    let same = c.model-model.ensures.is ∙ c.checked.ensures in
+    c.rules_are_known.ensures.less_room most_actions c.args.limits.steps s c.requires.few
+    (c.rules_are_known.ensures.room_at_start (setting_in s) s (subst IsSound same c.model-model.ensures.sound) (subst HasFewMarks same c.model-model.ensures.few) c.requires.opens c.requires.starts)
 
 pub returns-clause-through : goal.returns-clause-through
 returns-clause-through g c =
@@ -49,7 +58,7 @@ returns-clause-through g c =
     (λ played. (r : Resolver) (manner : Manner) → Stands c.chooser_of-chooser.result r 0 → HasHeard (model_in s) manner [] (clock_in s) listener → Ended (policy_of r c.args.limits) manner s t mid now later played)
     (λ played. (manner : Manner) → Hears (model_in s) manner [] listener → PlayedThrough (setting_in s) policy (tells_lines listener) manner t before now later played)
     (λ played ended manner hears.
-    lines_ended c.rules_are_known.ensures policy (tells_lines listener) manner s (start_in (setting_in s) s c.requires) before mid now wrote t later played
+    lines_ended c.rules_are_known.ensures policy (tells_lines listener) manner s (start_in (setting_in s) s c.requires.starts) before mid now wrote t later played
     (ended (resolver_of c.args.choice) manner c.chooser_of-chooser.ensures (heard_none (model_in s) manner (clock_in s) listener hears))) c.play_on-played.ensures.ended
 
 pub returns-clause-broken : goal.returns-clause-broken
@@ -65,5 +74,5 @@ returns-clause-broken g c =
     (λ halt. (r : Resolver) (manner : Manner) → Stands c.chooser_of-chooser.result r 0 → HasHeard (model_in s) manner [] (clock_in s) listener → CutShort (policy_of r c.args.limits) (saying (model_in s) manner) 0 [] s mid now halt)
     (λ halt. (manner : Manner) → Hears (model_in s) manner [] listener → BrokenOff (setting_in s) policy (tells_lines listener) manner before now halt)
     (λ halt cut manner hears.
-    lines_cut c.rules_are_known.ensures policy (tells_lines listener) manner s (start_in (setting_in s) s c.requires) before mid now wrote halt
+    lines_cut c.rules_are_known.ensures policy (tells_lines listener) manner s (start_in (setting_in s) s c.requires.starts) before mid now wrote halt
     (cut (resolver_of c.args.choice) manner c.chooser_of-chooser.ensures (heard_none (model_in s) manner (clock_in s) listener hears))) c.play_on-played.ensures.cut

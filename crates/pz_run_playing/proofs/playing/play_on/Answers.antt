@@ -1,20 +1,24 @@
-use Rattle.std.proofs.Common.{sym, subst, ap, ◌∙◌, refl, arith}
+use Rattle.std.proofs.Common.{◌+◌, ◌-◌, sym, subst, ap, ◌∙◌, refl, arith}
 use Rattle.pz_rules.specs.declared.moment.Moment.{Moment}
 use Rattle.pz_rules.specs.ChosenRuns.{decided}
 use Rattle.pz_term.specs.Simulations.{IsMomentOf, clock_in}
 use Rattle.pz_run_playing.specs.Policies.{policy_of}
 use Rattle.pz_run_playing.proofs.Simulated.{never_broken}
-use Rattle.pz_run_playing.proofs.Goings.{gone_none, gone_on, gone_chosen, going_none, going_passed, going_cut, going_acted, acting_cut, going_ended}
+use Rattle.pz_run_playing.proofs.Goings.{gone_none, gone_on, gone_chosen, room_of_one, room_of_all, going_none, going_passed, going_cut, going_acted, acting_cut, going_ended}
 use Rattle.pz_run_playing.proofs.Written.{err_is}
 use Rattle.pz_run_playing.proofs.playing.play_on.Goals as goal
 
 pub actions-init : goal.actions-init
 actions-init g c =
     let s = g.S.Simulator.simulation c.args.sim.now in record {
-      gone = gone_none s 0 c.requires (omega arith);
+      gone = gone_none s 0 c.requires.ready (omega arith);
+      room = room_of_all c.args.limits.steps s c.requires.room;
       stands_at = λ r begun. begun;
       going = λ r manner begun heard. going_none c.rules_are_known.ensures (policy_of r c.args.limits) manner s (g.W.Sink.state c.args.out.now) c.args.listener.now heard;
     }
+
+pub pass_time-requires-clause-room : goal.pass_time-requires-clause-room
+pass_time-requires-clause-room g c = c.rules_are_known.ensures.less_room (c.args.limits.steps - c.actions.actions) 0 (g.S.Simulator.simulation c.actions.sim) (omega arith) c.actions.invariant.room
 
 pub decide-requires-clause-known : goal.decide-requires-clause-known
 decide-requires-clause-known g c = never_broken (g.S.Simulator.simulation c.pass_time.new.sim) c.moment.result c.in_ok-passes.ensures.gone.ready c.moment.ensures
@@ -72,6 +76,9 @@ actions-preserved g c =
     let gone = gone_on s here t c.actions.passes c.in_ok-passes.passes c.actions.invariant.gone passed.gone in
     let done = c.in_ok-act-in-Take.ensures in record {
       gone = gone_chosen c.rules_are_known.ensures s t u c.in_ok-passes.passes c.in-Take.number gone done.chooses done.setting;
+      room =
+          c.rules_are_known.ensures.choices_take c.in-Take.number (c.args.limits.steps - (c.actions.actions + 1)) t u
+          (room_of_one c.args.limits.steps c.actions.actions t takes.more (passed.room (c.args.limits.steps - c.actions.actions) c.actions.invariant.room)) done.chooses;
       stands_at = λ r begun. c.in-Take.ensures.goes_on r (c.actions.invariant.stands_at r begun);
       going = λ r manner begun heard.
           let policy = policy_of r c.args.limits in

@@ -6,8 +6,8 @@ use Rattle.pz_run_playing.specs.Policies.{resolver_of, policy_of}
 use Rattle.pz_run_playing.proofs.WholeRuns.{at_its_start, plays_there, through_named, summary_broken, summary_cut, summary_told}
 use Rattle.pz_run_playing.proofs.runs.play_summary.Goals as goal
 
-pub play-played-requires : goal.play-played-requires
-play-played-requires g c = at_its_start c.requires.0 (g.S.Simulator.simulation c.args.sim.now) c.requires.1
+pub play-played-requires-clause-starts : goal.play-played-requires-clause-starts
+play-played-requires-clause-starts g c = at_its_start c.requires.starts.0 (g.S.Simulator.simulation c.args.sim.now) c.requires.starts.1
 
 pub returns-in_err-played : goal.returns-in_err-played
 returns-in_err-played g c = λ setting starts.

@@ -5,8 +5,8 @@ use Rattle.pz_run_playing.specs.devices.Hearing.{with_watches}
 use Rattle.pz_run_playing.proofs.WholeRuns.{at_its_start, through_named, watched_broken, watched_cut, watched_told, watched_there}
 use Rattle.pz_run_playing.proofs.runs.play_watched.Goals as goal
 
-pub play-played-requires : goal.play-played-requires
-play-played-requires g c = at_its_start c.requires.starts.0 (g.S.Simulator.simulation c.args.sim.now) c.requires.starts.1
+pub play-played-requires-clause-starts : goal.play-played-requires-clause-starts
+play-played-requires-clause-starts g c = at_its_start c.requires.starts.0 (g.S.Simulator.simulation c.args.sim.now) c.requires.starts.1
 
 pub returns-in_err-finale : goal.returns-in_err-finale
 returns-in_err-finale g c = λ setting ws starts stand.

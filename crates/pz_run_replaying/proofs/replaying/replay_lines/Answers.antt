@@ -1,12 +1,14 @@
-use Rattle.std.proofs.Common.{◌≡◌, ℕ, List, Some, None, ap, sym, subst, ◌∙◌, ◌++◌}
+use Rattle.std.proofs.Common.{◌≡◌, arith, length, ℕ, List, Some, None, ap, sym, subst, ◌∙◌, ◌++◌}
 use Rattle.pz_io.specs.Writing.{Wrote}
 use Rattle.pz_io.specs.declared.writing.Halt.TheVariants.{NoMemory}
 use Rattle.pz_trace.specs.TraceText.{trace_header}
 use Rattle.pz_term.specs.Simulations.{setting_in}
 use Rattle.pz_run_replaying.specs.devices.Fronts.{StartsWith}
+use Rattle.pz_syntax.specs.ModelText.{HasFewMarks}
 use Rattle.pz_classes.specs.Soundness.{IsSound}
+use Rattle.pz_rules.specs.Clocks.{most_actions}
 use Rattle.pz_run_replaying.proofs.Written.{err_is}
-use Rattle.pz_run_replaying.proofs.Openings.{ready_there, header_wanting, header_refused, header_cut, header_followed}
+use Rattle.pz_run_replaying.proofs.Openings.{starts_in, ready_there, header_wanting, header_refused, header_cut, header_followed}
 use Rattle.pz_run_replaying.proofs.replaying.replay_lines.Goals as goal
 
 pub returns-in_err-header : goal.returns-in_err-header
@@ -40,7 +42,16 @@ returns-in_err-put g c =
 pub follow-requires-clause-ready : goal.follow-requires-clause-ready
 follow-requires-clause-ready g c =
     let sound = subst IsSound (c.model-model.ensures.is ∙ c.checked.ensures) c.model-model.ensures.sound in
-    ready_there c.rules_are_known.ensures c.requires.0 (g.S.Simulator.simulation c.args.sim.now) c.requires.1 sound
+    ready_there c.rules_are_known.ensures c.requires.starts.0 (g.S.Simulator.simulation c.args.sim.now) c.requires.starts.1 sound
+
+pub follow-requires-clause-room : goal.follow-requires-clause-room
+follow-requires-clause-room g c =
+    let s = g.S.Simulator.simulation c.args.sim.now in
+    let known = c.rules_are_known.ensures in
+    let same = c.model-model.ensures.is ∙ c.checked.ensures in
+    let starts = starts_in c.requires.starts.0 s c.requires.starts.1 in
+    known.less_room most_actions (length c.behind.result.now) s (omega (arith, c.requires.few, c.behind.ensures.left))
+    (known.room_at_start (setting_in s) s (subst IsSound same c.model-model.ensures.sound) (subst HasFewMarks same c.model-model.ensures.few) c.requires.opens starts)
 
 pub returns : goal.returns
 returns g c = λ setting starts tells.

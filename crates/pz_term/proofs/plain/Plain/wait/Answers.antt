@@ -1,13 +1,12 @@
-use Rattle.std.proofs.Common.{ℕ, ap, ◌∙◌}
+use Rattle.std.proofs.Common.{◌≡◌, ◌+◌, ap, arith}
 use Rattle.std.proofs.lemmas.Result.{on_ok_weaker}
 use Rattle.pz_classes.specs.CheckedView.{checked_model}
 use Rattle.pz_rules.specs.declared.moment.Moment.TheVariants.{Time}
-use Rattle.pz_rules.specs.Runs.{whole}
-use Rattle.pz_term_processes.specs.Standing.{setting_of, config_of}
-use Rattle.pz_term.specs.Simulations.{stands}
+use Rattle.pz_term_processes.specs.Standing.{setting_of}
+use Rattle.pz_term.specs.Simulations.{Simulation, clock_in}
 use Rattle.pz_term.specs.Plains.{simulation_of}
 use Rattle.pz_term.proofs.Kept.{is_moment, kept_processes}
-use Rattle.pz_term.proofs.Moved.{time_passes}
+use Rattle.pz_term.proofs.Moved.{time_passes, clock_there}
 use Rattle.pz_term.proofs.plain.Plain.wait.Goals as goal
 
 pub elapse_at-requires-clause-processes : goal.elapse_at-requires-clause-processes
@@ -18,8 +17,17 @@ returns-clause-ok c =
     on_ok_weaker c.look_on.result
     (λ is.
     time_passes (setting_of (checked_model c.args.self.now.checked) c.args.self.now.limits) c.args.self.now.clock c.args.self.now.processes.items c.elapse_at.new.processes.items c.args.self.now.standing c.args.time (simulation_of c.look_on.new.self) c.one_moment.ensures.one c.args.self.now.holds c.requires.there c.in_ok-elapse_at.ensures.passes
-    (is ∙ ap (λ (n : ℕ). stands (setting_of (checked_model c.args.self.now.checked) c.args.self.now.limits) (config_of n c.elapse_at.new.processes.items) whole) c.in-Some.ensures.1))
+    is)
     c.look_on.ensures.ok
 
 pub elapse_at-requires-clause-moment : goal.elapse_at-requires-clause-moment
 elapse_at-requires-clause-moment c = is_moment (setting_of (checked_model c.args.self.now.checked) c.args.self.now.limits) c.args.self.now.clock c.args.self.now.processes.items c.args.self.now.standing (Time c.args.time) c.one_moment.ensures.one tt c.requires.there c.args.self.now.holds
+
+pub returns-clause-short : goal.returns-clause-short
+returns-clause-short c =
+    on_ok_weaker c.look_on.result
+    (λ is.
+    let after : clock_in (simulation_of c.look_on.new.self) ≡ c.args.self.now.clock + c.args.time = ap (λ (s : Simulation). clock_in s) is in
+    let before = clock_there (setting_of (checked_model c.args.self.now.checked) c.args.self.now.limits) c.args.self.now.clock c.args.self.now.processes.items c.args.self.now.standing c.args.time c.one_moment.ensures.one c.args.self.now.holds c.requires.there in
+    omega (arith, after, before, c.if-from-time.false, c.from.ensures))
+    c.look_on.ensures.ok
