@@ -1,6 +1,6 @@
 // Laws of sessions, the contracts of functions that do nothing.
 
-ghost use Rattle.pz_debug_session.specs.Laws.{OnePlace, BeginsAtStart, GoesOnByChoice, GoesOnByPassing};
+ghost use Rattle.pz_debug_session.specs.Laws.{OnePlace, BeginsAtStart, GoesOnByChoice, GoesOnByPassing, FrontsLead};
 ghost use Rattle.pz_debug_session.specs.devices.Known.{Known};
 
 /// A list of steps leads to one place.
@@ -16,6 +16,11 @@ pub fn sessions_go_on()
     ensures start { BeginsAtStart }
     ensures choice { GoesOnByChoice }
     ensures passing { GoesOnByPassing }
+{}
+
+/// Where steps lead somewhere, the first of them do.
+pub fn fronts_lead_too()
+    ensures { FrontsLead }
 {}
 
 /// What is known of runs.

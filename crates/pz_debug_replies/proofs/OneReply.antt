@@ -20,11 +20,11 @@ use Rattle.pz_debug_session.specs.declared.step.Step.{Step}
 use Rattle.pz_debug_session.specs.declared.step.Step.TheVariants.{Pick, Pass}
 use Rattle.pz_debug_session.specs.Steps.{StandsAfter}
 use Rattle.pz_debug_session.specs.Laws.{OnePlace}
-use Rattle.pz_debug.specs.Lines.{menu_line, waiting_line, refused_pass_line, back_line}
-use Rattle.pz_debug.specs.Replies.{offers_at, ending_at, Replies, offered, waiting, over, picks, no_offer, passes, no_passing, runs, runs_until, goes_back, too_far, shows, shows_none, is_unknown}
-use Rattle.pz_debug.specs.Sessions.{RepliesAll, none, more}
-use Rattle.pz_debug.specs.Laws.{ShowsNothing, ShowNothing}
-use Rattle.pz_debug.proofs.OneText.{time_is, count_is, never_both, one_advance}
+use Rattle.pz_debug_replies.specs.Lines.{menu_line, waiting_line, refused_pass_line, back_line}
+use Rattle.pz_debug_replies.specs.Replies.{offers_at, ending_at, Replies, offered, waiting, over, picks, no_offer, passes, no_passing, runs, runs_until, goes_back, too_far, shows, shows_none, is_unknown}
+use Rattle.pz_debug_replies.specs.Sessions.{RepliesAll, none, more}
+use Rattle.pz_debug_replies.specs.Laws.{ShowsNothing, ShowNothing}
+use Rattle.pz_debug_replies.proofs.OneText.{time_is, count_is, never_both, one_advance}
 
 some_is : {A : Type 0} {x y : A} → Some x ≡ Some y → x ≡ y
 some_is e = cc

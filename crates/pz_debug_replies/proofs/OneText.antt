@@ -12,7 +12,7 @@ use Rattle.pz_debug_session.specs.declared.step.Step.{Step}
 use Rattle.pz_debug_session.specs.declared.step.Step.TheVariants.{Pick, Pass}
 use Rattle.pz_debug_session.specs.Steps.{StandsAfter}
 use Rattle.pz_debug_session.specs.Laws.{OnePlace}
-use Rattle.pz_debug.specs.Advancing.{is_wanted, Advances, used_up, held, passes, acts, found}
+use Rattle.pz_debug_replies.specs.Advancing.{is_wanted, Advances, used_up, held, passes, acts, found}
 
 false_true : false ≡ true → ⊥
 false_true e = cc

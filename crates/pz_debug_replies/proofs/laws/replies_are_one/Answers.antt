@@ -1,5 +1,5 @@
-use Rattle.pz_debug.proofs.OneReply.{Known, one_reply, one_text}
-use Rattle.pz_debug.proofs.laws.replies_are_one.Goals as goal
+use Rattle.pz_debug_replies.proofs.OneReply.{Known, one_reply, one_text}
+use Rattle.pz_debug_replies.proofs.laws.replies_are_one.Goals as goal
 
 pub returns-clause-reply : goal.returns-clause-reply
 returns-clause-reply c = λ setting line k xs ys zs text other. one_reply (record {

@@ -4,7 +4,7 @@ use Rattle.pz_rules.specs.Settings.{Setting}
 use Rattle.pz_debug_commands.specs.Commands.{Command}
 use Rattle.pz_debug_commands.specs.Texts.{AreCommands}
 use Rattle.pz_debug_session.specs.declared.step.Step.{Step}
-use Rattle.pz_debug.specs.Replies.{Replies}
+use Rattle.pz_debug_replies.specs.Replies.{Replies}
 
 -- the commands from the line of this number on
 pub data RepliesAll (setting : Setting) : ℕ → List Step → List Command → List ℕ → List Step → Type 0 where

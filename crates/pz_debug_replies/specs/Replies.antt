@@ -19,9 +19,9 @@ use Rattle.pz_debug_commands.specs.Commands.{Command, menu, pick, pass, run, unt
 use Rattle.pz_debug_session.specs.declared.step.Step.{Step}
 use Rattle.pz_debug_session.specs.declared.step.Step.TheVariants.{Pick, Pass}
 use Rattle.pz_debug_session.specs.Steps.{StandsAfter}
-use Rattle.pz_debug.specs.Lines.{menu_line, waiting_line, refused_pass_line, back_line, refused_back_line, show_line, refused_show_line, refused_command_line}
-use Rattle.pz_debug.specs.Shown.{IsVariable, Holds}
-use Rattle.pz_debug.specs.Advancing.{Advances}
+use Rattle.pz_debug_replies.specs.Lines.{menu_line, waiting_line, refused_pass_line, back_line, refused_back_line, show_line, refused_show_line, refused_command_line}
+use Rattle.pz_debug_replies.specs.Shown.{IsVariable, Holds}
+use Rattle.pz_debug_replies.specs.Advancing.{Advances}
 
 -- how many offers the moment counts; none where it is not `Actions`
 abbrev pub offers_at : Moment → ℕ

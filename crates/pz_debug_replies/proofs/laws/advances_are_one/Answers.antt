@@ -1,5 +1,5 @@
-use Rattle.pz_debug.proofs.OneText.{one_advance}
-use Rattle.pz_debug.proofs.laws.advances_are_one.Goals as goal
+use Rattle.pz_debug_replies.proofs.OneText.{one_advance}
+use Rattle.pz_debug_replies.proofs.laws.advances_are_one.Goals as goal
 
 pub returns : goal.returns
 returns c = λ setting wanted n xs ys zs text other.

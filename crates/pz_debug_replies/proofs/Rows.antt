@@ -6,8 +6,8 @@ use Rattle.pz_rules.specs.Settings.{Setting}
 use Rattle.pz_debug_commands.specs.Commands.{unknown, back}
 use Rattle.pz_debug_commands.specs.Texts as texts
 use Rattle.pz_debug_commands.proofs.Lines.{every_list}
-use Rattle.pz_debug.specs.Replies.{is_unknown, too_far}
-use Rattle.pz_debug.specs.Sessions.{IsSessionText, none, more}
+use Rattle.pz_debug_replies.specs.Replies.{is_unknown, too_far}
+use Rattle.pz_debug_replies.specs.Sessions.{IsSessionText, none, more}
 
 -- no command
 empty_file : (setting : Setting) → IsSessionText setting [] []

@@ -1,3 +1,0 @@
-pub mod OneText
-pub mod OneReply
-pub mod Rows

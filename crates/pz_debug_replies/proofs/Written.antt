@@ -1,0 +1,40 @@
+-- What was written where something halts.
+use Rattle.std.proofs.Common.{◌≡◌, ℕ, List, [], ◌∷◌, ◌++◌, Some, None, Result, Ok, Err, refl, sym, subst, ap, ◌∙◌, append_assoc}
+use Rattle.std.specs.Prelude.{IfOk, codes}
+use Rattle.std.specs.Fmt.{decimal}
+use Rattle.std.specs.Result.{IsErrAnd, result_err}
+use Rattle.std.proofs.lemmas.List.{append-nil}
+use Rattle.std.proofs.lemmas.Result.{err_from_is_err_and}
+use Rattle.pz_io.specs.Outside.{SinkState}
+use Rattle.pz_io.specs.declared.writing.Halt.{Halt}
+use Rattle.pz_io.specs.declared.writing.Halt.TheVariants.{NoMemory}
+use Rattle.pz_io.specs.Writing.{Wrote}
+use Rattle.pz_syntax.specs.Classes.{ModelTree}
+use Rattle.pz_trace.specs.Lines.{newline}
+use Rattle.pz_rules.specs.Runs.{refused}
+use Rattle.pz_run_playing.specs.Endings.{last_line}
+use Rattle.pz_debug_replies.specs.devices.Known.{Known}
+
+-- the error that a `?` hands on
+pub err_is : {T : Type 0} (r : Result T Halt) (halt : Halt) → IsErrAnd r (λ e. e ≡ halt) → r ≡ Err halt
+err_is r halt is = let p = err_from_is_err_and r is in p.1 ∙ ap Err p.2
+
+pub halted_so : {T : Type 0} (r : Result T Halt) (halt : Halt) → IsErrAnd r (λ e. e ≡ halt) → result_err r ≡ Some halt
+halted_so r halt is = ap result_err (err_is r halt is)
+
+-- nothing of a text
+pub none_of : Known → (s : SinkState) (text : List ℕ) → Wrote s s text (Some NoMemory)
+none_of known s text = known.wants s s [] text (known.nothing s)
+
+pub none_written : {T : Type 0} (known : Known) (s : SinkState) (text : List ℕ) (r : Result T Halt) → IsErrAnd r (λ e. e ≡ NoMemory) → Wrote s s text (result_err r)
+none_written known s text r is = rw (halted_so r NoMemory is) (none_of known s text)
+
+-- a text, and then memory was wanting
+pub whole_written : Known → (before now : SinkState) (text : List ℕ) → Wrote before now text None → Wrote before now text (Some NoMemory)
+whole_written known before now text wrote = subst (λ (l : List ℕ). Wrote before now l (Some NoMemory)) (append-nil text) (known.wants before now text [] wrote)
+
+-- the line of an offer that is not there
+pub refused_pick : (m : ModelTree) (clock k n : ℕ) → last_line m clock (refused k n) ≡ decimal clock ++ (codes " refused " ++ (decimal k ++ (codes " of " ++ (decimal n ++ newline))))
+refused_pick m clock k n =
+    ap (λ (l : List ℕ). decimal clock ++ (codes " refused " ++ l))
+    (append_assoc (decimal k) (codes " of " ++ decimal n) newline ∙ ap (λ (l : List ℕ). decimal k ++ l) (append_assoc (codes " of ") (decimal n) newline))
