@@ -1,5 +1,5 @@
 -- References in parcels are numbers of their objects, and stay so.
-use Rattle.std.proofs.Common.{◌≡◌, sym, ◌∙◌, ap, subst, ℕ, suc, ◌+◌, ◌-◌, ◌^◌, ◌<◌, ◌≤◌, List, [], ◌∷◌, ◌++◌, length, map, take, get_or, Some, arith}
+use Rattle.std.proofs.Common.{◌≡◌, refl, sym, ◌∙◌, ap, ap₂, subst, ℕ, suc, ◌+◌, ◌-◌, ◌^◌, ◌<◌, ◌≤◌, List, [], ◌∷◌, ◌++◌, length, map, take, get_or, Some, arith}
 use Rattle.std.specs.Prelude.{All, slice_get}
 use Rattle.std.proofs.Math.Seq.{take-suc, take-append_seam}
 use Rattle.std.proofs.lemmas.List.{append_assoc, length-append, length-map, map-append}
@@ -13,7 +13,7 @@ use Rattle.pz_state.specs.States.{StateView, object, made}
 use Rattle.pz_state.specs.References.{RefersWithin}
 use Rattle.pz_copy.specs.References.{reference_of, references, IsIn, renumbered, renumbered_object}
 use Rattle.pz_copy.specs.Parcels.{ParcelView, IsParcel, plain_objects}
-use Rattle.pz_copy.specs.Packing.{place_in, packed_objects, IsListing}
+use Rattle.pz_copy.specs.Packing.{place_in, packed_objects, IsListing, IsParcelOf}
 use Rattle.pz_copy.specs.Unpacking.{shifted_values, shifted_objects, unpacked, unpacked_values}
 use Rattle.pz_copy.specs.devices.Filling.{blank_of, with_blanks}
 use Rattle.pz_copy.proofs.Gathered.{in_left, in_right, in_here}
@@ -51,6 +51,41 @@ parcel_fine s vs listed is_one values objects values_are objects_are few sizes =
       items = subst (λ (n : ℕ). All (λ o. All (RefersWithin n) o.items) objects) (sym long) (subst (All (λ o. All (RefersWithin (length listed)) o.items)) (sym objects_are) in_objects);
       few = omega (arith, long, few);
       sizes = sizes;
+    }
+
+-- Values that lead to no object
+
+unrenumbered : (number : ℕ → ℕ) (v : Value) → ((r : ℕ) → IsIn r (reference_of v) → ⊥) → renumbered number v ≡ v
+unrenumbered number (value.Ref r) none = absurd (none r (in_here r []))
+unrenumbered number _ none = refl
+
+none_renumbered : (number : ℕ → ℕ) (vs : List Value) → ((r : ℕ) → IsIn r (references vs) → ⊥) → map (renumbered number) vs ≡ vs
+none_renumbered number [] none = refl
+none_renumbered number (v ∷ vs) none =
+    ap₂ (λ (w : Value) (ws : List Value). w ∷ ws)
+    (unrenumbered number v (λ r h. none r (in_left r (reference_of v) (references vs) h)))
+    (none_renumbered number vs (λ r h. none r (in_right r (reference_of v) (references vs) h)))
+
+alone : (s : StateView) (vs : List Value) → IsListing s vs [] → map (renumbered (place_in [])) vs ≡ vs
+alone s vs is_one = none_renumbered (place_in []) vs (λ r h. let in_none : IsIn r [] = listed_values s vs [] is_one r h in cc)
+
+nothing_listed : (listed : List ℕ) → length listed ≡ 0 → listed ≡ []
+nothing_listed [] none = refl
+nothing_listed (r ∷ rs) none = absurd (omega (arith, none))
+
+pub alone_fine : (s : StateView) (vs : List Value) (listed : List ℕ) → IsListing s vs listed → length listed ≡ 0 → IsParcel (record { values = vs; objects = [] })
+alone_fine s vs listed is_one none =
+    let nothing : IsListing s vs [] = subst (IsListing s vs) (nothing_listed listed none) is_one in
+    parcel_fine s vs [] nothing vs [] (sym (alone s vs nothing)) refl (omega arith) (λ k d h. absurd (omega arith))
+
+pub packed_alone : (s : StateView) (vs : List Value) (listed : List ℕ) → IsListing s vs listed → length listed ≡ 0 → (p : ParcelView) → p ≡ record { values = vs; objects = [] } → IsParcelOf s vs p
+packed_alone s vs listed is_one none p is =
+    let nothing : IsListing s vs [] = subst (IsListing s vs) (nothing_listed listed none) is_one in
+    record {
+      listed = [];
+      listing = nothing;
+      values = ap (λ (q : ParcelView). q.values) is ∙ sym (alone s vs nothing);
+      objects = ap (λ (q : ParcelView). q.objects) is;
     }
 
 pub all_wider : (m n : ℕ) (vs : List Value) → m ≤ n → All (RefersWithin m) vs → All (RefersWithin n) vs

@@ -2,6 +2,7 @@
 //! that they lead to, and put them into another.
 #![tactic(auto)]
 
+mod contents;
 mod listing;
 mod packing;
 mod parcel;

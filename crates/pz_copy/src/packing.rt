@@ -86,7 +86,11 @@ pub fn pack(alloc: Global, state: &State, values: &[Value]) -> Result<Parcel, Al
     ensures one { HasOneListing state.now.held values.now }
 {
     let listed = list_reached(alloc, state, values)?;
+    // Then no value has a reference.
+    if listed.is_empty() {
+        return Parcel::of_values(alloc, values);
+    }
     let copies = pack_values(alloc, values, &listed)?;
     let objects = pack_objects(alloc, state, &listed)?;
-    Ok(Parcel::new(copies, objects))
+    Parcel::new(alloc, copies, objects)
 }

@@ -1,6 +1,7 @@
-ghost use Rattle.std.specs.Prelude.{◌≡◌, ◌<◌, ◌^◌, length, All, IfOk};
+ghost use Rattle.std.specs.Prelude.{◌≡◌, [], IfOk};
 ghost use Rattle.pz_copy.specs.Parcels.{plain_objects, IsParcel};
 
+use crate::contents::Contents;
 use pz_state::Object;
 use pz_value::Value;
 use std::alloc::{AllocError, Global};
@@ -8,32 +9,57 @@ use std::marker::Model;
 
 /// Values that were copied out of a state, with the objects that they lead to. A reference in it is
 /// the number of one of these objects, from 0.
-#[derive(Debug, Drop)]
+#[derive(Debug)]
 pub struct Parcel {
-    values: Vec<Value>,
-    objects: Vec<Object>,
+    alloc: Global,
+    contents: Contents,
+}
+
+// Written out, so that it is proved once, here, and not in each crate that drops one.
+impl Drop for Parcel {
+    fn drop(self) {
+        let Parcel { alloc: _, contents } = self;
+        std::mem::drop(contents);
+    }
 }
 
 impl Model for Parcel {
-    ghost use Rattle.pz_copy.specs.Parcels.{ParcelView, plain_objects, IsParcel};
+    ghost use Rattle.pz_copy.specs.Parcels.{ParcelView, IsParcel};
+    ghost use Rattle.pz_copy.specs.devices.Contents.{values_of, objects_of};
 
     ghost Value = { ParcelView };
 
-    ghost view = { λ p. record { values = p.values.items; objects = plain_objects p.objects.items } };
+    ghost view = { λ p. record { values = values_of p.contents; objects = objects_of p.contents } };
 
-    ghost invariant = { λ p. IsParcel (record { values = p.values.items; objects = plain_objects p.objects.items }) };
+    ghost invariant = { λ p. IsParcel (record { values = values_of p.contents; objects = objects_of p.contents }) };
 }
 
 impl Parcel {
-    /// A parcel of these values and objects, whose references are numbers of these objects.
-    pub(crate) fn new(values: Vec<Value>, objects: Vec<Object>) -> Parcel
+    /// A parcel of these values, which have no references. The only error is want of memory.
+    pub(crate) fn of_values(alloc: Global, values: &[Value]) -> Result<Parcel, AllocError>
+        requires { IsParcel (record { values = values.now; objects = [] }) }
+        ensures { IfOk result (λ parcel. parcel ≡ record { values = values.now; objects = [] }) }
+    {
+        let contents = Contents::of_values(alloc, values)?;
+        Ok(Parcel { alloc, contents })
+    }
+
+    /// A parcel of these values and objects, whose references are numbers of these objects. The only
+    /// error is want of memory.
+    pub(crate) fn new(
+        alloc: Global,
+        values: Vec<Value>,
+        objects: Vec<Object>,
+    ) -> Result<Parcel, AllocError>
         requires { IsParcel (record {
           values = values.items;
           objects = plain_objects objects.items;
         }) }
-        ensures { result ≡ record { values = values.items; objects = plain_objects objects.items } }
+        ensures { IfOk result (λ parcel. parcel ≡
+            record { values = values.items; objects = plain_objects objects.items }) }
     {
-        Parcel { values, objects }
+        let contents = Contents::sharing(alloc, values, objects)?;
+        Ok(Parcel { alloc, contents })
     }
 
     /// The values in order.
@@ -41,7 +67,7 @@ impl Parcel {
         ensures values { result.now ≡ self.now.values }
         ensures contained { IsParcel self.now }
     {
-        self.values.as_slice()
+        self.contents.values()
     }
 
     /// The objects in order.
@@ -49,42 +75,21 @@ impl Parcel {
         ensures objects { plain_objects result.now ≡ self.now.objects }
         ensures contained { IsParcel self.now }
     {
-        self.objects.as_slice()
+        self.contents.objects()
     }
 
     pub(crate) fn allocator(&self) -> Global {
-        *self.values.allocator()
+        self.alloc
     }
 
     /// An equal parcel. The only error is want of memory.
     pub fn copy(&self) -> Result<Parcel, AllocError>
         ensures { IfOk result (λ copy. copy ≡ self.now) }
     {
-        let alloc = self.allocator();
-        let values = copy_values(alloc, self.values.as_slice())?;
-        let objects = copy_objects(alloc, self.objects.as_slice())?;
-        Ok(Parcel { values, objects })
+        let contents = self.contents.copy(self.alloc)?;
+        Ok(Parcel {
+            alloc: self.alloc,
+            contents,
+        })
     }
-}
-
-/// Equal values. The only error is want of memory.
-fn copy_values(alloc: Global, values: &[Value]) -> Result<Vec<Value>, AllocError>
-    ensures { IfOk result (λ copies. copies.items ≡ values.now) }
-{
-    let mut copies = Vec::with_capacity(alloc, values.len())?;
-    for value in values {
-        copies.push(value.copy()?)?;
-    }
-    Ok(copies)
-}
-
-/// Equal objects. The only error is want of memory.
-fn copy_objects(alloc: Global, objects: &[Object]) -> Result<Vec<Object>, AllocError>
-    ensures { IfOk result (λ copies. plain_objects copies.items ≡ plain_objects objects.now) }
-{
-    let mut copies = Vec::with_capacity(alloc, objects.len())?;
-    for object in objects {
-        copies.push(object.copy()?)?;
-    }
-    Ok(copies)
 }

@@ -1,13 +1,21 @@
 ghost use Rattle.std.specs.Prelude.{◌≡◌, [], ◌∷◌, ◌++◌, ℕ, List, IfOk, OnOk, OnErr};
 
+use smallvec::SmallVec;
 use std::alloc::{AllocError, Global};
 use std::marker::Model;
 
 /// A place in a term: the numbers of the children, from 0, on the way from the root to a part.
-/// Contracts see the list of the numbers.
-#[derive(Drop)]
+/// Up to seven numbers take no memory beyond the place itself. Contracts see the list of the numbers.
 pub struct Place {
-    steps: Vec<usize>,
+    steps: SmallVec<usize, 7>,
+}
+
+// Written out, so that it is proved once, here, and not in each crate that drops one.
+impl Drop for Place {
+    fn drop(self) {
+        let Place { steps } = self;
+        std::mem::drop(steps);
+    }
 }
 
 impl Model for Place {
@@ -24,7 +32,7 @@ impl Place {
         ensures { result ≡ [] }
     {
         Place {
-            steps: Vec::new(alloc),
+            steps: SmallVec::new(alloc),
         }
     }
 
@@ -39,7 +47,7 @@ impl Place {
     pub fn copy(&self) -> Result<Place, AllocError>
         ensures { IfOk result (λ copy. copy ≡ self.now) }
     {
-        let steps = self.steps.clone()?;
+        let steps = SmallVec::from_slice(*self.steps.allocator(), self.steps.as_slice())?;
         Ok(Place { steps })
     }
 
