@@ -4,5 +4,6 @@ pub mod Places
 pub mod Parcels
 pub mod Existing
 pub mod Written
+pub mod Told
 pub mod Replied
 pub mod Rows

@@ -1,5 +1,5 @@
 -- What holds where steps of a sound model lead, and what can come there.
-use Rattle.std.proofs.Common.{◌≡◌, ◌⊎◌, inl, inr, ◌≤◌, ◌<◌, ℕ, zero, suc, List, [], ◌∷◌, ◌++◌, length, get_or, Some, Result, Ok, Err, refl, sym, ap, subst, ◌∙◌, arith}
+use Rattle.std.proofs.Common.{◌≡◌, ◌⊎◌, inl, inr, ◌≤◌, ◌<◌, ℕ, zero, suc, List, [], ◌∷◌, ◌++◌, length, get_or, Option, Some, None, Result, Ok, Err, refl, sym, ap, subst, ◌∙◌, arith}
 use Rattle.std.specs.Prelude.{slice_get}
 use Rattle.std.proofs.lemmas.Option.{slice_get-get_or}
 use Rattle.pz_classes.specs.Soundness.{IsSound}
@@ -18,12 +18,14 @@ use Rattle.pz_rules.specs.Moments.{Candidate, high, faulty, acting, passing, fin
 use Rattle.pz_rules.specs.Runs as runs
 use Rattle.pz_rules.specs.Runs.{Event, Standing, whole, stopped, Reaches, IsChoice}
 use Rattle.pz_rules.specs.Steps.{Next}
-use Rattle.pz_trace.specs.Named.{HasTroubled, IsNamed}
+use Rattle.pz_trace.specs.declared.ending.Ending.{Ending}
+use Rattle.pz_trace.specs.Named.{HasTroubled, IsNamed, IsNamedAtEnd}
 use Rattle.pz_term.specs.Laws.{IsDerivedIn}
 use Rattle.pz_term.specs.Simulations as simulations
 use Rattle.pz_term.specs.Simulations.{Simulation, stands, broken, IsMomentOf, AreOffersOf, IsOffer, Chooses, Passes, ClockIs, model_in, clock_in, setting_in}
 use Rattle.pz_debug_session.specs.declared.step.Step.{Step}
 use Rattle.pz_debug_session.specs.Steps.{StandsAfter}
+use Rattle.pz_debug_replies.specs.Replies.{ending_at}
 use Rattle.pz_debug_replies.specs.devices.Known.{Known}
 
 pub le_or_lt : (a b : ℕ) → (a ≤ b) ⊎ (b < a)
@@ -131,6 +133,20 @@ clock_there setting xs s clock x at =
     let there : clock ≡ x.end.clock = subst (λ (t : Simulation). ClockIs t clock) x.is_there at in
     there ∙ ap clock_in (sym x.is_there)
 
+actions_broken : {n : ℕ} → Actions n ≡ Broken → ⊥
+actions_broken h = cc
+
+time_broken : {d : ℕ} → Time d ≡ Broken → ⊥
+time_broken h = cc
+
+pub clock_of_actions : (s : Simulation) (n clock : ℕ) → IsMomentOf s (Actions n) → ClockIs s clock → clock ≡ clock_in s
+clock_of_actions (stands setting c standing) n clock now at = at
+clock_of_actions (broken setting) n clock now at = absurd (actions_broken now)
+
+pub clock_of_time : (s : Simulation) (d clock : ℕ) → IsMomentOf s (Time d) → ClockIs s clock → clock ≡ clock_in s
+clock_of_time (stands setting c standing) d clock now at = at
+clock_of_time (broken setting) d clock now at = absurd (time_broken now)
+
 pub setting_there : (setting : Setting) (xs : List Step) (s : Simulation) → StandsAfter setting xs s → setting_in s ≡ setting
 setting_there setting xs s x = ap setting_in x.is_there
 
@@ -220,3 +236,20 @@ module _ (known : Known) (setting : Setting) (net : Net) (is_net : ∥ IsNet set
 
   pub fault_named : (xs : List Step) (s : Simulation) (trouble : Trouble) → StandsAfter setting xs s → IsMomentOf s (Faulty trouble) → HasTroubled net trouble
   fault_named xs s trouble x at = faulty_there x.end x.standing trouble (subst (λ (t : Simulation). IsMomentOf t (Faulty trouble)) x.is_there at)
+
+some_is : {x y : Ending} → Some x ≡ Some y → x ≡ y
+some_is e = cc
+
+none_some : {x : Ending} → None ≡ Some x → ⊥
+none_some e = cc
+
+-- what is named in the line in which a run ends
+module _ (known : Known) (setting : Setting) (net : Net) (is_net : ∥ IsNet setting.model net ∥₁) (xs : List Step) (s : Simulation) where
+  pub named_at_end : (m : Moment) (e : Ending) → StandsAfter setting xs s → IsMomentOf s m → ending_at m ≡ Some e → IsNamedAtEnd net e
+  named_at_end Finished e x at is = subst (IsNamedAtEnd net) (some_is is) tt
+  named_at_end Deadlock e x at is = subst (IsNamedAtEnd net) (some_is is) tt
+  named_at_end (Faulty trouble) e x at is = subst (IsNamedAtEnd net) (some_is is) (fault_named known setting net is_net xs s trouble x at)
+  named_at_end (Stopped trouble) e x at is = subst (IsNamedAtEnd net) (some_is is) (stop_named known setting net is_net xs s trouble x at)
+  named_at_end (Actions n) e x at is = absurd (none_some is)
+  named_at_end (Time d) e x at is = absurd (none_some is)
+  named_at_end Broken e x at is = absurd (none_some is)

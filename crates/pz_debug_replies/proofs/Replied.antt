@@ -1,5 +1,6 @@
 -- Replies, by what was written of them.
 use Rattle.std.proofs.Common.{◌≡◌, ◌-◌, ◌<◌, ◌≤◌, ◌+◌, ℕ, suc, Bool, true, false, List, [], ◌∷◌, ◌++◌, length, take, Option, Some, None, Result, Ok, Err, refl, sym, ap, subst, ◌∙◌, append_assoc, arith}
+use Rattle.std.specs.Prelude.{OnOk}
 use Rattle.std.specs.Result.{result_err}
 use Rattle.std.proofs.lemmas.List.{append-nil}
 use Rattle.pz_io.specs.Outside.{SinkState}
@@ -228,3 +229,8 @@ module _ (known : Known) (message : Option (List ℕ)) (xs : List Step) (s : Sim
     is_at = way.is_at;
     setting = way.setting;
   })
+
+-- a step was taken
+pub stepped : {A : Type 0} (line : ℕ) (c : Command) (xs : List Step) (s : Simulation) (ys : List Step) (t : Simulation) (before now : SinkState) (r : Result A Halt) (text : List ℕ) (zs : List Step)
+    → Replies (setting_in s) line xs c text zs → Wrote before now text (result_err r) → OnOk r (ys ≡ zs) → OnOk r (IsAt ys t) → setting_in t ≡ setting_in s → Replied line c xs s ys t before now r
+stepped line c xs s ys t before now r text zs replies wrote left at same = record { text = text; left = zs; replies = replies; wrote = wrote; steps = left; is_at = at; setting = same }

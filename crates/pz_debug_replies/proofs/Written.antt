@@ -38,3 +38,15 @@ pub refused_pick : (m : ModelTree) (clock k n : ℕ) → last_line m clock (refu
 refused_pick m clock k n =
     ap (λ (l : List ℕ). decimal clock ++ (codes " refused " ++ l))
     (append_assoc (decimal k) (codes " of " ++ decimal n) newline ∙ ap (λ (l : List ℕ). decimal k ++ l) (append_assoc (codes " of ") (decimal n) newline))
+
+-- a line that was made
+pub put_line : (bytes : List ℕ) (before now : SinkState) {A : Type 0} (r : Result A Halt) (text : List ℕ) → Wrote before now bytes (result_err r) → bytes ≡ text → Wrote before now text (result_err r)
+put_line bytes before now r text wrote same = subst (λ (l : List ℕ). Wrote before now l (result_err r)) same wrote
+
+-- a text and what comes behind it
+pub both_written : Known → {A : Type 0} (before mid now : SinkState) (first more : List ℕ) (r : Result A Halt) → Wrote before mid first None → Wrote mid now more (result_err r) → Wrote before now (first ++ more) (result_err r)
+both_written known before mid now first more r wrote rest = known.joins before mid now first more (result_err r) wrote rest
+
+-- where the first halts
+pub first_halted : Known → {A : Type 0} (before now : SinkState) (first more : List ℕ) (halt : Halt) (r : Result A Halt) → Wrote before now first (Some halt) → IsErrAnd r (λ e. e ≡ halt) → Wrote before now (first ++ more) (result_err r)
+first_halted known before now first more halt r wrote is = rw (halted_so r halt is) (known.halts before now first more halt wrote)

@@ -6,9 +6,11 @@ mod going_back;
 pub mod laws;
 mod lines;
 mod menu;
+mod names;
 mod offers;
 mod replying;
 mod sessions;
+mod showing;
 mod stepping;
 
 pub use replying::reply;

@@ -10,8 +10,10 @@ ghost use Rattle.pz_run_playing.specs.Endings.{last_line};
 ghost use Rattle.pz_run_playing.specs.Menus as menus;
 ghost use Rattle.pz_debug_replies.specs.Lines as lines;
 
+use crate::names::class_names;
 use pz_bind::Net;
 use pz_classes::Checked;
+use pz_copy::Parcel;
 use pz_term::Action;
 use pz_trace::label;
 use std::alloc::{AllocError, Global};
@@ -89,4 +91,26 @@ pub(crate) fn refused_command_line(alloc: Global, line: u64) -> Result<Vec<u8>, 
     ensures { IfOk result (λ text. text.items ≡ lines.refused_command_line line) }
 {
     Ok(format!(in alloc; "refused command {line}\n")?.into_bytes())
+}
+
+/// What a variable of a process holds, after the path and the name that it was asked for by.
+pub(crate) fn show_line(
+    alloc: Global,
+    checked: &Checked,
+    path: &[u8],
+    name: &[u8],
+    parcel: &Parcel,
+) -> Result<Vec<u8>, AllocError>
+    ensures { IfOk result (λ line. line.items ≡ lines.show_line
+        (checked_model checked.now) path.now name.now parcel.now) }
+{
+    let value = parcel.text(class_names(checked))?;
+    let mut line = Vec::new(alloc);
+    line.extend_from_slice(path)?;
+    line.push(b' ')?;
+    line.extend_from_slice(name)?;
+    line.extend_from_slice(b" = ")?;
+    line.extend_from_slice(value.as_slice())?;
+    line.push(b'\n')?;
+    Ok(line)
 }

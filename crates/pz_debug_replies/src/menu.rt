@@ -63,9 +63,25 @@ fn tell_offers<E: Engine + Drop, W: Sink>(
         (result_err result) }
 {
     rules_are_known();
-    let line = menu_line(alloc, session.clock(), offers)?;
-    put(out, line.as_slice())?;
+    tell_count(alloc, session, offers, out)?;
     tell_each(alloc, session, offers, out)
+}
+
+// Writes how many offers there are.
+fn tell_count<E: Engine + Drop, W: Sink>(
+    alloc: Global,
+    session: &Session<E>,
+    offers: u64,
+    out: &mut W,
+) -> Result<(), Halt>
+    requires { IsMomentOf (stands_in E.simulation session.now) (Moment.Actions offers) }
+    ensures { Wrote (W.state out.old) (W.state out.new)
+        (lines.menu_line (clock_in (stands_in E.simulation session.now)) offers)
+        (result_err result) }
+{
+    rules_are_known();
+    let line = menu_line(alloc, session.clock(), offers)?;
+    put(out, line.as_slice())
 }
 
 // The line of the offer of this number, from 0. The only error is want of memory.

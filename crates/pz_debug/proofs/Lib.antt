@@ -1,0 +1,5 @@
+pub mod Sayings
+pub mod Unread
+pub mod Keeps
+pub mod TwoFiles
+pub mod Asked
