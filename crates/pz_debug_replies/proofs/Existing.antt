@@ -6,11 +6,11 @@ use Rattle.std.specs.Str.{bytes_eq}
 use Rattle.std.proofs.lemmas.List.{append-nil}
 use Rattle.std.proofs.lemmas.Option.{slice_get-get_or, slice_get_within}
 use Rattle.std.proofs.lemmas.Slice.Eq.{bytes_eq-Decides}
+use Rattle.pz_syntax.specs.Classes.{ModelTree}
 use Rattle.pz_classes.specs.Soundness.{IsSound}
 use Rattle.pz_classes.specs.Members.{variables, spelled}
-use Rattle.pz_bind_levels.specs.Places.{Address}
 use Rattle.pz_bind.specs.Nest.{processes, class_at}
-use Rattle.pz_bind.specs.Names.{path}
+use Rattle.pz_trace.specs.Labels.{path_of}
 use Rattle.pz_rules.specs.declared.action.Action.{Action}
 use Rattle.pz_rules.specs.declared.moment.Moment.{Moment}
 use Rattle.pz_rules.specs.declared.moment.Moment.TheVariants.{Actions, Time, Finished, Deadlock, Faulty, Stopped, Broken}
@@ -34,8 +34,10 @@ use Rattle.pz_debug_replies.specs.Replies.{Replies}
 use Rattle.pz_debug_replies.specs.Sessions.{none, more, IsSessionText}
 use Rattle.pz_debug_replies.specs.Laws.{HasAdvance, HasReply, HaveReplies, EveryAdvance, EveryReply, EveryText, EverySession}
 use Rattle.pz_debug_replies.specs.devices.Known.{Known}
+use Rattle.pz_debug_replies.specs.devices.Searching.{IsFirst}
 use Rattle.pz_debug_replies.proofs.Places.{le_or_lt, placed_fits, some_moment, some_passing, some_choosing, some_offer, some_first, never_broken}
 use Rattle.pz_debug_replies.proofs.Parcels.{some_parcel}
+use Rattle.pz_debug_replies.proofs.Searched.{none_named, no_variable, a_variable}
 
 some_process : Process
 some_process = record { term = done; state = record { vars = []; frames = []; objects = [] } }
@@ -156,90 +158,48 @@ module _ (known : Known) (setting : Setting) (sound : IsSound setting.model) whe
     -- what is shown
 
     module _ (word name : List ℕ) where
-      record IsFirst (i : ℕ) (place : Address) : Type 0 where
-        is_process : slice_get (processes setting.model) i ≡ Some place
-        is_path : path setting.model place ≡ word
-        first : (j : ℕ) (other : Address) → j < i → slice_get (processes setting.model) j ≡ Some other → path setting.model other ≡ word → ⊥
+      abbrev m : ModelTree
+      m = setting.model
 
       -- none of so many processes has the path
       abbrev NoneOf : ℕ → Type 0
-      NoneOf n = (j : ℕ) (other : Address) → j < n → slice_get (processes setting.model) j ≡ Some other → path setting.model other ≡ word → ⊥
+      NoneOf n = (j : ℕ) → j < n → path_of m j ≡ word → ⊥
 
-      abbrev Searched : ℕ → Type 0
-      Searched n = ((i : ℕ) × (place : Address) × IsFirst i place) ⊎ NoneOf n
-
-      none_more : (n : ℕ) → NoneOf n → ((other : Address) → slice_get (processes setting.model) n ≡ Some other → path setting.model other ≡ word → ⊥) → NoneOf (suc n)
-      none_more n before here j other within at same =
-          ⊎_elim
-          (λ (last : n ≤ j). let e : j ≡ n = omega (arith, last, within) in here other (ap (slice_get (processes setting.model)) (sym e) ∙ at) same)
-          (λ (below : j < n). before j other below at same)
-          (le_or_lt n j)
-
-      at_place : (n : ℕ) (place : Address) → NoneOf n → slice_get (processes setting.model) n ≡ Some place → (b : Bool) → bytes_eq (path setting.model place) word ≡ b → Searched (suc n)
-      at_place n place before at true same = inl (n, place, record { is_process = at; is_path = (bytes_eq-Decides (path setting.model place) word).0 same; first = before })
-      at_place n place before at false same =
-          inr (none_more n before (λ other there is.
-          let e : place ≡ other = some_is (sym at ∙ there) in
-          apart (sym ((bytes_eq-Decides (path setting.model place) word).1 (ap (path setting.model) e ∙ is)) ∙ same)))
+      at_next : (n : ℕ) → n < length (processes m) → NoneOf n → (b : Bool) → bytes_eq (path_of m n) word ≡ b → ((i : ℕ) × IsFirst m word i) ⊎ NoneOf (suc n)
+      at_next n within before true same = inl (n, record { there = within; is_path = (bytes_eq-Decides (path_of m n) word).0 same; first = before })
+      at_next n within before false same =
+          inr (λ j below is. ⊎_elim
+          (λ (last : n ≤ j). let e : j ≡ n = omega (arith, last, below) in apart (sym ((bytes_eq-Decides (path_of m n) word).1 (ap (path_of m) (sym e) ∙ is)) ∙ same))
+          (λ (earlier : j < n). before j earlier is)
+          (le_or_lt n j))
         where
-          some_is : {p q : Address} → Some p ≡ Some q → p ≡ q
-          some_is e = cc
-
           apart : true ≡ false → ⊥
           apart e = cc
 
-      at_next : (n : ℕ) → NoneOf n → (o : Option Address) → slice_get (processes setting.model) n ≡ o → Searched (suc n)
-      at_next n before None at = inr (none_more n before (λ other there same. never (sym at ∙ there)))
-        where
-          never : {p : Address} → None ≡ Some p → ⊥
-          never e = cc
-      at_next n before (Some place) at = at_place n place before at (bytes_eq (path setting.model place) word) refl
-
-      searched : (n : ℕ) → Searched n
-      searched zero = inr (λ j other below at same. absurd (omega (arith, below)))
-      searched (suc n) = elim (searched n) [ inl here ↦ inl here | inr before ↦ at_next n before (slice_get (processes setting.model) n) refl ]
+      searched : (n : ℕ) → n ≤ length (processes m) → ((i : ℕ) × IsFirst m word i) ⊎ NoneOf n
+      searched zero within = inr (λ j below is. absurd (omega (arith, below)))
+      searched (suc n) within = elim (searched n (omega (arith, within))) [ inl here ↦ inl here | inr before ↦ at_next n (omega (arith, within)) before (bytes_eq (path_of m n) word) refl ]
 
       -- where there is a variable, it holds a value
-      holding : (i v : ℕ) (place : Address) → IsVariable setting.model word name i v → slice_get (processes setting.model) i ≡ Some place → HasReply setting line xs (show word name)
-      holding i v place is at =
+      holding : (i v : ℕ) → IsVariable m word name i v → HasReply setting line xs (show word name)
+      holding i v is =
           let fits = placed_fits known setting sound xs s x in
-          let below : i < length (processes setting.model) = slice_get_within (processes setting.model) i place at in
+          let below : i < length (processes m) = slice_get_within (processes m) i is.place is.is_process in
           let there : i < length x.end.processes = omega (arith, below, fits.all) in
           let process = get_or x.end.processes i some_process in
-          let packed = some_parcel setting.model process.state v known.some_parcel in
+          let packed = some_parcel m process.state v known.some_parcel in
           stays (show word name) _ (replies.shows xs x.end x.standing word name i v packed.0 (subst (λ (t : Simulation). StandsAfter setting xs t) x.is_there x) is
           (record { process = process; stands = slice_get-get_or x.end.processes i some_process there; is_parcel = packed.1 }))
 
-      -- there is no other such process
-      one_place : (i : ℕ) (place : Address) → IsFirst i place → (j w : ℕ) (other : IsVariable setting.model word name j w) → other.place ≡ place
-      one_place i place is j w other =
-          elim (le_or_lt j i) [
-            | inl up_to ↦ elim (le_or_lt i j) [
-              | inl also ↦ let e : j ≡ i = omega (arith, up_to, also) in some_is (sym other.is_process ∙ ap (slice_get (processes setting.model)) e ∙ is.is_process)
-              | inr below ↦ absurd (is.first j other.place below other.is_process other.is_path)
-            ]
-            | inr above ↦ absurd (other.first i place above is.is_process is.is_path)
-          ]
-        where
-          some_is : {p q : Address} → Some p ≡ Some q → p ≡ q
-          some_is e = cc
-
-      found_in : (i : ℕ) (place : Address) → IsFirst i place → (o : Option ℕ) → position (λ y. bytes_eq y name) (spelled (variables setting.model (class_at setting.model place))) ≡ o → HasReply setting line xs (show word name)
-      found_in i place is None absent =
-          stays (show word name) refused_show_line (replies.shows_none xs word name (λ j w other.
-          let same : other.place ≡ place = one_place i place is j w other in
-          never (sym absent ∙ subst (λ (p : Address). position (λ y. bytes_eq y name) (spelled (variables setting.model (class_at setting.model p))) ≡ Some w) same other.is_variable)))
-        where
-          never : {n : ℕ} → None ≡ Some n → ⊥
-          never e = cc
-      found_in i place is (Some v) there =
-          holding i v place (record { place = place; is_process = is.is_process; is_path = is.is_path; first = is.first; is_variable = there }) is.is_process
+      found_in : (i : ℕ) (is : IsFirst m word i) (o : Option ℕ) → position (λ y. bytes_eq y name) (spelled (variables m (class_at m (get_or (processes m) i [])))) ≡ o → HasReply setting line xs (show word name)
+      found_in i is None absent = stays (show word name) refused_show_line (replies.shows_none xs word name (no_variable m word i is name absent))
+      found_in i is (Some v) there = holding i v (a_variable m word i is name v there)
 
       some_show : HasReply setting line xs (show word name)
       some_show =
-          elim (searched (length (processes setting.model))) [
-            | inl here ↦ found_in here.0 here.1 here.2 (position (λ y. bytes_eq y name) (spelled (variables setting.model (class_at setting.model here.1)))) refl
-            | inr none_has ↦ stays (show word name) refused_show_line (replies.shows_none xs word name (λ j w other. none_has j other.place (slice_get_within (processes setting.model) j other.place other.is_process) other.is_process other.is_path))
+          elim (searched (length (processes m)) (omega arith)) [
+            | inl here ↦ found_in here.0 here.1 (position (λ y. bytes_eq y name) (spelled (variables m (class_at m (get_or (processes m) here.0 []))))) refl
+            | inr none_has ↦ stays (show word name) refused_show_line (replies.shows_none xs word name (none_named m word name none_has))
           ]
 
     pub some_reply : (c : Command) → HasReply setting line xs c

@@ -6,4 +6,7 @@ pub mod Existing
 pub mod Written
 pub mod Told
 pub mod Replied
+pub mod Leading
+pub mod Sessions
+pub mod Searched
 pub mod Rows

@@ -5,7 +5,6 @@ use Rattle.pz_rules.specs.declared.action.Action.{Action}
 use Rattle.pz_rules.specs.declared.moment.Moment.{Moment}
 use Rattle.pz_rules.specs.declared.moment.Moment.TheVariants.{Actions, Time}
 use Rattle.pz_rules.specs.Settings.{Setting}
-use Rattle.pz_rules.specs.Runs.{refused}
 use Rattle.pz_rules.specs.Laws.{OneListOfOffers}
 use Rattle.pz_trace.specs.declared.ending.Ending.{Ending}
 use Rattle.pz_trace.specs.Lines.{action_line, time_line, end_line}
@@ -13,14 +12,12 @@ use Rattle.pz_term.specs.Simulations as simulations
 use Rattle.pz_term.specs.Simulations.{Simulation, IsMomentOf, AreOffersOf, IsOffer, clock_in}
 use Rattle.pz_term.specs.Refusals.{NoTime}
 use Rattle.pz_term.specs.Laws.{OneMomentOf, OneOfferOf, OffersAreThere, OffersAreCounted, OffersAreNumbered}
-use Rattle.pz_run_playing.specs.Menus.{offers_text}
-use Rattle.pz_run_playing.specs.Endings.{last_line}
 use Rattle.pz_debug_commands.specs.Commands.{Command}
 use Rattle.pz_debug_session.specs.declared.step.Step.{Step}
 use Rattle.pz_debug_session.specs.declared.step.Step.TheVariants.{Pick, Pass}
 use Rattle.pz_debug_session.specs.Steps.{StandsAfter}
 use Rattle.pz_debug_session.specs.Laws.{OnePlace}
-use Rattle.pz_debug_replies.specs.Lines.{menu_line, waiting_line, refused_pass_line, back_line}
+use Rattle.pz_debug_replies.specs.Lines.{menu_line, offers_text, waiting_line, refused_pick_line, refused_pass_line, back_line}
 use Rattle.pz_debug_replies.specs.Replies.{offers_at, ending_at, Replies, offered, waiting, over, picks, no_offer, passes, no_passing, runs, runs_until, goes_back, too_far, shows, shows_none, is_unknown}
 use Rattle.pz_debug_replies.specs.Sessions.{RepliesAll, none, more}
 use Rattle.pz_debug_replies.specs.Laws.{ShowsNothing, ShowNothing}
@@ -102,8 +99,8 @@ module _ (known : Known) (setting : Setting) where
   one_reply line _ _ _ _ _ _ plain (picks xs s n k a at is offers) (no_offer _ t _ m also be few) = absurd (not_refused s n k a m is offers (moment_is xs s t (Actions n) m at also is be) few)
   one_reply line _ _ _ _ _ _ plain (no_offer xs s k m at is few) (picks _ t n _ a also be offers) = absurd (not_refused t n k a m be offers (moment_is xs t s (Actions n) m also at be is) few)
   one_reply line _ _ _ _ _ _ plain (no_offer xs s k m at is few) (no_offer _ t _ n also be less) = (
-    ap (λ (x : ℕ). last_line setting.model x (refused k (offers_at m))) (clocks xs s t at also)
-        ∙ ap (λ (x : Moment). last_line setting.model (clock_in t) (refused k (offers_at x))) (moment_is xs s t m n at also is be),
+    ap (λ (x : ℕ). refused_pick_line x k (offers_at m)) (clocks xs s t at also)
+        ∙ ap (λ (x : Moment). refused_pick_line (clock_in t) k (offers_at x)) (moment_is xs s t m n at also is be),
     refl,
   )
   one_reply line _ _ _ _ _ _ plain (passes xs s d at is) (passes _ t e also be) =

@@ -25,25 +25,25 @@ use Rattle.pz_rules.specs.devices.Walk.{ActiveSend}
 use Rattle.pz_rules.specs.devices.Walks.{Offering, offering, SendsHaveParcels}
 
 module _ (m : ModelTree) (s : StateView) (v : ℕ) where
-  at : Pos
+  abbrev at : Pos
   at = record { line = 0; column = 0 }
 
-  name : Id
+  abbrev name : Id
   name = record { name = []; pos = at }
 
-  seen : Context
+  abbrev seen : Context
   seen = record { setting = record { model = m; limits = record { units = 1; depth = 1; height = 1; edition = Two } }; process = 0; class = 0; clock = 0; state = s }
 
-  args : Part Slot ClassId
+  abbrev args : Part Slot ClassId
   args = written (more (read at (Shared v)) none)
 
-  values : List Value
+  abbrev values : List Value
   values = variable s v ∷ []
 
-  sending : Term
+  abbrev sending : Term
   sending = leaf (send at 0 name args left_out)
 
-  sent : ActiveSend
+  abbrev sent : ActiveSend
   sent = record { pos = at; port = 0; message = []; values = values; state = s }
 
   offers : Offering seen 0 sending sent

@@ -1,8 +1,9 @@
 -- Replies, by what was written of them.
-use Rattle.std.proofs.Common.{◌≡◌, ◌-◌, ◌<◌, ◌≤◌, ◌+◌, ℕ, suc, Bool, true, false, List, [], ◌∷◌, ◌++◌, length, take, Option, Some, None, Result, Ok, Err, refl, sym, ap, subst, ◌∙◌, append_assoc, arith}
+use Rattle.std.proofs.Common.{◌≡◌, ◌-◌, ◌<◌, ◌≤◌, ◌+◌, min, ℕ, suc, Bool, true, false, List, [], ◌∷◌, ◌++◌, length, take, Option, Some, None, Result, Ok, Err, refl, sym, ap, subst, ◌∙◌, append_assoc, arith}
 use Rattle.std.specs.Prelude.{OnOk}
 use Rattle.std.specs.Result.{result_err}
-use Rattle.std.proofs.lemmas.List.{append-nil}
+use Rattle.std.proofs.lemmas.List.{append-nil, length-take}
+use Rattle.std.proofs.lemmas.Option.{slice_get_within}
 use Rattle.pz_io.specs.Outside.{SinkState}
 use Rattle.pz_io.specs.declared.writing.Halt.{Halt}
 use Rattle.pz_io.specs.declared.writing.Halt.TheVariants.{NoMemory}
@@ -13,14 +14,21 @@ use Rattle.pz_rules.specs.declared.moment.Moment.{Moment}
 use Rattle.pz_rules.specs.declared.moment.Moment.TheVariants.{Actions, Time, Finished, Deadlock, Faulty, Stopped, Broken}
 use Rattle.pz_rules.specs.Settings.{Setting}
 use Rattle.pz_trace.specs.Lines.{action_line, time_line}
-use Rattle.pz_term.specs.Simulations.{Simulation, IsMomentOf, IsOffer, Chooses, Passes, setting_in, model_in, clock_in}
+use Rattle.pz_copy.specs.Parcels.{ParcelView}
+use Rattle.pz_bind.specs.Nest.{processes}
+use Rattle.pz_rules.specs.Configurations.{Config}
+use Rattle.pz_rules.specs.Runs.{Standing}
+use Rattle.pz_term.specs.Shown.{IsShown, CanShow}
+use Rattle.pz_term.specs.Simulations.{Simulation, stands, IsMomentOf, IsOffer, Chooses, Passes, setting_in, model_in, clock_in}
 use Rattle.pz_term.specs.Refusals.{NoActions, NoTime}
-use Rattle.pz_debug_commands.specs.Commands.{Command, pick, pass, back}
+use Rattle.pz_debug_commands.specs.Commands.{Command, pick, pass, run, until, back, show}
 use Rattle.pz_debug_session.specs.declared.step.Step.{Step}
 use Rattle.pz_debug_session.specs.declared.step.Step.TheVariants.{Pick, Pass}
 use Rattle.pz_debug_session.specs.Steps.{StandsAfter}
 use Rattle.pz_debug_replies.specs.Advancing.{is_wanted, Advances, used_up, held, passes, acts, found}
-use Rattle.pz_debug_replies.specs.Replies.{offers_at, Replies}
+use Rattle.pz_debug_replies.specs.Replies.{offers_at, Replies, runs, runs_until, goes_back, too_far, shows, shows_none}
+use Rattle.pz_debug_replies.specs.Lines.{back_line, refused_back_line, show_line}
+use Rattle.pz_debug_replies.specs.Shown.{IsVariable}
 use Rattle.pz_debug_replies.specs.Replying.{IsAt, Replied}
 use Rattle.pz_debug_replies.specs.devices.Known.{Known}
 use Rattle.pz_debug_replies.specs.devices.Advanced.{GoesOn, Ends, Halts, WentOn, OnTheWay, Advanced}
@@ -234,3 +242,61 @@ module _ (known : Known) (message : Option (List ℕ)) (xs : List Step) (s : Sim
 pub stepped : {A : Type 0} (line : ℕ) (c : Command) (xs : List Step) (s : Simulation) (ys : List Step) (t : Simulation) (before now : SinkState) (r : Result A Halt) (text : List ℕ) (zs : List Step)
     → Replies (setting_in s) line xs c text zs → Wrote before now text (result_err r) → OnOk r (ys ≡ zs) → OnOk r (IsAt ys t) → setting_in t ≡ setting_in s → Replied line c xs s ys t before now r
 stepped line c xs s ys t before now r text zs replies wrote left at same = record { text = text; left = zs; replies = replies; wrote = wrote; steps = left; is_at = at; setting = same }
+
+-- going back
+
+pub at_back : (xs : List Step) (s : Simulation) (ys : List Step) (t : Simulation) → IsAt xs s → StandsAfter (setting_in s) ys t → setting_in t ≡ setting_in s → IsAt ys t
+at_back xs s ys t x at same = record { sound = subst (λ (u : Setting). IsSound u.model) (sym same) x.sound; opens = rw same x.opens; place = rw same at }
+
+pub went_back : {A : Type 0} (line n : ℕ) (xs : List Step) (s : Simulation) (ys : List Step) (t : Simulation) (before now : SinkState) (r : Result A Halt) → IsAt xs s → n ≤ length xs → ys ≡ take (length xs - n) xs
+    → StandsAfter (setting_in s) ys t → setting_in t ≡ setting_in s → Wrote before now (back_line (length ys) (clock_in t)) (result_err r) → Replied line (back n) xs s ys t before now r
+went_back line n xs s ys t before now r x within left at same wrote =
+    let counted : length ys ≡ length xs - n = ap (λ (l : List Step). length l) left ∙ length-take (length xs - n) xs ∙ least in
+    record {
+      text = back_line (length xs - n) (clock_in t);
+      left = take (length xs - n) xs;
+      replies = goes_back n xs t within (subst (λ (l : List Step). StandsAfter (setting_in s) l t) left at);
+      wrote = subst (λ (k : ℕ). Wrote before now (back_line k (clock_in t)) (result_err r)) counted wrote;
+      steps = by_result r left;
+      is_at = by_result r (at_back xs s ys t x at same);
+      setting = same;
+    }
+  where
+    least : min (length xs - n) (length xs) ≡ length xs - n
+    least = omega arith
+
+    by_result : {B : Type 0} → (q : Result A Halt) → B → OnOk q B
+    by_result (Ok done) b = b
+    by_result (Err halt) b = tt
+
+pub too_far_back : {A : Type 0} (line n k : ℕ) (xs : List Step) (s : Simulation) (before now : SinkState) (r : Result A Halt) → IsAt xs s → k ≡ length xs → k < n → Wrote before now (refused_back_line n k) (result_err r)
+    → Replied line (back n) xs s xs s before now r
+too_far_back line n k xs s before now r x is past wrote =
+    told line (back n) xs s before now r (refused_back_line n (length xs)) x (too_far n xs (subst (λ (j : ℕ). j < n) is past)) (subst (λ (j : ℕ). Wrote before now (refused_back_line n j) (result_err r)) is wrote)
+
+-- a row of steps is the reply to `run` and to `until`
+
+pub run_replied : {A : Type 0} (line n : ℕ) (xs : List Step) (s : Simulation) (ys : List Step) (t : Simulation) (before now : SinkState) (r : Result A Halt) → Advanced None xs s ys t before now n r → Replied line (run n) xs s ys t before now r
+run_replied line n xs s ys t before now r x =
+    record { text = x.text; left = x.left; replies = runs n xs x.left x.text x.advances; wrote = x.wrote; steps = x.steps; is_at = x.is_at; setting = x.setting }
+
+pub until_replied : {A : Type 0} (line n : ℕ) (message : List ℕ) (xs : List Step) (s : Simulation) (ys : List Step) (t : Simulation) (before now : SinkState) (r : Result A Halt) → Advanced (Some message) xs s ys t before now n r
+    → Replied line (until message n) xs s ys t before now r
+until_replied line n message xs s ys t before now r x =
+    record { text = x.text; left = x.left; replies = runs_until message n xs x.left x.text x.advances; wrote = x.wrote; steps = x.steps; is_at = x.is_at; setting = x.setting }
+
+-- what a variable holds
+
+shown_stands : (setting : Setting) (c : Config) (standing : Standing) (word name : List ℕ) (i v : ℕ) → IsVariable setting.model word name i v → CanShow (stands setting c standing) i
+shown_stands setting c standing word name i v is = slice_get_within (processes setting.model) i is.place is.is_process
+
+pub can_show : Known → (xs : List Step) (s : Simulation) (word name : List ℕ) (i v : ℕ) → IsAt xs s → IsVariable (model_in s) word name i v → CanShow s i
+can_show known xs s word name i v x is =
+    subst (λ (t : Simulation). CanShow t i) (sym x.place.is_there) (shown_stands (setting_in s) x.place.end x.place.standing word name i v is)
+
+pub value_told : {A : Type 0} → Known → (line : ℕ) (xs : List Step) (s : Simulation) (word name : List ℕ) (i v : ℕ) (parcel : ParcelView) (before now : SinkState) (r : Result A Halt) → IsAt xs s → IsVariable (model_in s) word name i v → IsShown s i v parcel
+    → Wrote before now (show_line (model_in s) word name parcel) (result_err r) → Replied line (show word name) xs s xs s before now r
+value_told known line xs s word name i v parcel before now r x is shown wrote =
+    let place = x.place in
+    told line (show word name) xs s before now r (show_line (model_in s) word name parcel) x
+    (shows xs place.end place.standing word name i v parcel (subst (λ (t : Simulation). StandsAfter (setting_in s) xs t) place.is_there place) is (subst (λ (t : Simulation). IsShown t i v parcel) place.is_there shown)) wrote

@@ -8,7 +8,7 @@ use Rattle.pz_io.specs.declared.writing.Halt.{Halt}
 use Rattle.pz_io.specs.Writing.{Wrote}
 use Rattle.pz_syntax.specs.Classes.{ModelTree}
 use Rattle.pz_rules.specs.declared.action.Action.{Action}
-use Rattle.pz_run_playing.specs.Menus.{offer_line, offers_text}
+use Rattle.pz_debug_replies.specs.Lines.{offer_line, offers_text}
 use Rattle.pz_debug_replies.specs.devices.Known.{Known}
 
 -- behind the last there is nothing

@@ -1,7 +1,6 @@
 -- What was written where something halts.
-use Rattle.std.proofs.Common.{◌≡◌, ℕ, List, [], ◌∷◌, ◌++◌, Some, None, Result, Ok, Err, refl, sym, subst, ap, ◌∙◌, append_assoc}
-use Rattle.std.specs.Prelude.{IfOk, codes}
-use Rattle.std.specs.Fmt.{decimal}
+use Rattle.std.proofs.Common.{◌≡◌, ℕ, List, [], ◌∷◌, ◌++◌, Some, None, Result, Ok, Err, refl, sym, subst, ap, ◌∙◌}
+use Rattle.std.specs.Prelude.{IfOk}
 use Rattle.std.specs.Result.{IsErrAnd, result_err}
 use Rattle.std.proofs.lemmas.List.{append-nil}
 use Rattle.std.proofs.lemmas.Result.{err_from_is_err_and}
@@ -9,10 +8,6 @@ use Rattle.pz_io.specs.Outside.{SinkState}
 use Rattle.pz_io.specs.declared.writing.Halt.{Halt}
 use Rattle.pz_io.specs.declared.writing.Halt.TheVariants.{NoMemory}
 use Rattle.pz_io.specs.Writing.{Wrote}
-use Rattle.pz_syntax.specs.Classes.{ModelTree}
-use Rattle.pz_trace.specs.Lines.{newline}
-use Rattle.pz_rules.specs.Runs.{refused}
-use Rattle.pz_run_playing.specs.Endings.{last_line}
 use Rattle.pz_debug_replies.specs.devices.Known.{Known}
 
 -- the error that a `?` hands on
@@ -32,12 +27,6 @@ none_written known s text r is = rw (halted_so r NoMemory is) (none_of known s t
 -- a text, and then memory was wanting
 pub whole_written : Known → (before now : SinkState) (text : List ℕ) → Wrote before now text None → Wrote before now text (Some NoMemory)
 whole_written known before now text wrote = subst (λ (l : List ℕ). Wrote before now l (Some NoMemory)) (append-nil text) (known.wants before now text [] wrote)
-
--- the line of an offer that is not there
-pub refused_pick : (m : ModelTree) (clock k n : ℕ) → last_line m clock (refused k n) ≡ decimal clock ++ (codes " refused " ++ (decimal k ++ (codes " of " ++ (decimal n ++ newline))))
-refused_pick m clock k n =
-    ap (λ (l : List ℕ). decimal clock ++ (codes " refused " ++ l))
-    (append_assoc (decimal k) (codes " of " ++ decimal n) newline ∙ ap (λ (l : List ℕ). decimal k ++ l) (append_assoc (codes " of ") (decimal n) newline))
 
 -- a line that was made
 pub put_line : (bytes : List ℕ) (before now : SinkState) {A : Type 0} (r : Result A Halt) (text : List ℕ) → Wrote before now bytes (result_err r) → bytes ≡ text → Wrote before now text (result_err r)

@@ -6,21 +6,20 @@ use Rattle.pz_rules.specs.declared.moment.Moment.{Moment}
 use Rattle.pz_rules.specs.declared.moment.Moment.TheVariants.{Actions, Time, Finished, Deadlock, Faulty, Stopped}
 use Rattle.pz_rules.specs.Settings.{Setting}
 use Rattle.pz_rules.specs.Configurations.{Config}
-use Rattle.pz_rules.specs.Runs.{Standing, refused}
+use Rattle.pz_rules.specs.Runs.{Standing}
 use Rattle.pz_trace.specs.declared.ending.Ending.{Ending}
 use Rattle.pz_trace.specs.declared.ending.Ending.TheVariants as ending
 use Rattle.pz_trace.specs.declared.ending.Ending.TheVariants.{End, Trouble}
 use Rattle.pz_trace.specs.Lines.{action_line, time_line, end_line}
 use Rattle.pz_term.specs.Simulations.{Simulation, stands, IsMomentOf, AreOffersOf, IsOffer, clock_in}
+use Rattle.pz_term.specs.Shown.{HoldsValue}
 use Rattle.pz_term.specs.Refusals.{NoTime}
-use Rattle.pz_run_playing.specs.Menus.{offers_text}
-use Rattle.pz_run_playing.specs.Endings.{last_line}
 use Rattle.pz_debug_commands.specs.Commands.{Command, menu, pick, pass, run, until, back, show, unknown}
 use Rattle.pz_debug_session.specs.declared.step.Step.{Step}
 use Rattle.pz_debug_session.specs.declared.step.Step.TheVariants.{Pick, Pass}
 use Rattle.pz_debug_session.specs.Steps.{StandsAfter}
-use Rattle.pz_debug_replies.specs.Lines.{menu_line, waiting_line, refused_pass_line, back_line, refused_back_line, show_line, refused_show_line, refused_command_line}
-use Rattle.pz_debug_replies.specs.Shown.{IsVariable, Holds}
+use Rattle.pz_debug_replies.specs.Lines.{menu_line, offers_text, waiting_line, refused_pick_line, refused_pass_line, back_line, refused_back_line, show_line, refused_show_line, refused_command_line}
+use Rattle.pz_debug_replies.specs.Shown.{IsVariable}
 use Rattle.pz_debug_replies.specs.Advancing.{Advances}
 
 -- how many offers the moment counts; none where it is not `Actions`
@@ -47,7 +46,7 @@ pub data Replies (setting : Setting) (line : ℕ) : List Step → Command → Li
   picks : (xs : List Step) (s : Simulation) (n k : ℕ) (a : Action) → StandsAfter setting xs s → IsMomentOf s (Actions n) → IsOffer s k a
       → Replies setting line xs (pick k) (action_line setting.model (clock_in s) n k a) (xs ++ Pick k ∷ [])
   no_offer : (xs : List Step) (s : Simulation) (k : ℕ) (moment : Moment) → StandsAfter setting xs s → IsMomentOf s moment → offers_at moment ≤ k
-      → Replies setting line xs (pick k) (last_line setting.model (clock_in s) (refused k (offers_at moment))) xs
+      → Replies setting line xs (pick k) (refused_pick_line (clock_in s) k (offers_at moment)) xs
   passes : (xs : List Step) (s : Simulation) (d : ℕ) → StandsAfter setting xs s → IsMomentOf s (Time d) → Replies setting line xs pass (time_line (clock_in s) d) (xs ++ Pass ∷ [])
   no_passing : (xs : List Step) (s : Simulation) (moment : Moment) → StandsAfter setting xs s → IsMomentOf s moment → NoTime moment
       → Replies setting line xs pass (refused_pass_line (clock_in s)) xs
@@ -58,6 +57,6 @@ pub data Replies (setting : Setting) (line : ℕ) : List Step → Command → Li
       → Replies setting line xs (back n) (back_line (length xs - n) (clock_in s)) (take (length xs - n) xs)
   too_far : (n : ℕ) (xs : List Step) → length xs < n → Replies setting line xs (back n) (refused_back_line n (length xs)) xs
   shows : (xs : List Step) (c : Config) (standing : Standing) (path name : List ℕ) (i v : ℕ) (parcel : ParcelView) → StandsAfter setting xs (stands setting c standing)
-      → IsVariable setting.model path name i v → Holds c i v parcel → Replies setting line xs (show path name) (show_line setting.model path name parcel) xs
+      → IsVariable setting.model path name i v → HoldsValue c i v parcel → Replies setting line xs (show path name) (show_line setting.model path name parcel) xs
   shows_none : (xs : List Step) (path name : List ℕ) → ((i v : ℕ) → IsVariable setting.model path name i v → ⊥) → Replies setting line xs (show path name) refused_show_line xs
   is_unknown : (xs : List Step) → Replies setting line xs unknown (refused_command_line line) xs

@@ -1,17 +1,12 @@
--- What a variable of a process holds.
-use Rattle.std.specs.Prelude.{◌≡◌, ◌<◌, ℕ, List, [], ◌∷◌, Some, slice_get}
+-- Which variable of which process is meant. What it holds is said by `Shown` of `pz_term`.
+use Rattle.std.specs.Prelude.{◌≡◌, ◌<◌, ℕ, List, Some, slice_get}
 use Rattle.std.specs.List.{position}
 use Rattle.std.specs.Str.{bytes_eq}
 use Rattle.pz_syntax.specs.Classes.{ModelTree}
 use Rattle.pz_classes.specs.Members.{variables, spelled}
-use Rattle.pz_state.specs.States.{variable}
-use Rattle.pz_copy.specs.Parcels.{ParcelView}
-use Rattle.pz_copy.specs.Packing.{IsParcelOf}
 use Rattle.pz_bind_levels.specs.Places.{Address}
 use Rattle.pz_bind.specs.Nest.{processes, class_at}
 use Rattle.pz_bind.specs.Names.{path}
-use Rattle.pz_rules.specs.Settings.{Process}
-use Rattle.pz_rules.specs.Configurations.{Config}
 
 -- Variable v of process i: the process is the first with this path, and its class has a variable of
 -- this name at this place, the parameters and the variables of its ancestors included.
@@ -21,9 +16,3 @@ pub record IsVariable (m : ModelTree) (word name : List ℕ) (i v : ℕ) : Type 
   pub is_path : path m place ≡ word
   pub first : (j : ℕ) (other : Address) → j < i → slice_get (processes m) j ≡ Some other → path m other ≡ word → ⊥
   pub is_variable : position (λ x. bytes_eq x name) (spelled (variables m (class_at m place))) ≡ Some v
-
--- the value in it, as a parcel, with all objects to which it leads
-pub record Holds (c : Config) (i v : ℕ) (parcel : ParcelView) : Type 0 where
-  pub process : Process
-  pub stands : slice_get c.processes i ≡ Some process
-  pub is_parcel : IsParcelOf process.state (variable process.state v ∷ []) parcel

@@ -1,13 +1,9 @@
 // The lines of a session that are none of a trace. The only error is want of memory.
 
 ghost use Rattle.std.specs.Prelude.{◌≡◌, IfOk};
-ghost use Rattle.pz_syntax.specs.Classes.{ModelTree};
 ghost use Rattle.pz_classes.specs.CheckedView.{checked_model};
 ghost use Rattle.pz_bind.specs.devices.Nets.{IsNet};
-ghost use Rattle.pz_rules.specs.Runs.{refused};
 ghost use Rattle.pz_trace.specs.Named.{IsNamed};
-ghost use Rattle.pz_run_playing.specs.Endings.{last_line};
-ghost use Rattle.pz_run_playing.specs.Menus as menus;
 ghost use Rattle.pz_debug_replies.specs.Lines as lines;
 
 use crate::names::class_names;
@@ -42,7 +38,7 @@ pub(crate) fn offer_line(
 ) -> Result<Vec<u8>, AllocError>
     requires of_model { ∥ IsNet (checked_model checked.now) net.now ∥₁ }
     requires named { IsNamed net.now action.now }
-    ensures { IfOk result (λ line. line.items ≡ menus.offer_line
+    ensures { IfOk result (λ line. line.items ≡ lines.offer_line
         (checked_model checked.now) number action.now) }
 {
     let label = label(alloc, checked, net, action)?;
@@ -59,8 +55,7 @@ pub(crate) fn refused_pick_line(
     number: u64,
     offers: u64,
 ) -> Result<Vec<u8>, AllocError>
-    ensures { (m : ModelTree) →
-        IfOk result (λ line. line.items ≡ last_line m clock (refused number offers)) }
+    ensures { IfOk result (λ line. line.items ≡ lines.refused_pick_line clock number offers) }
 {
     Ok(format!(in alloc; "{clock} refused {number} of {offers}\n")?.into_bytes())
 }

@@ -6,8 +6,6 @@ ghost use Rattle.pz_io.specs.Writing.{Wrote};
 ghost use Rattle.pz_rules.specs.declared.action.Action.{Action as TheAction};
 ghost use Rattle.pz_trace.specs.Lines as trace_lines;
 ghost use Rattle.pz_term.specs.Simulations.{IsMomentOf, AreOffersOf, IsOffer, model_in, clock_in};
-ghost use Rattle.pz_run_playing.specs.Menus as menus;
-ghost use Rattle.pz_run_playing.specs.Menus.{offers_text};
 ghost use Rattle.pz_debug_commands.specs.Commands.{menu};
 ghost use Rattle.pz_debug_session.specs.Sessions.{steps_in, stands_in};
 ghost use Rattle.pz_debug_replies.specs.Lines as lines;
@@ -59,7 +57,7 @@ fn tell_offers<E: Engine + Drop, W: Sink>(
         AreOffersOf (stands_in E.simulation session.now) actions →
         Wrote (W.state out.old) (W.state out.new)
         (lines.menu_line (clock_in (stands_in E.simulation session.now)) offers
-        ++ offers_text (model_in (stands_in E.simulation session.now)) 0 actions)
+        ++ lines.offers_text (model_in (stands_in E.simulation session.now)) 0 actions)
         (result_err result) }
 {
     rules_are_known();
@@ -94,7 +92,7 @@ fn offered_line<E: Engine + Drop>(
         × (number < n) }
     ensures { IfOk result (λ line. (a : TheAction) →
         IsOffer (stands_in E.simulation session.now) number a →
-        line.items ≡ menus.offer_line (model_in (stands_in E.simulation session.now)) number a) }
+        line.items ≡ lines.offer_line (model_in (stands_in E.simulation session.now)) number a) }
 {
     rules_are_known();
     let action = offer_of(session, number)?;
@@ -112,7 +110,7 @@ fn tell_offer<E: Engine + Drop, W: Sink>(
         × (number < n) }
     ensures { (a : TheAction) → IsOffer (stands_in E.simulation session.now) number a →
         Wrote (W.state out.old) (W.state out.new)
-        (menus.offer_line (model_in (stands_in E.simulation session.now)) number a)
+        (lines.offer_line (model_in (stands_in E.simulation session.now)) number a)
         (result_err result) }
 {
     rules_are_known();
@@ -131,7 +129,7 @@ fn tell_each<E: Engine + Drop, W: Sink>(
     ensures { (actions : List TheAction) →
         AreOffersOf (stands_in E.simulation session.now) actions →
         Wrote (W.state out.old) (W.state out.new)
-        (offers_text (model_in (stands_in E.simulation session.now)) 0 actions)
+        (lines.offers_text (model_in (stands_in E.simulation session.now)) 0 actions)
         (result_err result) }
 {
     rules_are_known();

@@ -3,10 +3,8 @@
 ghost use Rattle.std.specs.Prelude.{◌≡◌, ◌≤◌, ◌<◌, ℕ, [], ◌∷◌, ◌++◌, OnOk};
 ghost use Rattle.std.specs.Result.{result_err};
 ghost use Rattle.pz_io.specs.Writing.{Wrote};
-ghost use Rattle.pz_rules.specs.Runs.{refused};
 ghost use Rattle.pz_trace.specs.Lines as trace_lines;
 ghost use Rattle.pz_term.specs.Simulations.{IsMomentOf, IsOffer, setting_in, model_in, clock_in};
-ghost use Rattle.pz_run_playing.specs.Endings.{last_line};
 ghost use Rattle.pz_debug_commands.specs.Commands as commands;
 ghost use Rattle.pz_debug_session.specs.declared.step.Step.TheVariants as step;
 ghost use Rattle.pz_debug_session.specs.Sessions.{steps_in, stands_in};
@@ -170,8 +168,7 @@ fn refuse_pick<E: Engine + Drop, W: Sink>(
 ) -> Result<(), Halt>
     requires at { IsAt (steps_in session.now) (stands_in E.simulation session.now) }
     ensures { Wrote (W.state out.old) (W.state out.new)
-        (last_line (model_in (stands_in E.simulation session.now))
-        (clock_in (stands_in E.simulation session.now)) (refused number offers))
+        (lines.refused_pick_line (clock_in (stands_in E.simulation session.now)) number offers)
         (result_err result) }
 {
     rules_are_known();

@@ -1,5 +1,5 @@
 use Rattle.pz_term.specs.Simulations.{model_in, clock_in}
-use Rattle.pz_run_playing.specs.Menus.{offers_text}
+use Rattle.pz_debug_replies.specs.Lines.{offers_text}
 use Rattle.pz_debug_session.specs.Sessions.{stands_in}
 use Rattle.pz_debug_replies.specs.Lines.{menu_line}
 use Rattle.pz_debug_replies.proofs.Written.{both_written, first_halted}

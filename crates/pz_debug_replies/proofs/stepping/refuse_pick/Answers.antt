@@ -1,9 +1,8 @@
 use Rattle.std.proofs.Common.{ℕ, subst}
 use Rattle.std.specs.Result.{result_err}
 use Rattle.pz_io.specs.Writing.{Wrote}
-use Rattle.pz_rules.specs.Runs.{refused}
 use Rattle.pz_term.specs.Simulations.{model_in, setting_in}
-use Rattle.pz_run_playing.specs.Endings.{last_line}
+use Rattle.pz_debug_replies.specs.Lines.{refused_pick_line}
 use Rattle.pz_debug_session.specs.Sessions.{stands_in, steps_in}
 use Rattle.pz_debug_replies.proofs.Places.{clock_there}
 use Rattle.pz_debug_replies.proofs.Written.{none_written, put_line}
@@ -15,6 +14,6 @@ returns-in_err-line g c = none_written c.rules_are_known.ensures _ _ c.from_resi
 pub returns : goal.returns
 returns g c =
     let s = stands_in g.E.Simulator.simulation c.args.session.now in
-    subst (λ (n : ℕ). Wrote (g.W.Sink.state c.args.out.now) (g.W.Sink.state c.put.new.out) (last_line (model_in s) n (refused c.args.number c.args.offers)) (result_err c.put.result))
+    subst (λ (n : ℕ). Wrote (g.W.Sink.state c.args.out.now) (g.W.Sink.state c.put.new.out) (refused_pick_line n c.args.number c.args.offers) (result_err c.put.result))
     (clock_there (setting_in s) (steps_in c.args.session.now) s c.clock.result c.requires.at.place c.clock.ensures)
-    (put_line c.as_slice.result.now _ _ _ (last_line (model_in s) c.clock.result (refused c.args.number c.args.offers)) c.put.ensures.wrote (rw c.as_slice.ensures.value (c.in_ok-line.ensures (model_in s))))
+    (put_line c.as_slice.result.now _ _ _ (refused_pick_line c.clock.result c.args.number c.args.offers) c.put.ensures.wrote (rw c.as_slice.ensures.value c.in_ok-line.ensures))

@@ -3,9 +3,8 @@ use Rattle.std.specs.Result.{result_err}
 use Rattle.pz_io.specs.Writing.{Wrote}
 use Rattle.pz_rules.specs.declared.moment.Moment.{Moment}
 use Rattle.pz_rules.specs.declared.moment.Moment.TheVariants.{Actions}
-use Rattle.pz_rules.specs.Runs.{refused}
 use Rattle.pz_term.specs.Simulations.{IsMomentOf, model_in, clock_in}
-use Rattle.pz_run_playing.specs.Endings.{last_line}
+use Rattle.pz_debug_replies.specs.Lines.{refused_pick_line}
 use Rattle.pz_debug_commands.specs.Commands.{pick}
 use Rattle.pz_debug_session.specs.Sessions.{stands_in, steps_in}
 use Rattle.pz_debug_replies.specs.Replies.{offers_at, no_offer}
@@ -25,6 +24,6 @@ returns-in_else g c = λ line.
     let xs = steps_in c.args.session.now in
     let same : c.offers_at-offers.result ≡ offers_at c.moment.result = c.offers_at-offers.ensures in
     let few : offers_at c.moment.result ≤ c.args.number = omega (arith, same) in
-    told line (pick c.args.number) xs s _ _ c.refuse_pick.result (last_line (model_in s) (clock_in s) (refused c.args.number (offers_at c.moment.result))) c.requires
+    told line (pick c.args.number) xs s _ _ c.refuse_pick.result (refused_pick_line (clock_in s) c.args.number (offers_at c.moment.result)) c.requires
     (no_offer xs s c.args.number c.moment.result c.requires.place c.moment.ensures few)
-    (subst (λ (n : ℕ). Wrote (g.W.Sink.state c.args.out.now) (g.W.Sink.state c.refuse_pick.new.out) (last_line (model_in s) (clock_in s) (refused c.args.number n)) (result_err c.refuse_pick.result)) same c.refuse_pick.ensures)
+    (subst (λ (n : ℕ). Wrote (g.W.Sink.state c.args.out.now) (g.W.Sink.state c.refuse_pick.new.out) (refused_pick_line (clock_in s) c.args.number n) (result_err c.refuse_pick.result)) same c.refuse_pick.ensures)
