@@ -7,6 +7,6 @@ pub mod Written
 pub mod Told
 pub mod Replied
 pub mod Leading
-pub mod Sessions
+pub mod Answered
 pub mod Searched
 pub mod Rows

@@ -33,7 +33,7 @@ enum Going {
 
 // Whether this is a communication of the message.
 fn is_wanted(wanted: Wanted<'_>, action: &Action) -> bool
-    ensures { result ≡ spec.is_wanted (message_of wanted) action.now }
+    ensures { result ≡ spec.is_wanted (message_of wanted.entry) action.now }
 {
     match (wanted, action) {
         (Wanted::Message(name), Action::Comm { message, .. }) => message.as_str().as_bytes() == name,
@@ -51,7 +51,7 @@ pub(crate) fn advance<E: Engine + Drop, W: Sink>(
     out: &mut W,
 ) -> Result<(), Halt>
     requires { IsAt (steps_in session.old) (stands_in E.simulation session.old) }
-    ensures { Advanced (message_of wanted)
+    ensures { Advanced (message_of wanted.entry)
         (steps_in session.old) (stands_in E.simulation session.old)
         (steps_in session.new) (stands_in E.simulation session.new)
         (W.state out.old) (W.state out.new) most result }
@@ -74,7 +74,7 @@ fn go_on<E: Engine + Drop, W: Sink>(
     out: &mut W,
 ) -> Result<Going, Halt>
     requires { IsAt (steps_in session.old) (stands_in E.simulation session.old) }
-    ensures { WentOn (message_of wanted)
+    ensures { WentOn (message_of wanted.entry)
         (steps_in session.old) (stands_in E.simulation session.old)
         (steps_in session.new) (stands_in E.simulation session.new)
         (W.state out.old) (W.state out.new) result }
@@ -97,7 +97,7 @@ fn go_on_acting<E: Engine + Drop, W: Sink>(
 ) -> Result<Going, Halt>
     requires moment { IsMomentOf (stands_in E.simulation session.old) (Moment.Actions offers) }
     requires at { IsAt (steps_in session.old) (stands_in E.simulation session.old) }
-    ensures { WentOn (message_of wanted)
+    ensures { WentOn (message_of wanted.entry)
         (steps_in session.old) (stands_in E.simulation session.old)
         (steps_in session.new) (stands_in E.simulation session.new)
         (W.state out.old) (W.state out.new) result }
@@ -119,7 +119,7 @@ fn take_first<E: Engine + Drop, W: Sink>(
     requires moment { IsMomentOf (stands_in E.simulation session.old) (Moment.Actions offers) }
     requires offered { IsOffer (stands_in E.simulation session.old) 0 action.now }
     requires at { IsAt (steps_in session.old) (stands_in E.simulation session.old) }
-    ensures { WentOn (message_of wanted)
+    ensures { WentOn (message_of wanted.entry)
         (steps_in session.old) (stands_in E.simulation session.old)
         (steps_in session.new) (stands_in E.simulation session.new)
         (W.state out.old) (W.state out.new) result }
@@ -143,7 +143,7 @@ fn go_on_passing<E: Engine + Drop, W: Sink>(
 ) -> Result<Going, Halt>
     requires moment { IsMomentOf (stands_in E.simulation session.old) (Moment.Time time) }
     requires at { IsAt (steps_in session.old) (stands_in E.simulation session.old) }
-    ensures { WentOn (message_of wanted)
+    ensures { WentOn (message_of wanted.entry)
         (steps_in session.old) (stands_in E.simulation session.old)
         (steps_in session.new) (stands_in E.simulation session.new)
         (W.state out.old) (W.state out.new) result }

@@ -32,7 +32,7 @@ pub fn reply<E: Engine + Drop, W: Sink>(
     out: &mut W,
 ) -> Result<(), Halt>
     requires { IsAt (steps_in session.old) (stands_in E.simulation session.old) }
-    ensures { Replied next.line (command_of next.command)
+    ensures { Replied next.entry.line (command_of next.entry.command)
         (steps_in session.old) (stands_in E.simulation session.old)
         (steps_in session.new) (stands_in E.simulation session.new)
         (W.state out.old) (W.state out.new) result }
