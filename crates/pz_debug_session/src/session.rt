@@ -5,6 +5,7 @@ ghost use Rattle.pz_bind.specs.devices.Nets.{IsNet};
 ghost use Rattle.pz_rules.specs.declared.limits.Edition.TheVariants.{Two};
 ghost use Rattle.pz_term_processes.specs.Standing.{setting_of};
 ghost use Rattle.pz_term.specs.Simulations.{Starts, IsMomentOf, IsOffer, Chooses, Passes, IsBroken, ClockIs, setting_in, model_in, limits_in};
+ghost use Rattle.pz_term.specs.Shown.{IsShown, CanShow};
 ghost use Rattle.pz_term.specs.Refusals.{OnNoSuchOffer, OnChooseNotNow, OnChooseRefused, OnChooseNoMemory, NoActions, OnPassNotNow, OnPassRefused, OnPassNoMemory, NoTime};
 ghost use Rattle.pz_debug_session.specs.declared.step.Step.TheVariants as step;
 ghost use Rattle.pz_debug_session.specs.Steps.{StandsAfter};
@@ -19,7 +20,7 @@ use crate::step::Step;
 use crate::taking::take;
 use pz_bind::Net;
 use pz_classes::Checked;
-use pz_term::{Action, ChooseError, Limits, Moment, PassError};
+use pz_term::{Action, ChooseError, Limits, Moment, Parcel, PassError};
 use std::alloc::{AllocError, Global};
 
 /// A stepping session: a simulator, and the steps that it has taken from the start of a run on. It keeps
@@ -132,6 +133,18 @@ impl<E: Engine + Drop> Session<E> {
             }
             moment => Err(ChooseError::NotNow(moment)),
         }
+    }
+
+    /// The value of a variable of a process at the moment, as a parcel with all objects to which it
+    /// leads; nil where the process has no such variable. The only error is want of memory, and it breaks
+    /// nothing.
+    ///
+    /// Memory was never wanting for a step, and the process is one of the net.
+    pub fn shown(&self, process: u32, variable: u32) -> Result<Parcel, AllocError>
+        requires { CanShow (stands_in E.simulation self.now) process }
+        ensures { IfOk result (IsShown (stands_in E.simulation self.now) process variable) }
+    {
+        self.engine.shown(process, variable)
     }
 
     /// Chooses the offer of this number, from 0, which is one step: the action takes place, or the moment

@@ -6,12 +6,14 @@ mod copying;
 pub mod laws;
 mod plain;
 mod refusal;
+mod showing;
 mod simulating;
 mod simulator;
 mod standing;
 mod vector;
 
 pub use plain::Plain;
+pub use pz_copy::Parcel;
 pub use pz_nodes::Steps;
 pub use pz_offer::{End, Place, Trouble};
 pub use pz_part_opening::open_term;

@@ -12,10 +12,12 @@ ghost use Rattle.pz_term.specs.devices.Holding.{Holds};
 
 use crate::copying::copy_actions;
 use crate::refusal::{ChooseError, PassError};
+use crate::showing::{shown_at_start, shown_in};
 use crate::standing::Standing;
 use crate::vector::{elapse_at, look_at, step_at};
 use pz_bind::Net;
 use pz_classes::Checked;
+use pz_copy::Parcel;
 use pz_offer::Trouble;
 use pz_rules::{Action, Limits, Moment};
 use pz_term_processes::{Process, Started, start};
@@ -61,6 +63,7 @@ impl Plain {
     ghost use Rattle.pz_classes_openings.specs.OpeningRules.{Opens};
     ghost use Rattle.pz_term.specs.Simulations.{Starts, IsMomentOf, AreOffersOf, Chooses, Passes, IsBroken, ClockIs, setting_in, model_in, limits_in, stands};
     ghost use Rattle.pz_term.specs.Refusals.{OnNoSuchOffer, OnChooseNotNow, OnChooseRefused, OnChooseNoMemory, NoActions, OnPassNotNow, OnPassRefused, OnPassNoMemory, NoTime};
+    ghost use Rattle.pz_term.specs.Shown.{IsShown, CanShow};
     ghost use Rattle.pz_term.specs.Plains.{simulation_of, model_of};
 
     /// The simulator of a model before its first step, whose net this is. The only error is want of
@@ -220,6 +223,25 @@ impl Plain {
         ensures unchanged { self.new ≡ self.old }
     {
         copy_actions(self.alloc, self.offers())
+    }
+
+    /// The value of a variable of a process at the moment, as a parcel with all objects to which it
+    /// leads; nil where the process has no such variable. The only error is want of memory, and it breaks
+    /// nothing.
+    ///
+    /// Memory was never wanting, and the process is one of the net.
+    pub fn shown(&self, process: u32, variable: u32) -> Result<Parcel, AllocError>
+        requires { CanShow (simulation_of self.now) process }
+        ensures { IfOk result (IsShown (simulation_of self.now) process variable) }
+    {
+        match &self.standing {
+            Standing::Whole(_) | Standing::Stopped(_) => {
+                let process = &self.processes[process as usize];
+                shown_in(self.alloc, &process.state, variable)
+            }
+            Standing::High(_) => { shown_at_start(self.alloc, self.net.values(process), variable) }
+            Standing::Broken => unreachable!(),
+        }
     }
 
     /// Chooses the offer of this number, from 0: the action takes place, or the moment becomes

@@ -9,6 +9,7 @@ use crate::refusal::{ChooseError, PassError};
 use crate::simulator::Simulator;
 use pz_bind::Net;
 use pz_classes::Checked;
+use pz_copy::Parcel;
 use pz_nodes::Steps;
 use pz_rules::{Action, Limits, Moment};
 use std::alloc::AllocError;
@@ -44,6 +45,10 @@ impl Simulator for Plain {
         let offers = self.offers();
         let action = &offers[k as usize];
         copy_action(action)
+    }
+
+    fn shown(&self, process: u32, variable: u32) -> Result<Parcel, AllocError> {
+        self.shown(process, variable)
     }
 
     fn choose<L: Ledger>(&mut self, k: u64, _steps: &mut Steps<L>) -> Result<(), ChooseError> {

@@ -2,11 +2,13 @@ ghost use Rattle.std.specs.Prelude.{◌≡◌, ◌≤◌, ◌<◌, ℕ, IfOk, On
 ghost use Rattle.pz_classes.specs.CheckedView.{checked_model};
 ghost use Rattle.pz_bind.specs.devices.Nets.{IsNet};
 ghost use Rattle.pz_term.specs.Simulations.{Simulation, IsMomentOf, IsOffer, Chooses, Passes, IsBroken, ClockIs, setting_in, model_in, limits_in};
+ghost use Rattle.pz_term.specs.Shown.{IsShown, CanShow};
 ghost use Rattle.pz_term.specs.Refusals.{OnNoSuchOffer, OnChooseNotNow, OnChooseRefused, OnChooseNoMemory, NoActions, OnPassNotNow, OnPassRefused, OnPassNoMemory, NoTime};
 
 use crate::refusal::{ChooseError, PassError};
 use pz_bind::Net;
 use pz_classes::Checked;
+use pz_copy::Parcel;
 use pz_nodes::Steps;
 use pz_rules::{Action, Limits, Moment};
 use std::alloc::AllocError;
@@ -45,6 +47,15 @@ pub trait Simulator {
     fn offer(&self, k: u64) -> Result<Action, AllocError>
         requires { (n : ℕ) × IsMomentOf (simulation self.now) (Moment.Actions n) × (k < n) }
         ensures { IfOk result (IsOffer (simulation self.now) k) };
+
+    /// The value of a variable of a process at the moment, as a parcel with all objects to which it
+    /// leads; nil where the process has no such variable. The only error is want of memory, and it breaks
+    /// nothing.
+    ///
+    /// Memory was never wanting, and the process is one of the net.
+    fn shown(&self, process: u32, variable: u32) -> Result<Parcel, AllocError>
+        requires { CanShow (simulation self.now) process }
+        ensures { IfOk result (IsShown (simulation self.now) process variable) };
 
     /// Chooses the offer of this number, from 0: the action takes place, or the moment becomes
     /// `Stopped` where it ends in a trouble.

@@ -1,6 +1,7 @@
 -- What a plain simulator keeps.
 use Rattle.std.specs.Prelude.{◌≡◌, ℕ, List}
 use Rattle.pz_rules.specs.Settings.{Setting}
+use Rattle.pz_rules.specs.Configurations.{IsWhole}
 use Rattle.pz_rules.specs.Moments.{IsFirstHigh, IsMoment}
 use Rattle.pz_rules.specs.devices.Start.{start_of}
 use Rattle.pz_term_processes.specs.declared.process.Process.{Process}
@@ -20,5 +21,5 @@ pub record IsOutlook (setting : Setting) (clock : ℕ) (processes : List Process
 abbrev pub Holds : Setting → ℕ → List Process → Standing → Type 0
 Holds setting clock processes (standing.Whole outlook) = IsOutlook setting clock processes outlook
 Holds setting clock processes (standing.High trouble) = (clock ≡ 0) × IsFirstHigh setting (start_of setting) trouble
-Holds setting clock processes (standing.Stopped trouble) = Unit {0}
+Holds setting clock processes (standing.Stopped trouble) = IsWhole setting (config_of clock processes)
 Holds setting clock processes standing.Broken = Unit {0}

@@ -1,0 +1,48 @@
+use Rattle.std.proofs.Common.{[], ◌∷◌, length, refl, arith}
+use Rattle.std.proofs.lemmas.Option.{slice_get_read}
+use Rattle.std.proofs.lemmas.Result.{IfOk-weaker}
+use Rattle.pz_state.specs.States.{initial, value_at, variable}
+use Rattle.pz_copy.specs.Packing.{IsParcelOf}
+use Rattle.pz_classes.specs.CheckedView.{checked_model}
+use Rattle.pz_term_processes.specs.Standing.{setting_of}
+use Rattle.pz_term.specs.Plains.{simulation_of}
+use Rattle.pz_term.specs.Shown.{IsShown}
+use Rattle.pz_term.proofs.Variables.{index_built, not_broken, high_process, high_plain, high_shows, built_shows}
+use Rattle.pz_term.proofs.plain.Plain.shown.Goals as goal
+
+pub index-process-requires : goal.index-process-requires
+index-process-requires c =
+    let within = index_built (setting_of (checked_model c.args.self.now.checked) c.args.self.now.limits) c.args.self.now.clock c.args.self.now.processes.items c.args.self.now.standing c.args.process c.requires c.in-Whole.is c.args.self.now.holds in
+    omega (arith, within, c.args.self.now.processes.ok.0)
+
+pub returns-in-Whole : goal.returns-in-Whole
+returns-in-Whole c =
+    let setting = setting_of (checked_model c.args.self.now.checked) c.args.self.now.limits in
+    let within = index_built setting c.args.self.now.clock c.args.self.now.processes.items c.args.self.now.standing c.args.process c.requires c.in-Whole.is c.args.self.now.holds in
+    IfOk-weaker c.shown_in.result (IsParcelOf c.index-process.result.now.state.held (variable c.index-process.result.now.state.held c.args.variable ∷ [])) (IsShown (simulation_of c.args.self.now) c.args.process c.args.variable)
+    (λ parcel is.
+    built_shows setting c.args.self.now.clock c.args.self.now.processes.items c.args.self.now.standing c.args.process c.args.variable c.index-process.result.now parcel c.in-Whole.is
+    (slice_get_read c.args.self.now.processes.items (length c.args.self.now.processes.items) c.args.process c.index-process.result.now refl within c.index-process.ensures) is)
+    c.shown_in.ensures
+
+pub values-requires : goal.values-requires
+values-requires c =
+    high_process (setting_of (checked_model c.args.self.now.checked) c.args.self.now.limits) c.args.self.now.clock c.args.self.now.processes.items c.args.self.now.standing c.args.process c.requires
+    c.in-High.field-0 c.args.self.now.net c.in-High.is c.args.self.now.of_model
+
+pub shown_at_start-requires : goal.shown_at_start-requires
+shown_at_start-requires c =
+    high_plain (setting_of (checked_model c.args.self.now.checked) c.args.self.now.limits) c.args.self.now.clock c.args.self.now.processes.items c.args.self.now.standing c.args.process c.requires
+    c.in-High.field-0 c.args.self.now.net c.values.result.now c.in-High.is c.args.self.now.of_model c.values.ensures
+
+pub returns-in-High : goal.returns-in-High
+returns-in-High c =
+    IfOk-weaker c.shown_at_start.result (IsParcelOf (initial c.values.result.now) (value_at c.values.result.now c.args.variable ∷ [])) (IsShown (simulation_of c.args.self.now) c.args.process c.args.variable)
+    (λ parcel is.
+    high_shows (setting_of (checked_model c.args.self.now.checked) c.args.self.now.limits) c.args.self.now.clock c.args.self.now.processes.items c.args.self.now.standing c.args.process c.requires
+    c.in-High.field-0 c.args.self.now.net c.values.result.now c.in-High.is c.args.self.now.of_model c.values.ensures c.args.variable parcel is)
+    c.shown_at_start.ensures
+
+pub unreachable-requires : goal.unreachable-requires
+unreachable-requires c =
+    not_broken (setting_of (checked_model c.args.self.now.checked) c.args.self.now.limits) c.args.self.now.clock c.args.self.now.processes.items c.args.self.now.standing c.args.process c.requires c.in-Broken.is

@@ -1,0 +1,48 @@
+// What a variable holds, as a parcel of its one value. The only error is want of memory.
+
+ghost use Rattle.std.specs.Prelude.{◌≡◌, [], ◌∷◌, IfOk, All};
+ghost use Rattle.pz_state.specs.References.{RefersWithin};
+ghost use Rattle.pz_state.specs.States.{initial, value_at, variable as variable_of};
+ghost use Rattle.pz_copy.specs.Packing.{IsParcelOf};
+
+use pz_copy::{Parcel, pack};
+use pz_state::State;
+use pz_value::Value;
+use std::alloc::{AllocError, Global};
+
+/// Of a process in this state.
+pub(crate) fn shown_in(alloc: Global, state: &State, variable: u32) -> Result<Parcel, AllocError>
+    ensures { IfOk result (IsParcelOf state.now.held
+        (variable_of state.now.held variable ∷ [])) }
+{
+    if variable as usize >= state.variables() {
+        return pack(alloc, state, &[Value::Nil]);
+    }
+    let value = state.var(variable).copy()?;
+    pack(alloc, state, &[value])
+}
+
+// An equal value; nil where there is none.
+fn read(values: &[Value], variable: u32) -> Result<Value, AllocError>
+    ensures { IfOk result (λ value. value ≡ value_at values.now variable) }
+{
+    match values.get(variable as usize) {
+        Some(value) => value.copy(),
+        None => Ok(Value::Nil),
+    }
+}
+
+/// Of a process that has just begun, with these values. They name no object.
+pub(crate) fn shown_at_start(
+    alloc: Global,
+    values: &[Value],
+    variable: u32,
+) -> Result<Parcel, AllocError>
+    requires { All (RefersWithin 0) values.now }
+    ensures { IfOk result (IsParcelOf (initial values.now)
+        (value_at values.now variable ∷ [])) }
+{
+    let value = read(values, variable)?;
+    let state = State::new(alloc, Vec::new(alloc));
+    pack(alloc, &state, &[value])
+}
