@@ -3,3 +3,4 @@ pub mod Unread
 pub mod Keeps
 pub mod TwoFiles
 pub mod Asked
+pub mod Started

@@ -49,6 +49,7 @@ pub(crate) fn debug_model<E: Engine + Drop, W: Sink>(
     ensures { Answers (PrintsSession (checked_model checked) commands.now)
         (W.state out.old) (W.state out.new) result }
 {
+    pz_debug_session::laws::sessions_go_on();
     match start::<E>(alloc, checked) {
         Ok(session) => debug_session(alloc, session, commands, out),
         Err(_) => DebugStatus::NoMemory,

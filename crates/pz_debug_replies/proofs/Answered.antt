@@ -40,7 +40,7 @@ shorter text line rest (last lacks some is over) =
 
 module _ (known : Known) (setting : Setting) (file : List ℕ) (before : SinkState) where
   pub sets_out : (s : Simulation) → IsAt [] s → setting_in s ≡ setting → IsAnswered setting file before [] s before file 1
-  sets_out s x same = record { written = []; wrote = known.nothing before; onward = λ cs rest zs are replies. (cs, are, replies); is_at = x; setting = same }
+  sets_out s x same = record { written = []; wrote = known.nothing before; onward = λ cs rest zs are replies. (cs, are, replies); is_at = x; same = same }
 
   module _ (xs : List Step) (s : Simulation) (mid : SinkState) (left : List ℕ) (line : ℕ) (way : IsAnswered setting file before xs s mid left line) where
     -- no command is left
@@ -55,9 +55,9 @@ module _ (known : Known) (setting : Setting) (file : List ℕ) (before : SinkSta
     module _ (c : Command) (rest : List ℕ) (begins : BeginsWithCommand left c rest) (ys : List Step) (t : Simulation) (now : SinkState) where
       -- one more was answered
       pub answered : {A : Type 0} (r : Result A Halt) (done : A) → r ≡ Ok done → Replied line c xs s ys t mid now r → IsAnswered setting file before ys t now rest (line + 1)
-      answered r done is y = go (subst (λ (q : Result A Halt). Replied line c xs s ys t mid now q) is y)
+      answered {A} r done is y = go (subst (λ (q : Result A Halt). Replied line c xs s ys t mid now q) is y)
         where
-          go : Replied line c xs s ys t mid now (Ok done) → IsAnswered setting file before ys t now rest (line + 1)
+          go : Replied line c xs s ys t mid now (let p : Result A Halt = Ok done in p) → IsAnswered setting file before ys t now rest (line + 1)
           go z = record {
             written = way.written ++ z.text;
             wrote = known.joins before mid now way.written z.text None way.wrote z.wrote;
@@ -65,23 +65,23 @@ module _ (known : Known) (setting : Setting) (file : List ℕ) (before : SinkSta
                 let next : suc line ≡ line + 1 = omega arith in
                 let here : RepliesAll setting line xs (c ∷ cs) (z.text ++ text) zs =
                 more line xs ys zs c cs z.text text
-                (subst (λ (l : List Step). Replies setting line xs c z.text l) (sym z.steps) (subst (λ (u : Setting). Replies u line xs c z.text z.left) way.setting z.replies))
+                (subst (λ (l : List Step). Replies setting line xs c z.text l) (sym z.steps) (subst (λ (u : Setting). Replies u line xs c z.text z.left) way.same z.replies))
                 (subst (λ (k : ℕ). RepliesAll setting k ys cs text zs) (sym next) replies) in
                 let x = way.onward (c ∷ cs) (z.text ++ text) zs (texts.more left rest c cs begins are) here in
                 (x.0, x.1, subst (λ (l : List ℕ). RepliesAll setting 1 [] x.0 l zs) (sym (append_assoc way.written z.text text)) x.2);
             is_at = z.is_at;
-            setting = z.setting ∙ way.setting;
+            same = z.setting ∙ way.same;
           }
 
       -- or it halted
       pub halted : {A B : Type 0} (r : Result A Halt) (q : Result B Halt) (halt : Halt) → r ≡ Err halt → q ≡ Err halt → Replied line c xs s ys t mid now r → WroteSession setting file before now q
-      halted r q halt is ends y = rw ends (go (subst (λ (p : Result _ Halt). Replied line c xs s ys t mid now p) is y))
+      halted {A} {B} r q halt is ends y = rw ends (go (subst (λ (p : Result A Halt). Replied line c xs s ys t mid now p) is y))
         where
-          go : {C D : Type 0} → Replied line c xs s ys t mid now (let p : Result C Halt = Err halt in p) → WroteSession setting file before now (let p : Result D Halt = Err halt in p)
+          go : Replied line c xs s ys t mid now (let p : Result A Halt = Err halt in p) → WroteSession setting file before now (let p : Result B Halt = Err halt in p)
           go z =
-              let here : Replies setting line xs c z.text z.left = subst (λ (u : Setting). Replies u line xs c z.text z.left) way.setting z.replies in
-              let sound : IsSound setting.model = subst (λ (u : Setting). IsSound u.model) way.setting way.is_at.sound in
-              let place : StandsAfter setting xs s = subst (λ (u : Setting). StandsAfter u xs s) way.setting way.is_at.place in
+              let here : Replies setting line xs c z.text z.left = subst (λ (u : Setting). Replies u line xs c z.text z.left) way.same z.replies in
+              let sound : IsSound setting.model = subst (λ (u : Setting). IsSound u.model) way.same way.is_at.sound in
+              let place : StandsAfter setting xs s = subst (λ (u : Setting). StandsAfter u xs s) way.same way.is_at.place in
               let to = reply_leads known setting sound line xs c z.text z.left s place here in
               let all = known.some_commands rest in
               let more_of = some_text known setting sound (suc line) all.0 z.left to.0 to.1 in

@@ -9,6 +9,8 @@ use Rattle.pz_io.specs.declared.writing.Halt.{Halt}
 use Rattle.pz_io.specs.declared.writing.Halt.TheVariants.{NoMemory}
 use Rattle.pz_io.specs.Writing.{Wrote}
 use Rattle.pz_classes.specs.Soundness.{IsSound}
+use Rattle.pz_classes_openings.specs.OpeningRules.{Opens}
+use Rattle.pz_rules.specs.declared.limits.Edition.TheVariants.{Two}
 use Rattle.pz_rules.specs.declared.action.Action.{Action}
 use Rattle.pz_rules.specs.declared.moment.Moment.{Moment}
 use Rattle.pz_rules.specs.declared.moment.Moment.TheVariants.{Actions, Time, Finished, Deadlock, Faulty, Stopped, Broken}
@@ -19,7 +21,7 @@ use Rattle.pz_bind.specs.Nest.{processes}
 use Rattle.pz_rules.specs.Configurations.{Config}
 use Rattle.pz_rules.specs.Runs.{Standing}
 use Rattle.pz_term.specs.Shown.{IsShown, CanShow}
-use Rattle.pz_term.specs.Simulations.{Simulation, stands, IsMomentOf, IsOffer, Chooses, Passes, setting_in, model_in, clock_in}
+use Rattle.pz_term.specs.Simulations.{Simulation, stands, IsMomentOf, IsOffer, Chooses, Passes, setting_in, model_in, limits_in, clock_in}
 use Rattle.pz_term.specs.Refusals.{NoActions, NoTime}
 use Rattle.pz_debug_commands.specs.Commands.{Command, pick, pass, run, until, back, show}
 use Rattle.pz_debug_session.specs.declared.step.Step.{Step}
@@ -38,20 +40,23 @@ use Rattle.pz_debug_replies.proofs.Places.{some_passing, setting_there}
 use Rattle.pz_debug_replies.proofs.Existing.{some_advance, acts_first, some_reply}
 use Rattle.pz_debug_replies.proofs.Written.{none_of}
 
+opens_in : (s t : Simulation) → setting_in t ≡ setting_in s → ((limits_in s).edition ≡ Two → Opens (model_in s)) → (limits_in t).edition ≡ Two → Opens (model_in t)
+opens_in s t same opens = subst (λ (u : Setting). u.limits.edition ≡ Two → Opens u.model) (sym same) opens
+
 -- after one more step
 
 pub at_choice : Known → (xs : List Step) (k : ℕ) (s t : Simulation) → IsAt xs s → setting_in t ≡ setting_in s → Chooses k s t → IsAt (xs ++ Pick k ∷ []) t
 at_choice known xs k s t x same chooses = record {
   sound = subst (λ (u : Setting). IsSound u.model) (sym same) x.sound;
-  opens = rw same x.opens;
-  place = rw same (known.chosen (setting_in s) xs k s t x.place chooses);
+  opens = opens_in s t same x.opens;
+  place = subst (λ (u : Setting). StandsAfter u (xs ++ Pick k ∷ []) t) (sym same) (known.chosen (setting_in s) xs k s t x.place chooses);
 }
 
 pub at_passing : Known → (xs : List Step) (s t : Simulation) → IsAt xs s → setting_in t ≡ setting_in s → Passes s t → IsAt (xs ++ Pass ∷ []) t
 at_passing known xs s t x same passes_on = record {
   sound = subst (λ (u : Setting). IsSound u.model) (sym same) x.sound;
-  opens = rw same x.opens;
-  place = rw same (known.passed (setting_in s) xs s t x.place passes_on);
+  opens = opens_in s t same x.opens;
+  place = subst (λ (u : Setting). StandsAfter u (xs ++ Pass ∷ []) t) (sym same) (known.passed (setting_in s) xs s t x.place passes_on);
 }
 
 pub at_steps : (xs ys : List Step) (t : Simulation) → ys ≡ xs → IsAt xs t → IsAt ys t
@@ -108,6 +113,11 @@ counts_some (Faulty trouble) k below = absurd (omega (arith, below))
 counts_some (Stopped trouble) k below = absurd (omega (arith, below))
 counts_some Broken k below = absurd (omega (arith, below))
 
+-- no passing where time passes, and no offer where there are some
+
+pub no_time : Known → (s : Simulation) (d : ℕ) (m : Moment) → IsMomentOf s (Time d) → IsMomentOf s m → NoTime m → ⊥
+no_time known s d m now other none = subst NoTime (known.one_moment_of s m (Time d) other now) none
+
 -- steps that a session takes by itself
 
 module _ (known : Known) (message : Option (List ℕ)) (xs : List Step) (s : Simulation) (x : IsAt xs s) where
@@ -146,40 +156,40 @@ module _ (known : Known) (message : Option (List ℕ)) (xs : List Step) (s : Sim
     -- the first offer is taken
 
     module _ (k : ℕ) (a : Action) (at : IsMomentOf s (Actions k)) (offers : IsOffer s 0 a) where
-      abbrev line : List ℕ
-      line = action_line (model_in s) (clock_in s) k 0 a
+      abbrev shown_line : List ℕ
+      shown_line = action_line (model_in s) (clock_in s) k 0 a
 
-      pub acting_on : ys ≡ xs ++ Pick 0 ∷ [] → IsAt ys t → is_wanted message a ≡ false → Wrote before now line None → GoesOn message xs s ys t before now
+      pub acting_on : ys ≡ xs ++ Pick 0 ∷ [] → IsAt ys t → is_wanted message a ≡ false → Wrote before now shown_line None → GoesOn message xs s ys t before now
       acting_on left y wants wrote = record {
-        piece = line;
+        piece = shown_line;
         wrote = wrote;
         onward = λ n text zs more. acts n k a xs zs text s x.place at offers wants (subst (λ (l : List Step). Advances (setting_in s) message n l text zs) left more);
         is_at = y;
         setting = same;
       }
 
-      pub acting_last : ys ≡ xs ++ Pick 0 ∷ [] → IsAt ys t → is_wanted message a ≡ true → Wrote before now line None → Ends message xs s ys t before now
+      pub acting_last : ys ≡ xs ++ Pick 0 ∷ [] → IsAt ys t → is_wanted message a ≡ true → Wrote before now shown_line None → Ends message xs s ys t before now
       acting_last left y wants wrote = record {
-        piece = line;
+        piece = shown_line;
         wrote = wrote;
-        ends = λ n. subst (λ (l : List Step). Advances (setting_in s) message (suc n) xs line l) (sym left) (found n k a xs s x.place at offers wants);
+        ends = λ n. subst (λ (l : List Step). Advances (setting_in s) message (suc n) xs shown_line l) (sym left) (found n k a xs s x.place at offers wants);
         is_at = y;
         setting = same;
       }
 
-      pub acting_cut : (halt : Halt) → Wrote before now line (Some halt) → Halts message xs s ys t before now halt
+      pub acting_cut : (halt : Halt) → Wrote before now shown_line (Some halt) → Halts message xs s ys t before now halt
       acting_cut halt wrote = record {
         setting = same;
         halts = λ n.
             let y = acts_first known (setting_in s) x.sound message n k a xs s x.place at offers in
-            (line ++ y.rest, y.steps, y.advances, known.halts before now line y.rest halt wrote);
+            (shown_line ++ y.rest, y.steps, y.advances, known.halts before now shown_line y.rest halt wrote);
       }
 
 -- so many of them
 
 module _ (known : Known) (message : Option (List ℕ)) (xs : List Step) (s : Simulation) (most : ℕ) (before : SinkState) where
   pub sets_out : IsAt xs s → OnTheWay message xs s xs s before before most 0
-  sets_out x = record { written = []; wrote = known.nothing before; onward = λ text zs more. more; is_at = x; setting = refl }
+  sets_out x = record { written = []; wrote = known.nothing before; onward = λ text zs more. let all : most - 0 ≡ most = omega arith in subst (λ (n : ℕ). Advances (setting_in s) message n xs text zs) all more; is_at = x; setting = refl }
 
   module _ (taken : ℕ) (within : taken < most) (ys : List Step) (t : Simulation) (mid : SinkState) (way : OnTheWay message xs s ys t before mid most taken) where
     left : most - taken ≡ suc (most - (taken + 1))
@@ -246,11 +256,11 @@ stepped line c xs s ys t before now r text zs replies wrote left at same = recor
 -- going back
 
 pub at_back : (xs : List Step) (s : Simulation) (ys : List Step) (t : Simulation) → IsAt xs s → StandsAfter (setting_in s) ys t → setting_in t ≡ setting_in s → IsAt ys t
-at_back xs s ys t x at same = record { sound = subst (λ (u : Setting). IsSound u.model) (sym same) x.sound; opens = rw same x.opens; place = rw same at }
+at_back xs s ys t x at same = record { sound = subst (λ (u : Setting). IsSound u.model) (sym same) x.sound; opens = opens_in s t same x.opens; place = subst (λ (u : Setting). StandsAfter u ys t) (sym same) at }
 
 pub went_back : {A : Type 0} (line n : ℕ) (xs : List Step) (s : Simulation) (ys : List Step) (t : Simulation) (before now : SinkState) (r : Result A Halt) → IsAt xs s → n ≤ length xs → ys ≡ take (length xs - n) xs
     → StandsAfter (setting_in s) ys t → setting_in t ≡ setting_in s → Wrote before now (back_line (length ys) (clock_in t)) (result_err r) → Replied line (back n) xs s ys t before now r
-went_back line n xs s ys t before now r x within left at same wrote =
+went_back {A} line n xs s ys t before now r x within left at same wrote =
     let counted : length ys ≡ length xs - n = ap (λ (l : List Step). length l) left ∙ length-take (length xs - n) xs ∙ least in
     record {
       text = back_line (length xs - n) (clock_in t);

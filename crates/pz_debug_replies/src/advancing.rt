@@ -57,7 +57,8 @@ pub(crate) fn advance<E: Engine + Drop, W: Sink>(
         (W.state out.old) (W.state out.new) most result }
 {
     rules_are_known();
-    for _step in 0..most {
+    for step in 0..most {
+        let _taken = step;
         match go_on(alloc, session, wanted, out)? {
             Going::Further => {}
             Going::Ended => return Ok(()),

@@ -109,10 +109,25 @@ pub(crate) fn let_pass<E: Engine + Drop, W: Sink>(
         setting_in (stands_in E.simulation session.old) }
 {
     rules_are_known();
-    let line = time_line(alloc, session.clock(), time)?;
-    put(out, line.as_slice())?;
+    tell_passing(alloc, session, time, out)?;
     pass(session)?;
     Ok(())
+}
+
+// Writes that line.
+fn tell_passing<E: Engine + Drop, W: Sink>(
+    alloc: Global,
+    session: &Session<E>,
+    time: u128,
+    out: &mut W,
+) -> Result<(), Halt>
+    requires { IsMomentOf (stands_in E.simulation session.now) (Moment.Time time) }
+    ensures { Wrote (W.state out.old) (W.state out.new) (trace_lines.time_line
+        (clock_in (stands_in E.simulation session.now)) time) (result_err result) }
+{
+    rules_are_known();
+    let line = time_line(alloc, session.clock(), time)?;
+    put(out, line.as_slice())
 }
 
 /// Takes the offer of this number, from 0, or says that there is none.

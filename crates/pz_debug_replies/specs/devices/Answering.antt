@@ -18,4 +18,4 @@ pub record IsAnswered (setting : Setting) (file : List ℕ) (before : SinkState)
   pub onward : (cs : List Command) (rest : List ℕ) (zs : List Step) → AreCommands left cs → RepliesAll setting line xs cs rest zs
       → (all : List Command) × AreCommands file all × RepliesAll setting 1 [] all (written ++ rest) zs
   pub is_at : IsAt xs s
-  pub setting : setting_in s ≡ setting
+  pub same : setting_in s ≡ setting

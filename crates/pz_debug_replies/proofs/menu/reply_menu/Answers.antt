@@ -37,3 +37,21 @@ returns-in-Finished g c = λ line.
     let s = stands_in g.E.Simulator.simulation c.args.session.now in
     let xs = steps_in c.args.session.now in
     told line menu xs s _ _ c.tell_end.result (end_line (model_in s) (clock_in s) ending.End) c.requires (over xs s Finished ending.End c.requires.place c.in-Finished.ensures refl) c.tell_end.ensures
+
+pub returns-in-Deadlock : goal.returns-in-Deadlock
+returns-in-Deadlock g c = λ line.
+    let s = stands_in g.E.Simulator.simulation c.args.session.now in
+    let xs = steps_in c.args.session.now in
+    told line menu xs s _ _ c.tell_end-in-Deadlock.result (end_line (model_in s) (clock_in s) ending.Deadlock) c.requires (over xs s Deadlock ending.Deadlock c.requires.place c.in-Deadlock.ensures refl) c.tell_end-in-Deadlock.ensures
+
+pub returns-in-Faulty : goal.returns-in-Faulty
+returns-in-Faulty g c = λ line.
+    let s = stands_in g.E.Simulator.simulation c.args.session.now in
+    let xs = steps_in c.args.session.now in
+    told line menu xs s _ _ c.tell_end-in-Faulty.result (end_line (model_in s) (clock_in s) (ending.Trouble c.in-Faulty.trouble)) c.requires (over xs s (Faulty c.in-Faulty.trouble) (ending.Trouble c.in-Faulty.trouble) c.requires.place c.in-Faulty.ensures refl) c.tell_end-in-Faulty.ensures
+
+pub returns-in-Stopped : goal.returns-in-Stopped
+returns-in-Stopped g c = λ line.
+    let s = stands_in g.E.Simulator.simulation c.args.session.now in
+    let xs = steps_in c.args.session.now in
+    told line menu xs s _ _ c.tell_end-in-Stopped.result (end_line (model_in s) (clock_in s) (ending.Trouble c.in-Stopped.trouble)) c.requires (over xs s (Stopped c.in-Stopped.trouble) (ending.Trouble c.in-Stopped.trouble) c.requires.place c.in-Stopped.ensures refl) c.tell_end-in-Stopped.ensures

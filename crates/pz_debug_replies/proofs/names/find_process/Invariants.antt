@@ -5,4 +5,4 @@ use Rattle.pz_trace.specs.Labels.{path_of}
 use Rattle.pz_debug_replies.proofs.names.find_process.Given as goal
 
 abbrev pub invariant-loop-process : goal.invariant-loop-process
-invariant-loop-process l = (m : ModelTree) → ∥ IsNet m l.net.now ∥₁ → (j : ℕ) → j < l.process → path_of m j ≡ l.word.now → ⊥
+invariant-loop-process l = (m : ModelTree) → ∥ IsNet m l.net ∥₁ → (j : ℕ) → j < l.process → path_of m j ≡ l.word → ⊥

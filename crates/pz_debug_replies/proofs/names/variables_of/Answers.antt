@@ -24,8 +24,8 @@ returns-clause-named c = λ place at.
 pub returns-clause-few : goal.returns-clause-few
 returns-clause-few c =
     let m = checked_model c.args.checked.now in
-    let few : HasFewMarks m = subst HasFewMarks c.model-_model.ensures.is c.model-_model.ensures.few in
-    let sound : IsSound m = subst IsSound c.model-_model.ensures.is c.model-_model.ensures.sound in
+    let few : HasFewMarks m = subst HasFewMarks c.model-model.ensures.is c.model-model.ensures.few in
+    let sound : IsSound m = subst IsSound c.model-model.ensures.is c.model-model.ensures.sound in
     ∥∥₁_elim c.requires.of_model le_prop (λ is.
     ∥∥₁_elim c.classes.ensures.tabled le_prop (λ are.
     subst (λ (names : List (List ℕ)). length names < 2 ^ 32) (sym (c.variables.ensures m are)) (few_variables m few sound c.class.result.0 (c.class.ensures.process m is))))

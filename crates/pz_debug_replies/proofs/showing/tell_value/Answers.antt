@@ -1,4 +1,6 @@
-use Rattle.std.proofs.Common.{refl}
+use Rattle.std.proofs.Common.{refl, ap, ◌∙◌}
+use Rattle.pz_syntax.specs.Classes.{ModelTree}
+use Rattle.pz_debug_replies.specs.Lines.{show_line}
 use Rattle.pz_debug_session.specs.Sessions.{stands_in, steps_in}
 use Rattle.pz_debug_commands.specs.Commands.{show}
 use Rattle.pz_debug_replies.proofs.Written.{err_is, put_line}
@@ -21,4 +23,4 @@ pub returns : goal.returns
 returns g c = λ line.
     value_told c.rules_are_known.ensures line (steps_in c.args.session.now) (stands_in g.E.Simulator.simulation c.args.session.now) c.args.path.now c.args.name.now c.args.place.process c.args.place.variable c.in_ok-value.value _ _ c.put.result
     c.requires.at c.requires.is c.in_ok-value.ensures
-    (put_line c.as_slice.result.now _ _ c.put.result _ c.put.ensures.wrote (rw (c.as_slice.ensures.value, c.checked.ensures) c.in_ok-line.ensures))
+    (put_line c.as_slice.result.now _ _ c.put.result _ c.put.ensures.wrote (c.as_slice.ensures.value ∙ c.in_ok-line.ensures ∙ ap (λ (m : ModelTree). show_line m c.args.path.now c.args.name.now c.in_ok-value.value) c.checked.ensures))

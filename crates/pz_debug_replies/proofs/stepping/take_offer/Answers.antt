@@ -1,4 +1,5 @@
 use Rattle.std.proofs.Common.{Some}
+use Rattle.pz_io.specs.declared.writing.Halt.TheVariants.{NoMemory}
 use Rattle.pz_trace.specs.Lines.{action_line}
 use Rattle.pz_term.specs.Simulations.{model_in, clock_in}
 use Rattle.pz_debug_session.specs.Sessions.{stands_in}
@@ -11,4 +12,5 @@ returns-in_err-tell_taken-clause-wrote g c = rw (halted_so c.from_residual.resul
 pub returns-in_err-pick-clause-wrote : goal.returns-in_err-pick-clause-wrote
 returns-in_err-pick-clause-wrote g c =
     let s = stands_in g.E.Simulator.simulation c.args.session.now in
-    whole_written c.rules_are_known.ensures _ _ (action_line (model_in s) (clock_in s) c.args.offers c.args.number c.args.action.now) c.in_ok-tell_taken.ensures
+    rw (halted_so c.from_residual-in_err-pick.result NoMemory c.from_residual-in_err-pick.ensures.1)
+    (whole_written c.rules_are_known.ensures _ _ (action_line (model_in s) (clock_in s) c.args.offers c.args.number c.args.action.now) c.in_ok-tell_taken.ensures)
