@@ -118,6 +118,14 @@ counts_some Broken k below = absurd (omega (arith, below))
 pub no_time : Known → (s : Simulation) (d : ℕ) (m : Moment) → IsMomentOf s (Time d) → IsMomentOf s m → NoTime m → ⊥
 no_time known s d m now other none = subst NoTime (known.one_moment_of s m (Time d) other now) none
 
+count_is : {n k : ℕ} → Actions n ≡ Actions k → n ≡ k
+count_is e = cc
+
+pub no_such : Known → (s : Simulation) (n k offers : ℕ) → IsMomentOf s (Actions n) → k < n → IsMomentOf s (Actions offers) → offers ≤ k → ⊥
+no_such known s n k offers now within other few =
+    let same : n ≡ offers = count_is (known.one_moment_of s (Actions n) (Actions offers) now other) in
+    omega (arith, same, within, few)
+
 -- steps that a session takes by itself
 
 module _ (known : Known) (message : Option (List ℕ)) (xs : List Step) (s : Simulation) (x : IsAt xs s) where

@@ -1,5 +1,5 @@
 -- Processes and variables that were sought.
-use Rattle.std.proofs.Common.{◌≡◌, ◌<◌, ◌≤◌, ◌⊎◌, inl, inr, ◌^◌, ℕ, zero, suc, Bool, false, List, [], length, get_or, Option, Some, None, refl, sym, ap, subst, ◌∙◌, arith}
+use Rattle.std.proofs.Common.{◌≡◌, ◌<◌, ◌≤◌, ◌+◌, ◌⊎◌, inl, inr, ◌^◌, ℕ, zero, suc, Bool, false, List, [], length, get_or, Option, Some, None, refl, sym, ap, subst, ◌∙◌, arith}
 use Rattle.std.proofs.Math.Logic.{∥∥₁_elim}
 use base.Stored.{Coded-set}
 use Rattle.std.specs.Coded.{coded_ℕ, coded_list, le_prop}
@@ -140,3 +140,11 @@ few_variables m few sound c is =
     let count = variables_few m (nobody_goes_round m sound.classes) c (class_within m c is) in
     let same : length (spelled (variables m c)) ≡ length (variables m c) = length-map (variables m c) (λ (x : Id). x.name) in
     omega (arith, few, count, same)
+
+-- one more process without the path
+pub not_yet : (m : ModelTree) (word : List ℕ) (n : ℕ) → ((j : ℕ) → j < n → path_of m j ≡ word → ⊥) → (path_of m n ≡ word → ⊥) → (j : ℕ) → j < n + 1 → path_of m j ≡ word → ⊥
+not_yet m word n before differ j below same = by (le_or_lt n j)
+  where
+    by : (n ≤ j) ⊎ (j < n) → ⊥
+    by (inl last) = let e : j ≡ n = omega (arith, last, below) in differ (ap (path_of m) (sym e) ∙ same)
+    by (inr earlier) = before j earlier same

@@ -20,12 +20,12 @@ returns-in_err-go_on g c =
 pub returns-in-Ended : goal.returns-in-Ended
 returns-in-Ended g c =
     ended c.rules_are_known.ensures (message_of c.args.wanted) (steps_in c.args.session.now) (stands_in g.E.Simulator.simulation c.args.session.now) c.args.most _
-    c.loop-step.step c.loop-step-test.true _ _ _ c.loop-step.invariant _ _ _ _ _ refl c.in-Ended.ensures
+    c.loop-step.step c.loop-step-test.true _ _ _ c.loop-step.invariant _ _ _ _ _ refl (rw c.in-Ended.is at c.in_ok-go_on.ensures)
 
 pub loop-step-preserved : goal.loop-step-preserved
 loop-step-preserved g c =
     further c.rules_are_known.ensures (message_of c.args.wanted) (steps_in c.args.session.now) (stands_in g.E.Simulator.simulation c.args.session.now) c.args.most _
-    c.loop-step.step c.loop-step-test.true _ _ _ c.loop-step.invariant _ _ _ c.in-Further.ensures
+    c.loop-step.step c.loop-step-test.true _ _ _ c.loop-step.invariant _ _ _ (rw c.in-Further.is at c.in_ok-go_on.ensures)
 
 pub returns : goal.returns
 returns g c =
