@@ -1,5 +1,5 @@
 -- Processes and variables that were sought.
-use Rattle.std.proofs.Common.{◌≡◌, ◌<◌, ◌≤◌, ◌+◌, ◌⊎◌, inl, inr, ◌^◌, ℕ, zero, suc, Bool, false, List, [], length, get_or, Option, Some, None, refl, sym, ap, subst, ◌∙◌, arith}
+use Rattle.std.proofs.Common.{◌≡◌, ◌<◌, ◌≤◌, ◌+◌, ◌⊎◌, inl, inr, ◌^◌, ℕ, zero, suc, Bool, true, false, List, [], length, get_or, Option, Some, None, refl, sym, ap, subst, ◌∙◌, arith}
 use Rattle.std.proofs.Math.Logic.{∥∥₁_elim}
 use base.Stored.{Coded-set}
 use Rattle.std.specs.Coded.{coded_ℕ, coded_list, le_prop}
@@ -7,6 +7,7 @@ use Rattle.std.specs.Prelude.{slice_get, IsTrue}
 use Rattle.std.specs.List.{position}
 use Rattle.std.specs.Option.{option_map_or}
 use Rattle.std.specs.Str.{bytes_eq}
+use Rattle.std.proofs.lemmas.Slice.Eq.{bytes_eq-Decides}
 use Rattle.std.proofs.lemmas.List.{length-map}
 use Rattle.std.proofs.lemmas.List.Quantifiers.{position-Some}
 use Rattle.std.proofs.lemmas.Option.{slice_get-get_or, slice_get_within}
@@ -148,3 +149,14 @@ not_yet m word n before differ j below same = by (le_or_lt n j)
     by : (n ≤ j) ⊎ (j < n) → ⊥
     by (inl last) = let e : j ≡ n = omega (arith, last, below) in differ (ap (path_of m) (sym e) ∙ same)
     by (inr earlier) = before j earlier same
+
+-- what a comparison of two texts says
+
+pub same_text : (a b : List ℕ) (r : Bool) → r ≡ bytes_eq a b → r ≡ true → a ≡ b
+same_text a b r is yes = (bytes_eq-Decides a b).0 (sym is ∙ yes)
+
+pub other_text : (a b : List ℕ) (r : Bool) → r ≡ bytes_eq a b → r ≡ false → a ≡ b → ⊥
+other_text a b r is no same = apart (sym ((bytes_eq-Decides a b).1 same) ∙ sym is ∙ no)
+  where
+    apart : true ≡ false → ⊥
+    apart e = cc

@@ -42,6 +42,12 @@ fn process_count(net: &Net) -> u32
     net.processes()
 }
 
+fn is_same(text: &[u8], other: &[u8]) -> bool
+    ensures { result ≡ bytes_eq text.now other.now }
+{
+    text == other
+}
+
 /// The number of the first process with this path.
 pub(crate) fn find_process(net: &Net, word: &[u8]) -> Option<u32>
     ensures found { (m : ModelTree) → ∥ IsNet m net.now ∥₁ →
@@ -49,7 +55,7 @@ pub(crate) fn find_process(net: &Net, word: &[u8]) -> Option<u32>
     ensures belongs { IfSome result (HasProcess net.now) }
 {
     for process in 0..process_count(net) {
-        if path(net, process) == word {
+        if is_same(path(net, process), word) {
             return Some(process);
         }
     }

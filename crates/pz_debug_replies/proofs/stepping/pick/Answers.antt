@@ -12,4 +12,4 @@ returns-in-Ok-clause-at g c =
 pub unreachable-requires : goal.unreachable-requires
 unreachable-requires g c =
     let other = rw c.in-Err-NoSuchOffer.field-0-is at c.in-Err-NoSuchOffer.ensures.no_such_offer in
-    no_such c.rules_are_known.ensures (stands_in g.E.Simulator.simulation c.args.session.now) c.requires.there.0 c.args.number c.in-Err-NoSuchOffer.offers c.requires.there.1 c.requires.there.2 other.0 other.1
+    no_such c.rules_are_known.ensures (stands_in g.E.Simulator.simulation c.args.session.now) c.requires.there.0 c.args.number c.in-Err-NoSuchOffer.field-0-0 c.requires.there.1 c.requires.there.2 other.0 other.1
