@@ -43,10 +43,10 @@ module _ (known : Known) (setting : Setting) (file : List ℕ) (before : SinkSta
   sets_out s x same = record { written = []; wrote = known.nothing before; onward = λ cs rest zs are replies. (cs, are, replies); is_at = x; same = same }
 
   pub begins_at : (xs : List Step) (s : Simulation) (left : List ℕ) (line : ℕ) → xs ≡ [] → left ≡ file → line ≡ 1 → IsAt xs s → setting_in s ≡ setting → IsAnswered setting file before xs s before left line
-  begins_at xs s left line none all first x same =
-      subst (λ (l : List Step). IsAnswered setting file before l s before left line) (sym none)
+  begins_at xs s left line start all first x same =
+      subst (λ (l : List Step). IsAnswered setting file before l s before left line) (sym start)
       (subst (λ (l : List ℕ). IsAnswered setting file before [] s before l line) (sym all)
-      (subst (λ (n : ℕ). IsAnswered setting file before [] s before file n) (sym first) (sets_out s (subst (λ (l : List Step). IsAt l s) none x) same)))
+      (subst (λ (n : ℕ). IsAnswered setting file before [] s before file n) (sym first) (sets_out s (subst (λ (l : List Step). IsAt l s) start x) same)))
 
   module _ (xs : List Step) (s : Simulation) (mid : SinkState) (left : List ℕ) (line : ℕ) (way : IsAnswered setting file before xs s mid left line) where
     -- no command is left

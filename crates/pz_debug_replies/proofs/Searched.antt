@@ -153,10 +153,10 @@ not_yet m word n before differ j below same = by (le_or_lt n j)
 -- what a comparison of two texts says
 
 pub same_text : (a b : List ℕ) (r : Bool) → r ≡ bytes_eq a b → r ≡ true → a ≡ b
-same_text a b r is yes = (bytes_eq-Decides a b).0 (sym is ∙ yes)
+same_text a b r is holds = (bytes_eq-Decides a b).0 (sym is ∙ holds)
 
 pub other_text : (a b : List ℕ) (r : Bool) → r ≡ bytes_eq a b → r ≡ false → a ≡ b → ⊥
-other_text a b r is no same = apart (sym ((bytes_eq-Decides a b).1 same) ∙ sym is ∙ no)
+other_text a b r is fails same = apart (sym ((bytes_eq-Decides a b).1 same) ∙ sym is ∙ fails)
   where
     apart : true ≡ false → ⊥
     apart e = cc
