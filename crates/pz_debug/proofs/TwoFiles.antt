@@ -142,7 +142,7 @@ module _ (a : Asked) where
 
     module _ (before now : SinkState) (given : DebugStatus) where
       none_first : g.faults ≡ f.faults → NothingWritten before now given → KeepsPromises (Some a) f g before now given
-      none_first kept none = keeps_nothing (Some a) f g before now given (opens_one given) (λ _ many. opened_once f g a.model names many) kept none
+      none_first kept nought = keeps_nothing (Some a) f g before now given (opens_one given) (λ _ many. opened_once f g a.model names many) kept nought
 
       refused_first : (text : List ℕ) → g.faults ≡ f.faults → length text ≤ model_limit → (f.told ≡ true → lookup f.held a.model ≡ Some text) → Answers (PrintsClosed text) before now given → KeepsPromises (Some a) f g before now given
       refused_first text kept short held (inl none) = none_first kept none
