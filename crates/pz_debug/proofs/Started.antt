@@ -25,7 +25,7 @@ at_start : BeginsAtStart → (m : ModelTree) (s : Simulation) → IsSound m → 
 at_start begins m _ sound opens (simulations.starts c is) = record { sound = sound; opens = λ two. opens; place = begins (setting_for m) _ (simulations.starts c is) }
 
 pub is_at : BeginsAtStart → (m : ModelTree) (xs : List Step) (s : Simulation) → xs ≡ [] → IsSound m → Opens m → Starts (setting_for m) s → IsAt xs s
-is_at begins m xs s start_of sound opens starts = subst (λ (l : List Step). IsAt l s) (sym start_of) (at_start begins m s sound opens starts)
+is_at begins m xs s start_of sound opens started = subst (λ (l : List Step). IsAt l s) (sym start_of) (at_start begins m s sound opens started)
 
 done_ordinary : Done ≢ WriteFault
 done_ordinary e = cc
