@@ -27,10 +27,10 @@ names r word other is holds same = subst (λ (w : List ℕ). IsTrue (is_name w))
 
 pub session_of : {W : Type 0} (text : W → List ℕ) (words : List W) (a b : W) (one two : List ℕ) → 2 ≤ length words → length words < 3 → a ≡ get_or words 0 a → b ≡ get_or words 1 b → one ≡ text a → two ≡ text b
     → IsTrue (is_name (text a)) → IsTrue (is_name (text b)) → Asks (map text words) (record { model = one; commands = two })
-session_of text [] a b one two many few = absurd (omega (arith, many))
-session_of text (v ∷ []) a b one two many few = absurd (omega (arith, many))
+session_of text [] a b one two many few first second says tells model commands = absurd (omega (arith, many))
+session_of text (v ∷ []) a b one two many few first second says tells model commands = absurd (omega (arith, many))
 session_of text (v ∷ w ∷ []) a b one two many few first second says tells model commands =
     subst (λ (l : List (List ℕ)). Asks l (record { model = one; commands = two }))
     (ap (λ (u : List ℕ). u ∷ two ∷ []) (says ∙ ap text first) ∙ ap (λ (u : List ℕ). text v ∷ u ∷ []) (tells ∙ ap text second))
     (session one two (subst (λ (u : List ℕ). IsTrue (is_name u)) (sym says) model) (subst (λ (u : List ℕ). IsTrue (is_name u)) (sym tells) commands))
-session_of text (v ∷ w ∷ x ∷ xs) a b one two many few = absurd (omega (arith, few))
+session_of text (v ∷ w ∷ x ∷ xs) a b one two many few first second says tells model commands = absurd (omega (arith, few))
