@@ -10,7 +10,7 @@ use Rattle.pz_rules.specs.Settings.{Setting}
 use Rattle.pz_term.specs.Simulations as simulations
 use Rattle.pz_term.specs.Simulations.{Simulation, Starts, setting_in}
 use Rattle.pz_debug_session.specs.declared.step.Step.{Step}
-use Rattle.pz_debug_session.specs.Laws.{BeginsAtStart}
+use Rattle.pz_debug_session.specs.Laws.{BeginsLow}
 use Rattle.pz_debug_replies.specs.Replying.{IsAt, WroteSession}
 use Rattle.pz_debug.specs.declared.status.DebugStatus.{DebugStatus}
 use Rattle.pz_debug.specs.declared.status.DebugStatus.TheVariants.{Done, WriteFault}
@@ -21,10 +21,10 @@ use Rattle.pz_debug.proofs.Sayings.{said_whole, said_halted}
 pub setting_is : (setting : Setting) (s : Simulation) → Starts setting s → setting_in s ≡ setting
 setting_is setting _ (simulations.starts c is) = refl
 
-at_start : BeginsAtStart → (m : ModelTree) (s : Simulation) → IsSound m → Opens m → Starts (setting_for m) s → IsAt [] s
+at_start : BeginsLow → (m : ModelTree) (s : Simulation) → IsSound m → Opens m → Starts (setting_for m) s → IsAt [] s
 at_start begins m _ sound opens (simulations.starts c is) = record { sound = sound; opens = λ two. opens; place = begins (setting_for m) _ (simulations.starts c is) }
 
-pub is_at : BeginsAtStart → (m : ModelTree) (xs : List Step) (s : Simulation) → xs ≡ [] → IsSound m → Opens m → Starts (setting_for m) s → IsAt xs s
+pub is_at : BeginsLow → (m : ModelTree) (xs : List Step) (s : Simulation) → xs ≡ [] → IsSound m → Opens m → Starts (setting_for m) s → IsAt xs s
 is_at begins m xs s start_of sound opens started = subst (λ (l : List Step). IsAt l s) (sym start_of) (at_start begins m s sound opens started)
 
 done_ordinary : Done ≢ WriteFault

@@ -87,7 +87,7 @@ module _ (known : Known) (setting : Setting) (file : List ℕ) (before : SinkSta
           go z =
               let here : Replies setting line xs c z.text z.left = subst (λ (u : Setting). Replies u line xs c z.text z.left) way.same z.replies in
               let sound : IsSound setting.model = subst (λ (u : Setting). IsSound u.model) way.same way.is_at.sound in
-              let place : StandsAfter setting xs s = subst (λ (u : Setting). StandsAfter u xs s) way.same way.is_at.place in
+              let place : StandsAfter setting xs s = subst (λ (u : Setting). StandsAfter u xs s) way.same way.is_at.place.after in
               let to = reply_leads known setting sound line xs c z.text z.left s place here in
               let all = known.some_commands rest in
               let more_of = some_text known setting sound (suc line) all.0 z.left to.0 to.1 in

@@ -1,5 +1,5 @@
 -- Replies, by what was written of them.
-use Rattle.std.proofs.Common.{◌≡◌, ◌-◌, ◌<◌, ◌≤◌, ◌+◌, min, ℕ, suc, Bool, true, false, List, [], ◌∷◌, ◌++◌, length, take, Option, Some, None, Result, Ok, Err, refl, sym, ap, subst, ◌∙◌, append_assoc, arith}
+use Rattle.std.proofs.Common.{◌≡◌, ◌-◌, ◌<◌, ◌≤◌, ◌+◌, min, ℕ, suc, Bool, true, false, List, [], ◌∷◌, ◌++◌, length, take, Option, Some, None, Result, Ok, Err, refl, sym, ap, subst, ◌∙◌, ◌^◌, append_assoc, arith}
 use Rattle.std.specs.Prelude.{OnOk}
 use Rattle.std.specs.Result.{result_err}
 use Rattle.std.proofs.lemmas.List.{append-nil, length-take}
@@ -26,7 +26,7 @@ use Rattle.pz_term.specs.Refusals.{NoActions, NoTime}
 use Rattle.pz_debug_commands.specs.Commands.{Command, pick, pass, run, until, back, show}
 use Rattle.pz_debug_session.specs.declared.step.Step.{Step}
 use Rattle.pz_debug_session.specs.declared.step.Step.TheVariants.{Pick, Pass}
-use Rattle.pz_debug_session.specs.Steps.{StandsAfter}
+use Rattle.pz_debug_session.specs.Steps.{StandsAfter, StandsLow}
 use Rattle.pz_debug_replies.specs.Advancing.{is_wanted, Advances, used_up, held, passes, acts, found}
 use Rattle.pz_debug_replies.specs.Replies.{offers_at, Replies, runs, runs_until, goes_back, too_far, shows, shows_none}
 use Rattle.pz_debug_replies.specs.Lines.{back_line, refused_back_line, show_line}
@@ -49,14 +49,14 @@ pub at_choice : Known → (xs : List Step) (k : ℕ) (s t : Simulation) → IsAt
 at_choice known xs k s t x same chooses = record {
   sound = subst (λ (u : Setting). IsSound u.model) (sym same) x.sound;
   opens = opens_in s t same x.opens;
-  place = subst (λ (u : Setting). StandsAfter u (xs ++ Pick k ∷ []) t) (sym same) (known.chosen (setting_in s) xs k s t x.place chooses);
+  place = subst (λ (u : Setting). StandsLow u (xs ++ Pick k ∷ []) t) (sym same) (known.low_chosen (setting_in s) xs k s t x.place chooses);
 }
 
-pub at_passing : Known → (xs : List Step) (s t : Simulation) → IsAt xs s → setting_in t ≡ setting_in s → Passes s t → IsAt (xs ++ Pass ∷ []) t
-at_passing known xs s t x same passes_on = record {
+pub at_passing : Known → (xs : List Step) (s t : Simulation) → IsAt xs s → clock_in s < 2 ^ 127 → setting_in t ≡ setting_in s → Passes s t → IsAt (xs ++ Pass ∷ []) t
+at_passing known xs s t x low same passes_on = record {
   sound = subst (λ (u : Setting). IsSound u.model) (sym same) x.sound;
   opens = opens_in s t same x.opens;
-  place = subst (λ (u : Setting). StandsAfter u (xs ++ Pass ∷ []) t) (sym same) (known.passed (setting_in s) xs s t x.place passes_on);
+  place = subst (λ (u : Setting). StandsLow u (xs ++ Pass ∷ []) t) (sym same) (known.low_passed (setting_in s) xs s t x.place passes_on low);
 }
 
 pub at_steps : (xs ys : List Step) (t : Simulation) → ys ≡ xs → IsAt xs t → IsAt ys t
@@ -67,7 +67,7 @@ pub nothing_replied : {A : Type 0} → Known → (line : ℕ) (c : Command) (xs 
     → r ≡ Err NoMemory → Replied line c xs s ys t at at r
 nothing_replied known line c xs s ys t at r x same is =
     rw is
-    (let y = some_reply known (setting_in s) x.sound line xs s x.place c in record {
+    (let y = some_reply known (setting_in s) x.sound line xs s x.place.after c in record {
       text = y.text;
       left = y.steps;
       replies = y.replies;
@@ -132,12 +132,12 @@ module _ (known : Known) (message : Option (List ℕ)) (xs : List Step) (s : Sim
   -- nothing is possible
 
   pub no_step : (m : Moment) (before : SinkState) → IsMomentOf s m → NoActions m → NoTime m → Ends message xs s xs s before before
-  no_step m before at acts_not waits_not = record { piece = []; wrote = known.nothing before; ends = λ n. held n xs s m x.place at acts_not waits_not; is_at = x; setting = refl }
+  no_step m before at acts_not waits_not = record { piece = []; wrote = known.nothing before; ends = λ n. held n xs s m x.place.after at acts_not waits_not; is_at = x; setting = refl }
 
   pub no_memory : (t : Simulation) (before : SinkState) (halt : Halt) → halt ≡ NoMemory → setting_in t ≡ setting_in s → (ys : List Step) → Halts message xs s ys t before before halt
   no_memory t before halt is same ys = rw is (record {
     setting = same;
-    halts = λ n. let y = some_advance known (setting_in s) x.sound message (suc n) xs s x.place in (y.text, y.steps, y.advances, none_of known before y.text);
+    halts = λ n. let y = some_advance known (setting_in s) x.sound message (suc n) xs s x.place.after in (y.text, y.steps, y.advances, none_of known before y.text);
   })
 
   module _ (ys : List Step) (t : Simulation) (before now : SinkState) (same : setting_in t ≡ setting_in s) where
@@ -147,7 +147,7 @@ module _ (known : Known) (message : Option (List ℕ)) (xs : List Step) (s : Sim
     passing_on d at left y wrote = record {
       piece = time_line (clock_in s) d;
       wrote = wrote;
-      onward = λ n text zs more. passes n d xs zs text s x.place at (subst (λ (l : List Step). Advances (setting_in s) message n l text zs) left more);
+      onward = λ n text zs more. passes n d xs zs text s x.place.after at (subst (λ (l : List Step). Advances (setting_in s) message n l text zs) left more);
       is_at = y;
       setting = same;
     }
@@ -156,9 +156,9 @@ module _ (known : Known) (message : Option (List ℕ)) (xs : List Step) (s : Sim
     passing_cut d halt at wrote = record {
       setting = same;
       halts = λ n.
-          let u = some_passing known (setting_in s) x.sound xs s d x.place at in
-          let y = some_advance known (setting_in s) x.sound message n (xs ++ Pass ∷ []) u.0 (known.passed (setting_in s) xs s u.0 x.place u.1) in
-          (time_line (clock_in s) d ++ y.text, y.steps, passes n d xs y.steps y.text s x.place at y.advances, known.halts before now (time_line (clock_in s) d) y.text halt wrote);
+          let u = some_passing known (setting_in s) x.sound xs s d x.place.after at in
+          let y = some_advance known (setting_in s) x.sound message n (xs ++ Pass ∷ []) u.0 (known.passed (setting_in s) xs s u.0 x.place.after u.1) in
+          (time_line (clock_in s) d ++ y.text, y.steps, passes n d xs y.steps y.text s x.place.after at y.advances, known.halts before now (time_line (clock_in s) d) y.text halt wrote);
     }
 
     -- the first offer is taken
@@ -171,7 +171,7 @@ module _ (known : Known) (message : Option (List ℕ)) (xs : List Step) (s : Sim
       acting_on left y wants wrote = record {
         piece = shown_line;
         wrote = wrote;
-        onward = λ n text zs more. acts n k a xs zs text s x.place at offers wants (subst (λ (l : List Step). Advances (setting_in s) message n l text zs) left more);
+        onward = λ n text zs more. acts n k a xs zs text s x.place.after at offers wants (subst (λ (l : List Step). Advances (setting_in s) message n l text zs) left more);
         is_at = y;
         setting = same;
       }
@@ -180,7 +180,7 @@ module _ (known : Known) (message : Option (List ℕ)) (xs : List Step) (s : Sim
       acting_last left y wants wrote = record {
         piece = shown_line;
         wrote = wrote;
-        ends = λ n. subst (λ (l : List Step). Advances (setting_in s) message (suc n) xs shown_line l) (sym left) (found n k a xs s x.place at offers wants);
+        ends = λ n. subst (λ (l : List Step). Advances (setting_in s) message (suc n) xs shown_line l) (sym left) (found n k a xs s x.place.after at offers wants);
         is_at = y;
         setting = same;
       }
@@ -189,7 +189,7 @@ module _ (known : Known) (message : Option (List ℕ)) (xs : List Step) (s : Sim
       acting_cut halt wrote = record {
         setting = same;
         halts = λ n.
-            let y = acts_first known (setting_in s) x.sound message n k a xs s x.place at offers in
+            let y = acts_first known (setting_in s) x.sound message n k a xs s x.place.after at offers in
             (shown_line ++ y.rest, y.steps, y.advances, known.halts before now shown_line y.rest halt wrote);
       }
 
@@ -263,17 +263,17 @@ stepped line c xs s ys t before now r text zs replies wrote left at same = recor
 
 -- going back
 
-pub at_back : (xs : List Step) (s : Simulation) (ys : List Step) (t : Simulation) → IsAt xs s → StandsAfter (setting_in s) ys t → setting_in t ≡ setting_in s → IsAt ys t
-at_back xs s ys t x at same = record { sound = subst (λ (u : Setting). IsSound u.model) (sym same) x.sound; opens = opens_in s t same x.opens; place = subst (λ (u : Setting). StandsAfter u ys t) (sym same) at }
+pub at_back : (xs : List Step) (s : Simulation) (ys : List Step) (t : Simulation) → IsAt xs s → StandsLow (setting_in s) ys t → setting_in t ≡ setting_in s → IsAt ys t
+at_back xs s ys t x at same = record { sound = subst (λ (u : Setting). IsSound u.model) (sym same) x.sound; opens = opens_in s t same x.opens; place = subst (λ (u : Setting). StandsLow u ys t) (sym same) at }
 
 pub went_back : {A : Type 0} (line n : ℕ) (xs : List Step) (s : Simulation) (ys : List Step) (t : Simulation) (before now : SinkState) (r : Result A Halt) → IsAt xs s → n ≤ length xs → ys ≡ take (length xs - n) xs
-    → StandsAfter (setting_in s) ys t → setting_in t ≡ setting_in s → Wrote before now (back_line (length ys) (clock_in t)) (result_err r) → Replied line (back n) xs s ys t before now r
+    → StandsLow (setting_in s) ys t → setting_in t ≡ setting_in s → Wrote before now (back_line (length ys) (clock_in t)) (result_err r) → Replied line (back n) xs s ys t before now r
 went_back {A} line n xs s ys t before now r x within left at same wrote =
     let counted : length ys ≡ length xs - n = ap (λ (l : List Step). length l) left ∙ length-take (length xs - n) xs ∙ least in
     record {
       text = back_line (length xs - n) (clock_in t);
       left = take (length xs - n) xs;
-      replies = goes_back n xs t within (subst (λ (l : List Step). StandsAfter (setting_in s) l t) left at);
+      replies = goes_back n xs t within (subst (λ (l : List Step). StandsAfter (setting_in s) l t) left at.after);
       wrote = subst (λ (k : ℕ). Wrote before now (back_line k (clock_in t)) (result_err r)) counted wrote;
       steps = by_result r left;
       is_at = by_result r (at_back xs s ys t x at same);
@@ -310,11 +310,11 @@ shown_stands setting c standing word name i v is = slice_get_within (processes s
 
 pub can_show : Known → (xs : List Step) (s : Simulation) (word name : List ℕ) (i v : ℕ) → IsAt xs s → IsVariable (model_in s) word name i v → CanShow s i
 can_show known xs s word name i v x is =
-    subst (λ (t : Simulation). CanShow t i) (sym x.place.is_there) (shown_stands (setting_in s) x.place.end x.place.standing word name i v is)
+    subst (λ (t : Simulation). CanShow t i) (sym x.place.after.is_there) (shown_stands (setting_in s) x.place.after.end x.place.after.standing word name i v is)
 
 pub value_told : {A : Type 0} → Known → (line : ℕ) (xs : List Step) (s : Simulation) (word name : List ℕ) (i v : ℕ) (parcel : ParcelView) (before now : SinkState) (r : Result A Halt) → IsAt xs s → IsVariable (model_in s) word name i v → IsShown s i v parcel
     → Wrote before now (show_line (model_in s) word name parcel) (result_err r) → Replied line (show word name) xs s xs s before now r
 value_told known line xs s word name i v parcel before now r x is shown wrote =
-    let place = x.place in
+    let place = x.place.after in
     told line (show word name) xs s before now r (show_line (model_in s) word name parcel) x
     (shows xs place.end place.standing word name i v parcel (subst (λ (t : Simulation). StandsAfter (setting_in s) xs t) place.is_there place) is (subst (λ (t : Simulation). IsShown t i v parcel) place.is_there shown)) wrote

@@ -11,15 +11,16 @@ use Rattle.pz_rules.specs.Settings.{Setting}
 use Rattle.pz_term.specs.Simulations.{Simulation, setting_in, model_in, limits_in}
 use Rattle.pz_debug_commands.specs.Commands.{Command}
 use Rattle.pz_debug_session.specs.declared.step.Step.{Step}
-use Rattle.pz_debug_session.specs.Steps.{StandsAfter}
+use Rattle.pz_debug_session.specs.Steps.{StandsLow}
 use Rattle.pz_debug_replies.specs.Replies.{Replies}
 use Rattle.pz_debug_replies.specs.Sessions.{IsSessionText}
 
--- these steps of a sound model, which opens in edition Two, lead to where this stands
+-- These steps of a sound model, which opens in edition Two, lead to where this stands, and each passing was
+-- taken where the clock was below 2^127.
 pub record IsAt (steps : List Step) (s : Simulation) : Type 0 where
   pub sound : IsSound (model_in s)
   pub opens : (limits_in s).edition ≡ Two → Opens (model_in s)
-  pub place : StandsAfter (setting_in s) steps s
+  pub place : StandsLow (setting_in s) steps s
 
 -- The reply to a command was written, unless that halted: then a front of it. If it did not, the session has
 -- the steps that the reply leaves, and stands where they lead.

@@ -24,7 +24,8 @@ use std::alloc::Global;
 /// says is done, but for that of `back`.
 ///
 /// The session stands where its steps lead, as it does again afterwards, unless memory was wanting or a write
-/// failed.
+/// failed. It took its passings where the clock was below 2^127, and where time would pass from a clock that
+/// is not, the answer is want of memory.
 pub fn reply<E: Engine + Drop, W: Sink>(
     alloc: Global,
     session: &mut Session<E>,

@@ -5,7 +5,7 @@ use Rattle.pz_term.specs.Laws.{OneMomentOf, OffersAreThere, OffersAreCounted, Of
 use Rattle.pz_trace.specs.Laws.{OffersAreNamed, FaultsAreNamed, HighsAreNamed, StopsAreNamed}
 use Rattle.pz_io.specs.Laws.{NothingIsWritten, PiecesJoin, HaltsBeforeMore, MemoryMayBeWanting}
 use Rattle.pz_debug_commands.specs.Laws.{EveryList}
-use Rattle.pz_debug_session.specs.Laws.{OnePlace, BeginsAtStart, GoesOnByChoice, GoesOnByPassing, FrontsLead}
+use Rattle.pz_debug_session.specs.Laws.{OnePlace, BeginsAtStart, GoesOnByChoice, GoesOnByPassing, StaysLowByChoice, StaysLowByPassing, FrontsLead}
 
 pub record Known : Type 0 where
   pub wires : WiresAreKnown
@@ -38,4 +38,6 @@ pub record Known : Type 0 where
   pub begins : BeginsAtStart
   pub chosen : GoesOnByChoice
   pub passed : GoesOnByPassing
+  pub low_chosen : StaysLowByChoice
+  pub low_passed : StaysLowByPassing
   pub fronts : FrontsLead

@@ -8,7 +8,7 @@ use Rattle.pz_debug.proofs.sessions.debug_model.Goals as goal
 
 pub debug_session-requires-clause-at : goal.debug_session-requires-clause-at
 debug_session-requires-clause-at g c =
-    is_at c.sessions_go_on.ensures.start (checked_model c.args.checked) (steps_in c.in-Ok.session) (stands_in g.E.Simulator.simulation c.in-Ok.session) c.in-Ok.ensures.steps c.requires.sound c.requires.opens c.in-Ok.ensures.starts
+    is_at c.sessions_go_on.ensures.low_start (checked_model c.args.checked) (steps_in c.in-Ok.session) (stands_in g.E.Simulator.simulation c.in-Ok.session) c.in-Ok.ensures.steps c.requires.sound c.requires.opens c.in-Ok.ensures.starts
 
 pub returns-in-Ok : goal.returns-in-Ok
 returns-in-Ok g c = inr (c.debug_session.ensures (checked_model c.args.checked) (setting_is (setting_for (checked_model c.args.checked)) (stands_in g.E.Simulator.simulation c.in-Ok.session) c.in-Ok.ensures.starts))

@@ -10,7 +10,7 @@ use Rattle.pz_debug_replies.proofs.advancing.go_on_acting.Goals as goal
 pub offer_of-requires : goal.offer_of-requires
 offer_of-requires g c =
     let s = stands_in g.E.Simulator.simulation c.args.session.now in
-    (c.args.offers, c.requires.moment, some_first c.rules_are_known.ensures (setting_in s) (steps_in c.args.session.now) s c.args.offers c.requires.at.place c.requires.moment)
+    (c.args.offers, c.requires.moment, some_first c.rules_are_known.ensures (setting_in s) (steps_in c.args.session.now) s c.args.offers c.requires.at.place.after c.requires.moment)
 
 pub returns-in_err-action : goal.returns-in_err-action
 returns-in_err-action g c =

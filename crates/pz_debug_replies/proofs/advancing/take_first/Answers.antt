@@ -10,7 +10,7 @@ use Rattle.pz_debug_replies.proofs.advancing.take_first.Goals as goal
 pub take_offer-requires-clause-there : goal.take_offer-requires-clause-there
 take_offer-requires-clause-there g c =
     let s = stands_in g.E.Simulator.simulation c.args.session.now in
-    some_first c.rules_are_known.ensures (setting_in s) (steps_in c.args.session.now) s c.args.offers c.requires.at.place c.requires.moment
+    some_first c.rules_are_known.ensures (setting_in s) (steps_in c.args.session.now) s c.args.offers c.requires.at.place.after c.requires.moment
 
 pub returns-in_err-take_offer : goal.returns-in_err-take_offer
 returns-in_err-take_offer g c =

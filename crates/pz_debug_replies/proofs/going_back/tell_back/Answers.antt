@@ -16,6 +16,6 @@ returns g c =
     let s = stands_in g.E.Simulator.simulation c.args.session.now in
     let same : back_line c.steps.result c.clock.result ≡ back_line (length (steps_in c.args.session.now)) (clock_in s) =
     ap (λ (n : ℕ). back_line n c.clock.result) c.steps.ensures
-    ∙ ap (λ (n : ℕ). back_line (length (steps_in c.args.session.now)) n) (clock_there (setting_in s) (steps_in c.args.session.now) s c.clock.result c.requires.place c.clock.ensures) in
+    ∙ ap (λ (n : ℕ). back_line (length (steps_in c.args.session.now)) n) (clock_there (setting_in s) (steps_in c.args.session.now) s c.clock.result c.requires.place.after c.clock.ensures) in
     subst (λ (l : List ℕ). Wrote (g.W.Sink.state c.args.out.now) (g.W.Sink.state c.put.new.out) l (result_err c.put.result)) same
     (put_line c.as_slice.result.now _ _ _ (back_line c.steps.result c.clock.result) c.put.ensures.wrote (rw c.as_slice.ensures.value c.in_ok-line.ensures))

@@ -32,5 +32,7 @@ returns c = record {
   begins = c.sessions_go_on.ensures.start;
   chosen = c.sessions_go_on.ensures.choice;
   passed = c.sessions_go_on.ensures.passing;
+  low_chosen = c.sessions_go_on.ensures.low_choice;
+  low_passed = c.sessions_go_on.ensures.low_passing;
   fronts = c.fronts_lead_too.ensures;
 }

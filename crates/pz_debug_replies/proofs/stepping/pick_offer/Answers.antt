@@ -15,4 +15,4 @@ pub returns : goal.returns
 returns g c = λ line.
     let s = stands_in g.E.Simulator.simulation c.args.session.now in
     let xs = steps_in c.args.session.now in
-    stepped line (pick c.args.number) xs s _ _ _ _ c.take_offer.result _ _ (picks xs s c.args.offers c.args.number c.in_ok-action.action c.requires.at.place c.requires.moment c.in_ok-action.ensures) c.take_offer.ensures.wrote c.take_offer.ensures.steps c.take_offer.ensures.at c.take_offer.ensures.setting
+    stepped line (pick c.args.number) xs s _ _ _ _ c.take_offer.result _ _ (picks xs s c.args.offers c.args.number c.in_ok-action.action c.requires.at.place.after c.requires.moment c.in_ok-action.ensures) c.take_offer.ensures.wrote c.take_offer.ensures.steps c.take_offer.ensures.at c.take_offer.ensures.setting

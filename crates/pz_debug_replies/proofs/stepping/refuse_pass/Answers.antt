@@ -15,5 +15,5 @@ pub returns : goal.returns
 returns g c =
     let s = stands_in g.E.Simulator.simulation c.args.session.now in
     subst (λ (n : ℕ). Wrote (g.W.Sink.state c.args.out.now) (g.W.Sink.state c.put.new.out) (refused_pass_line n) (result_err c.put.result))
-    (clock_there (setting_in s) (steps_in c.args.session.now) s c.clock.result c.requires.at.place c.clock.ensures)
+    (clock_there (setting_in s) (steps_in c.args.session.now) s c.clock.result c.requires.at.place.after c.clock.ensures)
     (put_line c.as_slice.result.now _ _ _ (refused_pass_line c.clock.result) c.put.ensures.wrote (rw c.as_slice.ensures.value c.in_ok-line.ensures))

@@ -25,5 +25,5 @@ returns-else-number-offers g c = λ line.
     let same : c.offers_at-offers.result ≡ offers_at c.moment.result = c.offers_at-offers.ensures in
     let few : offers_at c.moment.result ≤ c.args.number = omega (arith, same, c.if-number-offers.false) in
     told line (pick c.args.number) xs s _ _ c.refuse_pick.result (refused_pick_line (clock_in s) c.args.number (offers_at c.moment.result)) c.requires
-    (no_offer xs s c.args.number c.moment.result c.requires.place c.moment.ensures few)
+    (no_offer xs s c.args.number c.moment.result c.requires.place.after c.moment.ensures few)
     (subst (λ (n : ℕ). Wrote (g.W.Sink.state c.args.out.now) (g.W.Sink.state c.refuse_pick.new.out) (refused_pick_line (clock_in s) c.args.number n) (result_err c.refuse_pick.result)) same c.refuse_pick.ensures)
