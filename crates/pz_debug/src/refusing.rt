@@ -26,11 +26,7 @@ pub(crate) fn say_unread<W: Sink>(
 }
 
 /// Says why a text is refused.
-pub(crate) fn say_refused<W: Sink>(
-    alloc: Global,
-    error: ReadModelError,
-    out: &mut W,
-) -> DebugStatus
+pub(crate) fn say_refused<W: Sink>(alloc: Global, error: ReadModelError, out: &mut W) -> DebugStatus
     ensures { SaysRefusal error (W.state out.old) (W.state out.new) result }
 {
     match error {

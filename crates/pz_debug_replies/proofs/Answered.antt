@@ -1,11 +1,9 @@
 -- A text of commands on its way: what was written of its replies.
 use Rattle.std.proofs.Common.{◌≡◌, ◌+◌, ◌<◌, ℕ, suc, List, [], ◌∷◌, ◌++◌, length, Some, None, Result, Ok, Err, refl, sym, ap, subst, ◌∙◌, append_assoc, arith}
 use Rattle.std.specs.Prelude.{codes}
-use Rattle.std.specs.Result.{result_err}
 use Rattle.std.proofs.lemmas.List.{append-nil, length-append}
 use Rattle.pz_io.specs.Outside.{SinkState}
 use Rattle.pz_io.specs.declared.writing.Halt.{Halt}
-use Rattle.pz_io.specs.Writing.{Wrote}
 use Rattle.pz_rules.specs.Settings.{Setting}
 use Rattle.pz_term.specs.Simulations.{Simulation, setting_in}
 use Rattle.pz_debug_commands.specs.Commands.{Command}
@@ -16,7 +14,7 @@ use Rattle.pz_debug_session.specs.declared.step.Step.{Step}
 use Rattle.pz_classes.specs.Soundness.{IsSound}
 use Rattle.pz_debug_session.specs.Steps.{StandsAfter}
 use Rattle.pz_debug_replies.specs.Replies.{Replies}
-use Rattle.pz_debug_replies.specs.Sessions.{RepliesAll, none, more, IsSessionText}
+use Rattle.pz_debug_replies.specs.Sessions.{RepliesAll, none, more}
 use Rattle.pz_debug_replies.specs.Replying.{IsAt, Replied, WroteSession}
 use Rattle.pz_debug_replies.specs.devices.Known.{Known}
 use Rattle.pz_debug_replies.specs.devices.Answering.{IsAnswered}

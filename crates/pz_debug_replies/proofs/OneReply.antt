@@ -1,5 +1,5 @@
 -- A command has one reply.
-use Rattle.std.proofs.Common.{◌≡◌, ◌≤◌, ◌<◌, ◌-◌, refl, sym, ap, subst, ◌∙◌, ℕ, zero, suc, List, [], ◌∷◌, ◌++◌, length, take, Option, Some, None, arith}
+use Rattle.std.proofs.Common.{◌≡◌, ◌≤◌, ◌<◌, ◌-◌, refl, sym, ap, subst, ◌∙◌, ℕ, zero, suc, List, [], ◌∷◌, ◌++◌, length, take, Some, None, arith}
 use Rattle.std.specs.Prelude.{slice_get}
 use Rattle.pz_rules.specs.declared.action.Action.{Action}
 use Rattle.pz_rules.specs.declared.moment.Moment.{Moment}
@@ -14,7 +14,6 @@ use Rattle.pz_term.specs.Refusals.{NoTime}
 use Rattle.pz_term.specs.Laws.{OneMomentOf, OneOfferOf, OffersAreThere, OffersAreCounted, OffersAreNumbered}
 use Rattle.pz_debug_commands.specs.Commands.{Command}
 use Rattle.pz_debug_session.specs.declared.step.Step.{Step}
-use Rattle.pz_debug_session.specs.declared.step.Step.TheVariants.{Pick, Pass}
 use Rattle.pz_debug_session.specs.Steps.{StandsAfter}
 use Rattle.pz_debug_session.specs.Laws.{OnePlace}
 use Rattle.pz_debug_replies.specs.Lines.{menu_line, offers_text, waiting_line, refused_pick_line, refused_pass_line, back_line}

@@ -16,10 +16,9 @@ use Rattle.pz_eval_rules.specs.declared.outcome.Listed.TheVariants as listed
 use Rattle.pz_eval_rules.specs.Evaluation.{a_variable, no_argument, an_argument}
 use Rattle.pz_eval_rules.specs.Outcomes.{outside, all_values}
 use Rattle.pz_eval_rules.specs.Answers.{gives}
-use Rattle.pz_rules.specs.declared.limits.Limits.{Limits}
 use Rattle.pz_rules.specs.declared.limits.Edition.TheVariants.{Two}
 use Rattle.pz_rules.specs.Terms.{Term, leaf}
-use Rattle.pz_rules.specs.Settings.{Setting, Context}
+use Rattle.pz_rules.specs.Settings.{Context}
 use Rattle.pz_rules.specs.Messages.{Sends, sends}
 use Rattle.pz_rules.specs.devices.Walk.{ActiveSend}
 use Rattle.pz_rules.specs.devices.Walks.{Offering, offering, SendsHaveParcels}

@@ -1,5 +1,5 @@
 -- Replies, by what was written of them.
-use Rattle.std.proofs.Common.{◌≡◌, ◌-◌, ◌<◌, ◌≤◌, ◌+◌, min, ℕ, suc, Bool, true, false, List, [], ◌∷◌, ◌++◌, length, take, Option, Some, None, Result, Ok, Err, refl, sym, ap, subst, ◌∙◌, ◌^◌, append_assoc, arith}
+use Rattle.std.proofs.Common.{◌≡◌, ◌-◌, ◌<◌, ◌≤◌, ◌+◌, min, ℕ, suc, true, false, List, [], ◌∷◌, ◌++◌, length, take, Option, Some, None, Result, Ok, Err, refl, sym, ap, subst, ◌∙◌, ◌^◌, append_assoc, arith}
 use Rattle.std.specs.Prelude.{OnOk}
 use Rattle.std.specs.Result.{result_err}
 use Rattle.std.proofs.lemmas.List.{append-nil, length-take}
@@ -23,20 +23,18 @@ use Rattle.pz_rules.specs.Runs.{Standing}
 use Rattle.pz_term.specs.Shown.{IsShown, CanShow}
 use Rattle.pz_term.specs.Simulations.{Simulation, stands, IsMomentOf, IsOffer, Chooses, Passes, setting_in, model_in, limits_in, clock_in}
 use Rattle.pz_term.specs.Refusals.{NoActions, NoTime}
-use Rattle.pz_debug_commands.specs.Commands.{Command, pick, pass, run, until, back, show}
+use Rattle.pz_debug_commands.specs.Commands.{Command, run, until, back, show}
 use Rattle.pz_debug_session.specs.declared.step.Step.{Step}
 use Rattle.pz_debug_session.specs.declared.step.Step.TheVariants.{Pick, Pass}
 use Rattle.pz_debug_session.specs.Steps.{StandsAfter, StandsLow}
 use Rattle.pz_debug_replies.specs.Advancing.{is_wanted, Advances, used_up, held, passes, acts, found}
-use Rattle.pz_debug_replies.specs.Replies.{offers_at, Replies, runs, runs_until, goes_back, too_far, shows, shows_none}
+use Rattle.pz_debug_replies.specs.Replies.{offers_at, Replies, runs, runs_until, goes_back, too_far, shows}
 use Rattle.pz_debug_replies.specs.Lines.{back_line, refused_back_line, show_line}
 use Rattle.pz_debug_replies.specs.Shown.{IsVariable}
 use Rattle.pz_debug_replies.specs.Replying.{IsAt, Replied}
 use Rattle.pz_debug_replies.specs.devices.Known.{Known}
-use Rattle.pz_debug_replies.specs.devices.Advanced.{GoesOn, Ends, Halts, WentOn, OnTheWay, Advanced}
-use Rattle.pz_debug_replies.specs.declared.advancing.Going.{Going}
-use Rattle.pz_debug_replies.specs.declared.advancing.Going.TheVariants as going
-use Rattle.pz_debug_replies.proofs.Places.{some_passing, setting_there}
+use Rattle.pz_debug_replies.specs.devices.Advanced.{GoesOn, Ends, Halts, OnTheWay, Advanced}
+use Rattle.pz_debug_replies.proofs.Places.{some_passing}
 use Rattle.pz_debug_replies.proofs.Existing.{some_advance, acts_first, some_reply}
 use Rattle.pz_debug_replies.proofs.Written.{none_of}
 

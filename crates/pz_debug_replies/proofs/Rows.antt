@@ -1,5 +1,5 @@
 -- Sessions that take no step, worked out.
-use Rattle.std.proofs.Common.{List, [], ◌∷◌, arith}
+use Rattle.std.proofs.Common.{[], ◌∷◌, arith}
 use Rattle.std.specs.Prelude.{codes}
 use Rattle.std.specs.Fmt.{digits}
 use Rattle.pz_rules.specs.Settings.{Setting}

@@ -1,5 +1,5 @@
 -- Lines of offers, one after another.
-use Rattle.std.proofs.Common.{◌≡◌, ◌≤◌, ◌<◌, ◌+◌, ℕ, zero, suc, List, [], ◌∷◌, ◌++◌, length, drop, Some, None, refl, sym, subst, ap, ◌∙◌, append_assoc, arith}
+use Rattle.std.proofs.Common.{◌≡◌, ◌≤◌, ◌+◌, ℕ, List, ◌++◌, length, drop, Some, None, sym, subst, ap, ◌∙◌, append_assoc}
 use Rattle.std.specs.Prelude.{slice_get}
 use Rattle.std.proofs.lemmas.List.{drop_more, at_drop_all, append-nil}
 use Rattle.std.proofs.lemmas.Option.{get_or_from_slice_get, slice_get_within}

@@ -36,7 +36,8 @@ fn is_wanted(wanted: Wanted<'_>, action: &Action) -> bool
     ensures { result ≡ spec.is_wanted (message_of wanted.entry) action.now }
 {
     match (wanted, action) {
-        (Wanted::Message(name), Action::Comm { message, .. }) => message.as_str().as_bytes() == name,
+        (Wanted::Message(name), Action::Comm { message, .. }) => message.as_str().as_bytes()
+            == name,
         (Wanted::Message(_), Action::Internal { .. }) | (Wanted::Nothing, _) => false,
     }
 }

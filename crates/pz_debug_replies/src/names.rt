@@ -77,12 +77,7 @@ fn variables_of<'a>(checked: &'a Checked, net: &Net, process: u32) -> &'a [Name]
 }
 
 /// The number of the variable of this name of a process.
-pub(crate) fn find_variable(
-    checked: &Checked,
-    net: &Net,
-    process: u32,
-    name: &[u8],
-) -> Option<u32>
+pub(crate) fn find_variable(checked: &Checked, net: &Net, process: u32, name: &[u8]) -> Option<u32>
     requires of_model { ∥ IsNet (checked_model checked.now) net.now ∥₁ }
     requires belongs { HasProcess net.now process }
     ensures { (place : Address) →

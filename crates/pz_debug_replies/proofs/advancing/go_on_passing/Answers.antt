@@ -1,4 +1,3 @@
-use Rattle.std.proofs.Common.{sym, ap}
 use Rattle.pz_debug_session.specs.Sessions.{stands_in, steps_in}
 use Rattle.pz_debug_replies.specs.devices.Advanced.{message_of}
 use Rattle.pz_debug_replies.proofs.Written.{err_is}

@@ -1,4 +1,4 @@
-use Rattle.pz_debug_replies.proofs.OneReply.{Known, one_reply, one_text}
+use Rattle.pz_debug_replies.proofs.OneReply.{one_reply, one_text}
 use Rattle.pz_debug_replies.proofs.laws.replies_are_one.Goals as goal
 
 pub returns-clause-reply : goal.returns-clause-reply

@@ -1,5 +1,4 @@
-use Rattle.std.proofs.Common.{◌≡◌, ◌<◌, ℕ, List, inl, inr, sym, ap, subst, ◌∙◌, arith}
-use Rattle.pz_trace.specs.Labels.{path_of}
+use Rattle.std.proofs.Common.{sym, ◌∙◌, arith}
 use Rattle.pz_debug_replies.proofs.Searched.{not_yet, same_text, other_text}
 use Rattle.pz_debug_replies.proofs.names.find_process.Goals as goal
 

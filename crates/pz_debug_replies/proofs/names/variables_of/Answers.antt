@@ -1,7 +1,6 @@
-use Rattle.std.proofs.Common.{◌≡◌, ◌<◌, ◌^◌, ℕ, List, length, sym, ap, subst, ◌∙◌}
+use Rattle.std.proofs.Common.{◌<◌, ◌^◌, ℕ, List, length, sym, ap, subst, ◌∙◌}
 use Rattle.std.proofs.Math.Logic.{∥∥₁_elim}
 use Rattle.std.specs.Coded.{le_prop}
-use Rattle.pz_syntax.specs.Classes.{ModelTree}
 use Rattle.pz_syntax.specs.ModelText.{HasFewMarks}
 use Rattle.pz_value.specs.declared.value.ClassId.{ClassId}
 use Rattle.pz_classes.specs.CheckedView.{checked_model}

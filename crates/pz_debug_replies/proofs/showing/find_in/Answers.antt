@@ -1,4 +1,4 @@
-use Rattle.std.proofs.Common.{sym, subst, refl}
+use Rattle.std.proofs.Common.{sym, subst}
 use Rattle.pz_syntax.specs.Classes.{ModelTree}
 use Rattle.pz_bind.specs.devices.Nets.{IsNet}
 use Rattle.pz_classes.specs.CheckedView.{checked_model}

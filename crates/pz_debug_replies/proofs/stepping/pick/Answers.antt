@@ -1,4 +1,3 @@
-use Rattle.std.proofs.Common.{sym}
 use Rattle.pz_debug_session.specs.Sessions.{stands_in, steps_in}
 use Rattle.pz_debug_replies.proofs.Replied.{at_choice, at_steps, no_such}
 use Rattle.pz_debug_replies.proofs.stepping.pick.Goals as goal

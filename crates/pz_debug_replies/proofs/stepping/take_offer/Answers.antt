@@ -1,4 +1,3 @@
-use Rattle.std.proofs.Common.{Some}
 use Rattle.pz_io.specs.declared.writing.Halt.TheVariants.{NoMemory}
 use Rattle.pz_trace.specs.Lines.{action_line}
 use Rattle.pz_term.specs.Simulations.{model_in, clock_in}
