@@ -1,6 +1,5 @@
 -- A session before its first step, and what was said of it.
-use Rattle.std.proofs.Common.{◌≡◌, ◌≢◌, ℕ, List, [], ◌∷◌, Result, Ok, Err, refl, sym, subst}
-use Rattle.std.specs.Prelude.{IfOk}
+use Rattle.std.proofs.Common.{◌≡◌, ◌≢◌, ℕ, List, [], Result, Ok, Err, refl, sym, subst}
 use Rattle.pz_io.specs.Outside.{SinkState}
 use Rattle.pz_io.specs.declared.writing.Halt.{Halt}
 use Rattle.pz_syntax.specs.Classes.{ModelTree}
@@ -12,10 +11,9 @@ use Rattle.pz_term.specs.Simulations.{Simulation, Starts, setting_in}
 use Rattle.pz_debug_session.specs.declared.step.Step.{Step}
 use Rattle.pz_debug_session.specs.Laws.{BeginsLow}
 use Rattle.pz_debug_replies.specs.Replying.{IsAt, WroteSession}
-use Rattle.pz_debug.specs.declared.status.DebugStatus.{DebugStatus}
 use Rattle.pz_debug.specs.declared.status.DebugStatus.TheVariants.{Done, WriteFault}
 use Rattle.pz_debug.specs.Output.{setting_for, PrintsSession, replies}
-use Rattle.pz_debug.specs.devices.Saying.{Said, Says, halted_as}
+use Rattle.pz_debug.specs.devices.Saying.{Says, halted_as}
 use Rattle.pz_debug.proofs.Sayings.{said_whole, said_halted}
 
 pub setting_is : (setting : Setting) (s : Simulation) → Starts setting s → setting_in s ≡ setting

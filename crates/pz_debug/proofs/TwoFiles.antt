@@ -17,7 +17,7 @@ use Rattle.pz_debug.specs.Output.{PrintsSession, replies, PrintsModel, refuses, 
 use Rattle.pz_debug.specs.Promises.{Opens, OpensFiles, OpensLast, HasText, IsNoModel, HasModelText}
 use Rattle.pz_debug.specs.Promises as promises
 use Rattle.pz_debug.specs.devices.Keeping.{KeepsPromises}
-use Rattle.pz_debug.specs.devices.Saying.{Said, NothingWritten, Answers}
+use Rattle.pz_debug.specs.devices.Saying.{NothingWritten, Answers}
 use Rattle.pz_debug.specs.devices.Reading.{FileOutcome, wanting, fault, long, whole}
 use Rattle.pz_debug.specs.devices.Debugging.{SaysRefusal, PrintsClosed, closed, IsOnlyOpen, WasRead, DebugsText, DebugsFiles, no_model, reads_on}
 use Rattle.pz_debug.specs.devices.Debugging as debugging

@@ -1,5 +1,5 @@
 -- Names that were found in words.
-use Rattle.std.specs.Prelude.{◌≡◌, ℕ, List, Option, Some, None}
+use Rattle.std.specs.Prelude.{ℕ, List, Option, Some, None}
 use Rattle.pz_debug.specs.Asked.{Asked, Asks}
 use Rattle.pz_debug.specs.declared.asking.Names.{Names}
 

@@ -1,4 +1,4 @@
-use Rattle.std.proofs.Common.{sym, ◌∙◌, string_bytes, arith}
+use Rattle.std.proofs.Common.{string_bytes, arith}
 use Rattle.pz_debug.proofs.Asked.{names, session_of}
 use Rattle.pz_debug.proofs.asking.names_in.Goals as goal
 

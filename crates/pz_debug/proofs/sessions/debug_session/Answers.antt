@@ -1,4 +1,3 @@
-use Rattle.std.proofs.Common.{refl}
 use Rattle.pz_term.specs.Simulations.{setting_in}
 use Rattle.pz_debug_session.specs.Sessions.{stands_in}
 use Rattle.pz_debug.proofs.Started.{says_whole, says_halted}

@@ -1,4 +1,4 @@
-use Rattle.std.proofs.Common.{subst, ap}
+use Rattle.std.proofs.Common.{subst}
 use Rattle.std.proofs.lemmas.Result.{IfOk-weaker}
 use Rattle.pz_classes.specs.CheckedView.{checked_model}
 use Rattle.pz_rules.specs.declared.limits.Limits.{Limits}
