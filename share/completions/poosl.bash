@@ -30,7 +30,7 @@ _poosl_kinds() {
 }
 
 _poosl() {
-  local jobs='run menu replay check make ring format watch' own='chart explain now install help version'
+  local jobs='run menu replay check make ring format watch' own='chart debug explain now install help version'
   local word=${COMP_WORDS[COMP_CWORD]} at=1 job files=0
   COMPREPLY=()
   # (behind 'now' stands a job of the program, or a chart)
@@ -42,7 +42,7 @@ _poosl() {
   job=${COMP_WORDS[at]}
   case $job in
     run | menu | check | format | chart) files=1 ;;
-    replay | watch) files=2 ;;
+    replay | watch | debug) files=2 ;;
     install) mapfile -t COMPREPLY < <(compgen -d -- "$word"); compopt -o filenames 2>/dev/null; return ;;
     help) mapfile -t COMPREPLY < <(compgen -W "$jobs $own" -- "$word"); return ;;
     explain) mapfile -t COMPREPLY < <(compgen -W "$(_poosl_kinds "${COMP_WORDS[0]/#\~/$HOME}")" -- "$word"); return ;;

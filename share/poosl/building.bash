@@ -1,8 +1,8 @@
 # What the launcher sources in a clone, $here: which program is proved from the sources as they stand, and
-# how one is proved and built.
+# how one is proved and built. It is poosl_run, or what $builds says.
 # shellcheck shell=bash
-: "${here:?}"
-top=$here/crates/poosl_run
+: "${here:?}" "${builds:=poosl_run}"
+top=$here/crates/$builds
 log=$top/build.log
 # The programs that were proved, each with the checksums of what it was proved from, in a folder of their sum.
 kept=$here/out/poosl
@@ -13,7 +13,7 @@ declare -A below=()
 while IFS=: read -r name uses; do
   below[${name%% *}]=$uses
 done < <(sed -n 's/#.*//; /:/p' "$here/crates.txt")
-needed=(poosl_run)
+needed=("$builds")
 for ((i = 0; i < ${#needed[@]}; i++)); do
   for it in ${below[${needed[i]}]}; do
     # (what has no line is a library of the toolchain)
@@ -36,7 +36,7 @@ sum='' program=''
 look_up() {
   sum=$(checksums | sha256sum)
   sum=${sum%% *}
-  program=$kept/$sum/poosl_run
+  program=$kept/$sum/$builds
 }
 
 # Whether it is not there.
@@ -49,10 +49,10 @@ is_stale() {
 # made of the crate.
 is_gates() {
   local it made
-  [[ -x $top/out/poosl_run && ! $here/crates.txt -nt $top/out/poosl_run ]] || return 1
+  [[ -x $top/out/$builds && ! $here/crates.txt -nt $top/out/$builds ]] || return 1
   for it in "${needed[@]}"; do
     made=$here/crates/$it/out/rlib
-    [[ $it != poosl_run ]] || made=$top/out/poosl_run
+    [[ $it != "$builds" ]] || made=$top/out/$builds
     [[ -e $made && -z $(find "$here/crates/$it"/{src,specs,proofs} -newer "$made" -print -quit 2>/dev/null) ]] || return 1
   done
 }
@@ -62,7 +62,7 @@ is_gates() {
 keep() {
   local room it
   mkdir -p "$kept" && room=$(mktemp -d "$kept/new-XXXXXX") || return 1
-  checksums >"$room/checksums" && cp "$top/out/poosl_run" "$room/poosl_run" && chmod 755 "$room" &&
+  checksums >"$room/checksums" && cp "$top/out/$builds" "$room/$builds" && chmod 755 "$room" &&
     { rt version 2>/dev/null || echo 'a toolchain that is not on the PATH'; } >"$room/kit" &&
     # (another call may have kept the same)
     { [[ -x $program ]] || mv -T "$room" "$kept/$sum"; }
@@ -123,7 +123,7 @@ look() {
       [[ $rlib -nt $started && ! -e $rlib/stamp ]] && hand+=" $it"
     fi
   done
-  ((count < ${#needed[@]} - 1)) || hand=' poosl_run'
+  ((count < ${#needed[@]} - 1)) || hand=" $builds"
   # (what an earlier build left is done at once, and tells nothing of the pace)
   ((whole || SECONDS < 5)) || whole=$left
   # (and the first crates tell little: before a tenth of the chain is done nothing is guessed)
@@ -183,12 +183,14 @@ build() {
   echo "poosl: proving and building the program; that is done once, and again only after a change of its sources" >&2
   echo "poosl: to have a look meanwhile, in another terminal: 'poosl now run MODEL ..' takes two minutes, and proves nothing" >&2
   touch "$started"
-  measure poosl_run 0
+  measure "$builds" 0
   SECONDS=0
   # (a check that was killed wants more memory than there was)
   prove "$(at_once)" || { grep -q 'failed (-9)$' "$log" && prove 1; } || fail
   # The run builds it; what it prints is that of a model beside it.
-  (cd "$top" && rt run -- run data/first.poosl --first) >/dev/null 2>>"$log" || fail
+  local words=(run data/first.poosl --first)
+  [[ $builds == poosl_run ]] || words=(data/equal.poosl data/commands)
+  (cd "$top" && rt run -- "${words[@]}") >/dev/null 2>>"$log" || fail
   [[ -t 2 ]] && printf '\r\033[K' >&2
   look_up
   if [[ $sum != "$before" ]]; then

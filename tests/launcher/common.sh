@@ -65,6 +65,7 @@ installed() { # program
   cp "$top/poosl" "$scratch/installed/bin/poosl"
   ln -sfn "$top/share/poosl" "$scratch/installed/share/poosl"
   cp "$1" "$scratch/installed/libexec/poosl/poosl_run"
+  cp "$1" "$scratch/installed/libexec/poosl/poosl_debug"
   launcher=$scratch/installed/bin/poosl
 }
 
@@ -78,8 +79,8 @@ cloned() {
   mkdir -p "$clone/crates" "$scratch/bin"
   cp -r "$top/poosl" "$top/share" "$clone/"
   mkdir "$clone/docs" && cp "$top/docs/poosl.1" "$clone/docs/"
-  printf '# crates\npoosl_run: pz_high\npz_high: pz_low std\npz_low:\nother: pz_low\n' >"$clone/crates.txt"
-  for it in poosl_run pz_high pz_low other; do
+  printf '# crates\npoosl_run: pz_high\npoosl_debug: pz_low\npz_high: pz_low std\npz_low:\nother: pz_low\n' >"$clone/crates.txt"
+  for it in poosl_run poosl_debug pz_high pz_low other; do
     mkdir -p "$clone/crates/$it"/{src,specs,proofs}
     echo "// $it" >"$clone/crates/$it/src/lib.rt"
     echo "-- $it" >"$clone/crates/$it/specs/Lib.antt"
@@ -95,7 +96,7 @@ case $1 in
       printf '== pz_low\nerror: it is wrong\npz_low: failed (1)\n'
       exit 1
     fi
-    for it in pz_low pz_high poosl_run; do
+    for it in pz_low pz_high poosl_run poosl_debug; do
       mkdir -p "../$it/out/rlib"
       touch "../$it/out/rlib/stamp"
       echo "== $it"
@@ -103,8 +104,9 @@ case $1 in
     ;;
   run)
     mkdir -p out
-    { echo '#!/bin/sh'; echo 'echo "$@"'; for it in ../p*/src/lib.rt; do echo "echo '$(head -n 1 "$it")'"; done; } >out/poosl_run
-    chmod +x out/poosl_run
+    it=out/$(basename "$PWD")
+    { echo '#!/bin/sh'; echo 'echo "$@"'; for lib in ./src/lib.rt ../pz_*/src/lib.rt; do echo "echo '$(head -n 1 "$lib")'"; done; } >"$it"
+    chmod +x "$it"
     ;;
   *) exit 2 ;;
 esac

@@ -1,3 +1,6 @@
-pub mod OneText
-pub mod OneReply
-pub mod Rows
+pub mod Sayings
+pub mod Unread
+pub mod Keeps
+pub mod TwoFiles
+pub mod Asked
+pub mod Started

@@ -1,6 +1,7 @@
-pub mod Lines
-pub mod Shown
-pub mod Advancing
-pub mod Replies
-pub mod Sessions
-pub mod Laws
+pub mod Limits
+pub mod Asked
+pub mod Files
+pub mod Status
+pub mod Output
+pub mod Promises
+pub mod devices

@@ -1,4 +1,14 @@
-//! What a stepping session prints: the replies to its commands.
+//! The stepping session as a program: words and files to the replies that are printed.
 #![tactic(auto)]
 
-pub mod laws;
+mod asking;
+mod debugging;
+mod limits;
+mod printing;
+mod program;
+mod refusing;
+mod sessions;
+mod status;
+
+pub use program::run_debug;
+pub use status::DebugStatus;

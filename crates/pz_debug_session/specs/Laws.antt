@@ -1,5 +1,5 @@
 -- Laws of sessions.
-use Rattle.std.specs.Prelude.{◌≡◌, ◌<◌, ◌^◌, ℕ, List, [], ◌∷◌, ◌++◌}
+use Rattle.std.specs.Prelude.{◌≡◌, ◌<◌, ◌^◌, ℕ, List, [], ◌∷◌, ◌++◌, take}
 use Rattle.pz_rules.specs.Settings.{Setting}
 use Rattle.pz_term.specs.Simulations.{Simulation, Starts, Chooses, Passes, clock_in}
 use Rattle.pz_debug_session.specs.declared.step.Step.{Step}
@@ -21,6 +21,10 @@ GoesOnByChoice = (setting : Setting) (steps : List Step) (k : ℕ) (s t : Simula
 
 abbrev pub GoesOnByPassing : Type 0
 GoesOnByPassing = (setting : Setting) (steps : List Step) (s t : Simulation) → StandsAfter setting steps s → Passes s t → StandsAfter setting (steps ++ Pass ∷ []) t
+
+-- the first of these steps lead somewhere too
+abbrev pub FrontsLead : Type 0
+FrontsLead = (setting : Setting) (steps : List Step) (n : ℕ) (s : Simulation) → StandsAfter setting steps s → (t : Simulation) × StandsAfter setting (take n steps) t
 
 -- the same of sessions whose passings are taken where the clock is below 2^127
 

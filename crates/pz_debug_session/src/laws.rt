@@ -1,6 +1,6 @@
 // Laws of sessions, the contracts of functions that do nothing.
 
-ghost use Rattle.pz_debug_session.specs.Laws.{OnePlace, BeginsAtStart, GoesOnByChoice, GoesOnByPassing, BeginsLow, StaysLowByChoice, StaysLowByPassing};
+ghost use Rattle.pz_debug_session.specs.Laws.{OnePlace, BeginsAtStart, GoesOnByChoice, GoesOnByPassing, FrontsLead, BeginsLow, StaysLowByChoice, StaysLowByPassing};
 ghost use Rattle.pz_debug_session.specs.devices.Known.{Known};
 
 /// A list of steps leads to one place.
@@ -22,6 +22,11 @@ pub fn sessions_go_on()
 {
     rules_are_known();
 }
+
+/// Where steps lead somewhere, the first of them do.
+pub fn fronts_lead_too()
+    ensures { FrontsLead }
+{}
 
 /// What is known of runs.
 pub(crate) fn rules_are_known()

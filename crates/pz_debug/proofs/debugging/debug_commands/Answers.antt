@@ -1,0 +1,24 @@
+use Rattle.std.proofs.Common.{ℕ, Err, ap, refl}
+use Rattle.std.specs.Prelude.{Vec}
+use Rattle.std.specs.declared.alloc.Global.{Global}
+use Rattle.pz_classes.specs.CheckedView.{checked_model}
+use Rattle.pz_debug.specs.Files.{command_file}
+use Rattle.pz_debug.specs.Output.{PrintsSession}
+use Rattle.pz_debug.specs.devices.Reading.{whole}
+use Rattle.pz_debug.proofs.Unread.{not_fault, unread}
+use Rattle.pz_debug.proofs.debugging.debug_commands.Goals as goal
+
+pub returns-in-Ok : goal.returns-in-Ok
+returns-in-Ok g c = record {
+  opened = c.in-Ok.ensures.opens;
+  names = c.in-Ok.ensures.opened;
+  outcome = whole c.as_slice.result.now (c.in-Ok.ensures.counted refl) (rw c.as_slice.ensures.value c.in-Ok.ensures.limit) (λ told. rw c.as_slice.ensures.value (c.in-Ok.ensures.content told)) c.debug_model.ensures;
+}
+
+pub returns-in-Err : goal.returns-in-Err
+returns-in-Err g c = record {
+  opened = c.in-Err.ensures.opens;
+  names = c.in-Err.ensures.opened;
+  outcome = unread (command_file c.args.commands.now) (PrintsSession (checked_model c.args.checked)) _ _ _ _ c.say_unread.result c.in-Err.error
+      (λ other. c.in-Err.ensures.counted (not_fault (Vec ℕ Global) c.in-Err.error other)) (λ is. c.in-Err.ensures.fault (ap Err is)) (λ is. c.in-Err.ensures.too_long (ap Err is)) (λ is. c.in-Err.ensures.longer (ap Err is)) c.say_unread.ensures;
+}

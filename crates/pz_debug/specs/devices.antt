@@ -1,0 +1,5 @@
+pub mod Asking
+pub mod Saying
+pub mod Reading
+pub mod Debugging
+pub mod Keeping

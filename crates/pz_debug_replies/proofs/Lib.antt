@@ -1,0 +1,12 @@
+pub mod OneText
+pub mod OneReply
+pub mod Places
+pub mod Parcels
+pub mod Existing
+pub mod Written
+pub mod Told
+pub mod Replied
+pub mod Leading
+pub mod Answered
+pub mod Searched
+pub mod Rows

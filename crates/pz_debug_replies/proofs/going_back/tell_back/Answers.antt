@@ -1,0 +1,21 @@
+use Rattle.std.proofs.Common.{◌≡◌, ◌∙◌, ℕ, List, ap, subst, length}
+use Rattle.std.specs.Result.{result_err}
+use Rattle.pz_io.specs.Writing.{Wrote}
+use Rattle.pz_term.specs.Simulations.{setting_in, clock_in}
+use Rattle.pz_debug_session.specs.Sessions.{stands_in, steps_in}
+use Rattle.pz_debug_replies.specs.Lines.{back_line}
+use Rattle.pz_debug_replies.proofs.Places.{clock_there}
+use Rattle.pz_debug_replies.proofs.Written.{none_written, put_line}
+use Rattle.pz_debug_replies.proofs.going_back.tell_back.Goals as goal
+
+pub returns-in_err-line : goal.returns-in_err-line
+returns-in_err-line g c = none_written c.rules_are_known.ensures _ _ c.from_residual.result c.from_residual.ensures.1
+
+pub returns : goal.returns
+returns g c =
+    let s = stands_in g.E.Simulator.simulation c.args.session.now in
+    let same : back_line c.steps.result c.clock.result ≡ back_line (length (steps_in c.args.session.now)) (clock_in s) =
+    ap (λ (n : ℕ). back_line n c.clock.result) c.steps.ensures
+    ∙ ap (λ (n : ℕ). back_line (length (steps_in c.args.session.now)) n) (clock_there (setting_in s) (steps_in c.args.session.now) s c.clock.result c.requires.place.after c.clock.ensures) in
+    subst (λ (l : List ℕ). Wrote (g.W.Sink.state c.args.out.now) (g.W.Sink.state c.put.new.out) l (result_err c.put.result)) same
+    (put_line c.as_slice.result.now _ _ _ (back_line c.steps.result c.clock.result) c.put.ensures.wrote (rw c.as_slice.ensures.value c.in_ok-line.ensures))

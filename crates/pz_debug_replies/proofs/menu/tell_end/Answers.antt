@@ -1,0 +1,24 @@
+use Rattle.std.proofs.Common.{ℕ, subst}
+use Rattle.std.specs.Result.{result_err}
+use Rattle.pz_io.specs.Writing.{Wrote}
+use Rattle.pz_trace.specs.Lines.{end_line}
+use Rattle.pz_term.specs.Simulations.{model_in, setting_in}
+use Rattle.pz_debug_session.specs.Sessions.{stands_in, steps_in}
+use Rattle.pz_debug_replies.proofs.Places.{clock_there, named_at_end}
+use Rattle.pz_debug_replies.proofs.Written.{none_written, put_line}
+use Rattle.pz_debug_replies.proofs.menu.tell_end.Goals as goal
+
+pub end_line-requires : goal.end_line-requires
+end_line-requires g c =
+    let s = stands_in g.E.Simulator.simulation c.args.session.now in
+    named_at_end c.rules_are_known.ensures (setting_in s) c.net.result.now c.net.ensures (steps_in c.args.session.now) s c.requires.over.0 c.args.ending c.requires.at.place.after c.requires.over.1 c.requires.over.2
+
+pub returns-in_err-line : goal.returns-in_err-line
+returns-in_err-line g c = none_written c.rules_are_known.ensures _ _ c.from_residual.result c.from_residual.ensures.1
+
+pub returns : goal.returns
+returns g c =
+    let s = stands_in g.E.Simulator.simulation c.args.session.now in
+    subst (λ (n : ℕ). Wrote (g.W.Sink.state c.args.out.now) (g.W.Sink.state c.put.new.out) (end_line (model_in s) n c.args.ending) (result_err c.put.result))
+    (clock_there (setting_in s) (steps_in c.args.session.now) s c.clock.result c.requires.at.place.after c.clock.ensures)
+    (put_line c.as_slice.result.now _ _ _ (end_line (model_in s) c.clock.result c.args.ending) c.put.ensures.wrote (rw c.as_slice.ensures.value (c.in_ok-line.ensures (model_in s) c.net.ensures)))

@@ -1,0 +1,9 @@
+use Rattle.pz_classes.specs.CheckedView.{checked_model}
+use Rattle.pz_classes.specs.Tables.{class_names}
+use Rattle.pz_debug_replies.proofs.Searched.{names_merely}
+use Rattle.pz_debug_replies.proofs.names.class_names.Goals as goal
+
+pub returns : goal.returns
+returns c =
+    let m = checked_model c.args.checked.now in
+    names_merely c.names.result.now (class_names m) c.classes.ensures.tabled (λ known. c.names.ensures m known)

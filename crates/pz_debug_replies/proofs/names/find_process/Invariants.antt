@@ -1,0 +1,8 @@
+use Rattle.std.proofs.Common.{◌≡◌, ◌<◌, ℕ}
+use Rattle.pz_syntax.specs.Classes.{ModelTree}
+use Rattle.pz_bind.specs.devices.Nets.{IsNet}
+use Rattle.pz_trace.specs.Labels.{path_of}
+use Rattle.pz_debug_replies.proofs.names.find_process.Given as goal
+
+abbrev pub invariant-loop-process : goal.invariant-loop-process
+invariant-loop-process l = (m : ModelTree) → ∥ IsNet m l.net ∥₁ → (j : ℕ) → j < l.process → path_of m j ≡ l.word → ⊥

@@ -1,0 +1,4 @@
+pub mod Known
+pub mod Advanced
+pub mod Searching
+pub mod Answering
