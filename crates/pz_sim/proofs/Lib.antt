@@ -1,0 +1,7 @@
+mod Outcomes
+mod Borrowed
+mod Heard
+mod Kept
+mod Offered
+mod Verdicts
+mod Told

@@ -1,0 +1,7 @@
+-- What follows of several clauses of a call that succeeded.
+use Rattle.std.specs.Prelude.{Result, Ok, Err, OnOk}
+
+module _ {X E : Type 0} where
+  pub on_ok6 : {A B C D F G Z : Type 0} (r : Result X E) → OnOk r A → OnOk r B → OnOk r C → OnOk r D → OnOk r F → OnOk r G → (A → B → C → D → F → G → Z) → OnOk r Z
+  on_ok6 (Ok x) a b c d f g go = go a b c d f g
+  on_ok6 (Err e) a b c d f g go = tt

@@ -1,0 +1,7 @@
+use Rattle.pz_classes.specs.CheckedView.{checked_model}
+use Rattle.pz_term_processes.specs.Standing.{setting_of}
+use Rattle.pz_sim.proofs.Kept.{clock_is}
+use Rattle.pz_sim.proofs.sim.Sim.clock.Goals as goal
+
+pub returns : goal.returns
+returns c = let s = c.args.self.now in clock_is (setting_of (checked_model s.checked) s.limits) s.clock s.trees.items s.totals s.pairs s.standing s.holds

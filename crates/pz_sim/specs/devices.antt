@@ -1,0 +1,4 @@
+pub mod Borrowed
+pub mod Questions
+pub mod Tables
+pub mod Holding

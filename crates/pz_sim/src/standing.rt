@@ -1,0 +1,15 @@
+use pz_offer::Trouble;
+use pz_rules::Moment;
+
+/// How it is with a simulator.
+#[derive(Drop)]
+pub enum Standing {
+    /// This may happen next.
+    Whole(Moment),
+    /// The start is too high: of the first such process this trouble is told, and no tree was built.
+    High(Trouble),
+    /// The last action ended in this trouble, and did not take place.
+    Stopped(Trouble),
+    /// Memory was wanting.
+    Broken,
+}
