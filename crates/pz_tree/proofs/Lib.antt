@@ -10,3 +10,5 @@ mod Judged
 mod Offered
 mod Moved
 mod Elapsed
+mod Left
+mod Acted

@@ -1,3 +1,4 @@
 pub mod Trees
 pub mod Asking
+pub mod Acting
 pub mod devices

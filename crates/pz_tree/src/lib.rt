@@ -1,6 +1,7 @@
 //! An execution tree: what is left of one process, as nodes that keep what can be done there.
 #![tactic(auto)]
 
+mod acting;
 mod found;
 mod judging;
 mod offering;

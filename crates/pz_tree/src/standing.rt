@@ -34,6 +34,8 @@ impl Tree {
         ensures knows { Knows (checked_model checked.now) result }
         ensures known { AreKnown result.classes.now }
         ensures limits { result.limits ≡ self.now.limits }
+        ensures process { result.process ≡ self.now.process }
+        ensures clock { result.clock ≡ self.now.clock }
     {
         Standpoint {
             classes: checked.classes(),

@@ -1,5 +1,6 @@
 mod StatementPlaces
 mod Statements
+mod Merely
 mod Higher
 mod Calm
 mod Found

@@ -38,7 +38,7 @@ fn finish<L: Ledger>(
     steps: &mut Steps<L>,
 ) -> Result<Option<Key>, AllocError>
     requires latest { IsLatest state.old begun.point }
-    requires stands { MayGoOn (find nodes.old) root clock place.now }
+    requires stands { ∥ MayGoOn (find nodes.old) root clock place.now ∥₁ }
     requires ends { EndsInTime clock (term_view begun.part) }
     ensures { IfOk result (λ out. StayRule (home_view home.now) (find nodes.old) (find nodes.new) root clock
         place.now (term_view begun.part) out state.old state.new) }
@@ -78,7 +78,7 @@ pub fn act<L: Ledger>(
     steps: &mut Steps<L>,
 ) -> Result<Result<Option<Key>, Trouble>, AllocError>
     requires knows { Knows (checked_model home.now.checked.now) here.now }
-    requires can { MayBeDone here.now home.now how (find nodes.old) root state.old.held place.now }
+    requires can { ∥ MayBeDone here.now home.now how (find nodes.old) root state.old.held place.now ∥₁ }
     ensures acts { IfOk result (λ left. ActRule here.now home.now how.entry (find nodes.old) (find nodes.new) root
         place.now left state.old state.new) }
     ensures stays { IfOk result (λ left. OnErr left ((nodes.new ≡ nodes.old) × (state.new ≡ state.old))) }
@@ -111,7 +111,7 @@ pub fn trial<L: Ledger>(
     steps: &mut Steps<L>,
 ) -> Result<Result<(), Trouble>, AllocError>
     requires knows { Knows (checked_model home.now.checked.now) here.now }
-    requires can { MayBeDone here.now home.now how (find nodes.now) root state.old.held place.now }
+    requires can { ∥ MayBeDone here.now home.now how (find nodes.now) root state.old.held place.now ∥₁ }
     ensures answers { IfOk result (λ left. TrialRule here.now home.now how.entry (find nodes.now) root place.now left
         state.old.held) }
     ensures stays { OnOk result (state.new ≡ state.old) }

@@ -162,7 +162,7 @@ pub(crate) fn begin<L: Ledger>(
     steps: &mut Steps<L>,
 ) -> Result<Result<Begun, Trouble>, AllocError>
     requires knows { Knows (checked_model home.now.checked.now) here.now }
-    requires can { MayBeDone here.now home.now how (find nodes.now) root state.old.held place.now }
+    requires can { ∥ MayBeDone here.now home.now how (find nodes.now) root state.old.held place.now ∥₁ }
     ensures leaves { IfOk result (λ begun. BeginRule here.now home.now how.entry (find nodes.now) root place.now
         state.old.held state.new.held begun) }
     ensures state { IfOk result (IsBegun state.old state.new) }

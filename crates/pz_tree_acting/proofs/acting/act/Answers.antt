@@ -1,7 +1,9 @@
 use Rattle.std.proofs.Common.{refl}
+use Rattle.std.proofs.Math.Logic.{∥∥₁_map}
 use Rattle.pz_nodes.specs.Arena.{find}
 use Rattle.pz_part_actions.specs.Homes.{seen_home}
 use Rattle.pz_tree_nodes.specs.View.{term_in_option}
+use Rattle.pz_tree_acting.specs.Acting.{MayBeDone}
 use Rattle.pz_tree_acting.proofs.Finished.{begun_latest, begun_trouble, begun_older, begun_has_opened, begun_ends, acts_trouble, acts_well}
 use Rattle.pz_tree_acting.proofs.acting.act.Goals as goal
 
@@ -13,8 +15,8 @@ finish-requires-clause-ends g c = begun_ends c.args.here.now.clock c.in_ok-begun
 
 pub finish-requires-clause-stands : goal.finish-requires-clause-stands
 finish-requires-clause-stands g c =
-    let r = c.requires.can in
-    (r.plant, r.rooted, c.active_parts_may_act.ensures.law (seen_home c.args.here.now c.args.home.now c.args.state.now.held) (term_in_option c.args.here.now.clock r.plant) c.args.place.now r.can.frame r.can.part r.can.active)
+    ∥∥₁_map c.requires.can (λ (r : MayBeDone c.args.here.now c.args.home.now c.args.how (find c.args.nodes.now) c.args.root c.args.state.now.held c.args.place.now).
+    (r.plant, r.rooted, c.active_parts_may_act.ensures.law (seen_home c.args.here.now c.args.home.now c.args.state.now.held) (term_in_option c.args.here.now.clock r.plant) c.args.place.now r.can.frame r.can.part r.can.active))
 
 pub returns-in_ok-out-in-Ok-clause-acts : goal.returns-in_ok-out-in-Ok-clause-acts
 returns-in_ok-out-in-Ok-clause-acts g c =

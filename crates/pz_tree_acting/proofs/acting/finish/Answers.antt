@@ -1,10 +1,13 @@
 use Rattle.std.proofs.Common.{List, ap, subst}
+use Rattle.std.proofs.Math.Logic.{∥∥₁_map}
 use Rattle.pz_nodes.specs.Arena.{find}
 use Rattle.pz_part_opening.specs.Homes.{home_view}
 use Rattle.pz_rules.specs.View.{term_view}
 use Rattle.pz_state.specs.declared.state.FrameId.{FrameId}
 use Rattle.pz_tree_dropping.specs.Dropping.{numbers}
 use Rattle.pz_tree_acting.specs.devices.Closing.{CloseRule}
+use Rattle.pz_tree_acting.specs.devices.Begun.{MayGoOn}
+use Rattle.pz_tree_acting.proofs.Merely.{latest_merely}
 use Rattle.pz_tree_acting.proofs.Finished.{stays, still_latest}
 use Rattle.pz_tree_acting.proofs.acting.finish.Goals as goal
 
@@ -17,5 +20,6 @@ returns g c =
 
 pub keep-requires : goal.keep-requires
 keep-requires g c =
+    latest_merely c.close_frames.new.state c.args.begun.point (∥∥₁_map c.requires.stands (λ (stands : MayGoOn (find c.args.nodes.now) c.args.root c.args.clock c.args.place.now).
     still_latest (home_view c.args.home.now) (find c.args.nodes.now) (find c.regrow.new.nodes) c.args.root c.args.clock c.args.place.now (term_view c.args.begun.part) c.in_ok-out.out c.args.state.now c.regrow.new.state c.close_frames.new.state
-    (numbers c.new-lost.result.items) (numbers c.regrow.new.lost.items) c.args.steps.now c.regrow.new.steps c.args.begun.point c.in_ok-out.ensures.regrown c.requires.stands c.in_ok-close_frames.ensures.marks c.requires.latest
+    (numbers c.new-lost.result.items) (numbers c.regrow.new.lost.items) c.args.steps.now c.regrow.new.steps c.args.begun.point c.in_ok-out.ensures.regrown stands c.in_ok-close_frames.ensures.marks c.requires.latest))

@@ -1,4 +1,5 @@
 use Rattle.std.proofs.Common.{refl, ap}
+use Rattle.std.proofs.Math.Logic.{∥∥₁_map, ∥∥₁_elim, ∥∥₁_prop}
 use Rattle.pz_classes.specs.CheckedView.{checked_model}
 use Rattle.pz_nodes.specs.Arena.{find}
 use Rattle.pz_part_actions.specs.Becoming.{process_left}
@@ -8,15 +9,17 @@ use Rattle.pz_rules.specs.View.{term_view}
 use Rattle.pz_state.specs.Marks.{Seen}
 use Rattle.pz_tree_nodes.specs.View.{term_in_option}
 use Rattle.pz_tree_acting.specs.Deeds.{able, deed}
+use Rattle.pz_tree_acting.specs.Acting.{MayBeDone}
 use Rattle.pz_tree_acting.specs.devices.Begun.{ActsSo}
 use Rattle.pz_tree_acting.proofs.Found.{able_place}
 use Rattle.pz_tree_acting.proofs.Marked.{may_act, part_is, place_is, part_fits, leaves_begun}
 use Rattle.pz_tree_acting.proofs.Begins.{located, acts_so, begun_state, deed_can, deed_calm, deed_opened, begun_calm, begun_opens}
+use Rattle.pz_tree_acting.proofs.Merely.{acts_merely, place_merely, ends_merely, opens_merely}
 use Rattle.pz_tree_acting.proofs.beginning.begin.Goals as goal
 
 pub pos_of-pos-requires : goal.pos_of-pos-requires
 pos_of-pos-requires g c =
-    let r = c.requires.can in
+    place_merely (term_view c.in_ok-part.part) (∥∥₁_map c.requires.can (λ (r : MayBeDone c.args.here.now c.args.home.now c.args.how (find c.args.nodes.now) c.args.root c.args.state.now.held c.args.place.now).
     let how = c.args.how in
     let a = seen_home c.args.here.now c.args.home.now c.args.state.now.held in
     let t = term_in_option c.args.here.now.clock r.plant in
@@ -24,11 +27,11 @@ pos_of-pos-requires g c =
     let y = term_view c.in_ok-part.part in
     let found = located c.tended_nodes_stand.ensures.law c.active_parts_are_at_their_places.ensures.law (find c.args.nodes.now) c.args.root c.args.here.now.clock r.plant r.rooted how r.parcel a c.args.place.now r.can
     spot.key spot.frame.0 spot.clock c.part_at-spot.ensures.found y c.in_ok-part.ensures.part in
-    place_is (able how r.parcel) a t c.args.place.now r.can spot.frame.0 y found (λ f x pos can. able_place how r.parcel a f x pos can)
+    place_is (able how r.parcel) a t c.args.place.now r.can spot.frame.0 y found (λ f x pos can. able_place how r.parcel a f x pos can)))
 
 pub do_deed-requires-clause-acts : goal.do_deed-requires-clause-acts
 do_deed-requires-clause-acts g c =
-    let r = c.requires.can in
+    acts_merely c.args.how (term_view c.in_ok-part.part) (∥∥₁_map c.requires.can (λ (r : MayBeDone c.args.here.now c.args.home.now c.args.how (find c.args.nodes.now) c.args.root c.args.state.now.held c.args.place.now).
     let how = c.args.how in
     let a = seen_home c.args.here.now c.args.home.now c.args.state.now.held in
     let t = term_in_option c.args.here.now.clock r.plant in
@@ -37,11 +40,11 @@ do_deed-requires-clause-acts g c =
     let found = located c.tended_nodes_stand.ensures.law c.active_parts_are_at_their_places.ensures.law (find c.args.nodes.now) c.args.root c.args.here.now.clock r.plant r.rooted how r.parcel a c.args.place.now r.can
     spot.key spot.frame.0 spot.clock c.part_at-spot.ensures.found y c.in_ok-part.ensures.part in
     part_is (able how r.parcel) a t c.args.place.now r.can spot.frame.0 y found (λ pos x. ActsSo how x)
-    (acts_so c.offered_parts_act.ensures.acts c.offered_parts_act.ensures.sends c.offered_parts_act.ensures.receives how r.parcel a)
+    (acts_so c.offered_parts_act.ensures.acts c.offered_parts_act.ensures.sends c.offered_parts_act.ensures.receives how r.parcel a)))
 
 pub do_deed-requires-clause-fits : goal.do_deed-requires-clause-fits
 do_deed-requires-clause-fits g c =
-    let r = c.requires.can in
+    ∥∥₁_elim c.requires.can ∥∥₁_prop (λ (r : MayBeDone c.args.here.now c.args.home.now c.args.how (find c.args.nodes.now) c.args.root c.args.state.now.held c.args.place.now).
     let how = c.args.how in
     let a = seen_home c.args.here.now c.args.home.now c.args.state.now.held in
     let t = term_in_option c.args.here.now.clock r.plant in
@@ -49,7 +52,7 @@ do_deed-requires-clause-fits g c =
     let y = term_view c.in_ok-part.part in
     let found = located c.tended_nodes_stand.ensures.law c.active_parts_are_at_their_places.ensures.law (find c.args.nodes.now) c.args.root c.args.here.now.clock r.plant r.rooted how r.parcel a c.args.place.now r.can
     spot.key spot.frame.0 spot.clock c.part_at-spot.ensures.found y c.in_ok-part.ensures.part in
-    part_fits (able how r.parcel) a t c.args.place.now r.can spot.frame.0 y found c.active_parts_fit.ensures.law c.args.here.now c.args.home.now.class r.fits
+    part_fits (able how r.parcel) a t c.args.place.now r.can spot.frame.0 y found c.active_parts_fit.ensures.law c.args.here.now c.args.home.now.class r.fits)
 
 pub returns-clause-leaves : goal.returns-clause-leaves
 returns-clause-leaves g c = λ p parcel rooted there.
@@ -73,7 +76,7 @@ returns-clause-state g c = begun_state c.args.state.now c.mark.new.self c.do_dee
 
 pub returns-clause-opens : goal.returns-clause-opens
 returns-clause-opens g c =
-    let r = c.requires.can in
+    opens_merely c.args.home.now.edition c.args.state.now.held c.hold.new.state.held c.hold.result (∥∥₁_map c.requires.can (λ (r : MayBeDone c.args.here.now c.args.home.now c.args.how (find c.args.nodes.now) c.args.root c.args.state.now.held c.args.place.now).
     let how = c.args.how in
     let a = seen_home c.args.here.now c.args.home.now c.args.state.now.held in
     let t = term_in_option c.args.here.now.clock r.plant in
@@ -84,11 +87,11 @@ returns-clause-opens g c =
     let can = deed_can c.args.here.now c.args.home.now how r.parcel c.args.state.now.held c.mark.new.self.held t c.args.place.now r.can spot.frame.0 y found (ap (λ (s : Seen). s.held) c.in_ok-point.ensures.ok) in
     begun_opens c.args.home.now.edition c.args.state.now c.mark.new.self c.do_deed.new.state c.hold.new.state c.in_ok-point.point c.in_ok-left.left c.hold.result c.in_ok-point.ensures.ok c.hold.ensures.part c.hold.ensures.state
     (deed_opened c.args.here.now c.args.home.now how r.parcel c.mark.new.self.held c.do_deed.new.state.held spot.frame.0 y c.in_ok-left.left c.in_ok-left.ensures.answers r.can.it_holds.0 can
-    c.deeds_open_frames.ensures.performed c.deeds_open_frames.ensures.handed c.deeds_open_frames.ensures.taken)
+    c.deeds_open_frames.ensures.performed c.deeds_open_frames.ensures.handed c.deeds_open_frames.ensures.taken)))
 
 pub returns-clause-ends : goal.returns-clause-ends
 returns-clause-ends g c =
-    let r = c.requires.can in
+    ends_merely c.args.here.now.clock c.hold.result (∥∥₁_map c.requires.can (λ (r : MayBeDone c.args.here.now c.args.home.now c.args.how (find c.args.nodes.now) c.args.root c.args.state.now.held c.args.place.now).
     let how = c.args.how in
     let a = seen_home c.args.here.now c.args.home.now c.args.state.now.held in
     let t = term_in_option c.args.here.now.clock r.plant in
@@ -98,4 +101,4 @@ returns-clause-ends g c =
     spot.key spot.frame.0 spot.clock c.part_at-spot.ensures.found y c.in_ok-part.ensures.part in
     let can = deed_can c.args.here.now c.args.home.now how r.parcel c.args.state.now.held c.mark.new.self.held t c.args.place.now r.can spot.frame.0 y found (ap (λ (s : Seen). s.held) c.in_ok-point.ensures.ok) in
     begun_calm c.args.here.now.clock c.in_ok-left.left c.hold.result c.hold.ensures.part
-    (deed_calm c.args.here.now c.args.home.now how r.parcel c.mark.new.self.held c.do_deed.new.state.held spot.frame.0 y c.in_ok-left.left c.in_ok-left.ensures.answers r.can.it_holds.0 can c.args.here.now.clock)
+    (deed_calm c.args.here.now c.args.home.now how r.parcel c.mark.new.self.held c.do_deed.new.state.held spot.frame.0 y c.in_ok-left.left c.in_ok-left.ensures.answers r.can.it_holds.0 can c.args.here.now.clock)))
