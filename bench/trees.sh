@@ -1,6 +1,6 @@
 #!/usr/bin/env bash
-# Looks for differences between execution trees and the plain simulator: takes models on both at once and compares
-# them at each step. It fails at the first difference, which it prints with the model and the step.
+# Looks for faults: takes models on execution trees and on the plain simulator at once, and compares them at each
+# step. It fails at the first difference, which it prints with the model and the step.
 #
 #   bench/trees.sh [FROM TO [STEPS]]    models made at random by the seeds from FROM to below TO, 1 to 21 if not given,
 #                                       so many steps each (100)
@@ -49,7 +49,7 @@ for it in "$top"/bench/trees/models/*.poosl; do ask "$it" 60 4; done
 for it in "$top"/models/*.poosl; do ask "$it" 80 1; done
 echo 'delays 1000 12' >>"$room/asked"
 while read -r _ it; do
-  [[ -e $top/models/$it ]] || ask "$top/crates/rows_run/data/$it" 80 1
+  [[ -e $top/models/$it || ! -e $top/crates/rows_run/data/$it ]] || ask "$top/crates/rows_run/data/$it" 80 1
 done < <(grep -o '^replay [a-z_0-9]*\.poosl' "$top/crates/rows_run/stdin" | sort -u)
 echo "random $from $to $steps" >>"$room/asked"
 
