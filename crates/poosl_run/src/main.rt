@@ -19,6 +19,6 @@ fn main(rt: HostRuntime) -> ExitCode {
     };
     let mut files = OsFiles::new(rt);
     let mut out = OsSink::new(rt);
-    let status = run_program(rt.alloc(), &words, &mut files, &mut out);
-    ExitCode::from(status.number())
+    let finish = run_program(rt.alloc(), &words, &mut files, &mut out);
+    ExitCode::from(finish.status.number())
 }

@@ -12,7 +12,7 @@ use Rattle.pz_match.specs.declared.offers.Receiver.{Receiver}
 use Rattle.pz_match.specs.declared.kept.Sending.{Sending}
 use Rattle.pz_match.specs.declared.kept.Receiving.{Receiving}
 use Rattle.pz_match.specs.Judging.{Verdicts}
-use Rattle.pz_match.specs.Pairs.{Judged, ends}
+use Rattle.pz_match.specs.Pairs.{Judged, offered}
 use Rattle.pz_match.specs.devices.Lists.{upto}
 use Rattle.pz_match.specs.devices.Kept.{Kept}
 use Rattle.pz_match.specs.devices.Tallies.{GroupsView, Alike, no_tally, total_of}
@@ -56,11 +56,11 @@ pub all_receivers_are : (all : List Kept) → flat_map (λ (rs : List Receiver).
 all_receivers_are all = flat_mapped (λ (rs : List Receiver). rs) receivers_in all
 
 -- the k-th, by its ends
-pub ends_at : (ps : List Judged) (k : ℕ) (q : Judged) → slice_get ps k ≡ Some q → slice_get (map ends ps) k ≡ Some (ends q)
-ends_at ps k q at = slice_get-map ends ps k ∙ ap (option_map ends) at
+pub offered_at : (ps : List Judged) (k : ℕ) (q : Judged) → slice_get ps k ≡ Some q → slice_get (map offered ps) k ≡ Some (offered q)
+offered_at ps k q at = slice_get-map offered ps k ∙ ap (option_map offered) at
 
-pub ends_none : (ps : List Judged) (k : ℕ) → length ps ≤ k → slice_get (map ends ps) k ≡ None
-ends_none ps k le = slice_get_past (map ends ps) k (omega (arith, le, length-map ps ends))
+pub offered_none : (ps : List Judged) (k : ℕ) → length ps ≤ k → slice_get (map offered ps) k ≡ None
+offered_none ps k le = slice_get_past (map offered ps) k (omega (arith, le, length-map ps offered))
 
 -- Processes that offer nothing
 
@@ -103,12 +103,12 @@ silent_receivers (suc n) =
     ap (map receivers_in) (map-append silent (upto n) (n ∷ [])) ∙ (map-append receivers_in (map silent (upto n)) (silent n ∷ [])
     ∙ (ap (λ (xs : List (List Receiver)). xs ++ [] ∷ []) (silent_receivers n) ∙ (let one : n + 1 ≡ suc n = omega arith in replicate_more n [] ∙ ap (λ m. replicate m []) one)))
 
-pub pair_same : (a b c d : End) → a ≡ b → c ≡ d → ◌≡◌ {A = Option (End × End)} (Some (a, c)) (Some (b, d))
+pub pair_same : (a b : Sender) (c d : End) → a ≡ b → c ≡ d → ◌≡◌ {A = Option (Sender × End)} (Some (a, c)) (Some (b, d))
 pair_same a b c d one two = λ i. Some (one i, two i)
 
 pub silent_ordered : (ns : List ℕ) → All Ordered (map silent ns)
 silent_ordered [] = All-nil Ordered
 silent_ordered (n ∷ ns) = All-cons Ordered (silent n) (map silent ns) (record { sends = λ i j d before within. absurd (omega (arith, within)); receives = λ i j d before within. absurd (omega (arith, within)) }) (silent_ordered ns)
 
-pub ends_same : (ps qs : List Judged) (k r : ℕ) → slice_get ps k ≡ slice_get qs r → slice_get (map ends qs) r ≡ slice_get (map ends ps) k
-ends_same ps qs k r same = slice_get-map ends qs r ∙ (ap (option_map ends) (sym same) ∙ sym (slice_get-map ends ps k))
+pub offered_same : (ps qs : List Judged) (k r : ℕ) → slice_get ps k ≡ slice_get qs r → slice_get (map offered qs) r ≡ slice_get (map offered ps) k
+offered_same ps qs k r same = slice_get-map offered qs r ∙ (ap (option_map offered) (sym same) ∙ sym (slice_get-map offered ps k))

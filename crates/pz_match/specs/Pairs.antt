@@ -51,8 +51,9 @@ is_trouble (says.Trouble t) = true
 abbrev pub taken : List Judged → List Judged
 taken = filter (λ p. is_yes p.verdict)
 
-abbrev pub ends : Judged → End × End
-ends p = (p.sender.end, p.receiver.end)
+-- what is handed out of a pair: the send, and the end of the receive
+abbrev pub offered : Judged → Sender × End
+offered p = (p.sender, p.receiver.end)
 
 -- the trouble of the first pair that has one
 

@@ -1,6 +1,9 @@
+ghost use Rattle.std.specs.Prelude.{◌≡◌, IfOk};
+
 use pz_copy::Parcel;
 use pz_offer::End;
 use pz_syntax::Name;
+use std::alloc::AllocError;
 
 /// A send that a process offers over a wire.
 #[derive(Drop)]
@@ -10,6 +13,23 @@ pub struct Sender {
     pub wire: u32,
     pub message: Name,
     pub parcel: Parcel,
+}
+
+impl Sender {
+    /// An equal send. The only error is want of memory.
+    pub fn copy(&self) -> Result<Sender, AllocError>
+        ensures { IfOk result (λ copy. copy ≡ self.now) }
+    {
+        let end = self.end.copy()?;
+        let message = self.message.copy()?;
+        let parcel = self.parcel.copy()?;
+        Ok(Sender {
+            end,
+            wire: self.wire,
+            message,
+            parcel,
+        })
+    }
 }
 
 /// A receive of so many values that a process offers over a wire.

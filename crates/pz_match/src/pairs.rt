@@ -1,6 +1,7 @@
 use crate::groups::Groups;
 use crate::judge::Judge;
 use crate::kept::Offers;
+use crate::offers::Sender;
 use crate::rows::Spare;
 use crate::seeking::{find_trouble, pair_on};
 use crate::sharing::{Way, shift};
@@ -47,7 +48,7 @@ impl Pairs {
     ghost use Rattle.pz_match.specs.Offers.{senders, receivers};
     ghost use Rattle.pz_match.specs.Judging.{Stays, said};
     ghost use Rattle.pz_offer.specs.PlaceOrder.{PlaceBefore};
-    ghost use Rattle.pz_match.specs.Pairs.{ArePairs, taken, ends, first_trouble, touches, questions};
+    ghost use Rattle.pz_match.specs.Pairs.{ArePairs, taken, offered, first_trouble, touches, questions};
     ghost use Rattle.pz_match.specs.Table.{all_senders, all_receivers};
     ghost use Rattle.pz_match.specs.Judging.{MayTake};
 
@@ -136,11 +137,11 @@ impl Pairs {
         self.groups.total()
     }
 
-    /// The ends of the taken pair with this number, from 0: of the send and of the receive; none where
-    /// there are no more. The only error is want of memory.
-    pub fn kth(&self, k: u64) -> Result<Option<(End, End)>, AllocError>
+    /// A copy of the send of the taken pair with this number, from 0, and the end of its receive; none
+    /// where there are no more. The only error is want of memory.
+    pub fn kth(&self, k: u64) -> Result<Option<(Sender, End)>, AllocError>
         requires { self.now.lost ≡ false }
-        ensures { IfOk result (λ pair. pair ≡ slice_get (map ends (taken self.now.pairs)) k) }
+        ensures { IfOk result (λ pair. pair ≡ slice_get (map offered (taken self.now.pairs)) k) }
     {
         match self.groups.wire_of(k) {
             None => Ok(None),

@@ -3,7 +3,7 @@
 ghost use Rattle.std.specs.Prelude.{◌≡◌, ◌<◌, ◌≤◌, ◌+◌, None, length, sum_by, take, drop, map, slice_get, slice_index_or, IfOk, MatchOption, MatchResult};
 ghost use Rattle.pz_match.specs.declared.kept.Sending.{Sending};
 ghost use Rattle.pz_match.specs.declared.kept.Receiving.{Receiving};
-ghost use Rattle.pz_match.specs.Pairs.{ends, first_or, first_trouble, taken};
+ghost use Rattle.pz_match.specs.Pairs.{first_or, first_trouble, offered, taken};
 ghost use Rattle.pz_match.specs.declared.rows.Row.{Row};
 ghost use Rattle.pz_match.specs.devices.Kept.{kept, rows_at, answers, heard, pairs_of, pairs_on, all_pairs};
 ghost use Rattle.pz_match.specs.devices.Holding.{Holds, Answered, SendKeyed};
@@ -14,6 +14,7 @@ ghost use Rattle.pz_match_lists.specs.Increasing.{Increasing};
 
 use crate::groups::{Groups, Sort};
 use crate::kept::{Offers, Receiving, Sending};
+use crate::offers::Sender;
 use crate::places::{Couple, Hit, Seat, Taker};
 use crate::rows::Row;
 use crate::skipping::{skip_receivers, skip_senders};
@@ -329,13 +330,13 @@ pub(crate) fn find_trouble(
     None
 }
 
-/// The end of the send at this place of a process. The only error is want of memory.
-fn end_of_send(all: &[Offers], process: usize, place: usize) -> Result<End, AllocError>
+/// The send at this place of a process. The only error is want of memory.
+fn send_at(all: &[Offers], process: usize, place: usize) -> Result<Sender, AllocError>
     requires { IsSend (map kept all.now) process place }
     ensures { (s : Sending) → IsSendAt (map kept all.now) process place s →
-        IfOk result (λ end. end ≡ s.sender.end) }
+        IfOk result (λ sender. sender ≡ s.sender) }
 {
-    all[process].sends[place].sender.end.copy()
+    all[process].sends[place].sender.copy()
 }
 
 /// The end of the receive at this place of a process. The only error is want of memory.
@@ -347,8 +348,8 @@ fn end_of_receive(all: &[Offers], process: usize, place: usize) -> Result<End, A
     all[process].receives[place].receiver.end.copy()
 }
 
-/// The ends of the taken pair with this number on a wire, over which these processes send and those
-/// receive, which are in these blocks. The only error is want of memory.
+/// The send of the taken pair with this number on a wire, over which these processes send and those
+/// receive, which are in these blocks, and the end of its receive. The only error is want of memory.
 pub(crate) fn pair_on(
     groups: &Groups,
     all: &[Offers],
@@ -358,7 +359,7 @@ pub(crate) fn pair_on(
     blocks: &[usize],
     wire: usize,
     number: u64,
-) -> Result<Option<(End, End)>, AllocError>
+) -> Result<Option<(Sender, End)>, AllocError>
     requires holds { Holds groups.now (map kept all.now) }
     requires shared { Shared shares.now (map kept all.now) }
     requires increasing { Increasing blocks.now }
@@ -367,7 +368,7 @@ pub(crate) fn pair_on(
     requires receivers { Increasing receivers.now }
     requires users { AreUsers senders.now receivers.now (map kept all.now) wire }
     ensures { IfOk result (λ pair. pair ≡ slice_get
-        (map ends (taken (pairs_on (map kept all.now) wire))) number) }
+        (map offered (taken (pairs_on (map kept all.now) wire))) number) }
 {
     match find_on(
         Sort::Taken,
@@ -382,7 +383,7 @@ pub(crate) fn pair_on(
     ) {
         None => Ok(None),
         Some(couple) => {
-            let sender = end_of_send(all, couple.sender.0, couple.sender.1)?;
+            let sender = send_at(all, couple.sender.0, couple.sender.1)?;
             let receiver = end_of_receive(all, couple.receiver.0, couple.receiver.1)?;
             Ok(Some((sender, receiver)))
         }

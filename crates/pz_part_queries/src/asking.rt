@@ -1,6 +1,6 @@
 //! What parts are asked. The state stays as it is, always, and the only error is want of memory.
 
-ghost use Rattle.std.specs.Prelude.{◌≡◌, ℕ, [], All, IfOk};
+ghost use Rattle.std.specs.Prelude.{◌≡◌, ◌<◌, ◌^◌, ℕ, [], All, IfOk};
 ghost use Rattle.pz_syntax.specs.Classes.{ModelTree};
 ghost use Rattle.pz_classes_code.specs.CodeView.{view, part_view};
 ghost use Rattle.pz_rules.specs.Evaluations as evaluations;
@@ -34,8 +34,9 @@ pub fn allowance(limits: Limits) -> Allowance
 }
 
 fn duration_of(process: u32, pos: Pos, outcome: Outcome) -> Result<u128, Trouble>
-    ensures { result ≡ meanings.and_then (evaluations.value_or_trouble process pos outcome)
+    ensures means { result ≡ meanings.and_then (evaluations.value_or_trouble process pos outcome)
         (meanings.duration process pos) }
+    ensures short { IfOk result (λ time. time < 2 ^ 63) }
 {
     duration(process, pos, value_or_trouble(process, pos, outcome)?)
 }
@@ -68,7 +69,8 @@ pub fn ask_test(
     Ok(tested(here.process, pos, outcome))
 }
 
-/// The time that the delay at this place takes, in clock units, or the trouble of it.
+/// The time that the delay at this place takes, in clock units, or the trouble of it. An Integer of the program has
+/// 64 bits, so the time is below 2^63.
 pub fn ask_time(
     alloc: Global,
     here: &Standpoint<'_>,
@@ -81,6 +83,7 @@ pub fn ask_time(
     ensures lasts { (m : ModelTree) (class : ℕ) → Knows m here.now →
         IfOk result (Lasts (seen_from m here.now class state.old.held) frame.0 pos
         (view time.now)) }
+    ensures short { IfOk result (λ answer. IfOk answer (λ time. time < 2 ^ 63)) }
     ensures state { state.new ≡ state.old }
 {
     let allowed = allowance(here.limits);

@@ -1,6 +1,6 @@
 //! What the outcome of an evaluation means where a value of some sort is wanted.
 
-ghost use Rattle.std.specs.Prelude.{◌≡◌};
+ghost use Rattle.std.specs.Prelude.{◌≡◌, ◌<◌, ◌^◌, IfOk};
 ghost use Rattle.pz_rules.specs.Evaluations as evaluations;
 ghost use Rattle.pz_rules.specs.Meanings as meanings;
 
@@ -58,9 +58,10 @@ pub fn truth(process: u32, pos: Pos, value: Value) -> Result<bool, Trouble>
     }
 }
 
-/// A delay takes 0 clock units or more.
+/// A delay takes 0 clock units or more, and as an Integer of the program has 64 bits, less than 2^63.
 pub fn duration(process: u32, pos: Pos, value: Value) -> Result<u128, Trouble>
-    ensures { result ≡ meanings.duration process pos value }
+    ensures means { result ≡ meanings.duration process pos value }
+    ensures short { IfOk result (λ time. time < 2 ^ 63) }
 {
     match value {
         Value::Int(time) => match u64::try_from(time) {

@@ -1,5 +1,5 @@
 -- What words ask for.
-use Rattle.std.proofs.Common.{◌≡◌, ◌≤◌, ℕ, suc, List, [], ◌∷◌, Option, Some, None, refl, sym, subst, arith}
+use Rattle.std.proofs.Common.{◌≡◌, ◌≤◌, ℕ, suc, true, List, [], ◌∷◌, Option, Some, None, refl, sym, subst, arith}
 use Rattle.std.specs.Prelude.{All}
 use Rattle.pz_io.specs.Outside.{FilesState, SinkState}
 use Rattle.pz_words.specs.declared.jobs.Job.{Job}
@@ -10,7 +10,10 @@ use Rattle.pz_words.specs.Options.{step_limit, IsAllowed, nothing_said, with_opt
 use Rattle.pz_words.specs.Jobs.{Asks, IsAsked, or_else, usual_steps}
 use Rattle.pz_words.specs.Jobs as jobs
 use Rattle.pz_run.specs.declared.status.Status.{Status}
+use Rattle.pz_term.specs.Simulations.{Simulation}
 use Rattle.pz_run.specs.Words.{OfAsked}
+use Rattle.pz_run.specs.Promises.{CameThrough}
+use Rattle.pz_run.specs.HandedOut.{HandsOut}
 use Rattle.pz_run.specs.devices.Words.{HasRingSize, HasFewActions}
 use Rattle.pz_run.specs.devices.Keeping.{KeepsPromises}
 
@@ -24,6 +27,13 @@ pub keeps_asked : (words : List (List ℕ)) (found : Option Job) → IsAsked wor
     → (f g : FilesState) (before now : SinkState) (given : Status) → KeepsPromises found f g before now given → OfAsked words (λ a. KeepsPromises a f g before now given)
 keeps_asked words found is f g before now given kept a asked =
     subst (λ (a : Option Job). KeepsPromises a f g before now given) (one_asked words found a is asked) kept
+
+-- and so is what is handed out of it
+pub hands_asked : (words : List (List ℕ)) (found : Option Job) → IsAsked words found
+    → (f g : FilesState) (given : Status) (left : Option Simulation) → (f.told ≡ true → CameThrough f g given → HandsOut f.held found left)
+    → OfAsked words (λ a. f.told ≡ true → CameThrough f g given → HandsOut f.held a left)
+hands_asked words found is f g given left hands a asked told came =
+    subst (λ (a : Option Job). HandsOut f.held a left) (one_asked words found a is asked) (hands told came)
 
 sized : (words : List (List ℕ)) (job : Job) → Asks words job → HasRingSize job
 sized _ _ (jobs.run model options o is are) = tt

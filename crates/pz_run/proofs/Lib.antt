@@ -16,5 +16,6 @@ pub mod Headerless
 pub mod Replayed
 pub mod Judgings
 pub mod Watched
+pub mod Handed
 pub mod Asked
 pub mod Begins

@@ -6,5 +6,6 @@ pub mod Plays
 pub mod Editions
 pub mod Output
 pub mod Promises
+pub mod HandedOut
 pub mod Formats
 pub mod devices

@@ -6,4 +6,5 @@ pub mod Texts
 pub mod Reading
 pub mod Replaying
 pub mod Judging
+pub mod Handing
 pub mod Keeping

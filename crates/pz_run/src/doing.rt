@@ -1,10 +1,12 @@
 // Jobs.
-ghost use Rattle.std.specs.Prelude.{Some};
+ghost use Rattle.std.specs.Prelude.{◌≡◌, true, Some, None};
+ghost use Rattle.pz_run.specs.Promises.{CameThrough};
+ghost use Rattle.pz_run.specs.HandedOut.{JobHandsOut, left_in, NeverBegun};
 ghost use Rattle.pz_run.specs.devices.Words.{HasRingSize, HasFewActions};
 ghost use Rattle.pz_run.specs.devices.Keeping.{KeepsPromises};
 
-use crate::Status;
 use crate::files::{check_file, run_file};
+use crate::finish::Finish;
 use crate::formatting::format_file;
 use crate::play::{Play, Telling};
 use crate::replaying::replay_file;
@@ -15,11 +17,15 @@ use pz_words::Job;
 use std::alloc::Global;
 
 /// Does the job, over the files, and prints to the sink.
-pub fn do_job<F: Files, W: Sink>(alloc: Global, job: Job, files: &mut F, out: &mut W) -> Status
+pub fn do_job<F: Files, W: Sink>(alloc: Global, job: Job, files: &mut F, out: &mut W) -> Finish
     requires size { HasRingSize job }
     requires few { HasFewActions job }
-    ensures { KeepsPromises (Some job) (F.state files.old) (F.state files.new) (W.state out.old)
-        (W.state out.new) result }
+    ensures kept { KeepsPromises (Some job) (F.state files.old) (F.state files.new)
+        (W.state out.old) (W.state out.new) result.status }
+    ensures simulator { (F.state files.old).told ≡ true →
+        CameThrough (F.state files.old) (F.state files.new) result.status →
+        JobHandsOut (F.state files.old).held job (left_in result) }
+    ensures unbegun { NeverBegun result.status → result.sim ≡ None }
 {
     match job {
         Job::Run {
@@ -53,8 +59,14 @@ pub fn do_job<F: Files, W: Sink>(alloc: Global, job: Job, files: &mut F, out: &m
             trace,
             units,
         } => replay_file(alloc, model.as_str(), trace.as_str(), units, files, out),
-        Job::Check { model } => check_file(alloc, model.as_str(), files, out),
-        Job::Make { n } => make_ring(alloc, n, out),
+        Job::Check { model } => Finish {
+            status: check_file(alloc, model.as_str(), files, out),
+            sim: None,
+        },
+        Job::Make { n } => Finish {
+            status: make_ring(alloc, n, out),
+            sim: None,
+        },
         Job::Ring { n, choice, limits } => {
             let run = Play {
                 choice,
@@ -63,7 +75,10 @@ pub fn do_job<F: Files, W: Sink>(alloc: Global, job: Job, files: &mut F, out: &m
             };
             run_ring(alloc, n, run, out)
         }
-        Job::Format { model } => format_file(alloc, model.as_str(), files, out),
+        Job::Format { model } => Finish {
+            status: format_file(alloc, model.as_str(), files, out),
+            sim: None,
+        },
         Job::Watch {
             model,
             watches,

@@ -1,11 +1,14 @@
 // What is done with the one file of a job, which is that of a model.
-ghost use Rattle.std.specs.Prelude.{◌≤◌};
+ghost use Rattle.std.specs.Prelude.{◌≤◌, ◌≡◌, None};
 ghost use Rattle.pz_rules.specs.Clocks.{most_actions};
 ghost use Rattle.pz_run.specs.Files.{model_file};
+ghost use Rattle.pz_run.specs.HandedOut.{RunHandsOut, OpenModelHandsOut, left_in, NeverBegun};
+ghost use Rattle.pz_run.specs.devices.Handing.{FileHands};
 ghost use Rattle.pz_run.specs.devices.Reading.{ReadsFile, SaysUnread};
 ghost use Rattle.pz_run.specs.devices.Texts.{PrintsPlay, PrintsCheck};
 
 use crate::Status;
+use crate::finish::Finish;
 use crate::limits::MODEL_LIMIT;
 use crate::play::Play;
 use crate::printing::say_made;
@@ -21,14 +24,20 @@ pub fn run_file<F: Files, W: Sink>(
     play: Play,
     files: &mut F,
     out: &mut W,
-) -> Status
+) -> Finish
     requires { play.limits.steps ≤ most_actions }
-    ensures { ReadsFile (model_file name.now) (PrintsPlay play) (F.state files.old)
-        (F.state files.new) (W.state out.old) (W.state out.new) result }
+    ensures printed { ReadsFile (model_file name.now) (PrintsPlay play) (F.state files.old)
+        (F.state files.new) (W.state out.old) (W.state out.new) result.status }
+    ensures simulator { FileHands (model_file name.now) (OpenModelHandsOut (RunHandsOut play))
+        (F.state files.old) (F.state files.new) result.status (left_in result) }
+    ensures unbegun { NeverBegun result.status → result.sim ≡ None }
 {
     match read_all(alloc, files, name, MODEL_LIMIT) {
         Ok(text) => run_text(alloc, text.as_slice(), play, out),
-        Err(error) => say_unread(alloc, error, name, out),
+        Err(error) => Finish {
+            status: say_unread(alloc, error, name, out),
+            sim: None,
+        },
     }
 }
 

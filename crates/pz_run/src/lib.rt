@@ -3,6 +3,7 @@
 
 mod doing;
 mod files;
+mod finish;
 mod formatting;
 mod laws;
 mod limits;
@@ -18,6 +19,7 @@ mod status;
 mod texts;
 mod watching;
 
+pub use finish::Finish;
 pub use laws::formats_read_back;
 pub use program::run_program;
 pub use status::Status;

@@ -7,10 +7,12 @@ ghost use Rattle.pz_run.specs.Words.{OfAsked};
 ghost use Rattle.pz_run.specs.Files.{files_of};
 ghost use Rattle.pz_run.specs.Status.{status_of};
 ghost use Rattle.pz_run.specs.Promises.{CameThrough, PrintsAll, PrintsFront, OpensFiles, EndsReading, EndsWriting, SaysFault, IsPastLimit, Lacks, IsLonger, IsNoModel, HasModelText, RunEnds, IsNoTrace, IsBrokenAt, IsNoWatches, CanEnd};
+ghost use Rattle.pz_run.specs.HandedOut.{HandsOut, left_in, NeverBegun};
 ghost use Rattle.pz_run.specs.devices.Keeping.{KeepsPromises};
 
 use crate::Status;
 use crate::doing::do_job;
+use crate::finish::Finish;
 use crate::printing::say;
 use pz_io::{Files, Sink};
 use pz_run_lines::usage_line;
@@ -41,110 +43,118 @@ pub fn run_program<F: Files, W: Sink>(
     words: &[String],
     files: &mut F,
     out: &mut W,
-) -> Status
+) -> Finish
     // What holds of the job that the words ask for, which is one or none: the status, and what is printed,
     // are those of the definitions, the text of the run of a sound model that the words choose, or a trace
     // tells, by the rules, or what else is to be said.
     ensures output { OfAsked (map string_bytes words.now) (λ a.
         (F.state files.old).told ≡ true →
-        CameThrough (F.state files.old) (F.state files.new) result →
-        PrintsAll a (F.state files.old).held (W.state out.old) (W.state out.new) result) }
+        CameThrough (F.state files.old) (F.state files.new) result.status →
+        PrintsAll a (F.state files.old).held (W.state out.old) (W.state out.new) result.status) }
     // Where the files failed, the line that says so names the last file that was opened.
     ensures read_fault { OfAsked (map string_bytes words.now) (λ a.
-        result ≡ Status.ReadFault → Rose (F.state files.old).faults (F.state files.new).faults →
+        result.status ≡ Status.ReadFault → Rose (F.state files.old).faults (F.state files.new).faults →
         SaysFault (files_of a) (F.state files.old) (F.state files.new) (W.state out.old)
         (W.state out.new)) }
     // The files of the job are opened in their order and no others; without a file nothing is, also not
     // before the usage line.
     ensures opens { OfAsked (map string_bytes words.now) (λ a.
-        OpensFiles (files_of a) (F.state files.old) (F.state files.new) result) }
+        OpensFiles (files_of a) (F.state files.old) (F.state files.new) result.status) }
     // What is printed before a write fails, or memory is wanting, is a front of what is to be printed.
     ensures write_fault { OfAsked (map string_bytes words.now) (λ a.
         (F.state files.old).told ≡ true → (W.state out.old).told ≡ true →
-        result ≡ Status.WriteFault →
+        result.status ≡ Status.WriteFault →
         PrintsFront a (F.state files.old) (F.state files.new) (W.state out.old) (W.state out.new)) }
     ensures no_memory { OfAsked (map string_bytes words.now) (λ a.
-        (F.state files.old).told ≡ true → (W.state out.old).told ≡ true → result ≡ Status.NoMemory →
+        (F.state files.old).told ≡ true → (W.state out.old).told ≡ true → result.status ≡ Status.NoMemory →
         PrintsFront a (F.state files.old) (F.state files.new) (W.state out.old) (W.state out.new)) }
     // After a call that failed no more is asked of the files or of the sink.
     ensures last_read { (F.state files.new).faults ≢ (F.state files.old).faults →
-        EndsReading (F.state files.old) (F.state files.new) result }
-    ensures last_write { EndsWriting (W.state out.old) (W.state out.new) result }
+        EndsReading (F.state files.old) (F.state files.new) result.status }
+    ensures last_write { EndsWriting (W.state out.old) (W.state out.new) result.status }
 
     // When each answer comes.
     ensures statuses { OfAsked (map string_bytes words.now) (λ a.
-        CanEnd a result) }
+        CanEnd a result.status) }
     ensures usage { OfAsked (map string_bytes words.now) (λ a.
-        result ≡ Status.Usage → a ≡ None) }
+        result.status ≡ Status.Usage → a ≡ None) }
     ensures no_job { OfAsked (map string_bytes words.now) (λ a.
-        a ≡ None → result ≢ Status.WriteFault → result ≢ Status.NoMemory →
-        result ≡ Status.Usage) }
+        a ≡ None → result.status ≢ Status.WriteFault → result.status ≢ Status.NoMemory →
+        result.status ≡ Status.Usage) }
     // A model is refused exactly where its text is.
     ensures model_refused { OfAsked (map string_bytes words.now) (λ a.
-        (F.state files.old).told ≡ true → result ≡ Status.ModelRefused →
+        (F.state files.old).told ≡ true → result.status ≡ Status.ModelRefused →
         IsNoModel a (F.state files.old).held) }
     ensures no_model { OfAsked (map string_bytes words.now) (λ a.
         IsNoModel a (F.state files.old).held → (F.state files.old).told ≡ true →
-        CameThrough (F.state files.old) (F.state files.new) result → result ≡ Status.ModelRefused) }
+        CameThrough (F.state files.old) (F.state files.new) result.status → result.status ≡ Status.ModelRefused) }
     ensures deadlock { OfAsked (map string_bytes words.now) (λ a.
-        (F.state files.old).told ≡ true → result ≡ Status.Deadlock →
+        (F.state files.old).told ≡ true → result.status ≡ Status.Deadlock →
         RunEnds a (F.state files.old).held deadlocked) }
     ensures model_fault { OfAsked (map string_bytes words.now) (λ a.
-        (F.state files.old).told ≡ true → result ≡ Status.ModelFault →
+        (F.state files.old).told ≡ true → result.status ≡ Status.ModelFault →
         (trouble : Trouble) × RunEnds a (F.state files.old).held (troubled trouble)) }
     ensures choice_refused { OfAsked (map string_bytes words.now) (λ a.
-        (F.state files.old).told ≡ true → result ≡ Status.ChoiceRefused →
+        (F.state files.old).told ≡ true → result.status ≡ Status.ChoiceRefused →
         (entry : ℕ) × (count : ℕ) × RunEnds a (F.state files.old).held (refused entry count)) }
     // These three come exactly there: the run that is asked for, by a choice or by its trace, gives its own
     // status.
     ensures run_end { OfAsked (map string_bytes words.now) (λ a.
         (ending : Ending) → RunEnds a (F.state files.old).held ending →
         (F.state files.old).told ≡ true →
-        CameThrough (F.state files.old) (F.state files.new) result → result ≡ status_of ending) }
+        CameThrough (F.state files.old) (F.state files.new) result.status → result.status ≡ status_of ending) }
     // A trace is refused exactly where it is the text of no run of the model.
     ensures trace_refused { OfAsked (map string_bytes words.now) (λ a.
-        (F.state files.old).told ≡ true → result ≡ Status.TraceRefused →
+        (F.state files.old).told ≡ true → result.status ≡ Status.TraceRefused →
         IsNoTrace a (F.state files.old).held) }
     ensures no_trace { OfAsked (map string_bytes words.now) (λ a.
         IsNoTrace a (F.state files.old).held → (F.state files.old).told ≡ true →
-        CameThrough (F.state files.old) (F.state files.new) result → result ≡ Status.TraceRefused) }
+        CameThrough (F.state files.old) (F.state files.new) result.status → result.status ≡ Status.TraceRefused) }
     // Broken watches are told exactly where the run has ended or was stopped, and a watch is broken at one of
     // its lines.
     ensures watch_broken { OfAsked (map string_bytes words.now) (λ a.
-        (F.state files.old).told ≡ true → result ≡ Status.WatchBroken →
+        (F.state files.old).told ≡ true → result.status ≡ Status.WatchBroken →
         IsBrokenAt a (F.state files.old).held) }
     ensures broken_watch { OfAsked (map string_bytes words.now) (λ a.
         IsBrokenAt a (F.state files.old).held → (F.state files.old).told ≡ true →
-        CameThrough (F.state files.old) (F.state files.new) result → result ≡ Status.WatchBroken) }
+        CameThrough (F.state files.old) (F.state files.new) result.status → result.status ≡ Status.WatchBroken) }
     // Watches are refused exactly where their file is no list of watches.
     ensures watch_refused { OfAsked (map string_bytes words.now) (λ a.
-        (F.state files.old).told ≡ true → result ≡ Status.WatchRefused →
+        (F.state files.old).told ≡ true → result.status ≡ Status.WatchRefused →
         IsNoWatches a (F.state files.old).held) }
     ensures no_watches { OfAsked (map string_bytes words.now) (λ a.
         IsNoWatches a (F.state files.old).held → (F.state files.old).told ≡ true →
-        CameThrough (F.state files.old) (F.state files.new) result → result ≡ Status.WatchRefused) }
+        CameThrough (F.state files.old) (F.state files.new) result.status → result.status ≡ Status.WatchRefused) }
     // A second file is opened only once C1 to C22 accept the model, and but for a replay C23 and C24 too.
     ensures trace_opened { OfAsked (map string_bytes words.now) (λ a.
         (F.state files.old).told ≡ true →
         length (F.state files.old).opened + 1 < length (F.state files.new).opened →
         HasModelText a (F.state files.old).held) }
     ensures too_long { OfAsked (map string_bytes words.now) (λ a.
-        result ≡ Status.TooLong → IsPastLimit (files_of a) (F.state files.old)
+        result.status ≡ Status.TooLong → IsPastLimit (files_of a) (F.state files.old)
         (F.state files.new)) }
     ensures longer { OfAsked (map string_bytes words.now) (λ a.
-        (F.state files.old).told ≡ true → result ≡ Status.TooLong →
+        (F.state files.old).told ≡ true → result.status ≡ Status.TooLong →
         IsLonger (files_of a) (F.state files.old).held) }
     ensures read_cause { OfAsked (map string_bytes words.now) (λ a.
-        result ≡ Status.ReadFault → Rose (F.state files.old).faults (F.state files.new).faults
+        result.status ≡ Status.ReadFault → Rose (F.state files.old).faults (F.state files.new).faults
         ⊎ (((F.state files.old).told ≡ true) × Lacks (files_of a) (F.state files.old).held)) }
-    ensures write_cause { result ≡ Status.WriteFault →
+    ensures write_cause { result.status ≡ Status.WriteFault →
         Rose (W.state out.old).faults (W.state out.new).faults }
     // Where neither count rose, the output is whole and the status is its own, or memory was wanting.
     ensures complete { OfAsked (map string_bytes words.now) (λ a.
         (F.state files.old).told ≡ true →
         ¬ Rose (F.state files.old).faults (F.state files.new).faults →
-        ¬ Rose (W.state out.old).faults (W.state out.new).faults → result ≢ Status.NoMemory →
-        PrintsAll a (F.state files.old).held (W.state out.old) (W.state out.new) result) }
+        ¬ Rose (W.state out.old).faults (W.state out.new).faults → result.status ≢ Status.NoMemory →
+        PrintsAll a (F.state files.old).held (W.state out.old) (W.state out.new) result.status) }
+    // Unless a write failed or memory was wanting, the simulator is there exactly where a run has begun: of
+    // the model that was read or made, and it stands where that run ended.
+    ensures simulator { OfAsked (map string_bytes words.now) (λ a.
+        (F.state files.old).told ≡ true →
+        CameThrough (F.state files.old) (F.state files.new) result.status →
+        HandsOut (F.state files.old).held a (left_in result)) }
+    // None is there where words, a model, watches or a file's size or reading end the job before.
+    ensures unbegun { NeverBegun result.status → result.sim ≡ None }
 {
     run_words(alloc, words, files, out)
 }
@@ -155,17 +165,28 @@ fn run_words<F: Files, W: Sink>(
     words: &[String],
     files: &mut F,
     out: &mut W,
-) -> Status
+) -> Finish
     ensures kept { OfAsked (map string_bytes words.now) (λ a.
         KeepsPromises a (F.state files.old) (F.state files.new) (W.state out.old) (W.state out.new)
-        result) }
+        result.status) }
     ensures reading { (F.state files.new).faults ≢ (F.state files.old).faults →
-        EndsReading (F.state files.old) (F.state files.new) result }
-    ensures writing { EndsWriting (W.state out.old) (W.state out.new) result }
+        EndsReading (F.state files.old) (F.state files.new) result.status }
+    ensures writing { EndsWriting (W.state out.old) (W.state out.new) result.status }
+    ensures simulator { OfAsked (map string_bytes words.now) (λ a.
+        (F.state files.old).told ≡ true →
+        CameThrough (F.state files.old) (F.state files.new) result.status →
+        HandsOut (F.state files.old).held a (left_in result)) }
+    ensures unbegun { NeverBegun result.status → result.sim ≡ None }
 {
     match read_words(alloc, words) {
         Ok(Some(job)) => do_job(alloc, job, files, out),
-        Ok(None) => say(out, usage_line(), Status::Usage),
-        Err(_) => Status::NoMemory,
+        Ok(None) => Finish {
+            status: say(out, usage_line(), Status::Usage),
+            sim: None,
+        },
+        Err(_) => Finish {
+            status: Status::NoMemory,
+            sim: None,
+        },
     }
 }

@@ -1,5 +1,5 @@
 // Replays of traces.
-ghost use Rattle.std.specs.Prelude.{◌≡◌, ◌-◌, ◌≤◌, ◌<◌, ◌^◌, ℕ, length, MatchOption};
+ghost use Rattle.std.specs.Prelude.{◌≡◌, ◌-◌, ◌≤◌, ◌<◌, ◌^◌, ℕ, true, length, MatchOption, None};
 ghost use Rattle.pz_syntax.specs.Classes.{ModelTree};
 ghost use Rattle.pz_classes.specs.CheckedView.{checked_model};
 ghost use Rattle.pz_classes_openings.specs.OpeningRules.{Opens};
@@ -8,18 +8,23 @@ ghost use Rattle.pz_rules.specs.Settings.{Setting};
 ghost use Rattle.pz_rules.specs.Clocks.{most_actions};
 ghost use Rattle.pz_trace.specs.Forms.{HasHeader};
 ghost use Rattle.pz_term.specs.Simulations.{Starts, model_in, limits_in};
-ghost use Rattle.pz_term.specs.Plains.{simulation_of};
+ghost use Rattle.pz_sim.specs.Sims.{simulation_of};
 ghost use Rattle.pz_run_replaying.specs.Replays.{TellsLines, IsReplayed};
-ghost use Rattle.pz_run.specs.Files.{trace_file};
+ghost use Rattle.pz_run_reading.specs.Models.{IsModelOf};
+ghost use Rattle.pz_run.specs.Files.{model_file, trace_file};
 ghost use Rattle.pz_run.specs.Plays.{setting_with};
 ghost use Rattle.pz_run.specs.Editions.{HasNoHeader, IsOfSecondEdition, OpensFor};
 ghost use Rattle.pz_run.specs.Output.{PrintsReplay};
+ghost use Rattle.pz_run.specs.Promises.{CameThrough};
+ghost use Rattle.pz_run.specs.HandedOut.{TraceHandsOut, ModelHandsOut, TraceFileHandsOut, left_in, NeverBegun};
 ghost use Rattle.pz_run.specs.devices.Saying.{Says, Answers};
+ghost use Rattle.pz_run.specs.devices.Handing.{Hands, FileHands};
 ghost use Rattle.pz_run.specs.devices.Reading.{ReadsFile};
 ghost use Rattle.pz_run.specs.devices.Replaying.{tells_first, ReplaysText, ReplaysFiles};
 
 use crate::Status;
 use crate::files::say_unread;
+use crate::finish::Finish;
 use crate::laws::traces_are_known;
 use crate::limits::{MODEL_LIMIT, TRACE_LIMIT};
 use crate::refusing::refuse_header;
@@ -29,7 +34,8 @@ use pz_classes::Checked;
 use pz_io::{Files, Halt, Sink, read_all};
 use pz_run_reading::{open_model, read_model};
 use pz_run_replaying::{Replayed, replay};
-use pz_term::{Plain, Steps};
+use pz_sim::Sim;
+use pz_term::Steps;
 use pz_trace::{Form, form_told};
 use std::alloc::Global;
 use std::marker::Brand;
@@ -44,13 +50,20 @@ pub fn replay_file<F: Files, W: Sink>(
     units: u64,
     files: &mut F,
     out: &mut W,
-) -> Status
-    ensures { ReplaysFiles model.now trace.now units (F.state files.old) (F.state files.new)
-        (W.state out.old) (W.state out.new) result }
+) -> Finish
+    ensures printed { ReplaysFiles model.now trace.now units (F.state files.old) (F.state files.new)
+        (W.state out.old) (W.state out.new) result.status }
+    ensures simulator { FileHands (model_file model.now)
+        (ModelHandsOut IsModelOf (TraceFileHandsOut (F.state files.old).held trace.now units))
+        (F.state files.old) (F.state files.new) result.status (left_in result) }
+    ensures unbegun { NeverBegun result.status → result.sim ≡ None }
 {
     match read_all(alloc, files, model, MODEL_LIMIT) {
         Ok(text) => replay_text(alloc, text.as_slice(), trace, units, files, out),
-        Err(error) => say_unread(alloc, error, model, out),
+        Err(error) => Finish {
+            status: say_unread(alloc, error, model, out),
+            sim: None,
+        },
     }
 }
 
@@ -62,16 +75,24 @@ fn replay_text<F: Files, W: Sink>(
     units: u64,
     files: &mut F,
     out: &mut W,
-) -> Status
+) -> Finish
     requires { length text.now < 2 ^ 32 - 1 }
-    ensures { ReplaysText trace.now units (F.state files.old) (F.state files.new) (W.state out.old)
-        (W.state out.new) result text.now }
+    ensures printed { ReplaysText trace.now units (F.state files.old) (F.state files.new)
+        (W.state out.old) (W.state out.new) result.status text.now }
+    ensures simulator { (F.state files.old).told ≡ true →
+        CameThrough (F.state files.old) (F.state files.new) result.status →
+        ModelHandsOut IsModelOf (TraceFileHandsOut (F.state files.old).held trace.now units)
+        text.now (left_in result) }
+    ensures unbegun { NeverBegun result.status → result.sim ≡ None }
 {
     traces_are_known();
     pz_run_reading::laws::one_model();
     match read_model(alloc, text) {
         Ok(checked) => replay_model(alloc, checked, trace, units, files, out),
-        Err(error) => say_refused(alloc, error, out),
+        Err(error) => Finish {
+            status: say_refused(alloc, error, out),
+            sim: None,
+        },
     }
 }
 
@@ -83,16 +104,23 @@ fn replay_model<F: Files, W: Sink>(
     units: u64,
     files: &mut F,
     out: &mut W,
-) -> Status
+) -> Finish
     requires { (form : Form) → TellsLines (setting_with (checked_model checked) form units) }
-    ensures { ReadsFile (trace_file trace.now) (PrintsReplay units (checked_model checked))
-        (F.state files.old) (F.state files.new) (W.state out.old) (W.state out.new) result }
+    ensures printed { ReadsFile (trace_file trace.now) (PrintsReplay units (checked_model checked))
+        (F.state files.old) (F.state files.new) (W.state out.old) (W.state out.new) result.status }
+    ensures simulator { FileHands (trace_file trace.now)
+        (TraceHandsOut units (checked_model checked)) (F.state files.old) (F.state files.new)
+        result.status (left_in result) }
+    ensures unbegun { NeverBegun result.status → result.sim ≡ None }
 {
     match read_all(alloc, files, trace, TRACE_LIMIT) {
         Ok(bytes) => replay_trace(alloc, checked, bytes.as_slice(), units, out),
         Err(error) => {
             drop(checked);
-            say_unread(alloc, error, trace, out)
+            Finish {
+                status: say_unread(alloc, error, trace, out),
+                sim: None,
+            }
         }
     }
 }
@@ -104,11 +132,14 @@ fn replay_trace<W: Sink>(
     trace: &[u8],
     units: u64,
     out: &mut W,
-) -> Status
+) -> Finish
     requires tells { (form : Form) → TellsLines (setting_with (checked_model checked) form units) }
     requires few { length trace.now ≤ most_actions }
-    ensures { Answers (PrintsReplay units (checked_model checked) trace.now) (W.state out.old)
-        (W.state out.new) result }
+    ensures printed { Answers (PrintsReplay units (checked_model checked) trace.now)
+        (W.state out.old) (W.state out.new) result.status }
+    ensures simulator { Hands (TraceHandsOut units (checked_model checked) trace.now) result.status
+        (left_in result) }
+    ensures unbegun { NeverBegun result.status → result.sim ≡ None }
 {
     pz_trace::laws::headers_differ();
     let told = form_told(trace);
@@ -137,19 +168,25 @@ fn replay_second<W: Sink>(
     trace: &[u8],
     units: u64,
     out: &mut W,
-) -> Status
+) -> Finish
     requires told { MatchOption told (HasNoHeader trace.now) (λ form. HasHeader form trace.now) }
     requires second { IsOfSecondEdition trace.now }
     requires tells { (form : Form) → TellsLines (setting_with (checked_model checked) form units) }
     requires few { length trace.now ≤ most_actions }
-    ensures { Answers (PrintsReplay units (checked_model checked) trace.now) (W.state out.old)
-        (W.state out.new) result }
+    ensures printed { Answers (PrintsReplay units (checked_model checked) trace.now)
+        (W.state out.old) (W.state out.new) result.status }
+    ensures simulator { Hands (TraceHandsOut units (checked_model checked) trace.now) result.status
+        (left_in result) }
+    ensures unbegun { NeverBegun result.status → result.sim ≡ None }
 {
     match open_model(alloc, &checked) {
         Ok(()) => replay_told(alloc, checked, told, trace, units, out),
         Err(error) => {
             drop(checked);
-            say_refused(alloc, error, out)
+            Finish {
+                status: say_refused(alloc, error, out),
+                sim: None,
+            }
         }
     }
 }
@@ -162,19 +199,25 @@ fn replay_told<W: Sink>(
     trace: &[u8],
     units: u64,
     out: &mut W,
-) -> Status
+) -> Finish
     requires told { MatchOption told (HasNoHeader trace.now) (λ form. HasHeader form trace.now) }
     requires opens { Opens (checked_model checked) }
     requires tells { (form : Form) → TellsLines (setting_with (checked_model checked) form units) }
     requires few { length trace.now ≤ most_actions }
-    ensures { Answers (PrintsReplay units (checked_model checked) trace.now) (W.state out.old)
-        (W.state out.new) result }
+    ensures printed { Answers (PrintsReplay units (checked_model checked) trace.now)
+        (W.state out.old) (W.state out.new) result.status }
+    ensures simulator { Hands (TraceHandsOut units (checked_model checked) trace.now) result.status
+        (left_in result) }
+    ensures unbegun { NeverBegun result.status → result.sim ≡ None }
 {
     match told {
         Some(form) => replay_form(alloc, checked, form, trace, units, out),
         None => {
             drop(checked);
-            refuse_header(alloc, units, out)
+            Finish {
+                status: refuse_header(alloc, units, out),
+                sim: None,
+            }
         }
     }
 }
@@ -187,19 +230,25 @@ fn replay_form<W: Sink>(
     trace: &[u8],
     units: u64,
     out: &mut W,
-) -> Status
+) -> Finish
     requires told { HasHeader form trace.now }
     requires asked { OpensFor trace.now (checked_model checked) }
     requires opens { (setting_with (checked_model checked) form units).limits.edition ≡ Two →
         Opens (checked_model checked) }
     requires tells { TellsLines (setting_with (checked_model checked) form units) }
     requires few { length trace.now ≤ most_actions }
-    ensures { Answers (PrintsReplay units (checked_model checked) trace.now) (W.state out.old)
-        (W.state out.new) result }
+    ensures printed { Answers (PrintsReplay units (checked_model checked) trace.now)
+        (W.state out.old) (W.state out.new) result.status }
+    ensures simulator { Hands (TraceHandsOut units (checked_model checked) trace.now) result.status
+        (left_in result) }
+    ensures unbegun { NeverBegun result.status → result.sim ≡ None }
 {
     match start(alloc, checked, form, units) {
-        Ok(plain) => replay_plain(alloc, plain, trace, out),
-        Err(_) => Status::NoMemory,
+        Ok(sim) => replay_whole(alloc, sim, trace, out),
+        Err(_) => Finish {
+            status: Status::NoMemory,
+            sim: None,
+        },
     }
 }
 
@@ -207,7 +256,7 @@ fn replay_form<W: Sink>(
 // own.
 fn replay_from<L: Ledger, W: Sink>(
     alloc: Global,
-    plain: &mut Plain,
+    sim: &mut Sim,
     trace: &[u8],
     ledger: Blank,
     out: &mut W,
@@ -215,30 +264,37 @@ fn replay_from<L: Ledger, W: Sink>(
     requires name { ledger.name ≡ L.name }
     requires parts { ledger.parts ≡ L.parts }
     requires some { 0 < L.parts }
-    requires starts { (setting : Setting) × Starts setting (simulation_of plain.old) }
-    requires opens { (limits_in (simulation_of plain.old)).edition ≡ Two →
-        Opens (model_in (simulation_of plain.old)) }
+    requires starts { (setting : Setting) × Starts setting (simulation_of sim.old) }
+    requires opens { (limits_in (simulation_of sim.old)).edition ≡ Two →
+        Opens (model_in (simulation_of sim.old)) }
     requires few { length trace.now ≤ most_actions }
-    ensures { (setting : Setting) → Starts setting (simulation_of plain.old) → TellsLines setting →
-        IsReplayed setting trace.now (simulation_of plain.new) (W.state out.old)
+    ensures { (setting : Setting) → Starts setting (simulation_of sim.old) → TellsLines setting →
+        IsReplayed setting trace.now (simulation_of sim.new) (W.state out.old)
         (W.state out.new) result }
 {
     let mut steps = Steps::<L>::new(ledger);
-    replay(alloc, plain, trace, &mut steps, out)
+    replay(alloc, sim, trace, &mut steps, out)
 }
 
-// The same, with the status of the replay.
-fn replay_plain<W: Sink>(alloc: Global, mut plain: Plain, trace: &[u8], out: &mut W) -> Status
-    requires starts { (setting : Setting) × Starts setting (simulation_of plain) }
-    requires opens { (limits_in (simulation_of plain)).edition ≡ Two →
-        Opens (model_in (simulation_of plain)) }
+// The same, with the status of the replay, and the simulator where it ended.
+fn replay_whole<W: Sink>(alloc: Global, mut sim: Sim, trace: &[u8], out: &mut W) -> Finish
+    requires starts { (setting : Setting) × Starts setting (simulation_of sim) }
+    requires opens { (limits_in (simulation_of sim)).edition ≡ Two →
+        Opens (model_in (simulation_of sim)) }
     requires few { length trace.now ≤ most_actions }
-    ensures { (m : ModelTree) (form : Form) (units : ℕ) → HasHeader form trace.now →
-        OpensFor trace.now m → Starts (setting_with m form units) (simulation_of plain) →
+    ensures printed { (m : ModelTree) (form : Form) (units : ℕ) → HasHeader form trace.now →
+        OpensFor trace.now m → Starts (setting_with m form units) (simulation_of sim) →
         TellsLines (setting_with m form units) →
-        Says (PrintsReplay units m trace.now) (W.state out.old) (W.state out.new) result }
+        Says (PrintsReplay units m trace.now) (W.state out.old) (W.state out.new) result.status }
+    ensures simulator { (m : ModelTree) (form : Form) (units : ℕ) → HasHeader form trace.now →
+        OpensFor trace.now m → Starts (setting_with m form units) (simulation_of sim) →
+        TellsLines (setting_with m form units) →
+        Hands (TraceHandsOut units m trace.now) result.status (left_in result) }
+    ensures unbegun { NeverBegun result.status → result.sim ≡ None }
 {
-    let ended = replay_from::<Brand, W>(alloc, &mut plain, trace, Blank::new(1), out);
-    drop(plain);
-    Status::replayed(ended)
+    let ended = replay_from::<Brand, W>(alloc, &mut sim, trace, Blank::new(1), out);
+    Finish {
+        status: Status::replayed(ended),
+        sim: Some(sim),
+    }
 }

@@ -4,12 +4,12 @@ ghost use Rattle.pz_classes.specs.CheckedView.{checked_model};
 ghost use Rattle.pz_classes_openings.specs.OpeningRules.{Opens};
 ghost use Rattle.pz_rules.specs.declared.limits.Edition.TheVariants.{Two};
 ghost use Rattle.pz_term.specs.Simulations.{Starts};
-ghost use Rattle.pz_term.specs.Plains.{simulation_of};
+ghost use Rattle.pz_sim.specs.Sims.{simulation_of};
 ghost use Rattle.pz_run.specs.Plays.{setting_with};
 
 use pz_bind::Net;
 use pz_classes::Checked;
-use pz_term::Plain;
+use pz_sim::Sim;
 use pz_trace::{Form, limits_of};
 use std::alloc::{AllocError, Global};
 use std::mem::drop;
@@ -23,15 +23,15 @@ pub(crate) fn start(
     checked: Checked,
     form: Form,
     units: u64,
-) -> Result<Plain, AllocError>
+) -> Result<Sim, AllocError>
     requires { (setting_with (checked_model checked) form units).limits.edition ≡ Two →
         Opens (checked_model checked) }
-    ensures { IfOk result (λ plain. Starts (setting_with (checked_model checked) form units)
-        (simulation_of plain)) }
+    ensures { IfOk result (λ sim. Starts (setting_with (checked_model checked) form units)
+        (simulation_of sim)) }
 {
     let limits = limits_of(form, units);
     match Net::flatten(alloc, &checked) {
-        Ok(net) => Plain::start(alloc, checked, net, limits),
+        Ok(net) => Sim::start(alloc, checked, net, limits),
         Err(error) => {
             drop(checked);
             Err(error)

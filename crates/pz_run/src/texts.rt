@@ -1,10 +1,13 @@
 // What is done with the text of a model.
-ghost use Rattle.std.specs.Prelude.{◌-◌, ◌≤◌, ◌<◌, ◌^◌, length};
+ghost use Rattle.std.specs.Prelude.{◌-◌, ◌≤◌, ◌<◌, ◌^◌, length, ◌≡◌, None};
 ghost use Rattle.pz_rules.specs.Clocks.{most_actions};
+ghost use Rattle.pz_run.specs.HandedOut.{RunHandsOut, OpenModelHandsOut, left_in, NeverBegun};
 ghost use Rattle.pz_run.specs.devices.Saying.{Answers};
+ghost use Rattle.pz_run.specs.devices.Handing.{Hands};
 ghost use Rattle.pz_run.specs.devices.Texts.{PrintsPlay, PrintsCheck, SaysRefusal};
 
 use crate::Status;
+use crate::finish::Finish;
 use crate::play::Play;
 use crate::playing::run_model;
 use crate::printing::say_made;
@@ -14,16 +17,23 @@ use pz_run_reading::{ReadModelError, measure, read_open_model};
 use std::alloc::Global;
 
 /// Runs the model of this text, or says why that is refused.
-pub fn run_text<W: Sink>(alloc: Global, text: &[u8], play: Play, out: &mut W) -> Status
+pub fn run_text<W: Sink>(alloc: Global, text: &[u8], play: Play, out: &mut W) -> Finish
     requires short { length text.now < 2 ^ 32 - 1 }
     requires few { play.limits.steps ≤ most_actions }
-    ensures { Answers (PrintsPlay play text.now) (W.state out.old) (W.state out.new) result }
+    ensures printed { Answers (PrintsPlay play text.now) (W.state out.old) (W.state out.new)
+        result.status }
+    ensures simulator { Hands (OpenModelHandsOut (RunHandsOut play) text.now) result.status
+        (left_in result) }
+    ensures unbegun { NeverBegun result.status → result.sim ≡ None }
 {
     pz_run_playing::laws::one_run();
     pz_run_reading::laws::open_or_refused();
     match read_open_model(alloc, text) {
         Ok(checked) => run_model(alloc, checked, play, out),
-        Err(error) => say_refused(alloc, error, out),
+        Err(error) => Finish {
+            status: say_refused(alloc, error, out),
+            sim: None,
+        },
     }
 }
 

@@ -1,5 +1,5 @@
 // Runs that watches judge.
-ghost use Rattle.std.specs.Prelude.{◌≡◌, ◌-◌, ◌≤◌, ◌<◌, ◌^◌, ℕ, List, [], length};
+ghost use Rattle.std.specs.Prelude.{◌≡◌, ◌-◌, ◌≤◌, ◌<◌, ◌^◌, ℕ, true, List, [], length, None};
 ghost use Rattle.pz_syntax.specs.Classes.{ModelTree};
 ghost use Rattle.pz_classes.specs.CheckedView.{checked_model};
 ghost use Rattle.pz_classes_openings.specs.OpeningRules.{Opens};
@@ -7,21 +7,25 @@ ghost use Rattle.pz_rules.specs.declared.limits.Edition.TheVariants.{Two};
 ghost use Rattle.pz_rules.specs.Settings.{Setting};
 ghost use Rattle.pz_rules.specs.Clocks.{most_actions};
 ghost use Rattle.pz_term.specs.Simulations.{Starts, model_in, limits_in};
-ghost use Rattle.pz_term.specs.Plains.{simulation_of};
-ghost use Rattle.pz_watch.specs.declared.errors.ReadWatchesError.TheVariants.{Refused};
+ghost use Rattle.pz_sim.specs.Sims.{simulation_of};
+ghost use Rattle.pz_watch.specs.declared.errors.ReadWatchesError.TheVariants.{NoMemory, Refused};
 ghost use Rattle.pz_watch.specs.Files.{NamedFormula, AreWatches, IsRefusedAt};
 ghost use Rattle.pz_watch.specs.Names.{is_identifier};
 ghost use Rattle.pz_watch.specs.devices.Standing.{StandForEach};
 ghost use Rattle.pz_run_playing.specs.Watched.{PlaysWatched};
-ghost use Rattle.pz_run.specs.Files.{watch_file as file_of};
+ghost use Rattle.pz_run.specs.Files.{model_file as file_of_model, watch_file as file_of};
 ghost use Rattle.pz_run.specs.Plays.{setting_for, policy_for};
 ghost use Rattle.pz_run.specs.Output.{PrintsJudged};
+ghost use Rattle.pz_run.specs.Promises.{CameThrough};
+ghost use Rattle.pz_run.specs.HandedOut.{RunHandsOut, WatchHandsOut, OpenModelHandsOut, WatchFileHandsOut, left_in, NeverBegun};
 ghost use Rattle.pz_run.specs.devices.Saying.{Says, Answers};
+ghost use Rattle.pz_run.specs.devices.Handing.{Hands, FileHands};
 ghost use Rattle.pz_run.specs.devices.Reading.{ReadsFile};
 ghost use Rattle.pz_run.specs.devices.Judging.{JudgesText, JudgesFiles};
 
 use crate::Status;
 use crate::files::say_unread;
+use crate::finish::Finish;
 use crate::limits::{MODEL_LIMIT, WATCH_LIMIT};
 use crate::play::Play;
 use crate::printing::say_made;
@@ -33,7 +37,8 @@ use pz_items::Items;
 use pz_run_lines::watch_refused_line;
 use pz_run_playing::{Judged, play_watched};
 use pz_run_reading::read_open_model;
-use pz_term::{Plain, Steps};
+use pz_sim::Sim;
+use pz_term::Steps;
 use pz_trace::Form;
 use pz_watch::{ReadWatchesError, Watch, read_watches};
 use std::alloc::Global;
@@ -50,14 +55,21 @@ pub fn watch_file<F: Files, W: Sink>(
     play: Play,
     files: &mut F,
     out: &mut W,
-) -> Status
+) -> Finish
     requires { play.limits.steps ≤ most_actions }
-    ensures { JudgesFiles model.now watches.now play (F.state files.old) (F.state files.new)
-        (W.state out.old) (W.state out.new) result }
+    ensures printed { JudgesFiles model.now watches.now play (F.state files.old) (F.state files.new)
+        (W.state out.old) (W.state out.new) result.status }
+    ensures simulator { FileHands (file_of_model model.now)
+        (OpenModelHandsOut (WatchFileHandsOut (F.state files.old).held watches.now play))
+        (F.state files.old) (F.state files.new) result.status (left_in result) }
+    ensures unbegun { NeverBegun result.status → result.sim ≡ None }
 {
     match read_all(alloc, files, model, MODEL_LIMIT) {
         Ok(text) => watch_text(alloc, text.as_slice(), watches, play, files, out),
-        Err(error) => say_unread(alloc, error, model, out),
+        Err(error) => Finish {
+            status: say_unread(alloc, error, model, out),
+            sim: None,
+        },
     }
 }
 
@@ -69,18 +81,26 @@ fn watch_text<F: Files, W: Sink>(
     play: Play,
     files: &mut F,
     out: &mut W,
-) -> Status
+) -> Finish
     requires short { length text.now < 2 ^ 32 - 1 }
     requires few { play.limits.steps ≤ most_actions }
-    ensures { JudgesText watches.now play (F.state files.old) (F.state files.new)
-        (W.state out.old) (W.state out.new) result text.now }
+    ensures printed { JudgesText watches.now play (F.state files.old) (F.state files.new)
+        (W.state out.old) (W.state out.new) result.status text.now }
+    ensures simulator { (F.state files.old).told ≡ true →
+        CameThrough (F.state files.old) (F.state files.new) result.status →
+        OpenModelHandsOut (WatchFileHandsOut (F.state files.old).held watches.now play) text.now
+        (left_in result) }
+    ensures unbegun { NeverBegun result.status → result.sim ≡ None }
 {
     pz_run_playing::laws::one_run();
     pz_watch::laws::files_have_one_answer();
     pz_run_reading::laws::open_or_refused();
     match read_open_model(alloc, text) {
         Ok(checked) => watch_model(alloc, checked, watches, play, files, out),
-        Err(error) => say_refused(alloc, error, out),
+        Err(error) => Finish {
+            status: say_refused(alloc, error, out),
+            sim: None,
+        },
     }
 }
 
@@ -92,17 +112,23 @@ fn watch_model<F: Files, W: Sink>(
     play: Play,
     files: &mut F,
     out: &mut W,
-) -> Status
+) -> Finish
     requires opens { Opens (checked_model checked) }
     requires few { play.limits.steps ≤ most_actions }
-    ensures { ReadsFile (file_of watches.now) (PrintsJudged play (checked_model checked))
-        (F.state files.old) (F.state files.new) (W.state out.old) (W.state out.new) result }
+    ensures printed { ReadsFile (file_of watches.now) (PrintsJudged play (checked_model checked))
+        (F.state files.old) (F.state files.new) (W.state out.old) (W.state out.new) result.status }
+    ensures simulator { FileHands (file_of watches.now) (WatchHandsOut play (checked_model checked))
+        (F.state files.old) (F.state files.new) result.status (left_in result) }
+    ensures unbegun { NeverBegun result.status → result.sim ≡ None }
 {
     match read_all(alloc, files, watches, WATCH_LIMIT) {
         Ok(file) => watch_lines(alloc, checked, file.as_slice(), play, out),
         Err(error) => {
             drop(checked);
-            say_unread(alloc, error, watches, out)
+            Finish {
+                status: say_unread(alloc, error, watches, out),
+                sim: None,
+            }
         }
     }
 }
@@ -114,26 +140,33 @@ fn watch_lines<W: Sink>(
     file: &[u8],
     play: Play,
     out: &mut W,
-) -> Status
+) -> Finish
     requires opens { Opens (checked_model checked) }
     requires few { play.limits.steps ≤ most_actions }
-    ensures { Answers (PrintsJudged play (checked_model checked) file.now) (W.state out.old)
-        (W.state out.new) result }
+    ensures printed { Answers (PrintsJudged play (checked_model checked) file.now)
+        (W.state out.old) (W.state out.new) result.status }
+    ensures simulator { Hands (WatchHandsOut play (checked_model checked) file.now) result.status
+        (left_in result) }
+    ensures unbegun { NeverBegun result.status → result.sim ≡ None }
 {
     match read_watches(alloc, file) {
         Ok(watches) => judge_model(alloc, checked, watches, play, out),
         Err(error) => {
             drop(checked);
-            say_no_watches(alloc, error, out)
+            Finish {
+                status: say_no_watches(alloc, error, out),
+                sim: None,
+            }
         }
     }
 }
 
 // Says at which line a file is no list of watches.
 fn say_no_watches<W: Sink>(alloc: Global, error: ReadWatchesError, out: &mut W) -> Status
-    ensures { (m : ModelTree) (play : Play) (file : List ℕ) →
+    ensures printed { (m : ModelTree) (play : Play) (file : List ℕ) →
         ((line : ℕ) → error ≡ Refused line → IsRefusedAt is_identifier file line) →
         Answers (PrintsJudged play m file) (W.state out.old) (W.state out.new) result }
+    ensures wanting { error ≡ NoMemory → result ≡ Status.NoMemory }
 {
     match error {
         ReadWatchesError::NoMemory => Status::NoMemory,
@@ -152,18 +185,25 @@ fn judge_model<W: Sink>(
     watches: Items<Watch>,
     play: Play,
     out: &mut W,
-) -> Status
+) -> Finish
     requires opens { Opens (checked_model checked) }
     requires few { play.limits.steps ≤ most_actions }
     requires stand { (ws : List NamedFormula) × StandForEach watches ws [] }
-    ensures { (file : List ℕ) (ws : List NamedFormula) → AreWatches is_identifier file ws →
-        StandForEach watches ws [] → Answers (PrintsJudged play (checked_model checked) file)
-        (W.state out.old) (W.state out.new) result }
+    ensures printed { (file : List ℕ) (ws : List NamedFormula) →
+        AreWatches is_identifier file ws → StandForEach watches ws [] →
+        Answers (PrintsJudged play (checked_model checked) file) (W.state out.old)
+        (W.state out.new) result.status }
+    ensures simulator { Hands (RunHandsOut play (checked_model checked)) result.status
+        (left_in result) }
+    ensures unbegun { NeverBegun result.status → result.sim ≡ None }
 {
     let units = play.limits.units;
     match start(alloc, checked, Form::Three { units }, units) {
-        Ok(plain) => judge_plain(alloc, plain, watches, play, out),
-        Err(_) => Status::NoMemory,
+        Ok(sim) => judge_whole(alloc, sim, watches, play, out),
+        Err(_) => Finish {
+            status: Status::NoMemory,
+            sim: None,
+        },
     }
 }
 
@@ -171,7 +211,7 @@ fn judge_model<W: Sink>(
 // own.
 fn judge_from<L: Ledger, W: Sink>(
     alloc: Global,
-    plain: &mut Plain,
+    sim: &mut Sim,
     watches: Items<Watch>,
     play: Play,
     ledger: Blank,
@@ -180,40 +220,45 @@ fn judge_from<L: Ledger, W: Sink>(
     requires name { ledger.name ≡ L.name }
     requires parts { ledger.parts ≡ L.parts }
     requires some { 0 < L.parts }
-    requires starts { (setting : Setting) × Starts setting (simulation_of plain.old) }
-    requires opens { (limits_in (simulation_of plain.old)).edition ≡ Two →
-        Opens (model_in (simulation_of plain.old)) }
+    requires starts { (setting : Setting) × Starts setting (simulation_of sim.old) }
+    requires opens { (limits_in (simulation_of sim.old)).edition ≡ Two →
+        Opens (model_in (simulation_of sim.old)) }
     requires few { play.limits.steps ≤ most_actions }
     requires stand { (ws : List NamedFormula) × StandForEach watches ws [] }
     ensures { (setting : Setting) (ws : List NamedFormula) →
-        Starts setting (simulation_of plain.old) → StandForEach watches ws [] →
-        PlaysWatched setting (policy_for play) ws (simulation_of plain.new)
+        Starts setting (simulation_of sim.old) → StandForEach watches ws [] →
+        PlaysWatched setting (policy_for play) ws (simulation_of sim.new)
         (W.state out.old) (W.state out.new) result }
 {
     let Play { choice, limits, .. } = play;
     let mut steps = Steps::<L>::new(ledger);
-    play_watched(alloc, plain, choice, limits, watches, &mut steps, out)
+    play_watched(alloc, sim, choice, limits, watches, &mut steps, out)
 }
 
-// The same, with the status of the run.
-fn judge_plain<W: Sink>(
+// The same, with the status of the run, and the simulator where it ended.
+fn judge_whole<W: Sink>(
     alloc: Global,
-    mut plain: Plain,
+    mut sim: Sim,
     watches: Items<Watch>,
     play: Play,
     out: &mut W,
-) -> Status
-    requires starts { (setting : Setting) × Starts setting (simulation_of plain) }
-    requires opens { (limits_in (simulation_of plain)).edition ≡ Two →
-        Opens (model_in (simulation_of plain)) }
+) -> Finish
+    requires starts { (setting : Setting) × Starts setting (simulation_of sim) }
+    requires opens { (limits_in (simulation_of sim)).edition ≡ Two →
+        Opens (model_in (simulation_of sim)) }
     requires few { play.limits.steps ≤ most_actions }
     requires stand { (ws : List NamedFormula) × StandForEach watches ws [] }
-    ensures { (m : ModelTree) (file : List ℕ) (ws : List NamedFormula) →
-        Starts (setting_for m play) (simulation_of plain) → AreWatches is_identifier file ws →
+    ensures printed { (m : ModelTree) (file : List ℕ) (ws : List NamedFormula) →
+        Starts (setting_for m play) (simulation_of sim) → AreWatches is_identifier file ws →
         StandForEach watches ws [] →
-        Says (PrintsJudged play m file) (W.state out.old) (W.state out.new) result }
+        Says (PrintsJudged play m file) (W.state out.old) (W.state out.new) result.status }
+    ensures simulator { (m : ModelTree) → Starts (setting_for m play) (simulation_of sim) →
+        Hands (RunHandsOut play m) result.status (left_in result) }
+    ensures unbegun { NeverBegun result.status → result.sim ≡ None }
 {
-    let ended = judge_from::<Brand, W>(alloc, &mut plain, watches, play, Blank::new(1), out);
-    drop(plain);
-    Status::judged(ended)
+    let ended = judge_from::<Brand, W>(alloc, &mut sim, watches, play, Blank::new(1), out);
+    Finish {
+        status: Status::judged(ended),
+        sim: Some(sim),
+    }
 }

@@ -51,7 +51,7 @@ none_done {a} (active.inside f t i place g part reached x) e is = subst (λ (u :
 no_receive : (a : Context) (t : Term) (place : Place) → t ≡ done → HasReceive a t place → ⊥
 no_receive a t place e has = none_done has.active e has.receive
 
-same_or_apart : (i j : ℕ) → (i ≡ j) ⊎ (i ≢ j)
+pub same_or_apart : (i j : ℕ) → (i ≡ j) ⊎ (i ≢ j)
 same_or_apart i j = by (cases_lt i j) (cases_lt j i)
   where
     by : (i < j) ⊎ (j ≤ i) → (j < i) ⊎ (i ≤ j) → (i ≡ j) ⊎ (i ≢ j)
@@ -59,12 +59,12 @@ same_or_apart i j = by (cases_lt i j) (cases_lt j i)
     by (inr more) (inl less) = inr (λ e. omega (arith, less, e))
     by (inr more) (inr most) = inl (omega (arith, more, most))
 
-set_same : {X : Type 0} (xs : List X) (i : ℕ) (y x : X) → slice_get (set xs i y) i ≡ Some x → x ≡ y
+pub set_same : {X : Type 0} (xs : List X) (i : ℕ) (y x : X) → slice_get (set xs i y) i ≡ Some x → x ≡ y
 set_same [] i y x is = cc
 set_same (z ∷ xs) zero y x is = sym (same_Some y x is)
 set_same (z ∷ xs) (suc i) y x is = set_same xs i y x is
 
-set_other : {X : Type 0} (xs : List X) (i j : ℕ) (y : X) → i ≢ j → slice_get (set xs i y) j ≡ slice_get xs j
+pub set_other : {X : Type 0} (xs : List X) (i j : ℕ) (y : X) → i ≢ j → slice_get (set xs i y) j ≡ slice_get xs j
 set_other [] i j y apart = refl
 set_other (x ∷ xs) zero zero y apart = absurd (apart refl)
 set_other (x ∷ xs) zero (suc j) y apart = refl

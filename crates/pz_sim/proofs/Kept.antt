@@ -25,7 +25,7 @@ use Rattle.pz_sim.specs.declared.standing.Standing.{Standing}
 use Rattle.pz_sim.specs.declared.standing.Standing.TheVariants as standing
 use Rattle.pz_sim.specs.devices.Holding.{AreKept, Holds}
 
-setting_at : (setting : Setting) (clock : ℕ) (ts : List Tree) (x : Standing) → setting_in (simulation_at setting clock ts x) ≡ setting
+pub setting_at : (setting : Setting) (clock : ℕ) (ts : List Tree) (x : Standing) → setting_in (simulation_at setting clock ts x) ≡ setting
 setting_at setting clock ts (standing.Whole moment) = refl
 setting_at setting clock ts (standing.High trouble) = refl
 setting_at setting clock ts (standing.Stopped trouble) = refl
@@ -52,7 +52,7 @@ kept_moment decides couples wires setting clock ts totals table moment sound k =
     (decides setting clock ms table.pairs k.are_trees.members k.are_trees.low
     (couples setting clock ms table.senders table.receivers table.pairs (wires setting.model sound) k.are_trees.members k.is_table.senders k.is_table.receivers k.is_table.pairs k.is_table.truthful))
 
-high_moment : (setting : Setting) (trouble : Trouble) → IsFirstHigh setting (start_of setting) trouble → IsMoment setting (start_of setting) (Stopped trouble)
+pub high_moment : (setting : Setting) (trouble : Trouble) → IsFirstHigh setting (start_of setting) trouble → IsMoment setting (start_of setting) (Stopped trouble)
 high_moment setting trouble high = record { applies = moments.high trouble high; first = λ n applies. omega arith }
 
 module _ (decides : MomentIsDecided) (couples : PairsAreCouples) (wires : WiresAreKnown) (merely : MerelyMoment) (setting : Setting) (clock : ℕ) (ts : List Tree) (totals : List Total) (table : Table) (s : Standing)

@@ -2,10 +2,19 @@
 //! goes on to the next one. A step looks at what it touches, and at no more.
 #![tactic(auto)]
 
+mod acting;
+mod choosing;
 mod deciding;
 mod judging;
+mod offering;
+mod passing;
+mod scene;
+mod showing;
 mod sim;
+mod simulating;
 mod standing;
+mod starting;
+mod summing;
 mod telling;
 
 pub use sim::Sim;

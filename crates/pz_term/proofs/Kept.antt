@@ -32,12 +32,12 @@ use Rattle.pz_term.specs.Plains.{simulation_at}
 use Rattle.pz_term.specs.devices.Holding.{IsOutlook, Holds}
 
 -- a moment at which something can go on
-abbrev GoesOn : Moment → Type 0
+abbrev pub GoesOn : Moment → Type 0
 GoesOn (Actions n) = Unit {0}
 GoesOn (Time d) = Unit {0}
 GoesOn m = ⊥
 
-goes_on_not : (m n : Moment) → m ≡ n → GoesOn m → (GoesOn n → ⊥) → ⊥
+pub goes_on_not : (m n : Moment) → m ≡ n → GoesOn m → (GoesOn n → ⊥) → ⊥
 goes_on_not m n e g absent = absent (subst GoesOn e g)
 
 -- a start that is too high is at no other moment

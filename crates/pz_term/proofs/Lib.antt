@@ -2,6 +2,7 @@ mod Copies
 mod Given
 mod Kept
 mod Moved
+mod Short
 mod Opened
 mod Rooms
 mod Shown

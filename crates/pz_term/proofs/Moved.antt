@@ -15,6 +15,7 @@ use Rattle.pz_rules.specs.Steps.{Next, PassesTo}
 use Rattle.pz_rules.specs.Runs.{whole, stopped}
 use Rattle.pz_rules.specs.Starting.{IsStart}
 use Rattle.pz_rules.specs.Laws.{OneMoment, OneListOfOffers}
+use Rattle.pz_rules_delays.specs.Short.{DelaysAreShort, TimesAreShort}
 use Rattle.pz_term_processes.specs.declared.process.Process.{Process}
 use Rattle.pz_term_processes.specs.Standing.{config_of, AreProcesses}
 use Rattle.pz_term_enabled.specs.declared.looking.Outlook.{Outlook}
@@ -29,11 +30,11 @@ use Rattle.pz_term.specs.devices.Holding.{IsOutlook, Holds}
 use Rattle.pz_term.proofs.Kept.{is_moment, whole_at, count_shown, offers_shown, choice_shown}
 
 -- what a look finds is kept, where it changes nothing
-pub outlook_holds : (setting : Setting) (clock : ℕ) (old new : List Process) (outlook : Outlook) → new ≡ old → ∥ AreProcesses setting clock old ∥₁
+pub outlook_holds : (setting : Setting) (clock : ℕ) (old new : List Process) (outlook : Outlook) → new ≡ old → ∥ AreProcesses setting clock old ∥₁ → ∥ DelaysAreShort (config_of clock old) ∥₁ → TimesAreShort setting (config_of clock old)
     → IsMoment setting (config_of clock old) outlook.moment → AreActionsAt setting (config_of clock old) outlook.moment outlook.actions.items → ∥ Holds setting clock new (standing.Whole outlook) ∥₁
-outlook_holds setting clock old new outlook same are moment actions =
+outlook_holds setting clock old new outlook same are short times moment actions =
     subst (λ (ps : List Process). ∥ Holds setting clock ps (standing.Whole outlook) ∥₁) (sym same)
-    (∥∥₁_elim are squash₁ (λ k. ∣ record { are = k; moment = moment; actions = actions } ∣₁))
+    (∥∥₁_elim are squash₁ (λ k. ∥∥₁_elim short squash₁ (λ h. ∣ record { are = k; short = h; times = times; moment = moment; actions = actions } ∣₁)))
 
 pub starts_there : (setting : Setting) (old new : List Process) → new ≡ old → IsStart setting (config_of 0 old) → Starts setting (stands setting (config_of 0 new) whole)
 starts_there setting old new same start = subst (λ (ps : List Process). Starts setting (stands setting (config_of 0 ps) whole)) (sym same) (simulations.starts (config_of 0 old) start)

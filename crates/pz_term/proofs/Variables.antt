@@ -1,5 +1,5 @@
 -- What a simulator shows of a variable.
-use Rattle.std.proofs.Common.{◌≡◌, ◌<◌, ◌≤◌, ◌∙◌, ◌⊎◌, inl, inr, ℕ, zero, suc, List, [], ◌∷◌, length, map, Option, Some, Result, Ok, Err, refl, sym, ap, subst, arith}
+use Rattle.std.proofs.Common.{◌≡◌, ◌<◌, ◌≤◌, ◌∙◌, ◌⊎◌, inl, inr, ℕ, zero, suc, List, [], ◌∷◌, length, map, get_or, Option, Some, Result, Ok, Err, refl, sym, ap, subst, arith}
 use Rattle.std.specs.Prelude.{slice_get, All, unwrap_or, IfOk, OnErr, ⊤}
 use Rattle.std.specs.declared.alloc.AllocError.{AllocError}
 use Rattle.std.specs.Option.{option_map}
@@ -54,6 +54,43 @@ there [] i within = absurd (omega (arith, within))
 there (x ∷ xs) zero within = (x, refl)
 there (x ∷ xs) (suc i) within = there xs i (omega (arith, within))
 
+-- Processes that have just begun
+
+abbrev pub AreValues : Net → ℕ → List Value → Type 0
+AreValues net i values = (m : ModelTree) (place : Address) → IsNet m net → slice_get (processes m) i ≡ Some place → values ≡ values_at m place
+
+all_nodes : (m : ModelTree) (net : Net) → IsNet m net → length net.nodes ≡ length (processes m)
+all_nodes m net k = ap (λ xs. length xs) k.nodes ∙ length-map (processes m) (node_at m)
+
+-- no object is named in two ways, where there is none
+refers_prop : (v : Value) (x y : RefersWithin 0 v) → x ≡ y
+refers_prop value.Nil x y = refl
+refers_prop (value.Bool b) x y = refl
+refers_prop (value.Int n) x y = refl
+refers_prop (value.Char c) x y = refl
+refers_prop (value.Str text) x y = refl
+refers_prop (value.Ref r) x y = le_prop x y
+
+module _ (net : Net) (i : ℕ) (values : List Value) (within : HasProcess net i) (are : AreValues net i values) where
+  plain_of : (m : ModelTree) → IsNet m net → All (RefersWithin 0) values
+  plain_of m known =
+      let place = there (processes m) i (omega (arith, within, all_nodes m net known)) in
+      subst (λ (vs : List Value). All (RefersWithin 0) vs) (sym (are m place.0 known place.1)) (values_plain 0 m place.0)
+
+  pub begun_plain : ∥ ((m : ModelTree) × IsNet m net) ∥₁ → All (RefersWithin 0) values
+  begun_plain known k d below = ∥∥₁_elim known (refers_prop (get_or values k d)) (λ x. plain_of x.0 x.1 k d below)
+
+  pub begun_holds : (setting : Setting) → ∥ IsNet setting.model net ∥₁ → (v : ℕ) (parcel : ParcelView) → IsParcelOf (initial values) (value_at values v ∷ []) parcel → HoldsValue (start_of setting) i v parcel
+  begun_holds setting known v parcel is =
+      let all : length net.nodes ≡ length (processes setting.model) = ∥∥₁_elim known (ℕ_set (length net.nodes) (length (processes setting.model))) (all_nodes setting.model net) in
+      let place = there (processes setting.model) i (omega (arith, within, all)) in
+      let given : values ≡ values_at setting.model place.0 = ∥∥₁_elim known (Coded-set (coded_list value_contract.the_row.coded) values (values_at setting.model place.0)) (λ k. are setting.model place.0 k place.1) in
+      record {
+        process = start_at setting place.0;
+        stands = slice_get-map (start_at setting) (processes setting.model) i ∙ ap (option_map (start_at setting)) place.1;
+        is_parcel = begun_shows setting place.0 v parcel (subst (λ (vs : List Value). IsParcelOf (initial vs) (value_at vs v ∷ []) parcel) given is);
+      }
+
 -- its processes are built: it is neither broken nor too high
 abbrev pub IsBuilt : Standing → Type 0
 IsBuilt s = ((outlook : Outlook) × (s ≡ standing.Whole outlook)) ⊎ ((trouble : Trouble) × (s ≡ standing.Stopped trouble))
@@ -79,31 +116,11 @@ module _ (setting : Setting) (clock : ℕ) (ps : List Process) (s : Standing) (i
 
   pub high_process : (trouble : Trouble) (net : Net) → s ≡ standing.High trouble → ∥ IsNet setting.model net ∥₁ → HasProcess net i
   high_process trouble net e known =
-      let all : length net.nodes ≡ length (processes setting.model) =
-      ∥∥₁_elim known (ℕ_set (length net.nodes) (length (processes setting.model))) (λ k. ap (λ xs. length xs) k.nodes ∙ length-map (processes setting.model) (node_at setting.model)) in
+      let all : length net.nodes ≡ length (processes setting.model) = ∥∥₁_elim known (ℕ_set (length net.nodes) (length (processes setting.model))) (all_nodes setting.model net) in
       omega (arith, all, high_within trouble e)
 
-  abbrev pub AreValues : Net → List Value → Type 0
-  AreValues net values = (m : ModelTree) (place : Address) → IsNet m net → slice_get (processes m) i ≡ Some place → values ≡ values_at m place
-
-  module _ (trouble : Trouble) (net : Net) (values : List Value) (e : s ≡ standing.High trouble) (known : ∥ IsNet setting.model net ∥₁) (are : AreValues net values) where
-    place : (x : Address) × (slice_get (processes setting.model) i ≡ Some x)
-    place = there (processes setting.model) i (high_within trouble e)
-
-    given : values ≡ values_at setting.model place.0
-    given = ∥∥₁_elim known (Coded-set (coded_list value_contract.the_row.coded) values (values_at setting.model place.0)) (λ k. are setting.model place.0 k place.1)
-
-    pub high_plain : All (RefersWithin 0) values
-    high_plain = subst (λ (vs : List Value). All (RefersWithin 0) vs) (sym given) (values_plain 0 setting.model place.0)
-
-    pub high_shows : (v : ℕ) (parcel : ParcelView) → IsParcelOf (initial values) (value_at values v ∷ []) parcel → IsShown (simulation_at setting clock ps s) i v parcel
-    high_shows v parcel is =
-        subst (λ (y : Standing). IsShown (simulation_at setting clock ps y) i v parcel) (sym e)
-        (record {
-          process = start_at setting place.0;
-          stands = slice_get-map (start_at setting) (processes setting.model) i ∙ ap (option_map (start_at setting)) place.1;
-          is_parcel = begun_shows setting place.0 v parcel (subst (λ (vs : List Value). IsParcelOf (initial vs) (value_at vs v ∷ []) parcel) given is);
-        })
+  pub high_shows : (trouble : Trouble) (v : ℕ) (parcel : ParcelView) → s ≡ standing.High trouble → HoldsValue (start_of setting) i v parcel → IsShown (simulation_at setting clock ps s) i v parcel
+  high_shows trouble v parcel e holds = subst (λ (y : Standing). IsShown (simulation_at setting clock ps y) i v parcel) (sym e) holds
 
 -- what is shown of a process that is built
 pub built_shows : (setting : Setting) (clock : ℕ) (ps : List Process) (s : Standing) (i v : ℕ) (p : Process) (parcel : ParcelView) → IsBuilt s → slice_get ps i ≡ Some p

@@ -19,4 +19,5 @@ pub use pz_offer::{End, Place, Trouble};
 pub use pz_part_opening::open_term;
 pub use pz_rules::{Action, Edition, Kind, Limits, Moment, Term};
 pub use refusal::{ChooseError, PassError};
+pub use showing::shown_at_start;
 pub use simulator::Simulator;

@@ -8,6 +8,7 @@ ghost use Rattle.pz_rules.specs.Runs.{whole};
 ghost use Rattle.pz_rules.specs.Starting.{IsStart};
 ghost use Rattle.pz_rules.specs.Moments.{IsFirstHigh};
 ghost use Rattle.pz_rules.specs.devices.Start.{start_of};
+ghost use Rattle.pz_rules_delays.specs.Short.{DelaysAreShort};
 ghost use Rattle.pz_term.specs.devices.Holding.{Holds};
 
 use crate::copying::copy_actions;
@@ -110,6 +111,7 @@ impl Plain {
         ensures checked { IfOk result (λ plain. plain.checked ≡ checked) }
         ensures net { IfOk result (λ plain. plain.net ≡ net) }
     {
+        pz_rules_delays::laws::starts_are_short();
         let mut processes = processes;
         let outlook = look_at(alloc, &checked, &net, limits, 0, &mut processes)?;
         Ok(Plain {
@@ -239,7 +241,7 @@ impl Plain {
                 let process = &self.processes[process as usize];
                 shown_in(self.alloc, &process.state, variable)
             }
-            Standing::High(_) => { shown_at_start(self.alloc, self.net.values(process), variable) }
+            Standing::High(_) => shown_at_start(self.alloc, &self.net, process, variable),
             Standing::Broken => unreachable!(),
         }
     }
@@ -289,6 +291,7 @@ impl Plain {
         pz_rules::laws::one_moment();
         pz_rules::laws::one_list_of_offers();
         pz_rules::laws::wires_are_known();
+        pz_rules_delays::laws::short_stays();
         let _model = self.checked.model();
         let Standing::Whole(outlook) = mem::replace(&mut self.standing, Standing::Broken) else {
             unreachable!()
@@ -323,6 +326,8 @@ impl Plain {
         requires broken { self.old.standing ≡ Standing.Broken }
         requires are { ∥ AreProcesses (setting_of (model_of self.old) self.old.limits)
             self.old.clock self.old.processes.items ∥₁ }
+        requires short { ∥ DelaysAreShort
+            (config_of self.old.clock self.old.processes.items) ∥₁ }
         ensures ok { OnOk result (simulation_of self.new ≡ stands
             (setting_of (model_of self.old) self.old.limits)
             (config_of self.old.clock self.old.processes.items) whole) }
@@ -348,8 +353,7 @@ impl Plain {
     /// # Errors
     ///
     /// But for `NoMemory`, `NotNow` comes exactly where the moment is not `Time`; then nothing has
-    /// changed. After `NoMemory` the simulator is broken. A delay of 2^64 clock units or more, which no
-    /// Integer of the program says, is taken for want of memory.
+    /// changed. After `NoMemory` the simulator is broken.
     pub fn pass(&mut self) -> Result<(), PassError>
         requires low { clock_in (simulation_of self.old) < 2 ^ 127 }
         ensures ok { OnOk result (Passes (simulation_of self.old) (simulation_of self.new)) }
@@ -383,11 +387,9 @@ impl Plain {
             (simulation_of self.old) }
     {
         pz_rules::laws::one_moment();
+        pz_rules_delays::laws::short_passes();
+        pz_rules_delays::laws::moments_are_short();
         self.standing = Standing::Broken;
-        // No delay is so long. That is not proved: what is left of a delay is kept as a number of 128 bits.
-        if u128::from(u64::MAX) < time {
-            return Err(AllocError);
-        }
         elapse_at(
             self.alloc,
             &self.checked,

@@ -8,6 +8,7 @@ ghost use Rattle.pz_rules.specs.CallLaws.{NoRounds};
 ghost use Rattle.pz_rules.specs.Offers.{Offers};
 ghost use Rattle.pz_rules.specs.Steps.{Next, PassesTo};
 ghost use Rattle.pz_rules.specs.Moments.{IsMoment};
+ghost use Rattle.pz_rules_delays.specs.Short.{TimesAreShort};
 ghost use Rattle.pz_term_processes.specs.Standing.{setting_of, config_of, AreProcesses};
 ghost use Rattle.pz_term_enabled.specs.Looking.{AreActionsAt};
 ghost use Rattle.pz_term_steps.specs.Stepping.{reached};
@@ -39,6 +40,8 @@ pub(crate) fn look_at(
     ensures actions { IfOk result (λ outlook. AreActionsAt
         (setting_of (checked_model checked.now) limits)
         (config_of clock processes.old.items) outlook.moment outlook.actions.items) }
+    ensures times { OnOk result (TimesAreShort (setting_of (checked_model checked.now) limits)
+        (config_of clock processes.old.items)) }
     ensures unchanged { processes.new.items ≡ processes.old.items }
 {
     look(alloc, checked, net, limits, clock, processes.as_mut_slice())

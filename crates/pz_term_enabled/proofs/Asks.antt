@@ -1,5 +1,5 @@
 -- What is noted of delays and sends, from what they are asked.
-use Rattle.std.proofs.Common.{◌≡◌, ℕ, List, [], ◌∷◌, ◌++◌, None, Result, Ok, Err, Vec, sym, ap, ◌∙◌}
+use Rattle.std.proofs.Common.{◌≡◌, ◌<◌, ◌^◌, ℕ, List, [], ◌∷◌, ◌++◌, None, Result, Ok, Err, IfOk, Vec, sym, subst, ap, ◌∙◌, arith}
 use Rattle.std.specs.declared.alloc.Global.{Global}
 use Rattle.pz_syntax.specs.declared.tokens.Pos.{Pos}
 use Rattle.pz_syntax.specs.declared.names.Id.{Id}
@@ -48,7 +48,10 @@ module _ (law : PartsAreComputed) (a : Context) (f : ℕ) (at : Pos) (port : ℕ
       → Adds a place (here f (leaf (send at port name args after)) ∷ []) o (record o { sends = v })
   send_added place copy message _ o v (packs values s parcel gives packed) same spelled grown =
       let x : walk.ActiveSend = record { pos = at; port = port; message = name.name; values = values; state = s } in
-      adds_one a place f (leaf (send at port name args after)) (only_sends x) o (record o { sends = v }) (noted_as (Ok values) s gives) (grows_send place copy x message parcel o v same spelled packed grown)
+      adds_one a place f (leaf (send at port name args after)) (only_sends x) o (record o { sends = v }) (noted_as (Ok values) s gives) (grows_send place copy x message parcel o v same spelled packed grown) (λ unbegun. tt)
 
   pub send_troubled : (u : Trouble) → Packs a f at args (Err u) → notes_of a f (leaf (send at port name args after)) ≡ only_troubles u
   send_troubled _ (fails u s gives) = noted_as (Err u) s gives
+
+pub time_few : (r : Result ℕ Trouble) (left : ℕ) → r ≡ Ok left → IfOk r (λ time. time < 2 ^ 63) → left < 2 ^ 64
+time_few r left is few = let short : left < 2 ^ 63 = subst (λ (x : Result ℕ Trouble). IfOk x (λ time. time < 2 ^ 63)) is few in omega (arith, short)

@@ -1,34 +1,37 @@
 -- What is surveyed of the first processes and of one more.
-use Rattle.std.proofs.Common.{◌≡◌, ◌<◌, ◌+◌, ◌⊎◌, inl, inr, ℕ, Bool, true, false, ◌&&◌, List, [], ◌∷◌, map, length, Option, Some, None, refl, sym, subst, ap, ◌∙◌, arith}
+use Rattle.std.proofs.Common.{◌≡◌, ◌<◌, ◌+◌, ◌^◌, ◌⊎◌, inl, inr, ℕ, Bool, true, false, ◌&&◌, List, [], ◌∷◌, map, length, Option, Some, None, refl, sym, subst, ap, ◌∙◌, arith}
 use Rattle.std.specs.List.{Contains, filter_map}
 use Rattle.std.specs.Option.{option_or}
 use Rattle.std.specs.Prelude.{slice_get}
 use Rattle.std.proofs.lemmas.Bool.{true≢false}
 use Rattle.std.proofs.lemmas.Option.{same_Some, slice_get_within, get_or_from_slice_get}
 use Rattle.std.proofs.lemmas.List.Elements.{All-head, All-contains}
+use Rattle.pz_syntax.specs.Statements.{delay}
 use Rattle.pz_offer.specs.declared.end.End.{End}
 use Rattle.pz_offer.specs.declared.trouble.Trouble.{Trouble}
 use Rattle.pz_offer.specs.PlaceOrder.{Place, PlaceBefore, EndBefore}
 use Rattle.pz_rules.specs.declared.action.Action.{Action}
-use Rattle.pz_rules.specs.Terms.{Term, done}
+use Rattle.pz_rules.specs.Terms.{Term, done, leaf}
 use Rattle.pz_rules.specs.Settings.{Setting, Process, Context}
 use Rattle.pz_rules.specs.Leaving.{is_done}
-use Rattle.pz_rules.specs.Delays.{Delays}
+use Rattle.pz_rules.specs.Delays.{Delays, not_begun}
 use Rattle.pz_rules.specs.Asking.{Asks}
 use Rattle.pz_rules.specs.Ports.{HasWires}
 use Rattle.pz_rules.specs.Configurations.{Config, Stands}
 use Rattle.pz_rules.specs.Offers.{PartAt}
 use Rattle.pz_rules.specs.Moments.{Source, part, pair, Troubles, asked, judged, IsLeft}
-use Rattle.pz_rules.specs.devices.Walk.{Noted, active_delays, active_troubles}
+use Rattle.pz_rules.specs.devices.Walk.{Noted, active_parts, active_delays, active_troubles}
 use Rattle.pz_rules.specs.devices.Walks.{IsThere, Lists, InternalActionsAreListed, SendsAreListed, SendsHaveParcels, ReceivesAreListed, DelaysAreListed, TroublesAreListed}
+use Rattle.pz_rules.specs.devices.Computed.{TestsAreComputed, TimesAreComputed}
 use Rattle.pz_term_matching.specs.declared.ends.Sender.{Sender}
 use Rattle.pz_term_matching.specs.declared.ends.Receiver.{Receiver}
 use Rattle.pz_term_enabled.specs.declared.found.Found.{Found}
-use Rattle.pz_term_enabled.specs.devices.Walked.{IsWalked, whats}
+use Rattle.pz_term_enabled.specs.devices.Walked.{IsWalked, whats, has_begun, AllBeginShort}
 use Rattle.pz_term_enabled.specs.declared.findings.Survey.{Survey}
 use Rattle.pz_term_enabled.specs.Surveyed.{IsSender, IsReceiver}
 use Rattle.pz_term_enabled.specs.devices.Adding.{end_at, action_of, sender_of, receiver_of, least_of, Adds}
-use Rattle.pz_term_enabled.specs.devices.Below.{Listed, end_of, IsLeastOf, IsOffered, IsLeftBelow, IsAskedBelow, TellsDoneBelow, SurveyedBelow}
+use Rattle.pz_term_enabled.specs.devices.Below.{Listed, end_of, IsLeastOf, IsOffered, IsLeftBelow, IsAskedBelow, TellsDoneBelow, AreShortBelow, SurveyedBelow}
+use Rattle.pz_term_enabled.proofs.Beginning.{part_begins, few_left}
 use Rattle.pz_term_enabled.proofs.Lists.{Contains-cases, Contains-map, from_map, AllPairs-head}
 use Rattle.pz_term_enabled.proofs.Least.{least_same, least_more}
 use Rattle.pz_term_enabled.proofs.Listed.{below_cases, listed_more}
@@ -43,6 +46,8 @@ pub record WalkLaws : Type 0 where
   pub receives : ReceivesAreListed
   pub delays : DelaysAreListed
   pub troubles : TroublesAreListed
+  pub tests_computed : TestsAreComputed
+  pub times_computed : TimesAreComputed
 
 place_asymmetric : (p q : Place) → PlaceBefore p q → PlaceBefore q p → ⊥
 place_asymmetric p [] a b = a
@@ -180,6 +185,17 @@ module _ (setting : Setting) (c : Config) where
     done_further false h = h
     done_further true h = done_then (is_done p.term) refl h
 
+    -- What delays that have not begun take
+
+    times_further : TestsAreComputed → TimesAreComputed → AllBeginShort a (active_parts a 0 p.term) → AreShortBelow setting c i → AreShortBelow setting c (i + 1)
+    times_further tests times begin so_far at b f pos time left x lasts below = by (below_cases at.process i below)
+      where
+        by : (at.process < i) ⊎ (at.process ≡ i) → left < 2 ^ 64
+        by (inl less) = so_far at b f pos time left x lasts less
+        by (inr same) =
+            let is = there setting c i p a stands (λ (z : Context) (g : ℕ) (t : Term). Delays z g t left × (has_begun t ≡ false)) at b f (leaf (delay pos time)) same x (not_begun pos time left lasts, refl) in
+            few_left times a is.frame is.part left is.it_holds.0 is.it_holds.1 (part_begins a tests 0 p.term at.place is.frame is.part is.active begin is.it_holds.1)
+
     -- All of it
     pub surveyed_further : WalkLaws → (wires : HasWires setting.model) (found : Found) (old new : Survey) → IsWalked a p.term found
         → Adds (λ port. wires.wire i port) i found (is_done p.term) old new → SurveyedBelow setting c i old → SurveyedBelow setting c (i + 1) new
@@ -196,4 +212,5 @@ module _ (setting : Setting) (c : Config) where
       least = subst (λ (o : Option ℕ). IsLeastOf (IsLeftBelow setting c (i + 1)) o) (sym adds.least) (least_further laws.delays found.delays.items walked.delays old.least so_far.least);
       trouble = subst (λ (o : Option Trouble). IsAskedBelow setting c (i + 1) o) (sym adds.trouble) (first_further laws.troubles found.troubles.items walked.troubles old.trouble so_far.trouble);
       done = subst (λ (b : Bool). TellsDoneBelow setting c (i + 1) b) (sym adds.done) (done_further old.done so_far.done);
+      times = times_further laws.tests_computed laws.times_computed walked.times so_far.times;
     }

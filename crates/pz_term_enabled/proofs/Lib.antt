@@ -1,4 +1,5 @@
 mod Places
+mod Beginning
 mod Notes
 mod OnePart
 mod Asks

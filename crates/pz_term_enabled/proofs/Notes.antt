@@ -8,9 +8,10 @@ use Rattle.pz_rules.specs.devices.Walk as walk
 use Rattle.pz_rules.specs.devices.Walk.{ActivePart, here, under, Noted, does, sent_by, received_by, waiting, troubled_by, noted}
 use Rattle.pz_term_enabled.specs.declared.found.ActiveSend.{ActiveSend}
 use Rattle.pz_term_enabled.specs.declared.found.Found.{Found}
-use Rattle.pz_term_enabled.specs.devices.Walked.{doing_view, receiving_view, CarryAll, whats}
+use Rattle.pz_term_enabled.specs.devices.Walked.{doing_view, receiving_view, CarryAll, whats, IsFew}
 use Rattle.pz_term_enabled.specs.devices.Listings.{below, Adds, Notes, notes_of, nothing}
 use Rattle.pz_term_enabled.proofs.Places.{noted_append, noted_under, noted_none, below_further, whats_further, below_append, whats_append}
+use Rattle.pz_term_enabled.proofs.Beginning.{begin_both, begin_under}
 
 -- lists that grew, with places and without
 
@@ -35,6 +36,7 @@ module _ (a : Context) where
     receives = sym (append-nil (map receiving_view o.receives.items));
     delays = sym (append-nil o.delays.items);
     troubles = sym (append-nil o.troubles.items);
+    times = tt;
   }
 
   pub adds_both : (place : Place) (ps qs : List ActivePart) (o m n : Found) → Adds a place ps o m → Adds a place qs m n → Adds a place (ps ++ qs) o n
@@ -54,6 +56,7 @@ module _ (a : Context) where
         (ap (λ (l : List (Noted ℕ)). whats l) (noted_append (waiting a) ps qs) ∙ whats_append (noted (waiting a) ps) (noted (waiting a) qs));
     troubles = grown o.troubles.items m.troubles.items n.troubles.items _ _ _ first.troubles second.troubles
         (ap (λ (l : List (Noted Trouble)). whats l) (noted_append (troubled_by a) ps qs) ∙ whats_append (noted (troubled_by a) ps) (noted (troubled_by a) qs));
+    times = begin_both a ps qs first.times second.times;
   }
 
   pub adds_under : (place inner : Place) (i : ℕ) (ps : List ActivePart) (o n : Found) → inner ≡ place ++ i ∷ [] → Adds a inner ps o n → Adds a place (map (under i) ps) o n
@@ -67,6 +70,7 @@ module _ (a : Context) where
     receives = adds.receives ∙ ap (λ (l : List (Noted walk.ActiveReceive)). map receiving_view o.receives.items ++ l) (seen receives);
     delays = adds.delays ∙ ap (λ (l : List ℕ). o.delays.items ++ l) (same (waiting a));
     troubles = adds.troubles ∙ ap (λ (l : List Trouble). o.troubles.items ++ l) (same (troubled_by a));
+    times = begin_under a i ps adds.times;
   }
     where
       seen : {X : Type 0} (h : ℕ → Term → Option X) → map (below inner) (noted h ps) ≡ map (below place) (noted h (map (under i) ps))
@@ -89,4 +93,5 @@ module _ (a : Context) where
     receives = adds.receives ∙ ap (λ (l : List (Noted walk.ActiveReceive)). map receiving_view o.receives.items ++ map (below place) l) (sym (noted_none receives f t ps (ap (λ (x : Notes). x.receives) none)));
     delays = adds.delays ∙ ap (λ (l : List (Noted ℕ)). o.delays.items ++ whats l) (sym (noted_none (waiting a) f t ps (ap (λ (x : Notes). x.left) none)));
     troubles = adds.troubles ∙ ap (λ (l : List (Noted Trouble)). o.troubles.items ++ whats l) (sym (noted_none (troubled_by a) f t ps (ap (λ (x : Notes). x.trouble) none)));
+    times = (λ unbegun. subst IsFew (sym (ap (λ (x : Notes). x.left) none)) tt, adds.times);
   }

@@ -1,5 +1,5 @@
 -- What is added for one part.
-use Rattle.std.proofs.Common.{◌≡◌, ℕ, zero, suc, List, [], ◌∷◌, ◌++◌, map, Option, Some, None, Vec, refl, sym, subst, ap, ◌∙◌, append-nil}
+use Rattle.std.proofs.Common.{◌≡◌, ℕ, zero, suc, List, [], ◌∷◌, ◌++◌, map, Bool, false, Option, Some, None, Vec, refl, sym, subst, ap, ◌∙◌, append-nil}
 use Rattle.std.specs.List.{cons_option}
 use Rattle.std.specs.declared.alloc.Global.{Global}
 use Rattle.pz_syntax.specs.declared.tokens.Pos.{Pos}
@@ -17,7 +17,7 @@ use Rattle.pz_term_enabled.specs.declared.found.Doing.{Doing}
 use Rattle.pz_term_enabled.specs.declared.found.ActiveSend.{ActiveSend}
 use Rattle.pz_term_enabled.specs.declared.found.ActiveReceive.{ActiveReceive}
 use Rattle.pz_term_enabled.specs.declared.found.Found.{Found}
-use Rattle.pz_term_enabled.specs.devices.Walked.{doing_view, receiving_view, CarryAll, whats}
+use Rattle.pz_term_enabled.specs.devices.Walked.{doing_view, receiving_view, CarryAll, whats, has_begun, IsFew}
 use Rattle.pz_term_enabled.specs.devices.Listings.{below, Adds, Notes, notes_of, nothing, only_does, only_waits, only_troubles, only_receives}
 
 -- what is noted at this place, if something is
@@ -53,8 +53,8 @@ pub record Grows (place : Place) (x : Notes) (o n : Found) : Type 0 where
   pub delays : n.delays.items ≡ o.delays.items ++ just x.left
   pub troubles : n.troubles.items ≡ o.troubles.items ++ just x.trouble
 
-pub adds_one : (a : Context) (place : Place) (f : ℕ) (t : Term) (x : Notes) (o n : Found) → notes_of a f t ≡ x → Grows place x o n → Adds a place (here f t ∷ []) o n
-adds_one a place f t x o n is grows = record {
+pub adds_one : (a : Context) (place : Place) (f : ℕ) (t : Term) (x : Notes) (o n : Found) → notes_of a f t ≡ x → Grows place x o n → (has_begun t ≡ false → IsFew x.left) → Adds a place (here f t ∷ []) o n
+adds_one a place f t x o n is grows few = record {
   internal = grows.internal ∙ ap (λ (l : List (Noted walk.Doing)). map doing_view o.internal.items ++ l) (ap (λ (y : Notes). one place y.does) (sym is) ∙ sym (one_is (does a) place f t));
   sends = record {
     more = grows.more;
@@ -64,6 +64,7 @@ adds_one a place f t x o n is grows = record {
   receives = grows.receives ∙ ap (λ (l : List (Noted walk.ActiveReceive)). map receiving_view o.receives.items ++ l) (ap (λ (y : Notes). one place y.receives) (sym is) ∙ sym (one_is (λ f. received_by) place f t));
   delays = grows.delays ∙ ap (λ (l : List ℕ). o.delays.items ++ l) (ap (λ (y : Notes). just y.left) (sym is) ∙ sym (just_is (waiting a) f t));
   troubles = grows.troubles ∙ ap (λ (l : List Trouble). o.troubles.items ++ l) (ap (λ (y : Notes). just y.trouble) (sym is) ∙ sym (just_is (troubled_by a) f t));
+  times = (λ unbegun. subst IsFew (ap (λ (y : Notes). y.left) (sym is)) (few unbegun), tt);
 }
 
 map-push : {X Y : Type 0} (f : X → Y) (xs : List X) (x : X) → map f (xs ++ x ∷ []) ≡ map f xs ++ f x ∷ []

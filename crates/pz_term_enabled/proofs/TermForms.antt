@@ -1,5 +1,5 @@
 -- What the walk adds for each form of the code's terms.
-use Rattle.std.proofs.Common.{◌≡◌, ℕ, List, ◌++◌, map, refl, sym, subst, ap, ◌∙◌, rules}
+use Rattle.std.proofs.Common.{◌≡◌, ℕ, List, [], ◌∷◌, ◌++◌, map, refl, sym, subst, ap, ◌∙◌, rules}
 use Rattle.pz_syntax.specs.declared.tokens.Pos.{Pos}
 use Rattle.pz_classes_code.specs.declared.code.Code.{Code}
 use Rattle.pz_classes_code.specs.declared.slot.Slot.{Slot}
@@ -14,7 +14,7 @@ use Rattle.pz_rules.specs.declared.term.Term.TheFolds.{the_lemmas}
 use Rattle.pz_rules.specs.Terms as terms
 use Rattle.pz_rules.specs.View.{term_view, terms_view}
 use Rattle.pz_rules.specs.Settings.{Context}
-use Rattle.pz_rules.specs.devices.Walk.{under, active_parts, active_children}
+use Rattle.pz_rules.specs.devices.Walk.{here, under, active_parts, active_children}
 use Rattle.pz_term_enabled.specs.declared.found.Found.{Found}
 use Rattle.pz_term_enabled.specs.devices.Listings.{Adds}
 use Rattle.pz_term_enabled.proofs.Notes.{adds_after}
@@ -42,6 +42,9 @@ shows_Idle t u again = search (rules, the_lemmas)
 
 shows_Handling : (t u : Term) (again : Step) → term_view (form.Handling t u again) ≡ terms.handling (term_view t) (term_view u) (step.view again)
 shows_Handling t u again = search (rules, the_lemmas)
+
+shows_Wait : (left : ℕ) (pos : Pos) → term_view (form.Wait left pos) ≡ terms.wait left pos
+shows_Wait left pos = search (rules, the_lemmas)
 
 module _ (a : Context) (f : ℕ) (place : Place) (o n : Found) where
   seen_as : (t : Term) (u : terms.Term) → term_view t ≡ u → Adds a place (active_parts a f u) o n → Adds a place (active_parts a f (term_view t)) o n
@@ -94,3 +97,6 @@ module _ (a : Context) (f : ℕ) (place : Place) (o n : Found) where
   handling_added t first second got again is same adds =
       seen_as t (terms.handling (term_view first) (term_view got) (step.view again)) (ap term_view (is ∙ ap (λ (z : Term). form.Handling first z again) (sym same)) ∙ shows_Handling first got again)
       (adds_after a place f (terms.handling (term_view first) (term_view got) (step.view again)) (map (under 1) (active_parts a f (term_view got))) o n refl adds)
+
+  pub wait_added : (t : Term) (left : ℕ) (pos : Pos) → t ≡ form.Wait left pos → Adds a place (here f (terms.wait left pos) ∷ []) o n → Adds a place (active_parts a f (term_view t)) o n
+  wait_added t left pos is adds = seen_as t (terms.wait left pos) (ap term_view is ∙ shows_Wait left pos) adds

@@ -78,4 +78,5 @@ walked a t o n internal sends receives delays troubles adds = record {
   receives = adds.receives ∙ ap (λ (l : List _). map receiving_view l ++ map (below []) (active_receives a t)) receives ∙ below_root (active_receives a t);
   delays = adds.delays ∙ ap (λ (l : List ℕ). l ++ whats (active_delays a t)) delays;
   troubles = adds.troubles ∙ ap (λ (l : List Trouble). l ++ whats (active_troubles a t)) troubles;
+  times = adds.times;
 }

@@ -1,10 +1,12 @@
 -- What is surveyed of no process, and of all.
 use Rattle.std.proofs.Common.{◌≡◌, ◌<◌, ℕ, Bool, true, false, List, [], length, Option, Some, None, get_or, sym, subst, arith}
 use Rattle.std.proofs.lemmas.Option.{slice_get-get_or}
+use Rattle.pz_syntax.specs.Statements.{delay}
 use Rattle.pz_offer.specs.declared.trouble.Trouble.{Trouble}
 use Rattle.pz_offer.specs.PlaceOrder.{EndBefore}
 use Rattle.pz_rules.specs.declared.action.Action.{Action}
 use Rattle.pz_rules.specs.declared.action.Action.TheVariants.{Internal, Comm}
+use Rattle.pz_rules.specs.Terms.{leaf}
 use Rattle.pz_rules.specs.Settings.{Setting}
 use Rattle.pz_rules.specs.Configurations.{Config}
 use Rattle.pz_rules.specs.Offers as offers
@@ -31,6 +33,7 @@ module _ (setting : Setting) (c : Config) where
     least = subst (λ (o : Option ℕ). IsLeastOf (IsLeftBelow setting c 0) o) (sym least) (λ n x. let below = x.below in absurd (omega (arith, below)));
     trouble = subst (λ (o : Option Trouble). IsAskedBelow setting c 0 o) (sym trouble) (λ at t troubles below. absurd (omega (arith, below)));
     done = subst (λ (b : Bool). TellsDoneBelow setting c 0 b) (sym done) (λ k p below here. absurd (omega (arith, below)));
+    times = λ at a f pos time left x lasts below. absurd (omega (arith, below));
   }
 
   abbrev all : ℕ
@@ -80,6 +83,7 @@ module _ (setting : Setting) (c : Config) where
     least = least_all s.least h.least;
     trouble = trouble_all s.trouble h.trouble;
     done = done_all s.done h.done;
+    times = λ at a f pos time left x lasts. h.times at a f pos time left x lasts (part_within setting c at a f (leaf (delay pos time)) x);
   }
 
   -- so many processes, and no more

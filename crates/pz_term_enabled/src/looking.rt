@@ -1,10 +1,11 @@
-ghost use Rattle.std.specs.Prelude.{◌≡◌, IfOk};
+ghost use Rattle.std.specs.Prelude.{◌≡◌, IfOk, OnOk};
 ghost use Rattle.pz_classes.specs.CheckedView.{checked_model};
 ghost use Rattle.pz_bind.specs.devices.Nets.{IsNet};
 ghost use Rattle.pz_rules.specs.Settings.{Setting};
 ghost use Rattle.pz_rules.specs.Configurations.{Config};
 ghost use Rattle.pz_rules.specs.Heights.{IsLow};
 ghost use Rattle.pz_rules.specs.Moments.{IsMoment};
+ghost use Rattle.pz_rules_delays.specs.Short.{TimesAreShort};
 ghost use Rattle.pz_term_processes.specs.Standing.{setting_of, config_of, AreProcesses};
 ghost use Rattle.pz_term_enabled.specs.Surveyed.{IsSurveyed};
 ghost use Rattle.pz_term_enabled.specs.Looking.{AreActionsAt};
@@ -115,6 +116,8 @@ pub fn look(
     ensures actions { IfOk result (λ outlook. AreActionsAt
         (setting_of (checked_model checked.now) limits)
         (config_of clock processes.old) outlook.moment outlook.actions.items) }
+    ensures times { OnOk result (TimesAreShort (setting_of (checked_model checked.now) limits)
+        (config_of clock processes.old)) }
     ensures unchanged { processes.new ≡ processes.old }
 {
     let mut found = survey(alloc, checked, net, limits, clock, processes)?;

@@ -1,6 +1,6 @@
 // What one active part adds. The state stays as it is, always, and the only error is want of memory.
 
-ghost use Rattle.std.specs.Prelude.{◌≡◌, [], ◌∷◌, ℕ, length, OnOk};
+ghost use Rattle.std.specs.Prelude.{◌≡◌, ◌<◌, ◌^◌, false, [], ◌∷◌, ℕ, length, OnOk};
 ghost use Rattle.pz_syntax.specs.Classes.{ModelTree};
 ghost use Rattle.pz_syntax.specs.Expressions.{Part};
 ghost use Rattle.pz_syntax.specs.Statements as statements;
@@ -14,6 +14,7 @@ ghost use Rattle.pz_rules.specs.Messages.{variables_of};
 ghost use Rattle.pz_rules.specs.devices.Walk.{here as part_here};
 ghost use Rattle.pz_eval.specs.Known.{AreKnown};
 ghost use Rattle.pz_part_queries.specs.Standpoints.{Knows, seen_from};
+ghost use Rattle.pz_term_enabled.specs.devices.Walked.{has_begun};
 ghost use Rattle.pz_term_enabled.specs.devices.Listings.{Adds, notes_of, nothing, only_does, only_waits, only_troubles, only_receives};
 
 use crate::found::{ActiveReceive, ActiveSend, Doing, Found};
@@ -68,6 +69,7 @@ pub(crate) fn note_left(
     pos: Pos,
 ) -> Result<(), AllocError>
     ensures { (a : Context) (f : ℕ) (t : terms.Term) → notes_of a f t ≡ only_waits left pos →
+        (has_begun t ≡ false → left < 2 ^ 64) →
         OnOk result (Adds a place.now (part_here f t ∷ []) found.old found.new) }
 {
     if left == 0 {

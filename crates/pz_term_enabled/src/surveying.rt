@@ -40,6 +40,7 @@ fn survey_process(
     ensures unchanged { process.new ≡ process.old }
 {
     pz_rules::laws::walks_list_what_is_active();
+    pz_rules::laws::evaluations_are_computed();
     pz_rules::laws::wires_are_known();
     pz_rules::laws::active_parts_fit();
     let found = walk(alloc, here, &mut process.state, &process.term)?;

@@ -42,15 +42,15 @@ use Rattle.pz_tree_frames.specs.Frames.{open_as, FramesStand}
 use Rattle.pz_tree_nodes.specs.declared.node.What.{What}
 use Rattle.pz_tree_nodes.specs.View.{Plant, term_in_option}
 use Rattle.pz_tree_regrowing.specs.Regrowing.{StandsOption}
-use Rattle.pz_tree_refreshing.specs.Refreshing.{IsShort}
+use Rattle.pz_rules_delays.specs.Short.{IsShort}
 use Rattle.pz_tree_acting.specs.declared.how.How.{How}
-use Rattle.pz_tree_acting.specs.declared.how.How.TheVariants.{Internal, Send, Receive}
 use Rattle.pz_tree_acting.specs.Deeds.{able, deed, CanDo, Leaves}
+use Rattle.pz_tree_acting.proofs.Calm.{deed_short}
 use Rattle.pz_tree_acting.specs.Acting.{Rooted, MayBeDone, ActedOr, ActRule, Answers, TrialRule}
 use Rattle.pz_tree.specs.declared.tree.Tree.{Tree}
 use Rattle.pz_tree.specs.Trees.{plant_in, term_in, process_in, at_in, IsThere, IsFresh}
 use Rattle.pz_tree.proofs.Reading.{Under, its_term, there_by}
-use Rattle.pz_tree.proofs.Left.{OnShort, performed_short, handed_short, taken_short, IsLeft, is_left}
+use Rattle.pz_tree.proofs.Left.{IsLeft, is_left}
 
 -- ---------------------------------------------------------- its class
 
@@ -79,7 +79,7 @@ of_process_class m t law fresh =
 -- ---------------------------------------------------------- what stands in it
 
 pub rooted : (m : ModelTree) (t : Tree) → IsThere m t → Rooted (find t.nodes) t.root t.clock (plant_in t)
-rooted m t there = record { under = there.under; stands = there.stands; tended = there.tended }
+rooted m t there = record { under = there.under; stands = there.stands; tended = there.tended; short = there.short; room = there.room }
 
 stood : (m n : Map What) (p q : Option Plant) → BecomesOption m n (has_option p) q → StandsOption n q
 stood m n p None b = tt
@@ -87,13 +87,8 @@ stood m n p (Some q) b = b.stands
 
 -- ---------------------------------------------------------- what is left
 
-short_deed : (how : How) (parcel : ParcelView) (a : Context) (f : ℕ) (part : Term) (pos : Pos) (r : Result Process Trouble) → deed how parcel a f part pos r → OnShort r
-short_deed Internal parcel a f part pos r acts = performed_short a f part pos r acts
-short_deed Send parcel a f part pos r acts = handed_short a f parcel part pos r acts
-short_deed (Receive taken) parcel a f part pos r acts = taken_short a f taken.now part pos r acts
-
 left_so : (how : How) (parcel : ParcelView) (a : Context) (t : Term) (place : Place) (p : Process) → IsShort t → Leaves a (deed how parcel) t place (Ok p) → IsLeft a.setting.limits.height p
-left_so how parcel a t place p short l = is_left a l.pos t place l.left p short (short_deed how parcel a l.frame l.part l.pos l.left l.acts) l.leaves
+left_so how parcel a t place p short l = is_left a l.pos t place l.left p short (deed_short a how parcel l.frame l.part l.pos l.left l.acts) l.leaves
 
 -- by the context in which the part acts
 abbrev pub ActFor : Context → How → Map What → Map What → Option ℕ → Place → Result (Option ℕ) Trouble → Seen → Seen → Type 0

@@ -8,14 +8,16 @@ use Rattle.pz_nodes_shapes.specs.Rose.{root}
 use Rattle.pz_rules.specs.Settings.{left_by}
 use Rattle.pz_rules.specs.Terms.{Term, height}
 use Rattle.pz_state.specs.Marks.{Seen}
+use Rattle.pz_tree_summary.specs.Summaries.{summary_of}
 use Rattle.pz_tree_nodes.specs.declared.node.What.{What}
 use Rattle.pz_tree_nodes.specs.View.{Plant, term_in_option}
 use Rattle.pz_tree_nodes.specs.Tended.{TendedOption}
 use Rattle.pz_tree_planting.specs.Planting.{root_of}
 use Rattle.pz_tree_regrowing.specs.Regrowing.{StandsOption}
-use Rattle.pz_tree_refreshing.specs.Refreshing.{IsShort, RefreshRule, IsRefreshed}
+use Rattle.pz_rules_delays.specs.Short.{IsShort}
+use Rattle.pz_tree_refreshing.specs.Refreshing.{IsSoon, RefreshRule, IsRefreshed}
 use Rattle.pz_tree.specs.declared.tree.Tree.{Tree}
-use Rattle.pz_tree.specs.Trees.{plant_in, term_in, process_in, at_in, IsThere, FreshOption, IsFresh, live_of, live_in}
+use Rattle.pz_tree.specs.Trees.{plant_in, term_in, process_in, at_in, IsThere, FreshOption, TimelyOption, IsFresh, live_of, live_in}
 use Rattle.pz_tree.proofs.Reading.{Under, is_read, its_term, there_by, fresh_by}
 
 pub on_ok : {E A B : Type 0} (r : Result (Unit {0}) E) → (A → B) → OnOk r A → OnOk r B
@@ -47,7 +49,7 @@ module _ (m : ModelTree) (t : Tree) (there : IsThere m t) (old new : ℕ) where
         let now : IsThere m u = there_by m u (Some r.plant) under (record { place = there.of_model.place; is_process = there.of_model.is_process; class = there.of_model.class }) r.tended
         (subst IsShort same there.short) there.room (subst (λ (x : Term). height x ≤ t.limits.height) same there.low) in
         record {
-          fresh = fresh_by m u (Some r.plant) under r.fresh now;
+          fresh = fresh_by m u (Some r.plant) under r.fresh r.timely r.soon now;
           process = ap (left_by t.state.held) (its_term u (Some r.plant) under ∙ sym same);
           ticks =
               let nodes : live_in u ≡ live_of (Some r.plant) = ap live_of (is_read u (Some r.plant) under) in
@@ -89,5 +91,10 @@ nothing_asked m t old there at = record {
     some_none p e = cc
 
     by : (p : Option Plant) → plant_in t ≡ p → IsFresh m t
-    by None is = record { there = there; fresh = subst (FreshOption (at_in m t) 0 t.clock) (sym is) tt }
+    by None is = record {
+      there = there;
+      fresh = subst (FreshOption (at_in m t) 0 t.clock) (sym is) tt;
+      timely = subst (TimelyOption t.clock) (sym is) tt;
+      soon = subst (λ (q : Option Plant). IsSoon t.clock (summary_of (at_in m t) t.clock 0 (term_in_option t.clock q)).due) (sym is) tt;
+    }
     by (Some p) is = absurd (some_none p (ap root_of (sym is) ∙ there.under ∙ at))

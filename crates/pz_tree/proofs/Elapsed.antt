@@ -18,10 +18,11 @@ use Rattle.pz_tree_nodes.specs.View.{Plant, term_in_option}
 use Rattle.pz_tree_nodes.specs.Tended.{TendedOption}
 use Rattle.pz_tree_planting.specs.Planting.{root_of}
 use Rattle.pz_tree_regrowing.specs.Regrowing.{StandsOption}
-use Rattle.pz_tree_refreshing.specs.Refreshing.{IsShort, HasRoom}
+use Rattle.pz_rules_delays.specs.Short.{IsShort}
+use Rattle.pz_tree_refreshing.specs.Refreshing.{HasRoom}
 use Rattle.pz_tree_elapsing.specs.Elapsing.{IsNotBefore, HasElapsed, ElapseRule}
 use Rattle.pz_tree.specs.declared.tree.Tree.{Tree}
-use Rattle.pz_tree.specs.Trees.{plant_in, term_in, at_in, woken_of, woken_in, IsThere, FreshOption, IsFresh}
+use Rattle.pz_tree.specs.Trees.{plant_in, term_in, at_in, woken_of, woken_in, IsThere, FreshOption, TimelyOption, IsFresh}
 use Rattle.pz_tree.specs.devices.Kept.{kept_of}
 use Rattle.pz_tree.proofs.Asked.{kept_summary}
 use Rattle.pz_tree.proofs.Reading.{Under, is_read, its_term, there_by, fresh_by}
@@ -73,7 +74,7 @@ module _ (m : ModelTree) (t : Tree) (fresh : IsFresh m t) (d : ℕ) (room : HasR
                 subst (λ (x : Term). Passes (at_in m t) d 0 (term_in t) x) (sym (its_term u (Some r.plant) under))
                 (subst (λ (x : Term). Passes (at_in m t) d 0 x (term_in_option now (Some r.plant))) (sym was)
                 (r.passes (subst (λ (x : Term). IsUntroubled (at_in m t) 0 x) was (untroubled listed (at_in m t) t.clock (term_in t) calm))));
-            fresh = fresh_by m u (Some r.plant) under r.fresh there;
+            fresh = fresh_by m u (Some r.plant) under r.fresh r.timely r.soon there;
             ticks =
                 let nodes : woken_in t u ≡ woken_of now (Some p) (Some r.plant) = (λ i. woken_of now (is i) (is_read u (Some r.plant) under i)) in
                 let steps = r.ticks in
@@ -98,6 +99,7 @@ module _ (m : ModelTree) (t : Tree) (fresh : IsFresh m t) (d : ℕ) (room : HasR
             fresh = subst (FreshOption (at_in m t) 0 t.clock) is fresh.fresh;
             untroubled = ap (λ s. s.trouble) kept ∙ calm;
             within = not_before (kept_of (Some p)).summary.due (summary_of (at_in m t) t.clock 0 (term_in t)).due (ap (λ s. s.due) kept) due;
+            timely = subst (TimelyOption t.clock) is fresh.timely;
             short = subst (λ (q : Option Plant). IsShort (term_in_option t.clock q)) is fresh.there.short;
           })
           room)
@@ -130,7 +132,7 @@ module _ (m : ModelTree) (t : Tree) (fresh : IsFresh m t) (d : ℕ) (room : HasR
             passes =
                 subst (λ (x : Term). Passes (at_in m t) d 0 (term_in t) x) (sym (its_term v None under))
                 (subst (λ (x : Term). Passes (at_in m t) d 0 x done) (sym was) (is_done 0));
-            fresh = fresh_by m v None under tt there;
+            fresh = fresh_by m v None under tt tt tt there;
             ticks = omega arith;
           }
       by (Some p) is = absurd (some_none p (ap root_of (sym is) ∙ fresh.there.under ∙ at))

@@ -1,8 +1,7 @@
+mod Asked
 mod Reading
-mod Short
 mod Changed
 mod Wired
-mod Asked
 mod Heights
 mod Unasked
 mod Started

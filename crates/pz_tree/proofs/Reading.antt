@@ -7,15 +7,20 @@ use Rattle.pz_nodes_shapes.specs.declared.node.Node.{Node}
 use Rattle.pz_nodes_shapes.specs.Reading.{read}
 use Rattle.pz_nodes_shapes.proofs.Readings.{reads, depth_le}
 use Rattle.pz_nodes_shapes.proofs.Sizes.{size_le_live}
+use Rattle.pz_offer.specs.declared.summary.Summary.{Summary}
 use Rattle.pz_rules.specs.Terms.{height}
+use Rattle.pz_tree_summary.specs.Summaries.{summary_of}
 use Rattle.pz_tree_nodes.specs.declared.node.What.{What}
 use Rattle.pz_tree_nodes.specs.View.{Plant, term_in_option}
 use Rattle.pz_tree_nodes.specs.Tended.{TendedOption}
 use Rattle.pz_tree_planting.specs.Planting.{root_of}
 use Rattle.pz_tree_regrowing.specs.Regrowing.{StandsOption}
-use Rattle.pz_tree_refreshing.specs.Refreshing.{IsShort, HasRoom}
+use Rattle.pz_rules_delays.specs.Short.{IsShort}
+use Rattle.pz_tree_refreshing.specs.Refreshing.{HasRoom, IsSoon}
 use Rattle.pz_tree.specs.declared.tree.Tree.{Tree}
-use Rattle.pz_tree.specs.Trees.{plant_in, term_in, at_in, IsOf, IsThere, FreshOption, IsFresh}
+use Rattle.pz_tree.specs.Trees.{plant_in, term_in, at_in, IsOf, IsThere, FreshOption, TimelyOption, IsFresh}
+use Rattle.pz_tree.specs.devices.Kept.{kept_of}
+use Rattle.pz_tree.proofs.Asked.{kept_summary}
 
 plant_is : (a : Arena (Node What)) (key : Option ℕ) (p : Option Plant) → root_of p ≡ key → StandsOption (find a) p → option_and_then (read (live a) (find a)) key ≡ p
 plant_is a key None under stands = subst (λ (k : Option ℕ). option_and_then (read (live a) (find a)) k ≡ None) under refl
@@ -49,8 +54,13 @@ there_by m t p u of_model tended short room low =
       low = subst (λ (q : Option Plant). height (term_in_option t.clock q) ≤ t.limits.height) back low;
     }
 
-pub fresh_by : (m : ModelTree) (t : Tree) (p : Option Plant) → Under t p → FreshOption (at_in m t) 0 t.clock p → IsThere m t → IsFresh m t
-fresh_by m t p u fresh there = record {
-  there = there;
-  fresh = subst (λ (q : Option Plant). FreshOption (at_in m t) 0 t.clock q) (sym (is_read t p u)) fresh;
-}
+pub fresh_by : (m : ModelTree) (t : Tree) (p : Option Plant) → Under t p → FreshOption (at_in m t) 0 t.clock p → TimelyOption t.clock p → IsSoon t.clock (kept_of p).summary.due → IsThere m t → IsFresh m t
+fresh_by m t p u fresh timely soon there =
+    let back = sym (is_read t p u) in
+    record {
+      there = there;
+      fresh = subst (λ (q : Option Plant). FreshOption (at_in m t) 0 t.clock q) back fresh;
+      timely = subst (λ (q : Option Plant). TimelyOption t.clock q) back timely;
+      soon = subst (λ (q : Option Plant). IsSoon t.clock (summary_of (at_in m t) t.clock 0 (term_in_option t.clock q)).due) back
+          (subst (λ (s : Summary). IsSoon t.clock s.due) (kept_summary (at_in m t) t.clock p fresh) soon);
+    }

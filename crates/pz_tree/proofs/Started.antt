@@ -21,7 +21,8 @@ use Rattle.pz_tree_nodes.specs.declared.node.What.{What}
 use Rattle.pz_tree_nodes.specs.View.{Plant}
 use Rattle.pz_tree_planting.specs.Planting.{Planted}
 use Rattle.pz_tree_regrowing.specs.Regrowing.{StandsOption}
-use Rattle.pz_tree_refreshing.specs.Refreshing.{IsShort, HasRoom}
+use Rattle.pz_rules_delays.specs.Short.{IsShort}
+use Rattle.pz_tree_refreshing.specs.Refreshing.{HasRoom}
 use Rattle.pz_tree.specs.declared.tree.Tree.{Tree}
 use Rattle.pz_tree.specs.Trees.{term_in, IsOf, IsThere, IsFresh}
 use Rattle.pz_tree.proofs.Reading.{Under, its_term, there_by}

@@ -8,13 +8,15 @@ use Rattle.pz_nodes.specs.Arena.{find, live}
 use Rattle.pz_nodes_shapes.specs.Reading.{read}
 use Rattle.pz_rules.specs.Terms.{Term, height}
 use Rattle.pz_rules.specs.Settings.{Context, Process, left_by}
+use Rattle.pz_tree_summary.specs.Summaries.{summary_of}
 use Rattle.pz_tree_nodes.specs.View.{Plant, term_in_option}
 use Rattle.pz_tree_nodes.specs.Tended.{TendedOption}
 use Rattle.pz_tree_nodes.specs.Fresh.{Fresh}
 use Rattle.pz_tree_planting.specs.Planting.{root_of}
 use Rattle.pz_tree_regrowing.specs.Regrowing.{StandsOption}
 use Rattle.pz_tree_refreshing.specs.Live.{live_nodes}
-use Rattle.pz_tree_refreshing.specs.Refreshing.{IsShort, HasRoom}
+use Rattle.pz_rules_delays.specs.Short.{IsShort}
+use Rattle.pz_tree_refreshing.specs.Refreshing.{HasRoom, IsSoon, Timely}
 use Rattle.pz_tree_elapsing.specs.Waking.{woken_nodes}
 use Rattle.pz_tree.specs.declared.tree.Tree.{Tree}
 
@@ -56,10 +58,17 @@ abbrev pub FreshOption : Context → ℕ → ℕ → Option Plant → Type 0
 FreshOption a f c None = Unit {0}
 FreshOption a f c (Some p) = Fresh a f c p
 
--- and each of its active nodes keeps the right summary: what there is to ask was asked since it acted
+abbrev pub TimelyOption : ℕ → Option Plant → Type 0
+TimelyOption c None = Unit {0}
+TimelyOption c (Some p) = Timely c p
+
+-- And each of its active nodes keeps the right summary: what there is to ask was asked since it acted. What they keep is
+-- due soon, and so the first active delay that is over is so in less than 2^64 clock units.
 pub record IsFresh (m : ModelTree) (t : Tree) : Type 0 where
   pub there : IsThere m t
   pub fresh : FreshOption (at_in m t) 0 t.clock (plant_in t)
+  pub timely : TimelyOption t.clock (plant_in t)
+  pub soon : IsSoon t.clock (summary_of (at_in m t) t.clock 0 (term_in t)).due
 
 -- how many of its nodes are live
 abbrev pub live_of : Option Plant → ℕ

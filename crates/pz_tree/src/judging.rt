@@ -23,6 +23,7 @@ use pz_rules::Term;
 use pz_state::FrameId;
 use pz_tree_nodes::{Head, Node};
 use pz_tree_seeking::{Spot, part_at};
+use pz_value::Value;
 use std::alloc::AllocError;
 use std::marker::Brand;
 use std::sync::ledger::{Blank, Ledger};
@@ -117,13 +118,15 @@ impl Tree {
         Ok(verdict_of(said))
     }
 
-    /// What a variable of the process holds, with all objects to which it leads. The only error is want of
-    /// memory.
+    /// What a variable of the process holds, with all objects to which it leads; nil where it has no such
+    /// variable. The only error is want of memory.
     pub fn shown(&self, variable: u32) -> Result<Parcel, AllocError>
-        requires { states.HasVariable (process_in self.now).state variable }
         ensures parcel { IfOk result (λ parcel. IsParcelOf (process_in self.now).state
             (states.variable (process_in self.now).state variable ∷ []) parcel) }
     {
+        if variable as usize >= self.state.variables() {
+            return pack(self.alloc, &self.state, &[Value::Nil]);
+        }
         let value = self.state.var(variable).copy()?;
         pack(self.alloc, &self.state, &[value])
     }

@@ -26,7 +26,7 @@ use Rattle.pz_tree_frames.specs.Frames.{open_as, HaveOpened, PartsOpen, Performe
 use Rattle.pz_tree_standing.specs.FrameCounts.{times}
 use Rattle.pz_tree_nodes.specs.declared.node.What.{What}
 use Rattle.pz_tree_nodes.specs.View.{Plant, what_view, term_in_option}
-use Rattle.pz_tree_planting.specs.Planting.{EndsInTime}
+use Rattle.pz_rules_delays.specs.Short.{IsShort}
 use Rattle.pz_tree_seeking.specs.Seeking.{SeekRule, ActiveAtPlace, TendedStand}
 use Rattle.pz_tree_acting.specs.declared.how.How.{How}
 use Rattle.pz_tree_acting.specs.declared.how.How.TheVariants.{Internal, Send, Receive}
@@ -36,7 +36,7 @@ use Rattle.pz_tree_acting.specs.Acting.{Rooted}
 use Rattle.pz_tree_acting.specs.devices.Begun.{ActsSo, IsHanded, DeedRule, IsBegun, Opens}
 use Rattle.pz_tree_acting.specs.devices.Parts.{IsSimple, PartRule}
 use Rattle.pz_tree_acting.proofs.Found.{simple_from, able_place, found_at, rooted_stands}
-use Rattle.pz_tree_acting.proofs.Calm.{deed_ends, answer_ends, part_ends}
+use Rattle.pz_tree_acting.proofs.Calm.{deed_short, answer_short, part_short}
 
 -- ------------------------------------------------------------ the part
 
@@ -78,11 +78,11 @@ deed_opens performed handed taken (Receive parcel2) parcel a f t pos x acts = ta
 
 module _ (here : Standpoint) (home : Home) (how : How) (parcel : ParcelView) (s1 s2 : StateView) (f : ℕ) (y : Term) (left : Result code.Term Trouble)
     (rule : DeedRule here home how s1 f y (process_left s2 left)) (pos : Pos) (can : able how parcel (seen_home here home s1) f y pos) where
-  pub deed_calm : (c : ℕ) → IfOk left (λ t. EndsInTime c (term_view t))
-  deed_calm c =
+  pub part_left_short : IfOk left (λ t. IsShort (term_view t))
+  part_left_short =
       let a = seen_home here home s1 in
       let done = rule parcel pos can in
-      part_ends c s2 left (answer_ends c a pos done.0 (process_left s2 left) done.2 (deed_ends c a how parcel f y pos done.0 done.1))
+      part_short s2 left (answer_short a pos done.0 (process_left s2 left) done.2 (deed_short a how parcel f y pos done.0 done.1))
 
   pub deed_opened : PerformedOpens → HandedOpens → TakenOpens → (part : code.Term) → left ≡ Ok part → (n : ℕ) → HaveOpened home.edition (times n (term_view part)) (open_as n s1) (open_as n s2)
   deed_opened performed handed taken part is =
@@ -92,9 +92,9 @@ module _ (here : Standpoint) (home : Home) (how : How) (parcel : ParcelView) (s1
       let became : done.0 ≡ Ok q = becomes_ok a pos done.0 (process_left s2 left) q done.2 (ap (process_left s2) is) in
       deed_opens performed handed taken how parcel a f y pos q (subst (λ r. deed how parcel a f y pos r) became done.1)
 
-pub begun_calm : (c : ℕ) (left : Result code.Term Trouble) (r : Result Begun Trouble) → IfOk r (λ b. left ≡ Ok b.part) → IfOk left (λ t. EndsInTime c (term_view t)) → IfOk r (λ b. EndsInTime c (term_view b.part))
-begun_calm c left (Ok b) is h = subst (λ l. IfOk l (λ t. EndsInTime c (term_view t))) is h
-begun_calm c left (Err t) is h = tt
+pub begun_short : (left : Result code.Term Trouble) (r : Result Begun Trouble) → IfOk r (λ b. left ≡ Ok b.part) → IfOk left (λ t. IsShort (term_view t)) → IfOk r (λ b. IsShort (term_view b.part))
+begun_short left (Ok b) is h = subst (λ l. IfOk l (λ t. IsShort (term_view t))) is h
+begun_short left (Err t) is h = tt
 
 pub begun_opens : (e : Rattle.pz_rules.specs.declared.limits.Edition.Edition) (s0 s1 s2 s3 : Seen) (point : ℕ) (left : Result code.Term Trouble) (r : Result Begun Trouble)
     → s1 ≡ marked s0 point → IfOk r (λ b. left ≡ Ok b.part) → MatchResult r (λ b. (s3 ≡ s2) × (b.point ≡ point)) (λ t. s3 ≡ undone s2)

@@ -34,6 +34,7 @@ use Rattle.pz_tree_standing.specs.Laws.{FramesStandOrAreLost}
 use Rattle.pz_tree_frames.specs.Frames.{open_as, FramesStand, HaveOpened, AroundOpens}
 use Rattle.pz_tree_seeking.specs.Seeking.{ActiveAtPlace}
 use Rattle.pz_term_around.specs.Laws.{ActivePartsMayAct}
+use Rattle.pz_rules_delays.specs.Short.{IsShort}
 use Rattle.pz_tree_regrowing.specs.Regrowing.{at_work, StandsOption, RegrowRule}
 use Rattle.pz_tree_heights.specs.Heights.{LowRule}
 use Rattle.pz_tree_acting.specs.declared.how.How.{How}
@@ -89,7 +90,7 @@ pub stays : FramesStandOrAreLost → AroundOpens → (h : Home) (m n : Map What)
     → none ≡ [] → RegrowRule h root 0 c place x out (at_work m s0 none old) (at_work n s1 found new)
     → CloseRule h.edition n out found s1 s2 → s3 ≡ kept s2 → StayRule h m n root c place x out s0 s3
 stays counted around h m n root c place x out s0 s1 s2 s3 none found old new is_none regrows closes is_kept p rooted ready =
-    let g = regrows p rooted.under rooted.stands rooted.tended ready.may_act in
+    let g = regrows p rooted.under rooted.stands rooted.tended ready.may_act (record { room = rooted.room; short = rooted.short; part = ready.short }) in
     let t = term_in_option c p in
     let u = term_in_option c g.plant in
     let q = left_by s0.held x in
@@ -117,10 +118,10 @@ stays counted around h m n root c place x out s0 s1 s2 s3 none found old new is_
     stood (Some q) b = b.stands
 
 pub still_latest : (h : Home) (m n : Map What) (root : Option ℕ) (c : ℕ) (place : Place) (x : Term) (out : Option ℕ) (s0 s1 s2 : Seen) (none found : List ℕ) (old new point : ℕ)
-    → RegrowRule h root 0 c place x out (at_work m s0 none old) (at_work n s1 found new) → MayGoOn m root c place → s2.marks ≡ s1.marks → IsLatest s0 point → IsLatest s2 point
-still_latest h m n root c place x out s0 s1 s2 none found old new point regrows stands same latest =
+    → RegrowRule h root 0 c place x out (at_work m s0 none old) (at_work n s1 found new) → MayGoOn m root c place → IsShort x → s2.marks ≡ s1.marks → IsLatest s0 point → IsLatest s2 point
+still_latest h m n root c place x out s0 s1 s2 none found old new point regrows stands short same latest =
     let rooted = stands.1 in
-    let g = regrows stands.0 rooted.under rooted.stands rooted.tended stands.2 in
+    let g = regrows stands.0 rooted.under rooted.stands rooted.tended stands.2 (record { room = rooted.room; short = rooted.short; part = short }) in
     ap point_of_first (same ∙ ap (λ (s : Seen). s.marks) g.means.state) ∙ latest
 
 -- ------------------------------------------------------------ of what has begun
@@ -159,16 +160,17 @@ module _ (here : Standpoint) (home : opening.Home) (how : How) (m : Map What) (r
   tries_well begun is p parcel rooted there = (swept (residual (home_view home) 0 (term_in_option here.clock p) place (left_by mid.held (term_view begun.part))), so_far begun is p parcel rooted there)
 
   pub acts_well : ActivePartsMayAct → ActiveAtPlace → (begun : Begun) (n : Map What) (new : Seen) (out : Option ℕ) → r ≡ Ok begun → older mid.marks ≡ old.marks
-      → Opens home.edition old.held mid.held (Ok begun)
+      → Opens home.edition old.held mid.held (Ok begun) → IsShort (term_view begun.part)
       → StayRule (home_view home) m n root here.clock place (term_view begun.part) out mid new
       → ActRule here home how m n root place (Ok out) old new
-  acts_well law places begun n new out is marks opens stays_rule p parcel rooted there stand =
+  acts_well law places begun n new out is marks opens short stays_rule p parcel rooted there stand =
       let a = seen_home here home old.held in
       let t = term_in_option here.clock p in
       let at = places a 0 t place there.frame there.part there.active in
       let s = stays_rule p rooted (record {
         may_act = law a t place there.frame there.part there.active;
         opened = λ k. subst (λ z. HaveOpened home.edition (times k (term_view begun.part)) z (open_as k mid.held)) (sym (stand k)) (opens k);
+        short = short;
         alone = λ k. alone k (part_of t place) (subst IsSimple at.0 (simple_from there.it_holds.0 there.part (able_place how parcel a there.frame there.part there.it_holds.0 there.it_holds.1)));
       }) in
       record {
@@ -197,5 +199,5 @@ module _ (here : Standpoint) (home : opening.Home) (how : How) (m : Map What) (r
 pub begun_has_opened : (e : Edition) (old new : StateView) (r : Result Begun Trouble) (begun : Begun) → r ≡ Ok begun → Opens e old new r → Opens e old new (Ok begun)
 begun_has_opened e old new r begun is opens = subst (Opens e old new) is opens
 
-pub begun_ends : (c : ℕ) (r : Result Begun Trouble) (begun : Begun) → r ≡ Ok begun → IfOk r (λ b. Rattle.pz_tree_planting.specs.Planting.EndsInTime c (term_view b.part)) → Rattle.pz_tree_planting.specs.Planting.EndsInTime c (term_view begun.part)
-begun_ends c r begun is ends = subst (λ x. IfOk x (λ b. Rattle.pz_tree_planting.specs.Planting.EndsInTime c (term_view b.part))) is ends
+pub begun_is_short : (r : Result Begun Trouble) (begun : Begun) → r ≡ Ok begun → IfOk r (λ b. IsShort (term_view b.part)) → IsShort (term_view begun.part)
+begun_is_short r begun is short = subst (λ x. IfOk x (λ b. IsShort (term_view b.part))) is short

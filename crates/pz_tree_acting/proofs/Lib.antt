@@ -2,7 +2,7 @@ mod StatementPlaces
 mod Statements
 mod Merely
 mod Higher
-mod Calm
+pub mod Calm
 mod Found
 mod Frames
 mod Listed

@@ -15,7 +15,8 @@ use Rattle.pz_rules.specs.declared.limits.Edition.TheVariants.{One, Two}
 use Rattle.pz_state.specs.Marks.{Seen, IsLatest, point_of_first}
 use Rattle.pz_state.specs.States.{StateView}
 use Rattle.pz_tree_frames.specs.Frames.{open_as, HaveOpened}
-use Rattle.pz_tree_planting.specs.Planting.{EndsInTime, EndInTime}
+use Rattle.pz_rules_delays.specs.Short.{IsShort, AreShort}
+use Rattle.pz_tree_refreshing.specs.Refreshing.{HasRoom}
 use Rattle.pz_tree_standing.specs.FrameCounts.{times}
 use Rattle.pz_tree_acting.specs.declared.beginning.Begun.{Begun}
 use Rattle.pz_tree_acting.specs.declared.how.How.{How}
@@ -141,30 +142,32 @@ place_merely (term.abort t u) e = absurd (none (∥∥₁_map e (λ x. x.1)))
 place_merely (term.idle t u again) e = absurd (none (∥∥₁_map e (λ x. x.1)))
 place_merely (term.handling t u again) e = absurd (none (∥∥₁_map e (λ x. x.1)))
 
--- ------------------------------------------------------------ when its delays are over
+-- ------------------------------------------------------------ that its delays are short
 
-module _ (c : ℕ) where
-  mutual
-    ends : (t : Term) → ∥ EndsInTime c t ∥₁ → EndsInTime c t
-    ends done e = tt
-    ends (term.leaf s) e = tt
-    ends (term.wait left at) e = ∥∥₁_elim e le_prop (λ x. x)
-    ends (term.sequence t rest) e = ends t e
-    ends (term.parallel ts) e = all_end ts e
-    ends (term.select ts) e = all_end ts e
-    ends (term.guarded test at t) e = ends t e
-    ends (term.frame number inputs results t) e = ends t e
-    ends (term.abort t u) e = (ends t (∥∥₁_map e (λ x. x.0)), ends u (∥∥₁_map e (λ x. x.1)))
-    ends (term.idle t u again) e = (ends t (∥∥₁_map e (λ x. x.0)), ends u (∥∥₁_map e (λ x. x.1)))
-    ends (term.handling t u again) e = (ends t (∥∥₁_map e (λ x. x.0)), ends u (∥∥₁_map e (λ x. x.1)))
+mutual
+  short : (t : Term) → ∥ IsShort t ∥₁ → IsShort t
+  short done e = tt
+  short (term.leaf s) e = tt
+  short (term.wait left at) e = ∥∥₁_elim e le_prop (λ x. x)
+  short (term.sequence t rest) e = short t e
+  short (term.parallel ts) e = all_short ts e
+  short (term.select ts) e = all_short ts e
+  short (term.guarded test at t) e = short t e
+  short (term.frame number inputs results t) e = short t e
+  short (term.abort t u) e = (short t (∥∥₁_map e (λ x. x.0)), short u (∥∥₁_map e (λ x. x.1)))
+  short (term.idle t u again) e = (short t (∥∥₁_map e (λ x. x.0)), short u (∥∥₁_map e (λ x. x.1)))
+  short (term.handling t u again) e = (short t (∥∥₁_map e (λ x. x.0)), short u (∥∥₁_map e (λ x. x.1)))
 
-    all_end : (ts : Terms) → ∥ EndInTime c ts ∥₁ → EndInTime c ts
-    all_end no_terms e = tt
-    all_end (and t ts) e = (ends t (∥∥₁_map e (λ x. x.0)), all_end ts (∥∥₁_map e (λ x. x.1)))
+  all_short : (ts : Terms) → ∥ AreShort ts ∥₁ → AreShort ts
+  all_short no_terms e = tt
+  all_short (and t ts) e = (short t (∥∥₁_map e (λ x. x.0)), all_short ts (∥∥₁_map e (λ x. x.1)))
 
-  pub ends_merely : (r : Result Begun Trouble) → ∥ Rattle.std.specs.Prelude.IfOk r (λ b. EndsInTime c (term_view b.part)) ∥₁ → Rattle.std.specs.Prelude.IfOk r (λ b. EndsInTime c (term_view b.part))
-  ends_merely (Ok b) e = ends (term_view b.part) e
-  ends_merely (Err t) e = tt
+pub short_merely : (r : Result Begun Trouble) → ∥ Rattle.std.specs.Prelude.IfOk r (λ b. IsShort (term_view b.part)) ∥₁ → Rattle.std.specs.Prelude.IfOk r (λ b. IsShort (term_view b.part))
+short_merely (Ok b) e = short (term_view b.part) e
+short_merely (Err t) e = tt
+
+pub room_merely : (c : ℕ) → ∥ HasRoom c ∥₁ → HasRoom c
+room_merely c e = ∥∥₁_elim e le_prop (λ x. x)
 
 -- ------------------------------------------------------------ which frames have opened
 

@@ -19,15 +19,20 @@ use Rattle.pz_tree_nodes.specs.declared.node.What.{What}
 use Rattle.pz_tree_nodes.specs.View.{Plant, term_in_option}
 use Rattle.pz_tree_nodes.specs.Tended.{TendedOption}
 use Rattle.pz_tree_planting.specs.Planting.{root_of}
+use Rattle.pz_rules_delays.specs.Short.{IsShort}
+use Rattle.pz_tree_refreshing.specs.Refreshing.{HasRoom}
 use Rattle.pz_tree_regrowing.specs.Regrowing.{StandsOption}
 use Rattle.pz_tree_acting.specs.declared.how.How.{How}
 use Rattle.pz_tree_acting.specs.Deeds.{able, deed, CanDo, Leaves}
 
--- Tended nodes under the root, of a process that stands in no frame and whose clock shows c.
+-- Tended nodes under the root, of a process that stands in no frame and whose clock shows c. No delay that has begun has
+-- 2^64 clock units left, and there is room for as much on the clock.
 pub record Rooted (m : Map What) (root : Option ℕ) (c : ℕ) (p : Option Plant) : Type 0 where
   pub under : root_of p ≡ root
   pub stands : StandsOption m p
   pub tended : TendedOption 0 c p
+  pub short : IsShort (term_in_option c p)
+  pub room : HasRoom c
 
 -- Such nodes stand under the root, their term fits the class at home, and its part at the place can act so.
 pub record MayBeDone (here : Standpoint) (home : Home) (how : How) (m : Map What) (root : Option ℕ) (s : StateView) (place : Place) : Type 0 where

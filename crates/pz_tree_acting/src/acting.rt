@@ -7,7 +7,8 @@ ghost use Rattle.pz_part_queries.specs.Standpoints.{Knows};
 ghost use Rattle.pz_part_opening.specs.Homes.{home_view};
 ghost use Rattle.pz_rules.specs.View.{term_view};
 ghost use Rattle.pz_state.specs.Marks.{IsLatest};
-ghost use Rattle.pz_tree_planting.specs.Planting.{EndsInTime};
+ghost use Rattle.pz_rules_delays.specs.Short.{IsShort};
+ghost use Rattle.pz_tree_refreshing.specs.Refreshing.{HasRoom};
 ghost use Rattle.pz_tree_acting.specs.Acting.{MayBeDone, ActRule, TrialRule};
 ghost use Rattle.pz_tree_acting.specs.devices.Begun.{MayGoOn, StayRule};
 
@@ -39,7 +40,8 @@ fn finish<L: Ledger>(
 ) -> Result<Option<Key>, AllocError>
     requires latest { IsLatest state.old begun.point }
     requires stands { ∥ MayGoOn (find nodes.old) root clock place.now ∥₁ }
-    requires ends { EndsInTime clock (term_view begun.part) }
+    requires room { HasRoom clock }
+    requires short { IsShort (term_view begun.part) }
     ensures { IfOk result (λ out. StayRule (home_view home.now) (find nodes.old) (find nodes.new) root clock
         place.now (term_view begun.part) out state.old state.new) }
 {
@@ -64,8 +66,7 @@ fn finish<L: Ledger>(
 /// Hands out the key of what stands for what that leaves, None where nothing is left; or the trouble, and then
 /// nothing has changed: the deed is undone, and how high the term becomes is asked before a node changes. The frames
 /// that stand no longer leave the state. The only error is want of memory, or that there is more to do than can be
-/// counted, or a moment that is no number of 128 bits; then the nodes may only be dropped, and of the state nothing
-/// is said.
+/// counted; then the nodes may only be dropped, and of the state nothing is said.
 pub fn act<L: Ledger>(
     alloc: Global,
     here: &Standpoint<'_>,

@@ -11,7 +11,7 @@ ghost use Rattle.pz_rules.specs.Acting.{IsSend, IsReceive};
 ghost use Rattle.pz_rules.specs.View.{term_view};
 ghost use Rattle.pz_state.specs.Marks.{IsLatest, undone};
 ghost use Rattle.pz_state.specs.States.{StateView};
-ghost use Rattle.pz_tree_planting.specs.Planting.{EndsInTime};
+ghost use Rattle.pz_rules_delays.specs.Short.{IsShort};
 ghost use Rattle.pz_tree_acting.specs.Acting.{MayBeDone};
 ghost use Rattle.pz_tree_acting.specs.devices.Begun.{ActsSo, IsHanded, IsTaken, DeedRule, IsBegun, Opens, HoldRule, BeginRule};
 
@@ -167,7 +167,7 @@ pub(crate) fn begin<L: Ledger>(
         state.old.held state.new.held begun) }
     ensures state { IfOk result (IsBegun state.old state.new) }
     ensures opens { IfOk result (Opens home.now.edition state.old.held state.new.held) }
-    ensures ends { IfOk result (λ begun. IfOk begun (λ b. EndsInTime here.now.clock (term_view b.part))) }
+    ensures short { IfOk result (λ begun. IfOk begun (λ b. IsShort (term_view b.part))) }
 {
     pz_term_around::laws::active_parts_may_act();
     pz_rules::laws::offered_parts_act();

@@ -28,7 +28,7 @@ use Rattle.pz_tree_nodes.specs.declared.node.Head as lying
 use Rattle.pz_tree_nodes.specs.declared.node.What.{What}
 use Rattle.pz_tree_nodes.specs.Keeping.{kept_none}
 use Rattle.pz_tree_nodes.specs.View.{head_view}
-use Rattle.pz_tree_refreshing.specs.Refreshing.{IsShort}
+use Rattle.pz_rules_delays.specs.Short.{IsShort}
 use Rattle.pz_tree_refreshing.specs.devices.Asked.{MayAsk, IsAsked, AskRule}
 use Rattle.pz_tree_refreshing.proofs.Gates.{plain_asked, guard_asked}
 use Rattle.pz_tree_refreshing.proofs.Sums.{IsPlain}

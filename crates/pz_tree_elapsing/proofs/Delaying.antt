@@ -85,9 +85,11 @@ begins_is : (c d due : ℕ) (at : Pos) (e : Code) (r : Result ℕ Trouble) → o
 begins_is c d due at e (Ok left) q = let n = some_is (c + left) due q in let m : due - (c + d) ≡ left - d = omega (arith, n) in ap (λ z. term.wait z at) m
 begins_is c d due at e (Err t) q = absurd cc
 
-delay_wakes : (a : Context) (d f c due : ℕ) (at : Pos) (e : Code) (k : Kept) → k.summary.due ≡ Some due → due - (c + d) < 2 ^ 64
+delay_wakes : (a : Context) (d f c due : ℕ) (at : Pos) (e : Code) (k : Kept) → k.summary.due ≡ Some due
     → WakeRule a d f c (leaf (statement.delay at e)) k (wait due at) (kept_of_wait (c + d) due)
-delay_wakes a d f c due at e k is soon ts w =
+delay_wakes a d f c due at e k is ts w =
+    let near : due < c + 2 ^ 64 = subst (IsSoon c) is w.soon in
+    let soon : due - (c + d) < 2 ^ 64 = omega (arith, near) in
     let told : k.summary ≡ own_summary a c f (term.leaf (statement.delay at e)) = w.summary ∙ alone a c f (term.leaf (statement.delay at e)) refl in
     let left : option_map (λ left. c + left) (answered (lasting a f at e)) ≡ Some due = sym (ap (λ (z : Summary). z.due) told) ∙ is in
     let within : c + d ≤ due = subst (IsNotBefore (c + d)) is w.within in
@@ -204,32 +206,32 @@ delay_due a d f c (statement.call at method args results) pos k g own e none_due
 delay_due a d f c (statement.assignment at x t) pos k g own e none_due ts w = absurd cc
 delay_due a d f c (statement.value at x) pos k g own e none_due ts w = absurd cc
 
-begun_so : (a : Context) (d f c due : ℕ) (s : Step) (at : Pos) (k : Kept) → begins_at s ≡ Some at → k.summary.due ≡ Some due → due - (c + d) < 2 ^ 64 → WakeRule a d f c (leaf s) k (wait due at) (kept_of_wait (c + d) due)
-begun_so a d f c due (statement.delay at x) pos k e is soon = subst (λ z. WakeRule a d f c (leaf (statement.delay at x)) k (wait due z) (kept_of_wait (c + d) due)) (place_is at pos e) (delay_wakes a d f c due at x k is soon)
+begun_so : (a : Context) (d f c due : ℕ) (s : Step) (at : Pos) (k : Kept) → begins_at s ≡ Some at → k.summary.due ≡ Some due → WakeRule a d f c (leaf s) k (wait due at) (kept_of_wait (c + d) due)
+begun_so a d f c due (statement.delay at x) pos k e is = subst (λ z. WakeRule a d f c (leaf (statement.delay at x)) k (wait due z) (kept_of_wait (c + d) due)) (place_is at pos e) (delay_wakes a d f c due at x k is)
   where
     place_is : (x y : Pos) → ◌≡◌ {A = Option Pos} (Some x) (Some y) → x ≡ y
     place_is x y e = cc
-begun_so a d f c due (statement.skip at) pos k e is soon = absurd cc
-begun_so a d f c due (statement.bracketed at bs) pos k e is soon = absurd cc
-begun_so a d f c due (statement.block at es) pos k e is soon = absurd cc
-begun_so a d f c due (statement.guarded at x t) pos k e is soon = absurd cc
-begun_so a d f c due (statement.parallel at bs) pos k e is soon = absurd cc
-begun_so a d f c due (statement.select at bs) pos k e is soon = absurd cc
-begun_so a d f c due (statement.conditional at x bs other) pos k e is soon = absurd cc
-begun_so a d f c due (statement.repeated at x bs) pos k e is soon = absurd cc
-begun_so a d f c due (statement.abort at bs t) pos k e is soon = absurd cc
-begun_so a d f c due (statement.interrupt at bs t) pos k e is soon = absurd cc
-begun_so a d f c due (statement.send at port name args after) pos k e is soon = absurd cc
-begun_so a d f c due (statement.receive at port name into condition after) pos k e is soon = absurd cc
-begun_so a d f c due (statement.call at method args results) pos k e is soon = absurd cc
-begun_so a d f c due (statement.assignment at x t) pos k e is soon = absurd cc
-begun_so a d f c due (statement.value at x) pos k e is soon = absurd cc
+begun_so a d f c due (statement.skip at) pos k e is = absurd cc
+begun_so a d f c due (statement.bracketed at bs) pos k e is = absurd cc
+begun_so a d f c due (statement.block at es) pos k e is = absurd cc
+begun_so a d f c due (statement.guarded at x t) pos k e is = absurd cc
+begun_so a d f c due (statement.parallel at bs) pos k e is = absurd cc
+begun_so a d f c due (statement.select at bs) pos k e is = absurd cc
+begun_so a d f c due (statement.conditional at x bs other) pos k e is = absurd cc
+begun_so a d f c due (statement.repeated at x bs) pos k e is = absurd cc
+begun_so a d f c due (statement.abort at bs t) pos k e is = absurd cc
+begun_so a d f c due (statement.interrupt at bs t) pos k e is = absurd cc
+begun_so a d f c due (statement.send at port name args after) pos k e is = absurd cc
+begun_so a d f c due (statement.receive at port name into condition after) pos k e is = absurd cc
+begun_so a d f c due (statement.call at method args results) pos k e is = absurd cc
+begun_so a d f c due (statement.assignment at x t) pos k e is = absurd cc
+begun_so a d f c due (statement.value at x) pos k e is = absurd cc
 
-pub delay_begins : (a : Context) (d f c now due : ℕ) (s : Step) (at : Pos) (k own : Kept) (g : Head) → c + d ≡ now → begins_at s ≡ Some at → k.summary.due ≡ Some due → due - now < 2 ^ 64
+pub delay_begins : (a : Context) (d f c now due : ℕ) (s : Step) (at : Pos) (k own : Kept) (g : Head) → c + d ≡ now → begins_at s ≡ Some at → k.summary.due ≡ Some due
     → g ≡ wait due at → own ≡ kept_of_wait now due → WakeRule a d f c (leaf s) k g own
-delay_begins a d f c now due s at k own g clock e is soon g_is own_is =
+delay_begins a d f c now due s at k own g clock e is g_is own_is =
     subst (λ z. WakeRule a d f c (leaf s) k z own) (sym g_is) (subst (WakeRule a d f c (leaf s) k (wait due at)) (ap (λ z. kept_of_wait z due) clock ∙ sym own_is)
-    (begun_so a d f c due s at k e is (omega (arith, soon, clock))))
+    (begun_so a d f c due s at k e is))
 
 pub delay_goes_on : (a : Context) (d f c now due : ℕ) (at : Pos) (k own : Kept) (g : Head) → c + d ≡ now → g ≡ wait due at → own ≡ kept_of_wait now due → WakeRule a d f c (wait due at) k g own
 delay_goes_on a d f c now due at k own g clock g_is own_is =

@@ -27,7 +27,8 @@ use Rattle.pz_tree_nodes.specs.Fresh.{Flagged}
 use Rattle.pz_tree_nodes.proofs.Joins.{joined_associative, joined_none, none_joined}
 use Rattle.pz_tree_nodes.proofs.Wakings.{or_none}
 use Rattle.pz_tree_refreshing.specs.Live.{live_below}
-use Rattle.pz_tree_refreshing.specs.Refreshing.{IsShort, HasRoom, IsSoon, RefreshRule}
+use Rattle.pz_rules_delays.specs.Short.{IsShort}
+use Rattle.pz_tree_refreshing.specs.Refreshing.{HasRoom, IsSoon, Timely, RefreshRule}
 use Rattle.pz_tree_refreshing.specs.devices.Reached as reached
 use Rattle.pz_tree_refreshing.specs.devices.Reached.{added, reached_sum, Says, behind_inside}
 use Rattle.pz_tree_refreshing.specs.devices.Levels.{IsBare, IsLeft}
@@ -68,6 +69,7 @@ record FirstDone (a : Context) (d : ℕ) (m n : Map What) (f : ℕ) (h : Head) (
   tended : Tended f (inner_clock h i (c + d)) plant
   right : reaches h i ≡ true → Right (later a d) f (inner_clock h i (c + d)) (shape_of plant)
   flagged : reaches h i ≡ true → Flagged (later a d) f (inner_clock h i (c + d)) plant
+  timely : reaches h i ≡ true → Timely (inner_clock h i (c + d)) plant
   short : IsShort (term_in (inner_clock h i (c + d)) plant)
   bare : IsBare p → IsBare plant
   says : Says (later a d) (c + d) f h i (and (term_in (inner_clock h i (c + d)) plant) no_terms) k
@@ -101,6 +103,7 @@ module _ (a : Context) (d : ℕ) (m n : Map What) (f : ℕ) (h : Head) (c i : �
     tended = subst (λ z. Tended f z p) (sym still) t;
     right = λ r. not_both (reaches h i) r e;
     flagged = λ r. not_both (reaches h i) r e;
+    timely = λ r. not_both (reaches h i) r e;
     short = subst (λ z. IsShort (term_in z p)) (sym still) short;
     bare = λ q. q;
     says = says_unreached (later a d) (c + d) f h i (term_in after p) k e x.nothing;
@@ -143,6 +146,7 @@ module _ (a : Context) (d : ℕ) (m n : Map What) (f : ℕ) (h : Head) (c i : �
           tended = tended;
           right = λ g. right;
           flagged = λ g. flagged;
+          timely = λ g. subst (λ z. Timely z r.plant) (sym goes) r.timely;
           short = subst (λ z. IsShort (term_in z r.plant)) (sym goes) r.short;
           bare = r.bare;
           says = says_reached (later a d) (c + d) f h i after (behind_inside h i) (term_in after r.plant) k x.kept e back
@@ -179,6 +183,7 @@ no_kids b m f h now i fuel old a d c seen clock none st r deep methods may fits 
   tended = tt;
   right = tt;
   flagged = tt;
+  timely = tt;
   short = tt;
   bare = λ q. q;
   says = record { summary = refl; starts = refl; clocked = refl; soon = tt };
@@ -200,6 +205,7 @@ gone_beside a d m n f h c i ps l old new x = record {
   tended = x.tended;
   right = x.right;
   flagged = x.flagged;
+  timely = x.timely;
   short = (tt, x.short);
   bare = x.bare;
   says = says_gone (later a d) (c + d) f h i (terms_of h (c + d) (suc i) (shapes_of x.plants)) l x.says;
@@ -236,6 +242,7 @@ module _ (a : Context) (d : ℕ) (m m1 n : Map What) (f : ℕ) (h : Head) (c i :
     tended = (first.tended, others.tended);
     right = (first.right, others.right);
     flagged = (first.flagged, others.flagged);
+    timely = (first.timely, others.timely);
     short = (first.short, others.short);
     bare = λ q. (first.bare q.0, others.bare q.1);
     says = says_more (later a d) (c + d) f h i (term_in (inner_clock h i (c + d)) first.plant) (terms_of h (c + d) (suc i) (shapes_of others.plants)) k l first.says others.says;

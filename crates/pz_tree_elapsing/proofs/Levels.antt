@@ -35,7 +35,8 @@ use Rattle.pz_tree_nodes.specs.Tended.{Tended, AreMarked}
 use Rattle.pz_tree_nodes.specs.Fresh.{AllFlagged}
 use Rattle.pz_tree_nodes.specs.Laws.{UnwokenAreCalm, UnwokenAreSteady}
 use Rattle.pz_tree_nodes.proofs.Marks.{marked_alike}
-use Rattle.pz_tree_refreshing.specs.Refreshing.{IsShort, HasRoom, IsSoon}
+use Rattle.pz_rules_delays.specs.Short.{IsShort}
+use Rattle.pz_tree_refreshing.specs.Refreshing.{HasRoom, IsSoon, AllTimely}
 use Rattle.pz_tree_refreshing.specs.devices.Reached.{Says, behind_inside}
 use Rattle.pz_tree_refreshing.specs.devices.Levels.{IsPutBack, KidsTended}
 use Rattle.pz_tree_refreshing.proofs.Short.{least_soon, clock_back}
@@ -77,23 +78,23 @@ module _ (a : Context) (d f : ℕ) (h : Head) (c : ℕ) (fits : HeadFits h c) wh
   StillAt i = reaches h i ≡ false → inner_clock h i (c + d) ≡ inner_clock h i c
 
   kids_may : (i : ℕ) (ps : Plants) → Quiet i ps → Still i ps → Short i ps
-      → AreWhole (shapes_of ps) → FitAll h c i (shapes_of ps) → RestAll f h c i (shapes_of ps) → AreMarked ps → RightAll a f h c i (shapes_of ps) → AllFlagged a f h c i ps → KidsMayElapse a d f h c i ps
-  kids_may i none q s l w t r m right flagged = tt
-  kids_may i (gone ps) q s l w t r m right flagged = kids_may (suc i) ps (quiet_next i (gone ps) ps (λ j. refl) q)
-      (λ j z. subst StillAt (next i j) (s (suc j) (omega (arith, z)))) (λ j z. l (suc j) (omega (arith, z))) w t r m right flagged
-  kids_may i (more p ps) q s l w t r m right flagged =
+      → AreWhole (shapes_of ps) → FitAll h c i (shapes_of ps) → RestAll f h c i (shapes_of ps) → AreMarked ps → RightAll a f h c i (shapes_of ps) → AllFlagged a f h c i ps → AllTimely h c i ps → KidsMayElapse a d f h c i ps
+  kids_may i none q s l w t r m right flagged timely = tt
+  kids_may i (gone ps) q s l w t r m right flagged timely = kids_may (suc i) ps (quiet_next i (gone ps) ps (λ j. refl) q)
+      (λ j z. subst StillAt (next i j) (s (suc j) (omega (arith, z)))) (λ j z. l (suc j) (omega (arith, z))) w t r m right flagged timely
+  kids_may i (more p ps) q s l w t r m right flagged timely =
       let inner = inner_clock h i c in
       let tended : Tended f inner p = record { sound = record { whole = w.0; fits = t.0; rests = r.0 }; marked = m.0 } in
       let short : IsShort (term_in inner p) = l 0 (let z : 0 < suc (width (shapes_of ps)) = omega arith in z) in (
         (λ e.
             let quiet : IsQuiet (inner + d) (payload p).kept.summary = subst (IsQuiet (inner + d)) (sym (right_top a f inner p (right.0 e)))
             (quiet_inside a d c inner (behind_inside h i) f (term_in inner p) (clock_back h c i fits e) (q 0 (subst (λ z. reaches h z ≡ true) (sym (first i)) e))) in
-            record { tended = tended; fresh = record { right = right.0 e; flagged = flagged.0 e }; untroubled = quiet.0; within = quiet.1; short = short }),
+            record { tended = tended; fresh = record { right = right.0 e; flagged = flagged.0 e }; untroubled = quiet.0; within = quiet.1; timely = timely.0 e; short = short }),
         subst StillAt (first i) (s 0 (let z : 0 < suc (width (shapes_of ps)) = omega arith in z)),
         tended,
         short,
         kids_may (suc i) ps (quiet_next i (more p ps) ps (λ j. refl) q)
-            (λ j z. subst StillAt (next i j) (s (suc j) (omega (arith, z)))) (λ j z. l (suc j) (omega (arith, z))) w.1 t.1 r.1 m.1 right.1 flagged.1,
+            (λ j z. subst StillAt (next i j) (s (suc j) (omega (arith, z)))) (λ j z. l (suc j) (omega (arith, z))) w.1 t.1 r.1 m.1 right.1 flagged.1 timely.1,
       )
 
 -- ---------------------------------------------------------- one level
@@ -127,6 +128,7 @@ module _ (a : Context) (d : ℕ) (m m1 n1 n2 : Map What) (f c fuel k : ℕ) (x :
     flags = may.fresh.flagged.0;
     untroubled = may.untroubled;
     within = may.within;
+    soon = may.timely.0;
     woken = woken;
     short = may.short;
     room = room;
@@ -137,7 +139,7 @@ module _ (a : Context) (d : ℕ) (m m1 n1 n2 : Map What) (f c fuel k : ℕ) (x :
       (λ j r. kid_quiet a (c + d) c f h before may.fresh.right.1 (subst (IsQuiet (c + d)) may.fresh.right.0 (may.untroubled, may.within)) j (let z : 0 + j ≡ j = omega arith in subst (λ i. reaches h i ≡ true) z r))
       (λ j l. let z : j ≡ 0 + j = omega arith in subst (λ i. reaches h i ≡ false → inner_clock h i (c + d) ≡ inner_clock h i c) z (stands_still h c d (shapes_of ps) may.tended.sound.fits.0 may.tended.sound.whole.0 j l))
       (λ j l. kid_short h c before (shapes_of ps) may.tended.sound.whole.0 may.short j l)
-      may.tended.sound.whole.1 may.tended.sound.fits.1 may.tended.sound.rests.1 may.tended.marked.1 may.fresh.right.2 may.fresh.flagged.1
+      may.tended.sound.whole.1 may.tended.sound.fits.1 may.tended.sound.rests.1 may.tended.marked.1 may.fresh.right.2 may.fresh.flagged.1 may.timely.1
 
   passed_kids : KidsElapsed a d m1 n1 (inner_frame h f) h c 0 ps all (old + 1) mid
   passed_kids = rule a d c refl refl ps (below_stand m m1 k ps st.1 hides st.2) (sym kids_are) deep methods given may.tended.sound.fits.0 room
@@ -207,6 +209,9 @@ module _ (a : Context) (d : ℕ) (m m1 n1 n2 : Map What) (f c fuel k : ℕ) (x :
     cost : woken_below (c + d) (node k x ps) plant ≡ woken_among h g (c + d) 0 ps below.plants
     cost = ap (λ b. if b then woken_among h g (c + d) 0 ps below.plants else 0) woken
 
+    soon : IsSoon (c + d) kept.summary.due
+    soon = subst (λ (z : Kept). IsSoon (c + d) z.summary.due) (sym keeps) (least_soon (c + d) own.summary.due after.summary.due is.soon says.soon)
+
     pub level_elapsed : NodeElapsed a d m n f c (node k x ps) kept old new
     level_elapsed = record {
       plant = plant;
@@ -228,7 +233,8 @@ module _ (a : Context) (d : ℕ) (m m1 n1 n2 : Map What) (f c fuel k : ℕ) (x :
       short = is.short ts below.short;
       bare = is.bare;
       kept = refl;
-      soon = subst (λ (z : Kept). IsSoon (c + d) z.summary.due) (sym keeps) (least_soon (c + d) own.summary.due after.summary.due is.soon says.soon);
+      timely = (soon, below.timely);
+      soon = soon;
       ticks = omega (arith, below.ticks, tick, cost);
     }
 
@@ -303,6 +309,7 @@ has_elapsed law a d m n f c p k old mid new tick x = record {
   tended = x.tended;
   fresh = x.fresh;
   short = x.short;
+  timely = x.timely;
   soon = subst (λ (z : Kept). IsSoon (c + d) z.summary.due) x.kept x.soon;
   ticks = omega (arith, x.ticks, tick);
 }

@@ -18,7 +18,8 @@ use Rattle.pz_tree_summary.proofs.Woken.{neither_part, none_under}
 use Rattle.pz_tree_standing.specs.Heads.{Head, Shapes, formed}
 use Rattle.pz_tree_standing.specs.Heads as head
 use Rattle.pz_tree_standing.specs.Whole.{OneInside, HasParts}
-use Rattle.pz_tree_refreshing.specs.Refreshing.{IsShort, AreShort, IsSoon}
+use Rattle.pz_rules_delays.specs.Short.{IsShort, AreShort}
+use Rattle.pz_tree_refreshing.specs.Refreshing.{IsSoon}
 use Rattle.pz_tree_refreshing.proofs.Short.{least_soon}
 use Rattle.pz_tree_elapsing.proofs.Goings.{IsNoWait}
 

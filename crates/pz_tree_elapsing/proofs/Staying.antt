@@ -32,7 +32,8 @@ use Rattle.pz_tree_nodes.specs.View.{Plant, Plants, head_view, shape_of, shapes_
 use Rattle.pz_tree_nodes.specs.Fresh.{Flagged, AllFlagged}
 use Rattle.pz_tree_nodes.specs.Laws.{UnwokenAreCalm, UnwokenAreSteady}
 use Rattle.pz_tree_nodes.proofs.Wakings.{in_under, in_two, in_children}
-use Rattle.pz_tree_refreshing.specs.Refreshing.{IsShort, AreShort, IsSoon}
+use Rattle.pz_rules_delays.specs.Short.{IsShort, AreShort}
+use Rattle.pz_tree_refreshing.specs.Refreshing.{IsSoon, Timely, AllTimely}
 use Rattle.pz_tree_elapsing.specs.Waking.{wakes, is_due}
 use Rattle.pz_tree_elapsing.specs.Elapsing.{MayElapse, IsNotBefore}
 use Rattle.pz_tree_elapsing.specs.devices.Levels.{NodeElapsed}
@@ -185,6 +186,24 @@ mutual
   shorts_later a d f no_terms st h = tt
   shorts_later a d f (and t ts) st h = (short_later a d f t st.0 h.0, shorts_later a d f ts st.1 h.1)
 
+-- what they keep is due as soon later
+soon_later : (c d : ℕ) (due : Option ℕ) → IsSoon c due → IsSoon (c + d) due
+soon_later c d None h = tt
+soon_later c d (Some due) h = omega (arith, h)
+
+mutual
+  timely_later : (a : Context) (d f c : ℕ) (p : Plant) → Fits c (shape_of p) → Calm a f (shape_of p) → Timely c p → Timely (c + d) p
+  timely_later a d f c (node k x ps) fits calm w =
+      let h = head_view x.head in (soon_later c d x.kept.summary.due w.0, timely_kids a d (inner_frame h f) h c 0 ps fits.0 fits.1 calm.2 w.1)
+
+  timely_kids : (a : Context) (d f : ℕ) (h : Head) (c i : ℕ) (ps : Plants) → HeadFits h c → FitAll h c i (shapes_of ps) → CalmAll a f h i (shapes_of ps) → AllTimely h c i ps → AllTimely h (c + d) i ps
+  timely_kids a d f h c i none head fits calm w = tt
+  timely_kids a d f h c i (gone ps) head fits calm w = timely_kids a d f h c (suc i) ps head fits calm w
+  timely_kids a d f h c i (more p ps) head fits calm w = (
+    (λ r. subst (λ z. Timely z p) (sym (clock_goes h i c d head r)) (timely_later a d f (inner_clock h i c) p fits.0 (calm.0 r) (w.0 r))),
+    timely_kids a d f h c (suc i) ps head fits.1 calm.1 w.1,
+  )
+
 top_summary : (a : Context) (f c : ℕ) (p : Plant) → Right a f c (shape_of p) → (payload p).kept.summary ≡ summary_of a c f (term_in c p)
 top_summary a f c (node k x ps) r = r.0
 
@@ -217,6 +236,7 @@ nothing_wakes tests stays_right stays_sound are_calm are_steady a d m f c p old 
       short = short;
       bare = λ q. q;
       kept = refl;
+      timely = timely_later a d f c p fits calm may.timely;
       soon = subst (λ (z : Summary). IsSoon (c + d) z.due) (sym (top_summary (later a d) f (c + d) p right))
           (unstarted_soon (later a d) (c + d) f (term_in (c + d) p) (sym (top_flags (later a d) f (c + d) p flagged).starts ∙ g.0) short);
       ticks = omega (arith, tick);

@@ -22,7 +22,8 @@ use Rattle.pz_tree_nodes.specs.Tended.{Tended}
 use Rattle.pz_tree_nodes.specs.Fresh.{Flagged, AllFlagged}
 use Rattle.pz_tree_nodes.proofs.Joins.{joined_none}
 use Rattle.pz_tree_refreshing.specs.Live.{live_below}
-use Rattle.pz_tree_refreshing.specs.Refreshing.{AreShort, HasRoom, IsRefreshed}
+use Rattle.pz_rules_delays.specs.Short.{AreShort}
+use Rattle.pz_tree_refreshing.specs.Refreshing.{HasRoom, Timely, AllTimely, IsRefreshed}
 use Rattle.pz_tree_refreshing.specs.devices.Reached as reached
 use Rattle.pz_tree_refreshing.specs.devices.Reached.{added, reached_sum, Says, behind_inside}
 use Rattle.pz_tree_refreshing.specs.devices.Levels.{IsLeft, KidsTended}
@@ -61,6 +62,11 @@ module _ (h g : Head) (c : ℕ) (clocks : (i : ℕ) → inner_clock g i c ≡ in
     flagged_alike b f i none r = tt
     flagged_alike b f i (gone ps) r = flagged_alike b f (suc i) ps r
     flagged_alike b f i (more p ps) r = ((λ e. subst (λ z. Flagged b f z p) (sym (clocks i)) (r.0 (sym (same i) ∙ e))), flagged_alike b f (suc i) ps r.1)
+
+    timely_alike : (i : ℕ) (ps : Plants) → AllTimely h c i ps → AllTimely g c i ps
+    timely_alike i none r = tt
+    timely_alike i (gone ps) r = timely_alike (suc i) ps r
+    timely_alike i (more p ps) r = ((λ e. subst (λ z. Timely z p) (sym (clocks i)) (r.0 (sym (same i) ∙ e))), timely_alike (suc i) ps r.1)
 
 sum_alike : {V : Type 0} (nil : V) (plus : V → V → V) (h g : Head) (v : Term → V) → ((i : ℕ) → reaches g i ≡ reaches h i) → (i : ℕ) (ts : Terms) → reached_sum nil plus g v i ts ≡ reached_sum nil plus h v i ts
 sum_alike nil plus h g v same i no_terms = refl
@@ -129,6 +135,14 @@ flagged_none b f g c i (more p ps) e = (
   flagged_none b f g c (suc i) ps (λ j. let n : i + suc j ≡ suc i + j = omega arith in subst (λ z. reaches g z ≡ false) n (e (suc j))),
 )
 
+timely_none : (g : Head) (c i : ℕ) (ps : Plants) → ((j : ℕ) → reaches g (i + j) ≡ false) → AllTimely g c i ps
+timely_none g c i none e = tt
+timely_none g c i (gone ps) e = timely_none g c (suc i) ps (λ j. let n : i + suc j ≡ suc i + j = omega arith in subst (λ z. reaches g z ≡ false) n (e (suc j)))
+timely_none g c i (more p ps) e = (
+  (λ r. not_both (reaches g i) r (let n : i + 0 ≡ i = omega arith in subst (λ z. reaches g z ≡ false) n (e 0))),
+  timely_none g c (suc i) ps (λ j. let n : i + suc j ≡ suc i + j = omega arith in subst (λ z. reaches g z ≡ false) n (e (suc j))),
+)
+
 sum_none : {V : Type 0} (nil : V) (plus : V → V → V) (g : Head) (v : Term → V) (i : ℕ) (ts : Terms) → ((j : ℕ) → reaches g (i + j) ≡ false) → reached_sum nil plus g v i ts ≡ nil
 sum_none nil plus g v i no_terms e = refl
 sum_none nil plus g v i (and t ts) e =
@@ -170,6 +184,7 @@ pub record KidsTurned (a : Context) (d : ℕ) (m n : Map What) (f : ℕ) (h g : 
   pub tended : KidsTended f g (c + d) 0 plants
   pub right : RightAll (later a d) f g (c + d) 0 (shapes_of plants)
   pub flagged : AllFlagged (later a d) f g (c + d) 0 plants
+  pub timely : AllTimely g (c + d) 0 plants
   pub short : AreShort (terms_of g (c + d) 0 (shapes_of plants))
   pub parts : HasParts h (shapes_of ps) → HasParts h (shapes_of plants)
   pub says : Says (later a d) (c + d) f g 0 (terms_of g (c + d) 0 (shapes_of plants)) k
@@ -205,6 +220,7 @@ module _ (a : Context) (d : ℕ) (m n0 : Map What) (f : ℕ) (h g : Head) (c : �
     tended = tended_alike h g (c + d) clocks f 0 x.plants x.tended;
     right = right_alike h g (c + d) clocks same (later a d) f 0 (shapes_of x.plants) x.right;
     flagged = flagged_alike h g (c + d) clocks same (later a d) f 0 x.plants x.flagged;
+    timely = timely_alike h g (c + d) clocks same 0 x.plants x.timely;
     short = subst AreShort (sym (alike 0 (shapes_of x.plants))) x.short;
     parts = same_parts h ps x.plants x.under x.bare;
     says = subst (λ z. Says (later a d) (c + d) f g 0 z k) (sym (alike 0 (shapes_of x.plants)))
@@ -226,6 +242,7 @@ module _ (a : Context) (d : ℕ) (m n0 : Map What) (f : ℕ) (h g : Head) (c : �
     tended = tended_alike h g (c + d) clocks f 0 x.plants x.tended;
     right = right_none (later a d) f g (c + d) 0 (shapes_of x.plants) (λ j. shut (0 + j));
     flagged = flagged_none (later a d) f g (c + d) 0 x.plants (λ j. shut (0 + j));
+    timely = timely_none g (c + d) 0 x.plants (λ j. shut (0 + j));
     short = subst AreShort (sym (alike 0 (shapes_of x.plants))) x.short;
     parts = same_parts h ps x.plants x.under x.bare;
     says = subst (Says (later a d) (c + d) f g 0 here) (sym left.nothing) (says_none (later a d) (c + d) f g 0 here (λ j. shut (0 + j)));
@@ -243,9 +260,9 @@ module _ (a : Context) (d : ℕ) (m n0 : Map What) (f : ℕ) (h g : Head) (c : �
     beyond j = let z : suc j ≡ 1 + j = omega arith in subst (λ i. reaches g i ≡ false) z (others j)
 
     -- there is no first child
-    no_first : (qs : Plants) → qs ≡ x.plants → (i : ℕ) → IsLeft n0 n k mid new → RightAll (later a d) f g (c + d) 0 (shapes_of qs) → AllFlagged (later a d) f g (c + d) 0 qs
+    no_first : (qs : Plants) → qs ≡ x.plants → (i : ℕ) → IsLeft n0 n k mid new → RightAll (later a d) f g (c + d) 0 (shapes_of qs) → AllFlagged (later a d) f g (c + d) 0 qs → AllTimely g (c + d) 0 qs
         → Says (later a d) (c + d) f g 0 (terms_of g (c + d) 0 (shapes_of qs)) kept_none → KidsTurned a d m n f h g c ps k old new
-    no_first qs e i left right flagged says = record {
+    no_first qs e i left right flagged timely says = record {
       plants = x.plants;
       under = x.under;
       keys = x.keys;
@@ -255,6 +272,7 @@ module _ (a : Context) (d : ℕ) (m n0 : Map What) (f : ℕ) (h g : Head) (c : �
       tended = tended_alike h g (c + d) clocks f 0 x.plants x.tended;
       right = subst (λ z. RightAll (later a d) f g (c + d) 0 (shapes_of z)) e right;
       flagged = subst (λ z. AllFlagged (later a d) f g (c + d) 0 z) e flagged;
+      timely = subst (λ z. AllTimely g (c + d) 0 z) e timely;
       short = subst AreShort (sym (alike 0 (shapes_of x.plants))) x.short;
       parts = unreached_parts h ps x.plants was x.under;
       says = subst (λ z. Says (later a d) (c + d) f g 0 (terms_of g (c + d) 0 (shapes_of z)) k) e (subst (Says (later a d) (c + d) f g 0 (terms_of g (c + d) 0 (shapes_of qs))) (sym left.nothing) says);
@@ -311,6 +329,7 @@ module _ (a : Context) (d : ℕ) (m n0 : Map What) (f : ℕ) (h g : Head) (c : �
         tended = (is.tended, tended_now.1);
         right = ((λ e. is.fresh.right), right_none (later a d) f g (c + d) 1 (shapes_of qs) beyond);
         flagged = ((λ e. is.fresh.flagged), flagged_none (later a d) f g (c + d) 1 qs beyond);
+        timely = ((λ e. is.timely), timely_none g (c + d) 1 qs beyond);
         short = subst AreShort (sym terms_stay) shorts;
         parts = unreached_parts h ps (more is.plant qs) was (ap (λ z. Some z ∷ roots qs) is.under ∙ ap roots are ∙ x.under);
         says = subst (Says (later a d) (c + d) f g 0 (terms_of g (c + d) 0 (shapes_of (more is.plant qs)))) (joined_none k)
@@ -327,10 +346,10 @@ module _ (a : Context) (d : ℕ) (m n0 : Map What) (f : ℕ) (h g : Head) (c : �
 
     opened_by : (qs : Plants) → qs ≡ x.plants → (keys : List (Option ℕ)) → keys ≡ roots qs → ReturnRule (later a d) n0 n f g (c + d) (first_kid keys) k mid new → KidsTurned a d m n f h g c ps k old new
     opened_by none are keys e rule =
-        no_first none are 0 (subst (λ z. ReturnRule (later a d) n0 n f g (c + d) (first_kid z) k mid new) e rule) tt tt (record { summary = refl; starts = refl; clocked = refl; soon = tt })
+        no_first none are 0 (subst (λ z. ReturnRule (later a d) n0 n f g (c + d) (first_kid z) k mid new) e rule) tt tt tt (record { summary = refl; starts = refl; clocked = refl; soon = tt })
     opened_by (gone qs) are keys e rule =
         no_first (gone qs) are 0 (subst (λ z. ReturnRule (later a d) n0 n f g (c + d) (first_kid z) k mid new) e rule)
-        (right_none (later a d) f g (c + d) 1 (shapes_of qs) beyond) (flagged_none (later a d) f g (c + d) 1 qs beyond)
+        (right_none (later a d) f g (c + d) 1 (shapes_of qs) beyond) (flagged_none (later a d) f g (c + d) 1 qs beyond) (timely_none g (c + d) 1 qs beyond)
         (says_gone (later a d) (c + d) f g 0 (terms_of g (c + d) 1 (shapes_of qs)) kept_none (says_none (later a d) (c + d) f g 1 (terms_of g (c + d) 1 (shapes_of qs)) beyond))
     opened_by (more q qs) are keys e rule = has_opened q qs are (subst (λ z. ReturnRule (later a d) n0 n f g (c + d) (first_kid z) k mid new) e rule)
 

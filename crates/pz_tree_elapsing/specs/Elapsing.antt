@@ -12,7 +12,8 @@ use Rattle.pz_tree_nodes.specs.declared.node.What.{What}
 use Rattle.pz_tree_nodes.specs.View.{Plant, term_in}
 use Rattle.pz_tree_nodes.specs.Tended.{Tended}
 use Rattle.pz_tree_nodes.specs.Fresh.{Fresh}
-use Rattle.pz_tree_refreshing.specs.Refreshing.{IsShort, HasRoom, IsSoon}
+use Rattle.pz_rules_delays.specs.Short.{IsShort}
+use Rattle.pz_tree_refreshing.specs.Refreshing.{HasRoom, IsSoon, Timely}
 use Rattle.pz_tree_elapsing.specs.Waking.{woken_nodes}
 
 -- it does not come before this moment, if there is one
@@ -21,18 +22,19 @@ IsNotBefore c None = Unit {0}
 IsNotBefore c (Some due) = c ≤ due
 
 -- Time d may pass over these nodes, in frame f, where their clock shows c: they are tended, right as far as they are
--- active, and free of trouble; nothing is due before the time has passed.
+-- active, and free of trouble; what the active ones keep is due soon, but nothing before the time has passed.
 pub record MayElapse (a : Context) (d f c : ℕ) (p : Plant) : Type 0 where
   pub tended : Tended f c p
   pub fresh : Fresh a f c p
   pub untroubled : (payload p).kept.summary.trouble ≡ None
   pub within : IsNotBefore (c + d) (payload p).kept.summary.due
+  pub timely : Timely c p
   pub short : IsShort (term_in c p)
 
 -- It has passed. The same keys have nodes, which stand, by a clock that is so much later, for what the passing leaves
 -- of the term. They are tended, right as far as they are active for the process at its later clock, and say rightly
 -- what may wake next. Of each delay that has begun less than 2^64 clock units are left, as before, and what the
--- topmost keeps is due soon. Nothing else has changed, and each woken node took four steps at most.
+-- active ones keep is due soon. Nothing else has changed, and each woken node took four steps at most.
 pub record HasElapsed (a : Context) (d : ℕ) (m n : Map What) (f c : ℕ) (p : Plant) (old new : ℕ) : Type 0 where
   pub plant : Plant
   pub under : root plant ≡ root p
@@ -43,6 +45,7 @@ pub record HasElapsed (a : Context) (d : ℕ) (m n : Map What) (f c : ℕ) (p : 
   pub tended : Tended f (c + d) plant
   pub fresh : Fresh (later a d) f (c + d) plant
   pub short : IsShort (term_in (c + d) plant)
+  pub timely : Timely (c + d) plant
   pub soon : IsSoon (c + d) (payload plant).kept.summary.due
   pub ticks : new ≤ old + 4 * woken_nodes (c + d) p plant
 

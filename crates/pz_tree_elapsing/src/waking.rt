@@ -199,51 +199,47 @@ fn stays(step: Step, kept: &Kept) -> What
 }
 
 /// A statement that has not begun: a delay begins, and is over when its node said it would be.
-fn begun(step: Step, kept: &Kept, clock: u128) -> Result<What, AllocError>
-    ensures goes { IfOk result (λ x. (a : Context) (d f c : ℕ) → c + d ≡ clock →
+fn begun(step: Step, kept: &Kept, clock: u128) -> What
+    ensures goes { (a : Context) (d f c : ℕ) → c + d ≡ clock →
         device.statement_asked_anew (view step) ≡ false →
-        WakeRule a d f c (heads.leaf (view step)) kept.now (head_view x.head) x.kept) }
+        WakeRule a d f c (heads.leaf (view step)) kept.now (head_view result.head) result.kept }
 {
     let Some(pos) = begins_at(&step) else {
-        return Ok(stays(step, kept));
+        return stays(step, kept);
     };
     let Some(due) = kept.summary.due else {
-        return Ok(stays(step, kept));
+        return stays(step, kept);
     };
-    // The time of a delay is an Integer, which has 64 bits: no more is ever left.
-    if due.saturating_sub(clock) > u128::from(u64::MAX) {
-        return Err(AllocError);
-    }
-    Ok(waits(due, pos, clock))
+    waits(due, pos, clock)
 }
 
 /// A node of which nothing is to be evaluated.
-fn gone_on(head: Head, kept: &Kept, clock: u128) -> Result<What, AllocError>
-    ensures goes { IfOk result (λ x. (a : Context) (d f c : ℕ) → c + d ≡ clock →
+fn gone_on(head: Head, kept: &Kept, clock: u128) -> What
+    ensures goes { (a : Context) (d f c : ℕ) → c + d ≡ clock →
         device.asked_anew (head_view head) ≡ false →
-        WakeRule a d f c (head_view head) kept.now (head_view x.head) x.kept) }
+        WakeRule a d f c (head_view head) kept.now (head_view result.head) result.kept }
 {
     pz_tree_summary::laws::steady_terms_keep_summaries();
     match head {
         Head::Leaf(step) => begun(step, kept, clock),
-        Head::Wait { due, pos } => Ok(waits(due, pos, clock)),
-        Head::Guard { test, pos, shift } => Ok(silent(Head::Guard { test, pos, shift })),
-        Head::Seq(rest) => Ok(silent(Head::Seq(rest))),
-        Head::Par => Ok(silent(Head::Par)),
-        Head::Sel => Ok(silent(Head::Sel)),
+        Head::Wait { due, pos } => waits(due, pos, clock),
+        Head::Guard { test, pos, shift } => silent(Head::Guard { test, pos, shift }),
+        Head::Seq(rest) => silent(Head::Seq(rest)),
+        Head::Par => silent(Head::Par),
+        Head::Sel => silent(Head::Sel),
         Head::Frame {
             frame,
             inputs,
             results,
-        } => Ok(silent(Head::Frame {
+        } => silent(Head::Frame {
             frame,
             inputs,
             results,
-        })),
-        Head::Abort => Ok(silent(Head::Abort)),
-        Head::Idle(again, shift) => Ok(silent(Head::Idle(again, shift))),
-        Head::Handling(again, shift) => Ok(silent(Head::Handling(again, shift))),
-        Head::Shifted(shift) => Ok(silent(Head::Shifted(shift))),
+        }),
+        Head::Abort => silent(Head::Abort),
+        Head::Idle(again, shift) => silent(Head::Idle(again, shift)),
+        Head::Handling(again, shift) => silent(Head::Handling(again, shift)),
+        Head::Shifted(shift) => silent(Head::Shifted(shift)),
     }
 }
 
@@ -268,6 +264,6 @@ pub(crate) fn wake(
     if asked_anew(&head) {
         ask(alloc, here, state, spot, head)
     } else {
-        gone_on(head, kept, spot.clock)
+        Ok(gone_on(head, kept, spot.clock))
     }
 }

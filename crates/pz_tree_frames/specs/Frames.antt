@@ -6,10 +6,13 @@ use Rattle.pz_offer.specs.PlaceOrder.{Place}
 use Rattle.pz_rules.specs.declared.limits.Edition.{Edition}
 use Rattle.pz_rules.specs.declared.limits.Edition.TheVariants.{One, Two}
 use Rattle.pz_rules.specs.Terms.{Term}
-use Rattle.pz_rules.specs.Settings.{Context, Process, Home}
+use Rattle.pz_rules.specs.Settings.{Setting, Context, Process, Home}
 use Rattle.pz_rules.specs.InternalActions.{Performs}
 use Rattle.pz_rules.specs.Messages.{Hands, Takes}
 use Rattle.pz_rules.specs.Leaving.{residual}
+use Rattle.pz_rules.specs.Starting.{StartsAs}
+use Rattle.pz_rules.specs.Delays.{Passes}
+use Rattle.pz_bind_levels.specs.Places.{Address}
 use Rattle.pz_state.specs.States.{StateView}
 use Rattle.pz_tree_standing.specs.FrameCounts.{count_in, times, gained_all}
 
@@ -48,3 +51,11 @@ TakenOpens = (a : Context) (f : ℕ) (parcel : ParcelView) (t : Term) (pos : Pos
 abbrev pub AroundOpens : Type 0
 AroundOpens = (h : Home) (n f : ℕ) (t : Term) (place : Place) (x : Process)
     → HaveOpened h.edition (count_in n (gained_all h f t place x)) (open_as n x.state) (open_as n (residual h f t place x).state)
+
+-- a process that begins has just the frames open that stand in it
+abbrev pub FramesStandAtStart : Type 0
+FramesStandAtStart = (setting : Setting) (place : Address) (p : Process) → StartsAs setting place p → FramesStand p.term p.state
+
+-- and as time passes they stay
+abbrev pub FramesStandAsTimePasses : Type 0
+FramesStandAsTimePasses = (a : Context) (d f : ℕ) (t u : Term) (s : StateView) → Passes a d f t u → FramesStand t s → FramesStand u s

@@ -23,7 +23,8 @@ use Rattle.pz_tree_nodes.specs.Fresh.{Flagged}
 use Rattle.pz_tree_nodes.proofs.Joins.{joined_associative, joined_none, none_joined}
 use Rattle.pz_tree_nodes.proofs.Wakings.{or_none}
 use Rattle.pz_tree_refreshing.specs.Live.{live_below}
-use Rattle.pz_tree_refreshing.specs.Refreshing.{IsShort, HasRoom, IsSoon}
+use Rattle.pz_rules_delays.specs.Short.{IsShort}
+use Rattle.pz_tree_refreshing.specs.Refreshing.{HasRoom, IsSoon, Timely}
 use Rattle.pz_tree_refreshing.specs.devices.Reached.{added, reached_sum, Says, behind_inside, later}
 use Rattle.pz_tree_refreshing.specs.devices.Levels.{IsBare, NodeRefreshed, KidsRefreshed, IsLeft, IsBrought, AtRule, KidRule, KidsRule, RefreshesOn}
 use Rattle.pz_tree_refreshing.proofs.Short.{least_soon, clock_back, room_inside, may_shift, soon_here, here_later}
@@ -86,6 +87,7 @@ record FirstDone (a : Context) (m n : Map What) (f : ℕ) (h : Head) (c i : ℕ)
   tended : Tended f (inner_clock h i c) plant
   right : reaches h i ≡ true → Right a f (inner_clock h i c) (shape_of plant)
   flagged : reaches h i ≡ true → Flagged a f (inner_clock h i c) plant
+  timely : reaches h i ≡ true → Timely (inner_clock h i c) plant
   bare : IsBare p → IsBare plant
   says : Says a c f h i (and (term_in (inner_clock h i c) plant) no_terms) k
   ticks : new ≤ old + 3 * (1 + (if reaches h i then live_below plant else 0))
@@ -101,6 +103,7 @@ first_left a m n f h c i p k old new e st t x = record {
   tended = t;
   right = λ r. not_both (reaches h i) r e;
   flagged = λ r. not_both (reaches h i) r e;
+  timely = λ r. not_both (reaches h i) r e;
   bare = λ q. q;
   says = says_unreached a c f h i (term_in (inner_clock h i c) p) k e x.nothing;
   ticks = omega (arith, x.ticks);
@@ -129,6 +132,7 @@ first_brought a m n f h c i fuel p k old new e fits room st deep t short x =
       tended = r.tended;
       right = λ g. r.fresh.right;
       flagged = λ g. r.fresh.flagged;
+      timely = λ g. r.timely;
       bare = r.bare;
       says = says_reached a c f h i inner by (term_in inner r.plant) k x.kept e back
           (ap (λ (z : Kept). z.summary) r.kept ∙ right_top a f inner r.plant r.fresh.right)
@@ -159,6 +163,7 @@ no_kids a m f h c i fuel old none st r d t s fits room = record {
   tended = tt;
   right = tt;
   flagged = tt;
+  timely = tt;
   bare = λ q. q;
   says = record { summary = refl; starts = refl; clocked = refl; soon = tt };
   ticks = omega arith;
@@ -178,6 +183,7 @@ gone_beside a m n f h c i ps l old new x = record {
   tended = x.tended;
   right = x.right;
   flagged = x.flagged;
+  timely = x.timely;
   bare = x.bare;
   says = says_gone a c f h i (terms_of h c (suc i) (shapes_of x.plants)) l x.says;
   ticks = x.ticks;
@@ -204,6 +210,7 @@ module _ (a : Context) (m m1 n : Map What) (f : ℕ) (h : Head) (c i : ℕ) (p :
     tended = (first.tended, others.tended);
     right = (first.right, others.right);
     flagged = (first.flagged, others.flagged);
+    timely = (first.timely, others.timely);
     bare = λ q. (first.bare q.0, others.bare q.1);
     says = says_more a c f h i (term_in (inner_clock h i c) first.plant) (terms_of h c (suc i) (shapes_of others.plants)) k l first.says others.says;
     ticks = omega (arith, first.ticks, others.ticks);

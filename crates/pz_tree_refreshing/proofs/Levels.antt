@@ -5,6 +5,7 @@ use Rattle.pz_nodes_shapes.specs.Rose.{node, none, gone, more, Map, root, roots,
 use Rattle.pz_nodes_shapes.specs.Change.{OnlyAt}
 use Rattle.pz_nodes_shapes.specs.Reading.{depth, depths}
 use Rattle.pz_nodes_shapes.proofs.Frames.{or_neither, not_both, other_than, below_stand}
+use Rattle.pz_offer.specs.declared.summary.Summary.{Summary}
 use Rattle.pz_offer.specs.Summaries.{join}
 use Rattle.pz_rules.specs.Settings.{Context}
 use Rattle.pz_rules.specs.Terms.{done, Terms, and, term_at, height}
@@ -15,7 +16,7 @@ use Rattle.pz_tree_standing.specs.Laws.{NoDeeperThanHigh}
 use Rattle.pz_tree_standing.specs.Standing.{term_of, terms_of, FitAll}
 use Rattle.pz_tree_standing.specs.Reached.{reaches}
 use Rattle.pz_tree_standing.specs.Resting.{RestAll}
-use Rattle.pz_tree_standing.specs.Right.{Right}
+use Rattle.pz_tree_standing.specs.Right.{Right, RightAll}
 use Rattle.pz_tree_standing.specs.Whole.{OneInside, HasParts, AreWhole}
 use Rattle.pz_tree_standing.proofs.Resting.{rests_are_right}
 use Rattle.pz_tree_nodes.specs.declared.kept.Kept.{Kept}
@@ -26,11 +27,12 @@ use Rattle.pz_tree_nodes.specs.View.{Plant, Plants, head_view, shape_of, shapes_
 use Rattle.pz_tree_nodes.specs.Tended.{Tended, AreMarked}
 use Rattle.pz_tree_nodes.proofs.Marks.{marked_alike, unasked_right, unasked_flagged}
 use Rattle.pz_tree_refreshing.specs.Live.{live_below, live_among}
-use Rattle.pz_tree_refreshing.specs.Refreshing.{IsShort, HasRoom, IsRefreshed, RefreshRule, IsSoon}
+use Rattle.pz_rules_delays.specs.Short.{IsShort}
+use Rattle.pz_tree_refreshing.specs.Refreshing.{HasRoom, IsRefreshed, RefreshRule, IsSoon, Timely, AllTimely}
 use Rattle.pz_tree_refreshing.specs.devices.Asked.{IsAsked, AskRule}
 use Rattle.pz_tree_refreshing.specs.devices.Levels.{IsPutBack, NodeRefreshed, NodeRule, AtRule, written, KidsTended, KidsShort, AreBare, KidsRefreshed, KidsRule}
 use Rattle.pz_tree_refreshing.proofs.Gates.{may_ask}
-use Rattle.pz_tree_refreshing.proofs.Short.{least_soon, short_soon, short_kid}
+use Rattle.pz_tree_refreshing.proofs.Short.{least_soon, short_soon, short_kid, unasked_kid}
 
 -- ---------------------------------------------------------- what is so of a node is so of each child
 
@@ -206,6 +208,9 @@ module _ (a : Context) (m m1 n1 : Map What) (f c fuel k : ℕ) (x : What) (ps : 
     live : live_below plant ≡ present below.plants + live_among g 0 below.plants
     live = ap (λ b. if b then present below.plants + live_among g 0 below.plants else 0) (ap (λ (z : Kept). z.asks) keeps ∙ asked)
 
+    soon : IsSoon c kept.summary.due
+    soon = subst (λ (z : Kept). IsSoon c z.summary.due) (sym keeps) (least_soon c own.summary.due all.summary.due is.soon below.says.soon)
+
     pub level_refreshed : NodeRefreshed a m n f c (node k x ps) kept old new
     level_refreshed = record {
       plant = plant;
@@ -223,7 +228,8 @@ module _ (a : Context) (m m1 n1 : Map What) (f c fuel k : ℕ) (x : What) (ps : 
       fresh = record { right = (right_summary, is.gate, below.right); flagged = (right_flags, below.flagged) };
       bare = is.bare;
       kept = refl;
-      soon = subst (λ (z : Kept). IsSoon c z.summary.due) (sym keeps) (least_soon c own.summary.due all.summary.due is.soon below.says.soon);
+      timely = (soon, below.timely);
+      soon = soon;
       ticks = omega (arith, below.ticks, tick, live);
     }
 
@@ -277,6 +283,33 @@ unasked f c (node k x ps) t e = sym (t.marked.0 c).asked ∙ e
 top_summary : (a : Context) (f c : ℕ) (p : Plant) → Right a f c (shape_of p) → (payload p).kept.summary ≡ summary_of a c f (term_in c p)
 top_summary a f c (node k x ps) r = r.0
 
+-- no child is asked anything either, so all that is due is what is left of delays
+mutual
+  unasked_timely : (a : Context) (f c : ℕ) (p : Plant) → Right a f c (shape_of p) → asks (term_in c p) ≡ false → IsShort (term_in c p) → Timely c p
+  unasked_timely a f c (node k x ps) right e short =
+      let h = head_view x.head in (
+        subst (λ (s : Summary). IsSoon c s.due) (sym right.0) (short_soon a c f (term_in c (node k x ps)) e short),
+        unasked_kids a (inner_frame h f) h c 0 ps
+            (λ j r. unasked_kid h c (terms_of h c 0 (shapes_of ps)) e j (let z : 0 + j ≡ j = omega arith in subst (λ i. reaches h i ≡ true) z r))
+            (λ j r. short_kid h c (terms_of h c 0 (shapes_of ps)) short j (let z : 0 + j ≡ j = omega arith in subst (λ i. reaches h i ≡ true) z r)) right.2,
+      )
+
+  unasked_kids : (a : Context) (f : ℕ) (h : Head) (c i : ℕ) (ps : Plants)
+      → ((j : ℕ) → reaches h (i + j) ≡ true → asks (term_at (terms_of h c i (shapes_of ps)) j) ≡ false)
+      → ((j : ℕ) → reaches h (i + j) ≡ true → IsShort (term_at (terms_of h c i (shapes_of ps)) j)) → RightAll a f h c i (shapes_of ps) → AllTimely h c i ps
+  unasked_kids a f h c i none e s r = tt
+  unasked_kids a f h c i (gone ps) e s r = unasked_kids a f h c (suc i) ps
+      (λ j g. e (suc j) (let n : suc i + j ≡ i + suc j = omega arith in subst (λ z. reaches h z ≡ true) n g))
+      (λ j g. s (suc j) (let n : suc i + j ≡ i + suc j = omega arith in subst (λ z. reaches h z ≡ true) n g)) r
+  unasked_kids a f h c i (more p ps) e s r = (
+    (λ g. unasked_timely a f (inner_clock h i c) p (r.0 g)
+        (e 0 (let n : i ≡ i + 0 = omega arith in subst (λ z. reaches h z ≡ true) n g))
+        (s 0 (let n : i ≡ i + 0 = omega arith in subst (λ z. reaches h z ≡ true) n g))),
+    unasked_kids a f h c (suc i) ps
+        (λ j g. e (suc j) (let n : suc i + j ≡ i + suc j = omega arith in subst (λ z. reaches h z ≡ true) n g))
+        (λ j g. s (suc j) (let n : suc i + j ≡ i + suc j = omega arith in subst (λ z. reaches h z ≡ true) n g)) r.1,
+  )
+
 still : (a : Context) (m : Map What) (f c key : ℕ) (k : Kept) (old new : ℕ) (was : Node What) → m key ≡ Some was → k ≡ was.what.kept → k.asks ≡ false → new ≡ old + 1
     → (p : Plant) → Stands m p → root p ≡ key → Tended f c p → IsShort (term_in c p) → NodeRefreshed a m m f c p k (old + 1) new
 still a m f c key k old new was e keeps unasks tick p st r t short =
@@ -294,6 +327,7 @@ still a m f c key k old new was e keeps unasks tick p st r t short =
       fresh = record { right = right; flagged = unasked_flagged a f c p t none_asked };
       bare = λ q. q;
       kept = kept;
+      timely = unasked_timely a f c p right (unasked f c p t none_asked) short;
       soon = subst (λ z. IsSoon c z.due) (sym (ap (λ (z : Kept). z.summary) kept ∙ top_summary a f c p right)) (short_soon a c f (term_in c p) (unasked f c p t none_asked) short);
       ticks = omega (arith, tick);
     }
@@ -337,6 +371,7 @@ is_refreshed a m n f c p k old new x = record {
   means = x.means;
   tended = x.tended;
   fresh = x.fresh;
+  timely = x.timely;
   soon = subst (λ (z : Kept). IsSoon c z.summary.due) x.kept x.soon;
   ticks = omega (arith, x.ticks);
 }

@@ -1,5 +1,5 @@
 -- What a node keeps is due soon, where delays are short.
-use Rattle.std.proofs.Common.{◌≡◌, ◌<◌, ◌+◌, ◌^◌, ℕ, zero, suc, true, false, Option, Some, None, ap, sym, ◌∙◌, subst, arith}
+use Rattle.std.proofs.Common.{◌≡◌, ◌<◌, ◌+◌, ◌^◌, ℕ, zero, suc, true, false, Option, Some, None, refl, ap, sym, ◌∙◌, subst, arith}
 use Rattle.std.specs.Prelude.{option_map, IfSome}
 use Rattle.pz_syntax.specs.Statements as statement
 use Rattle.pz_clock.specs.Shifts.{ShiftView, is_running, local_since, FitsSince}
@@ -15,7 +15,8 @@ use Rattle.pz_tree_standing.specs.Heads as head
 use Rattle.pz_tree_standing.specs.Standing.{HeadFits}
 use Rattle.pz_tree_standing.specs.Reached.{reaches}
 use Rattle.pz_tree_nodes.specs.declared.kept.Kept.{Kept}
-use Rattle.pz_tree_refreshing.specs.Refreshing.{IsShort, AreShort, HasRoom, IsSoon}
+use Rattle.pz_rules_delays.specs.Short.{IsShort, AreShort}
+use Rattle.pz_tree_refreshing.specs.Refreshing.{HasRoom, IsSoon}
 use Rattle.pz_tree_refreshing.specs.devices.Reached.{behind_inside, later}
 
 pub least_soon : (c : ℕ) (x y : Option ℕ) → IsSoon c x → IsSoon c y → IsSoon c (least x y)
@@ -143,3 +144,32 @@ short_kid (head.handling again s) c ts e (suc zero) r = e.1
 short_kid (head.handling again s) c ts e (suc (suc j)) r = absurd cc
 short_kid (head.shifted s) c ts e zero r = e
 short_kid (head.shifted s) c ts e (suc j) r = absurd cc
+
+-- ---------------------------------------------------------- children that are asked nothing
+
+all_unasked : (ts : Terms) (j : ℕ) → any_asks ts ≡ false → asks (term_at ts j) ≡ false
+all_unasked no_terms j e = refl
+all_unasked (and t ts) zero e = (or_neither (asks t) (any_asks ts) e).0
+all_unasked (and t ts) (suc j) e = all_unasked ts j (or_neither (asks t) (any_asks ts) e).1
+
+pub unasked_kid : (h : Head) (c : ℕ) (ts : Terms) → asks (formed h c ts) ≡ false → (j : ℕ) → reaches h j ≡ true → asks (term_at ts j) ≡ false
+unasked_kid (head.leaf s) c ts e j r = absurd cc
+unasked_kid (head.wait due at) c ts e j r = absurd cc
+unasked_kid (head.sequence rest) c ts e zero r = e
+unasked_kid (head.sequence rest) c ts e (suc j) r = absurd cc
+unasked_kid head.parallel c ts e j r = all_unasked ts j e
+unasked_kid head.select c ts e j r = all_unasked ts j e
+unasked_kid (head.guarded test at s) c ts e j r = absurd cc
+unasked_kid (head.frame number inputs results) c ts e zero r = e
+unasked_kid (head.frame number inputs results) c ts e (suc j) r = absurd cc
+unasked_kid head.abort c ts e zero r = (or_neither (asks (term_at ts 0)) (asks (term_at ts 1)) e).0
+unasked_kid head.abort c ts e (suc zero) r = (or_neither (asks (term_at ts 0)) (asks (term_at ts 1)) e).1
+unasked_kid head.abort c ts e (suc (suc j)) r = absurd cc
+unasked_kid (head.idle again s) c ts e zero r = (or_neither (asks (term_at ts 0)) (asks (term_at ts 1)) e).0
+unasked_kid (head.idle again s) c ts e (suc zero) r = (or_neither (asks (term_at ts 0)) (asks (term_at ts 1)) e).1
+unasked_kid (head.idle again s) c ts e (suc (suc j)) r = absurd cc
+unasked_kid (head.handling again s) c ts e zero r = absurd cc
+unasked_kid (head.handling again s) c ts e (suc zero) r = e
+unasked_kid (head.handling again s) c ts e (suc (suc j)) r = absurd cc
+unasked_kid (head.shifted s) c ts e zero r = e
+unasked_kid (head.shifted s) c ts e (suc j) r = absurd cc

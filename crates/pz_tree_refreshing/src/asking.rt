@@ -1,6 +1,6 @@
 // What a node says when it is asked: what it adds by itself, and the clock behind its gate.
 
-ghost use Rattle.std.specs.Prelude.{◌≡◌, ℕ, IsTrue, IfOk, true};
+ghost use Rattle.std.specs.Prelude.{◌≡◌, ◌<◌, ◌^◌, ℕ, IsTrue, IfOk, true};
 ghost use Rattle.pz_syntax.specs.Classes.{ModelTree};
 ghost use Rattle.pz_classes_code.specs.StepView.{view};
 ghost use Rattle.pz_clock.specs.Shifts.{IsReached, ShiftFits};
@@ -118,29 +118,24 @@ fn troubled(trouble: Trouble) -> Kept
 }
 
 /// Of a delay that has not begun, of which so much would be left now.
-fn delay_says(answer: Result<u128, Trouble>, clock: u128) -> Result<Kept, AllocError>
-    ensures { HasRoom clock → IfOk result (λ own. DelaySays clock answer own) }
+fn delay_says(answer: Result<u128, Trouble>, clock: u128) -> Kept
+    requires { IfOk answer (λ left. left < 2 ^ 63) }
+    ensures { HasRoom clock → DelaySays clock answer result }
 {
     match answer {
-        Ok(left) => {
-            // The time of a delay is an Integer, which has 64 bits: no other is ever asked of.
-            if left > u128::from(u64::MAX) {
-                return Err(AllocError);
-            }
-            Ok(Kept {
-                summary: Summary {
-                    internal: if left == 0 { 1 } else { 0 },
-                    due: Some(clock.saturating_add(left)),
-                    ..Summary::none()
-                },
-                starts: true,
-                ..Kept::none()
-            })
-        }
-        Err(trouble) => Ok(Kept {
+        Ok(left) => Kept {
+            summary: Summary {
+                internal: if left == 0 { 1 } else { 0 },
+                due: Some(clock.saturating_add(left)),
+                ..Summary::none()
+            },
+            starts: true,
+            ..Kept::none()
+        },
+        Err(trouble) => Kept {
             starts: true,
             ..troubled(trouble)
-        }),
+        },
     }
 }
 
@@ -179,7 +174,7 @@ fn ask_step(
     match &step.form {
         StepForm::Delay(time) => {
             let answer = ask_time(alloc, here, state, spot.frame, step.pos, time)?;
-            let own = delay_says(answer, spot.clock)?;
+            let own = delay_says(answer, spot.clock);
             Ok(Kept {
                 clocked: names_clock(time.get()),
                 ..own

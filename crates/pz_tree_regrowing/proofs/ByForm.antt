@@ -26,6 +26,7 @@ use Rattle.pz_tree_nodes.specs.View.{Plant, Plants, shapes_of, term_in, term_in_
 use Rattle.pz_tree_nodes.specs.Tended.{TendedOption}
 use Rattle.pz_tree_planting.specs.Planting.{nodes_of, nodes_of_all, root_of, Planted}
 use Rattle.pz_tree_regrowing.specs.Costs.{living, if_done}
+use Rattle.pz_tree_regrowing.specs.Regrowing.{InTime}
 use Rattle.pz_tree_regrowing.specs.devices.Keeping.{kept_at, kept_in, kept_in_all, kept_behind}
 use Rattle.pz_tree_regrowing.specs.devices.Levels.{KidsTended, kid_terms, before, after, Finished, there, all_there, IsWritten, IsFree, AloneRule, StillRule, LosingRule, ChangingRule, are_gone}
 use Rattle.pz_tree_regrowing.proofs.Kids.{replaced_twice, replaced_same, width_seen, picked_root, picked_term, picked_tended, kids_whole, kept_read, kept_all_read}
@@ -88,14 +89,14 @@ pub sequence_goes_on : (home : Home) (c k i : ℕ) (rest : List lying.Step) (lef
     → ((m k ≡ None → ⊥) → IsWritten m n k (kind.Seq rest) keys kept)
     → mid ≡ old + there left → new ≡ mid + 1
     → ChangingRule home c k (heads.sequence (step.sequence_view rest)) (left ∷ []) i (Some k) m n s s old new
-sequence_goes_on home c k i rest left keys m n kept open_kept s old mid new some is_keys read keeps written tick tock f g m0 was ps t hand e w may =
+sequence_goes_on home c k i rest left keys m n kept open_kept s old mid new some is_keys read keeps written tick tock f g m0 was ps t hand e w may time =
     let h = heads.sequence (step.sequence_view rest) in
     let first : slice_index_or (roots ps) 0 None ≡ left = ap (λ z. slice_index_or z 0 None) e in
     subst (λ z. Finished home f c m0 was h ps z t (Some k) (record { map = m; state = s; lost = g; steps = old }) (record { map = n; state = s; lost = g; steps = new })) (sym may)
     (kept_over home f c k h 0 m n s g old new (kind.Seq rest) keys kept m0 was ps t hand.holds (e ∙ sym is_keys) hand.parts hand.fits hand.tended tt (written hand.holds.there)
     (keeps ∙ ap raised (read ∙ ap (kept_in m) (sym first) ∙ kept_read m ps 0 hand.holds.stand))
     (sequence_stays home f s.held (term_at (replaced (kid_terms h c ps) 0 t) 0) (step.sequence_view rest) 0 (after h c ps 0) (key_undone f h c ps 0 hand.tended (λ q. some (sym first ∙ q))))
-    refl (few left tick))
+    refl (few left tick) (subst (λ z. InTime c (before h c ps z t) (after h c ps z)) may time))
   where
     few : (o : Option ℕ) → mid ≡ old + there o → new ≤ old + (4 + 0)
     few None q = omega (arith, q, tock)
@@ -105,7 +106,7 @@ pub sequence_ends : (home : Home) (c k i : ℕ) (rest : List lying.Step) (left o
     → left ≡ None → IsFree m m1 k → mid ≡ old + 1
     → Became (opened_all home (step.sequence_view rest) s.held) x s t → Planted m1 n c x out → new ≡ mid + nodes_of x
     → ChangingRule home c k (heads.sequence (step.sequence_view rest)) (left ∷ []) i out m n s t old new
-sequence_ends home c k i rest left out m m1 n x s t old mid new gone_left free tick became planted tock f g m0 was ps u hand e w may =
+sequence_ends home c k i rest left out m m1 n x s t old mid new gone_left free tick became planted tock f g m0 was ps u hand e w may time =
     let h = heads.sequence (step.sequence_view rest) in
     let first : slice_index_or (roots ps) 0 None ≡ None = ap (λ z. slice_index_or z 0 None) e ∙ gone_left in
     let over : after h c ps 0 ≡ done = key_done h c ps 0 first in
@@ -161,7 +162,7 @@ pub parallel_goes_on : (c k i : ℕ) (keys : List (Option ℕ)) (m n : Map What)
     → ((m k ≡ None → ⊥) → IsWritten m n k kind.Par keys kept)
     → mid ≡ old + all_there keys → new ≡ mid + 1
     → StillRule c k heads.parallel keys i (Some k) m n old new
-parallel_goes_on c k i keys m n kept old mid new some keeps written tick tock home f s g m0 was ps t hand e w may =
+parallel_goes_on c k i keys m n kept old mid new some keeps written tick tock home f s g m0 was ps t hand e w may time =
     let ts = kid_terms heads.parallel c ps in
     let same : replaced (replaced ts i t) i (after heads.parallel c ps i) ≡ ts = replaced_twice ts i t (term_at ts i) ∙ replaced_same ts i in
     let undone : all_done ts ≡ false = sym (gone_done f heads.parallel c 0 ps hand.tended) ∙ ap are_gone e ∙ some in
@@ -171,12 +172,12 @@ parallel_goes_on c k i keys m n kept old mid new some keeps written tick tock ho
     refl
     (let r : all_there keys ≡ living ts = ap all_there (sym e) ∙ there_living f heads.parallel c 0 ps hand.tended in
     let b : living (replaced (replaced ts i t) i done) ≡ living (replaced ts i done) = ap living (replaced_twice ts i t done) in
-    omega (arith, tick, tock, r, b, living_but ts i))
+    omega (arith, tick, tock, r, b, living_but ts i)) time
 
 pub parallel_ends : (c k i : ℕ) (keys : List (Option ℕ)) (m n : Map What) (old new : ℕ)
     → are_gone keys ≡ true → IsFree m n k → new ≡ old + 1
     → StillRule c k heads.parallel keys i None m n old new
-parallel_ends c k i keys m n old new all free tick home f s g m0 was ps t hand e w may =
+parallel_ends c k i keys m n old new all free tick home f s g m0 was ps t hand e w may time =
     let ts = kid_terms heads.parallel c ps in
     let same : replaced (replaced ts i t) i (after heads.parallel c ps i) ≡ ts = replaced_twice ts i t (term_at ts i) ∙ replaced_same ts i in
     let over : all_done ts ≡ true = sym (gone_done f heads.parallel c 0 ps hand.tended) ∙ ap are_gone e ∙ all in
@@ -196,7 +197,7 @@ parallel_ends c k i keys m n old new all free tick home f s g m0 was ps t hand e
 
 pub select_ends : (c k i : ℕ) (keys : List (Option ℕ)) (out : Option ℕ) (m n : Map What) (lost found : List ℕ) (old new : ℕ) → AloneRule m n k keys i out lost found old new
     → LosingRule c k heads.select keys i out m n lost found old new
-select_ends c k i keys out m n lost found old new rule home f s m0 was ps t hand e w may =
+select_ends c k i keys out m n lost found old new rule home f s m0 was ps t hand e w may time =
     let ts = kid_terms heads.select c ps in
     alone_finished home f c k heads.select i m n s lost found old new out m0 was ps t (rule m0 was ps hand.holds e) (kids_whole f heads.select c 0 ps hand.tended) (picked_tended f heads.select c 0 ps i hand.tended)
     (ap (left_by s.held) (picked_term heads.select c 0 ps i))
@@ -238,8 +239,8 @@ few_read (Some x) (Some y) old mid last new p q r = omega (arith, p, q, r)
 
 pub abort_second : (c k i : ℕ) (keys : List (Option ℕ)) (out : Option ℕ) (m n : Map What) (lost found : List ℕ) (old new : ℕ) → (i ≡ 0 → ⊥) → AloneRule m n k keys i out lost found old new
     → LosingRule c k heads.abort keys i out m n lost found old new
-abort_second c k zero keys out m n lost found old new other rule home f s m0 was ps t hand e w may = absurd (other refl)
-abort_second c k (suc zero) keys out m n lost found old new other rule home f s m0 was ps t hand e w may =
+abort_second c k zero keys out m n lost found old new other rule home f s m0 was ps t hand e w may time = absurd (other refl)
+abort_second c k (suc zero) keys out m n lost found old new other rule home f s m0 was ps t hand e w may time =
     let h = heads.abort in
     let ts = kid_terms h c ps in
     let two : width ps ≡ 2 = sym (width_seen ps) ∙ hand.parts in
@@ -247,11 +248,11 @@ abort_second c k (suc zero) keys out m n lost found old new other rule home f s 
     (ap (left_by s.held) (picked_term h c 0 ps 1))
     (ap frames_in (first_stays h c ps two t) ∙ first_frames h c ps two)
     (let a = ap nodes_of (first_stays h c ps two t) in let b = first_nodes h c ps two in omega (arith, a, b))
-abort_second c k (suc (suc i)) keys out m n lost found old new other rule home f s m0 was ps t hand e w may = absurd (omega (arith, may))
+abort_second c k (suc (suc i)) keys out m n lost found old new other rule home f s m0 was ps t hand e w may time = absurd (omega (arith, may))
 
 pub abort_ends : (c k : ℕ) (keys : List (Option ℕ)) (out : Option ℕ) (m n : Map What) (lost found : List ℕ) (old new : ℕ) → slice_index_or keys 0 None ≡ None → AloneRule m n k keys 0 out lost found old new
     → LosingRule c k heads.abort keys 0 out m n lost found old new
-abort_ends c k keys out m n lost found old new none_left rule home f s m0 was ps t hand e w may =
+abort_ends c k keys out m n lost found old new none_left rule home f s m0 was ps t hand e w may time =
     let h = heads.abort in
     let ts = kid_terms h c ps in
     let two : width ps ≡ 2 = sym (width_seen ps) ∙ hand.parts in
@@ -267,7 +268,7 @@ pub abort_goes_on : (c k : ℕ) (keys : List (Option ℕ)) (m n : Map What) (fir
     → ((m k ≡ None → ⊥) → IsWritten m n k kind.Abort keys kept)
     → mid ≡ old + there (slice_index_or keys 0 None) → last ≡ mid + there (slice_index_or keys 1 None) → new ≡ last + 1
     → LosingRule c k heads.abort keys 0 (Some k) m n gathered gathered old new
-abort_goes_on c k keys m n first second kept gathered old mid last new some read further keeps written tick tock tack home f s m0 was ps t hand e w may =
+abort_goes_on c k keys m n first second kept gathered old mid last new some read further keeps written tick tock tack home f s m0 was ps t hand e w may time =
     let h = heads.abort in
     let ts = kid_terms h c ps in
     let two : width ps ≡ 2 = sym (width_seen ps) ∙ hand.parts in
@@ -276,11 +277,11 @@ abort_goes_on c k keys m n first second kept gathered old mid last new some read
     (keeps ∙ (λ j. raised (kept_joined ((read ∙ seconds m ps keys 0 hand.holds.stand e) j) ((further ∙ seconds m ps keys 1 hand.holds.stand e) j))))
     (ap (left_by s.held) (aborted_stays (term_at (replaced ts 0 t) 1) (after h c ps 0) undone) ∙ ap (λ z. left_by s.held (abort (after h c ps 0) z)) (second_stays h c ps two t))
     (ap (λ b. if b then frames_in (term_at (replaced ts 0 t) 1) else []) undone)
-    (few_read (slice_index_or keys 0 None) (slice_index_or keys 1 None) old mid last new tick tock tack)
+    (few_read (slice_index_or keys 0 None) (slice_index_or keys 1 None) old mid last new tick tock tack) time
 
 pub idle_ends : (c k : ℕ) (again : Step) (shift : ShiftView) (keys : List (Option ℕ)) (out : Option ℕ) (m n : Map What) (lost found : List ℕ) (old new : ℕ) → slice_index_or keys 0 None ≡ None → AloneRule m n k keys 0 out lost found old new
     → LosingRule c k (heads.idle again shift) keys 0 out m n lost found old new
-idle_ends c k again shift keys out m n lost found old new none_left rule home f s m0 was ps t hand e w may =
+idle_ends c k again shift keys out m n lost found old new none_left rule home f s m0 was ps t hand e w may time =
     let h = heads.idle again shift in
     let ts = kid_terms h c ps in
     let two : width ps ≡ 2 = sym (width_seen ps) ∙ hand.parts in
@@ -302,7 +303,7 @@ pub idle_goes_on : (c k : ℕ) (again : lying.Step) (shift : ShiftView) (keys : 
     → ((m k ≡ None → ⊥) → IsWritten m n k (kind.Idle again shift) keys kept)
     → mid ≡ old + there (slice_index_or keys 0 None) → last ≡ mid + there (slice_index_or keys 1 None) → new ≡ last + 1
     → LosingRule c k (heads.idle (step.view again) shift) keys 0 (Some k) m n gathered gathered old new
-idle_goes_on c k again shift keys m n first second kept gathered old mid last new some read further keeps written tick tock tack home f s m0 was ps t hand e w may =
+idle_goes_on c k again shift keys m n first second kept gathered old mid last new some read further keeps written tick tock tack home f s m0 was ps t hand e w may time =
     let h = heads.idle (step.view again) shift in
     let ts = kid_terms h c ps in
     let two : width ps ≡ 2 = sym (width_seen ps) ∙ hand.parts in
@@ -311,4 +312,4 @@ idle_goes_on c k again shift keys m n first second kept gathered old mid last ne
     (keeps ∙ (λ j. raised (kept_joined (kept_behind shift.behind ((read ∙ seconds m ps keys 0 hand.holds.stand e) j)) ((further ∙ seconds m ps keys 1 hand.holds.stand e) j))))
     (ap (left_by s.held) (interrupted_stays (term_at (replaced ts 0 t) 1) (step.view again) (after h c ps 0) undone) ∙ ap (λ z. left_by s.held (idle (after h c ps 0) z (step.view again))) (second_stays h c ps two t))
     (ap (λ b. if b then frames_in (term_at (replaced ts 0 t) 1) else []) undone)
-    (few_read (slice_index_or keys 0 None) (slice_index_or keys 1 None) old mid last new tick tock tack)
+    (few_read (slice_index_or keys 0 None) (slice_index_or keys 1 None) old mid last new tick tock tack) time

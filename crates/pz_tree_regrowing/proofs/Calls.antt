@@ -31,7 +31,7 @@ use Rattle.pz_tree_nodes.specs.Keeping.{raised}
 use Rattle.pz_tree_nodes.specs.View.{Plant, Plants, head_view, shape_of, shapes_of, term_in, term_in_option}
 use Rattle.pz_tree_nodes.specs.Tended.{Tended, TendedOption}
 use Rattle.pz_tree_planting.specs.Planting.{root_of}
-use Rattle.pz_tree_regrowing.specs.Regrowing.{at_work}
+use Rattle.pz_tree_regrowing.specs.Regrowing.{InTime, at_work}
 use Rattle.pz_tree_regrowing.specs.devices.Keeping.{kept_in}
 use Rattle.pz_tree_regrowing.specs.devices.Levels.{kid_terms, before, after, Finished, FinishRule, LosingRule, IsWritten, IsFree, BareRule, is_bare_head, is_bare_of, is_bare_node}
 use Rattle.pz_tree_regrowing.proofs.Kids.{same_node, width_seen, picked_root, picked_term, picked_tended, kept_read}
@@ -133,7 +133,7 @@ pub frame_ends : (home : Home) (f c k i : ℕ) (own : FrameId) (inputs : ℕ) (r
     → ended ≡ done → ((h : Home) (body : Term) (j : ℕ) → Became (around h f s.held (frame own.0 inputs results body) j ended) x s t)
     → IsFree m n k → found ≡ gathered ++ (own.0 ∷ []) → new ≡ old + 1
     → FinishRule home f c k (heads.frame own.0 inputs results) (None ∷ []) i None (at_work m s gathered old) (at_work n t found new)
-frame_ends home f c k i own inputs results m n s t x ended gathered found old new is_over became free gives tick m0 was ps u hand e w may =
+frame_ends home f c k i own inputs results m n s t x ended gathered found old new is_over became free gives tick m0 was ps u hand e w may time =
     let h = heads.frame own.0 inputs results in
     let first : slice_index_or (roots ps) 0 None ≡ None = ap (λ z. slice_index_or z 0 None) e in
     let over : after h c ps 0 ≡ done = key_done h c ps 0 first in
@@ -161,7 +161,7 @@ frame_ends home f c k i own inputs results m n s t x ended gathered found old ne
 pub frame_gives_way : (c k i kid : ℕ) (own : FrameId) (inputs : ℕ) (results : List Slot) (m n : Map What) (gathered found : List ℕ) (old mid new : ℕ)
     → results ≡ [] → BareRule m kid true → IsFree m n k → found ≡ gathered ++ (own.0 ∷ []) → mid ≤ old + 2 → new ≡ mid + 1
     → LosingRule c k (heads.frame own.0 inputs results) (Some kid ∷ []) i (Some kid) m n gathered found old new
-frame_gives_way c k i kid own inputs results m n gathered found old mid new plain bare free gives tick tock home f s m0 was ps u hand e w may =
+frame_gives_way c k i kid own inputs results m n gathered found old mid new plain bare free gives tick tock home f s m0 was ps u hand e w may time =
     let h = heads.frame own.0 inputs results in
     let first : slice_index_or (roots ps) 0 None ≡ Some kid = ap (λ z. slice_index_or z 0 None) e in
     let holds : Holds m0 m was k (joined (pick ps 0) none) = subst (Holds m0 m was k) (one_kid ps (sym (width_seen ps) ∙ hand.parts)) hand.holds in
@@ -195,7 +195,7 @@ pub frame_goes_on : (c k i kid : ℕ) (own : FrameId) (inputs : ℕ) (results : 
     → ((m k ≡ None → ⊥) → IsWritten m n k (kind.Frame own inputs results) keys kept)
     → mid ≤ old + 2 → last ≡ mid + 1 → new ≡ last + 1
     → LosingRule c k (heads.frame own.0 inputs results) (Some kid ∷ []) i (Some k) m n gathered gathered old new
-frame_goes_on c k i kid own inputs results bare keys m n kept body gathered old mid last new stays is_bare_there is_keys read keeps written tick tock tack home f s m0 was ps u hand e w may =
+frame_goes_on c k i kid own inputs results bare keys m n kept body gathered old mid last new stays is_bare_there is_keys read keeps written tick tock tack home f s m0 was ps u hand e w may time =
     let h = heads.frame own.0 inputs results in
     let first : slice_index_or (roots ps) 0 None ≡ Some kid = ap (λ z. slice_index_or z 0 None) e in
     let holds : Holds m0 m was k (joined (pick ps 0) none) = subst (Holds m0 m was k) (one_kid ps (sym (width_seen ps) ∙ hand.parts)) hand.holds in
@@ -208,7 +208,7 @@ frame_goes_on c k i kid own inputs results bare keys m n kept body gathered old 
     (keeps ∙ ap raised (read ∙ ap (kept_in m) (sym first) ∙ kept_read m ps 0 hand.holds.stand))
     (frame_stays home f s.held own.0 inputs results (term_at (replaced (kid_terms h c ps) 0 u) 0) 0 (after h c ps 0) undone ∙ ap (left_by s.held) way.0)
     (λ j. if undone j then own.0 ∷ [] else (if way.1 j then own.0 ∷ [] else []))
-    (omega (arith, tick, tock, tack)))
+    (omega (arith, tick, tock, tack)) (subst (λ z. InTime c (before h c ps z u) (after h c ps z)) may time))
   where
     bare_there : (y : Option Plant) → root_of y ≡ Some kid → StandAll m (joined y none) → TendedOption own.0 c y → bare ≡ is_bare (term_in_option c y)
     bare_there None r st t = absurd cc

@@ -7,7 +7,7 @@ use Rattle.pz_nodes_shapes.specs.Change.{Holds}
 use Rattle.pz_nodes_shapes.proofs.Frames.{put_back}
 use Rattle.pz_state.specs.Marks.{Seen}
 use Rattle.pz_rules.specs.Terms.{Term, done, frames_in_all, term_at}
-use Rattle.pz_rules.specs.Settings.{left_by, Home}
+use Rattle.pz_rules.specs.Settings.{Process, left_by, Home}
 use Rattle.pz_rules.specs.Leaving.{replaced, is_done, around}
 use Rattle.pz_tree_standing.specs.FrameCounts.{lost}
 use Rattle.pz_tree_standing.specs.Heads as heads
@@ -22,12 +22,14 @@ use Rattle.pz_tree_nodes.specs.Tended.{TendedOption}
 use Rattle.pz_tree_planting.specs.Planting.{nodes_of_all, root_of}
 use Rattle.pz_tree_dropping.specs.Dropping.{DropAllRule}
 use Rattle.pz_tree_regrowing.specs.Costs.{beside, dropped}
-use Rattle.pz_tree_regrowing.specs.Regrowing.{at_work}
+use Rattle.pz_rules_delays.specs.Short.{IsShort}
+use Rattle.pz_tree_regrowing.specs.Regrowing.{InTime, at_work}
 use Rattle.pz_tree_regrowing.specs.devices.Keeping.{kept_formed, IsPutBack}
 use Rattle.pz_tree_regrowing.specs.devices.Levels.{KidsTended, kid_terms, before, after, Finished, IsWritten, IsFree, LeftAlone, AloneRule}
 use Rattle.pz_tree_regrowing.proofs.Kids.{picked_root, picked_term, picked_tended, kid_terms_with}
 use Rattle.pz_tree_regrowing.proofs.Leaving.{in_place}
 use Rattle.pz_tree_regrowing.proofs.Others.{others_within, others_gone, one_left}
+use Rattle.pz_tree_regrowing.proofs.Shorts.{around_short}
 use Rattle.pz_tree_regrowing.proofs.Sizes.{few_below}
 use Rattle.pz_tree_regrowing.proofs.Tending.{node_tended, some_undone}
 
@@ -61,14 +63,16 @@ pub kept_over : (home : Home) (f c k : ℕ) (h : heads.Head) (i : ℕ) (m n : Ma
     → around home f s.held (before h c ps i t) i (after h c ps i) ≡ left_by s.held (formed (head_view head) c (kid_terms (head_view head) c ps))
     → lost (before h c ps i t) i (after h c ps i) ≡ []
     → new ≤ old + (4 + beside (before h c ps i t) i)
+    → InTime c (before h c ps i t) (after h c ps i)
     → Finished home f c m0 was h ps i t (Some k) (at_work m s gathered old) (at_work n s gathered new)
-kept_over home f c k h i m n s gathered old new head keys kept m0 was ps t holds e parts fits kids back w keeps is none_lost few =
+kept_over home f c k h i m n s gathered old new head keys kept m0 was ps t holds e parts fits kids back w keeps is none_lost few time =
     let x : What = record { head = head; kept = kept } in
+    let short : IsShort (formed (head_view head) c (kid_terms (head_view head) c ps)) = subst (λ (p : Process). IsShort p.term) is (around_short home s.held f (before h c ps i t) i (after h c ps i) time.short time.part) in
     record {
       plant = Some (rose.node k x ps);
       under = refl;
       becomes = put_back m0 m n was k x ps holds (w.written ∙ ap (λ z. Some (record { what = x; kids = z })) (sym e)) w.others;
-      tended = node_tended f c k x ps parts fits kids back keeps;
+      tended = node_tended f c k x ps parts fits kids back keeps time.room short;
       means = in_place (around home f s.held (before h c ps i t) i (after h c ps i)) (formed (head_view head) c (kid_terms (head_view head) c ps)) s is;
       lost = sym (append_none gathered) ∙ ap (λ z. gathered ++ z) (sym none_lost);
       ticks = omega (arith, few);

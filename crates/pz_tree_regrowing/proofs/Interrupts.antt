@@ -23,14 +23,16 @@ use Rattle.pz_tree_nodes.specs.declared.node.Head.TheVariants as kind
 use Rattle.pz_tree_nodes.specs.declared.node.What.{What}
 use Rattle.pz_tree_nodes.specs.Keeping.{joined as kept_joined, raised}
 use Rattle.pz_tree_planting.specs.devices.Leaves.{second_alone}
-use Rattle.pz_tree_nodes.specs.View.{Plant, Plants, shapes_of, term_in_option}
+use Rattle.pz_tree_nodes.specs.View.{Plant, Plants, shapes_of, term_in, term_in_option}
 use Rattle.pz_tree_planting.specs.Planting.{nodes_of, root_of, Planted}
+use Rattle.pz_rules_delays.specs.Short.{IsShort}
 use Rattle.pz_tree_regrowing.specs.Costs.{beside, made, if_done}
 use Rattle.pz_tree_regrowing.specs.devices.Keeping.{kept_at, kept_in, kept_behind}
 use Rattle.pz_tree_regrowing.specs.devices.Levels.{KidsTended, kid_terms, before, after, there, IsWritten, interrupt, ResumeRule, SuspendRule, SecondRule, ChangingRule}
 use Rattle.pz_tree_regrowing.proofs.LocalClocks.{frozen_fits, frozen_local, thawed_within, thawed_local}
 use Rattle.pz_tree_regrowing.proofs.Kids.{replaced_there, width_seen, width_with_kid, width_terms, picked_root, kid_terms_with, same_kid_terms, roots_with_kid, with_kid_tended, same_tended, kept_read}
 use Rattle.pz_tree_regrowing.proofs.Leaving.{handled_stays}
+use Rattle.pz_tree_regrowing.proofs.Shorts.{around_short}
 use Rattle.pz_tree_regrowing.proofs.Tending.{node_tended}
 use Rattle.pz_tree_regrowing.proofs.ByForm.{first_stays, few_read}
 use Rattle.pz_tree_regrowing.proofs.Finishing.{append_none, key_done, key_undone, kept_over}
@@ -79,7 +81,7 @@ pub suspended : (c k : ℕ) (again : lying.Step) (shift now : ShiftView) (keys :
     → ((m k ≡ None → ⊥) → IsWritten m n k (kind.Handling again now) keys kept)
     → mid ≡ old + there (slice_index_or keys 0 None) → last ≡ mid + there (slice_index_or keys 1 None) → new ≡ last + 1
     → SuspendRule c k (step.view again) shift keys (Some k) m n old new
-suspended c k again shift now keys m n first second kept old mid last new freezes begins read keeps written tick tock tack some runs home f s g m0 was ps t hand e w may =
+suspended c k again shift now keys m n first second kept old mid last new freezes begins read keeps written tick tock tack some runs home f s g m0 was ps t hand e w may time =
     let h = interrupt runs (step.view again) shift in
     let new_head = heads.handling (step.view again) now in
     let fits = fits_of runs (step.view again) shift c hand.fits in
@@ -98,7 +100,7 @@ suspended c k again shift now keys m n first second kept old mid last new freeze
     ∙ ap (λ z. left_by s.held (handling z (after h c ps 1) (step.view again))) (first_stays h c ps two t)
     ∙ ap (λ ts. left_by s.held (handling (term_at ts 0) (term_at ts 1) (step.view again))) (same_kid_terms h new_head c same 0 ps))
     (lost_of runs (step.view again) shift c ps t)
-    (more (few_read (slice_index_or keys 0 None) (slice_index_or keys 1 None) old mid last new tick tock tack))
+    (more (few_read (slice_index_or keys 0 None) (slice_index_or keys 1 None) old mid last new tick tock tack)) time
   where
     more : new ≤ old + (4 + 0) → new ≤ old + (4 + beside (before (interrupt runs (step.view again) shift) c ps 1 t) 1)
     more q = omega (arith, q)
@@ -112,7 +114,7 @@ pub resumed : (home : Home) (c k : ℕ) (again : lying.Step) (shift now : ShiftV
     → ((m1 k ≡ None → ⊥) → IsWritten m1 n k (kind.Idle again now) keys kept)
     → then ≡ mid + there first → last ≡ then + there second → new ≡ last + 1
     → ResumeRule home c k (step.view again) shift first (Some k) m n s t old new
-resumed home c k again shift now first second keys m m1 n x s t first_kept second_kept kept old mid then last new thaws became planted made_steps is_keys read further keeps written tick tock tack runs f g m0 was ps u hand e w may =
+resumed home c k again shift now first second keys m m1 n x s t first_kept second_kept kept old mid then last new thaws became planted made_steps is_keys read further keeps written tick tock tack runs f g m0 was ps u hand e w may time =
     let h = interrupt runs (step.view again) shift in
     let new_head = heads.idle (step.view again) now in
     let fits = fits_of runs (step.view again) shift c hand.fits in
@@ -143,13 +145,16 @@ resumed home c k again shift now first second keys m m1 n x s t first_kept secon
     keeps ∙ (λ i. raised (kept_joined (kept_behind now.behind ((read ∙ ap (λ v. kept_in m1 (slice_index_or v 0 None)) (sym is_keys ∙ sym roots_are) ∙ kept_read m1 qs 0 held.stand) i)) ((further ∙ ap (λ v. kept_in m1 (slice_index_or v 1 None)) (sym is_keys ∙ sym roots_are) ∙ kept_read m1 qs 1 held.stand) i))) in
     let size : nodes_of x ≡ made home s.held (before h c ps 1 u) 1 (after h c ps 1) =
     ap nodes_of became.term ∙ ap (λ v. if_done v (nodes_of (opened home (step.view again) s.held).term)) (sym over) ∙ sym (made_of runs (step.view again) shift home c s.held ps u) in
+    let term_is : idle (term_at (kid_terms new_head c qs) 0) (term_at (kid_terms new_head c qs) 1) (step.view again) ≡ (around home f s.held (before h c ps 1 u) 1 (after h c ps 1)).term =
+    (λ i. idle (first_term i) (second_term i) (step.view again)) ∙ ap (λ (q : Process). q.term) (sym opens) in
+    let short : IsShort (term_in c (node k z qs)) = subst IsShort (sym term_is) (around_short home s.held f (before h c ps 1 u) 1 (after h c ps 1) time.short time.part) in
     record {
       plant = Some (node k z qs);
       under = refl;
       becomes = put_back m0 m1 n was k z qs held (put.written ∙ ap (λ v. Some (record { what = z; kids = v })) (sym roots_are)) put.others;
-      tended = node_tended f c k z qs (width_seen qs ∙ width_with_kid ps 1 y ∙ two) fits_now kids_now tt kept_is;
+      tended = node_tended f c k z qs (width_seen qs ∙ width_with_kid ps 1 y ∙ two) fits_now kids_now tt kept_is time.room short;
       means = record {
-        term = (λ i. idle (first_term i) (second_term i) (step.view again)) ∙ ap (λ (q : Process). q.term) (sym opens);
+        term = term_is;
         state = became.state ∙ ap (λ (q : Process). changed s q.state) (sym opens);
       };
       lost = sym (append_none g) ∙ ap (λ v. g ++ v) (sym (lost_of runs (step.view again) shift c ps u));
@@ -189,12 +194,12 @@ two_keys ps keys p e = by ps p ∙ ap (λ z. slice_index_or z 0 None ∷ (slice_
 
 pub second_done : (home : Home) (c k : ℕ) (again : Step) (shift : ShiftView) (keys : List (Option ℕ)) (first out : Option ℕ) (m n : Map What) (s t : Seen) (old new : ℕ)
     → first ≡ slice_index_or keys 0 None → slice_index_or keys 1 None ≡ None → ResumeRule home c k again shift first out m n s t old new → SecondRule home c k again shift keys out m n s t old new
-second_done home c k again shift keys first out m n s t old new is over rule runs f g m0 was ps u hand e w may =
-    rule runs f g m0 was ps u hand (two_keys ps keys (two_of runs again shift c ps hand.parts) e ∙ (λ i. sym is i ∷ (over i ∷ []))) w may
+second_done home c k again shift keys first out m n s t old new is over rule runs f g m0 was ps u hand e w may time =
+    rule runs f g m0 was ps u hand (two_keys ps keys (two_of runs again shift c ps hand.parts) e ∙ (λ i. sym is i ∷ (over i ∷ []))) w may time
 
 -- of one whose first part ran
 pub idle_second : (home : Home) (c k number : ℕ) (again : Step) (shift : ShiftView) (keys : List (Option ℕ)) (out : Option ℕ) (m n : Map What) (s t : Seen) (old new : ℕ)
     → (number ≡ 0 → ⊥) → SecondRule home c k again shift keys out m n s t old new → ChangingRule home c k (heads.idle again shift) keys number out m n s t old new
-idle_second home c k zero again shift keys out m n s t old new other rule f g m0 was ps u hand e w may = absurd (other refl)
-idle_second home c k (suc zero) again shift keys out m n s t old new other rule f g m0 was ps u hand e w may = rule true f g m0 was ps u hand e w may
-idle_second home c k (suc (suc i)) again shift keys out m n s t old new other rule f g m0 was ps u hand e w may = absurd (omega (arith, may))
+idle_second home c k zero again shift keys out m n s t old new other rule f g m0 was ps u hand e w may time = absurd (other refl)
+idle_second home c k (suc zero) again shift keys out m n s t old new other rule f g m0 was ps u hand e w may time = rule true f g m0 was ps u hand e w may time
+idle_second home c k (suc (suc i)) again shift keys out m n s t old new other rule f g m0 was ps u hand e w may time = absurd (omega (arith, may))

@@ -11,6 +11,7 @@ mod ShiftNodes
 mod Interrupts
 mod Calls
 mod Openings
+pub mod Shorts
 mod Children
 mod Rounds
 mod Writes

@@ -26,11 +26,13 @@ use Rattle.pz_tree_nodes.specs.Tended.{Tended, TendedOption}
 use Rattle.pz_tree_planting.specs.Planting.{EndsInTime, EndInTime, nodes_of, root_of, size_of, Planted}
 use Rattle.pz_tree_regrowing.proofs.Children.{form_child, form_frame}
 use Rattle.pz_tree_regrowing.specs.Costs.{beside, on_way, made, made_all, dropped, dropped_all}
-use Rattle.pz_tree_regrowing.specs.Regrowing.{Work, at_work, StandsOption, steps_for, Regrown, RegrowRule}
+use Rattle.pz_rules_delays.specs.Short.{IsShort}
+use Rattle.pz_tree_regrowing.specs.Regrowing.{Work, at_work, StandsOption, steps_for, InTime, Regrown, RegrowRule}
 use Rattle.pz_tree_regrowing.specs.devices.Levels.{KidsTended, kid_terms, InHand, before, after, FinishRule, IsTaken, IsChildOf, IsShiftAt, IsNoShiftAt, ShiftRule, SecondRule, ChangingRule}
 use Rattle.pz_tree_regrowing.specs.devices.Rounds.{ClearRule, ReplantRule, later_by, BareRegrowRule}
 use Rattle.pz_tree_regrowing.proofs.LocalClocks.{thawed_within, thawed_local, runs_as}
 use Rattle.pz_tree_regrowing.proofs.Kids.{same_node, replaced_twice, replaced_same, replaced_there, width_seen, width_with_kid, width_terms, picked_root, picked_term, picked_tended, roots_with_kid, kid_terms_with, same_parts, with_kid_tended}
+use Rattle.pz_rules_delays.proofs.Opened.{child_short, residual_short}
 use Rattle.pz_tree_regrowing.proofs.Sizes.{few_nodes}
 use Rattle.pz_tree_regrowing.proofs.Tending.{node_kids}
 use Rattle.pz_tree_regrowing.proofs.ByForm.{one_key}
@@ -84,7 +86,7 @@ replanted m m1 n key c x out old mid new clear planted tick p f r st t =
 
 pub regrown_here : (h : Home) (m n : Map What) (key : Option ℕ) (f c : ℕ) (place : Place) (x : Term) (out : Option ℕ) (s : Seen) (gathered : List ℕ) (old new : ℕ) → place ≡ [] → ReplantRule m n key c x out old new
     → BareRegrowRule h key f c place x out (at_work m s gathered old) (at_work n s gathered new)
-regrown_here h m n key f c place x out s gathered old new e rule p r st t b may =
+regrown_here h m n key f c place x out s gathered old new e rule p r st t b may time =
     let o = rule p f r st t in
     subst (λ z. Regrown h f c p z x out (at_work m s gathered old) (later_by 5 (at_work n s gathered new))) (sym e)
     (record {
@@ -98,8 +100,8 @@ regrown_here h m n key f c place x out s gathered old new e rule p r st t b may 
     })
 
 pub nothing_acts : (h : Home) (m n : Map What) (key : Option ℕ) (f c i : ℕ) (place rest : Place) (x : Term) (out : Option ℕ) (a b : Work) → key ≡ None → place ≡ i ∷ rest → BareRegrowRule h key f c place x out a b
-nothing_acts h m n key f c i place rest x out a b e is None r st t bare may = absurd (subst (λ z. MayAct done z) is may).0
-nothing_acts h m n key f c i place rest x out a b e is (Some p) r st t bare may = absurd (let q : Some (root p) ≡ None = r ∙ e in cc)
+nothing_acts h m n key f c i place rest x out a b e is None r st t bare may time = absurd (subst (λ z. MayAct done z) is may).0
+nothing_acts h m n key f c i place rest x out a b e is (Some p) r st t bare may time = absurd (let q : Some (root p) ≡ None = r ∙ e in cc)
 
 -- ------------------------------------------------------------ around it
 
@@ -140,13 +142,13 @@ goes_through h f t i inner s mid last x y z whole within is same b =
 
 pub level_regrown : (h : Home) (m m1 m2 n : Map What) (key : ℕ) (spot_key : Option ℕ) (f c i : ℕ) (place rest : Place) (x : Term) (below left out : Option ℕ) (inner_f inner_c : ℕ) (s mid last : Seen) (gathered found all : List ℕ) (old begun back taken new : ℕ) (head : Head) (keys : List (Option ℕ))
     → spot_key ≡ Some key → place ≡ i ∷ rest
-    → IsChildOf m spot_key f c i below inner_f inner_c → begun ≤ old + 1
+    → IsChildOf m spot_key f c i below inner_f inner_c → inner_c ≤ c → begun ≤ old + 1
     → RegrowRule h below inner_f inner_c rest x left (at_work m s gathered begun) (at_work m1 mid found back)
     → IsTaken m1 m2 key i left head keys → taken ≡ back + 1
     → FinishRule h f c key (head_view head) keys i out (at_work m2 mid found taken) (at_work n last all new)
     → BareRegrowRule h spot_key f c place x out (at_work m s gathered old) (at_work n last all new)
-level_regrown h m m1 m2 n key spot_key f c i place rest x below left out inner_f inner_c s mid last gathered found all old begun back taken new head keys is_key is_place kid begin rule take tick finish None r st t bare may = absurd (let q : None ≡ Some key = r ∙ is_key in cc)
-level_regrown h m m1 m2 n key spot_key f c i place rest x below left out inner_f inner_c s mid last gathered found all old begun back taken new head keys is_key is_place kid begin rule take tick finish (Some (node k y ps)) r st t bare may =
+level_regrown h m m1 m2 n key spot_key f c i place rest x below left out inner_f inner_c s mid last gathered found all old begun back taken new head keys is_key is_place kid sooner begin rule take tick finish None r st t bare may time = absurd (let q : None ≡ Some key = r ∙ is_key in cc)
+level_regrown h m m1 m2 n key spot_key f c i place rest x below left out inner_f inner_c s mid last gathered found all old begun back taken new head keys is_key is_place kid sooner begin rule take tick finish (Some (node k y ps)) r st t bare may time =
     let hv = head_view y.head in
     let p : Plant = node k y ps in
     let ts = kid_terms hv c ps in
@@ -170,7 +172,9 @@ level_regrown h m m1 m2 n key spot_key f c i place rest x below left out inner_f
     form_child hv c (shapes_of ps) i parts bare ∙ picked_term hv c 0 ps i ∙ ap (λ z. term_in_option (inner_clock hv z c) q) at_first ∙ ap (λ z. term_in_option z q) (sym clocked) in
     let q_frame : frame_in whole f ≡ inner_f = sym (form_frame hv c ts f bare) ∙ sym framed in
     let below_is : root_of q ≡ below = sym (picked_root ps i) ∙ sym found_kid.key in
-    let o = rule q below_is (picked_stands m ps i q refl st.2) q_tended (subst (λ z. MayAct z rest) q_term may_act.1) in
+    let inner_short : IsShort (child whole i) = child_short whole i time.short in
+    let o = rule q below_is (picked_stands m ps i q refl st.2) q_tended (subst (λ z. MayAct z rest) q_term may_act.1)
+    (record { room = omega (arith, sooner, time.room); short = subst IsShort q_term inner_short; part = time.part }) in
     -- in hand
     let qs = with_kid ps i o.plant in
     let held1 : Holds m m1 (has p) k qs = worked m m m1 (has p) k ps i o.plant within (taken_in_hand m k y ps st) o.becomes in
@@ -195,13 +199,15 @@ level_regrown h m m1 m2 n key spot_key f c i place rest x below left out inner_f
     let before_is : before hv c qs i (term_at ts i) ≡ whole = ap (λ z. formed hv c (replaced z i (term_at ts i))) terms_now ∙ ap (formed hv c) (replaced_twice ts i xs (term_at ts i) ∙ replaced_same ts i) in
     let after_is : after hv c qs i ≡ xs = ap (λ z. term_at z i) terms_now ∙ replaced_there ts i xs (let v : i < count ts = omega (arith, within, width_terms hv c 0 ps) in v) in
     let rule_here = subst (λ z. FinishRule h f c key z keys i out (at_work m2 mid found taken) (at_work n last all new)) (sym head_is) finish in
-    let z = rule_here m (has p) qs (term_at ts i) in_hand keys_are (let v : i < width qs = omega (arith, within, width_with_kid ps i o.plant) in v) (subst (λ v. MayActIn v i) (sym before_is) may_act.0) in
     -- all together
     let inner = residual h (frame_in whole f) (child whole i) rest (left_by s.held x) in
     let inner_is : residual h inner_f (term_in_option inner_c q) rest (left_by s.held x) ≡ inner = λ j. residual h (sym q_frame j) (sym q_term j) rest (left_by s.held x) in
     let went : Became inner xs s mid = subst (λ v. Became v xs s mid) inner_is o.means in
     let state_is : mid.held ≡ inner.state = ap (λ (v : Seen). v.held) went.state in
     let term_is : after hv c qs i ≡ inner.term = after_is ∙ went.term in
+    let left_short : IsShort inner.term = residual_short h (frame_in whole f) (child whole i) rest (left_by s.held x) inner_short time.part in
+    let z = rule_here m (has p) qs (term_at ts i) in_hand keys_are (let v : i < width qs = omega (arith, within, width_with_kid ps i o.plant) in v) (subst (λ v. MayActIn v i) (sym before_is) may_act.0)
+    (record { room = time.room; short = subst IsShort (sym before_is) time.short; part = subst IsShort (sym term_is) left_short }) in
     subst (λ v. Regrown h f c (Some p) v x out (at_work m s gathered old) (later_by 5 (at_work n last all new))) (sym is_place)
     (record {
       plant = z.plant;
@@ -224,12 +230,12 @@ level_regrown h m m1 m2 n key spot_key f c i place rest x below left out inner_f
 -- a node stays under its key while a part of it becomes another, so it is found there
 pub none_taken : (h : Home) (m m1 n : Map What) (key : ℕ) (spot_key : Option ℕ) (f c i : ℕ) (place rest : Place) (x : Term) (below left out : Option ℕ) (inner_f inner_c : ℕ) (s mid last : Seen) (gathered found all : List ℕ) (old begun back new : ℕ)
     → spot_key ≡ Some key → place ≡ i ∷ rest
-    → IsChildOf m spot_key f c i below inner_f inner_c
+    → IsChildOf m spot_key f c i below inner_f inner_c → inner_c ≤ c
     → RegrowRule h below inner_f inner_c rest x left (at_work m s gathered begun) (at_work m1 mid found back)
     → m1 key ≡ None
     → BareRegrowRule h spot_key f c place x out (at_work m s gathered old) (at_work n last all new)
-none_taken h m m1 n key spot_key f c i place rest x below left out inner_f inner_c s mid last gathered found all old begun back new is_key is_place kid rule vacant None r st t bare may = absurd (let q : None ≡ Some key = r ∙ is_key in cc)
-none_taken h m m1 n key spot_key f c i place rest x below left out inner_f inner_c s mid last gathered found all old begun back new is_key is_place kid rule vacant (Some (node k y ps)) r st t bare may =
+none_taken h m m1 n key spot_key f c i place rest x below left out inner_f inner_c s mid last gathered found all old begun back new is_key is_place kid sooner rule vacant None r st t bare may time = absurd (let q : None ≡ Some key = r ∙ is_key in cc)
+none_taken h m m1 n key spot_key f c i place rest x below left out inner_f inner_c s mid last gathered found all old begun back new is_key is_place kid sooner rule vacant (Some (node k y ps)) r st t bare may time =
     let hv = head_view y.head in
     let whole = formed hv c (kid_terms hv c ps) in
     let may_act : MayActIn whole i × MayAct (child whole i) rest = subst (λ z. MayAct whole z) is_place may in
@@ -246,7 +252,8 @@ none_taken h m m1 n key spot_key f c i place rest x below left out inner_f inner
     subst (λ z. TendedOption z inner_c q) (sym found_kid.framed) (subst (λ z. TendedOption (inner_frame hv f) z q) (ap (λ z. inner_clock hv z c) at_first ∙ sym clocked) (picked_tended (inner_frame hv f) hv c 0 ps i (node_kids f c k y ps t))) in
     let q_term : child whole i ≡ term_in_option inner_c q =
     form_child hv c (shapes_of ps) i parts bare ∙ picked_term hv c 0 ps i ∙ ap (λ z. term_in_option (inner_clock hv z c) q) at_first ∙ ap (λ z. term_in_option z q) (sym clocked) in
-    let o = rule q (sym (picked_root ps i) ∙ sym found_kid.key) (picked_stands m ps i q refl st.2) q_tended (subst (λ z. MayAct z rest) q_term may_act.1) in
+    let o = rule q (sym (picked_root ps i) ∙ sym found_kid.key) (picked_stands m ps i q refl st.2) q_tended (subst (λ z. MayAct z rest) q_term may_act.1)
+    (record { room = omega (arith, sooner, time.room); short = subst IsShort q_term (child_short whole i time.short); part = time.part }) in
     let held : Holds m m1 (has (node k y ps)) k (with_kid ps i o.plant) = worked m m m1 (has (node k y ps)) k ps i o.plant within (taken_in_hand m k y ps st) o.becomes in
     let same_key : m1 k ≡ m k = (kids_change m m1 ps i o.plant within o.becomes).kept k st.1 held.outside in
     absurd (let e : None ≡ Some was = sym vacant ∙ ap m1 (sym here) ∙ same_key ∙ st.0 in cc)
@@ -259,15 +266,15 @@ of_form home f c k h g keys i out a b e rule = subst (λ z. FinishRule home f c 
 -- of one child
 pub one_rule : (home : Home) (f c k : ℕ) (h : heads.Head) (keys : List (Option ℕ)) (i : ℕ) (left out : Option ℕ) (a b : Work) → ((ps : Plants) → HasParts h (shapes_of ps) → width (shapes_of ps) ≡ 1)
     → left ≡ slice_index_or keys 0 None → FinishRule home f c k h (left ∷ []) i out a b → FinishRule home f c k h keys i out a b
-one_rule home f c k h keys i left out a b one is rule m0 was ps t hand e w may =
-    rule m0 was ps t hand (one_key ps keys (sym (width_seen ps) ∙ one ps hand.parts) e ∙ ap (λ z. z ∷ []) (sym is)) w may
+one_rule home f c k h keys i left out a b one is rule m0 was ps t hand e w may time =
+    rule m0 was ps t hand (one_key ps keys (sym (width_seen ps) ∙ one ps hand.parts) e ∙ ap (λ z. z ∷ []) (sym is)) w may time
 
 -- of an interrupt whose first part stands still
 pub handling_second : (home : Home) (c k number : ℕ) (again : Step) (shift : ShiftView) (keys : List (Option ℕ)) (out : Option ℕ) (m n : Map What) (s t : Seen) (old new : ℕ)
     → SecondRule home c k again shift keys out m n s t old new → ChangingRule home c k (heads.handling again shift) keys number out m n s t old new
-handling_second home c k zero again shift keys out m n s t old new rule f g m0 was ps u hand e w may = absurd (omega (arith, may))
-handling_second home c k (suc zero) again shift keys out m n s t old new rule f g m0 was ps u hand e w may = rule false f g m0 was ps u hand e w may
-handling_second home c k (suc (suc i)) again shift keys out m n s t old new rule f g m0 was ps u hand e w may = absurd (omega (arith, may))
+handling_second home c k zero again shift keys out m n s t old new rule f g m0 was ps u hand e w may time = absurd (omega (arith, may))
+handling_second home c k (suc zero) again shift keys out m n s t old new rule f g m0 was ps u hand e w may time = rule false f g m0 was ps u hand e w may time
+handling_second home c k (suc (suc i)) again shift keys out m n s t old new rule f g m0 was ps u hand e w may time = absurd (omega (arith, may))
 
 -- ------------------------------------------------------------ a shift node on top
 
@@ -285,37 +292,40 @@ soon h f c p place x out m n s t lost found old begun new le r = record {
 
 pub none_regrown : (h : Home) (key : Option ℕ) (f c : ℕ) (place : Place) (x : Term) (out : Option ℕ) (m n : Map What) (s t : Seen) (lost found : List ℕ) (old new : ℕ) → key ≡ None
     → BareRegrowRule h key f c place x out (at_work m s lost old) (at_work n t found new) → RegrowRule h key f c place x out (at_work m s lost old) (at_work n t found new)
-none_regrown h key f c place x out m n s t lost found old new e rule None r st u may = soon h f c None place x out m n s t lost found old old new (omega arith) (rule None r st u tt may)
-none_regrown h key f c place x out m n s t lost found old new e rule (Some p) r st u may = absurd (let q : Some (root p) ≡ None = r ∙ e in cc)
+none_regrown h key f c place x out m n s t lost found old new e rule None r st u may time = soon h f c None place x out m n s t lost found old old new (omega arith) (rule None r st u tt may time)
+none_regrown h key f c place x out m n s t lost found old new e rule (Some p) r st u may time = absurd (let q : Some (root p) ≡ None = r ∙ e in cc)
 
 pub bare_regrown : (h : Home) (spot_key : Option ℕ) (key f c : ℕ) (place : Place) (x : Term) (out : Option ℕ) (m n : Map What) (s t : Seen) (lost found : List ℕ) (old begun new : ℕ) → spot_key ≡ Some key → IsNoShiftAt m key → begun ≡ old + 1
     → BareRegrowRule h spot_key f c place x out (at_work m s lost begun) (at_work n t found new) → RegrowRule h spot_key f c place x out (at_work m s lost old) (at_work n t found new)
-bare_regrown h spot_key key f c place x out m n s t gathered found old begun new e other tick rule None r st u may = absurd (let q : None ≡ Some key = r ∙ e in cc)
-bare_regrown h spot_key key f c place x out m n s t gathered found old begun new e other tick rule (Some (node k y ps)) r st u may =
+bare_regrown h spot_key key f c place x out m n s t gathered found old begun new e other tick rule None r st u may time = absurd (let q : None ≡ Some key = r ∙ e in cc)
+bare_regrown h spot_key key f c place x out m n s t gathered found old begun new e other tick rule (Some (node k y ps)) r st u may time =
     let here : k ≡ key = (let q : Some k ≡ Some key = r ∙ e in cc) in
     let bare : IsNoShift (head_view y.head) = other (record { what = y; kids = roots ps }) (ap m (sym here) ∙ st.0) in
-    soon h f c (Some (node k y ps)) place x out m n s t gathered found old begun new (omega (arith, tick)) (rule (Some (node k y ps)) r st u bare may)
+    soon h f c (Some (node k y ps)) place x out m n s t gathered found old begun new (omega (arith, tick)) (rule (Some (node k y ps)) r st u bare may time)
 
 one_shift : (h : Home) (m m1 n : Map What) (key f c : ℕ) (place : Place) (x : Term) (left out : Option ℕ) (s t : Seen) (lost found : List ℕ) (old begun back new : ℕ) (by : ℕ) (below : Option ℕ) (y : What) (shift : ShiftView) (ps : Plants)
     → head_view y.head ≡ heads.shifted shift → OneInside (shapes_of ps) → ShiftFits shift c × (is_running shift ≡ true) → KidsTended f (heads.shifted shift) c 0 ps
     → by ≡ shift.behind → below ≡ slice_index_or (roots ps) 0 None → begun ≡ old + 1
-    → Stands m (node key y ps) → MayAct (term_in c (node key y ps)) place
+    → Stands m (node key y ps) → MayAct (term_in c (node key y ps)) place → InTime c (term_in c (node key y ps)) x
     → BareRegrowRule h below f (c - by) place x left (at_work m s lost begun) (at_work m1 t found back)
     → ShiftRule m1 n key by c left out back new
     → Regrown h f c (Some (node key y ps)) place x out (at_work m s lost old) (at_work n t found new)
-one_shift h m m1 n key f c place x left out s t lost found old begun back new by below y shift none is parts fits kids b e tick st may rule over = absurd parts
-one_shift h m m1 n key f c place x left out s t lost found old begun back new by below y shift (gone ps) is parts fits kids b e tick st may rule over = absurd parts
-one_shift h m m1 n key f c place x left out s t lost found old begun back new by below y shift (more (node k z qs) (gone ps)) is parts fits kids b e tick st may rule over = absurd parts
-one_shift h m m1 n key f c place x left out s t lost found old begun back new by below y shift (more (node k z qs) (more u ps)) is parts fits kids b e tick st may rule over = absurd parts
-one_shift h m m1 n key f c place x left out s t lost found old begun back new by below y shift (more (node k z qs) none) is parts fits kids b e tick st may rule over =
+one_shift h m m1 n key f c place x left out s t lost found old begun back new by below y shift none is parts fits kids b e tick st may time rule over = absurd parts
+one_shift h m m1 n key f c place x left out s t lost found old begun back new by below y shift (gone ps) is parts fits kids b e tick st may time rule over = absurd parts
+one_shift h m m1 n key f c place x left out s t lost found old begun back new by below y shift (more (node k z qs) (gone ps)) is parts fits kids b e tick st may time rule over = absurd parts
+one_shift h m m1 n key f c place x left out s t lost found old begun back new by below y shift (more (node k z qs) (more u ps)) is parts fits kids b e tick st may time rule over = absurd parts
+one_shift h m m1 n key f c place x left out s t lost found old begun back new by below y shift (more (node k z qs) none) is parts fits kids b e tick st may time rule over =
     let q : Plant = node k z qs in
     let p : Plant = node key y (more q none) in
     let clock : local shift c ≡ c - by = thawed_local shift c fits.0 ∙ ap (λ v. c - v) (runs_as shift c fits.1 ∙ sym b) in
     let within : by ≤ c = subst (λ v. v ≤ c) (runs_as shift c fits.1 ∙ sym b) (thawed_within shift c fits.0) in
     let means : term_in c p ≡ term_in (c - by) q = ap (λ v. formed v c (terms_of v c 0 (shapes_of (more q none)))) is ∙ ap (λ v. term_in v q) clock in
-    let o = rule (Some q) (sym e) st.2.1 (subst (λ v. Tended f v q) clock kids.0) parts (subst (λ v. MayAct v place) means may) in
+    let inner_short : IsShort (term_in (c - by) q) = subst IsShort means time.short in
+    let o = rule (Some q) (sym e) st.2.1 (subst (λ v. Tended f v q) clock kids.0) parts (subst (λ v. MayAct v place) means may)
+    (record { room = omega (arith, time.room); short = inner_short; part = time.part }) in
     let held : Holds m m1 (has p) key (joined o.plant none) = worked m m m1 (has p) key (more q none) 0 o.plant (omega arith) (taken_in_hand m key y (more q none) st) o.becomes in
-    let w = over m (has p) f o.plant held o.under within o.tended in
+    let left_short : IsShort (term_in_option (c - by) o.plant) = subst IsShort (sym o.means.term) (residual_short h f (term_in (c - by) q) place (left_by s.held x) inner_short time.part) in
+    let w = over m (has p) f o.plant held o.under within o.tended time.room left_short in
     let inner : residual h f (term_in (c - by) q) place (left_by s.held x) ≡ residual h f (term_in c p) place (left_by s.held x) = ap (λ v. residual h f v place (left_by s.held x)) (sym means) in
     record {
       plant = w.plant;
@@ -334,8 +344,8 @@ pub shift_regrown : (h : Home) (m m1 n : Map What) (spot_key : Option ℕ) (key 
     → BareRegrowRule h below f inner_c place x left (at_work m s lost begun) (at_work m1 t found back)
     → ShiftRule m1 n key by c left out back new
     → RegrowRule h spot_key f c place x out (at_work m s lost old) (at_work n t found new)
-shift_regrown h m m1 n spot_key key f c place x left out s t lost found old begun back new by inner_c below e at tick clock rule over None r st u may = absurd (let q : None ≡ Some key = r ∙ e in cc)
-shift_regrown h m m1 n spot_key key f c place x left out s t lost found old begun back new by inner_c below e at tick clock rule over (Some (node k y ps)) r st u may =
+shift_regrown h m m1 n spot_key key f c place x left out s t lost found old begun back new by inner_c below e at tick clock rule over None r st u may time = absurd (let q : None ≡ Some key = r ∙ e in cc)
+shift_regrown h m m1 n spot_key key f c place x left out s t lost found old begun back new by inner_c below e at tick clock rule over (Some (node k y ps)) r st u may time =
     let here : key ≡ k = (let q : Some k ≡ Some key = r ∙ e in cc) in
     let same : at.was ≡ record { what = y; kids = roots ps } = same_node at.was (record { what = y; kids = roots ps }) (sym at.stands ∙ ap m here ∙ st.0) in
     let is : head_view y.head ≡ heads.shifted at.shift = ap (λ z. head_view z.what.head) (sym same) ∙ ap head_view at.is in
@@ -343,6 +353,6 @@ shift_regrown h m m1 n spot_key key f c place x left out s t lost found old begu
     one_shift h m m1 n k f c place x left out s t lost found old begun back new by below y at.shift ps is
     (subst (λ v. HasParts v (shapes_of ps)) is u.sound.whole.0) fits
     (subst (λ v. KidsTended (inner_frame v f) v c 0 ps) is (node_kids f c k y ps u))
-    (at.behind fits.0 ∙ runs_as at.shift c fits.1) (at.child ∙ ap (λ z. slice_index_or z.kids 0 None) same) tick st may
+    (at.behind fits.0 ∙ runs_as at.shift c fits.1) (at.child ∙ ap (λ z. slice_index_or z.kids 0 None) same) tick st may time
     (subst (λ v. BareRegrowRule h below f v place x left (at_work m s lost begun) (at_work m1 t found back)) clock rule)
     (subst (λ v. ShiftRule m1 n v by c left out back new) here over)

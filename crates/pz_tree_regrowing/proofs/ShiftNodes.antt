@@ -16,6 +16,8 @@ use Rattle.pz_tree_nodes.specs.declared.node.What.{What}
 use Rattle.pz_tree_nodes.specs.View.{Plant, Plants, head_view, shapes_of, term_in, term_in_option}
 use Rattle.pz_tree_nodes.specs.Tended.{Tended, TendedOption}
 use Rattle.pz_tree_planting.specs.Planting.{root_of}
+use Rattle.pz_rules_delays.specs.Short.{IsShort}
+use Rattle.pz_tree_refreshing.specs.Refreshing.{HasRoom}
 use Rattle.pz_tree_regrowing.specs.devices.Keeping.{kept_in, kept_of_node, kept_behind}
 use Rattle.pz_tree_regrowing.specs.devices.Levels.{KidsTended, IsFree, IsShiftAt, IsNoShiftAt, runs_behind, IsPutOver, ShiftRule, StillRule, after}
 use Rattle.pz_tree_regrowing.proofs.LocalClocks.{thawed_within, thawed_local, runs_as}
@@ -36,10 +38,10 @@ one_inside : (p : Plant) → IsBareTop p → OneInside (shapes_of (more p none))
 one_inside (node k x ps) b = b
 
 put_over : (m0 m n : Map What) (was : ℕ → Bool) (f c k behind : ℕ) (p : Plant) (below out : Option ℕ)
-    → Holds m0 m was k (more p none) → Some (root p) ≡ below → behind ≤ c → Tended f (c - behind) p → IsBareTop p
+    → Holds m0 m was k (more p none) → Some (root p) ≡ below → behind ≤ c → Tended f (c - behind) p → IsBareTop p → HasRoom c → IsShort (term_in (c - behind) p)
     → IsPutOver m n k behind below out
     → (q : Plant) × (Some (root q) ≡ out) × BecomesOption m0 n was (Some q) × Tended f c q × (term_in c q ≡ term_in (c - behind) p)
-put_over m0 m n was f c k behind p below out holds e fits tended bare put =
+put_over m0 m n was f c k behind p below out holds e fits tended bare room short put =
     let w = put.put holds.there in
     let kept = kept_behind behind (kept_in m below) in
     let x : What = record { head = kind.Shifted (runs_behind behind); kept = kept } in
@@ -47,7 +49,7 @@ put_over m0 m n was f c k behind p below out holds e fits tended bare put =
       node k x (more p none),
       sym put.under,
       put_back m0 m n was k x (more p none) holds (w.written ∙ ap (λ z. Some (record { what = x; kids = z ∷ [] })) (sym e)) w.others,
-      node_tended f c k x (more p none) (one_inside p bare) (fits, refl) (tended, tt) tt (ap (kept_behind behind) keeps ∙ over p),
+      node_tended f c k x (more p none) (one_inside p bare) (fits, refl) (tended, tt) tt (ap (kept_behind behind) keeps ∙ over p) room short,
       refl,
     )
   where
@@ -63,7 +65,7 @@ put_over m0 m n was f c k behind p below out holds e fits tended bare put =
 -- ------------------------------------------------------------ whatever is left
 
 pub nothing_left : (m n : Map What) (k behind c : ℕ) (left : Option ℕ) (old new : ℕ) → left ≡ None → IsFree m n k → new ≡ old + 1 → ShiftRule m n k behind c left None old new
-nothing_left m n k behind c left old new e free tick m0 was f None holds r fits tended = record {
+nothing_left m n k behind c left old new e free tick m0 was f None holds r fits tended room short = record {
   plant = None;
   under = refl;
   becomes = one_left m0 m n was k None holds free.vacant free.others;
@@ -71,10 +73,10 @@ nothing_left m n k behind c left old new e free tick m0 was f None holds r fits 
   means = refl;
   ticks = omega (arith, tick);
 }
-nothing_left m n k behind c left old new e free tick m0 was f (Some p) holds r fits tended = absurd (let q : Some (root p) ≡ None = r ∙ e in cc)
+nothing_left m n k behind c left old new e free tick m0 was f (Some p) holds r fits tended room short = absurd (let q : Some (root p) ≡ None = r ∙ e in cc)
 
 pub not_behind : (m n : Map What) (k behind c : ℕ) (left : Option ℕ) (old new : ℕ) → behind ≡ 0 → IsFree m n k → new ≡ old + 1 → ShiftRule m n k behind c left left old new
-not_behind m n k behind c left old new e free tick m0 was f x holds r fits tended =
+not_behind m n k behind c left old new e free tick m0 was f x holds r fits tended room short =
     let same : c - behind ≡ c = omega (arith, e) in
     record {
       plant = x;
@@ -87,10 +89,10 @@ not_behind m n k behind c left old new e free tick m0 was f x holds r fits tende
 
 pub bare_left : (m n : Map What) (k kid behind c : ℕ) (left out : Option ℕ) (old mid new : ℕ) → left ≡ Some kid → IsNoShiftAt m kid → IsPutOver m n k behind left out → mid ≡ old + 1 → new ≤ mid + 2
     → ShiftRule m n k behind c left out old new
-bare_left m n k kid behind c left out old mid new e bare put tick tock m0 was f None holds r fits tended = absurd (let q : None ≡ Some kid = r ∙ e in cc)
-bare_left m n k kid behind c left out old mid new e bare put tick tock m0 was f (Some p) holds r fits tended =
+bare_left m n k kid behind c left out old mid new e bare put tick tock m0 was f None holds r fits tended room short = absurd (let q : None ≡ Some kid = r ∙ e in cc)
+bare_left m n k kid behind c left out old mid new e bare put tick tock m0 was f (Some p) holds r fits tended room short =
     let top : IsBareTop p = by p holds.stand (let q : Some (root p) ≡ Some kid = r ∙ e in cc) in
-    let o = put_over m0 m n was f c k behind p left out holds r fits tended top put in
+    let o = put_over m0 m n was f c k behind p left out holds r fits tended top room short put in
     record { plant = Some o.0; under = o.1; becomes = o.2; tended = o.3; means = o.4; ticks = omega (arith, tick, tock) }
   where
     by : (p : Plant) → StandAll m (more p none) → root p ≡ kid → IsBareTop p
@@ -100,13 +102,13 @@ bare_left m n k kid behind c left out old mid new e bare put tick tock m0 was f 
 two_shifts : (m0 m m1 n : Map What) (was : ℕ → Bool) (f c k behind by both : ℕ) (below out : Option ℕ) (j : ℕ) (w : What) (s : ShiftView) (qs : Plants)
     → head_view w.head ≡ heads.shifted s → Holds m0 m was k (more (node j w qs) none) → IsFree m m1 j → behind ≤ c
     → OneInside (shapes_of qs) → ShiftFits s (c - behind) × (is_running s ≡ true) → KidsTended f (heads.shifted s) (c - behind) 0 qs
-    → by ≡ s.behind → below ≡ slice_index_or (roots qs) 0 None → (behind + by ≤ c → both ≡ behind + by) → IsPutOver m1 n k both below out
+    → by ≡ s.behind → below ≡ slice_index_or (roots qs) 0 None → (behind + by ≤ c → both ≡ behind + by) → HasRoom c → IsShort (term_in (c - behind) (node j w qs)) → IsPutOver m1 n k both below out
     → (q : Plant) × (Some (root q) ≡ out) × BecomesOption m0 n was (Some q) × Tended f c q × (term_in c q ≡ term_in (c - behind) (node j w qs))
-two_shifts m0 m m1 n was f c k behind by both below out j w s none is holds free le parts fits kids b e sum put = absurd parts
-two_shifts m0 m m1 n was f c k behind by both below out j w s (gone qs) is holds free le parts fits kids b e sum put = absurd parts
-two_shifts m0 m m1 n was f c k behind by both below out j w s (more (node i z us) (gone qs)) is holds free le parts fits kids b e sum put = absurd parts
-two_shifts m0 m m1 n was f c k behind by both below out j w s (more (node i z us) (more r qs)) is holds free le parts fits kids b e sum put = absurd parts
-two_shifts m0 m m1 n was f c k behind by both below out j w s (more (node i z us) none) is holds free le parts fits kids b e sum put =
+two_shifts m0 m m1 n was f c k behind by both below out j w s none is holds free le parts fits kids b e sum has_room short put = absurd parts
+two_shifts m0 m m1 n was f c k behind by both below out j w s (gone qs) is holds free le parts fits kids b e sum has_room short put = absurd parts
+two_shifts m0 m m1 n was f c k behind by both below out j w s (more (node i z us) (gone qs)) is holds free le parts fits kids b e sum has_room short put = absurd parts
+two_shifts m0 m m1 n was f c k behind by both below out j w s (more (node i z us) (more r qs)) is holds free le parts fits kids b e sum has_room short put = absurd parts
+two_shifts m0 m m1 n was f c k behind by both below out j w s (more (node i z us) none) is holds free le parts fits kids b e sum has_room short put =
     let q : Plant = node i z us in
     let inner = taken_in_hand m j w (more q none) holds.stand.1 in
     let freed : BecomesOption m m1 (has (node j w (more q none))) (Some q) = taken_away m m m1 (has (node j w (more q none))) j (more q none) (Some q) inner free.vacant free.others (omega arith) refl in
@@ -115,15 +117,17 @@ two_shifts m0 m m1 n was f c k behind by both below out j w s (more (node i z us
     let room : s.behind ≤ c - behind = subst (λ z. z ≤ c - behind) (runs_as s (c - behind) fits.1) (thawed_within s (c - behind) fits.0) in
     let total : both ≡ behind + s.behind = sum (omega (arith, b, room, le)) ∙ ap (λ z. behind + z) b in
     let clock : local s (c - behind) ≡ c - both = shows ∙ (let o : (c - behind) - s.behind ≡ c - both = omega (arith, total) in o) in
-    let o = put_over m0 m1 n was f c k both q below out held (sym e) (omega (arith, total, room, le)) (subst (λ z. Tended f z q) clock kids.0) parts put in
-    (o.0, o.1, o.2, o.3, o.4 ∙ ap (λ z. term_in z q) (sym clock) ∙ sym (ap (λ h. heads.formed h (c - behind) (Rattle.pz_tree_standing.specs.Standing.terms_of h (c - behind) 0 (shapes_of (more q none)))) is))
+    let same : term_in (c - both) q ≡ term_in (c - behind) (node j w (more q none)) =
+    ap (λ z. term_in z q) (sym clock) ∙ sym (ap (λ h. heads.formed h (c - behind) (Rattle.pz_tree_standing.specs.Standing.terms_of h (c - behind) 0 (shapes_of (more q none)))) is) in
+    let o = put_over m0 m1 n was f c k both q below out held (sym e) (omega (arith, total, room, le)) (subst (λ z. Tended f z q) clock kids.0) parts has_room (subst IsShort (sym same) short) put in
+    (o.0, o.1, o.2, o.3, o.4 ∙ same)
 
 pub shift_left : (m m1 n : Map What) (k kid behind c by both : ℕ) (left below out : Option ℕ) (old mid last new : ℕ) → left ≡ Some kid → (behind ≤ c → IsShiftAt m kid (c - behind) by below)
     → IsFree m m1 kid → (behind + by ≤ c → both ≡ behind + by) → IsPutOver m1 n k both below out
     → mid ≡ old + 1 → last ≡ mid + 1 → new ≤ last + 2
     → ShiftRule m n k behind c left out old new
-shift_left m m1 n k kid behind c by both left below out old mid last new e shift free sum put tick tock tack m0 was f None holds r fits tended = absurd (let q : None ≡ Some kid = r ∙ e in cc)
-shift_left m m1 n k kid behind c by both left below out old mid last new e shift free sum put tick tock tack m0 was f (Some (node j w qs)) holds r fits tended =
+shift_left m m1 n k kid behind c by both left below out old mid last new e shift free sum put tick tock tack m0 was f None holds r fits tended room short = absurd (let q : None ≡ Some kid = r ∙ e in cc)
+shift_left m m1 n k kid behind c by both left below out old mid last new e shift free sum put tick tock tack m0 was f (Some (node j w qs)) holds r fits tended room short =
     let at = shift fits in
     let is_kid : j ≡ kid = (let q : Some j ≡ Some kid = r ∙ e in cc) in
     let same : at.was ≡ record { what = w; kids = roots qs } = same_node at.was (record { what = w; kids = roots qs }) (sym at.stands ∙ ap m (sym is_kid) ∙ holds.stand.1.0) in
@@ -135,7 +139,7 @@ shift_left m m1 n k kid behind c by both left below out old mid last new e shift
     (subst (λ h. KidsTended (inner_frame h f) h (c - behind) 0 qs) is (node_kids f (c - behind) j w qs tended))
     (at.behind shift_fits.0 ∙ runs_as at.shift (c - behind) shift_fits.1)
     (at.child ∙ ap (λ z. slice_index_or z.kids 0 None) same)
-    sum put in
+    sum room short put in
     record { plant = Some o.0; under = o.1; becomes = o.2; tended = o.3; means = o.4; ticks = omega (arith, tick, tock, tack) }
 
 -- ------------------------------------------------------------ a guard that acts
@@ -143,7 +147,7 @@ shift_left m m1 n k kid behind c by both left below out old mid last new e shift
 pub guard_acts : (c k i : ℕ) (test : Rattle.pz_rules.specs.Terms.Code) (at : Rattle.pz_syntax.specs.declared.tokens.Pos.Pos) (shift : ShiftView) (keys : List (Option ℕ)) (left out : Option ℕ) (m n : Map What) (behind old new : ℕ)
     → (ShiftFits shift c → behind ≡ behind_since shift.behind shift.since c) → left ≡ slice_index_or keys 0 None → ShiftRule m n k behind c left out old new
     → StillRule c k (heads.guarded test at shift) keys i out m n old new
-guard_acts c k i test at shift keys left out m n behind old new is_behind is_left rule home f s g m0 was ps t hand e w may =
+guard_acts c k i test at shift keys left out m n behind old new is_behind is_left rule home f s g m0 was ps t hand e w may time =
     let h = heads.guarded test at shift in
     let x = pick ps 0 in
     let behind_is = is_behind hand.fits in
@@ -151,8 +155,10 @@ guard_acts c k i test at shift keys left out m n behind old new is_behind is_lef
     let fits : behind ≤ c = subst (λ z. z ≤ c) (sym behind_is) (thawed_within shift c hand.fits) in
     let holds : Holds m0 m was k (joined x none) = subst (Holds m0 m was k) (one_kid ps (sym (width_seen ps) ∙ hand.parts)) hand.holds in
     let under : root_of x ≡ left = sym (picked_root ps 0) ∙ ap (λ z. slice_index_or z 0 None) e ∙ sym is_left in
-    let o = rule m0 was f x holds under fits (subst (λ z. TendedOption f z x) shows (picked_tended f h c 0 ps 0 hand.tended)) in
-    let is : after h c ps 0 ≡ term_in_option c o.plant = picked_term h c 0 ps 0 ∙ ap (λ z. term_in_option z x) shows ∙ sym o.means in
+    let below : after h c ps 0 ≡ term_in_option (c - behind) x = picked_term h c 0 ps 0 ∙ ap (λ z. term_in_option z x) shows in
+    let short : IsShort (term_in_option (c - behind) x) = subst IsShort below (subst (λ z. IsShort (after h c ps z)) may time.part) in
+    let o = rule m0 was f x holds under fits (subst (λ z. TendedOption f z x) shows (picked_tended f h c 0 ps 0 hand.tended)) time.room short in
+    let is : after h c ps 0 ≡ term_in_option c o.plant = below ∙ sym o.means in
     subst (λ z. Rattle.pz_tree_regrowing.specs.devices.Levels.Finished home f c m0 was h ps z t out (record { map = m; state = s; lost = g; steps = old }) (record { map = n; state = s; lost = g; steps = new })) (sym may)
     (record {
       plant = o.plant;

@@ -1,18 +1,20 @@
 -- A node that is put back over tended children is tended; and what is tended is not done.
-use Rattle.std.proofs.Common.{◌≡◌, ℕ, zero, suc, false, refl, ap, sym, ◌∙◌, subst}
+use Rattle.std.proofs.Common.{◌≡◌, ◌+◌, ◌-◌, ◌^◌, ℕ, zero, suc, min, false, Option, Some, None, refl, ap, sym, ◌∙◌, subst, arith}
+use Rattle.std.specs.Prelude.{option_map}
 use Rattle.pz_nodes_shapes.specs.Rose.{node, none, gone, more}
+use Rattle.pz_offer.specs.declared.summary.Summary.{Summary}
 use Rattle.pz_offer.specs.Summaries.{nothing, join}
 use Rattle.pz_offer.specs.Summaries as summaries
-use Rattle.pz_rules.specs.Terms.{Terms}
+use Rattle.pz_rules.specs.Terms.{Terms, term_at}
 use Rattle.pz_rules.specs.Settings.{Context}
 use Rattle.pz_rules.specs.Leaving.{is_done}
 use Rattle.pz_tree_summary.specs.Asked.{asks}
 use Rattle.pz_tree_summary.specs.Summaries.{summary_of}
-use Rattle.pz_tree_summary.proofs.Unasked.{unasked_is_steady}
+use Rattle.pz_tree_summary.proofs.Unasked.{or_neither, unasked_is_steady}
 use Rattle.pz_tree_standing.specs.Heads.{Head, leaf, wait, sequence, parallel, select, guarded, frame, abort, idle, handling, shifted, Shapes, inner_clock, inner_frame, formed}
 use Rattle.pz_tree_standing.specs.Heads as heads
 use Rattle.pz_tree_standing.specs.Standing.{terms_of, HeadFits}
-use Rattle.pz_tree_standing.specs.Resting.{RestAll}
+use Rattle.pz_tree_standing.specs.Resting.{Rests, RestAll}
 use Rattle.pz_tree_standing.specs.Whole.{IsNoShift, HasParts, Whole}
 use Rattle.pz_tree_standing.specs.devices.Written as written
 use Rattle.pz_tree_standing.specs.devices.Written.{node_summary}
@@ -23,8 +25,11 @@ use Rattle.pz_tree_nodes.specs.View.{Plant, Plants, head_view, shape_of, shapes_
 use Rattle.pz_tree_nodes.specs.Tended.{Tended}
 use Rattle.pz_tree_nodes.specs.Keeping.{IsMarked}
 use Rattle.pz_tree_nodes.proofs.Marks.{marked_alike}
-use Rattle.pz_tree_regrowing.specs.devices.Keeping.{kept_at, kept_all, kept_formed, IsPutBack}
-use Rattle.pz_tree_regrowing.specs.devices.Levels.{KidsTended}
+use Rattle.pz_rules_delays.specs.Short.{IsShort}
+use Rattle.pz_tree_refreshing.specs.Refreshing.{HasRoom, IsSoon}
+use Rattle.pz_tree_refreshing.proofs.Short.{short_soon, clock_back}
+use Rattle.pz_tree_regrowing.specs.devices.Keeping.{moved, kept_at, kept_all, kept_formed, IsPutBack}
+use Rattle.pz_tree_regrowing.specs.devices.Levels.{KidsTended, kid_terms}
 use Rattle.pz_tree_regrowing.proofs.Kids.{kids_whole, kids_marked, kids_fit, kids_rest}
 use Rattle.pz_tree_regrowing.proofs.Marking.{form_marked}
 
@@ -78,18 +83,43 @@ all_seen none = refl
 all_seen (gone ps) = ap (join nothing) (all_seen ps)
 all_seen (more (node k x qs) ps) = ap (join x.kept.summary) (all_seen ps)
 
-form_seen : (a : Context) (f c : ℕ) (h : Head) (ps : Plants) → IsPutBack h → (kept_formed h ps).summary ≡ node_summary a f c h (shapes_of ps)
-form_seen a f c (leaf s) ps b = absurd b
-form_seen a f c (wait due at) ps b = absurd b
-form_seen a f c (sequence rest) ps b = at_seen ps 0
-form_seen a f c parallel ps b = all_seen ps
-form_seen a f c select ps b = absurd b
-form_seen a f c (guarded e at s) ps b = absurd b
-form_seen a f c (frame number inputs results) ps b = at_seen ps 0
-form_seen a f c abort ps b = λ n. join (at_seen ps 0 n) (at_seen ps 1 n)
-form_seen a f c (idle again s) ps b = λ n. join (summaries.shifted s.behind (at_seen ps 0 n)) (at_seen ps 1 n)
-form_seen a f c (handling again s) ps b = at_seen ps 1
-form_seen a f c (shifted s) ps b = ap (summaries.shifted s.behind) (at_seen ps 0)
+-- what is due soon there is due at a moment here
+moved_due : (by inner c : ℕ) (d : Option ℕ) → inner + by ≡ c → HasRoom c → IsSoon inner d → option_map (λ x. min (x + by) (2 ^ 128 - 1)) d ≡ option_map (λ x. x + by) d
+moved_due by inner c None e room soon = refl
+moved_due by inner c (Some d) e room soon = ap (λ x. Some x) (let q : min (d + by) (2 ^ 128 - 1) ≡ d + by = omega (arith, e, room, soon) in q)
+
+moved_soon : (by inner c : ℕ) (s : Summary) → inner + by ≡ c → HasRoom c → IsSoon inner s.due → moved by s ≡ summaries.shifted by s
+moved_soon by inner c s e room soon = ap (λ d. record s { due = d }) (moved_due by inner c s.due e room soon)
+
+-- so it is of the first child, where that is asked nothing
+first_moved : (a : Context) (f c by : ℕ) (h : Head) (ps : Plants) → inner_clock h 0 c + by ≡ c → HasRoom c → RestAll f h c 0 (shapes_of ps)
+    → asks (term_at (kid_terms h c ps) 0) ≡ false → IsShort (term_at (kid_terms h c ps) 0) → moved by (kept_at ps 0).summary ≡ summaries.shifted by (kept_at ps 0).summary
+first_moved a f c by h none e room rest unasked short = refl
+first_moved a f c by h (gone ps) e room rest unasked short = refl
+first_moved a f c by h (more (node k x qs) ps) e room rest unasked short =
+    let inner = inner_clock h 0 c in
+    let t = term_in inner (node k x qs) in
+    moved_soon by inner c x.kept.summary e room (subst (λ (s : Summary). IsSoon inner s.due) (sym (rest.0.0 unasked a)) (short_soon a inner f t unasked short))
+
+form_seen : (a : Context) (f c : ℕ) (h : Head) (ps : Plants) → IsPutBack h → HeadFits h c → HasRoom c → RestAll (inner_frame h f) h c 0 (shapes_of ps)
+    → asks (formed h c (kid_terms h c ps)) ≡ false → IsShort (formed h c (kid_terms h c ps)) → (kept_formed h ps).summary ≡ node_summary a f c h (shapes_of ps)
+form_seen a f c (leaf s) ps b fits room rest e short = absurd b
+form_seen a f c (wait due at) ps b fits room rest e short = absurd b
+form_seen a f c (sequence rest_steps) ps b fits room rest e short = at_seen ps 0
+form_seen a f c parallel ps b fits room rest e short = all_seen ps
+form_seen a f c select ps b fits room rest e short = absurd b
+form_seen a f c (guarded test at s) ps b fits room rest e short = absurd b
+form_seen a f c (frame number inputs results) ps b fits room rest e short = at_seen ps 0
+form_seen a f c abort ps b fits room rest e short = λ n. join (at_seen ps 0 n) (at_seen ps 1 n)
+form_seen a f c (idle again s) ps b fits room rest e short =
+    let h = idle again s in
+    let ts = kid_terms h c ps in
+    let unasked = or_neither (asks (term_at ts 0)) (asks (term_at ts 1)) e in
+    let first = first_moved a f c s.behind h ps (clock_back h c 0 fits refl) room rest unasked.0 short.0 ∙ ap (summaries.shifted s.behind) (at_seen ps 0) in
+    λ n. join (first n) (at_seen ps 1 n)
+form_seen a f c (handling again s) ps b fits room rest e short = at_seen ps 1
+form_seen a f c (shifted s) ps b fits room rest e short =
+    let h = shifted s in first_moved a f c s.behind h ps (clock_back h c 0 fits refl) room rest e short ∙ ap (summaries.shifted s.behind) (at_seen ps 0)
 
 -- where nothing is asked, all that is active is right, and so is what is made of it
 form_rests : (a : Context) (f c : ℕ) (h : Head) (ss : Shapes) → HeadFits h c → RestAll (inner_frame h f) h c 0 ss → asks (formed h c (terms_of h c 0 ss)) ≡ false
@@ -104,8 +134,8 @@ form_rests a f c h ss fits rest e =
 
 module _ (f c k : ℕ) (x : What) (ps : Plants) where
   pub node_tended : HasParts (head_view x.head) (shapes_of ps) → HeadFits (head_view x.head) c → KidsTended (inner_frame (head_view x.head) f) (head_view x.head) c 0 ps
-      → IsPutBack (head_view x.head) → x.kept ≡ kept_formed (head_view x.head) ps → Tended f c (node k x ps)
-  node_tended parts fits kids back keeps =
+      → IsPutBack (head_view x.head) → x.kept ≡ kept_formed (head_view x.head) ps → HasRoom c → IsShort (term_in c (node k x ps)) → Tended f c (node k x ps)
+  node_tended parts fits kids back keeps room short =
       let h = head_view x.head in
       let g = inner_frame h f in
       let marks = kids_marked g h c 0 ps kids in
@@ -114,7 +144,7 @@ module _ (f c k : ℕ) (x : What) (ps : Plants) where
           whole = (parts, kids_whole g h c 0 ps kids);
           fits = (fits, kids_fit g h c 0 ps kids);
           rests = (
-            (λ e a. ap (λ z. z.summary) keeps ∙ form_seen a f c h ps back ∙ form_rests a f c h (shapes_of ps) fits (kids_rest g h c 0 ps kids) e),
+            (λ e a. ap (λ z. z.summary) keeps ∙ form_seen a f c h ps back fits room (kids_rest g h c 0 ps kids) e short ∙ form_rests a f c h (shapes_of ps) fits (kids_rest g h c 0 ps kids) e),
             kids_rest g h c 0 ps kids,
           );
         };

@@ -14,6 +14,8 @@ use Rattle.pz_tree_nodes.specs.declared.node.What.{What}
 use Rattle.pz_tree_nodes.specs.View.{Plant, term_in_option}
 use Rattle.pz_tree_nodes.specs.Tended.{TendedOption}
 use Rattle.pz_tree_planting.specs.Planting.{root_of}
+use Rattle.pz_rules_delays.specs.Short.{IsShort}
+use Rattle.pz_tree_refreshing.specs.Refreshing.{HasRoom}
 use Rattle.pz_tree_regrowing.specs.Costs.{on_way, made_all, dropped_all}
 
 -- what a call works on: the nodes, the state, the frames that stand no longer, and the steps that were taken
@@ -48,10 +50,18 @@ pub record Regrown (h : Home) (f c : ℕ) (p : Option Plant) (place : Place) (x 
   pub lost : b.lost ≡ a.lost ++ lost_all h f (term_in_option c p) place (left_by a.state.held x)
   pub ticks : b.steps ≤ a.steps + steps_for h f (term_in_option c p) place a.state x
 
+-- No delay that has begun has 2^64 clock units left, in the term or in what its part has become, and there is room for
+-- as much on the clock, which shows c.
+pub record InTime (c : ℕ) (t x : Term) : Type 0 where
+  pub room : HasRoom c
+  pub short : IsShort t
+  pub part : IsShort x
+
 -- whatever tended nodes stand under the key, for a term of which a part at the place may act
 abbrev pub RegrowRule : Home → Option ℕ → ℕ → ℕ → Place → Term → Option ℕ → Work → Work → Type 0
 RegrowRule h key f c place x out a b =
     (p : Option Plant)
     → root_of p ≡ key → StandsOption a.map p → TendedOption f c p
     → MayAct (term_in_option c p) place
+    → InTime c (term_in_option c p) x
     → Regrown h f c p place x out a b

@@ -1,10 +1,10 @@
 // What a node keeps, form by form, from what its children keep. The only error is that there is more to do
-// than can be counted, a moment that is no number of 128 bits, or a term higher than can be counted.
+// than can be counted, or a term higher than can be counted.
 
-ghost use Rattle.std.specs.Prelude.{◌≡◌, IsTrue, IfOk};
-ghost use Rattle.pz_offer.specs.Summaries.{MayShift};
+ghost use Rattle.std.specs.Prelude.{◌≡◌, IfOk};
 ghost use Rattle.pz_tree_nodes.specs.Keeping.{joined, raised};
 ghost use Rattle.pz_tree_planting.specs.devices.Leaves.{second_alone};
+ghost use Rattle.pz_tree_regrowing.specs.devices.Keeping as keeping;
 ghost use Rattle.pz_tree_regrowing.specs.devices.Keeping.{kept_behind};
 
 use pz_offer::Summary;
@@ -44,7 +44,7 @@ pub(crate) fn abort_kept(first: &Kept, second: &Kept) -> Result<Kept, AllocError
 pub(crate) fn idle_kept(behind: u128, first: &Kept, second: &Kept) -> Result<Kept, AllocError>
     ensures { IfOk result (λ kept. kept ≡ raised (joined (kept_behind behind first.now) second.now)) }
 {
-    let first = behind_kept(behind, first)?;
+    let first = behind_kept(behind, first);
     let both = first.join(second)?;
     both.raised()
 }
@@ -61,24 +61,23 @@ pub(crate) fn handling_kept(first: &Kept, second: &Kept) -> Result<Kept, AllocEr
 }
 
 /// Of what stands behind a clock that is behind by so many clock units.
-pub(crate) fn behind_kept(behind: u128, inner: &Kept) -> Result<Kept, AllocError>
-    ensures { IfOk result (λ kept. kept ≡ kept_behind behind inner.now) }
+pub(crate) fn behind_kept(behind: u128, inner: &Kept) -> Kept
+    ensures { result ≡ kept_behind behind inner.now }
 {
-    if !may_shift(&inner.summary, behind) {
-        return Err(AllocError);
-    }
-    Ok(Kept {
-        summary: inner.summary.shifted(behind),
+    Kept {
+        summary: moved(&inner.summary, behind),
         ..*inner
-    })
+    }
 }
 
-/// Whether there is a moment for what is due.
-fn may_shift(summary: &Summary, behind: u128) -> bool
-    ensures { IsTrue result → MayShift behind summary.now }
+/// All is due so much later. There is a moment for what is right: delays have less than 2^64 clock units
+/// left. What has still to be asked may be anything.
+fn moved(summary: &Summary, behind: u128) -> Summary
+    ensures { result ≡ keeping.moved behind summary.now }
 {
-    match summary.due {
-        None => true,
-        Some(due) => due.checked_add(behind).is_some(),
-    }
+    let due = match summary.due {
+        None => None,
+        Some(due) => Some(due.saturating_add(behind)),
+    };
+    Summary { due, ..*summary }
 }

@@ -91,7 +91,7 @@ fn finish<L: Ledger>(
         Head::Sel => leave_alone(nodes, key, kids, number, lost, steps),
         Head::Guard { shift, .. } => {
             let behind = behind_now(&shift, clock);
-            put_shift(nodes, key, behind, clock, first, steps)
+            Ok(put_shift(nodes, key, behind, clock, first, steps))
         }
         Head::Frame {
             frame,
@@ -209,7 +209,7 @@ fn regrow_part<L: Ledger>(
         clock: spot.clock.saturating_sub(shift.by),
     };
     let left = regrow_bare(alloc, home, nodes, inner, place, part, state, lost, steps)?;
-    put_shift(nodes, key, shift.by, spot.clock, left, steps)
+    Ok(put_shift(nodes, key, shift.by, spot.clock, left, steps))
 }
 
 /// The part at a place of the term that stands at `root` becomes another. Hands out the key of what stands
@@ -222,8 +222,8 @@ fn regrow_part<L: Ledger>(
 /// stands beside one of them in a `par`, one for each that is made, two for each that is dropped.
 ///
 /// Takes as much of the stack as the part is deep. The only error is want of memory, or that there is more
-/// to do than can be counted, or a moment that is no number of 128 bits; then the nodes may only be dropped,
-/// and of the state nothing is said.
+/// to do, or a term higher, than can be counted; then the nodes may only be dropped, and of the state
+/// nothing is said.
 pub fn regrow<L: Ledger>(
     alloc: Global,
     home: &Home<'_>,

@@ -1,6 +1,6 @@
 // What a guard leaves whose clock is behind.
 
-ghost use Rattle.std.specs.Prelude.{◌≡◌, ◌≤◌, ◌+◌, None, MatchOption, IfOk, OnOk};
+ghost use Rattle.std.specs.Prelude.{◌≡◌, ◌≤◌, ◌+◌, None, MatchOption};
 ghost use Rattle.pz_nodes.specs.Arena.{find};
 ghost use Rattle.pz_tree_regrowing.specs.devices.Levels.{IsShiftAt, IsNoShiftAt, ShiftRule, IsPutOver};
 
@@ -10,7 +10,6 @@ use crate::nodes::{kept_of, kid_in, release, write};
 use pz_nodes::{Key, Nodes, Steps};
 use pz_nodes_shapes::Kids;
 use pz_tree_nodes::{Head, Node};
-use std::alloc::AllocError;
 use std::sync::ledger::Ledger;
 
 /// A shift node: how far what is below it is behind, in clock units, if it runs from now on, and its child.
@@ -49,15 +48,15 @@ fn put_over<L: Ledger>(
     behind: u128,
     below: Option<Key>,
     steps: &mut Steps<L>,
-) -> Result<Option<Key>, AllocError>
-    ensures put { IfOk result (λ out. IsPutOver (find nodes.old) (find nodes.new) key behind below out) }
-    ensures ticks { OnOk result (steps.new ≤ steps.old + 2) }
+) -> Option<Key>
+    ensures put { IsPutOver (find nodes.old) (find nodes.new) key behind below result }
+    ensures ticks { steps.new ≤ steps.old + 2 }
 {
     let inner = kept_of(nodes, below, steps);
-    let kept = behind_kept(behind, &inner)?;
+    let kept = behind_kept(behind, &inner);
     let head = Head::Shifted(running(behind));
     write(nodes, key, head, Kids::one(below), kept, steps);
-    Ok(Some(key))
+    Some(key)
 }
 
 /// The node in hand becomes a shift node over what is left, which is behind by so many clock units; it is
@@ -69,17 +68,16 @@ pub(crate) fn put_shift<L: Ledger>(
     clock: u128,
     left: Option<Key>,
     steps: &mut Steps<L>,
-) -> Result<Option<Key>, AllocError>
-    ensures { IfOk result (λ out. ShiftRule (find nodes.old) (find nodes.new) key behind clock left out
-        steps.old steps.new) }
+) -> Option<Key>
+    ensures { ShiftRule (find nodes.old) (find nodes.new) key behind clock left result steps.old steps.new }
 {
     let Some(kid) = left else {
         release(nodes, key, steps);
-        return Ok(None);
+        return None;
     };
     if behind == 0 {
         release(nodes, key, steps);
-        return Ok(left);
+        return left;
     }
     let inner = clock.saturating_sub(behind);
     let Some(further) = shift_at(nodes, kid, inner, steps) else {

@@ -2,9 +2,9 @@
 
 ghost use Rattle.std.specs.Prelude.{◌≡◌, false};
 
-use pz_match::Pairs;
+use pz_match::{Pairs, Sender};
 use pz_offer::{End, Trouble, Verdict};
-use rows_match_plain::{Couple, Spot};
+use rows_match_plain::{Couple, Spot, Wish};
 use std::alloc::AllocError;
 
 /// What was found wrong or counted.
@@ -14,6 +14,14 @@ pub struct Tally {
     pub troubled: u64,
     pub questions: u64,
     pub wrong: u64,
+}
+
+/// Whether these are the wire, the message and the number of values of a send.
+fn is_sent(sender: &Sender, wish: Wish) -> bool {
+    let message = if wish.second { "b" } else { "a" };
+    wish.wire == Some(sender.wire)
+        && sender.message.as_str() == message
+        && sender.parcel.values().len() == wish.values as usize
 }
 
 fn is_at(end: &End, spot: Spot) -> bool {
@@ -26,9 +34,11 @@ fn is_kth(table: &Pairs, number: u64, couple: &Couple) -> Result<bool, AllocErro
     requires { table.now.lost ≡ false }
 {
     match table.kth(number)? {
-        Some((sender, receiver)) => {
-            Ok(is_at(&sender, couple.sender) && is_at(&receiver, couple.receiver))
-        }
+        Some((sender, receiver)) => Ok(
+            is_sent(&sender, couple.wish)
+                && is_at(&sender.end, couple.sender)
+                && is_at(&receiver, couple.receiver),
+        ),
         None => Ok(false),
     }
 }

@@ -18,7 +18,7 @@ fn show_pair(rt: &HostRuntime, table: &Pairs, number: u64) -> io::Result<bool>
 {
     match table.kth(number)? {
         Some((sender, receiver)) => {
-            show_end(rt, &sender)?;
+            show_end(rt, &sender.end)?;
             print!(rt; " -> ")?;
             show_end(rt, &receiver)?;
             println!(rt;)?;

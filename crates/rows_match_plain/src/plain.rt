@@ -18,6 +18,8 @@ pub struct Stand {
 /// A pair that fits.
 #[derive(Clone, Copy)]
 pub struct Couple {
+    /// What is sent.
+    pub wish: Wish,
     pub sender: Spot,
     pub receiver: Spot,
     pub conditional: bool,
@@ -97,6 +99,7 @@ fn couple_of(send: &Stand, receive: &Stand) -> Couple {
         Rule::Yes
     };
     Couple {
+        wish: send.wish,
         sender: send.spot,
         receiver: receive.spot,
         conditional,

@@ -21,8 +21,8 @@ fn show(rt: &HostRuntime, line: &str) -> io::Result<()> {
     let words = words_of(rt.alloc(), line)?;
     let mut files = OsFiles::new(*rt);
     let mut out = OsSink::new(*rt);
-    let status = run_program(rt.alloc(), &words, &mut files, &mut out);
-    println!(rt; "{status:?}")
+    let finish = run_program(rt.alloc(), &words, &mut files, &mut out);
+    println!(rt; "{:?}", finish.status)
 }
 
 fn main(rt: HostRuntime) -> io::Result<()> {

@@ -43,7 +43,8 @@ pub(crate) fn call<F: Files, W: Sink>(
     out: &mut W,
 ) -> Result<u8, AllocError> {
     let words = words_of(alloc, line)?;
-    Ok(run_program(alloc, &words, files, out).number())
+    let finish = run_program(alloc, &words, files, out);
+    Ok(finish.status.number())
 }
 
 // The same, and compares the status and what is printed. The listed writes fail.

@@ -11,19 +11,22 @@ use Rattle.pz_match.specs.Table.{Table}
 use Rattle.pz_sim_laws.specs.Members.{config_of, AreMembers}
 use Rattle.pz_sim_laws.specs.Deciding.{total_of, total_of_all, decided}
 use Rattle.pz_tree.specs.declared.tree.Tree.{Tree}
-use Rattle.pz_tree.specs.Trees.{IsFresh}
+use Rattle.pz_tree.specs.Trees.{IsFresh, term_in, process_in}
+use Rattle.pz_tree_frames.specs.Frames.{FramesStand}
 use Rattle.pz_sim.specs.Members.{members_of}
 use Rattle.pz_sim.specs.declared.standing.Standing.{Standing}
 use Rattle.pz_sim.specs.declared.standing.Standing.TheVariants as standing
 use Rattle.pz_sim.specs.devices.Tables.{IsTable}
 
--- The trees are those of the processes of the model, at this clock, each fresh, and each term fits and is not too high.
+-- The trees are those of the processes of the model, at this clock, each fresh; each term fits and is not too high, and just
+-- the open frames of its state stand in it.
 pub record AreTrees (setting : Setting) (clock : ℕ) (ts : List Tree) : Type 0 where
   pub members : AreMembers setting clock (members_of setting.model ts)
   pub fresh : All (IsFresh setting.model) ts
   pub clocks : All (λ t. t.clock ≡ clock) ts
   pub fit : IsFit setting (config_of clock (members_of setting.model ts))
   pub low : IsLow setting (config_of clock (members_of setting.model ts))
+  pub frames : All (λ t. FramesStand (term_in t) (process_in t).state) ts
 
 -- and totals, pairs and moment are theirs
 pub record AreKept (setting : Setting) (clock : ℕ) (ts : List Tree) (totals : List Total) (table : Table) (moment : Moment) : Type 0 where

@@ -4,6 +4,7 @@ use Rattle.pz_rules.specs.Settings.{Setting}
 use Rattle.pz_rules.specs.Configurations.{IsWhole}
 use Rattle.pz_rules.specs.Moments.{IsFirstHigh, IsMoment}
 use Rattle.pz_rules.specs.devices.Start.{start_of}
+use Rattle.pz_rules_delays.specs.Short.{DelaysAreShort, TimesAreShort}
 use Rattle.pz_term_processes.specs.declared.process.Process.{Process}
 use Rattle.pz_term_processes.specs.Standing.{config_of, AreProcesses}
 use Rattle.pz_term_enabled.specs.declared.looking.Outlook.{Outlook}
@@ -11,9 +12,12 @@ use Rattle.pz_term_enabled.specs.Looking.{AreActionsAt}
 use Rattle.pz_term.specs.declared.standing.Standing.{Standing}
 use Rattle.pz_term.specs.declared.standing.Standing.TheVariants as standing
 
--- the processes are those of the model, and this is their moment with its offers
+-- The processes are those of the model, less than 2^64 clock units are left of each delay, and this is their moment with
+-- its offers.
 pub record IsOutlook (setting : Setting) (clock : ℕ) (processes : List Process) (outlook : Outlook) : Type 0 where
   pub are : AreProcesses setting clock processes
+  pub short : DelaysAreShort (config_of clock processes)
+  pub times : TimesAreShort setting (config_of clock processes)
   pub moment : IsMoment setting (config_of clock processes) outlook.moment
   pub actions : AreActionsAt setting (config_of clock processes) outlook.moment outlook.actions.items
 

@@ -1,14 +1,17 @@
 -- What is surveyed of the first processes.
-use Rattle.std.specs.Prelude.{◌≡◌, ◌<◌, ◌≤◌, ℕ, Bool, true, false, List, All, AllPairs, Contains, Option, Some, None, slice_get}
+use Rattle.std.specs.Prelude.{◌≡◌, ◌<◌, ◌≤◌, ◌^◌, ℕ, Bool, true, false, List, All, AllPairs, Contains, Option, Some, None, Ok, slice_get}
+use Rattle.pz_syntax.specs.declared.tokens.Pos.{Pos}
+use Rattle.pz_syntax.specs.Statements.{delay}
 use Rattle.pz_offer.specs.declared.end.End.{End}
 use Rattle.pz_offer.specs.declared.trouble.Trouble.{Trouble}
 use Rattle.pz_offer.specs.PlaceOrder.{EndBefore}
 use Rattle.pz_rules.specs.declared.action.Action.{Action}
 use Rattle.pz_rules.specs.declared.action.Action.TheVariants.{Internal, Comm}
-use Rattle.pz_rules.specs.Terms.{done}
-use Rattle.pz_rules.specs.Settings.{Setting, Process}
+use Rattle.pz_rules.specs.Terms.{Code, done, leaf}
+use Rattle.pz_rules.specs.Settings.{Setting, Process, Context}
+use Rattle.pz_rules.specs.Evaluations.{Lasts}
 use Rattle.pz_rules.specs.Configurations.{Config}
-use Rattle.pz_rules.specs.Offers.{Offers}
+use Rattle.pz_rules.specs.Offers.{PartAt, Offers}
 use Rattle.pz_rules.specs.Moments.{Troubles, part, IsLeft, AllDone}
 use Rattle.pz_term_enabled.specs.declared.findings.Survey.{Survey}
 use Rattle.pz_term_enabled.specs.Surveyed.{IsInternal, IsSender, IsReceiver, IsFirstAsked}
@@ -49,6 +52,11 @@ module _ (setting : Setting) (c : Config) where
     TellsDoneBelow true = (k : ℕ) (p : Process) → k < i → slice_get c.processes k ≡ Some p → p.term ≡ done
     TellsDoneBelow false = AllDone c → ⊥
 
+    -- what active delays that have not begun take
+    abbrev pub AreShortBelow : Type 0
+    AreShortBelow = (at : End) (a : Context) (f : ℕ) (pos : Pos) (time : Code) (left : ℕ)
+        → PartAt setting c at a f (leaf (delay pos time)) → Lasts a f pos time (Ok left) → at.process < i → left < 2 ^ 64
+
     pub record SurveyedBelow (s : Survey) : Type 0 where
       pub internal : Listed end_of IsOffered (λ k. k < i) s.internal.items
       pub senders : Listed (λ x. x.end) (IsSender setting c) (λ k. k < i) s.senders.items
@@ -56,3 +64,4 @@ module _ (setting : Setting) (c : Config) where
       pub least : IsLeastOf IsLeftBelow s.least
       pub trouble : IsAskedBelow s.trouble
       pub done : TellsDoneBelow s.done
+      pub times : AreShortBelow

@@ -10,7 +10,7 @@ use Rattle.pz_rules.specs.devices.Walk as walk
 use Rattle.pz_rules.specs.devices.Walk.{ActivePart, Noted, does, sent_by, received_by, waiting, troubled_by, noted, doing, expiry}
 use Rattle.pz_term_enabled.specs.declared.found.ActiveSend.{ActiveSend}
 use Rattle.pz_term_enabled.specs.declared.found.Found.{Found}
-use Rattle.pz_term_enabled.specs.devices.Walked.{doing_view, receiving_view, CarryAll, whats}
+use Rattle.pz_term_enabled.specs.devices.Walked.{doing_view, receiving_view, CarryAll, whats, AllBeginShort}
 
 -- seen from a term of which it stands in the part at this place
 abbrev pub below : {X : Type 0} → Place → Noted X → Noted X
@@ -28,6 +28,7 @@ pub record Adds (a : Context) (place : Place) (ps : List ActivePart) (old new : 
   pub receives : map receiving_view new.receives.items ≡ map receiving_view old.receives.items ++ map (below place) (noted (λ f. received_by) ps)
   pub delays : new.delays.items ≡ old.delays.items ++ whats (noted (waiting a) ps)
   pub troubles : new.troubles.items ≡ old.troubles.items ++ whats (noted (troubled_by a) ps)
+  pub times : AllBeginShort a ps
 
 -- what is noted of one part
 pub record Notes : Type 0 where

@@ -31,6 +31,7 @@ use Rattle.pz_tree_nodes.specs.declared.node.What.{What}
 use Rattle.pz_tree_nodes.specs.View.{Plant, term_in_option}
 use Rattle.pz_tree_nodes.specs.Tended.{TendedOption}
 use Rattle.pz_tree_planting.specs.Planting.{root_of}
+use Rattle.pz_rules_delays.specs.Short.{IsShort}
 use Rattle.pz_tree_acting.specs.declared.how.How.{How}
 use Rattle.pz_tree_acting.specs.declared.how.How.TheVariants.{Internal, Send, Receive}
 use Rattle.pz_tree_acting.specs.declared.beginning.Begun.{Begun}
@@ -111,11 +112,13 @@ pub record Stays (h : Home) (m n : Map What) (c : ℕ) (p : Option Plant) (place
 abbrev pub MayGoOn : Map What → Option ℕ → ℕ → Place → Type 0
 MayGoOn m root c place = (p : Option Plant) × Rooted m root c p × MayAct (term_in_option c p) place
 
--- where just the frames of the term and of what the part has become are open, and none in the part itself
+-- where just the frames of the term and of what the part has become are open, and none in the part itself; what it has
+-- become has short delays
 pub record IsReady (e : Edition) (t : Term) (place : Place) (x : Term) (s : StateView) : Type 0 where
   pub may_act : MayAct t place
   pub opened : (n : ℕ) → HaveOpened e (times n x) (times n t) (open_as n s)
   pub alone : (n : ℕ) → times n (part_of t place) ≡ 0
+  pub short : IsShort x
 
 abbrev pub StayRule : Home → Map What → Map What → Option ℕ → ℕ → Place → Term → Option ℕ → Seen → Seen → Type 0
 StayRule h m n root c place x out old new = (p : Option Plant) → Rooted m root c p → IsReady h.edition (term_in_option c p) place x old.held → Stays h m n c p place x out old new

@@ -19,7 +19,8 @@ use Rattle.pz_tree_nodes.specs.Keeping.{joined}
 use Rattle.pz_tree_nodes.specs.View.{Plant, Plants, shapes_of, term_in}
 use Rattle.pz_tree_nodes.specs.Tended.{Tended}
 use Rattle.pz_tree_nodes.specs.Fresh.{Fresh, AllFlagged}
-use Rattle.pz_tree_refreshing.specs.Refreshing.{IsShort, AreShort, HasRoom, IsSoon, RefreshRule}
+use Rattle.pz_rules_delays.specs.Short.{IsShort, AreShort}
+use Rattle.pz_tree_refreshing.specs.Refreshing.{HasRoom, IsSoon, Timely, AllTimely, RefreshRule}
 use Rattle.pz_tree_refreshing.specs.devices.Reached as reached
 use Rattle.pz_tree_refreshing.specs.devices.Reached.{reached_sum, Says, behind_inside}
 use Rattle.pz_tree_refreshing.specs.devices.Levels.{IsBare, AreBare, KidsTended, IsLeft}
@@ -42,6 +43,7 @@ pub record NodeElapsed (a : Context) (d : ℕ) (m n : Map What) (f c : ℕ) (p :
   pub short : IsShort (term_in (c + d) plant)
   pub bare : IsBare p → IsBare plant
   pub kept : k ≡ (payload plant).kept
+  pub timely : Timely (c + d) plant
   pub soon : IsSoon (c + d) k.summary.due
   pub ticks : new ≤ old + 4 * woken_below (c + d) p plant + 2
 
@@ -87,6 +89,7 @@ pub record KidsElapsed (a : Context) (d : ℕ) (m n : Map What) (f : ℕ) (h : H
   pub tended : KidsTended f h (c + d) i plants
   pub right : RightAll (later a d) f h (c + d) i (shapes_of plants)
   pub flagged : AllFlagged (later a d) f h (c + d) i plants
+  pub timely : AllTimely h (c + d) i plants
   pub short : AreShort (terms_of h (c + d) i (shapes_of plants))
   pub bare : AreBare ps → AreBare plants
   pub says : Says (later a d) (c + d) f h i (terms_of h (c + d) i (shapes_of plants)) k

@@ -19,7 +19,8 @@ use Rattle.pz_tree_standing.specs.Reached.{reaches, GateRight}
 use Rattle.pz_tree_standing.specs.Whole.{IsNoShift, HasParts}
 use Rattle.pz_tree_nodes.specs.declared.kept.Kept.{Kept}
 use Rattle.pz_tree_nodes.specs.Keeping.{HasFlags, kept_none}
-use Rattle.pz_tree_refreshing.specs.Refreshing.{IsShort, AreShort, HasRoom, IsSoon}
+use Rattle.pz_rules_delays.specs.Short.{IsShort, AreShort}
+use Rattle.pz_tree_refreshing.specs.Refreshing.{HasRoom, IsSoon}
 use Rattle.pz_tree_refreshing.specs.devices.Reached.{reached_sum}
 use Rattle.pz_tree_elapsing.specs.declared.turning.Turn.{Turn}
 use Rattle.pz_tree_elapsing.specs.declared.turning.Turn.TheVariants.{Same, Shut, Opened}
@@ -96,6 +97,7 @@ pub record IsWaking (a : Context) (d f c : ℕ) (h : Head) (ts : Terms) (k : Kep
   pub flags : HasFlags a f (formed h c ts) k
   pub untroubled : k.summary.trouble ≡ None
   pub within : IsNotBefore (c + d) k.summary.due
+  pub soon : IsSoon c k.summary.due
   pub woken : wakes (c + d) k ≡ true
   pub short : IsShort (formed h c ts)
   pub room : HasRoom (c + d)

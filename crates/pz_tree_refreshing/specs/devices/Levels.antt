@@ -18,7 +18,8 @@ use Rattle.pz_tree_nodes.specs.View.{Plant, Plants, head_view, shapes_of, term_i
 use Rattle.pz_tree_nodes.specs.Tended.{Tended}
 use Rattle.pz_tree_nodes.specs.Fresh.{Fresh, AllFlagged}
 use Rattle.pz_tree_refreshing.specs.Live.{live_below, live_among}
-use Rattle.pz_tree_refreshing.specs.Refreshing.{IsShort, HasRoom, IsSoon}
+use Rattle.pz_rules_delays.specs.Short.{IsShort}
+use Rattle.pz_tree_refreshing.specs.Refreshing.{HasRoom, IsSoon, Timely, AllTimely}
 use Rattle.pz_tree_refreshing.specs.devices.Reached.{Says, behind_inside, later}
 
 -- the topmost node is no shift node
@@ -37,6 +38,7 @@ pub record NodeRefreshed (a : Context) (m n : Map What) (f c : ℕ) (p : Plant) 
   pub fresh : Fresh a f c plant
   pub bare : IsBare p → IsBare plant
   pub kept : k ≡ (payload plant).kept
+  pub timely : Timely c plant
   pub soon : IsSoon c k.summary.due
   pub ticks : new ≤ old + 3 * live_below plant + 2
 
@@ -85,6 +87,7 @@ pub record KidsRefreshed (a : Context) (m n : Map What) (f : ℕ) (h : Head) (c 
   pub tended : KidsTended f h c i plants
   pub right : RightAll a f h c i (shapes_of plants)
   pub flagged : AllFlagged a f h c i plants
+  pub timely : AllTimely h c i plants
   pub bare : AreBare ps → AreBare plants
   pub says : Says a c f h i (terms_of h c i (shapes_of plants)) k
   pub ticks : new ≤ old + 3 * (present plants + live_among h i plants)

@@ -1,6 +1,6 @@
 -- What a node that is put back keeps, from what its children keep.
-use Rattle.std.specs.Prelude.{ℕ, zero, suc, List, [], ◌∷◌, Option, Some, None}
-use Rattle.pz_offer.specs.Summaries.{shifted}
+use Rattle.std.specs.Prelude.{◌+◌, ◌-◌, ◌^◌, ℕ, zero, suc, min, List, [], ◌∷◌, Option, Some, None, option_map}
+use Rattle.pz_offer.specs.declared.summary.Summary.{Summary}
 use Rattle.pz_nodes_shapes.specs.declared.node.Node.{Node}
 use Rattle.pz_nodes_shapes.specs.Rose.{node, none, gone, more, Map}
 use Rattle.pz_tree_standing.specs.Heads as heads
@@ -23,9 +23,12 @@ kept_all none = kept_none
 kept_all (gone ps) = joined kept_done (kept_all ps)
 kept_all (more (node k x qs) ps) = joined x.kept (kept_all ps)
 
--- seen from a clock that is ahead by so much
+-- seen from a clock that is ahead by so much; the last moment of 128 bits where there is no later one
+abbrev pub moved : ℕ → Summary → Summary
+moved by s = record s { due = option_map (λ d. min (d + by) (2 ^ 128 - 1)) s.due }
+
 abbrev pub kept_behind : ℕ → Kept → Kept
-kept_behind by k = record k { summary = shifted by k.summary }
+kept_behind by k = record k { summary = moved by k.summary }
 
 -- of a form that is put back over its children
 abbrev pub kept_formed : heads.Head → Plants → Kept

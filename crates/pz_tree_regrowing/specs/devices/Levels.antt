@@ -24,7 +24,9 @@ use Rattle.pz_tree_nodes.specs.View.{Plant, Plants, head_view, shape_of, shapes_
 use Rattle.pz_tree_nodes.specs.Tended.{Tended, TendedOption}
 use Rattle.pz_tree_planting.specs.Planting.{root_of}
 use Rattle.pz_tree_regrowing.specs.Costs.{beside, made, dropped}
-use Rattle.pz_tree_regrowing.specs.Regrowing.{Work, at_work}
+use Rattle.pz_rules_delays.specs.Short.{IsShort}
+use Rattle.pz_tree_refreshing.specs.Refreshing.{HasRoom}
+use Rattle.pz_tree_regrowing.specs.Regrowing.{Work, InTime, at_work}
 use Rattle.pz_tree_regrowing.specs.devices.Keeping.{kept_in, kept_behind}
 
 -- children of a node of this form, of which the first has number i, each tended by its own clock
@@ -68,6 +70,7 @@ FinishRule home f c k h keys i out a b =
     (m0 : Map What) (was : ℕ → Bool) (ps : Plants) (t : Term)
     → InHand m0 a.map was f c k h ps → roots ps ≡ keys
     → i < width ps → MayActIn (before h c ps i t) i
+    → InTime c (before h c ps i t) (after h c ps i)
     → Finished home f c m0 was h ps i t out a b
 
 -- ------------------------------------------------------------ nodes read and written
@@ -159,6 +162,7 @@ ShiftRule m n k behind c left out old new =
     (m0 : Map What) (was : ℕ → Bool) (f : ℕ) (x : Option Plant)
     → Holds m0 m was k (joined x none) → root_of x ≡ left
     → behind ≤ c → TendedOption f (c - behind) x
+    → HasRoom c → IsShort (term_in_option (c - behind) x)
     → SeenFrom m0 n was f c behind x out old new
 
 -- ------------------------------------------------------------ forms

@@ -11,7 +11,7 @@ use Rattle.pz_tree_nodes.specs.declared.node.What.{What}
 use Rattle.pz_tree_nodes.specs.View.{Plant, head_view, term_in_option}
 use Rattle.pz_tree_nodes.specs.Tended.{TendedOption}
 use Rattle.pz_tree_planting.specs.Planting.{nodes_of, root_of, size_of}
-use Rattle.pz_tree_regrowing.specs.Regrowing.{Work, StandsOption, Regrown}
+use Rattle.pz_tree_regrowing.specs.Regrowing.{Work, StandsOption, Regrown, InTime}
 
 -- the topmost node is no shift node
 abbrev pub IsBareOption : Option Plant → Type 0
@@ -47,4 +47,5 @@ BareRegrowRule h key f c place x out a b =
     (p : Option Plant)
     → root_of p ≡ key → StandsOption a.map p → TendedOption f c p → IsBareOption p
     → MayAct (term_in_option c p) place
+    → InTime c (term_in_option c p) x
     → Regrown h f c p place x out a (later_by 5 b)

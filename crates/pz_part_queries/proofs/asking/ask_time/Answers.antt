@@ -11,4 +11,4 @@ returns-clause-lasts c = λ m class known.
     let a = seen_from m c.args.here.now class c.args.state.now.held in
     subst (λ (time : Code). Lasts a c.args.frame.0 c.args.pos (view time) c.duration_of.result) c.get.ensures
     (time_asked a c.args.frame.0 c.args.pos c.allowance-allowed.result c.allowance-allowed.ensures (view c.get.result.now) c.in_ok-outcome.outcome c.duration_of.result
-    (c.in_ok-outcome.ensures.finds m known) c.duration_of.ensures)
+    (c.in_ok-outcome.ensures.finds m known) c.duration_of.ensures.means)

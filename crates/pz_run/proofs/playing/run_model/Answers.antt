@@ -1,14 +1,26 @@
-use Rattle.std.proofs.Common.{inr}
+use Rattle.std.proofs.Common.{inr, refl}
 use Rattle.pz_classes.specs.CheckedView.{checked_model}
 use Rattle.pz_run.proofs.Begins.{opens_at}
 use Rattle.pz_run.proofs.Sayings.{nothing}
 use Rattle.pz_run.proofs.playing.run_model.Goals as goal
 
-pub play_plain-requires-clause-opens : goal.play_plain-requires-clause-opens
-play_plain-requires-clause-opens g c = opens_at _ _ c.in-Ok.ensures (λ two. c.requires.opens)
+pub play_whole-requires-clause-opens : goal.play_whole-requires-clause-opens
+play_whole-requires-clause-opens g c = opens_at _ _ c.in-Ok.ensures (λ two. c.requires.opens)
 
-pub returns-in-Ok : goal.returns-in-Ok
-returns-in-Ok g c = inr (c.play_plain.ensures (checked_model c.args.checked) c.in-Ok.ensures)
+pub returns-in-Ok-clause-printed : goal.returns-in-Ok-clause-printed
+returns-in-Ok-clause-printed g c = inr (c.play_whole.ensures.printed (checked_model c.args.checked) c.in-Ok.ensures)
 
-pub returns-in-Err : goal.returns-in-Err
-returns-in-Err g c = nothing _ _
+pub returns-in-Err-clause-printed : goal.returns-in-Err-clause-printed
+returns-in-Err-clause-printed g c = nothing _ _
+
+pub returns-in-Ok-clause-simulator : goal.returns-in-Ok-clause-simulator
+returns-in-Ok-clause-simulator g c = c.play_whole.ensures.simulator (checked_model c.args.checked) c.in-Ok.ensures
+
+pub returns-in-Err-clause-simulator : goal.returns-in-Err-clause-simulator
+returns-in-Err-clause-simulator g c = λ written ample. absurd (ample refl)
+
+pub returns-in-Ok-clause-unbegun : goal.returns-in-Ok-clause-unbegun
+returns-in-Ok-clause-unbegun g c = c.play_whole.ensures.unbegun
+
+pub returns-in-Err-clause-unbegun : goal.returns-in-Err-clause-unbegun
+returns-in-Err-clause-unbegun g c = λ never. refl

@@ -12,10 +12,10 @@ pub returns-clause-no_memory : goal.returns-clause-no_memory
 returns-clause-no_memory g c = λ a asked told tells is. (c.run_words.ensures.kept a asked).front told tells
 
 pub returns-clause-usage : goal.returns-clause-usage
-returns-clause-usage g c = λ a asked. no_usage a c.run_words.result (c.run_words.ensures.kept a asked).statuses
+returns-clause-usage g c = λ a asked. no_usage a c.run_words.result.status (c.run_words.ensures.kept a asked).statuses
 
 pub returns-clause-no_job : goal.returns-clause-no_job
-returns-clause-no_job g c = λ a asked. only_usage a c.run_words.result (c.run_words.ensures.kept a asked).statuses
+returns-clause-no_job g c = λ a asked. only_usage a c.run_words.result.status (c.run_words.ensures.kept a asked).statuses
 
 pub returns-clause-no_model : goal.returns-clause-no_model
 returns-clause-no_model g c = λ a asked none told x. (c.run_words.ensures.kept a asked).no_model none told x.written x.ample x.read
@@ -86,3 +86,9 @@ returns-clause-watch_refused g c = λ a asked. (c.run_words.ensures.kept a asked
 
 pub returns-clause-no_watches : goal.returns-clause-no_watches
 returns-clause-no_watches g c = λ a asked none told x. (c.run_words.ensures.kept a asked).no_watches none told x.written x.ample x.read
+
+pub returns-clause-simulator : goal.returns-clause-simulator
+returns-clause-simulator g c = c.run_words.ensures.simulator
+
+pub returns-clause-unbegun : goal.returns-clause-unbegun
+returns-clause-unbegun g c = c.run_words.ensures.unbegun

@@ -4,6 +4,7 @@ use Rattle.pz_run.specs.Files.{files_of}
 use Rattle.pz_run.specs.declared.status.Status.TheVariants.{NoMemory}
 use Rattle.pz_run.proofs.Asked.{keeps_asked, found_sized, found_few}
 use Rattle.pz_run.proofs.Keeps.{keeps_usage, keeps_nothing, not_opened, opened_never}
+use Rattle.pz_run.proofs.Asked.{hands_asked}
 use Rattle.pz_run.proofs.program.run_words.Goals as goal
 
 pub do_job-requires-clause-size : goal.do_job-requires-clause-size
@@ -20,9 +21,13 @@ pub returns-in-Ok-Some : goal.returns-in-Ok-Some
 returns-in-Ok-Some g c = record {
   kept = keeps_asked (map string_bytes c.args.words.now) (Some c.in-Ok-Some.job)
       (subst (IsAsked (map string_bytes c.args.words.now)) c.in-Ok-Some.field-0-is c.in-Ok-Some.ensures.reads)
-      _ _ _ _ c.do_job.result c.do_job.ensures;
-  reading = c.do_job.ensures.reading;
-  writing = c.do_job.ensures.writing;
+      _ _ _ _ c.do_job.result.status c.do_job.ensures.kept;
+  reading = c.do_job.ensures.kept.reading;
+  writing = c.do_job.ensures.kept.writing;
+  simulator = hands_asked (map string_bytes c.args.words.now) (Some c.in-Ok-Some.job)
+      (subst (IsAsked (map string_bytes c.args.words.now)) c.in-Ok-Some.field-0-is c.in-Ok-Some.ensures.reads)
+      (g.F.Files.state c.args.files.now) _ c.do_job.result.status _ c.do_job.ensures.simulator;
+  unbegun = c.do_job.ensures.unbegun;
 }
 
 pub returns-in-Ok-None : goal.returns-in-Ok-None
@@ -34,6 +39,10 @@ returns-in-Ok-None g c =
           _ _ _ _ c.say.result kept;
       reading = kept.reading;
       writing = kept.writing;
+      simulator = hands_asked (map string_bytes c.args.words.now) None
+          (subst (IsAsked (map string_bytes c.args.words.now)) c.in-Ok-None.field-0-is c.in-Ok-None.ensures.reads)
+          (g.F.Files.state c.args.files.now) _ c.say.result None (λ told came. refl);
+      unbegun = λ never. refl;
     }
 
 pub returns-in-Err : goal.returns-in-Err
@@ -41,4 +50,6 @@ returns-in-Err g c = record {
   kept = λ a _. keeps_nothing a _ _ _ _ NoMemory (not_opened (files_of a) _) (λ _ many. opened_never _ many) refl (record { unchanged = refl; wanting = refl });
   reading = λ differ. absurd (differ refl);
   writing = record { kept = λ _. refl; last = λ is. cc };
+  simulator = λ a asked told came. absurd (came.ample refl);
+  unbegun = λ never. refl;
 }

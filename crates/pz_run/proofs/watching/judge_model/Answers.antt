@@ -1,15 +1,27 @@
-use Rattle.std.proofs.Common.{inr}
+use Rattle.std.proofs.Common.{inr, refl}
 use Rattle.pz_classes.specs.CheckedView.{checked_model}
 use Rattle.pz_run.specs.Output.{PrintsJudged}
 use Rattle.pz_run.proofs.Begins.{opens_at}
 use Rattle.pz_run.proofs.Sayings.{nothing}
 use Rattle.pz_run.proofs.watching.judge_model.Goals as goal
 
-pub judge_plain-requires-clause-opens : goal.judge_plain-requires-clause-opens
-judge_plain-requires-clause-opens g c = opens_at _ _ c.in-Ok.ensures (λ two. c.requires.opens)
+pub judge_whole-requires-clause-opens : goal.judge_whole-requires-clause-opens
+judge_whole-requires-clause-opens g c = opens_at _ _ c.in-Ok.ensures (λ two. c.requires.opens)
 
-pub returns-in-Ok : goal.returns-in-Ok
-returns-in-Ok g c = λ file ws are stand. inr (c.judge_plain.ensures (checked_model c.args.checked) file ws c.in-Ok.ensures are stand)
+pub returns-in-Ok-clause-printed : goal.returns-in-Ok-clause-printed
+returns-in-Ok-clause-printed g c = λ file ws are stand. inr (c.judge_whole.ensures.printed (checked_model c.args.checked) file ws c.in-Ok.ensures are stand)
 
-pub returns-in-Err : goal.returns-in-Err
-returns-in-Err g c = λ file ws are stand. nothing (PrintsJudged c.args.play (checked_model c.args.checked) file) _
+pub returns-in-Err-clause-printed : goal.returns-in-Err-clause-printed
+returns-in-Err-clause-printed g c = λ file ws are stand. nothing (PrintsJudged c.args.play (checked_model c.args.checked) file) _
+
+pub returns-in-Ok-clause-simulator : goal.returns-in-Ok-clause-simulator
+returns-in-Ok-clause-simulator g c = c.judge_whole.ensures.simulator (checked_model c.args.checked) c.in-Ok.ensures
+
+pub returns-in-Err-clause-simulator : goal.returns-in-Err-clause-simulator
+returns-in-Err-clause-simulator g c = λ written ample. absurd (ample refl)
+
+pub returns-in-Ok-clause-unbegun : goal.returns-in-Ok-clause-unbegun
+returns-in-Ok-clause-unbegun g c = c.judge_whole.ensures.unbegun
+
+pub returns-in-Err-clause-unbegun : goal.returns-in-Err-clause-unbegun
+returns-in-Err-clause-unbegun g c = λ never. refl

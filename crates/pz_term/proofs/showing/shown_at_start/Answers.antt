@@ -1,19 +1,16 @@
-use Rattle.std.proofs.Common.{◌≡◌, [], ◌∷◌, List, sym, ap, subst, ◌∙◌}
+use Rattle.std.proofs.Common.{[], ◌∷◌}
 use Rattle.std.proofs.lemmas.Result.{IfOk-weaker}
-use Rattle.pz_value.specs.declared.value.Value.{Value}
-use Rattle.pz_state.specs.Marks.{Seen}
-use Rattle.pz_state.specs.Objects.{ObjectView}
-use Rattle.pz_state.specs.States.{StateView, initial, value_at}
+use Rattle.pz_state.specs.States.{initial, value_at}
 use Rattle.pz_copy.specs.Packing.{IsParcelOf}
-use Rattle.pz_term.proofs.Opened.{moved}
+use Rattle.pz_rules.specs.devices.Start.{start_of}
+use Rattle.pz_term.specs.Shown.{HoldsValue}
+use Rattle.pz_term.proofs.Variables.{begun_plain, begun_holds}
 use Rattle.pz_term.proofs.showing.shown_at_start.Goals as goal
 
+pub begun_with-requires : goal.begun_with-requires
+begun_with-requires c = begun_plain c.args.net.now c.args.process c.values.result.now c.requires.there c.values.ensures c.requires.of_model
+
 pub returns : goal.returns
-returns c =
-    let s = c.new-state.result.held in
-    let t = initial c.args.values.now in
-    let held : s ≡ initial [] = ap (λ (z : Seen). z.held) c.new-state.ensures ∙ ap (λ (vs : List Value). initial vs) c.new.ensures.items in
-    let objects : t.objects ≡ s.objects = sym (ap (λ (x : StateView). x.objects) held) in
-    IfOk-weaker c.pack.result (IsParcelOf s (c.in_ok-value.value ∷ [])) (IsParcelOf t (value_at c.args.values.now c.args.variable ∷ []))
-    (λ parcel is. subst (λ (v : Value). IsParcelOf t (v ∷ []) parcel) c.in_ok-value.ensures (moved s t (c.in_ok-value.value ∷ []) parcel objects is))
-    c.pack.ensures.parcel
+returns c setting known =
+    IfOk-weaker c.begun_with.result (IsParcelOf (initial c.values.result.now) (value_at c.values.result.now c.args.variable ∷ [])) (HoldsValue (start_of setting) c.args.process c.args.variable)
+    (begun_holds c.args.net.now c.args.process c.values.result.now c.requires.there c.values.ensures setting known c.args.variable) c.begun_with.ensures

@@ -19,3 +19,6 @@ returns-clause-actions c =
     let setting = setting_of (checked_model c.args.checked.now) c.args.limits in
     c.decide.ensures.actions setting (config_of c.args.clock c.args.processes.now)
     (subst (λ (ps : List Process). Decides setting (config_of c.args.clock ps) c.find_trouble.new.found c.in_ok-trouble.trouble) c.in_ok-found.ensures.unchanged c.in_ok-trouble.ensures.decides)
+
+pub returns-clause-times : goal.returns-clause-times
+returns-clause-times c = c.in_ok-found.ensures.surveyed.times

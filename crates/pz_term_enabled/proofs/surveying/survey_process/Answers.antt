@@ -18,6 +18,8 @@ returns-clause-surveyed c = λ m config seen below.
       receives = listed.receives;
       delays = listed.delays;
       troubles = listed.troubles;
+      tests_computed = c.evaluations_are_computed.ensures.tests;
+      times_computed = c.evaluations_are_computed.ensures.times;
     } in
     let wires : HasWires m = c.wires_are_known.ensures.law m seen.sound in
     let fits = c.active_parts_fit.ensures.law in

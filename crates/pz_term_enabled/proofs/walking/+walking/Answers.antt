@@ -1,4 +1,4 @@
-use Rattle.std.proofs.Common.{◌∙◌, Bool, Result, Ok, sym, ap}
+use Rattle.std.proofs.Common.{◌∙◌, Bool, Result, Ok, refl, sym, ap}
 use Rattle.std.proofs.lemmas.Result.{on_ok_weaker}
 use Rattle.pz_offer.specs.declared.trouble.Trouble.{Trouble}
 use Rattle.pz_classes_code.specs.CodeView as code
@@ -10,7 +10,7 @@ use Rattle.pz_part_queries.specs.Standpoints.{seen_from}
 use Rattle.pz_term_enabled.proofs.Notes.{adds_under}
 use Rattle.pz_term_enabled.proofs.Walks.{guard_closed, guard_troubled, troubled_guard}
 use Rattle.pz_term_enabled.proofs.Moved.{both_added, next_added, behind_added}
-use Rattle.pz_term_enabled.proofs.TermForms.{seq_added, par_added, sel_added, guard_added, frame_added, abort_added, idle_added, handling_added}
+use Rattle.pz_term_enabled.proofs.TermForms.{wait_added, seq_added, par_added, sel_added, guard_added, frame_added, abort_added, idle_added, handling_added}
 use Rattle.pz_term_enabled.proofs.walking.+walking.Goals as goal
 
 pub walk_both-returns-clause-adds : goal.walk_both-returns-clause-adds
@@ -104,3 +104,10 @@ walk_part-returns-in-Handling-clause-adds t c = λ m class known.
     on_ok_weaker c.walk_child-in-Handling.result
     (handling_added (seen_from m c.args.here.now class c.args.state.now.held) c.args.frame.0 c.args.place.now c.args.found.now c.walk_child-in-Handling.new.found c.args.term.now c.in-Handling.field-0 c.in-Handling.second c.get-in-Handling.result.now c.in-Handling.field-2 c.in-Handling.is c.get-in-Handling.ensures)
     (c.walk_child-in-Handling.ensures.adds m class known)
+
+pub walk_part-returns-in-Wait-clause-adds : goal.walk_part-returns-in-Wait-clause-adds
+walk_part-returns-in-Wait-clause-adds t c = λ m class known.
+    let a = seen_from m c.args.here.now class c.args.state.now.held in
+    on_ok_weaker c.note_left.result
+    (wait_added a c.args.frame.0 c.args.place.now c.args.found.now c.note_left.new.found c.args.term.now c.in-Wait.left c.in-Wait.pos c.in-Wait.is)
+    (c.note_left.ensures a c.args.frame.0 (terms.wait c.in-Wait.left c.in-Wait.pos) refl (λ unbegun. absurd cc))

@@ -4,14 +4,19 @@ use Rattle.pz_nodes.specs.Arena.{find}
 use Rattle.pz_part_actions.specs.Homes.{seen_home}
 use Rattle.pz_tree_nodes.specs.View.{term_in_option}
 use Rattle.pz_tree_acting.specs.Acting.{MayBeDone}
-use Rattle.pz_tree_acting.proofs.Finished.{begun_latest, begun_trouble, begun_older, begun_has_opened, begun_ends, acts_trouble, acts_well}
+use Rattle.pz_tree_acting.proofs.Merely.{room_merely}
+use Rattle.pz_tree_acting.proofs.Finished.{begun_latest, begun_trouble, begun_older, begun_has_opened, begun_is_short, acts_trouble, acts_well}
 use Rattle.pz_tree_acting.proofs.acting.act.Goals as goal
 
 pub finish-requires-clause-latest : goal.finish-requires-clause-latest
 finish-requires-clause-latest g c = begun_latest c.args.state.now c.begin.new.state c.in_ok-begun.field-0 c.in-Ok.begun c.in-Ok.is c.in_ok-begun.ensures.state
 
-pub finish-requires-clause-ends : goal.finish-requires-clause-ends
-finish-requires-clause-ends g c = begun_ends c.args.here.now.clock c.in_ok-begun.field-0 c.in-Ok.begun c.in-Ok.is c.in_ok-begun.ensures.ends
+pub finish-requires-clause-short : goal.finish-requires-clause-short
+finish-requires-clause-short g c = begun_is_short c.in_ok-begun.field-0 c.in-Ok.begun c.in-Ok.is c.in_ok-begun.ensures.short
+
+pub finish-requires-clause-room : goal.finish-requires-clause-room
+finish-requires-clause-room g c =
+    room_merely c.args.here.now.clock (∥∥₁_map c.requires.can (λ (r : MayBeDone c.args.here.now c.args.home.now c.args.how (find c.args.nodes.now) c.args.root c.args.state.now.held c.args.place.now). r.rooted.room))
 
 pub finish-requires-clause-stands : goal.finish-requires-clause-stands
 finish-requires-clause-stands g c =
@@ -24,6 +29,7 @@ returns-in_ok-out-in-Ok-clause-acts g c =
     c.active_parts_may_act.ensures.law c.active_parts_are_at_their_places.ensures.law c.in-Ok.begun (find c.finish.new.nodes) c.finish.new.state c.in_ok-out-in-Ok.out c.in-Ok.is
     (begun_older c.args.state.now c.begin.new.state c.in_ok-begun.field-0 c.in-Ok.begun c.in-Ok.is c.in_ok-begun.ensures.state)
     (begun_has_opened c.args.home.now.edition c.args.state.now.held c.begin.new.state.held c.in_ok-begun.field-0 c.in-Ok.begun c.in-Ok.is c.in_ok-begun.ensures.opens)
+    (begun_is_short c.in_ok-begun.field-0 c.in-Ok.begun c.in-Ok.is c.in_ok-begun.ensures.short)
     c.in_ok-out-in-Ok.ensures
 
 pub returns-in-Err-clause-acts : goal.returns-in-Err-clause-acts

@@ -13,8 +13,8 @@ use Rattle.pz_tree_acting.specs.Acting.{MayBeDone}
 use Rattle.pz_tree_acting.specs.devices.Begun.{ActsSo}
 use Rattle.pz_tree_acting.proofs.Found.{able_place}
 use Rattle.pz_tree_acting.proofs.Marked.{may_act, part_is, place_is, part_fits, leaves_begun}
-use Rattle.pz_tree_acting.proofs.Begins.{located, acts_so, begun_state, deed_can, deed_calm, deed_opened, begun_calm, begun_opens}
-use Rattle.pz_tree_acting.proofs.Merely.{acts_merely, place_merely, ends_merely, opens_merely}
+use Rattle.pz_tree_acting.proofs.Begins.{located, acts_so, begun_state, deed_can, part_left_short, deed_opened, begun_short, begun_opens}
+use Rattle.pz_tree_acting.proofs.Merely.{acts_merely, place_merely, short_merely, opens_merely}
 use Rattle.pz_tree_acting.proofs.beginning.begin.Goals as goal
 
 pub pos_of-pos-requires : goal.pos_of-pos-requires
@@ -89,9 +89,9 @@ returns-clause-opens g c =
     (deed_opened c.args.here.now c.args.home.now how r.parcel c.mark.new.self.held c.do_deed.new.state.held spot.frame.0 y c.in_ok-left.left c.in_ok-left.ensures.answers r.can.it_holds.0 can
     c.deeds_open_frames.ensures.performed c.deeds_open_frames.ensures.handed c.deeds_open_frames.ensures.taken)))
 
-pub returns-clause-ends : goal.returns-clause-ends
-returns-clause-ends g c =
-    ends_merely c.args.here.now.clock c.hold.result (∥∥₁_map c.requires.can (λ (r : MayBeDone c.args.here.now c.args.home.now c.args.how (find c.args.nodes.now) c.args.root c.args.state.now.held c.args.place.now).
+pub returns-clause-short : goal.returns-clause-short
+returns-clause-short g c =
+    short_merely c.hold.result (∥∥₁_map c.requires.can (λ (r : MayBeDone c.args.here.now c.args.home.now c.args.how (find c.args.nodes.now) c.args.root c.args.state.now.held c.args.place.now).
     let how = c.args.how in
     let a = seen_home c.args.here.now c.args.home.now c.args.state.now.held in
     let t = term_in_option c.args.here.now.clock r.plant in
@@ -100,5 +100,5 @@ returns-clause-ends g c =
     let found = located c.tended_nodes_stand.ensures.law c.active_parts_are_at_their_places.ensures.law (find c.args.nodes.now) c.args.root c.args.here.now.clock r.plant r.rooted how r.parcel a c.args.place.now r.can
     spot.key spot.frame.0 spot.clock c.part_at-spot.ensures.found y c.in_ok-part.ensures.part in
     let can = deed_can c.args.here.now c.args.home.now how r.parcel c.args.state.now.held c.mark.new.self.held t c.args.place.now r.can spot.frame.0 y found (ap (λ (s : Seen). s.held) c.in_ok-point.ensures.ok) in
-    begun_calm c.args.here.now.clock c.in_ok-left.left c.hold.result c.hold.ensures.part
-    (deed_calm c.args.here.now c.args.home.now how r.parcel c.mark.new.self.held c.do_deed.new.state.held spot.frame.0 y c.in_ok-left.left c.in_ok-left.ensures.answers r.can.it_holds.0 can c.args.here.now.clock)))
+    begun_short c.in_ok-left.left c.hold.result c.hold.ensures.part
+    (part_left_short c.args.here.now c.args.home.now how r.parcel c.mark.new.self.held c.do_deed.new.state.held spot.frame.0 y c.in_ok-left.left c.in_ok-left.ensures.answers r.can.it_holds.0 can)))

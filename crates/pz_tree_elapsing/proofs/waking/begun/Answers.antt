@@ -1,4 +1,4 @@
-use Rattle.std.proofs.Common.{◌∙◌, ap, sym, arith}
+use Rattle.std.proofs.Common.{◌∙◌, ap, sym}
 use Rattle.pz_classes_code.specs.StepView.{view}
 use Rattle.pz_tree_nodes.specs.View.{head_view}
 use Rattle.pz_tree_elapsing.proofs.Delaying.{statement_stays, delay_due, delay_begins}
@@ -16,7 +16,6 @@ returns g = record {
   goes = λ a d f c time unnamed.
       delay_begins a d f c g.args.clock g.in-Some-due.due (view g.args.step) g.in-Some.pos g.args.kept.now g.waits.result.kept (head_view g.waits.result.head) time
       (sym g.begins_at.ensures ∙ g.in-Some.is) g.in-Some-due.is
-      (omega (arith, g.if-saturating_sub-from.false, g.from.ensures, g.saturating_sub.ensures))
       (ap head_view g.waits.ensures.head) g.waits.ensures.kept;
 }
 

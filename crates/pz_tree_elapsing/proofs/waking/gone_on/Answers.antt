@@ -1,5 +1,4 @@
 use Rattle.std.proofs.Common.{◌≡◌, ◌+◌, ℕ, false, ap, sym, subst}
-use Rattle.std.specs.Prelude.{IfOk}
 use Rattle.pz_classes_code.specs.CodeView as code
 use Rattle.pz_rules.specs.Settings.{Context}
 use Rattle.pz_tree_nodes.specs.declared.node.Head as lying
@@ -77,6 +76,6 @@ returns-in-Wait c = record {
 pub returns-in-Leaf : goal.returns-in-Leaf
 returns-in-Leaf c = record {
   goes =
-      subst (λ (z : lying.Head). IfOk c.begun.result (λ x. (a : Context) (d f t : ℕ) → t + d ≡ c.args.clock → asked_anew (head_view z) ≡ false → WakeRule a d f t (head_view z) c.args.kept.now (head_view x.head) x.kept)) (sym c.in-Leaf.is)
+      subst (λ (z : lying.Head). (a : Context) (d f t : ℕ) → t + d ≡ c.args.clock → asked_anew (head_view z) ≡ false → WakeRule a d f t (head_view z) c.args.kept.now (head_view c.begun.result.head) c.begun.result.kept) (sym c.in-Leaf.is)
       c.begun.ensures.goes;
 }

@@ -18,4 +18,4 @@ returns-then-asked_anew-clause-wakes g m class known =
 
 pub returns-else-asked_anew-clause-wakes : goal.returns-else-asked_anew-clause-wakes
 returns-else-asked_anew-clause-wakes g m class known =
-    IfOk-weaker g.gone_on.result _ _ (λ x rule a d c seen time. rule a d g.args.spot.frame.0 c time (sym g.asked_anew.ensures ∙ g.if-asked_anew.false)) g.gone_on.ensures.goes
+    λ a d c seen time. g.gone_on.ensures.goes a d g.args.spot.frame.0 c time (sym g.asked_anew.ensures ∙ g.if-asked_anew.false)

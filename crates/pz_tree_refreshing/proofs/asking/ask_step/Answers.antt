@@ -8,17 +8,17 @@ use Rattle.pz_tree_refreshing.specs.devices.Asked.{SaysItself}
 use Rattle.pz_tree_refreshing.proofs.Statements.{is_delay, is_send, delay_itself, send_itself}
 use Rattle.pz_tree_refreshing.proofs.asking.ask_step.Goals as goal
 
-pub returns-in_ok-own-in-Delay-clause-says : goal.returns-in_ok-own-in-Delay-clause-says
-returns-in_ok-own-in-Delay-clause-says c m class known asked room =
+pub returns-in_ok-answer-in-Delay-clause-says : goal.returns-in_ok-answer-in-Delay-clause-says
+returns-in_ok-answer-in-Delay-clause-says c m class known asked room =
     let a = seen_from m c.args.here.now class c.args.state.now.held in
     let f = c.args.spot.frame.0 in
     let s = c.args.step.now in
     let e = code.view c.in-Delay.time in
-    let own = c.in_ok-own-in-Delay.own in
+    let own = c.delay_says-own.result in
     subst (λ (z : Step). SaysItself a f c.args.spot.clock z (record own { clocked = c.names_clock.result })) (sym (is_delay s c.in-Delay.time c.in-Delay.is))
     (delay_itself a f c.args.spot.clock s.pos e c.in_ok-answer-in-Delay.answer own (record own { clocked = c.names_clock.result })
     (c.evaluations_are_computed.ensures.times a f s.pos e c.in_ok-answer-in-Delay.answer (c.in_ok-answer-in-Delay.ensures.lasts m class known))
-    (c.in_ok-own-in-Delay.ensures room)
+    (c.delay_says-own.ensures room)
     (ap (λ b. record own { clocked = b }) (c.names_clock.ensures ∙ ap (λ (z : Code). names_clock (code.view z)) c.get.ensures)))
 
 pub returns-in_ok-answer-in-Send-clause-says : goal.returns-in_ok-answer-in-Send-clause-says

@@ -7,7 +7,7 @@ use Rattle.pz_tree_dropping.specs.Dropping.{numbers}
 use Rattle.pz_tree_nodes.specs.View.{head_view}
 use Rattle.pz_tree_planting.specs.Planting.{EndsInTime}
 use Rattle.pz_tree_regrowing.specs.Regrowing.{at_work, RegrowRule}
-use Rattle.pz_tree_regrowing.specs.devices.Levels.{FinishRule, ShiftRule}
+use Rattle.pz_tree_regrowing.specs.devices.Levels.{FinishRule}
 use Rattle.pz_tree_regrowing.specs.devices.Rounds.{ReplantRule, BareRegrowRule}
 use Rattle.pz_tree_regrowing.proofs.Rounds.{sooner_ends, regrown_here, nothing_acts, level_regrown, none_taken, bare_regrown, shift_regrown}
 use Rattle.pz_tree_regrowing.proofs.Writes.{none_long}
@@ -50,7 +50,7 @@ regrow_bare-returns-in_default-take g t c =
     let found = numbers c.regrow_part.new.lost.items in
     none_taken (home_view c.args.home.now) (find c.args.nodes.now) (find c.regrow_part.new.nodes) (find c.take.new.nodes) c.in-Some-key.key spot.key spot.frame.0 spot.clock c.in-Some.number.now
     c.args.place.now c.in-Some.rest.now (term_view c.args.part) child.key c.in_ok-left.left None child.frame.0 child.clock c.args.state.now c.regrow_part.new.state c.regrow_part.new.state lost found found
-    c.args.steps.now c.child_of-child.new.steps c.regrow_part.new.steps c.take.new.steps c.in-Some-key.is c.in-Some.ensures.cases.0 c.child_of-child.ensures.child c.in_ok-left.ensures c.in_default-take.ensures.taken
+    c.args.steps.now c.child_of-child.new.steps c.regrow_part.new.steps c.take.new.steps c.in-Some-key.is c.in-Some.ensures.cases.0 c.child_of-child.ensures.child c.child_of-child.ensures.clock c.in_ok-left.ensures c.in_default-take.ensures.taken
 
 pub regrow_bare-returns : goal.regrow_bare-returns
 regrow_bare-returns g t c =
@@ -80,7 +80,7 @@ regrow_bare-returns g t c =
     IfOk-weaker c.finish.result (λ out. FinishRule home spot.frame.0 spot.clock key (head_view taken.head) taken.kids i out (at_work m2 mid found after) (at_work n last all new))
     (λ out. BareRegrowRule home spot.key spot.frame.0 spot.clock place x out (at_work m s lost old) (at_work n last all new))
     (λ out r. level_regrown home m m1 m2 n key spot.key spot.frame.0 spot.clock i place c.in-Some.rest.now x child.key c.in_ok-left.left out child.frame.0 child.clock s mid last lost found all old begun back after new taken.head taken.kids
-    c.in-Some-key.is c.in-Some.ensures.cases.0 c.child_of-child.ensures.child c.child_of-child.ensures.ticks c.in_ok-left.ensures c.in-Some-take.ensures.taken c.take.ensures.ticks r) c.finish.ensures
+    c.in-Some-key.is c.in-Some.ensures.cases.0 c.child_of-child.ensures.child c.child_of-child.ensures.clock c.child_of-child.ensures.ticks c.in_ok-left.ensures c.in-Some-take.ensures.taken c.take.ensures.ticks r) c.finish.ensures
 
 pub regrow_part-regrow_bare-requires-2 : goal.regrow_part-regrow_bare-requires-2
 regrow_part-regrow_bare-requires-2 g t c =
@@ -125,7 +125,5 @@ regrow_part-returns g t c =
     let begun = c.shift_at.new.steps in
     let back = c.regrow_bare-2.new.steps in
     let new = c.put_shift.new.steps in
-    IfOk-weaker c.put_shift.result (λ out. ShiftRule m1 n key shift.by spot.clock c.in_ok-left.left out back new)
-    (λ out. RegrowRule home spot.key spot.frame.0 spot.clock place x out (at_work m s lost old) (at_work n end found new))
-    (λ out r. shift_regrown home m m1 n spot.key key spot.frame.0 spot.clock place x c.in_ok-left.left out s end lost found old begun back new shift.by c.saturating_sub.result shift.below
-    c.in-Some.is c.in-Some-shift_at.ensures.shift c.shift_at.ensures.ticks c.saturating_sub.ensures c.in_ok-left.ensures r) c.put_shift.ensures
+    shift_regrown home m m1 n spot.key key spot.frame.0 spot.clock place x c.in_ok-left.left c.put_shift.result s end lost found old begun back new shift.by c.saturating_sub.result shift.below
+    c.in-Some.is c.in-Some-shift_at.ensures.shift c.shift_at.ensures.ticks c.saturating_sub.ensures c.in_ok-left.ensures c.put_shift.ensures

@@ -9,7 +9,7 @@ use Rattle.pz_tree_standing.specs.Heads as heads
 use Rattle.pz_tree_dropping.specs.Dropping.{numbers}
 use Rattle.pz_tree_nodes.specs.View.{head_view}
 use Rattle.pz_tree_regrowing.specs.Regrowing.{at_work}
-use Rattle.pz_tree_regrowing.specs.devices.Levels.{FinishRule, ChangingRule, AloneRule, ShiftRule, SecondRule}
+use Rattle.pz_tree_regrowing.specs.devices.Levels.{FinishRule, ChangingRule, AloneRule, SecondRule}
 use Rattle.pz_tree_regrowing.proofs.ByForm.{select_ends}
 use Rattle.pz_tree_regrowing.proofs.ShiftNodes.{guard_acts}
 use Rattle.pz_tree_regrowing.proofs.Rounds.{of_form, one_rule, handling_second}
@@ -75,12 +75,11 @@ returns-in-Guard g c =
     let first = c.kid_in-first.result in
     let behind = c.behind_now-behind.result in
     let test = code.view c.in-Guard.test in
+    let out = c.put_shift.result in
     let a = at_work m s lost old in
     let b = at_work n s lost new in
-    IfOk-weaker c.put_shift.result (λ out. ShiftRule m n key behind clock first out old new)
-    (λ out. FinishRule home f clock key (head_view c.args.taken.head) keys i out a b)
-    (λ out r. of_form home f clock key (heads.guarded test c.in-Guard.pos c.in-Guard.shift) (head_view c.args.taken.head) keys i out a b (ap head_view c.in-Guard.is)
-    (guard_acts clock key i test c.in-Guard.pos c.in-Guard.shift keys first out m n behind old new c.behind_now-behind.ensures c.kid_in-first.ensures r home f s lost)) c.put_shift.ensures
+    of_form home f clock key (heads.guarded test c.in-Guard.pos c.in-Guard.shift) (head_view c.args.taken.head) keys i out a b (ap head_view c.in-Guard.is)
+    (guard_acts clock key i test c.in-Guard.pos c.in-Guard.shift keys first out m n behind old new c.behind_now-behind.ensures c.kid_in-first.ensures c.put_shift.ensures home f s lost)
 
 pub returns-in-Frame : goal.returns-in-Frame
 returns-in-Frame g c =

@@ -1,8 +1,7 @@
-use Rattle.std.proofs.Common.{◌≤◌, ◌+◌, Some, sym, subst, arith}
+use Rattle.std.proofs.Common.{sym, subst, arith}
 use Rattle.pz_nodes.specs.Arena.{find}
 use Rattle.pz_tree_regrowing.specs.devices.Levels.{IsShiftAt, IsPutOver, ShiftRule}
 use Rattle.pz_tree_regrowing.proofs.ShiftNodes.{not_behind, bare_left, shift_left}
-use Rattle.pz_tree_regrowing.proofs.Writes.{both_ok}
 use Rattle.pz_tree_regrowing.proofs.shifts.put_shift.Goals as goal
 
 pub returns-then-behind-eq0 : goal.returns-then-behind-eq0
@@ -24,9 +23,9 @@ returns-in_default-shift_at g c =
     let old = c.args.steps.now in
     let mid = c.shift_at.new.steps in
     let new = c.put_over.new.steps in
-    both_ok c.put_over.result (λ out. IsPutOver m n key behind (Some kid) out) (λ out. ShiftRule m n key behind c.args.clock c.args.left out old new) (new ≤ mid + 2)
-    (λ out p t. bare_left m n key kid behind c.args.clock c.args.left out old mid new c.in-Some.is c.in_default-shift_at.ensures.shift
-    (subst (λ z. IsPutOver m n key behind z out) (sym c.in-Some.is) p) c.shift_at.ensures.ticks t) c.put_over.ensures.put c.put_over.ensures.ticks
+    let out = c.put_over.result in
+    bare_left m n key kid behind c.args.clock c.args.left out old mid new c.in-Some.is c.in_default-shift_at.ensures.shift
+    (subst (λ z. IsPutOver m n key behind z out) (sym c.in-Some.is) c.put_over.ensures.put) c.shift_at.ensures.ticks c.put_over.ensures.ticks
 
 pub returns : goal.returns
 returns g c =
@@ -43,8 +42,7 @@ returns g c =
     let mid = c.shift_at.new.steps in
     let last = c.release-2.new.steps in
     let new = c.put_over-2.new.steps in
-    both_ok c.put_over-2.result (λ out. IsPutOver m1 n key both further.below out) (λ out. ShiftRule m n key behind clock c.args.left out old new) (new ≤ last + 2)
-    (λ out p t. shift_left m m1 n key kid behind clock further.by both c.args.left further.below out old mid last new c.in-Some.is
+    shift_left m m1 n key kid behind clock further.by both c.args.left further.below c.put_over-2.result old mid last new c.in-Some.is
     (λ le. subst (λ z. IsShiftAt m kid z further.by further.below) c.saturating_sub-inner.ensures c.in-Some-shift_at.ensures.shift)
-    c.release-2.ensures.free (λ le. omega (arith, le, c.saturating_add-both.ensures, c.ranges.clock.fits)) p c.shift_at.ensures.ticks c.release-2.ensures.ticks t)
-    c.put_over-2.ensures.put c.put_over-2.ensures.ticks
+    c.release-2.ensures.free (λ le. omega (arith, le, c.saturating_add-both.ensures, c.ranges.clock.fits)) c.put_over-2.ensures.put c.shift_at.ensures.ticks c.release-2.ensures.ticks
+    c.put_over-2.ensures.ticks

@@ -9,5 +9,5 @@ invariant_of-self-2 c = record {
   rounds = c.args.self.now.rounds;
   holds =
       outlook_holds (setting_of (checked_model c.args.self.now.checked) c.args.self.now.limits) c.args.self.now.clock c.args.self.now.processes.items c.look_at.new.processes.items c.in_ok-outlook.outlook c.in_ok-outlook.ensures.unchanged
-      c.requires.are c.in_ok-outlook.ensures.moment c.in_ok-outlook.ensures.actions;
+      c.requires.are c.requires.short c.in_ok-outlook.ensures.times c.in_ok-outlook.ensures.moment c.in_ok-outlook.ensures.actions;
 }

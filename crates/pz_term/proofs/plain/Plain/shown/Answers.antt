@@ -1,13 +1,15 @@
 use Rattle.std.proofs.Common.{[], ◌∷◌, length, refl, arith}
+use Rattle.std.proofs.Math.Logic.{∥∥₁_map}
 use Rattle.std.proofs.lemmas.Option.{slice_get_read}
 use Rattle.std.proofs.lemmas.Result.{IfOk-weaker}
-use Rattle.pz_state.specs.States.{initial, value_at, variable}
+use Rattle.pz_state.specs.States.{variable}
 use Rattle.pz_copy.specs.Packing.{IsParcelOf}
 use Rattle.pz_classes.specs.CheckedView.{checked_model}
 use Rattle.pz_term_processes.specs.Standing.{setting_of}
 use Rattle.pz_term.specs.Plains.{simulation_of}
-use Rattle.pz_term.specs.Shown.{IsShown}
-use Rattle.pz_term.proofs.Variables.{index_built, not_broken, high_process, high_plain, high_shows, built_shows}
+use Rattle.pz_rules.specs.devices.Start.{start_of}
+use Rattle.pz_term.specs.Shown.{HoldsValue, IsShown}
+use Rattle.pz_term.proofs.Variables.{index_built, not_broken, high_process, high_shows, built_shows}
 use Rattle.pz_term.proofs.plain.Plain.shown.Goals as goal
 
 pub index-process-requires : goal.index-process-requires
@@ -25,23 +27,22 @@ returns-in-Whole c =
     (slice_get_read c.args.self.now.processes.items (length c.args.self.now.processes.items) c.args.process c.index-process.result.now refl within c.index-process.ensures) is)
     c.shown_in.ensures
 
-pub values-requires : goal.values-requires
-values-requires c =
+pub shown_at_start-requires-clause-there : goal.shown_at_start-requires-clause-there
+shown_at_start-requires-clause-there c =
     high_process (setting_of (checked_model c.args.self.now.checked) c.args.self.now.limits) c.args.self.now.clock c.args.self.now.processes.items c.args.self.now.standing c.args.process c.requires
     c.in-High.field-0 c.args.self.now.net c.in-High.is c.args.self.now.of_model
 
-pub shown_at_start-requires : goal.shown_at_start-requires
-shown_at_start-requires c =
-    high_plain (setting_of (checked_model c.args.self.now.checked) c.args.self.now.limits) c.args.self.now.clock c.args.self.now.processes.items c.args.self.now.standing c.args.process c.requires
-    c.in-High.field-0 c.args.self.now.net c.values.result.now c.in-High.is c.args.self.now.of_model c.values.ensures
+pub shown_at_start-requires-clause-of_model : goal.shown_at_start-requires-clause-of_model
+shown_at_start-requires-clause-of_model c = ∥∥₁_map c.args.self.now.of_model (λ net. (checked_model c.args.self.now.checked, net))
 
 pub returns-in-High : goal.returns-in-High
 returns-in-High c =
-    IfOk-weaker c.shown_at_start.result (IsParcelOf (initial c.values.result.now) (value_at c.values.result.now c.args.variable ∷ [])) (IsShown (simulation_of c.args.self.now) c.args.process c.args.variable)
-    (λ parcel is.
-    high_shows (setting_of (checked_model c.args.self.now.checked) c.args.self.now.limits) c.args.self.now.clock c.args.self.now.processes.items c.args.self.now.standing c.args.process c.requires
-    c.in-High.field-0 c.args.self.now.net c.values.result.now c.in-High.is c.args.self.now.of_model c.values.ensures c.args.variable parcel is)
-    c.shown_at_start.ensures
+    let setting = setting_of (checked_model c.args.self.now.checked) c.args.self.now.limits in
+    IfOk-weaker c.shown_at_start.result (HoldsValue (start_of setting) c.args.process c.args.variable) (IsShown (simulation_of c.args.self.now) c.args.process c.args.variable)
+    (λ parcel holds.
+    high_shows setting c.args.self.now.clock c.args.self.now.processes.items c.args.self.now.standing c.args.process c.requires
+    c.in-High.field-0 c.args.variable parcel c.in-High.is holds)
+    (c.shown_at_start.ensures setting c.args.self.now.of_model)
 
 pub unreachable-requires : goal.unreachable-requires
 unreachable-requires c =

@@ -5,6 +5,7 @@ use Rattle.pz_term_processes.specs.Standing.{setting_of}
 use Rattle.pz_term.specs.Plains.{simulation_of}
 use Rattle.pz_term.proofs.Kept.{kept_processes, never_other}
 use Rattle.pz_term.proofs.Moved.{within_shown, action_offered, chosen_acts, chosen_stops}
+use Rattle.pz_term.proofs.Short.{acted_short}
 use Rattle.pz_term.proofs.Variables.{stayed, stopped_holds}
 use Rattle.pz_term.proofs.plain.Plain.take.Goals as goal
 
@@ -45,3 +46,8 @@ pub unreachable-requires : goal.unreachable-requires
 unreachable-requires c =
     never_other (setting_of (checked_model c.args.self.now.checked) c.args.self.now.limits) c.args.self.now.clock c.args.self.now.processes.items c.args.self.now.standing c.replace.result c.requires.there.0 c.one_moment.ensures.one c.requires.there.1 c.args.self.now.holds
     c.replace.ensures.value c.in_default.not-Whole
+
+pub look_on-requires-clause-short : goal.look_on-requires-clause-short
+look_on-requires-clause-short c =
+    acted_short (setting_of (checked_model c.args.self.now.checked) c.args.self.now.limits) c.args.self.now.clock c.args.self.now.processes.items c.step_at.new.processes.items c.args.self.now.standing
+    c.one_moment.ensures.one c.args.self.now.holds c.short_stays.ensures.law c.requires.there.0 c.requires.there.1 c.index-action.result.now c.step_at.result c.in-Ok.left c.in-Ok-left.field-0 c.in-Ok.is c.in-Ok-left.is c.step_at.ensures.steps

@@ -1,0 +1,4 @@
+pub mod Opened
+pub mod Left
+mod Stepped
+mod Passed

@@ -1,0 +1,4 @@
+//! What is left of delays is short.
+#![tactic(auto)]
+
+pub mod laws;

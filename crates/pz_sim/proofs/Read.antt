@@ -1,0 +1,69 @@
+-- A tree over which time passes, as it is read and put.
+use Rattle.std.proofs.Common.{◌≡◌, ◌≤◌, ◌<◌, ◌+◌, ◌-◌, ℕ, List, map, set, get_or, length, Option, Some, None, refl, sym, subst, ap, ◌∙◌, arith}
+use Rattle.std.specs.Prelude.{slice_get, IfSome, All}
+use Rattle.std.specs.Coded.{Coded-set, coded_list, coded_option, le_prop}
+use Rattle.std.proofs.Math.Logic.{∥∥₁_elim, ∥∥₁_map, ∥∥₁_map₂}
+use Rattle.std.proofs.lemmas.Option.{same_Some, slice_get_within, slice_get-get_or}
+use Rattle.std.proofs.lemmas.List.{map-set, length-map}
+use Rattle.pz_syntax.specs.Classes.{ModelTree}
+use Rattle.pz_offer.specs.contracts.trouble.Trouble as trouble_row
+use Rattle.pz_rules.specs.Delays.{Passes}
+use Rattle.pz_sim_totals.specs.declared.total.Total.{Total}
+use Rattle.pz_sim_totals.specs.contracts.total.Total as total_row
+use Rattle.pz_tree_summary.specs.Steady.{later}
+use Rattle.pz_tree_summary.specs.Summaries.{summary_of}
+use Rattle.pz_tree.specs.declared.tree.Tree.{Tree}
+use Rattle.pz_tree.specs.Trees.{at_in, term_in, IsFresh}
+use Rattle.pz_sim.specs.devices.Passing.{MayPass, HasPassed, HavePassed, own_total}
+use Rattle.pz_sim.proofs.Passed.{passed_more, next_is}
+use Rattle.pz_sim.proofs.Replaced.{all_at}
+
+-- of a bound of what there may be, there is one proof at most
+bound_prop : (c : ℕ) (o : Option ℕ) (x y : IfSome o (λ due. c ≤ due)) → x ≡ y
+bound_prop c None x y = refl
+bound_prop c (Some due) x y = le_prop x y
+
+module _ (m : ModelTree) (clock : ℕ) (t : Tree) (may : ∥ MayPass m clock t ∥₁) where
+  pub may_fresh : ∥ IsFresh m t ∥₁
+  may_fresh = ∥∥₁_map may (λ k. k.fresh)
+
+  pub may_later : t.clock ≤ clock
+  may_later = ∥∥₁_elim may le_prop (λ k. k.ahead)
+
+  pub may_untroubled : (summary_of (at_in m t) t.clock 0 (term_in t)).trouble ≡ None
+  may_untroubled = ∥∥₁_elim may (Coded-set (coded_option trouble_row.the_row.coded) (summary_of (at_in m t) t.clock 0 (term_in t)).trouble None) (λ k. k.untroubled)
+
+  pub may_due : IfSome (summary_of (at_in m t) t.clock 0 (term_in t)).due (λ due. clock ≤ due)
+  may_due = ∥∥₁_elim may (bound_prop clock (summary_of (at_in m t) t.clock 0 (term_in t)).due) (λ k. k.due)
+
+  pub has_passed : (u : Tree) → (IsFresh m t → Passes (at_in m t) (clock - t.clock) 0 (term_in t) (term_in u)) → at_in m u ≡ later (at_in m t) (clock - t.clock) → ∥ IsFresh m u ∥₁ → ∥ HasPassed m clock t u ∥₁
+  has_passed u passes seen fresh = ∥∥₁_map₂ may fresh (λ k f. record { passes = passes k.fresh; seen = seen; fresh = f })
+
+-- what is told of a fresh tree is its total
+pub total_told : (m : ModelTree) (t : Tree) (total : Total) → ∥ IsFresh m t ∥₁ → ((model : ModelTree) → IsFresh model t → total ≡ own_total model t) → total ≡ own_total m t
+total_told m t total fresh told = ∥∥₁_elim fresh (Coded-set total_row.the_row.coded total (own_total m t)) (told m)
+
+-- there are as many totals as trees
+pub next_within : (m : ModelTree) (us : List Tree) (n : ℕ) (totals : List Total) → n < length us → totals ≡ map (own_total m) us → n < length totals
+next_within m us n totals within are =
+    let same = ap (λ (xs : List Total). length xs) are in
+    let many = length-map us (own_total m) in
+    omega (arith, within, same, many)
+
+-- The next tree of many
+
+module _ (m : ModelTree) (clock : ℕ) (ts us : List Tree) (n : ℕ) (d : Tree) (within : n < length us) where
+  abbrev pub next : Tree
+  next = get_or us n d
+
+  is_next : slice_get us n ≡ Some next
+  is_next = slice_get-get_or us n d within
+
+  pub next_may : ∥ All (MayPass m clock) ts ∥₁ → ∥ HavePassed m clock n ts us ∥₁ → ∥ MayPass m clock next ∥₁
+  next_may may have = ∥∥₁_map₂ may have (λ all k. all_at (MayPass m clock) ts n next all (next_is m clock ts us n next k is_next))
+
+  pub next_passed : (u : Tree) → ∥ HavePassed m clock n ts us ∥₁ → ∥ HasPassed m clock next u ∥₁ → ∥ HavePassed m clock (n + 1) ts (set us n u) ∥₁
+  next_passed u have has = ∥∥₁_map₂ have has (λ k x. passed_more m clock ts us n next u is_next k x)
+
+  pub totals_more : (u : Tree) (old new : List Total) → old ≡ map (own_total m) us → new ≡ set old n (own_total m u) → new ≡ map (own_total m) (set us n u)
+  totals_more u old new are is = is ∙ ap (λ (xs : List Total). set xs n (own_total m u)) are ∙ sym (map-set (own_total m) us n u)

@@ -1,0 +1,39 @@
+use Rattle.std.proofs.Common.{◌≡◌, ◌∙◌, ℕ, List, length, refl, sym, ap, subst, arith}
+use Rattle.pz_classes.specs.CheckedView.{checked_model}
+use Rattle.pz_sim.specs.devices.Passing.{HavePassed}
+use Rattle.pz_sim.proofs.Passed.{none_passed}
+use Rattle.pz_sim.proofs.Read.{next_may, next_within, next_passed, totals_more}
+use Rattle.pz_sim.proofs.passing.pass_all.Goals as goal
+
+pub loop-number-init : goal.loop-number-init
+loop-number-init g c = record {
+  passed = ∣ none_passed (checked_model c.args.checked.now) c.args.clock c.args.trees.now ∣₁;
+  totals = c.requires.totals;
+}
+
+pub pass_tree-requires-clause-may : goal.pass_tree-requires-clause-may
+pass_tree-requires-clause-may g c =
+    next_may (checked_model c.args.checked.now) c.args.clock c.args.trees.now c.loop-number.trees c.loop-number.number c.index-trees-number.result
+    (omega (arith, c.loop-number.auto.trees, c.loop-number-test.true)) c.requires.may c.loop-number.invariant.passed
+
+pub pass_tree-requires-clause-within : goal.pass_tree-requires-clause-within
+pass_tree-requires-clause-within g c =
+    next_within (checked_model c.args.checked.now) c.loop-number.trees c.loop-number.number c.loop-number.totals (omega (arith, c.loop-number.auto.trees, c.loop-number-test.true)) c.loop-number.invariant.totals
+
+pub loop-number-preserved : goal.loop-number-preserved
+loop-number-preserved g c = record {
+  passed =
+      next_passed (checked_model c.args.checked.now) c.args.clock c.args.trees.now c.loop-number.trees c.loop-number.number c.index-trees-number.result
+      (omega (arith, c.loop-number.auto.trees, c.loop-number-test.true)) c.pass_tree.new.tree c.loop-number.invariant.passed c.in_ok-pass_tree.ensures.passed;
+  totals =
+      totals_more (checked_model c.args.checked.now) c.args.clock c.args.trees.now c.loop-number.trees c.loop-number.number c.index-trees-number.result
+      (omega (arith, c.loop-number.auto.trees, c.loop-number-test.true)) c.pass_tree.new.tree c.loop-number.totals c.pass_tree.new.totals c.loop-number.invariant.totals c.in_ok-pass_tree.ensures.total;
+}
+
+pub returns-clause-passed : goal.returns-clause-passed
+returns-clause-passed g c =
+    let done : c.loop-number.number ≡ length c.args.trees.now = omega (arith, c.loop-number.auto.number-end, c.loop-number-test.false) in
+    subst (λ (n : ℕ). ∥ HavePassed (checked_model c.args.checked.now) c.args.clock n c.args.trees.now c.loop-number.trees ∥₁) done c.loop-number.invariant.passed
+
+pub returns-clause-totals : goal.returns-clause-totals
+returns-clause-totals g c = c.loop-number.invariant.totals

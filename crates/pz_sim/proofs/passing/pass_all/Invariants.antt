@@ -1,0 +1,10 @@
+use Rattle.std.proofs.Common.{◌≡◌, map}
+use Rattle.pz_classes.specs.CheckedView.{checked_model}
+use Rattle.pz_sim.specs.devices.Passing.{HavePassed, own_total}
+use Rattle.pz_sim.proofs.passing.pass_all.Given as goal
+
+abbrev pub invariant-loop-number : goal.invariant-loop-number
+invariant-loop-number g l = record {
+  passed : ∥ HavePassed (checked_model l.checked) l.clock l.number l.initial.trees l.trees ∥₁;
+  totals : l.totals ≡ map (own_total (checked_model l.checked)) l.trees;
+}
