@@ -1,5 +1,5 @@
 -- The trees of processes that have just begun.
-use Rattle.std.proofs.Common.{◌≡◌, ◌<◌, ◌≤◌, ◌∙◌, ℕ, List, [], ◌∷◌, ◌++◌, length, map, get_or, Option, Some, refl, sym, ap, subst, arith}
+use Rattle.std.proofs.Common.{◌≡◌, ◌<◌, ◌≤◌, ◌∙◌, ℕ, List, [], ◌∷◌, ◌++◌, length, map, get_or, Some, refl, sym, ap, subst, arith}
 use Rattle.std.specs.Prelude.{slice_get, All}
 use Rattle.std.specs.Option.{option_map}
 use Rattle.std.specs.Coded.{le_prop}
@@ -17,7 +17,6 @@ use Rattle.pz_bind.specs.declared.net.Net.{Net}
 use Rattle.pz_rules.specs.Terms.{height}
 use Rattle.pz_rules.specs.Settings as rules
 use Rattle.pz_rules.specs.Settings.{Setting, Context}
-use Rattle.pz_rules.specs.Configurations.{Config}
 use Rattle.pz_rules.specs.Fitting.{IsFit}
 use Rattle.pz_rules.specs.Heights.{IsLow}
 use Rattle.pz_rules.specs.Runs.{whole}

@@ -28,7 +28,6 @@ use Rattle.pz_sim_totals.specs.declared.total.Total.{Total}
 use Rattle.pz_sim_totals.specs.declared.totals.Found.{Found}
 use Rattle.pz_sim_totals.specs.Sums as sums
 use Rattle.pz_sim_totals.specs.Sums.{IsAction}
-use Rattle.pz_sim_laws.specs.Couples.{communication}
 use Rattle.pz_sim_laws.specs.Members.{config_of}
 use Rattle.pz_sim_laws.specs.Deciding.{total_of, offers_in}
 use Rattle.pz_sim_laws.specs.Laws.{InternalsComeFirst, CommunicationsFollow, MomentIsDecided, PairsAreCouples}
@@ -48,7 +47,7 @@ use Rattle.pz_sim.specs.devices.Numbered.{HasAction, IsActionOf, IsCommunication
 use Rattle.pz_sim.proofs.Advanced.{whole_there, told_there, below_there}
 use Rattle.pz_sim.proofs.Chosen.{number_within, couples_there, chosen_internal, chosen_communication}
 use Rattle.pz_sim.proofs.Found.{found_below}
-use Rattle.pz_sim.proofs.Replaced.{got_mapped, from_mapped, all_at}
+use Rattle.pz_sim.proofs.Replaced.{from_mapped, all_at}
 
 -- an internal action that is there is found
 nothing_past : {X : Type 0} (xs : List X) (n : ℕ) → n < length xs → None ≡ slice_get xs n → ⊥

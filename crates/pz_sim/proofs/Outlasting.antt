@@ -1,6 +1,6 @@
 -- A table outlasts a passing of time where no process that speaks names the clock.
 use Rattle.std.proofs.Common.{◌≡◌, ◌≤◌, ◌<◌, ◌+◌, ◌⊎◌, inl, inr, ℕ, zero, suc, Bool, true, false, List, [], ◌∷◌, length, Some, refl, sym, subst, ap, ◌∙◌, arith}
-use Rattle.std.specs.Prelude.{slice_get, All, Contains}
+use Rattle.std.specs.Prelude.{slice_get, Contains}
 use Rattle.std.proofs.lemmas.Option.{same_Some, slice_get_within}
 use Rattle.pz_syntax.specs.Classes.{ModelTree}
 use Rattle.pz_classes.specs.Soundness.{IsSound}
@@ -12,15 +12,15 @@ use Rattle.pz_rules.specs.Delays as delays
 use Rattle.pz_rules.specs.Settings.{Setting}
 use Rattle.pz_sim_laws.specs.Members.{Member}
 use Rattle.pz_sim_laws.specs.Offering.{SendersOf, ReceiversOf}
-use Rattle.pz_sim_laws.specs.Couples.{answer, SaysAt, IsTruthful}
-use Rattle.pz_sim_laws.specs.Elapsing.{Elapsed, HasReceive}
+use Rattle.pz_sim_laws.specs.Couples.{answer, IsTruthful}
+use Rattle.pz_sim_laws.specs.Elapsing.{Elapsed}
 use Rattle.pz_sim_laws.specs.Laws.{ReceiversStand, SendsOutlast, ReceivesOutlast, VerdictsOutlast}
 use Rattle.pz_tree_summary.specs.Woken.{clocked}
 use Rattle.pz_tree.specs.declared.tree.Tree.{Tree}
 use Rattle.pz_sim.specs.Members.{member_of}
 use Rattle.pz_sim.specs.devices.Holding.{AreTrees}
-use Rattle.pz_sim.specs.devices.Passing.{names, quiet_if, quieted, quiet_after, IsAmong, AreNamed, AreSilenced, HavePassed, IsYetToSpeak, AreRetold}
-use Rattle.pz_sim.specs.devices.Tables.{hushed, IsTable}
+use Rattle.pz_sim.specs.devices.Passing.{names, quiet_if, quieted, quiet_after, AreSilenced, HavePassed, IsYetToSpeak, AreRetold}
+use Rattle.pz_sim.specs.devices.Tables.{IsTable}
 use Rattle.pz_sim.proofs.Passed.{some_at, all_from, elapsed_at}
 use Rattle.pz_sim.proofs.Quieted.{length-quieted}
 use Rattle.pz_sim.proofs.Replaced.{all_at}

@@ -9,13 +9,13 @@ use Rattle.pz_classes.specs.Soundness.{IsSound}
 use Rattle.pz_rules.specs.declared.action.Action.{Action}
 use Rattle.pz_rules.specs.declared.action.Action.TheVariants.{Internal}
 use Rattle.pz_rules.specs.declared.action.Kind.TheVariants.{Skip}
-use Rattle.pz_rules.specs.Settings.{Setting, Context, Process}
+use Rattle.pz_rules.specs.Settings.{Setting, Context}
 use Rattle.pz_rules.specs.Configurations.{IsWhole}
 use Rattle.pz_rules.specs.Delays.{Passes}
 use Rattle.pz_rules.specs.Steps.{PassesTo}
 use Rattle.pz_rules.specs.Laws.{StaysFit, LowPasses}
 use Rattle.pz_sim_totals.specs.declared.total.Total.{Total}
-use Rattle.pz_sim_laws.specs.Members.{Member, config_of, process_of, AreMembers}
+use Rattle.pz_sim_laws.specs.Members.{Member, config_of, process_of}
 use Rattle.pz_sim_laws.specs.Deciding.{total_of}
 use Rattle.pz_sim_laws.specs.Elapsing.{Elapsed}
 use Rattle.pz_sim_laws.specs.Laws.{PassingLeadsOn, MembersPass}
@@ -27,7 +27,7 @@ use Rattle.pz_sim.specs.Members.{member_of, members_of}
 use Rattle.pz_sim.specs.devices.Holding.{AreTrees}
 use Rattle.pz_sim.specs.devices.Passing.{HasPassed, HavePassed, own_total}
 use Rattle.pz_sim.proofs.Heard.{set_same, set_other}
-use Rattle.pz_sim.proofs.Replaced.{got_mapped, from_mapped, all_at}
+use Rattle.pz_sim.proofs.Replaced.{from_mapped, all_at}
 
 -- what is so at each place is so of all
 pub all_from : {X : Type 0} (P : X → Type 0) (xs : List X) → ((i : ℕ) (x : X) → slice_get xs i ≡ Some x → P x) → All P xs

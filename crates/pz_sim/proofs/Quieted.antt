@@ -11,7 +11,7 @@ use Rattle.pz_sim_laws.specs.Members.{Member}
 use Rattle.pz_tree.specs.declared.tree.Tree.{Tree}
 use Rattle.pz_tree.specs.Trees.{IsFresh}
 use Rattle.pz_sim.specs.Members.{member_of, members_of}
-use Rattle.pz_sim.specs.devices.Passing.{names, quiet_if, quieted, IsAmong, AreNamed, AreSilenced}
+use Rattle.pz_sim.specs.devices.Passing.{names, quiet_if, quieted, IsAmong, AreSilenced}
 use Rattle.pz_sim.specs.devices.Tables.{hushed, IsTable, IsHeard, AreHeard, CanBeSilent}
 use Rattle.pz_sim.proofs.Replaced.{all_at}
 

@@ -1,22 +1,25 @@
 -- A tree over which time passes, as it is read and put.
-use Rattle.std.proofs.Common.{◌≡◌, ◌≤◌, ◌<◌, ◌+◌, ◌-◌, ℕ, List, map, set, get_or, length, Option, Some, None, refl, sym, subst, ap, ◌∙◌, arith}
+use Rattle.std.proofs.Common.{◌≡◌, ◌≤◌, ◌<◌, ◌+◌, ◌-◌, ℕ, zero, suc, List, [], ◌∷◌, map, set, get_or, length, Option, Some, None, refl, sym, ap, ◌∙◌}
 use Rattle.std.specs.Prelude.{slice_get, IfSome, All}
-use Rattle.std.specs.Coded.{Coded-set, coded_list, coded_option, le_prop}
+use Rattle.std.specs.Coded.{Coded-set, coded_option, le_prop}
 use Rattle.std.proofs.Math.Logic.{∥∥₁_elim, ∥∥₁_map, ∥∥₁_map₂}
-use Rattle.std.proofs.lemmas.Option.{same_Some, slice_get_within, slice_get-get_or}
-use Rattle.std.proofs.lemmas.List.{map-set, length-map}
+use Rattle.std.specs.Prelude.{slice_set}
+use Rattle.std.proofs.lemmas.Option.{same_Some, slice_get-get_or}
+use Rattle.std.proofs.lemmas.List.{map-set}
 use Rattle.pz_syntax.specs.Classes.{ModelTree}
 use Rattle.pz_offer.specs.contracts.trouble.Trouble as trouble_row
 use Rattle.pz_rules.specs.Delays.{Passes}
+use Rattle.pz_rules.specs.Leaving.{is_done}
 use Rattle.pz_sim_totals.specs.declared.total.Total.{Total}
 use Rattle.pz_sim_totals.specs.contracts.total.Total as total_row
+use Rattle.pz_sim_laws.specs.Deciding.{unfinished}
 use Rattle.pz_tree_summary.specs.Steady.{later}
 use Rattle.pz_tree_summary.specs.Summaries.{summary_of}
 use Rattle.pz_tree.specs.declared.tree.Tree.{Tree}
 use Rattle.pz_tree.specs.Trees.{at_in, term_in, IsFresh}
 use Rattle.pz_sim.specs.devices.Passing.{MayPass, HasPassed, HavePassed, own_total}
 use Rattle.pz_sim.proofs.Passed.{passed_more, next_is}
-use Rattle.pz_sim.proofs.Replaced.{all_at}
+use Rattle.pz_sim.proofs.Replaced.{all_at, got_mapped}
 
 -- of a bound of what there may be, there is one proof at most
 bound_prop : (c : ℕ) (o : Option ℕ) (x y : IfSome o (λ due. c ≤ due)) → x ≡ y
@@ -43,12 +46,24 @@ module _ (m : ModelTree) (clock : ℕ) (t : Tree) (may : ∥ MayPass m clock t �
 pub total_told : (m : ModelTree) (t : Tree) (total : Total) → ∥ IsFresh m t ∥₁ → ((model : ModelTree) → IsFresh model t → total ≡ own_total model t) → total ≡ own_total m t
 total_told m t total fresh told = ∥∥₁_elim fresh (Coded-set total_row.the_row.coded total (own_total m t)) (told m)
 
--- there are as many totals as trees
-pub next_within : (m : ModelTree) (us : List Tree) (n : ℕ) (totals : List Total) → n < length us → totals ≡ map (own_total m) us → n < length totals
-next_within m us n totals within are =
-    let same = ap (λ (xs : List Total). length xs) are in
-    let many = length-map us (own_total m) in
-    omega (arith, within, same, many)
+-- what stands at a place, put there once more
+put_again : {X : Type 0} (xs : List X) (i : ℕ) (x : X) → slice_get xs i ≡ Some x → xs ≡ slice_set xs i x
+put_again [] i x is = refl
+put_again (y ∷ ys) zero x is = ap (λ z. z ∷ ys) (same_Some y x is)
+put_again (y ∷ ys) (suc i) x is = ap (λ zs. y ∷ zs) (put_again ys i x is)
+
+-- where nothing has woken, the total that is there stays
+module _ (m : ModelTree) (clock : ℕ) (t u : Tree) (may : ∥ MayPass m clock t ∥₁) where
+  same_total : (IsFresh m t → summary_of (at_in m u) u.clock 0 (term_in u) ≡ summary_of (at_in m t) t.clock 0 (term_in t)) → (IsFresh m t → is_done (term_in u) ≡ is_done (term_in t)) → own_total m t ≡ own_total m u
+  same_total summary done = ∥∥₁_elim may (Coded-set total_row.the_row.coded (own_total m t) (own_total m u)) (λ k. sym (of (summary k.fresh) (done k.fresh)))
+    where
+      of : summary_of (at_in m u) u.clock 0 (term_in u) ≡ summary_of (at_in m t) t.clock 0 (term_in t) → is_done (term_in u) ≡ is_done (term_in t) → own_total m u ≡ own_total m t
+      of e d = λ i. record { summary = e i; unfinished = unfinished (d i) }
+
+  pub total_stays : (totals : List Total) (number : ℕ) → slice_get totals number ≡ Some (own_total m t)
+      → (IsFresh m t → summary_of (at_in m u) u.clock 0 (term_in u) ≡ summary_of (at_in m t) t.clock 0 (term_in t)) → (IsFresh m t → is_done (term_in u) ≡ is_done (term_in t))
+      → totals ≡ slice_set totals number (own_total m u)
+  total_stays totals number is summary done = put_again totals number (own_total m t) is ∙ ap (λ (x : Total). slice_set totals number x) (same_total summary done)
 
 -- The next tree of many
 
@@ -67,3 +82,7 @@ module _ (m : ModelTree) (clock : ℕ) (ts us : List Tree) (n : ℕ) (d : Tree) 
 
   pub totals_more : (u : Tree) (old new : List Total) → old ≡ map (own_total m) us → new ≡ set old n (own_total m u) → new ≡ map (own_total m) (set us n u)
   totals_more u old new are is = is ∙ ap (λ (xs : List Total). set xs n (own_total m u)) are ∙ sym (map-set (own_total m) us n u)
+
+  -- its total stands at its place
+  pub next_own : (totals : List Total) → totals ≡ map (own_total m) us → slice_get totals n ≡ Some (own_total m next)
+  next_own totals are = ap (λ (xs : List Total). slice_get xs n) are ∙ got_mapped (own_total m) us n next is_next

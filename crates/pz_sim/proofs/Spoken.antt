@@ -1,25 +1,20 @@
 -- Trees of which each is asked what its process offers, one after the other.
-use Rattle.std.proofs.Common.{◌≡◌, ◌<◌, ◌+◌, ◌∙◌, ◌⊎◌, inl, inr, ℕ, zero, suc, false, List, [], ◌∷◌, length, map, set, get_or, replicate, Option, Some, refl, sym, ap, subst, arith}
+use Rattle.std.proofs.Common.{◌≡◌, ◌<◌, ◌+◌, ◌∙◌, ◌⊎◌, inl, inr, ℕ, zero, suc, false, List, [], ◌∷◌, length, map, set, get_or, replicate, Some, refl, sym, ap, subst, arith}
 use Rattle.std.specs.Prelude.{slice_get, All, Contains}
-use Rattle.std.specs.List.{flat_map}
-use Rattle.std.specs.Option.{option_map}
 use Rattle.std.proofs.Math.Logic.{∥∥₁_elim, ∥∥₁_map}
 use Rattle.std.proofs.Math.Nat.{ℕ_set}
 use Rattle.std.proofs.Math.Bool.{Bool-set}
 use Rattle.std.proofs.lemmas.List.{length-map}
-use Rattle.std.proofs.lemmas.Option.{same_Some, slice_get-map, slice_get_within, slice_get-get_or}
+use Rattle.std.proofs.lemmas.Option.{same_Some, slice_get_within, slice_get-get_or}
 use Rattle.pz_syntax.specs.Classes.{ModelTree}
-use Rattle.pz_bind_levels.specs.Places.{Address}
 use Rattle.pz_bind.specs.Nest.{processes, class_at}
 use Rattle.pz_bind.specs.devices.Nets.{IsNet}
 use Rattle.pz_bind.specs.declared.net.Net.{Net}
 use Rattle.pz_match.specs.declared.offers.Sender.{Sender}
 use Rattle.pz_match.specs.declared.offers.Receiver.{Receiver}
-use Rattle.pz_match.specs.Offers.{Fits}
 use Rattle.pz_match.specs.Pairs.{Judged, ArePairs}
 use Rattle.pz_match.specs.Table.{Table}
 use Rattle.pz_rules.specs.Terms.{done}
-use Rattle.pz_rules.specs.Settings as rules
 use Rattle.pz_rules.specs.Settings.{Setting, Context}
 use Rattle.pz_rules.specs.Fitting.{TermFits}
 use Rattle.pz_rules.specs.declared.moment.Moment.{Moment}
@@ -29,7 +24,7 @@ use Rattle.pz_sim_laws.specs.Members.{Member, process_of}
 use Rattle.pz_sim_laws.specs.Offering.{SendersOf, ReceiversOf, in_all}
 use Rattle.pz_sim_laws.specs.Deciding.{total_of, decided}
 use Rattle.pz_tree.specs.declared.tree.Tree.{Tree}
-use Rattle.pz_tree.specs.Trees.{at_in, term_in, IsFresh}
+use Rattle.pz_tree.specs.Trees.{term_in, IsFresh}
 use Rattle.pz_sim.specs.Members.{member_of, members_of}
 use Rattle.pz_sim.specs.devices.Holding.{AreTrees, AreKept}
 use Rattle.pz_sim.specs.devices.Speaking.{CanBeAsked}

@@ -1,5 +1,5 @@
 -- The totals of trees, one after the other.
-use Rattle.std.proofs.Common.{◌≡◌, ◌≤◌, ◌+◌, ◌∙◌, ℕ, List, length, map, set, replicate, length-set, Some, refl, sym, ap, subst}
+use Rattle.std.proofs.Common.{◌≡◌, ◌≤◌, ◌+◌, ◌∙◌, ℕ, List, length, map, set, replicate, length-set, Some, sym, ap}
 use Rattle.std.specs.Prelude.{slice_get, All}
 use Rattle.std.proofs.lemmas.List.{length-replicate}
 use Rattle.pz_syntax.specs.Classes.{ModelTree}

@@ -1,8 +1,7 @@
 -- A simulator at a moment of time.
-use Rattle.std.proofs.Common.{◌≡◌, ◌<◌, ◌+◌, ◌^◌, ℕ, List, refl, sym, ap, subst, arith}
+use Rattle.std.proofs.Common.{◌≡◌, ◌+◌, ℕ, List, sym, ap, subst}
 use Rattle.std.proofs.Math.Logic.{∥∥₁_elim}
 use Rattle.std.proofs.Math.Nat.{ℕ_set}
-use Rattle.std.proofs.lemmas.List.{length-map}
 use base.Stored.{Coded-set}
 use Rattle.pz_classes.specs.Soundness.{IsSound}
 use Rattle.pz_match.specs.Table.{Table}
@@ -13,12 +12,12 @@ use Rattle.pz_rules.specs.declared.moment.Moment.TheVariants.{Time, Stopped}
 use Rattle.pz_rules.specs.Settings.{Setting}
 use Rattle.pz_rules.specs.Configurations.{Config, IsWhole}
 use Rattle.pz_rules.specs.Laws.{OneMoment, WiresAreKnown}
-use Rattle.pz_rules.specs.Moments.{IsFirstHigh, IsMoment}
+use Rattle.pz_rules.specs.Moments.{IsMoment}
 use Rattle.pz_rules.specs.Steps.{PassesTo}
 use Rattle.pz_rules.specs.devices.Start.{start_of}
 use Rattle.pz_sim_totals.specs.declared.total.Total.{Total}
 use Rattle.pz_sim_laws.specs.Laws.{MomentIsDecided, PairsAreCouples}
-use Rattle.pz_sim_laws.specs.Leading.{MerelyMoment, MerelyPasses}
+use Rattle.pz_sim_laws.specs.Leading.{MerelyPasses}
 use Rattle.pz_sim_laws.specs.Members.{config_of}
 use Rattle.pz_term.specs.Simulations as simulations
 use Rattle.pz_term.specs.Simulations.{Simulation, IsMomentOf, Passes, clock_in}

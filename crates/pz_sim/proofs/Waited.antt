@@ -1,5 +1,5 @@
 -- What is kept when time has passed over all, and the simulator with it.
-use Rattle.std.proofs.Common.{◌≡◌, ◌≤◌, ◌<◌, ◌+◌, ◌^◌, ℕ, List, [], map, length, Some, refl, sym, subst, ap, ◌∙◌, arith}
+use Rattle.std.proofs.Common.{◌≡◌, ◌<◌, ◌+◌, ◌^◌, ℕ, List, [], map, length, Some, sym, subst, ap, ◌∙◌, arith}
 use Rattle.std.specs.Prelude.{slice_get, false, All}
 use Rattle.std.specs.Coded.{Coded-set, coded_list, le_prop}
 use Rattle.std.proofs.Math.Logic.{∥∥₁_elim, ∥∥₁_map, ∥∥₁_map₂}
@@ -25,8 +25,7 @@ use Rattle.pz_sim_laws.specs.Deciding.{total_of, decided}
 use Rattle.pz_sim_laws.specs.Laws.{PassingLeadsOn, MembersPass, SendsOutlast, ReceivesOutlast, VerdictsOutlast, ReceiversStand}
 use Rattle.pz_tree_refreshing.specs.Refreshing.{HasRoom}
 use Rattle.pz_tree.specs.declared.tree.Tree.{Tree}
-use Rattle.pz_tree.specs.Trees.{term_in, IsFresh}
-use Rattle.pz_rules.specs.Fitting.{TermFits}
+use Rattle.pz_tree.specs.Trees.{IsFresh}
 use Rattle.pz_sim.specs.Members.{member_of, members_of}
 use Rattle.pz_sim.specs.devices.Holding.{AreTrees, AreKept}
 use Rattle.pz_sim.specs.devices.Passing.{AreSilenced, MayPass, HavePassed, own_total, AreRetold}

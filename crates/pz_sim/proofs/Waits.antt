@@ -1,10 +1,9 @@
 -- Where time may pass: no process has a trouble, nothing is due before, and what is due is due soon.
 use Rattle.std.proofs.Common.{◌≡◌, ◌≤◌, ◌<◌, ◌+◌, ◌-◌, ◌^◌, ℕ, zero, suc, List, [], ◌∷◌, map, Option, Some, None, refl, sym, subst, ap, ◌∙◌, arith}
-use Rattle.std.specs.Prelude.{slice_get, IfSome, All, min}
+use Rattle.std.specs.Prelude.{slice_get, IfSome}
 use Rattle.std.specs.Option.{option_or, option_map}
 use Rattle.std.proofs.Math.Nat.{min-le_left, min-le_right}
 use Rattle.std.proofs.lemmas.Option.{same_Some}
-use Rattle.pz_syntax.specs.Classes.{ModelTree}
 use Rattle.pz_offer.specs.Summaries.{least}
 use Rattle.pz_offer.specs.declared.trouble.Trouble.{Trouble}
 use Rattle.pz_match.specs.Pairs.{Judged, first_trouble}

@@ -83,9 +83,9 @@ fn silence_all<L: Ledger>(
     Ok(named)
 }
 
-// Lets time pass over a tree, to this moment of the clock, and puts its total. The only error is want of memory, or that
-// there is more to do than can be counted.
-fn pass_tree<L: Ledger>(
+// Lets time pass over a tree in which something may wake, to this moment of the clock, and puts its total. The only error
+// is want of memory, or that there is more to do than can be counted.
+fn pass_woken<L: Ledger>(
     checked: &Checked,
     clock: u128,
     tree: &mut Tree,
@@ -104,6 +104,31 @@ fn pass_tree<L: Ledger>(
     tree.pass_to(checked, clock, steps)?;
     let total = total_in(tree);
     totals.set(number, total)
+}
+
+// Lets time pass over a tree, to this moment of the clock. Where nothing wakes in it, its clock goes on and its total is
+// that which is there. The only error is want of memory, or that there is more to do than can be counted.
+fn pass_tree<L: Ledger>(
+    checked: &Checked,
+    clock: u128,
+    tree: &mut Tree,
+    totals: &mut Totals,
+    number: usize,
+    steps: &mut Steps<L>,
+) -> Result<(), AllocError>
+    requires may { ∥ MayPass (checked_model checked.now) clock tree.old ∥₁ }
+    requires room { HasRoom clock }
+    requires own { slice_get totals.old number ≡ Some
+        (own_total (checked_model checked.now) tree.old) }
+    ensures passed { OnOk result
+        (∥ HasPassed (checked_model checked.now) clock tree.old tree.new ∥₁) }
+    ensures total { OnOk result (totals.new ≡ slice_set totals.old number
+        (own_total (checked_model checked.now) tree.new)) }
+{
+    if tree.pass_by(checked, clock, steps) {
+        return Ok(());
+    }
+    pass_woken(checked, clock, tree, totals, number, steps)
 }
 
 // Lets time pass over all trees. The only error is want of memory, or that there is more to do than can be counted.

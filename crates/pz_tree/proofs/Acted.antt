@@ -1,5 +1,5 @@
 -- A tree of which a part acts.
-use Rattle.std.proofs.Common.{◌≡◌, ◌<◌, ℕ, zero, suc, true, false, List, [], ◌∷◌, length, Option, Some, None, Result, Ok, Err, refl, sym, ap, subst, ◌∙◌, arith}
+use Rattle.std.proofs.Common.{◌≡◌, ◌≤◌, ◌<◌, ◌+◌, ◌*◌, ℕ, zero, suc, true, false, List, [], ◌∷◌, length, Option, Some, None, Result, Ok, Err, refl, sym, ap, subst, ◌∙◌, arith}
 use Rattle.std.specs.Prelude.{slice_get, IsTrue, OnOk, OnErr}
 use Rattle.std.specs.Option.{option_map_or}
 use Rattle.std.proofs.Math.Bool.{Bool-set}
@@ -7,7 +7,6 @@ use Rattle.std.proofs.Math.Nat.{ℕ_set}
 use Rattle.std.proofs.Math.Logic.{∥∥₁_prop, ∥∥₁_elim, ∥∥₁_map₂}
 use Rattle.std.proofs.lemmas.List.{length-map}
 use Rattle.std.proofs.lemmas.Option.{slice_get_within}
-use Rattle.pz_syntax.specs.declared.tokens.Pos.{Pos}
 use Rattle.pz_syntax.specs.Classes.{DeclTree, ModelTree}
 use Rattle.pz_value.specs.declared.value.ClassId.{ClassId}
 use Rattle.pz_classes.specs.Kinds.{is_process}
@@ -41,13 +40,15 @@ use Rattle.pz_tree_standing.specs.FrameCounts.{times}
 use Rattle.pz_tree_frames.specs.Frames.{open_as, FramesStand}
 use Rattle.pz_tree_nodes.specs.declared.node.What.{What}
 use Rattle.pz_tree_nodes.specs.View.{Plant, term_in_option}
+use Rattle.pz_tree_regrowing.specs.Costs.{on_way}
 use Rattle.pz_tree_regrowing.specs.Regrowing.{StandsOption}
 use Rattle.pz_rules_delays.specs.Short.{IsShort}
 use Rattle.pz_tree_acting.specs.declared.how.How.{How}
 use Rattle.pz_tree_acting.specs.Deeds.{able, deed, CanDo, Leaves}
 use Rattle.pz_tree_acting.proofs.Calm.{deed_short}
-use Rattle.pz_tree_acting.specs.Acting.{Rooted, MayBeDone, ActedOr, ActRule, Answers, TrialRule}
+use Rattle.pz_tree_acting.specs.Acting.{Rooted, MayBeDone, ActedOr, ActRule, Answers, TrialRule, TrialSteps}
 use Rattle.pz_tree.specs.declared.tree.Tree.{Tree}
+use Rattle.pz_tree.specs.Acting.{LeavesSoon}
 use Rattle.pz_tree.specs.Trees.{plant_in, term_in, process_in, at_in, IsThere, IsFresh}
 use Rattle.pz_tree.proofs.Reading.{Under, its_term, there_by}
 use Rattle.pz_tree.proofs.Left.{IsLeft, is_left}
@@ -91,13 +92,13 @@ left_so : (how : How) (parcel : ParcelView) (a : Context) (t : Term) (place : Pl
 left_so how parcel a t place p short l = is_left a l.pos t place l.left p short (deed_short a how parcel l.frame l.part l.pos l.left l.acts) l.leaves
 
 -- by the context in which the part acts
-abbrev pub ActFor : Context → How → Map What → Map What → Option ℕ → Place → Result (Option ℕ) Trouble → Seen → Seen → Type 0
-ActFor a how m n root place result old new =
+abbrev pub ActFor : Context → How → Map What → Map What → Option ℕ → Place → Result (Option ℕ) Trouble → Seen → Seen → ℕ → ℕ → Type 0
+ActFor a how m n root place result old new begun ended =
     (p : Option Plant) (parcel : ParcelView)
     → Rooted m root a.clock p
     → CanDo (able how parcel) a (term_in_option a.clock p) place
     → FramesStand (term_in_option a.clock p) old.held
-    → ActedOr a (deed how parcel) m n p place result old new
+    → ActedOr a (deed how parcel) m n p place result old new begun ended
 
 abbrev pub TriesFor : Context → How → Map What → Option ℕ → Place → Result (Unit {0}) Trouble → Type 0
 TriesFor a how m root place result =
@@ -105,6 +106,13 @@ TriesFor a how m root place result =
     → Rooted m root a.clock p
     → CanDo (able how parcel) a (term_in_option a.clock p) place
     → Answers a (deed how parcel) (term_in_option a.clock p) place result
+
+abbrev pub TriedFor : Context → How → Map What → Option ℕ → Place → ℕ → ℕ → Type 0
+TriedFor a how m root place begun ended =
+    (p : Option Plant) (parcel : ParcelView)
+    → Rooted m root a.clock p
+    → CanDo (able how parcel) a (term_in_option a.clock p) place
+    → ended ≤ begun + 5 * on_way (term_in_option a.clock p) place
 
 pub frames_merely : (t : Term) (s : StateView) → ∥ FramesStand t s ∥₁ → FramesStand t s
 frames_merely t s h n = ∥∥₁_elim h (ℕ_set (times n t) (open_as n s)) (λ (x : FramesStand t s). x n)
@@ -117,15 +125,15 @@ on_result (Err e) f a = tt
 abbrev pub grown : Tree → Arena (Node What) → Seen → Option ℕ → Tree
 grown t n s out = record t { nodes = n; state = s; root = out }
 
-pub record HasActed (m : ModelTree) (t u : Tree) (how : How) (parcel : ParcelView) (place : Place) : Type 0 where
+pub record HasActed (m : ModelTree) (t u : Tree) (how : How) (parcel : ParcelView) (place : Place) (begun ended : ℕ) : Type 0 where
   pub there : IsThere m u
-  pub leaves : Leaves (at_in m t) (deed how parcel) (term_in t) place (Ok (process_in u))
+  pub soon : LeavesSoon (at_in m t) (deed how parcel) (term_in t) place (process_in u) begun ended
   pub frames : FramesStand (term_in u) u.state.held
 
-module _ (m : ModelTree) (t : Tree) where
+module _ (m : ModelTree) (t : Tree) (begun ended : ℕ) where
   acted_so : IsThere m t → (how : How) (parcel : ParcelView) (place : Place) (n : Arena (Node What)) (new : Seen) (out : Option ℕ)
-      → ActFor (at_in m t) how (find t.nodes) (find n) t.root place (Ok out) t.state new → CanDo (able how parcel) (at_in m t) (term_in t) place → FramesStand (term_in t) t.state.held
-      → HasActed m t (grown t n new out) how parcel place
+      → ActFor (at_in m t) how (find t.nodes) (find n) t.root place (Ok out) t.state new begun ended → CanDo (able how parcel) (at_in m t) (term_in t) place → FramesStand (term_in t) t.state.held
+      → HasActed m t (grown t n new out) how parcel place begun ended
   acted_so there how parcel place n new out rule can frames =
       let r = rule (plant_in t) parcel (rooted m t there) can frames in
       let u : Tree = grown t n new out in
@@ -133,30 +141,42 @@ module _ (m : ModelTree) (t : Tree) where
       let left = left_so how parcel (at_in m t) (term_in t) place (left_by new.held (term_in_option t.clock r.plant)) there.short r.leaves in
       record {
         there = there_by m u r.plant under (record { place = there.of_model.place; is_process = there.of_model.is_process; class = there.of_model.class }) r.tended left.short there.room left.low;
-        leaves = subst (λ (x : Term). Leaves (at_in m t) (deed how parcel) (term_in t) place (Ok (left_by new.held x))) (sym (its_term u r.plant under)) r.leaves;
+        soon = record {
+          leaves = record {
+            frame = r.leaves.frame;
+            part = r.leaves.part;
+            active = r.leaves.active;
+            pos = r.leaves.pos;
+            left = r.leaves.left;
+            acts = r.leaves.acts;
+            leaves = ap (λ (x : Term). let p : Result Process Trouble = Ok (left_by new.held x) in p) (its_term u r.plant under) ∙ r.leaves.leaves;
+          };
+          ticks = r.ticks;
+        };
         frames = subst (λ (x : Term). FramesStand x new.held) (sym (its_term u r.plant under)) r.frames;
       }
 
   pub acted : IsThere m t → (how : How) (parcel : ParcelView) (place : Place) (n : Arena (Node What)) (new : Seen) (result : Result (Option ℕ) Trouble) (out : Option ℕ) → result ≡ Ok out
-      → ActFor (at_in m t) how (find t.nodes) (find n) t.root place result t.state new → CanDo (able how parcel) (at_in m t) (term_in t) place → FramesStand (term_in t) t.state.held
-      → HasActed m t (grown t n new out) how parcel place
+      → ActFor (at_in m t) how (find t.nodes) (find n) t.root place result t.state new begun ended → CanDo (able how parcel) (at_in m t) (term_in t) place → FramesStand (term_in t) t.state.held
+      → HasActed m t (grown t n new out) how parcel place begun ended
   acted there how parcel place n new result out is rule =
-      acted_so there how parcel place n new out (subst (λ (r : Result (Option ℕ) Trouble). ActFor (at_in m t) how (find t.nodes) (find n) t.root place r t.state new) is rule)
+      acted_so there how parcel place n new out (subst (λ (r : Result (Option ℕ) Trouble). ActFor (at_in m t) how (find t.nodes) (find n) t.root place r t.state new begun ended) is rule)
 
   pub troubled : IsThere m t → (how : How) (parcel : ParcelView) (place : Place) (n : Arena (Node What)) (new : Seen) (result : Result (Option ℕ) Trouble) (trouble : Trouble) → result ≡ Err trouble
-      → ActFor (at_in m t) how (find t.nodes) (find n) t.root place result t.state new → CanDo (able how parcel) (at_in m t) (term_in t) place → FramesStand (term_in t) t.state.held
+      → ActFor (at_in m t) how (find t.nodes) (find n) t.root place result t.state new begun ended → CanDo (able how parcel) (at_in m t) (term_in t) place → FramesStand (term_in t) t.state.held
       → Leaves (at_in m t) (deed how parcel) (term_in t) place (Err trouble)
   troubled there how parcel place n new result trouble is rule can frames =
-      subst (λ (r : Result (Option ℕ) Trouble). ActFor (at_in m t) how (find t.nodes) (find n) t.root place r t.state new) is rule (plant_in t) parcel (rooted m t there) can frames
+      subst (λ (r : Result (Option ℕ) Trouble). ActFor (at_in m t) how (find t.nodes) (find n) t.root place r t.state new begun ended) is rule (plant_in t) parcel (rooted m t there) can frames
 
   pub acted_merely : (how : How) (place : Place) (n : Arena (Node What)) (new : Seen) (result : Result (Option ℕ) Trouble) (out : Option ℕ) → result ≡ Ok out
-      → ActFor (at_in m t) how (find t.nodes) (find n) t.root place result t.state new → FramesStand (term_in t) t.state.held
+      → ActFor (at_in m t) how (find t.nodes) (find n) t.root place result t.state new begun ended → FramesStand (term_in t) t.state.held
       → ∥ IsFresh m t ∥₁ → ∥ ((parcel : ParcelView) × CanDo (able how parcel) (at_in m t) (term_in t) place) ∥₁
       → ∥ (IsThere m (grown t n new out) × FramesStand (term_in (grown t n new out)) new.held) ∥₁
   acted_merely how place n new result out is rule frames fresh can =
       ∥∥₁_map₂ fresh can (λ f x. let a = acted f.there how x.0 place n new result out is rule x.1 frames in (a.there, a.frames))
 
-  -- at a trouble all is as before
+-- at a trouble all is as before
+module _ (m : ModelTree) (t : Tree) where
   pub as_before : (n : Arena (Node What)) (s : Seen) (result : Result (Option ℕ) Trouble) (trouble : Trouble) → result ≡ Err trouble → OnErr result ((n ≡ t.nodes) × (s ≡ t.state)) → grown t n s t.root ≡ t
   as_before n s result trouble is stays =
       let same = subst (λ (r : Result (Option ℕ) Trouble). OnErr r ((n ≡ t.nodes) × (s ≡ t.state))) is stays in
@@ -175,13 +195,17 @@ module _ (m : ModelTree) (t : Tree) (here : Standpoint) (home : Home) (at_home :
     state = t.state.held;
   }
 
-  pub act_for : (how : How) (k n : Map What) (root : Option ℕ) (place : Place) (result : Result (Option ℕ) Trouble) (new : Seen)
-      → ActRule here home how k n root place result t.state new → ActFor (at_in m t) how k n root place result t.state new
-  act_for how k n root place result new rule = subst (λ (x : Context). ActFor x how k n root place result t.state new) seen_is rule
+  pub act_for : (how : How) (k n : Map What) (root : Option ℕ) (place : Place) (result : Result (Option ℕ) Trouble) (new : Seen) (begun ended : ℕ)
+      → ActRule here home how k n root place result t.state new begun ended → ActFor (at_in m t) how k n root place result t.state new begun ended
+  act_for how k n root place result new begun ended rule = subst (λ (x : Context). ActFor x how k n root place result t.state new begun ended) seen_is rule
 
   pub tries_for : (how : How) (k : Map What) (root : Option ℕ) (place : Place) (result : Result (Unit {0}) Trouble)
       → TrialRule here home how k root place result t.state.held → TriesFor (at_in m t) how k root place result
   tries_for how k root place result rule = subst (λ (x : Context). TriesFor x how k root place result) seen_is rule
+
+  pub steps_for : (how : How) (k : Map What) (root : Option ℕ) (place : Place) (begun ended : ℕ)
+      → TrialSteps here home how k root place t.state.held begun ended → TriedFor (at_in m t) how k root place begun ended
+  steps_for how k root place begun ended rule = subst (λ (x : Context). TriedFor x how k root place begun ended) seen_is rule
 
   pub may_be_done : SoundBodiesFit → IsSound m → ProcessesHaveClasses → home.class ≡ t.class → (how : How) (place : Place) → Knows m here → ∥ IsFresh m t ∥₁ → ∥ TermFits m t.class.0 0 (term_in t) ∥₁
       → ∥ ((parcel : ParcelView) × CanDo (able how parcel) (at_in m t) (term_in t) place) ∥₁ → ∥ MayBeDone here home how (find t.nodes) t.root t.state.held place ∥₁

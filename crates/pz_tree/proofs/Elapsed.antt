@@ -8,6 +8,7 @@ use Rattle.pz_nodes_shapes.specs.declared.node.Node.{Node}
 use Rattle.pz_nodes_shapes.specs.Rose.{root}
 use Rattle.pz_rules.specs.Delays.{Passes, is_done}
 use Rattle.pz_rules.specs.Terms.{Term, done, height}
+use Rattle.pz_rules.specs.Leaving as leaving
 use Rattle.pz_rules.specs.devices.Computed.{IsUntroubled}
 use Rattle.pz_rules.specs.devices.Walks.{TroublesAreListed}
 use Rattle.pz_state.specs.Marks.{Seen}
@@ -24,9 +25,10 @@ use Rattle.pz_tree_elapsing.specs.Elapsing.{IsNotBefore, HasElapsed, ElapseRule}
 use Rattle.pz_tree.specs.declared.tree.Tree.{Tree}
 use Rattle.pz_tree.specs.Trees.{plant_in, term_in, at_in, woken_of, woken_in, IsThere, FreshOption, TimelyOption, IsFresh}
 use Rattle.pz_tree.specs.devices.Kept.{kept_of}
+use Rattle.pz_tree.specs.devices.Resting.{RestRule}
 use Rattle.pz_tree.proofs.Asked.{kept_summary}
 use Rattle.pz_tree.proofs.Reading.{Under, is_read, its_term, there_by, fresh_by}
-use Rattle.pz_tree.proofs.Heights.{passed_high}
+use Rattle.pz_tree.proofs.Heights.{passed_high, passed_done}
 use Rattle.pz_tree.proofs.Unasked.{untroubled}
 
 -- so much later, over these nodes
@@ -36,6 +38,7 @@ later_over t n s now = record t { nodes = n; state = s; clock = now }
 pub record Elapsed (m : ModelTree) (t u : Tree) (d old new : ℕ) : Type 0 where
   pub passes : Passes (at_in m t) d 0 (term_in t) (term_in u)
   pub fresh : IsFresh m u
+  pub settled : leaving.is_done (term_in u) ≡ leaving.is_done (term_in t)
   pub ticks : new ≤ old + 16 * woken_in t u
 
 -- no delay is over before this moment
@@ -75,6 +78,9 @@ module _ (m : ModelTree) (t : Tree) (fresh : IsFresh m t) (d : ℕ) (room : HasR
                 (subst (λ (x : Term). Passes (at_in m t) d 0 x (term_in_option now (Some r.plant))) (sym was)
                 (r.passes (subst (λ (x : Term). IsUntroubled (at_in m t) 0 x) was (untroubled listed (at_in m t) t.clock (term_in t) calm))));
             fresh = fresh_by m u (Some r.plant) under r.fresh r.timely r.soon there;
+            settled =
+                ap leaving.is_done (its_term u (Some r.plant) under) ∙ ap leaving.is_done r.computed
+                ∙ passed_done (at_in m t) d 0 (term_in_option t.clock (Some p)) ∙ ap leaving.is_done (sym was);
             ticks =
                 let nodes : woken_in t u ≡ woken_of now (Some p) (Some r.plant) = (λ i. woken_of now (is i) (is_read u (Some r.plant) under i)) in
                 let steps = r.ticks in
@@ -133,6 +139,7 @@ module _ (m : ModelTree) (t : Tree) (fresh : IsFresh m t) (d : ℕ) (room : HasR
                 subst (λ (x : Term). Passes (at_in m t) d 0 (term_in t) x) (sym (its_term v None under))
                 (subst (λ (x : Term). Passes (at_in m t) d 0 x done) (sym was) (is_done 0));
             fresh = fresh_by m v None under tt tt tt there;
+            settled = ap leaving.is_done (its_term v None under) ∙ ap leaving.is_done (sym was);
             ticks = omega arith;
           }
       by (Some p) is = absurd (some_none p (ap root_of (sym is) ∙ fresh.there.under ∙ at))
@@ -155,6 +162,35 @@ module _ (m : ModelTree) (t : Tree) (fresh : IsFresh m t) (d clock : ℕ) (is : 
 
   pub nothing_elapsed_at : (steps : ℕ) → t.root ≡ None → Elapsed m t (later_over t t.nodes t.state clock) d steps steps
   nothing_elapsed_at steps at = subst (λ (k : ℕ). Elapsed m t (later_over t t.nodes t.state k) d steps steps) is (nothing_elapsed m t fresh d room_there steps at)
+
+  -- the same nodes
+  abbrev rested_tree : Tree
+  rested_tree = later_over t t.nodes t.state clock
+
+  -- where nothing wakes
+  pub record Rested : Type 0 where
+    pub passes : Passes (at_in m t) d 0 (term_in t) (term_in rested_tree)
+    pub still : IsFresh m rested_tree
+    pub summary : summary_of (at_in m rested_tree) clock 0 (term_in rested_tree) ≡ summary_of (at_in m t) t.clock 0 (term_in t)
+    pub settled : leaving.is_done (term_in rested_tree) ≡ leaving.is_done (term_in t)
+
+  rested_by : (old new : ℕ) → Elapsed m t rested_tree d old new → Rested
+  rested_by old new e =
+      let after = e.fresh in
+      record {
+        passes = e.passes;
+        still = after;
+        summary = sym (kept_summary (at_in m rested_tree) clock (plant_in t) after.fresh) ∙ kept_summary (at_in m t) t.clock (plant_in t) fresh.fresh;
+        settled = e.settled;
+      }
+
+  pub rested : TroublesAreListed → IsSound m → (summary_of (at_in m t) t.clock 0 (term_in t)).trouble ≡ None → IsDue clock (summary_of (at_in m t) t.clock 0 (term_in t)).due
+      → (old new : ℕ) → RestRule (find t.nodes) t.root clock old new → Rested
+  rested listed sound calm due old new rule = by t.root refl rule
+    where
+      by : (root : Option ℕ) → t.root ≡ root → RestRule (find t.nodes) root clock old new → Rested
+      by None at r = rested_by old old (nothing_elapsed_at old at)
+      by (Some key) at r = rested_by old new (elapsed_at listed sound calm due t.nodes t.state refl key old new at (r (at_in m rested_tree)))
 
 -- what its statements see
 pub seen_later : (m : ModelTree) (t : Tree) (d clock : ℕ) → t.clock + d ≡ clock → (n : Arena (Node What)) (s : Seen) → s ≡ t.state → at_in m (later_over t n s clock) ≡ later (at_in m t) d

@@ -1,10 +1,11 @@
--- A passing of time leaves the height of a term.
+-- A passing of time leaves the height of a term, and whether it is done.
 use Rattle.std.proofs.Common.{◌≡◌, ℕ, suc, max, Bool, true, false, Result, Ok, Err, refl, ap, ◌∙◌}
 use Rattle.pz_syntax.specs.declared.tokens.Pos.{Pos}
 use Rattle.pz_syntax.specs.Statements as statement
 use Rattle.pz_offer.specs.declared.trouble.Trouble.{Trouble}
 use Rattle.pz_rules.specs.Terms.{Code, Step, Term, done, leaf, wait, sequence, parallel, select, guarded, frame, abort, idle, handling, Terms, no_terms, and, height, greatest_height}
 use Rattle.pz_rules.specs.Settings.{Context}
+use Rattle.pz_rules.specs.Leaving.{is_done}
 use Rattle.pz_rules.specs.devices.Found.{tested, lasting}
 use Rattle.pz_rules.specs.devices.Passing.{begun, statement_passed, if_open, passed, passed_all}
 
@@ -53,3 +54,38 @@ module _ (a : Context) (d : ℕ) where
     all_high : (f : ℕ) (ts : Terms) → greatest_height (passed_all a d f ts) ≡ greatest_height ts
     all_high f no_terms = refl
     all_high f (and t ts) = ap (λ x. max x (greatest_height (passed_all a d f ts))) (passed_high f t) ∙ ap (max (height t)) (all_high f ts)
+
+  begun_undone : (at : Pos) (e : Code) (r : Result ℕ Trouble) → is_done (begun d at e r) ≡ false
+  begun_undone at e (Ok left) = refl
+  begun_undone at e (Err t) = refl
+
+  leaf_undone : (f : ℕ) (s : Step) → is_done (statement_passed a d f s) ≡ false
+  leaf_undone f (statement.delay at e) = begun_undone at e (lasting a f at e)
+  leaf_undone f (statement.skip at) = refl
+  leaf_undone f (statement.bracketed at ts) = refl
+  leaf_undone f (statement.block at es) = refl
+  leaf_undone f (statement.guarded at e t) = refl
+  leaf_undone f (statement.parallel at bs) = refl
+  leaf_undone f (statement.select at bs) = refl
+  leaf_undone f (statement.conditional at e ts other) = refl
+  leaf_undone f (statement.repeated at e ts) = refl
+  leaf_undone f (statement.abort at ts t) = refl
+  leaf_undone f (statement.interrupt at ts t) = refl
+  leaf_undone f (statement.send at port name args after) = refl
+  leaf_undone f (statement.receive at port name into condition after) = refl
+  leaf_undone f (statement.call at method args results) = refl
+  leaf_undone f (statement.assignment at x e) = refl
+  leaf_undone f (statement.value at e) = refl
+
+  pub passed_done : (f : ℕ) (t : Term) → is_done (passed a d f t) ≡ is_done t
+  passed_done f done = refl
+  passed_done f (leaf s) = leaf_undone f s
+  passed_done f (wait left at) = refl
+  passed_done f (sequence t rest) = refl
+  passed_done f (parallel ts) = refl
+  passed_done f (select ts) = refl
+  passed_done f (guarded test at t) = refl
+  passed_done f (frame number inputs results t) = refl
+  passed_done f (abort t u) = refl
+  passed_done f (idle t u again) = refl
+  passed_done f (handling t u again) = refl

@@ -1,3 +1,4 @@
 pub mod Kept
 pub mod Receiving
+pub mod Resting
 pub mod Wires

@@ -1,6 +1,6 @@
 // A part of a process acts, or tries to.
 
-ghost use Rattle.std.specs.Prelude.{◌≡◌, IfOk, OnErr, OnOk};
+ghost use Rattle.std.specs.Prelude.{◌≡◌, ◌≤◌, ◌+◌, ◌*◌, IfOk, OnErr, OnOk};
 ghost use Rattle.pz_classes.specs.CheckedView.{checked_model};
 ghost use Rattle.pz_copy.specs.Parcels.{ParcelView};
 ghost use Rattle.pz_part_opening.specs.Homes.{home_in, home_view};
@@ -12,7 +12,8 @@ ghost use Rattle.pz_rules.specs.Settings.{in_state};
 ghost use Rattle.pz_tree_acting.specs.Acting.{Answers};
 ghost use Rattle.pz_tree_acting.specs.Deeds.{able, deed, CanDo, Leaves};
 ghost use Rattle.pz_tree_frames.specs.Frames.{FramesStand};
-ghost use Rattle.pz_tree.specs.Acting.{answered};
+ghost use Rattle.pz_tree_regrowing.specs.Costs.{on_way};
+ghost use Rattle.pz_tree.specs.Acting.{answered, LeavesSoon};
 ghost use Rattle.pz_tree.specs.Trees.{at_in, term_in, process_in, IsThere, IsFresh};
 
 use crate::tree::Tree;
@@ -40,8 +41,10 @@ impl Tree {
     /// refreshed, unless it ends in a trouble: then nothing has changed.
     ///
     /// The clock is that of the tree, just the open frames of the state stand in the term, and in edition Two
-    /// no method of the model begins with itself. The only error is want of memory, or that there is more to
-    /// do than can be counted; then the tree may only be dropped.
+    /// no method of the model begins with itself. Takes at most sixteen steps for each part on the way to the
+    /// place, with those beside it in a `par`, each that is made and each that is dropped, where it does not
+    /// end in a trouble. The only error is want of memory, or that there is more to do than can be counted;
+    /// then the tree may only be dropped.
     pub fn act<L: Ledger>(
         &mut self,
         checked: &Checked,
@@ -71,6 +74,11 @@ impl Tree {
         ensures frames { IfOk result
             (λ left. FramesStand (term_in self.new) (process_in self.new).state) }
         ensures unchanged { IfOk result (λ left. OnErr left (self.new ≡ self.old)) }
+        ensures ticks { (parcel : ParcelView) → IsFresh (checked_model checked.now) self.old →
+            CanDo (able how.entry parcel) (at_in (checked_model checked.now) self.old)
+            (term_in self.old) place.now → IfOk result (λ left. OnOk left
+            (LeavesSoon (at_in (checked_model checked.now) self.old) (deed how.entry parcel)
+            (term_in self.old) place.now (process_in self.new) steps.old steps.new)) }
     {
         pz_rules::laws::processes_have_classes();
         pz_classes::laws::sound_bodies_fit();
@@ -97,8 +105,9 @@ impl Tree {
         }
     }
 
-    /// The answer that `act` has for the same arguments, and the tree stays as it is. The only error is want
-    /// of memory, or that there is more to do than can be counted; then the tree may only be dropped.
+    /// The answer that `act` has for the same arguments, and the tree stays as it is. Takes at most five steps
+    /// for each part on the way to the place, with those beside it in a `par`. The only error is want of
+    /// memory, or that there is more to do than can be counted; then the tree may only be dropped.
     pub fn trial<L: Ledger>(
         &mut self,
         checked: &Checked,
@@ -121,6 +130,10 @@ impl Tree {
             (Answers (at_in (checked_model checked.now) self.old) (deed how.entry parcel)
             (term_in self.old) place.now) }
         ensures unchanged { OnOk result (self.new ≡ self.old) }
+        ensures ticks { (parcel : ParcelView) → IsFresh (checked_model checked.now) self.old →
+            CanDo (able how.entry parcel) (at_in (checked_model checked.now) self.old)
+            (term_in self.old) place.now →
+            OnOk result (steps.new ≤ steps.old + 5 * on_way (term_in self.old) place.now) }
     {
         pz_rules::laws::processes_have_classes();
         pz_classes::laws::sound_bodies_fit();

@@ -1,5 +1,5 @@
 -- A part that is found in the nodes does its deed under a mark.
-use Rattle.std.proofs.Common.{◌≡◌, ℕ, List, ◌∷◌, Option, Result, Ok, Err, sym, subst, ap, ◌∙◌}
+use Rattle.std.proofs.Common.{◌≡◌, ◌≤◌, ◌+◌, arith, ℕ, List, [], ◌∷◌, length, Option, Result, Ok, Err, sym, subst, ap, ◌∙◌}
 use Rattle.std.specs.Prelude.{MatchResult, IfOk}
 use Rattle.pz_syntax.specs.declared.tokens.Pos.{Pos}
 use Rattle.pz_copy.specs.Parcels.{ParcelView}
@@ -7,10 +7,9 @@ use Rattle.pz_nodes_shapes.specs.Rose.{Map}
 use Rattle.pz_nodes_shapes.specs.Seen.{seen}
 use Rattle.pz_offer.specs.PlaceOrder.{Place}
 use Rattle.pz_offer.specs.declared.trouble.Trouble.{Trouble}
-use Rattle.pz_part_actions.specs.Becoming.{Becomes, HasPerformed, process_left}
+use Rattle.pz_part_actions.specs.Becoming.{HasPerformed, process_left}
 use Rattle.pz_rules.specs.declared.action.Kind.{Kind}
 use Rattle.pz_rules.specs.InternalActions.{Can}
-use Rattle.pz_part_actions.specs.Becoming as becoming
 use Rattle.pz_part_actions.specs.Homes.{seen_home}
 use Rattle.pz_part_opening.specs.declared.home.Home.{Home}
 use Rattle.pz_part_queries.specs.Parts.{IsPartAt}
@@ -18,7 +17,7 @@ use Rattle.pz_part_queries.specs.declared.standpoint.Standpoint.{Standpoint}
 use Rattle.pz_rules.specs.declared.term.Term as code
 use Rattle.pz_rules.specs.Laws.{part_of, WhatCanActs, WhatSendsIsASend, WhatReceivesIsAReceive}
 use Rattle.pz_rules.specs.Settings.{Context, Process, left_by}
-use Rattle.pz_rules.specs.Terms.{Term}
+use Rattle.pz_rules.specs.Terms.{Term, child}
 use Rattle.pz_rules.specs.View.{term_view}
 use Rattle.pz_state.specs.Marks.{Seen, marked, undone, undone_from}
 use Rattle.pz_state.specs.States.{StateView}
@@ -27,6 +26,7 @@ use Rattle.pz_tree_standing.specs.FrameCounts.{times}
 use Rattle.pz_tree_nodes.specs.declared.node.What.{What}
 use Rattle.pz_tree_nodes.specs.View.{Plant, what_view, term_in_option}
 use Rattle.pz_rules_delays.specs.Short.{IsShort}
+use Rattle.pz_tree_regrowing.specs.Costs.{on_way}
 use Rattle.pz_tree_seeking.specs.Seeking.{SeekRule, ActiveAtPlace, TendedStand}
 use Rattle.pz_tree_acting.specs.declared.how.How.{How}
 use Rattle.pz_tree_acting.specs.declared.how.How.TheVariants.{Internal, Send, Receive}
@@ -36,6 +36,7 @@ use Rattle.pz_tree_acting.specs.Acting.{Rooted}
 use Rattle.pz_tree_acting.specs.devices.Begun.{ActsSo, IsHanded, DeedRule, IsBegun, Opens}
 use Rattle.pz_tree_acting.specs.devices.Parts.{IsSimple, PartRule}
 use Rattle.pz_tree_acting.proofs.Found.{simple_from, able_place, found_at, rooted_stands}
+use Rattle.pz_tree_acting.proofs.Marked.{becomes_ok}
 use Rattle.pz_tree_acting.proofs.Calm.{deed_short, answer_short, part_short}
 
 -- ------------------------------------------------------------ the part
@@ -66,10 +67,6 @@ begun_state s0 s1 s2 s3 point (Err t) is same held =
     held ∙ ap (λ (ms : List (ℕ × StateView)). undone_from ms s2) (same ∙ ap (λ (s : Seen). s.marks) is)
 
 -- ------------------------------------------------------------ what it becomes
-
-becomes_ok : (a : Context) (at : Pos) (left answer : Result Process Trouble) (q : Process) → Becomes a at left answer → answer ≡ Ok q → left ≡ Ok q
-becomes_ok a at _ _ q (becoming.is r) e = e
-becomes_ok a at _ _ q (becoming.high x above) e = absurd cc
 
 deed_opens : PerformedOpens → HandedOpens → TakenOpens → (how : How) (parcel : ParcelView) (a : Context) (f : ℕ) (t : Term) (pos : Pos) (x : Process) → deed how parcel a f t pos (Ok x) → PartsOpen a x
 deed_opens performed handed taken Internal parcel a f t pos x acts = performed a f t pos x acts
@@ -130,3 +127,14 @@ module _ (here : Standpoint) (home : Home) (how : How) (s new : StateView) (f : 
   pub done_handing : {E : Type 0} (r : Result (Result code.Term Trouble) E) → how ≡ Send → IfOk r (IsHanded here home s f part new) → IfOk r IsDone
   done_handing (Ok left) is rule = subst (λ (h : How). DeedRule here home h s f part (process_left new left)) (sym is) rule
   done_handing (Err e) is rule = tt
+
+-- ------------------------------------------------------------ its answer, and what it costs
+
+pub answer_is : (s : StateView) (left : Result code.Term Trouble) (r : Result Begun Trouble) → IfOk r (λ b. left ≡ Ok b.part) → IfOk r (λ b. process_left s left ≡ Ok (left_by s (term_view b.part)))
+answer_is s left (Ok b) is = ap (process_left s) is
+answer_is s left (Err t) is = tt
+
+-- as many parts are on the way to a place as it has numbers, and one
+pub numbers_few : (t : Term) (place : Place) → length place + 1 ≤ on_way t place
+numbers_few t [] = omega arith
+numbers_few t (i ∷ place) = omega (arith, numbers_few (child t i) place)

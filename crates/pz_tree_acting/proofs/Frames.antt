@@ -1,5 +1,5 @@
 -- Frames that are closed, counted: those that are lost are exactly the open ones that do not stand.
-use Rattle.std.proofs.Common.{◌≡◌, ◌≤◌, ◌<◌, ◌+◌, ℕ, suc, Bool, true, false, cond, not, eqb, ◌||◌, nat_eq, List, [], ◌∷◌, map, length, get_or, refl, sym, ap, ◌∙◌, subst, arith}
+use Rattle.std.proofs.Common.{◌≡◌, ◌≤◌, ◌<◌, ◌+◌, ℕ, suc, Bool, true, false, cond, not, eqb, ◌||◌, nat_eq, List, [], ◌∷◌, ◌++◌, map, length, get_or, refl, sym, ap, ◌∙◌, subst, arith}
 use Rattle.std.specs.Prelude.{if◌then◌else◌}
 use Rattle.std.proofs.Common.{eq-eqb}
 use Rattle.std.proofs.lemmas.Bool.{ne_eqb, eqb-true}
@@ -11,20 +11,15 @@ use Rattle.pz_rules.specs.declared.limits.Edition.{Edition}
 use Rattle.pz_rules.specs.declared.limits.Edition.TheVariants.{One, Two}
 use Rattle.pz_rules.specs.Terms.{Term, frames_in}
 use Rattle.pz_rules.specs.Leaving.{only_frames}
-use Rattle.std.specs.Prelude.{OnOk, Result, Ok, Err, Option}
 use Rattle.std.specs.List.Sorted.{IsPermutation}
 use Rattle.std.proofs.lemmas.List.Elements.{filter_agree}
 use Rattle.std.proofs.lemmas.List.Sorted.{list_any-IsPermutation}
-use Rattle.pz_nodes_shapes.specs.Rose.{Map}
 use Rattle.pz_state.specs.declared.state.FrameId.{FrameId}
-use Rattle.pz_tree_nodes.specs.declared.node.What.{What}
-use Rattle.pz_tree_nodes.specs.View.{term_in_option}
 use Rattle.pz_tree_dropping.specs.Dropping as dropping
-use Rattle.pz_tree_acting.specs.devices.Listing.{SortedRule, SweepRule}
-use Rattle.pz_tree_acting.specs.devices.Closing.{LostRule, CloseRule}
+use Rattle.pz_tree_acting.specs.devices.Closing.{HasListed, AlsoLists, OnlyListed, LostRule, ListedRule, StandBy, CloseRule}
 use Rattle.pz_term_residual.specs.Closing.{without_frames}
 use Rattle.pz_tree_standing.specs.FrameCounts.{count_in, times}
-use Rattle.pz_tree_frames.specs.Frames.{open_as, FramesStand, HaveOpened}
+use Rattle.pz_tree_frames.specs.Frames.{numbers, open_as, FramesStand}
 
 -- ------------------------------------------------------------ among numbers
 
@@ -159,9 +154,6 @@ others_lost t lost gone s same once counts = (
     agree n some false is true stands = ap not is ∙ sym stands
     agree n some false is false stands = absurd (let p = none_counted n lost is in let q = none_counted n (frames_in t) stands in let c = counts n in omega (arith, p, q, c, some))
 
-pub swept_stand : (t : Term) (lost : List ℕ) (s : StateView) → Once s → ((n : ℕ) → times n t + count_in n lost ≤ open_as n s) → FramesStand t (only_frames (frames_in t) s)
-swept_stand t lost s once counts = still_stand t s (λ n. let c = counts n in omega (arith, c)) once
-
 -- ------------------------------------------------------------ what is closed
 
 pub numbers_none : (fs : List FrameId) → eqb (length fs) 0 ≡ true → dropping.numbers fs ≡ []
@@ -185,21 +177,68 @@ same_frames xs ys s permuted =
     ap (λ (fs : Frames). let t : StateView = record s { frames = fs } in t)
     (filter_agree (λ (f : ℕ × List Value). list_any (nat_eq f.0) ys) (λ (f : ℕ × List Value). list_any (nat_eq f.0) xs) (λ f. sym (list_any-IsPermutation (nat_eq f.0) xs ys permuted)) s.frames)
 
-pub others_closed : (m : Map What) (key : Option ℕ) (standing : List ℕ) (s u : Seen) → SortedRule m key standing → u ≡ changed s (only_frames standing s.held) → SweepRule m key s u
-others_closed m key standing s u rule is f c p r st t = is ∙ ap (changed s) (same_frames (frames_in (term_in_option c p)) standing s.held (rule f c p r st t))
+pub only_listed : (listed sorted : List ℕ) (s u : Seen) → IsPermutation listed sorted → u ≡ changed s (only_frames sorted s.held) → OnlyListed listed s u
+only_listed listed sorted s u permuted is = is ∙ ap (changed s) (same_frames listed sorted s.held permuted)
 
-pub close_one : (e : Edition) → e ≡ One → (m : Map What) (key : Option ℕ) (lost : List ℕ) (s u : Seen) → LostRule lost s u → CloseRule e m key lost s u
-close_one e is m key lost s u rule f c p r st t counts = rule (term_in_option c p) (λ n. subst (λ z. HaveOpened z (times n (term_in_option c p)) (count_in n lost) (open_as n s.held)) is (counts n))
+-- of those that are listed, so many are open
+left_listed : (listed : List ℕ) (s : StateView) (n : ℕ) → Once s → count_in n listed ≤ open_as n s → open_as n (only_frames listed s) ≡ count_in n listed
+left_listed listed s n once few = by (list_any (nat_eq n) listed) refl
+  where
+    by : (b : Bool) → list_any (nat_eq n) listed ≡ b → open_as n (only_frames listed s) ≡ count_in n listed
+    by true is =
+        let one = some_counted n listed is in
+        let most = ordered_once n (open_numbers s.frames) once in
+        let left : open_as n (only_frames listed s) ≡ open_as n s = count_kept (λ k. list_any (nat_eq k) listed) n s.frames ∙ ap (λ (b : Bool). if b then count_in n (open_numbers s.frames) else 0) is in
+        omega (arith, one, most, left, few)
+    by false is = count_kept (λ k. list_any (nat_eq k) listed) n s.frames ∙ ap (λ (b : Bool). if b then count_in n (open_numbers s.frames) else 0) is ∙ sym (none_counted n listed is)
 
-pub close_two : (e : Edition) → e ≡ Two → (m : Map What) (key : Option ℕ) (lost : List ℕ) (s u : Seen) → SweepRule m key s u → Once s.held → CloseRule e m key lost s u
-close_two e is m key lost s u rule once f c p r st t counts =
-    let x = term_in_option c p in
-    let state = rule f c p r st t in
+filter_within : (p q : ℕ → Bool) (fs : Frames) → ((n : ℕ) → p n ≡ true → q n ≡ true) → filter (λ f. p f.0) (filter (λ f. q f.0) fs) ≡ filter (λ f. p f.0) fs
+filter_within p q [] h = refl
+filter_within p q (f ∷ fs) h = by (p f.0) refl (q f.0) refl (filter_within p q fs h)
+  where
+    by : (a : Bool) → p f.0 ≡ a → (b : Bool) → q f.0 ≡ b → filter (λ g. p g.0) (filter (λ g. q g.0) fs) ≡ filter (λ g. p g.0) fs
+        → filter (λ g. p g.0) (cond b (f ∷ filter (λ g. q g.0) fs) (filter (λ g. q g.0) fs)) ≡ cond a (f ∷ filter (λ g. p g.0) fs) (filter (λ g. p g.0) fs)
+    by true here true there others = λ i. cond (here i) (f ∷ others i) (others i)
+    by true here false there others = absurd (let is : q f.0 ≡ true = h f.0 here in cc)
+    by false here true there others = λ i. cond (here i) (f ∷ others i) (others i)
+    by false here false there others = others
+
+-- what stands is listed
+still_listed : (t : Term) (listed : List ℕ) (n : ℕ) → stands_in t n ≡ true → (b : Bool) → list_any (nat_eq n) listed ≡ b → times n t ≤ count_in n listed → b ≡ true
+still_listed t listed n stands true is few = refl
+still_listed t listed n stands false is few = absurd (let p = some_counted n (frames_in t) stands in let q = none_counted n listed is in omega (arith, p, q, few))
+
+-- the others go first, and then the lost ones
+pub both_closed : (listed lost : List ℕ) (s mid u : Seen) → OnlyListed listed s mid → Once s.held → LostRule lost mid u → ListedRule listed lost s u
+both_closed listed lost s mid u only once rule t counts =
+    let held : mid.held ≡ only_frames listed s.held = ap (λ (z : Seen). z.held) only in
+    let closed = rule t (λ n. (counts n).0 ∙ sym (left_listed listed s.held n once (counts n).1) ∙ ap (open_as n) (sym held)) in
+    let within : only_frames (frames_in t) (only_frames listed s.held) ≡ only_frames (frames_in t) s.held =
+    ap (λ (fs : Frames). let z : StateView = record s.held { frames = fs } in z) (filter_within (stands_in t) (λ n. list_any (nat_eq n) listed) s.held.frames (λ n stands. still_listed t listed n stands (list_any (nat_eq n) listed) refl (few n))) in
     record {
-      state = state;
-      stand = subst (λ (z : Seen). FramesStand x z.held) (sym state) (swept_stand x lost s.held once (λ n. subst (λ z. HaveOpened z (times n x) (count_in n lost) (open_as n s.held)) is (counts n)));
+      state = closed.state ∙ ap (λ (z : Seen). changed z (only_frames (frames_in t) z.held)) only ∙ ap (changed s) within;
+      stand = closed.stand;
     }
+  where
+    few : (n : ℕ) → times n t ≤ count_in n listed
+    few n = let c = (counts n).0 in omega (arith, c)
 
-pub on_both : {T E : Type 0} (r : Result T E) (A B C : Type 0) → (A → B → C) → OnOk r A → OnOk r B → OnOk r C
-on_both (Ok x) A B C f a b = f a b
-on_both (Err e) A B C f a b = tt
+pub close_one : (e : Edition) → e ≡ One → (listed lost : List ℕ) (s u : Seen) → LostRule lost s u → CloseRule e listed lost s u
+close_one e is listed lost s u rule t counts = rule t (λ n. subst (λ z. StandBy z (times n t) (count_in n lost) (count_in n listed) (open_as n s.held)) is (counts n))
+
+pub close_two : (e : Edition) → e ≡ Two → (listed lost : List ℕ) (s u : Seen) → ListedRule listed lost s u → CloseRule e listed lost s u
+close_two e is listed lost s u rule t counts = rule t (λ n. subst (λ z. StandBy z (times n t) (count_in n lost) (count_in n listed) (open_as n s.held)) is (counts n))
+
+-- ------------------------------------------------------------ what is listed
+
+pub one_has : (e : Edition) (s : StateView) (listed : List ℕ) → e ≡ One → HasListed e s listed
+one_has e s listed is = subst (λ z. HasListed z s listed) (sym is) tt
+
+pub two_has : (e : Edition) (s : StateView) (listed : List ℕ) → e ≡ Two → listed ≡ numbers s → HasListed e s listed
+two_has e s listed is same = subst (λ z. HasListed z s listed) (sym is) same
+
+pub one_also : (e : Edition) (t : Term) (before after : List ℕ) → e ≡ One → AlsoLists e t before after
+one_also e t before after is = subst (λ z. AlsoLists z t before after) (sym is) tt
+
+pub two_also : (e : Edition) (t : Term) (before after : List ℕ) → e ≡ Two → after ≡ before ++ frames_in t → AlsoLists e t before after
+two_also e t before after is same = subst (λ z. AlsoLists z t before after) (sym is) same

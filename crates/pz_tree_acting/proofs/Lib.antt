@@ -5,7 +5,6 @@ mod Higher
 pub mod Calm
 mod Found
 mod Frames
-mod Listed
 mod Marked
 mod Begins
 mod Finished

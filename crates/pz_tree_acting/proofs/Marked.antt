@@ -1,6 +1,6 @@
 -- Deeds in a marked state.
 use Rattle.std.proofs.Common.{◌≡◌, ℕ, Result, Ok, Err, refl, sym, subst, ap, ◌∙◌}
-use Rattle.std.specs.Prelude.{MatchResult}
+use Rattle.std.specs.Prelude.{MatchResult, IfOk}
 use Rattle.std.proofs.Math.Logic.{∥∥₁_map}
 use Rattle.pz_syntax.specs.declared.tokens.Pos.{Pos}
 use Rattle.pz_syntax.specs.Classes.{ModelTree}
@@ -28,7 +28,7 @@ use Rattle.pz_part_actions.specs.Fitting.{FitsHere}
 use Rattle.pz_tree_acting.specs.declared.beginning.Begun.{Begun}
 use Rattle.pz_tree_acting.specs.devices.StatementPlaces.{IsFrom}
 use Rattle.pz_tree_acting.specs.Deeds.{Ability, CanDo, Leaves}
-use Rattle.pz_tree_acting.specs.devices.Begun.{IsAnswered, settled_home, begun_process}
+use Rattle.pz_tree_acting.specs.devices.Begun.{IsAnswered, settled_home, begun_process, IsLeftBy}
 use Rattle.pz_tree_acting.proofs.Statements.{one_place}
 use Rattle.pz_tree_acting.proofs.Higher.{answer_settled}
 
@@ -74,6 +74,17 @@ begun_held h t place s2 s3 point (Err e) held = refl
 pub as_it_is : (can : Ability) (does : Deed) (a : Context) (f : ℕ) (y : Term) (left : Result Process Trouble) → ((pos : Pos) → can a f y pos → does a f y pos left) → IsAnswered can does a f y left
 as_it_is can does a f y left acts pos it = (left, acts pos it, becoming.is left)
 
+pub becomes_ok : (a : Context) (at : Pos) (left answer : Result Process Trouble) (q : Process) → Becomes a at left answer → answer ≡ Ok q → left ≡ Ok q
+becomes_ok a at _ _ q (becoming.is r) e = e
+becomes_ok a at _ _ q (becoming.high x above) e = absurd cc
+
+left_so : (a : Context) (at : Pos) (left answer : Result Process Trouble) (s2 s3 : Seen) (point : ℕ) (r : Result Begun Trouble) → Becomes a at left answer
+    → IfOk r (λ b. answer ≡ Ok (left_by s2.held (term_view b.part))) → MatchResult r (λ b. (s3 ≡ s2) × (b.point ≡ point)) (λ t. s3 ≡ undone s2) → IsLeftBy left s3.held r
+left_so a at left answer s2 s3 point (Ok b) becomes is state =
+    becomes_ok a at left answer (left_by s2.held (term_view b.part)) becomes is
+    ∙ ap (λ (s : Seen). let r : Result Process Trouble = Ok (left_by s.held (term_view b.part)) in r) (sym state.0)
+left_so a at left answer s2 s3 point (Err t) becomes is state = tt
+
 -- what a part leaves of its process, done in the marked state
 pub leaves_begun : (can : Ability) (does : Deed) → ((a : Context) (g : ℕ) (x : Term) (pos : Pos) → can a g x pos → IsFrom pos x)
     → (m : ModelTree) (here : Standpoint) (class : ℕ) (t : Term) (place : Place) (s0 s1 s2 s3 : Seen) (point f : ℕ) (y : Term) (p : Pos) (answer : Result Process Trouble) (r : Result Begun Trouble)
@@ -81,24 +92,27 @@ pub leaves_begun : (can : Ability) (does : Deed) → ((a : Context) (g : ℕ) (x
     → ActivePartsMayAct → IsAnswered can does (seen_from m here class s1.held) f y answer
     → begun_process h t place s2.held r ≡ and_then answer (settled_home h (seen_from m here class s0.held) p t place)
     → MatchResult r (λ b. (s3 ≡ s2) × (b.point ≡ point)) (λ t. s3 ≡ undone s2)
+    → IfOk r (λ b. answer ≡ Ok (left_by s2.held (term_view b.part)))
     → CanDo can (seen_from m here class s0.held) t place
-    → Leaves (seen_from m here class s0.held) does t place (begun_process h t place s3.held r)
-leaves_begun can does stands m here class t place s0 s1 s2 s3 point f y p answer r h home is found from law acts held state there =
+    → (l : Leaves (seen_from m here class s0.held) does t place (begun_process h t place s3.held r)) × IsLeftBy l.left s3.held r
+leaves_begun can does stands m here class t place s0 s1 s2 s3 point f y p answer r h home is found from law acts held state became there =
     let same = same_part can (seen_from m here class s0.held) t place there f y found in
     let pos : Pos = there.it_holds.0 in
     let before : s1.held ≡ s0.held = ap (λ (s : Seen). s.held) is in
-    let acted = acts pos (moved (λ a g x. can a g x pos) m here class s0.held s1.held there.frame f there.part y (sym before) (sym same.0) (sym same.1) there.it_holds.1) in
-    record {
-      frame = there.frame;
-      part = there.part;
-      active = there.active;
-      pos = pos;
-      left = acted.0;
-      acts = moved (λ a g x. does a g x pos acted.0) m here class s1.held s0.held f there.frame y there.part before same.0 same.1 acted.1;
-      leaves =
-          begun_held h t place s2 s3 point r state ∙ held
-          ∙ ap (λ (k : Home). and_then answer (settled_home k (seen_from m here class s0.held) p t place)) (sym home)
-          ∙ ap (λ (q : Pos). and_then answer (settled (seen_from m here class s0.held) q t place))
-          (one_place y p pos from (part_is can (seen_from m here class s0.held) t place there f y found IsFrom (stands (seen_from m here class s0.held))))
-          ∙ answer_settled (seen_from m here class s1.held) pos t place (may_act can (seen_from m here class s0.held) t place there law) acted.0 answer acted.2;
-    }
+    let acted = acts pos (moved (λ a g x. can a g x pos) m here class s0.held s1.held there.frame f there.part y (sym before) (sym same.0) (sym same.1) there.it_holds.1) in (
+      record {
+        frame = there.frame;
+        part = there.part;
+        active = there.active;
+        pos = pos;
+        left = acted.0;
+        acts = moved (λ a g x. does a g x pos acted.0) m here class s1.held s0.held f there.frame y there.part before same.0 same.1 acted.1;
+        leaves =
+            begun_held h t place s2 s3 point r state ∙ held
+            ∙ ap (λ (k : Home). and_then answer (settled_home k (seen_from m here class s0.held) p t place)) (sym home)
+            ∙ ap (λ (q : Pos). and_then answer (settled (seen_from m here class s0.held) q t place))
+            (one_place y p pos from (part_is can (seen_from m here class s0.held) t place there f y found IsFrom (stands (seen_from m here class s0.held))))
+            ∙ answer_settled (seen_from m here class s1.held) pos t place (may_act can (seen_from m here class s0.held) t place there law) acted.0 answer acted.2;
+      },
+      left_so (seen_from m here class s1.held) pos acted.0 answer s2 s3 point r acted.2 became state,
+    )

@@ -9,11 +9,11 @@ ghost use Rattle.pz_rules.specs.View.{term_view};
 ghost use Rattle.pz_state.specs.Marks.{IsLatest};
 ghost use Rattle.pz_rules_delays.specs.Short.{IsShort};
 ghost use Rattle.pz_tree_refreshing.specs.Refreshing.{HasRoom};
-ghost use Rattle.pz_tree_acting.specs.Acting.{MayBeDone, ActRule, TrialRule};
+ghost use Rattle.pz_tree_acting.specs.Acting.{MayBeDone, ActRule, TrialRule, TrialSteps};
 ghost use Rattle.pz_tree_acting.specs.devices.Begun.{MayGoOn, StayRule};
 
 use crate::beginning::{Begun, begin};
-use crate::closing::close_frames;
+use crate::closing::{close_frames, list_part, open_frames};
 use crate::how::How;
 use pz_nodes::{Key, Nodes, Steps};
 use pz_offer::Trouble;
@@ -35,6 +35,7 @@ fn finish<L: Ledger>(
     clock: u128,
     place: &[usize],
     begun: Begun,
+    mut listed: Vec<u64>,
     state: &mut State,
     steps: &mut Steps<L>,
 ) -> Result<Option<Key>, AllocError>
@@ -43,9 +44,10 @@ fn finish<L: Ledger>(
     requires room { HasRoom clock }
     requires short { IsShort (term_view begun.part) }
     ensures { IfOk result (λ out. StayRule (home_view home.now) (find nodes.old) (find nodes.new) root clock
-        place.now (term_view begun.part) out state.old state.new) }
+        place.now (term_view begun.part) listed.items out state.old state.new steps.old steps.new) }
 {
     let Begun { point, part } = begun;
+    list_part(home.edition, &part, &mut listed)?;
     let whole = Spot {
         key: root,
         frame: FrameId(0),
@@ -55,9 +57,18 @@ fn finish<L: Ledger>(
     pz_tree_frames::laws::openings_open_frames();
     let mut lost = Vec::new(alloc);
     let out = regrow(
-        alloc, home, nodes, whole, place, part, state, &mut lost, steps,
+        alloc,
+        home,
+        nodes,
+        whole,
+        place,
+        part,
+        state,
+        &mut lost,
+        &mut listed,
+        steps,
     )?;
-    close_frames(alloc, home.edition, nodes, out, &lost, state, steps)?;
+    close_frames(alloc, home.edition, listed, &lost, state)?;
     state.keep(point);
     Ok(out)
 }
@@ -65,8 +76,9 @@ fn finish<L: Ledger>(
 /// The part at the place of the term that stands at `root` acts, in its state and by the clock of the standpoint.
 /// Hands out the key of what stands for what that leaves, None where nothing is left; or the trouble, and then
 /// nothing has changed: the deed is undone, and how high the term becomes is asked before a node changes. The frames
-/// that stand no longer leave the state. The only error is want of memory, or that there is more to do than can be
-/// counted; then the nodes may only be dropped, and of the state nothing is said.
+/// that stand no longer leave the state. Takes at most sixteen steps for each part on the way and each that stands beside
+/// one of them in a `par`, each that is made and each that is dropped. The only error is want of memory, or that there
+/// is more to do than can be counted; then the nodes may only be dropped, and of the state nothing is said.
 pub fn act<L: Ledger>(
     alloc: Global,
     here: &Standpoint<'_>,
@@ -81,16 +93,17 @@ pub fn act<L: Ledger>(
     requires knows { Knows (checked_model home.now.checked.now) here.now }
     requires can { ∥ MayBeDone here.now home.now how (find nodes.old) root state.old.held place.now ∥₁ }
     ensures acts { IfOk result (λ left. ActRule here.now home.now how.entry (find nodes.old) (find nodes.new) root
-        place.now left state.old state.new) }
+        place.now left state.old state.new steps.old steps.new) }
     ensures stays { IfOk result (λ left. OnErr left ((nodes.new ≡ nodes.old) × (state.new ≡ state.old))) }
 {
     pz_term_around::laws::active_parts_may_act();
     pz_rules::laws::offered_parts_act();
     pz_tree_seeking::laws::active_parts_are_at_their_places();
+    let listed = open_frames(alloc, home.edition, state)?;
     match begin(alloc, here, home, nodes, root, place, how, state, steps)? {
         Ok(begun) => {
             let out = finish(
-                alloc, home, nodes, root, here.clock, place, begun, state, steps,
+                alloc, home, nodes, root, here.clock, place, begun, listed, state, steps,
             )?;
             Ok(Ok(out))
         }
@@ -98,8 +111,9 @@ pub fn act<L: Ledger>(
     }
 }
 
-/// The answer that `act` has for the same arguments, and nodes and state stay as they are. The only error is want of
-/// memory, and then of the state nothing is said.
+/// The answer that `act` has for the same arguments, and nodes and state stay as they are. Takes at most five steps for
+/// each part on the way and each that stands beside one of them in a `par`. The only error is want of memory, and then
+/// of the state nothing is said.
 pub fn trial<L: Ledger>(
     alloc: Global,
     here: &Standpoint<'_>,
@@ -116,6 +130,8 @@ pub fn trial<L: Ledger>(
     ensures answers { IfOk result (λ left. TrialRule here.now home.now how.entry (find nodes.now) root place.now left
         state.old.held) }
     ensures stays { OnOk result (state.new ≡ state.old) }
+    ensures ticks { OnOk result (TrialSteps here.now home.now how.entry (find nodes.now) root place.now state.old.held
+        steps.old steps.new) }
 {
     match begin(alloc, here, home, nodes, root, place, how, state, steps)? {
         Ok(begun) => {

@@ -12,7 +12,8 @@ ghost use Rattle.pz_rules.specs.View.{term_view};
 ghost use Rattle.pz_state.specs.Marks.{IsLatest, undone};
 ghost use Rattle.pz_state.specs.States.{StateView};
 ghost use Rattle.pz_rules_delays.specs.Short.{IsShort};
-ghost use Rattle.pz_tree_acting.specs.Acting.{MayBeDone};
+ghost use Rattle.pz_tree_heights.specs.Heights.{FewSteps};
+ghost use Rattle.pz_tree_acting.specs.Acting.{MayBeDone, TrialSteps};
 ghost use Rattle.pz_tree_acting.specs.devices.Begun.{ActsSo, IsHanded, IsTaken, DeedRule, IsBegun, Opens, HoldRule, BeginRule};
 
 use crate::how::How;
@@ -131,6 +132,7 @@ fn hold<L: Ledger>(
     ensures state { MatchResult result (λ begun. (state.new ≡ state.old) × (begun.point ≡ point))
         (λ trouble. state.new ≡ undone state.old) }
     ensures part { IfOk result (λ begun. left ≡ Ok begun.part) }
+    ensures ticks { FewSteps (find nodes.now) root place.now steps.old steps.new }
 {
     let part = match left {
         Ok(part) => part,
@@ -168,6 +170,8 @@ pub(crate) fn begin<L: Ledger>(
     ensures state { IfOk result (IsBegun state.old state.new) }
     ensures opens { IfOk result (Opens home.now.edition state.old.held state.new.held) }
     ensures short { IfOk result (λ begun. IfOk begun (λ b. IsShort (term_view b.part))) }
+    ensures ticks { OnOk result (TrialSteps here.now home.now how.entry (find nodes.now) root place.now
+        state.old.held steps.old steps.new) }
 {
     pz_term_around::laws::active_parts_may_act();
     pz_rules::laws::offered_parts_act();

@@ -5,7 +5,6 @@ mod acting;
 mod beginning;
 mod closing;
 mod how;
-mod listing;
 mod parts;
 
 pub use acting::{act, trial};

@@ -321,3 +321,23 @@ all_elapsed deep_law timeless passing b m n f clock key fuel k old mid new was e
     let high : was.what.kept.height ≡ height (term_in c p) = ap (λ (z : Kept). z.height) top ∙ high_top f c p may.tended in
     let deep : depth p ≤ fuel = omega (arith, deep_law c (shape_of p) may.tended.sound.whole, as_deep p, high, fuel_is) in
     has_elapsed passing a d m n f c p k old mid new tick (rule a d c seen time p st r deep (timeless a.setting.model sound) may room)
+
+-- with fewer steps
+pub fewer_steps : (b : Context) (m n : Map What) (key f clock old new less : ℕ) → less ≤ new → ElapseRule b m n key f clock old new → ElapseRule b m n key f clock old less
+fewer_steps b m n key f clock old new less few rule a d c seen time p st r sound may room =
+    let e = rule a d c seen time p st r sound may room in
+    let steps = e.ticks in
+    record {
+      plant = e.plant;
+      under = e.under;
+      keys = e.keys;
+      made = e.made;
+      passes = e.passes;
+      computed = e.computed;
+      tended = e.tended;
+      fresh = e.fresh;
+      short = e.short;
+      timely = e.timely;
+      soon = e.soon;
+      ticks = omega (arith, few, steps);
+    }

@@ -1,11 +1,12 @@
 //! Time passes over nodes, along those in which something wakes.
 
-ghost use Rattle.std.specs.Prelude.{◌≡◌, ◌+◌, ◌*◌, ℕ, Some, None, IfSome, IfOk, OnOk};
+ghost use Rattle.std.specs.Prelude.{◌≡◌, ◌+◌, ◌*◌, ℕ, true, Some, None, IfSome, IfOk, OnOk};
 ghost use Rattle.pz_syntax.specs.Classes.{ModelTree};
 ghost use Rattle.pz_eval.specs.Known.{AreKnown};
 ghost use Rattle.pz_nodes.specs.Arena.{find, Updates};
 ghost use Rattle.pz_offer.specs.Summaries.{MayShift};
 ghost use Rattle.pz_part_queries.specs.Standpoints.{Knows, seen_from};
+ghost use Rattle.pz_rules.specs.Settings.{Context};
 ghost use Rattle.pz_tree_standing.specs.Heads.{inner_frame};
 ghost use Rattle.pz_tree_nodes.specs.View.{head_view};
 ghost use Rattle.pz_tree_refreshing.specs.devices.Reached as reached;
@@ -342,4 +343,23 @@ pub fn elapse<L: Ledger>(
     let fuel = fuel_for(&node.what.kept);
     elapse_at(alloc, here, state, nodes, root, fuel, steps)?;
     Ok(())
+}
+
+/// Whether nothing wakes in the nodes that stand under a key, as time passes to the moment that the clock of `root`
+/// shows. Then these nodes, as they are, stand for what the passing leaves. Takes one step.
+pub fn rests<L: Ledger>(nodes: &Nodes<Node>, root: Spot, steps: &mut Steps<L>) -> bool
+    ensures rests { result ≡ true → (b : Context) → ElapseRule b (find nodes.now) (find nodes.now)
+        root.key root.frame.0 root.clock steps.old steps.new }
+    ensures ticks { steps.new ≡ steps.old + 1 }
+{
+    pz_tree_standing::laws::nodes_are_no_deeper();
+    pz_tree_standing::laws::still_right();
+    pz_tree_nodes::laws::unwoken_nodes_stay();
+    pz_tree_summary::laws::steady_terms_keep_summaries();
+    pz_eval_rules::laws::unclocked_is_timeless();
+    pz_rules::laws::passing_is_computed();
+    match nodes.get(root.key, steps) {
+        Some(node) => !wakes(&node.what.kept, root.clock),
+        None => false,
+    }
 }

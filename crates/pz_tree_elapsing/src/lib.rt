@@ -5,4 +5,4 @@ mod elapsing;
 mod turning;
 mod waking;
 
-pub use elapsing::elapse;
+pub use elapsing::{elapse, rests};

@@ -38,7 +38,7 @@ use Rattle.pz_tree_regrowing.proofs.Kids.{same_node, width_seen, picked_root, pi
 use Rattle.pz_tree_regrowing.proofs.Leaving.{in_place, frame_stays, frame_gives, frame_keeps}
 use Rattle.pz_tree_regrowing.proofs.Others.{one_left}
 use Rattle.pz_tree_regrowing.proofs.ByForm.{one_kid}
-use Rattle.pz_tree_regrowing.proofs.Finishing.{key_done, key_undone, kept_over}
+use Rattle.pz_tree_regrowing.proofs.Finishing.{append_none, key_done, key_undone, kept_over}
 
 -- ------------------------------------------------------------ frames without outputs
 
@@ -129,11 +129,11 @@ bare_anywhere f g c p b t = record {
 pub done_seen : term_view lying.Done ≡ done
 done_seen = search (rules, the_lemmas)
 
-pub frame_ends : (home : Home) (f c k i : ℕ) (own : FrameId) (inputs : ℕ) (results : List Slot) (m n : Map What) (s t : Seen) (x ended : Term) (gathered found : List ℕ) (old new : ℕ)
+pub frame_ends : (home : Home) (f c k i : ℕ) (own : FrameId) (inputs : ℕ) (results : List Slot) (m n : Map What) (s t : Seen) (x ended : Term) (gathered found fresh : List ℕ) (old new : ℕ)
     → ended ≡ done → ((h : Home) (body : Term) (j : ℕ) → Became (around h f s.held (frame own.0 inputs results body) j ended) x s t)
     → IsFree m n k → found ≡ gathered ++ (own.0 ∷ []) → new ≡ old + 1
-    → FinishRule home f c k (heads.frame own.0 inputs results) (None ∷ []) i None (at_work m s gathered old) (at_work n t found new)
-frame_ends home f c k i own inputs results m n s t x ended gathered found old new is_over became free gives tick m0 was ps u hand e w may time =
+    → FinishRule home f c k (heads.frame own.0 inputs results) (None ∷ []) i None (at_work m s gathered fresh old) (at_work n t found fresh new)
+frame_ends home f c k i own inputs results m n s t x ended gathered found fresh old new is_over became free gives tick m0 was ps u hand e w may time =
     let h = heads.frame own.0 inputs results in
     let first : slice_index_or (roots ps) 0 None ≡ None = ap (λ z. slice_index_or z 0 None) e in
     let over : after h c ps 0 ≡ done = key_done h c ps 0 first in
@@ -141,7 +141,7 @@ frame_ends home f c k i own inputs results m n s t x ended gathered found old ne
     let b = subst (λ z. Became (around home f s.held whole 0 z) x s t) (is_over ∙ sym over) (became home (term_at (replaced (kid_terms h c ps) 0 u) 0) 0) in
     let nothing : pick ps 0 ≡ None = root_none (pick ps 0) (sym (picked_root ps 0) ∙ first) in
     let holds : Holds m0 m was k (joined (pick ps 0) none) = subst (Holds m0 m was k) (one_kid ps (sym (width_seen ps) ∙ hand.parts)) hand.holds in
-    subst (λ z. Finished home f c m0 was h ps z u None (at_work m s gathered old) (at_work n t found new)) (sym may)
+    subst (λ z. Finished home f c m0 was h ps z u None (at_work m s gathered fresh old) (at_work n t found fresh new)) (sym may)
     (record {
       plant = None;
       under = refl;
@@ -149,6 +149,7 @@ frame_ends home f c k i own inputs results m n s t x ended gathered found old ne
       tended = tt;
       means = record { term = sym (ap (λ z. (around home f s.held whole 0 z).term) over); state = b.state };
       lost = gives ∙ ap (λ z. gathered ++ (if is_done z then own.0 ∷ [] else (if gives_way results z then own.0 ∷ [] else []))) (sym over);
+      gained = sym (append_none fresh);
       ticks = omega (arith, tick);
     })
   where
@@ -161,7 +162,7 @@ frame_ends home f c k i own inputs results m n s t x ended gathered found old ne
 pub frame_gives_way : (c k i kid : ℕ) (own : FrameId) (inputs : ℕ) (results : List Slot) (m n : Map What) (gathered found : List ℕ) (old mid new : ℕ)
     → results ≡ [] → BareRule m kid true → IsFree m n k → found ≡ gathered ++ (own.0 ∷ []) → mid ≤ old + 2 → new ≡ mid + 1
     → LosingRule c k (heads.frame own.0 inputs results) (Some kid ∷ []) i (Some kid) m n gathered found old new
-frame_gives_way c k i kid own inputs results m n gathered found old mid new plain bare free gives tick tock home f s m0 was ps u hand e w may time =
+frame_gives_way c k i kid own inputs results m n gathered found old mid new plain bare free gives tick tock home f s fresh m0 was ps u hand e w may time =
     let h = heads.frame own.0 inputs results in
     let first : slice_index_or (roots ps) 0 None ≡ Some kid = ap (λ z. slice_index_or z 0 None) e in
     let holds : Holds m0 m was k (joined (pick ps 0) none) = subst (Holds m0 m was k) (one_kid ps (sym (width_seen ps) ∙ hand.parts)) hand.holds in
@@ -170,7 +171,7 @@ frame_gives_way c k i kid own inputs results m n gathered found old mid new plai
     let tended = picked_tended own.0 h c 0 ps 0 hand.tended in
     let x_bare : is_bare (after h c ps 0) ≡ true = ap is_bare x_is ∙ bare_there (pick ps 0) (sym (picked_root ps 0) ∙ first) holds.stand tended in
     let way = frame_gives own.0 inputs results (after h c ps 0) plain x_bare in
-    subst (λ z. Finished home f c m0 was h ps z u (Some kid) (at_work m s gathered old) (at_work n s found new)) (sym may)
+    subst (λ z. Finished home f c m0 was h ps z u (Some kid) (at_work m s gathered fresh old) (at_work n s found fresh new)) (sym may)
     (record {
       plant = pick ps 0;
       under = sym (picked_root ps 0) ∙ first;
@@ -179,6 +180,7 @@ frame_gives_way c k i kid own inputs results m n gathered found old mid new plai
       means = in_place (around home f s.held (before h c ps 0 u) 0 (after h c ps 0)) (term_in_option c (pick ps 0)) s
           (frame_stays home f s.held own.0 inputs results (term_at (replaced (kid_terms h c ps) 0 u) 0) 0 (after h c ps 0) undone ∙ ap (left_by s.held) (way.0 ∙ x_is));
       lost = gives ∙ (λ j. gathered ++ (if sym undone j then own.0 ∷ [] else (if sym way.1 j then own.0 ∷ [] else [])));
+      gained = sym (append_none fresh);
       ticks = omega (arith, tick, tock);
     })
   where
@@ -195,7 +197,7 @@ pub frame_goes_on : (c k i kid : ℕ) (own : FrameId) (inputs : ℕ) (results : 
     → ((m k ≡ None → ⊥) → IsWritten m n k (kind.Frame own inputs results) keys kept)
     → mid ≤ old + 2 → last ≡ mid + 1 → new ≡ last + 1
     → LosingRule c k (heads.frame own.0 inputs results) (Some kid ∷ []) i (Some k) m n gathered gathered old new
-frame_goes_on c k i kid own inputs results bare keys m n kept body gathered old mid last new stays is_bare_there is_keys read keeps written tick tock tack home f s m0 was ps u hand e w may time =
+frame_goes_on c k i kid own inputs results bare keys m n kept body gathered old mid last new stays is_bare_there is_keys read keeps written tick tock tack home f s fresh m0 was ps u hand e w may time =
     let h = heads.frame own.0 inputs results in
     let first : slice_index_or (roots ps) 0 None ≡ Some kid = ap (λ z. slice_index_or z 0 None) e in
     let holds : Holds m0 m was k (joined (pick ps 0) none) = subst (Holds m0 m was k) (one_kid ps (sym (width_seen ps) ∙ hand.parts)) hand.holds in
@@ -203,11 +205,12 @@ frame_goes_on c k i kid own inputs results bare keys m n kept body gathered old 
     let x_is : after h c ps 0 ≡ term_in_option c (pick ps 0) = picked_term h c 0 ps 0 in
     let x_bare : bare ≡ is_bare (after h c ps 0) = bare_there (pick ps 0) (sym (picked_root ps 0) ∙ first) holds.stand (picked_tended own.0 h c 0 ps 0 hand.tended) ∙ ap is_bare (sym x_is) in
     let way = frame_keeps own.0 inputs results (after h c ps 0) (λ b. stays (x_bare ∙ b)) in
-    subst (λ z. Finished home f c m0 was h ps z u (Some k) (at_work m s gathered old) (at_work n s gathered new)) (sym may)
-    (kept_over home f c k h 0 m n s gathered old new (kind.Frame own inputs results) keys kept m0 was ps u hand.holds (e ∙ sym is_keys) hand.parts hand.fits hand.tended tt (written hand.holds.there)
+    subst (λ z. Finished home f c m0 was h ps z u (Some k) (at_work m s gathered fresh old) (at_work n s gathered fresh new)) (sym may)
+    (kept_over home f c k h 0 m n s gathered fresh old new (kind.Frame own inputs results) keys kept m0 was ps u hand.holds (e ∙ sym is_keys) hand.parts hand.fits hand.tended tt (written hand.holds.there)
     (keeps ∙ ap raised (read ∙ ap (kept_in m) (sym first) ∙ kept_read m ps 0 hand.holds.stand))
     (frame_stays home f s.held own.0 inputs results (term_at (replaced (kid_terms h c ps) 0 u) 0) 0 (after h c ps 0) undone ∙ ap (left_by s.held) way.0)
     (λ j. if undone j then own.0 ∷ [] else (if way.1 j then own.0 ∷ [] else []))
+    refl
     (omega (arith, tick, tock, tack)) (subst (λ z. InTime c (before h c ps z u) (after h c ps z)) may time))
   where
     bare_there : (y : Option Plant) → root_of y ≡ Some kid → StandAll m (joined y none) → TendedOption own.0 c y → bare ≡ is_bare (term_in_option c y)

@@ -9,7 +9,7 @@ use Rattle.pz_state.specs.Marks.{Seen}
 use Rattle.pz_rules.specs.Terms.{Term, done, frames_in_all, term_at}
 use Rattle.pz_rules.specs.Settings.{Process, left_by, Home}
 use Rattle.pz_rules.specs.Leaving.{replaced, is_done, around}
-use Rattle.pz_tree_standing.specs.FrameCounts.{lost}
+use Rattle.pz_tree_standing.specs.FrameCounts.{lost, gained}
 use Rattle.pz_tree_standing.specs.Heads as heads
 use Rattle.pz_tree_standing.specs.Heads.{inner_clock, inner_frame, formed}
 use Rattle.pz_tree_standing.specs.Standing.{HeadFits}
@@ -55,17 +55,18 @@ key_undone f h c ps j t n = ap is_done (picked_term h c 0 ps j) ∙ by (pick ps 
 
 -- ------------------------------------------------------------ put back
 
-pub kept_over : (home : Home) (f c k : ℕ) (h : heads.Head) (i : ℕ) (m n : Map What) (s : Seen) (gathered : List ℕ) (old new : ℕ) (head : Head) (keys : List (Option ℕ)) (kept : Kept)
+pub kept_over : (home : Home) (f c k : ℕ) (h : heads.Head) (i : ℕ) (m n : Map What) (s : Seen) (gathered fresh : List ℕ) (old new : ℕ) (head : Head) (keys : List (Option ℕ)) (kept : Kept)
     (m0 : Map What) (was : ℕ → Bool) (ps : Plants) (t : Term)
     → Holds m0 m was k ps → roots ps ≡ keys
     → HasParts (head_view head) (shapes_of ps) → HeadFits (head_view head) c → KidsTended (inner_frame (head_view head) f) (head_view head) c 0 ps → IsPutBack (head_view head)
     → IsWritten m n k head keys kept → kept ≡ kept_formed (head_view head) ps
     → around home f s.held (before h c ps i t) i (after h c ps i) ≡ left_by s.held (formed (head_view head) c (kid_terms (head_view head) c ps))
     → lost (before h c ps i t) i (after h c ps i) ≡ []
+    → gained home s.held (before h c ps i t) i (after h c ps i) ≡ []
     → new ≤ old + (4 + beside (before h c ps i t) i)
     → InTime c (before h c ps i t) (after h c ps i)
-    → Finished home f c m0 was h ps i t (Some k) (at_work m s gathered old) (at_work n s gathered new)
-kept_over home f c k h i m n s gathered old new head keys kept m0 was ps t holds e parts fits kids back w keeps is none_lost few time =
+    → Finished home f c m0 was h ps i t (Some k) (at_work m s gathered fresh old) (at_work n s gathered fresh new)
+kept_over home f c k h i m n s gathered fresh old new head keys kept m0 was ps t holds e parts fits kids back w keeps is none_lost none_gained few time =
     let x : What = record { head = head; kept = kept } in
     let short : IsShort (formed (head_view head) c (kid_terms (head_view head) c ps)) = subst (λ (p : Process). IsShort p.term) is (around_short home s.held f (before h c ps i t) i (after h c ps i) time.short time.part) in
     record {
@@ -75,6 +76,7 @@ kept_over home f c k h i m n s gathered old new head keys kept m0 was ps t holds
       tended = node_tended f c k x ps parts fits kids back keeps time.room short;
       means = in_place (around home f s.held (before h c ps i t) i (after h c ps i)) (formed (head_view head) c (kid_terms (head_view head) c ps)) s is;
       lost = sym (append_none gathered) ∙ ap (λ z. gathered ++ z) (sym none_lost);
+      gained = sym (append_none fresh) ∙ ap (λ z. fresh ++ z) (sym none_gained);
       ticks = omega (arith, few);
     }
 
@@ -108,15 +110,16 @@ left_alone m m1 n k keys rest i lost found old mid new others drops free tick m0
       ticks = omega (arith, d.ticks, tick);
     }
 
-pub alone_finished : (home : Home) (f c k : ℕ) (h : heads.Head) (i : ℕ) (m n : Map What) (s : Seen) (gathered found : List ℕ) (old new : ℕ) (out : Option ℕ)
+pub alone_finished : (home : Home) (f c k : ℕ) (h : heads.Head) (i : ℕ) (m n : Map What) (s : Seen) (gathered found fresh : List ℕ) (old new : ℕ) (out : Option ℕ)
     (m0 : Map What) (was : ℕ → Bool) (ps : Plants) (t : Term)
     → LeftAlone m0 n was ps i out gathered found old new
     → AreWhole (shapes_of ps) → TendedOption f c (pick ps i)
     → around home f s.held (before h c ps i t) i (after h c ps i) ≡ left_by s.held (term_in_option c (pick ps i))
     → lost (before h c ps i t) i (after h c ps i) ≡ frames_in_all (replaced (kid_terms h c ps) i done)
+    → gained home s.held (before h c ps i t) i (after h c ps i) ≡ []
     → nodes_of_all (replaced (kid_terms h c ps) i done) ≤ dropped (before h c ps i t) i (after h c ps i)
-    → Finished home f c m0 was h ps i t out (at_work m s gathered old) (at_work n s found new)
-alone_finished home f c k h i m n s gathered found old new out m0 was ps t l whole tended is gone_frames few =
+    → Finished home f c m0 was h ps i t out (at_work m s gathered fresh old) (at_work n s found fresh new)
+alone_finished home f c k h i m n s gathered found fresh old new out m0 was ps t l whole tended is gone_frames none_gained few =
     let fewer : sizes (with_kid ps i None) ≤ 2 * nodes_of_all (replaced (kid_terms h c ps) i done) =
     subst (λ z. sizes (with_kid ps i None) ≤ 2 * nodes_of_all z) (kid_terms_with h c ps i None) (few_below h c 0 (with_kid ps i None) (others_are_whole ps i whole)) in
     record {
@@ -126,5 +129,6 @@ alone_finished home f c k h i m n s gathered found old new out m0 was ps t l who
       tended = tended;
       means = in_place (around home f s.held (before h c ps i t) i (after h c ps i)) (term_in_option c (pick ps i)) s is;
       lost = l.frames whole h c ∙ ap (λ z. gathered ++ z) (sym gone_frames);
+      gained = sym (append_none fresh) ∙ ap (λ z. fresh ++ z) (sym none_gained);
       ticks = omega (arith, l.ticks, fewer, few);
     }

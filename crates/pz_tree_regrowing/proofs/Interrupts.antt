@@ -1,6 +1,6 @@
 -- The second part of an interrupt has acted.
 use Rattle.std.proofs.Common.{◌≡◌, ◌<◌, ◌≤◌, ℕ, zero, suc, ◌+◌, ◌*◌, Bool, true, false, List, [], ◌∷◌, ◌++◌, Option, Some, None, refl, ap, sym, ◌∙◌, subst, arith}
-use Rattle.std.specs.Prelude.{slice_index_or, slice_set}
+use Rattle.std.specs.Prelude.{slice_index_or, slice_set, if◌then◌else◌}
 use Rattle.pz_clock.specs.Shifts.{ShiftView, local, frozen, thawed, ShiftFits}
 use Rattle.pz_nodes_shapes.specs.Rose.{root, node, none, gone, more, Map, roots, pick, with_kid, width, has_option}
 use Rattle.pz_nodes_shapes.specs.Change.{Holds, BecomesOption}
@@ -8,12 +8,12 @@ use Rattle.pz_nodes_shapes.proofs.Frames.{worked, put_back}
 use Rattle.pz_classes_code.specs.declared.step.Step as lying
 use Rattle.pz_classes_code.specs.StepView as step
 use Rattle.pz_state.specs.Marks.{Seen, changed}
-use Rattle.pz_rules.specs.Terms.{Step, Term, done, idle, handling, term_at, count}
+use Rattle.pz_rules.specs.Terms.{Step, Term, done, idle, handling, frames_in, term_at, count}
 use Rattle.pz_rules.specs.Settings.{Process, left_by, Home}
 use Rattle.pz_rules.specs.Opening.{opened}
-use Rattle.pz_rules.specs.Leaving.{replaced, around, handled}
+use Rattle.pz_rules.specs.Leaving.{replaced, is_done, around, handled}
 use Rattle.pz_rules.specs.Becoming.{Became}
-use Rattle.pz_tree_standing.specs.FrameCounts.{lost}
+use Rattle.pz_tree_standing.specs.FrameCounts.{lost, gained}
 use Rattle.pz_tree_standing.specs.Heads as heads
 use Rattle.pz_tree_standing.specs.Heads.{inner_clock, inner_frame}
 use Rattle.pz_tree_standing.specs.Standing.{HeadFits}
@@ -66,6 +66,11 @@ made_of : (runs : Bool) (again : Step) (s : ShiftView) (home : Home) (c : ℕ) (
 made_of true again s home c state ps t = refl
 made_of false again s home c state ps t = refl
 
+gained_of : (runs : Bool) (again : Step) (s : ShiftView) (home : Home) (c : ℕ) (state : Rattle.pz_state.specs.States.StateView) (ps : Plants) (t : Term)
+    → gained home state (before (interrupt runs again s) c ps 1 t) 1 (after (interrupt runs again s) c ps 1) ≡ (if is_done (after (interrupt runs again s) c ps 1) then frames_in (opened home again state).term else [])
+gained_of true again s home c state ps t = refl
+gained_of false again s home c state ps t = refl
+
 -- the clocks below, where that of the first part shows the same
 clocks_from : (runs : Bool) (again : Step) (s : ShiftView) (c : ℕ) (g : heads.Head) → inner_clock g 0 c ≡ local s c → ((j : ℕ) → inner_clock g (suc j) c ≡ c) → (j : ℕ) → inner_clock (interrupt runs again s) j c ≡ inner_clock g j c
 clocks_from true again s c g first others zero = sym first
@@ -81,7 +86,7 @@ pub suspended : (c k : ℕ) (again : lying.Step) (shift now : ShiftView) (keys :
     → ((m k ≡ None → ⊥) → IsWritten m n k (kind.Handling again now) keys kept)
     → mid ≡ old + there (slice_index_or keys 0 None) → last ≡ mid + there (slice_index_or keys 1 None) → new ≡ last + 1
     → SuspendRule c k (step.view again) shift keys (Some k) m n old new
-suspended c k again shift now keys m n first second kept old mid last new freezes begins read keeps written tick tock tack some runs home f s g m0 was ps t hand e w may time =
+suspended c k again shift now keys m n first second kept old mid last new freezes begins read keeps written tick tock tack some runs home f s g fresh m0 was ps t hand e w may time =
     let h = interrupt runs (step.view again) shift in
     let new_head = heads.handling (step.view again) now in
     let fits = fits_of runs (step.view again) shift c hand.fits in
@@ -90,7 +95,7 @@ suspended c k again shift now keys m n first second kept old mid last new freeze
     let is_now : frozen shift c ≡ now = sym (freezes fits) in
     let same : (j : ℕ) → inner_clock h j c ≡ inner_clock new_head j c = clocks_from runs (step.view again) shift c new_head (ap (λ z. local z c) (sym is_now) ∙ sym (frozen_local shift c)) (λ j. refl) in
     let undone = key_undone f h c ps 1 kids (λ q. some (ap (λ z. slice_index_or z 1 None) (sym e) ∙ q)) in
-    kept_over home f c k h 1 m n s g old new (kind.Handling again now) keys kept m0 was ps t hand.holds e
+    kept_over home f c k h 1 m n s g fresh old new (kind.Handling again now) keys kept m0 was ps t hand.holds e
     (width_seen ps ∙ two) (subst (λ z. HeadFits (heads.handling (step.view again) z) c) is_now (frozen_fits shift c fits, refl)) (same_tended f h new_head c same 0 ps kids) tt
     (written hand.holds.there)
     (keeps ∙ (λ i. raised (second_alone ((begins ∙ ap (λ z. kept_in m (slice_index_or z 0 None)) (sym e) ∙ kept_read m ps 0 hand.holds.stand) i)
@@ -100,6 +105,7 @@ suspended c k again shift now keys m n first second kept old mid last new freeze
     ∙ ap (λ z. left_by s.held (handling z (after h c ps 1) (step.view again))) (first_stays h c ps two t)
     ∙ ap (λ ts. left_by s.held (handling (term_at ts 0) (term_at ts 1) (step.view again))) (same_kid_terms h new_head c same 0 ps))
     (lost_of runs (step.view again) shift c ps t)
+    (gained_of runs (step.view again) shift home c s.held ps t ∙ ap (λ b. if b then frames_in (opened home (step.view again) s.held).term else []) undone)
     (more (few_read (slice_index_or keys 0 None) (slice_index_or keys 1 None) old mid last new tick tock tack)) time
   where
     more : new ≤ old + (4 + 0) → new ≤ old + (4 + beside (before (interrupt runs (step.view again) shift) c ps 1 t) 1)
@@ -107,14 +113,14 @@ suspended c k again shift now keys m n first second kept old mid last new freeze
 
 -- ------------------------------------------------------------ it is done: it stands open afresh
 
-pub resumed : (home : Home) (c k : ℕ) (again : lying.Step) (shift now : ShiftView) (first second : Option ℕ) (keys : List (Option ℕ)) (m m1 n : Map What) (x : Term) (s t : Seen) (first_kept second_kept kept : Kept) (old mid then last new : ℕ)
+pub resumed : (home : Home) (c k : ℕ) (again : lying.Step) (shift now : ShiftView) (first second : Option ℕ) (keys : List (Option ℕ)) (m m1 n : Map What) (x : Term) (s t : Seen) (fresh grown : List ℕ) (first_kept second_kept kept : Kept) (old mid halfway last new : ℕ)
     → (ShiftFits shift c → now ≡ thawed shift c)
-    → Became (opened home (step.view again) s.held) x s t → Planted m m1 c x second → mid ≡ old + nodes_of x
+    → Became (opened home (step.view again) s.held) x s t → Planted m m1 c x second → grown ≡ fresh ++ frames_in x → mid ≡ old + nodes_of x
     → keys ≡ first ∷ second ∷ [] → first_kept ≡ kept_in m1 first → second_kept ≡ kept_in m1 second → kept ≡ raised (kept_joined (kept_behind now.behind first_kept) second_kept)
     → ((m1 k ≡ None → ⊥) → IsWritten m1 n k (kind.Idle again now) keys kept)
-    → then ≡ mid + there first → last ≡ then + there second → new ≡ last + 1
-    → ResumeRule home c k (step.view again) shift first (Some k) m n s t old new
-resumed home c k again shift now first second keys m m1 n x s t first_kept second_kept kept old mid then last new thaws became planted made_steps is_keys read further keeps written tick tock tack runs f g m0 was ps u hand e w may time =
+    → halfway ≡ mid + there first → last ≡ halfway + there second → new ≡ last + 1
+    → ResumeRule home c k (step.view again) shift first (Some k) m n s t fresh grown old new
+resumed home c k again shift now first second keys m m1 n x s t fresh grown first_kept second_kept kept old mid halfway last new thaws became planted gains made_steps is_keys read further keeps written tick tock tack runs f g m0 was ps u hand e w may time =
     let h = interrupt runs (step.view again) shift in
     let new_head = heads.idle (step.view again) now in
     let fits = fits_of runs (step.view again) shift c hand.fits in
@@ -158,6 +164,8 @@ resumed home c k again shift now first second keys m m1 n x s t first_kept secon
         state = became.state ∙ ap (λ (q : Process). changed s q.state) (sym opens);
       };
       lost = sym (append_none g) ∙ ap (λ v. g ++ v) (sym (lost_of runs (step.view again) shift c ps u));
+      gained = gains ∙ ap (λ v. fresh ++ frames_in v) became.term ∙ ap (λ v. fresh ++ (if is_done v then frames_in (opened home (step.view again) s.held).term else [])) (sym over)
+          ∙ ap (λ v. fresh ++ v) (sym (gained_of runs (step.view again) shift home c s.held ps u));
       ticks = few first second tick tock size;
     }
   where
@@ -165,7 +173,7 @@ resumed home c k again shift now first second keys m m1 n x s t first_kept secon
     root_none None r = refl
     root_none (Some p) r = absurd cc
 
-    few : (a b : Option ℕ) → then ≡ mid + there a → last ≡ then + there b → nodes_of x ≡ made home s.held (before (interrupt runs (step.view again) shift) c ps 1 u) 1 (after (interrupt runs (step.view again) shift) c ps 1)
+    few : (a b : Option ℕ) → halfway ≡ mid + there a → last ≡ halfway + there b → nodes_of x ≡ made home s.held (before (interrupt runs (step.view again) shift) c ps 1 u) 1 (after (interrupt runs (step.view again) shift) c ps 1)
         → new ≤ old + (4 + beside (before (interrupt runs (step.view again) shift) c ps 1 u) 1 + made home s.held (before (interrupt runs (step.view again) shift) c ps 1 u) 1 (after (interrupt runs (step.view again) shift) c ps 1)
         + 2 * Rattle.pz_tree_regrowing.specs.Costs.dropped (before (interrupt runs (step.view again) shift) c ps 1 u) 1 (after (interrupt runs (step.view again) shift) c ps 1))
     few None None p q r = omega (arith, p, q, r, made_steps, tack)
@@ -192,14 +200,14 @@ two_keys ps keys p e = by ps p ∙ ap (λ z. slice_index_or z 0 None ∷ (slice_
     by (gone ss) q = ap (λ z. None ∷ z) (last ss (omega (arith, q)))
     by (more s ss) q = ap (λ z. Some (root s) ∷ z) (last ss (omega (arith, q)))
 
-pub second_done : (home : Home) (c k : ℕ) (again : Step) (shift : ShiftView) (keys : List (Option ℕ)) (first out : Option ℕ) (m n : Map What) (s t : Seen) (old new : ℕ)
-    → first ≡ slice_index_or keys 0 None → slice_index_or keys 1 None ≡ None → ResumeRule home c k again shift first out m n s t old new → SecondRule home c k again shift keys out m n s t old new
-second_done home c k again shift keys first out m n s t old new is over rule runs f g m0 was ps u hand e w may time =
+pub second_done : (home : Home) (c k : ℕ) (again : Step) (shift : ShiftView) (keys : List (Option ℕ)) (first out : Option ℕ) (m n : Map What) (s t : Seen) (fresh grown : List ℕ) (old new : ℕ)
+    → first ≡ slice_index_or keys 0 None → slice_index_or keys 1 None ≡ None → ResumeRule home c k again shift first out m n s t fresh grown old new → SecondRule home c k again shift keys out m n s t fresh grown old new
+second_done home c k again shift keys first out m n s t fresh grown old new is over rule runs f g m0 was ps u hand e w may time =
     rule runs f g m0 was ps u hand (two_keys ps keys (two_of runs again shift c ps hand.parts) e ∙ (λ i. sym is i ∷ (over i ∷ []))) w may time
 
 -- of one whose first part ran
-pub idle_second : (home : Home) (c k number : ℕ) (again : Step) (shift : ShiftView) (keys : List (Option ℕ)) (out : Option ℕ) (m n : Map What) (s t : Seen) (old new : ℕ)
-    → (number ≡ 0 → ⊥) → SecondRule home c k again shift keys out m n s t old new → ChangingRule home c k (heads.idle again shift) keys number out m n s t old new
-idle_second home c k zero again shift keys out m n s t old new other rule f g m0 was ps u hand e w may time = absurd (other refl)
-idle_second home c k (suc zero) again shift keys out m n s t old new other rule f g m0 was ps u hand e w may time = rule true f g m0 was ps u hand e w may time
-idle_second home c k (suc (suc i)) again shift keys out m n s t old new other rule f g m0 was ps u hand e w may time = absurd (omega (arith, may))
+pub idle_second : (home : Home) (c k number : ℕ) (again : Step) (shift : ShiftView) (keys : List (Option ℕ)) (out : Option ℕ) (m n : Map What) (s t : Seen) (fresh grown : List ℕ) (old new : ℕ)
+    → (number ≡ 0 → ⊥) → SecondRule home c k again shift keys out m n s t fresh grown old new → ChangingRule home c k (heads.idle again shift) keys number out m n s t fresh grown old new
+idle_second home c k zero again shift keys out m n s t fresh grown old new other rule f g m0 was ps u hand e w may time = absurd (other refl)
+idle_second home c k (suc zero) again shift keys out m n s t fresh grown old new other rule f g m0 was ps u hand e w may time = rule true f g m0 was ps u hand e w may time
+idle_second home c k (suc (suc i)) again shift keys out m n s t fresh grown old new other rule f g m0 was ps u hand e w may time = absurd (omega (arith, may))

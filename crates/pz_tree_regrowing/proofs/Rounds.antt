@@ -14,7 +14,7 @@ use Rattle.pz_rules.specs.Settings.{Process, left_by, Home}
 use Rattle.pz_rules.specs.Leaving.{replaced, around, residual}
 use Rattle.pz_rules.specs.Places.{MayActIn, MayAct}
 use Rattle.pz_rules.specs.Becoming.{Became}
-use Rattle.pz_tree_standing.specs.FrameCounts.{lost, lost_all}
+use Rattle.pz_tree_standing.specs.FrameCounts.{lost, lost_all, gained, gained_all}
 use Rattle.pz_tree_standing.specs.Heads as heads
 use Rattle.pz_tree_standing.specs.Heads.{inner_clock, inner_frame, formed}
 use Rattle.pz_tree_standing.specs.Standing.{terms_of, HeadFits}
@@ -84,11 +84,11 @@ replanted m m1 n key c x out old mid new clear planted tick p f r st t =
     few None t q = omega (arith, q, tick)
     few (Some p) t q = omega (arith, q, tick, few_nodes c p t.sound.whole)
 
-pub regrown_here : (h : Home) (m n : Map What) (key : Option ℕ) (f c : ℕ) (place : Place) (x : Term) (out : Option ℕ) (s : Seen) (gathered : List ℕ) (old new : ℕ) → place ≡ [] → ReplantRule m n key c x out old new
-    → BareRegrowRule h key f c place x out (at_work m s gathered old) (at_work n s gathered new)
-regrown_here h m n key f c place x out s gathered old new e rule p r st t b may time =
+pub regrown_here : (h : Home) (m n : Map What) (key : Option ℕ) (f c : ℕ) (place : Place) (x : Term) (out : Option ℕ) (s : Seen) (gathered fresh : List ℕ) (old new : ℕ) → place ≡ [] → ReplantRule m n key c x out old new
+    → BareRegrowRule h key f c place x out (at_work m s gathered fresh old) (at_work n s gathered fresh new)
+regrown_here h m n key f c place x out s gathered fresh old new e rule p r st t b may time =
     let o = rule p f r st t in
-    subst (λ z. Regrown h f c p z x out (at_work m s gathered old) (later_by 5 (at_work n s gathered new))) (sym e)
+    subst (λ z. Regrown h f c p z x out (at_work m s gathered fresh old) (later_by 5 (at_work n s gathered fresh new))) (sym e)
     (record {
       plant = o.plant;
       under = o.under;
@@ -96,6 +96,7 @@ regrown_here h m n key f c place x out s gathered old new e rule p r st t b may 
       tended = o.tended f;
       means = record { term = sym o.means; state = refl };
       lost = sym (append_none gathered);
+      gained = sym (append_none fresh);
       ticks = omega (arith, o.ticks);
     })
 
@@ -140,15 +141,15 @@ goes_through h f t i inner s mid last x y z whole within is same b =
       state = b.state ∙ (λ n. record { held = (all n).state; marks = marks n });
     }
 
-pub level_regrown : (h : Home) (m m1 m2 n : Map What) (key : ℕ) (spot_key : Option ℕ) (f c i : ℕ) (place rest : Place) (x : Term) (below left out : Option ℕ) (inner_f inner_c : ℕ) (s mid last : Seen) (gathered found all : List ℕ) (old begun back taken new : ℕ) (head : Head) (keys : List (Option ℕ))
+pub level_regrown : (h : Home) (m m1 m2 n : Map What) (key : ℕ) (spot_key : Option ℕ) (f c i : ℕ) (place rest : Place) (x : Term) (below left out : Option ℕ) (inner_f inner_c : ℕ) (s mid last : Seen) (gathered found all fresh further grown : List ℕ) (old begun back taken new : ℕ) (head : Head) (keys : List (Option ℕ))
     → spot_key ≡ Some key → place ≡ i ∷ rest
     → IsChildOf m spot_key f c i below inner_f inner_c → inner_c ≤ c → begun ≤ old + 1
-    → RegrowRule h below inner_f inner_c rest x left (at_work m s gathered begun) (at_work m1 mid found back)
+    → RegrowRule h below inner_f inner_c rest x left (at_work m s gathered fresh begun) (at_work m1 mid found further back)
     → IsTaken m1 m2 key i left head keys → taken ≡ back + 1
-    → FinishRule h f c key (head_view head) keys i out (at_work m2 mid found taken) (at_work n last all new)
-    → BareRegrowRule h spot_key f c place x out (at_work m s gathered old) (at_work n last all new)
-level_regrown h m m1 m2 n key spot_key f c i place rest x below left out inner_f inner_c s mid last gathered found all old begun back taken new head keys is_key is_place kid sooner begin rule take tick finish None r st t bare may time = absurd (let q : None ≡ Some key = r ∙ is_key in cc)
-level_regrown h m m1 m2 n key spot_key f c i place rest x below left out inner_f inner_c s mid last gathered found all old begun back taken new head keys is_key is_place kid sooner begin rule take tick finish (Some (node k y ps)) r st t bare may time =
+    → FinishRule h f c key (head_view head) keys i out (at_work m2 mid found further taken) (at_work n last all grown new)
+    → BareRegrowRule h spot_key f c place x out (at_work m s gathered fresh old) (at_work n last all grown new)
+level_regrown h m m1 m2 n key spot_key f c i place rest x below left out inner_f inner_c s mid last gathered found all fresh further grown old begun back taken new head keys is_key is_place kid sooner begin rule take tick finish None r st t bare may time = absurd (let q : None ≡ Some key = r ∙ is_key in cc)
+level_regrown h m m1 m2 n key spot_key f c i place rest x below left out inner_f inner_c s mid last gathered found all fresh further grown old begun back taken new head keys is_key is_place kid sooner begin rule take tick finish (Some (node k y ps)) r st t bare may time =
     let hv = head_view y.head in
     let p : Plant = node k y ps in
     let ts = kid_terms hv c ps in
@@ -198,7 +199,7 @@ level_regrown h m m1 m2 n key spot_key f c i place rest x below left out inner_f
     let terms_now : kid_terms hv c qs ≡ replaced ts i xs = kid_terms_with hv c ps i o.plant ∙ ap (λ z. replaced ts i (term_in_option z o.plant)) (sym clocked) in
     let before_is : before hv c qs i (term_at ts i) ≡ whole = ap (λ z. formed hv c (replaced z i (term_at ts i))) terms_now ∙ ap (formed hv c) (replaced_twice ts i xs (term_at ts i) ∙ replaced_same ts i) in
     let after_is : after hv c qs i ≡ xs = ap (λ z. term_at z i) terms_now ∙ replaced_there ts i xs (let v : i < count ts = omega (arith, within, width_terms hv c 0 ps) in v) in
-    let rule_here = subst (λ z. FinishRule h f c key z keys i out (at_work m2 mid found taken) (at_work n last all new)) (sym head_is) finish in
+    let rule_here = subst (λ z. FinishRule h f c key z keys i out (at_work m2 mid found further taken) (at_work n last all grown new)) (sym head_is) finish in
     -- all together
     let inner = residual h (frame_in whole f) (child whole i) rest (left_by s.held x) in
     let inner_is : residual h inner_f (term_in_option inner_c q) rest (left_by s.held x) ≡ inner = λ j. residual h (sym q_frame j) (sym q_term j) rest (left_by s.held x) in
@@ -208,7 +209,7 @@ level_regrown h m m1 m2 n key spot_key f c i place rest x below left out inner_f
     let left_short : IsShort inner.term = residual_short h (frame_in whole f) (child whole i) rest (left_by s.held x) inner_short time.part in
     let z = rule_here m (has p) qs (term_at ts i) in_hand keys_are (let v : i < width qs = omega (arith, within, width_with_kid ps i o.plant) in v) (subst (λ v. MayActIn v i) (sym before_is) may_act.0)
     (record { room = time.room; short = subst IsShort (sym before_is) time.short; part = subst IsShort (sym term_is) left_short }) in
-    subst (λ v. Regrown h f c (Some p) v x out (at_work m s gathered old) (later_by 5 (at_work n last all new))) (sym is_place)
+    subst (λ v. Regrown h f c (Some p) v x out (at_work m s gathered fresh old) (later_by 5 (at_work n last all grown new))) (sym is_place)
     (record {
       plant = z.plant;
       under = z.under;
@@ -217,6 +218,8 @@ level_regrown h m m1 m2 n key spot_key f c i place rest x below left out inner_f
       means = goes_through h f whole i inner s mid last xs (after hv c qs i) (term_in_option c z.plant) (before hv c qs i (term_at ts i)) went after_is before_is z.means;
       lost = z.lost ∙ (λ j. o.lost j ++ lost (before_is j) i (term_is j)) ∙ append_assoc gathered (lost_all h inner_f (term_in_option inner_c q) rest (left_by s.held x)) (lost whole i inner.term)
           ∙ (λ j. gathered ++ (lost_all h (sym q_frame j) (sym q_term j) rest (left_by s.held x) ++ lost whole i inner.term));
+      gained = z.gained ∙ (λ j. o.gained j ++ gained h (state_is j) (before_is j) i (term_is j)) ∙ append_assoc fresh (gained_all h inner_f (term_in_option inner_c q) rest (left_by s.held x)) (gained h inner.state whole i inner.term)
+          ∙ (λ j. fresh ++ (gained_all h (sym q_frame j) (sym q_term j) rest (left_by s.held x) ++ gained h inner.state whole i inner.term));
       ticks =
           let a : on_way (term_in_option inner_c q) rest ≡ on_way (child whole i) rest = ap (λ v. on_way v rest) (sym q_term) in
           let b : made_all h inner_f (term_in_option inner_c q) rest (left_by s.held x) ≡ made_all h (frame_in whole f) (child whole i) rest (left_by s.held x) = λ j. made_all h (sym q_frame j) (sym q_term j) rest (left_by s.held x) in
@@ -228,14 +231,14 @@ level_regrown h m m1 m2 n key spot_key f c i place rest x below left out inner_f
     })
 
 -- a node stays under its key while a part of it becomes another, so it is found there
-pub none_taken : (h : Home) (m m1 n : Map What) (key : ℕ) (spot_key : Option ℕ) (f c i : ℕ) (place rest : Place) (x : Term) (below left out : Option ℕ) (inner_f inner_c : ℕ) (s mid last : Seen) (gathered found all : List ℕ) (old begun back new : ℕ)
+pub none_taken : (h : Home) (m m1 n : Map What) (key : ℕ) (spot_key : Option ℕ) (f c i : ℕ) (place rest : Place) (x : Term) (below left out : Option ℕ) (inner_f inner_c : ℕ) (s mid last : Seen) (gathered found all fresh further grown : List ℕ) (old begun back new : ℕ)
     → spot_key ≡ Some key → place ≡ i ∷ rest
     → IsChildOf m spot_key f c i below inner_f inner_c → inner_c ≤ c
-    → RegrowRule h below inner_f inner_c rest x left (at_work m s gathered begun) (at_work m1 mid found back)
+    → RegrowRule h below inner_f inner_c rest x left (at_work m s gathered fresh begun) (at_work m1 mid found further back)
     → m1 key ≡ None
-    → BareRegrowRule h spot_key f c place x out (at_work m s gathered old) (at_work n last all new)
-none_taken h m m1 n key spot_key f c i place rest x below left out inner_f inner_c s mid last gathered found all old begun back new is_key is_place kid sooner rule vacant None r st t bare may time = absurd (let q : None ≡ Some key = r ∙ is_key in cc)
-none_taken h m m1 n key spot_key f c i place rest x below left out inner_f inner_c s mid last gathered found all old begun back new is_key is_place kid sooner rule vacant (Some (node k y ps)) r st t bare may time =
+    → BareRegrowRule h spot_key f c place x out (at_work m s gathered fresh old) (at_work n last all grown new)
+none_taken h m m1 n key spot_key f c i place rest x below left out inner_f inner_c s mid last gathered found all fresh further grown old begun back new is_key is_place kid sooner rule vacant None r st t bare may time = absurd (let q : None ≡ Some key = r ∙ is_key in cc)
+none_taken h m m1 n key spot_key f c i place rest x below left out inner_f inner_c s mid last gathered found all fresh further grown old begun back new is_key is_place kid sooner rule vacant (Some (node k y ps)) r st t bare may time =
     let hv = head_view y.head in
     let whole = formed hv c (kid_terms hv c ps) in
     let may_act : MayActIn whole i × MayAct (child whole i) rest = subst (λ z. MayAct whole z) is_place may in
@@ -270,51 +273,52 @@ one_rule home f c k h keys i left out a b one is rule m0 was ps t hand e w may t
     rule m0 was ps t hand (one_key ps keys (sym (width_seen ps) ∙ one ps hand.parts) e ∙ ap (λ z. z ∷ []) (sym is)) w may time
 
 -- of an interrupt whose first part stands still
-pub handling_second : (home : Home) (c k number : ℕ) (again : Step) (shift : ShiftView) (keys : List (Option ℕ)) (out : Option ℕ) (m n : Map What) (s t : Seen) (old new : ℕ)
-    → SecondRule home c k again shift keys out m n s t old new → ChangingRule home c k (heads.handling again shift) keys number out m n s t old new
-handling_second home c k zero again shift keys out m n s t old new rule f g m0 was ps u hand e w may time = absurd (omega (arith, may))
-handling_second home c k (suc zero) again shift keys out m n s t old new rule f g m0 was ps u hand e w may time = rule false f g m0 was ps u hand e w may time
-handling_second home c k (suc (suc i)) again shift keys out m n s t old new rule f g m0 was ps u hand e w may time = absurd (omega (arith, may))
+pub handling_second : (home : Home) (c k number : ℕ) (again : Step) (shift : ShiftView) (keys : List (Option ℕ)) (out : Option ℕ) (m n : Map What) (s t : Seen) (fresh grown : List ℕ) (old new : ℕ)
+    → SecondRule home c k again shift keys out m n s t fresh grown old new → ChangingRule home c k (heads.handling again shift) keys number out m n s t fresh grown old new
+handling_second home c k zero again shift keys out m n s t fresh grown old new rule f g m0 was ps u hand e w may time = absurd (omega (arith, may))
+handling_second home c k (suc zero) again shift keys out m n s t fresh grown old new rule f g m0 was ps u hand e w may time = rule false f g m0 was ps u hand e w may time
+handling_second home c k (suc (suc i)) again shift keys out m n s t fresh grown old new rule f g m0 was ps u hand e w may time = absurd (omega (arith, may))
 
 -- ------------------------------------------------------------ a shift node on top
 
-soon : (h : Home) (f c : ℕ) (p : Option Plant) (place : Place) (x : Term) (out : Option ℕ) (m n : Map What) (s t : Seen) (lost found : List ℕ) (old begun new : ℕ) → begun ≤ old + 1
-    → Regrown h f c p place x out (at_work m s lost begun) (later_by 5 (at_work n t found new)) → Regrown h f c p place x out (at_work m s lost old) (at_work n t found new)
-soon h f c p place x out m n s t lost found old begun new le r = record {
+soon : (h : Home) (f c : ℕ) (p : Option Plant) (place : Place) (x : Term) (out : Option ℕ) (m n : Map What) (s t : Seen) (lost found fresh grown : List ℕ) (old begun new : ℕ) → begun ≤ old + 1
+    → Regrown h f c p place x out (at_work m s lost fresh begun) (later_by 5 (at_work n t found grown new)) → Regrown h f c p place x out (at_work m s lost fresh old) (at_work n t found grown new)
+soon h f c p place x out m n s t lost found fresh grown old begun new le r = record {
   plant = r.plant;
   under = r.under;
   becomes = r.becomes;
   tended = r.tended;
   means = r.means;
   lost = r.lost;
+  gained = r.gained;
   ticks = omega (arith, le, r.ticks);
 }
 
-pub none_regrown : (h : Home) (key : Option ℕ) (f c : ℕ) (place : Place) (x : Term) (out : Option ℕ) (m n : Map What) (s t : Seen) (lost found : List ℕ) (old new : ℕ) → key ≡ None
-    → BareRegrowRule h key f c place x out (at_work m s lost old) (at_work n t found new) → RegrowRule h key f c place x out (at_work m s lost old) (at_work n t found new)
-none_regrown h key f c place x out m n s t lost found old new e rule None r st u may time = soon h f c None place x out m n s t lost found old old new (omega arith) (rule None r st u tt may time)
-none_regrown h key f c place x out m n s t lost found old new e rule (Some p) r st u may time = absurd (let q : Some (root p) ≡ None = r ∙ e in cc)
+pub none_regrown : (h : Home) (key : Option ℕ) (f c : ℕ) (place : Place) (x : Term) (out : Option ℕ) (m n : Map What) (s t : Seen) (lost found fresh grown : List ℕ) (old new : ℕ) → key ≡ None
+    → BareRegrowRule h key f c place x out (at_work m s lost fresh old) (at_work n t found grown new) → RegrowRule h key f c place x out (at_work m s lost fresh old) (at_work n t found grown new)
+none_regrown h key f c place x out m n s t lost found fresh grown old new e rule None r st u may time = soon h f c None place x out m n s t lost found fresh grown old old new (omega arith) (rule None r st u tt may time)
+none_regrown h key f c place x out m n s t lost found fresh grown old new e rule (Some p) r st u may time = absurd (let q : Some (root p) ≡ None = r ∙ e in cc)
 
-pub bare_regrown : (h : Home) (spot_key : Option ℕ) (key f c : ℕ) (place : Place) (x : Term) (out : Option ℕ) (m n : Map What) (s t : Seen) (lost found : List ℕ) (old begun new : ℕ) → spot_key ≡ Some key → IsNoShiftAt m key → begun ≡ old + 1
-    → BareRegrowRule h spot_key f c place x out (at_work m s lost begun) (at_work n t found new) → RegrowRule h spot_key f c place x out (at_work m s lost old) (at_work n t found new)
-bare_regrown h spot_key key f c place x out m n s t gathered found old begun new e other tick rule None r st u may time = absurd (let q : None ≡ Some key = r ∙ e in cc)
-bare_regrown h spot_key key f c place x out m n s t gathered found old begun new e other tick rule (Some (node k y ps)) r st u may time =
+pub bare_regrown : (h : Home) (spot_key : Option ℕ) (key f c : ℕ) (place : Place) (x : Term) (out : Option ℕ) (m n : Map What) (s t : Seen) (lost found fresh grown : List ℕ) (old begun new : ℕ) → spot_key ≡ Some key → IsNoShiftAt m key → begun ≡ old + 1
+    → BareRegrowRule h spot_key f c place x out (at_work m s lost fresh begun) (at_work n t found grown new) → RegrowRule h spot_key f c place x out (at_work m s lost fresh old) (at_work n t found grown new)
+bare_regrown h spot_key key f c place x out m n s t gathered found fresh grown old begun new e other tick rule None r st u may time = absurd (let q : None ≡ Some key = r ∙ e in cc)
+bare_regrown h spot_key key f c place x out m n s t gathered found fresh grown old begun new e other tick rule (Some (node k y ps)) r st u may time =
     let here : k ≡ key = (let q : Some k ≡ Some key = r ∙ e in cc) in
     let bare : IsNoShift (head_view y.head) = other (record { what = y; kids = roots ps }) (ap m (sym here) ∙ st.0) in
-    soon h f c (Some (node k y ps)) place x out m n s t gathered found old begun new (omega (arith, tick)) (rule (Some (node k y ps)) r st u bare may time)
+    soon h f c (Some (node k y ps)) place x out m n s t gathered found fresh grown old begun new (omega (arith, tick)) (rule (Some (node k y ps)) r st u bare may time)
 
-one_shift : (h : Home) (m m1 n : Map What) (key f c : ℕ) (place : Place) (x : Term) (left out : Option ℕ) (s t : Seen) (lost found : List ℕ) (old begun back new : ℕ) (by : ℕ) (below : Option ℕ) (y : What) (shift : ShiftView) (ps : Plants)
+one_shift : (h : Home) (m m1 n : Map What) (key f c : ℕ) (place : Place) (x : Term) (left out : Option ℕ) (s t : Seen) (lost found fresh grown : List ℕ) (old begun back new : ℕ) (by : ℕ) (below : Option ℕ) (y : What) (shift : ShiftView) (ps : Plants)
     → head_view y.head ≡ heads.shifted shift → OneInside (shapes_of ps) → ShiftFits shift c × (is_running shift ≡ true) → KidsTended f (heads.shifted shift) c 0 ps
     → by ≡ shift.behind → below ≡ slice_index_or (roots ps) 0 None → begun ≡ old + 1
     → Stands m (node key y ps) → MayAct (term_in c (node key y ps)) place → InTime c (term_in c (node key y ps)) x
-    → BareRegrowRule h below f (c - by) place x left (at_work m s lost begun) (at_work m1 t found back)
+    → BareRegrowRule h below f (c - by) place x left (at_work m s lost fresh begun) (at_work m1 t found grown back)
     → ShiftRule m1 n key by c left out back new
-    → Regrown h f c (Some (node key y ps)) place x out (at_work m s lost old) (at_work n t found new)
-one_shift h m m1 n key f c place x left out s t lost found old begun back new by below y shift none is parts fits kids b e tick st may time rule over = absurd parts
-one_shift h m m1 n key f c place x left out s t lost found old begun back new by below y shift (gone ps) is parts fits kids b e tick st may time rule over = absurd parts
-one_shift h m m1 n key f c place x left out s t lost found old begun back new by below y shift (more (node k z qs) (gone ps)) is parts fits kids b e tick st may time rule over = absurd parts
-one_shift h m m1 n key f c place x left out s t lost found old begun back new by below y shift (more (node k z qs) (more u ps)) is parts fits kids b e tick st may time rule over = absurd parts
-one_shift h m m1 n key f c place x left out s t lost found old begun back new by below y shift (more (node k z qs) none) is parts fits kids b e tick st may time rule over =
+    → Regrown h f c (Some (node key y ps)) place x out (at_work m s lost fresh old) (at_work n t found grown new)
+one_shift h m m1 n key f c place x left out s t lost found fresh grown old begun back new by below y shift none is parts fits kids b e tick st may time rule over = absurd parts
+one_shift h m m1 n key f c place x left out s t lost found fresh grown old begun back new by below y shift (gone ps) is parts fits kids b e tick st may time rule over = absurd parts
+one_shift h m m1 n key f c place x left out s t lost found fresh grown old begun back new by below y shift (more (node k z qs) (gone ps)) is parts fits kids b e tick st may time rule over = absurd parts
+one_shift h m m1 n key f c place x left out s t lost found fresh grown old begun back new by below y shift (more (node k z qs) (more u ps)) is parts fits kids b e tick st may time rule over = absurd parts
+one_shift h m m1 n key f c place x left out s t lost found fresh grown old begun back new by below y shift (more (node k z qs) none) is parts fits kids b e tick st may time rule over =
     let q : Plant = node k z qs in
     let p : Plant = node key y (more q none) in
     let clock : local shift c ≡ c - by = thawed_local shift c fits.0 ∙ ap (λ v. c - v) (runs_as shift c fits.1 ∙ sym b) in
@@ -334,25 +338,26 @@ one_shift h m m1 n key f c place x left out s t lost found old begun back new by
       tended = w.tended;
       means = record { term = w.means ∙ o.means.term ∙ ap (λ (v : Process). v.term) inner; state = o.means.state ∙ ap (λ (v : Process). changed s v.state) inner };
       lost = o.lost ∙ ap (λ v. lost ++ lost_all h f v place (left_by s.held x)) (sym means);
+      gained = o.gained ∙ ap (λ v. fresh ++ gained_all h f v place (left_by s.held x)) (sym means);
       ticks =
           let a : steps_for h f (term_in (c - by) q) place s x ≡ steps_for h f (term_in c p) place s x = ap (λ v. steps_for h f v place s x) (sym means) in
           omega (arith, tick, o.ticks, w.ticks, a);
     }
 
-pub shift_regrown : (h : Home) (m m1 n : Map What) (spot_key : Option ℕ) (key f c : ℕ) (place : Place) (x : Term) (left out : Option ℕ) (s t : Seen) (lost found : List ℕ) (old begun back new by inner_c : ℕ) (below : Option ℕ)
+pub shift_regrown : (h : Home) (m m1 n : Map What) (spot_key : Option ℕ) (key f c : ℕ) (place : Place) (x : Term) (left out : Option ℕ) (s t : Seen) (lost found fresh grown : List ℕ) (old begun back new by inner_c : ℕ) (below : Option ℕ)
     → spot_key ≡ Some key → IsShiftAt m key c by below → begun ≡ old + 1 → inner_c ≡ c - by
-    → BareRegrowRule h below f inner_c place x left (at_work m s lost begun) (at_work m1 t found back)
+    → BareRegrowRule h below f inner_c place x left (at_work m s lost fresh begun) (at_work m1 t found grown back)
     → ShiftRule m1 n key by c left out back new
-    → RegrowRule h spot_key f c place x out (at_work m s lost old) (at_work n t found new)
-shift_regrown h m m1 n spot_key key f c place x left out s t lost found old begun back new by inner_c below e at tick clock rule over None r st u may time = absurd (let q : None ≡ Some key = r ∙ e in cc)
-shift_regrown h m m1 n spot_key key f c place x left out s t lost found old begun back new by inner_c below e at tick clock rule over (Some (node k y ps)) r st u may time =
+    → RegrowRule h spot_key f c place x out (at_work m s lost fresh old) (at_work n t found grown new)
+shift_regrown h m m1 n spot_key key f c place x left out s t lost found fresh grown old begun back new by inner_c below e at tick clock rule over None r st u may time = absurd (let q : None ≡ Some key = r ∙ e in cc)
+shift_regrown h m m1 n spot_key key f c place x left out s t lost found fresh grown old begun back new by inner_c below e at tick clock rule over (Some (node k y ps)) r st u may time =
     let here : key ≡ k = (let q : Some k ≡ Some key = r ∙ e in cc) in
     let same : at.was ≡ record { what = y; kids = roots ps } = same_node at.was (record { what = y; kids = roots ps }) (sym at.stands ∙ ap m here ∙ st.0) in
     let is : head_view y.head ≡ heads.shifted at.shift = ap (λ z. head_view z.what.head) (sym same) ∙ ap head_view at.is in
     let fits : ShiftFits at.shift c × (is_running at.shift ≡ true) = subst (λ v. HeadFits v c) is u.sound.fits.0 in
-    one_shift h m m1 n k f c place x left out s t lost found old begun back new by below y at.shift ps is
+    one_shift h m m1 n k f c place x left out s t lost found fresh grown old begun back new by below y at.shift ps is
     (subst (λ v. HasParts v (shapes_of ps)) is u.sound.whole.0) fits
     (subst (λ v. KidsTended (inner_frame v f) v c 0 ps) is (node_kids f c k y ps u))
     (at.behind fits.0 ∙ runs_as at.shift c fits.1) (at.child ∙ ap (λ z. slice_index_or z.kids 0 None) same) tick st may time
-    (subst (λ v. BareRegrowRule h below f v place x left (at_work m s lost begun) (at_work m1 t found back)) clock rule)
+    (subst (λ v. BareRegrowRule h below f v place x left (at_work m s lost fresh begun) (at_work m1 t found grown back)) clock rule)
     (subst (λ v. ShiftRule m1 n v by c left out back new) here over)

@@ -147,7 +147,7 @@ shift_left m m1 n k kid behind c by both left below out old mid last new e shift
 pub guard_acts : (c k i : ℕ) (test : Rattle.pz_rules.specs.Terms.Code) (at : Rattle.pz_syntax.specs.declared.tokens.Pos.Pos) (shift : ShiftView) (keys : List (Option ℕ)) (left out : Option ℕ) (m n : Map What) (behind old new : ℕ)
     → (ShiftFits shift c → behind ≡ behind_since shift.behind shift.since c) → left ≡ slice_index_or keys 0 None → ShiftRule m n k behind c left out old new
     → StillRule c k (heads.guarded test at shift) keys i out m n old new
-guard_acts c k i test at shift keys left out m n behind old new is_behind is_left rule home f s g m0 was ps t hand e w may time =
+guard_acts c k i test at shift keys left out m n behind old new is_behind is_left rule home f s g fresh m0 was ps t hand e w may time =
     let h = heads.guarded test at shift in
     let x = pick ps 0 in
     let behind_is = is_behind hand.fits in
@@ -159,7 +159,7 @@ guard_acts c k i test at shift keys left out m n behind old new is_behind is_lef
     let short : IsShort (term_in_option (c - behind) x) = subst IsShort below (subst (λ z. IsShort (after h c ps z)) may time.part) in
     let o = rule m0 was f x holds under fits (subst (λ z. TendedOption f z x) shows (picked_tended f h c 0 ps 0 hand.tended)) time.room short in
     let is : after h c ps 0 ≡ term_in_option c o.plant = below ∙ sym o.means in
-    subst (λ z. Rattle.pz_tree_regrowing.specs.devices.Levels.Finished home f c m0 was h ps z t out (record { map = m; state = s; lost = g; steps = old }) (record { map = n; state = s; lost = g; steps = new })) (sym may)
+    subst (λ z. Rattle.pz_tree_regrowing.specs.devices.Levels.Finished home f c m0 was h ps z t out (Rattle.pz_tree_regrowing.specs.Regrowing.at_work m s g fresh old) (Rattle.pz_tree_regrowing.specs.Regrowing.at_work n s g fresh new)) (sym may)
     (record {
       plant = o.plant;
       under = o.under;
@@ -167,5 +167,6 @@ guard_acts c k i test at shift keys left out m n behind old new is_behind is_lef
       tended = o.tended;
       means = in_place (left_by s.held (after h c ps 0)) (term_in_option c o.plant) s (ap (left_by s.held) is);
       lost = sym (append_none g);
+      gained = sym (append_none fresh);
       ticks = omega (arith, o.ticks);
     })

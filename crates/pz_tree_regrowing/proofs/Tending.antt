@@ -14,7 +14,7 @@ use Rattle.pz_tree_summary.proofs.Unasked.{or_neither, unasked_is_steady}
 use Rattle.pz_tree_standing.specs.Heads.{Head, leaf, wait, sequence, parallel, select, guarded, frame, abort, idle, handling, shifted, Shapes, inner_clock, inner_frame, formed}
 use Rattle.pz_tree_standing.specs.Heads as heads
 use Rattle.pz_tree_standing.specs.Standing.{terms_of, HeadFits}
-use Rattle.pz_tree_standing.specs.Resting.{Rests, RestAll}
+use Rattle.pz_tree_standing.specs.Resting.{RestAll}
 use Rattle.pz_tree_standing.specs.Whole.{IsNoShift, HasParts, Whole}
 use Rattle.pz_tree_standing.specs.devices.Written as written
 use Rattle.pz_tree_standing.specs.devices.Written.{node_summary}

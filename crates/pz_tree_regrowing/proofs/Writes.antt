@@ -79,6 +79,10 @@ pub both_ok : {T E : Type 0} (r : Result T E) (P R : T → Type 0) (Q : Type 0) 
 both_ok (Ok x) P R Q f p q = f x p q
 both_ok (Err e) P R Q f p q = tt
 
+pub three_ok : {T E : Type 0} (r : Result T E) (P R : T → Type 0) (Q S : Type 0) → ((x : T) → P x → Q → S → R x) → IfOk r P → OnOk r Q → OnOk r S → IfOk r R
+three_ok (Ok x) P R Q S f p q s = f x p q s
+three_ok (Err e) P R Q S f p q s = tt
+
 pub is_gone : (o : Option ℕ) (b : Bool) → is_some o ≡ not b → b ≡ true → o ≡ None
 is_gone None b e h = refl
 is_gone (Some k) true e h = absurd cc

@@ -9,7 +9,7 @@ use Rattle.pz_rules.specs.Settings.{left_by, Home}
 use Rattle.pz_rules.specs.Leaving.{residual}
 use Rattle.pz_rules.specs.Places.{MayAct}
 use Rattle.pz_rules.specs.Becoming.{Became}
-use Rattle.pz_tree_standing.specs.FrameCounts.{lost_all}
+use Rattle.pz_tree_standing.specs.FrameCounts.{lost_all, gained_all}
 use Rattle.pz_tree_nodes.specs.declared.node.What.{What}
 use Rattle.pz_tree_nodes.specs.View.{Plant, term_in_option}
 use Rattle.pz_tree_nodes.specs.Tended.{TendedOption}
@@ -18,15 +18,17 @@ use Rattle.pz_rules_delays.specs.Short.{IsShort}
 use Rattle.pz_tree_refreshing.specs.Refreshing.{HasRoom}
 use Rattle.pz_tree_regrowing.specs.Costs.{on_way, made_all, dropped_all}
 
--- what a call works on: the nodes, the state, the frames that stand no longer, and the steps that were taken
+-- what a call works on: the nodes, the state, the frames that stand no longer and those that have opened, and the steps
+-- that were taken
 pub record Work : Type 0 where
   pub map : Map What
   pub state : Seen
   pub lost : List ℕ
+  pub gained : List ℕ
   pub steps : ℕ
 
-abbrev pub at_work : Map What → Seen → List ℕ → ℕ → Work
-at_work m s lost steps = record { map = m; state = s; lost = lost; steps = steps }
+abbrev pub at_work : Map What → Seen → List ℕ → List ℕ → ℕ → Work
+at_work m s lost gained steps = record { map = m; state = s; lost = lost; gained = gained; steps = steps }
 
 abbrev pub StandsOption : Map What → Option Plant → Type 0
 StandsOption m None = Unit {0}
@@ -35,12 +37,12 @@ StandsOption m (Some p) = Stands m p
 -- at most so many steps for each part on the way to the place, made and dropped
 abbrev pub steps_for : Home → ℕ → Term → Place → Seen → Term → ℕ
 steps_for h f t place s x =
-    12 * on_way t place + made_all h f t place (left_by s.held x) + 2 * dropped_all h f t place (left_by s.held x)
+    11 * on_way t place + made_all h f t place (left_by s.held x) + 2 * dropped_all h f t place (left_by s.held x)
 
 -- Of a term in frame f whose clock shows c, the part at the place has become x. Under the key that is handed out
 -- stands what stands for what that leaves, in the state that it leaves, and it is tended. All its keys were used
 -- by the term before or had no node, and nothing else has changed. The frames that stand no longer come behind
--- those that were handed out before.
+-- those that were handed out before, and so do those that stand in what has opened.
 pub record Regrown (h : Home) (f c : ℕ) (p : Option Plant) (place : Place) (x : Term) (out : Option ℕ) (a b : Work) : Type 0 where
   pub plant : Option Plant
   pub under : root_of plant ≡ out
@@ -48,6 +50,7 @@ pub record Regrown (h : Home) (f c : ℕ) (p : Option Plant) (place : Place) (x 
   pub tended : TendedOption f c plant
   pub means : Became (residual h f (term_in_option c p) place (left_by a.state.held x)) (term_in_option c plant) a.state b.state
   pub lost : b.lost ≡ a.lost ++ lost_all h f (term_in_option c p) place (left_by a.state.held x)
+  pub gained : b.gained ≡ a.gained ++ gained_all h f (term_in_option c p) place (left_by a.state.held x)
   pub ticks : b.steps ≤ a.steps + steps_for h f (term_in_option c p) place a.state x
 
 -- No delay that has begun has 2^64 clock units left, in the term or in what its part has become, and there is room for

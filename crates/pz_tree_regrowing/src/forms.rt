@@ -13,6 +13,7 @@ ghost use Rattle.pz_tree_regrowing.specs.devices.Levels.{FinishRule, StillRule, 
 use crate::clocks::{freeze, thaw};
 use crate::keeping::{abort_kept, handling_kept, idle_kept, parallel_kept, sequence_kept};
 use crate::nodes::{kept_of, kept_of_all, kid_in, release, write};
+use crate::opening::plant_opened;
 use pz_classes_code::Step;
 use pz_clock::Shift;
 use pz_items::Shared;
@@ -23,7 +24,6 @@ use pz_rules::Rest;
 use pz_state::{FrameId, State};
 use pz_tree_dropping::drop_parts;
 use pz_tree_nodes::{Head, Node};
-use pz_tree_planting::plant;
 use std::alloc::{AllocError, Global};
 use std::sync::ledger::Ledger;
 
@@ -37,16 +37,17 @@ pub(crate) fn finish_sequence<L: Ledger>(
     rest: Rest,
     left: Option<Key>,
     state: &mut State,
+    gained: &mut Vec<u64>,
     steps: &mut Steps<L>,
 ) -> Result<Option<Key>, AllocError>
     ensures { IfOk result (λ out. (i : ℕ) → ChangingRule (home_view home.now) clock key
         (heads.sequence (sequence_view rest)) (left ∷ []) i out (find nodes.old) (find nodes.new)
-        state.old state.new steps.old steps.new) }
+        state.old state.new gained.old.items gained.new.items steps.old steps.new) }
 {
     if left.is_none() {
         release(nodes, key, steps);
         let term = open_rest(alloc, home, rest, state)?;
-        return plant(alloc, nodes, term, clock, steps);
+        return plant_opened(alloc, nodes, term, clock, gained, steps);
     }
     let part = kept_of(nodes, left, steps);
     let kept = sequence_kept(&part)?;
@@ -170,13 +171,15 @@ fn resume<L: Ledger>(
     shift: Shift,
     first: Option<Key>,
     state: &mut State,
+    gained: &mut Vec<u64>,
     steps: &mut Steps<L>,
 ) -> Result<Option<Key>, AllocError>
     ensures { IfOk result (λ out. ResumeRule (home_view home.now) clock key (view again) shift first out
-        (find nodes.old) (find nodes.new) state.old state.new steps.old steps.new) }
+        (find nodes.old) (find nodes.new) state.old state.new gained.old.items gained.new.items steps.old
+        steps.new) }
 {
     let term = open_step(alloc, home, again.get(), state)?;
-    let second = plant(alloc, nodes, term, clock, steps)?;
+    let second = plant_opened(alloc, nodes, term, clock, gained, steps)?;
     let shift = thaw(&shift, clock);
     let first_kept = kept_of(nodes, first, steps);
     let second_kept = kept_of(nodes, second, steps);
@@ -219,15 +222,17 @@ pub(crate) fn finish_second<L: Ledger>(
     shift: Shift,
     kids: Kids,
     state: &mut State,
+    gained: &mut Vec<u64>,
     steps: &mut Steps<L>,
 ) -> Result<Option<Key>, AllocError>
     ensures { IfOk result (λ out. SecondRule (home_view home.now) clock key (view again) shift kids out
-        (find nodes.old) (find nodes.new) state.old state.new steps.old steps.new) }
+        (find nodes.old) (find nodes.new) state.old state.new gained.old.items gained.new.items steps.old
+        steps.new) }
 {
     if kid_in(&kids, 1).is_none() {
         let first = kid_in(&kids, 0);
         return resume(
-            alloc, home, nodes, key, clock, again, shift, first, state, steps,
+            alloc, home, nodes, key, clock, again, shift, first, state, gained, steps,
         );
     }
     suspend(nodes, key, clock, again, shift, kids, steps)

@@ -1,6 +1,6 @@
 // A frame round what a part has become.
 
-ghost use Rattle.std.specs.Prelude.{◌≡◌, ◌≤◌, ◌+◌, ◌∷◌, [], ℕ, IfOk};
+ghost use Rattle.std.specs.Prelude.{◌≡◌, ◌≤◌, ◌+◌, ◌∷◌, [], ℕ, List, IfOk};
 ghost use Rattle.pz_nodes.specs.Arena.{find};
 ghost use Rattle.pz_tree_nodes.specs.View.{head_view};
 ghost use Rattle.pz_tree_dropping.specs.Dropping.{numbers};
@@ -78,10 +78,10 @@ fn end_frame<L: Ledger>(
     lost: &mut Vec<FrameId>,
     steps: &mut Steps<L>,
 ) -> Result<Option<Key>, AllocError>
-    ensures { IfOk result (λ out. (home : Home) (c i : ℕ) → FinishRule home outer.0 c key
+    ensures { IfOk result (λ out. (home : Home) (c i : ℕ) (fresh : List ℕ) → FinishRule home outer.0 c key
         (frame call.own.0 call.inputs call.results) (None ∷ []) i out
-        (at_work (find nodes.old) state.old (numbers lost.old.items) steps.old)
-        (at_work (find nodes.new) state.new (numbers lost.new.items) steps.new)) }
+        (at_work (find nodes.old) state.old (numbers lost.old.items) fresh steps.old)
+        (at_work (find nodes.new) state.new (numbers lost.new.items) fresh steps.new)) }
 {
     release(nodes, key, steps);
     let Call {
@@ -142,10 +142,10 @@ pub(crate) fn finish_frame<L: Ledger>(
     lost: &mut Vec<FrameId>,
     steps: &mut Steps<L>,
 ) -> Result<Option<Key>, AllocError>
-    ensures { IfOk result (λ out. (home : Home) (c i : ℕ) → FinishRule home outer.0 c key
+    ensures { IfOk result (λ out. (home : Home) (c i : ℕ) (fresh : List ℕ) → FinishRule home outer.0 c key
         (frame call.own.0 call.inputs call.results) (left ∷ []) i out
-        (at_work (find nodes.old) state.old (numbers lost.old.items) steps.old)
-        (at_work (find nodes.new) state.new (numbers lost.new.items) steps.new)) }
+        (at_work (find nodes.old) state.old (numbers lost.old.items) fresh steps.old)
+        (at_work (find nodes.new) state.new (numbers lost.new.items) fresh steps.new)) }
 {
     match left {
         None => end_frame(alloc, nodes, key, outer, call, state, lost, steps),

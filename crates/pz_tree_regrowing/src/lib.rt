@@ -5,8 +5,11 @@ mod clocks;
 mod forms;
 mod frames;
 mod keeping;
+mod listing;
 mod nodes;
+mod opening;
 mod regrowing;
 mod shifts;
 
+pub use listing::list_frames;
 pub use regrowing::regrow;

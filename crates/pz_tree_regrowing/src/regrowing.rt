@@ -45,18 +45,19 @@ fn finish_idle<L: Ledger>(
     kids: Kids,
     state: &mut State,
     lost: &mut Vec<FrameId>,
+    gained: &mut Vec<u64>,
     steps: &mut Steps<L>,
 ) -> Result<Option<Key>, AllocError>
     ensures { IfOk result (λ out. (f : ℕ) → FinishRule (home_view home.now) f clock key
         (idle (view again) shift) kids number out
-        (at_work (find nodes.old) state.old (numbers lost.old.items) steps.old)
-        (at_work (find nodes.new) state.new (numbers lost.new.items) steps.new)) }
+        (at_work (find nodes.old) state.old (numbers lost.old.items) gained.old.items steps.old)
+        (at_work (find nodes.new) state.new (numbers lost.new.items) gained.new.items steps.new)) }
 {
     if number == 0 {
         return finish_first(nodes, key, again, shift, kids, lost, steps);
     }
     finish_second(
-        alloc, home, nodes, key, clock, again, shift, kids, state, steps,
+        alloc, home, nodes, key, clock, again, shift, kids, state, gained, steps,
     )
 }
 
@@ -71,12 +72,13 @@ fn finish<L: Ledger>(
     taken: Taken,
     state: &mut State,
     lost: &mut Vec<FrameId>,
+    gained: &mut Vec<u64>,
     steps: &mut Steps<L>,
 ) -> Result<Option<Key>, AllocError>
     ensures { IfOk result (λ out. FinishRule (home_view home.now) spot.frame.0 spot.clock key
         (head_view taken.head) taken.kids number out
-        (at_work (find nodes.old) state.old (numbers lost.old.items) steps.old)
-        (at_work (find nodes.new) state.new (numbers lost.new.items) steps.new)) }
+        (at_work (find nodes.old) state.old (numbers lost.old.items) gained.old.items steps.old)
+        (at_work (find nodes.new) state.new (numbers lost.new.items) gained.new.items steps.new)) }
 {
     let clock = spot.clock;
     let Taken { head, kids } = taken;
@@ -85,7 +87,7 @@ fn finish<L: Ledger>(
         // Nothing acts below these.
         Head::Leaf(_) | Head::Wait { .. } | Head::Shifted(_) => Ok(None),
         Head::Seq(rest) => finish_sequence(
-            alloc, home, nodes, key, clock, rest, first, state, steps,
+            alloc, home, nodes, key, clock, rest, first, state, gained, steps,
         ),
         Head::Par => finish_parallel(nodes, key, kids, steps),
         Head::Sel => leave_alone(nodes, key, kids, number, lost, steps),
@@ -109,10 +111,10 @@ fn finish<L: Ledger>(
         }
         Head::Abort => finish_abort(nodes, key, kids, number, lost, steps),
         Head::Idle(again, shift) => finish_idle(
-            alloc, home, nodes, key, clock, number, again, shift, kids, state, lost, steps,
+            alloc, home, nodes, key, clock, number, again, shift, kids, state, lost, gained, steps,
         ),
         Head::Handling(again, shift) => finish_second(
-            alloc, home, nodes, key, clock, again, shift, kids, state, steps,
+            alloc, home, nodes, key, clock, again, shift, kids, state, gained, steps,
         ),
     }
 }
@@ -154,13 +156,14 @@ fn regrow_bare<L: Ledger>(
     part: Term,
     state: &mut State,
     lost: &mut Vec<FrameId>,
+    gained: &mut Vec<u64>,
     steps: &mut Steps<L>,
 ) -> Result<Option<Key>, AllocError>
     requires { EndsInTime spot.clock (term_view part) }
     ensures { IfOk result (λ out. BareRegrowRule (home_view home.now) spot.key spot.frame.0 spot.clock
         place.now (term_view part) out
-        (at_work (find nodes.old) state.old (numbers lost.old.items) steps.old)
-        (at_work (find nodes.new) state.new (numbers lost.new.items) steps.new)) }
+        (at_work (find nodes.old) state.old (numbers lost.old.items) gained.old.items steps.old)
+        (at_work (find nodes.new) state.new (numbers lost.new.items) gained.new.items steps.new)) }
 {
     let Some((number, rest)) = place.split_first() else {
         return replant(alloc, nodes, spot, part, steps);
@@ -170,12 +173,14 @@ fn regrow_bare<L: Ledger>(
         return Ok(None);
     };
     let child = child_of(nodes, spot, *number, steps);
-    let left = regrow_part(alloc, home, nodes, child, rest, part, state, lost, steps)?;
+    let left = regrow_part(
+        alloc, home, nodes, child, rest, part, state, lost, gained, steps,
+    )?;
     let Some(taken) = take(nodes, key, *number, left, steps) else {
         return Ok(None);
     };
     finish(
-        alloc, home, nodes, spot, key, *number, taken, state, lost, steps,
+        alloc, home, nodes, spot, key, *number, taken, state, lost, gained, steps,
     )
 }
 
@@ -189,36 +194,43 @@ fn regrow_part<L: Ledger>(
     part: Term,
     state: &mut State,
     lost: &mut Vec<FrameId>,
+    gained: &mut Vec<u64>,
     steps: &mut Steps<L>,
 ) -> Result<Option<Key>, AllocError>
     requires { EndsInTime spot.clock (term_view part) }
     ensures { IfOk result (λ out. RegrowRule (home_view home.now) spot.key spot.frame.0 spot.clock
         place.now (term_view part) out
-        (at_work (find nodes.old) state.old (numbers lost.old.items) steps.old)
-        (at_work (find nodes.new) state.new (numbers lost.new.items) steps.new)) }
+        (at_work (find nodes.old) state.old (numbers lost.old.items) gained.old.items steps.old)
+        (at_work (find nodes.new) state.new (numbers lost.new.items) gained.new.items steps.new)) }
 {
     let Some(key) = spot.key else {
-        return regrow_bare(alloc, home, nodes, spot, place, part, state, lost, steps);
+        return regrow_bare(
+            alloc, home, nodes, spot, place, part, state, lost, gained, steps,
+        );
     };
     let Some(shift) = shift_at(nodes, key, spot.clock, steps) else {
-        return regrow_bare(alloc, home, nodes, spot, place, part, state, lost, steps);
+        return regrow_bare(
+            alloc, home, nodes, spot, place, part, state, lost, gained, steps,
+        );
     };
     let inner = Spot {
         key: shift.below,
         frame: spot.frame,
         clock: spot.clock.saturating_sub(shift.by),
     };
-    let left = regrow_bare(alloc, home, nodes, inner, place, part, state, lost, steps)?;
+    let left = regrow_bare(
+        alloc, home, nodes, inner, place, part, state, lost, gained, steps,
+    )?;
     Ok(put_shift(nodes, key, shift.by, spot.clock, left, steps))
 }
 
 /// The part at a place of the term that stands at `root` becomes another. Hands out the key of what stands
 /// for what that leaves, None where nothing is left: the term around the part changes level by level, and so
 /// does the state, where a frame ends or statements open. The frames that stand no longer come behind those
-/// in `lost`, and are still open in the state.
+/// in `lost`, and are still open in the state; those that stand in what opens come behind those in `gained`.
 ///
 /// Each node on the way to the part keeps what is made of what its children keep, so what is asked nothing
-/// is right at once. Nothing else is touched: at most twelve steps for each part on the way and each that
+/// is right at once. Nothing else is touched: at most eleven steps for each part on the way and each that
 /// stands beside one of them in a `par`, one for each that is made, two for each that is dropped.
 ///
 /// Takes as much of the stack as the part is deep. The only error is want of memory, or that there is more
@@ -233,14 +245,17 @@ pub fn regrow<L: Ledger>(
     part: Term,
     state: &mut State,
     lost: &mut Vec<FrameId>,
+    gained: &mut Vec<u64>,
     steps: &mut Steps<L>,
 ) -> Result<Option<Key>, AllocError>
     // Each delay of the part that has begun is over at a moment of 128 bits.
     requires { EndsInTime root.clock (term_view part) }
     ensures regrown { IfOk result (λ out. RegrowRule (home_view home.now) root.key root.frame.0 root.clock
         place.now (term_view part) out
-        (at_work (find nodes.old) state.old (numbers lost.old.items) steps.old)
-        (at_work (find nodes.new) state.new (numbers lost.new.items) steps.new)) }
+        (at_work (find nodes.old) state.old (numbers lost.old.items) gained.old.items steps.old)
+        (at_work (find nodes.new) state.new (numbers lost.new.items) gained.new.items steps.new)) }
 {
-    regrow_part(alloc, home, nodes, root, place, part, state, lost, steps)
+    regrow_part(
+        alloc, home, nodes, root, place, part, state, lost, gained, steps,
+    )
 }

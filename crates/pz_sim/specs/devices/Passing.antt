@@ -1,5 +1,5 @@
 -- What trees, and what is kept of them, are while time passes.
-use Rattle.std.specs.Prelude.{◌≡◌, ◌≤◌, ◌<◌, ◌-◌, ◌⊎◌, ℕ, zero, suc, Bool, true, false, List, [], ◌∷◌, length, map, All, None, Some, IfSome, slice_get}
+use Rattle.std.specs.Prelude.{◌≡◌, ◌≤◌, ◌<◌, ◌-◌, ◌⊎◌, ℕ, zero, suc, Bool, true, false, List, [], ◌∷◌, length, All, None, Some, IfSome, slice_get}
 use Rattle.pz_syntax.specs.Classes.{ModelTree}
 use Rattle.pz_match.specs.Table.{Table}
 use Rattle.pz_rules.specs.Delays.{Passes}

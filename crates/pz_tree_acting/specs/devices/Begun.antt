@@ -1,5 +1,5 @@
 -- A part that has acted, while all that it did can still be undone; and what becomes of the process when it stays.
-use Rattle.std.specs.Prelude.{◌≡◌, ℕ, ◌∷◌, Option, Result, Ok, Err}
+use Rattle.std.specs.Prelude.{◌≡◌, ◌≤◌, ◌+◌, ℕ, List, ◌∷◌, Option, Result, Ok, Err}
 use Rattle.pz_copy.specs.Parcels.{ParcelView}
 use Rattle.pz_nodes_shapes.specs.Rose.{Map, has_option}
 use Rattle.pz_nodes_shapes.specs.Change.{BecomesOption}
@@ -25,7 +25,7 @@ use Rattle.pz_rules.specs.View.{term_view}
 use Rattle.pz_state.specs.Marks.{Seen, older}
 use Rattle.pz_state.specs.States.{StateView}
 use Rattle.pz_syntax.specs.declared.tokens.Pos.{Pos}
-use Rattle.pz_tree_standing.specs.FrameCounts.{times}
+use Rattle.pz_tree_standing.specs.FrameCounts.{count_in, times}
 use Rattle.pz_tree_frames.specs.Frames.{open_as, FramesStand, HaveOpened}
 use Rattle.pz_tree_nodes.specs.declared.node.What.{What}
 use Rattle.pz_tree_nodes.specs.View.{Plant, term_in_option}
@@ -36,7 +36,9 @@ use Rattle.pz_tree_acting.specs.declared.how.How.{How}
 use Rattle.pz_tree_acting.specs.declared.how.How.TheVariants.{Internal, Send, Receive}
 use Rattle.pz_tree_acting.specs.declared.beginning.Begun.{Begun}
 use Rattle.pz_tree_acting.specs.Deeds.{Ability, CanSend, CanReceive, able, deed, CanDo, Leaves}
+use Rattle.pz_tree_regrowing.specs.Regrowing.{steps_for}
 use Rattle.pz_tree_acting.specs.Acting.{Rooted}
+use Rattle.pz_tree_acting.specs.devices.Closing.{Counts}
 
 -- ------------------------------------------------------------ the deed
 
@@ -72,6 +74,11 @@ abbrev pub begun_process : Home → Term → Place → StateView → Result Begu
 begun_process h t place s (Ok begun) = Ok (swept (residual h 0 t place (left_by s (term_view begun.part))))
 begun_process h t place s (Err trouble) = Err trouble
 
+-- the part became what has begun
+abbrev pub IsLeftBy : Result Process Trouble → StateView → Result Begun Trouble → Type 0
+IsLeftBy left s (Ok begun) = left ≡ Ok (left_by s (term_view begun.part))
+IsLeftBy left s (Err trouble) = Unit {0}
+
 -- its mark is open, at the state as it was; at a trouble all is as it was
 abbrev pub IsBegun : Seen → Seen → Result Begun Trouble → Type 0
 IsBegun old new (Ok begun) = new.marks ≡ (begun.point, old.held) ∷ old.marks
@@ -94,12 +101,14 @@ BeginRule here home how m root place old new result =
     (p : Option Plant) (parcel : ParcelView)
     → Rooted m root here.clock p
     → CanDo (able how parcel) (seen_home here home old) (term_in_option here.clock p) place
-    → Leaves (seen_home here home old) (deed how parcel) (term_in_option here.clock p) place (begun_process (home_view home) (term_in_option here.clock p) place new result)
+    → (l : Leaves (seen_home here home old) (deed how parcel) (term_in_option here.clock p) place (begun_process (home_view home) (term_in_option here.clock p) place new result))
+    × IsLeftBy l.left new result
 
 -- ------------------------------------------------------------ what stays
 
--- what is left of the process stands under the key that is handed out, and its last mark is open no more
-pub record Stays (h : Home) (m n : Map What) (c : ℕ) (p : Option Plant) (place : Place) (x : Term) (out : Option ℕ) (old new : Seen) : Type 0 where
+-- what is left of the process stands under the key that is handed out, its last mark is open no more, and it took so many
+-- steps
+pub record Stays (h : Home) (m n : Map What) (c : ℕ) (p : Option Plant) (place : Place) (x : Term) (out : Option ℕ) (old new : Seen) (begun ended : ℕ) : Type 0 where
   pub plant : Option Plant
   pub under : root_of plant ≡ out
   pub becomes : BecomesOption m n (has_option p) plant
@@ -107,18 +116,21 @@ pub record Stays (h : Home) (m n : Map What) (c : ℕ) (p : Option Plant) (place
   pub means : ◌≡◌ {A = Process} (left_by new.held (term_in_option c plant)) (swept (residual h 0 (term_in_option c p) place (left_by old.held x)))
   pub frames : FramesStand (term_in_option c plant) new.held
   pub marks : new.marks ≡ older old.marks
+  pub ticks : ended ≤ begun + steps_for h 0 (term_in_option c p) place old x
 
 -- some tended nodes stand under the root, for a term of which a part at the place may act
 abbrev pub MayGoOn : Map What → Option ℕ → ℕ → Place → Type 0
 MayGoOn m root c place = (p : Option Plant) × Rooted m root c p × MayAct (term_in_option c p) place
 
--- where just the frames of the term and of what the part has become are open, and none in the part itself; what it has
--- become has short delays
-pub record IsReady (e : Edition) (t : Term) (place : Place) (x : Term) (s : StateView) : Type 0 where
+-- where just the frames of the term and of what the part has become are open, and none in the part itself, and those of
+-- the term are listed; what it has become has short delays
+pub record IsReady (e : Edition) (t : Term) (place : Place) (x : Term) (s : StateView) (listed : List ℕ) : Type 0 where
   pub may_act : MayAct t place
   pub opened : (n : ℕ) → HaveOpened e (times n x) (times n t) (open_as n s)
   pub alone : (n : ℕ) → times n (part_of t place) ≡ 0
+  pub counted : (n : ℕ) → Counts e (count_in n listed) (times n t)
   pub short : IsShort x
 
-abbrev pub StayRule : Home → Map What → Map What → Option ℕ → ℕ → Place → Term → Option ℕ → Seen → Seen → Type 0
-StayRule h m n root c place x out old new = (p : Option Plant) → Rooted m root c p → IsReady h.edition (term_in_option c p) place x old.held → Stays h m n c p place x out old new
+abbrev pub StayRule : Home → Map What → Map What → Option ℕ → ℕ → Place → Term → List ℕ → Option ℕ → Seen → Seen → ℕ → ℕ → Type 0
+StayRule h m n root c place x listed out old new begun ended =
+    (p : Option Plant) → Rooted m root c p → IsReady h.edition (term_in_option c p) place x old.held listed → Stays h m n c p place x out old new begun ended

@@ -11,7 +11,7 @@ use Rattle.pz_rules.specs.Settings.{Home}
 use Rattle.pz_rules.specs.Leaving.{replaced, around}
 use Rattle.pz_rules.specs.Places.{MayActIn}
 use Rattle.pz_rules.specs.Becoming.{Became}
-use Rattle.pz_tree_standing.specs.FrameCounts.{lost}
+use Rattle.pz_tree_standing.specs.FrameCounts.{lost, gained}
 use Rattle.pz_tree_standing.specs.Heads as heads
 use Rattle.pz_tree_standing.specs.Heads.{inner_clock, inner_frame, formed}
 use Rattle.pz_tree_standing.specs.Standing.{terms_of, HeadFits}
@@ -63,6 +63,7 @@ pub record Finished (home : Home) (f c : ℕ) (m0 : Map What) (was : ℕ → Boo
   pub tended : TendedOption f c plant
   pub means : Became (around home f a.state.held (before h c ps i t) i (after h c ps i)) (term_in_option c plant) a.state b.state
   pub lost : b.lost ≡ a.lost ++ lost (before h c ps i t) i (after h c ps i)
+  pub gained : b.gained ≡ a.gained ++ gained home a.state.held (before h c ps i t) i (after h c ps i)
   pub ticks : b.steps ≤ a.steps + (4 + beside (before h c ps i t) i + made home a.state.held (before h c ps i t) i (after h c ps i) + 2 * dropped (before h c ps i t) i (after h c ps i))
 
 abbrev pub FinishRule : Home → ℕ → ℕ → ℕ → heads.Head → List (Option ℕ) → ℕ → Option ℕ → Work → Work → Type 0
@@ -167,23 +168,23 @@ ShiftRule m n k behind c left out old new =
 
 -- ------------------------------------------------------------ forms
 
--- where neither the state nor the frames that were gathered have changed
+-- where neither the state nor the frames that were gathered, lost or opened, have changed
 abbrev pub StillRule : ℕ → ℕ → heads.Head → List (Option ℕ) → ℕ → Option ℕ → Map What → Map What → ℕ → ℕ → Type 0
 StillRule c k h keys i out m n old new =
-    (home : Home) (f : ℕ) (s : Seen) (gathered : List ℕ)
-    → FinishRule home f c k h keys i out (at_work m s gathered old) (at_work n s gathered new)
+    (home : Home) (f : ℕ) (s : Seen) (gathered fresh : List ℕ)
+    → FinishRule home f c k h keys i out (at_work m s gathered fresh old) (at_work n s gathered fresh new)
 
--- where the state has not
+-- where neither the state nor the frames that have opened have
 abbrev pub LosingRule : ℕ → ℕ → heads.Head → List (Option ℕ) → ℕ → Option ℕ → Map What → Map What → List ℕ → List ℕ → ℕ → ℕ → Type 0
 LosingRule c k h keys i out m n lost found old new =
-    (home : Home) (f : ℕ) (s : Seen)
-    → FinishRule home f c k h keys i out (at_work m s lost old) (at_work n s found new)
+    (home : Home) (f : ℕ) (s : Seen) (fresh : List ℕ)
+    → FinishRule home f c k h keys i out (at_work m s lost fresh old) (at_work n s found fresh new)
 
--- where the frames that were gathered have not
-abbrev pub ChangingRule : Home → ℕ → ℕ → heads.Head → List (Option ℕ) → ℕ → Option ℕ → Map What → Map What → Seen → Seen → ℕ → ℕ → Type 0
-ChangingRule home c k h keys i out m n s t old new =
+-- where the frames that stand no longer have not
+abbrev pub ChangingRule : Home → ℕ → ℕ → heads.Head → List (Option ℕ) → ℕ → Option ℕ → Map What → Map What → Seen → Seen → List ℕ → List ℕ → ℕ → ℕ → Type 0
+ChangingRule home c k h keys i out m n s t fresh grown old new =
     (f : ℕ) (gathered : List ℕ)
-    → FinishRule home f c k h keys i out (at_work m s gathered old) (at_work n t gathered new)
+    → FinishRule home f c k h keys i out (at_work m s gathered fresh old) (at_work n t gathered grown new)
 
 -- whether what stands under a key stands for a frame without outputs
 abbrev pub BareRule : Map What → ℕ → Bool → Type 0
@@ -213,9 +214,9 @@ interrupt true again s = heads.idle again s
 interrupt false again s = heads.handling again s
 
 -- the second part has acted and is done
-abbrev pub ResumeRule : Home → ℕ → ℕ → Step → ShiftView → Option ℕ → Option ℕ → Map What → Map What → Seen → Seen → ℕ → ℕ → Type 0
-ResumeRule home c k again shift first out m n s t old new =
-    (runs : Bool) → ChangingRule home c k (interrupt runs again shift) (first ∷ None ∷ []) 1 out m n s t old new
+abbrev pub ResumeRule : Home → ℕ → ℕ → Step → ShiftView → Option ℕ → Option ℕ → Map What → Map What → Seen → Seen → List ℕ → List ℕ → ℕ → ℕ → Type 0
+ResumeRule home c k again shift first out m n s t fresh grown old new =
+    (runs : Bool) → ChangingRule home c k (interrupt runs again shift) (first ∷ None ∷ []) 1 out m n s t fresh grown old new
 
 -- it has acted and is not
 abbrev pub SuspendRule : ℕ → ℕ → Step → ShiftView → List (Option ℕ) → Option ℕ → Map What → Map What → ℕ → ℕ → Type 0
@@ -224,6 +225,6 @@ SuspendRule c k again shift keys out m n old new =
     → (runs : Bool) → StillRule c k (interrupt runs again shift) keys 1 out m n old new
 
 -- it has acted
-abbrev pub SecondRule : Home → ℕ → ℕ → Step → ShiftView → List (Option ℕ) → Option ℕ → Map What → Map What → Seen → Seen → ℕ → ℕ → Type 0
-SecondRule home c k again shift keys out m n s t old new =
-    (runs : Bool) → ChangingRule home c k (interrupt runs again shift) keys 1 out m n s t old new
+abbrev pub SecondRule : Home → ℕ → ℕ → Step → ShiftView → List (Option ℕ) → Option ℕ → Map What → Map What → Seen → Seen → List ℕ → List ℕ → ℕ → ℕ → Type 0
+SecondRule home c k again shift keys out m n s t fresh grown old new =
+    (runs : Bool) → ChangingRule home c k (interrupt runs again shift) keys 1 out m n s t fresh grown old new

@@ -1,4 +1,4 @@
-use Rattle.std.proofs.Common.{◌≡◌, ◌∙◌, ◌+◌, ℕ, List, sym, ap, subst, arith}
+use Rattle.std.proofs.Common.{◌∙◌, ◌+◌, ℕ, List, sym, ap, subst, arith}
 use Rattle.pz_classes.specs.Soundness.{IsSound}
 use Rattle.pz_sim.specs.devices.Acting.{model_at, setting_at}
 use Rattle.pz_sim.specs.devices.Passing.{MayPass, HavePassed, own_total, AreRetold}

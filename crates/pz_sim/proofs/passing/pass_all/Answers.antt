@@ -1,8 +1,8 @@
-use Rattle.std.proofs.Common.{◌≡◌, ◌∙◌, ℕ, List, length, refl, sym, ap, subst, arith}
+use Rattle.std.proofs.Common.{◌≡◌, ℕ, length, subst, arith}
 use Rattle.pz_classes.specs.CheckedView.{checked_model}
 use Rattle.pz_sim.specs.devices.Passing.{HavePassed}
 use Rattle.pz_sim.proofs.Passed.{none_passed}
-use Rattle.pz_sim.proofs.Read.{next_may, next_within, next_passed, totals_more}
+use Rattle.pz_sim.proofs.Read.{next_may, next_own, next_passed, totals_more}
 use Rattle.pz_sim.proofs.passing.pass_all.Goals as goal
 
 pub loop-number-init : goal.loop-number-init
@@ -16,9 +16,10 @@ pass_tree-requires-clause-may g c =
     next_may (checked_model c.args.checked.now) c.args.clock c.args.trees.now c.loop-number.trees c.loop-number.number c.index-trees-number.result
     (omega (arith, c.loop-number.auto.trees, c.loop-number-test.true)) c.requires.may c.loop-number.invariant.passed
 
-pub pass_tree-requires-clause-within : goal.pass_tree-requires-clause-within
-pass_tree-requires-clause-within g c =
-    next_within (checked_model c.args.checked.now) c.loop-number.trees c.loop-number.number c.loop-number.totals (omega (arith, c.loop-number.auto.trees, c.loop-number-test.true)) c.loop-number.invariant.totals
+pub pass_tree-requires-clause-own : goal.pass_tree-requires-clause-own
+pass_tree-requires-clause-own g c =
+    next_own (checked_model c.args.checked.now) c.args.clock c.args.trees.now c.loop-number.trees c.loop-number.number c.index-trees-number.result
+    (omega (arith, c.loop-number.auto.trees, c.loop-number-test.true)) c.loop-number.totals c.loop-number.invariant.totals
 
 pub loop-number-preserved : goal.loop-number-preserved
 loop-number-preserved g c = record {

@@ -1,4 +1,4 @@
-use Rattle.std.proofs.Common.{◌≡◌, ◌∙◌, ◌<◌, ◌+◌, ℕ, List, length, refl, sym, ap, subst, arith}
+use Rattle.std.proofs.Common.{◌≡◌, ◌∙◌, ◌+◌, ℕ, List, length, refl, sym, ap, subst, arith}
 use Rattle.pz_sim.specs.devices.Acting.{model_at}
 use Rattle.pz_sim.specs.devices.Passing.{AreSilenced}
 use Rattle.pz_tree.specs.declared.tree.Tree.{Tree}

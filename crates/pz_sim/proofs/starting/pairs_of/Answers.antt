@@ -1,8 +1,8 @@
-use Rattle.std.proofs.Common.{◌≡◌, ◌∙◌, List, length, sym, ap, subst}
+use Rattle.std.proofs.Common.{◌∙◌, List, length, sym, ap, subst}
 use Rattle.std.specs.Prelude.{All, map}
 use Rattle.pz_classes.specs.CheckedView.{checked_model}
 use Rattle.pz_tree.specs.declared.tree.Tree.{Tree}
-use Rattle.pz_sim.specs.Members.{member_of, members_of}
+use Rattle.pz_sim.specs.Members.{member_of}
 use Rattle.pz_sim.specs.devices.Speaking.{CanBeAsked}
 use Rattle.pz_sim.specs.devices.Tables.{IsTable, hushed}
 use Rattle.pz_sim.proofs.Spoken.{silent_table}

@@ -1,4 +1,4 @@
-use Rattle.std.proofs.Common.{◌≡◌, ◌∙◌, refl, sym, arith}
+use Rattle.std.proofs.Common.{◌∙◌, refl, arith}
 use Rattle.pz_classes.specs.CheckedView.{checked_model}
 use Rattle.pz_sim.proofs.Spoken.{none_asked, all_asked, may_tell, one_told}
 use Rattle.pz_sim.proofs.starting.tell_all.Goals as goal

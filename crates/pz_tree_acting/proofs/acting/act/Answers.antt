@@ -26,16 +26,16 @@ finish-requires-clause-stands g c =
 pub returns-in_ok-out-in-Ok-clause-acts : goal.returns-in_ok-out-in-Ok-clause-acts
 returns-in_ok-out-in-Ok-clause-acts g c =
     acts_well c.args.here.now c.args.home.now c.args.how (find c.args.nodes.now) c.args.root c.args.place.now c.args.state.now c.begin.new.state c.in_ok-begun.field-0 c.in_ok-begun.ensures.leaves
-    c.active_parts_may_act.ensures.law c.active_parts_are_at_their_places.ensures.law c.in-Ok.begun (find c.finish.new.nodes) c.finish.new.state c.in_ok-out-in-Ok.out c.in-Ok.is
+    c.active_parts_may_act.ensures.law c.active_parts_are_at_their_places.ensures.law c.in-Ok.begun (find c.finish.new.nodes) c.finish.new.state c.in_ok-out-in-Ok.out c.in_ok-listed.listed.items c.args.steps.now c.begin.new.steps c.finish.new.steps c.in-Ok.is
     (begun_older c.args.state.now c.begin.new.state c.in_ok-begun.field-0 c.in-Ok.begun c.in-Ok.is c.in_ok-begun.ensures.state)
     (begun_has_opened c.args.home.now.edition c.args.state.now.held c.begin.new.state.held c.in_ok-begun.field-0 c.in-Ok.begun c.in-Ok.is c.in_ok-begun.ensures.opens)
-    (begun_is_short c.in_ok-begun.field-0 c.in-Ok.begun c.in-Ok.is c.in_ok-begun.ensures.short)
+    (begun_is_short c.in_ok-begun.field-0 c.in-Ok.begun c.in-Ok.is c.in_ok-begun.ensures.short) c.in_ok-listed.ensures c.in_ok-begun.ensures.ticks
     c.in_ok-out-in-Ok.ensures
 
 pub returns-in-Err-clause-acts : goal.returns-in-Err-clause-acts
 returns-in-Err-clause-acts g c =
     acts_trouble c.args.here.now c.args.home.now c.args.how (find c.args.nodes.now) c.args.root c.args.place.now c.args.state.now c.begin.new.state c.in_ok-begun.field-0 c.in_ok-begun.ensures.leaves
-    (find c.args.nodes.now) c.begin.new.state c.in-Err.trouble c.in-Err.is
+    (find c.args.nodes.now) c.begin.new.state c.args.steps.now c.begin.new.steps c.in-Err.trouble c.in-Err.is
 
 pub returns-in-Err-clause-stays : goal.returns-in-Err-clause-stays
 returns-in-Err-clause-stays g c = (refl, begun_trouble c.args.state.now c.begin.new.state c.in_ok-begun.field-0 c.in-Err.trouble c.in-Err.is c.in_ok-begun.ensures.state)

@@ -1,4 +1,4 @@
-use Rattle.std.proofs.Common.{refl, ap}
+use Rattle.std.proofs.Common.{refl, ap, arith}
 use Rattle.std.proofs.Math.Logic.{∥∥₁_map, ∥∥₁_elim, ∥∥₁_prop}
 use Rattle.pz_classes.specs.CheckedView.{checked_model}
 use Rattle.pz_nodes.specs.Arena.{find}
@@ -13,7 +13,7 @@ use Rattle.pz_tree_acting.specs.Acting.{MayBeDone}
 use Rattle.pz_tree_acting.specs.devices.Begun.{ActsSo}
 use Rattle.pz_tree_acting.proofs.Found.{able_place}
 use Rattle.pz_tree_acting.proofs.Marked.{may_act, part_is, place_is, part_fits, leaves_begun}
-use Rattle.pz_tree_acting.proofs.Begins.{located, acts_so, begun_state, deed_can, part_left_short, deed_opened, begun_short, begun_opens}
+use Rattle.pz_tree_acting.proofs.Begins.{located, acts_so, begun_state, deed_can, part_left_short, deed_opened, begun_short, begun_opens, answer_is, numbers_few}
 use Rattle.pz_tree_acting.proofs.Merely.{acts_merely, place_merely, short_merely, opens_merely}
 use Rattle.pz_tree_acting.proofs.beginning.begin.Goals as goal
 
@@ -69,7 +69,7 @@ returns-clause-leaves g c = λ p parcel rooted there.
     (process_left c.do_deed.new.state.held c.in_ok-left.left) c.hold.result (home_view c.args.home.now) refl
     c.in_ok-point.ensures.ok found c.pos_of-pos.ensures c.active_parts_may_act.ensures.law (c.in_ok-left.ensures.answers parcel)
     (c.hold.ensures.left c.args.here.now.clock p c.args.state.now.held rooted (may_act (able how parcel) a t place there c.active_parts_may_act.ensures.law))
-    c.hold.ensures.state there
+    c.hold.ensures.state (answer_is c.do_deed.new.state.held c.in_ok-left.left c.hold.result c.hold.ensures.part) there
 
 pub returns-clause-state : goal.returns-clause-state
 returns-clause-state g c = begun_state c.args.state.now c.mark.new.self c.do_deed.new.state c.hold.new.state c.in_ok-point.point c.hold.result c.in_ok-point.ensures.ok c.in_ok-left.ensures.marks c.hold.ensures.state
@@ -102,3 +102,13 @@ returns-clause-short g c =
     let can = deed_can c.args.here.now c.args.home.now how r.parcel c.args.state.now.held c.mark.new.self.held t c.args.place.now r.can spot.frame.0 y found (ap (λ (s : Seen). s.held) c.in_ok-point.ensures.ok) in
     begun_short c.in_ok-left.left c.hold.result c.hold.ensures.part
     (part_left_short c.args.here.now c.args.home.now how r.parcel c.mark.new.self.held c.do_deed.new.state.held spot.frame.0 y c.in_ok-left.left c.in_ok-left.ensures.answers r.can.it_holds.0 can)))
+
+pub returns-clause-ticks : goal.returns-clause-ticks
+returns-clause-ticks g c = λ p parcel rooted there.
+    let how = c.args.how in
+    let a = seen_home c.args.here.now c.args.home.now c.args.state.now.held in
+    let t = term_in_option c.args.here.now.clock p in
+    let place = c.args.place.now in
+    let low = c.hold.ensures.ticks 0 c.args.here.now.clock p rooted.under rooted.stands rooted.tended (may_act (able how parcel) a t place there c.active_parts_may_act.ensures.law) in
+    let numbers = numbers_few t place in
+    omega (arith, low, numbers, c.part_at-spot.ensures.ticks, c.part_under.ensures.ticks)

@@ -19,6 +19,8 @@ returns g c =
     let s = c.args.state.now in
     let t = c.finish_second.new.state in
     let lost = numbers c.args.lost.now.items in
-    IfOk-weaker c.finish_second.result (λ out. SecondRule home c.args.clock c.args.key again c.args.shift c.args.kids out m n s t c.args.steps.now c.finish_second.new.steps)
-    (λ out. (f : ℕ) → FinishRule home f c.args.clock c.args.key (heads.idle again c.args.shift) c.args.kids c.args.number out (at_work m s lost c.args.steps.now) (at_work n t lost c.finish_second.new.steps))
-    (λ out r f. idle_second home c.args.clock c.args.key c.args.number again c.args.shift c.args.kids out m n s t c.args.steps.now c.finish_second.new.steps c.if-number-eq0.false r f lost) c.finish_second.ensures
+    let fresh = c.args.gained.now.items in
+    let grown = c.finish_second.new.gained.items in
+    IfOk-weaker c.finish_second.result (λ out. SecondRule home c.args.clock c.args.key again c.args.shift c.args.kids out m n s t fresh grown c.args.steps.now c.finish_second.new.steps)
+    (λ out. (f : ℕ) → FinishRule home f c.args.clock c.args.key (heads.idle again c.args.shift) c.args.kids c.args.number out (at_work m s lost fresh c.args.steps.now) (at_work n t lost grown c.finish_second.new.steps))
+    (λ out r f. idle_second home c.args.clock c.args.key c.args.number again c.args.shift c.args.kids out m n s t fresh grown c.args.steps.now c.finish_second.new.steps c.if-number-eq0.false r f lost) c.finish_second.ensures

@@ -1,4 +1,4 @@
-use Rattle.std.proofs.Common.{◌≡◌, ◌<◌, ◌+◌, ◌^◌, ℕ, sym, ap, subst, arith}
+use Rattle.std.proofs.Common.{◌<◌, ◌^◌, ℕ, sym, subst, arith}
 use Rattle.pz_classes.specs.CheckedView.{checked_model}
 use Rattle.pz_classes.specs.Soundness.{IsSound}
 use Rattle.pz_term_processes.specs.Standing.{setting_of}

@@ -39,9 +39,9 @@ returns-in-Ok-clause-acts g c = λ parcel fresh can.
     let left = c.in_ok-left.left in
     let n = c.act.new.nodes in
     let s = c.act.new.state in
-    let rule = act_for m t here.result home.result home.ensures.home here.ensures.limits here.ensures.process here.ensures.clock c.args.how (find t.nodes) (find n) t.root c.args.place.now left s
-    (subst (λ (p : List ℕ). ActRule here.result home.result c.args.how (find t.nodes) (find n) t.root p left t.state s) c.as_slice.ensures c.in_ok-left.ensures.acts) in
-    (acted m t fresh.there c.args.how parcel c.args.place.now n s left c.in-Ok.root c.in-Ok.is rule can c.requires.frames).leaves
+    let rule = act_for m t here.result home.result home.ensures.home here.ensures.limits here.ensures.process here.ensures.clock c.args.how (find t.nodes) (find n) t.root c.args.place.now left s c.args.steps.now c.act.new.steps
+    (subst (λ (p : List ℕ). ActRule here.result home.result c.args.how (find t.nodes) (find n) t.root p left t.state s c.args.steps.now c.act.new.steps) c.as_slice.ensures c.in_ok-left.ensures.acts) in
+    (acted m t c.args.steps.now c.act.new.steps fresh.there c.args.how parcel c.args.place.now n s left c.in-Ok.root c.in-Ok.is rule can c.requires.frames).soon.leaves
 
 pub returns-in-Ok-clause-there : goal.returns-in-Ok-clause-there
 returns-in-Ok-clause-there g c =
@@ -52,9 +52,9 @@ returns-in-Ok-clause-there g c =
     let left = c.in_ok-left.left in
     let n = c.act.new.nodes in
     let s = c.act.new.state in
-    let rule = act_for m t here.result home.result home.ensures.home here.ensures.limits here.ensures.process here.ensures.clock c.args.how (find t.nodes) (find n) t.root c.args.place.now left s
-    (subst (λ (p : List ℕ). ActRule here.result home.result c.args.how (find t.nodes) (find n) t.root p left t.state s) c.as_slice.ensures c.in_ok-left.ensures.acts) in
-    ∥∥₁_map (acted_merely m t c.args.how c.args.place.now n s left c.in-Ok.root c.in-Ok.is rule c.requires.frames c.requires.fresh c.requires.can) (λ x. x.0)
+    let rule = act_for m t here.result home.result home.ensures.home here.ensures.limits here.ensures.process here.ensures.clock c.args.how (find t.nodes) (find n) t.root c.args.place.now left s c.args.steps.now c.act.new.steps
+    (subst (λ (p : List ℕ). ActRule here.result home.result c.args.how (find t.nodes) (find n) t.root p left t.state s c.args.steps.now c.act.new.steps) c.as_slice.ensures c.in_ok-left.ensures.acts) in
+    ∥∥₁_map (acted_merely m t c.args.steps.now c.act.new.steps c.args.how c.args.place.now n s left c.in-Ok.root c.in-Ok.is rule c.requires.frames c.requires.fresh c.requires.can) (λ x. x.0)
 
 pub returns-in-Ok-clause-frames : goal.returns-in-Ok-clause-frames
 returns-in-Ok-clause-frames g c =
@@ -65,10 +65,10 @@ returns-in-Ok-clause-frames g c =
     let left = c.in_ok-left.left in
     let n = c.act.new.nodes in
     let s = c.act.new.state in
-    let rule = act_for m t here.result home.result home.ensures.home here.ensures.limits here.ensures.process here.ensures.clock c.args.how (find t.nodes) (find n) t.root c.args.place.now left s
-    (subst (λ (p : List ℕ). ActRule here.result home.result c.args.how (find t.nodes) (find n) t.root p left t.state s) c.as_slice.ensures c.in_ok-left.ensures.acts) in
+    let rule = act_for m t here.result home.result home.ensures.home here.ensures.limits here.ensures.process here.ensures.clock c.args.how (find t.nodes) (find n) t.root c.args.place.now left s c.args.steps.now c.act.new.steps
+    (subst (λ (p : List ℕ). ActRule here.result home.result c.args.how (find t.nodes) (find n) t.root p left t.state s c.args.steps.now c.act.new.steps) c.as_slice.ensures c.in_ok-left.ensures.acts) in
     let u : Tree = record t { nodes = n; state = s; root = c.in-Ok.root } in
-    frames_merely (term_in u) s.held (∥∥₁_map (acted_merely m t c.args.how c.args.place.now n s left c.in-Ok.root c.in-Ok.is rule c.requires.frames c.requires.fresh c.requires.can) (λ x. x.1))
+    frames_merely (term_in u) s.held (∥∥₁_map (acted_merely m t c.args.steps.now c.act.new.steps c.args.how c.args.place.now n s left c.in-Ok.root c.in-Ok.is rule c.requires.frames c.requires.fresh c.requires.can) (λ x. x.1))
 
 pub returns-in-Err-clause-acts : goal.returns-in-Err-clause-acts
 returns-in-Err-clause-acts g c = λ parcel fresh can.
@@ -79,9 +79,9 @@ returns-in-Err-clause-acts g c = λ parcel fresh can.
     let left = c.in_ok-left.left in
     let n = c.act.new.nodes in
     let s = c.act.new.state in
-    let rule = act_for m t here.result home.result home.ensures.home here.ensures.limits here.ensures.process here.ensures.clock c.args.how (find t.nodes) (find n) t.root c.args.place.now left s
-    (subst (λ (p : List ℕ). ActRule here.result home.result c.args.how (find t.nodes) (find n) t.root p left t.state s) c.as_slice.ensures c.in_ok-left.ensures.acts) in
-    troubled m t fresh.there c.args.how parcel c.args.place.now n s left c.in-Err.trouble c.in-Err.is rule can c.requires.frames
+    let rule = act_for m t here.result home.result home.ensures.home here.ensures.limits here.ensures.process here.ensures.clock c.args.how (find t.nodes) (find n) t.root c.args.place.now left s c.args.steps.now c.act.new.steps
+    (subst (λ (p : List ℕ). ActRule here.result home.result c.args.how (find t.nodes) (find n) t.root p left t.state s c.args.steps.now c.act.new.steps) c.as_slice.ensures c.in_ok-left.ensures.acts) in
+    troubled m t c.args.steps.now c.act.new.steps fresh.there c.args.how parcel c.args.place.now n s left c.in-Err.trouble c.in-Err.is rule can c.requires.frames
 
 pub returns-in-Err-clause-there : goal.returns-in-Err-clause-there
 returns-in-Err-clause-there g c =
@@ -99,3 +99,16 @@ returns-in-Err-clause-frames g c =
 pub returns-in-Err-clause-unchanged : goal.returns-in-Err-clause-unchanged
 returns-in-Err-clause-unchanged g c =
     as_before (checked_model c.args.checked.now) c.args.self.now c.act.new.nodes c.act.new.state c.in_ok-left.left c.in-Err.trouble c.in-Err.is c.in_ok-left.ensures.stays
+
+pub returns-in-Ok-clause-ticks : goal.returns-in-Ok-clause-ticks
+returns-in-Ok-clause-ticks g c = λ parcel fresh can.
+    let m = checked_model c.args.checked.now in
+    let t = c.args.self.now in
+    let here = c.standpoint-here in
+    let home = c.home-home in
+    let left = c.in_ok-left.left in
+    let n = c.act.new.nodes in
+    let s = c.act.new.state in
+    let rule = act_for m t here.result home.result home.ensures.home here.ensures.limits here.ensures.process here.ensures.clock c.args.how (find t.nodes) (find n) t.root c.args.place.now left s c.args.steps.now c.act.new.steps
+    (subst (λ (p : List ℕ). ActRule here.result home.result c.args.how (find t.nodes) (find n) t.root p left t.state s c.args.steps.now c.act.new.steps) c.as_slice.ensures c.in_ok-left.ensures.acts) in
+    (acted m t c.args.steps.now c.act.new.steps fresh.there c.args.how parcel c.args.place.now n s left c.in-Ok.root c.in-Ok.is rule can c.requires.frames).soon

@@ -7,10 +7,10 @@ use Rattle.pz_nodes.specs.Arena.{find}
 use Rattle.pz_part_queries.specs.Standpoints.{Knows}
 use Rattle.pz_rules.specs.Settings as rules
 use Rattle.pz_state.specs.Marks.{Seen}
-use Rattle.pz_tree_acting.specs.Acting.{MayBeDone, Answers, TrialRule}
+use Rattle.pz_tree_acting.specs.Acting.{MayBeDone, Answers, TrialRule, TrialSteps}
 use Rattle.pz_tree.specs.declared.tree.Tree.{Tree}
 use Rattle.pz_tree.specs.Trees.{plant_in, term_in, at_in}
-use Rattle.pz_tree.proofs.Acted.{of_process_class, tries_for, may_be_done, rooted, on_result}
+use Rattle.pz_tree.proofs.Acted.{of_process_class, tries_for, steps_for, may_be_done, rooted, on_result}
 use Rattle.pz_tree_acting.specs.Deeds.{deed}
 use Rattle.pz_tree.proofs.tree.Tree.trial.Goals as goal
 
@@ -47,3 +47,13 @@ pub returns-clause-unchanged : goal.returns-clause-unchanged
 returns-clause-unchanged g c =
     let t = c.args.self.now in
     on_result c.trial.result (λ same. ap (λ (s : Seen). let u : Tree = record t { state = s } in u) same) c.trial.ensures.stays
+
+pub returns-clause-ticks : goal.returns-clause-ticks
+returns-clause-ticks g c = λ parcel fresh can.
+    let m = checked_model c.args.checked.now in
+    let t = c.args.self.now in
+    let here = c.standpoint-here in
+    let home = c.home-home in
+    on_result c.trial.result (λ rule. steps_for m t here.result home.result home.ensures.home here.ensures.limits here.ensures.process here.ensures.clock c.args.how (find t.nodes) t.root c.args.place.now c.args.steps.now c.trial.new.steps
+    (subst (λ (p : List ℕ). TrialSteps here.result home.result c.args.how (find t.nodes) t.root p t.state.held c.args.steps.now c.trial.new.steps) c.as_slice.ensures rule)
+    (plant_in t) parcel (rooted m t fresh.there) can) c.trial.ensures.ticks

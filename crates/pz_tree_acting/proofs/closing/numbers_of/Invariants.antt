@@ -1,6 +1,6 @@
 use Rattle.std.proofs.Common.{◌≡◌, ◌++◌, drop}
 use Rattle.pz_tree_dropping.specs.Dropping.{numbers}
-use Rattle.pz_tree_acting.proofs.closing.in_order.Given as goal
+use Rattle.pz_tree_acting.proofs.closing.numbers_of.Given as goal
 
 abbrev pub invariant-loop-frame : goal.invariant-loop-frame
 invariant-loop-frame l = l.listed.items ++ numbers (drop l.frame-index l.frames) ≡ numbers l.frames
