@@ -9,13 +9,13 @@ ghost use Rattle.pz_debug.specs.devices.Reading.{ReadsFile};
 ghost use Rattle.pz_debug.specs.devices.Debugging.{DebugsText, DebugsFiles};
 
 use crate::DebugStatus;
+use crate::engine::Trees;
 use crate::limits::{COMMAND_LIMIT, MODEL_LIMIT};
 use crate::refusing::{say_refused, say_unread};
 use crate::sessions::debug_model;
 use pz_classes::Checked;
 use pz_io::{Files, Sink, read_all};
 use pz_run_reading::read_open_model;
-use pz_term::Plain;
 use std::alloc::Global;
 use std::mem::drop;
 
@@ -69,7 +69,7 @@ fn debug_commands<F: Files, W: Sink>(
         (F.state files.old) (F.state files.new) (W.state out.old) (W.state out.new) result }
 {
     match read_all(alloc, files, commands, COMMAND_LIMIT) {
-        Ok(text) => debug_model::<Plain, W>(alloc, checked, text.as_slice(), out),
+        Ok(text) => debug_model::<Trees, W>(alloc, checked, text.as_slice(), out),
         Err(error) => {
             drop(checked);
             say_unread(alloc, error, commands, out)

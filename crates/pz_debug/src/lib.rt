@@ -3,6 +3,7 @@
 
 mod asking;
 mod debugging;
+mod engine;
 mod limits;
 mod printing;
 mod program;

@@ -22,8 +22,7 @@ use std::alloc::Global;
 ///
 /// What is promised of the bytes that are printed holds over a sink that tells what it took, and what is
 /// promised of the contents of files over files that tell; the rest holds always. Want of memory,
-/// `NoMemory`, is the one answer without a cause. It is also the answer where time would pass from a clock of
-/// 2^127 or more, which no run comes to.
+/// `NoMemory`, is the one answer without a cause.
 pub fn run_debug<F: Files, W: Sink>(
     alloc: Global,
     words: &[String],

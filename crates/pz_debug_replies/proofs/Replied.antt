@@ -50,11 +50,11 @@ at_choice known xs k s t x same chooses = record {
   place = subst (λ (u : Setting). StandsLow u (xs ++ Pick k ∷ []) t) (sym same) (known.low_chosen (setting_in s) xs k s t x.place chooses);
 }
 
-pub at_passing : Known → (xs : List Step) (s t : Simulation) → IsAt xs s → clock_in s < 2 ^ 127 → setting_in t ≡ setting_in s → Passes s t → IsAt (xs ++ Pass ∷ []) t
-at_passing known xs s t x low same passes_on = record {
+pub at_passing : Known → (xs : List Step) (s t : Simulation) → IsAt xs s → clock_in t < clock_in s + 2 ^ 64 → setting_in t ≡ setting_in s → Passes s t → IsAt (xs ++ Pass ∷ []) t
+at_passing known xs s t x short same passes_on = record {
   sound = subst (λ (u : Setting). IsSound u.model) (sym same) x.sound;
   opens = opens_in s t same x.opens;
-  place = subst (λ (u : Setting). StandsLow u (xs ++ Pass ∷ []) t) (sym same) (known.low_passed (setting_in s) xs s t x.place passes_on low);
+  place = subst (λ (u : Setting). StandsLow u (xs ++ Pass ∷ []) t) (sym same) (known.low_passed (setting_in s) xs s t x.place passes_on short);
 }
 
 pub at_steps : (xs ys : List Step) (t : Simulation) → ys ≡ xs → IsAt xs t → IsAt ys t

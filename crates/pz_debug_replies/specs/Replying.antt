@@ -15,8 +15,8 @@ use Rattle.pz_debug_session.specs.Steps.{StandsLow}
 use Rattle.pz_debug_replies.specs.Replies.{Replies}
 use Rattle.pz_debug_replies.specs.Sessions.{IsSessionText}
 
--- These steps of a sound model, which opens in edition Two, lead to where this stands, and each passing was
--- taken where the clock was below 2^127.
+-- These steps of a sound model, which opens in edition Two, lead to where this stands, and the clock is at most
+-- 2^64 units for each of them.
 pub record IsAt (steps : List Step) (s : Simulation) : Type 0 where
   pub sound : IsSound (model_in s)
   pub opens : (limits_in s).edition ≡ Two → Opens (model_in s)

@@ -11,12 +11,13 @@ pub fn advances_are_one()
     pz_term::laws::simulators_show_one_moment();
 }
 
-/// Commands that show nothing have one reply each, and one text together, and leave one list of steps.
+/// Commands have one reply each, and one text together, and leave one list of steps.
 pub fn replies_are_one()
     ensures reply { OneReply }
     ensures text { OneText }
 {
     pz_rules::laws::one_list_of_offers();
+    pz_rules::laws::walks_list_what_is_active();
     pz_debug_session::laws::sessions_have_one_place();
     pz_term::laws::simulators_show_one_moment();
 }

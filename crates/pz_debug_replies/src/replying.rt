@@ -24,8 +24,7 @@ use std::alloc::Global;
 /// says is done, but for that of `back`.
 ///
 /// The session stands where its steps lead, as it does again afterwards, unless memory was wanting or a write
-/// failed. It took its passings where the clock was below 2^127, and where time would pass from a clock that
-/// is not, the answer is want of memory.
+/// failed; and its clock is at most 2^64 units for each step.
 pub fn reply<E: Engine + Drop, W: Sink>(
     alloc: Global,
     session: &mut Session<E>,

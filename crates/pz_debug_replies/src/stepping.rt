@@ -41,10 +41,7 @@ fn pick<E: Engine + Drop>(session: &mut Session<E>, number: u64) -> Result<(), A
     }
 }
 
-// The clock from which on no time passes. No run comes to it, as each passing is shorter than 2^64 units.
-const HIGH: u128 = 1 << 127;
-
-// Lets time pass. The only error is want of memory, which is also the answer where the clock is high.
+// Lets time pass. The only error is want of memory.
 fn pass<E: Engine + Drop>(session: &mut Session<E>) -> Result<(), AllocError>
     requires there { (d : ℕ) × IsMomentOf (stands_in E.simulation session.old) (Moment.Time d) }
     requires at { IsAt (steps_in session.old) (stands_in E.simulation session.old) }
@@ -56,9 +53,6 @@ fn pass<E: Engine + Drop>(session: &mut Session<E>) -> Result<(), AllocError>
         setting_in (stands_in E.simulation session.old) }
 {
     rules_are_known();
-    if session.clock() >= HIGH {
-        return Err(AllocError);
-    }
     match session.pass() {
         Ok(()) => Ok(()),
         Err(PassError::NoMemory) => Err(AllocError),
@@ -96,8 +90,7 @@ pub(crate) fn take_offer<E: Engine + Drop, W: Sink>(
     Ok(())
 }
 
-/// Lets so much time pass, in clock units, and writes its line. Where the clock is 2^127 or more, that ends
-/// as for want of memory.
+/// Lets so much time pass, in clock units, and writes its line.
 pub(crate) fn let_pass<E: Engine + Drop, W: Sink>(
     alloc: Global,
     session: &mut Session<E>,

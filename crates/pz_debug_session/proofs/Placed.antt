@@ -1,9 +1,9 @@
 -- Where steps lead from the start of a run on.
-use Rattle.std.proofs.Common.{◌≡◌, ◌<◌, ◌^◌, ◌⊎◌, inl, inr, ℕ, Bool, true, false, List, [], ◌∷◌, ◌++◌, map, refl, sym, ap, subst, ◌∙◌}
+use Rattle.std.proofs.Common.{◌≡◌, ◌≤◌, ◌<◌, ◌+◌, ◌*◌, ◌^◌, ℕ, Bool, true, false, List, [], ◌∷◌, ◌++◌, length, length-append, map, refl, sym, ap, subst, ◌∙◌, arith}
 use Rattle.std.specs.Prelude.{if◌then◌else◌}
-use Rattle.std.proofs.lemmas.List.{append_assoc}
 use Rattle.pz_syntax.specs.Classes.{ModelTree}
 use Rattle.pz_offer.specs.declared.trouble.Trouble.{Trouble}
+use Rattle.pz_rules.specs.declared.moment.Moment.{Moment}
 use Rattle.pz_rules.specs.declared.moment.Moment.TheVariants.{Actions, Time, Broken}
 use Rattle.pz_rules.specs.declared.limits.Limits.{Limits}
 use Rattle.pz_rules.specs.Settings.{Setting}
@@ -13,13 +13,13 @@ use Rattle.pz_rules.specs.Runs as runs
 use Rattle.pz_rules.specs.Runs.{Event, acted, passed, Standing, whole, stopped, Reaches}
 use Rattle.pz_term_processes.specs.Standing.{setting_of}
 use Rattle.pz_term.specs.Simulations as simulations
-use Rattle.pz_term.specs.Simulations.{Simulation, stands, broken, Starts, Chooses, Passes, setting_in, model_in, limits_in, clock_in}
+use Rattle.pz_term.specs.Simulations.{Simulation, stands, broken, IsMomentOf, Starts, Chooses, Passes, setting_in, model_in, limits_in, clock_in}
 use Rattle.pz_debug_session.specs.declared.step.Step.{Step}
 use Rattle.pz_debug_session.specs.declared.step.Step.TheVariants.{Pick, Pass}
 use Rattle.pz_debug_session.specs.Steps.{step_of, StandsAfter, StandsLow}
 use Rattle.pz_debug_session.specs.devices.Known.{Known}
-use Rattle.pz_debug_session.specs.devices.Leading.{Takes, CanTake, Leads, arrived, further, IsWholeAt}
-use Rattle.pz_debug_session.proofs.Roads.{one_road, leads_on, splits}
+use Rattle.pz_debug_session.specs.devices.Leading.{Takes, CanTake, IsShort, Leads, arrived, further, IsWholeAt}
+use Rattle.pz_debug_session.proofs.Roads.{one_road, leads_on, splits, stays_low, is_low}
 
 -- From the events of a run to its steps, and back
 
@@ -129,61 +129,25 @@ front_placed setting steps more s x =
     let parts = splits (stands setting x.start whole) s steps more (placed_led setting (steps ++ more) s x) in
     (parts.mid, led_placed setting x.start steps parts.mid x.is_start parts.before)
 
--- where the clock is low at each passing
+-- and the clock is at most 2^64 units for each step
 
--- the last of a list, or an earlier one
-record IsLastStep (xs ys zs : List Step) (a b : Step) : Type 0 where
-  all : xs ≡ ys
-  same : a ≡ b
-
-record IsEarlier (xs ys : List Step) (b : Step) : Type 0 where
-  more : List Step
-  parts : xs ≡ ys ++ b ∷ more
-
-first_is : (x y : Step) (xs ys : List Step) → x ∷ xs ≡ y ∷ ys → (x ≡ y) × (xs ≡ ys)
-first_is x y xs ys e = (cc, cc)
-
-nothing : (ys zs : List Step) (b : Step) → [] ≡ ys ++ b ∷ zs → ⊥
-nothing [] zs b e = cc
-nothing (y ∷ ys) zs b e = cc
-
-last_step : (xs ys zs : List Step) (a b : Step) → xs ++ a ∷ [] ≡ ys ++ b ∷ zs → IsLastStep xs ys zs a b ⊎ IsEarlier xs ys b
-last_step [] [] zs a b e = inl (record { all = refl; same = (first_is a b [] zs e).0 })
-last_step [] (y ∷ ys) zs a b e = absurd (nothing ys zs b ((first_is a y [] (ys ++ b ∷ zs) e).1))
-last_step (x ∷ xs) [] zs a b e = inr (record { more = xs; parts = ap (λ (c : Step). c ∷ xs) (first_is x b (xs ++ a ∷ []) zs e).0 })
-last_step (x ∷ xs) (y ∷ ys) zs a b e = by (first_is x y (xs ++ a ∷ []) (ys ++ b ∷ zs) e).0 (last_step xs ys zs a b (first_is x y (xs ++ a ∷ []) (ys ++ b ∷ zs) e).1)
-  where
-    by : x ≡ y → IsLastStep xs ys zs a b ⊎ IsEarlier xs ys b → IsLastStep (x ∷ xs) (y ∷ ys) zs a b ⊎ IsEarlier (x ∷ xs) (y ∷ ys) b
-    by here (inl is) = inl (record { all = ap (λ (c : Step). c ∷ xs) here ∙ ap (λ (l : List Step). y ∷ l) is.all; same = is.same })
-    by here (inr is) = inr (record { more = is.more; parts = ap (λ (c : Step). c ∷ xs) here ∙ ap (λ (l : List Step). y ∷ l) is.parts })
+pub started_clock : (setting : Setting) (s : Simulation) → Starts setting s → clock_in s ≡ 0
+started_clock setting _ (simulations.starts c is) = is.clock
 
 pub begins_low : (setting : Setting) (s : Simulation) → Starts setting s → StandsLow setting [] s
-begins_low setting s is = record { after = begins setting s is; low = λ ys zs m parts x. absurd (nothing ys zs Pass parts) }
+begins_low setting s is = record { after = begins setting s is; low = let start : clock_in s ≡ 0 = started_clock setting s is in omega (arith, start) }
+
+goes_on_low : (setting : Setting) (steps : List Step) (step : Step) (s t : Simulation) → StandsLow setting steps s → Takes step s t → IsShort step s t → StandsLow setting (steps ++ step ∷ []) t
+goes_on_low setting steps step s t x takes short = record {
+  after = goes_on setting steps step s t x.after takes;
+  low = subst (λ (n : ℕ). clock_in t ≤ 2 ^ 64 * n) (sym (length-append steps (step ∷ []))) (stays_low step s t (length steps) takes short x.low);
+}
 
 pub chosen_low : (setting : Setting) (steps : List Step) (k : ℕ) (s t : Simulation) → StandsLow setting steps s → Chooses k s t → StandsLow setting (steps ++ Pick k ∷ []) t
-chosen_low setting steps k s t x takes = record {
-  after = goes_on setting steps (Pick k) s t x.after takes;
-  low = λ ys zs m parts there. by ys zs m there (last_step steps ys zs (Pick k) Pass parts);
-}
-  where
-    no_pass : Pick k ≡ Pass → ⊥
-    no_pass e = cc
+chosen_low setting steps k s t x takes = goes_on_low setting steps (Pick k) s t x takes tt
 
-    by : (ys zs : List Step) (m : Simulation) → StandsAfter setting ys m → IsLastStep steps ys zs (Pick k) Pass ⊎ IsEarlier steps ys Pass → clock_in m < 2 ^ 127
-    by ys zs m there (inl is) = absurd (no_pass is.same)
-    by ys zs m there (inr is) = x.low ys is.more m is.parts there
-
-pub passed_low : Known → (setting : Setting) (steps : List Step) (s t : Simulation) → StandsLow setting steps s → Passes s t → clock_in s < 2 ^ 127 → StandsLow setting (steps ++ Pass ∷ []) t
-passed_low known setting steps s t x takes low = record {
-  after = goes_on setting steps Pass s t x.after takes;
-  low = λ ys zs m parts there. by ys zs m there (last_step steps ys zs Pass Pass parts);
-}
-  where
-    by : (ys zs : List Step) (m : Simulation) → StandsAfter setting ys m → IsLastStep steps ys zs Pass Pass ⊎ IsEarlier steps ys Pass → clock_in m < 2 ^ 127
-    by ys zs m there (inl is) =
-        let same : s ≡ m = one_place known setting ys s m (subst (λ (l : List Step). StandsAfter setting l s) is.all x.after) there in
-        subst (λ (z : Simulation). clock_in z < 2 ^ 127) same low
-    by ys zs m there (inr is) = x.low ys is.more m is.parts there
+pub passed_low : (setting : Setting) (steps : List Step) (s t : Simulation) → StandsLow setting steps s → Passes s t → clock_in t < clock_in s + 2 ^ 64 → StandsLow setting (steps ++ Pass ∷ []) t
+passed_low setting steps s t x takes short = goes_on_low setting steps Pass s t x takes short
 
 -- Sessions
 
@@ -199,22 +163,19 @@ not_lost true setting s Pass can = absurd (never can.1)
     never e = cc
 not_lost false setting s step can = refl
 
--- nor stands anywhere; else its first steps lead somewhere too, and each passing among them is from a low clock
+-- nor stands anywhere; else its first steps lead somewhere too
 pub front_of_session : (b : Bool) (s : Simulation) (steps front more : List Step) → steps ≡ front ++ more
-    → StandsLow (setting_in (if b then broken (setting_in s) else s)) steps (if b then broken (setting_in s) else s) → (t : Simulation) × StandsLow (setting_in s) front t
+    → StandsLow (setting_in (if b then broken (setting_in s) else s)) steps (if b then broken (setting_in s) else s) → (t : Simulation) × StandsAfter (setting_in s) front t
 front_of_session true s steps front more parts x = absurd (never x.after.is_there)
   where
     never : {c : Config} {standing : Standing} → broken (setting_in s) ≡ stands (setting_in s) c standing → ⊥
     never e = cc
-front_of_session false s steps front more parts x =
-    let there = front_placed (setting_in s) front more s (subst (λ (l : List Step). StandsAfter (setting_in s) l s) parts x.after) in (
-      there.0,
-      record {
-        after = there.1;
-        low = λ ys zs m e stood. x.low ys (zs ++ more) m (parts ∙ ap (λ (l : List Step). l ++ more) e ∙ append_assoc ys (Pass ∷ zs) more) stood;
-      },
-    )
+front_of_session false s steps front more parts x = front_placed (setting_in s) front more s (subst (λ (l : List Step). StandsAfter (setting_in s) l s) parts x.after)
 
 -- the setting of a simulator is its model and its limits
 pub same_setting : (m : ModelTree) (limits : Limits) (s : Simulation) → m ≡ model_in s → limits ≡ limits_in s → setting_of m limits ≡ setting_in s
 same_setting m limits s e f = ap (λ (n : ModelTree). setting_of n limits) e ∙ ap (λ (l : Limits). setting_of (model_in s) l) f
+
+-- where time passes and the clock is at most 2^64 units for each step, a passing can be taken
+pub time_can : (s : Simulation) (m : Moment) (d n : ℕ) → m ≡ Time d → IsMomentOf s m → n < 2 ^ 63 → clock_in s ≤ 2 ^ 64 * n → CanTake Pass s
+time_can s m d n is at few low = (d, subst (λ (x : Moment). IsMomentOf s x) is at, is_low n (clock_in s) few low)

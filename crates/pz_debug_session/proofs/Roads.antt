@@ -1,23 +1,25 @@
 -- Steps lead on in one way.
-use Rattle.std.proofs.Common.{◌≡◌, ◌<◌, ◌≤◌, ◌+◌, ◌^◌, ℕ, zero, suc, List, [], ◌∷◌, ◌++◌, length, get_or, take, drop, drop-cons, Some, Result, Ok, Err, refl, sym, ap, subst, ◌∙◌, arith}
+use Rattle.std.proofs.Common.{◌≡◌, ◌<◌, ◌≤◌, ◌+◌, ◌*◌, ◌^◌, ℕ, zero, suc, List, [], ◌∷◌, ◌++◌, length, get_or, take, drop, drop-cons, Some, Result, Ok, Err, refl, sym, ap, subst, ◌∙◌, arith}
 use Rattle.std.specs.Prelude.{slice_get}
-use Rattle.std.proofs.lemmas.List.{take_all, take-append-drop}
+use Rattle.std.proofs.lemmas.List.{take_all}
 use Rattle.std.proofs.Math.Seq.{take-suc}
+use Rattle.pz_offer.specs.declared.end.End.{End}
 use Rattle.pz_offer.specs.declared.trouble.Trouble.{Trouble}
 use Rattle.pz_rules.specs.declared.action.Action.{Action}
 use Rattle.pz_rules.specs.declared.moment.Moment.{Moment}
 use Rattle.pz_rules.specs.declared.moment.Moment.TheVariants.{Actions, Time}
-use Rattle.pz_rules.specs.Settings.{Setting}
+use Rattle.pz_rules.specs.Settings.{Setting, Process}
 use Rattle.pz_rules.specs.Configurations.{Config}
 use Rattle.pz_rules.specs.Runs.{whole, stopped, IsChoice}
-use Rattle.pz_rules.specs.Steps.{Next, PassesTo}
+use Rattle.pz_rules.specs.Meanings.{and_then}
+use Rattle.pz_rules.specs.Steps.{Next, internal, communication, with_process, with_both, PassesTo}
 use Rattle.pz_rules.specs.Laws.{OneListOfOffers}
 use Rattle.pz_term.specs.Simulations as simulations
 use Rattle.pz_term.specs.Simulations.{Simulation, stands, broken, IsMomentOf, Chooses, Passes, clock_in}
 use Rattle.pz_debug_session.specs.declared.step.Step.{Step}
 use Rattle.pz_debug_session.specs.declared.step.Step.TheVariants.{Pick, Pass}
 use Rattle.pz_debug_session.specs.devices.Known.{Known}
-use Rattle.pz_debug_session.specs.devices.Leading.{Takes, CanTake, Leads, arrived, further, AreLow, IsWholeAt, OnTheWay}
+use Rattle.pz_debug_session.specs.devices.Leading.{Takes, CanTake, IsShort, Leads, arrived, further, IsWholeAt, OnTheWay}
 
 -- A step that is taken can be
 
@@ -100,6 +102,35 @@ module _ (known : Known) where
       let same : m ≡ n = one_taken step s m n all takes also in
       one_road m t u steps (whole_taken step s m all takes) leads (subst (λ (x : Simulation). Leads x steps u) (sym same) there)
 
+-- The clock: an action leaves it, and a passing is short
+
+module _ (c next : Config) where
+  ok_clock : (i : ℕ) (left : Result Process Trouble) → and_then left (λ p. Ok (with_process c i p)) ≡ Ok next → next.clock ≡ c.clock
+  ok_clock i (Ok p) e = ap (λ (x : Config). x.clock) (sym (ok_is {x = with_process c i p} {y = next} e))
+  ok_clock i (Err t) e = absurd cc
+
+  both_clock : (sender receiver : End) (sent taken : Result Process Trouble) → and_then sent (λ p. and_then taken (λ q. Ok (with_both c sender receiver p q))) ≡ Ok next → next.clock ≡ c.clock
+  both_clock sender receiver (Ok p) (Ok q) e = ap (λ (x : Config). x.clock) (sym (ok_is {x = with_both c sender receiver p q} {y = next} e))
+  both_clock sender receiver (Ok p) (Err t) e = absurd cc
+  both_clock sender receiver (Err t) taken e = absurd cc
+
+  next_clock : (setting : Setting) (a : Action) (r : Result Config Trouble) → Next setting c a r → r ≡ Ok next → next.clock ≡ c.clock
+  next_clock setting _ _ (internal at kind pos left acts) e = ok_clock at.process left e
+  next_clock setting _ _ (communication number sender receiver message parcel sent taken hands takes) e = both_clock sender receiver sent taken e
+
+chosen_clock : (k : ℕ) (s t : Simulation) → Chooses k s t → clock_in t ≡ clock_in s
+chosen_clock k _ _ (simulations.acts setting c next n a is choice to) = next_clock c next setting a (Ok next) to refl
+chosen_clock k _ _ (simulations.stops setting c n a trouble is choice to) = refl
+
+-- where the clock was at most 2^64 units for each step, it is so with one step more
+pub stays_low : (step : Step) (s t : Simulation) (n : ℕ) → Takes step s t → IsShort step s t → clock_in s ≤ 2 ^ 64 * n → clock_in t ≤ 2 ^ 64 * (n + 1)
+stays_low (Pick k) s t n takes short low = let same : clock_in t ≡ clock_in s = chosen_clock k s t takes in omega (arith, same, low)
+stays_low Pass s t n takes short low = let less : clock_in t < clock_in s + 2 ^ 64 = short in omega (arith, less, low)
+
+-- and a list has fewer than 2^63 steps
+pub is_low : (n clock : ℕ) → n < 2 ^ 63 → clock ≤ 2 ^ 64 * n → clock < 2 ^ 127
+is_low n clock few low = omega (arith, few, low)
+
 -- Lists of steps
 
 pub leads_on : (s t u : Simulation) (steps : List Step) (step : Step) → Leads s steps t → Takes step t u → Leads s (steps ++ step ∷ []) u
@@ -122,8 +153,8 @@ splits s t (step ∷ steps) more (further _ _ m _ _ takes leads) =
 first_of : (s t : Simulation) (step : Step) (steps : List Step) → Leads s (step ∷ steps) t → (m : Simulation) × Takes step s m × Leads m steps t
 first_of s t step steps (further _ _ m _ _ takes leads) = (m, takes, leads)
 
-pub sets_out : (s t : Simulation) (steps : List Step) → IsWholeAt s → Leads s steps t → OnTheWay steps 0 s s
-sets_out s t steps all leads = record { all = all; before = arrived s; to = t; after = leads }
+pub sets_out : (s t : Simulation) (steps : List Step) → IsWholeAt s → clock_in s ≡ 0 → Leads s steps t → OnTheWay steps 0 s s
+sets_out s t steps all start leads = record { within = omega arith; all = all; low = omega (arith, start); before = arrived s; to = t; after = leads }
 
 module _ (steps : List Step) (i : ℕ) (d : Step) (first here : Simulation) (within : i < length steps) (way : OnTheWay steps i first here) where
   abbrev step : Step
@@ -132,22 +163,21 @@ module _ (steps : List Step) (i : ℕ) (d : Step) (first here : Simulation) (wit
   next_of : (m : Simulation) × Takes step here m × Leads m (drop (suc i) steps) way.to
   next_of = first_of here way.to step (drop (suc i) steps) (subst (λ (l : List Step). Leads here l way.to) (drop-cons steps i d within) way.after)
 
-  pub next_can : AreLow first steps → CanTake step here
-  next_can low = can_take step here next_of.0 next_of.1 (is_low step refl)
+  pub next_can : length steps < 2 ^ 63 → CanTake step here
+  next_can few = can_take step here next_of.0 next_of.1 (low_for step)
     where
-      parts : steps ≡ take i steps ++ step ∷ drop (suc i) steps
-      parts = sym (take-append-drop i steps) ∙ ap (λ (l : List Step). take i steps ++ l) (drop-cons steps i d within)
+      low_for : (x : Step) → IsLowFor x here
+      low_for (Pick k) = tt
+      low_for Pass = is_low i (clock_in here) (omega (arith, within, few)) way.low
 
-      is_low : (x : Step) → step ≡ x → IsLowFor x here
-      is_low (Pick k) e = tt
-      is_low Pass e = low (take i steps) (drop (suc i) steps) here (parts ∙ ap (λ (x : Step). take i steps ++ x ∷ drop (suc i) steps) e) way.before
-
-  pub goes_further : Known → (next : Simulation) → Takes step here next → OnTheWay steps (i + 1) first next
-  goes_further known next takes =
+  pub goes_further : Known → (next : Simulation) → Takes step here next → IsShort step here next → OnTheWay steps (i + 1) first next
+  goes_further known next takes short =
       let same : suc i ≡ i + 1 = omega arith in
       let front : take i steps ++ step ∷ [] ≡ take (i + 1) steps = sym (take-suc steps i d within) ∙ ap (λ (j : ℕ). take j steps) same in
       record {
+        within = omega (arith, within);
         all = whole_taken known step here next way.all takes;
+        low = stays_low step here next i takes short way.low;
         before = subst (λ (l : List Step). Leads first l next) front (leads_on first here next (take i steps) step way.before takes);
         to = way.to;
         after = subst (λ (j : ℕ). Leads next (drop j steps) way.to) same (subst (λ (x : Simulation). Leads x (drop (suc i) steps) way.to) (one_taken known step here next_of.0 next way.all next_of.1 takes) next_of.2);
@@ -155,3 +185,6 @@ module _ (steps : List Step) (i : ℕ) (d : Step) (first here : Simulation) (wit
 
 pub has_come : (steps : List Step) (i : ℕ) (first here : Simulation) → length steps ≤ i → OnTheWay steps i first here → Leads first steps here
 has_come steps i first here over way = subst (λ (l : List Step). Leads first l here) (take_all i steps over) way.before
+
+pub comes_low : (steps : List Step) (i : ℕ) (first here : Simulation) → OnTheWay steps i first here → clock_in here ≤ 2 ^ 64 * length steps
+comes_low steps i first here way = let within : i ≤ length steps = way.within in let low : clock_in here ≤ 2 ^ 64 * i = way.low in omega (arith, within, low)

@@ -1,5 +1,5 @@
 -- Laws of sessions.
-use Rattle.std.specs.Prelude.{◌≡◌, ◌<◌, ◌^◌, ℕ, List, [], ◌∷◌, ◌++◌, take}
+use Rattle.std.specs.Prelude.{◌≡◌, ◌<◌, ◌+◌, ◌^◌, ℕ, List, [], ◌∷◌, ◌++◌, take}
 use Rattle.pz_rules.specs.Settings.{Setting}
 use Rattle.pz_term.specs.Simulations.{Simulation, Starts, Chooses, Passes, clock_in}
 use Rattle.pz_debug_session.specs.declared.step.Step.{Step}
@@ -26,7 +26,7 @@ GoesOnByPassing = (setting : Setting) (steps : List Step) (s t : Simulation) →
 abbrev pub FrontsLead : Type 0
 FrontsLead = (setting : Setting) (steps : List Step) (n : ℕ) (s : Simulation) → StandsAfter setting steps s → (t : Simulation) × StandsAfter setting (take n steps) t
 
--- the same of sessions whose passings are taken where the clock is below 2^127
+-- the same of sessions whose clock is at most 2^64 units for each step
 
 abbrev pub BeginsLow : Type 0
 BeginsLow = (setting : Setting) (s : Simulation) → Starts setting s → StandsLow setting [] s
@@ -35,4 +35,4 @@ abbrev pub StaysLowByChoice : Type 0
 StaysLowByChoice = (setting : Setting) (steps : List Step) (k : ℕ) (s t : Simulation) → StandsLow setting steps s → Chooses k s t → StandsLow setting (steps ++ Pick k ∷ []) t
 
 abbrev pub StaysLowByPassing : Type 0
-StaysLowByPassing = (setting : Setting) (steps : List Step) (s t : Simulation) → StandsLow setting steps s → Passes s t → clock_in s < 2 ^ 127 → StandsLow setting (steps ++ Pass ∷ []) t
+StaysLowByPassing = (setting : Setting) (steps : List Step) (s t : Simulation) → StandsLow setting steps s → Passes s t → clock_in t < clock_in s + 2 ^ 64 → StandsLow setting (steps ++ Pass ∷ []) t

@@ -1,5 +1,5 @@
 -- The steps of a session, and the runs that they are taken in.
-use Rattle.std.specs.Prelude.{◌≡◌, ◌<◌, ◌^◌, List, ◌∷◌, ◌++◌, map}
+use Rattle.std.specs.Prelude.{◌≡◌, ◌≤◌, ◌*◌, ◌^◌, List, length, map}
 use Rattle.pz_rules.specs.Settings.{Setting}
 use Rattle.pz_rules.specs.Configurations.{Config}
 use Rattle.pz_rules.specs.Starting.{IsStart}
@@ -25,7 +25,7 @@ pub record StandsAfter (setting : Setting) (steps : List Step) (s : Simulation) 
   pub are_steps : steps ≡ map step_of events
   pub is_there : s ≡ stands setting end standing
 
--- The same, and each passing was taken where the clock was below 2^127, as `pass` asks.
+-- The same, and the clock is at most 2^64 units for each step, as it is where each passing was shorter.
 pub record StandsLow (setting : Setting) (steps : List Step) (s : Simulation) : Type 0 where
   pub after : StandsAfter setting steps s
-  pub low : (ys zs : List Step) (m : Simulation) → steps ≡ ys ++ Pass ∷ zs → StandsAfter setting ys m → clock_in m < 2 ^ 127
+  pub low : clock_in s ≤ 2 ^ 64 * length steps

@@ -1,10 +1,10 @@
 // A run that is played once more.
 
-ghost use Rattle.std.specs.Prelude.{◌≡◌, IfOk};
+ghost use Rattle.std.specs.Prelude.{◌≡◌, ◌<◌, ◌^◌, length, IfOk};
 ghost use Rattle.pz_classes_openings.specs.OpeningRules.{Opens};
 ghost use Rattle.pz_rules.specs.declared.limits.Edition.TheVariants.{Two};
 ghost use Rattle.pz_term.specs.Simulations.{Simulation, Starts, setting_in, model_in, limits_in};
-ghost use Rattle.pz_debug_session.specs.Steps.{StandsLow};
+ghost use Rattle.pz_debug_session.specs.Steps.{StandsAfter, StandsLow};
 
 use crate::engine::Engine;
 use crate::laws::rules_are_known;
@@ -34,7 +34,7 @@ fn start_again<E: Engine>(alloc: Global, engine: &E) -> Result<E, AllocError>
 }
 
 /// Another simulator of the same model by the same limits, that has taken these steps from the start
-/// on, which lead somewhere, each passing from a low clock. The only error is want of memory.
+/// on, which lead somewhere. The only error is want of memory.
 pub(crate) fn play_again<E: Engine + Drop>(
     alloc: Global,
     engine: &E,
@@ -42,8 +42,9 @@ pub(crate) fn play_again<E: Engine + Drop>(
 ) -> Result<E, AllocError>
     requires opens { (limits_in (E.simulation engine.now)).edition ≡ Two →
         Opens (model_in (E.simulation engine.now)) }
-    requires leads { (to : Simulation) × StandsLow (setting_in (E.simulation engine.now))
+    requires leads { (to : Simulation) × StandsAfter (setting_in (E.simulation engine.now))
         steps.now to }
+    requires few { length steps.now < 2 ^ 63 }
     ensures { IfOk result (λ again. StandsLow (setting_in (E.simulation engine.now)) steps.now
         (E.simulation again)) }
 {

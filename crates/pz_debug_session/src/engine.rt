@@ -8,7 +8,7 @@ ghost use Rattle.pz_term.specs.Simulations.{Starts};
 
 use pz_bind::Net;
 use pz_classes::Checked;
-use pz_term::{Limits, Plain, Simulator};
+use pz_term::{Limits, Simulator};
 use std::alloc::{AllocError, Global};
 
 /// A simulator that can be started.
@@ -22,15 +22,4 @@ pub trait Engine: Simulator {
         requires opens { limits.edition ≡ Two → Opens (checked_model checked) }
         ensures { IfOk result (λ engine. Starts (setting_of (checked_model checked) limits)
             (Self.simulation engine)) };
-}
-
-impl Engine for Plain {
-    fn start(
-        alloc: Global,
-        checked: Checked,
-        net: Net,
-        limits: Limits,
-    ) -> Result<Plain, AllocError> {
-        Plain::start(alloc, checked, net, limits)
-    }
 }

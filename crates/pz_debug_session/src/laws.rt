@@ -11,7 +11,8 @@ pub fn sessions_have_one_place()
 }
 
 /// Before its first step a session stands at the start of a run. After each step it stands where its
-/// steps lead, with this one; and its passings were taken where the clock was below 2^127, if this one was.
+/// steps lead, with this one; and the clock is at most 2^64 units for each of them, if it was and a passing
+/// is shorter.
 pub fn sessions_go_on()
     ensures start { BeginsAtStart }
     ensures choice { GoesOnByChoice }

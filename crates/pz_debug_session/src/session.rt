@@ -1,4 +1,4 @@
-ghost use Rattle.std.specs.Prelude.{◌≡◌, ◌≤◌, ◌<◌, ◌+◌, ◌-◌, ◌^◌, ℕ, [], ◌∷◌, ◌++◌, length, take, IfOk, OnOk, IfErr, OnErr, Err};
+ghost use Rattle.std.specs.Prelude.{◌≡◌, ◌≤◌, ◌<◌, ◌+◌, ◌-◌, ◌*◌, ◌^◌, ℕ, [], ◌∷◌, ◌++◌, length, take, IfOk, OnOk, IfErr, OnErr, Err};
 ghost use Rattle.pz_classes.specs.CheckedView.{checked_model};
 ghost use Rattle.pz_classes_openings.specs.OpeningRules.{Opens};
 ghost use Rattle.pz_bind.specs.devices.Nets.{IsNet};
@@ -172,28 +172,26 @@ impl<E: Engine + Drop> Session<E> {
             (stands_in E.simulation self.old) }
     {
         match self.moment() {
-            Moment::Actions(offers) => {
-                if offers <= k {
-                    return Err(ChooseError::NoSuchOffer { offers });
-                }
-                match self.take(Step::Pick(k)) {
-                    Ok(()) => Ok(()),
-                    Err(_) => Err(ChooseError::NoMemory),
-                }
-            }
+            Moment::Actions(offers) if k < offers => match self.take(Step::Pick(k)) {
+                Ok(()) => Ok(()),
+                Err(_) => Err(ChooseError::NoMemory),
+            },
+            Moment::Actions(offers) => Err(ChooseError::NoSuchOffer { offers }),
             moment => Err(ChooseError::NotNow(moment)),
         }
     }
 
     /// Lets time pass, by the least that is left of an active delay, which is less than 2^64 clock units.
-    /// That is one step. The clock is below 2^127.
+    /// That is one step. The clock is at most 2^64 units for each step that was taken: so no clock passes the
+    /// end of its type, since a list has fewer than 2^63 items.
     ///
     /// # Errors
     ///
     /// But for `NoMemory`, `NotNow` comes exactly where the moment is not `Time`; then nothing has
     /// changed. After `NoMemory` the moment is `Broken`.
     pub fn pass(&mut self) -> Result<(), PassError>
-        requires low { clock_in (stands_in E.simulation self.old) < 2 ^ 127 }
+        requires low { clock_in (stands_in E.simulation self.old) ≤
+            2 ^ 64 * length (steps_in self.old) }
         ensures ok { OnOk result (Passes (stands_in E.simulation self.old)
             (stands_in E.simulation self.new)) }
         ensures short { OnOk result (clock_in (stands_in E.simulation self.new) <
@@ -247,7 +245,7 @@ impl<E: Engine + Drop> Session<E> {
     /// by another simulator that takes the place of the first one. Takes the time of these steps, and for
     /// that time the memory of both.
     ///
-    /// The session is where its steps lead, and took its passings where the clock was low, as it is and did
+    /// The session is where its steps lead, and its clock is at most 2^64 units for each of them, as it is
     /// unless memory was wanting for a step; and the model is one with which it may begin.
     ///
     /// # Errors

@@ -1,9 +1,9 @@
 // Steps of a simulator, each with a count of its own that nobody reads.
 
-ghost use Rattle.std.specs.Prelude.{◌≡◌, ◌≤◌, ◌<◌, ◌+◌, ◌^◌, IfErr, OnOk, OnErr, ℕ};
+ghost use Rattle.std.specs.Prelude.{◌≡◌, ◌≤◌, ◌<◌, ◌+◌, ◌*◌, ◌^◌, length, IfErr, OnOk, OnErr, ℕ};
 ghost use Rattle.pz_term.specs.Simulations.{Simulation, IsMomentOf, Chooses, Passes, IsBroken, setting_in, clock_in};
 ghost use Rattle.pz_term.specs.Refusals.{OnNoSuchOffer, OnChooseNotNow, OnChooseRefused, OnChooseNoMemory, NoActions, OnPassNotNow, OnPassRefused, OnPassNoMemory, NoTime};
-ghost use Rattle.pz_debug_session.specs.devices.Leading.{Takes, CanTake, IsShort, Leads, AreLow, IsWholeAt};
+ghost use Rattle.pz_debug_session.specs.devices.Leading.{Takes, CanTake, IsShort, Leads, IsWholeAt};
 
 use crate::laws::rules_are_known;
 use crate::step::Step;
@@ -104,13 +104,16 @@ fn pass<E: Simulator>(engine: &mut E) -> Result<(), AllocError>
     }
 }
 
-/// Takes these steps one after the other, which can be taken. The only error is want of memory, and
-/// then nothing is said of the simulator.
+/// Takes these steps one after the other, which can be taken, from clock 0 on. The only error is want of
+/// memory, and then nothing is said of the simulator.
 pub(crate) fn take_all<E: Simulator>(engine: &mut E, steps: &[Step]) -> Result<(), AllocError>
     requires whole { IsWholeAt (E.simulation engine.old) }
     requires leads { (to : Simulation) × Leads (E.simulation engine.old) steps.now to }
-    requires low { AreLow (E.simulation engine.old) steps.now }
-    ensures { OnOk result (Leads (E.simulation engine.old) steps.now (E.simulation engine.new)) }
+    requires start { clock_in (E.simulation engine.old) ≡ 0 }
+    requires few { length steps.now < 2 ^ 63 }
+    ensures leads { OnOk result (Leads (E.simulation engine.old) steps.now
+        (E.simulation engine.new)) }
+    ensures low { OnOk result (clock_in (E.simulation engine.new) ≤ 2 ^ 64 * length steps.now) }
 {
     rules_are_known();
     for step in steps {

@@ -1,5 +1,5 @@
 -- The steps of a session one by one, from where a simulator stands.
-use Rattle.std.specs.Prelude.{◌≡◌, ◌<◌, ◌+◌, ◌^◌, ℕ, List, [], ◌∷◌, ◌++◌, take, drop}
+use Rattle.std.specs.Prelude.{◌≤◌, ◌<◌, ◌+◌, ◌*◌, ◌^◌, ℕ, List, [], ◌∷◌, length, take, drop}
 use Rattle.pz_rules.specs.declared.moment.Moment.TheVariants.{Actions, Time}
 use Rattle.pz_rules.specs.Configurations.{IsWhole}
 use Rattle.pz_term.specs.Simulations.{Simulation, stands, broken, IsMomentOf, Chooses, Passes, clock_in}
@@ -24,18 +24,16 @@ pub data Leads : Simulation → List Step → Simulation → Type 0 where
   arrived : (s : Simulation) → Leads s [] s
   further : (step : Step) (s m t : Simulation) (steps : List Step) → Takes step s m → Leads m steps t → Leads s (step ∷ steps) t
 
--- each passing among the steps is taken where the clock is low
-abbrev pub AreLow : Simulation → List Step → Type 0
-AreLow s steps = (ys zs : List Step) (m : Simulation) → steps ≡ ys ++ Pass ∷ zs → Leads s ys m → clock_in m < 2 ^ 127
-
 -- it has all processes
 abbrev pub IsWholeAt : Simulation → Type 0
 IsWholeAt (stands setting c standing) = IsWhole setting c
 IsWholeAt (broken setting) = Unit {0}
 
--- so many of the steps are taken, and the others can be
+-- so many of the steps are taken, by short passings, and the others can be
 pub record OnTheWay (steps : List Step) (i : ℕ) (first here : Simulation) : Type 0 where
+  pub within : i ≤ length steps
   pub all : IsWholeAt here
+  pub low : clock_in here ≤ 2 ^ 64 * i
   pub before : Leads first (take i steps) here
   pub to : Simulation
   pub after : Leads here (drop i steps) to

@@ -10,6 +10,7 @@ returns-clause-reply c = λ setting line k xs ys zs text other. one_reply (recor
   counted = c.simulators_show_one_moment.ensures.counted;
   numbered = c.simulators_show_one_moment.ensures.numbered;
   list = c.one_list_of_offers.ensures.one;
+  packed = c.walks_list_what_is_active.ensures.parcels;
 }) setting line k xs ys zs text other
 
 pub returns-clause-text : goal.returns-clause-text
@@ -21,4 +22,5 @@ returns-clause-text c = λ setting line cs xs ys zs text other. one_text (record
   counted = c.simulators_show_one_moment.ensures.counted;
   numbered = c.simulators_show_one_moment.ensures.numbered;
   list = c.one_list_of_offers.ensures.one;
+  packed = c.walks_list_what_is_active.ensures.parcels;
 }) setting line cs xs ys zs text other

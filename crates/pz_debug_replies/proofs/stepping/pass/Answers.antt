@@ -1,25 +1,15 @@
-use Rattle.std.proofs.Common.{◌<◌, ◌^◌, arith}
-use Rattle.pz_term.specs.Simulations.{clock_in}
 use Rattle.pz_debug_session.specs.Sessions.{stands_in, steps_in}
-use Rattle.pz_debug_replies.proofs.Places.{clock_of_time}
 use Rattle.pz_debug_replies.proofs.Replied.{at_passing, at_steps, no_time}
 use Rattle.pz_debug_replies.proofs.stepping.pass.Goals as goal
 
 pub pass-requires : goal.pass-requires
-pass-requires g c =
-    let s = stands_in g.E.Simulator.simulation c.args.session.now in
-    let same = clock_of_time s c.requires.there.0 c.clock.result c.requires.there.1 c.clock.ensures in
-    let low = c.if-clock-ge-HIGH.false in
-    omega (arith, same, low)
+pass-requires g c = record { low = c.requires.at.place.low }
 
 pub returns-in-Ok-clause-at : goal.returns-in-Ok-clause-at
 returns-in-Ok-clause-at g c =
     let s = stands_in g.E.Simulator.simulation c.args.session.now in
     let t = stands_in g.E.Simulator.simulation c.pass.new.self in
-    let same = clock_of_time s c.requires.there.0 c.clock.result c.requires.there.1 c.clock.ensures in
-    let below = c.if-clock-ge-HIGH.false in
-    let low : clock_in s < 2 ^ 127 = omega (arith, same, below) in
-    at_steps _ (steps_in c.pass.new.self) t c.in-Ok.ensures.steps (at_passing c.rules_are_known.ensures (steps_in c.args.session.now) s t c.requires.at low c.in-Ok.ensures.setting c.in-Ok.ensures.ok)
+    at_steps _ (steps_in c.pass.new.self) t c.in-Ok.ensures.steps (at_passing c.rules_are_known.ensures (steps_in c.args.session.now) s t c.requires.at c.in-Ok.ensures.short c.in-Ok.ensures.setting c.in-Ok.ensures.ok)
 
 pub unreachable-requires : goal.unreachable-requires
 unreachable-requires g c =
