@@ -1,10 +1,11 @@
-//! Takes the plain simulator step by step through models, and shows after each step what it answered,
+//! Takes simulators step by step through models, and shows after each step what they answered,
 //! the clock, the moment and the offers. Nothing is promised here: the output is the test.
 //!
 //! A line `MODEL STEP ..` of the input names a file and steps: a number chooses the offer of this number,
 //! `pass` lets time pass, and `values` shows what variables hold. The word `second` before it asks for the second edition of the rules, in
-//! which a call without inputs and results is no action. With the arguments `ring STATIONS EVENTS` it plays so many events of a ring,
-//! of the offers always the first.
+//! which a call without inputs and results is no action. A line `ring STATIONS EVENTS SEED` plays a ring, of whose offers a
+//! seed draws. The word `trees` before a line asks for the simulator over execution trees. With the arguments `ring STATIONS EVENTS` it plays so many events of a ring,
+//! of the offers always the first, on the plain simulator.
 #![tactic(auto)]
 
 mod models;

@@ -9,6 +9,7 @@ use crate::plays::{Play, show_play};
 use pz_bind::Net;
 use pz_classes::Checked;
 use pz_run_reading::{open_model, read_model};
+use pz_sim::Sim;
 use pz_term::{Edition, Limits, Plain, Steps};
 use std::io;
 use std::marker::Brand;
@@ -34,6 +35,15 @@ const SECOND: Limits = Limits {
     edition: Edition::Two,
 };
 
+/// Which simulator is taken.
+#[derive(Clone, Copy)]
+pub enum Engine {
+    /// That which finds all anew at each moment.
+    Plain,
+    /// That over execution trees.
+    Trees,
+}
+
 // The one owner of a simulator, which is long to drop.
 fn show_plain<L: Ledger>(
     rt: &HostRuntime,
@@ -48,6 +58,23 @@ fn show_plain<L: Ledger>(
     let mut steps = Steps::<L>::new(ledger);
     let answer = show_play(rt, &mut plain, play, &mut steps);
     drop(plain);
+    answer
+}
+
+// The same of the other.
+fn show_trees<L: Ledger>(
+    rt: &HostRuntime,
+    mut sim: Sim,
+    play: Play<'_>,
+    ledger: Blank,
+) -> io::Result<()>
+    requires name { ledger.name ≡ L.name }
+    requires parts { ledger.parts ≡ L.parts }
+    requires some { 0 < L.parts }
+{
+    let mut steps = Steps::<L>::new(ledger);
+    let answer = show_play(rt, &mut sim, play, &mut steps);
+    drop(sim);
     answer
 }
 
@@ -67,19 +94,42 @@ fn show_net(
     }
 }
 
-fn show_model(rt: &HostRuntime, checked: Checked, limits: Limits, play: Play<'_>) -> io::Result<()>
+fn show_net_on_trees(
+    rt: &HostRuntime,
+    checked: Checked,
+    net: Net,
+    limits: Limits,
+    play: Play<'_>,
+) -> io::Result<()>
+    requires of_model { ∥ IsNet (checked_model checked) net ∥₁ }
     requires opens { limits.edition ≡ Edition.Two → Opens (checked_model checked) }
 {
-    match Net::flatten(rt.alloc(), &checked) {
-        Ok(net) => show_net(rt, checked, net, limits, play),
+    match Sim::start(rt.alloc(), checked, net, limits) {
+        Ok(sim) => show_trees::<Brand>(rt, sim, play, Blank::new(1)),
         Err(_) => println!(rt; "no memory"),
     }
 }
 
+fn show_model(
+    rt: &HostRuntime,
+    checked: Checked,
+    limits: Limits,
+    engine: Engine,
+    play: Play<'_>,
+) -> io::Result<()>
+    requires opens { limits.edition ≡ Edition.Two → Opens (checked_model checked) }
+{
+    match (Net::flatten(rt.alloc(), &checked), engine) {
+        (Ok(net), Engine::Plain) => show_net(rt, checked, net, limits, play),
+        (Ok(net), Engine::Trees) => show_net_on_trees(rt, checked, net, limits, play),
+        (Err(_), _) => println!(rt; "no memory"),
+    }
+}
+
 // A model runs by the second edition only where it opens.
-fn show_open(rt: &HostRuntime, checked: Checked, play: Play<'_>) -> io::Result<()> {
+fn show_open(rt: &HostRuntime, checked: Checked, engine: Engine, play: Play<'_>) -> io::Result<()> {
     match open_model(rt.alloc(), &checked) {
-        Ok(()) => show_model(rt, checked, SECOND, play),
+        Ok(()) => show_model(rt, checked, SECOND, engine, play),
         Err(error) => println!(rt; "no model: {error:?}"),
     }
 }
@@ -89,14 +139,15 @@ pub fn show_text(
     rt: &HostRuntime,
     text: &[u8],
     edition: Edition,
+    engine: Engine,
     play: Play<'_>,
 ) -> io::Result<()> {
     if text.len() > LIMIT {
         return println!(rt; "too long");
     }
     match (read_model(rt.alloc(), text), edition) {
-        (Ok(checked), Edition::One) => show_model(rt, checked, FIRST, play),
-        (Ok(checked), Edition::Two) => show_open(rt, checked, play),
+        (Ok(checked), Edition::One) => show_model(rt, checked, FIRST, engine, play),
+        (Ok(checked), Edition::Two) => show_open(rt, checked, engine, play),
         (Err(error), _) => println!(rt; "no model: {error:?}"),
     }
 }

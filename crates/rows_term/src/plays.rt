@@ -5,6 +5,7 @@ ghost use Rattle.pz_term.specs.Simulations.{clock_in};
 
 use crate::offers::{show_moment, show_offers};
 use crate::values::show_values;
+use pz_choice::Chooser;
 use pz_term::{Moment, Simulator, Steps};
 use std::io;
 use std::sync::ledger::Ledger;
@@ -14,8 +15,9 @@ use std::sync::ledger::Ledger;
 pub enum Play<'a> {
     /// These steps, with blanks between them, and all that is there after each.
     Steps(&'a str),
-    /// So many events; shown is how many of them were actions, and the clock at the end.
-    Events(u64),
+    /// So many events, each time the first offer, or one that a seed draws; shown is how many of them were actions,
+    /// and what is there at the end.
+    Events { count: u64, seed: Option<u64> },
 }
 
 fn choose<S: Simulator, L: Ledger>(
@@ -92,10 +94,29 @@ fn show_steps<S: Simulator, L: Ledger>(
     Ok(())
 }
 
-// The first offer is taken, or time passes. Whether an action was taken.
-fn go_on<S: Simulator, L: Ledger>(sim: &mut S, steps: &mut Steps<L>) -> bool {
+fn take_drawn<S: Simulator, L: Ledger>(
+    sim: &mut S,
+    offers: u64,
+    chooser: &mut Chooser,
+    steps: &mut Steps<L>,
+) -> bool {
+    if offers == 0 {
+        return false;
+    }
+    match chooser.next(offers) {
+        Some(number) => sim.choose(number, steps).is_ok(),
+        None => false,
+    }
+}
+
+// An offer is taken, or time passes. Whether an action was taken.
+fn go_on<S: Simulator, L: Ledger>(
+    sim: &mut S,
+    chooser: &mut Chooser,
+    steps: &mut Steps<L>,
+) -> bool {
     match sim.moment() {
-        Moment::Actions(_) => sim.choose(0, steps).is_ok(),
+        Moment::Actions(offers) => take_drawn(sim, offers, chooser, steps),
         Moment::Time(_) => {
             if is_low(sim) {
                 let _passed = sim.pass(steps);
@@ -106,20 +127,30 @@ fn go_on<S: Simulator, L: Ledger>(sim: &mut S, steps: &mut Steps<L>) -> bool {
     }
 }
 
+fn chooser_of(seed: Option<u64>) -> Chooser {
+    match seed {
+        Some(seed) => Chooser::seed(seed),
+        None => Chooser::first(),
+    }
+}
+
 fn show_events<S: Simulator, L: Ledger>(
     rt: &HostRuntime,
     sim: &mut S,
     events: u64,
+    seed: Option<u64>,
     steps: &mut Steps<L>,
 ) -> io::Result<()> {
+    let mut chooser = chooser_of(seed);
     let mut actions: u64 = 0;
     for _ in 0..events {
-        if go_on(sim, steps) {
+        if go_on(sim, &mut chooser, steps) {
             actions = actions.saturating_add(1);
         }
     }
     let clock = sim.clock();
-    println!(rt; "{actions} actions to clock {clock}")
+    println!(rt; "{actions} actions to clock {clock}")?;
+    show_moment(rt, sim)
 }
 
 /// Plays a model from where a simulator stands.
@@ -131,6 +162,6 @@ pub fn show_play<S: Simulator, L: Ledger>(
 ) -> io::Result<()> {
     match play {
         Play::Steps(words) => show_steps(rt, sim, words, steps),
-        Play::Events(events) => show_events(rt, sim, events, steps),
+        Play::Events { count, seed } => show_events(rt, sim, count, seed, steps),
     }
 }

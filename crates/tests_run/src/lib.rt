@@ -8,4 +8,6 @@ mod programs;
 #[cfg(test)]
 mod replays;
 #[cfg(test)]
+mod simulators;
+#[cfg(test)]
 mod watches;

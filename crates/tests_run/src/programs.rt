@@ -1,7 +1,7 @@
 // What no clause says: that a call with ample memory does not answer want of it, and examples of each
 // answer, with the bytes that are printed.
 use pz_io::{Files, MemFiles, RoomySink, Sink};
-use pz_run::run_program;
+use pz_run::{Finish, run_program};
 use std::alloc::{AllocError, Global};
 use std::process::Abort;
 use std::test::Fail;
@@ -35,15 +35,25 @@ pub(crate) fn one_file(alloc: Global, text: &str, length: usize) -> Result<MemFi
     Ok(MemFiles::new(vec![in alloc; (name, bytes)]?))
 }
 
-// Calls the program with these words, and gives its exit status.
+// Calls the program with these words.
+pub(crate) fn finish<F: Files, W: Sink>(
+    alloc: Global,
+    line: &str,
+    files: &mut F,
+    out: &mut W,
+) -> Result<Finish, AllocError> {
+    let words = words_of(alloc, line)?;
+    Ok(run_program(alloc, &words, files, out))
+}
+
+// The same, and gives its exit status.
 pub(crate) fn call<F: Files, W: Sink>(
     alloc: Global,
     line: &str,
     files: &mut F,
     out: &mut W,
 ) -> Result<u8, AllocError> {
-    let words = words_of(alloc, line)?;
-    let finish = run_program(alloc, &words, files, out);
+    let finish = finish(alloc, line, files, out)?;
     Ok(finish.status.number())
 }
 
