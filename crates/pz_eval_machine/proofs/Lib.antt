@@ -8,3 +8,4 @@ pub mod Arguments
 pub mod Replied
 pub mod Unwinding
 pub mod Within
+pub mod Turning

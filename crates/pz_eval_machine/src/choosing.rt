@@ -3,13 +3,17 @@
 ghost use Rattle.std.specs.Prelude.{◌≡◌, ◌+◌, ◌<◌, ◌≤◌, ℕ, length, IfOk, OnOk, All};
 ghost use Rattle.pz_syntax.specs.Classes.{ModelTree};
 ghost use Rattle.pz_classes_code.specs.CodeView.{view, list_view, part_view};
+ghost use Rattle.pz_syntax.specs.declared.tokens.Pos.{Pos as Positions};
+ghost use Rattle.pz_value.specs.declared.value.Value.{Value as Values};
 ghost use Rattle.pz_value.specs.declared.value.Value.TheVariants.{Nil};
 ghost use Rattle.pz_eval_rules.specs.Steps.{truth, chosen};
 ghost use Rattle.pz_eval_rules.specs.Memories.{Memory, Location};
-ghost use Rattle.pz_eval_rules.specs.devices.Computed.{and_then, tick as ticked, tested, sequence, going, evaluated};
+ghost use Rattle.pz_eval_rules.specs.devices.Computed.{Computation, and_then, tick as ticked, tested, sequence, going, evaluated};
+ghost use Rattle.pz_eval_rules.specs.devices.Laws.{TurnsGoOn};
 ghost use Rattle.pz_eval_operations.specs.devices.Sites.{place_of, memory_of};
 ghost use Rattle.pz_eval_machine.specs.devices.Tasks.{turning, pending, meant, coming, then_tasks};
 ghost use Rattle.pz_eval_machine.specs.devices.Steps.{Goes};
+ghost use Rattle.pz_eval_machine.specs.devices.Turns.{Begins, Turned, Fewer};
 ghost use Rattle.pz_eval_operations.specs.devices.Within.{TaskWithin, ActivationWithin};
 ghost use Rattle.pz_eval_machine.specs.devices.Within.{ControlWithin};
 ghost use Rattle.pz_eval_machine.specs.devices.Weights.{list_weight, part_weight, tasks_weight, load, NoMore};
@@ -17,11 +21,12 @@ ghost use Rattle.pz_eval_machine.specs.devices.Weights.{list_weight, part_weight
 use crate::continuing::{add_task, descend, go_on_list, run_list};
 use crate::control::Control;
 use pz_classes_code::Code;
-use pz_eval_operations::{Activation, Stop, Task, at_once, tick};
+use pz_eval_operations::{Activation, Stop, Task, assign_number, at_once, tick, truth_at_once};
 use pz_items::Items;
 use pz_state::{FaultKind, State};
 use pz_syntax::Pos;
 use pz_value::Value;
+use std::alloc::AllocError;
 
 /// The part of an `if` that is chosen.
 fn chosen_part<'a>(test: bool, part: &'a [Code], other: &'a Option<Items<Code>>) -> &'a [Code]
@@ -152,7 +157,95 @@ fn begin_turn<'a>(
     }
 }
 
-/// A `while` goes on with its test, which counts one unit.
+/// Whether a further turn of a `while` begins at once: then its test is done, and its units are counted.
+fn turn_begins(
+    state: &State,
+    units: &mut u64,
+    activation: &Activation<'_>,
+    depth: u32,
+    test: &Code,
+) -> bool
+    ensures { Begins depth (place_of activation.now.site) (memory_of activation.now state.now.held)
+        (view test.now) units.old units.new result }
+{
+    if *units == 0 {
+        return false;
+    }
+    let mut left = *units - 1;
+    let Some(goes) = truth_at_once(state, &mut left, activation, depth, test) else {
+        return false;
+    };
+    if !goes {
+        return false;
+    }
+    *units = left;
+    true
+}
+
+/// The assignments of numbers with which the body of a `while` begins are done; the others are answered.
+/// The only error is want of memory.
+fn assign_numbers<'a>(
+    state: &mut State,
+    units: &mut u64,
+    activation: &mut Activation<'_>,
+    depth: u32,
+    codes: &'a [Code],
+) -> Result<&'a [Code], AllocError>
+    requires { ActivationWithin (length state.old.held.objects) activation.old }
+    ensures goes { IfOk result (λ left. (model : ModelTree) (now : ℕ) (next : Computation Values) →
+        and_then (sequence model now (evaluated model now depth) (place_of activation.old.site) Nil
+        (list_view left.now) (memory_of activation.new state.new.held) units.new) (λ _. next) ≡
+        and_then (sequence model now (evaluated model now depth) (place_of activation.old.site) Nil
+        (list_view codes.now) (memory_of activation.old state.old.held) units.old) (λ _. next)) }
+    ensures marks { state.new.marks ≡ state.old.marks }
+    ensures count { length state.new.held.objects ≡ length state.old.held.objects }
+    ensures site { activation.new.site ≡ activation.old.site }
+    ensures tasks { activation.new.tasks ≡ activation.old.tasks }
+    ensures within { ActivationWithin (length state.new.held.objects) activation.new }
+    ensures units { OnOk result (units.new ≤ units.old) }
+{
+    let mut left = codes;
+    'list: while let Some((first, rest)) = left.split_first() {
+        match assign_number(state, units, activation, depth, first)? {
+            Some(_) => left = rest,
+            None => return Ok(left),
+        }
+    }
+    Ok(left)
+}
+
+/// Turns of a `while` are done, as long as numbers alone are compared and assigned. What is answered is
+/// left of the body of a turn; else the next turn is to begin. The only error is want of memory.
+fn quick_turns<'a>(
+    state: &mut State,
+    units: &mut u64,
+    activation: &mut Activation<'_>,
+    depth: u32,
+    test: &Code,
+    body: &'a [Code],
+) -> Result<Option<&'a [Code]>, AllocError>
+    requires { ActivationWithin (length state.old.held.objects) activation.old }
+    ensures goes { TurnsGoOn → IfOk result (λ left. (model : ModelTree) (now : ℕ) (at : Positions) →
+        Turned model now depth (place_of activation.old.site) at (view test.now)
+        (list_view body.now) (memory_of activation.old state.old.held) units.old
+        (memory_of activation.new state.new.held) units.new left) }
+    ensures marks { state.new.marks ≡ state.old.marks }
+    ensures count { length state.new.held.objects ≡ length state.old.held.objects }
+    ensures site { activation.new.site ≡ activation.old.site }
+    ensures tasks { activation.new.tasks ≡ activation.old.tasks }
+    ensures within { ActivationWithin (length state.new.held.objects) activation.new }
+    ensures units { IfOk result (Fewer units.old units.new) }
+{
+    'turns: while turn_begins(state, units, activation, depth, test) {
+        let left = assign_numbers(state, units, activation, depth, body)?;
+        if !left.is_empty() {
+            return Ok(Some(left));
+        }
+    }
+    Ok(None)
+}
+
+/// A `while` goes on with its test, which counts one unit. Turns that are quick leave no task.
 pub(crate) fn go_on_turns<'a>(
     state: &mut State,
     units: &mut u64,
@@ -177,5 +270,18 @@ pub(crate) fn go_on_turns<'a>(
     ensures counted { OnOk result (units.new < units.old) }
 {
     pz_eval_rules::laws::turns_go_on();
-    begin_turn(state, units, activation, depth, at, test, body)
+    let found = quick_turns(state, units, activation, depth, test, body)?;
+    match found {
+        Some(left) => {
+            let turn = Task::Turn {
+                depth,
+                at,
+                test,
+                body,
+            };
+            add_task(&mut activation.tasks, turn)?;
+            run_list(state, units, activation, depth, Value::Nil, left)
+        }
+        None => begin_turn(state, units, activation, depth, at, test, body),
+    }
 }

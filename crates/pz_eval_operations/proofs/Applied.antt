@@ -1,5 +1,5 @@
 -- Operators whose values need no table.
-use Rattle.std.proofs.Common.{◌≡◌, ◌^◌, ◌<◌, ℤ, pos, negsuc, ◌+ℤ◌, ◌-ℤ◌, ◌*ℤ◌, Bool, true, Option, Some, None, eqb, eq-eqb, refl, sym, ap, ◌∙◌, w64, lt-ltb, arith}
+use Rattle.std.proofs.Common.{◌≡◌, ◌^◌, ◌<◌, ℤ, pos, negsuc, ◌+ℤ◌, ◌-ℤ◌, ◌*ℤ◌, Bool, true, Option, Some, None, eqb, eq-eqb, refl, sym, ap, ◌∙◌, subst, w64, lt-ltb, arith}
 use Rattle.std.specs.Prelude.{IfSome, SomeIff, FitsSigned, option_map, not, ◌&&◌, ◌||◌, int_lt, int_le}
 use Rattle.std.specs.Ordering.{int_eq}
 use Rattle.std.specs.Int.{cast_unsigned, cast_signed}
@@ -34,6 +34,9 @@ module _ (a b : ℤ) (a_fits : FitsSigned w64 a) (b_fits : FitsSigned w64 b) whe
       (λ e. sym (to_z-of_z w64 a a_fits) ∙ ap (cast_signed w64) ((Decides-eqb (cast_unsigned w64 a) (cast_unsigned w64 b)).0 e) ∙ to_z-of_z w64 b b_fits, λ e. eq-eqb (cast_unsigned w64 a) (cast_unsigned w64 b) (ap (cast_unsigned w64) e))
       (Decides-int_eq a b)
 
+pub gives_back : (op : Symbol) (a b a1 b1 : ℤ) (y : Value) → a1 ≡ a → b1 ≡ b → Gives op (Int a1) (Int b1) y → Gives op (Int a) (Int b) y
+gives_back op a b a1 b1 y a_is b_is h = subst (λ (z : ℤ). Gives op (Int z) (Int b) y) a_is (subst (λ (z : ℤ). Gives op (Int a1) (Int z) y) b_is h)
+
 fits_is : (z : ℤ) → FitsSigned w64 z → fits z ≡ true
 fits_is (pos n) h = let below : n < 2 ^ 63 = omega (arith, h.sfits) in lt-ltb n (2 ^ 63) below
 fits_is (negsuc n) h = let below : n < 2 ^ 63 = omega (arith, h.sfits) in lt-ltb n (2 ^ 63) below
@@ -42,6 +45,10 @@ fits_is (negsuc n) h = let below : n < 2 ^ 63 = omega (arith, h.sfits) in lt-ltb
 pub by_number : (result : Option Value) (n : Option ℤ) (z : ℤ) (P : Value → Type 0) → result ≡ option_map (λ x. Int x) n → SomeIff n (FitsSigned w64 z) z → (fits z ≡ true → P (Int z)) → IfSome result P
 by_number result None z P e s h = rw e tt
 by_number result (Some x) z P e s h = rw (e, s.1) (h (fits_is z s.0))
+
+pub in_range : (n : Option ℤ) (z : ℤ) (P : ℤ → Type 0) → SomeIff n (FitsSigned w64 z) z → (fits z ≡ true → P z) → IfSome n P
+in_range None z P s h = tt
+in_range (Some x) z P s h = rw s.1 (h (fits_is z s.0))
 
 pub number_within : (result : Option Value) (n : Option ℤ) (P : Value → Type 0) → result ≡ option_map (λ x. Int x) n → ((z : ℤ) → P (Int z)) → IfSome result P
 number_within result None P e h = rw e tt

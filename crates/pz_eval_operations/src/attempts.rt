@@ -1,25 +1,29 @@
 //! Expressions that are evaluated at once, with no task and no memory: constants, variables and `self`,
 //! and an operator between two numbers that are constants or variables.
 
-ghost use Rattle.std.specs.Prelude.{◌≡◌, ◌<◌, ℕ, length, IfSome};
+ghost use Rattle.std.specs.Prelude.{◌≡◌, ◌<◌, ℕ, length, option_map, IfSome};
 ghost use Rattle.pz_syntax.specs.declared.tokens.Pos.{Pos};
 ghost use Rattle.pz_syntax.specs.Expressions.{chain};
 ghost use Rattle.pz_classes_code.specs.CodeView.{view};
-ghost use Rattle.pz_value.specs.declared.value.Value.TheVariants.{Int};
+ghost use Rattle.pz_value.specs.declared.value.Value.{Value as Values};
+ghost use Rattle.pz_value.specs.declared.value.Value.TheVariants.{Bool as Boolean, Int};
 ghost use Rattle.pz_state.specs.References.{RefersWithin};
 ghost use Rattle.pz_classes_code.specs.Literals as literals;
+ghost use Rattle.pz_eval_rules.specs.Memories.{Memory};
 ghost use Rattle.pz_eval_rules.specs.Memories as memories;
+ghost use Rattle.pz_eval_rules.specs.Answers.{gives};
+ghost use Rattle.pz_eval_rules.specs.Steps as steps;
 ghost use Rattle.pz_eval_operations.specs.devices.Sites.{place_of, memory_of};
 ghost use Rattle.pz_eval_operations.specs.devices.Views.{links_view};
 ghost use Rattle.pz_eval_operations.specs.devices.AtOnce.{IsWorth, IsWorthThree, Attempt};
 ghost use Rattle.pz_eval_operations.specs.devices.Within.{SiteWithin, ActivationWithin};
 
-use crate::operating::between_numbers;
+use crate::operating::{between_numbers, number_between, truth_between};
 use crate::reading::{held, plain_constant, plain_copy};
 use crate::task::{Activation, Site};
 use pz_classes_code::{Code, CodeForm, CodeLink, Slot};
 use pz_state::State;
-use pz_syntax::Literal;
+use pz_syntax::{Literal, Symbol};
 use pz_value::Value;
 
 /// What a variable holds, if it is no text; nil if there is none.
@@ -94,6 +98,27 @@ fn number(state: &State, activation: &Activation<'_>, code: &Code) -> Option<i64
     }
 }
 
+/// An operator, and the numbers that it alone stands between.
+fn operands(
+    state: &State,
+    activation: &Activation<'_>,
+    first: &Code,
+    links: &[CodeLink],
+) -> Option<(Symbol, i64, i64)>
+    ensures { IfSome result (λ o. (y : Values) → ((at : Pos) (m : Memory) →
+        steps.applied o.0 at (Int o.1) (Int o.2) m ≡ gives y m) → (at : Pos) →
+        IsWorthThree (place_of activation.now.site) (memory_of activation.now state.now.held)
+        (chain at (view first.now) (links_view links.now)) y) }
+{
+    let (link, rest) = links.split_first()?;
+    if !rest.is_empty() {
+        return None;
+    }
+    let left = number(state, activation, first)?;
+    let right = number(state, activation, &link.operand)?;
+    Some((link.op, left, right))
+}
+
 /// One operator between two numbers.
 fn of_numbers(
     state: &State,
@@ -106,13 +131,38 @@ fn of_numbers(
         (chain at (view first.now) (links_view links.now)) y) }
     ensures within { (count : ℕ) → IfSome result (RefersWithin count) }
 {
-    let (link, rest) = links.split_first()?;
-    if !rest.is_empty() {
-        return None;
-    }
-    let left = number(state, activation, first)?;
-    let right = number(state, activation, &link.operand)?;
-    between_numbers(link.op, left, right)
+    let (op, left, right) = operands(state, activation, first, links)?;
+    between_numbers(op, left, right)
+}
+
+/// One operator between two numbers that gives a number.
+fn number_of_two(
+    state: &State,
+    activation: &Activation<'_>,
+    first: &Code,
+    links: &[CodeLink],
+) -> Option<i64>
+    ensures { IfSome result (λ n. (at : Pos) →
+        IsWorthThree (place_of activation.now.site) (memory_of activation.now state.now.held)
+        (chain at (view first.now) (links_view links.now)) (Int n)) }
+{
+    let (op, left, right) = operands(state, activation, first, links)?;
+    number_between(op, left, right)
+}
+
+/// One operator between two numbers that gives a Boolean.
+fn truth_of_two(
+    state: &State,
+    activation: &Activation<'_>,
+    first: &Code,
+    links: &[CodeLink],
+) -> Option<bool>
+    ensures { IfSome result (λ x. (at : Pos) →
+        IsWorthThree (place_of activation.now.site) (memory_of activation.now state.now.held)
+        (chain at (view first.now) (links_view links.now)) (Boolean x)) }
+{
+    let (op, left, right) = operands(state, activation, first, links)?;
+    truth_between(op, left, right)
 }
 
 /// A constant, a variable or `self`, which counts one unit.
@@ -192,4 +242,56 @@ pub fn at_once(
         }
         _ => None,
     }
+}
+
+/// The same, if it is one operator between two numbers that gives a number.
+pub(crate) fn number_at_once(
+    state: &State,
+    units: &mut u64,
+    activation: &Activation<'_>,
+    depth: u32,
+    code: &Code,
+) -> Option<i64>
+    ensures { Attempt depth (place_of activation.now.site)
+        (memory_of activation.now state.now.held) (view code.now) units.old units.new
+        (option_map (λ n. Int n) result) }
+{
+    let CodeForm::Chain(first, links) = &code.form else {
+        return None;
+    };
+    if depth < 2 {
+        return None;
+    }
+    if *units < 3 {
+        return None;
+    }
+    let number = number_of_two(state, activation, first.get(), links.as_slice())?;
+    *units -= 3;
+    Some(number)
+}
+
+/// The same, if it is one operator between two numbers that gives a Boolean.
+pub fn truth_at_once(
+    state: &State,
+    units: &mut u64,
+    activation: &Activation<'_>,
+    depth: u32,
+    code: &Code,
+) -> Option<bool>
+    ensures { Attempt depth (place_of activation.now.site)
+        (memory_of activation.now state.now.held) (view code.now) units.old units.new
+        (option_map (λ x. Boolean x) result) }
+{
+    let CodeForm::Chain(first, links) = &code.form else {
+        return None;
+    };
+    if depth < 2 {
+        return None;
+    }
+    if *units < 3 {
+        return None;
+    }
+    let truth = truth_of_two(state, activation, first.get(), links.as_slice())?;
+    *units -= 3;
+    Some(truth)
 }

@@ -14,8 +14,8 @@ mod task;
 mod units;
 mod writing;
 
-pub use assigning::assign_at_once;
-pub use attempts::{at_once, self_at};
+pub use assigning::{assign_at_once, assign_number};
+pub use attempts::{at_once, self_at, truth_at_once};
 pub use creating::{create, time};
 pub use operating::{apply, apply_counted};
 pub use reading::{copy, read};

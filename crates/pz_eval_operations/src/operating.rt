@@ -81,6 +81,35 @@ fn number(n: Option<i64>) -> Option<Value>
     }
 }
 
+/// What an operator between two numbers computes, if 64 bits hold it.
+pub(crate) fn number_between(op: Symbol, a: i64, b: i64) -> Option<i64>
+    ensures { IfSome result (λ n. (at : Positions) (m : Memory) →
+        steps.applied op at (Int a) (Int b) m ≡ gives (Int n) m) }
+{
+    match op {
+        Symbol::Plus => a.checked_add(b),
+        Symbol::Minus => a.checked_sub(b),
+        Symbol::Star => a.checked_mul(b),
+        _ => None,
+    }
+}
+
+/// Whether two numbers stand to one another as an operator asks.
+pub(crate) fn truth_between(op: Symbol, a: i64, b: i64) -> Option<bool>
+    ensures { IfSome result (λ x. (at : Positions) (m : Memory) →
+        steps.applied op at (Int a) (Int b) m ≡ gives (Boolean x) m) }
+{
+    match op {
+        Symbol::Equal => Some(a == b),
+        Symbol::Unequal => Some(a != b),
+        Symbol::Less => Some(a < b),
+        Symbol::LessEqual => Some(a <= b),
+        Symbol::Greater => Some(a > b),
+        Symbol::GreaterEqual => Some(a >= b),
+        _ => None,
+    }
+}
+
 /// What an operator between two numbers gives, without the table of primitive values; None where that
 /// has to say.
 pub(crate) fn between_numbers(op: Symbol, a: i64, b: i64) -> Option<Value>
