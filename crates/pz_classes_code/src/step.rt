@@ -1,5 +1,6 @@
 ghost use Rattle.std.specs.Prelude.{◌≡◌, IfOk};
 
+use crate::resolving::both::both;
 use crate::{Code, Slot};
 use pz_items::{Items, Shared};
 use pz_syntax::{Id, Pos};
@@ -43,17 +44,28 @@ fn copy_form(form: &StepForm) -> Result<StepForm, AllocError>
         StepForm::Delay(time) => Ok(StepForm::Delay(time.copy()?)),
         StepForm::Group(steps) => Ok(StepForm::Group(steps.copy()?)),
         StepForm::Block(codes) => Ok(StepForm::Block(codes.copy()?)),
-        StepForm::Guard(test, guarded) => Ok(StepForm::Guard(test.copy()?, guarded.copy()?)),
+        StepForm::Guard(test, guarded) => {
+            let (test, guarded) = both(test.copy(), guarded.copy())?;
+            Ok(StepForm::Guard(test, guarded))
+        }
         StepForm::Par(branches) => Ok(StepForm::Par(branches.copy()?)),
         StepForm::Sel(branches) => Ok(StepForm::Sel(branches.copy()?)),
         StepForm::If(test, part, rest) => {
-            let rest = copy_part(rest)?;
-            Ok(StepForm::If(test.copy()?, part.copy()?, rest))
+            let parts = both(part.copy(), copy_part(rest));
+            let (test, (part, rest)) = both(test.copy(), parts)?;
+            Ok(StepForm::If(test, part, rest))
         }
-        StepForm::While(test, body) => Ok(StepForm::While(test.copy()?, body.copy()?)),
-        StepForm::Abort(first, second) => Ok(StepForm::Abort(first.copy()?, second.copy()?)),
+        StepForm::While(test, body) => {
+            let (test, body) = both(test.copy(), body.copy())?;
+            Ok(StepForm::While(test, body))
+        }
+        StepForm::Abort(first, second) => {
+            let (first, second) = both(first.copy(), second.copy())?;
+            Ok(StepForm::Abort(first, second))
+        }
         StepForm::Interrupt(first, second) => {
-            Ok(StepForm::Interrupt(first.copy()?, second.copy()?))
+            let (first, second) = both(first.copy(), second.copy())?;
+            Ok(StepForm::Interrupt(first, second))
         }
         StepForm::Send {
             port,
@@ -72,11 +84,15 @@ fn copy_form(form: &StepForm) -> Result<StepForm, AllocError>
             method,
             args,
             results,
-        } => Ok(StepForm::Call {
-            method: method.copy()?,
-            args: args.copy()?,
-            results: results.copy()?,
-        }),
+        } => {
+            let lists = both(args.copy(), results.copy());
+            let (method, (args, results)) = both(method.copy(), lists)?;
+            Ok(StepForm::Call {
+                method,
+                args,
+                results,
+            })
+        }
         StepForm::Eval(value) => Ok(StepForm::Eval(value.copy()?)),
     }
 }
@@ -99,9 +115,8 @@ fn copy_send(
 ) -> Result<StepForm, AllocError>
     ensures { IfOk result (λ copy. copy ≡ StepForm.Send port name.now args.now block.now) }
 {
-    let name = name.copy()?;
-    let args = copy_part(args)?;
-    let block = copy_part(block)?;
+    let lists = both(copy_part(args), copy_part(block));
+    let (name, (args, block)) = both(name.copy(), lists)?;
     Ok(StepForm::Send {
         port,
         name,
@@ -120,10 +135,9 @@ fn copy_receive(
     ensures { IfOk result (λ copy. copy ≡ StepForm.Receive port name.now into.now condition.now
         block.now) }
 {
-    let name = name.copy()?;
-    let into = copy_part(into)?;
-    let condition = copy_part(condition)?;
-    let block = copy_part(block)?;
+    let received = both(copy_part(into), copy_part(condition));
+    let (name, (received, block)) = both(name.copy(), both(received, copy_part(block)))?;
+    let (into, condition) = received;
     Ok(StepForm::Receive {
         port,
         name,

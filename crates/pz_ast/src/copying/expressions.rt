@@ -1,19 +1,9 @@
 ghost use Rattle.std.specs.Prelude.{◌≡◌, IfOk};
 
+use crate::copying::parts::{Copied, both};
 use pz_items::{Boxed, Items};
-use pz_syntax::{Expr, ExprForm, Id, Link, Sending};
+use pz_syntax::{Expr, ExprForm, Link, Sending};
 use std::alloc::{AllocError, Global};
-
-/// An equal list of names. The only error is want of memory.
-pub(crate) fn copy_ids(alloc: Global, ids: &[Id]) -> Result<Items<Id>, AllocError>
-    ensures { IfOk result (λ copy. copy ≡ ids.now) }
-{
-    let mut copy = Items::new(alloc);
-    for id in ids {
-        copy.push(id.copy()?)?;
-    }
-    Ok(copy)
-}
 
 /// An equal expression. The only error is want of memory.
 #[cycle(copy_expr)]
@@ -38,32 +28,37 @@ fn copy_form(alloc: Global, form: &ExprForm) -> Result<ExprForm, AllocError>
         ExprForm::New(class) => Ok(ExprForm::New(class.copy()?)),
         ExprForm::Group(list) => Ok(ExprForm::Group(copy_list(alloc, list.as_slice())?)),
         ExprForm::Chain(first, links) => {
-            let first = copy_boxed(alloc, first.get())?;
-            Ok(ExprForm::Chain(first, copy_links(alloc, links.as_slice())?))
+            let first = copy_boxed(alloc, first.get());
+            let (first, links) = both(first, copy_links(alloc, links.as_slice()))?;
+            Ok(ExprForm::Chain(first, links))
         }
         ExprForm::Sends(first, sendings) => {
-            let first = copy_boxed(alloc, first.get())?;
-            Ok(ExprForm::Sends(first, copy_sendings(alloc, sendings.as_slice())?))
+            let first = copy_boxed(alloc, first.get());
+            let (first, sendings) = both(first, copy_sendings(alloc, sendings.as_slice()))?;
+            Ok(ExprForm::Sends(first, sendings))
         }
         ExprForm::Unary(op, operand) => Ok(ExprForm::Unary(*op, copy_boxed(alloc, operand.get())?)),
         ExprForm::Assign(target, value) => {
-            Ok(ExprForm::Assign(target.copy()?, copy_boxed(alloc, value.get())?))
+            let (target, value) = both(target.copy(), copy_boxed(alloc, value.get()))?;
+            Ok(ExprForm::Assign(target, value))
         }
         ExprForm::Return(value) => Ok(ExprForm::Return(copy_boxed(alloc, value.get())?)),
-        ExprForm::If(test, part, rest) => {
-            let test = copy_boxed(alloc, test.get())?;
-            let part = copy_list(alloc, part.as_slice())?;
-            match rest {
-                None => Ok(ExprForm::If(test, part, None)),
-                Some(rest) => {
-                    let rest = copy_list(alloc, rest.as_slice())?;
-                    Ok(ExprForm::If(test, part, Some(rest)))
-                }
-            }
+        ExprForm::If(test, part, None) => {
+            let test = copy_boxed(alloc, test.get());
+            let (test, part) = both(test, copy_list(alloc, part.as_slice()))?;
+            Ok(ExprForm::If(test, part, None))
+        }
+        ExprForm::If(test, part, Some(rest)) => {
+            let test = copy_boxed(alloc, test.get());
+            let part = copy_list(alloc, part.as_slice());
+            let rest = copy_list(alloc, rest.as_slice());
+            let (test, (part, rest)) = both(test, both(part, rest))?;
+            Ok(ExprForm::If(test, part, Some(rest)))
         }
         ExprForm::While(test, body) => {
-            let test = copy_boxed(alloc, test.get())?;
-            Ok(ExprForm::While(test, copy_list(alloc, body.as_slice())?))
+            let test = copy_boxed(alloc, test.get());
+            let (test, body) = both(test, copy_list(alloc, body.as_slice()))?;
+            Ok(ExprForm::While(test, body))
         }
     }
 }
@@ -108,38 +103,32 @@ fn copy_sendings(alloc: Global, sendings: &[Sending]) -> Result<Items<Sending>, 
 {
     let mut copy = Items::new(alloc);
     for sending in sendings {
-        let selector = sending.selector.copy()?;
-        let args = match &sending.args {
-            None => None,
-            Some(args) => Some(copy_list(alloc, args.as_slice())?),
-        };
-        copy.push(Sending { selector, args })?;
+        copy.push(copy_sending(alloc, sending)?)?;
     }
     Ok(copy)
 }
 
-/// An equal list, or none where there is none. The only error is want of memory.
-pub(crate) fn copy_part(
-    alloc: Global,
-    part: &Option<Items<Expr>>,
-) -> Result<Option<Items<Expr>>, AllocError>
-    ensures { IfOk result (λ copy. copy ≡ part.now) }
+#[cycle(copy_expr)]
+fn copy_sending(alloc: Global, sending: &Sending) -> Result<Sending, AllocError>
+    ensures { IfOk result (λ copy. copy ≡ sending.now) }
 {
-    match part {
-        None => Ok(None),
-        Some(list) => Ok(Some(copy_list(alloc, list.as_slice())?)),
+    match &sending.args {
+        None => {
+            let selector = sending.selector.copy()?;
+            let args = None;
+            Ok(Sending { selector, args })
+        }
+        Some(args) => {
+            let args = copy_list(alloc, args.as_slice());
+            let (selector, args) = both(sending.selector.copy(), args)?;
+            let args = Some(args);
+            Ok(Sending { selector, args })
+        }
     }
 }
 
-/// The same of names.
-pub(crate) fn copy_id_part(
-    alloc: Global,
-    part: &Option<Items<Id>>,
-) -> Result<Option<Items<Id>>, AllocError>
-    ensures { IfOk result (λ copy. copy ≡ part.now) }
-{
-    match part {
-        None => Ok(None),
-        Some(ids) => Ok(Some(copy_ids(alloc, ids.as_slice())?)),
+impl Copied for Expr {
+    fn copied(&self, alloc: Global) -> Result<Expr, AllocError> {
+        copy_expression(alloc, self)
     }
 }

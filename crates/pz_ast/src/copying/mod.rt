@@ -2,6 +2,7 @@
 mod classes;
 mod expressions;
 mod models;
+mod parts;
 mod statements;
 
 pub use expressions::copy_expression;

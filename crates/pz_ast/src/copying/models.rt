@@ -1,8 +1,6 @@
 ghost use Rattle.std.specs.Prelude.{◌≡◌, IfOk};
 
-use crate::copying::classes::{copy_data_class, copy_group_part, copy_process_class};
-use crate::copying::expressions::copy_id_part;
-use pz_items::Items;
+use crate::copying::parts::{Copied, both, copy_items, copy_part};
 use pz_syntax::{Arg, Channel, ChannelEnd, ClusterClass, Decl, Given, Instance, Model, SystemDecl};
 use std::alloc::{AllocError, Global};
 
@@ -12,155 +10,97 @@ pub fn copy_model(alloc: Global, model: &Model) -> Result<Model, AllocError>
     ensures { IfOk result (λ copy. copy ≡ model.now) }
 {
     Ok(Model {
-        decls: copy_decls(alloc, model.decls.as_slice())?,
+        decls: copy_items(alloc, model.decls.as_slice())?,
     })
 }
 
-fn copy_decls(alloc: Global, decls: &[Decl]) -> Result<Items<Decl>, AllocError>
-    ensures { IfOk result (λ copy. copy ≡ decls.now) }
-{
-    let mut copy = Items::new(alloc);
-    for decl in decls {
-        copy.push(copy_declaration(alloc, decl)?)?;
-    }
-    Ok(copy)
-}
-
-/// An equal declaration.
-fn copy_declaration(alloc: Global, decl: &Decl) -> Result<Decl, AllocError>
-    ensures { IfOk result (λ copy. copy ≡ decl.now) }
-{
-    match decl {
-        Decl::Data(class) => Ok(Decl::Data(copy_data_class(alloc, class)?)),
-        Decl::Process(class) => Ok(Decl::Process(copy_process_class(alloc, class)?)),
-        Decl::Cluster(class) => Ok(Decl::Cluster(copy_cluster_class(alloc, class)?)),
-        Decl::System(system) => Ok(Decl::System(copy_system(alloc, system)?)),
-    }
-}
-
-fn copy_cluster_class(alloc: Global, class: &ClusterClass) -> Result<ClusterClass, AllocError>
-    ensures { IfOk result (λ copy. copy ≡ class.now) }
-{
-    let name = class.name.copy()?;
-    let parameters = copy_group_part(alloc, &class.parameters)?;
-    let ports = copy_id_part(alloc, &class.ports)?;
-    let instances = copy_instances(alloc, &class.instances)?;
-    let channels = copy_channels(alloc, &class.channels)?;
-    Ok(ClusterClass {
-        name,
-        parameters,
-        ports,
-        instances,
-        channels,
-    })
-}
-
-fn copy_system(alloc: Global, system: &SystemDecl) -> Result<SystemDecl, AllocError>
-    ensures { IfOk result (λ copy. copy ≡ system.now) }
-{
-    let instances = copy_instances(alloc, &system.instances)?;
-    Ok(SystemDecl {
-        pos: system.pos,
-        instances,
-        channels: copy_channels(alloc, &system.channels)?,
-    })
-}
-
-fn copy_instances(
-    alloc: Global,
-    part: &Option<Items<Instance>>,
-) -> Result<Option<Items<Instance>>, AllocError>
-    ensures { IfOk result (λ copy. copy ≡ part.now) }
-{
-    let Some(instances) = part else {
-        return Ok(None);
-    };
-    let mut copy = Items::new(alloc);
-    for instance in instances.as_slice() {
-        copy.push(copy_instance(alloc, instance)?)?;
-    }
-    Ok(Some(copy))
-}
-
-fn copy_instance(alloc: Global, instance: &Instance) -> Result<Instance, AllocError>
-    ensures { IfOk result (λ copy. copy ≡ instance.now) }
-{
-    let name = instance.name.copy()?;
-    let class = instance.class.copy()?;
-    Ok(Instance {
-        name,
-        class,
-        given: copy_given(alloc, &instance.given)?,
-    })
-}
-
-fn copy_given(
-    alloc: Global,
-    part: &Option<Items<Given>>,
-) -> Result<Option<Items<Given>>, AllocError>
-    ensures { IfOk result (λ copy. copy ≡ part.now) }
-{
-    let Some(given) = part else {
-        return Ok(None);
-    };
-    let mut copy = Items::new(alloc);
-    for one in given.as_slice() {
-        let name = one.name.copy()?;
-        copy.push(Given {
-            name,
-            arg: copy_arg(&one.arg)?,
-        })?;
-    }
-    Ok(Some(copy))
-}
-
-fn copy_arg(arg: &Arg) -> Result<Arg, AllocError>
-    ensures { IfOk result (λ copy. copy ≡ arg.now) }
-{
-    match arg {
-        Arg::Plain(literal, pos) => Ok(Arg::Plain(literal.copy()?, *pos)),
-        Arg::Negated(number, pos) => Ok(Arg::Negated(*number, *pos)),
-        Arg::Parameter(name) => Ok(Arg::Parameter(name.copy()?)),
-    }
-}
-
-fn copy_channels(
-    alloc: Global,
-    part: &Option<Items<Channel>>,
-) -> Result<Option<Items<Channel>>, AllocError>
-    ensures { IfOk result (λ copy. copy ≡ part.now) }
-{
-    let Some(channels) = part else {
-        return Ok(None);
-    };
-    let mut copy = Items::new(alloc);
-    for channel in channels.as_slice() {
-        copy.push(copy_channel(alloc, channel)?)?;
-    }
-    Ok(Some(copy))
-}
-
-fn copy_channel(alloc: Global, channel: &Channel) -> Result<Channel, AllocError>
-    ensures { IfOk result (λ copy. copy ≡ channel.now) }
-{
-    let mut ends = Items::new(alloc);
-    for end in channel.ends.as_slice() {
-        ends.push(copy_end(end)?)?;
-    }
-    Ok(Channel {
-        pos: channel.pos,
-        ends,
-    })
-}
-
-fn copy_end(end: &ChannelEnd) -> Result<ChannelEnd, AllocError>
-    ensures { IfOk result (λ copy. copy ≡ end.now) }
-{
-    match end {
-        ChannelEnd::Inner(instance, port) => {
-            let instance = instance.copy()?;
-            Ok(ChannelEnd::Inner(instance, port.copy()?))
+impl Copied for Decl {
+    fn copied(&self, alloc: Global) -> Result<Decl, AllocError> {
+        match self {
+            Decl::Data(class) => Ok(Decl::Data(class.copied(alloc)?)),
+            Decl::Process(class) => Ok(Decl::Process(class.copied(alloc)?)),
+            Decl::Cluster(class) => Ok(Decl::Cluster(class.copied(alloc)?)),
+            Decl::System(system) => Ok(Decl::System(system.copied(alloc)?)),
         }
-        ChannelEnd::Outer(port) => Ok(ChannelEnd::Outer(port.copy()?)),
+    }
+}
+
+impl Copied for ClusterClass {
+    fn copied(&self, alloc: Global) -> Result<ClusterClass, AllocError> {
+        let given = both(
+            copy_part(alloc, &self.parameters),
+            copy_part(alloc, &self.ports),
+        );
+        let parts = both(
+            copy_part(alloc, &self.instances),
+            copy_part(alloc, &self.channels),
+        );
+        let all = both(self.name.copy(), both(given, parts));
+        let (name, ((parameters, ports), (instances, channels))) = all?;
+        Ok(ClusterClass {
+            name,
+            parameters,
+            ports,
+            instances,
+            channels,
+        })
+    }
+}
+
+impl Copied for SystemDecl {
+    fn copied(&self, alloc: Global) -> Result<SystemDecl, AllocError> {
+        let instances = copy_part(alloc, &self.instances);
+        let (instances, channels) = both(instances, copy_part(alloc, &self.channels))?;
+        Ok(SystemDecl {
+            pos: self.pos,
+            instances,
+            channels,
+        })
+    }
+}
+
+impl Copied for Instance {
+    fn copied(&self, alloc: Global) -> Result<Instance, AllocError> {
+        let names = both(self.name.copy(), self.class.copy());
+        let ((name, class), given) = both(names, copy_part(alloc, &self.given))?;
+        Ok(Instance { name, class, given })
+    }
+}
+
+impl Copied for Given {
+    fn copied(&self, alloc: Global) -> Result<Given, AllocError> {
+        let (name, arg) = both(self.name.copy(), self.arg.copied(alloc))?;
+        Ok(Given { name, arg })
+    }
+}
+
+impl Copied for Arg {
+    fn copied(&self, _alloc: Global) -> Result<Arg, AllocError> {
+        match self {
+            Arg::Plain(literal, pos) => Ok(Arg::Plain(literal.copy()?, *pos)),
+            Arg::Negated(number, pos) => Ok(Arg::Negated(*number, *pos)),
+            Arg::Parameter(name) => Ok(Arg::Parameter(name.copy()?)),
+        }
+    }
+}
+
+impl Copied for Channel {
+    fn copied(&self, alloc: Global) -> Result<Channel, AllocError> {
+        Ok(Channel {
+            pos: self.pos,
+            ends: copy_items(alloc, self.ends.as_slice())?,
+        })
+    }
+}
+
+impl Copied for ChannelEnd {
+    fn copied(&self, _alloc: Global) -> Result<ChannelEnd, AllocError> {
+        match self {
+            ChannelEnd::Inner(instance, port) => {
+                let (instance, port) = both(instance.copy(), port.copy())?;
+                Ok(ChannelEnd::Inner(instance, port))
+            }
+            ChannelEnd::Outer(port) => Ok(ChannelEnd::Outer(port.copy()?)),
+        }
     }
 }

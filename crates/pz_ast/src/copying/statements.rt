@@ -1,8 +1,7 @@
 ghost use Rattle.std.specs.Prelude.{◌≡◌, IfOk};
 
-use crate::copying::expressions::{
-    copy_expression, copy_id_part, copy_ids, copy_list as copy_exprs, copy_part,
-};
+use crate::copying::expressions::{copy_expression, copy_list as copy_exprs};
+use crate::copying::parts::{both, copy_items, copy_option, copy_part};
 use pz_items::{Boxed, Items};
 use pz_syntax::{Expr, Id, Stmt, StmtForm};
 use std::alloc::{AllocError, Global};
@@ -28,32 +27,37 @@ fn copy_form(alloc: Global, form: &StmtForm) -> Result<StmtForm, AllocError>
         StmtForm::Group(list) => Ok(StmtForm::Group(copy_statements(alloc, list.as_slice())?)),
         StmtForm::Block(list) => Ok(StmtForm::Block(copy_exprs(alloc, list.as_slice())?)),
         StmtForm::Guard(test, guarded) => {
-            let guarded = copy_boxed(alloc, guarded.get())?;
-            Ok(StmtForm::Guard(copy_expression(alloc, test)?, guarded))
+            let guarded = copy_boxed(alloc, guarded.get());
+            let (test, guarded) = both(copy_expression(alloc, test), guarded)?;
+            Ok(StmtForm::Guard(test, guarded))
         }
         StmtForm::Par(branches) => Ok(StmtForm::Par(copy_branches(alloc, branches.as_slice())?)),
         StmtForm::Sel(branches) => Ok(StmtForm::Sel(copy_branches(alloc, branches.as_slice())?)),
-        StmtForm::If(test, part, rest) => {
-            let part = copy_statements(alloc, part.as_slice())?;
-            match rest {
-                None => Ok(StmtForm::If(copy_expression(alloc, test)?, part, None)),
-                Some(rest) => {
-                    let rest = copy_statements(alloc, rest.as_slice())?;
-                    Ok(StmtForm::If(copy_expression(alloc, test)?, part, Some(rest)))
-                }
-            }
+        StmtForm::If(test, part, None) => {
+            let part = copy_statements(alloc, part.as_slice());
+            let (test, part) = both(copy_expression(alloc, test), part)?;
+            Ok(StmtForm::If(test, part, None))
+        }
+        StmtForm::If(test, part, Some(rest)) => {
+            let part = copy_statements(alloc, part.as_slice());
+            let rest = copy_statements(alloc, rest.as_slice());
+            let (test, (part, rest)) = both(copy_expression(alloc, test), both(part, rest))?;
+            Ok(StmtForm::If(test, part, Some(rest)))
         }
         StmtForm::While(test, body) => {
-            let body = copy_statements(alloc, body.as_slice())?;
-            Ok(StmtForm::While(copy_expression(alloc, test)?, body))
+            let body = copy_statements(alloc, body.as_slice());
+            let (test, body) = both(copy_expression(alloc, test), body)?;
+            Ok(StmtForm::While(test, body))
         }
         StmtForm::Abort(first, second) => {
-            let second = copy_boxed(alloc, second.get())?;
-            Ok(StmtForm::Abort(copy_statements(alloc, first.as_slice())?, second))
+            let second = copy_boxed(alloc, second.get());
+            let (first, second) = both(copy_statements(alloc, first.as_slice()), second)?;
+            Ok(StmtForm::Abort(first, second))
         }
         StmtForm::Interrupt(first, second) => {
-            let second = copy_boxed(alloc, second.get())?;
-            Ok(StmtForm::Interrupt(copy_statements(alloc, first.as_slice())?, second))
+            let second = copy_boxed(alloc, second.get());
+            let (first, second) = both(copy_statements(alloc, first.as_slice()), second)?;
+            Ok(StmtForm::Interrupt(first, second))
         }
         StmtForm::Send {
             port,
@@ -94,17 +98,20 @@ fn copy_call(
 ) -> Result<StmtForm, AllocError>
     ensures { IfOk result (λ copy. copy ≡ StmtForm.Call method.now args.now results.now) }
 {
+    let lists = both(copy_exprs(alloc, args), copy_items(alloc, results));
+    let (method, (args, results)) = both(method.copy(), lists)?;
     Ok(StmtForm::Call {
-        method: method.copy()?,
-        args: copy_exprs(alloc, args)?,
-        results: copy_ids(alloc, results)?,
+        method,
+        args,
+        results,
     })
 }
 
 fn copy_assignment(alloc: Global, target: &Id, value: &Expr) -> Result<StmtForm, AllocError>
     ensures { IfOk result (λ copy. copy ≡ StmtForm.Assign target.now value.now) }
 {
-    Ok(StmtForm::Assign(target.copy()?, copy_expression(alloc, value)?))
+    let (target, value) = both(target.copy(), copy_expression(alloc, value))?;
+    Ok(StmtForm::Assign(target, value))
 }
 
 fn copy_send(
@@ -116,11 +123,13 @@ fn copy_send(
 ) -> Result<StmtForm, AllocError>
     ensures { IfOk result (λ copy. copy ≡ StmtForm.Send port.now name.now args.now block.now) }
 {
+    let lists = both(copy_part(alloc, args), copy_part(alloc, block));
+    let ((port, name), (args, block)) = both(both(port.copy(), name.copy()), lists)?;
     Ok(StmtForm::Send {
-        port: port.copy()?,
-        name: name.copy()?,
-        args: copy_part(alloc, args)?,
-        block: copy_part(alloc, block)?,
+        port,
+        name,
+        args,
+        block,
     })
 }
 
@@ -135,9 +144,10 @@ fn copy_receive(
     ensures { IfOk result (λ copy. copy ≡ StmtForm.Receive port.now name.now into.now condition.now
         block.now) }
 {
-    let port = port.copy()?;
-    let name = name.copy()?;
-    let (into, condition, block) = copy_optional(alloc, into, condition, block)?;
+    let names = both(port.copy(), name.copy());
+    let received = both(copy_part(alloc, into), copy_option(alloc, condition));
+    let all = both(both(names, received), copy_part(alloc, block));
+    let (((port, name), (into, condition)), block) = all?;
     Ok(StmtForm::Receive {
         port,
         name,
@@ -145,28 +155,6 @@ fn copy_receive(
         condition,
         block,
     })
-}
-
-fn copy_optional(
-    alloc: Global,
-    into: &Option<Items<Id>>,
-    condition: &Option<Expr>,
-    block: &Option<Items<Expr>>,
-) -> Result<(Option<Items<Id>>, Option<Expr>, Option<Items<Expr>>), AllocError>
-    ensures { IfOk result (λ copy. copy ≡ (into.now, condition.now, block.now)) }
-{
-    let into = copy_id_part(alloc, into)?;
-    let condition = copy_condition(alloc, condition)?;
-    Ok((into, condition, copy_part(alloc, block)?))
-}
-
-fn copy_condition(alloc: Global, condition: &Option<Expr>) -> Result<Option<Expr>, AllocError>
-    ensures { IfOk result (λ copy. copy ≡ condition.now) }
-{
-    match condition {
-        None => Ok(None),
-        Some(test) => Ok(Some(copy_expression(alloc, test)?)),
-    }
 }
 
 /// Equal statements in the same order. The only error is want of memory.

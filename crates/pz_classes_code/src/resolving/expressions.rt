@@ -4,6 +4,7 @@ ghost use Rattle.pz_classes_code.specs.CodeView as code;
 ghost use Rattle.pz_classes_code.specs.Resolution.{resolved, resolved_all, resolved_part, resolved_links, resolved_sendings};
 ghost use Rattle.pz_classes_code.specs.ScopeView.{scope_view};
 
+use crate::resolving::both::both;
 use crate::scope::Scope;
 use crate::{Code, CodeForm, CodeLink, CodeSending};
 use pz_items::{Boxed, Items};
@@ -39,44 +40,56 @@ fn resolve_form(
         ExprForm::New(class) => Ok(CodeForm::New(scope.class(&class.name))),
         ExprForm::Group(list) => Ok(CodeForm::Group(resolve_list(alloc, scope, list.as_slice())?)),
         ExprForm::Chain(first, links) => {
-            let first = Boxed::new(alloc, resolve(alloc, scope, first.get())?)?;
-            let links = resolve_links(alloc, scope, links.as_slice())?;
+            let first = resolve_boxed(alloc, scope, first.get());
+            let (first, links) = both(first, resolve_links(alloc, scope, links.as_slice()))?;
             Ok(CodeForm::Chain(first, links))
         }
         ExprForm::Sends(first, sendings) => {
-            let first = Boxed::new(alloc, resolve(alloc, scope, first.get())?)?;
-            let sendings = resolve_sendings(alloc, scope, sendings.as_slice())?;
+            let first = resolve_boxed(alloc, scope, first.get());
+            let sendings = resolve_sendings(alloc, scope, sendings.as_slice());
+            let (first, sendings) = both(first, sendings)?;
             Ok(CodeForm::Sends(first, sendings))
         }
         ExprForm::Unary(op, operand) => {
-            let operand = Boxed::new(alloc, resolve(alloc, scope, operand.get())?)?;
-            Ok(CodeForm::Unary(*op, operand))
+            Ok(CodeForm::Unary(*op, resolve_boxed(alloc, scope, operand.get())?))
         }
         ExprForm::Assign(target, value) => {
-            let value = Boxed::new(alloc, resolve(alloc, scope, value.get())?)?;
+            let value = resolve_boxed(alloc, scope, value.get())?;
             Ok(CodeForm::Assign(scope.slot(&target.name), value))
         }
         ExprForm::Return(value) => {
-            let value = Boxed::new(alloc, resolve(alloc, scope, value.get())?)?;
-            Ok(CodeForm::Return(value))
+            Ok(CodeForm::Return(resolve_boxed(alloc, scope, value.get())?))
         }
         ExprForm::If(test, part, rest) => {
-            let test = Boxed::new(alloc, resolve(alloc, scope, test.get())?)?;
-            let part = resolve_list(alloc, scope, part.as_slice())?;
+            let test = resolve_boxed(alloc, scope, test.get());
+            let parts = both(test, resolve_list(alloc, scope, part.as_slice()));
             match rest {
-                None => Ok(CodeForm::If(test, part, None)),
+                None => {
+                    let (test, part) = parts?;
+                    Ok(CodeForm::If(test, part, None))
+                }
                 Some(rest) => {
-                    let rest = resolve_list(alloc, scope, rest.as_slice())?;
+                    let rest = resolve_list(alloc, scope, rest.as_slice());
+                    let ((test, part), rest) = both(parts, rest)?;
                     Ok(CodeForm::If(test, part, Some(rest)))
                 }
             }
         }
         ExprForm::While(test, body) => {
-            let test = Boxed::new(alloc, resolve(alloc, scope, test.get())?)?;
-            let body = resolve_list(alloc, scope, body.as_slice())?;
+            let test = resolve_boxed(alloc, scope, test.get());
+            let (test, body) = both(test, resolve_list(alloc, scope, body.as_slice()))?;
             Ok(CodeForm::While(test, body))
         }
     }
+}
+
+/// The same in a box.
+#[cycle(resolve_expr)]
+fn resolve_boxed(alloc: Global, scope: &Scope, expr: &Expr) -> Result<Boxed<Code>, AllocError>
+    ensures { IfOk result (λ c. code.view c ≡ resolved (scope_view scope.now)
+        (tree.view expr.now)) }
+{
+    Boxed::new(alloc, resolve(alloc, scope, expr)?)
 }
 
 /// These expressions in order, each name replaced by what it stands for in the scope. The only error
@@ -124,14 +137,35 @@ fn resolve_sendings(
 {
     let mut codes = Items::new(alloc);
     for sending in sendings {
-        let selector = sending.selector.copy()?;
-        let args = match &sending.args {
-            None => None,
-            Some(args) => Some(resolve_list(alloc, scope, args.as_slice())?),
-        };
-        codes.push(CodeSending { selector, args })?;
+        codes.push(resolve_sending(alloc, scope, sending)?)?;
     }
     Ok(codes)
+}
+
+#[cycle(resolve_expr)]
+fn resolve_sending(
+    alloc: Global,
+    scope: &Scope,
+    sending: &Sending,
+) -> Result<CodeSending, AllocError>
+    ensures { IfOk result (λ s. code.sending_view s ≡ (
+      (tree.sending_view sending.now).0,
+      resolved_part (scope_view scope.now) (tree.sending_view sending.now).1,
+    )) }
+{
+    match &sending.args {
+        None => {
+            let selector = sending.selector.copy()?;
+            let args = None;
+            Ok(CodeSending { selector, args })
+        }
+        Some(args) => {
+            let args = resolve_list(alloc, scope, args.as_slice());
+            let (selector, args) = both(sending.selector.copy(), args)?;
+            let args = Some(args);
+            Ok(CodeSending { selector, args })
+        }
+    }
 }
 
 /// A list that is written or left out.

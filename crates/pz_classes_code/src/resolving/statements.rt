@@ -6,6 +6,7 @@ ghost use Rattle.pz_classes_code.specs.CodeView as code;
 ghost use Rattle.pz_classes_code.specs.Resolution.{resolved, resolved_all, resolved_part, slots_of, resolved_statement, resolved_statements, resolved_branches};
 ghost use Rattle.pz_classes_code.specs.ScopeView.{scope_view};
 
+use crate::resolving::both::both;
 use crate::resolving::expressions::{resolve, resolve_list};
 use crate::scope::Scope;
 use crate::{Code, CodeForm, Slot, Step, StepForm};
@@ -44,8 +45,9 @@ fn resolve_form(
             Ok(StepForm::Block(share_codes(alloc, scope, list.as_slice())?))
         }
         StmtForm::Guard(test, guarded) => {
-            let guarded = Shared::new(alloc, resolve_statement(alloc, scope, guarded.get())?)?;
-            Ok(StepForm::Guard(share_code(alloc, scope, test)?, guarded))
+            let guarded = share_statement(alloc, scope, guarded.get());
+            let (test, guarded) = both(share_code(alloc, scope, test), guarded)?;
+            Ok(StepForm::Guard(test, guarded))
         }
         StmtForm::Par(branches) => {
             Ok(StepForm::Par(resolve_branches(alloc, scope, branches.as_slice())?))
@@ -54,28 +56,35 @@ fn resolve_form(
             Ok(StepForm::Sel(resolve_branches(alloc, scope, branches.as_slice())?))
         }
         StmtForm::If(test, part, rest) => {
-            let test = share_code(alloc, scope, test)?;
-            let part = resolve_statements(alloc, scope, part.as_slice())?;
+            let part = resolve_statements(alloc, scope, part.as_slice());
+            let parts = both(share_code(alloc, scope, test), part);
             match rest {
-                None => Ok(StepForm::If(test, part, None)),
+                None => {
+                    let (test, part) = parts?;
+                    Ok(StepForm::If(test, part, None))
+                }
                 Some(rest) => {
-                    let rest = resolve_statements(alloc, scope, rest.as_slice())?;
+                    let rest = resolve_statements(alloc, scope, rest.as_slice());
+                    let ((test, part), rest) = both(parts, rest)?;
                     Ok(StepForm::If(test, part, Some(rest)))
                 }
             }
         }
         StmtForm::While(test, body) => {
-            let body = resolve_statements(alloc, scope, body.as_slice())?;
-            Ok(StepForm::While(share_code(alloc, scope, test)?, body))
+            let body = resolve_statements(alloc, scope, body.as_slice());
+            let (test, body) = both(share_code(alloc, scope, test), body)?;
+            Ok(StepForm::While(test, body))
         }
         StmtForm::Abort(first, second) => {
-            let second = Shared::new(alloc, resolve_statement(alloc, scope, second.get())?)?;
-            let first = resolve_statements(alloc, scope, first.as_slice())?;
+            let second = share_statement(alloc, scope, second.get());
+            let first = resolve_statements(alloc, scope, first.as_slice());
+            let (first, second) = both(first, second)?;
             Ok(StepForm::Abort(first, second))
         }
         StmtForm::Interrupt(first, second) => {
-            let second = Shared::new(alloc, resolve_statement(alloc, scope, second.get())?)?;
-            let first = resolve_statements(alloc, scope, first.as_slice())?;
+            let second = share_statement(alloc, scope, second.get());
+            let first = resolve_statements(alloc, scope, first.as_slice());
+            let (first, second) = both(first, second)?;
             Ok(StepForm::Interrupt(first, second))
         }
         StmtForm::Send {
@@ -95,14 +104,28 @@ fn resolve_form(
             method,
             args,
             results,
-        } => Ok(StepForm::Call {
-            method: share_name(alloc, method)?,
-            args: share_codes(alloc, scope, args.as_slice())?,
-            results: Shared::new(alloc, scope.slots(alloc, results.as_slice())?)?,
-        }),
+        } => {
+            let args = share_codes(alloc, scope, args.as_slice());
+            let results = share_slots(alloc, scope, results.as_slice());
+            let (method, (args, results)) = both(share_name(alloc, method), both(args, results))?;
+            Ok(StepForm::Call {
+                method,
+                args,
+                results,
+            })
+        }
         StmtForm::Assign(target, value) => resolve_assignment(alloc, scope, target, value, pos),
         StmtForm::Value(value) => Ok(StepForm::Eval(share_code(alloc, scope, value)?)),
     }
+}
+
+/// The same, to be shared.
+#[cycle(resolve_stmt)]
+fn share_statement(alloc: Global, scope: &Scope, stmt: &Stmt) -> Result<Shared<Step>, AllocError>
+    ensures { IfOk result (λ s. step.view s ≡ resolved_statement (scope_view scope.now)
+        (tree.view stmt.now)) }
+{
+    Shared::new(alloc, resolve_statement(alloc, scope, stmt)?)
 }
 
 /// The assignment as an expression, at the same place.
@@ -171,6 +194,13 @@ fn share_name(alloc: Global, name: &Id) -> Result<Shared<Id>, AllocError>
     Shared::new(alloc, name.copy()?)
 }
 
+/// What stands for each of these variables, to be shared.
+fn share_slots(alloc: Global, scope: &Scope, ids: &[Id]) -> Result<Shared<Items<Slot>>, AllocError>
+    ensures { IfOk result (λ slots. slots ≡ slots_of (scope_view scope.now) ids.now) }
+{
+    Shared::new(alloc, scope.slots(alloc, ids)?)
+}
+
 /// One expression, to be shared.
 fn share_code(alloc: Global, scope: &Scope, expr: &Expr) -> Result<Shared<Code>, AllocError>
     ensures { IfOk result (λ c. code.view c ≡ resolved (scope_view scope.now)
@@ -216,7 +246,7 @@ fn resolve_into(
 {
     match into {
         None => Ok(None),
-        Some(ids) => Ok(Some(Shared::new(alloc, scope.slots(alloc, ids.as_slice())?)?)),
+        Some(ids) => Ok(Some(share_slots(alloc, scope, ids.as_slice())?)),
     }
 }
 

@@ -8,20 +8,20 @@ use Rattle.pz_classes_code.specs.ScopeView.{scope_view}
 use Rattle.pz_classes_code.proofs.ResolvedLists.{list_done, links_done, sendings_done, one_part, two_parts}
 use Rattle.pz_classes_code.proofs.resolving.expressions.+resolve_expr.Goals as goal
 
-pub resolve_form-returns-in-None : goal.resolve_form-returns-in-None
-resolve_form-returns-in-None t c =
+pub resolve_form-returns-in_ok-test-in-None : goal.resolve_form-returns-in_ok-test-in-None
+resolve_form-returns-in_ok-test-in-None t c =
     let is : c.args.form.now ≡ If c.in-If.test c.in-If.part None = c.in-If.is ∙ ap (λ (o : Option (List Expr)). If c.in-If.test c.in-If.part o) c.in-None.is in
-    let test : code.view c.in_ok-test-in-If.test ≡ resolved (scope_view c.args.scope.now) (tree.view c.in-If.test) = search rules in
-    let part : code.list_view c.in_ok-part-in-If.part ≡ resolved_all (scope_view c.args.scope.now) (tree.list_view c.in-If.part) = search rules in
-    one_part (scope_view c.args.scope.now) c.args.pos c.in_ok-test-in-If.test c.in_ok-part-in-If.part c.in-If.test c.in-If.part c.args.form.now is test part
+    let test : code.view c.in_ok-test-in-None.test ≡ resolved (scope_view c.args.scope.now) (tree.view c.in-If.test) = search rules in
+    let part : code.list_view c.in_ok-test-in-None.part ≡ resolved_all (scope_view c.args.scope.now) (tree.list_view c.in-If.part) = search rules in
+    one_part (scope_view c.args.scope.now) c.args.pos c.in_ok-test-in-None.test c.in_ok-test-in-None.part c.in-If.test c.in-If.part c.args.form.now is test part
 
-pub resolve_form-returns-in_ok-rest-in-Some : goal.resolve_form-returns-in_ok-rest-in-Some
-resolve_form-returns-in_ok-rest-in-Some t c =
+pub resolve_form-returns-in_ok-test-in-Some : goal.resolve_form-returns-in_ok-test-in-Some
+resolve_form-returns-in_ok-test-in-Some t c =
     let is : c.args.form.now ≡ If c.in-If.test c.in-If.part (Some c.in-Some.rest) = c.in-If.is ∙ ap (λ (o : Option (List Expr)). If c.in-If.test c.in-If.part o) c.in-Some.is in
-    let test : code.view c.in_ok-test-in-If.test ≡ resolved (scope_view c.args.scope.now) (tree.view c.in-If.test) = search rules in
-    let part : code.list_view c.in_ok-part-in-If.part ≡ resolved_all (scope_view c.args.scope.now) (tree.list_view c.in-If.part) = search rules in
-    let rest : code.list_view c.in_ok-rest-in-Some.rest ≡ resolved_all (scope_view c.args.scope.now) (tree.list_view c.in-Some.rest) = search rules in
-    two_parts (scope_view c.args.scope.now) c.args.pos c.in_ok-test-in-If.test c.in_ok-part-in-If.part c.in_ok-rest-in-Some.rest c.in-If.test c.in-If.part c.in-Some.rest c.args.form.now is test part rest
+    let test : code.view c.in_ok-test-in-Some.test ≡ resolved (scope_view c.args.scope.now) (tree.view c.in-If.test) = search rules in
+    let part : code.list_view c.in_ok-test-in-Some.part ≡ resolved_all (scope_view c.args.scope.now) (tree.list_view c.in-If.part) = search rules in
+    let rest : code.list_view c.in_ok-test-in-Some.rest ≡ resolved_all (scope_view c.args.scope.now) (tree.list_view c.in-Some.rest) = search rules in
+    two_parts (scope_view c.args.scope.now) c.args.pos c.in_ok-test-in-Some.test c.in_ok-test-in-Some.part c.in_ok-test-in-Some.rest c.in-If.test c.in-If.part c.in-Some.rest c.args.form.now is test part rest
 
 pub resolve_links-returns : goal.resolve_links-returns
 resolve_links-returns t c = links_done (scope_view c.args.scope.now) c.loop-link.codes c.args.links.now c.loop-link.link-index c.loop-link-test.false c.loop-link.invariant

@@ -17,13 +17,13 @@ resolve_statements-returns t c = once_shared _ c.loop-stmt.steps c.new.result c.
 pub resolve_branches-returns : goal.resolve_branches-returns
 resolve_branches-returns t c = once_shared _ c.loop-branch.steps c.new-2.result c.new-2.ensures (branches_done (scope_view c.args.scope.now) c.loop-branch.steps c.args.branches.now c.loop-branch.branch-index c.loop-branch-test.false c.loop-branch.invariant)
 
-pub resolve_form-returns-in_ok-rest-in-Some : goal.resolve_form-returns-in_ok-rest-in-Some
-resolve_form-returns-in_ok-rest-in-Some t c =
+pub resolve_form-returns-in_ok-test-in-Some : goal.resolve_form-returns-in_ok-test-in-Some
+resolve_form-returns-in_ok-test-in-Some t c =
     let is : c.args.form.now ≡ If c.in-If.test c.in-If.part (Some c.in-Some.rest) = c.in-If.is ∙ ap (λ (o : Option (List Stmt)). If c.in-If.test c.in-If.part o) c.in-Some.is in
-    let test : code.view c.in_ok-test-in-If.test ≡ resolved (scope_view c.args.scope.now) (expression.view c.in-If.test) = search rules in
-    let part : step.sequence_view c.in_ok-part-in-If.part ≡ resolved_statements (scope_view c.args.scope.now) (tree.sequence_view c.in-If.part) = search rules in
-    let rest : step.sequence_view c.in_ok-rest-in-Some.rest ≡ resolved_statements (scope_view c.args.scope.now) (tree.sequence_view c.in-Some.rest) = search rules in
-    two_parts (scope_view c.args.scope.now) c.args.pos c.in_ok-test-in-If.test c.in_ok-part-in-If.part c.in_ok-rest-in-Some.rest c.in-If.test c.in-If.part c.in-Some.rest c.args.form.now is test part rest
+    let test : code.view c.in_ok-test-in-Some.test ≡ resolved (scope_view c.args.scope.now) (expression.view c.in-If.test) = search rules in
+    let part : step.sequence_view c.in_ok-test-in-Some.part ≡ resolved_statements (scope_view c.args.scope.now) (tree.sequence_view c.in-If.part) = search rules in
+    let rest : step.sequence_view c.in_ok-test-in-Some.rest ≡ resolved_statements (scope_view c.args.scope.now) (tree.sequence_view c.in-Some.rest) = search rules in
+    two_parts (scope_view c.args.scope.now) c.args.pos c.in_ok-test-in-Some.test c.in_ok-test-in-Some.part c.in_ok-test-in-Some.rest c.in-If.test c.in-If.part c.in-Some.rest c.args.form.now is test part rest
 
 pub resolve_branches-loop-branch-preserved : goal.resolve_branches-loop-branch-preserved
 resolve_branches-loop-branch-preserved t c =
