@@ -91,7 +91,7 @@ fi
 spin=''
 if command -v spin >/dev/null; then spin=1; else echo 'no Spin here (apt-get install spin)'; fi
 
-for shape in "2 60000 400000" "20 10000 40000" "200 1000 4000"; do
+for shape in "2 60000 400000" "20 40000 40000" "200 40000 4000"; do
   read -r stations hops spinning <<<"$shape"
   hops=$((many * hops))
   ring "$stations" >"$room/ring.poosl"
@@ -111,7 +111,7 @@ for shape in "2 60000 400000" "20 10000 40000" "200 1000 4000"; do
   fi
 done
 
-until=$((many * 40))
+until=$((many * 2000))
 pairs 100 >"$room/pairs.poosl"
 measure '100 pairs: Postgrape' "$(messages 100 "$until")" messages "$program" run "$room/pairs.poosl" --until "$until" --steps 1000000000 --summary
 grep -q " clock $until stop$" "$room/out" || fail "the pairs ended otherwise: $(cat "$room/out")"

@@ -7,7 +7,7 @@ many=${1:-1} # so many times as much of each
 # how many actions the summary of the last run tells
 actions() { sed -n 's/^actions \([0-9]*\) .*/\1/p' "$room/out"; }
 
-for shape in "2 200000" "20 20000" "200 2000"; do
+for shape in "2 200000" "20 100000" "200 100000"; do
   read -r stations steps <<<"$shape"
   spend "$program" ring "$stations" --steps "$((many * steps))"
   report "ring of $stations stations" "$(actions)" actions "$seconds" "$kilobytes"
