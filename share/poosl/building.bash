@@ -153,7 +153,7 @@ show() {
 # Proves what has changed and all above it, so many crates at once. That is one run of rt, which lets
 # no other work in the same crates; where this script ends first, it ends too.
 prove() { # how many
-  (cd "$top" && exec rt all check --jobs "$1") >"$log" 2>&1 &
+  (cd "$top" && exec "$here/share/poosl/rt-once" all check --jobs "$1") >"$log" 2>&1 &
   local run=$!
   # shellcheck disable=SC2064
   trap "kill $run 2>/dev/null" EXIT
@@ -190,7 +190,7 @@ build() {
   # The run builds it; what it prints is that of a model beside it.
   local words=(run data/first.poosl --first)
   [[ $builds == poosl_run ]] || words=(data/equal.poosl data/commands)
-  (cd "$top" && rt run -- "${words[@]}") >/dev/null 2>>"$log" || fail
+  (cd "$top" && "$here/share/poosl/rt-once" run -- "${words[@]}") >/dev/null 2>>"$log" || fail
   [[ -t 2 ]] && printf '\r\033[K' >&2
   look_up
   if [[ $sum != "$before" ]]; then

@@ -4,7 +4,7 @@ use pz_bind::Net;
 use pz_classes::Checked;
 use pz_debug_session::Engine;
 use pz_sim::Sim;
-use pz_term::{Action, ChooseError, Limits, Moment, Parcel, PassError, Simulator, Steps};
+use pz_term_simulator::{Action, ChooseError, Limits, Moment, Parcel, PassError, Simulator, Steps};
 use std::alloc::{AllocError, Global};
 use std::sync::ledger::Ledger;
 

@@ -4,7 +4,7 @@ ghost use Rattle.pz_classes.specs.CheckedView.{checked_model};
 ghost use Rattle.pz_classes.specs.Soundness.{IsSound};
 ghost use Rattle.pz_classes_openings.specs.OpeningRules.{Opens};
 ghost use Rattle.pz_syntax.specs.Classes.{ModelTree};
-ghost use Rattle.pz_term.specs.Simulations.{Starts, setting_in};
+ghost use Rattle.pz_term_simulator.specs.Simulations.{Starts, setting_in};
 ghost use Rattle.pz_debug_session.specs.Sessions.{steps_in, stands_in};
 ghost use Rattle.pz_debug_replies.specs.Replying.{IsAt};
 ghost use Rattle.pz_debug.specs.Output.{setting_for, PrintsSession};

@@ -5,7 +5,7 @@ use Rattle.std.proofs.lemmas.List.{append-nil, length-append}
 use Rattle.pz_io.specs.Outside.{SinkState}
 use Rattle.pz_io.specs.declared.writing.Halt.{Halt}
 use Rattle.pz_rules.specs.Settings.{Setting}
-use Rattle.pz_term.specs.Simulations.{Simulation, setting_in}
+use Rattle.pz_term_simulator.specs.Simulations.{Simulation, setting_in}
 use Rattle.pz_debug_commands.specs.Commands.{Command}
 use Rattle.pz_debug_commands.specs.Lines.{BeginsWithLine, ended, last}
 use Rattle.pz_debug_commands.specs.Texts as texts

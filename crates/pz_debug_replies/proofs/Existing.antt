@@ -18,8 +18,8 @@ use Rattle.pz_rules.specs.Runs.{whole}
 use Rattle.pz_rules.specs.Terms.{done}
 use Rattle.pz_trace.specs.declared.ending.Ending.TheVariants as ending
 use Rattle.pz_trace.specs.Lines.{action_line}
-use Rattle.pz_term.specs.Simulations as simulations
-use Rattle.pz_term.specs.Simulations.{Simulation, stands, IsMomentOf, IsOffer, clock_in}
+use Rattle.pz_term_simulator.specs.Simulations as simulations
+use Rattle.pz_term_simulator.specs.Simulations.{Simulation, stands, IsMomentOf, IsOffer, clock_in}
 use Rattle.pz_debug_commands.specs.Commands.{Command, menu, pick, pass, run, until, back, show, unknown}
 use Rattle.pz_debug_session.specs.declared.step.Step.{Step}
 use Rattle.pz_debug_session.specs.declared.step.Step.TheVariants.{Pick, Pass}

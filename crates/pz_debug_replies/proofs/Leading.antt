@@ -2,7 +2,7 @@
 use Rattle.std.proofs.Common.{ℕ, List, [], ◌∷◌, ◌++◌, Option}
 use Rattle.pz_classes.specs.Soundness.{IsSound}
 use Rattle.pz_rules.specs.Settings.{Setting}
-use Rattle.pz_term.specs.Simulations.{Simulation}
+use Rattle.pz_term_simulator.specs.Simulations.{Simulation}
 use Rattle.pz_debug_commands.specs.Commands.{Command}
 use Rattle.pz_debug_session.specs.declared.step.Step.{Step}
 use Rattle.pz_debug_session.specs.declared.step.Step.TheVariants.{Pick, Pass}

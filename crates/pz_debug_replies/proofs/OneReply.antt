@@ -20,11 +20,11 @@ use Rattle.pz_rules.specs.Laws.{OneListOfOffers}
 use Rattle.pz_rules.specs.devices.Walks.{SendsHaveParcels}
 use Rattle.pz_trace.specs.declared.ending.Ending.{Ending}
 use Rattle.pz_trace.specs.Lines.{action_line, time_line, end_line}
-use Rattle.pz_term.specs.Simulations as simulations
-use Rattle.pz_term.specs.Simulations.{Simulation, stands, IsMomentOf, AreOffersOf, IsOffer, clock_in}
-use Rattle.pz_term.specs.Shown.{HoldsValue}
-use Rattle.pz_term.specs.Refusals.{NoTime}
-use Rattle.pz_term.specs.Laws.{OneMomentOf, OneOfferOf, OffersAreThere, OffersAreCounted, OffersAreNumbered}
+use Rattle.pz_term_simulator.specs.Simulations as simulations
+use Rattle.pz_term_simulator.specs.Simulations.{Simulation, stands, IsMomentOf, AreOffersOf, IsOffer, clock_in}
+use Rattle.pz_term_simulator.specs.Shown.{HoldsValue}
+use Rattle.pz_term_simulator.specs.Refusals.{NoTime}
+use Rattle.pz_term_simulator.specs.Laws.{OneMomentOf, OneOfferOf, OffersAreThere, OffersAreCounted, OffersAreNumbered}
 use Rattle.pz_debug_commands.specs.Commands.{Command}
 use Rattle.pz_debug_session.specs.declared.step.Step.{Step}
 use Rattle.pz_debug_session.specs.Steps.{StandsAfter}

@@ -20,9 +20,9 @@ use Rattle.pz_rules.specs.Runs.{Event, Standing, whole, stopped, Reaches, IsChoi
 use Rattle.pz_rules.specs.Steps.{Next}
 use Rattle.pz_trace.specs.declared.ending.Ending.{Ending}
 use Rattle.pz_trace.specs.Named.{HasTroubled, IsNamed, IsNamedAtEnd}
-use Rattle.pz_term.specs.Laws.{IsDerivedIn}
-use Rattle.pz_term.specs.Simulations as simulations
-use Rattle.pz_term.specs.Simulations.{Simulation, stands, broken, IsMomentOf, AreOffersOf, IsOffer, Chooses, Passes, ClockIs, model_in, clock_in, setting_in}
+use Rattle.pz_term_simulator.specs.Laws.{IsDerivedIn}
+use Rattle.pz_term_simulator.specs.Simulations as simulations
+use Rattle.pz_term_simulator.specs.Simulations.{Simulation, stands, broken, IsMomentOf, AreOffersOf, IsOffer, Chooses, Passes, ClockIs, model_in, clock_in, setting_in}
 use Rattle.pz_debug_session.specs.declared.step.Step.{Step}
 use Rattle.pz_debug_session.specs.Steps.{StandsAfter}
 use Rattle.pz_debug_replies.specs.Replies.{ending_at}

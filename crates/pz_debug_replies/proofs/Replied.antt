@@ -20,9 +20,9 @@ use Rattle.pz_copy.specs.Parcels.{ParcelView}
 use Rattle.pz_bind.specs.Nest.{processes}
 use Rattle.pz_rules.specs.Configurations.{Config}
 use Rattle.pz_rules.specs.Runs.{Standing}
-use Rattle.pz_term.specs.Shown.{IsShown, CanShow}
-use Rattle.pz_term.specs.Simulations.{Simulation, stands, IsMomentOf, IsOffer, Chooses, Passes, setting_in, model_in, limits_in, clock_in}
-use Rattle.pz_term.specs.Refusals.{NoActions, NoTime}
+use Rattle.pz_term_simulator.specs.Shown.{IsShown, CanShow}
+use Rattle.pz_term_simulator.specs.Simulations.{Simulation, stands, IsMomentOf, IsOffer, Chooses, Passes, setting_in, model_in, limits_in, clock_in}
+use Rattle.pz_term_simulator.specs.Refusals.{NoActions, NoTime}
 use Rattle.pz_debug_commands.specs.Commands.{Command, run, until, back, show}
 use Rattle.pz_debug_session.specs.declared.step.Step.{Step}
 use Rattle.pz_debug_session.specs.declared.step.Step.TheVariants.{Pick, Pass}

@@ -7,8 +7,8 @@ use Rattle.pz_rules.specs.declared.moment.Moment.{Moment}
 use Rattle.pz_rules.specs.declared.moment.Moment.TheVariants.{Actions, Time}
 use Rattle.pz_rules.specs.Settings.{Setting}
 use Rattle.pz_trace.specs.Lines.{action_line, time_line}
-use Rattle.pz_term.specs.Simulations.{Simulation, IsMomentOf, IsOffer, clock_in}
-use Rattle.pz_term.specs.Refusals.{NoActions, NoTime}
+use Rattle.pz_term_simulator.specs.Simulations.{Simulation, IsMomentOf, IsOffer, clock_in}
+use Rattle.pz_term_simulator.specs.Refusals.{NoActions, NoTime}
 use Rattle.pz_debug_session.specs.declared.step.Step.{Step}
 use Rattle.pz_debug_session.specs.declared.step.Step.TheVariants.{Pick, Pass}
 use Rattle.pz_debug_session.specs.Steps.{StandsAfter}

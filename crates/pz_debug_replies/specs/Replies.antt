@@ -11,9 +11,9 @@ use Rattle.pz_trace.specs.declared.ending.Ending.{Ending}
 use Rattle.pz_trace.specs.declared.ending.Ending.TheVariants as ending
 use Rattle.pz_trace.specs.declared.ending.Ending.TheVariants.{End, Trouble}
 use Rattle.pz_trace.specs.Lines.{action_line, time_line, end_line}
-use Rattle.pz_term.specs.Simulations.{Simulation, stands, IsMomentOf, AreOffersOf, IsOffer, clock_in}
-use Rattle.pz_term.specs.Shown.{HoldsValue}
-use Rattle.pz_term.specs.Refusals.{NoTime}
+use Rattle.pz_term_simulator.specs.Simulations.{Simulation, stands, IsMomentOf, AreOffersOf, IsOffer, clock_in}
+use Rattle.pz_term_simulator.specs.Shown.{HoldsValue}
+use Rattle.pz_term_simulator.specs.Refusals.{NoTime}
 use Rattle.pz_debug_commands.specs.Commands.{Command, menu, pick, pass, run, until, back, show, unknown}
 use Rattle.pz_debug_session.specs.declared.step.Step.{Step}
 use Rattle.pz_debug_session.specs.declared.step.Step.TheVariants.{Pick, Pass}

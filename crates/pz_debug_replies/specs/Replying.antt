@@ -8,7 +8,7 @@ use Rattle.pz_classes.specs.Soundness.{IsSound}
 use Rattle.pz_classes_openings.specs.OpeningRules.{Opens}
 use Rattle.pz_rules.specs.declared.limits.Edition.TheVariants.{Two}
 use Rattle.pz_rules.specs.Settings.{Setting}
-use Rattle.pz_term.specs.Simulations.{Simulation, setting_in, model_in, limits_in}
+use Rattle.pz_term_simulator.specs.Simulations.{Simulation, setting_in, model_in, limits_in}
 use Rattle.pz_debug_commands.specs.Commands.{Command}
 use Rattle.pz_debug_session.specs.declared.step.Step.{Step}
 use Rattle.pz_debug_session.specs.Steps.{StandsLow}

@@ -1,4 +1,4 @@
--- Which variable of which process is meant. What it holds is said by `Shown` of `pz_term`.
+-- Which variable of which process is meant. What it holds is said by `Shown` of `pz_term_simulator`.
 use Rattle.std.specs.Prelude.{◌≡◌, ◌<◌, ℕ, List, Some, slice_get}
 use Rattle.std.specs.List.{position}
 use Rattle.std.specs.Str.{bytes_eq}

@@ -1,7 +1,7 @@
 // Steps that a session takes by itself.
 
 ghost use Rattle.std.specs.Prelude.{◌≡◌};
-ghost use Rattle.pz_term.specs.Simulations.{IsMomentOf, IsOffer};
+ghost use Rattle.pz_term_simulator.specs.Simulations.{IsMomentOf, IsOffer};
 ghost use Rattle.pz_debug_session.specs.Sessions.{steps_in, stands_in};
 ghost use Rattle.pz_debug_replies.specs.Advancing as spec;
 ghost use Rattle.pz_debug_replies.specs.Replying.{IsAt};
@@ -12,7 +12,7 @@ use crate::offers::offer_of;
 use crate::stepping::{let_pass, take_offer};
 use pz_debug_session::{Engine, Session};
 use pz_io::{Halt, Sink};
-use pz_term::{Action, Moment};
+use pz_term_simulator::{Action, Moment};
 use std::alloc::Global;
 
 /// The message behind whose first communication no further step is taken, if there is one.

@@ -8,7 +8,7 @@ pub fn advances_are_one()
     ensures { OneAdvance }
 {
     pz_debug_session::laws::sessions_have_one_place();
-    pz_term::laws::simulators_show_one_moment();
+    pz_term_simulator::laws::simulators_show_one_moment();
 }
 
 /// Commands have one reply each, and one text together, and leave one list of steps.
@@ -19,7 +19,7 @@ pub fn replies_are_one()
     pz_rules::laws::one_list_of_offers();
     pz_rules::laws::walks_list_what_is_active();
     pz_debug_session::laws::sessions_have_one_place();
-    pz_term::laws::simulators_show_one_moment();
+    pz_term_simulator::laws::simulators_show_one_moment();
 }
 
 /// In a session of a sound model each command has a reply, and a text of commands has a text of replies.
@@ -44,7 +44,7 @@ pub(crate) fn rules_are_known()
     pz_rules::laws::what_fits_goes_on();
     pz_rules::laws::start_is_one();
     pz_rules::laws::walks_list_what_is_active();
-    pz_term::laws::simulators_show_one_moment();
+    pz_term_simulator::laws::simulators_show_one_moment();
     pz_trace::laws::what_happens_is_named();
     pz_io::laws::pieces_join();
     pz_debug_commands::laws::texts_have_one_list();

@@ -10,7 +10,7 @@ use crate::names::class_names;
 use pz_bind::Net;
 use pz_classes::Checked;
 use pz_copy::Parcel;
-use pz_term::Action;
+use pz_term_simulator::Action;
 use pz_trace::label;
 use std::alloc::{AllocError, Global};
 

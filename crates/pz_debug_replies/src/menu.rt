@@ -5,7 +5,7 @@ ghost use Rattle.std.specs.Result.{result_err};
 ghost use Rattle.pz_io.specs.Writing.{Wrote};
 ghost use Rattle.pz_rules.specs.declared.action.Action.{Action as TheAction};
 ghost use Rattle.pz_trace.specs.Lines as trace_lines;
-ghost use Rattle.pz_term.specs.Simulations.{IsMomentOf, AreOffersOf, IsOffer, model_in, clock_in};
+ghost use Rattle.pz_term_simulator.specs.Simulations.{IsMomentOf, AreOffersOf, IsOffer, model_in, clock_in};
 ghost use Rattle.pz_debug_commands.specs.Commands.{menu};
 ghost use Rattle.pz_debug_session.specs.Sessions.{steps_in, stands_in};
 ghost use Rattle.pz_debug_replies.specs.Lines as lines;
@@ -17,7 +17,7 @@ use crate::lines::{menu_line, offer_line, waiting_line};
 use crate::offers::offer_of;
 use pz_debug_session::{Engine, Session};
 use pz_io::{Halt, Sink, put};
-use pz_term::Moment;
+use pz_term_simulator::Moment;
 use pz_trace::{Ending, end_line};
 use std::alloc::{AllocError, Global};
 

@@ -5,14 +5,14 @@ ghost use Rattle.std.specs.Result.{result_err};
 ghost use Rattle.pz_io.specs.Writing.{Wrote};
 ghost use Rattle.pz_rules.specs.declared.action.Action.{Action as TheAction};
 ghost use Rattle.pz_trace.specs.Lines as trace_lines;
-ghost use Rattle.pz_term.specs.Simulations.{IsMomentOf, IsOffer, model_in, clock_in};
+ghost use Rattle.pz_term_simulator.specs.Simulations.{IsMomentOf, IsOffer, model_in, clock_in};
 ghost use Rattle.pz_debug_session.specs.Sessions.{stands_in};
 ghost use Rattle.pz_debug_replies.specs.Replies as replies;
 
 use crate::laws::rules_are_known;
 use pz_debug_session::{Engine, Session};
 use pz_io::{Halt, Sink, put};
-use pz_term::{Action, ChooseError, Moment};
+use pz_term_simulator::{Action, ChooseError, Moment};
 use pz_trace::action_line;
 use std::alloc::{AllocError, Global};
 

@@ -1,7 +1,7 @@
 // Whole sessions.
 
 ghost use Rattle.std.specs.Prelude.{◌≡◌, ◌<◌, ◌-◌, ◌^◌, [], length};
-ghost use Rattle.pz_term.specs.Simulations.{setting_in};
+ghost use Rattle.pz_term_simulator.specs.Simulations.{setting_in};
 ghost use Rattle.pz_debug_session.specs.Sessions.{steps_in, stands_in};
 ghost use Rattle.pz_debug_replies.specs.Replying.{IsAt, WroteSession};
 

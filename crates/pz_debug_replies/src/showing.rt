@@ -3,7 +3,7 @@
 ghost use Rattle.std.specs.Prelude.{◌≡◌, ℕ, MatchOption};
 ghost use Rattle.std.specs.Result.{result_err};
 ghost use Rattle.pz_io.specs.Writing.{Wrote};
-ghost use Rattle.pz_term.specs.Simulations.{model_in};
+ghost use Rattle.pz_term_simulator.specs.Simulations.{model_in};
 ghost use Rattle.pz_debug_commands.specs.Commands as commands;
 ghost use Rattle.pz_debug_session.specs.Sessions.{steps_in, stands_in};
 ghost use Rattle.pz_debug_replies.specs.Lines as lines;

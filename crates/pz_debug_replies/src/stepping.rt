@@ -4,7 +4,7 @@ ghost use Rattle.std.specs.Prelude.{◌≡◌, ◌≤◌, ◌<◌, ℕ, [], ◌�
 ghost use Rattle.std.specs.Result.{result_err};
 ghost use Rattle.pz_io.specs.Writing.{Wrote};
 ghost use Rattle.pz_trace.specs.Lines as trace_lines;
-ghost use Rattle.pz_term.specs.Simulations.{IsMomentOf, IsOffer, setting_in, model_in, clock_in};
+ghost use Rattle.pz_term_simulator.specs.Simulations.{IsMomentOf, IsOffer, setting_in, model_in, clock_in};
 ghost use Rattle.pz_debug_commands.specs.Commands as commands;
 ghost use Rattle.pz_debug_session.specs.declared.step.Step.TheVariants as step;
 ghost use Rattle.pz_debug_session.specs.Sessions.{steps_in, stands_in};
@@ -16,7 +16,7 @@ use crate::lines::{refused_pass_line, refused_pick_line};
 use crate::offers::{offer_of, offers_at, tell_taken};
 use pz_debug_session::{Engine, Session};
 use pz_io::{Halt, Sink, put};
-use pz_term::{Action, ChooseError, Moment, PassError};
+use pz_term_simulator::{Action, ChooseError, Moment, PassError};
 use pz_trace::time_line;
 use std::alloc::{AllocError, Global};
 

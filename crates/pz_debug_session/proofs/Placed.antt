@@ -12,8 +12,8 @@ use Rattle.pz_rules.specs.Starting.{IsStart}
 use Rattle.pz_rules.specs.Runs as runs
 use Rattle.pz_rules.specs.Runs.{Event, acted, passed, Standing, whole, stopped, Reaches}
 use Rattle.pz_term_processes.specs.Standing.{setting_of}
-use Rattle.pz_term.specs.Simulations as simulations
-use Rattle.pz_term.specs.Simulations.{Simulation, stands, broken, IsMomentOf, Starts, Chooses, Passes, setting_in, model_in, limits_in, clock_in}
+use Rattle.pz_term_simulator.specs.Simulations as simulations
+use Rattle.pz_term_simulator.specs.Simulations.{Simulation, stands, broken, IsMomentOf, Starts, Chooses, Passes, setting_in, model_in, limits_in, clock_in}
 use Rattle.pz_debug_session.specs.declared.step.Step.{Step}
 use Rattle.pz_debug_session.specs.declared.step.Step.TheVariants.{Pick, Pass}
 use Rattle.pz_debug_session.specs.Steps.{step_of, StandsAfter, StandsLow}

@@ -14,8 +14,8 @@ use Rattle.pz_rules.specs.Runs.{whole, stopped, IsChoice}
 use Rattle.pz_rules.specs.Meanings.{and_then}
 use Rattle.pz_rules.specs.Steps.{Next, internal, communication, with_process, with_both, PassesTo}
 use Rattle.pz_rules.specs.Laws.{OneListOfOffers}
-use Rattle.pz_term.specs.Simulations as simulations
-use Rattle.pz_term.specs.Simulations.{Simulation, stands, broken, IsMomentOf, Chooses, Passes, clock_in}
+use Rattle.pz_term_simulator.specs.Simulations as simulations
+use Rattle.pz_term_simulator.specs.Simulations.{Simulation, stands, broken, IsMomentOf, Chooses, Passes, clock_in}
 use Rattle.pz_debug_session.specs.declared.step.Step.{Step}
 use Rattle.pz_debug_session.specs.declared.step.Step.TheVariants.{Pick, Pass}
 use Rattle.pz_debug_session.specs.devices.Known.{Known}

@@ -1,6 +1,6 @@
 -- What a session is: where it stands, and the steps that it has taken.
 use Rattle.std.specs.Prelude.{List, if◌then◌else◌}
-use Rattle.pz_term.specs.Simulations.{Simulation, broken, setting_in}
+use Rattle.pz_term_simulator.specs.Simulations.{Simulation, broken, setting_in}
 use Rattle.pz_debug_session.specs.declared.step.Step.{Step}
 use Rattle.pz_debug_session.specs.declared.session.Session.{Session}
 

@@ -4,7 +4,7 @@ use Rattle.pz_rules.specs.Settings.{Setting}
 use Rattle.pz_rules.specs.Configurations.{Config}
 use Rattle.pz_rules.specs.Starting.{IsStart}
 use Rattle.pz_rules.specs.Runs.{Event, acted, passed, Standing, Reaches}
-use Rattle.pz_term.specs.Simulations.{Simulation, stands, clock_in}
+use Rattle.pz_term_simulator.specs.Simulations.{Simulation, stands, clock_in}
 use Rattle.pz_debug_session.specs.declared.step.Step.{Step}
 use Rattle.pz_debug_session.specs.declared.step.Step.TheVariants.{Pick, Pass}
 

@@ -3,7 +3,7 @@
 ghost use Rattle.std.specs.Prelude.{◌≡◌, ◌<◌, ◌^◌, length, IfOk};
 ghost use Rattle.pz_classes_openings.specs.OpeningRules.{Opens};
 ghost use Rattle.pz_rules.specs.declared.limits.Edition.TheVariants.{Two};
-ghost use Rattle.pz_term.specs.Simulations.{Simulation, Starts, setting_in, model_in, limits_in};
+ghost use Rattle.pz_term_simulator.specs.Simulations.{Simulation, Starts, setting_in, model_in, limits_in};
 ghost use Rattle.pz_debug_session.specs.Steps.{StandsAfter, StandsLow};
 
 use crate::engine::Engine;

@@ -4,11 +4,11 @@ ghost use Rattle.pz_classes_openings.specs.OpeningRules.{Opens};
 ghost use Rattle.pz_bind.specs.devices.Nets.{IsNet};
 ghost use Rattle.pz_rules.specs.declared.limits.Edition.TheVariants.{Two};
 ghost use Rattle.pz_term_processes.specs.Standing.{setting_of};
-ghost use Rattle.pz_term.specs.Simulations.{Starts};
+ghost use Rattle.pz_term_simulator.specs.Simulations.{Starts};
 
 use pz_bind::Net;
 use pz_classes::Checked;
-use pz_term::{Limits, Simulator};
+use pz_term_simulator::{Limits, Simulator};
 use std::alloc::{AllocError, Global};
 
 /// A simulator that can be started.

@@ -37,5 +37,5 @@ pub(crate) fn rules_are_known()
     pz_rules::laws::one_list_of_offers();
     pz_rules::laws::one_next();
     pz_rules::laws::start_is_one();
-    pz_term::laws::simulators_show_one_moment();
+    pz_term_simulator::laws::simulators_show_one_moment();
 }

@@ -4,9 +4,9 @@ ghost use Rattle.pz_classes_openings.specs.OpeningRules.{Opens};
 ghost use Rattle.pz_bind.specs.devices.Nets.{IsNet};
 ghost use Rattle.pz_rules.specs.declared.limits.Edition.TheVariants.{Two};
 ghost use Rattle.pz_term_processes.specs.Standing.{setting_of};
-ghost use Rattle.pz_term.specs.Simulations.{Starts, IsMomentOf, IsOffer, Chooses, Passes, IsBroken, ClockIs, setting_in, model_in, limits_in, clock_in};
-ghost use Rattle.pz_term.specs.Shown.{IsShown, CanShow};
-ghost use Rattle.pz_term.specs.Refusals.{OnNoSuchOffer, OnChooseNotNow, OnChooseRefused, OnChooseNoMemory, NoActions, OnPassNotNow, OnPassRefused, OnPassNoMemory, NoTime};
+ghost use Rattle.pz_term_simulator.specs.Simulations.{Starts, IsMomentOf, IsOffer, Chooses, Passes, IsBroken, ClockIs, setting_in, model_in, limits_in, clock_in};
+ghost use Rattle.pz_term_simulator.specs.Shown.{IsShown, CanShow};
+ghost use Rattle.pz_term_simulator.specs.Refusals.{OnNoSuchOffer, OnChooseNotNow, OnChooseRefused, OnChooseNoMemory, NoActions, OnPassNotNow, OnPassRefused, OnPassNoMemory, NoTime};
 ghost use Rattle.pz_debug_session.specs.declared.step.Step.TheVariants as step;
 ghost use Rattle.pz_debug_session.specs.Steps.{StandsLow};
 ghost use Rattle.pz_debug_session.specs.Sessions.{steps_in, stands_in};
@@ -20,7 +20,7 @@ use crate::step::Step;
 use crate::taking::take;
 use pz_bind::Net;
 use pz_classes::Checked;
-use pz_term::{Action, ChooseError, Limits, Moment, Parcel, PassError};
+use pz_term_simulator::{Action, ChooseError, Limits, Moment, Parcel, PassError};
 use std::alloc::{AllocError, Global};
 
 /// A stepping session: a simulator, and the steps that it has taken from the start of a run on. It keeps

@@ -1,13 +1,13 @@
 // Steps of a simulator, each with a count of its own that nobody reads.
 
 ghost use Rattle.std.specs.Prelude.{◌≡◌, ◌≤◌, ◌<◌, ◌+◌, ◌*◌, ◌^◌, length, IfErr, OnOk, OnErr, ℕ};
-ghost use Rattle.pz_term.specs.Simulations.{Simulation, IsMomentOf, Chooses, Passes, IsBroken, setting_in, clock_in};
-ghost use Rattle.pz_term.specs.Refusals.{OnNoSuchOffer, OnChooseNotNow, OnChooseRefused, OnChooseNoMemory, NoActions, OnPassNotNow, OnPassRefused, OnPassNoMemory, NoTime};
+ghost use Rattle.pz_term_simulator.specs.Simulations.{Simulation, IsMomentOf, Chooses, Passes, IsBroken, setting_in, clock_in};
+ghost use Rattle.pz_term_simulator.specs.Refusals.{OnNoSuchOffer, OnChooseNotNow, OnChooseRefused, OnChooseNoMemory, NoActions, OnPassNotNow, OnPassRefused, OnPassNoMemory, NoTime};
 ghost use Rattle.pz_debug_session.specs.devices.Leading.{Takes, CanTake, IsShort, Leads, IsWholeAt};
 
 use crate::laws::rules_are_known;
 use crate::step::Step;
-use pz_term::{ChooseError, Moment, PassError, Simulator, Steps};
+use pz_term_simulator::{ChooseError, Moment, PassError, Simulator, Steps};
 use std::alloc::AllocError;
 use std::marker::Brand;
 use std::sync::ledger::{Blank, Ledger};

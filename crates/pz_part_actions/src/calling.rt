@@ -32,7 +32,7 @@ use pz_part_queries::Standpoint;
 use pz_rules::Term;
 use pz_state::{FrameId, State};
 use pz_syntax::{Id, Pos};
-use pz_term_around::{framed, set_inputs};
+use pz_term_residual::{framed, set_inputs};
 use pz_value::{ClassId, Value};
 use std::alloc::{AllocError, Global};
 

@@ -10,7 +10,7 @@ use Rattle.pz_rules.specs.Settings.{Context, Process, left_by, Home}
 use Rattle.pz_rules.specs.Opening.{opened}
 use Rattle.pz_rules.specs.Leaving.{is_done, around}
 use Rattle.pz_rules.specs.devices.Found.{tested}
-use Rattle.pz_tree_summary.specs.Summaries.{summary_of}
+use Rattle.pz_tree_standing.specs.Summaries.{summary_of}
 use Rattle.pz_preempt.specs.declared.summaries.Gate.{Gate}
 use Rattle.pz_preempt.specs.declared.summaries.Mode.{Mode}
 use Rattle.pz_preempt.specs.declared.summaries.Mode.TheVariants.{Idle, Handling}

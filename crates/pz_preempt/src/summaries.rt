@@ -30,7 +30,7 @@ pub fn guard_summary(gate: Gate, shift: &Shift, child: &Summary) -> Summary
     ensures summary { result ≡ guarded_summary gate shift.now child.now }
     ensures term { IsOfGuard gate shift.now child.now result }
 {
-    pz_tree_summary::laws::summaries_by_form();
+    pz_tree_standing::laws::summaries_by_form();
     match gate {
         Gate::Open => child.shifted(shift.behind()),
         Gate::Shut => child.hidden(),
@@ -43,7 +43,7 @@ pub fn abort_summary(first: &Summary, second: &Summary) -> Summary
     ensures summary { result ≡ join first.now second.now }
     ensures term { IsOfAbort first.now second.now result }
 {
-    pz_tree_summary::laws::summaries_by_form();
+    pz_tree_standing::laws::summaries_by_form();
     first.join(second)
 }
 
@@ -53,7 +53,7 @@ pub fn interrupt_summary(mode: Mode, shift: &Shift, first: &Summary, second: &Su
     ensures summary { result ≡ interrupted_summary mode shift.now first.now second.now }
     ensures term { IsOfInterrupt mode shift.now first.now second.now result }
 {
-    pz_tree_summary::laws::summaries_by_form();
+    pz_tree_standing::laws::summaries_by_form();
     match mode {
         Mode::Idle => first.shifted(shift.behind()).join(second),
         Mode::Handling => *second,

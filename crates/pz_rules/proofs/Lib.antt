@@ -47,3 +47,7 @@ mod Room
 mod Existing
 mod Wires
 pub mod worked
+pub mod Opened
+pub mod Left
+mod Stepped
+mod Passed

@@ -1,4 +1,3 @@
-pub mod devices
 pub mod Terms
 pub mod Settings
 pub mod FrameNumbers
@@ -27,9 +26,12 @@ pub mod Starting
 pub mod Fitting
 pub mod Heights
 pub mod Clocks
-pub mod Laws
 pub mod RestView
 pub mod View
 pub mod Openable
 pub mod CallLaws
 pub mod Becoming
+pub mod Short
+pub mod DelayLaws
+pub mod devices
+pub mod Laws

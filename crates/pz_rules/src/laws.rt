@@ -11,6 +11,7 @@ ghost use Rattle.pz_rules.specs.devices.Sets.{StatementsAreASet, BodiesAreASet};
 ghost use Rattle.pz_rules.specs.devices.Start.{StartIsComputed};
 ghost use Rattle.pz_rules.specs.devices.Weights.{CallsAreHeavier};
 ghost use Rattle.pz_rules.specs.devices.Walks.{InternalActionsAreListed, SendsAreListed, SendsHaveParcels, ReceivesAreListed, DelaysAreListed, TroublesAreListed};
+ghost use Rattle.pz_rules.specs.DelayLaws.{StartsAreShort, ShortStays, ShortPasses, MomentsAreShort};
 
 /// A configuration has no more than one list of offers, and has one where the wires of its model are
 /// known.
@@ -209,4 +210,24 @@ pub fn openings_have_outlines()
 pub fn trees_are_sets()
     ensures statements { StatementsAreASet }
     ensures bodies { BodiesAreASet }
+{}
+
+/// Where a model starts, of each delay that has begun less than 2^64 clock units are left: none has begun.
+pub fn starts_are_short()
+    ensures law { StartsAreShort }
+{}
+
+/// So it is after an action, where it was so before: an action begins no delay.
+pub fn short_stays()
+    ensures law { ShortStays }
+{}
+
+/// And after the passing of time, where each active delay that had not begun took less than 2^64.
+pub fn short_passes()
+    ensures law { ShortPasses }
+{}
+
+/// A passing then is by less than 2^64 clock units.
+pub fn moments_are_short()
+    ensures law { MomentsAreShort }
 {}

@@ -10,7 +10,7 @@ use Rattle.pz_words.specs.Options.{step_limit, IsAllowed, nothing_said, with_opt
 use Rattle.pz_words.specs.Jobs.{Asks, IsAsked, or_else, usual_steps}
 use Rattle.pz_words.specs.Jobs as jobs
 use Rattle.pz_run.specs.declared.status.Status.{Status}
-use Rattle.pz_term.specs.Simulations.{Simulation}
+use Rattle.pz_term_simulator.specs.Simulations.{Simulation}
 use Rattle.pz_run.specs.Words.{OfAsked}
 use Rattle.pz_run.specs.Promises.{CameThrough}
 use Rattle.pz_run.specs.HandedOut.{HandsOut}

@@ -15,7 +15,7 @@ use Rattle.pz_watch.specs.Names.{is_identifier}
 use Rattle.pz_watch.specs.declared.errors.ReadWatchesError.{ReadWatchesError}
 use Rattle.pz_watch.specs.declared.errors.ReadWatchesError.TheVariants as no_list
 use Rattle.pz_words.specs.declared.jobs.Job.{Job}
-use Rattle.pz_term.specs.Simulations.{Simulation}
+use Rattle.pz_term_simulator.specs.Simulations.{Simulation}
 use Rattle.pz_run_playing.specs.declared.finale.Finale.{Finale}
 use Rattle.pz_run_playing.specs.declared.finale.Judged.{Judged}
 use Rattle.pz_run_playing.specs.Endings.{ending_of}

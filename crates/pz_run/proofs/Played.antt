@@ -4,7 +4,7 @@ use Rattle.pz_io.specs.Outside.{SinkState}
 use Rattle.pz_io.specs.declared.writing.Halt.{Halt}
 use Rattle.pz_syntax.specs.Classes.{ModelTree}
 use Rattle.pz_rules.specs.Runs.{Ending, ended, deadlocked, troubled, halted, refused}
-use Rattle.pz_term.specs.Simulations.{Simulation}
+use Rattle.pz_term_simulator.specs.Simulations.{Simulation}
 use Rattle.pz_run_playing.specs.declared.finale.Finale.{Finale}
 use Rattle.pz_run_playing.specs.Playing.{Plays}
 use Rattle.pz_run.specs.declared.play.Play.{Play}

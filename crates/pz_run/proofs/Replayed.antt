@@ -16,7 +16,7 @@ use Rattle.pz_trace.specs.Laws.{OneFormIsTold}
 use Rattle.pz_trace.specs.TraceText.{run_ending, IsTrace}
 use Rattle.pz_trace.specs.declared.ending.Ending as trace
 use Rattle.pz_trace.specs.declared.ending.Ending.TheVariants as ending
-use Rattle.pz_term.specs.Simulations.{Simulation}
+use Rattle.pz_term_simulator.specs.Simulations.{Simulation}
 use Rattle.pz_run_replaying.specs.declared.replayed.Replayed.{Replayed}
 use Rattle.pz_run_replaying.specs.declared.replayed.Replayed.TheVariants as replayed
 use Rattle.pz_run_replaying.specs.Replays.{refusal_text, Replays, accepts, refuses, TellsLines, IsReplayed}

@@ -15,7 +15,7 @@ use Rattle.pz_run_reading.specs.Models.{IsModelOf}
 use Rattle.pz_run_reading.specs.Openings.{IsOpenModelOf}
 use Rattle.pz_watch.specs.Files.{NamedFormula, AreWatches, IsRefusedAt}
 use Rattle.pz_watch.specs.Names.{is_identifier}
-use Rattle.pz_term.specs.Simulations.{Simulation, stands}
+use Rattle.pz_term_simulator.specs.Simulations.{Simulation, stands}
 use Rattle.pz_sim.specs.Sims.{simulation_of}
 use Rattle.pz_run_replaying.specs.declared.replayed.Replayed.{Replayed}
 use Rattle.pz_run_replaying.specs.Replays.{Replays}

@@ -26,7 +26,7 @@ use Rattle.pz_watch.specs.Names.{is_identifier}
 use Rattle.pz_watch_points.specs.EventPoints.{points_of}
 use Rattle.pz_run_playing.specs.Playing.{Tells}
 use Rattle.pz_run_playing.specs.Watched.{watched_text}
-use Rattle.pz_term.specs.Simulations.{Simulation}
+use Rattle.pz_term_simulator.specs.Simulations.{Simulation}
 use Rattle.pz_run_replaying.specs.declared.replayed.Replayed.{Replayed}
 use Rattle.pz_run_replaying.specs.Replays.{refusal_text, Replays}
 use Rattle.pz_run.specs.declared.play.Play.{Play}

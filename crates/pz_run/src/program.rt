@@ -147,8 +147,8 @@ pub fn run_program<F: Files, W: Sink>(
         ¬ Rose (F.state files.old).faults (F.state files.new).faults →
         ¬ Rose (W.state out.old).faults (W.state out.new).faults → result.status ≢ Status.NoMemory →
         PrintsAll a (F.state files.old).held (W.state out.old) (W.state out.new) result.status) }
-    // Unless a write failed or memory was wanting, the simulator is there exactly where a run has begun: of
-    // the model that was read or made, and it stands where that run ended.
+    // Over files that tell, unless the files or a write failed or memory was wanting, the simulator is there exactly where
+    // a run has begun: of the model that was read or made, and it stands where that run ended.
     ensures simulator { OfAsked (map string_bytes words.now) (λ a.
         (F.state files.old).told ≡ true →
         CameThrough (F.state files.old) (F.state files.new) result.status →

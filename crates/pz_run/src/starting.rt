@@ -3,7 +3,7 @@ ghost use Rattle.std.specs.Prelude.{◌≡◌, IfOk};
 ghost use Rattle.pz_classes.specs.CheckedView.{checked_model};
 ghost use Rattle.pz_classes_openings.specs.OpeningRules.{Opens};
 ghost use Rattle.pz_rules.specs.declared.limits.Edition.TheVariants.{Two};
-ghost use Rattle.pz_term.specs.Simulations.{Starts};
+ghost use Rattle.pz_term_simulator.specs.Simulations.{Starts};
 ghost use Rattle.pz_sim.specs.Sims.{simulation_of};
 ghost use Rattle.pz_run.specs.Plays.{setting_with};
 

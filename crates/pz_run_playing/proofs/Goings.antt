@@ -8,15 +8,15 @@ use Rattle.pz_rules.specs.declared.action.Action.{Action}
 use Rattle.pz_rules.specs.declared.moment.Moment.{Moment}
 use Rattle.pz_rules.specs.declared.moment.Moment.TheVariants.{Actions, Time}
 use Rattle.pz_rules.specs.Settings.{Setting}
-use Rattle.pz_term.specs.Laws.{OneMomentOf}
+use Rattle.pz_term_simulator.specs.Laws.{OneMomentOf}
 use Rattle.pz_rules.specs.ChosenRuns.{Policy, stops_with, takes, is_beyond, decided}
 use Rattle.pz_rules.specs.Runs.{Event, acted, passed}
-use Rattle.pz_term.specs.Simulations.{Simulation, IsMomentOf, Chooses, Passes, setting_in}
+use Rattle.pz_term_simulator.specs.Simulations.{Simulation, IsMomentOf, Chooses, Passes, setting_in}
 use Rattle.pz_run_playing.specs.declared.playing.Played.{Played}
 use Rattle.pz_run_playing.specs.Endings.{ending_of}
 use Rattle.pz_run_playing.specs.devices.Known.{Known}
-use Rattle.pz_term.specs.Simulations.{model_in, clock_in, IsOffer}
-use Rattle.pz_term.specs.devices.Room.{HasRoomFor}
+use Rattle.pz_term_simulator.specs.Simulations.{model_in, clock_in, IsOffer}
+use Rattle.pz_term_simulator.specs.devices.Room.{HasRoomFor}
 use Rattle.pz_run_playing.specs.devices.Rests.{IsReady, IsHeld}
 use Rattle.pz_run_playing.specs.Sayings.{Saying, said_after}
 use Rattle.pz_run_playing.specs.declared.listening.Listener.{Listener}

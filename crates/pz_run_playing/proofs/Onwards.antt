@@ -16,10 +16,10 @@ use Rattle.pz_rules.specs.Runs as runs
 use Rattle.pz_rules.specs.Runs.{Event, acted, passed, whole, stopped, IsChoice, Ending, troubled, halted}
 use Rattle.pz_rules.specs.ChosenRuns as chosen
 use Rattle.pz_rules.specs.ChosenRuns.{Policy, stops_with, takes, waits, is_beyond, decided, IsChosenRun}
-use Rattle.pz_term.specs.Simulations as simulations
-use Rattle.pz_term.specs.Simulations.{Simulation, stands, broken, IsMomentOf, Chooses, Passes}
+use Rattle.pz_term_simulator.specs.Simulations as simulations
+use Rattle.pz_term_simulator.specs.Simulations.{Simulation, stands, broken, IsMomentOf, Chooses, Passes}
 use Rattle.pz_run_playing.specs.devices.Known.{Known}
-use Rattle.pz_term.specs.Simulations.{clock_in, IsOffer}
+use Rattle.pz_term_simulator.specs.Simulations.{clock_in, IsOffer}
 use Rattle.pz_run_playing.specs.devices.Rests.{IsReady, RestOf}
 use Rattle.pz_run_playing.specs.Sayings.{Saying, said_after}
 use Rattle.pz_run_playing.specs.devices.Going.{Progress, progress, Since, Onward, CutShort}

@@ -6,7 +6,7 @@ use Rattle.pz_rules.specs.Runs as runs
 use Rattle.pz_rules.specs.Runs.{Event, Standing, whole, stopped, Reaches, Ending, ended, deadlocked, troubled, halted, refused, Ends}
 use Rattle.pz_rules.specs.ChosenRuns.{Policy, IsChosenRun}
 use Rattle.pz_rules.specs.Laws.{IsOwn, IsRun}
-use Rattle.pz_term.specs.Simulations.{Simulation, stands, broken}
+use Rattle.pz_term_simulator.specs.Simulations.{Simulation, stands, broken}
 use Rattle.pz_run_playing.specs.Playing.{EndsAs}
 use Rattle.pz_run_playing.specs.devices.Known.{Known}
 use Rattle.pz_run_playing.specs.devices.Rests.{IsReady, RestOf}

@@ -11,9 +11,9 @@ use Rattle.pz_rules.specs.Configurations.{Config}
 use Rattle.pz_rules.specs.Moments.{Candidate, high, faulty, acting, passing, finished, deadlock}
 use Rattle.pz_rules.specs.Runs.{whole, stopped}
 use Rattle.pz_trace.specs.Named.{IsNamed}
-use Rattle.pz_term.specs.Simulations.{Simulation, stands, broken, IsMomentOf, IsOffer, ClockIs, model_in, clock_in}
-use Rattle.pz_term.specs.Refusals.{NoTime}
-use Rattle.pz_term.specs.Laws.{OneMomentOf, IsDerivedIn}
+use Rattle.pz_term_simulator.specs.Simulations.{Simulation, stands, broken, IsMomentOf, IsOffer, ClockIs, model_in, clock_in}
+use Rattle.pz_term_simulator.specs.Refusals.{NoTime}
+use Rattle.pz_term_simulator.specs.Laws.{OneMomentOf, IsDerivedIn}
 use Rattle.pz_run_playing.specs.devices.Known.{Known}
 use Rattle.pz_run_playing.specs.devices.Rests.{IsReady}
 

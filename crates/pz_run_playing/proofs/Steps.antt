@@ -13,10 +13,10 @@ use Rattle.pz_rules.specs.Meanings.{and_then}
 use Rattle.pz_rules.specs.Steps as steps
 use Rattle.pz_rules.specs.Steps.{Next, PassesTo, with_process, with_both}
 use Rattle.pz_rules.specs.Runs.{whole, stopped, IsChoice}
-use Rattle.pz_term.specs.Simulations as simulations
-use Rattle.pz_term.specs.Simulations.{Simulation, stands, broken, IsMomentOf, Chooses, Passes}
+use Rattle.pz_term_simulator.specs.Simulations as simulations
+use Rattle.pz_term_simulator.specs.Simulations.{Simulation, stands, broken, IsMomentOf, Chooses, Passes}
 use Rattle.pz_run_playing.specs.devices.Known.{Known}
-use Rattle.pz_term.specs.Simulations.{clock_in}
+use Rattle.pz_term_simulator.specs.Simulations.{clock_in}
 use Rattle.pz_run_playing.specs.devices.Rests.{pending_in, CanGoOn, IsReady}
 use Rattle.pz_run_playing.proofs.Simulated.{time_stopped, actions_stopped}
 

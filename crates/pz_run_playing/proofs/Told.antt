@@ -10,8 +10,8 @@ use Rattle.pz_syntax.specs.Classes.{ModelTree}
 use Rattle.pz_rules.specs.declared.action.Action.{Action}
 use Rattle.pz_rules.specs.declared.moment.Moment.TheVariants.{Actions}
 use Rattle.pz_trace.specs.Lines.{action_line}
-use Rattle.pz_term.specs.Simulations as simulations
-use Rattle.pz_term.specs.Simulations.{Simulation, IsMomentOf, AreOffersOf, IsOffer}
+use Rattle.pz_term_simulator.specs.Simulations as simulations
+use Rattle.pz_term_simulator.specs.Simulations.{Simulation, IsMomentOf, AreOffersOf, IsOffer}
 use Rattle.pz_run_playing.specs.Menus.{offer_line, offers_text}
 use Rattle.pz_run_playing.specs.devices.Known.{Known}
 

@@ -24,8 +24,8 @@ use Rattle.pz_trace.specs.TraceText.{event_line, trace_header, events_text}
 use Rattle.pz_watch.specs.Files.{NamedFormula}
 use Rattle.pz_watch.specs.Breaking.{AreBroken}
 use Rattle.pz_watch_points.specs.EventPoints.{points_of}
-use Rattle.pz_term.specs.Simulations as simulations
-use Rattle.pz_term.specs.Simulations.{Simulation, stands, broken, Starts, IsMomentOf, AreOffersOf, setting_in}
+use Rattle.pz_term_simulator.specs.Simulations as simulations
+use Rattle.pz_term_simulator.specs.Simulations.{Simulation, stands, broken, Starts, IsMomentOf, AreOffersOf, setting_in}
 use Rattle.pz_run_playing.specs.declared.finale.Finale.{Finale}
 use Rattle.pz_run_playing.specs.declared.finale.Finale.TheVariants as finale
 use Rattle.pz_run_playing.specs.declared.playing.Played.{Played}
@@ -35,7 +35,7 @@ use Rattle.pz_run_playing.specs.Summaries.{actions_in, passings_in, summary_of, 
 use Rattle.pz_run_playing.specs.Menus.{AreLeft, offered, no_offers, not_stopped, offers_text}
 use Rattle.pz_run_playing.specs.Playing.{EndsAs, ChosenRun, Telling, trace, summary, menu, Tells, of_trace, of_summary, of_menu, Plays}
 use Rattle.pz_run_playing.specs.devices.Known.{Known}
-use Rattle.pz_term.specs.Simulations.{model_in, clock_in}
+use Rattle.pz_term_simulator.specs.Simulations.{model_in, clock_in}
 use Rattle.pz_run_playing.specs.devices.Rests.{IsReady, IsTroubledIn, ChosenRest, RestOf}
 use Rattle.pz_run_playing.specs.Sayings.{silence, line_of, judged_line, said_after}
 use Rattle.pz_run_playing.specs.Watched.{watched_text, PlaysWatched}

@@ -10,7 +10,7 @@ use Rattle.pz_rules.specs.Configurations.{Config}
 use Rattle.pz_rules.specs.Starting.{IsStart}
 use Rattle.pz_rules.specs.Runs.{Event, Standing, whole, stopped, Reaches, Ending, troubled}
 use Rattle.pz_rules.specs.ChosenRuns.{Policy, IsChosenRun}
-use Rattle.pz_term.specs.Simulations.{Simulation, stands}
+use Rattle.pz_term_simulator.specs.Simulations.{Simulation, stands}
 use Rattle.pz_run_playing.specs.declared.finale.Finale.{Finale}
 use Rattle.pz_run_playing.specs.Endings.{ending_of}
 use Rattle.pz_run_playing.specs.RunText.{run_text}

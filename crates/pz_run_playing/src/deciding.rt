@@ -11,7 +11,7 @@ ghost use Rattle.pz_run_playing.specs.devices.Deciding.{decision_of, IfTake, May
 
 use crate::Finale;
 use pz_choice::Chooser;
-use pz_term::Moment;
+use pz_term_simulator::Moment;
 use pz_trace::Ending;
 use pz_words::RunLimits;
 

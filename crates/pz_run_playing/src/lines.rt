@@ -15,7 +15,7 @@ use crate::Finale;
 use crate::playing::Played;
 use pz_bind::Net;
 use pz_classes::Checked;
-use pz_term::Action;
+use pz_term_simulator::Action;
 use pz_trace::{end_words, label};
 use std::alloc::{AllocError, Global};
 

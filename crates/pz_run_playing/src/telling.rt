@@ -9,13 +9,13 @@ ghost use Rattle.pz_rules.specs.Configurations.{Config};
 ghost use Rattle.pz_rules.specs.Runs.{Standing};
 ghost use Rattle.pz_trace.specs.Lines as trace_lines;
 ghost use Rattle.pz_trace.specs.TraceText.{trace_header};
-ghost use Rattle.pz_term.specs.Simulations.{IsMomentOf, AreOffersOf, stands};
+ghost use Rattle.pz_term_simulator.specs.Simulations.{IsMomentOf, AreOffersOf, stands};
 ghost use Rattle.pz_run_playing.specs.Endings as endings;
 ghost use Rattle.pz_run_playing.specs.Endings.{ending_of};
 ghost use Rattle.pz_run_playing.specs.Summaries.{summary_of};
 ghost use Rattle.pz_run_playing.specs.Menus as menus;
 ghost use Rattle.pz_run_playing.specs.Menus.{offers_text};
-ghost use Rattle.pz_term.specs.Simulations.{setting_in, model_in, clock_in, IsOffer};
+ghost use Rattle.pz_term_simulator.specs.Simulations.{setting_in, model_in, clock_in, IsOffer};
 ghost use Rattle.pz_run_playing.specs.devices.Rests.{IsTroubledIn};
 ghost use Rattle.pz_run_playing.specs.devices.Going.{told};
 
@@ -24,7 +24,7 @@ use crate::laws::rules_are_known;
 use crate::lines::{last_line, offer_line, summary_line};
 use crate::playing::Played;
 use pz_io::{Halt, Sink, put};
-use pz_term::{Action, Moment, Simulator};
+use pz_term_simulator::{Action, Moment, Simulator};
 use pz_trace::{action_line, form_of, header, time_line};
 use std::alloc::{AllocError, Global};
 

@@ -15,7 +15,7 @@ use Rattle.pz_trace.specs.declared.headings.Heading.TheVariants.{Step}
 use Rattle.pz_trace.specs.Lines.{time_line, action_line, end_line}
 use Rattle.pz_trace.specs.Headings.{IsHeading}
 use Rattle.pz_trace.specs.Laws.{IsLine}
-use Rattle.pz_term.specs.Simulations.{Simulation}
+use Rattle.pz_term_simulator.specs.Simulations.{Simulation}
 use Rattle.pz_run_replaying.specs.declared.replayed.Replayed.{Replayed}
 use Rattle.pz_run_replaying.specs.Refusals.{IsRefusedAt}
 use Rattle.pz_run_replaying.specs.Stages.{Stage, unbegun, underway, concluded, LeadsTo}

@@ -17,7 +17,7 @@ use Rattle.pz_rules.specs.Runs.{Standing, whole, stopped, IsChoice}
 use Rattle.pz_trace.specs.declared.ending.Ending.{Ending}
 use Rattle.pz_trace.specs.Lines.{time_line, action_line, end_line}
 use Rattle.pz_trace.specs.TraceText.{trace_header}
-use Rattle.pz_term.specs.Simulations.{stands}
+use Rattle.pz_term_simulator.specs.Simulations.{stands}
 use Rattle.pz_run_replaying.specs.Stages.{Stage, unbegun, underway, concluded}
 use Rattle.pz_run_replaying.specs.devices.Known.{Known}
 use Rattle.pz_run_replaying.specs.devices.Readiness.{Ready, IsEndAt}

@@ -11,7 +11,7 @@ use Rattle.pz_rules.specs.declared.moment.Moment.TheVariants as moments
 use Rattle.pz_rules.specs.Settings.{Setting}
 use Rattle.pz_rules.specs.Configurations.{Config}
 use Rattle.pz_rules.specs.Runs.{Standing, whole, stopped, IsChoice}
-use Rattle.pz_term.specs.Laws.{OneMomentOf}
+use Rattle.pz_term_simulator.specs.Laws.{OneMomentOf}
 use Rattle.pz_trace.specs.declared.ending.Ending.{Ending}
 use Rattle.pz_trace.specs.declared.ending.Ending.TheVariants.{Stop}
 use Rattle.pz_trace.specs.declared.headings.Heading.TheVariants.{Step}
@@ -19,7 +19,7 @@ use Rattle.pz_trace.specs.Headings.{IsHeading}
 use Rattle.pz_trace.specs.Lines.{newline, time_line, action_line, end_words, end_line}
 use Rattle.pz_trace.specs.Labels.{label}
 use Rattle.pz_trace.specs.Laws.{IsLine}
-use Rattle.pz_term.specs.Simulations.{Simulation, stands, broken, IsMomentOf}
+use Rattle.pz_term_simulator.specs.Simulations.{Simulation, stands, broken, IsMomentOf}
 use Rattle.pz_run_replaying.specs.declared.judging.Move.{Move}
 use Rattle.pz_run_replaying.specs.declared.judging.Move.TheVariants.{Act, Wait}
 use Rattle.pz_run_replaying.specs.declared.judging.Judged.TheVariants as judged
@@ -27,7 +27,7 @@ use Rattle.pz_run_replaying.specs.Stages.{Stage, underway, concluded}
 use Rattle.pz_run_replaying.specs.Expected.{NamesOffer, Expects, the_offer, no_offer, the_passing, the_end}
 use Rattle.pz_run_replaying.specs.devices.Known.{Known}
 use Rattle.pz_run_replaying.specs.devices.Fronts.{StartsWith}
-use Rattle.pz_term.specs.Simulations.{model_in, clock_in, IsOffer}
+use Rattle.pz_term_simulator.specs.Simulations.{model_in, clock_in, IsOffer}
 use Rattle.pz_run_replaying.specs.devices.Readiness.{IsReady, IsEndAt, IsLast, HasFewOffers}
 use Rattle.pz_run_replaying.specs.devices.Taking.{Differs}
 use Rattle.pz_run_replaying.specs.devices.Judging.{IsMoveLine, Judges, goes, ends, differs}

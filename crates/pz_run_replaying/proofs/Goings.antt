@@ -13,7 +13,7 @@ use Rattle.pz_rules.specs.Settings.{Setting}
 use Rattle.pz_rules.specs.Configurations.{Config}
 use Rattle.pz_rules.specs.Runs.{Standing}
 use Rattle.pz_trace.specs.declared.ending.Ending.{Ending}
-use Rattle.pz_term.specs.Simulations.{Simulation, stands}
+use Rattle.pz_term_simulator.specs.Simulations.{Simulation, stands}
 use Rattle.pz_run_replaying.specs.declared.replayed.Replayed.{Replayed}
 use Rattle.pz_run_replaying.specs.declared.replayed.Replayed.TheVariants.{Ended, Refused}
 use Rattle.pz_run_replaying.specs.Stages.{Stage, unbegun, concluded, IsAt}

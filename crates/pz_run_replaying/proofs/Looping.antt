@@ -11,7 +11,7 @@ use Rattle.pz_io.specs.Writing.{Wrote}
 use Rattle.pz_rules.specs.Settings.{Setting}
 use Rattle.pz_trace.specs.declared.ending.Ending.{Ending}
 use Rattle.pz_trace.specs.Lines.{end_line}
-use Rattle.pz_term.specs.Simulations.{Simulation, stands, broken, setting_in}
+use Rattle.pz_term_simulator.specs.Simulations.{Simulation, stands, broken, setting_in}
 use Rattle.pz_run_replaying.specs.declared.judging.Move.{Move}
 use Rattle.pz_run_replaying.specs.declared.judging.Judged.TheVariants as judged
 use Rattle.pz_run_replaying.specs.declared.replayed.Replayed.{Replayed}
@@ -21,7 +21,7 @@ use Rattle.pz_run_replaying.specs.Expected.{Expects}
 use Rattle.pz_run_replaying.specs.Replays.{TellsLines, refusal_text}
 use Rattle.pz_run_replaying.specs.devices.Known.{Known}
 use Rattle.pz_run_replaying.specs.devices.Fronts.{StartsWith}
-use Rattle.pz_term.specs.Simulations.{model_in, clock_in}
+use Rattle.pz_term_simulator.specs.Simulations.{model_in, clock_in}
 use Rattle.pz_run_replaying.specs.devices.Readiness.{stage_of, IsReady, EndsIn, HasFewOffers}
 use Rattle.pz_run_replaying.specs.devices.Taking.{Takes, HasFew, IsKept, Differs}
 use Rattle.pz_run_replaying.specs.devices.Judging.{MayMove, Moves, IsMoveLine, Judges, goes, ends, differs, Concludes}

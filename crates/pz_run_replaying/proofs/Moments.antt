@@ -10,8 +10,8 @@ use Rattle.pz_rules.specs.Moments.{Candidate, high, faulty, acting, passing, fin
 use Rattle.pz_rules.specs.Runs as runs
 use Rattle.pz_rules.specs.Runs.{Standing, whole, stopped, Ending as RunEnding, ended, deadlocked, troubled, halted, Ends}
 use Rattle.pz_rules.specs.Laws.{EveryMoment}
-use Rattle.pz_term.specs.Simulations.{stands, IsMomentOf}
-use Rattle.pz_term.specs.Laws.{OneMomentOf}
+use Rattle.pz_term_simulator.specs.Simulations.{stands, IsMomentOf}
+use Rattle.pz_term_simulator.specs.Laws.{OneMomentOf}
 use Rattle.pz_trace.specs.declared.ending.Ending.{Ending}
 use Rattle.pz_trace.specs.declared.ending.Ending.TheVariants as ending
 use Rattle.pz_trace.specs.TraceText.{run_ending}

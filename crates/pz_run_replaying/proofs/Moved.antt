@@ -13,13 +13,13 @@ use Rattle.pz_rules.specs.Moments.{IsMoment}
 use Rattle.pz_rules.specs.Runs.{whole, stopped, IsChoice}
 use Rattle.pz_trace.specs.declared.ending.Ending.{Ending}
 use Rattle.pz_trace.specs.Lines.{time_line, action_line, end_line}
-use Rattle.pz_term.specs.Simulations as simulations
-use Rattle.pz_term.specs.Simulations.{Simulation, stands, broken, IsMomentOf, Chooses, Passes, setting_in}
+use Rattle.pz_term_simulator.specs.Simulations as simulations
+use Rattle.pz_term_simulator.specs.Simulations.{Simulation, stands, broken, IsMomentOf, Chooses, Passes, setting_in}
 use Rattle.pz_run_replaying.specs.declared.judging.Move.{Move}
 use Rattle.pz_run_replaying.specs.declared.judging.Move.TheVariants.{Act, Wait}
 use Rattle.pz_run_replaying.specs.Stages.{underway}
 use Rattle.pz_run_replaying.specs.devices.Known.{Known}
-use Rattle.pz_term.specs.Simulations.{model_in, clock_in}
+use Rattle.pz_term_simulator.specs.Simulations.{model_in, clock_in}
 use Rattle.pz_run_replaying.specs.devices.Readiness.{stage_of, IsReady, EndsIn, HasFewOffers}
 use Rattle.pz_run_replaying.specs.devices.Taking.{takes_place, fails, Takes, action_taken, passing_taken, end_taken, HasFew, IsKept}
 use Rattle.pz_run_replaying.specs.devices.Judging.{MayMove, Moves, IsMoveLine}

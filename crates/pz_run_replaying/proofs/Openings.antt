@@ -11,7 +11,7 @@ use Rattle.pz_classes.specs.Soundness.{IsSound}
 use Rattle.pz_rules.specs.Settings.{Setting}
 use Rattle.pz_rules.specs.Runs.{whole}
 use Rattle.pz_trace.specs.TraceText.{trace_header}
-use Rattle.pz_term.specs.Simulations.{Simulation, stands, Starts, starts}
+use Rattle.pz_term_simulator.specs.Simulations.{Simulation, stands, Starts, starts}
 use Rattle.pz_run_replaying.specs.declared.replayed.Replayed.{Replayed}
 use Rattle.pz_run_replaying.specs.declared.replayed.Replayed.TheVariants.{Refused}
 use Rattle.pz_run_replaying.specs.Stages.{Stage, unbegun, underway, nothing_told}
@@ -19,7 +19,7 @@ use Rattle.pz_run_replaying.specs.Expected.{Expects, the_header}
 use Rattle.pz_run_replaying.specs.Replays.{TellsLines, IsReplayed, refusal_text}
 use Rattle.pz_run_replaying.specs.devices.Known.{Known}
 use Rattle.pz_run_replaying.specs.devices.Fronts.{StartsWith}
-use Rattle.pz_term.specs.Simulations.{setting_in, model_in}
+use Rattle.pz_term_simulator.specs.Simulations.{setting_in, model_in}
 use Rattle.pz_run_replaying.specs.devices.Readiness.{IsReady}
 use Rattle.pz_run_replaying.specs.devices.Taking.{Takes, header_taken, arrived, Differs}
 use Rattle.pz_run_replaying.specs.devices.Progress.{Progress, Answers}

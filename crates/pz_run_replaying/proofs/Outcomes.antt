@@ -22,7 +22,7 @@ use Rattle.pz_trace.specs.Headings.{IsHeading}
 use Rattle.pz_trace.specs.Laws.{Unbroken, IsLine, OneFirstLine}
 use Rattle.pz_trace.specs.Lines.{time_line, action_line, end_line}
 use Rattle.pz_trace.specs.TraceText.{trace_header, run_ending, IsTrace}
-use Rattle.pz_term.specs.Simulations.{Simulation, stands, starts}
+use Rattle.pz_term_simulator.specs.Simulations.{Simulation, stands, starts}
 use Rattle.pz_run_replaying.specs.declared.replayed.Replayed.{Replayed}
 use Rattle.pz_run_replaying.specs.declared.replayed.Replayed.TheVariants.{Ended, Refused}
 use Rattle.pz_run_replaying.specs.Refusals.{Agrees, IsRefusedAt}

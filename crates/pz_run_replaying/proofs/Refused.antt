@@ -10,7 +10,7 @@ use Rattle.pz_rules.specs.Runs.{Standing}
 use Rattle.pz_trace.specs.declared.ending.Ending.{Ending}
 use Rattle.pz_trace.specs.Laws.{IsLine}
 use Rattle.pz_trace.specs.TraceText.{IsTrace}
-use Rattle.pz_term.specs.Simulations.{Simulation}
+use Rattle.pz_term_simulator.specs.Simulations.{Simulation}
 use Rattle.pz_run_replaying.specs.declared.replayed.Replayed.{Replayed}
 use Rattle.pz_run_replaying.specs.Refusals.{Agrees, IsRefusedAt}
 use Rattle.pz_run_replaying.specs.Stages.{Stage, unbegun, concluded, LeadsTo}

@@ -18,7 +18,7 @@ use Rattle.pz_trace.specs.Lines.{end_line}
 use Rattle.pz_trace.specs.Forms.{form_of}
 use Rattle.pz_trace.specs.Laws.{IsLine}
 use Rattle.pz_trace.specs.TraceText.{trace_header, event_line, events_text, IsTrace}
-use Rattle.pz_term.specs.Simulations.{stands}
+use Rattle.pz_term_simulator.specs.Simulations.{stands}
 use Rattle.pz_run_replaying.specs.declared.replayed.Replayed.TheVariants.{Ended}
 use Rattle.pz_run_replaying.specs.Stages.{Stage, unbegun, underway, concluded, LeadsTo, nothing_told, events_told, end_told}
 use Rattle.pz_run_replaying.specs.Replays.{Replays, accepts, TellsLines}

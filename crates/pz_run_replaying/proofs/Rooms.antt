@@ -2,8 +2,8 @@
 use Rattle.std.proofs.Common.{◌<◌, ◌+◌, ◌^◌, ℕ, suc, Result, Ok, Err, arith}
 use Rattle.std.specs.Prelude.{OnOk, ⊤}
 use Rattle.pz_io.specs.declared.writing.Halt.{Halt}
-use Rattle.pz_term.specs.Simulations.{Simulation, Passes, clock_in}
-use Rattle.pz_term.specs.devices.Room.{HasRoomFor}
+use Rattle.pz_term_simulator.specs.Simulations.{Simulation, Passes, clock_in}
+use Rattle.pz_term_simulator.specs.devices.Room.{HasRoomFor}
 use Rattle.pz_run_replaying.specs.devices.Known.{Known}
 
 -- after a passing there is still room for as many lines as before, and so for one less

@@ -16,8 +16,8 @@ use Rattle.pz_rules.specs.Runs.{Standing, whole, stopped, IsChoice}
 use Rattle.pz_trace.specs.declared.ending.Ending.{Ending}
 use Rattle.pz_trace.specs.declared.ending.Ending.TheVariants as ending
 use Rattle.pz_trace.specs.Named.{IsNamed, IsNamedAtEnd}
-use Rattle.pz_term.specs.Simulations.{Simulation, stands, broken, IsMomentOf, ClockIs, model_in, clock_in, IsOfferIn, IsOffer}
-use Rattle.pz_term.specs.Laws.{IsDerivedIn}
+use Rattle.pz_term_simulator.specs.Simulations.{Simulation, stands, broken, IsMomentOf, ClockIs, model_in, clock_in, IsOfferIn, IsOffer}
+use Rattle.pz_term_simulator.specs.Laws.{IsDerivedIn}
 use Rattle.pz_run_replaying.specs.Stages.{Stage, unbegun, concluded}
 use Rattle.pz_run_replaying.specs.devices.Known.{Known}
 use Rattle.pz_run_replaying.specs.devices.Readiness.{Ready, IsReady, IsEndAt, IsLast, EndsIn, IsNamedLast}

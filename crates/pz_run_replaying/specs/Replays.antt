@@ -12,7 +12,7 @@ use Rattle.pz_rules.specs.Starting.{IsStart}
 use Rattle.pz_rules.specs.Runs.{Event, Standing, Reaches}
 use Rattle.pz_trace.specs.TraceText.{event_line, IsTrace}
 use Rattle.pz_trace.specs.Laws.{IsLine, HasUnbrokenNames}
-use Rattle.pz_term.specs.Simulations.{Simulation, stands}
+use Rattle.pz_term_simulator.specs.Simulations.{Simulation, stands}
 use Rattle.pz_run_replaying.specs.declared.replayed.Replayed.{Replayed}
 use Rattle.pz_run_replaying.specs.declared.replayed.Replayed.TheVariants.{Ended, Refused}
 use Rattle.pz_run_replaying.specs.Lines.{refused_line, expected_line}

@@ -7,7 +7,7 @@ use Rattle.pz_rules.specs.Runs.{Event, Standing, Reaches, Ends}
 use Rattle.pz_trace.specs.declared.ending.Ending.{Ending}
 use Rattle.pz_trace.specs.Lines.{end_line}
 use Rattle.pz_trace.specs.TraceText.{trace_header, event_line, run_ending}
-use Rattle.pz_term.specs.Simulations.{Simulation, stands, Starts}
+use Rattle.pz_term_simulator.specs.Simulations.{Simulation, stands, Starts}
 
 pub data Stage : Type 0 where
   -- nothing was told

@@ -3,15 +3,15 @@
 ghost use Rattle.std.specs.Prelude.{◌≡◌, ◌≢◌, ◌<◌, ◌++◌, ℕ, List, IfOk, OnOk, MatchOption};
 ghost use Rattle.pz_rules.specs.declared.action.Action.{Action as TheAction};
 ghost use Rattle.pz_trace.specs.Lines as trace_lines;
-ghost use Rattle.pz_term.specs.Simulations.{IsMomentOf};
+ghost use Rattle.pz_term_simulator.specs.Simulations.{IsMomentOf};
 ghost use Rattle.pz_run_replaying.specs.devices.Fronts.{StartsWith};
-ghost use Rattle.pz_term.specs.Simulations.{model_in, clock_in, IsOffer};
+ghost use Rattle.pz_term_simulator.specs.Simulations.{model_in, clock_in, IsOffer};
 ghost use Rattle.pz_run_replaying.specs.devices.Readiness.{IsReady, IsLast, IsNamedLast, HasFewOffers};
 ghost use Rattle.pz_run_replaying.specs.devices.Judging.{Judges};
 
 use crate::fronts::{front_len, named_offer};
 use crate::laws::rules_are_known;
-use pz_term::{Moment, Simulator};
+use pz_term_simulator::{Moment, Simulator};
 use pz_trace::{Ending, action_line, end_line, time_line};
 use std::alloc::{AllocError, Global};
 

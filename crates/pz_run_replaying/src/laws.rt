@@ -21,8 +21,8 @@ pub(crate) fn rules_are_known()
     pz_rules::laws::least_passes();
     pz_rules::laws::one_next();
     pz_rules::laws::what_fits_goes_on();
-    pz_term::laws::simulators_show_one_moment();
-    pz_term::laws::room_is_left();
+    pz_term_simulator::laws::simulators_show_one_moment();
+    pz_term_simulator::laws::room_is_left();
     pz_trace::laws::what_happens_is_named();
     pz_trace::laws::lines_stand_apart();
     pz_trace::laws::lines_differ();

@@ -3,14 +3,14 @@
 ghost use Rattle.std.specs.Prelude.{◌≡◌, ◌<◌, ◌+◌, ◌^◌, ℕ, suc, OnOk, IsOkUnless};
 ghost use Rattle.std.specs.Result.{result_err};
 ghost use Rattle.pz_io.specs.Writing.{Wrote};
-ghost use Rattle.pz_term.specs.Simulations.{IsMomentOf, Chooses, Passes, setting_in, clock_in};
-ghost use Rattle.pz_term.specs.devices.Room.{HasRoomFor};
+ghost use Rattle.pz_term_simulator.specs.Simulations.{IsMomentOf, Chooses, Passes, setting_in, clock_in};
+ghost use Rattle.pz_term_simulator.specs.devices.Room.{HasRoomFor};
 ghost use Rattle.pz_run_replaying.specs.devices.Judging.{MayMove, Moves};
 
 use crate::judging::Move;
 use crate::laws::rules_are_known;
 use pz_io::{Halt, Sink, put};
-use pz_term::{ChooseError, PassError, Simulator, Steps};
+use pz_term_simulator::{ChooseError, PassError, Simulator, Steps};
 use std::sync::ledger::Ledger;
 
 // Takes an offer that is there.

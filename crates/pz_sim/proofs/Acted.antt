@@ -34,9 +34,9 @@ use Rattle.pz_sim_laws.specs.Members.{Member, become, process_of, config_of}
 use Rattle.pz_sim_laws.specs.Deeds as deeds
 use Rattle.pz_sim_laws.specs.Deeds.{Manner}
 use Rattle.pz_sim_laws.specs.Laws.{MembersAct, ActionLeadsOn, MembersStay}
-use Rattle.pz_tree_acting.specs.Acting.{Answers}
-use Rattle.pz_tree_acting.specs.Deeds.{Ability, CanDo, CanAct, CanSend, Leaves}
-use Rattle.pz_tree_frames.specs.Frames.{FramesStand, open_as}
+use Rattle.pz_tree.specs.Deeds.{Answers}
+use Rattle.pz_tree.specs.Deeds.{Ability, CanDo, CanAct, CanSend, Leaves}
+use Rattle.pz_tree_standing.specs.Frames.{FramesStand, open_as}
 use Rattle.pz_tree_standing.specs.FrameCounts.{times}
 use Rattle.pz_tree.specs.declared.tree.Tree.{Tree}
 use Rattle.pz_tree.specs.Acting.{answered}

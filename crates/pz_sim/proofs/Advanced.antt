@@ -21,8 +21,8 @@ use Rattle.pz_sim_laws.specs.Members.{config_of}
 use Rattle.pz_sim_laws.specs.Deciding.{total_of_all, offers_in, decided}
 use Rattle.pz_sim_laws.specs.Laws.{MomentIsDecided, PairsAreCouples}
 use Rattle.pz_sim_laws.specs.Leading.{LeadsTo, MerelyLeads}
-use Rattle.pz_term.specs.Simulations as simulations
-use Rattle.pz_term.specs.Simulations.{Simulation, stands, Chooses, IsMomentOf, setting_in}
+use Rattle.pz_term_simulator.specs.Simulations as simulations
+use Rattle.pz_term_simulator.specs.Simulations.{Simulation, stands, Chooses, IsMomentOf, setting_in}
 use Rattle.pz_tree.specs.declared.tree.Tree.{Tree}
 use Rattle.pz_sim.specs.Members.{members_of}
 use Rattle.pz_sim.specs.Sims.{simulation_at}

@@ -24,10 +24,10 @@ use Rattle.pz_rules.specs.Starting.{StartsAs, IsStart}
 use Rattle.pz_term_processes.specs.declared.process.Process.{Process}
 use Rattle.pz_term_processes.specs.Standing as standing
 use Rattle.pz_term_processes.specs.Standing.{process_view, AreProcesses}
-use Rattle.pz_term.specs.Simulations as simulations
-use Rattle.pz_term.specs.Simulations.{Starts, stands}
+use Rattle.pz_term_simulator.specs.Simulations as simulations
+use Rattle.pz_term_simulator.specs.Simulations.{Starts, stands}
 use Rattle.pz_sim_laws.specs.Members.{Member, process_of, config_of}
-use Rattle.pz_tree_frames.specs.Frames.{FramesStand, FramesStandAtStart}
+use Rattle.pz_tree_standing.specs.Frames.{FramesStand, FramesStandAtStart}
 use Rattle.pz_tree.specs.declared.tree.Tree.{Tree}
 use Rattle.pz_tree.specs.Trees.{at_in, term_in, process_in, IsFresh}
 use Rattle.pz_sim.specs.Members.{member_of, members_of}

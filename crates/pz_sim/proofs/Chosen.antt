@@ -31,7 +31,7 @@ use Rattle.pz_sim_laws.specs.Members.{Member, config_of}
 use Rattle.pz_sim_laws.specs.Couples.{AreCouples, IsCouple, communication}
 use Rattle.pz_sim_laws.specs.Deciding.{total_of, total_of_all, offers_in, decided, calm, unless}
 use Rattle.pz_sim_laws.specs.Laws.{InternalsComeFirst, CommunicationsFollow, PairsAreCouples}
-use Rattle.pz_tree_acting.specs.Deeds.{CanAct}
+use Rattle.pz_tree.specs.Deeds.{CanAct}
 use Rattle.pz_tree.specs.declared.found.InternalAction.{InternalAction}
 use Rattle.pz_tree.specs.declared.tree.Tree.{Tree}
 use Rattle.pz_tree.specs.Asking.{noted_view}

@@ -22,7 +22,7 @@ use Rattle.pz_rules.specs.Steps.{Acts, Next}
 use Rattle.pz_sim_laws.specs.Members.{Member, become, process_of, config_of}
 use Rattle.pz_sim_laws.specs.Deeds as deeds
 use Rattle.pz_sim_laws.specs.Laws.{MembersAct, CommunicationLeadsOn, SenderTroubleEnds, MembersStay}
-use Rattle.pz_tree_acting.specs.Deeds.{CanSend, CanReceive, Leaves}
+use Rattle.pz_tree.specs.Deeds.{CanSend, CanReceive, Leaves}
 use Rattle.pz_tree.specs.declared.tree.Tree.{Tree}
 use Rattle.pz_tree.specs.Trees.{IsFresh, at_in, term_in, process_in}
 use Rattle.pz_sim.specs.Members.{member_of, members_of}

@@ -29,7 +29,7 @@ use Rattle.pz_sim_laws.specs.Members.{config_of}
 use Rattle.pz_sim_laws.specs.Deciding.{total_of, offers_in}
 use Rattle.pz_sim_laws.specs.Laws.{InternalsComeFirst, PairsAreCouples}
 use Rattle.pz_sim_laws.specs.Leading.{LeadsTo}
-use Rattle.pz_tree_acting.specs.Deeds.{CanAct}
+use Rattle.pz_tree.specs.Deeds.{CanAct}
 use Rattle.pz_tree.specs.declared.found.InternalAction.{InternalAction}
 use Rattle.pz_tree.specs.declared.tree.Tree.{Tree}
 use Rattle.pz_tree.specs.Asking.{noted_view}

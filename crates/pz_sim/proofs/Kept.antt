@@ -16,7 +16,7 @@ use Rattle.pz_sim_totals.specs.declared.total.Total.{Total}
 use Rattle.pz_sim_laws.specs.Members.{config_of}
 use Rattle.pz_sim_laws.specs.Laws.{MomentIsDecided, PairsAreCouples}
 use Rattle.pz_sim_laws.specs.Leading.{MerelyMoment}
-use Rattle.pz_term.specs.Simulations.{IsMomentOf, ClockIs, setting_in, model_in, limits_in}
+use Rattle.pz_term_simulator.specs.Simulations.{IsMomentOf, ClockIs, setting_in, model_in, limits_in}
 use Rattle.pz_tree.specs.declared.tree.Tree.{Tree}
 use Rattle.pz_sim.specs.Members.{members_of}
 use Rattle.pz_sim.specs.Sims.{simulation_at, simulation_of, model_of}

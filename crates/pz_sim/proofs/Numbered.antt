@@ -32,7 +32,7 @@ use Rattle.pz_sim_laws.specs.Members.{config_of}
 use Rattle.pz_sim_laws.specs.Deciding.{total_of, offers_in}
 use Rattle.pz_sim_laws.specs.Laws.{InternalsComeFirst, CommunicationsFollow, MomentIsDecided, PairsAreCouples}
 use Rattle.pz_sim_laws.specs.Leading.{MerelyChosen}
-use Rattle.pz_term.specs.Simulations.{Simulation, IsMomentOf, IsOffer}
+use Rattle.pz_term_simulator.specs.Simulations.{Simulation, IsMomentOf, IsOffer}
 use Rattle.pz_tree.specs.declared.found.InternalAction.{InternalAction}
 use Rattle.pz_tree.specs.declared.tree.Tree.{Tree}
 use Rattle.pz_tree.specs.Asking.{noted_view}

@@ -15,7 +15,7 @@ use Rattle.pz_sim_laws.specs.Offering.{SendersOf, ReceiversOf}
 use Rattle.pz_sim_laws.specs.Couples.{answer, IsTruthful}
 use Rattle.pz_sim_laws.specs.Elapsing.{Elapsed}
 use Rattle.pz_sim_laws.specs.Laws.{ReceiversStand, SendsOutlast, ReceivesOutlast, VerdictsOutlast}
-use Rattle.pz_tree_summary.specs.Woken.{clocked}
+use Rattle.pz_tree_standing.specs.Woken.{clocked}
 use Rattle.pz_tree.specs.declared.tree.Tree.{Tree}
 use Rattle.pz_sim.specs.Members.{member_of}
 use Rattle.pz_sim.specs.devices.Holding.{AreTrees}

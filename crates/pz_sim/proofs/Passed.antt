@@ -19,8 +19,8 @@ use Rattle.pz_sim_laws.specs.Members.{Member, config_of, process_of}
 use Rattle.pz_sim_laws.specs.Deciding.{total_of}
 use Rattle.pz_sim_laws.specs.Elapsing.{Elapsed}
 use Rattle.pz_sim_laws.specs.Laws.{PassingLeadsOn, MembersPass}
-use Rattle.pz_tree_frames.specs.Frames.{FramesStand, FramesStandAsTimePasses}
-use Rattle.pz_tree_summary.specs.Steady.{later}
+use Rattle.pz_tree_standing.specs.Frames.{FramesStand, FramesStandAsTimePasses}
+use Rattle.pz_tree_standing.specs.Steady.{later}
 use Rattle.pz_tree.specs.declared.tree.Tree.{Tree}
 use Rattle.pz_tree.specs.Trees.{at_in, term_in, process_in, IsFresh}
 use Rattle.pz_sim.specs.Members.{member_of, members_of}

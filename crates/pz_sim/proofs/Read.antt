@@ -13,8 +13,8 @@ use Rattle.pz_rules.specs.Leaving.{is_done}
 use Rattle.pz_sim_totals.specs.declared.total.Total.{Total}
 use Rattle.pz_sim_totals.specs.contracts.total.Total as total_row
 use Rattle.pz_sim_laws.specs.Deciding.{unfinished}
-use Rattle.pz_tree_summary.specs.Steady.{later}
-use Rattle.pz_tree_summary.specs.Summaries.{summary_of}
+use Rattle.pz_tree_standing.specs.Steady.{later}
+use Rattle.pz_tree_standing.specs.Summaries.{summary_of}
 use Rattle.pz_tree.specs.declared.tree.Tree.{Tree}
 use Rattle.pz_tree.specs.Trees.{at_in, term_in, IsFresh}
 use Rattle.pz_sim.specs.devices.Passing.{MayPass, HasPassed, HavePassed, own_total}

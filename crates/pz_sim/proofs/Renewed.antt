@@ -16,9 +16,9 @@ use Rattle.pz_sim_totals.specs.declared.total.Total.{Total}
 use Rattle.pz_sim_laws.specs.Members.{Member, config_of}
 use Rattle.pz_offer.specs.declared.summary.Summary.{Summary}
 use Rattle.pz_rules.specs.Leaving.{is_done}
-use Rattle.pz_tree_summary.specs.Summaries.{summary_of}
+use Rattle.pz_tree_standing.specs.Summaries.{summary_of}
 use Rattle.pz_sim_laws.specs.Deciding.{total_of, unfinished}
-use Rattle.pz_tree_acting.specs.Deeds.{Ability}
+use Rattle.pz_tree.specs.Deeds.{Ability}
 use Rattle.pz_tree.specs.declared.tree.Tree.{Tree}
 use Rattle.pz_tree.specs.Trees.{IsFresh, at_in, term_in}
 use Rattle.pz_sim.specs.Members.{member_of, members_of}

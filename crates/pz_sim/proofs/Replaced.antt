@@ -12,7 +12,7 @@ use Rattle.pz_sim_laws.specs.Deciding.{total_of}
 use Rattle.pz_sim_laws.specs.Laws.{MembersStay}
 use Rattle.pz_tree.specs.declared.tree.Tree.{Tree}
 use Rattle.pz_tree.specs.Trees.{IsFresh, term_in, process_in}
-use Rattle.pz_tree_frames.specs.Frames.{FramesStand}
+use Rattle.pz_tree_standing.specs.Frames.{FramesStand}
 use Rattle.pz_sim.specs.Members.{member_of, members_of}
 use Rattle.pz_sim.specs.devices.Holding.{AreTrees}
 use Rattle.pz_sim.specs.devices.Tables.{hushed, IsHeard, AreHeard}

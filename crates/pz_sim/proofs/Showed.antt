@@ -18,7 +18,7 @@ use Rattle.pz_rules.specs.Settings.{Setting}
 use Rattle.pz_rules.specs.devices.Start.{start_of}
 use Rattle.pz_sim_totals.specs.declared.total.Total.{Total}
 use Rattle.pz_sim_laws.specs.Members.{process_of, config_of}
-use Rattle.pz_term.specs.Shown.{HoldsValue, IsShown, CanShow}
+use Rattle.pz_term_simulator.specs.Shown.{HoldsValue, IsShown, CanShow}
 use Rattle.pz_tree.specs.declared.tree.Tree.{Tree}
 use Rattle.pz_tree.specs.Trees.{process_in}
 use Rattle.pz_sim.specs.Members.{member_of, members_of}

@@ -31,7 +31,7 @@ use Rattle.pz_sim.specs.devices.Holding.{AreTrees, AreKept}
 use Rattle.pz_sim.specs.devices.Passing.{AreSilenced, MayPass, HavePassed, own_total, AreRetold}
 use Rattle.pz_sim.specs.devices.Speaking.{CanBeAsked}
 use Rattle.pz_sim.specs.devices.Tables.{IsTable}
-use Rattle.pz_tree_frames.specs.Frames.{FramesStandAsTimePasses}
+use Rattle.pz_tree_standing.specs.Frames.{FramesStandAsTimePasses}
 use Rattle.pz_sim.proofs.Passed.{all_from, passes_on, trees_after, totals_at}
 use Rattle.pz_sim.proofs.Outlasting.{retold_first}
 use Rattle.pz_sim.proofs.Quieted.{none_quiet}

@@ -6,7 +6,7 @@ use Rattle.pz_rules.specs.Settings.{Setting}
 use Rattle.pz_rules.specs.Runs.{whole, stopped}
 use Rattle.pz_rules.specs.devices.Start.{start_of}
 use Rattle.pz_term_processes.specs.Standing.{setting_of}
-use Rattle.pz_term.specs.Simulations.{Simulation, stands, broken}
+use Rattle.pz_term_simulator.specs.Simulations.{Simulation, stands, broken}
 use Rattle.pz_sim_laws.specs.Members.{config_of}
 use Rattle.pz_tree.specs.declared.tree.Tree.{Tree}
 use Rattle.pz_sim.specs.Members.{members_of}

@@ -13,7 +13,7 @@ ghost use Rattle.pz_rules.specs.Offers.{IsPair};
 ghost use Rattle.pz_rules.specs.Steps.{Next};
 ghost use Rattle.pz_sim_laws.specs.Members.{Member};
 ghost use Rattle.pz_sim_laws.specs.Deciding.{total_of};
-ghost use Rattle.pz_tree_acting.specs.Deeds.{able, deed, CanAct, CanSend, Leaves};
+ghost use Rattle.pz_tree.specs.Deeds.{able, deed, CanAct, CanSend, Leaves};
 ghost use Rattle.pz_tree.specs.declared.tree.Tree.{Tree};
 ghost use Rattle.pz_tree.specs.Acting.{answered};
 ghost use Rattle.pz_tree.specs.Trees.{at_in, term_in, process_in, IsFresh};
@@ -30,8 +30,7 @@ use pz_match::{Pairs, Sender};
 use pz_nodes::Steps;
 use pz_offer::{End, Place, Trouble};
 use pz_sim_totals::Totals;
-use pz_tree::Tree;
-use pz_tree_acting::How;
+use pz_tree::{How, Tree};
 use std::alloc::AllocError;
 use std::sync::ledger::Ledger;
 

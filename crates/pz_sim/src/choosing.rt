@@ -20,7 +20,7 @@ use pz_nodes::Steps;
 use pz_offer::{End, Trouble};
 use pz_rules::Moment;
 use pz_sim_totals::{Found, Totals};
-use pz_term::ChooseError;
+use pz_term_simulator::ChooseError;
 use pz_tree::{InternalAction, Tree};
 use std::alloc::AllocError;
 use std::sync::ledger::Ledger;
@@ -176,8 +176,8 @@ fn go_on_in<L: Ledger>(
 
 impl Sim {
     ghost use Rattle.std.specs.Prelude.{Err, IfErr};
-    ghost use Rattle.pz_term.specs.Simulations.{IsMomentOf, Chooses, IsBroken, setting_in};
-    ghost use Rattle.pz_term.specs.Refusals.{OnNoSuchOffer, OnChooseNotNow, OnChooseRefused, OnChooseNoMemory, NoActions};
+    ghost use Rattle.pz_term_simulator.specs.Simulations.{IsMomentOf, Chooses, IsBroken, setting_in};
+    ghost use Rattle.pz_term_simulator.specs.Refusals.{OnNoSuchOffer, OnChooseNotNow, OnChooseRefused, OnChooseNoMemory, NoActions};
     ghost use Rattle.pz_sim.specs.Sims.{simulation_of};
 
     /// Chooses the offer of this number, from 0: the action takes place, or the moment becomes

@@ -4,7 +4,7 @@ ghost use Rattle.std.specs.Prelude.{◌≡◌, ◌<◌, ◌^◌, ℕ, false, len
 ghost use Rattle.pz_syntax.specs.Classes.{ModelTree};
 ghost use Rattle.pz_match.specs.Pairs.{taken};
 ghost use Rattle.pz_rules.specs.declared.moment.Moment.TheVariants as now;
-ghost use Rattle.pz_term.specs.Simulations.{IsMomentOf, IsOffer};
+ghost use Rattle.pz_term_simulator.specs.Simulations.{IsMomentOf, IsOffer};
 ghost use Rattle.pz_tree.specs.Trees.{IsFresh};
 ghost use Rattle.pz_sim.specs.Sims.{simulation_of};
 ghost use Rattle.pz_sim.specs.devices.Numbered.{HasAction, IsActionOf, IsCommunication};

@@ -25,7 +25,7 @@ use pz_match::Pairs;
 use pz_nodes::Steps;
 use pz_rules::Moment;
 use pz_sim_totals::Totals;
-use pz_term::PassError;
+use pz_term_simulator::PassError;
 use pz_tree::Tree;
 use std::alloc::AllocError;
 use std::sync::ledger::Ledger;
@@ -209,7 +209,7 @@ fn elapse<L: Ledger>(
     pz_sim_laws::laws::pairs_are_those_of_the_rules();
     pz_rules::laws::what_fits_goes_on();
     pz_rules::laws::low_terms_stay();
-    pz_tree_frames::laws::frames_stand_as_time_passes();
+    pz_tree_standing::laws::frames_stand_as_time_passes();
     let _model = scene.checked.model();
     let count = scene.net.processes();
     let named = silence_all(scene, trees, pairs, count, steps)?;
@@ -247,8 +247,8 @@ fn elapse_in<L: Ledger>(
 
 impl Sim {
     ghost use Rattle.std.specs.Prelude.{Err, IfErr};
-    ghost use Rattle.pz_term.specs.Simulations.{IsMomentOf, Passes, IsBroken, setting_in, clock_in};
-    ghost use Rattle.pz_term.specs.Refusals.{OnPassNotNow, OnPassRefused, OnPassNoMemory, NoTime};
+    ghost use Rattle.pz_term_simulator.specs.Simulations.{IsMomentOf, Passes, IsBroken, setting_in, clock_in};
+    ghost use Rattle.pz_term_simulator.specs.Refusals.{OnPassNotNow, OnPassRefused, OnPassNoMemory, NoTime};
     ghost use Rattle.pz_sim.specs.Sims.{simulation_of};
 
     /// Lets time pass, by the least that is left of an active delay, which is less than 2^64 clock units. The clock is

@@ -1,13 +1,13 @@
 // What a variable holds, in a simulator.
 
 ghost use Rattle.std.specs.Prelude.{IfOk};
-ghost use Rattle.pz_term.specs.Shown.{IsShown, CanShow};
+ghost use Rattle.pz_term_simulator.specs.Shown.{IsShown, CanShow};
 ghost use Rattle.pz_sim.specs.Sims.{simulation_of};
 
 use crate::sim::Sim;
 use crate::standing::Standing;
 use pz_copy::Parcel;
-use pz_term::shown_at_start;
+use pz_term_simulator::shown_at_start;
 use std::alloc::AllocError;
 
 impl Sim {

@@ -57,7 +57,7 @@ impl Drop for Sim {
 }
 
 impl Sim {
-    ghost use Rattle.pz_term.specs.Simulations.{IsMomentOf, ClockIs, model_in, limits_in};
+    ghost use Rattle.pz_term_simulator.specs.Simulations.{IsMomentOf, ClockIs, model_in, limits_in};
     ghost use Rattle.pz_sim.specs.Sims.{simulation_of};
 
     /// What may happen next. Takes no memory.

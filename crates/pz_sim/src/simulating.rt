@@ -8,7 +8,7 @@ use pz_classes::Checked;
 use pz_copy::Parcel;
 use pz_nodes::Steps;
 use pz_rules::{Action, Limits, Moment};
-use pz_term::{ChooseError, PassError, Simulator};
+use pz_term_simulator::{ChooseError, PassError, Simulator};
 use std::alloc::AllocError;
 use std::sync::ledger::Ledger;
 

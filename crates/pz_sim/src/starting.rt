@@ -10,7 +10,7 @@ ghost use Rattle.pz_rules.specs.Starting.{IsStart};
 ghost use Rattle.pz_rules.specs.Moments.{IsFirstHigh};
 ghost use Rattle.pz_rules.specs.devices.Start.{start_of};
 ghost use Rattle.pz_term_processes.specs.Standing.{setting_of, process_view, config_of, AreProcesses};
-ghost use Rattle.pz_term.specs.Simulations.{Starts};
+ghost use Rattle.pz_term_simulator.specs.Simulations.{Starts};
 ghost use Rattle.pz_tree.specs.Trees.{process_in};
 ghost use Rattle.pz_sim.specs.Members.{member_of, members_of};
 ghost use Rattle.pz_sim.specs.Sims.{simulation_of};
@@ -55,7 +55,7 @@ fn trees_of(
     ensures trees { IfOk result (λ trees. ∥ AreTrees
         (setting_of (checked_model checked.now) limits) 0 trees.items ∥₁) }
 {
-    pz_tree_frames::laws::frames_stand_at_start();
+    pz_tree_standing::laws::frames_stand_at_start();
     let mut trees = Vec::new(alloc);
     for process in processes {
         let number = trees.len() as u32;

@@ -29,9 +29,9 @@ use Rattle.pz_rules.specs.devices.Passing.{passed, passed_all, if_open}
 use Rattle.pz_rules.specs.devices.Walk as walk
 use Rattle.pz_rules.specs.devices.Walk.{ActivePart, Noted, here, under, behind, active_parts, active_children, active_sends, active_receives}
 use Rattle.pz_rules.specs.devices.Walks.{IsThere, ReceivesAreListed}
-use Rattle.pz_tree_summary.specs.Steady.{later}
-use Rattle.pz_tree_summary.specs.Woken.{any_part, is_clocked, clocked}
-use Rattle.pz_tree_summary.specs.devices.Laws.{TestIsSteady}
+use Rattle.pz_tree_standing.specs.Steady.{later}
+use Rattle.pz_tree_standing.specs.Woken.{any_part, is_clocked, clocked}
+use Rattle.pz_tree_standing.specs.devices.SummaryLaws.{TestIsSteady}
 use Rattle.pz_sim_laws.specs.Members.{Member}
 use Rattle.pz_sim_laws.specs.Offering.{IsSendOffer, IsReceiveOffer, AreSendOffers, AreReceiveOffers}
 use Rattle.pz_sim_laws.specs.Couples.{SaysAt}

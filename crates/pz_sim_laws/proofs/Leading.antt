@@ -34,7 +34,7 @@ use Rattle.pz_rules.specs.Configurations.{Config, Stands}
 use Rattle.pz_rules.specs.Offers.{IsPair}
 use Rattle.pz_rules.specs.Steps as steps
 use Rattle.pz_rules.specs.Steps.{Acts, Next, PassesTo}
-use Rattle.pz_tree_summary.specs.Steady.{later}
+use Rattle.pz_tree_standing.specs.Steady.{later}
 use Rattle.pz_sim_laws.specs.Members.{Member, process_of, config_of, become, AreMembers}
 use Rattle.pz_sim_laws.specs.Deeds.{Manner, alone, handing, taking, deed}
 use Rattle.pz_sim_laws.specs.Elapsing.{Elapsed}

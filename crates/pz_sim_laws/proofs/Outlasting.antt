@@ -18,9 +18,9 @@ use Rattle.pz_rules.specs.Evaluations.{allowance, values_or_trouble}
 use Rattle.pz_rules.specs.devices.Found.{tested, lasting, found_part, left_part}
 use Rattle.pz_rules.specs.devices.Passing.{passed, passed_all, begun, if_open}
 use Rattle.pz_rules.specs.devices.Walk.{ActivePart, Noted, here, under, behind, active_parts, active_children, noted, noted_at, sending, sent_by, received_by, active_sends, active_receives}
-use Rattle.pz_tree_summary.specs.Steady.{later}
-use Rattle.pz_tree_summary.specs.Woken.{any_part, statement_names_clock, is_clocked, clocked}
-use Rattle.pz_tree_summary.specs.devices.Laws.{TestIsSteady}
+use Rattle.pz_tree_standing.specs.Steady.{later}
+use Rattle.pz_tree_standing.specs.Woken.{any_part, statement_names_clock, is_clocked, clocked}
+use Rattle.pz_tree_standing.specs.devices.SummaryLaws.{TestIsSteady}
 
 -- no part names the clock
 

@@ -16,7 +16,7 @@ use Rattle.pz_rules.specs.Offers.{PartAt}
 use Rattle.pz_rules.specs.Moments.{Source, part, pair, Troubles, asked, judged, IsLeft, IsLeast, AllDone}
 use Rattle.pz_rules.specs.devices.Walk.{Noted, active_delays, active_troubles}
 use Rattle.pz_rules.specs.devices.Walks.{IsThere, Lists, DelaysAreListed, TroublesAreListed}
-use Rattle.pz_tree_summary.specs.Summaries.{least_of, first_of}
+use Rattle.pz_tree_standing.specs.Summaries.{least_of, first_of}
 use Rattle.pz_sim_laws.specs.Members.{Member, process_of, config_of, AreMembers}
 use Rattle.pz_sim_laws.specs.Deciding.{unfinished, total_of_all}
 use Rattle.pz_sim_laws.proofs.Lists.{Contains-cases, Contains-none, Contains-first, Contains-later, AllPairs-head, all_got}

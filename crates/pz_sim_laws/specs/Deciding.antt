@@ -8,7 +8,7 @@ use Rattle.pz_rules.specs.declared.moment.Moment.TheVariants.{Actions, Time, Fin
 use Rattle.pz_rules.specs.Leaving.{is_done}
 use Rattle.pz_sim_totals.specs.declared.total.Total.{Total}
 use Rattle.pz_sim_totals.specs.Sums as sums
-use Rattle.pz_tree_summary.specs.Summaries.{summary_of}
+use Rattle.pz_tree_standing.specs.Summaries.{summary_of}
 use Rattle.pz_sim_laws.specs.Members.{Member}
 
 abbrev pub unfinished : Bool → ℕ

@@ -6,7 +6,7 @@ use Rattle.pz_rules.specs.Settings.{Context}
 use Rattle.pz_rules.specs.Active.{IsActive}
 use Rattle.pz_rules.specs.Acting.{IsReceive}
 use Rattle.pz_rules.specs.Delays.{Passes}
-use Rattle.pz_tree_summary.specs.Steady.{later}
+use Rattle.pz_tree_standing.specs.Steady.{later}
 use Rattle.pz_sim_laws.specs.Members.{Member}
 
 pub record Elapsed (d : ℕ) (m n : Member) : Type 0 where

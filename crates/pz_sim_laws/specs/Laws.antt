@@ -29,7 +29,7 @@ use Rattle.pz_rules.specs.devices.Walk as walk
 use Rattle.pz_rules.specs.devices.Walk.{Noted, internal_actions}
 use Rattle.pz_sim_totals.specs.declared.totals.Found.{Found}
 use Rattle.pz_sim_totals.specs.Sums.{IsAction}
-use Rattle.pz_tree_summary.specs.Woken.{clocked}
+use Rattle.pz_tree_standing.specs.Woken.{clocked}
 use Rattle.pz_sim_laws.specs.Members.{Member, config_of, become, AreMembers}
 use Rattle.pz_sim_laws.specs.Offering.{AreSendOffers, AreReceiveOffers, AreSenders, AreReceivers, SendersOf, ReceiversOf, in_all}
 use Rattle.pz_sim_laws.specs.Couples.{SaysAt, communication, IsTruthful, AreCouples}

@@ -94,7 +94,7 @@ pub fn unclocked_offers_outlast()
     ensures verdicts { VerdictsOutlast }
 {
     pz_eval_rules::laws::unclocked_is_timeless();
-    pz_tree_summary::laws::steady_terms_keep_summaries();
+    pz_tree_standing::laws::steady_terms_keep_summaries();
     pz_rules::laws::passing_is_computed();
     pz_rules::laws::evaluations_are_computed();
     pz_rules::laws::walks_list_what_is_active();

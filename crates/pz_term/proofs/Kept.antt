@@ -26,8 +26,8 @@ use Rattle.pz_term_enabled.specs.declared.looking.Outlook.{Outlook}
 use Rattle.pz_term_enabled.specs.Looking.{AreActionsAt}
 use Rattle.pz_term.specs.declared.standing.Standing.{Standing}
 use Rattle.pz_term.specs.declared.standing.Standing.TheVariants as standing
-use Rattle.pz_term.specs.Simulations as simulations
-use Rattle.pz_term.specs.Simulations.{Simulation, stands, broken, IsMomentOf, AreOffersOf, ClockIs}
+use Rattle.pz_term_simulator.specs.Simulations as simulations
+use Rattle.pz_term_simulator.specs.Simulations.{Simulation, stands, IsMomentOf, AreOffersOf, ClockIs}
 use Rattle.pz_term.specs.Plains.{simulation_at}
 use Rattle.pz_term.specs.devices.Holding.{IsOutlook, Holds}
 

@@ -1,9 +1,6 @@
 mod Copies
-mod Given
 mod Kept
 mod Moved
 mod Short
-mod Opened
-mod Rooms
 mod Shown
 mod Variables

@@ -15,7 +15,7 @@ use Rattle.pz_rules.specs.Steps.{Next, PassesTo}
 use Rattle.pz_rules.specs.Runs.{whole, stopped}
 use Rattle.pz_rules.specs.Starting.{IsStart}
 use Rattle.pz_rules.specs.Laws.{OneMoment, OneListOfOffers}
-use Rattle.pz_rules_delays.specs.Short.{DelaysAreShort, TimesAreShort}
+use Rattle.pz_rules.specs.Short.{DelaysAreShort, TimesAreShort}
 use Rattle.pz_term_processes.specs.declared.process.Process.{Process}
 use Rattle.pz_term_processes.specs.Standing.{config_of, AreProcesses}
 use Rattle.pz_term_enabled.specs.declared.looking.Outlook.{Outlook}
@@ -23,8 +23,8 @@ use Rattle.pz_term_enabled.specs.Looking.{AreActionsAt}
 use Rattle.pz_term_steps.specs.Stepping.{reached}
 use Rattle.pz_term.specs.declared.standing.Standing.{Standing}
 use Rattle.pz_term.specs.declared.standing.Standing.TheVariants as standing
-use Rattle.pz_term.specs.Simulations as simulations
-use Rattle.pz_term.specs.Simulations.{Simulation, stands, IsMomentOf, Starts, Chooses, Passes, clock_in}
+use Rattle.pz_term_simulator.specs.Simulations as simulations
+use Rattle.pz_term_simulator.specs.Simulations.{Simulation, stands, IsMomentOf, Starts, Chooses, Passes, clock_in}
 use Rattle.pz_term.specs.Plains.{simulation_at}
 use Rattle.pz_term.specs.devices.Holding.{IsOutlook, Holds}
 use Rattle.pz_term.proofs.Kept.{is_moment, whole_at, count_shown, offers_shown, choice_shown}

@@ -12,14 +12,14 @@ use Rattle.pz_rules.specs.Settings.{Setting}
 use Rattle.pz_rules.specs.Configurations.{IsWhole}
 use Rattle.pz_rules.specs.Steps.{Next, PassesTo}
 use Rattle.pz_rules.specs.Laws.{OneMoment}
-use Rattle.pz_rules_delays.specs.Short.{DelaysAreShort, TimesAreShort}
-use Rattle.pz_rules_delays.specs.Laws.{ShortStays, ShortPasses, MomentsAreShort}
+use Rattle.pz_rules.specs.Short.{DelaysAreShort, TimesAreShort}
+use Rattle.pz_rules.specs.DelayLaws.{ShortStays, ShortPasses, MomentsAreShort}
 use Rattle.pz_term_processes.specs.declared.process.Process.{Process}
 use Rattle.pz_term_processes.specs.Standing.{config_of}
 use Rattle.pz_term_steps.specs.Stepping.{reached}
 use Rattle.pz_term.specs.declared.standing.Standing.{Standing}
 use Rattle.pz_term.specs.declared.standing.Standing.TheVariants as standing
-use Rattle.pz_term.specs.Simulations.{IsMomentOf}
+use Rattle.pz_term_simulator.specs.Simulations.{IsMomentOf}
 use Rattle.pz_term.specs.Plains.{simulation_at}
 use Rattle.pz_term.specs.devices.Holding.{Holds}
 use Rattle.pz_term.proofs.Kept.{GoesOn, goes_on_not, never_high, is_moment}

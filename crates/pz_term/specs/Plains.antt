@@ -10,7 +10,7 @@ use Rattle.pz_term_processes.specs.Standing.{setting_of, config_of}
 use Rattle.pz_term.specs.declared.standing.Standing.{Standing}
 use Rattle.pz_term.specs.declared.standing.Standing.TheVariants as standing
 use Rattle.pz_term.specs.declared.plain.Plain.{Plain}
-use Rattle.pz_term.specs.Simulations.{Simulation, stands, broken}
+use Rattle.pz_term_simulator.specs.Simulations.{Simulation, stands, broken}
 
 -- a start that is too high stands as it is, whatever of it was built
 abbrev pub simulation_at : Setting → ℕ → List Process → Standing → Simulation

@@ -8,12 +8,10 @@ ghost use Rattle.pz_rules.specs.Runs.{whole};
 ghost use Rattle.pz_rules.specs.Starting.{IsStart};
 ghost use Rattle.pz_rules.specs.Moments.{IsFirstHigh};
 ghost use Rattle.pz_rules.specs.devices.Start.{start_of};
-ghost use Rattle.pz_rules_delays.specs.Short.{DelaysAreShort};
+ghost use Rattle.pz_rules.specs.Short.{DelaysAreShort};
 ghost use Rattle.pz_term.specs.devices.Holding.{Holds};
 
 use crate::copying::copy_actions;
-use crate::refusal::{ChooseError, PassError};
-use crate::showing::{shown_at_start, shown_in};
 use crate::standing::Standing;
 use crate::vector::{elapse_at, look_at, step_at};
 use pz_bind::Net;
@@ -22,6 +20,7 @@ use pz_copy::Parcel;
 use pz_offer::Trouble;
 use pz_rules::{Action, Limits, Moment};
 use pz_term_processes::{Process, Started, start};
+use pz_term_simulator::{ChooseError, PassError, shown_at_start, shown_in};
 use std::alloc::{AllocError, Global};
 use std::mem::{self, drop};
 
@@ -62,9 +61,9 @@ impl Drop for Plain {
 impl Plain {
     ghost use Rattle.std.specs.Prelude.{◌+◌, ◌^◌, ℕ};
     ghost use Rattle.pz_classes_openings.specs.OpeningRules.{Opens};
-    ghost use Rattle.pz_term.specs.Simulations.{Starts, IsMomentOf, AreOffersOf, Chooses, Passes, IsBroken, ClockIs, setting_in, model_in, limits_in, clock_in, stands};
-    ghost use Rattle.pz_term.specs.Refusals.{OnNoSuchOffer, OnChooseNotNow, OnChooseRefused, OnChooseNoMemory, NoActions, OnPassNotNow, OnPassRefused, OnPassNoMemory, NoTime};
-    ghost use Rattle.pz_term.specs.Shown.{IsShown, CanShow};
+    ghost use Rattle.pz_term_simulator.specs.Simulations.{Starts, IsMomentOf, AreOffersOf, Chooses, Passes, IsBroken, ClockIs, setting_in, model_in, limits_in, clock_in, stands};
+    ghost use Rattle.pz_term_simulator.specs.Refusals.{OnNoSuchOffer, OnChooseNotNow, OnChooseRefused, OnChooseNoMemory, NoActions, OnPassNotNow, OnPassRefused, OnPassNoMemory, NoTime};
+    ghost use Rattle.pz_term_simulator.specs.Shown.{IsShown, CanShow};
     ghost use Rattle.pz_term.specs.Plains.{simulation_of, model_of};
 
     /// The simulator of a model before its first step, whose net this is. The only error is want of
@@ -111,7 +110,7 @@ impl Plain {
         ensures checked { IfOk result (λ plain. plain.checked ≡ checked) }
         ensures net { IfOk result (λ plain. plain.net ≡ net) }
     {
-        pz_rules_delays::laws::starts_are_short();
+        pz_rules::laws::starts_are_short();
         let mut processes = processes;
         let outlook = look_at(alloc, &checked, &net, limits, 0, &mut processes)?;
         Ok(Plain {
@@ -291,7 +290,7 @@ impl Plain {
         pz_rules::laws::one_moment();
         pz_rules::laws::one_list_of_offers();
         pz_rules::laws::wires_are_known();
-        pz_rules_delays::laws::short_stays();
+        pz_rules::laws::short_stays();
         let _model = self.checked.model();
         let Standing::Whole(outlook) = mem::replace(&mut self.standing, Standing::Broken) else {
             unreachable!()
@@ -387,8 +386,8 @@ impl Plain {
             (simulation_of self.old) }
     {
         pz_rules::laws::one_moment();
-        pz_rules_delays::laws::short_passes();
-        pz_rules_delays::laws::moments_are_short();
+        pz_rules::laws::short_passes();
+        pz_rules::laws::moments_are_short();
         self.standing = Standing::Broken;
         elapse_at(
             self.alloc,

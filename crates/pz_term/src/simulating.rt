@@ -3,15 +3,14 @@
 ghost use Rattle.std.specs.Prelude.{◌≡◌};
 
 use crate::copying::copy_action;
-use crate::laws::simulators_show_one_moment;
 use crate::plain::Plain;
-use crate::refusal::{ChooseError, PassError};
-use crate::simulator::Simulator;
 use pz_bind::Net;
 use pz_classes::Checked;
 use pz_copy::Parcel;
 use pz_nodes::Steps;
 use pz_rules::{Action, Limits, Moment};
+use pz_term_simulator::laws::simulators_show_one_moment;
+use pz_term_simulator::{ChooseError, PassError, Simulator};
 use std::alloc::AllocError;
 use std::sync::ledger::Ledger;
 

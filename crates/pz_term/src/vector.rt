@@ -8,7 +8,7 @@ ghost use Rattle.pz_rules.specs.CallLaws.{NoRounds};
 ghost use Rattle.pz_rules.specs.Offers.{Offers};
 ghost use Rattle.pz_rules.specs.Steps.{Next, PassesTo};
 ghost use Rattle.pz_rules.specs.Moments.{IsMoment};
-ghost use Rattle.pz_rules_delays.specs.Short.{TimesAreShort};
+ghost use Rattle.pz_rules.specs.Short.{TimesAreShort};
 ghost use Rattle.pz_term_processes.specs.Standing.{setting_of, config_of, AreProcesses};
 ghost use Rattle.pz_term_enabled.specs.Looking.{AreActionsAt};
 ghost use Rattle.pz_term_steps.specs.Stepping.{reached};

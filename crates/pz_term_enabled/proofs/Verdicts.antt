@@ -23,7 +23,7 @@ use Rattle.pz_rules.specs.Messages.{Judges}
 use Rattle.pz_rules.specs.Configurations.{Config, Stands}
 use Rattle.pz_rules.specs.Offers.{IsJudged}
 use Rattle.pz_rules.specs.View.{term_view}
-use Rattle.pz_term_around.specs.Laws.{ActivePartsMayAct}
+use Rattle.pz_term_residual.specs.Laws.{ActivePartsMayAct}
 use Rattle.pz_rules.specs.Places.{MayAct}
 use Rattle.pz_eval.specs.Known.{AreKnown}
 use Rattle.pz_term_processes.specs.declared.process.Process.{Process}

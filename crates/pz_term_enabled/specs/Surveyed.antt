@@ -13,7 +13,7 @@ use Rattle.pz_rules.specs.Ports.{IsWire}
 use Rattle.pz_rules.specs.Configurations.{Config}
 use Rattle.pz_rules.specs.Offers.{PartAt, Offers, Before}
 use Rattle.pz_rules.specs.Moments.{Troubles, part, IsLeft, IsLeast, AllDone}
-use Rattle.pz_rules_delays.specs.Short.{TimesAreShort}
+use Rattle.pz_rules.specs.Short.{TimesAreShort}
 use Rattle.pz_term_matching.specs.declared.ends.Sender.{Sender}
 use Rattle.pz_term_matching.specs.declared.ends.Receiver.{Receiver}
 use Rattle.pz_term_enabled.specs.declared.findings.Survey.{Survey}

@@ -39,7 +39,7 @@ fn judge_part(
         (term_view process.old.term) place.now parcel.now) }
     ensures unchanged { process.new ≡ process.old }
 {
-    pz_term_around::laws::active_parts_may_act();
+    pz_term_residual::laws::active_parts_may_act();
     // A process stands in no frame.
     let (frame, part) = part_at(&process.term, FrameId(0), place.as_slice());
     judge(alloc, here, &mut process.state, frame, part, parcel)

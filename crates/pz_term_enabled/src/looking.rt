@@ -5,7 +5,7 @@ ghost use Rattle.pz_rules.specs.Settings.{Setting};
 ghost use Rattle.pz_rules.specs.Configurations.{Config};
 ghost use Rattle.pz_rules.specs.Heights.{IsLow};
 ghost use Rattle.pz_rules.specs.Moments.{IsMoment};
-ghost use Rattle.pz_rules_delays.specs.Short.{TimesAreShort};
+ghost use Rattle.pz_rules.specs.Short.{TimesAreShort};
 ghost use Rattle.pz_term_processes.specs.Standing.{setting_of, config_of, AreProcesses};
 ghost use Rattle.pz_term_enabled.specs.Surveyed.{IsSurveyed};
 ghost use Rattle.pz_term_enabled.specs.Looking.{AreActionsAt};

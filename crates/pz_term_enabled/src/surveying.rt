@@ -19,8 +19,8 @@ use pz_bind::Net;
 use pz_classes::Checked;
 use pz_part_queries::Standpoint;
 use pz_rules::Limits;
-use pz_term_around::is_done;
 use pz_term_processes::Process;
+use pz_term_residual::is_done;
 use std::alloc::{AllocError, Global};
 
 /// Surveys a process, behind those before it. The process stays as it is, always.

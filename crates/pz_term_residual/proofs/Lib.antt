@@ -9,3 +9,7 @@ mod Inward
 mod Outward
 mod Standing
 mod Closing
+mod Views
+mod SlotsSet
+mod Acting
+mod AroundLevels

@@ -1,4 +1,5 @@
 pub mod Closing
 pub mod Capped
 pub mod Outlines
+pub mod Laws
 pub mod devices

@@ -11,12 +11,12 @@ ghost use Rattle.pz_rules.specs.Settings.{left_by};
 ghost use Rattle.pz_part_opening.specs.Homes.{home_view};
 ghost use Rattle.pz_term_residual.specs.devices.Unwound.{put_round, HasItsPlace, IsInside};
 
+use crate::{in_abort, in_frame, in_handling, in_interrupt, in_parallel, in_sequence};
 use pz_classes_code::{Slot, Step};
 use pz_items::{Boxed, Items, Shared};
 use pz_part_opening::Home;
 use pz_rules::{Rest, Term};
 use pz_state::{FrameId, State};
-use pz_term_around::{in_abort, in_frame, in_handling, in_interrupt, in_parallel, in_sequence};
 use std::alloc::{AllocError, Global};
 use std::mem;
 

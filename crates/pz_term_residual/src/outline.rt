@@ -16,11 +16,11 @@ ghost use Rattle.pz_term_residual.specs.Capped.{capped};
 ghost use Rattle.pz_term_residual.specs.Outlines.{outline, IsAbove, IsRound};
 
 use crate::heights::{above, greatest_of, height_of};
+use crate::{all_done, is_bare, is_done};
 use pz_classes_code::{Slot, Step};
 use pz_items::{Items, Shared};
 use pz_part_opening::{Home, opens_bare, opens_done, step_within};
 use pz_rules::{Rest, Term};
-use pz_term_around::{all_done, is_bare, is_done};
 
 /// What matters of a term for the height of what is around it.
 #[derive(Clone, Copy)]

@@ -14,9 +14,10 @@ use pz_rules::Term;
 use pz_state::{FrameId, State};
 use std::alloc::{AllocError, Global};
 
-/// Adds the numbers of the frames that stand in a term. The only error is want of memory.
+/// Adds the numbers of the frames that stand in a term, the outer before the inner. Time is linear in the term. The only
+/// error is want of memory.
 #[cycle(listing)]
-fn list_frames(term: &Term, frames: &mut Vec<u64>) -> Result<(), AllocError>
+pub fn list_frames(term: &Term, frames: &mut Vec<u64>) -> Result<(), AllocError>
     ensures { OnOk result (frames.new.items ≡ frames.old.items ++ frames_in (term_view term.now)) }
 {
     match term {

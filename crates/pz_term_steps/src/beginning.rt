@@ -71,7 +71,7 @@ pub(crate) fn begin_internal(
     ensures state { IfOk result (IsBegun process.old.state process.new.state) }
     ensures term { process.new.term ≡ process.old.term }
 {
-    pz_term_around::laws::active_parts_may_act();
+    pz_term_residual::laws::active_parts_may_act();
     pz_rules::laws::offered_parts_act();
     pz_rules::laws::active_parts_fit();
     let point = process.state.mark()?;
@@ -103,7 +103,7 @@ pub(crate) fn begin_send(
     ensures state { IfOk result (IsBegun process.old.state process.new.state) }
     ensures term { process.new.term ≡ process.old.term }
 {
-    pz_term_around::laws::active_parts_may_act();
+    pz_term_residual::laws::active_parts_may_act();
     pz_rules::laws::offered_parts_act();
     let point = process.state.mark()?;
     let (frame, part) = part_at(&process.term, FrameId(0), place);
@@ -132,7 +132,7 @@ pub(crate) fn begin_receive(
     ensures state { IfOk result (IsBegun process.old.state process.new.state) }
     ensures term { process.new.term ≡ process.old.term }
 {
-    pz_term_around::laws::active_parts_may_act();
+    pz_term_residual::laws::active_parts_may_act();
     pz_rules::laws::offered_parts_act();
     let point = process.state.mark()?;
     let (frame, part) = part_at(&process.term, FrameId(0), place);

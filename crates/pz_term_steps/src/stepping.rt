@@ -53,7 +53,7 @@ fn act(
     ensures stays { IfOk result (λ left. OnErr left (processes.new ≡ processes.old)) }
 {
     pz_classes::laws::sound_bodies_fit();
-    pz_term_around::laws::active_parts_may_act();
+    pz_term_residual::laws::active_parts_may_act();
     let _model = checked.model();
     let here = Standpoint {
         classes: checked.classes(),
@@ -97,7 +97,7 @@ fn communicate(
         parcel.now) (reached clock processes.new left)) }
     ensures stays { IfOk result (λ left. OnErr left (processes.new ≡ processes.old)) }
 {
-    pz_term_around::laws::active_parts_may_act();
+    pz_term_residual::laws::active_parts_may_act();
     pz_eval_rules::laws::each_list_has_an_outcome();
     let (from, to) = (sender.process as usize, receiver.process as usize);
     let sends_at = sender.place.as_slice();

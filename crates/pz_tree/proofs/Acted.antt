@@ -37,12 +37,12 @@ use Rattle.pz_rules.specs.Terms.{Term}
 use Rattle.pz_state.specs.Marks.{Seen}
 use Rattle.pz_state.specs.States.{StateView}
 use Rattle.pz_tree_standing.specs.FrameCounts.{times}
-use Rattle.pz_tree_frames.specs.Frames.{open_as, FramesStand}
+use Rattle.pz_tree_standing.specs.Frames.{open_as, FramesStand}
 use Rattle.pz_tree_nodes.specs.declared.node.What.{What}
 use Rattle.pz_tree_nodes.specs.View.{Plant, term_in_option}
 use Rattle.pz_tree_regrowing.specs.Costs.{on_way}
 use Rattle.pz_tree_regrowing.specs.Regrowing.{StandsOption}
-use Rattle.pz_rules_delays.specs.Short.{IsShort}
+use Rattle.pz_rules.specs.Short.{IsShort}
 use Rattle.pz_tree_acting.specs.declared.how.How.{How}
 use Rattle.pz_tree_acting.specs.Deeds.{able, deed, CanDo, Leaves}
 use Rattle.pz_tree_acting.proofs.Calm.{deed_short}

@@ -4,12 +4,12 @@ use Rattle.pz_syntax.specs.Classes.{ModelTree}
 use Rattle.pz_nodes.specs.Arena.{find}
 use Rattle.pz_nodes_shapes.specs.Rose.{node}
 use Rattle.pz_rules.specs.Settings.{Context}
-use Rattle.pz_tree_summary.specs.Summaries.{summary_of}
+use Rattle.pz_tree_standing.specs.Summaries.{summary_of}
 use Rattle.pz_tree_nodes.specs.View.{Plant, term_in_option}
 use Rattle.pz_tree_nodes.specs.Tended.{TendedOption}
-use Rattle.pz_tree_planting.specs.Planting.{root_of}
+use Rattle.pz_tree_nodes.specs.Planting.{root_of}
 use Rattle.pz_tree_regrowing.specs.Regrowing.{StandsOption}
-use Rattle.pz_tree_seeking.specs.Standing.{RightUnder}
+use Rattle.pz_tree_nodes.specs.Standing.{RightUnder}
 use Rattle.pz_tree.specs.declared.tree.Tree.{Tree}
 use Rattle.pz_tree.specs.Trees.{plant_in, term_in, at_in, FreshOption, IsFresh}
 use Rattle.pz_tree.specs.devices.Kept.{kept_of}

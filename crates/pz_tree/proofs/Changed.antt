@@ -8,13 +8,13 @@ use Rattle.pz_nodes_shapes.specs.Rose.{root}
 use Rattle.pz_rules.specs.Settings.{left_by}
 use Rattle.pz_rules.specs.Terms.{Term, height}
 use Rattle.pz_state.specs.Marks.{Seen}
-use Rattle.pz_tree_summary.specs.Summaries.{summary_of}
+use Rattle.pz_tree_standing.specs.Summaries.{summary_of}
 use Rattle.pz_tree_nodes.specs.declared.node.What.{What}
 use Rattle.pz_tree_nodes.specs.View.{Plant, term_in_option}
 use Rattle.pz_tree_nodes.specs.Tended.{TendedOption}
-use Rattle.pz_tree_planting.specs.Planting.{root_of}
+use Rattle.pz_tree_nodes.specs.Planting.{root_of}
 use Rattle.pz_tree_regrowing.specs.Regrowing.{StandsOption}
-use Rattle.pz_rules_delays.specs.Short.{IsShort}
+use Rattle.pz_rules.specs.Short.{IsShort}
 use Rattle.pz_tree_refreshing.specs.Refreshing.{IsSoon, RefreshRule, IsRefreshed}
 use Rattle.pz_tree.specs.declared.tree.Tree.{Tree}
 use Rattle.pz_tree.specs.Trees.{plant_in, term_in, process_in, at_in, IsThere, FreshOption, TimelyOption, IsFresh, live_of, live_in}

@@ -12,14 +12,14 @@ use Rattle.pz_rules.specs.Leaving as leaving
 use Rattle.pz_rules.specs.devices.Computed.{IsUntroubled}
 use Rattle.pz_rules.specs.devices.Walks.{TroublesAreListed}
 use Rattle.pz_state.specs.Marks.{Seen}
-use Rattle.pz_tree_summary.specs.Summaries.{summary_of}
-use Rattle.pz_tree_summary.specs.Steady.{later}
+use Rattle.pz_tree_standing.specs.Summaries.{summary_of}
+use Rattle.pz_tree_standing.specs.Steady.{later}
 use Rattle.pz_tree_nodes.specs.declared.node.What.{What}
 use Rattle.pz_tree_nodes.specs.View.{Plant, term_in_option}
 use Rattle.pz_tree_nodes.specs.Tended.{TendedOption}
-use Rattle.pz_tree_planting.specs.Planting.{root_of}
+use Rattle.pz_tree_nodes.specs.Planting.{root_of}
 use Rattle.pz_tree_regrowing.specs.Regrowing.{StandsOption}
-use Rattle.pz_rules_delays.specs.Short.{IsShort}
+use Rattle.pz_rules.specs.Short.{IsShort}
 use Rattle.pz_tree_refreshing.specs.Refreshing.{HasRoom}
 use Rattle.pz_tree_elapsing.specs.Elapsing.{IsNotBefore, HasElapsed, ElapseRule}
 use Rattle.pz_tree.specs.declared.tree.Tree.{Tree}

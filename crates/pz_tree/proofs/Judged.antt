@@ -27,9 +27,9 @@ use Rattle.pz_tree_standing.specs.Meaning.{StandsFor}
 use Rattle.pz_tree_nodes.specs.declared.node.What.{What}
 use Rattle.pz_tree_nodes.specs.View.{Plant, head_view, what_view, term_in_option}
 use Rattle.pz_tree_nodes.specs.Tended.{TendedOption}
-use Rattle.pz_tree_planting.specs.Planting.{root_of}
+use Rattle.pz_tree_nodes.specs.Planting.{root_of}
 use Rattle.pz_tree_regrowing.specs.Regrowing.{StandsOption}
-use Rattle.pz_tree_seeking.specs.Seeking.{frame_at, StandsUnder, IsBare, IsBareUnder, SeekRule, ActiveAtPlace, TendedStand}
+use Rattle.pz_tree_nodes.specs.Seeking.{frame_at, StandsUnder, IsBare, IsBareUnder, SeekRule, ActiveAtPlace, TendedStand}
 use Rattle.pz_tree.specs.declared.tree.Tree.{Tree}
 use Rattle.pz_tree.specs.Asking.{HasReceive, said_by, JudgesAt}
 use Rattle.pz_tree.specs.Trees.{plant_in, term_in, at_in, IsThere, IsFresh}

@@ -9,8 +9,8 @@ use Rattle.pz_rules.specs.Terms.{Term, height}
 use Rattle.pz_rules.specs.Settings.{Process, Context, home_of}
 use Rattle.pz_rules.specs.Leaving.{residual, swept, settled}
 use Rattle.pz_rules.specs.Meanings.{and_then}
-use Rattle.pz_rules_delays.specs.Short.{IsShort}
-use Rattle.pz_rules_delays.proofs.Opened.{residual_short}
+use Rattle.pz_rules.specs.Short.{IsShort}
+use Rattle.pz_rules.proofs.Opened.{residual_short}
 use Rattle.pz_tree_acting.proofs.Calm.{LeavesShort}
 
 -- ---------------------------------------------------------- the whole process

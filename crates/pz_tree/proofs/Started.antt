@@ -19,9 +19,9 @@ use Rattle.pz_nodes_shapes.specs.Change.{no_key, BecomesOption}
 use Rattle.pz_rules.specs.Terms.{Term, height}
 use Rattle.pz_tree_nodes.specs.declared.node.What.{What}
 use Rattle.pz_tree_nodes.specs.View.{Plant}
-use Rattle.pz_tree_planting.specs.Planting.{Planted}
+use Rattle.pz_tree_nodes.specs.Planting.{Planted}
 use Rattle.pz_tree_regrowing.specs.Regrowing.{StandsOption}
-use Rattle.pz_rules_delays.specs.Short.{IsShort}
+use Rattle.pz_rules.specs.Short.{IsShort}
 use Rattle.pz_tree_refreshing.specs.Refreshing.{HasRoom}
 use Rattle.pz_tree.specs.declared.tree.Tree.{Tree}
 use Rattle.pz_tree.specs.Trees.{term_in, IsOf, IsThere, IsFresh}

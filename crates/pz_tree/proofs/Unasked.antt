@@ -7,7 +7,7 @@ use Rattle.pz_rules.specs.Terms.{Term}
 use Rattle.pz_rules.specs.devices.Computed.{IsUntroubled}
 use Rattle.pz_rules.specs.devices.Walk.{Noted, active_troubles}
 use Rattle.pz_rules.specs.devices.Walks.{TroublesAreListed}
-use Rattle.pz_tree_summary.specs.Summaries.{first_of, summary_of}
+use Rattle.pz_tree_standing.specs.Summaries.{first_of, summary_of}
 
 none_first : (ns : List (Noted Trouble)) → first_of ns ≡ None → ns ≡ []
 none_first [] e = refl

@@ -24,11 +24,11 @@ use Rattle.pz_rules.specs.devices.Walk.{Noted, active_sends, active_receives}
 use Rattle.pz_rules.specs.devices.Walk as walk
 use Rattle.pz_rules.specs.devices.Walks.{IsThere, Offering, offering, SendsAreListed, ReceivesAreListed}
 use Rattle.pz_rules.specs.Laws.{part_of}
-use Rattle.pz_tree_seeking.specs.Listing.{Each}
+use Rattle.pz_tree_nodes.specs.Listing.{Each}
 use Rattle.pz_tree_offering.specs.declared.offers.ActiveSend.{ActiveSend}
 use Rattle.pz_tree_offering.specs.declared.offers.ActiveReceive.{ActiveReceive}
 use Rattle.pz_tree_offering.specs.Offers.{AreSends, has_condition, AreReceives}
-use Rattle.pz_tree_summary.specs.Woken.{is_clocked}
+use Rattle.pz_tree_standing.specs.Woken.{is_clocked}
 use Rattle.pz_tree.specs.Asking.{ReachesWire, IsSendOffer, AreSendOffers, IsReceiveOffer, AreReceiveOffers}
 use Rattle.pz_tree.specs.devices.Wires.{WireRule, AreSentOver, AreReceivedOver}
 

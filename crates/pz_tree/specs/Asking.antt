@@ -20,8 +20,8 @@ use Rattle.pz_rules.specs.Terms.{Term}
 use Rattle.pz_rules.specs.devices.Walk.{Noted, Doing, active_sends, active_receives}
 use Rattle.pz_rules.specs.devices.Walk as walk
 use Rattle.pz_rules.specs.devices.Walks as walks
-use Rattle.pz_tree_summary.specs.Woken.{is_clocked}
-use Rattle.pz_tree_seeking.specs.Listing.{Each}
+use Rattle.pz_tree_standing.specs.Woken.{is_clocked}
+use Rattle.pz_tree_nodes.specs.Listing.{Each}
 use Rattle.pz_tree_offering.specs.Offers.{has_condition}
 use Rattle.pz_tree.specs.declared.found.InternalAction.{InternalAction}
 

@@ -1,4 +1,5 @@
 pub mod Trees
 pub mod Asking
 pub mod Acting
+pub mod Deeds
 pub mod devices

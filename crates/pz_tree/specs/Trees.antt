@@ -8,14 +8,14 @@ use Rattle.pz_nodes.specs.Arena.{find, live}
 use Rattle.pz_nodes_shapes.specs.Reading.{read}
 use Rattle.pz_rules.specs.Terms.{Term, height}
 use Rattle.pz_rules.specs.Settings.{Context, Process, left_by}
-use Rattle.pz_tree_summary.specs.Summaries.{summary_of}
+use Rattle.pz_tree_standing.specs.Summaries.{summary_of}
 use Rattle.pz_tree_nodes.specs.View.{Plant, term_in_option}
 use Rattle.pz_tree_nodes.specs.Tended.{TendedOption}
 use Rattle.pz_tree_nodes.specs.Fresh.{Fresh}
-use Rattle.pz_tree_planting.specs.Planting.{root_of}
+use Rattle.pz_tree_nodes.specs.Planting.{root_of}
 use Rattle.pz_tree_regrowing.specs.Regrowing.{StandsOption}
 use Rattle.pz_tree_refreshing.specs.Live.{live_nodes}
-use Rattle.pz_rules_delays.specs.Short.{IsShort}
+use Rattle.pz_rules.specs.Short.{IsShort}
 use Rattle.pz_tree_refreshing.specs.Refreshing.{HasRoom, IsSoon, Timely}
 use Rattle.pz_tree_elapsing.specs.Waking.{woken_nodes}
 use Rattle.pz_tree.specs.declared.tree.Tree.{Tree}

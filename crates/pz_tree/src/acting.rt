@@ -11,7 +11,7 @@ ghost use Rattle.pz_rules.specs.Openable.{IsProcessClass};
 ghost use Rattle.pz_rules.specs.Settings.{in_state};
 ghost use Rattle.pz_tree_acting.specs.Acting.{Answers};
 ghost use Rattle.pz_tree_acting.specs.Deeds.{able, deed, CanDo, Leaves};
-ghost use Rattle.pz_tree_frames.specs.Frames.{FramesStand};
+ghost use Rattle.pz_tree_standing.specs.Frames.{FramesStand};
 ghost use Rattle.pz_tree_regrowing.specs.Costs.{on_way};
 ghost use Rattle.pz_tree.specs.Acting.{answered, LeavesSoon};
 ghost use Rattle.pz_tree.specs.Trees.{at_in, term_in, process_in, IsThere, IsFresh};

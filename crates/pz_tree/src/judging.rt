@@ -21,8 +21,7 @@ use pz_offer::{Place, Trouble, Verdict};
 use pz_part_queries::judge;
 use pz_rules::Term;
 use pz_state::FrameId;
-use pz_tree_nodes::{Head, Node};
-use pz_tree_seeking::{Spot, part_at};
+use pz_tree_nodes::{Head, Node, Spot, part_at};
 use pz_value::Value;
 use std::alloc::AllocError;
 use std::marker::Brand;
@@ -108,8 +107,8 @@ impl Tree {
             place.now parcel.now) }
         ensures unchanged { self.new ≡ self.old }
     {
-        pz_tree_seeking::laws::active_parts_are_at_their_places();
-        pz_tree_seeking::laws::tended_nodes_stand();
+        pz_tree_nodes::laws::active_parts_are_at_their_places();
+        pz_tree_nodes::laws::tended_nodes_stand();
         let here = self.standpoint(checked);
         let root = self.spot();
         let found = statement_in::<Brand>(&self.nodes, root, place.as_slice(), Blank::new(1))?;

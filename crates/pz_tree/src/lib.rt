@@ -13,4 +13,5 @@ mod summing;
 mod tree;
 
 pub use found::InternalAction;
+pub use pz_tree_acting::How;
 pub use tree::Tree;

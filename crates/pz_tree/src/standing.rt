@@ -11,7 +11,7 @@ use crate::tree::Tree;
 use pz_classes::Checked;
 use pz_part_queries::Standpoint;
 use pz_state::FrameId;
-use pz_tree_seeking::Spot;
+use pz_tree_nodes::Spot;
 
 impl Tree {
     // Where the whole term stands: in no frame.

@@ -19,7 +19,7 @@ use pz_nodes::{Nodes, Steps};
 use pz_rules::{Limits, Term};
 use pz_state::State;
 use pz_term_processes::Process;
-use pz_tree_planting::plant;
+use pz_tree_nodes::plant;
 use std::alloc::{AllocError, Global};
 use std::marker::Brand;
 use std::mem;

@@ -21,13 +21,13 @@ use Rattle.pz_rules.specs.Terms.{Term, child}
 use Rattle.pz_rules.specs.View.{term_view}
 use Rattle.pz_state.specs.Marks.{Seen, marked, undone, undone_from}
 use Rattle.pz_state.specs.States.{StateView}
-use Rattle.pz_tree_frames.specs.Frames.{open_as, HaveOpened, PartsOpen, PerformedOpens, HandedOpens, TakenOpens}
+use Rattle.pz_tree_standing.specs.Frames.{open_as, HaveOpened, PartsOpen, PerformedOpens, HandedOpens, TakenOpens}
 use Rattle.pz_tree_standing.specs.FrameCounts.{times}
 use Rattle.pz_tree_nodes.specs.declared.node.What.{What}
 use Rattle.pz_tree_nodes.specs.View.{Plant, what_view, term_in_option}
-use Rattle.pz_rules_delays.specs.Short.{IsShort}
+use Rattle.pz_rules.specs.Short.{IsShort}
 use Rattle.pz_tree_regrowing.specs.Costs.{on_way}
-use Rattle.pz_tree_seeking.specs.Seeking.{SeekRule, ActiveAtPlace, TendedStand}
+use Rattle.pz_tree_nodes.specs.Seeking.{SeekRule, ActiveAtPlace, TendedStand}
 use Rattle.pz_tree_acting.specs.declared.how.How.{How}
 use Rattle.pz_tree_acting.specs.declared.how.How.TheVariants.{Internal, Send, Receive}
 use Rattle.pz_tree_acting.specs.declared.beginning.Begun.{Begun}

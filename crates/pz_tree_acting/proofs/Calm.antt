@@ -25,8 +25,8 @@ use Rattle.pz_part_actions.specs.Becoming as becoming
 use Rattle.pz_tree_acting.specs.declared.how.How.{How}
 use Rattle.pz_tree_acting.specs.declared.how.How.TheVariants.{Internal, Send, Receive}
 use Rattle.pz_tree_acting.specs.Deeds.{deed}
-use Rattle.pz_rules_delays.specs.Short.{IsShort}
-use Rattle.pz_rules_delays.proofs.Opened.{framed_short, opened_all_short}
+use Rattle.pz_rules.specs.Short.{IsShort}
+use Rattle.pz_rules.proofs.Opened.{framed_short, opened_all_short}
 
 abbrev pub LeavesShort : Result Process Trouble → Type 0
 LeavesShort (Ok p) = IsShort p.term

@@ -31,13 +31,13 @@ use Rattle.pz_tree_nodes.specs.View.{Plant, term_in_option}
 use Rattle.pz_tree_standing.specs.FrameCounts.{count_in, times, lost_all, gained_all}
 use Rattle.pz_tree_standing.specs.Laws.{FramesStandOrAreLost}
 use Rattle.pz_tree_standing.proofs.FrameCounts.{count_append}
-use Rattle.pz_tree_frames.specs.Frames.{open_as, FramesStand, HaveOpened, AroundOpens}
-use Rattle.pz_tree_seeking.specs.Seeking.{ActiveAtPlace}
-use Rattle.pz_term_around.specs.Laws.{ActivePartsMayAct}
-use Rattle.pz_rules_delays.specs.Short.{IsShort}
+use Rattle.pz_tree_standing.specs.Frames.{open_as, FramesStand, HaveOpened, AroundOpens}
+use Rattle.pz_tree_nodes.specs.Seeking.{ActiveAtPlace}
+use Rattle.pz_term_residual.specs.Laws.{ActivePartsMayAct}
+use Rattle.pz_rules.specs.Short.{IsShort}
 use Rattle.pz_tree_regrowing.specs.Costs.{on_way, made_all, dropped_all}
 use Rattle.pz_tree_regrowing.specs.Regrowing.{at_work, RegrowRule}
-use Rattle.pz_tree_heights.specs.Heights.{LowRule}
+use Rattle.pz_tree_regrowing.specs.Heights.{LowRule}
 use Rattle.pz_tree_acting.specs.declared.how.How.{How}
 use Rattle.pz_tree_acting.specs.declared.beginning.Begun.{Begun}
 use Rattle.pz_tree_acting.specs.Deeds.{able, deed, CanDo, Leaves}

@@ -15,7 +15,7 @@ use Rattle.pz_tree_standing.specs.Standing.{terms_of}
 use Rattle.pz_tree_standing.specs.Whole.{IsNoShift}
 use Rattle.pz_tree_nodes.specs.declared.node.What as lying
 use Rattle.pz_tree_nodes.specs.View.{Plant, head_view, what_view, term_in_option}
-use Rattle.pz_tree_seeking.specs.Seeking.{frame_at, StandsUnder, IsBareUnder, IsFound, ActiveAtPlace, TendedStand}
+use Rattle.pz_tree_nodes.specs.Seeking.{frame_at, StandsUnder, IsBareUnder, IsFound, ActiveAtPlace, TendedStand}
 use Rattle.pz_copy.specs.Parcels.{ParcelView}
 use Rattle.pz_tree_acting.specs.declared.how.How.{How}
 use Rattle.pz_tree_acting.specs.declared.how.How.TheVariants.{Internal, Send, Receive}
@@ -80,7 +80,7 @@ part_under m (Some j) k c n t is stood rule u stands bare simple = by stands.sha
         let is_node : seen_node what_view n ≡ record { what = x; kids = roots ss } = same (seen_node what_view n) (record { what = x; kids = roots ss }) (sym here ∙ ap (seen what_view m) (sym under) ∙ st.0) in
         let head : head_view n.what.head ≡ x.head = ap (λ (o : Node What). o.what.head) is_node in
         let ts = terms_of x.head c 0 ss in
-        let bare_here : IsNoShift (head_view n.what.head) = subst Rattle.pz_tree_seeking.specs.Seeking.IsBare here bare in
+        let bare_here : IsNoShift (head_view n.what.head) = subst Rattle.pz_tree_nodes.specs.Seeking.IsBare here bare in
         let is_formed : u ≡ formed (head_view n.what.head) c ts = means ∙ ap (λ h. formed h c ts) (sym head) in
         rule ts bare_here (subst IsSimple is_formed simple) ∙ sym is_formed
 

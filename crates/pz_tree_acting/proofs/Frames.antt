@@ -15,11 +15,11 @@ use Rattle.std.specs.List.Sorted.{IsPermutation}
 use Rattle.std.proofs.lemmas.List.Elements.{filter_agree}
 use Rattle.std.proofs.lemmas.List.Sorted.{list_any-IsPermutation}
 use Rattle.pz_state.specs.declared.state.FrameId.{FrameId}
-use Rattle.pz_tree_dropping.specs.Dropping as dropping
+use Rattle.pz_tree_nodes.specs.Dropping as dropping
 use Rattle.pz_tree_acting.specs.devices.Closing.{HasListed, AlsoLists, OnlyListed, LostRule, ListedRule, StandBy, CloseRule}
 use Rattle.pz_term_residual.specs.Closing.{without_frames}
 use Rattle.pz_tree_standing.specs.FrameCounts.{count_in, times}
-use Rattle.pz_tree_frames.specs.Frames.{numbers, open_as, FramesStand}
+use Rattle.pz_tree_standing.specs.Frames.{numbers, open_as, FramesStand}
 
 -- ------------------------------------------------------------ among numbers
 

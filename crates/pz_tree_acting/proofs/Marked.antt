@@ -20,7 +20,7 @@ use Rattle.pz_eval.specs.Known.{AreKnown}
 use Rattle.pz_part_queries.specs.declared.standpoint.Standpoint.{Standpoint}
 use Rattle.pz_part_queries.specs.Standpoints.{Knows, seen_from}
 use Rattle.pz_rules.specs.Places.{MayAct}
-use Rattle.pz_term_around.specs.Laws.{ActivePartsMayAct}
+use Rattle.pz_term_residual.specs.Laws.{ActivePartsMayAct}
 use Rattle.pz_part_queries.specs.Parts.{IsPartAt}
 use Rattle.pz_part_actions.specs.Becoming.{Becomes}
 use Rattle.pz_part_actions.specs.Becoming as becoming

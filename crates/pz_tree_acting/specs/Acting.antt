@@ -14,12 +14,12 @@ use Rattle.pz_rules.specs.Settings.{Context, Process, left_by, home_of}
 use Rattle.pz_rules.specs.Steps.{Deed}
 use Rattle.pz_state.specs.Marks.{Seen}
 use Rattle.pz_state.specs.States.{StateView}
-use Rattle.pz_tree_frames.specs.Frames.{FramesStand}
+use Rattle.pz_tree_standing.specs.Frames.{FramesStand}
 use Rattle.pz_tree_nodes.specs.declared.node.What.{What}
 use Rattle.pz_tree_nodes.specs.View.{Plant, term_in_option}
 use Rattle.pz_tree_nodes.specs.Tended.{TendedOption}
-use Rattle.pz_tree_planting.specs.Planting.{root_of}
-use Rattle.pz_rules_delays.specs.Short.{IsShort}
+use Rattle.pz_tree_nodes.specs.Planting.{root_of}
+use Rattle.pz_rules.specs.Short.{IsShort}
 use Rattle.pz_tree_refreshing.specs.Refreshing.{HasRoom}
 use Rattle.pz_tree_regrowing.specs.Costs.{on_way, made_all, dropped_all}
 use Rattle.pz_tree_regrowing.specs.Regrowing.{StandsOption}

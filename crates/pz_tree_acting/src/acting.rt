@@ -7,7 +7,7 @@ ghost use Rattle.pz_part_queries.specs.Standpoints.{Knows};
 ghost use Rattle.pz_part_opening.specs.Homes.{home_view};
 ghost use Rattle.pz_rules.specs.View.{term_view};
 ghost use Rattle.pz_state.specs.Marks.{IsLatest};
-ghost use Rattle.pz_rules_delays.specs.Short.{IsShort};
+ghost use Rattle.pz_rules.specs.Short.{IsShort};
 ghost use Rattle.pz_tree_refreshing.specs.Refreshing.{HasRoom};
 ghost use Rattle.pz_tree_acting.specs.Acting.{MayBeDone, ActRule, TrialRule, TrialSteps};
 ghost use Rattle.pz_tree_acting.specs.devices.Begun.{MayGoOn, StayRule};
@@ -20,9 +20,8 @@ use pz_offer::Trouble;
 use pz_part_opening::Home;
 use pz_part_queries::Standpoint;
 use pz_state::{FrameId, State};
-use pz_tree_nodes::Node;
+use pz_tree_nodes::{Node, Spot};
 use pz_tree_regrowing::regrow;
-use pz_tree_seeking::Spot;
 use std::alloc::{AllocError, Global};
 use std::sync::ledger::Ledger;
 
@@ -54,7 +53,7 @@ fn finish<L: Ledger>(
         clock,
     };
     pz_tree_standing::laws::frames_are_counted();
-    pz_tree_frames::laws::openings_open_frames();
+    pz_tree_standing::laws::openings_open_frames();
     let mut lost = Vec::new(alloc);
     let out = regrow(
         alloc,
@@ -96,9 +95,9 @@ pub fn act<L: Ledger>(
         place.now left state.old state.new steps.old steps.new) }
     ensures stays { IfOk result (λ left. OnErr left ((nodes.new ≡ nodes.old) × (state.new ≡ state.old))) }
 {
-    pz_term_around::laws::active_parts_may_act();
+    pz_term_residual::laws::active_parts_may_act();
     pz_rules::laws::offered_parts_act();
-    pz_tree_seeking::laws::active_parts_are_at_their_places();
+    pz_tree_nodes::laws::active_parts_are_at_their_places();
     let listed = open_frames(alloc, home.edition, state)?;
     match begin(alloc, here, home, nodes, root, place, how, state, steps)? {
         Ok(begun) => {

@@ -11,8 +11,8 @@ ghost use Rattle.pz_rules.specs.Acting.{IsSend, IsReceive};
 ghost use Rattle.pz_rules.specs.View.{term_view};
 ghost use Rattle.pz_state.specs.Marks.{IsLatest, undone};
 ghost use Rattle.pz_state.specs.States.{StateView};
-ghost use Rattle.pz_rules_delays.specs.Short.{IsShort};
-ghost use Rattle.pz_tree_heights.specs.Heights.{FewSteps};
+ghost use Rattle.pz_rules.specs.Short.{IsShort};
+ghost use Rattle.pz_tree_regrowing.specs.Heights.{FewSteps};
 ghost use Rattle.pz_tree_acting.specs.Acting.{MayBeDone, TrialSteps};
 ghost use Rattle.pz_tree_acting.specs.devices.Begun.{ActsSo, IsHanded, IsTaken, DeedRule, IsBegun, Opens, HoldRule, BeginRule};
 
@@ -27,9 +27,8 @@ use pz_part_queries::Standpoint;
 use pz_rules::Term;
 use pz_state::{FrameId, Savepoint, State};
 use pz_syntax::Pos;
-use pz_tree_heights::stays_low;
-use pz_tree_nodes::Node;
-use pz_tree_seeking::{Spot, part_at};
+use pz_tree_nodes::{Node, Spot, part_at};
+use pz_tree_regrowing::stays_low;
 use std::alloc::{AllocError, Global};
 use std::sync::ledger::Ledger;
 
@@ -173,12 +172,12 @@ pub(crate) fn begin<L: Ledger>(
     ensures ticks { OnOk result (TrialSteps here.now home.now how.entry (find nodes.now) root place.now
         state.old.held steps.old steps.new) }
 {
-    pz_term_around::laws::active_parts_may_act();
+    pz_term_residual::laws::active_parts_may_act();
     pz_rules::laws::offered_parts_act();
     pz_rules::laws::active_parts_fit();
-    pz_tree_seeking::laws::active_parts_are_at_their_places();
-    pz_tree_seeking::laws::tended_nodes_stand();
-    pz_tree_frames::laws::deeds_open_frames();
+    pz_tree_nodes::laws::active_parts_are_at_their_places();
+    pz_tree_nodes::laws::tended_nodes_stand();
+    pz_tree_standing::laws::deeds_open_frames();
     let whole = Spot {
         key: root,
         frame: FrameId(0),

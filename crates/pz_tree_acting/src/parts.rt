@@ -12,8 +12,7 @@ ghost use Rattle.pz_tree_acting.specs.devices.Parts.{PartRule, HeadRule};
 use pz_nodes::{Nodes, Steps};
 use pz_rules::Term;
 use pz_syntax::Pos;
-use pz_tree_nodes::{Head, Node};
-use pz_tree_seeking::Spot;
+use pz_tree_nodes::{Head, Node, Spot};
 use std::alloc::AllocError;
 use std::sync::ledger::Ledger;
 

@@ -14,11 +14,11 @@ use Rattle.pz_rules.specs.Terms.{Code, Step, Terms, no_terms, term_at}
 use Rattle.pz_rules.specs.devices.Found.{tested}
 use Rattle.pz_rules.specs.devices.Passing.{begun}
 use Rattle.pz_rules.specs.devices.Walk.{ActivePart, under, behind, active_parts}
-use Rattle.pz_tree_summary.specs.Steady.{later}
-use Rattle.pz_tree_summary.specs.Summaries.{summary_of, gated}
-use Rattle.pz_tree_summary.specs.Woken.{any_part, begins, is_clocked}
-use Rattle.pz_tree_summary.specs.devices.Laws.{TestIsSteady}
-use Rattle.pz_tree_summary.proofs.Tallies.{summary_guarded}
+use Rattle.pz_tree_standing.specs.Steady.{later}
+use Rattle.pz_tree_standing.specs.Summaries.{summary_of, gated}
+use Rattle.pz_tree_standing.specs.Woken.{any_part, begins, is_clocked}
+use Rattle.pz_tree_standing.specs.devices.SummaryLaws.{TestIsSteady}
+use Rattle.pz_tree_standing.proofs.Tallies.{summary_guarded}
 use Rattle.pz_tree_standing.specs.Heads.{Head, leaf, wait, sequence, parallel, select, guarded, frame, abort, idle, handling, shifted, inner_frame, formed}
 use Rattle.pz_tree_standing.specs.Reached.{reaches, is_true, GateRight}
 use Rattle.pz_tree_standing.specs.Calm.{HasBegun}
@@ -28,7 +28,7 @@ use Rattle.pz_tree_nodes.specs.declared.node.Head as lying
 use Rattle.pz_tree_nodes.specs.declared.node.What.{What}
 use Rattle.pz_tree_nodes.specs.Keeping.{kept_none}
 use Rattle.pz_tree_nodes.specs.View.{head_view}
-use Rattle.pz_rules_delays.specs.Short.{IsShort}
+use Rattle.pz_rules.specs.Short.{IsShort}
 use Rattle.pz_tree_refreshing.specs.devices.Asked.{MayAsk, IsAsked, AskRule}
 use Rattle.pz_tree_refreshing.proofs.Gates.{plain_asked, guard_asked}
 use Rattle.pz_tree_refreshing.proofs.Sums.{IsPlain}

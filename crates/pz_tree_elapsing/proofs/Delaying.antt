@@ -15,11 +15,11 @@ use Rattle.pz_rules.specs.Terms as term
 use Rattle.pz_rules.specs.devices.Found.{lasting}
 use Rattle.pz_rules.specs.devices.Passing.{begun}
 use Rattle.pz_rules.specs.devices.Walk.{expiry, answered, trouble_of}
-use Rattle.pz_tree_summary.specs.Steady.{later}
-use Rattle.pz_tree_summary.specs.Summaries.{summary_of}
-use Rattle.pz_tree_summary.specs.Woken.{starts, clocked}
-use Rattle.pz_tree_summary.specs.devices.Tallies.{one, own_summary}
-use Rattle.pz_tree_summary.proofs.Unasked.{alone}
+use Rattle.pz_tree_standing.specs.Steady.{later}
+use Rattle.pz_tree_standing.specs.Summaries.{summary_of}
+use Rattle.pz_tree_standing.specs.Woken.{starts, clocked}
+use Rattle.pz_tree_standing.specs.devices.Tallies.{one, own_summary}
+use Rattle.pz_tree_standing.proofs.Unasked.{alone}
 use Rattle.pz_tree_standing.specs.Heads.{Head, leaf, wait}
 use Rattle.pz_tree_standing.specs.Calm.{HasBegun}
 use Rattle.pz_tree_nodes.specs.declared.kept.Kept.{Kept}

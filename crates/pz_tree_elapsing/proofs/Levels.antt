@@ -14,10 +14,10 @@ use Rattle.pz_rules.specs.Terms.{Terms, term_at, height}
 use Rattle.pz_rules.specs.devices.Computed.{PassingIsComputed}
 use Rattle.pz_rules.specs.devices.Passing.{passed}
 use Rattle.pz_rules.specs.Delays.{Passes}
-use Rattle.pz_tree_summary.specs.Steady.{later}
-use Rattle.pz_tree_summary.specs.Summaries.{summary_of}
-use Rattle.pz_tree_summary.specs.devices.Laws.{TestIsSteady}
-use Rattle.pz_tree_summary.proofs.Unasked.{unasked_is_steady}
+use Rattle.pz_tree_standing.specs.Steady.{later}
+use Rattle.pz_tree_standing.specs.Summaries.{summary_of}
+use Rattle.pz_tree_standing.specs.devices.SummaryLaws.{TestIsSteady}
+use Rattle.pz_tree_standing.proofs.Unasked.{unasked_is_steady}
 use Rattle.pz_tree_standing.specs.Heads.{Head, inner_clock, inner_frame, formed}
 use Rattle.pz_tree_standing.specs.Laws.{NoDeeperThanHigh}
 use Rattle.pz_tree_standing.specs.Standing.{terms_of, HeadFits, FitAll}
@@ -35,7 +35,7 @@ use Rattle.pz_tree_nodes.specs.Tended.{Tended, AreMarked}
 use Rattle.pz_tree_nodes.specs.Fresh.{AllFlagged}
 use Rattle.pz_tree_nodes.specs.Laws.{UnwokenAreCalm, UnwokenAreSteady}
 use Rattle.pz_tree_nodes.proofs.Marks.{marked_alike}
-use Rattle.pz_rules_delays.specs.Short.{IsShort}
+use Rattle.pz_rules.specs.Short.{IsShort}
 use Rattle.pz_tree_refreshing.specs.Refreshing.{HasRoom, IsSoon, AllTimely}
 use Rattle.pz_tree_refreshing.specs.devices.Reached.{Says, behind_inside}
 use Rattle.pz_tree_refreshing.specs.devices.Levels.{IsPutBack, KidsTended}

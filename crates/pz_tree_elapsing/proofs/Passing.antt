@@ -8,9 +8,9 @@ use Rattle.pz_rules.specs.devices.Found.{tested, lasting}
 use Rattle.pz_rules.specs.devices.Passing.{passed, passed_all, if_open, begun}
 use Rattle.pz_rules.specs.devices.Walk.{active_parts}
 use Rattle.pz_syntax.specs.declared.tokens.Pos.{Pos}
-use Rattle.pz_tree_summary.specs.Asked.{asks, any_asks, statement_asks}
-use Rattle.pz_tree_summary.specs.Woken.{any_part, begins, is_clocked}
-use Rattle.pz_tree_summary.proofs.Unasked.{or_neither}
+use Rattle.pz_tree_standing.specs.Asked.{asks, any_asks, statement_asks}
+use Rattle.pz_tree_standing.specs.Woken.{any_part, begins, is_clocked}
+use Rattle.pz_tree_standing.proofs.Unasked.{or_neither}
 use Rattle.pz_tree_standing.specs.Heads.{Head, formed}
 use Rattle.pz_tree_standing.specs.Heads as head
 use Rattle.pz_tree_nodes.specs.declared.kept.Kept.{Kept}

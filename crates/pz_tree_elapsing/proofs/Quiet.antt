@@ -9,8 +9,8 @@ use Rattle.pz_offer.specs.Summaries.{nothing, least, join, shifted}
 use Rattle.pz_rules.specs.Settings.{Context}
 use Rattle.pz_rules.specs.Terms.{Term, done, Terms, no_terms, and, term_at}
 use Rattle.pz_rules.specs.devices.Found.{tested}
-use Rattle.pz_tree_summary.specs.Summaries.{summary_of, gated}
-use Rattle.pz_tree_summary.proofs.Tallies.{summary_guarded}
+use Rattle.pz_tree_standing.specs.Summaries.{summary_of, gated}
+use Rattle.pz_tree_standing.proofs.Tallies.{summary_guarded}
 use Rattle.pz_tree_standing.specs.Heads.{Head, inner_frame, formed}
 use Rattle.pz_tree_standing.specs.Heads as head
 use Rattle.pz_tree_standing.specs.Reached.{reaches, GateRight}

@@ -10,15 +10,15 @@ use Rattle.pz_rules.specs.Terms.{Step, Term, done, leaf, wait, sequence, paralle
 use Rattle.pz_rules.specs.devices.Found.{tested}
 use Rattle.pz_rules.specs.devices.Walk.{ActivePart, under, behind, active_parts, active_children}
 use Rattle.std.specs.Prelude.{map}
-use Rattle.pz_tree_summary.specs.Summaries.{summary_of, summaries_of, gated}
-use Rattle.pz_tree_summary.specs.Woken.{any_part, begins, statement_begins, starts}
-use Rattle.pz_tree_summary.proofs.Tallies.{summary_sequence, summary_parallel, summary_select, summary_guarded, summary_frame, summary_abort, summary_idle, summary_handling}
-use Rattle.pz_tree_summary.proofs.Unasked.{or_neither}
-use Rattle.pz_tree_summary.proofs.Woken.{neither_part, none_under}
+use Rattle.pz_tree_standing.specs.Summaries.{summary_of, summaries_of, gated}
+use Rattle.pz_tree_standing.specs.Woken.{any_part, begins, statement_begins, starts}
+use Rattle.pz_tree_standing.proofs.Tallies.{summary_sequence, summary_parallel, summary_select, summary_guarded, summary_frame, summary_abort, summary_idle, summary_handling}
+use Rattle.pz_tree_standing.proofs.Unasked.{or_neither}
+use Rattle.pz_tree_standing.proofs.Woken.{neither_part, none_under}
 use Rattle.pz_tree_standing.specs.Heads.{Head, Shapes, formed}
 use Rattle.pz_tree_standing.specs.Heads as head
 use Rattle.pz_tree_standing.specs.Whole.{OneInside, HasParts}
-use Rattle.pz_rules_delays.specs.Short.{IsShort, AreShort}
+use Rattle.pz_rules.specs.Short.{IsShort, AreShort}
 use Rattle.pz_tree_refreshing.specs.Refreshing.{IsSoon}
 use Rattle.pz_tree_refreshing.proofs.Short.{least_soon}
 use Rattle.pz_tree_elapsing.proofs.Goings.{IsNoWait}

@@ -12,11 +12,11 @@ use Rattle.pz_rules.specs.Terms.{Step, Term, done, leaf, wait, sequence, paralle
 use Rattle.pz_rules.specs.devices.Found.{tested}
 use Rattle.pz_rules.specs.devices.Passing.{passed, passed_all, if_open}
 use Rattle.pz_rules.specs.devices.Walk.{under, behind, active_parts}
-use Rattle.pz_tree_summary.specs.Steady.{later, StatementIsSteady, Steady, AreSteady}
-use Rattle.pz_tree_summary.specs.Summaries.{summary_of}
-use Rattle.pz_tree_summary.specs.Woken.{any_part, begins, is_clocked, IsAfter}
-use Rattle.pz_tree_summary.specs.devices.Laws.{TestIsSteady}
-use Rattle.pz_tree_summary.proofs.Unasked.{or_neither}
+use Rattle.pz_tree_standing.specs.Steady.{later, StatementIsSteady, Steady, AreSteady}
+use Rattle.pz_tree_standing.specs.Summaries.{summary_of}
+use Rattle.pz_tree_standing.specs.Woken.{any_part, begins, is_clocked, IsAfter}
+use Rattle.pz_tree_standing.specs.devices.SummaryLaws.{TestIsSteady}
+use Rattle.pz_tree_standing.proofs.Unasked.{or_neither}
 use Rattle.pz_tree_standing.specs.Heads.{Head, inner_clock, inner_frame}
 use Rattle.pz_tree_standing.specs.Standing.{terms_of, HeadFits, Fits, FitAll}
 use Rattle.pz_tree_standing.specs.Reached.{reaches}
@@ -32,7 +32,7 @@ use Rattle.pz_tree_nodes.specs.View.{Plant, Plants, head_view, shape_of, shapes_
 use Rattle.pz_tree_nodes.specs.Fresh.{Flagged, AllFlagged}
 use Rattle.pz_tree_nodes.specs.Laws.{UnwokenAreCalm, UnwokenAreSteady}
 use Rattle.pz_tree_nodes.proofs.Wakings.{in_under, in_two, in_children}
-use Rattle.pz_rules_delays.specs.Short.{IsShort, AreShort}
+use Rattle.pz_rules.specs.Short.{IsShort, AreShort}
 use Rattle.pz_tree_refreshing.specs.Refreshing.{IsSoon, Timely, AllTimely}
 use Rattle.pz_tree_elapsing.specs.Waking.{wakes, is_due}
 use Rattle.pz_tree_elapsing.specs.Elapsing.{MayElapse, IsNotBefore}

@@ -7,12 +7,12 @@ use Rattle.pz_rules.specs.Settings.{Context}
 use Rattle.pz_rules.specs.Delays.{Passes}
 use Rattle.pz_rules.specs.devices.Computed.{IsUntroubled}
 use Rattle.pz_rules.specs.devices.Passing.{passed}
-use Rattle.pz_tree_summary.specs.Steady.{later}
+use Rattle.pz_tree_standing.specs.Steady.{later}
 use Rattle.pz_tree_nodes.specs.declared.node.What.{What}
 use Rattle.pz_tree_nodes.specs.View.{Plant, term_in}
 use Rattle.pz_tree_nodes.specs.Tended.{Tended}
 use Rattle.pz_tree_nodes.specs.Fresh.{Fresh}
-use Rattle.pz_rules_delays.specs.Short.{IsShort}
+use Rattle.pz_rules.specs.Short.{IsShort}
 use Rattle.pz_tree_refreshing.specs.Refreshing.{HasRoom, IsSoon, Timely}
 use Rattle.pz_tree_elapsing.specs.Waking.{woken_nodes}
 

@@ -300,7 +300,7 @@ fn elapse_at<L: Ledger>(
 {
     pz_tree_standing::laws::still_right();
     pz_tree_nodes::laws::unwoken_nodes_stay();
-    pz_tree_summary::laws::steady_terms_keep_summaries();
+    pz_tree_standing::laws::steady_terms_keep_summaries();
     let Some(node) = nodes.get(spot.key, steps) else {
         return Ok(Kept::none());
     };
@@ -355,7 +355,7 @@ pub fn rests<L: Ledger>(nodes: &Nodes<Node>, root: Spot, steps: &mut Steps<L>) -
     pz_tree_standing::laws::nodes_are_no_deeper();
     pz_tree_standing::laws::still_right();
     pz_tree_nodes::laws::unwoken_nodes_stay();
-    pz_tree_summary::laws::steady_terms_keep_summaries();
+    pz_tree_standing::laws::steady_terms_keep_summaries();
     pz_eval_rules::laws::unclocked_is_timeless();
     pz_rules::laws::passing_is_computed();
     match nodes.get(root.key, steps) {

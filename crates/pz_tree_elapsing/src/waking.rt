@@ -6,8 +6,8 @@ ghost use Rattle.pz_classes_code.specs.StepView.{view};
 ghost use Rattle.pz_eval.specs.Known.{AreKnown};
 ghost use Rattle.pz_part_queries.specs.Standpoints.{Knows, seen_from};
 ghost use Rattle.pz_rules.specs.Settings.{Context};
-ghost use Rattle.pz_tree_summary.specs.Asked as asked;
-ghost use Rattle.pz_tree_summary.specs.Steady.{later};
+ghost use Rattle.pz_tree_standing.specs.Asked as asked;
+ghost use Rattle.pz_tree_standing.specs.Steady.{later};
 ghost use Rattle.pz_tree_standing.specs.Heads as heads;
 ghost use Rattle.pz_tree_nodes.specs.Keeping.{kept_none};
 ghost use Rattle.pz_tree_nodes.specs.View.{head_view};
@@ -219,7 +219,7 @@ fn gone_on(head: Head, kept: &Kept, clock: u128) -> What
         device.asked_anew (head_view head) ≡ false →
         WakeRule a d f c (head_view head) kept.now (head_view result.head) result.kept }
 {
-    pz_tree_summary::laws::steady_terms_keep_summaries();
+    pz_tree_standing::laws::steady_terms_keep_summaries();
     match head {
         Head::Leaf(step) => begun(step, kept, clock),
         Head::Wait { due, pos } => waits(due, pos, clock),

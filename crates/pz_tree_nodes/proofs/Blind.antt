@@ -5,8 +5,8 @@ use Rattle.pz_rules.specs.Terms.{Term, done, leaf, wait, sequence, parallel, sel
 use Rattle.pz_rules.specs.Settings.{Context}
 use Rattle.pz_rules.specs.devices.Found.{tested}
 use Rattle.pz_rules.specs.devices.Walk.{under, active_parts}
-use Rattle.pz_tree_summary.specs.Asked.{asks, any_asks}
-use Rattle.pz_tree_summary.specs.Woken.{any_part}
+use Rattle.pz_tree_standing.specs.Asked.{asks, any_asks}
+use Rattle.pz_tree_standing.specs.Woken.{any_part}
 use Rattle.pz_tree_standing.specs.Heads.{Head, Shape, Shapes, inner_clock, formed}
 use Rattle.pz_tree_standing.specs.Heads as head
 use Rattle.pz_tree_standing.specs.Standing.{term_of, terms_of}

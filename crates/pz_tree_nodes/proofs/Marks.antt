@@ -3,8 +3,8 @@ use Rattle.std.proofs.Common.{◌≡◌, ◌+◌, ℕ, suc, true, false, refl, a
 use Rattle.pz_nodes_shapes.specs.Rose.{node, none, gone, more}
 use Rattle.pz_rules.specs.Terms.{Term, done, leaf, wait, sequence, parallel, select, guarded, frame, abort, idle, handling, term_at, height}
 use Rattle.pz_rules.specs.Settings.{Context}
-use Rattle.pz_tree_summary.specs.Asked.{asks}
-use Rattle.pz_tree_summary.specs.Woken.{begins, is_clocked, starts, clocked}
+use Rattle.pz_tree_standing.specs.Asked.{asks}
+use Rattle.pz_tree_standing.specs.Woken.{begins, is_clocked, starts, clocked}
 use Rattle.pz_tree_standing.specs.Heads.{Head, Shape, inner_clock, inner_frame}
 use Rattle.pz_tree_standing.specs.Standing.{term_of, terms_of}
 use Rattle.pz_tree_standing.specs.Reached.{reaches}

@@ -4,7 +4,7 @@ use Rattle.pz_offer.specs.declared.trouble.Trouble.{Trouble}
 use Rattle.pz_rules.specs.Terms.{Term, Terms, no_terms, and}
 use Rattle.pz_rules.specs.Settings.{Context}
 use Rattle.pz_rules.specs.devices.Walk.{ActivePart, under, behind, active_parts, active_children}
-use Rattle.pz_tree_summary.specs.Woken.{any_part}
+use Rattle.pz_tree_standing.specs.Woken.{any_part}
 use Rattle.pz_tree_nodes.specs.Keeping.{any_term}
 
 pub or_associative : (a b c : Bool) → (a || b) || c ≡ a || (b || c)

@@ -3,9 +3,9 @@ use Rattle.std.specs.Prelude.{◌≡◌, ℕ, suc, max, Bool, true, false, ◌||
 use Rattle.pz_offer.specs.Summaries.{nothing, join}
 use Rattle.pz_rules.specs.Terms.{Term, Terms, no_terms, and, height, greatest_height}
 use Rattle.pz_rules.specs.Settings.{Context}
-use Rattle.pz_tree_summary.specs.Summaries.{summary_of, summaries_of}
-use Rattle.pz_tree_summary.specs.Asked.{asks, any_asks}
-use Rattle.pz_tree_summary.specs.Woken.{starts, clocked}
+use Rattle.pz_tree_standing.specs.Summaries.{summary_of, summaries_of}
+use Rattle.pz_tree_standing.specs.Asked.{asks, any_asks}
+use Rattle.pz_tree_standing.specs.Woken.{starts, clocked}
 use Rattle.pz_tree_nodes.specs.declared.kept.Kept.{Kept}
 
 -- what a passing of time may wake of a term that stands in frame f

@@ -2,8 +2,8 @@
 use Rattle.std.specs.Prelude.{◌≡◌, ◌+◌, ℕ, false}
 use Rattle.pz_nodes_shapes.specs.Rose.{payload}
 use Rattle.pz_rules.specs.Settings.{Context}
-use Rattle.pz_tree_summary.specs.Steady.{Steady}
-use Rattle.pz_tree_summary.specs.Woken.{IsAfter}
+use Rattle.pz_tree_standing.specs.Steady.{Steady}
+use Rattle.pz_tree_standing.specs.Woken.{IsAfter}
 use Rattle.pz_tree_standing.specs.Calm.{Calm}
 use Rattle.pz_tree_standing.specs.Right.{Right}
 use Rattle.pz_tree_nodes.specs.View.{Plant, shape_of, term_in}

@@ -2,4 +2,11 @@ pub mod Keeping
 pub mod View
 pub mod Tended
 pub mod Fresh
+pub mod Dropping
+pub mod Planting
+pub mod Seeking
+pub mod Standing
+pub mod Choosing
+pub mod Listing
 pub mod Laws
+pub mod devices

@@ -1,11 +1,27 @@
-//! The nodes of an execution tree: what each is, what it keeps, and what they stand for.
+//! The nodes of an execution tree: what each is and keeps; how they are made for a term, sought by place or number, and
+//! freed.
 #![tactic(auto)]
 
+mod children;
 mod clocks;
+mod dropping;
+mod found;
+mod heads;
 mod kept;
+mod kth;
 pub mod laws;
+mod leaves;
+mod listing;
 mod node;
+mod parts;
+mod planting;
 
 pub use clocks::{names_clock, part_names_clock};
+pub use dropping::{drop_part, drop_parts};
+pub use found::{ActingPart, Offering, Part};
 pub use kept::Kept;
+pub use kth::kth_internal;
+pub use listing::list_offering;
 pub use node::{Head, Node, What};
+pub use parts::{Spot, part_at};
+pub use planting::plant;

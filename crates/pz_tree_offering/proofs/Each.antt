@@ -5,9 +5,9 @@ use Rattle.pz_rules.specs.Terms.{Term}
 use Rattle.pz_rules.specs.devices.Walk.{Noted}
 use Rattle.pz_nodes_shapes.specs.Rose.{Map}
 use Rattle.pz_tree_nodes.specs.declared.node.What.{What}
-use Rattle.pz_tree_seeking.specs.declared.found.Part.{Part}
-use Rattle.pz_tree_seeking.specs.Listing.{Each, IsOf, AreOf}
-use Rattle.pz_tree_seeking.proofs.Added.{each_both}
+use Rattle.pz_tree_nodes.specs.declared.found.Part.{Part}
+use Rattle.pz_tree_nodes.specs.Listing.{Each, IsOf, AreOf}
+use Rattle.pz_tree_nodes.proofs.Added.{each_both}
 
 module _ {X Y : Type 0} (a : Context) (m : Map What) (h : ℕ → Term → Option X) (f : ℕ) (t : Term) (R : Y → Noted X → Type 0) where
   -- of what is noted, so much is there, and the others are still to be taken

@@ -17,15 +17,15 @@ use Rattle.pz_rules.specs.Messages.{variables_of}
 use Rattle.pz_rules.specs.Settings.{Context}
 use Rattle.pz_rules.specs.devices.Walk as walk
 use Rattle.pz_rules.specs.devices.Walk.{Noted, received_by, statement_receives}
-use Rattle.pz_tree_summary.specs.Asked.{asks}
-use Rattle.pz_tree_summary.specs.Woken.{is_clocked, clocked}
+use Rattle.pz_tree_standing.specs.Asked.{asks}
+use Rattle.pz_tree_standing.specs.Woken.{is_clocked, clocked}
 use Rattle.pz_tree_nodes.specs.declared.node.Head.TheVariants as kind
 use Rattle.pz_tree_nodes.specs.declared.node.What.{What}
 use Rattle.pz_tree_nodes.specs.View.{Plant, term_in}
 use Rattle.pz_tree_nodes.specs.Tended.{Marked}
-use Rattle.pz_tree_seeking.specs.declared.found.Part.{Part}
-use Rattle.pz_tree_seeking.specs.Standing.{StandsRight}
-use Rattle.pz_tree_seeking.specs.Listing.{IsOf}
+use Rattle.pz_tree_nodes.specs.declared.found.Part.{Part}
+use Rattle.pz_tree_nodes.specs.Standing.{StandsRight}
+use Rattle.pz_tree_nodes.specs.Listing.{IsOf}
 use Rattle.pz_tree_offering.specs.declared.forms.ReceiveForm.{ReceiveForm}
 use Rattle.pz_tree_offering.specs.declared.offers.ActiveReceive.{ActiveReceive}
 use Rattle.pz_tree_offering.specs.Offers.{has_condition, IsReceive}

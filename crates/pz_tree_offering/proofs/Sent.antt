@@ -33,12 +33,12 @@ use Rattle.pz_tree_standing.specs.Whole.{IsNoShift}
 use Rattle.pz_tree_nodes.specs.declared.node.Head.TheVariants as kind
 use Rattle.pz_tree_nodes.specs.declared.node.What.{What}
 use Rattle.pz_tree_nodes.specs.View.{Plant, head_view, what_view, shapes_of}
-use Rattle.pz_tree_seeking.specs.declared.found.Part.{Part}
-use Rattle.pz_tree_seeking.specs.Seeking.{IsBare, IsBareUnder}
-use Rattle.pz_tree_seeking.specs.Standing.{StandsRight}
-use Rattle.pz_tree_seeking.specs.Listing.{IsOf}
-use Rattle.pz_tree_seeking.proofs.Tops.{has_top}
-use Rattle.pz_tree_seeking.proofs.Listed.{over_is, sends_nothing, receives_nothing}
+use Rattle.pz_tree_nodes.specs.declared.found.Part.{Part}
+use Rattle.pz_tree_nodes.specs.Seeking.{IsBare, IsBareUnder}
+use Rattle.pz_tree_nodes.specs.Standing.{StandsRight}
+use Rattle.pz_tree_nodes.specs.Listing.{IsOf}
+use Rattle.pz_tree_nodes.proofs.Tops.{has_top}
+use Rattle.pz_tree_nodes.proofs.Listed.{over_is, sends_nothing, receives_nothing}
 use Rattle.pz_tree_offering.specs.declared.forms.SendForm.{SendForm}
 use Rattle.pz_tree_offering.specs.declared.offers.ActiveSend.{ActiveSend}
 use Rattle.pz_tree_offering.specs.Offers.{IsSend}

@@ -8,10 +8,10 @@ use Rattle.pz_rules.specs.Settings.{Context}
 use Rattle.pz_rules.specs.Terms.{Step, Term, leaf, height}
 use Rattle.pz_rules.specs.devices.Walk as walk
 use Rattle.pz_rules.specs.devices.Walk.{Noted, active_parts, noted, sent_by, received_by}
-use Rattle.pz_tree_summary.specs.Woken.{is_clocked}
+use Rattle.pz_tree_standing.specs.Woken.{is_clocked}
 use Rattle.pz_tree_nodes.specs.declared.node.What.{What}
-use Rattle.pz_tree_seeking.specs.Standing.{RightUnder}
-use Rattle.pz_tree_seeking.specs.Listing.{Each}
+use Rattle.pz_tree_nodes.specs.Standing.{RightUnder}
+use Rattle.pz_tree_nodes.specs.Listing.{Each}
 use Rattle.pz_tree_offering.specs.declared.offers.ActiveSend.{ActiveSend}
 use Rattle.pz_tree_offering.specs.declared.offers.ActiveReceive.{ActiveReceive}
 

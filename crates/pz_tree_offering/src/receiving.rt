@@ -8,8 +8,7 @@ ghost use Rattle.pz_tree_offering.specs.devices.Parts.{ReceiveRule};
 use crate::forms::receive_form;
 use crate::offers::ActiveReceive;
 use pz_nodes::{Nodes, Steps};
-use pz_tree_nodes::{Head, Node};
-use pz_tree_seeking::{Offering, Part, Spot, list_offering};
+use pz_tree_nodes::{Head, Node, Offering, Part, Spot, list_offering};
 use std::alloc::{AllocError, Global};
 use std::sync::ledger::Ledger;
 

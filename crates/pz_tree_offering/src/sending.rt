@@ -13,8 +13,7 @@ use crate::offers::ActiveSend;
 use pz_nodes::{Nodes, Steps};
 use pz_part_queries::{Standpoint, ask_parcel};
 use pz_state::State;
-use pz_tree_nodes::{Head, Node};
-use pz_tree_seeking::{Offering, Part, Spot, list_offering};
+use pz_tree_nodes::{Head, Node, Offering, Part, Spot, list_offering};
 use std::alloc::{AllocError, Global};
 use std::sync::ledger::Ledger;
 

@@ -11,11 +11,11 @@ use Rattle.pz_rules.specs.Settings.{Context}
 use Rattle.pz_rules.specs.Terms.{Code, Step, Term, Terms, term_at, leaf}
 use Rattle.pz_rules.specs.devices.Found.{tested}
 use Rattle.pz_rules.specs.devices.Walk.{ActivePart, under, behind, active_parts}
-use Rattle.pz_tree_summary.specs.Asked.{asks}
-use Rattle.pz_tree_summary.specs.Summaries.{summary_of, gated}
-use Rattle.pz_tree_summary.specs.Woken.{any_part, begins, is_clocked, statement_begins, statement_names_clock, starts, clocked}
-use Rattle.pz_tree_summary.proofs.Tallies.{summary_guarded}
-use Rattle.pz_tree_summary.proofs.Unasked.{alone}
+use Rattle.pz_tree_standing.specs.Asked.{asks}
+use Rattle.pz_tree_standing.specs.Summaries.{summary_of, gated}
+use Rattle.pz_tree_standing.specs.Woken.{any_part, begins, is_clocked, statement_begins, statement_names_clock, starts, clocked}
+use Rattle.pz_tree_standing.proofs.Tallies.{summary_guarded}
+use Rattle.pz_tree_standing.proofs.Unasked.{alone}
 use Rattle.pz_tree_standing.specs.Heads.{Head, inner_frame, formed}
 use Rattle.pz_tree_standing.specs.Heads as head
 use Rattle.pz_tree_standing.specs.Reached.{is_true, GateRight}

@@ -8,8 +8,8 @@ use Rattle.pz_offer.specs.Summaries.{nothing, join, shifted, MayShift}
 use Rattle.pz_offer.proofs.Joins.{join_left, join_right}
 use Rattle.pz_rules.specs.Settings.{Context}
 use Rattle.pz_rules.specs.Terms.{Term, done, Terms, no_terms, and}
-use Rattle.pz_tree_summary.specs.Summaries.{summary_of}
-use Rattle.pz_tree_summary.specs.Woken.{starts, clocked}
+use Rattle.pz_tree_standing.specs.Summaries.{summary_of}
+use Rattle.pz_tree_standing.specs.Woken.{starts, clocked}
 use Rattle.pz_tree_standing.specs.Heads.{Head, inner_clock}
 use Rattle.pz_tree_standing.specs.Standing.{terms_of, HeadFits}
 use Rattle.pz_tree_standing.specs.Reached.{reaches}
@@ -23,7 +23,7 @@ use Rattle.pz_tree_nodes.specs.Fresh.{Flagged}
 use Rattle.pz_tree_nodes.proofs.Joins.{joined_associative, joined_none, none_joined}
 use Rattle.pz_tree_nodes.proofs.Wakings.{or_none}
 use Rattle.pz_tree_refreshing.specs.Live.{live_below}
-use Rattle.pz_rules_delays.specs.Short.{IsShort}
+use Rattle.pz_rules.specs.Short.{IsShort}
 use Rattle.pz_tree_refreshing.specs.Refreshing.{HasRoom, IsSoon, Timely}
 use Rattle.pz_tree_refreshing.specs.devices.Reached.{added, reached_sum, Says, behind_inside, later}
 use Rattle.pz_tree_refreshing.specs.devices.Levels.{IsBare, NodeRefreshed, KidsRefreshed, IsLeft, IsBrought, AtRule, KidRule, KidsRule, RefreshesOn}

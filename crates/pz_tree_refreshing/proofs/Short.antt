@@ -6,16 +6,16 @@ use Rattle.pz_clock.specs.Shifts.{ShiftView, is_running, local_since, FitsSince}
 use Rattle.pz_offer.specs.Summaries.{least, shifted, MayShift}
 use Rattle.pz_rules.specs.Settings.{Context}
 use Rattle.pz_rules.specs.Terms.{Step, Term, done, leaf, wait, sequence, parallel, select, guarded, frame, abort, idle, handling, Terms, no_terms, and, term_at}
-use Rattle.pz_tree_summary.specs.Asked.{asks, any_asks, statement_asks}
-use Rattle.pz_tree_summary.specs.Summaries.{summary_of, summaries_of}
-use Rattle.pz_tree_summary.proofs.Tallies.{summary_sequence, summary_parallel, summary_select, summary_frame, summary_abort, summary_idle, summary_handling, summary_shifted}
-use Rattle.pz_tree_summary.proofs.Unasked.{or_neither}
+use Rattle.pz_tree_standing.specs.Asked.{asks, any_asks, statement_asks}
+use Rattle.pz_tree_standing.specs.Summaries.{summary_of, summaries_of}
+use Rattle.pz_tree_standing.proofs.Tallies.{summary_sequence, summary_parallel, summary_select, summary_frame, summary_abort, summary_idle, summary_handling, summary_shifted}
+use Rattle.pz_tree_standing.proofs.Unasked.{or_neither}
 use Rattle.pz_tree_standing.specs.Heads.{Head, inner_clock, formed}
 use Rattle.pz_tree_standing.specs.Heads as head
 use Rattle.pz_tree_standing.specs.Standing.{HeadFits}
 use Rattle.pz_tree_standing.specs.Reached.{reaches}
 use Rattle.pz_tree_nodes.specs.declared.kept.Kept.{Kept}
-use Rattle.pz_rules_delays.specs.Short.{IsShort, AreShort}
+use Rattle.pz_rules.specs.Short.{IsShort, AreShort}
 use Rattle.pz_tree_refreshing.specs.Refreshing.{HasRoom, IsSoon}
 use Rattle.pz_tree_refreshing.specs.devices.Reached.{behind_inside, later}
 

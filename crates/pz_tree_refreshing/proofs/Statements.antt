@@ -24,7 +24,7 @@ use Rattle.pz_rules.specs.devices.Computed.{PartsAreComputed}
 use Rattle.pz_rules.specs.devices.Found.{lasting, found_part, left_part}
 use Rattle.pz_rules.specs.devices.Walk.{expiry, answered, trouble_of, sending}
 use Rattle.pz_part_queries.specs.Parcels.{Packs, packs, fails}
-use Rattle.pz_tree_summary.specs.devices.Tallies.{one, own_summary}
+use Rattle.pz_tree_standing.specs.devices.Tallies.{one, own_summary}
 use Rattle.pz_tree_nodes.specs.declared.kept.Kept.{Kept}
 use Rattle.pz_tree_refreshing.specs.Refreshing.{IsSoon}
 use Rattle.pz_tree_refreshing.specs.devices.Asked.{SaysItself, DelaySays, delay_summary, kept_of_send}

@@ -6,9 +6,9 @@ use Rattle.pz_offer.proofs.Joins.{join_left, join_right}
 use Rattle.pz_rules.specs.Settings.{Context}
 use Rattle.pz_rules.specs.Terms.{Step, Steps, Term, done, sequence, frame, abort, idle, handling, parallel, select, Terms, no_terms, and, term_at}
 use Rattle.pz_rules.specs.devices.Walk.{active_parts}
-use Rattle.pz_tree_summary.specs.Summaries.{summary_of, summaries_of}
-use Rattle.pz_tree_summary.specs.Woken.{begins, is_clocked, starts, clocked}
-use Rattle.pz_tree_summary.proofs.Tallies.{summary_sequence, summary_parallel, summary_select, summary_frame, summary_abort, summary_idle, summary_handling}
+use Rattle.pz_tree_standing.specs.Summaries.{summary_of, summaries_of}
+use Rattle.pz_tree_standing.specs.Woken.{begins, is_clocked, starts, clocked}
+use Rattle.pz_tree_standing.proofs.Tallies.{summary_sequence, summary_parallel, summary_select, summary_frame, summary_abort, summary_idle, summary_handling}
 use Rattle.pz_tree_standing.specs.Heads.{Head, inner_frame, formed}
 use Rattle.pz_tree_standing.specs.Heads as head
 use Rattle.pz_tree_standing.specs.Reached.{reaches}

@@ -3,7 +3,7 @@ use Rattle.std.specs.Prelude.{◌≡◌, ◌<◌, ◌≤◌, ◌+◌, ◌*◌, �
 use Rattle.pz_nodes_shapes.specs.Rose.{node, none, gone, more, Map, root, payload, has, Stands}
 use Rattle.pz_nodes_shapes.specs.Change.{Becomes}
 use Rattle.pz_rules.specs.Settings.{Context}
-use Rattle.pz_rules_delays.specs.Short.{IsShort}
+use Rattle.pz_rules.specs.Short.{IsShort}
 use Rattle.pz_tree_standing.specs.Heads.{Head, inner_clock}
 use Rattle.pz_tree_standing.specs.Reached.{reaches}
 use Rattle.pz_tree_nodes.specs.declared.node.What.{What}

@@ -6,7 +6,7 @@ ghost use Rattle.pz_classes_code.specs.StepView.{view};
 ghost use Rattle.pz_clock.specs.Shifts.{IsReached, ShiftFits};
 ghost use Rattle.pz_eval.specs.Known.{AreKnown};
 ghost use Rattle.pz_part_queries.specs.Standpoints.{Knows, seen_from};
-ghost use Rattle.pz_tree_summary.specs.Asked.{statement_asks};
+ghost use Rattle.pz_tree_standing.specs.Asked.{statement_asks};
 ghost use Rattle.pz_tree_nodes.specs.Keeping.{kept_none};
 ghost use Rattle.pz_tree_nodes.specs.View.{head_view};
 ghost use Rattle.pz_tree_refreshing.specs.Refreshing.{HasRoom};

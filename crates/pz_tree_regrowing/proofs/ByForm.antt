@@ -24,7 +24,7 @@ use Rattle.pz_tree_nodes.specs.declared.node.What.{What}
 use Rattle.pz_tree_nodes.specs.Keeping.{joined as kept_joined, raised}
 use Rattle.pz_tree_nodes.specs.View.{Plant, Plants, shapes_of, term_in, term_in_option}
 use Rattle.pz_tree_nodes.specs.Tended.{TendedOption}
-use Rattle.pz_tree_planting.specs.Planting.{nodes_of, nodes_of_all, root_of, Planted}
+use Rattle.pz_tree_nodes.specs.Planting.{nodes_of, nodes_of_all, root_of, Planted}
 use Rattle.pz_tree_regrowing.specs.Costs.{living, if_done}
 use Rattle.pz_tree_regrowing.specs.Regrowing.{InTime, at_work}
 use Rattle.pz_tree_regrowing.specs.devices.Keeping.{kept_at, kept_in, kept_in_all, kept_behind}

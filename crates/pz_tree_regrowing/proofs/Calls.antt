@@ -16,8 +16,8 @@ use Rattle.pz_rules.specs.View.{term_view}
 use Rattle.pz_rules.specs.Settings.{left_by, Home, Context}
 use Rattle.pz_rules.specs.Leaving.{replaced, is_done, around}
 use Rattle.pz_rules.specs.Becoming.{Became}
-use Rattle.pz_tree_summary.specs.Summaries.{summary_of}
-use Rattle.pz_tree_summary.proofs.Tallies.{summary_frame}
+use Rattle.pz_tree_standing.specs.Summaries.{summary_of}
+use Rattle.pz_tree_standing.proofs.Tallies.{summary_frame}
 use Rattle.pz_tree_standing.specs.FrameCounts.{gives_way}
 use Rattle.pz_tree_standing.specs.Heads as heads
 use Rattle.pz_tree_standing.specs.Heads.{Head, Shape, Shapes, inner_clock, inner_frame, formed}
@@ -30,7 +30,7 @@ use Rattle.pz_tree_nodes.specs.declared.node.What.{What}
 use Rattle.pz_tree_nodes.specs.Keeping.{raised}
 use Rattle.pz_tree_nodes.specs.View.{Plant, Plants, head_view, shape_of, shapes_of, term_in, term_in_option}
 use Rattle.pz_tree_nodes.specs.Tended.{Tended, TendedOption}
-use Rattle.pz_tree_planting.specs.Planting.{root_of}
+use Rattle.pz_tree_nodes.specs.Planting.{root_of}
 use Rattle.pz_tree_regrowing.specs.Regrowing.{InTime, at_work}
 use Rattle.pz_tree_regrowing.specs.devices.Keeping.{kept_in}
 use Rattle.pz_tree_regrowing.specs.devices.Levels.{kid_terms, before, after, Finished, FinishRule, LosingRule, IsWritten, IsFree, BareRule, is_bare_head, is_bare_of, is_bare_node}

@@ -19,10 +19,10 @@ use Rattle.pz_tree_nodes.specs.declared.node.Head.{Head}
 use Rattle.pz_tree_nodes.specs.declared.node.What.{What}
 use Rattle.pz_tree_nodes.specs.View.{Plant, Plants, head_view, shapes_of, term_in_option}
 use Rattle.pz_tree_nodes.specs.Tended.{TendedOption}
-use Rattle.pz_tree_planting.specs.Planting.{nodes_of_all, root_of}
-use Rattle.pz_tree_dropping.specs.Dropping.{DropAllRule}
+use Rattle.pz_tree_nodes.specs.Planting.{nodes_of_all, root_of}
+use Rattle.pz_tree_nodes.specs.Dropping.{DropAllRule}
 use Rattle.pz_tree_regrowing.specs.Costs.{beside, dropped}
-use Rattle.pz_rules_delays.specs.Short.{IsShort}
+use Rattle.pz_rules.specs.Short.{IsShort}
 use Rattle.pz_tree_regrowing.specs.Regrowing.{InTime, at_work}
 use Rattle.pz_tree_regrowing.specs.devices.Keeping.{kept_formed, IsPutBack}
 use Rattle.pz_tree_regrowing.specs.devices.Levels.{KidsTended, kid_terms, before, after, Finished, IsWritten, IsFree, LeftAlone, AloneRule}

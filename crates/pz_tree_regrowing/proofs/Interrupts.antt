@@ -22,10 +22,10 @@ use Rattle.pz_tree_nodes.specs.declared.kept.Kept.{Kept}
 use Rattle.pz_tree_nodes.specs.declared.node.Head.TheVariants as kind
 use Rattle.pz_tree_nodes.specs.declared.node.What.{What}
 use Rattle.pz_tree_nodes.specs.Keeping.{joined as kept_joined, raised}
-use Rattle.pz_tree_planting.specs.devices.Leaves.{second_alone}
+use Rattle.pz_tree_nodes.specs.devices.Leaves.{second_alone}
 use Rattle.pz_tree_nodes.specs.View.{Plant, Plants, shapes_of, term_in, term_in_option}
-use Rattle.pz_tree_planting.specs.Planting.{nodes_of, root_of, Planted}
-use Rattle.pz_rules_delays.specs.Short.{IsShort}
+use Rattle.pz_tree_nodes.specs.Planting.{nodes_of, root_of, Planted}
+use Rattle.pz_rules.specs.Short.{IsShort}
 use Rattle.pz_tree_regrowing.specs.Costs.{beside, made, if_done}
 use Rattle.pz_tree_regrowing.specs.devices.Keeping.{kept_at, kept_in, kept_behind}
 use Rattle.pz_tree_regrowing.specs.devices.Levels.{KidsTended, kid_terms, before, after, there, IsWritten, interrupt, ResumeRule, SuspendRule, SecondRule, ChangingRule}

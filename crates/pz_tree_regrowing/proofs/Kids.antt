@@ -14,7 +14,7 @@ use Rattle.pz_tree_standing.proofs.Kids.{with_kid_terms}
 use Rattle.pz_tree_nodes.specs.declared.node.What.{What}
 use Rattle.pz_tree_nodes.specs.View.{Plant, Plants, shape_of, shapes_of, term_in, term_in_option}
 use Rattle.pz_tree_nodes.specs.Tended.{Tended, TendedOption, AreMarked}
-use Rattle.pz_tree_planting.specs.Planting.{root_of}
+use Rattle.pz_tree_nodes.specs.Planting.{root_of}
 use Rattle.pz_tree_regrowing.specs.devices.Keeping.{kept_at, kept_all, kept_of_node, kept_in, kept_in_all}
 use Rattle.pz_tree_regrowing.specs.devices.Levels.{KidsTended, kid_terms}
 

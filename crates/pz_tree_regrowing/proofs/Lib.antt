@@ -15,3 +15,7 @@ pub mod Shorts
 mod Children
 mod Rounds
 mod Writes
+mod HighKids
+mod Highs
+mod HighRounds
+mod Descending

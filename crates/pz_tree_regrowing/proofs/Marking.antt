@@ -5,9 +5,9 @@ use Rattle.pz_nodes_shapes.specs.Rose.{node, none, gone, more}
 use Rattle.pz_rules.specs.Terms.{Step, Steps, Term, done, sequence, frame, abort, idle, handling, term_at, greatest_height}
 use Rattle.pz_rules.specs.Settings.{Context}
 use Rattle.pz_rules.specs.devices.Walk.{active_parts}
-use Rattle.pz_tree_summary.specs.Asked.{asks, any_asks}
-use Rattle.pz_tree_summary.specs.Woken.{begins, is_clocked, starts, clocked}
-use Rattle.pz_tree_summary.proofs.Unasked.{or_neither}
+use Rattle.pz_tree_standing.specs.Asked.{asks, any_asks}
+use Rattle.pz_tree_standing.specs.Woken.{begins, is_clocked, starts, clocked}
+use Rattle.pz_tree_standing.proofs.Unasked.{or_neither}
 use Rattle.pz_tree_standing.specs.Heads as heads
 use Rattle.pz_tree_standing.specs.Heads.{Head, inner_clock, formed}
 use Rattle.pz_tree_standing.specs.Standing.{terms_of}
@@ -16,7 +16,7 @@ use Rattle.pz_tree_nodes.specs.Keeping.{HasFlags, IsMarked, any_term, kept_done,
 use Rattle.pz_tree_nodes.specs.View.{Plants, shapes_of}
 use Rattle.pz_tree_nodes.specs.Tended.{AreMarked}
 use Rattle.pz_tree_nodes.proofs.Wakings.{in_under, in_two, in_children}
-use Rattle.pz_tree_planting.specs.devices.Leaves.{second_alone}
+use Rattle.pz_tree_nodes.specs.devices.Leaves.{second_alone}
 use Rattle.pz_tree_regrowing.specs.devices.Keeping.{kept_at, kept_all, kept_behind, kept_formed, IsPutBack}
 use Rattle.pz_tree_regrowing.specs.devices.Levels.{kid_terms}
 

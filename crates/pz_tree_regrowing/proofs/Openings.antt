@@ -14,7 +14,7 @@ use Rattle.pz_rules.specs.Settings.{Process, Home}
 use Rattle.pz_rules.specs.FrameNumbers.{least_free}
 use Rattle.pz_rules.specs.Framing.{framed}
 use Rattle.pz_rules.specs.Opening.{step_opened, steps_opened, branches_opened, called_body, by_body, entered_to, depth_of, enter_in, enter, opened, opened_all}
-use Rattle.pz_tree_planting.specs.Planting.{EndsInTime, EndInTime}
+use Rattle.pz_tree_nodes.specs.Planting.{EndsInTime, EndInTime}
 
 module _ (c : ℕ) where
   module _ (enters : Step → StateView → Process) (calm : (t : Step) (s : StateView) → EndsInTime c (enters t s).term) where

@@ -23,16 +23,16 @@ use Rattle.pz_tree_nodes.specs.declared.node.Head.{Head}
 use Rattle.pz_tree_nodes.specs.declared.node.What.{What}
 use Rattle.pz_tree_nodes.specs.View.{Plant, Plants, head_view, shapes_of, term_in, term_in_option}
 use Rattle.pz_tree_nodes.specs.Tended.{Tended, TendedOption}
-use Rattle.pz_tree_planting.specs.Planting.{EndsInTime, EndInTime, nodes_of, root_of, size_of, Planted}
+use Rattle.pz_tree_nodes.specs.Planting.{EndsInTime, EndInTime, nodes_of, root_of, size_of, Planted}
 use Rattle.pz_tree_regrowing.proofs.Children.{form_child, form_frame}
 use Rattle.pz_tree_regrowing.specs.Costs.{beside, on_way, made, made_all, dropped, dropped_all}
-use Rattle.pz_rules_delays.specs.Short.{IsShort}
+use Rattle.pz_rules.specs.Short.{IsShort}
 use Rattle.pz_tree_regrowing.specs.Regrowing.{Work, at_work, StandsOption, steps_for, InTime, Regrown, RegrowRule}
 use Rattle.pz_tree_regrowing.specs.devices.Levels.{KidsTended, kid_terms, InHand, before, after, FinishRule, IsTaken, IsChildOf, IsShiftAt, IsNoShiftAt, ShiftRule, SecondRule, ChangingRule}
 use Rattle.pz_tree_regrowing.specs.devices.Rounds.{ClearRule, ReplantRule, later_by, BareRegrowRule}
 use Rattle.pz_tree_regrowing.proofs.LocalClocks.{thawed_within, thawed_local, runs_as}
 use Rattle.pz_tree_regrowing.proofs.Kids.{same_node, replaced_twice, replaced_same, replaced_there, width_seen, width_with_kid, width_terms, picked_root, picked_term, picked_tended, roots_with_kid, kid_terms_with, same_parts, with_kid_tended}
-use Rattle.pz_rules_delays.proofs.Opened.{child_short, residual_short}
+use Rattle.pz_rules.proofs.Opened.{child_short, residual_short}
 use Rattle.pz_tree_regrowing.proofs.Sizes.{few_nodes}
 use Rattle.pz_tree_regrowing.proofs.Tending.{node_kids}
 use Rattle.pz_tree_regrowing.proofs.ByForm.{one_key}

@@ -5,9 +5,9 @@ use Rattle.pz_state.specs.States.{StateView}
 use Rattle.pz_rules.specs.Terms.{Term, done, leaf, wait, sequence, parallel, select, guarded, frame, abort, idle, handling, Terms, no_terms, and}
 use Rattle.pz_rules.specs.Settings.{Home, left_by}
 use Rattle.pz_rules.specs.Leaving.{around}
-use Rattle.pz_rules_delays.specs.Short.{IsShort, AreShort}
-use Rattle.pz_rules_delays.proofs.Opened.{residual_short}
-use Rattle.pz_tree_planting.specs.Planting.{EndsInTime, EndInTime}
+use Rattle.pz_rules.specs.Short.{IsShort, AreShort}
+use Rattle.pz_rules.proofs.Opened.{residual_short}
+use Rattle.pz_tree_nodes.specs.Planting.{EndsInTime, EndInTime}
 use Rattle.pz_tree_refreshing.specs.Refreshing.{HasRoom}
 
 -- ---------------------------------------------------------- they end in time

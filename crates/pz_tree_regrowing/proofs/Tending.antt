@@ -8,9 +8,9 @@ use Rattle.pz_offer.specs.Summaries as summaries
 use Rattle.pz_rules.specs.Terms.{Terms, term_at}
 use Rattle.pz_rules.specs.Settings.{Context}
 use Rattle.pz_rules.specs.Leaving.{is_done}
-use Rattle.pz_tree_summary.specs.Asked.{asks}
-use Rattle.pz_tree_summary.specs.Summaries.{summary_of}
-use Rattle.pz_tree_summary.proofs.Unasked.{or_neither, unasked_is_steady}
+use Rattle.pz_tree_standing.specs.Asked.{asks}
+use Rattle.pz_tree_standing.specs.Summaries.{summary_of}
+use Rattle.pz_tree_standing.proofs.Unasked.{or_neither, unasked_is_steady}
 use Rattle.pz_tree_standing.specs.Heads.{Head, leaf, wait, sequence, parallel, select, guarded, frame, abort, idle, handling, shifted, Shapes, inner_clock, inner_frame, formed}
 use Rattle.pz_tree_standing.specs.Heads as heads
 use Rattle.pz_tree_standing.specs.Standing.{terms_of, HeadFits}
@@ -25,7 +25,7 @@ use Rattle.pz_tree_nodes.specs.View.{Plant, Plants, head_view, shape_of, shapes_
 use Rattle.pz_tree_nodes.specs.Tended.{Tended}
 use Rattle.pz_tree_nodes.specs.Keeping.{IsMarked}
 use Rattle.pz_tree_nodes.proofs.Marks.{marked_alike}
-use Rattle.pz_rules_delays.specs.Short.{IsShort}
+use Rattle.pz_rules.specs.Short.{IsShort}
 use Rattle.pz_tree_refreshing.specs.Refreshing.{HasRoom, IsSoon}
 use Rattle.pz_tree_refreshing.proofs.Short.{short_soon, clock_back}
 use Rattle.pz_tree_regrowing.specs.devices.Keeping.{moved, kept_at, kept_all, kept_formed, IsPutBack}

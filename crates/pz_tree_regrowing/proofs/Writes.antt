@@ -6,7 +6,7 @@ use Rattle.pz_nodes.specs.Arena.{Arena, find, Updates}
 use Rattle.pz_nodes_shapes.specs.declared.node.Node.{Node}
 use Rattle.pz_nodes_shapes.specs.Rose.{Map}
 use Rattle.pz_state.specs.declared.state.FrameId.{FrameId}
-use Rattle.pz_tree_dropping.specs.Dropping.{numbers}
+use Rattle.pz_tree_nodes.specs.Dropping.{numbers}
 use Rattle.pz_tree_nodes.specs.declared.kept.Kept.{Kept}
 use Rattle.pz_tree_nodes.specs.declared.node.Head.{Head}
 use Rattle.pz_tree_nodes.specs.declared.node.What.{What}

@@ -6,7 +6,7 @@ use Rattle.pz_rules.specs.Terms.{Term, done, sequence, parallel, select, abort, 
 use Rattle.pz_rules.specs.Settings.{Process, Home}
 use Rattle.pz_rules.specs.Opening.{opened, opened_all}
 use Rattle.pz_rules.specs.Leaving.{replaced, is_done, residual}
-use Rattle.pz_tree_planting.specs.Planting.{nodes_of, nodes_of_all}
+use Rattle.pz_tree_nodes.specs.Planting.{nodes_of, nodes_of_all}
 
 -- how many of these are not done
 abbrev pub living : Terms → ℕ

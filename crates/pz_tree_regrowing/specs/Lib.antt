@@ -1,3 +1,4 @@
 pub mod Costs
 pub mod Regrowing
+pub mod Heights
 pub mod devices

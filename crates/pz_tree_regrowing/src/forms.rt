@@ -5,7 +5,7 @@ ghost use Rattle.std.specs.Prelude.{◌≡◌, ◌≤◌, ◌+◌, ◌∷◌, []
 ghost use Rattle.pz_nodes.specs.Arena.{find};
 ghost use Rattle.pz_classes_code.specs.StepView.{view, sequence_view};
 ghost use Rattle.pz_part_opening.specs.Homes.{home_view};
-ghost use Rattle.pz_tree_dropping.specs.Dropping.{numbers};
+ghost use Rattle.pz_tree_nodes.specs.Dropping.{numbers};
 ghost use Rattle.pz_tree_standing.specs.Heads as heads;
 ghost use Rattle.pz_tree_regrowing.specs.Regrowing.{at_work};
 ghost use Rattle.pz_tree_regrowing.specs.devices.Levels.{FinishRule, StillRule, LosingRule, ChangingRule, AloneRule, ResumeRule, SuspendRule, SecondRule, are_gone};
@@ -22,8 +22,7 @@ use pz_nodes_shapes::Kids;
 use pz_part_opening::{Home, open_rest, open_step};
 use pz_rules::Rest;
 use pz_state::{FrameId, State};
-use pz_tree_dropping::drop_parts;
-use pz_tree_nodes::{Head, Node};
+use pz_tree_nodes::{Head, Node, drop_parts};
 use std::alloc::{AllocError, Global};
 use std::sync::ledger::Ledger;
 

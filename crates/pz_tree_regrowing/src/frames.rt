@@ -3,7 +3,7 @@
 ghost use Rattle.std.specs.Prelude.{◌≡◌, ◌≤◌, ◌+◌, ◌∷◌, [], ℕ, List, IfOk};
 ghost use Rattle.pz_nodes.specs.Arena.{find};
 ghost use Rattle.pz_tree_nodes.specs.View.{head_view};
-ghost use Rattle.pz_tree_dropping.specs.Dropping.{numbers};
+ghost use Rattle.pz_tree_nodes.specs.Dropping.{numbers};
 ghost use Rattle.pz_tree_standing.specs.Heads.{frame};
 ghost use Rattle.pz_tree_regrowing.specs.Regrowing.{at_work};
 ghost use Rattle.pz_tree_regrowing.specs.devices.Levels.{FinishRule, LosingRule, BareRule, is_bare_head, is_bare_node};
@@ -17,7 +17,7 @@ use pz_nodes::{Key, Nodes, Steps};
 use pz_nodes_shapes::Kids;
 use pz_rules::Term;
 use pz_state::{FrameId, State};
-use pz_term_around::in_frame;
+use pz_term_residual::in_frame;
 use pz_tree_nodes::{Head, Node};
 use std::alloc::{AllocError, Global};
 use std::sync::ledger::Ledger;

@@ -3,7 +3,7 @@
 
 ghost use Rattle.std.specs.Prelude.{◌≡◌, IfOk};
 ghost use Rattle.pz_tree_nodes.specs.Keeping.{joined, raised};
-ghost use Rattle.pz_tree_planting.specs.devices.Leaves.{second_alone};
+ghost use Rattle.pz_tree_nodes.specs.devices.Leaves.{second_alone};
 ghost use Rattle.pz_tree_regrowing.specs.devices.Keeping as keeping;
 ghost use Rattle.pz_tree_regrowing.specs.devices.Keeping.{kept_behind};
 

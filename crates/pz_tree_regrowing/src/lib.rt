@@ -1,15 +1,18 @@
-//! What becomes of the nodes of a term once a part of it has become another.
+//! What becomes of the nodes of a term once a part of it has become another; how high the term becomes, before anything
+//! is changed.
 #![tactic(auto)]
 
+mod beside;
 mod clocks;
 mod forms;
 mod frames;
 mod keeping;
-mod listing;
 mod nodes;
 mod opening;
+mod outlining;
+mod reading;
 mod regrowing;
 mod shifts;
 
-pub use listing::list_frames;
+pub use outlining::stays_low;
 pub use regrowing::regrow;

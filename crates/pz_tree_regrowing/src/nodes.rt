@@ -11,8 +11,7 @@ use crate::clocks::clock_below;
 use pz_nodes::{Key, Nodes, Steps};
 use pz_nodes_shapes::Kids;
 use pz_state::FrameId;
-use pz_tree_nodes::{Head, Kept, Node, What};
-use pz_tree_seeking::Spot;
+use pz_tree_nodes::{Head, Kept, Node, Spot, What};
 use std::alloc::AllocError;
 use std::sync::ledger::Ledger;
 

@@ -4,13 +4,12 @@ ghost use Rattle.std.specs.Prelude.{◌≡◌, ◌+◌, ◌++◌, IfOk, OnOk};
 ghost use Rattle.pz_nodes.specs.Arena.{find};
 ghost use Rattle.pz_rules.specs.Terms.{frames_in};
 ghost use Rattle.pz_rules.specs.View.{term_view};
-ghost use Rattle.pz_tree_planting.specs.Planting.{nodes_of, EndsInTime, Planted};
+ghost use Rattle.pz_tree_nodes.specs.Planting.{nodes_of, EndsInTime, Planted};
 
-use crate::listing::list_frames;
 use pz_nodes::{Key, Nodes, Steps};
 use pz_rules::Term;
-use pz_tree_nodes::Node;
-use pz_tree_planting::plant;
+use pz_term_residual::list_frames;
+use pz_tree_nodes::{Node, plant};
 use std::alloc::{AllocError, Global};
 use std::sync::ledger::Ledger;
 

@@ -10,3 +10,16 @@ pub mod Written
 pub mod Kids
 pub mod FrameCounts
 mod Rows
+pub mod Tallies
+pub mod Unasked
+pub mod Steady
+pub mod Woken
+mod SummaryRows
+mod Primitives
+mod Evaluating
+mod Opening
+mod Deeds
+mod Sweeping
+mod Numbered
+mod Starting
+mod Elapsing

@@ -7,11 +7,11 @@ use Rattle.pz_nodes_shapes.specs.Rose.{node, none, gone, more, width}
 use Rattle.pz_nodes_shapes.proofs.Frames.{decided}
 use Rattle.pz_rules.specs.Terms.{Terms, term_at}
 use Rattle.pz_rules.specs.Settings.{Context}
-use Rattle.pz_tree_summary.specs.Summaries.{summary_of}
-use Rattle.pz_tree_summary.specs.Asked.{asks, any_asks}
-use Rattle.pz_tree_summary.specs.Steady.{later, Steady}
-use Rattle.pz_tree_summary.specs.Laws.{UnaskedIsSteady}
-use Rattle.pz_tree_summary.specs.devices.Laws.{SteadySummaryIsComputed}
+use Rattle.pz_tree_standing.specs.Summaries.{summary_of}
+use Rattle.pz_tree_standing.specs.Asked.{asks, any_asks}
+use Rattle.pz_tree_standing.specs.Steady.{later, Steady}
+use Rattle.pz_tree_standing.specs.SummaryLaws.{UnaskedIsSteady}
+use Rattle.pz_tree_standing.specs.devices.SummaryLaws.{SteadySummaryIsComputed}
 use Rattle.pz_tree_standing.specs.Heads.{Head, leaf, wait, sequence, parallel, select, guarded, frame, abort, idle, handling, shifted, Shape, Shapes, inner_clock, inner_frame, formed}
 use Rattle.pz_tree_standing.specs.Standing.{term_of, terms_of, HeadFits, Fits, FitAll}
 use Rattle.pz_tree_standing.specs.Reached.{reaches, GateRight}

@@ -4,7 +4,7 @@ use Rattle.pz_nodes_shapes.specs.Rose.{node, none, gone, more}
 use Rattle.pz_nodes_shapes.proofs.Frames.{or_neither}
 use Rattle.pz_rules.specs.Terms.{Terms, no_terms, and, term_at}
 use Rattle.pz_rules.specs.Settings.{Context}
-use Rattle.pz_tree_summary.specs.Asked.{asks, any_asks}
+use Rattle.pz_tree_standing.specs.Asked.{asks, any_asks}
 use Rattle.pz_tree_standing.specs.Heads.{Head, Shape, Shapes, inner_clock, inner_frame, formed}
 use Rattle.pz_tree_standing.specs.Heads as head
 use Rattle.pz_tree_standing.specs.Standing.{term_of, terms_of}

@@ -7,9 +7,9 @@ use Rattle.pz_nodes_shapes.specs.Rose.{node, none, gone, more}
 use Rattle.pz_rules.specs.Terms.{Terms, no_terms, and, term_at}
 use Rattle.pz_rules.specs.Settings.{Context}
 use Rattle.pz_rules.specs.devices.Found.{tested}
-use Rattle.pz_tree_summary.specs.Summaries.{summary_of}
-use Rattle.pz_tree_summary.specs.Steady.{later, Steady, AreSteady}
-use Rattle.pz_tree_summary.specs.devices.Laws.{TestIsSteady, SteadySummaryIsComputed}
+use Rattle.pz_tree_standing.specs.Summaries.{summary_of}
+use Rattle.pz_tree_standing.specs.Steady.{later, Steady, AreSteady}
+use Rattle.pz_tree_standing.specs.devices.SummaryLaws.{TestIsSteady, SteadySummaryIsComputed}
 use Rattle.pz_tree_standing.specs.Heads.{Head, leaf, wait, sequence, parallel, select, guarded, frame, abort, idle, handling, shifted, Shape, Shapes, inner_clock, inner_frame, formed}
 use Rattle.pz_tree_standing.specs.Standing.{term_of, terms_of, HeadFits, Fits, FitAll}
 use Rattle.pz_tree_standing.specs.Reached.{reaches, is_true, GateRight}

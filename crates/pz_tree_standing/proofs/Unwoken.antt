@@ -7,11 +7,11 @@ use Rattle.pz_rules.specs.Terms.{Step, Term, Terms, no_terms, and, term_at}
 use Rattle.pz_rules.specs.Settings.{Context}
 use Rattle.pz_rules.specs.devices.Found.{tested}
 use Rattle.pz_rules.specs.devices.Walk.{under, behind, active_parts, active_children}
-use Rattle.pz_tree_summary.specs.Summaries.{summary_of}
-use Rattle.pz_tree_summary.specs.Steady.{later, Steady}
-use Rattle.pz_tree_summary.specs.Woken.{any_part, statement_begins, begins, starts, clocked, IsAfter}
-use Rattle.pz_tree_summary.specs.Laws.{UnwokenIsSteady}
-use Rattle.pz_tree_summary.proofs.Woken.{neither_part, none_under}
+use Rattle.pz_tree_standing.specs.Summaries.{summary_of}
+use Rattle.pz_tree_standing.specs.Steady.{later, Steady}
+use Rattle.pz_tree_standing.specs.Woken.{any_part, statement_begins, begins, starts, clocked, IsAfter}
+use Rattle.pz_tree_standing.specs.SummaryLaws.{UnwokenIsSteady}
+use Rattle.pz_tree_standing.proofs.Woken.{neither_part, none_under}
 use Rattle.pz_tree_standing.specs.Heads.{Head, leaf, wait, sequence, parallel, select, guarded, frame, abort, idle, handling, shifted, Shape, Shapes, inner_clock, inner_frame, formed}
 use Rattle.pz_tree_standing.specs.Standing.{term_of, terms_of, Fits}
 use Rattle.pz_tree_standing.specs.Reached.{reaches, GateRight}

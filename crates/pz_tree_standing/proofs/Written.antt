@@ -13,9 +13,9 @@ use Rattle.pz_offer.specs.declared.summary.Summary.{Summary}
 use Rattle.pz_offer.specs.Summaries.{nothing, join}
 use Rattle.pz_offer.specs.Summaries as summaries
 use Rattle.pz_offer.proofs.Joins.{join_right}
-use Rattle.pz_tree_summary.specs.Summaries.{summary_of, summaries_of, gated}
-use Rattle.pz_tree_summary.specs.devices.Tallies.{own_summary}
-use Rattle.pz_tree_summary.proofs.Tallies.{summary_is_tally, summary_sequence, summary_parallel, summary_select, summary_guarded, summary_frame, summary_abort, summary_idle, summary_handling, summary_shifted}
+use Rattle.pz_tree_standing.specs.Summaries.{summary_of, summaries_of, gated}
+use Rattle.pz_tree_standing.specs.devices.Tallies.{own_summary}
+use Rattle.pz_tree_standing.proofs.Tallies.{summary_is_tally, summary_sequence, summary_parallel, summary_select, summary_guarded, summary_frame, summary_abort, summary_idle, summary_handling, summary_shifted}
 use Rattle.pz_tree_standing.specs.Heads.{Head, What, leaf, wait, sequence, parallel, select, guarded, frame, abort, idle, handling, shifted, Shapes, inner_clock, inner_frame, formed}
 use Rattle.pz_tree_standing.specs.Standing.{term_of, terms_of, HeadFits}
 use Rattle.pz_tree_standing.specs.Reached.{reaches, is_true, GateRight}

@@ -13,9 +13,9 @@ use Rattle.pz_rules.specs.Leaving.{residual}
 use Rattle.pz_rules.specs.Active.{Reached}
 use Rattle.pz_rules.specs.Delays.{Passes}
 use Rattle.pz_rules.specs.devices.Computed.{IsUntroubled}
-use Rattle.pz_tree_summary.specs.Asked.{asks}
-use Rattle.pz_tree_summary.specs.Steady.{later, Steady}
-use Rattle.pz_tree_summary.specs.Woken.{starts, clocked, IsAfter}
+use Rattle.pz_tree_standing.specs.Asked.{asks}
+use Rattle.pz_tree_standing.specs.Steady.{later, Steady}
+use Rattle.pz_tree_standing.specs.Woken.{starts, clocked, IsAfter}
 use Rattle.pz_tree_standing.specs.Heads.{Head, What, Shape, Shapes, formed}
 use Rattle.pz_tree_standing.specs.Standing.{term_of, terms_of, Fits}
 use Rattle.pz_tree_standing.specs.Reached.{reaches, GateRight}

@@ -8,5 +8,11 @@ pub mod Meaning
 pub mod Sound
 pub mod Calm
 pub mod FrameCounts
+pub mod Summaries
+pub mod Asked
+pub mod Steady
+pub mod Woken
+pub mod SummaryLaws
+pub mod Frames
 pub mod Laws
 pub mod devices

@@ -2,7 +2,7 @@
 use Rattle.std.specs.Prelude.{◌≡◌, ℕ, suc, true, Option, Some, None}
 use Rattle.pz_nodes_shapes.specs.Rose.{node, none, gone, more}
 use Rattle.pz_rules.specs.Settings.{Context}
-use Rattle.pz_tree_summary.specs.Summaries.{summary_of}
+use Rattle.pz_tree_standing.specs.Summaries.{summary_of}
 use Rattle.pz_tree_standing.specs.Heads.{Head, Shape, Shapes, inner_clock, inner_frame}
 use Rattle.pz_tree_standing.specs.Standing.{term_of}
 use Rattle.pz_tree_standing.specs.Reached.{reaches, GateRight}

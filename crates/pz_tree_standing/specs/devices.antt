@@ -1,2 +1,4 @@
 pub mod Written
+pub mod Tallies
+pub mod SummaryLaws
 pub mod Laws

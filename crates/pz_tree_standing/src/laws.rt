@@ -2,6 +2,9 @@
 
 ghost use Rattle.pz_tree_standing.specs.Laws.{OneTerm, ReachesWhatGoesOn, TimePasses, NothingElsePasses, StillRight, StillSound, UnwokenIsCalm, UnwokenIsSteadyToo, RestsAreRight, FramesStandOrAreLost, NoFramesOpenInOne, NoDeeperThanHigh};
 ghost use Rattle.pz_tree_standing.specs.devices.Laws.{TimePassesComputed, StillRightComputed, StillSoundComputed, WrittenIsSummary, WrittenIsRight, ChildTerms, ChildFits, ChildRests, ChildRight, ShiftsAdd};
+ghost use Rattle.pz_tree_standing.specs.SummaryLaws.{OfSequence, OfFrame, OfGuard, OfAbort, OfIdle, OfHandling, OfParallel, OfSelect, OfLaterClock, UnaskedIsSteady, UnwokenIsSteady, SteadySummary};
+ghost use Rattle.pz_tree_standing.specs.devices.SummaryLaws.{TestIsSteady, SteadySummaryIsComputed};
+ghost use Rattle.pz_tree_standing.specs.Frames.{PerformedOpens, HandedOpens, TakenOpens, AroundOpens, FramesStandAtStart, FramesStandAsTimePasses};
 
 /// The nodes under a key stand for one term at most.
 pub fn nodes_stand_for_one_term()
@@ -33,8 +36,8 @@ pub fn still_right()
     ensures computed { StillRightComputed }
     ensures computed_sound { StillSoundComputed }
 {
-    pz_tree_summary::laws::steady_terms_keep_summaries();
-    pz_tree_summary::laws::unasked_is_steady();
+    crate::laws::steady_terms_keep_summaries();
+    crate::laws::unasked_is_steady();
     pz_eval_rules::laws::unclocked_is_timeless();
     pz_clock::laws::local_clocks();
 }
@@ -45,7 +48,7 @@ pub fn unwoken_nodes_stay()
     ensures calm { UnwokenIsCalm }
     ensures steady { UnwokenIsSteadyToo }
 {
-    pz_tree_summary::laws::unwoken_is_steady();
+    crate::laws::unwoken_is_steady();
 }
 
 /// Nodes are no more than twice as deep as their term is high.
@@ -80,4 +83,65 @@ pub fn children_are_replaced()
 pub fn frames_are_counted()
     ensures law { FramesStandOrAreLost }
     ensures one { NoFramesOpenInOne }
+{}
+
+/// The summary of a term from those of its parts, form by form, and that by a clock that is ahead.
+pub fn summaries_by_form()
+    ensures sequence { OfSequence }
+    ensures frame { OfFrame }
+    ensures guard { OfGuard }
+    ensures abort { OfAbort }
+    ensures idle { OfIdle }
+    ensures handling { OfHandling }
+    ensures parallel { OfParallel }
+    ensures select { OfSelect }
+    ensures shifted { OfLaterClock }
+{}
+
+/// What is asked nothing has one summary by a clock of its own, whatever the state and the clock of the
+/// process.
+pub fn unasked_is_steady()
+    ensures law { UnaskedIsSteady }
+{}
+
+/// A term that a passing of time does not wake is steady: no active delay of it begins, no active part names
+/// the clock, and what is due first is due afterwards.
+pub fn unwoken_is_steady()
+    ensures law { UnwokenIsSteady }
+{}
+
+/// In a sound model a term of which no delay begins or is over, and no test or argument names the clock,
+/// has the same summary when so much time has passed.
+pub fn steady_terms_keep_summaries()
+    ensures summary { SteadySummary }
+    ensures computed { SteadySummaryIsComputed }
+    ensures tests { TestIsSteady }
+{
+    pz_eval_rules::laws::unclocked_is_timeless();
+    pz_rules::laws::passing_is_computed();
+}
+
+/// What a part becomes by its deed stands in frames that have opened in the state, each once. In edition One no others
+/// have opened, and no evaluation opens or closes any.
+pub fn deeds_open_frames()
+    ensures performed { PerformedOpens }
+    ensures handed { HandedOpens }
+    ensures taken { TakenOpens }
+{}
+
+/// So does what opens around it: the statements behind what is done, and the second part of an interrupt that is done.
+pub fn openings_open_frames()
+    ensures law { AroundOpens }
+{}
+
+/// Just the frames that stand in a process that begins are open in its state.
+pub fn frames_stand_at_start()
+    ensures law { FramesStandAtStart }
+{
+    pz_rules::laws::frames_are_numbered();
+}
+
+/// As time passes the same frames stand.
+pub fn frames_stand_as_time_passes()
+    ensures law { FramesStandAsTimePasses }
 {}

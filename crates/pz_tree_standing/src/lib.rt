@@ -1,5 +1,5 @@
-//! What the nodes of a process stand for, which of them keep the right summaries, and what is so of both
-//! when time passes or a child becomes another.
+//! What the nodes of a process stand for, what a term can do in short, which nodes keep that rightly, and which frames
+//! stand; what is so of these when time passes, a part acts or a child becomes another.
 #![tactic(auto)]
 
 pub mod laws;

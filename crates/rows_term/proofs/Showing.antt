@@ -8,8 +8,8 @@ use Rattle.pz_bind.specs.declared.net.Net.{Net}
 use Rattle.pz_bind.specs.devices.Nets.{IsNet}
 use Rattle.pz_rules.specs.declared.moment.Moment.{Moment}
 use Rattle.pz_rules.specs.declared.moment.Moment.TheVariants.{Broken}
-use Rattle.pz_term.specs.Simulations.{Simulation, stands, broken, IsMomentOf, model_in}
-use Rattle.pz_term.specs.Shown.{CanShow}
+use Rattle.pz_term_simulator.specs.Simulations.{Simulation, stands, broken, IsMomentOf, model_in}
+use Rattle.pz_term_simulator.specs.Shown.{CanShow}
 
 pub can_show : (s : Simulation) (m : Moment) (net : Net) (i count : ℕ) → IsMomentOf s m → (m ≡ Broken → ⊥) → ∥ IsNet (model_in s) net ∥₁ → ((model : ModelTree) → IsNet model net → count ≡ length (processes model)) → i < count → CanShow s i
 can_show (stands setting c standing) m net i count is other known counted within =

@@ -2,10 +2,12 @@
 //! the clock, the moment and the offers. Nothing is promised here: the output is the test.
 //!
 //! A line `MODEL STEP ..` of the input names a file and steps: a number chooses the offer of this number,
-//! `pass` lets time pass, and `values` shows what variables hold. The word `second` before it asks for the second edition of the rules, in
-//! which a call without inputs and results is no action. A line `ring STATIONS EVENTS SEED` plays a ring, of whose offers a
-//! seed draws. The word `trees` before a line asks for the simulator over execution trees. With the arguments `ring STATIONS EVENTS` it plays so many events of a ring,
-//! of the offers always the first, on the plain simulator.
+//! `pass` lets time pass, and `values` shows what variables hold. A line `drawn MODEL EVENTS SEED` plays so many events
+//! of a model, of whose offers a seed draws, and `ring STATIONS EVENTS SEED` those of a ring, in the second edition.
+//! The word `second` before a model or `drawn` asks for the second edition of the rules, in which a call without inputs
+//! and results is no action; the word `trees` before a line asks for the simulator over execution trees. With the
+//! arguments `ring STATIONS EVENTS` it plays so many events of a ring, of the offers always the first, on the plain
+//! simulator.
 #![tactic(auto)]
 
 mod models;

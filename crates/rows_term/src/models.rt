@@ -10,7 +10,7 @@ use pz_bind::Net;
 use pz_classes::Checked;
 use pz_run_reading::{open_model, read_model};
 use pz_sim::Sim;
-use pz_term::{Edition, Limits, Plain, Steps};
+use pz_term::{Edition, Limits, Plain, Simulator, Steps};
 use std::io;
 use std::marker::Brand;
 use std::mem::drop;
@@ -45,26 +45,9 @@ pub enum Engine {
 }
 
 // The one owner of a simulator, which is long to drop.
-fn show_plain<L: Ledger>(
+fn show_on<S: Simulator + Drop, L: Ledger>(
     rt: &HostRuntime,
-    mut plain: Plain,
-    play: Play<'_>,
-    ledger: Blank,
-) -> io::Result<()>
-    requires name { ledger.name ≡ L.name }
-    requires parts { ledger.parts ≡ L.parts }
-    requires some { 0 < L.parts }
-{
-    let mut steps = Steps::<L>::new(ledger);
-    let answer = show_play(rt, &mut plain, play, &mut steps);
-    drop(plain);
-    answer
-}
-
-// The same of the other.
-fn show_trees<L: Ledger>(
-    rt: &HostRuntime,
-    mut sim: Sim,
+    mut sim: S,
     play: Play<'_>,
     ledger: Blank,
 ) -> io::Result<()>
@@ -89,7 +72,7 @@ fn show_net(
     requires opens { limits.edition ≡ Edition.Two → Opens (checked_model checked) }
 {
     match Plain::start(rt.alloc(), checked, net, limits) {
-        Ok(plain) => show_plain::<Brand>(rt, plain, play, Blank::new(1)),
+        Ok(plain) => show_on::<Plain, Brand>(rt, plain, play, Blank::new(1)),
         Err(_) => println!(rt; "no memory"),
     }
 }
@@ -105,7 +88,7 @@ fn show_net_on_trees(
     requires opens { limits.edition ≡ Edition.Two → Opens (checked_model checked) }
 {
     match Sim::start(rt.alloc(), checked, net, limits) {
-        Ok(sim) => show_trees::<Brand>(rt, sim, play, Blank::new(1)),
+        Ok(sim) => show_on::<Sim, Brand>(rt, sim, play, Blank::new(1)),
         Err(_) => println!(rt; "no memory"),
     }
 }

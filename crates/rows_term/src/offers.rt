@@ -1,7 +1,7 @@
 //! What a simulator says of where it stands.
 
 ghost use Rattle.std.specs.Prelude.{ℕ, ◌<◌};
-ghost use Rattle.pz_term.specs.Simulations.{IsMomentOf};
+ghost use Rattle.pz_term_simulator.specs.Simulations.{IsMomentOf};
 
 use pz_copy::Parcel;
 use pz_offer::End;

@@ -4,7 +4,7 @@ use Rattle.std.specs.Result.{result_err}
 use Rattle.pz_io.specs.Outside.{SinkState}
 use Rattle.pz_io.specs.declared.writing.Halt.{Halt}
 use Rattle.pz_io.specs.Writing.{Wrote}
-use Rattle.pz_term.specs.Simulations.{Simulation, setting_in}
+use Rattle.pz_term_simulator.specs.Simulations.{Simulation, setting_in}
 use Rattle.pz_debug_session.specs.declared.step.Step.{Step}
 use Rattle.pz_debug_replies.specs.declared.advancing.Wanted.{Wanted}
 use Rattle.pz_debug_replies.specs.declared.advancing.Wanted.TheVariants as wanted

@@ -3,7 +3,7 @@ use Rattle.std.specs.Prelude.{◌≡◌, ℕ, List, [], ◌++◌, None}
 use Rattle.pz_io.specs.Outside.{SinkState}
 use Rattle.pz_io.specs.Writing.{Wrote}
 use Rattle.pz_rules.specs.Settings.{Setting}
-use Rattle.pz_term.specs.Simulations.{Simulation, setting_in}
+use Rattle.pz_term_simulator.specs.Simulations.{Simulation, setting_in}
 use Rattle.pz_debug_commands.specs.Commands.{Command}
 use Rattle.pz_debug_commands.specs.Texts.{AreCommands}
 use Rattle.pz_debug_session.specs.declared.step.Step.{Step}

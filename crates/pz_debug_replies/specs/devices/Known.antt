@@ -1,7 +1,7 @@
 -- What is known of runs, of sessions, of names and of writing, by the laws of the crates below.
 use Rattle.pz_rules.specs.Laws.{OneListOfOffers, WiresAreKnown, EveryMoment, MomentsCountOffers, EveryPassing, StaysWhole, StartFits, StaysFit, EveryNext, EveryStart}
 use Rattle.pz_rules.specs.devices.Walks.{SendsHaveParcels}
-use Rattle.pz_term.specs.Laws.{OneMomentOf, OffersAreThere, OffersAreCounted, OffersAreNumbered, OffersAreDerived, OneOfferOf}
+use Rattle.pz_term_simulator.specs.Laws.{OneMomentOf, OffersAreThere, OffersAreCounted, OffersAreNumbered, OffersAreDerived, OneOfferOf}
 use Rattle.pz_trace.specs.Laws.{OffersAreNamed, FaultsAreNamed, HighsAreNamed, StopsAreNamed}
 use Rattle.pz_io.specs.Laws.{NothingIsWritten, PiecesJoin, HaltsBeforeMore, MemoryMayBeWanting}
 use Rattle.pz_debug_commands.specs.Laws.{EveryList}

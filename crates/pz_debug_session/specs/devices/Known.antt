@@ -1,6 +1,6 @@
 -- What is known of runs, by the laws of the crates below.
 use Rattle.pz_rules.specs.Laws.{OneMoment, OneListOfOffers, OneNext, OnePassing, StaysWhole, OneStart}
-use Rattle.pz_term.specs.Laws.{OneMomentOf}
+use Rattle.pz_term_simulator.specs.Laws.{OneMomentOf}
 
 pub record Known : Type 0 where
   pub one_moment : OneMoment

@@ -2,7 +2,7 @@
 use Rattle.std.specs.Prelude.{◌≤◌, ◌<◌, ◌+◌, ◌*◌, ◌^◌, ℕ, List, [], ◌∷◌, length, take, drop}
 use Rattle.pz_rules.specs.declared.moment.Moment.TheVariants.{Actions, Time}
 use Rattle.pz_rules.specs.Configurations.{IsWhole}
-use Rattle.pz_term.specs.Simulations.{Simulation, stands, broken, IsMomentOf, Chooses, Passes, clock_in}
+use Rattle.pz_term_simulator.specs.Simulations.{Simulation, stands, broken, IsMomentOf, Chooses, Passes, clock_in}
 use Rattle.pz_debug_session.specs.declared.step.Step.{Step}
 use Rattle.pz_debug_session.specs.declared.step.Step.TheVariants.{Pick, Pass}
 

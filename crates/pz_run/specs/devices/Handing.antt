@@ -1,7 +1,7 @@
 -- What a call below the top call hands out, unless a write failed or memory was wanting.
 use Rattle.std.specs.Prelude.{◌≡◌, ◌≢◌, List, ℕ, Option, true}
 use Rattle.pz_io.specs.Outside.{FilesState, lookup}
-use Rattle.pz_term.specs.Simulations.{Simulation}
+use Rattle.pz_term_simulator.specs.Simulations.{Simulation}
 use Rattle.pz_run.specs.declared.status.Status.{Status}
 use Rattle.pz_run.specs.declared.status.Status.TheVariants.{WriteFault, NoMemory}
 use Rattle.pz_run.specs.Files.{JobFile}

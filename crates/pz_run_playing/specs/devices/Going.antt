@@ -6,8 +6,8 @@ use Rattle.pz_io.specs.Writing.{Wrote}
 use Rattle.pz_rules.specs.Settings.{Setting}
 use Rattle.pz_rules.specs.Runs.{Event, Ending}
 use Rattle.pz_rules.specs.ChosenRuns.{Policy}
-use Rattle.pz_term.specs.Simulations.{Simulation, stands, setting_in, model_in, clock_in}
-use Rattle.pz_term.specs.devices.Room.{HasRoomFor}
+use Rattle.pz_term_simulator.specs.Simulations.{Simulation, stands, setting_in, model_in, clock_in}
+use Rattle.pz_term_simulator.specs.devices.Room.{HasRoomFor}
 use Rattle.pz_trace.specs.TraceText.{trace_header}
 use Rattle.pz_choice.specs.declared.chooser.Chooser.{Chooser}
 use Rattle.pz_choice.specs.Resolvers.{Resolver}

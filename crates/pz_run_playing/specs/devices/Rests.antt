@@ -14,7 +14,7 @@ use Rattle.pz_rules.specs.Runs.{Event, Standing, whole, stopped, Reaches, Ending
 use Rattle.pz_rules.specs.ChosenRuns.{Policy, IsChosenRun, is_beyond}
 use Rattle.pz_rules.specs.devices.Pending.{list_pending}
 use Rattle.pz_trace.specs.Named.{HasTroubled}
-use Rattle.pz_term.specs.Simulations.{Simulation, stands, broken, IsMomentOf, clock_in}
+use Rattle.pz_term_simulator.specs.Simulations.{Simulation, stands, broken, IsMomentOf, clock_in}
 use Rattle.pz_run_playing.specs.Playing.{EndsAs}
 
 -- how many delays may have something left

@@ -10,7 +10,7 @@ use Rattle.pz_rules.specs.declared.action.Action.{Action}
 use Rattle.pz_rules.specs.declared.moment.Moment.TheVariants.{Actions, Time}
 use Rattle.pz_trace.specs.declared.ending.Ending.{Ending}
 use Rattle.pz_trace.specs.Lines.{time_line, action_line, end_line}
-use Rattle.pz_term.specs.Simulations.{Simulation, setting_in, IsMomentOf, Chooses, Passes}
+use Rattle.pz_term_simulator.specs.Simulations.{Simulation, setting_in, IsMomentOf, Chooses, Passes}
 use Rattle.pz_run_replaying.specs.declared.judging.Move.{Move}
 use Rattle.pz_run_replaying.specs.declared.judging.Move.TheVariants.{Act, Wait}
 use Rattle.pz_run_replaying.specs.declared.judging.Judged.{Judged}
@@ -20,7 +20,7 @@ use Rattle.pz_run_replaying.specs.declared.replayed.Replayed.TheVariants.{Ended,
 use Rattle.pz_run_replaying.specs.Expected.{Expects}
 use Rattle.pz_run_replaying.specs.Replays.{refusal_text}
 use Rattle.pz_run_replaying.specs.devices.Fronts.{StartsWith}
-use Rattle.pz_term.specs.Simulations.{model_in, clock_in, IsOffer}
+use Rattle.pz_term_simulator.specs.Simulations.{model_in, clock_in, IsOffer}
 use Rattle.pz_run_replaying.specs.devices.Readiness.{stage_of, EndsIn}
 use Rattle.pz_run_replaying.specs.devices.Taking.{Differs}
 

@@ -1,8 +1,8 @@
 -- What is known of runs, of lines and of writing, by the laws of the crates below.
 use Rattle.pz_rules.specs.Laws.{OneListOfOffers, WiresAreKnown, OneMoment, EveryMoment, MomentsCountOffers, EveryPassing, OneNext, OnePassing, StaysWhole, StartFits, StaysFit, EveryNext}
 use Rattle.pz_trace.specs.Laws.{HeadersAreLines, EndLinesAreLines, OneFirstLine, ActionLinesDiffer, StopIsNoAction, StopIsNoPassing, OneHeading, EveryHeading, ActionsHaveHeadings, OffersAreNamed, FaultsAreNamed, HighsAreNamed, StopsAreNamed}
-use Rattle.pz_term.specs.Laws.{OneMomentOf, OffersAreDerived, OneOfferOf}
-use Rattle.pz_term.specs.devices.Room.{StartsWithRoom, ChoicesTakeRoom, PassingsTakeNoRoom, RoomMeansLow, LessRoomToo}
+use Rattle.pz_term_simulator.specs.Laws.{OneMomentOf, OffersAreDerived, OneOfferOf}
+use Rattle.pz_term_simulator.specs.devices.Room.{StartsWithRoom, ChoicesTakeRoom, PassingsTakeNoRoom, RoomMeansLow, LessRoomToo}
 use Rattle.pz_io.specs.Laws.{NothingIsWritten, PiecesJoin, HaltsBeforeMore, MemoryMayBeWanting}
 
 pub record Known : Type 0 where

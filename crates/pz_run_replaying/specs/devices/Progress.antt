@@ -7,7 +7,7 @@ use Rattle.pz_io.specs.Writing.{Wrote}
 use Rattle.pz_rules.specs.Settings.{Setting}
 use Rattle.pz_rules.specs.Configurations.{Config}
 use Rattle.pz_rules.specs.Starting.{IsStart}
-use Rattle.pz_term.specs.Simulations.{Simulation, setting_in}
+use Rattle.pz_term_simulator.specs.Simulations.{Simulation, setting_in}
 use Rattle.pz_run_replaying.specs.declared.replayed.Replayed.{Replayed}
 use Rattle.pz_run_replaying.specs.Stages.{Stage, unbegun, LeadsTo}
 use Rattle.pz_run_replaying.specs.Replays.{Replays, TellsLines}

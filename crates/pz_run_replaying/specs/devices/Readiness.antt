@@ -16,7 +16,7 @@ use Rattle.pz_trace.specs.declared.ending.Ending.{Ending}
 use Rattle.pz_trace.specs.declared.ending.Ending.TheVariants as ending
 use Rattle.pz_trace.specs.Named.{IsNamedAtEnd}
 use Rattle.pz_trace.specs.TraceText.{run_ending}
-use Rattle.pz_term.specs.Simulations.{Simulation, stands, broken, model_in, IsMomentOf}
+use Rattle.pz_term_simulator.specs.Simulations.{Simulation, stands, broken, model_in, IsMomentOf}
 use Rattle.pz_run_replaying.specs.Stages.{Stage, unbegun, underway}
 
 abbrev pub stage_of : Simulation → Stage

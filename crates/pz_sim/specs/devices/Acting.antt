@@ -20,9 +20,9 @@ use Rattle.pz_sim_totals.specs.declared.total.Total.{Total}
 use Rattle.pz_sim_laws.specs.Members.{config_of}
 use Rattle.pz_sim_laws.specs.Deciding.{total_of}
 use Rattle.pz_sim_laws.specs.Leading.{LeadsTo}
-use Rattle.pz_tree_acting.specs.Acting.{Answers}
-use Rattle.pz_tree_acting.specs.Deeds.{Ability, CanDo, CanSend, Leaves}
-use Rattle.pz_tree_frames.specs.Frames.{FramesStand}
+use Rattle.pz_tree.specs.Deeds.{Answers}
+use Rattle.pz_tree.specs.Deeds.{Ability, CanDo, CanSend, Leaves}
+use Rattle.pz_tree_standing.specs.Frames.{FramesStand}
 use Rattle.pz_tree.specs.declared.tree.Tree.{Tree}
 use Rattle.pz_tree.specs.Acting.{answered}
 use Rattle.pz_tree.specs.Trees.{IsFresh, at_in, term_in, process_in}

@@ -6,9 +6,9 @@ use Rattle.pz_rules.specs.Delays.{Passes}
 use Rattle.pz_sim_totals.specs.declared.total.Total.{Total}
 use Rattle.pz_sim_laws.specs.Members.{Member}
 use Rattle.pz_sim_laws.specs.Deciding.{total_of}
-use Rattle.pz_tree_summary.specs.Steady.{later}
-use Rattle.pz_tree_summary.specs.Summaries.{summary_of}
-use Rattle.pz_tree_summary.specs.Woken.{clocked}
+use Rattle.pz_tree_standing.specs.Steady.{later}
+use Rattle.pz_tree_standing.specs.Summaries.{summary_of}
+use Rattle.pz_tree_standing.specs.Woken.{clocked}
 use Rattle.pz_tree.specs.declared.tree.Tree.{Tree}
 use Rattle.pz_tree.specs.Trees.{at_in, term_in, IsFresh}
 use Rattle.pz_sim.specs.Members.{member_of}

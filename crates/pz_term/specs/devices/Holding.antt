@@ -4,7 +4,7 @@ use Rattle.pz_rules.specs.Settings.{Setting}
 use Rattle.pz_rules.specs.Configurations.{IsWhole}
 use Rattle.pz_rules.specs.Moments.{IsFirstHigh, IsMoment}
 use Rattle.pz_rules.specs.devices.Start.{start_of}
-use Rattle.pz_rules_delays.specs.Short.{DelaysAreShort, TimesAreShort}
+use Rattle.pz_rules.specs.Short.{DelaysAreShort, TimesAreShort}
 use Rattle.pz_term_processes.specs.declared.process.Process.{Process}
 use Rattle.pz_term_processes.specs.Standing.{config_of, AreProcesses}
 use Rattle.pz_term_enabled.specs.declared.looking.Outlook.{Outlook}

@@ -5,7 +5,7 @@ use Rattle.pz_tree_nodes.specs.declared.kept.Kept.{Kept}
 use Rattle.pz_tree_nodes.specs.declared.node.What.{What}
 use Rattle.pz_tree_nodes.specs.Keeping.{kept_done}
 use Rattle.pz_tree_nodes.specs.View.{Plant}
-use Rattle.pz_tree_planting.specs.Planting.{root_of}
+use Rattle.pz_tree_nodes.specs.Planting.{root_of}
 use Rattle.pz_tree_regrowing.specs.Regrowing.{StandsOption}
 
 abbrev pub kept_of : Option Plant → Kept

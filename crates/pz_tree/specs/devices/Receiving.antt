@@ -11,7 +11,7 @@ use Rattle.pz_rules.specs.declared.term.Term.{Term}
 use Rattle.pz_state.specs.declared.state.FrameId.{FrameId}
 use Rattle.pz_tree_nodes.specs.declared.node.What.{What}
 use Rattle.pz_tree_nodes.specs.View.{what_view}
-use Rattle.pz_tree_seeking.specs.Seeking.{frame_at, StandsUnder}
+use Rattle.pz_tree_nodes.specs.Seeking.{frame_at, StandsUnder}
 
 pub record IsFoundReceive (f : ℕ) (t : terms.Term) (place : Place) (frame : FrameId) (part : Term) : Type 0 where
   pub in_frame : frame.0 ≡ frame_at f t place

@@ -10,7 +10,7 @@ use Rattle.pz_bind.specs.devices.Nets.{IsNet}
 use Rattle.pz_bind.specs.declared.net.Net.{Net}
 use Rattle.pz_offer.specs.declared.ends.SendOffer.{SendOffer}
 use Rattle.pz_offer.specs.declared.ends.ReceiveOffer.{ReceiveOffer}
-use Rattle.pz_tree_seeking.specs.Listing.{Each}
+use Rattle.pz_tree_nodes.specs.Listing.{Each}
 use Rattle.pz_tree_offering.specs.declared.offers.ActiveSend.{ActiveSend}
 use Rattle.pz_tree_offering.specs.declared.offers.ActiveReceive.{ActiveReceive}
 

@@ -26,12 +26,12 @@ use Rattle.pz_state.specs.Marks.{Seen, older}
 use Rattle.pz_state.specs.States.{StateView}
 use Rattle.pz_syntax.specs.declared.tokens.Pos.{Pos}
 use Rattle.pz_tree_standing.specs.FrameCounts.{count_in, times}
-use Rattle.pz_tree_frames.specs.Frames.{open_as, FramesStand, HaveOpened}
+use Rattle.pz_tree_standing.specs.Frames.{open_as, FramesStand, HaveOpened}
 use Rattle.pz_tree_nodes.specs.declared.node.What.{What}
 use Rattle.pz_tree_nodes.specs.View.{Plant, term_in_option}
 use Rattle.pz_tree_nodes.specs.Tended.{TendedOption}
-use Rattle.pz_tree_planting.specs.Planting.{root_of}
-use Rattle.pz_rules_delays.specs.Short.{IsShort}
+use Rattle.pz_tree_nodes.specs.Planting.{root_of}
+use Rattle.pz_rules.specs.Short.{IsShort}
 use Rattle.pz_tree_acting.specs.declared.how.How.{How}
 use Rattle.pz_tree_acting.specs.declared.how.How.TheVariants.{Internal, Send, Receive}
 use Rattle.pz_tree_acting.specs.declared.beginning.Begun.{Begun}

@@ -6,7 +6,7 @@ use Rattle.pz_rules.specs.Terms.{Term, frames_in}
 use Rattle.pz_rules.specs.Leaving.{only_frames}
 use Rattle.pz_state.specs.Marks.{Seen, changed}
 use Rattle.pz_state.specs.States.{StateView}
-use Rattle.pz_tree_frames.specs.Frames.{numbers, open_as, FramesStand}
+use Rattle.pz_tree_standing.specs.Frames.{numbers, open_as, FramesStand}
 use Rattle.pz_tree_standing.specs.FrameCounts.{count_in, times}
 
 -- ------------------------------------------------------------ listed

@@ -4,7 +4,7 @@ use Rattle.pz_nodes_shapes.specs.Rose.{Map}
 use Rattle.pz_rules.specs.Terms.{Term, Terms, leaf, wait}
 use Rattle.pz_tree_standing.specs.Heads.{Head, What, formed}
 use Rattle.pz_tree_standing.specs.Whole.{IsNoShift}
-use Rattle.pz_tree_seeking.specs.Seeking.{StandsUnder, IsBareUnder}
+use Rattle.pz_tree_nodes.specs.Seeking.{StandsUnder, IsBareUnder}
 
 abbrev pub IsSimple : Term → Type 0
 IsSimple (leaf s) = Unit {0}

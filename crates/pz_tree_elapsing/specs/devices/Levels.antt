@@ -7,8 +7,8 @@ use Rattle.pz_nodes_shapes.specs.Reading.{depth, depths}
 use Rattle.pz_offer.specs.Summaries.{MayShift}
 use Rattle.pz_rules.specs.Settings.{Context}
 use Rattle.pz_rules.specs.devices.Passing.{passed}
-use Rattle.pz_tree_summary.specs.Asked.{asks}
-use Rattle.pz_tree_summary.specs.Steady.{later}
+use Rattle.pz_tree_standing.specs.Asked.{asks}
+use Rattle.pz_tree_standing.specs.Steady.{later}
 use Rattle.pz_tree_standing.specs.Heads.{Head, inner_clock}
 use Rattle.pz_tree_standing.specs.Standing.{terms_of, HeadFits}
 use Rattle.pz_tree_standing.specs.Reached.{reaches}
@@ -19,7 +19,7 @@ use Rattle.pz_tree_nodes.specs.Keeping.{joined}
 use Rattle.pz_tree_nodes.specs.View.{Plant, Plants, shapes_of, term_in}
 use Rattle.pz_tree_nodes.specs.Tended.{Tended}
 use Rattle.pz_tree_nodes.specs.Fresh.{Fresh, AllFlagged}
-use Rattle.pz_rules_delays.specs.Short.{IsShort, AreShort}
+use Rattle.pz_rules.specs.Short.{IsShort, AreShort}
 use Rattle.pz_tree_refreshing.specs.Refreshing.{HasRoom, IsSoon, Timely, AllTimely, RefreshRule}
 use Rattle.pz_tree_refreshing.specs.devices.Reached as reached
 use Rattle.pz_tree_refreshing.specs.devices.Reached.{reached_sum, Says, behind_inside}

@@ -7,10 +7,10 @@ use Rattle.pz_offer.specs.Summaries.{nothing, join}
 use Rattle.pz_rules.specs.Settings.{Context}
 use Rattle.pz_rules.specs.Terms.{Step, Term, Terms, no_terms, and}
 use Rattle.pz_rules.specs.devices.Passing.{passed}
-use Rattle.pz_tree_summary.specs.Asked.{statement_asks}
-use Rattle.pz_tree_summary.specs.Steady.{later}
-use Rattle.pz_tree_summary.specs.Summaries.{summary_of}
-use Rattle.pz_tree_summary.specs.Woken.{starts, clocked}
+use Rattle.pz_tree_standing.specs.Asked.{statement_asks}
+use Rattle.pz_tree_standing.specs.Steady.{later}
+use Rattle.pz_tree_standing.specs.Summaries.{summary_of}
+use Rattle.pz_tree_standing.specs.Woken.{starts, clocked}
 use Rattle.pz_clock.specs.Shifts.{is_running}
 use Rattle.pz_tree_standing.specs.Heads as heads
 use Rattle.pz_tree_standing.specs.Heads.{Head, Shapes, inner_clock, inner_frame, formed}
@@ -19,7 +19,7 @@ use Rattle.pz_tree_standing.specs.Reached.{reaches, GateRight}
 use Rattle.pz_tree_standing.specs.Whole.{IsNoShift, HasParts}
 use Rattle.pz_tree_nodes.specs.declared.kept.Kept.{Kept}
 use Rattle.pz_tree_nodes.specs.Keeping.{HasFlags, kept_none}
-use Rattle.pz_rules_delays.specs.Short.{IsShort, AreShort}
+use Rattle.pz_rules.specs.Short.{IsShort, AreShort}
 use Rattle.pz_tree_refreshing.specs.Refreshing.{HasRoom, IsSoon}
 use Rattle.pz_tree_refreshing.specs.devices.Reached.{reached_sum}
 use Rattle.pz_tree_elapsing.specs.declared.turning.Turn.{Turn}

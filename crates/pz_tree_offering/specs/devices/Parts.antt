@@ -7,12 +7,12 @@ use Rattle.pz_rules.specs.Settings.{Context}
 use Rattle.pz_rules.specs.Terms.{Term}
 use Rattle.pz_rules.specs.devices.Walk as walk
 use Rattle.pz_rules.specs.devices.Walk.{sent_by, received_by}
-use Rattle.pz_tree_summary.specs.Woken.{is_clocked}
+use Rattle.pz_tree_standing.specs.Woken.{is_clocked}
 use Rattle.pz_tree_nodes.specs.declared.node.What.{What}
 use Rattle.pz_tree_nodes.specs.View.{what_view}
-use Rattle.pz_tree_seeking.specs.declared.found.Part.{Part}
-use Rattle.pz_tree_seeking.specs.Seeking.{IsBareUnder}
-use Rattle.pz_tree_seeking.specs.Standing.{StandsRight}
+use Rattle.pz_tree_nodes.specs.declared.found.Part.{Part}
+use Rattle.pz_tree_nodes.specs.Seeking.{IsBareUnder}
+use Rattle.pz_tree_nodes.specs.Standing.{StandsRight}
 use Rattle.pz_tree_offering.specs.declared.offers.ActiveSend.{ActiveSend}
 use Rattle.pz_tree_offering.specs.declared.offers.ActiveReceive.{ActiveReceive}
 use Rattle.pz_tree_offering.specs.Offers.{has_condition}

@@ -7,10 +7,10 @@ use Rattle.pz_offer.specs.declared.trouble.Trouble.{Trouble}
 use Rattle.pz_offer.specs.Summaries.{nothing, join}
 use Rattle.pz_rules.specs.Settings.{Context}
 use Rattle.pz_rules.specs.Terms.{Step, Terms, leaf}
-use Rattle.pz_tree_summary.specs.Asked.{statement_asks}
-use Rattle.pz_tree_summary.specs.Summaries.{summary_of}
-use Rattle.pz_tree_summary.specs.Woken.{statement_begins, statement_names_clock, starts, clocked}
-use Rattle.pz_tree_summary.specs.devices.Tallies.{own_summary}
+use Rattle.pz_tree_standing.specs.Asked.{statement_asks}
+use Rattle.pz_tree_standing.specs.Summaries.{summary_of}
+use Rattle.pz_tree_standing.specs.Woken.{statement_begins, statement_names_clock, starts, clocked}
+use Rattle.pz_tree_standing.specs.devices.Tallies.{own_summary}
 use Rattle.pz_tree_standing.specs.Heads as heads
 use Rattle.pz_tree_standing.specs.Heads.{Head, Shapes, inner_clock, inner_frame, formed}
 use Rattle.pz_tree_standing.specs.Standing.{HeadFits}

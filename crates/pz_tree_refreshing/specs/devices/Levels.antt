@@ -18,7 +18,7 @@ use Rattle.pz_tree_nodes.specs.View.{Plant, Plants, head_view, shapes_of, term_i
 use Rattle.pz_tree_nodes.specs.Tended.{Tended}
 use Rattle.pz_tree_nodes.specs.Fresh.{Fresh, AllFlagged}
 use Rattle.pz_tree_refreshing.specs.Live.{live_below, live_among}
-use Rattle.pz_rules_delays.specs.Short.{IsShort}
+use Rattle.pz_rules.specs.Short.{IsShort}
 use Rattle.pz_tree_refreshing.specs.Refreshing.{HasRoom, IsSoon, Timely, AllTimely}
 use Rattle.pz_tree_refreshing.specs.devices.Reached.{Says, behind_inside, later}
 

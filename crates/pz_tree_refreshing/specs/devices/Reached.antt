@@ -3,8 +3,8 @@ use Rattle.std.specs.Prelude.{◌≡◌, ◌||◌, ℕ, zero, suc, Bool, true, f
 use Rattle.pz_offer.specs.Summaries.{nothing, join, shifted}
 use Rattle.pz_rules.specs.Settings.{Context}
 use Rattle.pz_rules.specs.Terms.{Term, Terms, no_terms, and}
-use Rattle.pz_tree_summary.specs.Summaries.{summary_of}
-use Rattle.pz_tree_summary.specs.Woken.{starts, clocked}
+use Rattle.pz_tree_standing.specs.Summaries.{summary_of}
+use Rattle.pz_tree_standing.specs.Woken.{starts, clocked}
 use Rattle.pz_tree_standing.specs.Heads as heads
 use Rattle.pz_tree_standing.specs.Heads.{Head}
 use Rattle.pz_tree_standing.specs.Reached.{reaches}

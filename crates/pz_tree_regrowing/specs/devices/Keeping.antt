@@ -8,7 +8,7 @@ use Rattle.pz_tree_nodes.specs.declared.kept.Kept.{Kept}
 use Rattle.pz_tree_nodes.specs.declared.node.What.{What}
 use Rattle.pz_tree_nodes.specs.Keeping.{kept_none, kept_done, kept_asked, joined, raised}
 use Rattle.pz_tree_nodes.specs.View.{Plants}
-use Rattle.pz_tree_planting.specs.devices.Leaves.{second_alone}
+use Rattle.pz_tree_nodes.specs.devices.Leaves.{second_alone}
 
 -- what a child keeps; one that is gone is done
 abbrev pub kept_at : Plants → ℕ → Kept

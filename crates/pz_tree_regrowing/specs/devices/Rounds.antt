@@ -10,7 +10,7 @@ use Rattle.pz_tree_standing.specs.Whole.{IsNoShift}
 use Rattle.pz_tree_nodes.specs.declared.node.What.{What}
 use Rattle.pz_tree_nodes.specs.View.{Plant, head_view, term_in_option}
 use Rattle.pz_tree_nodes.specs.Tended.{TendedOption}
-use Rattle.pz_tree_planting.specs.Planting.{nodes_of, root_of, size_of}
+use Rattle.pz_tree_nodes.specs.Planting.{nodes_of, root_of, size_of}
 use Rattle.pz_tree_regrowing.specs.Regrowing.{Work, StandsOption, Regrown, InTime}
 
 -- the topmost node is no shift node

@@ -5,8 +5,8 @@ use Rattle.pz_nodes_shapes.specs.Rose.{node, none, more, with_kid}
 use Rattle.pz_rules.specs.Leaving.{replaced}
 use Rattle.pz_rules.specs.Settings.{Context}
 use Rattle.pz_rules.specs.devices.Passing.{passed}
-use Rattle.pz_tree_summary.specs.Summaries.{summary_of}
-use Rattle.pz_tree_summary.specs.Steady.{later, Steady}
+use Rattle.pz_tree_standing.specs.Summaries.{summary_of}
+use Rattle.pz_tree_standing.specs.Steady.{later, Steady}
 use Rattle.pz_tree_standing.specs.Heads.{Head, What, Shape, Shapes, inner_clock, inner_frame, formed, shifted}
 use Rattle.pz_tree_standing.specs.Standing.{term_of, terms_of, term_of_option, HeadFits, Fits, FitAll, FitsOption}
 use Rattle.pz_tree_standing.specs.Resting.{RestAll, RestsOption}

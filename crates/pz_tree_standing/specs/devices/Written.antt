@@ -7,8 +7,8 @@ use Rattle.pz_nodes_shapes.specs.Rose.{node, none, gone, more}
 use Rattle.pz_rules.specs.Terms as term
 use Rattle.pz_rules.specs.Settings.{Context}
 use Rattle.pz_rules.specs.devices.Found.{tested}
-use Rattle.pz_tree_summary.specs.Summaries.{gated}
-use Rattle.pz_tree_summary.specs.devices.Tallies.{own_summary}
+use Rattle.pz_tree_standing.specs.Summaries.{gated}
+use Rattle.pz_tree_standing.specs.devices.Tallies.{own_summary}
 use Rattle.pz_tree_standing.specs.Heads.{Head, leaf, wait, sequence, parallel, select, guarded, frame, abort, idle, handling, shifted, Shapes}
 
 -- what a child keeps; nothing where there is none

@@ -3,7 +3,7 @@ use Rattle.std.proofs.lemmas.Result.{IfOk-weaker}
 use Rattle.pz_syntax.specs.Classes.{ModelTree}
 use Rattle.pz_classes.specs.CheckedView.{checked_model}
 use Rattle.pz_rules.specs.declared.action.Action.{Action}
-use Rattle.pz_term.specs.Simulations.{model_in, IsOffer}
+use Rattle.pz_term_simulator.specs.Simulations.{model_in, IsOffer}
 use Rattle.pz_debug_replies.specs.Lines.{offer_line}
 use Rattle.pz_debug_session.specs.Sessions.{stands_in}
 use Rattle.pz_debug_replies.proofs.Places.{named_here}

@@ -2,7 +2,7 @@ use Rattle.std.proofs.Common.{refl, ◌++◌}
 use Rattle.pz_rules.specs.declared.moment.Moment.TheVariants.{Finished, Deadlock, Faulty, Stopped}
 use Rattle.pz_trace.specs.Lines.{end_line}
 use Rattle.pz_trace.specs.declared.ending.Ending.TheVariants as ending
-use Rattle.pz_term.specs.Simulations.{model_in, clock_in, setting_in}
+use Rattle.pz_term_simulator.specs.Simulations.{model_in, clock_in, setting_in}
 use Rattle.pz_debug_replies.specs.Lines.{offers_text}
 use Rattle.pz_debug_commands.specs.Commands.{menu}
 use Rattle.pz_debug_session.specs.Sessions.{stands_in, steps_in}

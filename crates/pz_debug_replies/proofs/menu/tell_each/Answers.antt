@@ -1,5 +1,5 @@
 use Rattle.std.proofs.Common.{[], refl, arith}
-use Rattle.pz_term.specs.Simulations.{model_in}
+use Rattle.pz_term_simulator.specs.Simulations.{model_in}
 use Rattle.pz_debug_session.specs.Sessions.{stands_in}
 use Rattle.pz_debug_replies.proofs.Places.{nth_offer}
 use Rattle.pz_debug_replies.proofs.Told.{all_told, offer_told, offer_cut}

@@ -1,7 +1,7 @@
 use Rattle.std.proofs.Common.{◌≡◌, ◌++◌, List, ℕ, drop, None}
 use Rattle.pz_io.specs.Writing.{Wrote}
 use Rattle.pz_rules.specs.declared.action.Action.{Action}
-use Rattle.pz_term.specs.Simulations.{model_in, AreOffersOf}
+use Rattle.pz_term_simulator.specs.Simulations.{model_in, AreOffersOf}
 use Rattle.pz_debug_replies.specs.Lines.{offers_text}
 use Rattle.pz_debug_session.specs.Sessions.{stands_in}
 use Rattle.pz_debug_replies.proofs.menu.tell_each.Given as goal

@@ -2,7 +2,7 @@ use Rattle.std.proofs.Common.{ℕ, subst}
 use Rattle.std.specs.Result.{result_err}
 use Rattle.pz_io.specs.Writing.{Wrote}
 use Rattle.pz_trace.specs.Lines.{end_line}
-use Rattle.pz_term.specs.Simulations.{model_in, setting_in}
+use Rattle.pz_term_simulator.specs.Simulations.{model_in, setting_in}
 use Rattle.pz_debug_session.specs.Sessions.{stands_in, steps_in}
 use Rattle.pz_debug_replies.proofs.Places.{clock_there, named_at_end}
 use Rattle.pz_debug_replies.proofs.Written.{none_written, put_line}

@@ -1,4 +1,4 @@
-use Rattle.pz_term.specs.Simulations.{model_in, clock_in}
+use Rattle.pz_term_simulator.specs.Simulations.{model_in, clock_in}
 use Rattle.pz_debug_replies.specs.Lines.{offers_text}
 use Rattle.pz_debug_session.specs.Sessions.{stands_in}
 use Rattle.pz_debug_replies.specs.Lines.{menu_line}

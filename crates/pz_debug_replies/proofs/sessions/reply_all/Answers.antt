@@ -1,6 +1,6 @@
 use Rattle.std.proofs.Common.{ℕ, Result, Ok, Err, refl, sym, subst}
 use Rattle.pz_io.specs.declared.writing.Halt.{Halt}
-use Rattle.pz_term.specs.Simulations.{setting_in}
+use Rattle.pz_term_simulator.specs.Simulations.{setting_in}
 use Rattle.pz_debug_commands.specs.CommandView.{command_of}
 use Rattle.pz_debug_session.specs.Sessions.{stands_in, steps_in}
 use Rattle.pz_debug_replies.specs.Replying.{Replied}

@@ -1,5 +1,5 @@
 use Rattle.std.proofs.Common.{length}
-use Rattle.pz_term.specs.Simulations.{setting_in}
+use Rattle.pz_term_simulator.specs.Simulations.{setting_in}
 use Rattle.pz_debug_session.specs.Sessions.{stands_in, steps_in}
 use Rattle.pz_debug_replies.specs.devices.Answering.{IsAnswered}
 use Rattle.pz_debug_replies.proofs.sessions.reply_all.Given as goal

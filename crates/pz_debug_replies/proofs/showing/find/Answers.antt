@@ -1,4 +1,4 @@
-use Rattle.pz_term.specs.Simulations.{model_in}
+use Rattle.pz_term_simulator.specs.Simulations.{model_in}
 use Rattle.pz_debug_session.specs.Sessions.{stands_in}
 use Rattle.pz_debug_replies.proofs.Searched.{none_named}
 use Rattle.pz_debug_replies.proofs.showing.find.Goals as goal

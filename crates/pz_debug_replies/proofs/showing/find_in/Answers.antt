@@ -2,7 +2,7 @@ use Rattle.std.proofs.Common.{sym, subst}
 use Rattle.pz_syntax.specs.Classes.{ModelTree}
 use Rattle.pz_bind.specs.devices.Nets.{IsNet}
 use Rattle.pz_classes.specs.CheckedView.{checked_model}
-use Rattle.pz_term.specs.Simulations.{model_in}
+use Rattle.pz_term_simulator.specs.Simulations.{model_in}
 use Rattle.pz_debug_session.specs.Sessions.{stands_in}
 use Rattle.pz_debug_replies.proofs.Searched.{process_stands, is_there, is_none}
 use Rattle.pz_debug_replies.proofs.showing.find_in.Goals as goal

@@ -1,6 +1,6 @@
 use Rattle.pz_io.specs.declared.writing.Halt.TheVariants.{NoMemory}
 use Rattle.pz_trace.specs.Lines.{time_line}
-use Rattle.pz_term.specs.Simulations.{clock_in}
+use Rattle.pz_term_simulator.specs.Simulations.{clock_in}
 use Rattle.pz_debug_session.specs.Sessions.{stands_in}
 use Rattle.pz_debug_replies.proofs.Written.{halted_so, whole_written}
 use Rattle.pz_debug_replies.proofs.stepping.let_pass.Goals as goal

@@ -1,4 +1,4 @@
-use Rattle.pz_term.specs.Simulations.{clock_in}
+use Rattle.pz_term_simulator.specs.Simulations.{clock_in}
 use Rattle.pz_debug_commands.specs.Commands.{pass}
 use Rattle.pz_debug_session.specs.Sessions.{stands_in, steps_in}
 use Rattle.pz_debug_replies.specs.Lines.{refused_pass_line}

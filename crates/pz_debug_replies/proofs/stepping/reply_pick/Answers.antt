@@ -3,7 +3,7 @@ use Rattle.std.specs.Result.{result_err}
 use Rattle.pz_io.specs.Writing.{Wrote}
 use Rattle.pz_rules.specs.declared.moment.Moment.{Moment}
 use Rattle.pz_rules.specs.declared.moment.Moment.TheVariants.{Actions}
-use Rattle.pz_term.specs.Simulations.{IsMomentOf, clock_in}
+use Rattle.pz_term_simulator.specs.Simulations.{IsMomentOf, clock_in}
 use Rattle.pz_debug_replies.specs.Lines.{refused_pick_line}
 use Rattle.pz_debug_commands.specs.Commands.{pick}
 use Rattle.pz_debug_session.specs.Sessions.{stands_in, steps_in}

@@ -1,4 +1,4 @@
-use Rattle.pz_term.specs.Simulations.{setting_in}
+use Rattle.pz_term_simulator.specs.Simulations.{setting_in}
 use Rattle.pz_debug_session.proofs.Placed.{started_leads, started_placed, started_whole, started_clock}
 use Rattle.pz_debug_session.proofs.again.play_again.Goals as goal
 

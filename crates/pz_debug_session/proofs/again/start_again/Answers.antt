@@ -3,7 +3,7 @@ use Rattle.std.proofs.lemmas.Result.{IfOk-weaker}
 use Rattle.pz_classes.specs.CheckedView.{checked_model}
 use Rattle.pz_rules.specs.Settings.{Setting}
 use Rattle.pz_term_processes.specs.Standing.{setting_of}
-use Rattle.pz_term.specs.Simulations.{Starts, setting_in}
+use Rattle.pz_term_simulator.specs.Simulations.{Starts, setting_in}
 use Rattle.pz_debug_session.proofs.Placed.{same_setting}
 use Rattle.pz_debug_session.proofs.again.start_again.Goals as goal
 

@@ -1,5 +1,5 @@
 use Rattle.std.proofs.Common.{◌≡◌, ◌∙◌, sym, subst}
-use Rattle.pz_tree_summary.specs.Summaries.{summary_of}
+use Rattle.pz_tree_standing.specs.Summaries.{summary_of}
 use Rattle.pz_preempt.specs.Forms.{interrupt}
 use Rattle.pz_preempt.proofs.summaries.interrupt_summary.Goals as goal
 

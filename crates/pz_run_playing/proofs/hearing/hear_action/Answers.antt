@@ -1,7 +1,7 @@
 use Rattle.std.proofs.Common.{refl}
 use Rattle.std.specs.Result.{result_err}
 use Rattle.pz_rules.specs.Runs.{acted}
-use Rattle.pz_term.specs.Simulations.{model_in, clock_in}
+use Rattle.pz_term_simulator.specs.Simulations.{model_in, clock_in}
 use Rattle.pz_run_playing.proofs.Heard.{silent_says, silent_hears, line_says, line_hears, judged_says, judged_hears}
 use Rattle.pz_run_playing.proofs.hearing.hear_action.Goals as goal
 

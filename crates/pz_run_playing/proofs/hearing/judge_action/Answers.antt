@@ -4,7 +4,7 @@ use Rattle.std.specs.Result.{result_err}
 use Rattle.pz_io.specs.Writing.{Wrote}
 use Rattle.pz_rules.specs.declared.action.Action.{Action}
 use Rattle.pz_rules.specs.Runs.{acted}
-use Rattle.pz_term.specs.Simulations.{model_in, clock_in}
+use Rattle.pz_term_simulator.specs.Simulations.{model_in, clock_in}
 use Rattle.pz_watch_points.specs.EventPoints.{points_of}
 use Rattle.pz_watch_judging.specs.devices.Judging.{HasJudged}
 use Rattle.pz_run_playing.specs.Sayings.{judged_line}

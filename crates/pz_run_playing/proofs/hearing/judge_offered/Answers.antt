@@ -2,7 +2,7 @@ use Rattle.std.proofs.Common.{◌≡◌, refl, ap, ◌∙◌}
 use Rattle.std.specs.Result.{result_err}
 use Rattle.std.proofs.lemmas.Result.{on_ok_weaker}
 use Rattle.pz_rules.specs.Runs.{acted}
-use Rattle.pz_term.specs.Simulations.{model_in, clock_in}
+use Rattle.pz_term_simulator.specs.Simulations.{model_in, clock_in}
 use Rattle.pz_watch.specs.SpotView.{point_of}
 use Rattle.pz_watch_points.specs.EventPoints.{action_point, event_point, points_of}
 use Rattle.pz_run_playing.proofs.Simulated.{clock_of_actions, named_here}

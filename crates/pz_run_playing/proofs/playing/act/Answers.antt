@@ -1,5 +1,5 @@
 use Rattle.pz_rules.specs.Runs.{acted}
-use Rattle.pz_term.specs.Simulations.{model_in, clock_in}
+use Rattle.pz_term_simulator.specs.Simulations.{model_in, clock_in}
 use Rattle.pz_run_playing.specs.devices.Hearing.{saying}
 use Rattle.pz_run_playing.proofs.Written.{halted_so, whole_written}
 use Rattle.pz_run_playing.proofs.playing.act.Goals as goal

@@ -1,7 +1,7 @@
 use Rattle.std.proofs.Common.{ℕ, [], ◌∷◌, ◌++◌, Some, None, subst}
 use Rattle.pz_io.specs.Writing.{Wrote}
 use Rattle.pz_rules.specs.Runs.{passed}
-use Rattle.pz_term.specs.Simulations.{model_in, clock_in}
+use Rattle.pz_term_simulator.specs.Simulations.{model_in, clock_in}
 use Rattle.pz_run_playing.specs.devices.Hearing.{saying, HasHeard}
 use Rattle.pz_run_playing.proofs.Simulated.{no_time, clock_of_time}
 use Rattle.pz_run_playing.proofs.Written.{halted_so, whole_written}

@@ -1,7 +1,7 @@
 use Rattle.std.proofs.Common.{ℕ, List}
 use Rattle.pz_rules.specs.Runs.{Event}
-use Rattle.pz_term.specs.Simulations.{ClockIs, model_in, clock_in}
-use Rattle.pz_term.specs.devices.Room.{HasRoomFor}
+use Rattle.pz_term_simulator.specs.Simulations.{ClockIs, model_in, clock_in}
+use Rattle.pz_term_simulator.specs.devices.Room.{HasRoomFor}
 use Rattle.pz_run_playing.specs.devices.Rests.{pending_in}
 use Rattle.pz_run_playing.specs.devices.Hearing.{Manner, HasHeard}
 use Rattle.pz_run_playing.specs.devices.Going.{HasGone, Passing}

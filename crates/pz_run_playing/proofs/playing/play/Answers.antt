@@ -4,7 +4,7 @@ use Rattle.pz_io.specs.Writing.{Wrote}
 use Rattle.pz_choice.specs.Resolvers.{Resolver}
 use Rattle.pz_choice.specs.Choosers.{Stands}
 use Rattle.pz_trace.specs.TraceText.{trace_header}
-use Rattle.pz_term.specs.Simulations.{setting_in, model_in, clock_in}
+use Rattle.pz_term_simulator.specs.Simulations.{setting_in, model_in, clock_in}
 use Rattle.pz_run_playing.specs.Policies.{resolver_of, policy_of}
 use Rattle.pz_run_playing.specs.devices.Hearing.{Manner, saying, tells_lines, Hears, HasHeard}
 use Rattle.pz_run_playing.specs.devices.Going.{told, CutShort, Ended, PlayedThrough, BrokenOff}

@@ -1,7 +1,7 @@
 use Rattle.std.proofs.Common.{◌+◌, ◌-◌, sym, subst, ap, ◌∙◌, refl, arith}
 use Rattle.pz_rules.specs.declared.moment.Moment.{Moment}
 use Rattle.pz_rules.specs.ChosenRuns.{decided}
-use Rattle.pz_term.specs.Simulations.{IsMomentOf, clock_in}
+use Rattle.pz_term_simulator.specs.Simulations.{IsMomentOf, clock_in}
 use Rattle.pz_run_playing.specs.Policies.{policy_of}
 use Rattle.pz_run_playing.proofs.Simulated.{never_broken}
 use Rattle.pz_run_playing.proofs.Goings.{gone_none, gone_on, gone_chosen, room_of_one, room_of_all, going_none, going_passed, going_cut, going_acted, acting_cut, going_ended}

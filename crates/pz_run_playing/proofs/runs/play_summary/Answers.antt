@@ -1,5 +1,5 @@
 use Rattle.std.proofs.Common.{false, Ok}
-use Rattle.pz_term.specs.Simulations.{setting_in}
+use Rattle.pz_term_simulator.specs.Simulations.{setting_in}
 use Rattle.pz_run_playing.specs.Playing.{summary}
 use Rattle.pz_run_playing.specs.devices.Hearing.{silently}
 use Rattle.pz_run_playing.specs.Policies.{resolver_of, policy_of}

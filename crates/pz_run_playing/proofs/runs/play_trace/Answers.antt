@@ -1,5 +1,5 @@
 use Rattle.std.proofs.Common.{true, Ok}
-use Rattle.pz_term.specs.Simulations.{setting_in}
+use Rattle.pz_term_simulator.specs.Simulations.{setting_in}
 use Rattle.pz_run_playing.specs.Playing.{trace}
 use Rattle.pz_run_playing.specs.devices.Hearing.{in_lines}
 use Rattle.pz_run_playing.specs.Policies.{resolver_of, policy_of}

@@ -1,5 +1,5 @@
 use Rattle.std.proofs.Common.{[], refl, arith}
-use Rattle.pz_term.specs.Simulations.{model_in}
+use Rattle.pz_term_simulator.specs.Simulations.{model_in}
 use Rattle.pz_run_playing.proofs.Told.{nth_offer, all_told, offer_told, offer_cut}
 use Rattle.pz_run_playing.proofs.Written.{halted_so}
 use Rattle.pz_run_playing.proofs.telling.tell_each.Goals as goal

@@ -1,7 +1,7 @@
 use Rattle.std.proofs.Common.{◌≡◌, ◌++◌, List, ℕ, drop, None}
 use Rattle.pz_io.specs.Writing.{Wrote}
 use Rattle.pz_rules.specs.declared.action.Action.{Action}
-use Rattle.pz_term.specs.Simulations.{model_in, AreOffersOf}
+use Rattle.pz_term_simulator.specs.Simulations.{model_in, AreOffersOf}
 use Rattle.pz_run_playing.specs.Menus.{offers_text}
 use Rattle.pz_run_playing.proofs.telling.tell_each.Given as goal
 

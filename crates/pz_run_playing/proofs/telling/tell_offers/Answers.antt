@@ -1,6 +1,6 @@
 use Rattle.std.proofs.Common.{[]}
 use Rattle.pz_rules.specs.declared.moment.Moment.TheVariants.{Actions}
-use Rattle.pz_term.specs.Simulations.{none}
+use Rattle.pz_term_simulator.specs.Simulations.{none}
 use Rattle.pz_run_playing.proofs.telling.tell_offers.Goals as goal
 
 pub returns-in-Actions : goal.returns-in-Actions

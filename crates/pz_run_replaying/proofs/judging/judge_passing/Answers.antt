@@ -1,7 +1,7 @@
 use Rattle.std.proofs.Common.{◌≡◌, refl, sym, ap, ◌∙◌, List, ℕ, ◌++◌}
 use Rattle.pz_rules.specs.declared.moment.Moment.TheVariants.{Time}
 use Rattle.pz_trace.specs.Lines.{time_line}
-use Rattle.pz_term.specs.Simulations.{clock_in}
+use Rattle.pz_term_simulator.specs.Simulations.{clock_in}
 use Rattle.pz_run_replaying.proofs.Simulated.{clock_of_ready}
 use Rattle.pz_run_replaying.proofs.Found.{judges_stop, judges_passing, differs_passing}
 use Rattle.pz_run_replaying.proofs.judging.judge_passing.Goals as goal

@@ -4,7 +4,7 @@ use Rattle.pz_syntax.specs.Classes.{ModelTree}
 use Rattle.pz_classes.specs.CheckedView.{checked_model}
 use Rattle.pz_rules.specs.declared.action.Action.{Action}
 use Rattle.pz_trace.specs.Lines.{action_line}
-use Rattle.pz_term.specs.Simulations.{model_in, clock_in, IsOffer}
+use Rattle.pz_term_simulator.specs.Simulations.{model_in, clock_in, IsOffer}
 use Rattle.pz_run_replaying.proofs.Simulated.{named_here}
 use Rattle.pz_run_replaying.proofs.judging.offer_line.Goals as goal
 

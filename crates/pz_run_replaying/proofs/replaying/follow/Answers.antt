@@ -2,7 +2,7 @@ use Rattle.std.proofs.Common.{◌<◌, ◌≤◌, ℕ, suc, List, length, None, 
 use Rattle.pz_io.specs.Writing.{Wrote}
 use Rattle.pz_io.specs.declared.writing.Halt.TheVariants.{NoMemory}
 use Rattle.pz_run_replaying.proofs.Written.{err_is}
-use Rattle.pz_term.specs.Simulations.{model_in, clock_in}
+use Rattle.pz_term_simulator.specs.Simulations.{model_in, clock_in}
 use Rattle.pz_run_replaying.proofs.Found.{move_some, end_some}
 use Rattle.pz_run_replaying.proofs.Looping.{found_move, found_end, found_other, going_none, going_memory, going_cut, going_on, end_cut, going_concluded, going_refused}
 use Rattle.pz_run_replaying.proofs.replaying.follow.Goals as goal

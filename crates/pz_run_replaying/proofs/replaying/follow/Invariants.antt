@@ -1,5 +1,5 @@
 use Rattle.std.proofs.Common.{length}
-use Rattle.pz_term.specs.devices.Room.{HasRoomFor}
+use Rattle.pz_term_simulator.specs.devices.Room.{HasRoomFor}
 use Rattle.pz_run_replaying.specs.devices.Progress.{Going}
 use Rattle.pz_run_replaying.proofs.replaying.follow.Given as goal
 

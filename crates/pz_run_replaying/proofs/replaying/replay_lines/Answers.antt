@@ -2,7 +2,7 @@ use Rattle.std.proofs.Common.{◌≡◌, arith, length, ℕ, List, Some, None, a
 use Rattle.pz_io.specs.Writing.{Wrote}
 use Rattle.pz_io.specs.declared.writing.Halt.TheVariants.{NoMemory}
 use Rattle.pz_trace.specs.TraceText.{trace_header}
-use Rattle.pz_term.specs.Simulations.{setting_in}
+use Rattle.pz_term_simulator.specs.Simulations.{setting_in}
 use Rattle.pz_run_replaying.specs.devices.Fronts.{StartsWith}
 use Rattle.pz_syntax.specs.ModelText.{HasFewMarks}
 use Rattle.pz_classes.specs.Soundness.{IsSound}

@@ -4,7 +4,7 @@ use Rattle.std.proofs.Math.Logic.{∥∥₁_elim, ∥∥₁_map}
 use Rattle.std.proofs.Math.Nat.{ℕ_set}
 use Rattle.pz_classes.specs.CheckedView.{checked_model}
 use Rattle.pz_offer.specs.declared.trouble.Trouble.{Trouble}
-use Rattle.pz_tree_acting.specs.Deeds.{deed, Leaves}
+use Rattle.pz_tree.specs.Deeds.{deed, Leaves}
 use Rattle.pz_tree.specs.Acting.{answered}
 use Rattle.pz_tree.specs.Trees.{at_in, term_in, process_in}
 use Rattle.pz_sim.proofs.Acted.{refreshed, left_so, after_clock}

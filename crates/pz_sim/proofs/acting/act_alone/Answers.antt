@@ -3,7 +3,7 @@ use Rattle.std.specs.Prelude.{⊤, OnOk, OnErr, slice_set}
 use Rattle.std.proofs.Math.Logic.{∥∥₁_map}
 use Rattle.pz_offer.specs.declared.trouble.Trouble.{Trouble}
 use Rattle.pz_rules.specs.declared.action.Action.TheVariants.{Internal}
-use Rattle.pz_tree_acting.specs.Deeds.{CanAct}
+use Rattle.pz_tree.specs.Deeds.{CanAct}
 use Rattle.pz_tree.specs.declared.tree.Tree.{Tree}
 use Rattle.pz_sim.specs.devices.Acting.{setting_at}
 use Rattle.pz_sim.specs.devices.Holding.{AreTrees}

@@ -2,7 +2,7 @@ use Rattle.std.proofs.Common.{[], subst}
 use Rattle.std.proofs.Math.Logic.{∥∥₁_elim, ∥∥₁_map}
 use Rattle.pz_classes.specs.Soundness.{IsSound}
 use Rattle.pz_rules.specs.InternalActions.{Performs}
-use Rattle.pz_tree_acting.specs.Deeds.{CanAct}
+use Rattle.pz_tree.specs.Deeds.{CanAct}
 use Rattle.pz_sim.specs.devices.Acting.{model_at, setting_at}
 use Rattle.pz_sim.proofs.Acted.{may_there, leads_alone, trees_alone, other_alone, stay_alone}
 use Rattle.pz_sim.proofs.acting.act_at.Goals as goal

@@ -1,5 +1,5 @@
 use Rattle.std.proofs.Common.{refl}
-use Rattle.pz_tree_acting.specs.Deeds.{able, deed}
+use Rattle.pz_tree.specs.Deeds.{able, deed}
 use Rattle.pz_sim.specs.devices.Acting.{setting_at}
 use Rattle.pz_sim.proofs.Acted.{some_within, some_read, some_rounds, has_acted}
 use Rattle.pz_sim.proofs.acting.act_in.Goals as goal

@@ -1,7 +1,7 @@
 use Rattle.std.proofs.Common.{List, Ok, Err, subst}
 use Rattle.pz_classes.specs.Soundness.{IsSound}
 use Rattle.pz_rules.specs.Messages.{Hands, Takes}
-use Rattle.pz_tree_acting.specs.Deeds.{CanSend, CanReceive}
+use Rattle.pz_tree.specs.Deeds.{CanSend, CanReceive}
 use Rattle.pz_tree.specs.declared.tree.Tree.{Tree}
 use Rattle.pz_sim.specs.devices.Acting.{model_at, setting_at, HasActed, HasTried}
 use Rattle.pz_sim.proofs.Acted.{stays_then}

@@ -1,6 +1,6 @@
 use Rattle.std.proofs.Math.Logic.{∥∥₁_elim, ∥∥₁_map}
 use Rattle.std.proofs.Math.Nat.{ℕ_set}
-use Rattle.pz_tree_acting.specs.Deeds.{CanSend}
+use Rattle.pz_tree.specs.Deeds.{CanSend}
 use Rattle.pz_sim.specs.devices.Acting.{setting_at}
 use Rattle.pz_sim.proofs.Acted.{some_within, some_read, some_rounds, has_tried}
 use Rattle.pz_sim.proofs.acting.try_send.Goals as goal

@@ -1,6 +1,6 @@
 use Rattle.std.proofs.Common.{List, OnOk, subst}
 use Rattle.pz_classes.specs.CheckedView.{checked_model}
-use Rattle.pz_rules_delays.specs.Short.{TimesAreShort}
+use Rattle.pz_rules.specs.Short.{TimesAreShort}
 use Rattle.pz_term_processes.specs.declared.process.Process.{Process}
 use Rattle.pz_term_processes.specs.Standing.{setting_of, config_of}
 use Rattle.pz_term.proofs.vector.look_at.Goals as goal

@@ -6,11 +6,11 @@ use Rattle.pz_rules.specs.Terms.{height}
 use Rattle.pz_rules.specs.View.{term_view}
 use Rattle.pz_rules.specs.declared.term.Term.{Term}
 use Rattle.pz_term_processes.specs.Standing.{setting_of, process_view}
-use Rattle.pz_rules_delays.specs.Short.{IsShort}
+use Rattle.pz_rules.specs.Short.{IsShort}
 use Rattle.pz_tree.specs.declared.tree.Tree.{Tree}
 use Rattle.pz_tree.specs.Trees.{IsOf}
 use Rattle.pz_tree_regrowing.proofs.Shorts.{ends_in_time}
-use Rattle.pz_rules_delays.proofs.Opened.{start_short}
+use Rattle.pz_rules.proofs.Opened.{start_short}
 use Rattle.pz_tree.proofs.Started.{place_of, class_is, IsBegun, has_begun}
 use Rattle.pz_tree.proofs.starting.planted.Goals as goal
 

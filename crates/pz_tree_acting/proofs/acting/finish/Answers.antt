@@ -4,7 +4,7 @@ use Rattle.pz_nodes.specs.Arena.{find}
 use Rattle.pz_part_opening.specs.Homes.{home_view}
 use Rattle.pz_rules.specs.View.{term_view}
 use Rattle.pz_state.specs.declared.state.FrameId.{FrameId}
-use Rattle.pz_tree_dropping.specs.Dropping.{numbers}
+use Rattle.pz_tree_nodes.specs.Dropping.{numbers}
 use Rattle.pz_tree_acting.specs.devices.Closing.{CloseRule}
 use Rattle.pz_tree_acting.specs.devices.Begun.{MayGoOn}
 use Rattle.pz_tree_regrowing.proofs.Shorts.{ends_in_time}

@@ -3,8 +3,8 @@ use Rattle.std.specs.Vec.Iter.{into_iter_items}
 use Rattle.std.proofs.lemmas.List.{nil_from_length}
 use Rattle.pz_nodes.specs.Arena.{find}
 use Rattle.pz_rules.specs.devices.Walk.{active_parts, noted, received_by}
-use Rattle.pz_tree_seeking.specs.declared.found.Part.{Part}
-use Rattle.pz_tree_seeking.specs.Listing.{AreOf}
+use Rattle.pz_tree_nodes.specs.declared.found.Part.{Part}
+use Rattle.pz_tree_nodes.specs.Listing.{AreOf}
 use Rattle.pz_tree_offering.specs.Offers.{IsReceive}
 use Rattle.pz_tree_offering.proofs.Each.{taken, all_taken}
 use Rattle.pz_tree_offering.proofs.Received.{receive_taken}

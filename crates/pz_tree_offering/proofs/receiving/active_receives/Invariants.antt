@@ -5,7 +5,7 @@ use Rattle.pz_rules.specs.Settings.{Context}
 use Rattle.pz_rules.specs.Terms.{Term}
 use Rattle.pz_rules.specs.devices.Walk as walk
 use Rattle.pz_rules.specs.devices.Walk.{Noted, received_by}
-use Rattle.pz_tree_seeking.specs.Listing.{AreOf}
+use Rattle.pz_tree_nodes.specs.Listing.{AreOf}
 use Rattle.pz_tree_offering.specs.Offers.{IsReceive}
 use Rattle.pz_tree_offering.proofs.Each.{SoFar}
 use Rattle.pz_tree_offering.proofs.receiving.active_receives.Given as goal

@@ -5,8 +5,8 @@ use Rattle.pz_nodes.specs.Arena.{find}
 use Rattle.pz_part_queries.specs.Standpoints.{seen_from}
 use Rattle.pz_rules.specs.devices.Walk.{active_parts, noted, sent_by}
 use Rattle.pz_state.specs.Marks.{Seen}
-use Rattle.pz_tree_seeking.specs.declared.found.Part.{Part}
-use Rattle.pz_tree_seeking.specs.Listing.{AreOf}
+use Rattle.pz_tree_nodes.specs.declared.found.Part.{Part}
+use Rattle.pz_tree_nodes.specs.Listing.{AreOf}
 use Rattle.pz_tree_offering.specs.Offers.{IsSend}
 use Rattle.pz_tree_offering.specs.devices.Parts.{SendRule}
 use Rattle.pz_tree_offering.proofs.Each.{taken, all_taken}

@@ -6,7 +6,7 @@ use Rattle.pz_rules.specs.Terms.{Term}
 use Rattle.pz_rules.specs.devices.Walk as walk
 use Rattle.pz_rules.specs.devices.Walk.{Noted, sent_by}
 use Rattle.pz_syntax.specs.Classes.{ModelTree}
-use Rattle.pz_tree_seeking.specs.Listing.{AreOf}
+use Rattle.pz_tree_nodes.specs.Listing.{AreOf}
 use Rattle.pz_tree_offering.specs.Offers.{IsSend}
 use Rattle.pz_tree_offering.proofs.Each.{SoFar}
 use Rattle.pz_tree_offering.proofs.sending.active_sends.Given as goal

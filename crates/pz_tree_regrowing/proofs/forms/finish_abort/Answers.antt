@@ -3,7 +3,7 @@ use Rattle.std.specs.Prelude.{slice_index_or}
 use Rattle.std.proofs.lemmas.Result.{IfOk-weaker}
 use Rattle.pz_nodes.specs.Arena.{find}
 use Rattle.pz_tree_standing.specs.Heads as heads
-use Rattle.pz_tree_dropping.specs.Dropping.{numbers}
+use Rattle.pz_tree_nodes.specs.Dropping.{numbers}
 use Rattle.pz_tree_regrowing.specs.devices.Keeping.{kept_in}
 use Rattle.pz_tree_regrowing.specs.devices.Levels.{there, AloneRule, LosingRule}
 use Rattle.pz_tree_regrowing.proofs.ByForm.{abort_second, abort_ends, abort_goes_on}

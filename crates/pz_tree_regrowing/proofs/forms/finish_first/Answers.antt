@@ -5,7 +5,7 @@ use Rattle.pz_nodes.specs.Arena.{find}
 use Rattle.pz_classes_code.specs.StepView.{view}
 use Rattle.pz_tree_standing.specs.Heads as heads
 use Rattle.pz_tree_nodes.specs.Keeping.{joined, raised}
-use Rattle.pz_tree_dropping.specs.Dropping.{numbers}
+use Rattle.pz_tree_nodes.specs.Dropping.{numbers}
 use Rattle.pz_tree_regrowing.specs.devices.Keeping.{kept_in, kept_behind}
 use Rattle.pz_tree_regrowing.specs.devices.Levels.{there, AloneRule, LosingRule}
 use Rattle.pz_tree_regrowing.proofs.ByForm.{idle_ends, idle_goes_on}

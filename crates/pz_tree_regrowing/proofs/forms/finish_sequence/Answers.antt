@@ -4,7 +4,7 @@ use Rattle.pz_classes_code.specs.StepView.{sequence_view}
 use Rattle.pz_part_opening.specs.Homes.{home_view}
 use Rattle.pz_rules.specs.Terms.{frames_in}
 use Rattle.pz_rules.specs.View.{term_view}
-use Rattle.pz_tree_planting.specs.Planting.{EndsInTime, Planted, nodes_of}
+use Rattle.pz_tree_nodes.specs.Planting.{EndsInTime, Planted, nodes_of}
 use Rattle.pz_tree_standing.specs.Heads as heads
 use Rattle.pz_tree_regrowing.specs.devices.Levels.{ChangingRule}
 use Rattle.pz_tree_regrowing.proofs.ByForm.{sequence_goes_on, sequence_ends}

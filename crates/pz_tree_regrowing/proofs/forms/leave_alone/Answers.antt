@@ -1,7 +1,7 @@
 use Rattle.std.proofs.Common.{◌≡◌, ◌≤◌, ℕ, zero, suc, List, [], ◌∷◌, length, Option, None, refl, ap, sym, ◌∙◌, subst, arith}
 use Rattle.std.specs.Prelude.{slice_set}
 use Rattle.pz_nodes.specs.Arena.{find}
-use Rattle.pz_tree_dropping.specs.Dropping.{numbers}
+use Rattle.pz_tree_nodes.specs.Dropping.{numbers}
 use Rattle.pz_tree_regrowing.specs.devices.Levels.{AloneRule}
 use Rattle.pz_tree_regrowing.proofs.Finishing.{left_alone}
 use Rattle.pz_tree_regrowing.proofs.Kids.{roots_with_kid}

@@ -6,7 +6,7 @@ use Rattle.pz_rules.specs.View.{term_view}
 use Rattle.pz_rules.specs.Opening.{opened}
 use Rattle.pz_rules.specs.Becoming.{Became}
 use Rattle.pz_tree_nodes.specs.Keeping.{joined, raised}
-use Rattle.pz_tree_planting.specs.Planting.{EndsInTime}
+use Rattle.pz_tree_nodes.specs.Planting.{EndsInTime}
 use Rattle.pz_tree_regrowing.specs.devices.Keeping.{kept_behind}
 use Rattle.pz_tree_regrowing.proofs.Interrupts.{resumed}
 use Rattle.pz_tree_regrowing.proofs.Openings.{opened_calm}

@@ -1,7 +1,7 @@
 use Rattle.pz_nodes.specs.Arena.{find}
 use Rattle.pz_rules.specs.View.{term_view}
 use Rattle.pz_rules.specs.declared.term.Term.TheVariants as lying
-use Rattle.pz_tree_dropping.specs.Dropping.{numbers}
+use Rattle.pz_tree_nodes.specs.Dropping.{numbers}
 use Rattle.pz_tree_regrowing.proofs.Calls.{done_seen, frame_ends}
 use Rattle.pz_tree_regrowing.proofs.Writes.{one_more}
 use Rattle.pz_tree_regrowing.proofs.frames.end_frame.Goals as goal

@@ -1,6 +1,6 @@
 use Rattle.std.proofs.Common.{◌≡◌, true, false, [], sym, ◌∙◌, subst}
 use Rattle.pz_nodes.specs.Arena.{find}
-use Rattle.pz_tree_dropping.specs.Dropping.{numbers}
+use Rattle.pz_tree_nodes.specs.Dropping.{numbers}
 use Rattle.pz_tree_regrowing.specs.devices.Levels.{BareRule}
 use Rattle.pz_tree_regrowing.proofs.Calls.{frame_gives_way, frame_goes_on}
 use Rattle.pz_tree_regrowing.proofs.Writes.{one_more, none_in, some_in}

@@ -3,9 +3,9 @@ use Rattle.std.proofs.lemmas.Result.{IfOk-weaker}
 use Rattle.pz_nodes.specs.Arena.{find}
 use Rattle.pz_part_opening.specs.Homes.{home_view}
 use Rattle.pz_rules.specs.View.{term_view}
-use Rattle.pz_tree_dropping.specs.Dropping.{numbers}
+use Rattle.pz_tree_nodes.specs.Dropping.{numbers}
 use Rattle.pz_tree_nodes.specs.View.{head_view}
-use Rattle.pz_tree_planting.specs.Planting.{EndsInTime}
+use Rattle.pz_tree_nodes.specs.Planting.{EndsInTime}
 use Rattle.pz_tree_regrowing.specs.Regrowing.{at_work, RegrowRule}
 use Rattle.pz_tree_regrowing.specs.devices.Levels.{FinishRule}
 use Rattle.pz_tree_regrowing.specs.devices.Rounds.{ReplantRule, BareRegrowRule}

@@ -6,7 +6,7 @@ use Rattle.pz_classes_code.specs.StepView.{view, sequence_view}
 use Rattle.pz_part_opening.specs.Homes.{home_view}
 use Rattle.pz_rules.specs.Settings.{Home}
 use Rattle.pz_tree_standing.specs.Heads as heads
-use Rattle.pz_tree_dropping.specs.Dropping.{numbers}
+use Rattle.pz_tree_nodes.specs.Dropping.{numbers}
 use Rattle.pz_tree_nodes.specs.View.{head_view}
 use Rattle.pz_tree_regrowing.specs.Regrowing.{at_work}
 use Rattle.pz_tree_regrowing.specs.devices.Levels.{FinishRule, ChangingRule, AloneRule, SecondRule}

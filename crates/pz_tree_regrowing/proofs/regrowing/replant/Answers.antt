@@ -1,7 +1,7 @@
 use Rattle.std.proofs.Common.{◌≡◌, ◌+◌}
 use Rattle.pz_nodes.specs.Arena.{find}
 use Rattle.pz_rules.specs.View.{term_view}
-use Rattle.pz_tree_planting.specs.Planting.{nodes_of, Planted}
+use Rattle.pz_tree_nodes.specs.Planting.{nodes_of, Planted}
 use Rattle.pz_tree_regrowing.specs.devices.Rounds.{ReplantRule}
 use Rattle.pz_tree_regrowing.proofs.Rounds.{replanted}
 use Rattle.pz_tree_regrowing.proofs.Writes.{both_ok}

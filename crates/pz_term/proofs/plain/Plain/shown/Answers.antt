@@ -8,7 +8,7 @@ use Rattle.pz_classes.specs.CheckedView.{checked_model}
 use Rattle.pz_term_processes.specs.Standing.{setting_of}
 use Rattle.pz_term.specs.Plains.{simulation_of}
 use Rattle.pz_rules.specs.devices.Start.{start_of}
-use Rattle.pz_term.specs.Shown.{HoldsValue, IsShown}
+use Rattle.pz_term_simulator.specs.Shown.{HoldsValue, IsShown}
 use Rattle.pz_term.proofs.Variables.{index_built, not_broken, high_process, high_shows, built_shows}
 use Rattle.pz_term.proofs.plain.Plain.shown.Goals as goal
 

@@ -3,7 +3,7 @@ use Rattle.std.proofs.lemmas.Result.{on_ok_weaker}
 use Rattle.pz_classes.specs.CheckedView.{checked_model}
 use Rattle.pz_rules.specs.declared.moment.Moment.TheVariants.{Time}
 use Rattle.pz_term_processes.specs.Standing.{setting_of}
-use Rattle.pz_term.specs.Simulations.{Simulation, clock_in}
+use Rattle.pz_term_simulator.specs.Simulations.{Simulation, clock_in}
 use Rattle.pz_term.specs.Plains.{simulation_of}
 use Rattle.pz_term.proofs.Kept.{is_moment, kept_processes}
 use Rattle.pz_term.proofs.Moved.{time_passes, clock_there}

@@ -2,7 +2,7 @@ use Rattle.std.proofs.Common.{◌≡◌, length, Some, refl, sym, subst, arith}
 use Rattle.std.specs.Prelude.{slice_get}
 use Rattle.std.proofs.lemmas.Option.{slice_get_read}
 use Rattle.std.proofs.lemmas.Result.{IfOk-weaker}
-use Rattle.pz_term.specs.Simulations.{IsOffer}
+use Rattle.pz_term_simulator.specs.Simulations.{IsOffer}
 use Rattle.pz_term.specs.Plains.{simulation_of}
 use Rattle.pz_term.proofs.Shown.{offer_of_list}
 use Rattle.pz_term.proofs.simulating.PlainSimulator.offer.Goals as goal

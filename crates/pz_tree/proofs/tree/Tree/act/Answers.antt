@@ -6,7 +6,7 @@ use Rattle.pz_classes.specs.Soundness.{IsSound}
 use Rattle.pz_nodes.specs.Arena.{find}
 use Rattle.pz_part_queries.specs.Standpoints.{Knows}
 use Rattle.pz_rules.specs.Settings as rules
-use Rattle.pz_tree_frames.specs.Frames.{FramesStand}
+use Rattle.pz_tree_standing.specs.Frames.{FramesStand}
 use Rattle.pz_tree_acting.specs.Acting.{MayBeDone, ActRule}
 use Rattle.pz_tree.specs.declared.tree.Tree.{Tree}
 use Rattle.pz_tree.specs.Trees.{term_in, IsThere, IsFresh}

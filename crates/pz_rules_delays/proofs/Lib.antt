@@ -1,4 +1,0 @@
-pub mod Opened
-pub mod Left
-mod Stepped
-mod Passed

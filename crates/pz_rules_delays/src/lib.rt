@@ -1,4 +1,0 @@
-//! What is left of delays is short.
-#![tactic(auto)]
-
-pub mod laws;

@@ -1,4 +1,0 @@
-mod Views
-mod SlotsSet
-mod Acting
-mod Levels

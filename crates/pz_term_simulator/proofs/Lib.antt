@@ -1,0 +1,5 @@
+mod Given
+mod Opened
+mod Rooms
+mod Moments
+mod Variables

@@ -1,8 +1,0 @@
-mod Primitives
-mod Evaluating
-mod Opening
-mod Deeds
-mod Sweeping
-mod Numbered
-mod Starting
-mod Elapsing

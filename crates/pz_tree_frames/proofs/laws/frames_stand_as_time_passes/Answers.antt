@@ -1,5 +1,0 @@
-use Rattle.pz_tree_frames.proofs.Elapsing.{as_time_passes}
-use Rattle.pz_tree_frames.proofs.laws.frames_stand_as_time_passes.Goals as goal
-
-pub returns : goal.returns
-returns c = record { law = as_time_passes }

@@ -1,5 +1,0 @@
-use Rattle.pz_tree_frames.proofs.Starting.{at_start}
-use Rattle.pz_tree_frames.proofs.laws.frames_stand_at_start.Goals as goal
-
-pub returns : goal.returns
-returns c = record { law = at_start c.frames_are_numbered.ensures.free }

@@ -1,5 +1,0 @@
-mod Children
-mod Kids
-mod Highs
-mod Rounds
-mod Descending

@@ -1,8 +1,0 @@
-use Rattle.std.proofs.Common.{◌≡◌, ◌+◌, take}
-use Rattle.pz_nodes.specs.Arena.{find}
-use Rattle.pz_tree_nodes.specs.View.{head_view}
-use Rattle.pz_tree_seeking.specs.devices.Counts.{internal, counts}
-use Rattle.pz_tree_seeking.proofs.kth.seek.Given as goal
-
-abbrev pub invariant-loop-number : goal.invariant-loop-number
-invariant-loop-number g l = l.k ≡ l.left + counts internal (find l.nodes) (head_view l.head) 0 (take l.number l.kids)

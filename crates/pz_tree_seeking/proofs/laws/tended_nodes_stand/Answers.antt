@@ -1,7 +1,0 @@
-use Rattle.pz_tree_seeking.proofs.Plants.{tended_stand}
-use Rattle.pz_tree_seeking.proofs.laws.tended_nodes_stand.Goals as goal
-
-pub returns : goal.returns
-returns c = record {
-  law = tended_stand;
-}

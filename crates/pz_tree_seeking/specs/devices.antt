@@ -1,5 +1,0 @@
-pub mod Levels
-pub mod Own
-pub mod Counts
-pub mod Onward
-pub mod Adding

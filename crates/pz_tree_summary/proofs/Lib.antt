@@ -1,5 +1,0 @@
-pub mod Tallies
-pub mod Unasked
-pub mod Steady
-pub mod Woken
-mod Rows

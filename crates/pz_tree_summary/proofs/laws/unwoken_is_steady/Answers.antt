@@ -1,5 +1,0 @@
-use Rattle.pz_tree_summary.proofs.Woken.{unwoken_is_steady}
-use Rattle.pz_tree_summary.proofs.laws.unwoken_is_steady.Goals as goal
-
-pub returns : goal.returns
-returns c = record { law = unwoken_is_steady }
