@@ -62,6 +62,27 @@ fn come_and_go<L: Ledger>(
     Ok(())
 }
 
+/// So many updates of a process, which makes the same offer of this kind each time.
+fn offer_again<L: Ledger>(
+    alloc: Global,
+    table: &mut Pairs,
+    asker: &mut Asker<L>,
+    process: u32,
+    kind: Kind,
+    times: u32,
+) -> Result<(), AllocError>
+    requires process { process < length table.old.senders }
+    requires there { table.old.lost ≡ false }
+    ensures size { OnOk result (length table.new.senders ≡ length table.old.senders) }
+    ensures there { OnOk result (table.new.lost ≡ false) }
+{
+    let wish = [on_wire(kind)];
+    for _ in 0..times {
+        update(alloc, table, process, &wish, asker)?;
+    }
+    Ok(())
+}
+
 /// Each process sends over a wire of its own and receives over that of the next.
 fn fill_ring<L: Ledger>(
     alloc: Global,
@@ -126,13 +147,14 @@ fn run<L: Ledger>(
     match bench {
         "pairs" => return seek(table, times),
         "askers" => come_and_go(alloc, table, asker, size, Kind::Asking, times)?,
+        "again" => offer_again(alloc, table, asker, 0, Kind::Send, times)?,
         _ => come_and_go(alloc, table, asker, 0, Kind::Send, times)?,
     }
     Ok(times)
 }
 
-/// One of the benches, in a table of so many processes and one: `updates`, `conditions`, `askers`, `pairs`
-/// or `ring`.
+/// One of the benches, in a table of so many processes and one: `updates`, `again`, `conditions`, `askers`,
+/// `pairs` or `ring`.
 pub fn show<L: Ledger>(
     rt: &HostRuntime,
     table: &mut Pairs,

@@ -6,8 +6,9 @@
 //! has them no more, the same offers; both show how many pairs are taken then, and how many questions it
 //! took. `pairs` shows all taken pairs and the first trouble, `kth K` one pair. `yes`, `no P`, `trouble P`
 //! and `mixed S` say what conditions say from now on. `random SEED N` does so many random updates, each held
-//! against the pairs that are found plainly. `rows_match BENCH N TIMES` is a bench: `updates`, `conditions`,
-//! `askers`, `pairs` or `ring`.
+//! against the pairs that are found plainly; `near SEED N` does such as leave a front and a back of what a
+//! process offers, and `calm SEED N` the same without conditions. `rows_match BENCH N TIMES` is a bench:
+//! `updates`, `again`, `conditions`, `askers`, `pairs` or `ring`.
 #![tactic(auto)]
 
 mod asker;
@@ -21,6 +22,7 @@ ghost use Rattle.std.specs.Prelude.{◌≡◌, ◌<◌, ◌≤◌, false, length
 
 use asker::Asker;
 use pz_match::Pairs;
+use random::Draw;
 use rows_match_plain::{Rule, Wish, wishes};
 use std::alloc::{AllocError, Global};
 use std::marker::Brand;
@@ -102,6 +104,7 @@ fn show_random<L: Ledger>(
     table: &mut Pairs,
     asker: &mut Asker<L>,
     processes: u32,
+    draw: Draw,
     words: Split<'_, char>,
 ) -> io::Result<()>
     requires size { length table.old.senders ≡ processes }
@@ -115,7 +118,7 @@ fn show_random<L: Ledger>(
     if processes < 6 {
         return println!(rt; "too few processes");
     }
-    random::show_random(rt, table, asker, seed, updates)
+    random::show_random(rt, table, asker, draw, seed, updates)
 }
 
 /// The rule of a line, if it has one.
@@ -147,7 +150,9 @@ fn show_line<L: Ledger>(
     match words.next() {
         Some("update") => show_update(rt, table, asker, processes, words),
         Some("all") => show_all(rt, table, asker, processes, words),
-        Some("random") => show_random(rt, table, asker, processes, words),
+        Some("random") => show_random(rt, table, asker, processes, Draw::Other, words),
+        Some("near") => show_random(rt, table, asker, processes, Draw::Near, words),
+        Some("calm") => show_random(rt, table, asker, processes, Draw::Calm, words),
         Some("kth") => showing::show_kth(rt, table, u64::from(number(words.next()))),
         Some("pairs") => showing::show_pairs(rt, table),
         _ => println!(rt; "?"),
