@@ -1,6 +1,6 @@
 -- A simulator that goes on by an offer.
 use Rattle.std.proofs.Common.{◌≡◌, ◌<◌, ℕ, List, Ok, Err, refl, sym, subst, ap, ◌∙◌, arith}
-use Rattle.std.proofs.Math.Logic.{∥∥₁_elim, ∥∥₁_map}
+use Rattle.std.proofs.Math.Logic.{∥∥₁_elim, ∥∥₁_map, ∥∥₁_map₂}
 use Rattle.std.proofs.Math.Nat.{ℕ_set}
 use Rattle.pz_classes.specs.Soundness.{IsSound}
 use Rattle.pz_match.specs.Table.{Table}
@@ -24,13 +24,14 @@ use Rattle.pz_sim_laws.specs.Leading.{LeadsTo, MerelyLeads}
 use Rattle.pz_term_simulator.specs.Simulations as simulations
 use Rattle.pz_term_simulator.specs.Simulations.{Simulation, stands, Chooses, IsMomentOf, setting_in}
 use Rattle.pz_tree.specs.declared.tree.Tree.{Tree}
+use Rattle.pz_sim.specs.Costs.{TakesSoon, ChoosesSoon, IfGoesOn}
 use Rattle.pz_sim.specs.Members.{members_of}
 use Rattle.pz_sim.specs.Sims.{simulation_at}
 use Rattle.pz_sim.specs.declared.standing.Standing.{Standing}
 use Rattle.pz_sim.specs.declared.standing.Standing.TheVariants as standing
 use Rattle.pz_sim.specs.devices.Acting.{AreTold, HasAdvanced}
 use Rattle.pz_sim.specs.devices.Holding.{AreKept, Holds}
-use Rattle.pz_sim.proofs.Chosen.{as_many, totals_all}
+use Rattle.pz_sim.proofs.Chosen.{as_many, totals_all, couples_there}
 use Rattle.pz_sim.proofs.Kept.{kept_moment}
 
 pub setting_stays : (setting : Setting) (clock : ℕ) (ts us : List Tree) (x y : Standing) → setting_in (simulation_at setting clock us y) ≡ setting_in (simulation_at setting clock ts x)
@@ -101,6 +102,19 @@ module _ (one : OneMoment) (setting : Setting) (clock : ℕ) (ts : List Tree) (t
         (simulations.stops setting c n l.action trouble now l.chosen l.next))
     has_chosen merely sound k us (standing.High trouble) advanced = absurd advanced
     has_chosen merely sound k us standing.Broken advanced = absurd advanced
+
+-- the pairs that it has come to are those of the rules
+pub chosen_soon : PairsAreCouples → WiresAreKnown → (setting : Setting) (clock n k : ℕ) (ts us : List Tree) (totals : List Total) (table : Table) (begun ended : ℕ) → IsSound setting.model
+    → (x : Standing) → HasAdvanced setting clock n k ts us x → ∥ Holds setting clock us totals table x ∥₁
+    → IfGoesOn (simulation_at setting clock us x) (∥ TakesSoon setting clock k ts us table.pairs begun ended ∥₁) → IfGoesOn (simulation_at setting clock us x) (∥ ChoosesSoon setting clock k ts us begun ended ∥₁)
+chosen_soon couples wires setting clock n k ts us totals table begun ended sound (standing.Whole moment) advanced h soon = ∥∥₁_map₂ h soon (λ (y : AreKept setting clock us totals table moment) z. record {
+  pairs = table.pairs;
+  couples = couples_there setting clock us totals table (record { are_trees = y.are_trees; are_totals = y.are_totals; is_table = y.is_table }) couples wires sound;
+  takes = z;
+})
+chosen_soon couples wires setting clock n k ts us totals table begun ended sound (standing.Stopped trouble) advanced h soon = tt
+chosen_soon couples wires setting clock n k ts us totals table begun ended sound (standing.High trouble) advanced h soon = absurd advanced
+chosen_soon couples wires setting clock n k ts us totals table begun ended sound standing.Broken advanced h soon = tt
 
 -- what is told, with the moment that it decides, is kept
 pub kept_anew : (setting : Setting) (clock : ℕ) (ts : List Tree) (totals : List Total) (table : Table) (moment : Moment) → ∥ AreTold setting clock ts totals table ∥₁ → moment ≡ decided clock (sums.all totals) table.pairs

@@ -1,7 +1,7 @@
 -- Two processes act together: what their trees, and all, are afterwards.
-use Rattle.std.proofs.Common.{◌≡◌, ◌≢◌, ◌<◌, ℕ, List, set, length, Some, Result, Ok, Err, sym, subst, ap, ◌∙◌}
+use Rattle.std.proofs.Common.{◌≡◌, ◌≢◌, ◌≤◌, ◌<◌, ◌+◌, ◌*◌, ℕ, List, set, length, Some, Result, Ok, Err, sym, subst, ap, ◌∙◌}
 use Rattle.std.specs.Prelude.{slice_get, ⊤}
-use Rattle.std.proofs.Math.Logic.{∥∥₁_elim, ∥∥₁_map}
+use Rattle.std.proofs.Math.Logic.{∥∥₁_elim, ∥∥₁_map, ∥∥₁_map₂}
 use Rattle.std.proofs.lemmas.List.{set_comm}
 use Rattle.std.proofs.lemmas.Option.{same_Some, slice_get_within}
 use Rattle.std.specs.Coded.{le_prop}
@@ -23,14 +23,17 @@ use Rattle.pz_sim_laws.specs.Members.{Member, become, process_of, config_of}
 use Rattle.pz_sim_laws.specs.Deeds as deeds
 use Rattle.pz_sim_laws.specs.Laws.{MembersAct, CommunicationLeadsOn, SenderTroubleEnds, MembersStay}
 use Rattle.pz_tree.specs.Deeds.{CanSend, CanReceive, Leaves}
+use Rattle.pz_tree_regrowing.specs.Costs.{on_way}
 use Rattle.pz_tree.specs.declared.tree.Tree.{Tree}
 use Rattle.pz_tree.specs.Trees.{IsFresh, at_in, term_in, process_in}
+use Rattle.pz_sim.specs.Costs.{ActsSoon}
 use Rattle.pz_sim.specs.Members.{member_of, members_of}
-use Rattle.pz_sim.specs.devices.Acting.{MayAct, MayActAt, CanDoAt, IsAfter, HasActed, HasTried}
+use Rattle.pz_sim.specs.devices.Acting.{MayAct, MayActAt, CanDoAt, IsAfter, HasActed, HasActedSoon, HasTried}
 use Rattle.pz_sim.specs.devices.Holding.{AreTrees}
 use Rattle.pz_sim.proofs.Heard.{set_other}
 use Rattle.pz_sim.proofs.Acted.{becomes, member_is, may_there, acts_so, trees_reached, after_clock}
-use Rattle.pz_sim.proofs.Replaced.{from_mapped, all_at, members_replaced, AreAlike, are_alike, alike_replaced}
+use Rattle.pz_sim.proofs.Replaced.{from_mapped, got_set, all_at, members_replaced, AreAlike, are_alike, alike_replaced}
+use Rattle.pz_sim.proofs.Soon.{both_soon}
 
 -- The parts of a pair stand in trees
 
@@ -266,3 +269,21 @@ module _ (acts : MembersAct) (leads : CommunicationLeadsOn) (ends : SenderTroubl
 
         pub others_then : (u v : Tree) × (us ≡ set (set ts receiver.process v) sender.process u)
         others_then = (h.new, z.new, both_now)
+
+        -- in few steps
+        pub soon_then : (begun tried taken ended : ℕ)
+            → ((t : Tree) → slice_get ts sender.process ≡ Some t → (x : ParcelView) → MayAct setting.model clock (CanSend x) t sender.place → tried ≤ begun + 5 * on_way (term_in t) sender.place)
+            → ((t u : Tree) → slice_get ts receiver.process ≡ Some t → slice_get vs receiver.process ≡ Some u → (x : ParcelView) → MayAct setting.model clock CanReceive t receiver.place
+            → ∥ HasActedSoon setting.model (λ a f. Takes a f parcel) t u receiver.place tried taken ∥₁)
+            → ((t u : Tree) → slice_get vs sender.process ≡ Some t → slice_get us sender.process ≡ Some u → (x : ParcelView) → MayAct setting.model clock (CanSend x) t sender.place
+            → ∥ HasActedSoon setting.model (λ a f. Hands a f x) t u sender.place taken ended ∥₁)
+            → ∥ ActsSoon setting.model ts us (Comm wire sender receiver message parcel) 0 begun ended ∥₁
+        soon_then begun tried taken ended first second third =
+            ∥∥₁_elim are squash₁ (λ k. ∥∥₁_elim pair squash₁ (λ p.
+            let s_is = old_sender (Ok o) h in
+            let hands = may_hand k p h.old s_is in
+            let v_is : slice_get vs receiver.process ≡ Some z.new = ap (λ (xs : List Tree). slice_get xs receiver.process) z.now ∙ got_set ts receiver.process z.new (slice_get_within ts receiver.process z.old z.is) in
+            let u_is : slice_get us sender.process ≡ Some h.new = ap (λ (xs : List Tree). slice_get xs sender.process) h.now ∙ got_set vs sender.process h.new (slice_get_within vs sender.process h.old h.is) in
+            let still : slice_get us receiver.process ≡ Some z.new = ap (λ (xs : List Tree). slice_get xs receiver.process) h.now ∙ set_other vs sender.process receiver.process h.new apart ∙ v_is in
+            ∥∥₁_map₂ (second z.old z.new z.is v_is parcel (may_take k p z.old z.is)) (third h.old h.new h.is u_is parcel hands) (λ x y.
+            both_soon setting.model ts us wire sender receiver message parcel h.old h.new z.old z.new begun tried taken ended s_is u_is z.is still (first h.old s_is parcel hands) x y)))

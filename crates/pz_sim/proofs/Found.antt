@@ -1,7 +1,7 @@
 -- The offer of a number is an internal action of a process that was found, or a communication of a pair.
 use Rattle.std.proofs.Common.{◌≡◌, ◌<◌, ◌≤◌, ℕ, List, get_or, length, Option, Some, Result, Ok, Err, sym, ap, ◌∙◌, arith}
-use Rattle.std.specs.Prelude.{slice_get, option_map, IfOk, ⊤}
-use Rattle.std.proofs.Math.Logic.{∥∥₁_elim, ∥∥₁_map}
+use Rattle.std.specs.Prelude.{slice_get, option_map, IfOk, OnOk, ⊤}
+use Rattle.std.proofs.Math.Logic.{∥∥₁_elim, ∥∥₁_map, ∥∥₁_map₂}
 use Rattle.std.specs.Coded.{le_prop}
 use Rattle.std.specs.declared.alloc.AllocError.{AllocError}
 use Rattle.std.proofs.lemmas.Option.{slice_get-get_or}
@@ -11,6 +11,7 @@ use Rattle.pz_bind.specs.Nest.{processes}
 use Rattle.pz_classes.specs.Soundness.{IsSound}
 use Rattle.pz_offer.specs.declared.end.End.{End}
 use Rattle.pz_offer.specs.declared.trouble.Trouble.{Trouble}
+use Rattle.pz_match.specs.Pairs.{Judged}
 use Rattle.pz_match.specs.Table.{Table}
 use Rattle.pz_rules.specs.declared.action.Action.{Action}
 use Rattle.pz_rules.specs.declared.action.Action.TheVariants.{Internal}
@@ -34,6 +35,7 @@ use Rattle.pz_tree.specs.declared.found.InternalAction.{InternalAction}
 use Rattle.pz_tree.specs.declared.tree.Tree.{Tree}
 use Rattle.pz_tree.specs.Asking.{noted_view}
 use Rattle.pz_tree.specs.Trees.{IsFresh, at_in, term_in}
+use Rattle.pz_sim.specs.Costs.{ActsSoon, TakesSoon, acts_in, with_end_in}
 use Rattle.pz_sim.specs.Members.{member_of, members_of}
 use Rattle.pz_sim.specs.devices.Acting.{AreTold, CanDoAt}
 use Rattle.pz_sim.proofs.Chosen.{never_none, acts_there, chosen_internal, couples_there}
@@ -44,6 +46,13 @@ pub chosen_leads : (setting : Setting) (c : Config) (n k : ℕ) (a : Action) (f 
     → IfOk r (λ left. ∥ Next setting c a (f left) ∥₁) → IfOk r (λ left. ∥ LeadsTo setting c n k (f left) ∥₁)
 chosen_leads setting c n k a f (Err e) chosen next = tt
 chosen_leads setting c n k a f (Ok left) chosen next = ∥∥₁_elim chosen squash₁ (λ x. ∥∥₁_map next (λ y. record { action = a; chosen = x; next = y }))
+
+-- and in few steps, if the action is done so
+pub chosen_soon : (setting : Setting) (clock n k : ℕ) (ts us : List Tree) (a : Action) (pairs : List Judged) (begun ended : ℕ) (r : Result (Result ⊤ Trouble) AllocError) → ∥ IsChoice setting (config_of clock (members_of setting.model ts)) n k a ∥₁
+    → IfOk r (λ left. OnOk left (∥ ActsSoon setting.model ts us a (length (with_end_in (acts_in a) pairs)) begun ended ∥₁)) → IfOk r (λ left. OnOk left (∥ TakesSoon setting clock k ts us pairs begun ended ∥₁))
+chosen_soon setting clock n k ts us a pairs begun ended (Err e) chosen soon = tt
+chosen_soon setting clock n k ts us a pairs begun ended (Ok (Err trouble)) chosen soon = tt
+chosen_soon setting clock n k ts us a pairs begun ended (Ok (Ok x)) chosen soon = ∥∥₁_map₂ chosen soon (λ y z. record { count = n; action = a; chosen = y; soon = z })
 
 module _ (setting : Setting) (clock : ℕ) (ts : List Tree) (totals : List Total) (table : Table) (told : ∥ AreTold setting clock ts totals table ∥₁) (found : Found) (k : ℕ) (is : IsAction totals k found) where
   as_many : AreTold setting clock ts totals table → length totals ≡ length ts

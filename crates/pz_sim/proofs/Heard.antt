@@ -18,6 +18,7 @@ use Rattle.pz_offer.specs.PlaceOrder.{Place, PlaceBefore}
 use Rattle.pz_match.specs.declared.offers.Sender.{Sender}
 use Rattle.pz_match.specs.declared.offers.Receiver.{Receiver}
 use Rattle.pz_match.specs.Offers as match_offers
+use Rattle.pz_match.specs.Offers.{Fits}
 use Rattle.pz_match.specs.Pairs.{Judged, ArePairs, touches}
 use Rattle.pz_match.specs.Judging.{said}
 use Rattle.pz_match.specs.Table.{Table, all_senders, all_receivers}
@@ -36,7 +37,8 @@ use Rattle.pz_tree.specs.declared.tree.Tree.{Tree}
 use Rattle.pz_tree.specs.Trees.{at_in, term_in, IsFresh}
 use Rattle.pz_sim.specs.Members.{member_of}
 use Rattle.pz_sim.specs.devices.Questions.{Stands, Takes, said_in, verdict_in}
-use Rattle.pz_sim.specs.devices.Tables.{hushed, IsTable, IsHeard, AreHeard, CanSpeak}
+use Rattle.pz_sim.specs.devices.Tables.{hushed, IsTable, IsHeard, AreHeard, AreHeardBut, CanSpeak}
+use Rattle.pz_sim.proofs.Counted.{all_made}
 
 pub answered : (r : Result Bool Trouble) → answer (verdict_of r) ≡ r
 answered (Ok true) = refl
@@ -72,6 +74,9 @@ set_other (x ∷ xs) (suc i) zero y apart = refl
 set_other (x ∷ xs) (suc i) (suc j) y apart = set_other xs i j y (λ e. apart (ap suc e))
 
 module _ (m : ModelTree) (clock : ℕ) (ts : List Tree) where
+  pub heard_but : (hs : List Member) (i : ℕ) → AreHeard m clock ts hs → AreHeardBut m clock ts i hs
+  heard_but hs i heard j h apart there = heard j h there
+
   -- one more is silent, or heard
 
   pub heard_silent : (hs : List Member) (i : ℕ) (h : Member) → AreHeard m clock ts hs → AreHeard m clock ts (set hs i (hushed h))
@@ -81,7 +86,7 @@ module _ (m : ModelTree) (clock : ℕ) (ts : List Tree) where
       by (inl same) = inl (ap (λ (y : Member). y.term) (set_same hs i (hushed h) x (ap (slice_get (set hs i (hushed h))) same ∙ there)))
       by (inr apart) = heard j x (sym (set_other hs i j (hushed h) apart) ∙ there)
 
-  pub heard_more : (hs : List Member) (i : ℕ) (t : Tree) → slice_get ts i ≡ Some t → IsFresh m t → t.clock ≡ clock → AreHeard m clock ts hs → AreHeard m clock ts (set hs i (member_of m t))
+  pub heard_more : (hs : List Member) (i : ℕ) (t : Tree) → slice_get ts i ≡ Some t → IsFresh m t → t.clock ≡ clock → AreHeardBut m clock ts i hs → AreHeard m clock ts (set hs i (member_of m t))
   heard_more hs i t is fresh same_clock heard j x there = by (same_or_apart i j)
     where
       by : (i ≡ j) ⊎ (i ≢ j) → (x.term ≡ done) ⊎ IsHeard m clock ts j x
@@ -92,9 +97,9 @@ module _ (m : ModelTree) (clock : ℕ) (ts : List Tree) where
         same_clock = same_clock;
         same = set_same hs i (member_of m t) x (ap (slice_get (set hs i (member_of m t))) same ∙ there);
       })
-      by (inr apart) = heard j x (sym (set_other hs i j (member_of m t) apart) ∙ there)
+      by (inr apart) = heard j x apart (sym (set_other hs i j (member_of m t) apart) ∙ there)
 
-  module _ (stand : ReceiversStand) (says_so : SaysWhatIsComputed) (hs : List Member) (heard : AreHeard m clock ts hs) (rows : List (List Receiver)) (are : AreReceivers hs rows) where
+  module _ (stand : ReceiversStand) (hs : List Member) (rows : List (List Receiver)) (are : AreReceivers hs rows) where
     -- a receive that is offered stands in a tree
     record InTree (r : Receiver) : Type 0 where
       pub member : Member
@@ -102,8 +107,12 @@ module _ (m : ModelTree) (clock : ℕ) (ts : List Tree) where
       pub one : IsHeard m clock ts r.end.process member
       pub receives : HasReceive (at_in m one.tree) (term_in one.tree) r.end.place
 
-    in_tree : (r : Receiver) → Contains (in_all rows) r → InTree r
-    in_tree r there = by (heard r.end.process x.0 x.1)
+    -- whose process is silent or heard
+    abbrev One : Receiver → Type 0
+    One r = (h : Member) → slice_get hs r.end.process ≡ Some h → (h.term ≡ done) ⊎ IsHeard m clock ts r.end.process h
+
+    in_tree : (r : Receiver) → Contains (in_all rows) r → One r → InTree r
+    in_tree r there one = by (one x.0 x.1)
       where
         x : (h : Member) × (slice_get hs r.end.process ≡ Some h) × HasReceive h.seen h.term r.end.place
         x = stand hs rows r are there
@@ -112,17 +121,17 @@ module _ (m : ModelTree) (clock : ℕ) (ts : List Tree) where
         by (inl is_done) = absurd (no_receive x.0.seen x.0.term r.end.place is_done x.2)
         by (inr one) = record { member = x.0; is_member = x.1; one = one; receives = subst (λ (h : Member). HasReceive h.seen h.term r.end.place) one.same x.2 }
 
-    pub stands : (r : Receiver) → Contains (in_all rows) r → Stands m clock ts r.end
-    stands r there = let x = in_tree r there in record { tree = x.one.tree; is = x.one.is; fresh = x.one.fresh; same_clock = x.one.same_clock; receives = x.receives }
+    pub stands : (r : Receiver) → Contains (in_all rows) r → One r → Stands m clock ts r.end
+    stands r there one = let x = in_tree r there one in record { tree = x.one.tree; is = x.one.is; fresh = x.one.fresh; same_clock = x.one.same_clock; receives = x.receives }
 
     said_so : (s : Sender) (r : Receiver) (b : Bool) → r.conditional ≡ b → (v : Verdict) → v ≡ said (λ from parcel to. verdict_in m ts to parcel) s r → (r.conditional ≡ true → v ≡ verdict_in m ts r.end s.parcel)
     said_so s r b is v e cond = e ∙ ap (λ (c : Bool). if c then verdict_in m ts r.end s.parcel else says.Yes) cond
 
-    pub truthful : (p : Judged) → Contains (in_all rows) p.receiver → p.verdict ≡ said (λ from parcel to. verdict_in m ts to parcel) p.sender p.receiver → IsTruthful hs p
-    truthful p there e = record {
+    pub truthful : SaysWhatIsComputed → (p : Judged) → Contains (in_all rows) p.receiver → One p.receiver → p.verdict ≡ said (λ from parcel to. verdict_in m ts to parcel) p.sender p.receiver → IsTruthful hs p
+    truthful says_so p there heard e = record {
       free = λ free. e ∙ ap (λ (c : Bool). if c then verdict_in m ts p.receiver.end p.sender.parcel else says.Yes) free;
       asked = λ cond h is.
-          let x = in_tree p.receiver there in
+          let x = in_tree p.receiver there heard in
           let t = x.one.tree in
           let same : h ≡ member_of m t = same_Some h x.member (sym is ∙ x.is_member) ∙ x.one.same in
           let v : p.verdict ≡ verdict_of (said_at (at_in m t) (term_in t) p.receiver.end.place p.sender.parcel) =
@@ -156,7 +165,7 @@ set_there [] i y within = absurd (omega (arith, within))
 set_there (x ∷ xs) zero y within = refl
 set_there (x ∷ xs) (suc i) y within = set_there xs i y (omega (arith, within))
 
-all_got : {X : Type 0} (P : X → Type 0) (xs : List X) (x : X) → All P xs → Contains xs x → P x
+pub all_got : {X : Type 0} (P : X → Type 0) (xs : List X) (x : X) → All P xs → Contains xs x → P x
 all_got P xs x all (k, within, is) = subst P is (all k x within)
 
 all_by : {X : Type 0} (P : X → Type 0) (xs : List X) → ((x : X) → Contains xs x → P x) → All P xs
@@ -189,15 +198,17 @@ module _ (stand : ReceiversStand) (says_so : SaysWhatIsComputed) (senders_so : S
         pairs = pairs;
         truthful = others hs i x old.pairs new.pairs is.truthful same
             (all_by (λ (p : Judged). touches i p ≡ true → IsTruthful (set hs i x) p) new.pairs (λ p within touched.
-            truthful m clock ts stand says_so (set hs i x) heard new.receivers rrows p (all_got (λ (q : Judged). Contains (all_receivers new) q.receiver) new.pairs p pairs.receives within)
+            truthful m clock ts stand (set hs i x) new.receivers rrows says_so p (all_got (λ (q : Judged). Contains (all_receivers new) q.receiver) new.pairs p pairs.receives within) (heard p.receiver.end.process)
             (all_got (λ (q : Judged). touches i q ≡ true → Said q) new.pairs p asked within touched)));
       }
 
   -- which questions are asked
 
   pub asks_sends : (old : Table) (i : ℕ) (sends : List SendOffer) (receives : List ReceiveOffer) → ∥ CanSpeak m clock ts old i sends receives ∥₁
-      → (r : Receiver) → Contains (all_receivers old) r → Takes m clock ts r.end
-  asks_sends old i sends receives k r there = ∥∥₁_elim k squash₁ (λ x. ∣ stands m clock ts stand says_so x.members x.heard old.receivers x.table.receivers r there ∣₁)
+      → (s : Sender) (r : Receiver) → Contains (match_offers.senders i sends) s → Contains (all_receivers old) r → Fits s r → Takes m clock ts r.end
+  asks_sends old i sends receives k s r there_s there fits = ∥∥₁_elim k squash₁ (λ x.
+      let of_it : s.end.process ≡ i = all_got (λ (y : Sender). y.end.process ≡ i) (match_offers.senders i sends) s (all_made (λ (y : Sender). y.end.process ≡ i) (λ y. y.wire) (λ y wire. match_offers.sender i y wire) (λ y wire. refl) sends) there_s in
+      ∣ stands m clock ts stand x.members old.receivers x.table.receivers r there (λ h is. x.heard r.end.process h (λ e. fits.two (of_it ∙ e)) is) ∣₁)
 
   pub asks_receives : (old : Table) (i : ℕ) (sends : List SendOffer) (receives : List ReceiveOffer) → ∥ CanSpeak m clock ts old i sends receives ∥₁
       → (r : Receiver) → Contains (match_offers.receivers i receives) r → Takes m clock ts r.end
@@ -205,9 +216,10 @@ module _ (stand : ReceiversStand) (says_so : SaysWhatIsComputed) (senders_so : S
       let hs = set x.members i (member_of m x.tree) in
       let rows = set old.receivers i (match_offers.receivers i receives) in
       let within : i < length old.receivers = omega (arith, slice_get_within x.members i x.before x.is_before, x.table.receivers.all) in
-      ∣ stands m clock ts stand says_so hs (heard_more m clock ts x.members i x.tree x.is x.fresh x.same_clock x.heard) rows
+      ∣ stands m clock ts stand hs rows
       (receivers_so x.members old.receivers i (member_of m x.tree) (match_offers.receivers i receives) x.table.receivers (record { offers = receives; are = x.are_receives; over_wires = refl }))
-      r (from_one rows i (match_offers.receivers i receives) r (set_there old.receivers i (match_offers.receivers i receives) within) there) ∣₁)
+      r (from_one rows i (match_offers.receivers i receives) r (set_there old.receivers i (match_offers.receivers i receives) within) there)
+      (heard_more m clock ts x.members i x.tree x.is x.fresh x.same_clock x.heard r.end.process) ∣₁)
 
   pub speaks_within : (old : Table) (i : ℕ) (sends : List SendOffer) (receives : List ReceiveOffer) → ∥ CanSpeak m clock ts old i sends receives ∥₁ → i < length old.senders
   speaks_within old i sends receives k = ∥∥₁_elim k le_prop (λ x. omega (arith, slice_get_within x.members i x.before x.is_before, x.table.senders.all))

@@ -1,12 +1,15 @@
 mod Outcomes
 mod Borrowed
 mod Heard
+mod Counted
+mod Untouched
 mod Kept
 mod Offered
 mod Verdicts
 mod Told
 mod Replaced
 mod Acted
+mod Soon
 mod Renewed
 mod Exchanged
 mod Together

@@ -10,6 +10,7 @@ use Rattle.pz_match.specs.Pairs.{Judged}
 use Rattle.pz_match.specs.Table.{Table, all_receivers}
 use Rattle.pz_rules.specs.Delays as delays
 use Rattle.pz_rules.specs.Settings.{Setting}
+use Rattle.pz_rules.specs.Terms.{done}
 use Rattle.pz_sim_laws.specs.Members.{Member}
 use Rattle.pz_sim_laws.specs.Offering.{SendersOf, ReceiversOf}
 use Rattle.pz_sim_laws.specs.Couples.{answer, IsTruthful}
@@ -17,9 +18,10 @@ use Rattle.pz_sim_laws.specs.Elapsing.{Elapsed}
 use Rattle.pz_sim_laws.specs.Laws.{ReceiversStand, SendsOutlast, ReceivesOutlast, VerdictsOutlast}
 use Rattle.pz_tree_standing.specs.Woken.{clocked}
 use Rattle.pz_tree.specs.declared.tree.Tree.{Tree}
+use Rattle.pz_sim.specs.Costs.{names}
 use Rattle.pz_sim.specs.Members.{member_of}
 use Rattle.pz_sim.specs.devices.Holding.{AreTrees}
-use Rattle.pz_sim.specs.devices.Passing.{names, quiet_if, quieted, quiet_after, AreSilenced, HavePassed, IsYetToSpeak, AreRetold}
+use Rattle.pz_sim.specs.devices.Passing.{quiet_if, quieted, quiet_after, AreSilenced, HavePassed, IsYetToSpeak, AreRetold}
 use Rattle.pz_sim.specs.devices.Tables.{IsTable}
 use Rattle.pz_sim.proofs.Passed.{some_at, all_from, elapsed_at}
 use Rattle.pz_sim.proofs.Quieted.{length-quieted}
@@ -143,8 +145,16 @@ module _ (setting : Setting) (clock d : ℕ) (ts us : List Tree) (are : AreTrees
     all = length-quiet_after m ts us have.all ∙ sym have.all;
     each = each_told;
     within = λ k i is. subst (λ (n : ℕ). i < n) (sym have.all) (silenced.are_named.within k i is);
+    silent = silent_first;
+    once = silenced.are_named.once;
   }
     where
+      silent_first : (k i : ℕ) (h : Member) → 0 ≤ k → slice_get named k ≡ Some i → slice_get (quiet_after m ts us) i ≡ Some h → h.term ≡ done
+      silent_first k i h behind is h_is =
+          let u = some_at us (quiet_after m ts us) i h (have.all ∙ sym (length-quiet_after m ts us have.all)) h_is in
+          let x = later_at m ts us i u.0 h u.1 h_is in
+          ap (λ (y : Member). y.term) (x.same ∙ ap (λ (b : Bool). quiet_if b (member_of m u.0)) (silenced.are_named.only k i x.before is x.is_before))
+
       each_told : (i : ℕ) (u : Tree) (h : Member) → slice_get us i ≡ Some u → slice_get (quiet_after m ts us) i ≡ Some h → (h ≡ member_of m u) ⊎ IsYetToSpeak m u h named 0 i
       each_told i u h u_is h_is = by (names m x.before) refl
         where

@@ -1,19 +1,23 @@
 -- The processes that name the clock fall silent, one after another.
 use Rattle.std.proofs.Common.{◌≡◌, ◌≤◌, ◌<◌, ◌+◌, ◌⊎◌, inl, inr, ℕ, zero, suc, Bool, true, false, List, [], ◌∷◌, ◌++◌, set, get_or, length, Some, refl, sym, subst, ap, ◌∙◌, arith}
 use Rattle.std.specs.Prelude.{slice_get, All}
-use Rattle.std.proofs.Math.Logic.{∥∥₁_map}
+use Rattle.std.proofs.Math.Logic.{∥∥₁_elim, ∥∥₁_map}
+use Rattle.std.proofs.Math.Nat.{ℕ_set}
 use Rattle.std.proofs.lemmas.Bool.{cases_lt, true≢false}
 use Rattle.std.proofs.lemmas.Option.{same_Some, slice_get-get_or}
 use Rattle.pz_syntax.specs.Classes.{ModelTree}
+use Rattle.pz_match.specs.Pairs.{questions}
 use Rattle.pz_match.specs.Table.{Table}
 use Rattle.pz_rules.specs.Terms.{done}
 use Rattle.pz_sim_laws.specs.Members.{Member}
 use Rattle.pz_tree.specs.declared.tree.Tree.{Tree}
 use Rattle.pz_tree.specs.Trees.{IsFresh}
+use Rattle.pz_sim.specs.Costs.{names}
 use Rattle.pz_sim.specs.Members.{member_of, members_of}
-use Rattle.pz_sim.specs.devices.Passing.{names, quiet_if, quieted, IsAmong, AreSilenced}
+use Rattle.pz_sim.specs.devices.Passing.{quiet_if, quieted, IsAmong, StandOnce, AreSilenced}
 use Rattle.pz_sim.specs.devices.Tables.{hushed, IsTable, IsHeard, AreHeard, CanBeSilent}
-use Rattle.pz_sim.proofs.Replaced.{all_at}
+use Rattle.pz_sim.proofs.Replaced.{all_at, got_set}
+use Rattle.pz_sim.proofs.Untouched.{asks_nothing}
 
 module _ (m : ModelTree) where
   pub none_quiet : (ts : List Tree) → quieted m 0 ts ≡ members_of m ts
@@ -82,11 +86,15 @@ got_last : {X : Type 0} (xs : List X) (x : X) → slice_get (xs ++ (x ∷ [])) (
 got_last [] x = refl
 got_last (z ∷ xs) x = got_last xs x
 
-from_longer : {X : Type 0} (xs : List X) (x y : X) (k : ℕ) → slice_get (xs ++ (x ∷ [])) k ≡ Some y → (slice_get xs k ≡ Some y) ⊎ (x ≡ y)
-from_longer [] x y zero is = inr (same_Some x y is)
+from_longer : {X : Type 0} (xs : List X) (x y : X) (k : ℕ) → slice_get (xs ++ (x ∷ [])) k ≡ Some y → (slice_get xs k ≡ Some y) ⊎ ((x ≡ y) × (k ≡ length xs))
+from_longer [] x y zero is = inr (same_Some x y is, refl)
 from_longer [] x y (suc k) is = cc
 from_longer (z ∷ xs) x y zero is = inl is
-from_longer (z ∷ xs) x y (suc k) is = from_longer xs x y k is
+from_longer (z ∷ xs) x y (suc k) is = by (from_longer xs x y k is)
+  where
+    by : (slice_get xs k ≡ Some y) ⊎ ((x ≡ y) × (k ≡ length xs)) → (slice_get xs k ≡ Some y) ⊎ ((x ≡ y) × (suc k ≡ length (z ∷ xs)))
+    by (inl before) = inl before
+    by (inr last) = inr (last.0, ap suc last.1)
 
 module _ (m : ModelTree) (clock n : ℕ) (ts : List Tree) (old : Table) (named : List ℕ) (within : n < length ts) where
   more : suc n ≡ n + 1
@@ -105,7 +113,12 @@ module _ (m : ModelTree) (clock n : ℕ) (ts : List Tree) (old : Table) (named :
       fresh = k.fresh;
       clocks = k.clocks;
       is_table = subst (λ (j : ℕ). IsTable (quieted m j ts) old) more (subst (λ (hs : List Member). IsTable hs old) (sym (quiet_same m n ts t is e)) k.is_table);
-      are_named = record { every = every; within = k.are_named.within };
+      are_named = record {
+        every = every;
+        within = λ j i there. let before = k.are_named.within j i there in omega (arith, before);
+        only = k.are_named.only;
+        once = k.are_named.once;
+      };
     }
       where
         every : (i : ℕ) (u : Tree) → i < n + 1 → slice_get ts i ≡ Some u → names m u ≡ true → IsAmong named i
@@ -125,7 +138,7 @@ module _ (m : ModelTree) (clock n : ℕ) (ts : List Tree) (old : Table) (named :
       fresh = k.fresh;
       clocks = k.clocks;
       is_table = subst (λ (j : ℕ). IsTable (quieted m j ts) new) more (subst (λ (hs : List Member). IsTable hs new) (sym (quiet_more m n ts t is e)) table);
-      are_named = record { every = every; within = inside };
+      are_named = record { every = every; within = inside; only = only; once = once };
     }
       where
         every : (i : ℕ) (u : Tree) → i < n + 1 → slice_get ts i ≡ Some u → names m u ≡ true → IsAmong (named ++ (n ∷ [])) i
@@ -135,12 +148,28 @@ module _ (m : ModelTree) (clock n : ℕ) (ts : List Tree) (old : Table) (named :
             by (inl earlier) = let x = k.are_named.every i u earlier there so in (x.0, got_before named (n ∷ []) x.0 i x.1)
             by (inr other) = let same : n ≡ i = omega (arith, below, other) in (length named, got_last named n ∙ ap (λ (j : ℕ). Some j) same)
 
-        inside : (j i : ℕ) → slice_get (named ++ (n ∷ [])) j ≡ Some i → i < length ts
+        inside : (j i : ℕ) → slice_get (named ++ (n ∷ [])) j ≡ Some i → i < n + 1
         inside j i there = by (from_longer named n i j there)
           where
-            by : (slice_get named j ≡ Some i) ⊎ (n ≡ i) → i < length ts
-            by (inl before) = k.are_named.within j i before
-            by (inr same) = omega (arith, within, same)
+            by : (slice_get named j ≡ Some i) ⊎ ((n ≡ i) × (j ≡ length named)) → i < n + 1
+            by (inl before) = let less = k.are_named.within j i before in omega (arith, less)
+            by (inr last) = let same = last.0 in omega (arith, same)
+
+        only : (j i : ℕ) (u : Tree) → slice_get (named ++ (n ∷ [])) j ≡ Some i → slice_get ts i ≡ Some u → names m u ≡ true
+        only j i u there u_is = by (from_longer named n i j there)
+          where
+            by : (slice_get named j ≡ Some i) ⊎ ((n ≡ i) × (j ≡ length named)) → names m u ≡ true
+            by (inl before) = k.are_named.only j i u before u_is
+            by (inr last) = ap (names m) (sym (same_Some t u (sym is ∙ ap (slice_get ts) last.0 ∙ u_is))) ∙ e
+
+        once : StandOnce (named ++ (n ∷ []))
+        once j l i there_j there_l = by (from_longer named n i j there_j) (from_longer named n i l there_l)
+          where
+            by : (slice_get named j ≡ Some i) ⊎ ((n ≡ i) × (j ≡ length named)) → (slice_get named l ≡ Some i) ⊎ ((n ≡ i) × (l ≡ length named)) → j ≡ l
+            by (inl before) (inl other) = k.are_named.once j l i before other
+            by (inl before) (inr last) = let less = k.are_named.within j i before in let same = last.0 in absurd (omega (arith, less, same))
+            by (inr last) (inl before) = let less = k.are_named.within l i before in let same = last.0 in absurd (omega (arith, less, same))
+            by (inr last) (inr other) = last.1 ∙ sym other.1
 
 -- The next tree, as it is read
 
@@ -165,6 +194,15 @@ module _ (m : ModelTree) (clock n : ℕ) (ts : List Tree) (old : Table) (named :
     module _ (answer : Bool) (says : (model : ModelTree) → IsFresh model next → answer ≡ names model next) where
       pub passed_over : answer ≡ false → ∥ AreSilenced m clock (n + 1) ts old named ∥₁
       passed_over e = ∥∥₁_map silenced (λ k. silenced_same m clock n ts old named within next is_next (sym (says m (next_is_fresh k)) ∙ e) k)
+
+      -- none was asked a question meanwhile
+      pub silent_free : answer ≡ true → (new : Table) → ((hs : List Member) (h : Member) → slice_get hs n ≡ Some h → AreHeard m clock ts hs → IsTable hs old → IsTable (set hs n (hushed h)) new) → length (questions n new.pairs) ≡ 0
+      silent_free e new falls = ∥∥₁_elim silenced (ℕ_set (length (questions n new.pairs)) 0) (λ k.
+          let h = member_of m next in
+          let many = length-quieted m n ts in
+          asks_nothing (set (quieted m n ts) n (hushed h)) new
+          (falls (quieted m n ts) h (quiet_next m n ts next is_next) (quiet_heard m clock n ts k.fresh k.clocks) k.is_table)
+          n (hushed h) (got_set (quieted m n ts) n (hushed h) (omega (arith, within, many))) refl)
 
       pub silent_now : answer ≡ true → (new : Table) → ((hs : List Member) (h : Member) → slice_get hs n ≡ Some h → AreHeard m clock ts hs → IsTable hs old → IsTable (set hs n (hushed h)) new)
           → ∥ AreSilenced m clock (n + 1) ts new (named ++ (n ∷ [])) ∥₁

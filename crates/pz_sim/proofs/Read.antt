@@ -1,5 +1,5 @@
 -- A tree over which time passes, as it is read and put.
-use Rattle.std.proofs.Common.{◌≡◌, ◌≤◌, ◌<◌, ◌+◌, ◌-◌, ℕ, zero, suc, List, [], ◌∷◌, map, set, get_or, length, Option, Some, None, refl, sym, ap, ◌∙◌}
+use Rattle.std.proofs.Common.{◌≡◌, ◌≤◌, ◌<◌, ◌+◌, ◌-◌, ◌*◌, ℕ, zero, suc, List, [], ◌∷◌, map, set, get_or, length, Option, Some, None, take, refl, sym, subst, ap, ◌∙◌, arith}
 use Rattle.std.specs.Prelude.{slice_get, IfSome, All}
 use Rattle.std.specs.Coded.{Coded-set, coded_option, le_prop}
 use Rattle.std.proofs.Math.Logic.{∥∥₁_elim, ∥∥₁_map, ∥∥₁_map₂}
@@ -17,6 +17,7 @@ use Rattle.pz_tree_standing.specs.Steady.{later}
 use Rattle.pz_tree_standing.specs.Summaries.{summary_of}
 use Rattle.pz_tree.specs.declared.tree.Tree.{Tree}
 use Rattle.pz_tree.specs.Trees.{at_in, term_in, IsFresh}
+use Rattle.pz_sim.specs.Costs.{visited, visited_all}
 use Rattle.pz_sim.specs.devices.Passing.{MayPass, HasPassed, HavePassed, own_total}
 use Rattle.pz_sim.proofs.Passed.{passed_more, next_is}
 use Rattle.pz_sim.proofs.Replaced.{all_at, got_mapped}
@@ -65,6 +66,13 @@ module _ (m : ModelTree) (clock : ℕ) (t u : Tree) (may : ∥ MayPass m clock t
       → totals ≡ slice_set totals number (own_total m u)
   total_stays totals number is summary done = put_again totals number (own_total m t) is ∙ ap (λ (x : Total). slice_set totals number x) (same_total summary done)
 
+-- one more tree is visited
+visited_more : (ts us : List Tree) (n : ℕ) (t u : Tree) → slice_get ts n ≡ Some t → n < length us → visited_all (take (suc n) ts) (set us n u) ≡ visited_all (take n ts) us + visited t u
+visited_more [] us n t u is within = cc
+visited_more (x ∷ ts) [] n t u is within = absurd (omega (arith, within))
+visited_more (x ∷ ts) (v ∷ us) zero t u is within = let same : visited x u ≡ visited t u = ap (λ (y : Tree). visited y u) (same_Some x t is) in omega (arith, same)
+visited_more (x ∷ ts) (v ∷ us) (suc n) t u is within = let rest = visited_more ts us n t u is (omega (arith, within)) in omega (arith, rest)
+
 -- The next tree of many
 
 module _ (m : ModelTree) (clock : ℕ) (ts us : List Tree) (n : ℕ) (d : Tree) (within : n < length us) where
@@ -86,3 +94,9 @@ module _ (m : ModelTree) (clock : ℕ) (ts us : List Tree) (n : ℕ) (d : Tree) 
   -- its total stands at its place
   pub next_own : (totals : List Total) → totals ≡ map (own_total m) us → slice_get totals n ≡ Some (own_total m next)
   next_own totals are = ap (λ (xs : List Total). slice_get xs n) are ∙ got_mapped (own_total m) us n next is_next
+
+  pub next_soon : (u : Tree) (begun before after : ℕ) → ∥ HavePassed m clock n ts us ∥₁ → before ≤ begun + 64 * visited_all (take n ts) us → after ≤ before + 64 * visited next u → after ≤ begun + 64 * visited_all (take (n + 1) ts) (set us n u)
+  next_soon u begun before after have few more = ∥∥₁_elim have le_prop (λ k.
+      let e = visited_more ts us n next u (next_is m clock ts us n next k is_next) within in
+      let same : suc n ≡ n + 1 = omega arith in
+      subst (λ (j : ℕ). after ≤ begun + 64 * visited_all (take j ts) (set us n u)) same (omega (arith, few, more, e)))

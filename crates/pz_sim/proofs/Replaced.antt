@@ -47,11 +47,7 @@ module _ (m : ModelTree) where
   pub totals_replaced : (clock : ℕ) (ts : List Tree) (i : ℕ) (u : Tree) → map (total_of clock) (members_of m (set ts i u)) ≡ set (map (total_of clock) (members_of m ts)) i (total_of clock (member_of m u))
   totals_replaced clock ts i u = ap (map (total_of clock)) (members_replaced ts i u) ∙ map-set (total_of clock) (members_of m ts) i (member_of m u)
 
-  -- one that was silent meanwhile
-  pub spoken : (ts : List Tree) (i : ℕ) (h : Member) (u : Tree) → set (set (members_of m ts) i h) i (member_of m u) ≡ members_of m (set ts i u)
-  spoken ts i h u = set-set (members_of m ts) i h (member_of m u) ∙ sym (members_replaced ts i u)
-
-  -- two that were, of which the second speaks first
+  -- two that were silent meanwhile, of which the second speaks first
   pub both_spoken : (ts : List Tree) (i j : ℕ) (h k : Member) (u v : Tree) → i ≢ j
       → set (set (set (set (members_of m ts) i h) j k) j (member_of m v)) i (member_of m u) ≡ members_of m (set (set ts j v) i u)
   both_spoken ts i j h k u v apart =

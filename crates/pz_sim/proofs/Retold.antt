@@ -1,6 +1,7 @@
 -- The processes that named the clock speak again, one after another.
-use Rattle.std.proofs.Common.{◌≡◌, ◌≢◌, ◌≤◌, ◌<◌, ◌+◌, ◌⊎◌, inl, inr, ℕ, suc, List, [], ◌∷◌, set, length, Some, refl, sym, subst, ap, ◌∙◌, arith}
-use Rattle.std.specs.Prelude.{slice_get, All}
+use Rattle.std.proofs.Common.{◌≡◌, ◌≢◌, ◌≤◌, ◌<◌, ◌+◌, ◌⊎◌, inl, inr, ℕ, suc, Bool, true, false, not, List, [], ◌∷◌, set, length, Some, refl, sym, subst, ap, ◌∙◌, arith}
+use Rattle.std.specs.Prelude.{slice_get, filter, All}
+use Rattle.std.specs.Coded.{le_prop}
 use Rattle.std.proofs.Math.Logic.{∥∥₁_elim, ∥∥₁_map₂}
 use Rattle.std.proofs.lemmas.Bool.{cases_lt}
 use Rattle.std.proofs.lemmas.Option.{same_Some, slice_get_within}
@@ -8,18 +9,21 @@ use Rattle.std.proofs.lemmas.List.{length-set, length-map}
 use Rattle.pz_syntax.specs.Classes.{ModelTree}
 use Rattle.pz_bind.specs.declared.net.Net.{Net}
 use Rattle.pz_bind.specs.devices.Nets.{IsNet}
+use Rattle.pz_match.specs.Pairs.{questions, touches}
 use Rattle.pz_match.specs.Table.{Table}
 use Rattle.pz_rules.specs.Terms.{done}
 use Rattle.pz_sim_laws.specs.Members.{Member}
 use Rattle.pz_tree.specs.declared.tree.Tree.{Tree}
+use Rattle.pz_sim.specs.Costs.{with_end_in}
 use Rattle.pz_sim.specs.Members.{member_of, members_of}
 use Rattle.pz_sim.specs.devices.Passing.{IsYetToSpeak, AreRetold}
 use Rattle.pz_sim.specs.devices.Speaking.{CanBeAsked}
-use Rattle.pz_sim.specs.devices.Tables.{IsTable, IsHeard, AreHeard, CanTell}
+use Rattle.pz_sim.specs.devices.Tables.{IsTable, IsHeard, AreHeard, AreHeardBut, CanTell}
 use Rattle.pz_sim.proofs.Acted.{some_there}
-use Rattle.pz_sim.proofs.Heard.{same_or_apart, set_same, set_other}
+use Rattle.pz_sim.proofs.Heard.{heard_but, same_or_apart, set_same, set_other}
 use Rattle.pz_sim.proofs.Passed.{some_at}
 use Rattle.pz_sim.proofs.Replaced.{from_mapped, all_at}
+use Rattle.pz_sim.proofs.Untouched.{untouched, asks_more}
 
 -- two lists with the same at each place
 pub same_lists : {X : Type 0} (xs ys : List X) → length xs ≡ length ys → ((i : ℕ) (x y : X) → slice_get xs i ≡ Some x → slice_get ys i ≡ Some y → x ≡ y) → xs ≡ ys
@@ -57,7 +61,7 @@ module _ (m : ModelTree) (clock : ℕ) (us : List Tree) (asked : All (CanBeAsked
         record {
           members = retold.members;
           table = retold.is_table;
-          heard = heard;
+          heard = heard_but m clock us retold.members i heard;
           before = silent.0;
           is_before = silent.1;
           tree = next_tree.0;
@@ -67,6 +71,10 @@ module _ (m : ModelTree) (clock : ℕ) (us : List Tree) (asked : All (CanBeAsked
           fits = a.fits;
         }
 
+    -- no pair has an end in it
+    pub next_apart : All (λ p. touches i p ≡ false) old.pairs
+    next_apart = untouched retold.members old retold.is_table i silent.0 silent.1 (retold.silent n i silent.0 (let it : n ≤ n = omega arith in it) is_next silent.1)
+
     -- and when it has spoken
     pub retold_more : (new : Table) → IsTable (set retold.members i (member_of m next_tree.0)) new → AreRetold m us new named (n + 1)
     retold_more new table = record {
@@ -75,8 +83,15 @@ module _ (m : ModelTree) (clock : ℕ) (us : List Tree) (asked : All (CanBeAsked
       all = length-set retold.members i (member_of m next_tree.0) ∙ retold.all;
       each = each;
       within = retold.within;
+      silent = silent_still;
+      once = retold.once;
     }
       where
+        silent_still : (k j : ℕ) (h : Member) → n + 1 ≤ k → slice_get named k ≡ Some j → slice_get (set retold.members i (member_of m next_tree.0)) j ≡ Some h → h.term ≡ done
+        silent_still k j h behind is h_is =
+            let apart : i ≢ j = λ e. let same : n ≡ k = retold.once n k j (is_next ∙ ap (λ (l : ℕ). Some l) e) is in omega (arith, same, behind) in
+            retold.silent k j h (omega (arith, behind)) is (sym (set_other retold.members i j (member_of m next_tree.0) apart) ∙ h_is)
+
         each : (j : ℕ) (u : Tree) (h : Member) → slice_get us j ≡ Some u → slice_get (set retold.members i (member_of m next_tree.0)) j ≡ Some h → (h ≡ member_of m u) ⊎ IsYetToSpeak m u h named (n + 1) j
         each j u h u_is h_is = by (same_or_apart i j)
           where
@@ -128,14 +143,21 @@ module _ (m : ModelTree) (clock : ℕ) (us vs : List Tree) (trees_are : vs ≡ u
   may_tell = subst (λ (xs : List Tree). ∥ CanTell m clock xs old i ∥₁) (sym trees_are) (∥∥₁_map₂ asked retold (λ a k. can_tell m clock us a old named n k i is_next))
 
   pub one_told : (net : Net) (new : Table) → ∥ IsNet m net ∥₁
-      → (IsNet m net → (hs : List Member) (tree : Tree) → slice_get vs i ≡ Some tree → AreHeard m clock vs hs → IsTable hs old → CanTell m clock vs old i → IsTable (set hs i (member_of m tree)) new)
+      → (IsNet m net → (hs : List Member) (tree : Tree) → slice_get vs i ≡ Some tree → AreHeardBut m clock vs i hs → IsTable hs old → CanTell m clock vs old i → IsTable (set hs i (member_of m tree)) new)
       → ∥ AreRetold m us new named (n + 1) ∥₁
   one_told net new of_model falls = ∥∥₁_elim of_model squash₁ (λ net_is. ∥∥₁_map₂ asked retold (λ a k.
       let tree = next_tree m clock us a old named n k i is_next in
       let there : slice_get vs i ≡ Some tree.0 = ap (λ (xs : List Tree). slice_get xs i) trees_are ∙ tree.1 in
-      let hears : AreHeard m clock vs k.members = subst (λ (xs : List Tree). AreHeard m clock xs k.members) (sym trees_are) (heard m clock us a old named n k) in
+      let hears : AreHeardBut m clock vs i k.members = subst (λ (xs : List Tree). AreHeardBut m clock xs i k.members) (sym trees_are) (heard_but m clock us k.members i (heard m clock us a old named n k)) in
       let can : CanTell m clock vs old i = subst (λ (xs : List Tree). CanTell m clock xs old i) (sym trees_are) (can_tell m clock us a old named n k i is_next) in
       retold_more m clock us a old named n k i is_next new (falls net_is k.members tree.0 there hears k.is_table can)))
+
+  -- it asks about pairs that it adds
+  pub asks_next : (among : ℕ → Bool) → All (λ j. among j ≡ true) named → (new : Table) → filter (λ p. not (touches i p)) new.pairs ≡ filter (λ p. not (touches i p)) old.pairs
+      → length (with_end_in among old.pairs) + length (questions i new.pairs) ≤ length (with_end_in among new.pairs)
+  asks_next among all new same =
+      ∥∥₁_elim asked le_prop (λ a. ∥∥₁_elim retold le_prop (λ k.
+      asks_more among i (all_at (λ (j : ℕ). among j ≡ true) named n i all is_next) old.pairs new.pairs (next_apart m clock us a old named n k i is_next) same))
 
 pub none_left : (m : ModelTree) (clock : ℕ) (us : List Tree) (old : Table) (named : List ℕ) (n : ℕ) → ∥ All (CanBeAsked m clock) us ∥₁ → ∥ AreRetold m us old named n ∥₁ → length named ≤ n → ∥ IsTable (members_of m us) old ∥₁
 none_left m clock us old named n asked retold long = ∥∥₁_map₂ asked retold (λ a k. all_told m clock us a old named n k long)

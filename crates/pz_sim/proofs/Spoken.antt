@@ -28,10 +28,10 @@ use Rattle.pz_tree.specs.Trees.{term_in, IsFresh}
 use Rattle.pz_sim.specs.Members.{member_of, members_of}
 use Rattle.pz_sim.specs.devices.Holding.{AreTrees, AreKept}
 use Rattle.pz_sim.specs.devices.Speaking.{CanBeAsked}
-use Rattle.pz_sim.specs.devices.Tables.{IsTable, AreHeard, IsHeard, CanTell, hushed}
+use Rattle.pz_sim.specs.devices.Tables.{IsTable, AreHeard, AreHeardBut, IsHeard, CanTell, hushed}
 use Rattle.pz_sim.proofs.Replaced.{from_mapped, got_mapped, all_at}
 use Rattle.pz_sim.proofs.Filled.{filled, filled_none, filled_all, filled_next, filled_here, filled_at, got_within}
-use Rattle.pz_sim.proofs.Heard.{silent_senders, silent_receivers}
+use Rattle.pz_sim.proofs.Heard.{heard_but, silent_senders, silent_receivers}
 
 -- The table of processes that all are silent
 
@@ -121,7 +121,7 @@ module _ (m : ModelTree) (clock : ℕ) (ts : List Tree) where
         record {
           members = staged m k ts;
           table = is;
-          heard = are_heard k;
+          heard = heard_but m clock ts (staged m k ts) k (are_heard k);
           before = silent_of m t;
           is_before = filled_here (member_of m) (silent_of m) k ts t at;
           tree = t;
@@ -138,14 +138,14 @@ module _ (m : ModelTree) (clock : ℕ) (ts : List Tree) where
       (∥∥₁_elim asked squash₁ (λ all. ∥∥₁_map is (λ table_is. can_tell all k one.0 table one.1 table_is)))
 
   pub one_told : (us : List Tree) (k n : ℕ) (net : Net) (old new : Table) → us ≡ ts → k < n → n ≡ length ts → ∥ IsNet m net ∥₁ → ∥ All (CanBeAsked m clock) ts ∥₁ → ∥ IsTable (staged m k ts) old ∥₁
-      → (IsNet m net → (hs : List Member) (tree : Tree) → slice_get us k ≡ Some tree → AreHeard m clock us hs → IsTable hs old → CanTell m clock us old k → IsTable (set hs k (member_of m tree)) new)
+      → (IsNet m net → (hs : List Member) (tree : Tree) → slice_get us k ≡ Some tree → AreHeardBut m clock us k hs → IsTable hs old → CanTell m clock us old k → IsTable (set hs k (member_of m tree)) new)
       → ∥ IsTable (staged m (k + 1) ts) new ∥₁
   one_told us k n net old new same less count known asked is tells =
       let one = got_within ts k n less count in
       ∥∥₁_elim known squash₁ (λ net_is. ∥∥₁_elim asked squash₁ (λ all. ∥∥₁_map is (λ table.
       subst (λ (hs : List Member). IsTable hs new) (filled_next (member_of m) (silent_of m) k ts one.0 one.1)
       (tells net_is (staged m k ts) one.0 (ap (λ (vs : List Tree). slice_get vs k) same ∙ one.1)
-      (subst (λ (vs : List Tree). AreHeard m clock vs (staged m k ts)) (sym same) (are_heard all k)) table
+      (subst (λ (vs : List Tree). AreHeardBut m clock vs k (staged m k ts)) (sym same) (heard_but m clock ts (staged m k ts) k (are_heard all k))) table
       (subst (λ (vs : List Tree). CanTell m clock vs old k) (sym same) (can_tell all k one.0 old one.1 table))))))
 
 -- Trees of a configuration

@@ -20,7 +20,7 @@ use Rattle.pz_sim_laws.specs.Laws.{MomentIsDecided, PairsAreCouples}
 use Rattle.pz_sim_laws.specs.Leading.{MerelyPasses}
 use Rattle.pz_sim_laws.specs.Members.{config_of}
 use Rattle.pz_term_simulator.specs.Simulations as simulations
-use Rattle.pz_term_simulator.specs.Simulations.{Simulation, IsMomentOf, Passes, clock_in}
+use Rattle.pz_term_simulator.specs.Simulations.{IsMomentOf, Passes, clock_in}
 use Rattle.pz_tree.specs.declared.tree.Tree.{Tree}
 use Rattle.pz_sim.specs.Members.{members_of}
 use Rattle.pz_sim.specs.Sims.{simulation_at}

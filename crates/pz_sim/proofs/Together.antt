@@ -1,10 +1,12 @@
 -- Two processes have acted, while they were silent in the table, and are told of anew, one after the other.
-use Rattle.std.proofs.Common.{◌≡◌, ◌≢◌, ◌<◌, ℕ, List, map, set, length, Some, sym, subst, ap, ◌∙◌, arith}
-use Rattle.std.specs.Prelude.{slice_get}
+use Rattle.std.proofs.Common.{◌≡◌, ◌≢◌, ◌≤◌, ◌<◌, ◌+◌, ℕ, Bool, true, not, List, map, set, length, Some, refl, sym, subst, ap, ◌∙◌, arith}
+use Rattle.std.specs.Prelude.{slice_get, filter}
+use Rattle.std.proofs.Math.Nat.{ℕ_set}
 use Rattle.std.proofs.Math.Logic.{∥∥₁_elim, ∥∥₁_map}
 use Rattle.std.specs.Coded.{le_prop}
 use Rattle.std.proofs.lemmas.Option.{slice_get_within}
 use Rattle.std.proofs.lemmas.List.{length-map, length-set, set_comm}
+use Rattle.pz_match.specs.Pairs.{questions, touches}
 use Rattle.pz_match.specs.Table.{Table}
 use Rattle.pz_rules.specs.Settings.{Setting}
 use Rattle.pz_sim_totals.specs.declared.total.Total.{Total}
@@ -12,14 +14,16 @@ use Rattle.pz_sim_laws.specs.Members.{Member}
 use Rattle.pz_sim_laws.specs.Deciding.{total_of}
 use Rattle.pz_tree.specs.declared.tree.Tree.{Tree}
 use Rattle.pz_tree.specs.Trees.{IsFresh}
+use Rattle.pz_sim.specs.Costs.{with_end_in}
 use Rattle.pz_sim.specs.Members.{member_of, members_of}
 use Rattle.pz_sim.specs.devices.Acting.{setting_at, AreTold}
 use Rattle.pz_sim.specs.declared.scene.Scene.{Scene}
 use Rattle.pz_sim.specs.devices.Holding.{AreTrees}
-use Rattle.pz_sim.specs.devices.Tables.{hushed, IsTable, AreHeard, CanBeSilent, CanTell}
-use Rattle.pz_sim.proofs.Heard.{heard_silent, heard_more, set_other}
+use Rattle.pz_sim.specs.devices.Tables.{hushed, IsTable, AreHeard, AreHeardBut, CanBeSilent, CanTell}
+use Rattle.pz_sim.proofs.Heard.{heard_silent, heard_but, heard_more, set_other}
 use Rattle.pz_sim.proofs.Acted.{some_there, tree_fits}
 use Rattle.pz_sim.proofs.Renewed.{heard_told, can_be_silent, totals_within, Hushes, Speaks, Counts}
+use Rattle.pz_sim.proofs.Untouched.{untouched, asks_nothing, asks_few, asks_more}
 use Rattle.pz_sim.proofs.Replaced.{got_mapped, got_set, all_at, totals_replaced, both_spoken, heard_behind}
 
 pub trees_are : (scene : Scene) (ts : List Tree) (totals : List Total) (table : Table) → ∥ AreTold (setting_at scene) scene.clock ts totals table ∥₁ → ∥ AreTrees (setting_at scene) scene.clock ts ∥₁
@@ -41,6 +45,16 @@ module _ (setting : Setting) (clock : ℕ) (ts : List Tree) (totals : List Total
 
   many : length ms ≡ length ts
   many = length-map ts (member_of setting.model)
+
+  pub sender_quiet : slice_get one_silent i ≡ Some (hushed (member_of setting.model s))
+  sender_quiet = let within = slice_get_within ts i s s_is in let all = many in got_set ms i (hushed (member_of setting.model s)) (omega (arith, within, all))
+
+  pub receiver_quiet : slice_get both_silent j ≡ Some (hushed (member_of setting.model r))
+  receiver_quiet =
+      let within = slice_get_within ts j r r_is in
+      let same = length-set ms i (hushed (member_of setting.model s)) in
+      let all = many in
+      got_set one_silent j (hushed (member_of setting.model r)) (omega (arith, within, same, all))
 
   pub heard_one : AreHeard setting.model clock ts one_silent
   heard_one = heard_silent setting.model clock ts ms i (member_of setting.model s) (heard_told setting clock ts totals table told)
@@ -99,13 +113,9 @@ module _ (setting : Setting) (clock : ℕ) (ts : List Tree) (totals : List Total
     receiver_tells silent is = record {
       members = both_silent;
       table = is;
-      heard = heard_now;
+      heard = heard_but setting.model clock us both_silent j heard_now;
       before = hushed (member_of setting.model r);
-      is_before =
-          let within = slice_get_within ts j r r_is in
-          let same = length-set ms i (hushed (member_of setting.model s)) in
-          let all = many in
-          got_set one_silent j (hushed (member_of setting.model r)) (omega (arith, within, same, all));
+      is_before = receiver_quiet;
       tree = v;
       is = receiver_now;
       fresh = receiver_fresh;
@@ -117,21 +127,21 @@ module _ (setting : Setting) (clock : ℕ) (ts : List Tree) (totals : List Total
     one_speaks = set both_silent j (member_of setting.model v)
 
     pub heard_again : AreHeard setting.model clock us one_speaks
-    heard_again = heard_more setting.model clock us both_silent j v receiver_now receiver_fresh receiver_clock heard_now
+    heard_again = heard_more setting.model clock us both_silent j v receiver_now receiver_fresh receiver_clock (heard_but setting.model clock us both_silent j heard_now)
+
+    pub still_quiet : slice_get one_speaks i ≡ Some (hushed (member_of setting.model s))
+    still_quiet =
+        let other : j ≢ i = λ e. apart (sym e) in
+        set_other both_silent j i (member_of setting.model v) other ∙ set_other one_silent j i (hushed (member_of setting.model r)) other ∙ sender_quiet
 
     -- then the sender does
     pub sender_tells : (spoken : Table) → IsTable one_speaks spoken → CanTell setting.model clock us spoken i
     sender_tells spoken is = record {
       members = one_speaks;
       table = is;
-      heard = heard_again;
+      heard = heard_but setting.model clock us one_speaks i heard_again;
       before = hushed (member_of setting.model s);
-      is_before =
-          let within = slice_get_within ts i s s_is in
-          let all = many in
-          let other : j ≢ i = λ e. apart (sym e) in
-          set_other both_silent j i (member_of setting.model v) other ∙ set_other one_silent j i (hushed (member_of setting.model r)) other
-          ∙ got_set ms i (hushed (member_of setting.model s)) (omega (arith, within, all));
+      is_before = still_quiet;
       tree = u;
       is = sender_now;
       fresh = sender_fresh;
@@ -174,6 +184,13 @@ module _ (setting : Setting) (clock : ℕ) (ts : List Tree) (totals : List Total
     table_one : (k : AreTold setting clock ts totals table) → IsTable (one_silent setting clock ts totals table k i j apart s r (one_there i i_within).1 (one_there j j_within).1) table1
     table_one k = hushes (members_of setting.model ts) (member_of setting.model s) (got_mapped (member_of setting.model) ts i s (one_there i i_within).1) (heard_told setting clock ts totals table k) k.is_table
 
+    -- as long as they are silent nothing is asked
+    pub first_free : length (questions i table1.pairs) ≡ 0
+    first_free = ∥∥₁_elim told (ℕ_set (length (questions i table1.pairs)) 0) (λ k.
+        let s_is = (one_there i i_within).1 in
+        let r_is = (one_there j j_within).1 in
+        asks_nothing (one_silent setting clock ts totals table k i j apart s r s_is r_is) table1 (table_one k) i (hushed (member_of setting.model s)) (sender_quiet setting clock ts totals table k i j apart s r s_is r_is) refl)
+
     pub second_silent : ∥ CanBeSilent j table1 ∥₁
     second_silent = ∥∥₁_map told (λ k. second_can setting clock ts totals table k i j apart s r (one_there i i_within).1 (one_there j j_within).1 table1 (table_one k))
 
@@ -184,6 +201,12 @@ module _ (setting : Setting) (clock : ℕ) (ts : List Tree) (totals : List Total
           let r_is = (one_there j j_within).1 in
           hushes2 (one_silent setting clock ts totals table k i j apart s r s_is r_is) (member_of setting.model r) (second_there setting clock ts totals table k i j apart s r s_is r_is)
           (subst (λ (vs : List Tree). AreHeard setting.model clock vs (one_silent setting clock ts totals table k i j apart s r s_is r_is)) (sym same1) (heard_one setting clock ts totals table k i j apart s r s_is r_is)) (table_one k)
+
+      pub second_free : length (questions j table2.pairs) ≡ 0
+      second_free = ∥∥₁_elim told (ℕ_set (length (questions j table2.pairs)) 0) (λ k.
+          let s_is = (one_there i i_within).1 in
+          let r_is = (one_there j j_within).1 in
+          asks_nothing (both_silent setting clock ts totals table k i j apart s r s_is r_is) table2 (table_two k) j (hushed (member_of setting.model r)) (receiver_quiet setting clock ts totals table k i j apart s r s_is r_is) refl)
 
       module _ (ts2 us : List Tree) (same2 : ts2 ≡ ts) (others : (u v : Tree) × (us ≡ set (set ts2 j v) i u)) (after : ∥ AreTrees setting clock us ∥₁) where
         now : us ≡ set (set ts j others.1) i others.0
@@ -203,7 +226,7 @@ module _ (setting : Setting) (clock : ℕ) (ts : List Tree) (totals : List Total
               let s_is = (one_there i i_within).1 in
               let r_is = (one_there j j_within).1 in
               says (both_silent setting clock ts totals table k i j apart s r s_is r_is) others.1 (receiver_now setting clock ts totals table k i j apart s r s_is r_is others.0 others.1 us now w)
-              (heard_now setting clock ts totals table k i j apart s r s_is r_is others.0 others.1 us now w) (table_two k)
+              (heard_but setting.model clock us (both_silent setting clock ts totals table k i j apart s r s_is r_is) j (heard_now setting clock ts totals table k i j apart s r s_is r_is others.0 others.1 us now w)) (table_two k)
               (receiver_tells setting clock ts totals table k i j apart s r s_is r_is others.0 others.1 us now w table2 (table_two k))
 
           totals_one : (k : AreTold setting clock ts totals table) (w : AreTrees setting clock us) → totals1 ≡ set totals j (total_of clock (member_of setting.model others.1))
@@ -212,6 +235,19 @@ module _ (setting : Setting) (clock : ℕ) (ts : List Tree) (totals : List Total
               let r_is = (one_there j j_within).1 in
               counts others.1 (receiver_now setting clock ts totals table k i j apart s r s_is r_is others.0 others.1 us now w)
               (receiver_fresh setting clock ts totals table k i j apart s r s_is r_is others.0 others.1 us now w) (receiver_clock setting clock ts totals table k i j apart s r s_is r_is others.0 others.1 us now w)
+
+          -- then each is asked about at most once
+          pub asks_both : (among : ℕ → Bool) → among i ≡ true → among j ≡ true → (table4 : Table) → filter (λ p. not (touches i p)) table4.pairs ≡ filter (λ p. not (touches i p)) table3.pairs
+              → length (questions j table3.pairs) + length (questions i table4.pairs) ≤ length (with_end_in among table4.pairs)
+          asks_both among i_is j_is table4 same =
+              ∥∥₁_elim told le_prop (λ k. ∥∥₁_elim after le_prop (λ w. ∥∥₁_elim speaks le_prop (λ says.
+              let s_is = (one_there i i_within).1 in
+              let r_is = (one_there j j_within).1 in
+              let apart_is = untouched (one_speaks setting clock ts totals table k i j apart s r s_is r_is others.0 others.1 us now w) table3 (table_three k w says) i (hushed (member_of setting.model s))
+              (still_quiet setting clock ts totals table k i j apart s r s_is r_is others.0 others.1 us now w) refl in
+              let first = asks_few among j j_is table3.pairs in
+              let second = asks_more among i i_is table3.pairs table4.pairs apart_is same in
+              omega (arith, first, second))))
 
           module _ (us1 : List Tree) (stay1 : us1 ≡ us) where
             pub sender_speaks : ∥ CanTell setting.model clock us1 table3 i ∥₁
@@ -239,7 +275,7 @@ module _ (setting : Setting) (clock : ℕ) (ts : List Tree) (totals : List Total
                 let hs = one_speaks setting clock ts totals table k i j apart s r s_is r_is u others.1 us now w in
                 subst (λ (vs : List Tree). AreTold setting clock vs totals2 table4) (sym (stay2 ∙ stay1))
                 (told_both setting clock ts totals table k i j apart s r s_is r_is u others.1 us now w totals1 totals2 table4
-                (says2 hs u there (back (λ vs. AreHeard setting.model clock vs hs) (heard_again setting clock ts totals table k i j apart s r s_is r_is u others.1 us now w)) (table_three k w says)
+                (says2 hs u there (back (λ vs. AreHeardBut setting.model clock vs i hs) (heard_but setting.model clock us hs i (heard_again setting clock ts totals table k i j apart s r s_is r_is u others.1 us now w))) (table_three k w says)
                 (back (λ vs. CanTell setting.model clock vs table3 i) (sender_tells setting clock ts totals table k i j apart s r s_is r_is u others.1 us now w table3 (table_three k w says))))
                 (totals_one k w)
                 (counts2 u there (sender_fresh setting clock ts totals table k i j apart s r s_is r_is u others.1 us now w) (sender_clock setting clock ts totals table k i j apart s r s_is r_is u others.1 us now w)))))))

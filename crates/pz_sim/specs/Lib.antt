@@ -1,3 +1,4 @@
 pub mod Members
 pub mod Sims
+pub mod Costs
 pub mod devices

@@ -1,6 +1,6 @@
 // A process acts, and what is kept of it is told anew.
 
-ghost use Rattle.std.specs.Prelude.{◌≡◌, ◌<◌, List, Some, length, slice_get, slice_set, IfOk, OnOk, OnErr};
+ghost use Rattle.std.specs.Prelude.{◌≡◌, ◌≤◌, ◌<◌, ◌+◌, ◌*◌, not, List, Some, filter, length, slice_get, slice_set, IfOk, OnOk, OnErr};
 ghost use Rattle.pz_classes.specs.CheckedView.{checked_model};
 ghost use Rattle.pz_syntax.specs.declared.tokens.Pos.{Pos};
 ghost use Rattle.pz_copy.specs.Parcels.{ParcelView};
@@ -14,13 +14,16 @@ ghost use Rattle.pz_rules.specs.Steps.{Next};
 ghost use Rattle.pz_sim_laws.specs.Members.{Member};
 ghost use Rattle.pz_sim_laws.specs.Deciding.{total_of};
 ghost use Rattle.pz_tree.specs.Deeds.{able, deed, CanAct, CanSend, Leaves};
+ghost use Rattle.pz_match.specs.Pairs.{questions, touches};
+ghost use Rattle.pz_tree_regrowing.specs.Costs.{on_way};
 ghost use Rattle.pz_tree.specs.declared.tree.Tree.{Tree};
 ghost use Rattle.pz_tree.specs.Acting.{answered};
 ghost use Rattle.pz_tree.specs.Trees.{at_in, term_in, process_in, IsFresh};
+ghost use Rattle.pz_sim.specs.Costs.{ActsSoon, acts_in, with_end_in};
 ghost use Rattle.pz_sim.specs.Members.{member_of};
-ghost use Rattle.pz_sim.specs.devices.Acting.{model_at, setting_at, config_at, AreTold, MayAct, MayActAt, CanDoAt, After, HasActed, HasTried, communicated, reached};
+ghost use Rattle.pz_sim.specs.devices.Acting.{model_at, setting_at, config_at, AreTold, MayAct, MayActAt, CanDoAt, After, HasActed, HasActedSoon, HasTried, communicated, reached};
 ghost use Rattle.pz_sim.specs.devices.Holding.{AreTrees};
-ghost use Rattle.pz_sim.specs.devices.Tables.{IsTable, AreHeard, CanTell};
+ghost use Rattle.pz_sim.specs.devices.Tables.{IsTable, AreHeardBut, CanTell};
 
 use crate::scene::Scene;
 use crate::summing::total_in;
@@ -53,6 +56,10 @@ fn act_afresh<L: Ledger>(
         (deed how.entry parcel) (term_in tree.old) place.now
         (answered left (process_in tree.new)) ∥₁) }
     ensures after { IfOk result (After (checked_model checked.now) tree.old tree.new) }
+    ensures ticks { (parcel : ParcelView) →
+        MayAct (checked_model checked.now) clock (able how.entry parcel) tree.old place.now →
+        IfOk result (λ left. OnOk left (∥ HasActedSoon (checked_model checked.now)
+        (deed how.entry parcel) tree.old tree.new place.now steps.old steps.new ∥₁)) }
 {
     let left = tree.act(checked, clock, place, how, steps)?;
     match left {
@@ -77,6 +84,11 @@ fn act_in<L: Ledger>(
         (able how parcel) trees.old at.now) ∥₁ }
     ensures acts { IfOk result (HasActed (model_at scene.entry) scene.entry.clock (able how.entry)
         (deed how.entry) at.now trees.old trees.new) }
+    ensures ticks { (t u : Tree) → slice_get trees.old at.now.process ≡ Some t →
+        slice_get trees.new at.now.process ≡ Some u → (parcel : ParcelView) →
+        MayAct (model_at scene.entry) scene.entry.clock (able how.entry parcel) t at.now.place →
+        IfOk result (λ left. OnOk left (∥ HasActedSoon (model_at scene.entry)
+        (deed how.entry parcel) t u at.now.place steps.old steps.new ∥₁)) }
 {
     let tree = &mut trees[at.process as usize];
     act_afresh(tree, scene.checked, scene.clock, &at.place, how, steps)
@@ -95,6 +107,10 @@ fn try_send<L: Ledger>(
     ensures answers { IfOk result (HasTried (model_at scene.entry) scene.entry.clock at.now
         trees.old) }
     ensures trees { OnOk result (trees.new ≡ trees.old) }
+    ensures ticks { (t : Tree) → slice_get trees.old at.now.process ≡ Some t →
+        (parcel : ParcelView) →
+        MayAct (model_at scene.entry) scene.entry.clock (CanSend parcel) t at.now.place →
+        OnOk result (steps.new ≤ steps.old + 5 * on_way (term_in t) at.now.place) }
 {
     let tree = &mut trees[at.process as usize];
     tree.trial(scene.checked, scene.clock, &at.place, How::Send, steps)
@@ -119,6 +135,9 @@ fn act_at<L: Ledger>(
     ensures others { IfOk result (λ left. OnOk left ((tree : Tree) × (trees.new ≡
         slice_set trees.old at.now.process tree))) }
     ensures unchanged { IfOk result (λ left. OnErr left (trees.new ≡ trees.old)) }
+    ensures ticks { (kind : Kind) (pos : Pos) → IfOk result (λ left. OnOk left
+        (∥ ActsSoon (model_at scene.entry) trees.old trees.new (Internal at.now kind pos) 0
+        steps.old steps.new ∥₁)) }
 {
     pz_sim_laws::laws::steps_lead_on();
     pz_rules::laws::what_fits_goes_on();
@@ -148,6 +167,8 @@ fn exchange<L: Ledger>(
     ensures others { IfOk result (λ left. OnOk left ((u v : Tree) × (trees.new ≡ slice_set
         (slice_set trees.old receiver.now.process v) sender.now.end.process u))) }
     ensures unchanged { IfOk result (λ left. OnErr left (trees.new ≡ trees.old)) }
+    ensures ticks { IfOk result (λ left. OnOk left (∥ ActsSoon (model_at scene.entry) trees.old
+        trees.new (communicated sender.now receiver.now) 0 steps.old steps.new ∥₁)) }
 {
     pz_sim_laws::laws::steps_lead_on();
     pz_rules::laws::what_fits_goes_on();
@@ -174,7 +195,7 @@ fn exchange<L: Ledger>(
     }
 }
 
-// A process that was silent is what its tree says from now on, in the totals and in the table. The only error is want
+// A process is what its tree says from now on, in the totals and in the table. The only error is want
 // of memory.
 fn renew<L: Ledger>(
     scene: Scene<'_>,
@@ -190,7 +211,8 @@ fn renew<L: Ledger>(
     ensures table { IsNet (model_at scene.entry) scene.entry.net.now →
         (hs : List Member) (tree : Tree) →
         slice_get trees.old process ≡ Some tree →
-        AreHeard (model_at scene.entry) scene.entry.clock trees.old hs → IsTable hs pairs.old →
+        AreHeardBut (model_at scene.entry) scene.entry.clock trees.old process hs →
+        IsTable hs pairs.old →
         CanTell (model_at scene.entry) scene.entry.clock trees.old pairs.old process →
         OnOk result (IsTable (slice_set hs process
         (member_of (model_at scene.entry) tree)) pairs.new) }
@@ -199,6 +221,10 @@ fn renew<L: Ledger>(
         OnOk result (totals.new ≡ slice_set totals.old process
         (total_of scene.entry.clock (member_of (model_at scene.entry) tree))) }
     ensures trees { trees.new ≡ trees.old }
+    ensures others { OnOk result (filter (λ p. not (touches process p)) pairs.new.pairs ≡ filter
+        (λ p. not (touches process p)) pairs.old.pairs) }
+    ensures ticks { OnOk result (steps.new ≡ steps.old + length
+        (questions process pairs.new.pairs)) }
 {
     let total = total_in(&trees[process as usize]);
     totals.set(process as usize, total)?;
@@ -233,16 +259,11 @@ pub(crate) fn act_alone<L: Ledger>(
     ensures told { IfOk result (λ left. OnOk left (∥ AreTold (setting_at scene.entry)
         scene.entry.clock trees.new totals.new pairs.new ∥₁)) }
     ensures unchanged { IfOk result (λ left. OnErr left (trees.new ≡ trees.old)) }
+    ensures ticks { (kind : Kind) (pos : Pos) → IfOk result (λ left. OnOk left
+        (∥ ActsSoon (model_at scene.entry) trees.old trees.new (Internal at.now kind pos)
+        (length (with_end_in (acts_in (Internal at.now kind pos)) pairs.new.pairs))
+        steps.old steps.new ∥₁)) }
 {
-    silence(
-        scene.alloc,
-        scene.checked,
-        scene.clock,
-        trees,
-        pairs,
-        at.process,
-        steps,
-    )?;
     let left = act_at(scene, trees, at, steps)?;
     match left {
         Err(trouble) => Ok(Err(trouble)),
@@ -275,6 +296,10 @@ pub(crate) fn hand_over<L: Ledger>(
     ensures told { IfOk result (λ left. OnOk left (∥ AreTold (setting_at scene.entry)
         scene.entry.clock trees.new totals.new pairs.new ∥₁)) }
     ensures unchanged { IfOk result (λ left. OnErr left (trees.new ≡ trees.old)) }
+    ensures ticks { IfOk result (λ left. OnOk left (∥ ActsSoon (model_at scene.entry) trees.old
+        trees.new (communicated sender.now receiver.now)
+        (length (with_end_in (acts_in (communicated sender.now receiver.now)) pairs.new.pairs))
+        steps.old steps.new ∥₁)) }
 {
     silence(
         scene.alloc,

@@ -7,6 +7,8 @@ ghost use Rattle.pz_rules.specs.CallLaws.{NoRounds};
 ghost use Rattle.pz_sim_totals.specs.Sums.{all, IsAction};
 ghost use Rattle.pz_sim_laws.specs.Deciding.{offers_in};
 ghost use Rattle.pz_sim_laws.specs.Leading.{LeadsTo};
+ghost use Rattle.pz_sim.specs.Costs.{IfGoesOn, TakesSoon};
+ghost use Rattle.pz_sim.specs.Sims.{simulation_at};
 ghost use Rattle.pz_sim.specs.devices.Acting.{model_at, setting_at, config_at, AreTold, HasAdvanced, reached};
 ghost use Rattle.pz_sim.specs.devices.Holding.{Holds};
 
@@ -45,6 +47,9 @@ fn act_kth<L: Ledger>(
     ensures told { IfOk result (λ left. OnOk left (∥ AreTold (setting_at scene.entry)
         scene.entry.clock trees.new totals.new pairs.new ∥₁)) }
     ensures unchanged { IfOk result (λ left. OnErr left (trees.new ≡ trees.old)) }
+    ensures ticks { (k : ℕ) → IsAction totals.old k found → IfOk result (λ left. OnOk left
+        (∥ TakesSoon (setting_at scene.entry) scene.entry.clock k trees.old trees.new
+        pairs.new.pairs steps.old steps.new ∥₁)) }
 {
     pz_sim_laws::laws::offers_are_numbered();
     pz_sim_laws::laws::pairs_are_those_of_the_rules();
@@ -85,6 +90,8 @@ fn hand_over_kth<L: Ledger>(
     ensures told { IfOk result (λ left. OnOk left (∥ AreTold (setting_at scene.entry)
         scene.entry.clock trees.new totals.new pairs.new ∥₁)) }
     ensures unchanged { IfOk result (λ left. OnErr left (trees.new ≡ trees.old)) }
+    ensures ticks { IfOk result (λ left. OnOk left (∥ TakesSoon (setting_at scene.entry)
+        scene.entry.clock k trees.old trees.new pairs.new.pairs steps.old steps.new ∥₁)) }
 {
     pz_sim_laws::laws::offers_are_numbered();
     pz_sim_laws::laws::pairs_are_those_of_the_rules();
@@ -116,6 +123,8 @@ fn take_kth<L: Ledger>(
     ensures told { IfOk result (λ left. OnOk left (∥ AreTold (setting_at scene.entry)
         scene.entry.clock trees.new totals.new pairs.new ∥₁)) }
     ensures unchanged { IfOk result (λ left. OnErr left (trees.new ≡ trees.old)) }
+    ensures ticks { IfOk result (λ left. OnOk left (∥ TakesSoon (setting_at scene.entry)
+        scene.entry.clock k trees.old trees.new pairs.new.pairs steps.old steps.new ∥₁)) }
 {
     match totals.find(k) {
         Some(found) => act_kth(scene, trees, totals, pairs, found, steps),
@@ -141,6 +150,9 @@ fn go_on<L: Ledger>(
         (offers_in (all totals.old) pairs.old.pairs) k trees.old trees.new) }
     ensures holds { IfOk result (λ standing. ∥ Holds (setting_at scene.entry) scene.entry.clock
         trees.new totals.new pairs.new standing ∥₁) }
+    ensures ticks { IfOk result (λ standing. IfGoesOn (simulation_at (setting_at scene.entry)
+        scene.entry.clock trees.new standing) (∥ TakesSoon (setting_at scene.entry)
+        scene.entry.clock k trees.old trees.new pairs.new.pairs steps.old steps.new ∥₁)) }
 {
     let left = take_kth(scene, trees, totals, pairs, k, steps)?;
     match left {
@@ -170,6 +182,9 @@ fn go_on_in<L: Ledger>(
         (offers_in (all totals.old) pairs.old.pairs) k trees.old.items trees.new.items) }
     ensures holds { IfOk result (λ standing. ∥ Holds (setting_at scene.entry) scene.entry.clock
         trees.new.items totals.new pairs.new standing ∥₁) }
+    ensures ticks { IfOk result (λ standing. IfGoesOn (simulation_at (setting_at scene.entry)
+        scene.entry.clock trees.new.items standing) (∥ TakesSoon (setting_at scene.entry)
+        scene.entry.clock k trees.old.items trees.new.items pairs.new.pairs steps.old steps.new ∥₁)) }
 {
     go_on(scene, trees.as_mut_slice(), totals, pairs, k, steps)
 }
@@ -178,10 +193,12 @@ impl Sim {
     ghost use Rattle.std.specs.Prelude.{Err, IfErr};
     ghost use Rattle.pz_term_simulator.specs.Simulations.{IsMomentOf, Chooses, IsBroken, setting_in};
     ghost use Rattle.pz_term_simulator.specs.Refusals.{OnNoSuchOffer, OnChooseNotNow, OnChooseRefused, OnChooseNoMemory, NoActions};
+    ghost use Rattle.pz_sim.specs.Costs.{ChoiceIsSoon};
     ghost use Rattle.pz_sim.specs.Sims.{simulation_of};
 
     /// Chooses the offer of this number, from 0: the action takes place, or the moment becomes
-    /// `Stopped` where it ends in a trouble.
+    /// `Stopped` where it ends in a trouble. Otherwise it takes at most 64 steps for each node
+    /// that the action concerns, and one for each pair with an end in a process that acted.
     ///
     /// # Errors
     ///
@@ -199,6 +216,7 @@ impl Sim {
         ensures broken { IfErr result (OnChooseNoMemory (IsBroken (simulation_of self.new))) }
         ensures setting { setting_in (simulation_of self.new) ≡ setting_in
             (simulation_of self.old) }
+        ensures ticks { OnOk result (ChoiceIsSoon k self.old self.new steps.old steps.new) }
     {
         match self.moment() {
             Moment::Actions(offers) => {
@@ -221,6 +239,7 @@ impl Sim {
         ensures broken { OnErr result (IsBroken (simulation_of self.new)) }
         ensures setting { setting_in (simulation_of self.new) ≡ setting_in
             (simulation_of self.old) }
+        ensures ticks { OnOk result (ChoiceIsSoon k self.old self.new steps.old steps.new) }
     {
         pz_sim_laws::laws::moments_are_decided();
         pz_sim_laws::laws::pairs_are_those_of_the_rules();

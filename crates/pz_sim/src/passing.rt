@@ -1,12 +1,13 @@
 // Time passes.
 
-ghost use Rattle.std.specs.Prelude.{◌≡◌, ◌≤◌, ◌<◌, ◌+◌, ◌^◌, ℕ, [], Some, length, map, slice_get, slice_set, All, IfOk, OnOk, OnErr};
+ghost use Rattle.std.specs.Prelude.{◌≡◌, ◌≤◌, ◌<◌, ◌+◌, ◌*◌, ◌^◌, ℕ, Bool, true, [], Some, length, map, slice_get, slice_set, All, IfOk, OnOk, OnErr};
 ghost use Rattle.pz_classes.specs.CheckedView.{checked_model};
 ghost use Rattle.pz_bind.specs.devices.Nets.{IsNet};
 ghost use Rattle.pz_rules.specs.Steps.{PassesTo};
 ghost use Rattle.pz_sim_laws.specs.Members.{config_of};
 ghost use Rattle.pz_tree_refreshing.specs.Refreshing.{HasRoom};
-ghost use Rattle.pz_tree.specs.Trees.{IsFresh};
+ghost use Rattle.pz_tree.specs.Trees.{IsFresh, woken_in};
+ghost use Rattle.pz_sim.specs.Costs.{visited, visited_all, names_at, with_end_in};
 ghost use Rattle.pz_sim.specs.Members.{members_of};
 ghost use Rattle.pz_sim.specs.devices.Acting.{model_at, setting_at, config_at};
 ghost use Rattle.pz_sim.specs.devices.Holding.{AreKept};
@@ -45,6 +46,7 @@ fn silence_clocked<L: Ledger>(
     ensures silent { OnOk result (∥ AreSilenced (model_at scene.entry) scene.entry.clock (process + 1)
         trees.old pairs.new named.new.items ∥₁) }
     ensures trees { trees.new ≡ trees.old }
+    ensures ticks { OnOk result (steps.new ≡ steps.old) }
 {
     if !trees[process as usize].names_clock() {
         return Ok(());
@@ -75,6 +77,7 @@ fn silence_all<L: Ledger>(
     ensures silent { IfOk result (λ named. ∥ AreSilenced (model_at scene.entry) scene.entry.clock count
         trees.old pairs.new named.items ∥₁) }
     ensures trees { trees.new ≡ trees.old }
+    ensures ticks { OnOk result (steps.new ≡ steps.old) }
 {
     let mut named = Vec::new(scene.alloc);
     for process in 0..count {
@@ -100,6 +103,7 @@ fn pass_woken<L: Ledger>(
         (∥ HasPassed (checked_model checked.now) clock tree.old tree.new ∥₁) }
     ensures total { OnOk result (totals.new ≡ slice_set totals.old number
         (own_total (checked_model checked.now) tree.new)) }
+    ensures ticks { OnOk result (steps.new ≤ steps.old + 16 * woken_in tree.old tree.new) }
 {
     tree.pass_to(checked, clock, steps)?;
     let total = total_in(tree);
@@ -124,6 +128,7 @@ fn pass_tree<L: Ledger>(
         (∥ HasPassed (checked_model checked.now) clock tree.old tree.new ∥₁) }
     ensures total { OnOk result (totals.new ≡ slice_set totals.old number
         (own_total (checked_model checked.now) tree.new)) }
+    ensures ticks { OnOk result (steps.new ≤ steps.old + 64 * visited tree.old tree.new) }
 {
     if tree.pass_by(checked, clock, steps) {
         return Ok(());
@@ -146,6 +151,7 @@ fn pass_all<L: Ledger>(
         (length trees.old) trees.old trees.new ∥₁) }
     ensures totals { OnOk result
         (totals.new ≡ map (own_total (checked_model checked.now)) trees.new) }
+    ensures ticks { OnOk result (steps.new ≤ steps.old + 64 * visited_all trees.old trees.new) }
 {
     for number in 0..trees.len() {
         let tree = &mut trees[number];
@@ -168,6 +174,8 @@ fn tell_named<L: Ledger>(
     ensures table { OnOk result
         (∥ IsTable (members_of (model_at scene.entry) trees.old) pairs.new ∥₁) }
     ensures trees { trees.new ≡ trees.old }
+    ensures ticks { (among : ℕ → Bool) → All (λ i. among i ≡ true) named.now → OnOk result
+        (steps.new ≤ steps.old + length (with_end_in among pairs.new.pairs)) }
 {
     for number in 0..named.len() {
         let process = named[number];
@@ -203,6 +211,9 @@ fn elapse<L: Ledger>(
         (members_of (model_at scene.entry) trees.new)) ∥₁) }
     ensures kept { IfOk result (λ moment. ∥ AreKept (setting_at scene.entry)
         (scene.entry.clock + time) trees.new totals.new pairs.new moment ∥₁) }
+    ensures ticks { IfOk result (λ moment. steps.new ≤ steps.old
+        + (64 * visited_all trees.old trees.new + length (with_end_in
+        (names_at (model_at scene.entry) trees.old) pairs.new.pairs))) }
 {
     pz_sim_laws::laws::steps_lead_on();
     pz_sim_laws::laws::unclocked_offers_outlast();
@@ -241,6 +252,9 @@ fn elapse_in<L: Ledger>(
         (members_of (model_at scene.entry) trees.new.items)) ∥₁) }
     ensures kept { IfOk result (λ moment. ∥ AreKept (setting_at scene.entry)
         (scene.entry.clock + time) trees.new.items totals.new pairs.new moment ∥₁) }
+    ensures ticks { IfOk result (λ moment. steps.new ≤ steps.old
+        + (64 * visited_all trees.old.items trees.new.items + length (with_end_in
+        (names_at (model_at scene.entry) trees.old.items) pairs.new.pairs))) }
 {
     elapse(scene, time, trees.as_mut_slice(), totals, pairs, steps)
 }
@@ -249,10 +263,12 @@ impl Sim {
     ghost use Rattle.std.specs.Prelude.{Err, IfErr};
     ghost use Rattle.pz_term_simulator.specs.Simulations.{IsMomentOf, Passes, IsBroken, setting_in, clock_in};
     ghost use Rattle.pz_term_simulator.specs.Refusals.{OnPassNotNow, OnPassRefused, OnPassNoMemory, NoTime};
+    ghost use Rattle.pz_sim.specs.Costs.{PassingIsSoon};
     ghost use Rattle.pz_sim.specs.Sims.{simulation_of};
 
     /// Lets time pass, by the least that is left of an active delay, which is less than 2^64 clock units. The clock is
-    /// below 2^127.
+    /// below 2^127. Takes at most 64 steps for each node in which something wakes and each that is live in what becomes
+    /// active, with one at least for each tree, and one for each pair with an end in a process that named the clock.
     ///
     /// # Errors
     ///
@@ -269,6 +285,7 @@ impl Sim {
         ensures broken { IfErr result (OnPassNoMemory (IsBroken (simulation_of self.new))) }
         ensures setting { setting_in (simulation_of self.new) ≡ setting_in
             (simulation_of self.old) }
+        ensures ticks { OnOk result (PassingIsSoon self.old self.new steps.old steps.new) }
     {
         match self.moment() {
             Moment::Time(time) => match self.wait(time, steps) {
@@ -289,6 +306,7 @@ impl Sim {
         ensures broken { OnErr result (IsBroken (simulation_of self.new)) }
         ensures setting { setting_in (simulation_of self.new) ≡ setting_in
             (simulation_of self.old) }
+        ensures ticks { OnOk result (PassingIsSoon self.old self.new steps.old steps.new) }
     {
         pz_sim_laws::laws::moments_are_decided();
         pz_sim_laws::laws::pairs_are_those_of_the_rules();

@@ -1,13 +1,13 @@
 // The table of pairs is told what a process offers.
 
-ghost use Rattle.std.specs.Prelude.{◌≡◌, ◌+◌, ℕ, List, Some, length, slice_get, slice_set, OnOk, OnErr};
+ghost use Rattle.std.specs.Prelude.{◌≡◌, ◌+◌, ℕ, not, List, Some, filter, length, slice_get, slice_set, OnOk, OnErr};
 ghost use Rattle.pz_classes.specs.CheckedView.{checked_model};
-ghost use Rattle.pz_match.specs.Pairs.{questions};
+ghost use Rattle.pz_match.specs.Pairs.{questions, touches};
 ghost use Rattle.pz_sim_laws.specs.Members.{Member};
 ghost use Rattle.pz_bind.specs.devices.Nets.{IsNet};
 ghost use Rattle.pz_tree.specs.declared.tree.Tree.{Tree};
 ghost use Rattle.pz_sim.specs.Members.{member_of};
-ghost use Rattle.pz_sim.specs.devices.Tables.{IsTable, AreHeard, CanBeSilent, CanSpeak, CanTell, hushed};
+ghost use Rattle.pz_sim.specs.devices.Tables.{IsTable, AreHeard, AreHeardBut, CanBeSilent, CanSpeak, CanTell, hushed};
 
 use crate::judging::TreeJudge;
 use pz_bind::Net;
@@ -65,11 +65,13 @@ pub(crate) fn speak<L: Ledger>(
     requires { ∥ CanSpeak (checked_model checked.now) clock trees.old pairs.old process sends.items
         receives.items ∥₁ }
     ensures table { (hs : List Member) (tree : Tree) → slice_get trees.old process ≡ Some tree →
-        AreHeard (checked_model checked.now) clock trees.old hs →
+        AreHeardBut (checked_model checked.now) clock trees.old process hs →
         CanSpeak (checked_model checked.now) clock trees.old pairs.old process sends.items
         receives.items → IsTable hs pairs.old → OnOk result (IsTable
         (slice_set hs process (member_of (checked_model checked.now) tree)) pairs.new) }
     ensures trees { trees.new ≡ trees.old }
+    ensures others { OnOk result (filter (λ p. not (touches process p)) pairs.new.pairs ≡ filter
+        (λ p. not (touches process p)) pairs.old.pairs) }
     ensures ticks { OnOk result (steps.new ≡ steps.old + length
         (questions process pairs.new.pairs)) }
 {
@@ -99,11 +101,13 @@ pub(crate) fn tell<L: Ledger>(
     requires can { ∥ CanTell (checked_model checked.now) clock trees.old pairs.old process ∥₁ }
     ensures table { IsNet (checked_model checked.now) net.now → (hs : List Member) (tree : Tree) →
         slice_get trees.old process ≡ Some tree →
-        AreHeard (checked_model checked.now) clock trees.old hs → IsTable hs pairs.old →
+        AreHeardBut (checked_model checked.now) clock trees.old process hs → IsTable hs pairs.old →
         CanTell (checked_model checked.now) clock trees.old pairs.old process →
         OnOk result (IsTable (slice_set hs process
         (member_of (checked_model checked.now) tree)) pairs.new) }
     ensures trees { trees.new ≡ trees.old }
+    ensures others { OnOk result (filter (λ p. not (touches process p)) pairs.new.pairs ≡ filter
+        (λ p. not (touches process p)) pairs.old.pairs) }
     ensures ticks { OnOk result (steps.new ≡ steps.old + length
         (questions process pairs.new.pairs)) }
 {

@@ -1,5 +1,5 @@
 -- What trees, and what is kept of them, are after an action.
-use Rattle.std.specs.Prelude.{◌≡◌, ℕ, List, map, Some, Result, Ok, Err, ⊤, slice_get, slice_set}
+use Rattle.std.specs.Prelude.{◌≡◌, ◌≤◌, ◌+◌, ◌*◌, ℕ, List, map, Some, Result, Ok, Err, ⊤, slice_get, slice_set}
 use Rattle.pz_syntax.specs.Classes.{ModelTree}
 use Rattle.pz_classes.specs.CheckedView.{checked_model}
 use Rattle.pz_copy.specs.Parcels.{ParcelView}
@@ -26,6 +26,7 @@ use Rattle.pz_tree_standing.specs.Frames.{FramesStand}
 use Rattle.pz_tree.specs.declared.tree.Tree.{Tree}
 use Rattle.pz_tree.specs.Acting.{answered}
 use Rattle.pz_tree.specs.Trees.{IsFresh, at_in, term_in, process_in}
+use Rattle.pz_sim.specs.Costs.{Concerns}
 use Rattle.pz_sim.specs.Members.{members_of}
 use Rattle.pz_sim.specs.declared.scene.Scene.{Scene}
 use Rattle.pz_sim.specs.declared.standing.Standing.{Standing}
@@ -98,6 +99,12 @@ pub record HasTried (m : ModelTree) (clock : ℕ) (at : End) (ts : List Tree) (l
 -- what takes place where this send meets the receive at this end
 abbrev pub communicated : Sender → End → Action
 communicated s r = Comm s.wire s.end r s.message s.parcel
+
+-- the part at this place of the tree t has acted, and u was asked again: in at most 32 steps for each node that this concerned
+pub record HasActedSoon (m : ModelTree) (does : Deed) (t u : Tree) (place : Place) (begun ended : ℕ) : Type 0 where
+  pub nodes : ℕ
+  pub concerns : Concerns m does t u place nodes
+  pub few : ended ≤ begun + 32 * nodes
 
 -- where an action has led: to these trees, or to a trouble
 abbrev pub reached : ModelTree → ℕ → List Tree → Result ⊤ Trouble → Result Config Trouble

@@ -3,22 +3,19 @@ use Rattle.std.specs.Prelude.{◌≡◌, ◌≤◌, ◌<◌, ◌-◌, ◌⊎◌,
 use Rattle.pz_syntax.specs.Classes.{ModelTree}
 use Rattle.pz_match.specs.Table.{Table}
 use Rattle.pz_rules.specs.Delays.{Passes}
+use Rattle.pz_rules.specs.Terms.{done}
 use Rattle.pz_sim_totals.specs.declared.total.Total.{Total}
 use Rattle.pz_sim_laws.specs.Members.{Member}
 use Rattle.pz_sim_laws.specs.Deciding.{total_of}
 use Rattle.pz_tree_standing.specs.Steady.{later}
 use Rattle.pz_tree_standing.specs.Summaries.{summary_of}
-use Rattle.pz_tree_standing.specs.Woken.{clocked}
 use Rattle.pz_tree.specs.declared.tree.Tree.{Tree}
 use Rattle.pz_tree.specs.Trees.{at_in, term_in, IsFresh}
+use Rattle.pz_sim.specs.Costs.{names}
 use Rattle.pz_sim.specs.Members.{member_of}
 use Rattle.pz_sim.specs.devices.Tables.{hushed, IsTable}
 
 -- Processes that are silent meanwhile
-
--- an active part of its process names the clock
-abbrev pub names : ModelTree → Tree → Bool
-names m t = clocked (at_in m t) 0 (term_in t)
 
 abbrev pub quiet_if : Bool → Member → Member
 quiet_if true h = hushed h
@@ -40,10 +37,16 @@ quiet_after m (t ∷ ts) (u ∷ us) = quiet_if (names m t) (member_of m u) ∷ q
 abbrev pub IsAmong : List ℕ → ℕ → Type 0
 IsAmong ns i = (k : ℕ) × (slice_get ns k ≡ Some i)
 
+-- no number stands twice among these
+abbrev pub StandOnce : List ℕ → Type 0
+StandOnce ns = (j k i : ℕ) → slice_get ns j ≡ Some i → slice_get ns k ≡ Some i → j ≡ k
+
 -- the numbers of those of the first n that name the clock
 pub record AreNamed (m : ModelTree) (n : ℕ) (ts : List Tree) (named : List ℕ) : Type 0 where
   pub every : (i : ℕ) (t : Tree) → i < n → slice_get ts i ≡ Some t → names m t ≡ true → IsAmong named i
-  pub within : (k i : ℕ) → slice_get named k ≡ Some i → i < length ts
+  pub within : (k i : ℕ) → slice_get named k ≡ Some i → i < n
+  pub only : (k i : ℕ) (t : Tree) → slice_get named k ≡ Some i → slice_get ts i ≡ Some t → names m t ≡ true
+  pub once : StandOnce named
 
 -- the first n trees were asked whether they name the clock, and those that do are silent in the table
 pub record AreSilenced (m : ModelTree) (clock n : ℕ) (ts : List Tree) (table : Table) (named : List ℕ) : Type 0 where
@@ -94,3 +97,5 @@ pub record AreRetold (m : ModelTree) (us : List Tree) (table : Table) (named : L
   pub all : length members ≡ length us
   pub each : (i : ℕ) (u : Tree) (h : Member) → slice_get us i ≡ Some u → slice_get members i ≡ Some h → (h ≡ member_of m u) ⊎ IsYetToSpeak m u h named n i
   pub within : (k i : ℕ) → slice_get named k ≡ Some i → i < length us
+  pub silent : (k i : ℕ) (h : Member) → n ≤ k → slice_get named k ≡ Some i → slice_get members i ≡ Some h → h.term ≡ done
+  pub once : StandOnce named

@@ -1,5 +1,5 @@
 -- Tables of pairs of processes of which some are silent for a while: such a one is as if nothing were left of it.
-use Rattle.std.specs.Prelude.{◌≡◌, ◌<◌, ◌⊎◌, ℕ, false, List, length, All, Some, slice_get}
+use Rattle.std.specs.Prelude.{◌≡◌, ◌≢◌, ◌<◌, ◌⊎◌, ℕ, false, List, length, All, Some, slice_get}
 use Rattle.pz_syntax.specs.Classes.{ModelTree}
 use Rattle.pz_offer.specs.declared.ends.SendOffer.{SendOffer}
 use Rattle.pz_offer.specs.declared.ends.ReceiveOffer.{ReceiveOffer}
@@ -36,16 +36,20 @@ pub record IsHeard (m : ModelTree) (clock : ℕ) (ts : List Tree) (i : ℕ) (h :
 abbrev pub AreHeard : ModelTree → ℕ → List Tree → List Member → Type 0
 AreHeard m clock ts hs = (i : ℕ) (h : Member) → slice_get hs i ≡ Some h → (h.term ≡ done) ⊎ IsHeard m clock ts i h
 
+-- each but process i
+abbrev pub AreHeardBut : ModelTree → ℕ → List Tree → ℕ → List Member → Type 0
+AreHeardBut m clock ts i hs = (j : ℕ) (h : Member) → i ≢ j → slice_get hs j ≡ Some h → (h.term ≡ done) ⊎ IsHeard m clock ts j h
+
 -- a process of the table
 pub record CanBeSilent (i : ℕ) (t : Table) : Type 0 where
   pub there : t.lost ≡ false
   pub within : i < length t.senders
 
--- What process i offers, whose tree this is, where the others are silent or heard.
+-- What process i offers, whose tree this is, where the others are silent or heard. What it offered before may be of another tree.
 pub record CanSpeak (m : ModelTree) (clock : ℕ) (ts : List Tree) (t : Table) (i : ℕ) (sends : List SendOffer) (receives : List ReceiveOffer) : Type 0 where
   pub members : List Member
   pub table : IsTable members t
-  pub heard : AreHeard m clock ts members
+  pub heard : AreHeardBut m clock ts i members
   pub before : Member
   pub is_before : slice_get members i ≡ Some before
   pub tree : Tree
@@ -59,7 +63,7 @@ pub record CanSpeak (m : ModelTree) (clock : ℕ) (ts : List Tree) (t : Table) (
 pub record CanTell (m : ModelTree) (clock : ℕ) (ts : List Tree) (t : Table) (i : ℕ) : Type 0 where
   pub members : List Member
   pub table : IsTable members t
-  pub heard : AreHeard m clock ts members
+  pub heard : AreHeardBut m clock ts i members
   pub before : Member
   pub is_before : slice_get members i ≡ Some before
   pub tree : Tree

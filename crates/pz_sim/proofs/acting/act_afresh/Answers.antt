@@ -1,13 +1,14 @@
 use Rattle.std.proofs.Common.{Result, subst}
-use Rattle.std.specs.Prelude.{⊤}
+use Rattle.std.specs.Prelude.{⊤, OnOk}
 use Rattle.std.proofs.Math.Logic.{∥∥₁_elim, ∥∥₁_map}
 use Rattle.std.proofs.Math.Nat.{ℕ_set}
 use Rattle.pz_classes.specs.CheckedView.{checked_model}
 use Rattle.pz_offer.specs.declared.trouble.Trouble.{Trouble}
 use Rattle.pz_tree.specs.Deeds.{deed, Leaves}
-use Rattle.pz_tree.specs.Acting.{answered}
+use Rattle.pz_tree.specs.Acting.{answered, LeavesSoon}
 use Rattle.pz_tree.specs.Trees.{at_in, term_in, process_in}
 use Rattle.pz_sim.proofs.Acted.{refreshed, left_so, after_clock}
+use Rattle.pz_sim.proofs.Soon.{acted_soon}
 use Rattle.pz_sim.proofs.acting.act_afresh.Goals as goal
 
 pub act-requires-clause-fresh : goal.act-requires-clause-fresh
@@ -46,3 +47,11 @@ returns-in-Err-clause-leaves g c parcel may =
     let m = checked_model c.args.checked.now in
     let t = c.args.tree.now in
     ∣ subst (λ (r : Result ⊤ Trouble). Leaves (at_in m t) (deed c.args.how parcel) (term_in t) c.args.place.now (answered r (process_in c.act.new.self))) c.in-Err.is (c.in_ok-left.ensures.acts parcel may.fresh may.it_can) ∣₁
+
+pub returns-in_ok-refresh-in-Ok-clause-ticks : goal.returns-in_ok-refresh-in-Ok-clause-ticks
+returns-in_ok-refresh-in-Ok-clause-ticks g c parcel may =
+    let m = checked_model c.args.checked.now in
+    let t = c.args.tree.now in
+    acted_soon m (deed c.args.how parcel) t c.refresh.new.self c.args.place.now c.act.new.self c.in_ok-left.ensures.there c.in_ok-refresh-in-Ok.ensures.process c.args.steps.now c.act.new.steps c.refresh.new.steps
+    (subst (λ (r : Result ⊤ Trouble). OnOk r (LeavesSoon (at_in m t) (deed c.args.how parcel) (term_in t) c.args.place.now (process_in c.act.new.self) c.args.steps.now c.act.new.steps)) c.in-Ok.is (c.in_ok-left.ensures.ticks parcel may.fresh may.it_can))
+    c.in_ok-refresh-in-Ok.ensures.ticks

@@ -1,14 +1,17 @@
-use Rattle.std.proofs.Common.{◌≡◌, ◌∙◌, List, Result, Ok, Err, refl, sym, subst}
+use Rattle.std.proofs.Common.{◌≡◌, ◌∙◌, List, Result, Ok, Err, length, refl, sym, subst, arith}
 use Rattle.std.specs.Prelude.{⊤, OnOk, OnErr, slice_set}
 use Rattle.std.proofs.Math.Logic.{∥∥₁_map}
 use Rattle.pz_offer.specs.declared.trouble.Trouble.{Trouble}
 use Rattle.pz_rules.specs.Offers.{IsPair}
 use Rattle.pz_tree.specs.declared.tree.Tree.{Tree}
-use Rattle.pz_sim.specs.devices.Acting.{setting_at, config_at, communicated}
+use Rattle.pz_sim.specs.Costs.{ActsSoon, acts_in, with_end_in}
+use Rattle.pz_sim.specs.devices.Acting.{model_at, setting_at, config_at, communicated}
 use Rattle.pz_sim.specs.devices.Holding.{AreTrees}
 use Rattle.pz_sim.proofs.Exchanged.{pair_apart, sender_there, receiver_there}
 use Rattle.pz_sim.proofs.Renewed.{next_moved}
-use Rattle.pz_sim.proofs.Together.{trees_are, first_silent, second_silent, receiver_speaks, receiver_within, sender_speaks, sender_within, both_told}
+use Rattle.pz_sim.proofs.Together.{trees_are, first_silent, second_silent, receiver_speaks, receiver_within, sender_speaks, sender_within, both_told, first_free, second_free, asks_both}
+use Rattle.pz_sim.proofs.Counted.{first_of, second_of}
+use Rattle.pz_sim.proofs.Soon.{soon_moved}
 use Rattle.pz_sim.proofs.acting.hand_over.Goals as goal
 
 pub silence-requires : goal.silence-requires
@@ -114,3 +117,32 @@ returns-in-Err-clause-leads g c =
 pub returns-in-Err-clause-unchanged : goal.returns-in-Err-clause-unchanged
 returns-in-Err-clause-unchanged g c =
     subst (λ (r : Result ⊤ Trouble). OnErr r (c.exchange.new.trees ≡ c.silence-2.new.trees)) c.in-Err.is c.in_ok-left.ensures.unchanged ∙ (c.silence-2.ensures.trees ∙ c.silence.ensures.trees)
+
+pub returns-in_ok-renew-in-Ok-2-clause-ticks : goal.returns-in_ok-renew-in-Ok-2-clause-ticks
+returns-in_ok-renew-in-Ok-2-clause-ticks g c =
+    let x = c.args.scene in
+    let s = c.args.sender.now in
+    let i = s.end.process in
+    let j = c.args.receiver.now.process in
+    let a = communicated s c.args.receiver.now in
+    let m = model_at x in
+    let are = trees_are x c.args.trees.now c.args.totals.now c.args.pairs.now c.requires.told in
+    let apart = pair_apart (setting_at x) x.clock c.args.trees.now s.wire s.end c.args.receiver.now s.message s.parcel are c.requires.pair in
+    let i_there = sender_there (setting_at x) x.clock c.args.trees.now s.wire s.end c.args.receiver.now s.message s.parcel are c.requires.pair in
+    let j_there = receiver_there (setting_at x) x.clock c.args.trees.now s.wire s.end c.args.receiver.now s.message s.parcel are c.requires.pair in
+    let first = first_free (setting_at x) x.clock c.args.trees.now c.args.totals.now c.args.pairs.now c.requires.told i j apart i_there j_there c.silence.new.pairs c.in_ok-silence.ensures.table in
+    let second =
+    second_free (setting_at x) x.clock c.args.trees.now c.args.totals.now c.args.pairs.now c.requires.told i j apart i_there j_there c.silence.new.pairs c.in_ok-silence.ensures.table
+    c.silence.new.trees c.silence.ensures.trees c.silence-2.new.pairs c.in_ok-silence-2.ensures.table in
+    let asked =
+    asks_both (setting_at x) x.clock c.args.trees.now c.args.totals.now c.args.pairs.now c.requires.told i j apart i_there j_there c.silence.new.pairs c.in_ok-silence.ensures.table
+    c.silence.new.trees c.silence.ensures.trees c.silence-2.new.pairs c.in_ok-silence-2.ensures.table
+    c.silence-2.new.trees c.exchange.new.trees (c.silence-2.ensures.trees ∙ c.silence.ensures.trees)
+    (subst (λ (r : Result ⊤ Trouble). OnOk r ((u v : Tree) × (c.exchange.new.trees ≡ slice_set (slice_set c.silence-2.new.trees j v) i u))) c.in-Ok.is c.in_ok-left.ensures.others)
+    (subst (λ (r : Result ⊤ Trouble). OnOk r (∥ AreTrees (setting_at x) x.clock c.exchange.new.trees ∥₁)) c.in-Ok.is c.in_ok-left.ensures.after)
+    c.renew.new.totals c.renew.new.pairs (∥∥₁_map c.requires.of_model (λ net. c.in_ok-renew-in-Ok.ensures.table net)) c.in_ok-renew-in-Ok.ensures.totals
+    (acts_in a) (first_of i j) (second_of i j) c.renew-in-Ok.new.pairs c.in_ok-renew-in-Ok-2.ensures.others in
+    soon_moved m c.args.trees.now c.silence-2.new.trees c.exchange.new.trees c.renew-in-Ok.new.trees a (length (with_end_in (acts_in a) c.renew-in-Ok.new.pairs.pairs)) c.args.steps.now c.silence-2.new.steps c.exchange.new.steps c.renew-in-Ok.new.steps
+    (c.silence-2.ensures.trees ∙ c.silence.ensures.trees) (c.renew-in-Ok.ensures.trees ∙ c.renew.ensures.trees)
+    (omega (arith, c.in_ok-silence.ensures.ticks, c.in_ok-silence-2.ensures.ticks, first, second)) (omega (arith, c.in_ok-renew-in-Ok.ensures.ticks, c.in_ok-renew-in-Ok-2.ensures.ticks, asked))
+    (subst (λ (r : Result ⊤ Trouble). OnOk r (∥ ActsSoon m c.silence-2.new.trees c.exchange.new.trees a 0 c.silence-2.new.steps c.exchange.new.steps ∥₁)) c.in-Ok.is c.in_ok-left.ensures.ticks)

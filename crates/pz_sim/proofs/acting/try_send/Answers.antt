@@ -1,7 +1,14 @@
+use Rattle.std.proofs.Common.{◌≤◌, ◌+◌, ◌*◌, subst}
+use Rattle.std.specs.Prelude.{OnOk}
+use Rattle.std.proofs.lemmas.Option.{get_or_from_slice_get}
 use Rattle.std.proofs.Math.Logic.{∥∥₁_elim, ∥∥₁_map}
 use Rattle.std.proofs.Math.Nat.{ℕ_set}
 use Rattle.pz_tree.specs.Deeds.{CanSend}
-use Rattle.pz_sim.specs.devices.Acting.{setting_at}
+use Rattle.pz_copy.specs.Parcels.{ParcelView}
+use Rattle.pz_tree_regrowing.specs.Costs.{on_way}
+use Rattle.pz_tree.specs.declared.tree.Tree.{Tree}
+use Rattle.pz_tree.specs.Trees.{term_in}
+use Rattle.pz_sim.specs.devices.Acting.{model_at, setting_at, MayAct}
 use Rattle.pz_sim.proofs.Acted.{some_within, some_read, some_rounds, has_tried}
 use Rattle.pz_sim.proofs.acting.try_send.Goals as goal
 
@@ -25,3 +32,8 @@ trial-requires-clause-can g c = ∥∥₁_map (some_read (setting_at c.args.scen
 
 pub returns-clause-answers : goal.returns-clause-answers
 returns-clause-answers g c = has_tried (setting_at c.args.scene) c.args.scene.clock c.args.trees.now c.args.at.now c.requires.may c.index-trees-at.result c.trial.result c.trial.ensures.answers
+
+pub returns-clause-ticks : goal.returns-clause-ticks
+returns-clause-ticks g c t t_is =
+    subst (λ (x : Tree). (parcel : ParcelView) → MayAct (model_at c.args.scene) c.args.scene.clock (CanSend parcel) x c.args.at.now.place → OnOk c.trial.result (c.trial.new.steps ≤ c.args.steps.now + 5 * on_way (term_in x) c.args.at.now.place))
+    (get_or_from_slice_get c.args.trees.now c.args.at.now.process t c.index-trees-at.result t_is) (λ parcel may. c.trial.ensures.ticks parcel may.fresh may.it_can)

@@ -4,7 +4,7 @@ use Rattle.pz_rules.specs.declared.action.Action.TheVariants.{Internal}
 use Rattle.pz_sim_totals.specs.Sums.{all}
 use Rattle.pz_sim_laws.specs.Deciding.{offers_in}
 use Rattle.pz_sim.specs.devices.Acting.{model_at, setting_at, config_at, reached}
-use Rattle.pz_sim.proofs.Found.{chosen_leads, found_within, found_few, found_fresh, found_never, found_acts, found_chosen, at}
+use Rattle.pz_sim.proofs.Found.{chosen_leads, chosen_soon, found_within, found_few, found_fresh, found_never, found_acts, found_chosen, at}
 use Rattle.pz_sim.proofs.choosing.act_kth.Goals as goal
 
 pub offset_bounds-trees-found : goal.offset_bounds-trees-found
@@ -37,3 +37,11 @@ returns-clause-leads g c k is =
     (Internal (at (setting_at c.args.scene) c.args.scene.clock c.args.trees.now c.args.totals.now c.args.pairs.now c.requires.told c.args.found k is c.index-trees-found.result c.in_ok-action.field-0 (λ m fresh. c.in_ok-action.ensures.found m fresh) c.in-Some.action c.in-Some.is) c.in-Some.action.kind c.in-Some.action.pos) (reached (model_at c.args.scene) c.args.scene.clock c.act_alone.new.trees) c.act_alone.result
     (found_chosen (setting_at c.args.scene) c.args.scene.clock c.args.trees.now c.args.totals.now c.args.pairs.now c.requires.told c.args.found k is c.index-trees-found.result c.in_ok-action.field-0 (λ m fresh. c.in_ok-action.ensures.found m fresh) c.in-Some.action c.in-Some.is c.offers_are_numbered.ensures.internal c.pairs_are_those_of_the_rules.ensures.couples c.wires_are_known.ensures.law (subst IsSound c.model-model.ensures.is c.model-model.ensures.sound))
     (c.act_alone.ensures.leads c.in-Some.action.kind c.in-Some.action.pos)
+
+pub returns-clause-ticks : goal.returns-clause-ticks
+returns-clause-ticks g c k is =
+    chosen_soon (setting_at c.args.scene) c.args.scene.clock (offers_in (all c.args.totals.now) c.args.pairs.now.pairs) k c.args.trees.now c.act_alone.new.trees
+    (Internal (at (setting_at c.args.scene) c.args.scene.clock c.args.trees.now c.args.totals.now c.args.pairs.now c.requires.told c.args.found k is c.index-trees-found.result c.in_ok-action.field-0 (λ m fresh. c.in_ok-action.ensures.found m fresh) c.in-Some.action c.in-Some.is) c.in-Some.action.kind c.in-Some.action.pos)
+    c.act_alone.new.pairs.pairs c.args.steps.now c.act_alone.new.steps c.act_alone.result
+    (found_chosen (setting_at c.args.scene) c.args.scene.clock c.args.trees.now c.args.totals.now c.args.pairs.now c.requires.told c.args.found k is c.index-trees-found.result c.in_ok-action.field-0 (λ m fresh. c.in_ok-action.ensures.found m fresh) c.in-Some.action c.in-Some.is c.offers_are_numbered.ensures.internal c.pairs_are_those_of_the_rules.ensures.couples c.wires_are_known.ensures.law (subst IsSound c.model-model.ensures.is c.model-model.ensures.sound))
+    (c.act_alone.ensures.ticks c.in-Some.action.kind c.in-Some.action.pos)

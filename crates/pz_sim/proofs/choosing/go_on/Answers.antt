@@ -6,6 +6,7 @@ use Rattle.pz_sim_totals.specs.Sums.{all}
 use Rattle.pz_sim_laws.specs.Deciding.{offers_in}
 use Rattle.pz_sim_laws.specs.Leading.{LeadsTo}
 use Rattle.pz_tree.specs.declared.tree.Tree.{Tree}
+use Rattle.pz_sim.specs.Costs.{TakesSoon}
 use Rattle.pz_sim.specs.devices.Acting.{model_at, setting_at, config_at, AreTold, reached}
 use Rattle.pz_sim.specs.devices.Holding.{AreTrees}
 use Rattle.pz_sim.proofs.Advanced.{kept_anew}
@@ -45,3 +46,9 @@ returns-in-Err-clause-holds g c =
     subst (λ (ts : List Tree). ∥ AreTrees (setting_at s) s.clock ts ∥₁)
     (sym (subst (λ (r : Result ⊤ Trouble). OnErr r (c.take_kth.new.trees ≡ c.args.trees.now)) c.in-Err.is c.in_ok-left.ensures.unchanged))
     (∥∥₁_map c.requires.told (λ k. k.are_trees))
+
+pub returns-in_ok-moment-in-Ok-clause-ticks : goal.returns-in_ok-moment-in-Ok-clause-ticks
+returns-in_ok-moment-in-Ok-clause-ticks g c =
+    let s = c.args.scene in
+    let t = c.take_kth.new in
+    subst (λ (r : Result ⊤ Trouble). OnOk r (∥ TakesSoon (setting_at s) s.clock c.args.k c.args.trees.now t.trees t.pairs.pairs c.args.steps.now t.steps ∥₁)) c.in-Ok.is c.in_ok-left.ensures.ticks

@@ -7,7 +7,7 @@ use Rattle.pz_sim_totals.specs.Sums.{all}
 use Rattle.pz_sim_laws.specs.Deciding.{offers_in}
 use Rattle.pz_sim.specs.devices.Acting.{model_at, setting_at, config_at, communicated, reached}
 use Rattle.pz_sim.proofs.Communicated.{pair_never, pair_there, pair_chosen, table_there}
-use Rattle.pz_sim.proofs.Found.{chosen_leads}
+use Rattle.pz_sim.proofs.Found.{chosen_leads, chosen_soon}
 use Rattle.pz_sim.proofs.choosing.hand_over_kth.Goals as goal
 
 pub kth-requires : goal.kth-requires
@@ -25,3 +25,10 @@ returns-clause-leads g c =
     (reached (model_at c.args.scene) c.args.scene.clock c.hand_over.new.trees) c.hand_over.result
     (pair_chosen (setting_at c.args.scene) c.args.scene.clock c.args.trees.now c.args.totals.now c.args.pairs.now c.requires.told c.args.k c.requires.past c.in_ok-sender.field-0 (subst (λ (total : Total). c.in_ok-sender.field-0 ≡ slice_get (map offered (taken c.args.pairs.now.pairs)) (c.args.k - total.summary.internal)) c.all-internal.ensures c.in_ok-sender.ensures) c.in-Some.sender c.in-Some.receiver c.in-Some.is c.offers_are_numbered.ensures.communications c.pairs_are_those_of_the_rules.ensures.couples c.wires_are_known.ensures.law (subst IsSound c.model-model.ensures.is c.model-model.ensures.sound))
     c.hand_over.ensures.leads
+
+pub returns-clause-ticks : goal.returns-clause-ticks
+returns-clause-ticks g c =
+    chosen_soon (setting_at c.args.scene) c.args.scene.clock (offers_in (all c.args.totals.now) c.args.pairs.now.pairs) c.args.k c.args.trees.now c.hand_over.new.trees (communicated c.in-Some.sender c.in-Some.receiver)
+    c.hand_over.new.pairs.pairs c.args.steps.now c.hand_over.new.steps c.hand_over.result
+    (pair_chosen (setting_at c.args.scene) c.args.scene.clock c.args.trees.now c.args.totals.now c.args.pairs.now c.requires.told c.args.k c.requires.past c.in_ok-sender.field-0 (subst (λ (total : Total). c.in_ok-sender.field-0 ≡ slice_get (map offered (taken c.args.pairs.now.pairs)) (c.args.k - total.summary.internal)) c.all-internal.ensures c.in_ok-sender.ensures) c.in-Some.sender c.in-Some.receiver c.in-Some.is c.offers_are_numbered.ensures.communications c.pairs_are_those_of_the_rules.ensures.couples c.wires_are_known.ensures.law (subst IsSound c.model-model.ensures.is c.model-model.ensures.sound))
+    c.hand_over.ensures.ticks

@@ -1,12 +1,13 @@
-use Rattle.std.proofs.Common.{◌∙◌, ◌+◌, ℕ, List, sym, ap, subst, arith}
+use Rattle.std.proofs.Common.{◌≡◌, ◌≤◌, ◌∙◌, ◌+◌, ◌*◌, ℕ, true, List, sym, ap, subst, arith}
 use Rattle.pz_classes.specs.Soundness.{IsSound}
+use Rattle.pz_sim.specs.Costs.{visited_all, names_at}
 use Rattle.pz_sim.specs.devices.Acting.{model_at, setting_at}
 use Rattle.pz_sim.specs.devices.Passing.{MayPass, HavePassed, own_total, AreRetold}
 use Rattle.pz_sim.specs.devices.Tables.{IsTable}
 use Rattle.pz_sim.specs.Members.{members_of}
 use Rattle.std.specs.Prelude.{All, length, map}
 use Rattle.pz_tree.specs.declared.tree.Tree.{Tree}
-use Rattle.pz_sim.proofs.Waited.{short_so, room_so, count_so, silent_first, may_so, totals_so, passes_so, asked_so, kept_so, retold_so, table_there}
+use Rattle.pz_sim.proofs.Waited.{short_so, room_so, count_so, silent_first, may_so, totals_so, passes_so, asked_so, kept_so, retold_so, named_so, table_there}
 use Rattle.pz_sim.proofs.passing.elapse.Goals as goal
 
 pub silence_all-requires-clause-count : goal.silence_all-requires-clause-count
@@ -71,3 +72,15 @@ overflow_add-after g c =
     let short = short_so (setting_at c.args.scene) c.args.scene.clock c.args.time c.args.trees.now c.args.totals.now c.args.pairs.now c.requires.kept in
     let low = c.requires.low in
     omega (arith, low, short)
+
+pub returns-clause-ticks : goal.returns-clause-ticks
+returns-clause-ticks g c =
+    let m = model_at c.args.scene in
+    let ts = c.args.trees.now in
+    let counted = count_so (setting_at c.args.scene) c.args.scene.clock c.args.time ts c.args.totals.now c.args.pairs.now c.requires.kept c.args.scene.net.now c.processes-count.result c.requires.of_model c.processes-count.ensures.counted in
+    let all = named_so (setting_at c.args.scene) c.args.scene.clock c.args.time ts c.args.totals.now c.args.pairs.now c.requires.kept c.silence_all.new.pairs c.in_ok-named.named.items c.processes-count.result c.in_ok-named.ensures.silent counted in
+    let told = c.in_ok-tell_named.ensures.ticks (names_at m ts) (subst (All (λ i. names_at m ts i ≡ true)) (sym c.as_slice.ensures.value) all) in
+    let passed =
+    subst (λ (us : List Tree). c.pass_all.new.steps ≤ c.silence_all.new.steps + 64 * visited_all ts us) (sym c.in_ok-tell_named.ensures.trees)
+    (subst (λ (vs : List Tree). c.pass_all.new.steps ≤ c.silence_all.new.steps + 64 * visited_all vs c.pass_all.new.trees) c.in_ok-named.ensures.trees c.in_ok-pass_all.ensures.ticks) in
+    omega (arith, c.in_ok-named.ensures.ticks, passed, told)

@@ -1,8 +1,9 @@
-use Rattle.std.proofs.Common.{sym, subst}
+use Rattle.std.proofs.Common.{◌≤◌, ◌+◌, ◌*◌, sym, subst, arith}
 use Rattle.std.proofs.lemmas.Result.{on_ok_weaker}
 use Rattle.std.proofs.lemmas.Option.{slice_get_within}
 use Rattle.pz_classes.specs.CheckedView.{checked_model}
 use Rattle.pz_tree.specs.declared.tree.Tree.{Tree}
+use Rattle.pz_tree.specs.Trees.{woken_in}
 use Rattle.pz_sim.specs.devices.Passing.{MayPass, HasPassed, own_total}
 use Rattle.pz_sim.proofs.Read.{may_fresh, may_later, may_untroubled, may_due, has_passed, total_stays}
 use Rattle.pz_sim.proofs.passing.pass_tree.Goals as goal
@@ -39,3 +40,15 @@ returns-clause-passed g c =
     on_ok_weaker c.pass_woken.result
     (λ has. subst (λ (t : Tree). ∥ HasPassed (checked_model c.args.checked.now) c.args.clock t c.pass_woken.new.tree ∥₁) (c.pass_by.ensures.unchanged c.if-pass_by.false) has)
     c.pass_woken.ensures.passed
+
+pub returns-then-pass_by-clause-ticks : goal.returns-then-pass_by-clause-ticks
+returns-then-pass_by-clause-ticks g c = let few = c.pass_by.ensures.ticks in omega (arith, few)
+
+pub returns-clause-ticks : goal.returns-clause-ticks
+returns-clause-ticks g c =
+    let t = c.args.tree.now in
+    let u = c.pass_woken.new.tree in
+    let few = c.pass_by.ensures.ticks in
+    on_ok_weaker c.pass_woken.result
+    (λ later. let more = subst (λ (x : Tree). c.pass_woken.new.steps ≤ c.pass_by.new.steps + 16 * woken_in x u) (c.pass_by.ensures.unchanged c.if-pass_by.false) later in omega (arith, few, more))
+    c.pass_woken.ensures.ticks

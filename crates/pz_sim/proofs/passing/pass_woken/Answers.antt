@@ -4,6 +4,7 @@ use Rattle.std.proofs.lemmas.Result.{on_ok_weaker}
 use Rattle.pz_classes.specs.CheckedView.{checked_model}
 use Rattle.pz_sim_totals.specs.declared.total.Total.{Total}
 use Rattle.std.specs.Prelude.{slice_set}
+use Rattle.pz_sim.proofs.Outcomes.{on_any}
 use Rattle.pz_sim.proofs.Read.{may_fresh, may_later, may_untroubled, may_due, has_passed, total_told}
 use Rattle.pz_sim.proofs.passing.pass_woken.Goals as goal
 
@@ -35,3 +36,6 @@ returns-clause-total g c =
     on_ok_weaker c.set.result
     (λ is. is ∙ ap (λ (x : Total). slice_set c.args.totals.now c.args.number x) (total_told m c.pass_to.new.self c.total_in-total.result c.in_ok-pass_to.ensures.fresh c.total_in-total.ensures.total))
     c.set.ensures.ok
+
+pub returns-clause-ticks : goal.returns-clause-ticks
+returns-clause-ticks g c = on_any c.set.result c.in_ok-pass_to.ensures.ticks

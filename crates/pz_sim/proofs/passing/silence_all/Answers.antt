@@ -8,6 +8,7 @@ pub loop-process-init : goal.loop-process-init
 loop-process-init g c = record {
   trees = refl;
   silent = subst (λ (ns : List ℕ). ∥ AreSilenced (model_at c.args.scene) c.args.scene.clock 0 c.args.trees.now c.args.pairs.now ns ∥₁) (sym c.new-named.ensures.items) c.requires.silent;
+  ticks = refl;
 }
 
 pub silence_clocked-requires-clause-within : goal.silence_clocked-requires-clause-within
@@ -24,6 +25,7 @@ loop-process-preserved g c = record {
   trees = c.in_ok-silence_clocked.ensures.trees ∙ c.loop-process.invariant.trees;
   silent = subst (λ (ts : List Tree). ∥ AreSilenced (model_at c.args.scene) c.args.scene.clock (c.loop-process.process + 1) ts c.silence_clocked.new.pairs c.silence_clocked.new.named.items ∥₁) c.loop-process.invariant.trees
       c.in_ok-silence_clocked.ensures.silent;
+  ticks = c.in_ok-silence_clocked.ensures.ticks ∙ c.loop-process.invariant.ticks;
 }
 
 pub returns-clause-silent : goal.returns-clause-silent
@@ -33,3 +35,6 @@ returns-clause-silent g c =
 
 pub returns-clause-trees : goal.returns-clause-trees
 returns-clause-trees g c = c.loop-process.invariant.trees
+
+pub returns-clause-ticks : goal.returns-clause-ticks
+returns-clause-ticks g c = c.loop-process.invariant.ticks

@@ -34,7 +34,7 @@ update-requires-clause-receives_ordered g c =
 pub update-requires-clause-sends_asked : goal.update-requires-clause-sends_asked
 update-requires-clause-sends_asked g c s r there_s there_r fits cond =
     let laws = c.others_stay.ensures in
-    asks_sends c.pairs_are_those_of_the_rules.ensures.receivers c.receives_say_one_thing.ensures.computed laws.senders laws.receivers laws.truthful (checked_model c.args.checked.now) c.args.clock c.args.trees.now c.args.pairs.now c.args.process c.args.sends.items c.args.receives.items c.requires r there_r
+    asks_sends c.pairs_are_those_of_the_rules.ensures.receivers c.receives_say_one_thing.ensures.computed laws.senders laws.receivers laws.truthful (checked_model c.args.checked.now) c.args.clock c.args.trees.now c.args.pairs.now c.args.process c.args.sends.items c.args.receives.items c.requires s r there_s there_r fits
 
 pub update-requires-clause-receives_asked : goal.update-requires-clause-receives_asked
 update-requires-clause-receives_asked g c s r there_s there_r fits cond =

@@ -3,7 +3,7 @@ use Rattle.std.specs.Prelude.{slice_get}
 use Rattle.std.proofs.Math.Logic.{∥∥₁_elim, ∥∥₁_map}
 use Rattle.pz_classes.specs.CheckedView.{checked_model}
 use Rattle.pz_tree.specs.declared.tree.Tree.{Tree}
-use Rattle.pz_sim.specs.devices.Tables.{AreHeard}
+use Rattle.pz_sim.specs.devices.Tables.{AreHeardBut}
 use Rattle.pz_sim.proofs.Told.{tells_within, tells_fresh, as_it_was, still_fresh, speaks_then}
 use Rattle.pz_sim.proofs.telling.tell.Goals as goal
 
@@ -27,6 +27,6 @@ pub returns-clause-table : goal.returns-clause-table
 returns-clause-table g c net hs tree is heard table can =
     let m = checked_model c.args.checked.now in
     let was = as_it_was m c.args.clock c.args.trees.now c.args.pairs.now c.args.process c.index-trees-process.result c.sends.new.self c.in_ok-sends.ensures.unchanged in
-    c.speak.ensures.table hs tree (subst (λ (us : List Tree). slice_get us c.args.process ≡ Some tree) (sym was) is) (subst (λ (us : List Tree). AreHeard m c.args.clock us hs) (sym was) heard)
+    c.speak.ensures.table hs tree (subst (λ (us : List Tree). slice_get us c.args.process ≡ Some tree) (sym was) is) (subst (λ (us : List Tree). AreHeardBut m c.args.clock us c.args.process hs) (sym was) heard)
     (speaks_then m c.args.clock c.args.trees.now c.args.pairs.now c.args.process c.index-trees-process.result c.sends.new.self c.in_ok-sends.ensures.unchanged c.walks_list_what_is_active.ensures.receives
     c.in_ok-sends.sends.items c.in_ok-receives.receives.items can (λ fresh fits. c.in_ok-sends.ensures.offers fresh net fits) (λ fresh fits. c.in_ok-receives.ensures.offers fresh net fits)) table

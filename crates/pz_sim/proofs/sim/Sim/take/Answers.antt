@@ -2,8 +2,10 @@ use Rattle.std.proofs.Common.{ℕ, subst}
 use Rattle.pz_classes.specs.CheckedView.{checked_model}
 use Rattle.pz_classes.specs.Soundness.{IsSound}
 use Rattle.pz_term_processes.specs.Standing.{setting_of}
+use Rattle.pz_sim_totals.specs.Sums.{all}
+use Rattle.pz_sim_laws.specs.Deciding.{offers_in}
 use Rattle.pz_sim.specs.devices.Acting.{HasAdvanced}
-use Rattle.pz_sim.proofs.Advanced.{told_there, below_there, many_there, has_chosen, setting_stays}
+use Rattle.pz_sim.proofs.Advanced.{told_there, below_there, many_there, has_chosen, chosen_soon, setting_stays}
 use Rattle.pz_sim.proofs.sim.Sim.take.Goals as goal
 
 pub go_on_in-requires-clause-told : goal.go_on_in-requires-clause-told
@@ -31,3 +33,10 @@ pub returns-in-Ok-clause-setting : goal.returns-in-Ok-clause-setting
 returns-in-Ok-clause-setting g c =
     let s = c.args.self.now in
     setting_stays (setting_of (checked_model s.checked) s.limits) s.clock s.trees.items c.go_on_in.new.trees.items s.standing c.in-Ok.standing
+
+pub returns-in-Ok-clause-ticks : goal.returns-in-Ok-clause-ticks
+returns-in-Ok-clause-ticks g c =
+    let s = c.args.self.now in
+    let new = c.go_on_in.new in
+    chosen_soon c.pairs_are_those_of_the_rules.ensures.couples c.wires_are_known.ensures.law (setting_of (checked_model s.checked) s.limits) s.clock (offers_in (all s.totals) s.pairs.pairs) c.args.k s.trees.items new.trees.items new.totals new.pairs
+    c.args.steps.now new.steps (subst IsSound c.model-model.ensures.is c.model-model.ensures.sound) c.in-Ok.standing c.in-Ok.ensures.leads c.in-Ok.ensures.holds c.in-Ok.ensures.ticks

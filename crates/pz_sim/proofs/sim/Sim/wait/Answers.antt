@@ -1,10 +1,10 @@
-use Rattle.std.proofs.Common.{◌<◌, ◌^◌, ℕ, sym, subst, arith}
+use Rattle.std.proofs.Common.{◌<◌, ◌+◌, ◌^◌, ℕ, sym, subst, arith}
 use Rattle.pz_classes.specs.CheckedView.{checked_model}
 use Rattle.pz_classes.specs.Soundness.{IsSound}
 use Rattle.pz_term_processes.specs.Standing.{setting_of}
 use Rattle.pz_sim.proofs.Kept.{setting_at}
 use Rattle.pz_sim.proofs.Timed.{kept_at_time, clock_before, time_passes}
-use Rattle.pz_sim.proofs.Waited.{short_so}
+use Rattle.pz_sim.proofs.Waited.{short_so, passes_soon}
 use Rattle.pz_sim.proofs.sim.Sim.wait.Goals as goal
 
 pub elapse_in-requires-clause-kept : goal.elapse_in-requires-clause-kept
@@ -60,3 +60,10 @@ returns-clause-short g c =
     clock_before c.one_moment.ensures.one c.moments_are_decided.ensures.law c.pairs_are_those_of_the_rules.ensures.couples c.wires_are_known.ensures.law setting s.clock s.trees.items s.totals s.pairs
     c.args.time sound s.standing s.holds c.requires.there in
     omega (arith, before, short)
+
+pub returns-clause-ticks : goal.returns-clause-ticks
+returns-clause-ticks g c =
+    let s = c.args.self.now in
+    let new = c.elapse_in.new in
+    passes_soon c.pairs_are_those_of_the_rules.ensures.couples c.wires_are_known.ensures.law (setting_of (checked_model s.checked) s.limits) (s.clock + c.args.time) s.trees.items new.trees.items new.totals new.pairs c.in_ok-moment.moment
+    c.args.steps.now new.steps (subst IsSound c.model-model.ensures.is c.model-model.ensures.sound) c.in_ok-moment.ensures.kept c.in_ok-moment.ensures.ticks
