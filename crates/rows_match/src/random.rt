@@ -44,7 +44,7 @@ fn offered(alloc: Global, stands: &[Stand], process: u32) -> Result<Vec<Wish>, A
 
 /// A front and a back of these, and half the time others between them.
 fn near(alloc: Global, old: &[Wish], dice: &mut Dice) -> Result<Vec<Wish>, AllocError> {
-    let size = (old.len() as u32).saturating_add(1);
+    let size = u32::try_from(old.len()).unwrap_or(0).saturating_add(1);
     let front = dice.draw(size.max(1));
     let back = dice.draw(size.saturating_sub(front).max(1));
     let mut wishes = Vec::new(alloc);
