@@ -181,7 +181,7 @@ build() {
   local before=$sum
   command -v rt >/dev/null || { echo "poosl: rt, the toolchain's command, is not on the PATH" >&2; exit 2; }
   echo "poosl: proving and building the program; that is done once, and again only after a change of its sources" >&2
-  echo "poosl: to have a look meanwhile, in another terminal: 'poosl now run MODEL ..' takes two minutes, and proves nothing" >&2
+  echo "poosl: to have a look meanwhile, in another terminal: 'poosl now run MODEL ..' takes some minutes, and proves nothing" >&2
   touch "$started"
   measure "$builds" 0
   SECONDS=0
