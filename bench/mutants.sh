@@ -77,13 +77,28 @@ answer_by_rt() {
   done
 }
 
+# Whether one of the files that a case names is not there.
+lacks_a_file() { # name
+  local it
+  while read -r it; do
+    [[ $it != *.* || -e $data/$it ]] || return 0
+  done <"$room/cases/${befores[0]-}$1.args"
+  return 1
+}
+
 # What is wrong with the answers of a case: nothing where it is empty. Neither want of memory nor a failing output
-# has a reason here; a file is lacked by nobody, and one that is too long is longer than its limit.
+# has a reason here; a file that cannot be read is not there, watches are those of a watch, and a file that is too long
+# is longer than its limit.
 wrong_with() { # name, status and sum of the first run, those of the second
-  local size
+  local size job
   size=$(wc -c <"$room/cases/${befores[0]-}$1")
+  job=$(head -n 1 "$room/cases/${befores[0]-}$1.args")
   if [[ $2 != "$4" || $3 != "$5" ]]; then
     echo "two answers: status $2, and then $4"
+  elif [[ $2 == 8 ]] && lacks_a_file "$1"; then
+    return
+  elif [[ $2 =~ ^1[12]$ && $job == watch ]]; then
+    return
   elif [[ ! $2 =~ ^[0-7]$ ]]; then
     echo "status $2"
   elif [[ $2 == 7 ]] && ((size <= 8388608)); then
