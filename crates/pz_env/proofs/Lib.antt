@@ -1,3 +1,9 @@
 pub mod Counted
+pub mod Firsts
+pub mod Keys
+pub mod Lists
+pub mod Made
+pub mod Mentions
+pub mod Making
 pub mod Refusals
 pub mod Sets

@@ -13,17 +13,13 @@ ghost use Rattle.pz_env.specs.devices.Ends.{ends_in};
 ghost use Rattle.pz_env.specs.devices.Refusing.{is_refused, first_refused};
 
 use crate::ends::EndSet;
+use crate::names::{CLASS, INSTANCE};
 use crate::room::has_large_system;
 use crate::standing::{connected_ports, system_instances, system_ports};
 use pz_classes::Classes;
 use pz_env_script::{Entry, Script};
 use pz_syntax::{Instance, Model};
 use std::alloc::{AllocError, Global};
-
-/// The name of the environment's class.
-const CLASS: &str = "ScriptEnv";
-/// The name of its instance.
-const INSTANCE: &str = "env";
 
 /// Whether one of these has the name of the environment.
 fn has_its_name(instances: &[Instance]) -> bool
@@ -101,7 +97,7 @@ fn line_among(
 }
 
 /// The entries of a script, which are not many.
-fn entries_of(script: &Script) -> &[Entry]
+pub(crate) fn entries_of(script: &Script) -> &[Entry]
     ensures list { result.now ≡ script.now }
     ensures few { length result.now ≤ 100000 }
 {

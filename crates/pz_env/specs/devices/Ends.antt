@@ -2,6 +2,7 @@
 use Rattle.std.specs.Prelude.{ℕ, Bool, ◌&&◌, List, [], ◌∷◌, ◌++◌, map, if◌then◌else◌}
 use Rattle.std.specs.List.{list_any, position_or_len}
 use Rattle.std.specs.Str.{bytes_eq}
+use Rattle.pz_env_script.specs.declared.entry.Entry.{Entry}
 use Rattle.pz_env.specs.declared.ends.End.{End}
 use Rattle.pz_env.specs.declared.ends.EndSet.{EndSet}
 
@@ -32,3 +33,7 @@ named_by e = named e.instance.now e.port.now
 -- in the order in which they were added
 abbrev pub ends_in : EndSet → List Named
 ends_in s = map named_by s.set.keys
+
+-- the end that an entry names
+abbrev pub end_of_entry : Entry → Named
+end_of_entry e = named e.instance e.port
