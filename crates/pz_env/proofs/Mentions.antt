@@ -1,5 +1,5 @@
 -- The ends that lines name and what they say, for the first time.
-use Rattle.std.proofs.Common.{◌≡◌, refl, sym, ap, ap₂, ◌∙◌, ℕ, suc, ◌+◌, ◌<◌, ◌≤◌, Bool, true, false, ◌&&◌, ◌==◌, not, List, [], ◌∷◌, ◌++◌, map, drop, length, get_or}
+use Rattle.std.proofs.Common.{◌≡◌, refl, sym, ap, ap₂, ◌∙◌, ℕ, suc, ◌+◌, ◌<◌, ◌≤◌, Bool, true, false, ◌&&◌, ◌==◌, not, List, [], ◌∷◌, map, drop, length, get_or}
 use Rattle.std.specs.Prelude.{if◌then◌else◌}
 use Rattle.std.specs.Bool.{beq}
 use Rattle.std.specs.List.{filter, position_or_len}
@@ -13,7 +13,7 @@ use Rattle.pz_env_rules.specs.Environment.{Line, lines_from}
 use Rattle.pz_env_rules.specs.Ends.{is_same_end, first_mentions}
 use Rattle.pz_env_tree.specs.Names.{end_number}
 use Rattle.pz_env_tree.specs.EnvironmentClass.{is_sent, is_same_way, is_same_message, first_messages}
-use Rattle.pz_env.specs.devices.Ends.{Named, is_named, end_of_entry}
+use Rattle.pz_env.specs.devices.Ends.{Named, is_named}
 use Rattle.pz_env.specs.devices.Said.{SaidSo, is_said}
 use Rattle.pz_env.specs.devices.Firsts.{firsts}
 use Rattle.pz_env.specs.devices.Rest.{rest_from, end_of, said_of}

@@ -1,5 +1,5 @@
 -- Which of a list are the first with their key, one after the other, where some keys have been seen.
-use Rattle.std.specs.Prelude.{ℕ, Bool, not, List, [], ◌∷◌, ◌++◌, if◌then◌else◌}
+use Rattle.std.specs.Prelude.{Bool, not, List, [], ◌∷◌, ◌++◌, if◌then◌else◌}
 use Rattle.std.specs.List.{filter, list_any}
 
 -- each that is the same as none before it

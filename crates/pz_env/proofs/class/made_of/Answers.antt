@@ -1,4 +1,4 @@
-use Rattle.std.proofs.Common.{refl, ap, map, arith}
+use Rattle.std.proofs.Common.{ap, map, arith}
 use Rattle.pz_syntax.specs.StatementView as statement
 use Rattle.pz_env.proofs.Making.{at_first, line_made, all_made}
 use Rattle.pz_env.proofs.class.made_of.Goals as goal

@@ -1,5 +1,5 @@
 use Rattle.std.proofs.Common.{ap, ◌∙◌, arith}
-use Rattle.pz_syntax.specs.ExpressionView.{view, list_of}
+use Rattle.pz_syntax.specs.ExpressionView.{list_of}
 use Rattle.pz_env.specs.devices.Making.{constant_at}
 use Rattle.pz_env.proofs.Lists.{made_all}
 use Rattle.pz_env.proofs.Made.{constants_are}
