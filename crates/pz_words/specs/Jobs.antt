@@ -6,7 +6,7 @@ use Rattle.pz_words.specs.declared.jobs.Choice.{Choice}
 use Rattle.pz_words.specs.declared.jobs.Choice.TheVariants as choice
 use Rattle.pz_words.specs.declared.jobs.RunLimits.{RunLimits}
 use Rattle.pz_words.specs.declared.jobs.Job.{Job}
-use Rattle.pz_words.specs.declared.jobs.Job.TheVariants.{Run, Menu, Replay, Check, Make, Ring, Format, Watch}
+use Rattle.pz_words.specs.declared.jobs.Job.TheVariants.{Run, Menu, Replay, Check, Make, Ring, Format, Watch, Drive}
 use Rattle.pz_words.specs.declared.options.Options.{Options}
 use Rattle.pz_words.specs.Options.{AreOptions}
 
@@ -78,6 +78,9 @@ pub data Asks : List (List ℕ) → Job → Type 0 where
   watch : (model watches : List ℕ) (options : List (List ℕ)) (o : Options)
       → IsTrue (is_name model) → IsTrue (is_name watches) → AreOptions options o → o.summary ≡ false
       → Asks (codes "watch" ∷ model ∷ watches ∷ options) (Watch model watches (choice_or choice.First o) (limits_of o))
+  drive : (model script : List ℕ) (options : List (List ℕ)) (o : Options)
+      → IsTrue (is_name model) → IsTrue (is_name script) → AreOptions options o → o.summary ≡ false
+      → Asks (codes "drive" ∷ model ∷ script ∷ options) (Drive model script (choice_or choice.First o) (limits_of o))
 
 -- this is what the words ask for: a job, or none
 abbrev pub IsAsked : List (List ℕ) → Option Job → Type 0

@@ -111,4 +111,11 @@ pub enum Job {
         choice: Choice,
         limits: RunLimits,
     },
+    /// To run a model whose open ends are driven by the script of a file.
+    Drive {
+        model: FileName,
+        script: FileName,
+        choice: Choice,
+        limits: RunLimits,
+    },
 }

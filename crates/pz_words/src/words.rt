@@ -3,7 +3,7 @@ ghost use Rattle.pz_words.specs.declared.jobs.Job.{Job as AnyJob};
 ghost use Rattle.pz_words.specs.Jobs.{Asks, IsAsked, is_name as names};
 ghost use Rattle.pz_words.specs.devices.Reading as device;
 
-use crate::jobs::{Choice, FileName, Job, MOST_STATIONS};
+use crate::jobs::{Choice, FileName, Job, MOST_STATIONS, RunLimits};
 use crate::numbers::number_within;
 use crate::options::Options;
 use crate::reading::read_options;
@@ -58,6 +58,9 @@ fn read_job(alloc: Global, command: &str, words: &[String]) -> Result<Option<Job
     }
     if command == "watch" {
         return read_watch(alloc, words);
+    }
+    if command == "drive" {
+        return read_drive(alloc, words);
     }
     Ok(None)
 }
@@ -253,10 +256,20 @@ fn read_unsummed(alloc: Global, words: &[String]) -> Result<Option<Options>, All
     }
 }
 
-fn read_watch(alloc: Global, words: &[String]) -> Result<Option<Job>, AllocError>
-    ensures { IfOk result (λ found. found ≡ device.watch_of (map string_bytes words.now)) }
+/// A model and a second file, and how the model is run.
+struct Pair {
+    model: FileName,
+    second: FileName,
+    choice: Choice,
+    limits: RunLimits,
+}
+
+/// What the words behind the name of a job say that is done with two files, if they say it. The only error
+/// is want of memory.
+fn read_pair(alloc: Global, words: &[String]) -> Result<Option<Pair>, AllocError>
+    ensures { IfOk result (λ found. found ≡ device.pair_of (map string_bytes words.now)) }
 {
-    let [model, watches, options @ ..] = words else {
+    let [model, second, options @ ..] = words else {
         return Ok(None);
     };
     let Some(options) = read_unsummed(alloc, options)? else {
@@ -265,14 +278,54 @@ fn read_watch(alloc: Global, words: &[String]) -> Result<Option<Job>, AllocError
     let Some(model) = file_name(model)? else {
         return Ok(None);
     };
-    let Some(watches) = file_name(watches)? else {
+    let Some(second) = file_name(second)? else {
         return Ok(None);
     };
     let limits = options.limits();
+    Ok(Some(Pair {
+        model,
+        second,
+        choice: options.into_choice(Choice::First),
+        limits,
+    }))
+}
+
+fn read_watch(alloc: Global, words: &[String]) -> Result<Option<Job>, AllocError>
+    ensures { IfOk result (λ found. found ≡ device.watch_of (map string_bytes words.now)) }
+{
+    let Some(pair) = read_pair(alloc, words)? else {
+        return Ok(None);
+    };
+    let Pair {
+        model,
+        second,
+        choice,
+        limits,
+    } = pair;
     Ok(Some(Job::Watch {
         model,
-        watches,
-        choice: options.into_choice(Choice::First),
+        watches: second,
+        choice,
+        limits,
+    }))
+}
+
+fn read_drive(alloc: Global, words: &[String]) -> Result<Option<Job>, AllocError>
+    ensures { IfOk result (λ found. found ≡ device.drive_of (map string_bytes words.now)) }
+{
+    let Some(pair) = read_pair(alloc, words)? else {
+        return Ok(None);
+    };
+    let Pair {
+        model,
+        second,
+        choice,
+        limits,
+    } = pair;
+    Ok(Some(Job::Drive {
+        model,
+        script: second,
+        choice,
         limits,
     }))
 }

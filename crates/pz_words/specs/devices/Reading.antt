@@ -5,7 +5,8 @@ use Rattle.std.specs.Fmt.{decimal}
 use Rattle.std.specs.Str.Parse.{digits_value}
 use Rattle.pz_words.specs.declared.jobs.Choice.TheVariants as choice
 use Rattle.pz_words.specs.declared.jobs.Job.{Job}
-use Rattle.pz_words.specs.declared.jobs.Job.TheVariants.{Run, Menu, Replay, Check, Make, Ring, Format, Watch}
+use Rattle.pz_words.specs.declared.words.Pair.{Pair}
+use Rattle.pz_words.specs.declared.jobs.Job.TheVariants.{Run, Menu, Replay, Check, Make, Ring, Format, Watch, Drive}
 use Rattle.pz_words.specs.Jobs.{station_limit}
 use Rattle.pz_words.specs.declared.options.OptionWord.{OptionWord}
 use Rattle.pz_words.specs.declared.options.OptionWord.TheVariants.{Chooses, Steps, Until, Units, Summary}
@@ -156,10 +157,27 @@ format_of (model ∷ other ∷ words) = None
 abbrev pub unsummed : List (List ℕ) → Option Options
 unsummed options = then_maybe (read_on nothing_said None options) (λ o. if o.summary then None else Some o)
 
+-- a model and a second file, and how the options say that the model is run
+abbrev pub as_pair : List ℕ → List ℕ → Options → Pair
+as_pair model second o = record { model = model; second = second; choice = choice_or choice.First o; limits = limits_of o }
+
+abbrev pub pair_of : List (List ℕ) → Option Pair
+pair_of [] = None
+pair_of (model ∷ []) = None
+pair_of (model ∷ second ∷ options) =
+    then_maybe (unsummed options) (λ o. then_maybe (name_of model) (λ name. option_map (λ other. as_pair name other o) (name_of second)))
+
+abbrev pub watches_of : Pair → Job
+watches_of p = Watch p.model p.second p.choice p.limits
+
+abbrev pub drives_of : Pair → Job
+drives_of p = Drive p.model p.second p.choice p.limits
+
 abbrev pub watch_of : List (List ℕ) → Option Job
-watch_of [] = None
-watch_of (model ∷ []) = None
-watch_of (model ∷ watches ∷ options) = then_maybe (unsummed options) (λ o. then_maybe (name_of model) (λ name. option_map (λ w. Watch name w (choice_or choice.First o) (limits_of o)) (name_of watches)))
+watch_of words = option_map watches_of (pair_of words)
+
+abbrev pub drive_of : List (List ℕ) → Option Job
+drive_of words = option_map drives_of (pair_of words)
 
 abbrev pub job_of : List ℕ → List (List ℕ) → Option Job
 job_of command words =
@@ -170,7 +188,8 @@ job_of command words =
     else (if bytes_eq command (codes "make") then make_of words
     else (if bytes_eq command (codes "ring") then ring_of words
     else (if bytes_eq command (codes "format") then format_of words
-    else (if bytes_eq command (codes "watch") then watch_of words else None)))))))
+    else (if bytes_eq command (codes "watch") then watch_of words
+    else (if bytes_eq command (codes "drive") then drive_of words else None))))))))
 
 abbrev pub job_in : List (List ℕ) → Option Job
 job_in [] = None
