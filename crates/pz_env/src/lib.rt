@@ -6,6 +6,7 @@ mod class;
 mod closing;
 mod ends;
 mod error;
+mod header;
 mod messages;
 mod names;
 mod refusing;
@@ -14,5 +15,6 @@ mod standing;
 mod statements;
 
 pub use closing::close;
+pub use header::drive_header;
 pub use error::CloseError;
 pub use refusing::refused_line;

@@ -7,14 +7,14 @@ use Rattle.pz_words.specs.declared.options.Options.{Options}
 use Rattle.pz_words.specs.declared.options.OptionWord.{OptionWord}
 use Rattle.pz_words.specs.declared.options.OptionWord.TheVariants.{Chooses, Steps, Until, Units, Summary}
 use Rattle.pz_words.specs.Options.{step_limit, IsAllowed, nothing_said, with_option, said_with, AreOptions}
-use Rattle.pz_words.specs.Jobs.{Asks, IsAsked, or_else, usual_steps}
+use Rattle.pz_words.specs.Jobs.{Asks, IsAsked, or_else, usual_steps, usual_units}
 use Rattle.pz_words.specs.Jobs as jobs
 use Rattle.pz_run.specs.declared.status.Status.{Status}
 use Rattle.pz_term_simulator.specs.Simulations.{Simulation}
 use Rattle.pz_run.specs.Words.{OfAsked}
 use Rattle.pz_run.specs.Promises.{CameThrough}
 use Rattle.pz_run.specs.HandedOut.{HandsOut}
-use Rattle.pz_run.specs.devices.Words.{HasRingSize, HasFewActions}
+use Rattle.pz_run.specs.devices.Words.{HasRingSize, HasFewActions, HasUnits}
 use Rattle.pz_run.specs.devices.Keeping.{KeepsPromises}
 
 one_asked : (words : List (List ℕ)) (x y : Option Job) → IsAsked words x → IsAsked words y → x ≡ y
@@ -44,6 +44,7 @@ sized _ _ (jobs.make n size) = size
 sized _ _ (jobs.ring n options o size are full) = size
 sized _ _ (jobs.format model is) = tt
 sized _ _ (jobs.watch model watches options o is are_watches are full) = tt
+sized _ _ (jobs.drive model script options o is is_script are full) = tt
 
 pub found_sized : (words : List (List ℕ)) (job : Job) → IsAsked words (Some job) → HasRingSize job
 found_sized words job is = sized words job ((is job).0 refl)
@@ -76,6 +77,37 @@ asks_few _ _ (jobs.make n size) = tt
 asks_few _ _ (jobs.ring n options o size are full) = options_few options o are
 asks_few _ _ (jobs.format model is) = tt
 asks_few _ _ (jobs.watch model watches options o is are_watches are full) = options_few options o are
+asks_few _ _ (jobs.drive model script options o is is_script are full) = options_few options o are
 
 pub found_few : (words : List (List ℕ)) (job : Job) → IsAsked words (Some job) → HasFewActions job
 found_few words job is = asks_few words job ((is job).0 refl)
+
+-- and how many units they give
+
+abbrev GivesUnits : Options → Type 0
+GivesUnits o = 1 ≤ or_else usual_units o.units
+
+with_units : (s : OptionWord) (o : Options) → IsAllowed s → GivesUnits o → GivesUnits (with_option s o)
+with_units (Chooses c) o is some = some
+with_units (Steps n) o is some = some
+with_units (Until n) o is some = some
+with_units (Units n) o is some = is.0
+with_units Summary o is some = some
+
+said_units : (o : Options) (ss : List OptionWord) → All IsAllowed ss → GivesUnits o → GivesUnits (said_with o ss)
+said_units o [] all some = some
+said_units o (s ∷ ss) all some = said_units (with_option s o) ss (λ k d below. all (suc k) d (omega (arith, below))) (with_units s o (all 0 s (omega arith)) some)
+
+asks_units : (words : List (List ℕ)) (job : Job) → Asks words job → HasUnits job
+asks_units _ _ (jobs.run model options o is are) = tt
+asks_units _ _ (jobs.menu model options o is are full) = tt
+asks_units _ _ (jobs.replay model trace options o is is_trace are only) = tt
+asks_units _ _ (jobs.check model is) = tt
+asks_units _ _ (jobs.make n size) = tt
+asks_units _ _ (jobs.ring n options o size are full) = tt
+asks_units _ _ (jobs.format model is) = tt
+asks_units _ _ (jobs.watch model watches options o is are_watches are full) = tt
+asks_units _ _ (jobs.drive model script options o is is_script are full) = subst GivesUnits (sym are.meant) (said_units nothing_said are.settings are.allowed (omega arith))
+
+pub found_units : (words : List (List ℕ)) (job : Job) → IsAsked words (Some job) → HasUnits job
+found_units words job is = asks_units words job ((is job).0 refl)

@@ -16,6 +16,8 @@ only_usage _ _ (promises.trace_refused model trace units) none no_fault no_want 
 only_usage _ _ (promises.judged_refused model watches choice limits) none no_fault no_want = cc
 only_usage _ _ (promises.watch_broken model watches choice limits) none no_fault no_want = cc
 only_usage _ _ (promises.watch_refused model watches choice limits) none no_fault no_want = cc
+only_usage _ _ (promises.driven_refused model script choice limits) none no_fault no_want = cc
+only_usage _ _ (promises.script_refused model script choice limits) none no_fault no_want = cc
 only_usage _ _ (promises.model_refused job has) none no_fault no_want = cc
 only_usage _ _ (promises.too_long job file among) none no_fault no_want = cc
 only_usage _ _ (promises.read_fault job file among) none no_fault no_want = cc
@@ -32,6 +34,8 @@ no_usage _ _ (promises.trace_refused model trace units) is = cc
 no_usage _ _ (promises.judged_refused model watches choice limits) is = cc
 no_usage _ _ (promises.watch_broken model watches choice limits) is = cc
 no_usage _ _ (promises.watch_refused model watches choice limits) is = cc
+no_usage _ _ (promises.driven_refused model script choice limits) is = cc
+no_usage _ _ (promises.script_refused model script choice limits) is = cc
 no_usage _ _ (promises.model_refused job has) is = cc
 no_usage _ _ (promises.too_long job file among) is = cc
 no_usage _ _ (promises.read_fault job file among) is = cc

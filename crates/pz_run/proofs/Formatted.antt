@@ -16,13 +16,13 @@ use Rattle.pz_run.specs.declared.status.Status.TheVariants.{Done, ModelRefused}
 use Rattle.pz_run.specs.Files.{model_file}
 use Rattle.pz_run.specs.Plays.{play_of}
 use Rattle.pz_run.specs.Output.{PrintsLayout, opens_not, lays_out}
-use Rattle.pz_run.specs.Promises.{HasTrace, HasEnding, of_choice, of_trace, of_watches}
+use Rattle.pz_run.specs.Promises.{HasTrace, HasEnding, of_choice, of_trace, of_watches, of_script}
 use Rattle.pz_run.specs.devices.Formatting.{PrintsFormat}
 use Rattle.pz_run.specs.devices.Keeping.{KeepsPromises}
 use Rattle.pz_run.specs.devices.Reading.{ReadsFile}
 use Rattle.pz_run.specs.devices.Saying.{Said, Answers}
 use Rattle.pz_run.specs.devices.Texts.{SaysRefusal}
-use Rattle.pz_run.proofs.Outcomes.{Outcome, no_model, checked, unjudged}
+use Rattle.pz_run.proofs.Outcomes.{Outcome, no_model, checked, unjudged, undriven}
 use Rattle.pz_run.proofs.OneFiles.{OneFile, keeps_file}
 use Rattle.pz_run.proofs.OfJobs.{file_lacks, file_long, file_read}
 
@@ -58,6 +58,7 @@ format_ended : {X : Type 0} (model : List ℕ) (held : Entries) (text : List ℕ
 format_ended model held text e (of_choice x) = absurd (no_play model x.play x.is_play)
 format_ended model held text e (of_trace x) = format_told model held text x.replay
 format_ended model held text e (of_watches x) = unjudged held (Format model) text tt x.judged.on
+format_ended model held text e (of_script x) = undriven held (Format model) text tt x.driven.on
 
 format_outcome : (f : FilesState) (model text bytes : List ℕ) (status : Status) → PrintsLayout text bytes status → Outcome f (Format model) text status
 format_outcome f model text _ _ (opens_not r is) = no_model r (λ _. is)
@@ -77,6 +78,7 @@ formats_file model = record {
   no_run = λ held text bytes status prints none. format_told model held text none.replay;
   breaks = λ held text bytes status prints breaks. unjudged held (Format model) text tt breaks.judged.on;
   no_list = λ held text bytes status prints none. unjudged held (Format model) text tt none.on;
+  no_script = λ held text bytes status prints none. undriven held (Format model) text tt none.on;
   refused = λ held text bytes status x. x.refused;
 }
 

@@ -14,12 +14,14 @@ use Rattle.pz_watch.specs.Files.{NamedFormula, AreWatches, IsRefusedAt}
 use Rattle.pz_watch.specs.Names.{is_identifier}
 use Rattle.pz_watch.specs.declared.errors.ReadWatchesError.{ReadWatchesError}
 use Rattle.pz_watch.specs.declared.errors.ReadWatchesError.TheVariants as no_list
+use Rattle.pz_env_script.specs.declared.entry.Entry.{Entry}
+use Rattle.pz_env_tree.specs.ClosedTree.{closed_tree}
 use Rattle.pz_words.specs.declared.jobs.Job.{Job}
 use Rattle.pz_term_simulator.specs.Simulations.{Simulation}
 use Rattle.pz_run_playing.specs.declared.finale.Finale.{Finale}
 use Rattle.pz_run_playing.specs.declared.finale.Judged.{Judged}
 use Rattle.pz_run_playing.specs.Endings.{ending_of}
-use Rattle.pz_run_playing.specs.Playing.{Plays}
+use Rattle.pz_run_playing.specs.Playing.{PlaysUnder, Plays}
 use Rattle.pz_run_playing.specs.Watched.{PlaysWatched}
 use Rattle.pz_run_replaying.specs.declared.replayed.Replayed.{Replayed}
 use Rattle.pz_run_replaying.specs.declared.replayed.Replayed.TheVariants as replayed
@@ -37,9 +39,10 @@ use Rattle.pz_run.specs.declared.status.Status.TheVariants as status
 use Rattle.pz_run.specs.Files.{JobFile}
 use Rattle.pz_run.specs.Plays.{told_of, setting_for, setting_with, policy_for}
 use Rattle.pz_run.specs.Editions.{IsOfSecondEdition, OpensFor}
+use Rattle.pz_run.specs.Scripts.{IsScriptFor, IsScriptRefused}
 use Rattle.pz_run.specs.Status.{status_of, replay_status}
 use Rattle.pz_run.specs.Promises.{CameThrough}
-use Rattle.pz_run.specs.HandedOut.{RunHandsOut, where_it_ended, WatchHandsOut, TraceHandsOut, ModelHandsOut, FileHandsOut, NeverBegun, HandsOut}
+use Rattle.pz_run.specs.HandedOut.{RunHandsOut, where_it_ended, WatchHandsOut, DriveHandsOut, TraceHandsOut, ModelHandsOut, FileHandsOut, NeverBegun, HandsOut}
 use Rattle.pz_run.specs.HandedOut as handed
 use Rattle.pz_run.specs.devices.Halting.{halted_as, given_as, judged_as, watched, replayed_as}
 use Rattle.pz_run.specs.devices.Handing.{Hands, FileHands}
@@ -60,6 +63,11 @@ module _ (p : Play) (m : ModelTree) (t : Simulation) (before now : SinkState) wh
       → Hands (RunHandsOut p m) given (Some t)
   run_hands (Ok finale) given is played written ample = subst (λ (s : Simulation). RunHandsOut p m (Some s)) (sym played.arrives) (where_it_ended played.run)
   run_hands (Err h) given is played written ample = halted_hands (RunHandsOut p m) h given (Some t) is written ample
+
+  pub under_hands : (header : List ℕ) (r : Result Finale Halt) (given : Status) → given ≡ given_as r → PlaysUnder (setting_for m p) (policy_for p) header t before now r
+      → Hands (RunHandsOut p m) given (Some t)
+  under_hands header (Ok finale) given is played written ample = subst (λ (s : Simulation). RunHandsOut p m (Some s)) (sym played.arrives) (where_it_ended played.run)
+  under_hands header (Err h) given is played written ample = halted_hands (RunHandsOut p m) h given (Some t) is written ample
 
   pub judged_hands : (ws : List NamedFormula) (r : Result Judged Halt) (given : Status) → given ≡ judged_as r → PlaysWatched (setting_for m p) (policy_for p) ws t before now r
       → Hands (RunHandsOut p m) given (Some t)
@@ -94,6 +102,16 @@ pub no_list_hands : (p : Play) (m : ModelTree) (file : List ℕ) (e : ReadWatche
     → (e ≡ no_list.NoMemory → given ≡ status.NoMemory) → Hands (WatchHandsOut p m file) given None
 no_list_hands p m file no_list.NoMemory given so wanting written ample = absurd (ample (wanting refl))
 no_list_hands p m file (no_list.Refused line) given so wanting written ample = handed.no_watches line (so line refl)
+
+-- of a run that a script drives
+pub driven_hands : (p : Play) (m : ModelTree) (file : List ℕ) (script : List Entry) (given : Status) (left : Option Simulation) → IsScriptFor m file script
+    → Hands (RunHandsOut p (closed_tree m script)) given left → Hands (DriveHandsOut p m file) given left
+driven_hands p m file script given left fits hands written ample = handed.drives script left fits (hands written ample)
+
+pub no_script_hands : (p : Play) (m : ModelTree) (file : List ℕ) (line : Option ℕ) (given : Status) → ((number : ℕ) → line ≡ Some number → IsScriptRefused m file number)
+    → (line ≡ None → given ≡ status.NoMemory) → Hands (DriveHandsOut p m file) given None
+no_script_hands p m file None given so wanting written ample = absurd (ample (wanting refl))
+no_script_hands p m file (Some number) given so wanting written ample = handed.no_script number (so number refl)
 
 -- ---- of a text
 
@@ -177,6 +195,7 @@ watched_begun true status.WriteFault begun never = begun never
 watched_begun true status.NoMemory begun never = begun never
 watched_begun true status.WatchBroken begun never = begun never
 watched_begun true status.WatchRefused begun never = begun never
+watched_begun true status.ScriptRefused begun never = begun never
 
 pub judged_begun : (r : Result Judged Halt) (given : Status) → given ≡ judged_as r → NeverBegun given → ⊥
 judged_begun (Ok judged) given is never = watched_begun judged.broken (status_of (ending_of judged.finale)) (end_begun (ending_of judged.finale)) (subst NeverBegun is never)

@@ -2,7 +2,7 @@
 use Rattle.std.proofs.Common.{◌≡◌, ◌≢◌, ◌⊎◌, inl, inr, ⊎_elim, ◌∙◌, ◌<◌, ◌≤◌, ℕ, zero, suc, Bool, true, false, List, [], ◌∷◌, ◌++◌, Result, Ok, Err, length, refl, sym, subst, ap, arith}
 use Rattle.std.specs.Prelude.{◌↔◌, IsTrue}
 use Rattle.std.proofs.lemmas.Bool.{cases_lt}
-use Rattle.pz_io.specs.Outside.{FilesState, SinkState, raised}
+use Rattle.pz_io.specs.Outside.{SinkState}
 use Rattle.pz_io.specs.declared.writing.Halt.{Halt}
 use Rattle.pz_syntax.specs.Classes.{ModelTree}
 use Rattle.pz_classes.specs.Soundness.{IsSound}
@@ -18,26 +18,17 @@ use Rattle.pz_watch_points.specs.EventPoints.{points_of}
 use Rattle.pz_run_playing.specs.declared.finale.Judged.{Judged}
 use Rattle.pz_run_playing.specs.Laws.{HasOneRun}
 use Rattle.pz_run_playing.specs.Watched.{watched_text, PlaysWatched}
-use Rattle.pz_run_reading.specs.Answers.{OnRefused}
-use Rattle.pz_run_reading.specs.declared.read_error.ReadModelError.{ReadModelError}
-use Rattle.pz_run_reading.specs.declared.read_error.ReadModelError.TheVariants.{NoMemory, Refused}
-use Rattle.pz_run_reading.specs.declared.refusal.Refusal.{Refusal}
-use Rattle.pz_run_reading.specs.Openings.{IsOpenModelOf, IsRefusedToOpen}
-use Rattle.pz_run_lines.specs.Lines.{model_refused_line, watch_refused_line}
+use Rattle.pz_run_lines.specs.Lines.{watch_refused_line}
 use Rattle.pz_run.specs.declared.play.Play.{Play}
 use Rattle.pz_run.specs.declared.status.Status.{Status}
-use Rattle.pz_run.specs.declared.status.Status.TheVariants.{Done, ModelRefused, WriteFault, WatchBroken, WatchRefused}
-use Rattle.pz_run.specs.Files.{JobFile, model_file}
+use Rattle.pz_run.specs.declared.status.Status.TheVariants.{Done, WriteFault, WatchBroken, WatchRefused}
 use Rattle.pz_run.specs.Plays.{setting_for, policy_for, RunOf}
 use Rattle.pz_run.specs.Status.{status_of, IsJudgedAs, broken, kept}
 use Rattle.pz_run.specs.Output.{PrintsJudged, no_watches, judges}
 use Rattle.pz_run.specs.devices.Halting.{watched, judged_as}
-use Rattle.pz_run.specs.devices.Judging.{PrintsClosed, closed, PrintsWatches, JudgesText, refuses, goes_on, JudgesFiles, no_model, reads_on}
-use Rattle.pz_run.specs.devices.Reading.{FileOutcome, wanting, fault, long, whole, ReadsFile}
-use Rattle.pz_run.specs.devices.Replaying.{WasRead}
+use Rattle.pz_run.specs.devices.Judging.{PrintsWatches}
 use Rattle.pz_run.specs.devices.Saying.{Said, Says, Answers}
-use Rattle.pz_run.specs.devices.Texts.{SaysRefusal}
-use Rattle.pz_run.proofs.Sayings.{said_whole, said_halted, answers_by}
+use Rattle.pz_run.proofs.Sayings.{said_whole, said_halted}
 
 -- ---- whether a watch is broken can be told
 
@@ -156,36 +147,3 @@ module _ (one : HasOneRun) (list : IsOneList) (never : IsNeverBoth) (p : Play) (
     breaks = only_broken ws run are status so;
     no_list = λ line wrong. absurd (never is_identifier file ws line identifiers_are_words are wrong);
   }
-
-module _ (one : HasOneRun) (list : IsOneList) (never : IsNeverBoth) (p : Play) (m : ModelTree) (sound : IsSound m) (file : JobFile) (f g : FilesState) (before now : SinkState) (given : Status) where
-  of_outcome : FileOutcome file (PrintsJudged p m) f g before now given → FileOutcome file (PrintsWatches p m) f g before now given
-  of_outcome (wanting same none) = wanting same none
-  of_outcome (fault cause said) = fault cause said
-  of_outcome (long same handed exceeds said) = long same handed exceeds said
-  of_outcome (whole text same short held answers) =
-      whole text same short held (answers_by (PrintsJudged p m text) (PrintsWatches p m text) (of_judged one list never p m sound text) before now given answers)
-
-  pub of_reading : ReadsFile file (PrintsJudged p m) f g before now given → ReadsFile file (PrintsWatches p m) f g before now given
-  of_reading x = record { opened = x.opened; names = x.names; outcome = of_outcome x.outcome }
-
--- ---- the text of a model that is refused
-
-differ : (r : Refusal) → Refused r ≡ NoMemory → ⊥
-differ r same = cc
-
-pub closed_said : (text : List ℕ) (before now : SinkState) (given : Status) (e : ReadModelError) → OnRefused (IsRefusedToOpen text) e → ((m : ModelTree) → IsOpenModelOf text m → e ≡ NoMemory)
-    → SaysRefusal e before now given → Answers (PrintsClosed text) before now given
-closed_said text before now given NoMemory is only says = inl says
-closed_said text before now given (Refused r) is only says =
-    inr (record { bytes = model_refused_line r; wanted = ModelRefused; prints = closed r is (λ m model. differ r (only m model)); said = says })
-
--- ---- from the model's file on
-
-module _ (model name : List ℕ) (p : Play) (f mid g : FilesState) (before now : SinkState) (given : Status) where
-  pub from_text : (text : List ℕ) → WasRead (model_file model) text f mid → JudgesText name p mid g before now given text → JudgesFiles model name p f g before now given
-  from_text text was (refuses same answers) = no_model (record {
-    opened = subst (λ (s : FilesState). s.opens ≡ raised f.opens) (sym same) was.opened;
-    names = subst (λ (s : FilesState). s.opened ≡ f.opened ++ (model ∷ [])) (sym same) was.names;
-    outcome = whole text (subst (λ (s : FilesState). s.faults ≡ f.faults) (sym same) was.faults) was.short was.content answers;
-  })
-  from_text text was (goes_on m is reading) = reads_on mid text m was is reading

@@ -9,11 +9,11 @@ use Rattle.pz_rules.specs.Runs.{Ending, deadlocked, troubled, refused}
 use Rattle.pz_words.specs.declared.jobs.Job.{Job}
 use Rattle.pz_run_lines.specs.Lines.{usage_line, read_fault_line}
 use Rattle.pz_run.specs.declared.status.Status.{Status}
-use Rattle.pz_run.specs.declared.status.Status.TheVariants.{Deadlock, Usage, ModelRefused, ModelFault, ChoiceRefused, TraceRefused, TooLong, ReadFault, WriteFault, NoMemory, WatchBroken, WatchRefused}
+use Rattle.pz_run.specs.declared.status.Status.TheVariants.{Deadlock, Usage, ModelRefused, ModelFault, ChoiceRefused, TraceRefused, TooLong, ReadFault, WriteFault, NoMemory, WatchBroken, WatchRefused, ScriptRefused}
 use Rattle.pz_run.specs.Files.{JobFile, files_of}
 use Rattle.pz_run.specs.Status.{status_of}
 use Rattle.pz_run.specs.Output.{Prints, usage}
-use Rattle.pz_run.specs.Promises.{OpensFiles, OpensLast, IsPastLimit, Lacks, IsLonger, IsNoModel, HasModelText, RunEnds, IsNoTrace, IsBrokenAt, IsNoWatches, CanEnd}
+use Rattle.pz_run.specs.Promises.{OpensFiles, OpensLast, IsPastLimit, Lacks, IsLonger, IsNoModel, HasModelText, RunEnds, IsNoTrace, IsBrokenAt, IsNoWatches, IsNoScript, CanEnd}
 use Rattle.pz_run.specs.Promises as promises
 use Rattle.pz_run.specs.devices.Keeping.{KeepsPromises}
 use Rattle.pz_run.specs.devices.Saying.{Said, NothingWritten}
@@ -48,6 +48,8 @@ pub record Wants (a : Option Job) (f g : FilesState) (bytes : List ℕ) (wanted 
   pub broken_watch : IsBrokenAt a f.held → f.told ≡ true → ¬ ((wanted ≡ ReadFault) × Rose f.faults g.faults) → wanted ≡ WatchBroken
   pub watch_refused : f.told ≡ true → wanted ≡ WatchRefused → IsNoWatches a f.held
   pub no_watches : IsNoWatches a f.held → f.told ≡ true → ¬ ((wanted ≡ ReadFault) × Rose f.faults g.faults) → wanted ≡ WatchRefused
+  pub script_refused : f.told ≡ true → wanted ≡ ScriptRefused → IsNoScript a f.held
+  pub no_script : IsNoScript a f.held → f.told ≡ true → ¬ ((wanted ≡ ReadFault) × Rose f.faults g.faults) → wanted ≡ ScriptRefused
   pub trace_opened : f.told ≡ true → length f.opened + 1 < length g.opened → HasModelText a f.held
   pub too_long : wanted ≡ TooLong → IsPastLimit (files_of a) f g
   pub longer : f.told ≡ true → wanted ≡ TooLong → IsLonger (files_of a) f.held
@@ -98,6 +100,9 @@ module _ (a : Option Job) (f g : FilesState) (before now : SinkState) (bytes : L
     watch_refused = λ told is. wants.watch_refused told (is_wanted WatchRefused is (λ e. cc) (λ e. cc));
     no_watches = λ none told no_fault no_want unless.
         let same = said.is_wanted no_fault no_want in same ∙ wants.no_watches none told (λ both. unless (same ∙ both.0, both.1));
+    script_refused = λ told is. wants.script_refused told (is_wanted ScriptRefused is (λ e. cc) (λ e. cc));
+    no_script = λ none told no_fault no_want unless.
+        let same = said.is_wanted no_fault no_want in same ∙ wants.no_script none told (λ both. unless (same ∙ both.0, both.1));
     trace_opened = wants.trace_opened;
     too_long = λ is. wants.too_long (is_wanted TooLong is (λ e. cc) (λ e. cc));
     longer = λ told is. wants.longer told (is_wanted TooLong is (λ e. cc) (λ e. cc));
@@ -128,6 +133,8 @@ keeps_nothing a f g before now given opens accepted kept none = record {
   broken_watch = λ _ _ _ no_want _. absurd (no_want none.wanting);
   watch_refused = λ _ is. absurd (other WatchRefused is (λ e. cc));
   no_watches = λ _ _ _ no_want _. absurd (no_want none.wanting);
+  script_refused = λ _ is. absurd (other ScriptRefused is (λ e. cc));
+  no_script = λ _ _ _ no_want _. absurd (no_want none.wanting);
   trace_opened = accepted;
   too_long = λ is. absurd (other TooLong is (λ e. cc));
   longer = λ _ is. absurd (other TooLong is (λ e. cc));
@@ -184,6 +191,9 @@ keeps_usage f before now given said = keeps None f f before now usage_line Usage
     no_list : IsNoWatches None f.held → ⊥
     no_list none = no_job none.job none.is_asked
 
+    no_script : IsNoScript None f.held → ⊥
+    no_script none = no_job none.job none.is_asked
+
     wants : Wants None f f usage_line Usage
     wants = record {
       prints = λ _ _. usage;
@@ -202,7 +212,9 @@ keeps_usage f before now given said = keeps None f f before now usage_line Usage
       watch_broken = λ _ is. cc;
       broken_watch = λ breaks _ _. absurd (no_broken breaks);
       watch_refused = λ _ is. cc;
+      script_refused = λ _ is. cc;
       no_watches = λ none _ _. absurd (no_list none);
+      no_script = λ none _ _. absurd (no_script none);
       trace_opened = λ _ many. opened_never (length f.opened) many;
       too_long = λ is. cc;
       longer = λ _ is. cc;

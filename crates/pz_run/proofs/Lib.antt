@@ -14,8 +14,12 @@ pub mod FormatsBack
 pub mod OneEndings
 pub mod Headerless
 pub mod Replayed
+pub mod TwoAnswers
+pub mod TwoFiles
 pub mod Judgings
 pub mod Watched
+pub mod Drivings
+pub mod Driven
 pub mod Handed
 pub mod Asked
 pub mod Begins

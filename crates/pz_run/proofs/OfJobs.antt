@@ -6,7 +6,7 @@ use Rattle.pz_rules.specs.Runs.{Ending}
 use Rattle.pz_words.specs.declared.jobs.Choice.{Choice}
 use Rattle.pz_words.specs.declared.jobs.RunLimits.{RunLimits}
 use Rattle.pz_words.specs.declared.jobs.Job.{Job}
-use Rattle.pz_words.specs.declared.jobs.Job.TheVariants.{Run, Menu, Replay, Check, Make, Ring, Format, Watch}
+use Rattle.pz_words.specs.declared.jobs.Job.TheVariants.{Run, Menu, Replay, Check, Make, Ring, Format, Watch, Drive}
 use Rattle.pz_gen.specs.Ring.{model as ring_text}
 use Rattle.pz_run_reading.specs.declared.refusal.Refusal.{Refusal}
 use Rattle.pz_run_reading.specs.Openings.{IsOpenModelOf, IsRefusedToOpen}
@@ -20,7 +20,7 @@ use Rattle.pz_run.specs.Files.{model_file, files_of}
 use Rattle.pz_run.specs.Status.{status_of}
 use Rattle.pz_run.specs.Plays.{play, play_of, telling_when}
 use Rattle.pz_run.specs.Output.{PrintsRun, plays, PrintsSize, accepts, makes, PrintsModel, refuses, of_model, PrintsFile, lacks, too_long, reads, PrintsModelFile, PrintsJob, does}
-use Rattle.pz_run.specs.Promises.{HasModel, model_name, stations_of, IsRefusedFor, IsTextFor, of_file, of_ring, HasTrace, HasEnding, of_choice, of_trace, of_watches, TellsNoRun, HasWatches}
+use Rattle.pz_run.specs.Promises.{HasModel, model_name, stations_of, IsRefusedFor, IsTextFor, of_file, of_ring, HasTrace, HasEnding, of_choice, of_trace, of_watches, of_script, TellsNoRun, HasWatches, HasScript}
 use Rattle.pz_run.specs.Promises as promises
 use Rattle.pz_run.specs.devices.Keeping.{KeepsPromises}
 use Rattle.pz_run.specs.devices.Reading.{ReadsFile}
@@ -28,7 +28,7 @@ use Rattle.pz_run.specs.devices.Saying.{Said, Answers}
 use Rattle.pz_run.specs.devices.Texts.{EndsOnlySo, PrintsPlay, PrintsCheck}
 use Rattle.pz_run.proofs.OneEnd.{some_is}
 use Rattle.pz_run.proofs.Keeps.{Wants, keeps, keeps_nothing, none_opened, opened_never}
-use Rattle.pz_run.proofs.Outcomes.{chosen_can, Outcome, no_model, run_ended, checked, EndsText, ends_text, OfText, IsUnjudged, unjudged, run_in, none_in, refused_in, broken_in, no_list_in, ring_in}
+use Rattle.pz_run.proofs.Outcomes.{chosen_can, Outcome, no_model, run_ended, checked, EndsText, ends_text, OfText, IsUnjudged, unjudged, IsUndriven, undriven, run_in, none_in, refused_in, broken_in, no_list_in, no_script_in, ring_in}
 use Rattle.pz_run.proofs.OneFiles.{OneFile, keeps_file}
 
 -- ---- what is printed of a file
@@ -59,6 +59,7 @@ play_refused held (Make n) p is text r refused = refused
 play_refused held (Ring n choice limits) p is text r refused = refused
 play_refused held (Format model) p is text r refused = refused
 play_refused held (Watch model watches choice limits) p is text r refused = refused
+play_refused held (Drive model script choice limits) p is text r refused = refused
 
 refused_play : (held : Entries) (job : Job) (p : Play) → play_of job ≡ Some p → (text : List ℕ) (r : Refusal) → IsRefusedToOpen text r → IsRefusedFor held job text r
 refused_play held (Run model choice limits summary) p is text r refused = refused
@@ -69,6 +70,7 @@ refused_play held (Make n) p is text r refused = refused
 refused_play held (Ring n choice limits) p is text r refused = refused
 refused_play held (Format model) p is text r refused = refused
 refused_play held (Watch model watches choice limits) p is text r refused = refused
+refused_play held (Drive model script choice limits) p is text r refused = refused
 
 none_played : (model name : List ℕ) (units : ℕ) (p : Play) → play_of (Replay model name units) ≡ Some p → ⊥
 none_played model name units p e = cc
@@ -82,10 +84,25 @@ played_unjudged (Make n) p is = tt
 played_unjudged (Ring n choice limits) p is = tt
 played_unjudged (Format model) p is = tt
 played_unjudged (Watch model watches choice limits) p is = cc
+played_unjudged (Drive model script choice limits) p is = tt
+
+played_undriven : (job : Job) (p : Play) → play_of job ≡ Some p → IsUndriven job
+played_undriven (Run model choice limits summary) p is = tt
+played_undriven (Menu model choice limits) p is = tt
+played_undriven (Replay model trace units) p is = tt
+played_undriven (Check model) p is = tt
+played_undriven (Make n) p is = tt
+played_undriven (Ring n choice limits) p is = tt
+played_undriven (Format model) p is = tt
+played_undriven (Watch model watches choice limits) p is = tt
+played_undriven (Drive model script choice limits) p is = cc
 
 module _ (job : Job) (p : Play) (is_play : play_of job ≡ Some p) (text : List ℕ) where
   no_watches : {X : Type 0} (held : Entries) → HasWatches held job text → X
   no_watches held x = unjudged held job text (played_unjudged job p is_play) x
+
+  no_script : {X : Type 0} (held : Entries) → HasScript held job text → X
+  no_script held x = undriven held job text (played_undriven job p is_play) x
 
   run_outcome : (f : FilesState) (m : ModelTree) (bytes : List ℕ) (status : Status) → IsOpenModelOf text m → PrintsRun p m bytes status → Outcome f job text status
   run_outcome f m _ _ is (plays run told tells) =
@@ -101,6 +118,7 @@ module _ (job : Job) (p : Play) (is_play : play_of job ≡ Some p) (text : List 
   play_only : (held : Entries) (status : Status) → EndsOnlySo p text status → (ending : Ending) → HasEnding held job text ending → status ≡ status_of ending
   play_only held status only ending (of_trace x) = no_trace held x.replay
   play_only held status only ending (of_watches x) = no_watches held x.judged.on
+  play_only held status only ending (of_script x) = no_script held x.driven.on
   play_only held status only ending (of_choice x) =
       let same : p ≡ x.play = some_is p x.play (sym is_play ∙ x.is_play) in
       let other : EndsOnlySo x.play text status = subst (λ (q : Play). EndsOnlySo q text status) same only in
@@ -123,6 +141,7 @@ plays_file job name p files has named is_play prints = record {
   no_run = λ held text bytes status x none. no_trace job p is_play text held none.replay;
   breaks = λ held text bytes status x breaks. no_watches job p is_play text held breaks.judged.on;
   no_list = λ held text bytes status x none. no_watches job p is_play text held none.on;
+  no_script = λ held text bytes status x none. no_script job p is_play text held none.on;
   refused = λ held text bytes status x r is. x.refused r (play_refused held job p is_play text r is);
 }
 
@@ -162,6 +181,7 @@ check_ended : {X : Type 0} (model : List ℕ) (held : Entries) (text : List ℕ)
 check_ended model held text e (of_choice x) = absurd (no_play model x.play x.is_play)
 check_ended model held text e (of_trace x) = check_told model held text x.replay
 check_ended model held text e (of_watches x) = unjudged held (Check model) text tt x.judged.on
+check_ended model held text e (of_script x) = undriven held (Check model) text tt x.driven.on
 
 checks_file : (model : List ℕ) → OneFile (Check model) model PrintsCheck
 checks_file model = record {
@@ -177,6 +197,7 @@ checks_file model = record {
   no_run = λ held text bytes status prints none. check_told model held text none.replay;
   breaks = λ held text bytes status prints breaks. unjudged held (Check model) text tt breaks.judged.on;
   no_list = λ held text bytes status prints none. unjudged held (Check model) text tt none.on;
+  no_script = λ held text bytes status prints none. undriven held (Check model) text tt none.on;
   refused = λ held text bytes status x. x.refused;
 }
 
@@ -195,6 +216,7 @@ make_ended : {X : Type 0} (n : ℕ) (held : Entries) (text : List ℕ) (e : Endi
 make_ended n held text e (of_choice x) = absurd (no_run n x.play x.is_play)
 make_ended n held text e (of_trace x) = make_told n held text x.replay
 make_ended n held text e (of_watches x) = unjudged held (Make n) text tt x.judged.on
+make_ended n held text e (of_script x) = undriven held (Make n) text tt x.driven.on
 
 -- nor has a ring that is made a model that is read
 
@@ -230,7 +252,9 @@ module _ (f : FilesState) (before now : SinkState) (given : Status) where
         watch_broken = λ _ is. cc;
         broken_watch = λ breaks _ _. let x = broken_in f.held (Make n) breaks in unjudged f.held (Make n) x.text tt x.holds.judged.on;
         watch_refused = λ _ is. cc;
+        script_refused = λ _ is. cc;
         no_watches = λ none _ _. let x = no_list_in f.held (Make n) none in unjudged f.held (Make n) x.text tt x.holds.on;
+        no_script = λ none _ _. let x = no_script_in f.held (Make n) none in undriven f.held (Make n) x.text tt x.holds.on;
         trace_opened = λ _ many. opened_never (length f.opened) many;
         too_long = λ is. cc;
         longer = λ _ is. cc;
@@ -257,7 +281,9 @@ module _ (f : FilesState) (before now : SinkState) (given : Status) where
       watch_broken = end.watch_broken;
       broken_watch = λ breaks _ _. let x = broken_in f.held job breaks in unjudged f.held job x.text tt x.holds.judged.on;
       watch_refused = end.watch_refused;
+      script_refused = end.script_refused;
       no_watches = λ none _ _. let x = no_list_in f.held job none in unjudged f.held job x.text tt x.holds.on;
+      no_script = λ none _ _. let x = no_script_in f.held job none in undriven f.held job x.text tt x.holds.on;
       trace_opened = λ _ many. opened_never (length f.opened) many;
       too_long = λ is. absurd (end.not_long is);
       longer = λ _ is. absurd (end.not_long is);

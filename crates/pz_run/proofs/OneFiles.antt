@@ -8,17 +8,17 @@ use Rattle.pz_run_reading.specs.declared.refusal.Refusal.{Refusal}
 use Rattle.pz_run_lines.specs.Lines.{read_fault_line, too_long_line}
 use Rattle.pz_run.specs.Limits.{model_limit}
 use Rattle.pz_run.specs.declared.status.Status.{Status}
-use Rattle.pz_run.specs.declared.status.Status.TheVariants.{ModelRefused, TraceRefused, TooLong, ReadFault, WatchBroken, WatchRefused}
+use Rattle.pz_run.specs.declared.status.Status.TheVariants.{ModelRefused, TraceRefused, TooLong, ReadFault, WatchBroken, WatchRefused, ScriptRefused}
 use Rattle.pz_run.specs.Files.{JobFile, model_file, files_of}
 use Rattle.pz_run.specs.Status.{status_of}
 use Rattle.pz_run.specs.Output.{Prints, does, PrintsJob}
-use Rattle.pz_run.specs.Promises.{Opens, OpensFiles, OpensLast, HasModel, model_name, of_file, IsRefusedFor, HasEnding, TellsNoRun, BreaksWatch, RefusesWatches}
+use Rattle.pz_run.specs.Promises.{Opens, OpensFiles, OpensLast, HasModel, model_name, of_file, IsRefusedFor, HasEnding, TellsNoRun, BreaksWatch, RefusesWatches, RefusesScript}
 use Rattle.pz_run.specs.Promises as promises
 use Rattle.pz_run.specs.devices.Keeping.{KeepsPromises}
 use Rattle.pz_run.specs.devices.Reading.{FileOutcome, wanting, fault, long, whole, ReadsFile}
 use Rattle.pz_run.specs.devices.Saying.{NothingWritten, Answers}
 use Rattle.pz_run.proofs.OneEnd.{some_is}
-use Rattle.pz_run.proofs.Outcomes.{Outcome, EndsText, ends_text, IsTextOfFile, text_in, OfText, run_in, none_in, refused_in, broken_in, no_list_in}
+use Rattle.pz_run.proofs.Outcomes.{Outcome, EndsText, ends_text, IsTextOfFile, text_in, OfText, run_in, none_in, refused_in, broken_in, no_list_in, no_script_in}
 use Rattle.pz_run.proofs.Keeps.{raised_rose, IsFaultLine, Wants, keeps, keeps_nothing, opened_once}
 
 -- of whose text this is to be printed
@@ -35,6 +35,7 @@ pub record OneFile (job : Job) (name : List ℕ) (P : List ℕ → List ℕ → 
   pub no_run : (held : Entries) (text bytes : List ℕ) (status : Status) → P text bytes status → TellsNoRun held job text → status ≡ TraceRefused
   pub breaks : (held : Entries) (text bytes : List ℕ) (status : Status) → P text bytes status → BreaksWatch held job text → status ≡ WatchBroken
   pub no_list : (held : Entries) (text bytes : List ℕ) (status : Status) → P text bytes status → RefusesWatches held job text → status ≡ WatchRefused
+  pub no_script : (held : Entries) (text bytes : List ℕ) (status : Status) → P text bytes status → RefusesScript held job text → status ≡ ScriptRefused
   pub refused : (held : Entries) (text bytes : List ℕ) (status : Status) → P text bytes status → (r : Refusal) → IsRefusedFor held job text r → status ≡ ModelRefused
 
 missing_is : (text : List ℕ) → None ≡ Some text → ⊥
@@ -78,7 +79,9 @@ module _ (job : Job) (name : List ℕ) (P : List ℕ → List ℕ → Status →
     watch_broken = λ _ is. cc;
     broken_watch = λ breaks told unless. absurd (⊎_elim (λ x. unless (refl, rose x)) (λ missing. no_text _ (broken_in f.held job breaks) missing.1.1) cause);
     watch_refused = λ _ is. cc;
+    script_refused = λ _ is. cc;
     no_watches = λ none told unless. absurd (⊎_elim (λ x. unless (refl, rose x)) (λ missing. no_text _ (no_list_in f.held job none) missing.1.1) cause);
+    no_script = λ none told unless. absurd (⊎_elim (λ x. unless (refl, rose x)) (λ missing. no_text _ (no_script_in f.held job none) missing.1.1) cause);
     trace_opened = λ _ many. opened_once f g name names many;
     too_long = λ is. cc;
     longer = λ _ is. cc;
@@ -113,7 +116,9 @@ module _ (job : Job) (name : List ℕ) (P : List ℕ → List ℕ → Status →
     watch_broken = λ _ is. cc;
     broken_watch = λ breaks told _. absurd (no_text _ (broken_in f.held job breaks) (exceeds told));
     watch_refused = λ _ is. cc;
+    script_refused = λ _ is. cc;
     no_watches = λ none told _. absurd (no_text _ (no_list_in f.held job none) (exceeds told));
+    no_script = λ none told _. absurd (no_text _ (no_script_in f.held job none) (exceeds told));
     trace_opened = λ _ many. opened_once f g name names many;
     too_long = λ _. (model_file name, last, handed);
     longer = λ told _. (model_file name, among, exceeds told);
@@ -149,7 +154,9 @@ module _ (job : Job) (name : List ℕ) (P : List ℕ → List ℕ → Status →
       watch_broken = end.watch_broken;
       broken_watch = λ breaks told _. one.breaks f.held text bytes wanted printed (same_text (λ j t. BreaksWatch f.held j t) (broken_in f.held job breaks) told);
       watch_refused = end.watch_refused;
+      script_refused = end.script_refused;
       no_watches = λ none told _. one.no_list f.held text bytes wanted printed (same_text (λ j t. RefusesWatches f.held j t) (no_list_in f.held job none) told);
+      no_script = λ none told _. one.no_script f.held text bytes wanted printed (same_text (λ j t. RefusesScript f.held j t) (no_script_in f.held job none) told);
       trace_opened = λ _ many. opened_once f g name names many;
       too_long = λ is. absurd (end.not_long is);
       longer = λ _ is. absurd (end.not_long is);

@@ -9,16 +9,16 @@ use Rattle.pz_trace.specs.TraceText.{run_ending}
 use Rattle.pz_words.specs.declared.jobs.Choice.{Choice}
 use Rattle.pz_words.specs.declared.jobs.RunLimits.{RunLimits}
 use Rattle.pz_words.specs.declared.jobs.Job.{Job}
-use Rattle.pz_words.specs.declared.jobs.Job.TheVariants.{Run, Menu, Replay, Check, Make, Ring, Format, Watch}
+use Rattle.pz_words.specs.declared.jobs.Job.TheVariants.{Run, Menu, Replay, Check, Make, Ring, Format, Watch, Drive}
 use Rattle.pz_gen.specs.Ring.{model as ring_text}
 use Rattle.pz_run_reading.specs.declared.refusal.Refusal.{Refusal}
 use Rattle.pz_run.specs.Limits.{model_limit}
 use Rattle.pz_run.specs.declared.play.Play.{Play}
 use Rattle.pz_run.specs.declared.status.Status.{Status}
-use Rattle.pz_run.specs.declared.status.Status.TheVariants.{Done, Deadlock, ModelRefused, ModelFault, ChoiceRefused, TraceRefused, TooLong, ReadFault, WatchBroken, WatchRefused}
+use Rattle.pz_run.specs.declared.status.Status.TheVariants.{Done, Deadlock, ModelRefused, ModelFault, ChoiceRefused, TraceRefused, TooLong, ReadFault, WatchBroken, WatchRefused, ScriptRefused}
 use Rattle.pz_run.specs.Plays.{play_of}
 use Rattle.pz_run.specs.Status.{status_of}
-use Rattle.pz_run.specs.Promises.{IsRefusedFor, IsNoModel, HasModel, HasRun, model_name, stations_of, IsTextFor, of_file, of_ring, HasEnding, RunEnds, TellsNoRun, IsNoTrace, HasWatches, BreaksWatch, IsBrokenAt, RefusesWatches, IsNoWatches, CanEnd}
+use Rattle.pz_run.specs.Promises.{IsRefusedFor, IsNoModel, HasModel, HasRun, model_name, stations_of, IsTextFor, of_file, of_ring, HasEnding, RunEnds, TellsNoRun, IsNoTrace, HasWatches, BreaksWatch, IsBrokenAt, RefusesWatches, IsNoWatches, HasScript, RefusesScript, IsNoScript, CanEnd}
 use Rattle.pz_run.specs.Promises as promises
 use Rattle.pz_run.proofs.OneEnd.{some_is}
 
@@ -33,6 +33,7 @@ chosen_runs (Make n) p is = cc
 chosen_runs (Ring n choice limits) p is = tt
 chosen_runs (Format model) p is = cc
 chosen_runs (Watch model watches choice limits) p is = cc
+chosen_runs (Drive model script choice limits) p is = cc
 
 pub chosen_can : (job : Job) (p : Play) → play_of job ≡ Some p → (e : Ending) → CanEnd (Some job) (status_of e)
 chosen_can job p is ended = promises.done job
@@ -54,6 +55,13 @@ judged_can model watches choice limits deadlocked = promises.deadlock (Watch mod
 judged_can model watches choice limits (troubled trouble) = promises.model_fault (Watch model watches choice limits) tt
 judged_can model watches choice limits (refused entry count) = promises.judged_refused model watches choice limits
 
+pub driven_can : (model script : List ℕ) (choice : Choice) (limits : RunLimits) (e : Ending) → CanEnd (Some (Drive model script choice limits)) (status_of e)
+driven_can model script choice limits ended = promises.done (Drive model script choice limits)
+driven_can model script choice limits halted = promises.done (Drive model script choice limits)
+driven_can model script choice limits deadlocked = promises.deadlock (Drive model script choice limits) tt
+driven_can model script choice limits (troubled trouble) = promises.model_fault (Drive model script choice limits) tt
+driven_can model script choice limits (refused entry count) = promises.driven_refused model script choice limits
+
 -- ---- how the model of a text ends
 
 pub data Outcome (f : FilesState) (job : Job) (text : List ℕ) : Status → Type 0 where
@@ -62,6 +70,7 @@ pub data Outcome (f : FilesState) (job : Job) (text : List ℕ) : Status → Typ
   no_trace : CanEnd (Some job) TraceRefused → (f.told ≡ true → TellsNoRun f.held job text) → Outcome f job text TraceRefused
   watch_broken : CanEnd (Some job) WatchBroken → (f.told ≡ true → BreaksWatch f.held job text) → Outcome f job text WatchBroken
   watch_refused : CanEnd (Some job) WatchRefused → (f.told ≡ true → RefusesWatches f.held job text) → Outcome f job text WatchRefused
+  script_refused : CanEnd (Some job) ScriptRefused → (f.told ≡ true → RefusesScript f.held job text) → Outcome f job text ScriptRefused
   checked : Outcome f job text Done
 
 module _ (job : Job) (has : HasModel job) (text : List ℕ) (f : FilesState) (text_for : f.told ≡ true → IsTextFor f.held job text) where
@@ -77,6 +86,7 @@ module _ (job : Job) (has : HasModel job) (text : List ℕ) (f : FilesState) (te
     pub trace_refused : f.told ≡ true → wanted ≡ TraceRefused → IsNoTrace (Some job) f.held
     pub watch_broken : f.told ≡ true → wanted ≡ WatchBroken → IsBrokenAt (Some job) f.held
     pub watch_refused : f.told ≡ true → wanted ≡ WatchRefused → IsNoWatches (Some job) f.held
+    pub script_refused : f.told ≡ true → wanted ≡ ScriptRefused → IsNoScript (Some job) f.held
 
   run_ends : (e : Ending) → (f.told ≡ true → HasEnding f.held job text e) → f.told ≡ true → RunEnds (Some job) f.held e
   run_ends e ends told = record { job = job; is_asked = refl; text = text; is_text = text_for told; has_ending = ends told }
@@ -93,6 +103,7 @@ module _ (job : Job) (has : HasModel job) (text : List ℕ) (f : FilesState) (te
     trace_refused = λ _ e. cc;
     watch_broken = λ _ e. cc;
     watch_refused = λ _ e. cc;
+    script_refused = λ _ e. cc;
   }
 
   ends_run : (e : Ending) → CanEnd (Some job) (status_of e) → (f.told ≡ true → HasEnding f.held job text e) → EndsText (status_of e)
@@ -109,6 +120,7 @@ module _ (job : Job) (has : HasModel job) (text : List ℕ) (f : FilesState) (te
     trace_refused = λ _ e. cc;
     watch_broken = λ _ e. cc;
     watch_refused = λ _ e. cc;
+    script_refused = λ _ e. cc;
   }
   ends_run (troubled trouble) can ends = record {
     can = can;
@@ -121,6 +133,7 @@ module _ (job : Job) (has : HasModel job) (text : List ℕ) (f : FilesState) (te
     trace_refused = λ _ e. cc;
     watch_broken = λ _ e. cc;
     watch_refused = λ _ e. cc;
+    script_refused = λ _ e. cc;
   }
   ends_run (refused entry count) can ends = record {
     can = can;
@@ -133,6 +146,7 @@ module _ (job : Job) (has : HasModel job) (text : List ℕ) (f : FilesState) (te
     trace_refused = λ _ e. cc;
     watch_broken = λ _ e. cc;
     watch_refused = λ _ e. cc;
+    script_refused = λ _ e. cc;
   }
 
   pub ends_text : (wanted : Status) → Outcome f job text wanted → EndsText wanted
@@ -149,6 +163,7 @@ module _ (job : Job) (has : HasModel job) (text : List ℕ) (f : FilesState) (te
     trace_refused = λ _ e. cc;
     watch_broken = λ _ e. cc;
     watch_refused = λ _ e. cc;
+    script_refused = λ _ e. cc;
   }
   ends_text _ (no_trace can tells_none) = record {
     can = can;
@@ -161,6 +176,7 @@ module _ (job : Job) (has : HasModel job) (text : List ℕ) (f : FilesState) (te
     trace_refused = λ told _. record { job = job; is_asked = refl; text = text; is_text = text_for told; tells_none = tells_none told };
     watch_broken = λ _ e. cc;
     watch_refused = λ _ e. cc;
+    script_refused = λ _ e. cc;
   }
   ends_text _ (watch_broken can breaks) = record {
     can = can;
@@ -173,6 +189,7 @@ module _ (job : Job) (has : HasModel job) (text : List ℕ) (f : FilesState) (te
     trace_refused = λ _ e. cc;
     watch_broken = λ told _. record { job = job; is_asked = refl; text = text; is_text = text_for told; breaks = breaks told };
     watch_refused = λ _ e. cc;
+    script_refused = λ _ e. cc;
   }
   ends_text _ (watch_refused can refuses) = record {
     can = can;
@@ -185,6 +202,20 @@ module _ (job : Job) (has : HasModel job) (text : List ℕ) (f : FilesState) (te
     trace_refused = λ _ e. cc;
     watch_broken = λ _ e. cc;
     watch_refused = λ told _. record { job = job; is_asked = refl; text = text; is_text = text_for told; refuses = refuses told };
+    script_refused = λ _ e. cc;
+  }
+  ends_text _ (script_refused can refuses) = record {
+    can = can;
+    no_fault = λ e. cc;
+    not_long = λ e. cc;
+    model_refused = λ _ e. cc;
+    deadlock = λ _ e. cc;
+    model_fault = λ _ e. cc;
+    choice_refused = λ _ e. cc;
+    trace_refused = λ _ e. cc;
+    watch_broken = λ _ e. cc;
+    watch_refused = λ _ e. cc;
+    script_refused = λ told _. record { job = job; is_asked = refl; text = text; is_text = text_for told; refuses = refuses told };
   }
 
 -- ---- the text of the model of a job
@@ -198,6 +229,7 @@ no_ring (Make m) name n named ring = cc
 no_ring (Ring m choice limits) name n named ring = cc
 no_ring (Format model) name n named ring = cc
 no_ring (Watch model watches choice limits) name n named ring = cc
+no_ring (Drive model script choice limits) name n named ring = cc
 
 -- it is that of the file of this name
 pub record IsTextOfFile (files : Entries) (name text : List ℕ) : Type 0 where
@@ -220,6 +252,14 @@ IsUnjudged job = Unit {0}
 
 pub unjudged : {X : Type 0} (held : Entries) (job : Job) (text : List ℕ) → IsUnjudged job → HasWatches held job text → X
 unjudged held job text is x = absurd (subst IsUnjudged x.is_watch is)
+
+-- no script drives it
+abbrev pub IsUndriven : Job → Type 0
+IsUndriven (Drive model script choice limits) = ⊥
+IsUndriven job = Unit {0}
+
+pub undriven : {X : Type 0} (held : Entries) (job : Job) (text : List ℕ) → IsUndriven job → HasScript held job text → X
+undriven held job text is x = absurd (subst IsUndriven x.is_drive is)
 
 -- what is known of the text of the model of a job
 pub record OfText (files : Entries) (job : Job) (Q : Job → List ℕ → Type 0) : Type 0 where
@@ -244,3 +284,6 @@ broken_in files job breaks = of_asked files (λ j text. BreaksWatch files j text
 
 pub no_list_in : (files : Entries) (job : Job) → IsNoWatches (Some job) files → OfText files job (λ j text. RefusesWatches files j text)
 no_list_in files job none = of_asked files (λ j text. RefusesWatches files j text) job none.job none.is_asked (record { text = none.text; is_text = none.is_text; holds = none.refuses })
+
+pub no_script_in : (files : Entries) (job : Job) → IsNoScript (Some job) files → OfText files job (λ j text. RefusesScript files j text)
+no_script_in files job none = of_asked files (λ j text. RefusesScript files j text) job none.job none.is_asked (record { text = none.text; is_text = none.is_text; holds = none.refuses })

@@ -17,7 +17,7 @@ use Rattle.pz_run.specs.devices.Halting.{given_as}
 use Rattle.pz_run.specs.devices.Saying.{Said, Says}
 use Rattle.pz_run.proofs.Sayings.{said_whole, said_halted}
 
-ordinary : (ending : Ending) → status_of ending ≢ WriteFault
+pub ordinary : (ending : Ending) → status_of ending ≢ WriteFault
 ordinary ended is = cc
 ordinary deadlocked is = cc
 ordinary (troubled trouble) is = cc

@@ -40,7 +40,7 @@ use Rattle.pz_run.specs.Editions.{HasNoHeader, IsOfSecondEdition, OpensFor}
 use Rattle.pz_run.specs.Status.{status_of, replay_status}
 use Rattle.pz_run.specs.Output.{PrintsReplay, closed, no_header, replays, PrintsFile, lacks, too_long, reads, PrintsOnTrace, PrintsTraceFile, PrintsJob, Prints, does}
 use Rattle.pz_run.specs.Output as output
-use Rattle.pz_run.specs.Promises.{Opens, OpensFiles, OpensLast, IsTraceIn, IsRefusedOnTrace, at_once, on_trace, IsRefusedFor, IsNoModel, HasModelText, IsTextFor, of_file, ChosenEnds, HasTrace, TellsRun, ToldEnds, HasEnding, of_choice, of_trace, of_watches, RunEnds, TellsNoRun, IsNoTrace, IsBrokenAt, IsNoWatches}
+use Rattle.pz_run.specs.Promises.{Opens, OpensFiles, OpensLast, IsTraceIn, IsRefusedOnTrace, at_once, on_trace, IsRefusedFor, IsNoModel, HasModelText, IsTextFor, of_file, ChosenEnds, HasTrace, TellsRun, ToldEnds, HasEnding, of_choice, of_trace, of_watches, of_script, RunEnds, TellsNoRun, IsNoTrace, IsBrokenAt, IsNoWatches, IsNoScript}
 use Rattle.pz_run.specs.Promises as promises
 use Rattle.pz_run.specs.devices.Halting.{replayed_as}
 use Rattle.pz_run.specs.devices.Keeping.{KeepsPromises}
@@ -51,7 +51,7 @@ use Rattle.pz_run.specs.devices.Saying.{Said, NothingWritten, Says, Answers}
 use Rattle.pz_run.specs.devices.Texts.{SaysRefusal}
 use Rattle.pz_run.proofs.Sayings.{said_whole, said_halted, answers_by}
 use Rattle.pz_run.proofs.OneEnd.{some_is}
-use Rattle.pz_run.proofs.Outcomes.{told_can, Outcome, run_ended, no_trace, EndsText, ends_text, text_in, unjudged, OfText, run_in, none_in, refused_in, broken_in, no_list_in}
+use Rattle.pz_run.proofs.Outcomes.{told_can, Outcome, run_ended, no_trace, EndsText, ends_text, text_in, unjudged, undriven, OfText, run_in, none_in, refused_in, broken_in, no_list_in, no_script_in}
 use Rattle.pz_run.proofs.Outcomes as outcomes
 use Rattle.pz_run.proofs.Keeps.{raised_rose, IsFaultLine, Wants, keeps, keeps_nothing}
 use Rattle.pz_run.proofs.OneFiles.{OneFile, keeps_file}
@@ -236,6 +236,7 @@ module _ (model name : List ℕ) (units : ℕ) where
   refusal_only held text bytes status prints e (of_choice x) = not_played text e x
   refusal_only held text bytes status prints e (of_trace x) = refusal_lacks text bytes status x.replay.model prints x.replay.is_model
   refusal_only held text bytes status prints e (of_watches x) = unjudged held job text tt x.judged.on
+  refusal_only held text bytes status prints e (of_script x) = undriven held job text tt x.driven.on
 
   refusal_printed : (held : Entries) (text bytes : List ℕ) (status : Status) → lookup held model ≡ Some text → length text ≤ model_limit → PrintsRefusal text bytes status → PrintsJob held job bytes status
   refusal_printed held text _ _ is short (refused r wrong none) = file_read held model (PrintsOnTrace held name units) text (model_refused_line r) ModelRefused is short (output.refuses_at_once r wrong)
@@ -254,6 +255,7 @@ module _ (model name : List ℕ) (units : ℕ) where
     no_run = λ held text bytes status prints none. refusal_lacks text bytes status none.replay.model prints none.replay.is_model;
     breaks = λ held text bytes status prints breaks. unjudged held job text tt breaks.judged.on;
     no_list = λ held text bytes status prints none. unjudged held job text tt none.on;
+    no_script = λ held text bytes status prints none. undriven held job text tt none.on;
     refused = λ held text bytes status prints _ _. refusal_is text bytes status prints;
   }
 
@@ -288,6 +290,9 @@ module _ (model name : List ℕ) (units : ℕ) where
 
     no_lists : {X : Type 0} → IsNoWatches (Some job) f.held → X
     no_lists none = let x = no_list_in f.held job none in unjudged f.held job x.text tt x.holds.on
+
+    no_scripts : {X : Type 0} → IsNoScript (Some job) f.held → X
+    no_scripts none = let x = no_script_in f.held job none in undriven f.held job x.text tt x.holds.on
 
     -- in the files at the start, and in those at which the trace was opened
 
@@ -368,6 +373,7 @@ module _ (model name : List ℕ) (units : ℕ) where
         told_replay d (of_choice x) = not_played text d x
         told_replay d (of_trace x) = x
         told_replay d (of_watches x) = unjudged f.held job text tt x.judged.on
+        told_replay d (of_script x) = undriven f.held job text tt x.driven.on
 
     none_told : IsNoTrace (Some job) f.held → f.told ≡ true → TellsNoRun f.held job text
     none_told none tells = same_text (λ j t. TellsNoRun f.held j t) (none_in f.held job none) tells
@@ -412,7 +418,9 @@ module _ (model name : List ℕ) (units : ℕ) where
       watch_broken = λ _ is. cc;
       broken_watch = λ breaks _ _. unbroken breaks;
       watch_refused = λ _ is. cc;
+      script_refused = λ _ is. cc;
       no_watches = λ none _ _. no_lists none;
+      no_script = λ none _ _. no_scripts none;
       trace_opened = λ tells _. accepted tells;
       too_long = λ is. cc;
       longer = λ _ is. cc;
@@ -445,7 +453,9 @@ module _ (model name : List ℕ) (units : ℕ) where
       watch_broken = λ _ is. cc;
       broken_watch = λ breaks _ _. unbroken breaks;
       watch_refused = λ _ is. cc;
+      script_refused = λ _ is. cc;
       no_watches = λ none _ _. no_lists none;
+      no_script = λ none _ _. no_scripts none;
       trace_opened = λ tells _. accepted tells;
       too_long = λ _. (trace_file name, last, handed);
       longer = λ tells _. (trace_file name, among, long_here tells);
@@ -509,7 +519,10 @@ module _ (model name : List ℕ) (units : ℕ) where
         watch_broken = end.watch_broken;
         broken_watch = λ breaks _ _. unbroken breaks;
         watch_refused = end.watch_refused;
+        script_refused = end.script_refused;
         no_watches = λ none _ _. no_lists none;
+      no_script = λ none _ _. no_scripts none;
+        no_script = λ none _ _. no_scripts none;
         trace_opened = λ tells _. accepted tells;
         too_long = λ is. absurd (end.not_long is);
         longer = λ _ is. absurd (end.not_long is);

@@ -9,12 +9,14 @@ use Rattle.pz_classes_openings.specs.OpeningRules.{IsOpeningViolation}
 use Rattle.pz_trace.specs.declared.forms.Form.{Form}
 use Rattle.pz_trace.specs.Forms.{HasHeader}
 use Rattle.pz_words.specs.declared.jobs.Job.{Job}
-use Rattle.pz_words.specs.declared.jobs.Job.TheVariants.{Run, Menu, Replay, Check, Make, Ring, Format, Watch}
+use Rattle.pz_words.specs.declared.jobs.Job.TheVariants.{Run, Menu, Replay, Check, Make, Ring, Format, Watch, Drive}
 use Rattle.pz_gen.specs.Ring.{model as ring_text}
 use Rattle.pz_run_reading.specs.Models.{IsModelOf}
 use Rattle.pz_run_reading.specs.Openings.{IsOpenModelOf}
 use Rattle.pz_watch.specs.Files.{NamedFormula, AreWatches, IsRefusedAt}
 use Rattle.pz_watch.specs.Names.{is_identifier}
+use Rattle.pz_env_script.specs.declared.entry.Entry.{Entry}
+use Rattle.pz_env_tree.specs.ClosedTree.{closed_tree}
 use Rattle.pz_term_simulator.specs.Simulations.{Simulation, stands}
 use Rattle.pz_sim.specs.Sims.{simulation_of}
 use Rattle.pz_run_replaying.specs.declared.replayed.Replayed.{Replayed}
@@ -24,8 +26,9 @@ use Rattle.pz_run.specs.declared.status.Status.TheVariants as status
 use Rattle.pz_run.specs.declared.finish.Finish.{Finish}
 use Rattle.pz_run.specs.declared.play.Play.{Play}
 use Rattle.pz_run.specs.declared.play.Telling.TheVariants as telling
-use Rattle.pz_run.specs.Files.{JobFile, model_file, trace_file, watch_file}
-use Rattle.pz_run.specs.Plays.{play, judged_play, telling_when, setting_with, setting_for, RunOf}
+use Rattle.pz_run.specs.Files.{JobFile, model_file, trace_file, watch_file, script_file}
+use Rattle.pz_run.specs.Plays.{play, judged_play, driven_play, telling_when, setting_with, setting_for, RunOf}
+use Rattle.pz_run.specs.Scripts.{IsScriptFor, IsScriptRefused}
 use Rattle.pz_run.specs.Editions.{HasNoHeader, IsOfSecondEdition, OpensFor}
 
 -- of a run that is chosen: where it ended, after its last action or in the trouble of that
@@ -36,6 +39,11 @@ pub data RunHandsOut (p : Play) (m : ModelTree) : Option Simulation → Type 0 w
 pub data WatchHandsOut (p : Play) (m : ModelTree) (file : List ℕ) : Option Simulation → Type 0 where
   no_watches : (line : ℕ) → IsRefusedAt is_identifier file line → WatchHandsOut p m file None
   judges : (ws : List NamedFormula) (left : Option Simulation) → AreWatches is_identifier file ws → RunHandsOut p m left → WatchHandsOut p m file left
+
+-- of a run that a script drives: that of the closed model
+pub data DriveHandsOut (p : Play) (m : ModelTree) (file : List ℕ) : Option Simulation → Type 0 where
+  no_script : (line : ℕ) → IsScriptRefused m file line → DriveHandsOut p m file None
+  drives : (script : List Entry) (left : Option Simulation) → IsScriptFor m file script → RunHandsOut p (closed_tree m script) left → DriveHandsOut p m file left
 
 -- of a trace: where its run ended, or where the lines lead that were taken
 pub data TraceHandsOut (units : ℕ) (m : ModelTree) (trace : List ℕ) : Option Simulation → Type 0 where
@@ -65,6 +73,9 @@ OpenFileHandsOut files name Q = FileHandsOut (model_file name) (OpenModelHandsOu
 abbrev pub WatchFileHandsOut : Entries → List ℕ → Play → ModelTree → Option Simulation → Type 0
 WatchFileHandsOut files name p m = FileHandsOut (watch_file name) (WatchHandsOut p m) (lookup files name)
 
+abbrev pub ScriptFileHandsOut : Entries → List ℕ → Play → ModelTree → Option Simulation → Type 0
+ScriptFileHandsOut files name p m = FileHandsOut (script_file name) (DriveHandsOut p m) (lookup files name)
+
 abbrev pub TraceFileHandsOut : Entries → List ℕ → ℕ → ModelTree → Option Simulation → Type 0
 TraceFileHandsOut files name units m = FileHandsOut (trace_file name) (TraceHandsOut units m) (lookup files name)
 
@@ -81,6 +92,7 @@ JobHandsOut files (Make n) = Nothing
 JobHandsOut files (Ring n choice limits) = OpenModelHandsOut (RunHandsOut (play choice limits telling.Summary)) (ring_text n)
 JobHandsOut files (Format model) = Nothing
 JobHandsOut files (Watch model watches choice limits) = OpenFileHandsOut files model (WatchFileHandsOut files watches (judged_play choice limits))
+JobHandsOut files (Drive model script choice limits) = OpenFileHandsOut files model (ScriptFileHandsOut files script (driven_play choice limits))
 
 -- of what the words ask for, a job or none
 abbrev pub HandsOut : Entries → Option Job → Option Simulation → Type 0
@@ -98,6 +110,7 @@ NeverBegun status.ModelRefused = Unit {0}
 NeverBegun status.TooLong = Unit {0}
 NeverBegun status.ReadFault = Unit {0}
 NeverBegun status.WatchRefused = Unit {0}
+NeverBegun status.ScriptRefused = Unit {0}
 NeverBegun status.Done = ⊥
 NeverBegun status.Deadlock = ⊥
 NeverBegun status.ModelFault = ⊥

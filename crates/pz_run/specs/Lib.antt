@@ -3,6 +3,7 @@ pub mod Words
 pub mod Files
 pub mod Status
 pub mod Plays
+pub mod Scripts
 pub mod Editions
 pub mod Output
 pub mod Promises

@@ -1,6 +1,6 @@
 -- What the program prints for a job and the files, and how it ends: first the model's size, then
--- whether it is refused, then the size of a trace or of a file of watches, then the run or what else is said
--- of the model. The model of a replay is asked for C23 and C24 once its trace was read.
+-- whether it is refused, then the size of a trace, of a file of watches or of a script, then the run or what
+-- else is said of the model. The model of a replay is asked for C23 and C24 once its trace was read.
 use Rattle.std.specs.Prelude.{◌<◌, ◌≤◌, ℕ, List, length, Option, Some, None}
 use Rattle.pz_io.specs.Outside.{Entries, lookup}
 use Rattle.pz_syntax.specs.Classes.{ModelTree}
@@ -11,7 +11,7 @@ use Rattle.pz_trace.specs.declared.forms.Form.TheVariants.{Three}
 use Rattle.pz_trace.specs.Lines.{header}
 use Rattle.pz_trace.specs.Forms.{HasHeader}
 use Rattle.pz_words.specs.declared.jobs.Job.{Job}
-use Rattle.pz_words.specs.declared.jobs.Job.TheVariants.{Run, Menu, Replay, Check, Make, Ring, Format, Watch}
+use Rattle.pz_words.specs.declared.jobs.Job.TheVariants.{Run, Menu, Replay, Check, Make, Ring, Format, Watch, Drive}
 use Rattle.pz_gen.specs.Ring.{model as ring_text}
 use Rattle.pz_run_reading.specs.declared.refusal.Refusal.{Refusal}
 use Rattle.pz_run_reading.specs.declared.refusal.Refusal.TheVariants.{Violates}
@@ -20,10 +20,12 @@ use Rattle.pz_run_reading.specs.Refusals.{IsRefused}
 use Rattle.pz_run_reading.specs.Openings.{IsOpenModelOf, IsRefusedToOpen}
 use Rattle.pz_run_reading.specs.Sizes.{HasSize}
 use Rattle.pz_run_formatting.specs.Layouts.{IsLayoutOf}
-use Rattle.pz_run_lines.specs.Lines.{usage_line, read_fault_line, too_long_line, accepted_line, model_refused_line, watch_refused_line}
+use Rattle.pz_run_lines.specs.Lines.{usage_line, read_fault_line, too_long_line, accepted_line, model_refused_line, watch_refused_line, script_refused_line}
 use Rattle.pz_watch.specs.Files.{NamedFormula, AreWatches, IsRefusedAt}
 use Rattle.pz_watch.specs.Names.{is_identifier}
 use Rattle.pz_watch_points.specs.EventPoints.{points_of}
+use Rattle.pz_env_script.specs.declared.entry.Entry.{Entry}
+use Rattle.pz_env_closing.specs.DrivenRuns.{driven_text}
 use Rattle.pz_run_playing.specs.Playing.{Tells}
 use Rattle.pz_run_playing.specs.Watched.{watched_text}
 use Rattle.pz_term_simulator.specs.Simulations.{Simulation}
@@ -32,9 +34,10 @@ use Rattle.pz_run_replaying.specs.Replays.{refusal_text, Replays}
 use Rattle.pz_run.specs.declared.play.Play.{Play}
 use Rattle.pz_run.specs.declared.play.Telling.TheVariants as telling
 use Rattle.pz_run.specs.declared.status.Status.{Status}
-use Rattle.pz_run.specs.declared.status.Status.TheVariants.{Done, Usage, ModelRefused, TraceRefused, TooLong, ReadFault, WatchRefused}
-use Rattle.pz_run.specs.Files.{JobFile, model_file, trace_file, watch_file}
-use Rattle.pz_run.specs.Plays.{play, judged_play, telling_when, told_of, setting_with, setting_for, RunOf}
+use Rattle.pz_run.specs.declared.status.Status.TheVariants.{Done, Usage, ModelRefused, TraceRefused, TooLong, ReadFault, WatchRefused, ScriptRefused}
+use Rattle.pz_run.specs.Files.{JobFile, model_file, trace_file, watch_file, script_file}
+use Rattle.pz_run.specs.Plays.{play, judged_play, driven_play, telling_when, told_of, setting_with, setting_for, RunOf, driving_for, DrivenRunOf}
+use Rattle.pz_run.specs.Scripts.{IsScriptFor, IsScriptRefused}
 use Rattle.pz_run.specs.Editions.{HasNoHeader, IsOfSecondEdition, OpensFor}
 use Rattle.pz_run.specs.Status.{status_of, replay_status, IsJudgedAs}
 
@@ -63,6 +66,13 @@ pub data PrintsJudged (p : Play) (m : ModelTree) (file : List ℕ) : List ℕ �
   judges : (ws : List NamedFormula) (run : RunOf p m) (status : Status) → AreWatches is_identifier file ws
       → IsJudgedAs ws (points_of m run.events) run.ending status
       → PrintsJudged p m file (watched_text (setting_for m p) ws run.events run.end.clock run.ending) status
+
+-- what is said of a file that is to hold a script, and of the run that it drives
+pub data PrintsDriven (p : Play) (m : ModelTree) (file : List ℕ) : List ℕ → Status → Type 0 where
+  -- the file is no script, or that cannot drive the system
+  no_script : (line : ℕ) → IsScriptRefused m file line → PrintsDriven p m file (script_refused_line line) ScriptRefused
+  drives : (script : List Entry) (run : DrivenRunOf p m script) → IsScriptFor m file script
+      → PrintsDriven p m file (driven_text (driving_for m script p) run.events run.end.system.clock run.ending) (status_of run.ending)
 
 -- how large the system of a model is
 pub data PrintsSize (m : ModelTree) : List ℕ → Status → Type 0 where
@@ -100,6 +110,10 @@ PrintsTraceFile files name units m = PrintsFile (trace_file name) (PrintsReplay 
 abbrev pub PrintsWatchFile : Entries → List ℕ → Play → ModelTree → List ℕ → Status → Type 0
 PrintsWatchFile files name p m = PrintsFile (watch_file name) (PrintsJudged p m) (lookup files name)
 
+-- of a model that opens: what is said of the script in a file
+abbrev pub PrintsScriptFile : Entries → List ℕ → Play → ModelTree → List ℕ → Status → Type 0
+PrintsScriptFile files name p m = PrintsFile (script_file name) (PrintsDriven p m) (lookup files name)
+
 -- of the text of the model of a replay: why it is refused, whatever the trace is, or what is said of that
 pub data PrintsOnTrace (files : Entries) (name : List ℕ) (units : ℕ) (text : List ℕ) : List ℕ → Status → Type 0 where
   refuses_at_once : (r : Refusal) → IsRefused text r → PrintsOnTrace files name units text (model_refused_line r) ModelRefused
@@ -115,6 +129,7 @@ PrintsJob files (Make n) = PrintsRing n
 PrintsJob files (Ring n choice limits) = PrintsModel (PrintsRun (play choice limits telling.Summary)) (ring_text n)
 PrintsJob files (Format model) = PrintsFile (model_file model) PrintsLayout (lookup files model)
 PrintsJob files (Watch model watches choice limits) = PrintsModelFile files model (PrintsWatchFile files watches (judged_play choice limits))
+PrintsJob files (Drive model script choice limits) = PrintsModelFile files model (PrintsScriptFile files script (driven_play choice limits))
 
 -- a job, or that there is none
 pub data Prints (files : Entries) : Option Job → List ℕ → Status → Type 0 where

@@ -8,7 +8,7 @@ use Rattle.pz_rules.specs.Runs.{Ending}
 use Rattle.pz_words.specs.declared.jobs.Choice.{Choice}
 use Rattle.pz_words.specs.declared.jobs.RunLimits.{RunLimits}
 use Rattle.pz_words.specs.declared.jobs.Job.{Job}
-use Rattle.pz_words.specs.declared.jobs.Job.TheVariants.{Run, Menu, Replay, Check, Make, Ring, Format, Watch}
+use Rattle.pz_words.specs.declared.jobs.Job.TheVariants.{Run, Menu, Replay, Check, Make, Ring, Format, Watch, Drive}
 use Rattle.pz_check_violations.specs.declared.violation.Violation.{Violation}
 use Rattle.pz_classes_openings.specs.OpeningRules as rules
 use Rattle.pz_classes_openings.specs.OpeningRules.{IsOpeningViolation}
@@ -20,18 +20,20 @@ use Rattle.pz_watch.specs.Files.{NamedFormula, AreWatches, IsRefusedAt}
 use Rattle.pz_watch.specs.Names.{is_identifier}
 use Rattle.pz_watch.specs.Breaking.{AreBroken}
 use Rattle.pz_watch_points.specs.EventPoints.{points_of}
+use Rattle.pz_env_script.specs.declared.entry.Entry.{Entry}
 use Rattle.pz_run_reading.specs.declared.refusal.Refusal.{Refusal}
 use Rattle.pz_run_reading.specs.declared.refusal.Refusal.TheVariants.{Violates}
 use Rattle.pz_run_reading.specs.Models.{IsModelOf}
 use Rattle.pz_run_reading.specs.Refusals.{IsRefused}
 use Rattle.pz_run_reading.specs.Openings.{IsOpenModelOf, IsRefusedToOpen}
 use Rattle.pz_run_lines.specs.Lines.{read_fault_line}
-use Rattle.pz_run.specs.Limits.{model_limit, trace_limit, watch_limit}
+use Rattle.pz_run.specs.Limits.{model_limit, trace_limit, watch_limit, script_limit}
 use Rattle.pz_run.specs.declared.play.Play.{Play}
 use Rattle.pz_run.specs.declared.status.Status.{Status}
-use Rattle.pz_run.specs.declared.status.Status.TheVariants.{Done, Deadlock, Usage, ModelRefused, ModelFault, ChoiceRefused, TraceRefused, TooLong, ReadFault, WriteFault, NoMemory, WatchBroken, WatchRefused}
+use Rattle.pz_run.specs.declared.status.Status.TheVariants.{Done, Deadlock, Usage, ModelRefused, ModelFault, ChoiceRefused, TraceRefused, TooLong, ReadFault, WriteFault, NoMemory, WatchBroken, WatchRefused, ScriptRefused}
 use Rattle.pz_run.specs.Files.{JobFile, files_of}
-use Rattle.pz_run.specs.Plays.{play_of, judged_play, setting_with, RunOf}
+use Rattle.pz_run.specs.Plays.{play_of, judged_play, driven_play, setting_with, RunOf, DrivenRunOf}
+use Rattle.pz_run.specs.Scripts.{IsScriptFor, IsScriptRefused}
 use Rattle.pz_run.specs.Editions.{IsOfSecondEdition, OpensFor}
 use Rattle.pz_run.specs.Status.{status_of}
 use Rattle.pz_run.specs.Output.{Prints}
@@ -139,6 +141,7 @@ model_name (Make n) = None
 model_name (Ring n choice limits) = None
 model_name (Format model) = Some model
 model_name (Watch model watches choice limits) = Some model
+model_name (Drive model script choice limits) = Some model
 
 -- how many stations the ring has that a job runs
 abbrev pub stations_of : Job → Option ℕ
@@ -150,6 +153,7 @@ stations_of (Make n) = None
 stations_of (Ring n choice limits) = Some n
 stations_of (Format model) = None
 stations_of (Watch model watches choice limits) = None
+stations_of (Drive model script choice limits) = None
 
 -- the text of the model of a job: that of its file, within the limit, or of a ring
 pub data IsTextFor (files : Entries) : Job → List ℕ → Type 0 where
@@ -275,11 +279,43 @@ pub record RefusesWatches (files : Entries) (job : Job) (text : List ℕ) : Type
   pub line : ℕ
   pub refused : IsRefusedAt is_identifier on.file line
 
+-- the script of a job, on the model of this text: the file that is to hold it, within the limit
+pub record HasScript (files : Entries) (job : Job) (text : List ℕ) : Type 0 where
+  pub model_word : List ℕ
+  pub script_word : List ℕ
+  pub choice : Choice
+  pub limits : RunLimits
+  pub is_drive : job ≡ Drive model_word script_word choice limits
+  pub file : List ℕ
+  pub held : lookup files script_word ≡ Some file
+  pub short : length file ≤ script_limit
+  pub model : ModelTree
+  pub is_model : IsOpenModelOf text model
+
+-- the script of the file, which can drive the system of that model, and the run which the job asks for
+pub record IsDriven (files : Entries) (job : Job) (text : List ℕ) : Type 0 where
+  pub on : HasScript files job text
+  pub script : List Entry
+  pub is_script : IsScriptFor on.model on.file script
+  pub run : DrivenRunOf (driven_play on.choice on.limits) on.model script
+
+-- that run has this ending
+pub record DrivenEnds (files : Entries) (job : Job) (text : List ℕ) (ending : Ending) : Type 0 where
+  pub driven : IsDriven files job text
+  pub ends : driven.run.ending ≡ ending
+
+-- the file is no script, or that cannot drive the system
+pub record RefusesScript (files : Entries) (job : Job) (text : List ℕ) : Type 0 where
+  pub on : HasScript files job text
+  pub line : ℕ
+  pub refused : IsScriptRefused on.model on.file line
+
 -- the run of the model of this text, which the job asks for, has this ending
 pub data HasEnding (files : Entries) (job : Job) (text : List ℕ) (ending : Ending) : Type 0 where
   of_choice : ChosenEnds job text ending → HasEnding files job text ending
   of_trace : ToldEnds files job text ending → HasEnding files job text ending
   of_watches : JudgedEnds files job text ending → HasEnding files job text ending
+  of_script : DrivenEnds files job text ending → HasEnding files job text ending
 
 -- the run that is asked for has this ending
 pub record RunEnds (a : Option Job) (files : Entries) (ending : Ending) : Type 0 where
@@ -318,12 +354,20 @@ pub record IsNoWatches (a : Option Job) (files : Entries) : Type 0 where
   pub is_text : IsTextFor files job text
   pub refuses : RefusesWatches files job text
 
+-- the file that is to hold the script of the job is none, or that cannot drive the system
+pub record IsNoScript (a : Option Job) (files : Entries) : Type 0 where
+  pub job : Job
+  pub is_asked : a ≡ Some job
+  pub text : List ℕ
+  pub is_text : IsTextFor files job text
+  pub refuses : RefusesScript files job text
+
 -- it has a model, which is read or made
 abbrev pub HasModel : Job → Type 0
 HasModel (Make n) = ⊥
 HasModel job = Unit {0}
 
--- it has a run, which is chosen or told by a trace
+-- it has a run, which is chosen, told by a trace, or driven by a script
 abbrev pub HasRun : Job → Type 0
 HasRun (Check model) = ⊥
 HasRun (Make n) = ⊥
@@ -342,6 +386,8 @@ pub data CanEnd : Option Job → Status → Type 0 where
   judged_refused : (model watches : List ℕ) (choice : Choice) (limits : RunLimits) → CanEnd (Some (Watch model watches choice limits)) ChoiceRefused
   watch_broken : (model watches : List ℕ) (choice : Choice) (limits : RunLimits) → CanEnd (Some (Watch model watches choice limits)) WatchBroken
   watch_refused : (model watches : List ℕ) (choice : Choice) (limits : RunLimits) → CanEnd (Some (Watch model watches choice limits)) WatchRefused
+  driven_refused : (model script : List ℕ) (choice : Choice) (limits : RunLimits) → CanEnd (Some (Drive model script choice limits)) ChoiceRefused
+  script_refused : (model script : List ℕ) (choice : Choice) (limits : RunLimits) → CanEnd (Some (Drive model script choice limits)) ScriptRefused
   trace_refused : (model trace : List ℕ) (units : ℕ) → CanEnd (Some (Replay model trace units)) TraceRefused
   model_refused : (job : Job) → HasModel job → CanEnd (Some job) ModelRefused
   too_long : (job : Job) (file : JobFile) → Contains (files_of (Some job)) file → CanEnd (Some job) TooLong

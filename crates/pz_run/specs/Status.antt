@@ -8,7 +8,7 @@ use Rattle.pz_watch.specs.Breaking.{AreBroken}
 use Rattle.pz_run_replaying.specs.declared.replayed.Replayed.{Replayed}
 use Rattle.pz_run_replaying.specs.declared.replayed.Replayed.TheVariants as replayed
 use Rattle.pz_run.specs.declared.status.Status.{Status}
-use Rattle.pz_run.specs.declared.status.Status.TheVariants.{Done, Deadlock, Usage, ModelRefused, ModelFault, ChoiceRefused, TraceRefused, TooLong, ReadFault, WriteFault, NoMemory, WatchBroken, WatchRefused}
+use Rattle.pz_run.specs.declared.status.Status.TheVariants.{Done, Deadlock, Usage, ModelRefused, ModelFault, ChoiceRefused, TraceRefused, TooLong, ReadFault, WriteFault, NoMemory, WatchBroken, WatchRefused, ScriptRefused}
 
 -- the exit status
 abbrev pub number_of : Status → ℕ
@@ -25,6 +25,7 @@ number_of WriteFault = 9
 number_of NoMemory = 10
 number_of WatchBroken = 11
 number_of WatchRefused = 12
+number_of ScriptRefused = 13
 
 -- the status of a job whose run ended so
 abbrev pub status_of : Ending → Status

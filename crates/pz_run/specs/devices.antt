@@ -5,6 +5,8 @@ pub mod Saying
 pub mod Texts
 pub mod Reading
 pub mod Replaying
+pub mod TwoFiles
 pub mod Judging
+pub mod Driving
 pub mod Handing
 pub mod Keeping

@@ -2,9 +2,10 @@
 ghost use Rattle.std.specs.Prelude.{◌≡◌, true, Some, None};
 ghost use Rattle.pz_run.specs.Promises.{CameThrough};
 ghost use Rattle.pz_run.specs.HandedOut.{JobHandsOut, left_in, NeverBegun};
-ghost use Rattle.pz_run.specs.devices.Words.{HasRingSize, HasFewActions};
+ghost use Rattle.pz_run.specs.devices.Words.{HasRingSize, HasFewActions, HasUnits};
 ghost use Rattle.pz_run.specs.devices.Keeping.{KeepsPromises};
 
+use crate::driving::drive_file;
 use crate::files::{check_file, run_file};
 use crate::finish::Finish;
 use crate::formatting::format_file;
@@ -20,6 +21,7 @@ use std::alloc::Global;
 pub fn do_job<F: Files, W: Sink>(alloc: Global, job: Job, files: &mut F, out: &mut W) -> Finish
     requires size { HasRingSize job }
     requires few { HasFewActions job }
+    requires units { HasUnits job }
     ensures kept { KeepsPromises (Some job) (F.state files.old) (F.state files.new)
         (W.state out.old) (W.state out.new) result.status }
     ensures simulator { (F.state files.old).told ≡ true →
@@ -91,6 +93,19 @@ pub fn do_job<F: Files, W: Sink>(alloc: Global, job: Job, files: &mut F, out: &m
                 telling: Telling::Trace,
             };
             watch_file(alloc, model.as_str(), watches.as_str(), run, files, out)
+        }
+        Job::Drive {
+            model,
+            script,
+            choice,
+            limits,
+        } => {
+            let run = Play {
+                choice,
+                limits,
+                telling: Telling::Trace,
+            };
+            drive_file(alloc, model.as_str(), script.as_str(), run, files, out)
         }
     }
 }

@@ -2,6 +2,7 @@
 #![tactic(auto)]
 
 mod doing;
+mod driving;
 mod files;
 mod finish;
 mod formatting;

@@ -6,3 +6,6 @@ pub const TRACE_LIMIT: usize = 67_108_864;
 
 /// The most bytes that a file of watches may have.
 pub const WATCH_LIMIT: usize = 65_536;
+
+/// The most bytes that a script may have.
+pub const SCRIPT_LIMIT: usize = 1_048_576;

@@ -6,7 +6,7 @@ ghost use Rattle.pz_rules.specs.Runs.{Ending, deadlocked, troubled, refused};
 ghost use Rattle.pz_run.specs.Words.{OfAsked};
 ghost use Rattle.pz_run.specs.Files.{files_of};
 ghost use Rattle.pz_run.specs.Status.{status_of};
-ghost use Rattle.pz_run.specs.Promises.{CameThrough, PrintsAll, PrintsFront, OpensFiles, EndsReading, EndsWriting, SaysFault, IsPastLimit, Lacks, IsLonger, IsNoModel, HasModelText, RunEnds, IsNoTrace, IsBrokenAt, IsNoWatches, CanEnd};
+ghost use Rattle.pz_run.specs.Promises.{CameThrough, PrintsAll, PrintsFront, OpensFiles, EndsReading, EndsWriting, SaysFault, IsPastLimit, Lacks, IsLonger, IsNoModel, HasModelText, RunEnds, IsNoTrace, IsBrokenAt, IsNoWatches, IsNoScript, CanEnd};
 ghost use Rattle.pz_run.specs.HandedOut.{HandsOut, left_in, NeverBegun};
 ghost use Rattle.pz_run.specs.devices.Keeping.{KeepsPromises};
 
@@ -27,7 +27,9 @@ use std::alloc::Global;
 /// the model is accepted: it is printed again if it is that of a run of the model, of the edition, depth and
 /// units that its first line tells, and refused at the first line that differs if not. `watch MODEL WATCHES` reads a file of
 /// watches once the model is accepted, runs that, and prints behind each line of the trace a line for each
-/// watch that is broken there; a file that is no list of watches is refused. `make N` prints the
+/// watch that is broken there; a file that is no list of watches is refused. `drive MODEL SCRIPT` reads a script once
+/// the model is accepted, and prints the text of the run in which the script drives the ends of the system that are
+/// in no channel; a file that is no script, or one that cannot drive the system, is refused. `make N` prints the
 /// model of a ring, and `ring N` runs that and prints a summary; these read no file. A model that violates a
 /// rule is refused: in a replay by C23 and C24 once the trace was read, and not by these where that is of the
 /// first edition.
@@ -125,6 +127,13 @@ pub fn run_program<F: Files, W: Sink>(
     ensures no_watches { OfAsked (map string_bytes words.now) (λ a.
         IsNoWatches a (F.state files.old).held → (F.state files.old).told ≡ true →
         CameThrough (F.state files.old) (F.state files.new) result.status → result.status ≡ Status.WatchRefused) }
+    // A script is refused exactly where the file is none, or that cannot drive the system.
+    ensures script_refused { OfAsked (map string_bytes words.now) (λ a.
+        (F.state files.old).told ≡ true → result.status ≡ Status.ScriptRefused →
+        IsNoScript a (F.state files.old).held) }
+    ensures no_script { OfAsked (map string_bytes words.now) (λ a.
+        IsNoScript a (F.state files.old).held → (F.state files.old).told ≡ true →
+        CameThrough (F.state files.old) (F.state files.new) result.status → result.status ≡ Status.ScriptRefused) }
     // A second file is opened only once C1 to C22 accept the model, and but for a replay C23 and C24 too.
     ensures trace_opened { OfAsked (map string_bytes words.now) (λ a.
         (F.state files.old).told ≡ true →
@@ -148,12 +157,13 @@ pub fn run_program<F: Files, W: Sink>(
         ¬ Rose (W.state out.old).faults (W.state out.new).faults → result.status ≢ Status.NoMemory →
         PrintsAll a (F.state files.old).held (W.state out.old) (W.state out.new) result.status) }
     // Over files that tell, unless the files or a write failed or memory was wanting, the simulator is there exactly where
-    // a run has begun: of the model that was read or made, and it stands where that run ended.
+    // a run has begun: of the model that was read or made, or of the closed model that a script drives, and it stands
+    // where that run ended.
     ensures simulator { OfAsked (map string_bytes words.now) (λ a.
         (F.state files.old).told ≡ true →
         CameThrough (F.state files.old) (F.state files.new) result.status →
         HandsOut (F.state files.old).held a (left_in result)) }
-    // None is there where words, a model, watches or a file's size or reading end the job before.
+    // None is there where words, a model, watches, a script or a file's size or reading end the job before.
     ensures unbegun { NeverBegun result.status → result.sim ≡ None }
 {
     run_words(alloc, words, files, out)

@@ -37,6 +37,8 @@ pub enum Status {
     WatchBroken,
     /// A file is no list of watches.
     WatchRefused,
+    /// A file is no script, or the script cannot drive the system.
+    ScriptRefused,
 }
 
 impl Status {
@@ -58,6 +60,7 @@ impl Status {
             Status::NoMemory => 10,
             Status::WatchBroken => 11,
             Status::WatchRefused => 12,
+            Status::ScriptRefused => 13,
         }
     }
 

@@ -21,7 +21,8 @@ ghost use Rattle.pz_run.specs.HandedOut.{RunHandsOut, WatchHandsOut, OpenModelHa
 ghost use Rattle.pz_run.specs.devices.Saying.{Says, Answers};
 ghost use Rattle.pz_run.specs.devices.Handing.{Hands, FileHands};
 ghost use Rattle.pz_run.specs.devices.Reading.{ReadsFile};
-ghost use Rattle.pz_run.specs.devices.Judging.{JudgesText, JudgesFiles};
+ghost use Rattle.pz_run.specs.devices.TwoFiles.{AnswersText, AnswersFiles};
+ghost use Rattle.pz_run.specs.devices.Judging.{PrintsWatches};
 
 use crate::Status;
 use crate::files::say_unread;
@@ -57,8 +58,8 @@ pub fn watch_file<F: Files, W: Sink>(
     out: &mut W,
 ) -> Finish
     requires { play.limits.steps ≤ most_actions }
-    ensures printed { JudgesFiles model.now watches.now play (F.state files.old) (F.state files.new)
-        (W.state out.old) (W.state out.new) result.status }
+    ensures printed { AnswersFiles model.now (file_of watches.now) (PrintsWatches play)
+        (F.state files.old) (F.state files.new) (W.state out.old) (W.state out.new) result.status }
     ensures simulator { FileHands (file_of_model model.now)
         (OpenModelHandsOut (WatchFileHandsOut (F.state files.old).held watches.now play))
         (F.state files.old) (F.state files.new) result.status (left_in result) }
@@ -84,8 +85,8 @@ fn watch_text<F: Files, W: Sink>(
 ) -> Finish
     requires short { length text.now < 2 ^ 32 - 1 }
     requires few { play.limits.steps ≤ most_actions }
-    ensures printed { JudgesText watches.now play (F.state files.old) (F.state files.new)
-        (W.state out.old) (W.state out.new) result.status text.now }
+    ensures printed { AnswersText (file_of watches.now) (PrintsWatches play) (F.state files.old)
+        (F.state files.new) (W.state out.old) (W.state out.new) result.status text.now }
     ensures simulator { (F.state files.old).told ≡ true →
         CameThrough (F.state files.old) (F.state files.new) result.status →
         OpenModelHandsOut (WatchFileHandsOut (F.state files.old).held watches.now play) text.now

@@ -3,7 +3,7 @@ use Rattle.std.proofs.Common.{◌≡◌, refl, codes}
 use Rattle.std.specs.Fmt.{digits}
 use Rattle.pz_check_violations.specs.Order.{violation}
 use Rattle.pz_run_reading.specs.declared.refusal.Refusal.TheVariants.{Syntax, Violates}
-use Rattle.pz_run_lines.specs.Lines.{read_fault_line, too_long_line, watch_refused_line, accepted_line, model_refused_line}
+use Rattle.pz_run_lines.specs.Lines.{read_fault_line, too_long_line, watch_refused_line, script_refused_line, accepted_line, model_refused_line}
 
 no_file : read_fault_line (codes "m") ≡ codes "read fault: m\n"
 no_file = refl
@@ -14,6 +14,10 @@ long_file = refl
 no_watches : watch_refused_line 101 ≡ codes "watch refused line 101\n"
 unfolding digits
 no_watches = refl
+
+no_script : script_refused_line 1 ≡ codes "script refused line 1\n"
+unfolding digits
+no_script = refl
 
 -- seven processes in two clusters
 seven : accepted_line 7 4 ≡ codes "accepted 7 processes 4 wires\n"

@@ -11,7 +11,7 @@ newline = codes "\n"
 
 -- how the program is called
 abbrev pub usage_line : List ℕ
-usage_line = codes "usage: poosl_run run MODEL | menu MODEL | replay MODEL TRACE | check MODEL | make N | ring N | format MODEL | watch MODEL WATCHES\n"
+usage_line = codes "usage: poosl_run run MODEL | menu MODEL | replay MODEL TRACE | check MODEL | make N | ring N | watch MODEL WATCHES | drive MODEL SCRIPT | format MODEL\n"
 
 -- a file that cannot be opened or read
 abbrev pub read_fault_line : List ℕ → List ℕ
@@ -24,6 +24,10 @@ too_long_line name = codes "too long: " ++ (name ++ newline)
 -- a file that is no list of watches: the line that is to blame
 abbrev pub watch_refused_line : ℕ → List ℕ
 watch_refused_line number = codes "watch refused line " ++ (decimal number ++ newline)
+
+-- a file that is no script, or a script that cannot drive the system: the line that is to blame
+abbrev pub script_refused_line : ℕ → List ℕ
+script_refused_line number = codes "script refused line " ++ (decimal number ++ newline)
 
 -- a model that is accepted: how many processes and how many wires its system has
 abbrev pub accepted_line : ℕ → ℕ → List ℕ

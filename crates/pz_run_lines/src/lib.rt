@@ -5,5 +5,5 @@ mod lines;
 
 pub use lines::{
     accepted_line, model_refused_line, read_fault_line, too_long_line, usage_line,
-    watch_refused_line,
+    script_refused_line, watch_refused_line,
 };

@@ -12,7 +12,7 @@ use std::alloc::{AllocError, Global};
 pub fn usage_line() -> &'static [u8]
     ensures { result.now ≡ lines.usage_line }
 {
-    b"usage: poosl_run run MODEL | menu MODEL | replay MODEL TRACE | check MODEL | make N | ring N | format MODEL | watch MODEL WATCHES\n"
+    b"usage: poosl_run run MODEL | menu MODEL | replay MODEL TRACE | check MODEL | make N | ring N | watch MODEL WATCHES | drive MODEL SCRIPT | format MODEL\n"
 }
 
 /// A file of this name cannot be opened or read. The only error is want of memory.
@@ -35,6 +35,14 @@ pub fn watch_refused_line(alloc: Global, number: u32) -> Result<Vec<u8>, AllocEr
     ensures { IfOk result (λ line. line.items ≡ lines.watch_refused_line number) }
 {
     Ok(format!(in alloc; "watch refused line {number}\n")?.into_bytes())
+}
+
+/// A script cannot drive a system, or a file is no script: the number of the line that is to blame, from 1.
+/// The only error is want of memory.
+pub fn script_refused_line(alloc: Global, number: u32) -> Result<Vec<u8>, AllocError>
+    ensures { IfOk result (λ line. line.items ≡ lines.script_refused_line number) }
+{
+    Ok(format!(in alloc; "script refused line {number}\n")?.into_bytes())
 }
 
 /// A model is accepted, and its system is so large. The only error is want of memory.

@@ -1,6 +1,6 @@
 -- Runs from the start of a model.
 use Rattle.std.proofs.Common.{◌≡◌, ℕ, Bool, true, false, List, [], ◌∷◌, ◌++◌, Option, Some, None, Result, Ok, Err, refl, sym, subst, ap, ◌∙◌, append_assoc}
-use Rattle.std.specs.Prelude.{◌↔◌, IsTrue}
+use Rattle.std.specs.Prelude.{◌↔◌, IsTrue, IfOk}
 use Rattle.std.specs.Result.{IsErrAnd}
 use Rattle.pz_syntax.specs.Classes.{ModelTree}
 use Rattle.std.proofs.lemmas.List.{append-nil}
@@ -30,10 +30,10 @@ use Rattle.pz_run_playing.specs.declared.finale.Finale.{Finale}
 use Rattle.pz_run_playing.specs.declared.finale.Finale.TheVariants as finale
 use Rattle.pz_run_playing.specs.declared.playing.Played.{Played}
 use Rattle.pz_run_playing.specs.Endings.{ending_of, last_line}
-use Rattle.pz_run_playing.specs.RunText.{run_text}
+use Rattle.pz_run_playing.specs.RunText.{text_under, run_text}
 use Rattle.pz_run_playing.specs.Summaries.{actions_in, passings_in, summary_of, summary_line}
 use Rattle.pz_run_playing.specs.Menus.{AreLeft, offered, no_offers, not_stopped, offers_text}
-use Rattle.pz_run_playing.specs.Playing.{EndsAs, ChosenRun, Telling, trace, summary, menu, Tells, of_trace, of_summary, of_menu, Plays}
+use Rattle.pz_run_playing.specs.Playing.{EndsAs, ChosenRun, Telling, trace, summary, menu, Tells, of_trace, of_summary, of_menu, PlaysUnder, Plays}
 use Rattle.pz_run_playing.specs.devices.Known.{Known}
 use Rattle.pz_term_simulator.specs.Simulations.{model_in, clock_in}
 use Rattle.pz_run_playing.specs.devices.Rests.{IsReady, IsTroubledIn, ChosenRest, RestOf}
@@ -42,7 +42,7 @@ use Rattle.pz_run_playing.specs.Watched.{watched_text, PlaysWatched}
 use Rattle.pz_run_playing.specs.declared.finale.Judged.{Judged}
 use Rattle.pz_run_playing.specs.declared.listening.Listener.{Listener}
 use Rattle.pz_run_playing.specs.devices.Hearing.{Manner, silently, in_lines, with_watches, saying, Hears, HasHeard}
-use Rattle.pz_run_playing.specs.devices.Going.{told, CutShort, Ended, PlayedThrough, BrokenOff}
+use Rattle.pz_run_playing.specs.devices.Going.{CutShort, Ended, PlayedThrough, BrokenOff}
 use Rattle.pz_run_playing.proofs.Written.{err_is}
 use Rattle.pz_run_playing.proofs.Rests.{some_rest}
 use Rattle.pz_run_playing.proofs.Ends.{run_named}
@@ -95,32 +95,32 @@ run_to setting policy s to events ending x rest =
       is_end = r.is_end;
     }
 
-module _ (known : Known) (policy : Policy) (lines : Bool) (manner : Manner) (s : Simulation) (start : Started (setting_in s) s) (before mid : SinkState) where
+module _ (known : Known) (policy : Policy) (header : List ℕ) (manner : Manner) (s : Simulation) (start : Started (setting_in s) s) (before mid : SinkState) where
   abbrev all_of : List Event → List ℕ
   all_of events = said_after (saying (model_in s) manner) [] events
 
   -- nothing but the header, or a front of it
-  pub header_cut : IsReady s → (halt : Halt) → Wrote before mid (told lines (trace_header (setting_in s))) (Some halt) → BrokenOff (setting_in s) policy lines manner before mid halt
+  pub header_cut : IsReady s → (halt : Halt) → Wrote before mid header (Some halt) → BrokenOff (setting_in s) policy header manner before mid halt
   header_cut ready halt wrote =
       let r = some_rest known policy 0 s ready in
       let x = run_to (setting_in s) policy s r.to r.events r.ending start r.rest_of in
-      record { run = x.run; wrote = known.halts before mid (told lines (trace_header (setting_in s))) (all_of x.run.events) halt wrote }
+      record { run = x.run; wrote = known.halts before mid header (all_of x.run.events) halt wrote }
 
-  module _ (now : SinkState) (wrote : Wrote before mid (told lines (trace_header (setting_in s))) None) where
-    pub lines_cut : (halt : Halt) → CutShort policy (saying (model_in s) manner) 0 [] s mid now halt → BrokenOff (setting_in s) policy lines manner before now halt
+  module _ (now : SinkState) (wrote : Wrote before mid header None) where
+    pub lines_cut : (halt : Halt) → CutShort policy (saying (model_in s) manner) 0 [] s mid now halt → BrokenOff (setting_in s) policy header manner before now halt
     lines_cut halt cut =
         let x = run_to (setting_in s) policy s cut.to cut.events cut.ending start cut.rest_of in
         let rest : Wrote mid now (all_of x.run.events) (Some halt) = subst (λ (es : List Event). Wrote mid now (all_of es) (Some halt)) (sym x.same_events) cut.wrote in
-        record { run = x.run; wrote = known.joins before mid now (told lines (trace_header (setting_in s))) (all_of x.run.events) (Some halt) wrote rest }
+        record { run = x.run; wrote = known.joins before mid now header (all_of x.run.events) (Some halt) wrote rest }
 
-    pub lines_ended : (t : Simulation) (listener : Listener) (played : Played) → Ended policy manner s t mid now listener played → PlayedThrough (setting_in s) policy lines manner t before now listener played
+    pub lines_ended : (t : Simulation) (listener : Listener) (played : Played) → Ended policy manner s t mid now listener played → PlayedThrough (setting_in s) policy header manner t before now listener played
     lines_ended t listener played e =
         let x = run_to (setting_in s) policy s t e.events (ending_of played.finale) start e.rest_of in
         let rest : Wrote mid now (all_of x.run.events) None = subst (λ (es : List Event). Wrote mid now (all_of es) None) (sym x.same_events) e.wrote in
         let heard : HasHeard (model_in s) manner x.run.events (clock_in t) listener = subst (λ (es : List Event). HasHeard (model_in s) manner es (clock_in t) listener) (sym x.same_events) e.heard in
         record {
           run = x.run;
-          wrote = known.joins before mid now (told lines (trace_header (setting_in s))) (all_of x.run.events) None wrote rest;
+          wrote = known.joins before mid now header (all_of x.run.events) None wrote rest;
           heard = subst (λ (n : ℕ). HasHeard (model_in s) manner x.run.events n listener) (ap clock_in x.is_end) heard;
           finale = sym x.same_ending;
           actions = e.actions ∙ ap actions_in (sym x.same_events);
@@ -129,9 +129,9 @@ module _ (known : Known) (policy : Policy) (lines : Bool) (manner : Manner) (s :
         }
 
 -- what is told of a run that has finished names what is there
-pub through_named : Known → (setting : Setting) (policy : Policy) (lines : Bool) (manner : Manner) (t : Simulation) (before now : SinkState) (listener : Listener) (played : Played)
-    → PlayedThrough setting policy lines manner t before now listener played → IsTroubledIn (model_in t) (ending_of played.finale)
-through_named known setting policy lines manner t before now listener played x =
+pub through_named : Known → (setting : Setting) (policy : Policy) (header : List ℕ) (manner : Manner) (t : Simulation) (before now : SinkState) (listener : Listener) (played : Played)
+    → PlayedThrough setting policy header manner t before now listener played → IsTroubledIn (model_in t) (ending_of played.finale)
+through_named known setting policy header manner t before now listener played x =
     let named : IsTroubledIn setting.model x.run.ending = run_named known setting policy 0 x.run.start x.run.end x.run.events x.run.ending x.run.is_chosen in
     let model : model_in t ≡ setting.model = ap model_in x.arrives in
     subst (λ (e : Ending). IsTroubledIn (model_in t) e) (sym x.finale) (subst (λ (u : Simulation). IsTroubledIn (model_in u) x.run.ending) (sym x.arrives) named)
@@ -156,44 +156,61 @@ module _ (setting : Setting) (policy : Policy) (telling : Telling) (t : Simulati
       → Plays setting policy telling t before now (Ok f)
   plays_whole run text f tells wrote is arrives = record { run = run; text = text; tells = tells; wrote = wrote; finale = is; arrives = arrives }
 
-module _ (known : Known) (setting : Setting) (policy : Policy) (t : Simulation) (before mid now : SinkState) where
-  -- The trace
+-- Behind a first line
 
+-- whatever that is
+pub some_text : {T E : Type 0} (text_in : T → List ℕ) (r : Result T E) → (text : List ℕ) × IfOk r (λ x. text_in x ≡ text)
+some_text text_in (Ok x) = (text_in x, refl)
+some_text text_in (Err e) = ([], tt)
+
+module _ (known : Known) (setting : Setting) (policy : Policy) (header : List ℕ) (t : Simulation) (before mid now : SinkState) where
   abbrev its_lines : ChosenRun setting policy → List ℕ
   its_lines run = said_after (line_of setting.model) [] run.events
 
-  trace_is : (run : ChosenRun setting policy) → (trace_header setting ++ its_lines run) ++ last_line setting.model run.end.clock run.ending ≡ run_text setting run.events run.end.clock run.ending
-  trace_is run =
-      append_assoc (trace_header setting) (its_lines run) (last_line setting.model run.end.clock run.ending)
-      ∙ ap (λ (l : List ℕ). trace_header setting ++ (l ++ last_line setting.model run.end.clock run.ending)) (said_lines setting.model [] run.events)
+  text_is : (run : ChosenRun setting policy) → (header ++ its_lines run) ++ last_line setting.model run.end.clock run.ending ≡ text_under header setting.model run.events run.end.clock run.ending
+  text_is run =
+      append_assoc header (its_lines run) (last_line setting.model run.end.clock run.ending)
+      ∙ ap (λ (l : List ℕ). header ++ (l ++ last_line setting.model run.end.clock run.ending)) (said_lines setting.model [] run.events)
 
-  pub trace_broken : (halt : Halt) (r : Result Finale Halt) → IsErrAnd r (λ e. e ≡ halt) → BrokenOff setting policy true in_lines before mid halt → Plays setting policy trace t before mid r
-  trace_broken halt r is x =
-      plays_cut setting policy trace t before mid x.run (run_text setting x.run.events x.run.end.clock x.run.ending) halt r (err_is r halt is) of_trace
-      (subst (λ (l : List ℕ). Wrote before mid l (Some halt)) (trace_is x.run)
-      (known.halts before mid (trace_header setting ++ its_lines x.run) (last_line setting.model x.run.end.clock x.run.ending) halt x.wrote))
+  pub under_broken : (halt : Halt) (r : Result Finale Halt) → IsErrAnd r (λ e. e ≡ halt) → BrokenOff setting policy header in_lines before mid halt → PlaysUnder setting policy header t before mid r
+  under_broken halt r is x =
+      subst (λ (y : Result Finale Halt). PlaysUnder setting policy header t before mid y) (sym (err_is r halt is)) (record {
+        run = x.run;
+        wrote = subst (λ (l : List ℕ). Wrote before mid l (Some halt)) (text_is x.run)
+            (known.halts before mid (header ++ its_lines x.run) (last_line setting.model x.run.end.clock x.run.ending) halt x.wrote);
+        finale = tt;
+        arrives = tt;
+      })
 
-  module _ (listener : Listener) (played : Played) (x : PlayedThrough setting policy true in_lines t before mid listener played) where
-    last_of : (halt : Option Halt) → Wrote mid now (last_line setting.model x.run.end.clock (ending_of played.finale)) halt → Wrote before now (run_text setting x.run.events x.run.end.clock x.run.ending) halt
+  module _ (listener : Listener) (played : Played) (x : PlayedThrough setting policy header in_lines t before mid listener played) where
+    last_of : (halt : Option Halt) → Wrote mid now (last_line setting.model x.run.end.clock (ending_of played.finale)) halt → Wrote before now (text_under header setting.model x.run.events x.run.end.clock x.run.ending) halt
     last_of halt wrote =
         let last : Wrote mid now (last_line setting.model x.run.end.clock x.run.ending) halt = subst (λ (e : Ending). Wrote mid now (last_line setting.model x.run.end.clock e) halt) x.finale wrote in
-        subst (λ (l : List ℕ). Wrote before now l halt) (trace_is x.run)
-        (known.joins before mid now (trace_header setting ++ its_lines x.run) (last_line setting.model x.run.end.clock x.run.ending) halt x.wrote last)
+        subst (λ (l : List ℕ). Wrote before now l halt) (text_is x.run)
+        (known.joins before mid now (header ++ its_lines x.run) (last_line setting.model x.run.end.clock x.run.ending) halt x.wrote last)
 
-    pub last_cut : (halt : Halt) (r : Result Finale Halt) → IsErrAnd r (λ e. e ≡ halt) → Wrote mid now (last_line setting.model x.run.end.clock (ending_of played.finale)) (Some halt) → Plays setting policy trace t before now r
-    last_cut halt r is wrote = plays_cut setting policy trace t before now x.run (run_text setting x.run.events x.run.end.clock x.run.ending) halt r (err_is r halt is) of_trace (last_of (Some halt) wrote)
+    pub last_cut : (halt : Halt) (r : Result Finale Halt) → IsErrAnd r (λ e. e ≡ halt) → Wrote mid now (last_line setting.model x.run.end.clock (ending_of played.finale)) (Some halt) → PlaysUnder setting policy header t before now r
+    last_cut halt r is wrote =
+        subst (λ (y : Result Finale Halt). PlaysUnder setting policy header t before now y) (sym (err_is r halt is))
+        (record { run = x.run; wrote = last_of (Some halt) wrote; finale = tt; arrives = tt })
 
-    pub last_told : Wrote mid now (last_line setting.model x.run.end.clock (ending_of played.finale)) None → Plays setting policy trace t before now (Ok played.finale)
-    last_told wrote = plays_whole setting policy trace t before now x.run (run_text setting x.run.events x.run.end.clock x.run.ending) played.finale of_trace (last_of None wrote) x.finale x.arrives
+    pub last_told : Wrote mid now (last_line setting.model x.run.end.clock (ending_of played.finale)) None → PlaysUnder setting policy header t before now (Ok played.finale)
+    last_told wrote = record { run = x.run; wrote = last_of None wrote; finale = x.finale; arrives = x.arrives }
 
+-- behind the header of a trace
+pub plays_trace : (setting : Setting) (policy : Policy) (t : Simulation) (before now : SinkState) (r : Result Finale Halt) → PlaysUnder setting policy (trace_header setting) t before now r → Plays setting policy trace t before now r
+plays_trace setting policy t before now r x =
+    record { run = x.run; text = run_text setting x.run.events x.run.end.clock x.run.ending; tells = of_trace; wrote = x.wrote; finale = x.finale; arrives = x.arrives }
+
+module _ (known : Known) (setting : Setting) (policy : Policy) (t : Simulation) (before mid now : SinkState) where
   -- The summary
 
-  pub summary_broken : (halt : Halt) (r : Result Finale Halt) → IsErrAnd r (λ e. e ≡ halt) → BrokenOff setting policy false silently before mid halt → Plays setting policy summary t before mid r
+  pub summary_broken : (halt : Halt) (r : Result Finale Halt) → IsErrAnd r (λ e. e ≡ halt) → BrokenOff setting policy [] silently before mid halt → Plays setting policy summary t before mid r
   summary_broken halt r is x =
       plays_cut setting policy summary t before mid x.run (summary_line setting.model x.run.events x.run.end.clock x.run.ending) halt r (err_is r halt is) of_summary
       (known.halts before mid [] (summary_line setting.model x.run.events x.run.end.clock x.run.ending) halt (subst (λ (l : List ℕ). Wrote before mid l (Some halt)) (said_nothing [] x.run.events) x.wrote))
 
-  module _ (listener : Listener) (played : Played) (x : PlayedThrough setting policy false silently t before mid listener played) where
+  module _ (listener : Listener) (played : Played) (x : PlayedThrough setting policy [] silently t before mid listener played) where
     summary_told_of : (halt : Option Halt) → Wrote mid now (summary_of setting.model played.actions played.passes x.run.end.clock (ending_of played.finale)) halt → Wrote before now (summary_line setting.model x.run.events x.run.end.clock x.run.ending) halt
     summary_told_of halt wrote =
         let same : summary_of setting.model played.actions played.passes x.run.end.clock (ending_of played.finale) ≡ summary_line setting.model x.run.events x.run.end.clock x.run.ending =
@@ -217,7 +234,7 @@ module _ (known : Known) (setting : Setting) (policy : Policy) (ws : List NamedF
   watched_is : (run : ChosenRun setting policy) → (trace_header setting ++ judged_lines run) ++ last_line setting.model run.end.clock run.ending ≡ watched_text setting ws run.events run.end.clock run.ending
   watched_is run = append_assoc (trace_header setting) (judged_lines run) (last_line setting.model run.end.clock run.ending)
 
-  pub watched_broken : (halt : Halt) (r : Result Judged Halt) → IsErrAnd r (λ e. e ≡ halt) → BrokenOff setting policy true (with_watches ws) before mid halt → PlaysWatched setting policy ws t before mid r
+  pub watched_broken : (halt : Halt) (r : Result Judged Halt) → IsErrAnd r (λ e. e ≡ halt) → BrokenOff setting policy (trace_header setting) (with_watches ws) before mid halt → PlaysWatched setting policy ws t before mid r
   watched_broken halt r is x =
       subst (λ (y : Result Judged Halt). PlaysWatched setting policy ws t before mid y) (sym (err_is r halt is)) (record {
         run = x.run;
@@ -228,7 +245,7 @@ module _ (known : Known) (setting : Setting) (policy : Policy) (ws : List NamedF
         arrives = tt;
       })
 
-  module _ (listener : Listener) (played : Played) (x : PlayedThrough setting policy true (with_watches ws) t before mid listener played) where
+  module _ (listener : Listener) (played : Played) (x : PlayedThrough setting policy (trace_header setting) (with_watches ws) t before mid listener played) where
     watched_last : (halt : Option Halt) → Wrote mid now (last_line setting.model x.run.end.clock (ending_of played.finale)) halt → Wrote before now (watched_text setting ws x.run.events x.run.end.clock x.run.ending) halt
     watched_last halt wrote =
         let last : Wrote mid now (last_line setting.model x.run.end.clock x.run.ending) halt = subst (λ (e : Ending). Wrote mid now (last_line setting.model x.run.end.clock e) halt) x.finale wrote in
@@ -249,6 +266,10 @@ pub watched_there : (setting : Setting) (s : Simulation) (policy : Policy) (ws :
 watched_there setting s policy ws t before now r start plays = subst (λ (x : Setting). PlaysWatched x policy ws t before now r) (its_setting setting s start) plays
 
 -- what was played in the setting of a simulator was played in that of its start
+pub under_there : (setting : Setting) (s : Simulation) (policy : Policy) (header : List ℕ) (t : Simulation) (before now : SinkState) (r : Result Finale Halt) → Starts setting s
+    → PlaysUnder (setting_in s) policy header t before now r → PlaysUnder setting policy header t before now r
+under_there setting s policy header t before now r start plays = subst (λ (x : Setting). PlaysUnder x policy header t before now r) (its_setting setting s start) plays
+
 pub plays_there : (setting : Setting) (s : Simulation) (policy : Policy) (telling : Telling) (t : Simulation) (before now : SinkState) (r : Result Finale Halt) → Starts setting s
     → Plays (setting_in s) policy telling t before now r → Plays setting policy telling t before now r
 plays_there setting s policy telling t before now r start plays = subst (λ (x : Setting). Plays x policy telling t before now r) (its_setting setting s start) plays

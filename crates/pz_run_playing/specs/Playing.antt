@@ -13,7 +13,7 @@ use Rattle.pz_rules.specs.ChosenRuns.{Policy, IsChosenRun}
 use Rattle.pz_term_simulator.specs.Simulations.{Simulation, stands}
 use Rattle.pz_run_playing.specs.declared.finale.Finale.{Finale}
 use Rattle.pz_run_playing.specs.Endings.{ending_of}
-use Rattle.pz_run_playing.specs.RunText.{run_text}
+use Rattle.pz_run_playing.specs.RunText.{text_under, run_text}
 use Rattle.pz_run_playing.specs.Summaries.{summary_line}
 use Rattle.pz_run_playing.specs.Menus.{AreLeft, offers_text}
 
@@ -45,8 +45,15 @@ pub data Tells (setting : Setting) (events : List Event) (end : Config) (ending 
   of_menu : (offers : List Action) → AreLeft setting end ending offers
       → Tells setting events end ending menu (run_text setting events end.clock ending ++ offers_text setting.model 0 offers)
 
--- The run was played: its text was written, unless that halted; and if it did not, the finale is its
--- ending, and the simulator stands at its end.
+-- The run was played: its text was written, with this first line, unless that halted; and if it did not,
+-- the finale is its ending, and the simulator stands at its end.
+pub record PlaysUnder (setting : Setting) (policy : Policy) (header : List ℕ) (now : Simulation) (before after : SinkState) (result : Result Finale Halt) : Type 0 where
+  pub run : ChosenRun setting policy
+  pub wrote : Wrote before after (text_under header setting.model run.events run.end.clock run.ending) (result_err result)
+  pub finale : IfOk result (λ finale. ending_of finale ≡ run.ending)
+  pub arrives : OnOk result (now ≡ stands setting run.end run.standing)
+
+-- the same, with what is told of it in place of that text
 pub record Plays (setting : Setting) (policy : Policy) (telling : Telling) (now : Simulation) (before after : SinkState) (result : Result Finale Halt) : Type 0 where
   pub run : ChosenRun setting policy
   pub text : List ℕ

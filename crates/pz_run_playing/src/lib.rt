@@ -14,4 +14,4 @@ mod runs;
 mod telling;
 
 pub use finale::{Finale, Judged};
-pub use runs::{play_menu, play_summary, play_trace, play_watched};
+pub use runs::{play_menu, play_summary, play_trace, play_under, play_watched};

@@ -4,7 +4,6 @@ ghost use Rattle.pz_rules.specs.Runs.{Event};
 ghost use Rattle.pz_watch.specs.Files.{NamedFormula};
 ghost use Rattle.pz_watch.specs.Breaking.{AreBroken};
 ghost use Rattle.pz_watch_points.specs.EventPoints.{points_of};
-ghost use Rattle.pz_run_playing.specs.devices.Hearing as hearing;
 ghost use Rattle.pz_run_playing.specs.devices.Hearing.{Hears, with_watches};
 
 use pz_watch_judging::Watching;
@@ -21,16 +20,6 @@ pub(crate) enum Listener {
 }
 
 impl Listener {
-    /// Whether lines are written.
-    pub(crate) fn tells_lines(&self) -> bool
-        ensures { result ≡ hearing.tells_lines self.now }
-    {
-        match self {
-            Listener::Silent => false,
-            Listener::Lines | Listener::Watches(_) => true,
-        }
-    }
-
     /// Whether some watch was broken at some point so far.
     pub(crate) fn is_broken(&self) -> bool
         ensures { (m : ModelTree) (ws : List NamedFormula) (past : List Event) →

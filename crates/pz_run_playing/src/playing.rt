@@ -16,7 +16,7 @@ ghost use Rattle.pz_run_playing.specs.Policies.{resolver_of, policy_of};
 ghost use Rattle.pz_term_simulator.specs.Simulations.{model_in, limits_in, clock_in, IsOffer};
 ghost use Rattle.pz_term_simulator.specs.devices.Room.{HasRoomFor};
 ghost use Rattle.pz_run_playing.specs.devices.Rests.{IsReady, IsHeld};
-ghost use Rattle.pz_run_playing.specs.devices.Hearing.{Manner, saying, tells_lines, Hears, HasHeard};
+ghost use Rattle.pz_run_playing.specs.devices.Hearing.{Manner, saying, Hears, HasHeard};
 ghost use Rattle.pz_run_playing.specs.devices.Going.{HasGone, Passing, CutShort, Ended, PlayedThrough, BrokenOff};
 
 use crate::choosing::chooser_of;
@@ -30,7 +30,7 @@ use pz_choice::Chooser;
 use pz_io::{Halt, Sink};
 use pz_term_simulator::{ChooseError, Moment, PassError, Simulator, Steps};
 use pz_words::{Choice, RunLimits};
-use std::alloc::Global;
+use std::alloc::{AllocError, Global};
 use std::mem::drop;
 use std::sync::ledger::Ledger;
 
@@ -205,11 +205,12 @@ fn play_on<S: Simulator, L: Ledger, W: Sink>(
     }
 }
 
-/// Plays the run that is chosen so, from the start of a simulator on. The listener is told of each event
-/// before the simulator goes on. Where it writes lines, the header is written too; the last line is not.
+/// Plays the run that is chosen so, from the start of a simulator on, behind a first line. The listener is
+/// told of each event before the simulator goes on. The last line is not written.
 pub(crate) fn play<S: Simulator, L: Ledger, W: Sink>(
     alloc: Global,
     sim: &mut S,
+    header: Result<Vec<u8>, AllocError>,
     choice: Choice,
     limits: RunLimits,
     listener: &mut Listener,
@@ -220,20 +221,20 @@ pub(crate) fn play<S: Simulator, L: Ledger, W: Sink>(
     requires opens { (limits_in (S.simulation sim.old)).edition ≡ Two →
         Opens (model_in (S.simulation sim.old)) }
     requires few { limits.steps ≤ most_actions }
-    ensures through { IfOk result (λ played. (manner : Manner) →
+    ensures through { IfOk result (λ played. (text : List ℕ) (manner : Manner) →
         let setting = setting_in (S.simulation sim.old) in
-        Hears setting.model manner [] listener.old →
-        PlayedThrough setting (policy_of (resolver_of choice) limits) (tells_lines listener.old)
-        manner (S.simulation sim.new) (W.state out.old) (W.state out.new) listener.new played) }
-    ensures broken { IfErr result (λ halt. (manner : Manner) →
+        IfOk header (λ line. line.items ≡ text) → Hears setting.model manner [] listener.old →
+        PlayedThrough setting (policy_of (resolver_of choice) limits) text manner
+        (S.simulation sim.new) (W.state out.old) (W.state out.new) listener.new played) }
+    ensures broken { IfErr result (λ halt. (text : List ℕ) (manner : Manner) →
         let setting = setting_in (S.simulation sim.old) in
-        Hears setting.model manner [] listener.old →
-        BrokenOff setting (policy_of (resolver_of choice) limits) (tells_lines listener.old)
-        manner (W.state out.old) (W.state out.new) halt) }
+        IfOk header (λ line. line.items ≡ text) → Hears setting.model manner [] listener.old →
+        BrokenOff setting (policy_of (resolver_of choice) limits) text manner (W.state out.old)
+        (W.state out.new) halt) }
 {
     rules_are_known();
     let _model = sim.checked().model();
-    tell_header(alloc, sim, listener.tells_lines(), out)?;
+    tell_header(header, out)?;
     let mut chooser = chooser_of(choice);
     let played = play_on(alloc, sim, &mut chooser, limits, listener, steps, out);
     drop(chooser);

@@ -17,7 +17,6 @@ ghost use Rattle.pz_run_playing.specs.Menus as menus;
 ghost use Rattle.pz_run_playing.specs.Menus.{offers_text};
 ghost use Rattle.pz_term_simulator.specs.Simulations.{setting_in, model_in, clock_in, IsOffer};
 ghost use Rattle.pz_run_playing.specs.devices.Rests.{IsTroubledIn};
-ghost use Rattle.pz_run_playing.specs.devices.Going.{told};
 
 use crate::Finale;
 use crate::laws::rules_are_known;
@@ -28,28 +27,26 @@ use pz_term_simulator::{Action, Moment, Simulator};
 use pz_trace::{action_line, form_of, header, time_line};
 use std::alloc::{AllocError, Global};
 
-// The first line of a run that a simulator goes through. The only error is want of memory.
-fn header_line<S: Simulator>(alloc: Global, sim: &S) -> Result<Vec<u8>, AllocError>
+/// The first line of the trace of a run that a simulator goes through. The only error is want of memory.
+pub(crate) fn header_line<S: Simulator>(alloc: Global, sim: &S) -> Result<Vec<u8>, AllocError>
     ensures { IfOk result (λ line. line.items ≡ trace_header (setting_in (S.simulation sim.now))) }
 {
     header(alloc, form_of(sim.limits()))
 }
 
-/// Writes the first line, if lines are told.
-pub(crate) fn tell_header<S: Simulator, W: Sink>(
-    alloc: Global,
-    sim: &S,
-    lines: bool,
+/// Writes the first line, unless it is empty or memory was wanting for it.
+pub(crate) fn tell_header<W: Sink>(
+    header: Result<Vec<u8>, AllocError>,
     out: &mut W,
 ) -> Result<(), Halt>
-    ensures { Wrote (W.state out.old) (W.state out.new)
-        (told lines (trace_header (setting_in (S.simulation sim.now)))) (result_err result) }
+    ensures { (text : List ℕ) → IfOk header (λ line. line.items ≡ text) →
+        Wrote (W.state out.old) (W.state out.new) text (result_err result) }
 {
     rules_are_known();
-    if !lines {
+    let line = header?;
+    if line.is_empty() {
         return Ok(());
     }
-    let line = header_line(alloc, sim)?;
     put(out, line.as_slice())
 }
 

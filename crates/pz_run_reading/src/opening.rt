@@ -1,7 +1,8 @@
 // Reading a model that opens: one that violates neither C23 nor C24.
 
-ghost use Rattle.std.specs.Prelude.{◌≡◌, ◌-◌, ◌<◌, ◌^◌, IfOk, OnOk, IfErr, length};
+ghost use Rattle.std.specs.Prelude.{◌≡◌, ◌≤◌, ◌-◌, ◌<◌, ◌^◌, IfOk, OnOk, IfErr, length};
 ghost use Rattle.pz_syntax.specs.Classes.{ModelTree};
+ghost use Rattle.pz_syntax.specs.ModelText.{text as text_of};
 ghost use Rattle.pz_classes.specs.CheckedView.{checked_model};
 ghost use Rattle.pz_classes_openings.specs.OpeningRules.{Opens};
 ghost use Rattle.pz_run_reading.specs.Openings.{IsOpenModelOf, IsRefusedToOpen, IsOpeningRefusal};
@@ -31,6 +32,9 @@ pub fn open_model(alloc: Global, checked: &Checked) -> Result<(), ReadModelError
 pub fn read_open_model(alloc: Global, text: &[u8]) -> Result<Checked, ReadModelError>
     requires { length text.now < 2 ^ 32 - 1 }
     ensures found { IfOk result (λ checked. IsOpenModelOf text.now (checked_model checked)) }
+    // It has at most as many marks as the text has bytes.
+    ensures small { IfOk result (λ checked. length (text_of (checked_model checked)) ≤
+        length text.now) }
     // The text of a model that opens is refused for want of memory alone.
     ensures only { (m : ModelTree) → IsOpenModelOf text.now m → ReadsAs m result }
     ensures refused { IfErr result (OnRefused (IsRefusedToOpen text.now)) }

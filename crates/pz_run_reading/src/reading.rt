@@ -1,9 +1,9 @@
 // Reading a model: its tokens, its tree, and whether that violates a rule.
 
-ghost use Rattle.std.specs.Prelude.{◌≡◌, ◌-◌, ◌<◌, ◌^◌, IfOk, IfErr, length};
+ghost use Rattle.std.specs.Prelude.{◌≡◌, ◌≤◌, ◌-◌, ◌<◌, ◌^◌, IfOk, IfErr, length};
 ghost use Rattle.pz_syntax.specs.Classes.{ModelTree};
 ghost use Rattle.pz_syntax.specs.ClassView.{model_view};
-ghost use Rattle.pz_syntax.specs.ModelText.{HasFewMarks};
+ghost use Rattle.pz_syntax.specs.ModelText.{text as text_of, HasFewMarks};
 ghost use Rattle.pz_classes.specs.CheckedView.{checked_model};
 ghost use Rattle.pz_classes.specs.Soundness.{IsSound};
 ghost use Rattle.pz_run_reading.specs.Models.{IsModelOf};
@@ -25,6 +25,9 @@ use std::mem::drop;
 pub fn read_model(alloc: Global, text: &[u8]) -> Result<Checked, ReadModelError>
     requires { length text.now < 2 ^ 32 - 1 }
     ensures found { IfOk result (λ checked. IsModelOf text.now (checked_model checked)) }
+    // It has at most as many marks as the text has bytes.
+    ensures small { IfOk result (λ checked. length (text_of (checked_model checked)) ≤
+        length text.now) }
     // The text of a model is refused for want of memory alone.
     ensures only { (m : ModelTree) → IsModelOf text.now m → ReadsAs m result }
     ensures refused { IfErr result (OnRefused (IsRefused text.now)) }
@@ -37,7 +40,8 @@ pub fn read_model(alloc: Global, text: &[u8]) -> Result<Checked, ReadModelError>
 fn read_tree(alloc: Global, text: &[u8]) -> Result<Model, ReadModelError>
     requires { length text.now < 2 ^ 32 - 1 }
     ensures found { IfOk result (λ model. HasTree text.now (model_view model)) }
-    ensures few { IfOk result (λ model. HasFewMarks (model_view model)) }
+    ensures small { IfOk result (λ model. length (text_of (model_view model)) ≤
+        length text.now) }
     ensures only { (m : ModelTree) → HasTree text.now m → IsOnlyTree m result }
     ensures refused { IfErr result (OnRefused (IsRefused text.now)) }
 {

@@ -102,7 +102,7 @@ fn expect_of(
 #[test]
 fn a_command_line_gives_its_status_and_its_lines(rt: HostRuntime) -> Result<(), Fail> {
     let usage =
-        "usage: poosl_run run MODEL | menu MODEL | replay MODEL TRACE | check MODEL | make N | ring N | format MODEL | watch MODEL WATCHES\n";
+        "usage: poosl_run run MODEL | menu MODEL | replay MODEL TRACE | check MODEL | make N | ring N | watch MODEL WATCHES | drive MODEL SCRIPT | format MODEL\n";
     let rows = [
         ("run m", 0, TRACE),
         ("run m --first", 0, TRACE),

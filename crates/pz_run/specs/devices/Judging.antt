@@ -1,4 +1,4 @@
--- What was done with the two files of a run that is judged.
+-- What is said of a run that is judged.
 use Rattle.std.specs.Prelude.{◌≡◌, ℕ, List}
 use Rattle.pz_io.specs.Outside.{FilesState, SinkState}
 use Rattle.pz_syntax.specs.Classes.{ModelTree}
@@ -20,31 +20,9 @@ use Rattle.pz_run.specs.devices.Saying.{Answers}
 use Rattle.pz_run.specs.devices.Reading.{ReadsFile}
 use Rattle.pz_run.specs.devices.Replaying.{WasRead}
 
--- why no model of a text opens
-pub data PrintsClosed (text : List ℕ) : List ℕ → Status → Type 0 where
-  closed : (r : Refusal) → IsRefusedToOpen text r → ((m : ModelTree) → IsOpenModelOf text m → ⊥) → PrintsClosed text (model_refused_line r) ModelRefused
-
 -- what is said of a file of watches, and the one status that goes with it
 pub record PrintsWatches (p : Play) (m : ModelTree) (file bytes : List ℕ) (status : Status) : Type 0 where
   pub prints : PrintsJudged p m file bytes status
   pub only : (ws : List NamedFormula) (run : RunOf p m) → AreWatches is_identifier file ws → (status_of run.ending ≡ Done → AreBroken ws (points_of m run.events) → ⊥) → status ≡ status_of run.ending
   pub breaks : (ws : List NamedFormula) (run : RunOf p m) → AreWatches is_identifier file ws → status_of run.ending ≡ Done → AreBroken ws (points_of m run.events) → status ≡ WatchBroken
   pub no_list : (line : ℕ) → IsRefusedAt is_identifier file line → status ≡ WatchRefused
-
--- the text has this model that opens and no other, and is not refused
-pub record IsOnlyOpen (text : List ℕ) (m : ModelTree) : Type 0 where
-  pub is_model : IsOpenModelOf text m
-  pub only : (n : ModelTree) → IsOpenModelOf text n → m ≡ n
-  pub unrefused : (r : Refusal) → IsRefusedToOpen text r → ⊥
-
-module _ (name : List ℕ) (p : Play) (f g : FilesState) (before now : SinkState) (given : Status) where
-  -- once the model's text was read: why no model of it opens was said, or the watches were read
-  pub data JudgesText (text : List ℕ) : Type 0 where
-    refuses : g ≡ f → Answers (PrintsClosed text) before now given → JudgesText text
-    goes_on : (m : ModelTree) → IsOnlyOpen text m → ReadsFile (watch_file name) (PrintsWatches p m) f g before now given → JudgesText text
-
--- from the model's file on
-pub data JudgesFiles (model name : List ℕ) (p : Play) (f g : FilesState) (before now : SinkState) (given : Status) : Type 0 where
-  no_model : ReadsFile (model_file model) PrintsClosed f g before now given → JudgesFiles model name p f g before now given
-  reads_on : (mid : FilesState) (text : List ℕ) (m : ModelTree) → WasRead (model_file model) text f mid → IsOnlyOpen text m
-      → ReadsFile (watch_file name) (PrintsWatches p m) mid g before now given → JudgesFiles model name p f g before now given

@@ -5,10 +5,10 @@ use Rattle.pz_offer.specs.declared.trouble.Trouble.{Trouble}
 use Rattle.pz_rules.specs.Runs.{Ending, deadlocked, troubled, refused}
 use Rattle.pz_words.specs.declared.jobs.Job.{Job}
 use Rattle.pz_run.specs.declared.status.Status.{Status}
-use Rattle.pz_run.specs.declared.status.Status.TheVariants.{Deadlock, ModelRefused, ModelFault, ChoiceRefused, TraceRefused, TooLong, ReadFault, WriteFault, NoMemory, WatchBroken, WatchRefused}
+use Rattle.pz_run.specs.declared.status.Status.TheVariants.{Deadlock, ModelRefused, ModelFault, ChoiceRefused, TraceRefused, TooLong, ReadFault, WriteFault, NoMemory, WatchBroken, WatchRefused, ScriptRefused}
 use Rattle.pz_run.specs.Files.{files_of}
 use Rattle.pz_run.specs.Status.{status_of}
-use Rattle.pz_run.specs.Promises.{PrintsAll, PrintsFront, OpensFiles, EndsReading, EndsWriting, SaysFault, IsPastLimit, Lacks, IsLonger, IsNoModel, HasModelText, RunEnds, IsNoTrace, IsBrokenAt, IsNoWatches, CanEnd}
+use Rattle.pz_run.specs.Promises.{PrintsAll, PrintsFront, OpensFiles, EndsReading, EndsWriting, SaysFault, IsPastLimit, Lacks, IsLonger, IsNoModel, HasModelText, RunEnds, IsNoTrace, IsBrokenAt, IsNoWatches, IsNoScript, CanEnd}
 
 pub record KeepsPromises (a : Option Job) (f g : FilesState) (before now : SinkState) (given : Status) : Type 0 where
   pub output : f.told ≡ true → given ≢ WriteFault → given ≢ NoMemory → ¬ ((given ≡ ReadFault) × Rose f.faults g.faults) → PrintsAll a f.held before now given
@@ -29,6 +29,8 @@ pub record KeepsPromises (a : Option Job) (f g : FilesState) (before now : SinkS
   pub broken_watch : IsBrokenAt a f.held → f.told ≡ true → given ≢ WriteFault → given ≢ NoMemory → ¬ ((given ≡ ReadFault) × Rose f.faults g.faults) → given ≡ WatchBroken
   pub watch_refused : f.told ≡ true → given ≡ WatchRefused → IsNoWatches a f.held
   pub no_watches : IsNoWatches a f.held → f.told ≡ true → given ≢ WriteFault → given ≢ NoMemory → ¬ ((given ≡ ReadFault) × Rose f.faults g.faults) → given ≡ WatchRefused
+  pub script_refused : f.told ≡ true → given ≡ ScriptRefused → IsNoScript a f.held
+  pub no_script : IsNoScript a f.held → f.told ≡ true → given ≢ WriteFault → given ≢ NoMemory → ¬ ((given ≡ ReadFault) × Rose f.faults g.faults) → given ≡ ScriptRefused
   pub too_long : given ≡ TooLong → IsPastLimit (files_of a) f g
   pub longer : f.told ≡ true → given ≡ TooLong → IsLonger (files_of a) f.held
   pub read_cause : given ≡ ReadFault → Rose f.faults g.faults ⊎ ((f.told ≡ true) × Lacks (files_of a) f.held)

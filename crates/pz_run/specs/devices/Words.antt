@@ -2,7 +2,7 @@
 use Rattle.std.specs.Prelude.{◌≤◌}
 use Rattle.pz_rules.specs.Clocks.{most_actions}
 use Rattle.pz_words.specs.declared.jobs.Job.{Job}
-use Rattle.pz_words.specs.declared.jobs.Job.TheVariants.{Run, Menu, Make, Ring, Watch}
+use Rattle.pz_words.specs.declared.jobs.Job.TheVariants.{Run, Menu, Make, Ring, Watch, Drive}
 use Rattle.pz_words.specs.Jobs.{IsRingSize}
 
 -- a ring has no more stations than it may have
@@ -17,4 +17,10 @@ HasFewActions (Run model choice limits summary) = limits.steps ≤ most_actions
 HasFewActions (Menu model choice limits) = limits.steps ≤ most_actions
 HasFewActions (Ring n choice limits) = limits.steps ≤ most_actions
 HasFewActions (Watch model watches choice limits) = limits.steps ≤ most_actions
+HasFewActions (Drive model script choice limits) = limits.steps ≤ most_actions
 HasFewActions job = Unit {0}
+
+-- each evaluation of a run that a script drives has a unit at least
+abbrev pub HasUnits : Job → Type 0
+HasUnits (Drive model script choice limits) = 1 ≤ limits.units
+HasUnits job = Unit {0}

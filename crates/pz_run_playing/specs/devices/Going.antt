@@ -1,5 +1,5 @@
 -- A run on its way: what was told and counted of it, and what it still comes to.
-use Rattle.std.specs.Prelude.{◌≡◌, ◌≤◌, ℕ, ◌+◌, ◌-◌, Bool, if◌then◌else◌, List, [], ◌++◌, Option, Some, None}
+use Rattle.std.specs.Prelude.{◌≡◌, ◌≤◌, ℕ, ◌+◌, ◌-◌, List, [], ◌++◌, Option, Some, None}
 use Rattle.pz_io.specs.Outside.{SinkState}
 use Rattle.pz_io.specs.declared.writing.Halt.{Halt}
 use Rattle.pz_io.specs.Writing.{Wrote}
@@ -8,7 +8,6 @@ use Rattle.pz_rules.specs.Runs.{Event, Ending}
 use Rattle.pz_rules.specs.ChosenRuns.{Policy}
 use Rattle.pz_term_simulator.specs.Simulations.{Simulation, stands, setting_in, model_in, clock_in}
 use Rattle.pz_term_simulator.specs.devices.Room.{HasRoomFor}
-use Rattle.pz_trace.specs.TraceText.{trace_header}
 use Rattle.pz_choice.specs.declared.chooser.Chooser.{Chooser}
 use Rattle.pz_choice.specs.Resolvers.{Resolver}
 use Rattle.pz_choice.specs.Choosers.{Stands}
@@ -22,10 +21,6 @@ use Rattle.pz_run_playing.specs.Summaries.{actions_in, passings_in}
 use Rattle.pz_run_playing.specs.Playing.{ChosenRun}
 use Rattle.pz_run_playing.specs.devices.Hearing.{Manner, saying, HasHeard}
 use Rattle.pz_run_playing.specs.devices.Rests.{IsReady, RestOf}
-
--- a text, if lines are told
-abbrev pub told : Bool → List ℕ → List ℕ
-told lines text = if lines then text else []
 
 -- how many actions were chosen and how often time passed, which events these were, and where the simulator
 -- stands
@@ -91,10 +86,10 @@ pub record Ended (policy : Policy) (manner : Manner) (first at : Simulation) (be
   pub actions : played.actions ≡ actions_in events
   pub passes : played.passes ≡ passings_in events
 
--- the same of a run from the start of a model, with its header
-pub record PlayedThrough (setting : Setting) (policy : Policy) (lines : Bool) (manner : Manner) (at : Simulation) (before now : SinkState) (listener : Listener) (played : Played) : Type 0 where
+-- the same of a run from the start of a model, behind a first line
+pub record PlayedThrough (setting : Setting) (policy : Policy) (header : List ℕ) (manner : Manner) (at : Simulation) (before now : SinkState) (listener : Listener) (played : Played) : Type 0 where
   pub run : ChosenRun setting policy
-  pub wrote : Wrote before now (told lines (trace_header setting) ++ said_after (saying setting.model manner) [] run.events) None
+  pub wrote : Wrote before now (header ++ said_after (saying setting.model manner) [] run.events) None
   pub heard : HasHeard setting.model manner run.events run.end.clock listener
   pub finale : ending_of played.finale ≡ run.ending
   pub actions : played.actions ≡ actions_in run.events
@@ -102,9 +97,9 @@ pub record PlayedThrough (setting : Setting) (policy : Policy) (lines : Bool) (m
   pub arrives : at ≡ stands setting run.end run.standing
 
 -- something halted in it
-pub record BrokenOff (setting : Setting) (policy : Policy) (lines : Bool) (manner : Manner) (before now : SinkState) (halt : Halt) : Type 0 where
+pub record BrokenOff (setting : Setting) (policy : Policy) (header : List ℕ) (manner : Manner) (before now : SinkState) (halt : Halt) : Type 0 where
   pub run : ChosenRun setting policy
-  pub wrote : Wrote before now (told lines (trace_header setting) ++ said_after (saying setting.model manner) [] run.events) (Some halt)
+  pub wrote : Wrote before now (header ++ said_after (saying setting.model manner) [] run.events) (Some halt)
 
 -- the same of a run that a chooser chooses, whoever that is, for whatever a listener hears
 pub record Course (limits : RunLimits) (begun : Chooser) (listening : Listener) (first : Simulation) (before : SinkState) (chooser : Chooser) (actions passes : ℕ) (at : Simulation) (listener : Listener) (now : SinkState) : Type 0 where

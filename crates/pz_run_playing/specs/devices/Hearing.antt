@@ -1,5 +1,5 @@
 -- What a listener has heard of a run, and what it will write for the next event.
-use Rattle.std.specs.Prelude.{◌≤◌, ◌<◌, ℕ, Bool, true, false, List, length}
+use Rattle.std.specs.Prelude.{◌≤◌, ◌<◌, ℕ, List, length}
 use Rattle.pz_syntax.specs.Classes.{ModelTree}
 use Rattle.pz_rules.specs.Runs.{Event}
 use Rattle.pz_watch.specs.Points.{Point, clock_at, AreInOrder}
@@ -9,12 +9,6 @@ use Rattle.pz_watch_judging.specs.devices.Judging.{HasJudged}
 use Rattle.pz_run_playing.specs.declared.listening.Listener.{Listener}
 use Rattle.pz_run_playing.specs.declared.listening.Listener.TheVariants.{Silent, Lines, Watches}
 use Rattle.pz_run_playing.specs.Sayings.{Saying, silence, line_of, judged_line}
-
--- there are lines to be told
-abbrev pub tells_lines : Listener → Bool
-tells_lines Silent = false
-tells_lines Lines = true
-tells_lines (Watches watching) = true
 
 -- clocks never fall, and none is above this
 pub record AreUpTo (points : List Point) (clock : ℕ) : Type 0 where

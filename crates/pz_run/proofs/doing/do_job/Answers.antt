@@ -3,6 +3,7 @@ use Rattle.pz_run.proofs.OfJobs.{keeps_run, keeps_menu, keeps_check, keeps_make,
 use Rattle.pz_run.proofs.Formatted.{keeps_format}
 use Rattle.pz_run.proofs.Replayed.{keeps_replay}
 use Rattle.pz_run.proofs.Watched.{keeps_watch}
+use Rattle.pz_run.proofs.Driven.{keeps_drive}
 use Rattle.pz_run.proofs.doing.do_job.Goals as goal
 
 pub returns-in-Run-clause-kept : goal.returns-in-Run-clause-kept
@@ -42,6 +43,12 @@ returns-in-Watch-clause-kept g c =
     (keeps_watch _ _ _ _ c.watch_file.result.status c.in-Watch.model c.in-Watch.watches c.in-Watch.choice c.in-Watch.limits
     (rw (c.as_str-in-Watch.ensures, c.as_str-in-Watch-2.ensures) at c.watch_file.ensures.printed))
 
+pub returns-in-Drive-clause-kept : goal.returns-in-Drive-clause-kept
+returns-in-Drive-clause-kept g c =
+    rw c.in-Drive.is
+    (keeps_drive _ _ _ _ c.drive_file.result.status c.in-Drive.model c.in-Drive.script c.in-Drive.choice c.in-Drive.limits
+    (rw (c.as_str-in-Drive.ensures, c.as_str-in-Drive-2.ensures) at c.drive_file.ensures.printed))
+
 pub returns-in-Run-clause-simulator : goal.returns-in-Run-clause-simulator
 returns-in-Run-clause-simulator g c = rw c.in-Run.is (rw (c.as_str.ensures, c.when-telling.ensures) at c.run_file.ensures.simulator)
 
@@ -65,3 +72,6 @@ returns-in-Format-clause-simulator g c = rw c.in-Format.is (λ told came. refl)
 
 pub returns-in-Watch-clause-simulator : goal.returns-in-Watch-clause-simulator
 returns-in-Watch-clause-simulator g c = rw c.in-Watch.is (rw (c.as_str-in-Watch.ensures, c.as_str-in-Watch-2.ensures) at c.watch_file.ensures.simulator)
+
+pub returns-in-Drive-clause-simulator : goal.returns-in-Drive-clause-simulator
+returns-in-Drive-clause-simulator g c = rw c.in-Drive.is (rw (c.as_str-in-Drive.ensures, c.as_str-in-Drive-2.ensures) at c.drive_file.ensures.simulator)

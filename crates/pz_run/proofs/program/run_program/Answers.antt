@@ -87,6 +87,12 @@ returns-clause-watch_refused g c = λ a asked. (c.run_words.ensures.kept a asked
 pub returns-clause-no_watches : goal.returns-clause-no_watches
 returns-clause-no_watches g c = λ a asked none told x. (c.run_words.ensures.kept a asked).no_watches none told x.written x.ample x.read
 
+pub returns-clause-script_refused : goal.returns-clause-script_refused
+returns-clause-script_refused g c = λ a asked. (c.run_words.ensures.kept a asked).script_refused
+
+pub returns-clause-no_script : goal.returns-clause-no_script
+returns-clause-no_script g c = λ a asked none told x. (c.run_words.ensures.kept a asked).no_script none told x.written x.ample x.read
+
 pub returns-clause-simulator : goal.returns-clause-simulator
 returns-clause-simulator g c = c.run_words.ensures.simulator
 

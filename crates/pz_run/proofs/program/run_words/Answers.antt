@@ -2,7 +2,7 @@ use Rattle.std.proofs.Common.{Some, None, refl, subst, map, string_bytes}
 use Rattle.pz_words.specs.Jobs.{IsAsked}
 use Rattle.pz_run.specs.Files.{files_of}
 use Rattle.pz_run.specs.declared.status.Status.TheVariants.{NoMemory}
-use Rattle.pz_run.proofs.Asked.{keeps_asked, found_sized, found_few}
+use Rattle.pz_run.proofs.Asked.{keeps_asked, found_sized, found_few, found_units}
 use Rattle.pz_run.proofs.Keeps.{keeps_usage, keeps_nothing, not_opened, opened_never}
 use Rattle.pz_run.proofs.Asked.{hands_asked}
 use Rattle.pz_run.proofs.program.run_words.Goals as goal
@@ -15,6 +15,11 @@ do_job-requires-clause-size g c =
 pub do_job-requires-clause-few : goal.do_job-requires-clause-few
 do_job-requires-clause-few g c =
     found_few (map string_bytes c.args.words.now) c.in-Ok-Some.job
+    (subst (IsAsked (map string_bytes c.args.words.now)) c.in-Ok-Some.field-0-is c.in-Ok-Some.ensures.reads)
+
+pub do_job-requires-clause-units : goal.do_job-requires-clause-units
+do_job-requires-clause-units g c =
+    found_units (map string_bytes c.args.words.now) c.in-Ok-Some.job
     (subst (IsAsked (map string_bytes c.args.words.now)) c.in-Ok-Some.field-0-is c.in-Ok-Some.ensures.reads)
 
 pub returns-in-Ok-Some : goal.returns-in-Ok-Some

@@ -1,10 +1,11 @@
 use Rattle.std.proofs.Common.{ℕ, Err, ap, refl}
 use Rattle.std.specs.Prelude.{Vec}
 use Rattle.std.specs.declared.alloc.Global.{Global}
-use Rattle.pz_run.specs.Files.{model_file}
-use Rattle.pz_run.specs.devices.Judging.{PrintsClosed, no_model}
+use Rattle.pz_run.specs.Files.{model_file, watch_file}
+use Rattle.pz_run.specs.devices.TwoFiles.{PrintsClosed, no_model}
+use Rattle.pz_run.specs.devices.Judging.{PrintsWatches}
 use Rattle.pz_run.proofs.Unread.{not_fault, unread}
-use Rattle.pz_run.proofs.Judgings.{from_text}
+use Rattle.pz_run.proofs.TwoAnswers.{from_text}
 use Rattle.pz_io.specs.Outside.{Entries}
 use Rattle.pz_run.specs.HandedOut.{OpenModelHandsOut, WatchFileHandsOut}
 use Rattle.pz_run.proofs.Handed.{first_hands, unread_hands}
@@ -12,7 +13,7 @@ use Rattle.pz_run.proofs.watching.watch_file.Goals as goal
 
 pub returns-in-Ok-clause-printed : goal.returns-in-Ok-clause-printed
 returns-in-Ok-clause-printed g c =
-    from_text c.args.model.now c.args.watches.now c.args.play _ _ _ _ _ c.watch_text.result.status c.as_slice.result.now (record {
+    from_text c.args.model.now (watch_file c.args.watches.now) (PrintsWatches c.args.play) _ _ _ _ _ c.watch_text.result.status c.as_slice.result.now (record {
       opened = c.in-Ok.ensures.opens;
       names = c.in-Ok.ensures.opened;
       told = c.in-Ok.ensures.told;

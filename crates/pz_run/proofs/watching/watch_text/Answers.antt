@@ -1,8 +1,11 @@
 use Rattle.std.proofs.Common.{refl}
 use Rattle.pz_classes.specs.CheckedView.{checked_model}
 use Rattle.pz_run.specs.Files.{watch_file}
-use Rattle.pz_run.specs.devices.Judging.{refuses, goes_on}
-use Rattle.pz_run.proofs.Judgings.{of_reading, closed_said}
+use Rattle.pz_run.specs.Output.{PrintsJudged}
+use Rattle.pz_run.specs.devices.TwoFiles.{refuses, goes_on}
+use Rattle.pz_run.specs.devices.Judging.{PrintsWatches}
+use Rattle.pz_run.proofs.TwoAnswers.{reading_by, closed_said}
+use Rattle.pz_run.proofs.Judgings.{of_judged}
 use Rattle.pz_run_reading.specs.Openings.{IsOpenModelOf}
 use Rattle.pz_run.specs.HandedOut.{WatchFileHandsOut, of_model}
 use Rattle.pz_run.proofs.Handed.{refusal_hands}
@@ -18,8 +21,9 @@ returns-in-Ok-clause-printed g c =
       only = c.in-Ok.ensures.only;
       unrefused = λ r. c.open_or_refused.ensures c.args.text.now (checked_model c.in-Ok.checked) r c.in-Ok.ensures.found;
     })
-    (of_reading c.one_run.ensures c.files_have_one_answer.ensures.list c.files_have_one_answer.ensures.never_both c.args.play (checked_model c.in-Ok.checked)
-    c.in-Ok.ensures.found.is_model.sound (watch_file c.args.watches.now) _ _ _ _ c.watch_model.result.status c.watch_model.ensures.printed)
+    (reading_by (watch_file c.args.watches.now) (PrintsJudged c.args.play (checked_model c.in-Ok.checked)) (PrintsWatches c.args.play (checked_model c.in-Ok.checked))
+    (of_judged c.one_run.ensures c.files_have_one_answer.ensures.list c.files_have_one_answer.ensures.never_both c.args.play (checked_model c.in-Ok.checked) c.in-Ok.ensures.found.is_model.sound)
+    _ _ _ _ c.watch_model.result.status c.watch_model.ensures.printed)
 
 pub returns-in-Err-clause-printed : goal.returns-in-Err-clause-printed
 returns-in-Err-clause-printed g c = refuses refl (closed_said c.args.text.now _ _ c.say_refused.result c.in-Err.error c.in-Err.ensures.refused c.in-Err.ensures.only c.say_refused.ensures)

@@ -1,13 +1,13 @@
-use Rattle.std.proofs.Common.{[], Some, None, subst, ◌∙◌, Bool}
+use Rattle.std.proofs.Common.{◌≡◌, ℕ, List, [], Some, None, subst, ◌∙◌}
+use Rattle.std.specs.Prelude.{IfOk}
 use Rattle.std.proofs.lemmas.Result.{IfOk-weaker, IfErr-weaker}
 use Rattle.pz_io.specs.Writing.{Wrote}
 use Rattle.pz_choice.specs.Resolvers.{Resolver}
 use Rattle.pz_choice.specs.Choosers.{Stands}
-use Rattle.pz_trace.specs.TraceText.{trace_header}
 use Rattle.pz_term_simulator.specs.Simulations.{setting_in, model_in, clock_in}
 use Rattle.pz_run_playing.specs.Policies.{resolver_of, policy_of}
-use Rattle.pz_run_playing.specs.devices.Hearing.{Manner, saying, tells_lines, Hears, HasHeard}
-use Rattle.pz_run_playing.specs.devices.Going.{told, CutShort, Ended, PlayedThrough, BrokenOff}
+use Rattle.pz_run_playing.specs.devices.Hearing.{Manner, saying, Hears, HasHeard}
+use Rattle.pz_run_playing.specs.devices.Going.{CutShort, Ended, PlayedThrough, BrokenOff}
 use Rattle.pz_syntax.specs.ModelText.{HasFewMarks}
 use Rattle.pz_classes.specs.Soundness.{IsSound}
 use Rattle.pz_rules.specs.Clocks.{most_actions}
@@ -24,11 +24,10 @@ returns-in_err-tell_header-clause-broken g c =
     let sound = subst IsSound (c.model-model.ensures.is ∙ c.checked.ensures) c.model-model.ensures.sound in
     let before = g.W.Sink.state c.args.out.now in
     let mid = g.W.Sink.state c.tell_header.new.out in
-    let wrote = subst (λ (lines : Bool). Wrote before mid (told lines (trace_header (setting_in s))) (Some c.in_err-tell_header.field-0.0)) c.tells_lines.ensures c.in_err-tell_header.ensures in
     rw (err_is c.from_residual.result c.in_err-tell_header.field-0.0 c.from_residual.ensures.1)
-    (λ manner hears.
-    header_cut known (policy_of (resolver_of c.args.choice) c.args.limits) (tells_lines c.args.listener.now) manner s start before mid
-    (ready_at known (setting_in s) s sound start) c.in_err-tell_header.field-0.0 wrote)
+    (λ text manner is hears.
+    header_cut known (policy_of (resolver_of c.args.choice) c.args.limits) text manner s start before mid
+    (ready_at known (setting_in s) s sound start) c.in_err-tell_header.field-0.0 (c.in_err-tell_header.ensures text is))
 
 pub play_on-played-requires-clause-ready : goal.play_on-played-requires-clause-ready
 play_on-played-requires-clause-ready g c =
@@ -53,12 +52,11 @@ returns-clause-through g c =
     let listener = c.args.listener.now in
     let later = c.play_on-played.new.listener in
     let policy = policy_of (resolver_of c.args.choice) c.args.limits in
-    let wrote = subst (λ (lines : Bool). Wrote before mid (told lines (trace_header (setting_in s))) None) c.tells_lines.ensures c.in_ok-tell_header.ensures in
     IfOk-weaker c.play_on-played.result
     (λ played. (r : Resolver) (manner : Manner) → Stands c.chooser_of-chooser.result r 0 → HasHeard (model_in s) manner [] (clock_in s) listener → Ended (policy_of r c.args.limits) manner s t mid now later played)
-    (λ played. (manner : Manner) → Hears (model_in s) manner [] listener → PlayedThrough (setting_in s) policy (tells_lines listener) manner t before now later played)
-    (λ played ended manner hears.
-    lines_ended c.rules_are_known.ensures policy (tells_lines listener) manner s (start_in (setting_in s) s c.requires.starts) before mid now wrote t later played
+    (λ played. (text : List ℕ) (manner : Manner) → IfOk c.args.header (λ line. line.items ≡ text) → Hears (model_in s) manner [] listener → PlayedThrough (setting_in s) policy text manner t before now later played)
+    (λ played ended text manner is hears.
+    lines_ended c.rules_are_known.ensures policy text manner s (start_in (setting_in s) s c.requires.starts) before mid now (c.in_ok-tell_header.ensures text is) t later played
     (ended (resolver_of c.args.choice) manner c.chooser_of-chooser.ensures (heard_none (model_in s) manner (clock_in s) listener hears))) c.play_on-played.ensures.ended
 
 pub returns-clause-broken : goal.returns-clause-broken
@@ -69,10 +67,9 @@ returns-clause-broken g c =
     let now = g.W.Sink.state c.play_on-played.new.out in
     let listener = c.args.listener.now in
     let policy = policy_of (resolver_of c.args.choice) c.args.limits in
-    let wrote = subst (λ (lines : Bool). Wrote before mid (told lines (trace_header (setting_in s))) None) c.tells_lines.ensures c.in_ok-tell_header.ensures in
     IfErr-weaker c.play_on-played.result
     (λ halt. (r : Resolver) (manner : Manner) → Stands c.chooser_of-chooser.result r 0 → HasHeard (model_in s) manner [] (clock_in s) listener → CutShort (policy_of r c.args.limits) (saying (model_in s) manner) 0 [] s mid now halt)
-    (λ halt. (manner : Manner) → Hears (model_in s) manner [] listener → BrokenOff (setting_in s) policy (tells_lines listener) manner before now halt)
-    (λ halt cut manner hears.
-    lines_cut c.rules_are_known.ensures policy (tells_lines listener) manner s (start_in (setting_in s) s c.requires.starts) before mid now wrote halt
+    (λ halt. (text : List ℕ) (manner : Manner) → IfOk c.args.header (λ line. line.items ≡ text) → Hears (model_in s) manner [] listener → BrokenOff (setting_in s) policy text manner before now halt)
+    (λ halt cut text manner is hears.
+    lines_cut c.rules_are_known.ensures policy text manner s (start_in (setting_in s) s c.requires.starts) before mid now (c.in_ok-tell_header.ensures text is) halt
     (cut (resolver_of c.args.choice) manner c.chooser_of-chooser.ensures (heard_none (model_in s) manner (clock_in s) listener hears))) c.play_on-played.ensures.cut

@@ -1,49 +1,14 @@
-use Rattle.std.proofs.Common.{true, Ok}
-use Rattle.pz_term_simulator.specs.Simulations.{setting_in}
-use Rattle.pz_run_playing.specs.Playing.{trace}
-use Rattle.pz_run_playing.specs.devices.Hearing.{in_lines}
+use Rattle.std.proofs.Common.{◌≡◌, subst}
+use Rattle.std.specs.Prelude.{IfOk}
+use Rattle.pz_rules.specs.Settings.{Setting}
+use Rattle.pz_trace.specs.TraceText.{trace_header}
 use Rattle.pz_run_playing.specs.Policies.{resolver_of, policy_of}
-use Rattle.pz_run_playing.proofs.WholeRuns.{at_its_start, plays_there, through_named, trace_broken, last_cut, last_told}
+use Rattle.pz_run_playing.proofs.WholeRuns.{its_setting, plays_trace}
 use Rattle.pz_run_playing.proofs.runs.play_trace.Goals as goal
-
-pub play-played-requires-clause-starts : goal.play-played-requires-clause-starts
-play-played-requires-clause-starts g c = at_its_start c.requires.starts.0 (g.S.Simulator.simulation c.args.sim.now) c.requires.starts.1
-
-pub returns-in_err-played : goal.returns-in_err-played
-returns-in_err-played g c = λ setting starts.
-    let s = g.S.Simulator.simulation c.args.sim.now in
-    let t = g.S.Simulator.simulation c.play-played.new.sim in
-    let policy = policy_of (resolver_of c.args.choice) c.args.limits in
-    let before = g.W.Sink.state c.args.out.now in
-    let now = g.W.Sink.state c.play-played.new.out in
-    plays_there setting s policy trace t before now c.from_residual.result starts
-    (trace_broken c.rules_are_known.ensures (setting_in s) policy t before now now c.in_err-played.field-0.0 c.from_residual.result c.from_residual.ensures.1 (c.in_err-played.ensures.broken in_lines tt))
-
-pub tell_last-requires : goal.tell_last-requires
-tell_last-requires g c =
-    let policy = policy_of (resolver_of c.args.choice) c.args.limits in
-    through_named c.rules_are_known.ensures (setting_in (g.S.Simulator.simulation c.args.sim.now)) policy true in_lines (g.S.Simulator.simulation c.play-played.new.sim)
-    (g.W.Sink.state c.args.out.now) (g.W.Sink.state c.play-played.new.out) c.play-played.new.listener c.in_ok-played.played (c.in_ok-played.ensures.through in_lines tt)
-
-pub returns-in_err-tell_last : goal.returns-in_err-tell_last
-returns-in_err-tell_last g c = λ setting starts.
-    let s = g.S.Simulator.simulation c.args.sim.now in
-    let t = g.S.Simulator.simulation c.play-played.new.sim in
-    let policy = policy_of (resolver_of c.args.choice) c.args.limits in
-    let before = g.W.Sink.state c.args.out.now in
-    let now = g.W.Sink.state c.tell_last.new.out in
-    let x = c.in_ok-played.ensures.through in_lines tt in
-    plays_there setting s policy trace t before now c.from_residual-in_err-tell_last.result starts
-    (last_cut c.rules_are_known.ensures (setting_in s) policy t before (g.W.Sink.state c.play-played.new.out) now c.play-played.new.listener c.in_ok-played.played x c.in_err-tell_last.field-0.0
-    c.from_residual-in_err-tell_last.result c.from_residual-in_err-tell_last.ensures.1 (c.in_err-tell_last.ensures (setting_in s) x.run.end x.run.standing x.arrives))
 
 pub returns : goal.returns
 returns g c = λ setting starts.
-    let s = g.S.Simulator.simulation c.args.sim.now in
-    let t = g.S.Simulator.simulation c.play-played.new.sim in
-    let policy = policy_of (resolver_of c.args.choice) c.args.limits in
-    let before = g.W.Sink.state c.args.out.now in
-    let now = g.W.Sink.state c.tell_last.new.out in
-    let x = c.in_ok-played.ensures.through in_lines tt in
-    plays_there setting s policy trace t before now (Ok c.in_ok-played.played.finale) starts
-    (last_told c.rules_are_known.ensures (setting_in s) policy t before (g.W.Sink.state c.play-played.new.out) now c.play-played.new.listener c.in_ok-played.played x (c.in_ok-tell_last.ensures (setting_in s) x.run.end x.run.standing x.arrives))
+    let same = its_setting setting (g.S.Simulator.simulation c.args.sim.now) starts in
+    let line = subst (λ (x : Setting). IfOk c.header_line-header.result (λ line. line.items ≡ trace_header x)) same c.header_line-header.ensures in
+    plays_trace setting (policy_of (resolver_of c.args.choice) c.args.limits) (g.S.Simulator.simulation c.play_under.new.sim)
+    (g.W.Sink.state c.args.out.now) (g.W.Sink.state c.play_under.new.out) c.play_under.result (c.play_under.ensures setting (trace_header setting) starts line)

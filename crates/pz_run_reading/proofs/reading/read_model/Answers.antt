@@ -5,7 +5,14 @@ use Rattle.pz_run_reading.proofs.Causes.{wanting_on}
 use Rattle.pz_syntax.specs.ClassView.{model_view}
 use Rattle.pz_run_reading.proofs.Trees.{tree_of}
 use Rattle.pz_run_reading.proofs.Found.{found_model, refused_model, only_model}
+use Rattle.pz_run_reading.proofs.FewMarks.{few_marks, small_model}
 use Rattle.pz_run_reading.proofs.reading.read_model.Goals as goal
+
+pub check_model-requires : goal.check_model-requires
+check_model-requires c = few_marks c.args.text.now (model_view c.in_ok-model.model) c.requires c.in_ok-model.ensures.small
+
+pub returns-clause-small : goal.returns-clause-small
+returns-clause-small c = small_model c.args.text.now (model_view c.in_ok-model.model) c.in_ok-model.ensures.small c.check_model.result c.check_model.ensures.model
 
 pub returns-clause-found : goal.returns-clause-found
 returns-clause-found c =

@@ -7,7 +7,7 @@ use Rattle.pz_parser.specs.Cuts.{Refuses}
 use Rattle.pz_run_reading.specs.Refusals.{IsRefused}
 use Rattle.pz_run_reading.specs.Answers.{OnRefused}
 use Rattle.pz_run_reading.specs.devices.Errors.{of_lexer, of_parser}
-use Rattle.pz_run_reading.proofs.FewMarks.{few_marks}
+use Rattle.pz_run_reading.proofs.FewMarks.{is_small}
 use Rattle.pz_run_reading.proofs.Causes.{error_on, wanting_on, lexer_cause, parser_cause}
 use Rattle.pz_run_reading.proofs.Trees.{tokens_there, tree_there, read_is}
 use Rattle.pz_run_reading.proofs.reading.read_tree.Goals as goal
@@ -49,9 +49,9 @@ returns-clause-found c =
       is_tree = record { is_text = c.in_ok-model.ensures.found; in_place = c.in_ok-model.ensures.places };
     }
 
-pub returns-clause-few : goal.returns-clause-few
-returns-clause-few c =
-    few_marks c.args.text.now c.in_ok-tokens.tokens c.as_slice.result.now (model_view c.in_ok-model.model) c.requires c.in_ok-tokens.ensures.counted c.as_slice.ensures c.in_ok-model.ensures.found.2
+pub returns-clause-small : goal.returns-clause-small
+returns-clause-small c =
+    is_small c.args.text.now c.in_ok-tokens.tokens c.as_slice.result.now (model_view c.in_ok-model.model) c.in_ok-tokens.ensures.counted c.as_slice.ensures c.in_ok-model.ensures.found.2
 
 pub returns-clause-only : goal.returns-clause-only
 returns-clause-only c = λ m has.

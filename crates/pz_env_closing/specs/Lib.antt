@@ -1,0 +1,2 @@
+pub mod DrivenRuns
+pub mod Laws

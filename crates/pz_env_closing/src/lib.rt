@@ -1,0 +1,8 @@
+//! Models that are closed by a script: with their classes, and with the laws that their runs are the driven
+//! runs of the system.
+#![tactic(auto)]
+
+mod closing;
+pub mod laws;
+
+pub use closing::close_checked;

@@ -1,0 +1,5 @@
+use Rattle.pz_env_rules.specs.Text.{drive_header}
+use Rattle.pz_run.proofs.driving.drive_from.Goals as goal
+
+pub returns : goal.returns
+returns g c = λ setting starts. c.play_under.ensures setting (drive_header c.args.play.limits.units) starts c.drive_header-header.ensures

@@ -1,0 +1,43 @@
+use Rattle.std.proofs.Common.{refl, arith}
+use Rattle.pz_classes.specs.CheckedView.{checked_model}
+use Rattle.pz_run.specs.Files.{script_file}
+use Rattle.pz_run.specs.Output.{PrintsDriven}
+use Rattle.pz_run.specs.devices.TwoFiles.{refuses, goes_on}
+use Rattle.pz_run.specs.devices.Driving.{PrintsScript}
+use Rattle.pz_run.proofs.TwoAnswers.{reading_by, closed_said}
+use Rattle.pz_run.proofs.Drivings.{of_driven}
+use Rattle.pz_run_reading.specs.Openings.{IsOpenModelOf}
+use Rattle.pz_run.specs.HandedOut.{ScriptFileHandsOut, of_model}
+use Rattle.pz_run.proofs.Handed.{refusal_hands}
+use Rattle.pz_run.proofs.driving.drive_text.Goals as goal
+
+pub drive_model-requires-clause-model : goal.drive_model-requires-clause-model
+drive_model-requires-clause-model g c = record { sound = c.in-Ok.ensures.found.is_model.sound; opens = c.in-Ok.ensures.found.opens; small = let small = c.in-Ok.ensures.small in let short = c.requires.short in omega (arith, small, short) }
+
+pub returns-in-Ok-clause-printed : goal.returns-in-Ok-clause-printed
+returns-in-Ok-clause-printed g c =
+    goes_on (checked_model c.in-Ok.checked) (record {
+      is_model = c.in-Ok.ensures.found;
+      only = c.in-Ok.ensures.only;
+      unrefused = λ r. c.open_or_refused.ensures c.args.text.now (checked_model c.in-Ok.checked) r c.in-Ok.ensures.found;
+    })
+    (reading_by (script_file c.args.script.now) (PrintsDriven c.args.play (checked_model c.in-Ok.checked)) (PrintsScript c.args.play (checked_model c.in-Ok.checked))
+    (of_driven c.driven_runs_end_once.ensures c.texts_have_one_answer.ensures.script c.texts_have_one_answer.ensures.never_both c.args.play c.requires.units (checked_model c.in-Ok.checked) (record { sound = c.in-Ok.ensures.found.is_model.sound; opens = c.in-Ok.ensures.found.opens; small = let small = c.in-Ok.ensures.small in let short = c.requires.short in omega (arith, small, short) }))
+    _ _ _ _ c.drive_model.result.status c.drive_model.ensures.printed)
+
+pub returns-in-Err-clause-printed : goal.returns-in-Err-clause-printed
+returns-in-Err-clause-printed g c = refuses refl (closed_said c.args.text.now _ _ c.say_refused.result c.in-Err.error c.in-Err.ensures.refused c.in-Err.ensures.only c.say_refused.ensures)
+
+pub returns-in-Ok-clause-simulator : goal.returns-in-Ok-clause-simulator
+returns-in-Ok-clause-simulator g c = λ told came. of_model (checked_model c.in-Ok.checked) _ c.in-Ok.ensures.found (c.drive_model.ensures.simulator told came)
+
+pub returns-in-Err-clause-simulator : goal.returns-in-Err-clause-simulator
+returns-in-Err-clause-simulator g c = λ told came.
+    refusal_hands IsOpenModelOf (ScriptFileHandsOut _ c.args.script.now c.args.play) c.args.text.now c.in-Err.error _ _ c.say_refused.result c.in-Err.ensures.only c.say_refused.ensures
+    came.written came.ample
+
+pub returns-in-Ok-clause-unbegun : goal.returns-in-Ok-clause-unbegun
+returns-in-Ok-clause-unbegun g c = c.drive_model.ensures.unbegun
+
+pub returns-in-Err-clause-unbegun : goal.returns-in-Err-clause-unbegun
+returns-in-Err-clause-unbegun g c = λ never. refl
