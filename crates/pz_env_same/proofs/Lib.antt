@@ -1,0 +1,4 @@
+mod Evaluations
+mod Openings
+mod Parts
+mod Deeds
