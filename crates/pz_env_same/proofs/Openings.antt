@@ -1,19 +1,22 @@
 -- What statements open as, and what an action leaves of a term, is the same in two models with the same calls.
-use Rattle.std.proofs.Common.{◌≡◌, ℕ, zero, suc, [], ◌∷◌, refl, ap, ◌∙◌}
-use Rattle.std.proofs.Math.Path.{fun_ext}
+use Rattle.std.proofs.Common.{◌≡◌, ℕ, zero, suc, List, [], ◌∷◌, refl, ap, ◌∙◌}
+use Rattle.std.specs.List.{AllByRecursion}
 use Rattle.pz_syntax.specs.declared.tokens.Pos.{Pos}
+use Rattle.pz_syntax.specs.declared.names.Id.{Id}
 use Rattle.pz_syntax.specs.Statements.{StatementPart, not_written, otherwise}
 use Rattle.pz_syntax.specs.Classes.{ModelTree}
 use Rattle.pz_value.specs.declared.value.ClassId.{ClassId}
 use Rattle.pz_classes_code.specs.declared.slot.Slot.{Slot}
+use Rattle.pz_classes_beginnings.specs.Beginning.{begun, begun_all}
 use Rattle.pz_state.specs.States.{StateView}
 use Rattle.pz_offer.specs.PlaceOrder.{Place}
 use Rattle.pz_rules.specs.declared.limits.Edition.{Edition}
 use Rattle.pz_rules.specs.Terms.{Step, Steps, Term, done, leaf, wait, sequence, parallel, select, guarded, frame, abort, idle, handling, child, frame_in}
 use Rattle.pz_rules.specs.Settings.{Process, left_by, Home, Context}
-use Rattle.pz_rules.specs.Opening.{step_opened, steps_opened, enter, opened, opened_all, opened_part}
+use Rattle.pz_rules.specs.Opening.{enter, opened, opened_all, opened_part}
 use Rattle.pz_rules.specs.Leaving.{handled, around, residual, swept, not_too_high, settled}
 use Rattle.pz_env_same.specs.SameRules.{home_in, SameClass, seen_in, SeesTheSame}
+use Rattle.pz_env_same.proofs.Beginnings.{Same, step_same, steps_same}
 
 module _ (m n : ModelTree) (edition : Edition) (class : ℕ) (same : SameClass m n class) where
   abbrev here : Home
@@ -22,14 +25,15 @@ module _ (m n : ModelTree) (edition : Edition) (class : ℕ) (same : SameClass m
   abbrev there : Home
   there = home_in n edition class
 
-  enter_same : enter here ≡ enter there
-  enter_same = fun_ext (λ r. fun_ext (λ s. same.calls edition r s))
+  each_same : (xs : List Id) → AllByRecursion (Same (enter here) (enter there)) xs
+  each_same [] = tt
+  each_same (x ∷ xs) = (λ pos s. same.calls edition pos x s, each_same xs)
 
   pub opened_same : (t : Step) (s : StateView) → opened here t s ≡ opened there t s
-  opened_same t s = ap (λ (e : Step → StateView → Process). step_opened e t s) enter_same
+  opened_same t s = step_same (enter here) (enter there) t (each_same (begun t)) s
 
   pub opened_all_same : (ts : Steps) (s : StateView) → opened_all here ts s ≡ opened_all there ts s
-  opened_all_same ts s = ap (λ (e : Step → StateView → Process). steps_opened e ts s) enter_same
+  opened_all_same ts s = steps_same (enter here) (enter there) ts (each_same (begun_all ts)) s
 
   pub opened_part_same : (other : StatementPart Slot ClassId ℕ) (s : StateView) → opened_part here other s ≡ opened_part there other s
   opened_part_same not_written s = refl

@@ -30,7 +30,7 @@ use Rattle.pz_env_same.proofs.Evaluations.{same_data_back, finds, finds_all}
 pub same_class_back : (m n : ModelTree) (class : ℕ) → SameClass m n class → SameClass n m class
 same_class_back m n class same = record {
   bodies = λ name inputs outputs. sym (same.bodies name inputs outputs);
-  calls = λ edition call s. sym (same.calls edition call s);
+  calls = λ edition pos method s. sym (same.calls edition pos method s);
 }
 
 pub sees_back : (n : ModelTree) (a : Context) → SeesTheSame n a → SeesTheSame a.setting.model (seen_in n a)

@@ -1,5 +1,7 @@
 -- Models with the same rules: one has all that the other has, and one process more behind it.
 use Rattle.std.specs.Prelude.{◌≡◌, ◌<◌, ◌↔◌, ℕ, List, [], ◌∷◌, ◌++◌, length, Some, slice_get}
+use Rattle.pz_syntax.specs.declared.tokens.Pos.{Pos}
+use Rattle.pz_syntax.specs.declared.names.Id.{Id}
 use Rattle.pz_syntax.specs.Classes.{ModelTree}
 use Rattle.pz_classes.specs.Members.{fields}
 use Rattle.pz_classes.specs.MethodBodies.{method_body, process_method_body}
@@ -10,9 +12,9 @@ use Rattle.pz_bind.specs.Nest.{processes, class_at}
 use Rattle.pz_bind.specs.Values.{values_at}
 use Rattle.pz_state.specs.States.{StateView}
 use Rattle.pz_rules.specs.declared.limits.Edition.{Edition}
-use Rattle.pz_rules.specs.Terms.{Step}
 use Rattle.pz_rules.specs.Settings.{Setting, Context, Home}
 use Rattle.pz_rules.specs.Opening.{enter}
+use Rattle.pz_rules.specs.CallLaws.{plain_call}
 use Rattle.pz_rules.specs.Ports.{IsWire}
 
 -- What evaluation takes of a model is the same in both: the fields of a data class, and the bodies of its
@@ -28,7 +30,8 @@ home_in m edition class = record { model = m; edition = edition; class = class }
 -- and what a plain call becomes.
 pub record SameClass (m n : ModelTree) (class : ℕ) : Type 0 where
   pub bodies : (name : List ℕ) (inputs outputs : ℕ) → process_method_body m class name inputs outputs ≡ process_method_body n class name inputs outputs
-  pub calls : (edition : Edition) (call : Step) (s : StateView) → enter (home_in m edition class) call s ≡ enter (home_in n edition class) call s
+  pub calls : (edition : Edition) (pos : Pos) (method : Id) (s : StateView)
+      → enter (home_in m edition class) (plain_call pos method) s ≡ enter (home_in n edition class) (plain_call pos method) s
 
 -- so is what stands at this place
 pub record SameProcess (m n : ModelTree) (place : Address) : Type 0 where

@@ -52,7 +52,6 @@ pub fn same_bodies_make_same_calls()
     ensures law { SameBodiesMakeSameCalls }
 {
     pz_rules::laws::calls_unfold();
-    pz_classes::laws::sound_bodies_fit();
 }
 
 /// In a configuration with one process more, the others stand as they do without it.
