@@ -27,7 +27,7 @@ use Rattle.pz_env_same.specs.SameRules.{seen_in, SeesTheSame}
 use Rattle.pz_env_same.proofs.Openings.{opened_all_same, opened_part_same}
 use Rattle.pz_env_same.proofs.Parts.{sees_in_state, gives, gives_all, gives_part, tests, lasts}
 
-after_same : {A B : Type 0} (r : Result A Trouble) (f g : A → Result B Trouble) → ((x : A) → f x ≡ g x) → and_then r f ≡ and_then r g
+pub after_same : {A B : Type 0} (r : Result A Trouble) (f g : A → Result B Trouble) → ((x : A) → f x ≡ g x) → and_then r f ≡ and_then r g
 after_same (Ok x) f g same = same x
 after_same (Err t) f g same = refl
 
