@@ -1,3 +1,4 @@
+mod Lists
 mod Evaluations
 mod Beginnings
 mod Meant
@@ -5,3 +6,9 @@ mod Calls
 mod Openings
 mod Parts
 mod Deeds
+mod Meeting
+mod Behind
+mod Leading
+mod Elapsing
+mod Starting
+mod Highest

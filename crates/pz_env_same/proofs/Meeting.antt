@@ -32,7 +32,7 @@ pub record Meets (g : Setting) (c : Config) (h : Setting) (e : Config) (i : ℕ)
   pub wires : (port wire : ℕ) → IsWire g.model i port wire → IsWire h.model i port wire
 
 -- what parts leave by this deed in a setting they leave where the same is seen
-pub record IsTheSame (does : Deed) : Type 1 where
+pub record IsTheSame (does : Deed) : Type 0 where
   pub there : (n : ModelTree) (a : Context) → SeesTheSame n a → (f : ℕ) (t : Term) (pos : Pos) (r : Result Process Trouble) → does a f t pos r → does (seen_in n a) f t pos r
 
 pub performs_same : IsTheSame Performs
