@@ -1,5 +1,5 @@
 -- A configuration with one process more: the others stand in it as they do without it.
-use Rattle.std.proofs.Common.{◌≡◌, ◌<◌, ◌≤◌, ◌+◌, ◌⊎◌, inl, inr, ℕ, List, [], ◌∷◌, ◌++◌, length, Some, sym, subst, ap, ◌∙◌, arith}
+use Rattle.std.proofs.Common.{◌≡◌, ◌<◌, ◌≤◌, ◌+◌, ◌⊎◌, inl, inr, ℕ, List, [], ◌∷◌, ◌++◌, length, Some, refl, sym, subst, ap, ◌∙◌, arith}
 use Rattle.std.specs.Prelude.{slice_get}
 use Rattle.std.proofs.lemmas.Bool.{cases_lt}
 use Rattle.std.proofs.lemmas.Option.{same_Some, slice_get_within}
@@ -15,6 +15,7 @@ use Rattle.pz_rules.specs.Configurations.{Config, IsWhole, Stands}
 use Rattle.pz_rules.specs.Offers.{PartAt}
 use Rattle.pz_env_same.specs.SameRules.{SameRules, in_model, seen_in, SeesTheSame}
 use Rattle.pz_env_same.specs.OneMore.{OneMore, IsOf, number_of_more}
+use Rattle.pz_env_same.specs.SystemLaws.{seen_more}
 use Rattle.pz_env_same.proofs.Lists.{got_first, got_last}
 use Rattle.pz_env_same.proofs.Parts.{sees_back}
 use Rattle.pz_env_same.proofs.Meeting.{Meets, part_meets}
@@ -131,6 +132,9 @@ module _ (n : ModelTree) (g : Setting) (c e : Config) (p : Process) (same : Same
 
   pub more_stands : (i : ℕ) (q : Process) (a : Context) → Stands there e i q a → (IsOf g.model i → ⊥) → (i ≡ number_of_more g.model) × (q ≡ p)
   more_stands i q a st not_of = let number = last_number i q st.is_here not_of in (number, last_is i q st.is_here number)
+
+  pub alone_stands : Stands there e (number_of_more g.model) p (seen_more n g e p same)
+  alone_stands = record { place = same.more; is_process = last_place; is_here = last_process; seen = refl }
 
   -- Parts
 

@@ -14,12 +14,12 @@ use Rattle.pz_rules.specs.Configurations.{Config, Stands}
 use Rattle.pz_rules.specs.Steps.{PassesTo}
 use Rattle.pz_env_same.specs.SameRules.{SameRules, in_model, seen_in, SeesTheSame}
 use Rattle.pz_env_same.specs.OneMore.{OneMore, behind, IsOf, number_of_more}
-use Rattle.pz_env_same.specs.SystemLaws.{MorePasses, HavePassed}
+use Rattle.pz_env_same.specs.SystemLaws.{seen_more, MorePasses, HavePassed}
 use Rattle.pz_env_same.proofs.Lists.{got_first, got_last, Split, split_last}
 use Rattle.pz_env_same.proofs.Parts.{in_both}
 use Rattle.pz_env_same.proofs.Deeds.{passes}
 use Rattle.pz_env_same.proofs.Leading.{config}
-use Rattle.pz_env_same.proofs.Behind.{context, processes_see, is_of, stands_there, stands_back, again_there, last_place, last_process, more_stands}
+use Rattle.pz_env_same.proofs.Behind.{context, processes_see, is_of, stands_there, stands_back, again_there, last_place, more_stands, alone_stands}
 
 module _ (n : ModelTree) (g : Setting) (c e : Config) (p : Process) (same : SameRules g.model n) (more : OneMore g c e p) (d : ℕ) where
   abbrev there : Setting
@@ -84,14 +84,14 @@ module _ (n : ModelTree) (g : Setting) (c e : Config) (p : Process) (same : Same
     abbrev next : Config
     next = config after.clock parts.front
 
-    alone : Context
-    alone = context there k (class_at n same.more) e.clock p.state
+    abbrev alone : Context
+    alone = seen_more n g e p same
 
-    alone_stands : Stands there e k p alone
-    alone_stands = record { place = same.more; is_process = last_place n g c e p same more; is_here = last_process n g c e p same more; seen = refl }
+    stands : Stands there e k p alone
+    stands = alone_stands n g c e p same more
 
     abbrev left : Term
-    left = (new.each k p alone alone_stands).0
+    left = (new.each k p alone stands).0
 
     is_alone : (a : Context) → Stands there e k p a → a ≡ alone
     is_alone a st =
@@ -103,7 +103,7 @@ module _ (n : ModelTree) (g : Setting) (c e : Config) (p : Process) (same : Same
         let there_is : slice_get after.processes k ≡ Some parts.last =
         ap (λ (ps : List Process). slice_get ps k) parts.is
         ∙ ap (λ (j : ℕ). slice_get (parts.front ++ parts.last ∷ []) j) (sym parts.long) ∙ got_last parts.front parts.last in
-        same_Some parts.last (left_by p.state left) (sym there_is ∙ (new.each k p alone alone_stands).2)
+        same_Some parts.last (left_by p.state left) (sym there_is ∙ (new.each k p alone stands).2)
 
     each_left : (i : ℕ) (q : Process) (a : Context) → Stands g c i q a → IsLeftOf next a i q
     each_left i q a st =
@@ -121,6 +121,6 @@ module _ (n : ModelTree) (g : Setting) (c e : Config) (p : Process) (same : Same
       next = next;
       left = left;
       passes = record { clock = new.clock ∙ ap (λ (t : ℕ). t + d) more.clock; all = parts.long ∙ sym more.whole; each = each_left };
-      more = λ a st. subst (λ (b : Context). Passes b d 0 p.term left) (sym (is_alone a st)) (new.each k p alone alone_stands).1;
+      more = λ a st. subst (λ (b : Context). Passes b d 0 p.term left) (sym (is_alone a st)) (new.each k p alone stands).1;
       is = ap (λ (ps : List Process). config after.clock ps) (parts.is ∙ ap (λ (x : Process). parts.front ++ x ∷ []) last_left);
     }

@@ -4,7 +4,7 @@ use Rattle.std.specs.Prelude.{◌≡◌, ◌↔◌, ℕ, Bool, List, [], ◌∷�
 use Rattle.pz_syntax.specs.declared.tokens.Pos.{Pos}
 use Rattle.pz_syntax.specs.Classes.{ModelTree}
 use Rattle.pz_bind_levels.specs.Places.{Address}
-use Rattle.pz_bind.specs.Nest.{processes}
+use Rattle.pz_bind.specs.Nest.{processes, class_at}
 use Rattle.pz_copy.specs.Parcels.{ParcelView}
 use Rattle.pz_offer.specs.declared.end.End.{End}
 use Rattle.pz_offer.specs.declared.trouble.Trouble.{Trouble}
@@ -42,6 +42,14 @@ ProcessesStandInBoth = OfBoth (λ n g c e p. (i : ℕ) (q : Process) →
 -- the one more stands behind them, and nothing else does
 abbrev pub OneMoreStands : Type 0
 OneMoreStands = OfBoth (λ n g c e p. (i : ℕ) (q : Process) (a : Context) → Stands (in_model n g) e i q a → (IsOf g.model i → ⊥) → (i ≡ number_of_more g.model) × (q ≡ p))
+
+-- which is seen so
+abbrev pub seen_more : (n : ModelTree) (g : Setting) (e : Config) (p : Process) → SameRules g.model n → Context
+seen_more n g e p same = record { setting = in_model n g; process = number_of_more g.model; class = class_at n same.more; clock = e.clock; state = p.state }
+
+abbrev pub OneMoreIsLast : Type 0
+OneMoreIsLast = (n : ModelTree) (g : Setting) (c e : Config) (p : Process) (same : SameRules g.model n) → OneMore g c e p
+    → Stands (in_model n g) e (number_of_more g.model) p (seen_more n g e p same)
 
 abbrev pub PartsStandInBoth : Type 0
 PartsStandInBoth = OfBoth (λ n g c e p. (at : End) (f : ℕ) (t : Term) →

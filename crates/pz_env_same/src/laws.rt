@@ -1,7 +1,7 @@
 // Laws of two models with the same rules, each the contract of a function that does nothing.
 
 ghost use Rattle.pz_env_same.specs.Laws.{EvaluationsAreTheSame, ListEvaluationsAreTheSame, TestsAreTheSame, TimesAreTheSame, PartsAreTheSame, AskedIsTheSame, ActivePartsAreTheSame, ActionsAreTheSame, SendsAreTheSame, JudgementsAreTheSame, DelaysAreTheSame, PerformancesAreTheSame, HandingsAreTheSame, TakingsAreTheSame, LeavingsAreTheSame, PassingsAreTheSame, OpeningsAreTheSame, SequencesOpenTheSame, SameBodiesMakeSameCalls, SeeingIsSymmetric, ProcessesSeeTheSame};
-ghost use Rattle.pz_env_same.specs.SystemLaws.{BothAreWhole, ProcessesStandInBoth, OneMoreStands, PartsStandInBoth, PartsAreOfTheModel, InternalOffersAreTheSame, PairsAreTheSame, VerdictsAreTheSame, CommunicationsAreTheSame, TroublesOfPartsAreTheSame, TroublesOfPairsAreTheSame, DelaysLeaveTheSame, HighIsTheSame, AllAreDoneInBoth, PartsPerformTheSame, PartsHandTheSame, PartsTakeTheSame, ProcessesBecomeTheSame, OneMoreBecomes, LeadOnToBoth, TimePassesInBoth, StartsHaveOneMore, StartsAreOfBoth};
+ghost use Rattle.pz_env_same.specs.SystemLaws.{BothAreWhole, ProcessesStandInBoth, OneMoreStands, OneMoreIsLast, PartsStandInBoth, PartsAreOfTheModel, InternalOffersAreTheSame, PairsAreTheSame, VerdictsAreTheSame, CommunicationsAreTheSame, TroublesOfPartsAreTheSame, TroublesOfPairsAreTheSame, DelaysLeaveTheSame, HighIsTheSame, AllAreDoneInBoth, PartsPerformTheSame, PartsHandTheSame, PartsTakeTheSame, ProcessesBecomeTheSame, OneMoreBecomes, LeadOnToBoth, TimePassesInBoth, StartsHaveOneMore, StartsAreOfBoth};
 
 /// Where two models have the same data classes, an evaluation finds the same in both.
 pub fn evaluations_are_the_same()
@@ -59,8 +59,9 @@ pub fn processes_stand_in_both()
     ensures whole { BothAreWhole }
     ensures processes { ProcessesStandInBoth }
     ensures more { OneMoreStands }
+    ensures last { OneMoreIsLast }
     ensures parts { PartsStandInBoth }
-    ensures of { PartsAreOfTheModel }
+    ensures of_model { PartsAreOfTheModel }
 {}
 
 /// They offer the same.
