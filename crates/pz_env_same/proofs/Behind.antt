@@ -27,7 +27,7 @@ context g i class clock s = record { setting = g; process = i; class = class; cl
 -- each process of a model sees the same in one with the same rules
 pub processes_see : (n : ModelTree) (g : Setting) (c : Config) (i : ℕ) (q : Process) (a : Context) → SameRules g.model n → Stands g c i q a → SeesTheSame n a
 processes_see n g c i q a same st =
-    let there : SeesTheSame n (context g i (class_at g.model st.place) c.clock q.state) = record { data = same.data; statements = (same.each i st.place st.is_process).statements } in
+    let there : SeesTheSame n (context g i (class_at g.model st.place) c.clock q.state) = record { data_classes = same.data_classes; statements = (same.each i st.place st.is_process).statements } in
     subst (λ (b : Context). SeesTheSame n b) (sym st.seen) there
 
 -- a part is one of a process of the model

@@ -20,7 +20,7 @@ use Rattle.pz_classes_openings.specs.Openings.{begun_at, called}
 use Rattle.pz_classes_openings.proofs.Resolved.{begun_all_same}
 use Rattle.pz_rules.specs.Terms.{Steps}
 
-Row : Type 0
+abbrev Row : Type 0
 Row = Option ProcessMethodTree
 
 -- what stands at a place of lists that are joined
@@ -29,9 +29,10 @@ got_front [] ys j x is = cc
 got_front (z ∷ zs) ys zero x is = is
 got_front (z ∷ zs) ys (suc j) x is = got_front zs ys j x is
 
-got_back : (xs ys : List Row) (j : ℕ) → slice_get (xs ++ ys) (length xs + j) ≡ slice_get ys j
-got_back [] ys j = refl
-got_back (z ∷ zs) ys j = got_back zs ys j
+got_back : (xs ys : List Row) (j k : ℕ) → k ≡ length xs + j → slice_get (xs ++ ys) k ≡ slice_get ys j
+got_back [] ys j k is = ap (slice_get ys) (omega (arith, is))
+got_back (z ∷ zs) ys j zero is = absurd (omega (arith, is))
+got_back (z ∷ zs) ys j (suc k) is = got_back zs ys j k (omega (arith, is))
 
 -- from a number on these stand
 abbrev StandAt : List Row → ℕ → List Row → Type 0
@@ -99,14 +100,15 @@ rows_at : (ds : List DeclTree) (i : ℕ) (d : DeclTree) → slice_get ds i ≡ S
 rows_at [] i d is j x there = cc
 rows_at (e ∷ ds) zero d is j x there =
     let same : e ≡ d = cc in
-    got_front (declared_methods e) (flat_map declared_methods ds) j x (subst (λ (q : DeclTree). slice_get (declared_methods q) j ≡ Some x) (sym same) there)
+    let first : 0 + j ≡ j = omega arith in
+    ap (slice_get (declared_methods e ++ flat_map declared_methods ds)) first
+    ∙ got_front (declared_methods e) (flat_map declared_methods ds) j x (subst (λ (q : DeclTree). slice_get (declared_methods q) j ≡ Some x) (sym same) there)
 rows_at (e ∷ ds) (suc i) d is j x there =
     let k : ℕ = sum_by many (take i ds) in
     let sum : sum_by many (take (suc i) (e ∷ ds)) ≡ many e + k = sum_by-cons many e (take i ds) in
     let rows : length (declared_methods e) ≡ many e = many_rows e in
     let at : sum_by many (take (suc i) (e ∷ ds)) + j ≡ length (declared_methods e) + (k + j) = omega (arith, sum, rows) in
-    subst (λ (q : ℕ). slice_get (declared_methods e ++ flat_map declared_methods ds) q ≡ Some x) (sym at)
-    (got_back (declared_methods e) (flat_map declared_methods ds) (k + j) ∙ rows_at ds i d is j x there)
+    got_back (declared_methods e) (flat_map declared_methods ds) (k + j) (sum_by many (take (suc i) (e ∷ ds)) + j) at ∙ rows_at ds i d is j x there
 
 module _ (m : ModelTree) where
   own_meant : (s : Signature) (c : ℕ) → Meant (methods m) (own_method m s c) (own_body m s c)

@@ -34,11 +34,11 @@ same_class_back m n class same = record {
 }
 
 pub sees_back : (n : ModelTree) (a : Context) → SeesTheSame n a → SeesTheSame a.setting.model (seen_in n a)
-sees_back n a same = record { data = same_data_back a.setting.model n same.data; statements = same_class_back a.setting.model n a.class same.statements }
+sees_back n a same = record { data_classes = same_data_back a.setting.model n same.data_classes; statements = same_class_back a.setting.model n a.class same.statements }
 
 -- in each of its states
 pub sees_in_state : (n : ModelTree) (a : Context) → SeesTheSame n a → (s : StateView) → SeesTheSame n (in_state a s)
-sees_in_state n a same s = record { data = same.data; statements = same.statements }
+sees_in_state n a same s = record { data_classes = same.data_classes; statements = same.statements }
 
 -- what is so there where it is so here is so in both
 pub in_both : (P : Context → Type 0) → ((n : ModelTree) (a : Context) → SeesTheSame n a → P a → P (seen_in n a)) → (n : ModelTree) (a : Context) → SeesTheSame n a → P a ↔ P (seen_in n a)
@@ -49,14 +49,14 @@ in_both P there n a same = (there n a same, there a.setting.model (seen_in n a) 
 pub gives : (n : ModelTree) (a : Context) → SeesTheSame n a → (f : ℕ) (at : Pos) (e : Code) (r : Result Value Trouble) (s : StateView) → Gives a f at e r s → Gives (seen_in n a) f at e r s
 gives n a same f at e r s g = record {
   outcome = g.outcome;
-  finds = finds a.setting.model n same.data a.clock f a.state (allowance a.setting.limits) e g.outcome s g.finds;
+  finds = finds a.setting.model n same.data_classes a.clock f a.state (allowance a.setting.limits) e g.outcome s g.finds;
   means = g.means;
 }
 
 pub gives_all : (n : ModelTree) (a : Context) → SeesTheSame n a → (f : ℕ) (at : Pos) (es : Codes) (r : Result (List Value) Trouble) (s : StateView) → GivesAll a f at es r s → GivesAll (seen_in n a) f at es r s
 gives_all n a same f at es r s g = record {
   outcome = g.outcome;
-  finds = finds_all a.setting.model n same.data a.clock f a.state (allowance a.setting.limits) es g.outcome s g.finds;
+  finds = finds_all a.setting.model n same.data_classes a.clock f a.state (allowance a.setting.limits) es g.outcome s g.finds;
   means = g.means;
 }
 

@@ -43,7 +43,7 @@ pub record SameProcess (m n : ModelTree) (place : Address) : Type 0 where
 
 -- The model n has the processes of m, with the same numbers and wires, and one more behind them.
 pub record SameRules (m n : ModelTree) : Type 0 where
-  pub data : SameData m n
+  pub data_classes : SameData m n
   pub more : Address
   pub processes : processes n ≡ processes m ++ more ∷ []
   pub each : (i : ℕ) (place : Address) → slice_get (processes m) i ≡ Some place → SameProcess m n place
@@ -58,5 +58,5 @@ seen_in n a = record a { setting = in_model n a.setting }
 
 -- A process, as its statements see it, sees the same in the model n.
 pub record SeesTheSame (n : ModelTree) (a : Context) : Type 0 where
-  pub data : SameData a.setting.model n
+  pub data_classes : SameData a.setting.model n
   pub statements : SameClass a.setting.model n a.class
